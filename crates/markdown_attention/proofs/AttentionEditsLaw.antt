@@ -49,7 +49,8 @@ point-first (x ∷ es) (suc n) e rest h = point-first es n e rest h
 part : (n k m : ℕ) (es xs ys : List Event) → n + k ≡ m → drop n es ≡ xs ++ ys → length xs ≡ k → drop m es ≡ ys
 part n k m es xs ys e h l = ap (λ i. drop i es) (sym e) ∙ sym (drop-drop k n es) ∙ ap (drop k) h ∙ drop_at xs ys k l
 
-pub have-points : (es : List Event) (t : Forest) (n : ℕ) (previous : Option ℕ) (tail : List Event) → drop n es ≡ appended_from n previous t ++ tail → HavePoints (point_in es) n t
+pub have-points : (es : List Event) (t : Forest) (n : ℕ) (previous : Option ℕ) (tail : List Event) →
+    drop n es ≡ appended_from n previous t ++ tail → HavePoints (point_in es) n t
 have-points es empty n previous tail h = tt
 have-points es (leaf_then name None cs rest) n previous tail h = (
   (λ e. point-first es n _ _ h),
@@ -83,7 +84,9 @@ edits-same f g (x ∷ xs) (y ∷ ys) l h k =
     λ z. (record { at = h 0 (omega arith) z; remove = 2; events = k 0 (omega arith) z; before = false }) ∷ more z
 
 -- each run has its place as its number
-numbered-is : (tildes : Bool) (bytes : List ℕ) (es : List Event) → HaveRunPlaces bytes es → (i : ℕ) → i < length (runs_from tildes bytes 0 0 outermost es) → (run_at (runs_from tildes bytes 0 0 outermost es) i).number ≡ i
+numbered-is : (tildes : Bool) (bytes : List ℕ) (es : List Event) → HaveRunPlaces bytes es → (i : ℕ) →
+    i < length (runs_from tildes bytes 0 0 outermost es) →
+    (run_at (runs_from tildes bytes 0 0 outermost es) i).number ≡ i
 numbered-is tildes bytes es places i l = numbered (λ r. []) tildes bytes es 0 0 outermost i places l ∙ omega arith
 
 -- by the runs as pairing leaves them
@@ -101,7 +104,8 @@ module _ (tildes : Bool) (bytes : List ℕ) (es : List Event) (places : HaveRunP
 
   -- the edits can be made
   pub group-can : HaveRunEnds es → CanEdit (run_edits (point_in es) pairs fin) es
-  group-can h = subst (λ (log : List Edit). CanEdit log es) (sym log-same) (can-group (comes_for (point_in es) list pairs) tildes bytes es places h)
+  group-can h =
+      subst (λ (log : List Edit). CanEdit log es) (sym log-same) (can-group (comes_for (point_in es) list pairs) tildes bytes es places h)
 
 module _ (s : Setting) (tildes : Bool) (bytes : List ℕ) (same : s.bytes ≡ bytes) (on : s.options.constructs.gfm_strikethrough ≡ tildes) (es : List Event) (places : HaveRunPlaces bytes es) (pairs : List Pair)
     (options : ParseOptions) (given : s.options ≡ options)
@@ -124,7 +128,8 @@ module _ (s : Setting) (tildes : Bool) (bytes : List ℕ) (same : s.bytes ≡ by
         within = within;
       }
 
-  pub group-events : (t : Forest) → HasRuns bytes t → IsStriped t → es ≡ appended_from 0 None t → edited (grouping es (runs_from tildes bytes 0 0 outermost es) pairs) es ≡ appended_from 0 None (paired s (pair_list s) t)
+  pub group-events : (t : Forest) → HasRuns bytes t → IsStriped t → es ≡ appended_from 0 None t →
+      edited (grouping es (runs_from tildes bytes 0 0 outermost es) pairs) es ≡ appended_from 0 None (paired s (pair_list s) t)
   group-events t h st e =
       let whole : es ≡ appended_from 0 None t ++ [] = e ∙ sym (append-nil (appended_from 0 None t)) in
       let runs : List Sequence = tree_runs tildes bytes 0 0 0 None t in

@@ -65,7 +65,8 @@ run-off m cs = refl
 
 run-reads : (m : ℕ) (on : Bool) (c : Code) (cs : List Code) → on ≡ true → (c.value == m) ≡ true
     → switched on (attention_run m) (c ∷ cs) ≡ Some (plain (leaf N.AttentionSequence (c ∷ (span (is_value m) cs).0)), (span (is_value m) cs).1)
-run-reads m on c cs e h = ap (λ b. switched b (attention_run m) (c ∷ cs)) e ∙ run-parts m (c ∷ cs) ∙ ap run_of_parts (span-takes (is_value m) c cs h)
+run-reads m on c cs e h =
+    ap (λ b. switched b (attention_run m) (c ∷ cs)) e ∙ run-parts m (c ∷ cs) ∙ ap run_of_parts (span-takes (is_value m) c cs h)
 
 -- what is read is a whole construct
 module _ (tree : Forest) (rest : List Code) where
@@ -91,16 +92,19 @@ part-none true s e = refl
 part-none false s e = cc
 
 -- and one that is not read as a tree is not read
-pub run-none : (m : ℕ) (on : Bool) (cs : List Code) → plain_tree (switched on (attention_run m) cs) ≡ None → switched on (attention_run m) cs ≡ None
+pub run-none : (m : ℕ) (on : Bool) (cs : List Code) → plain_tree (switched on (attention_run m) cs) ≡ None →
+    switched on (attention_run m) cs ≡ None
 run-none m true cs e =
     run-parts m cs ∙ part-none (is_empty (span (is_value m) cs).0) (span (is_value m) cs) (ap plain_tree (sym (run-parts m cs)) ∙ e)
 run-none m false cs e = run-off m cs
 
 -- the run of a marker at hand
-pub run-at : (T : Tokenizer) (v : ℕ) (c : Code) (cs : List Code) → c.value ≡ v → run_tree T (c ∷ cs) ≡ plain_tree (switched (begins_run (switches_of T) v) (attention_run v) (c ∷ cs))
+pub run-at : (T : Tokenizer) (v : ℕ) (c : Code) (cs : List Code) → c.value ≡ v →
+    run_tree T (c ∷ cs) ≡ plain_tree (switched (begins_run (switches_of T) v) (attention_run v) (c ∷ cs))
 run-at T v c cs e = ap (λ n. plain_tree (switched (begins_run (switches_of T) n) (attention_run n) (c ∷ cs))) e
 
-pub run-ahead : (T : Tokenizer) (v : ℕ) → current_of T ≡ Some v → run_tree T (ahead T) ≡ plain_tree (switched (begins_run (switches_of T) v) (attention_run v) (ahead T))
+pub run-ahead : (T : Tokenizer) (v : ℕ) → current_of T ≡ Some v →
+    run_tree T (ahead T) ≡ plain_tree (switched (begins_run (switches_of T) v) (attention_run v) (ahead T))
 run-ahead T v e =
     let b : Begins v (ahead T) = ahead-some T v e in
     ap (run_tree T) b.whole
@@ -141,9 +145,11 @@ begun-markers c T = refl
 begun-past : (c : ℕ) (ms : List Code) (T : Tokenizer) → StartReady T → scratched (with_marker 0 (passed ms (begun c T)).tokenize_state) (exited N.AttentionSequence (passed ms (begun c T)))
     ≡ scratched T.tokenize_state (exited N.AttentionSequence (passed ms (entered N.AttentionSequence T)))
 unfolding applied scratched passed
-begun-past c ms T rest = ap (λ (q : TokenizeState). scratched q (exited N.AttentionSequence (passed ms (entered N.AttentionSequence T)))) (sym rest)
+begun-past c ms T rest =
+    ap (λ (q : TokenizeState). scratched q (exited N.AttentionSequence (passed ms (entered N.AttentionSequence T)))) (sym rest)
 
-scratched-past : (tree : Forest) (s : TokenizeState) (T : Tokenizer) → scratched s (past None tree T) ≡ past None tree (scratched s T)
+scratched-past : (tree : Forest) (s : TokenizeState) (T : Tokenizer) →
+    scratched s (past None tree T) ≡ past None tree (scratched s T)
 unfolding scratched past
 scratched-past tree s T = refl
 
@@ -184,7 +190,8 @@ run-begun : (T : Tokenizer) (c : ℕ) → current_of T ≡ Some c → begins_run
 run-begun T c e on rest true U k = run-begins T c e on rest U k
 run-begun T c e on rest false U k = absurd k
 
-no-run : (T : Tokenizer) → run_tree T (ahead T) ≡ None → (ok : Bool) (U : Tokenizer) → (ok ≡ false) × (U ≡ T) → start_ends T ok U
+no-run : (T : Tokenizer) → run_tree T (ahead T) ≡ None → (ok : Bool) (U : Tokenizer) → (ok ≡ false) × (U ≡ T) →
+    start_ends T ok U
 no-run T none ok U x = subst (λ b. start_ends T b U) (sym x.0) (Refuses-done (run_tree T) [] T U refl none x.1)
 
 pub start-law : (W : Words) → Within states W → Law W start_words
@@ -201,7 +208,8 @@ start-law W within T alone rest =
 
 -- In a run.
 
-run-goes : (T : Tokenizer) (v : ℕ) → current_of T ≡ Some v → (v == T.tokenize_state.marker) ≡ true → (ok : Bool) (U : Tokenizer) → inside_ends (done (Consume ∷ []) T) ok U → inside_ends T ok U
+run-goes : (T : Tokenizer) (v : ℕ) → current_of T ≡ Some v → (v == T.tokenize_state.marker) ≡ true →
+    (ok : Bool) (U : Tokenizer) → inside_ends (done (Consume ∷ []) T) ok U → inside_ends T ok U
 run-goes T v e h false U k = absurd k
 run-goes T v e h true U k =
     let b : Begins v (ahead T) = ahead-some T v e in
@@ -215,13 +223,15 @@ run-goes T v e h true U k =
     ∙ ap (λ cs. b.code ∷ cs) (sym next) in
     k ∙ ap left_run (sym (passed-one b.code (markers_ahead X) T) ∙ ap (λ cs. passed cs T) (sym here))
 
-run-stops : (T : Tokenizer) (v : ℕ) → current_of T ≡ Some v → (v == T.tokenize_state.marker) ≡ false → markers_ahead T ≡ []
+run-stops : (T : Tokenizer) (v : ℕ) → current_of T ≡ Some v → (v == T.tokenize_state.marker) ≡ false →
+    markers_ahead T ≡ []
 run-stops T v e h =
     let b : Begins v (ahead T) = ahead-some T v e in
     let m : ℕ = T.tokenize_state.marker in
     ap (λ cs. (span (is_value m) cs).0) b.whole ∙ ap (λ (s : List Code × List Code). s.0) (span-none (is_value m) (b.code ∷ rest_of (ahead T)) (ap (λ x. x == m) b.value ∙ h))
 
-run-left : (T : Tokenizer) → markers_ahead T ≡ [] → (ok : Bool) (U : Tokenizer) → (ok ≡ true) × (U ≡ left_run T) → inside_ends T ok U
+run-left : (T : Tokenizer) → markers_ahead T ≡ [] → (ok : Bool) (U : Tokenizer) → (ok ≡ true) × (U ≡ left_run T) →
+    inside_ends T ok U
 run-left T e ok U x =
     subst (λ b. inside_ends T b U) (sym x.0) (x.1 ∙ ap left_run (sym (passed-none T) ∙ ap (λ cs. passed cs T) (sym e)))
 

@@ -46,17 +46,21 @@ opens-link : (back : List (List Code)) (n : ℕ) (p : Option ℕ) → word_link 
 opens-link [] n p = refl
 opens-link (cs ∷ more) n p = opens-link more (n + 4) p
 
-cut-word : (front : List (List Code)) (kept : List Code) (back : List (List Code)) (n : ℕ) (p : Option ℕ) → word_events n p (run_word front kept back) ≡ cut_events front kept back
+cut-word : (front : List (List Code)) (kept : List Code) (back : List (List Code)) (n : ℕ) (p : Option ℕ) →
+    word_events n p (run_word front kept back) ≡ cut_events front kept back
 cut-word [] [] back n p = opens-events back (n + 0) p
 cut-word [] (c ∷ cs) back n p = ap (λ es. left_over (c ∷ cs) ++ es) (opens-events back (n + 2) p)
-cut-word (f ∷ fs) kept back n p = ap (λ es. closed_events f ++ es) (cut-word fs kept back (n + 4) p) ∙ sym (append_assoc (closed_events f) (closed_all fs) (left_over kept ++ opened_all back))
+cut-word (f ∷ fs) kept back n p =
+    ap (λ es. closed_events f ++ es) (cut-word fs kept back (n + 4) p) ∙ sym (append_assoc (closed_events f) (closed_all fs) (left_over kept ++ opened_all back))
 
-cut-link : (front : List (List Code)) (kept : List Code) (back : List (List Code)) (n : ℕ) (p : Option ℕ) → word_link n p (run_word front kept back) ≡ p
+cut-link : (front : List (List Code)) (kept : List Code) (back : List (List Code)) (n : ℕ) (p : Option ℕ) →
+    word_link n p (run_word front kept back) ≡ p
 cut-link [] [] back n p = opens-link back (n + 0) p
 cut-link [] (c ∷ cs) back n p = opens-link back (n + 2) p
 cut-link (f ∷ fs) kept back n p = cut-link fs kept back (n + 4) p
 
-pub run-word : (ps : List Pair) (i : ℕ) (r : Run) (n : ℕ) (p : Option ℕ) → word_events n p (run_tokens ps i r) ≡ run_events ps i r.codes
+pub run-word : (ps : List Pair) (i : ℕ) (r : Run) (n : ℕ) (p : Option ℕ) →
+    word_events n p (run_tokens ps i r) ≡ run_events ps i r.codes
 unfolding run_events
 run-word ps i r n p =
     let front : List (List Code) × List Code = cut_front (closing_sizes i ps) r.codes in
@@ -89,7 +93,8 @@ two-most : (b : Bool) → two b ≤ 2
 two-most true = omega arith
 two-most false = omega arith
 
-begins-first : (xs : List Event) (e : Event) (rest : List Event) (b : Bool) → xs ≡ e ∷ rest → opens_run e ≡ b → begins_run xs ≡ b
+begins-first : (xs : List Event) (e : Event) (rest : List Event) (b : Bool) → xs ≡ e ∷ rest → opens_run e ≡ b →
+    begins_run xs ≡ b
 begins-first xs e rest b h o = ap begins_run h ∙ o
 
 module _ (es : List Event) (log : List Edit) (comes : ℕ → List Event) (is_log : IsPassLog es log comes) where
@@ -130,10 +135,12 @@ module _ (es : List Event) (log : List Edit) (comes : ℕ → List Event) (is_lo
   goes-second j h = let r = removed-here j ∙ ap two h in goes-where log (suc j) j (omega arith) (omega (arith, r))
 
   drop-next : (n : ℕ) (e : Event) (rest : List Event) → drop n es ≡ e ∷ rest → drop (n + 1) es ≡ rest
-  drop-next n e rest h = let one : n + 1 ≡ suc n = omega arith in ap (λ i. drop i es) one ∙ drop-more n es ∙ ap rest_of h
+  drop-next n e rest h =
+      let one : n + 1 ≡ suc n = omega arith in ap (λ i. drop i es) one ∙ drop-more n es ∙ ap rest_of h
 
   fresh-after : (n : ℕ) (e : Event) (rest : List Event) → drop n es ≡ e ∷ rest → opens_run e ≡ false → Fresh (n + 1)
-  fresh-after n e rest h o p k = let same : p ≡ n = omega (arith, k) in ap (λ i. begins_run (drop i es)) same ∙ begins-first (drop n es) e rest false h o
+  fresh-after n e rest h o p k =
+      let same : p ≡ n = omega (arith, k) in ap (λ i. begins_run (drop i es)) same ∙ begins-first (drop n es) e rest false h o
 
   -- past an event that stays
   record Step (n : ℕ) (e : Event) (rest : List Event) : Type 0 where
@@ -169,7 +176,8 @@ module _ (es : List Event) (log : List Edit) (comes : ℕ → List Event) (is_lo
     there : drop (n + 2) es ≡ rest
     fresh : Fresh (n + 2)
 
-  both : (n : ℕ) (e x : Event) (rest : List Event) → drop n es ≡ e ∷ x ∷ rest → opens_run e ≡ false → opens_run x ≡ false → Fresh n → Both n e x rest
+  both : (n : ℕ) (e x : Event) (rest : List Event) → drop n es ≡ e ∷ x ∷ rest → opens_run e ≡ false →
+      opens_run x ≡ false → Fresh n → Both n e x rest
   both n e x rest h o k f =
       let a : Step n e (x ∷ rest) = step n e (x ∷ rest) h o f in
       let b : Step (n + 1) x rest = step (n + 1) x rest a.there k a.fresh in
@@ -189,7 +197,8 @@ module _ (es : List Event) (log : List Edit) (comes : ℕ → List Event) (is_lo
     there : drop (n + 2) es ≡ rest
     fresh : Fresh (n + 2)
 
-  run-cut : (n : ℕ) (e x : Event) (rest : List Event) → drop n es ≡ e ∷ x ∷ rest → opens_run e ≡ true → opens_run x ≡ false → Cut n e x rest
+  run-cut : (n : ℕ) (e x : Event) (rest : List Event) → drop n es ≡ e ∷ x ∷ rest → opens_run e ≡ true →
+      opens_run x ≡ false → Cut n e x rest
   run-cut n e x rest h o k =
       let T : List Event = comes n in
       let same : suc (suc n) ≡ n + 2 = omega arith in
@@ -241,7 +250,8 @@ module _ (es : List Event) (log : List Edit) (comes : ℕ → List Event) (is_lo
     abbrev Law : Forest → Type 0
     Law row = (n m : ℕ) (ps : List Pair) (i : ℕ) (previous : Option ℕ) (tail : List Event) → Here n m ps i previous row tail → Leaves n m previous row tail (tokens row ps i)
 
-    by-tokens : (n m : ℕ) (previous : Option ℕ) (row : Forest) (tail : List Event) (v w : List Token) → v ≡ w → Leaves n m previous row tail w → Leaves n m previous row tail v
+    by-tokens : (n m : ℕ) (previous : Option ℕ) (row : Forest) (tail : List Event) (v w : List Token) → v ≡ w →
+        Leaves n m previous row tail w → Leaves n m previous row tail v
     by-tokens n m previous row tail v w e l = subst (λ (x : List Token). Leaves n m previous row tail x) (sym e) l
 
     law-empty : Law empty
@@ -253,7 +263,8 @@ module _ (es : List Event) (log : List Edit) (comes : ℕ → List Event) (is_lo
           fresh = subst (λ (k : ℕ). Fresh k) same h.fresh;
         })
 
-    leaf-other : (name : Name) (cs : List Code) (rest : Forest) → is_run name ≡ false → Law rest → Law (leaf_then name None cs rest)
+    leaf-other : (name : Name) (cs : List Code) (rest : Forest) → is_run name ≡ false → Law rest →
+        Law (leaf_then name None cs rest)
     leaf-other name cs rest other law n m ps i previous tail h =
         let e : Event = event Kind.Enter name (start_of cs) in
         let x : Event = event Kind.Exit name (stop_of document_start cs) in
@@ -269,7 +280,8 @@ module _ (es : List Event) (log : List Edit) (comes : ℕ → List Event) (is_lo
           fresh = subst (λ (k : ℕ). Fresh k) same r.fresh;
         })
 
-    leaf-linked : (name : Name) (c : Content) (cs : List Code) (rest : Forest) → is_run name ≡ false → Law rest → Law (leaf_then name (Some c) cs rest)
+    leaf-linked : (name : Name) (c : Content) (cs : List Code) (rest : Forest) → is_run name ≡ false → Law rest →
+        Law (leaf_then name (Some c) cs rest)
     leaf-linked name c cs rest other law n m ps i previous tail h =
         let e : Event = record { kind = Kind.Enter; name = name; point = start_of cs; link = Some (link_back previous c) } in
         let x : Event = event Kind.Exit name (stop_of document_start cs) in
@@ -320,7 +332,8 @@ module _ (es : List Event) (log : List Edit) (comes : ℕ → List Event) (is_lo
         count-append (opens o ∷ v) w = let y = count-append v w in omega (arith, y)
         count-append (closes o ∷ v) w = let y = count-append v w in omega (arith, y)
 
-    law-group : (name : Name) (a b : Point) (inside rest : Forest) → Law inside → Law rest → Law (group_then name a b inside rest)
+    law-group : (name : Name) (a b : Point) (inside rest : Forest) → Law inside → Law rest →
+        Law (group_then name a b inside rest)
     law-group name a b inside rest law_inside law_rest n m ps i previous tail h =
         let ci : ℕ = event_count inside in
         let cr : ℕ = event_count rest in
@@ -370,12 +383,15 @@ module _ (es : List Event) (log : List Edit) (comes : ℕ → List Event) (is_lo
           fresh = subst (λ (j : ℕ). Fresh j) same r2.fresh;
         })
 
-    leaf-plain : (name : Name) (cs : List Code) (rest : Forest) (b : Bool) → is_run name ≡ b → Law rest → Law (leaf_then name None cs rest)
-    leaf-plain name cs rest true e law = subst (λ (x : Name). Law (leaf_then x None cs rest)) (sym (run-name name e)) (leaf-run cs rest law)
+    leaf-plain : (name : Name) (cs : List Code) (rest : Forest) (b : Bool) → is_run name ≡ b → Law rest →
+        Law (leaf_then name None cs rest)
+    leaf-plain name cs rest true e law =
+        subst (λ (x : Name). Law (leaf_then x None cs rest)) (sym (run-name name e)) (leaf-run cs rest law)
     leaf-plain name cs rest false e law = leaf-other name cs rest e law
 
     -- a run is not linked
-    leaf-some : (name : Name) (c : Content) (cs : List Code) (rest : Forest) (b : Bool) → is_run name ≡ b → Law rest → Law (leaf_then name (Some c) cs rest)
+    leaf-some : (name : Name) (c : Content) (cs : List Code) (rest : Forest) (b : Bool) → is_run name ≡ b → Law rest →
+        Law (leaf_then name (Some c) cs rest)
     leaf-some name c cs rest true e law = λ n m ps i previous tail h. absurd (no-link c (h.ready.0 e))
     leaf-some name c cs rest false e law = leaf-linked name c cs rest e law
 
@@ -386,7 +402,10 @@ module _ (es : List Event) (log : List Edit) (comes : ℕ → List Event) (is_lo
     law (group_then name a b inside rest) = law-group name a b inside rest (law inside) (law rest)
 
     -- the edits leave the events of the tree with its pairs grouped
-    pub paired-events : (t : Forest) → es ≡ appended_from 0 None t → IsReady s pairs_of t → IsFlat (tokens_of s pairs_of t (pairs_of (runs_of s t)) 0) → IsLogged s pairs_of comes 0 (pairs_of (runs_of s t)) 0 t → edited log es ≡ appended_from 0 None (paired s pairs_of t)
+    pub paired-events : (t : Forest) → es ≡ appended_from 0 None t → IsReady s pairs_of t →
+        IsFlat (tokens_of s pairs_of t (pairs_of (runs_of s t)) 0) →
+        IsLogged s pairs_of comes 0 (pairs_of (runs_of s t)) 0 t →
+        edited log es ≡ appended_from 0 None (paired s pairs_of t)
     unfolding paired
     paired-events t e ready flat logged =
         let own : List Pair = pairs_of (runs_of s t) in

@@ -105,10 +105,12 @@ quiet-unlinked : (t : Forest) → marks true t ≡ false → IsUnlinkedRow t
 quiet-unlinked empty h = tt
 quiet-unlinked (leaf_then name None cs rest) h = (refl, quiet-unlinked rest (leaf-parts true name None cs rest h).1)
 quiet-unlinked (leaf_then name (Some c) cs rest) h = some-linked c (leaf-parts true name (Some c) cs rest h).0.1
-quiet-unlinked (group_then name from to inside rest) h = quiet-unlinked rest (group-parts true name from to inside rest h).1.1
+quiet-unlinked (group_then name from to inside rest) h =
+    quiet-unlinked rest (group-parts true name from to inside rest h).1.1
 
 pub quiet-good : (bytes : List ℕ) (t : Forest) → IsQuiet true t → IsGood bytes t
-quiet-good bytes t h = (quiet-runs true bytes t h, (quiet-stripes true t h, (quiet-unlinked t h, quiet-each true (IsPlaced bytes) t h)))
+quiet-good bytes t h =
+    (quiet-runs true bytes t h, (quiet-stripes true t h, (quiet-unlinked t h, quiet-each true (IsPlaced bytes) t h)))
 
 -- Leaves and rows.
 
@@ -148,7 +150,8 @@ no-run-join (leaf_then name link cs rest) y h k =
 no-run-join (group_then name from to inside rest) y h k = no-run-join rest y h k
 
 pub good-join : (bytes : List ℕ) (x y : Forest) → IsGood bytes x → IsGood bytes y → IsGood bytes (x ⊕ y)
-good-join bytes x y h k = (runs-join bytes x y h.0 k.0, (stripes-join x y h.1.0 k.1.0, (unlinked-row x y h.1.1.0 k.1.1.0, each-join (IsPlaced bytes) x y h.1.1.1 k.1.1.1)))
+good-join bytes x y h k =
+    (runs-join bytes x y h.0 k.0, (stripes-join x y h.1.0 k.1.0, (unlinked-row x y h.1.1.0 k.1.1.0, each-join (IsPlaced bytes) x y h.1.1.1 k.1.1.1)))
 
 -- Labels.
 
@@ -171,7 +174,8 @@ abbrev caret_of : LabelKind → List Code → List Code
 caret_of kind marker = drop (length (start_marker kind marker)) marker
 
 abbrev label_text : LabelKind → List Code → Forest → List Code → Forest
-label_text kind marker inside back = text_group Name.LabelText (stop_of document_start (start_marker kind marker)) (start_of back) (leaf Name.Data (caret_of kind marker) ⊕ inside)
+label_text kind marker inside back =
+    text_group Name.LabelText (stop_of document_start (start_marker kind marker)) (start_of back) (leaf Name.Data (caret_of kind marker) ⊕ inside)
 
 abbrev label_row : LabelKind → List Code → Forest → List Code → Forest
 label_row kind marker inside back =

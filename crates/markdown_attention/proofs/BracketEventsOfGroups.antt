@@ -20,11 +20,14 @@ count-row (group_then name p q inside rest) u = let r = count-row rest u in omeg
 
 -- Rows without links.
 
-pub unlinked-events : (t : Forest) (n : ℕ) (p : Option ℕ) → IsUnlinkedRow t → appended_from n p t ≡ appended_from n None t
+pub unlinked-events : (t : Forest) (n : ℕ) (p : Option ℕ) → IsUnlinkedRow t →
+    appended_from n p t ≡ appended_from n None t
 unlinked-events empty n p h = refl
-unlinked-events (leaf_then name None cs rest) n p h = ap (λ es. event Kind.Enter name (start_of cs) ∷ event Kind.Exit name (stop_of document_start cs) ∷ es) (unlinked-events rest (n + 2) p h.1)
+unlinked-events (leaf_then name None cs rest) n p h =
+    ap (λ es. event Kind.Enter name (start_of cs) ∷ event Kind.Exit name (stop_of document_start cs) ∷ es) (unlinked-events rest (n + 2) p h.1)
 unlinked-events (leaf_then name (Some c) cs rest) n p h = cc
-unlinked-events (group_then name a b inside rest) n p h = ap (λ es. event Kind.Enter name a ∷ (appended_from (n + 1) None inside ++ event Kind.Exit name b ∷ es)) (unlinked-events rest (n + 2 + event_count inside) p h)
+unlinked-events (group_then name a b inside rest) n p h =
+    ap (λ es. event Kind.Enter name a ∷ (appended_from (n + 1) None inside ++ event Kind.Exit name b ∷ es)) (unlinked-events rest (n + 2 + event_count inside) p h)
 
 pub unlinked-last : (t : Forest) (n : ℕ) (p : Option ℕ) → IsUnlinkedRow t → last_link n p t ≡ p
 unlinked-last empty n p h = refl
@@ -37,8 +40,10 @@ unlinked-row empty u h k = k
 unlinked-row (leaf_then name link cs rest) u h k = (h.0, unlinked-row rest u h.1 k)
 unlinked-row (group_then name a b inside rest) u h k = unlinked-row rest u h k
 
-pub unlinked-both : (t u : Forest) (n : ℕ) → IsUnlinkedRow t → appended_from n None (t ⊕ u) ≡ appended_from n None t ++ appended_from (n + event_count t) None u
-unlinked-both t u n h = appended_from-row n None t u ∙ ap (λ p. appended_from n None t ++ appended_from (n + event_count t) p u) (unlinked-last t n None h)
+pub unlinked-both : (t u : Forest) (n : ℕ) → IsUnlinkedRow t →
+    appended_from n None (t ⊕ u) ≡ appended_from n None t ++ appended_from (n + event_count t) None u
+unlinked-both t u n h =
+    appended_from-row n None t u ∙ ap (λ p. appended_from n None t ++ appended_from (n + event_count t) p u) (unlinked-last t n None h)
 
 -- Frames: closing brackets without a partner, each with the items after it.
 
@@ -50,7 +55,8 @@ nest_word w = nest pair_group loose loose w
 
 abbrev frames_events : ℕ → List Frame → List Event
 frames_events n [] = []
-frames_events n (f ∷ fs) = closed_events f.0 ++ (appended_from (n + 4) None (joined f.1) ++ frames_events (n + 4 + event_count (joined f.1)) fs)
+frames_events n (f ∷ fs) =
+    closed_events f.0 ++ (appended_from (n + 4) None (joined f.1) ++ frames_events (n + 4 + event_count (joined f.1)) fs)
 
 -- the frames close brackets with these keys
 abbrev AreFrames : List (ℕ × ℕ) → List Frame → Type 0
@@ -82,7 +88,8 @@ names-same : (front back : List Code) → key_of front ≡ key_of back → names
 unfolding names_of
 names-same front back e = ap (λ k. pair_names k.0 k.1) e
 
-group-names : (front : List Code) (inside : List Forest) (back : List Code) → pair_group front inside back ≡ group_at (names_of front) front inside back
+group-names : (front : List Code) (inside : List Forest) (back : List Code) →
+    pair_group front inside back ≡ group_at (names_of front) front inside back
 unfolding names_of
 group-names front inside back = refl
 
@@ -102,9 +109,11 @@ group-events n (x ∷ xs) (y ∷ ys) inside after f b e =
 record Nested (keys : List (ℕ × ℕ)) (w : List Token) : Type 0 where
   first : IsUnlinkedRow (joined (nest_word w).0)
   frames : AreFrames keys (nest_word w).1
-  events : (n : ℕ) → appended_from n None (joined (nest_word w).0) ++ frames_events (n + event_count (joined (nest_word w).0)) (nest_word w).1 ≡ word_events n None w
+  events : (n : ℕ) →
+      appended_from n None (joined (nest_word w).0) ++ frames_events (n + event_count (joined (nest_word w).0)) (nest_word w).1 ≡ word_events n None w
 
-nested-item : (keys : List (ℕ × ℕ)) (f : Forest) (w : List Token) → IsUnlinkedRow f → Nested keys w → Nested keys (item f ∷ w)
+nested-item : (keys : List (ℕ × ℕ)) (f : Forest) (w : List Token) → IsUnlinkedRow f → Nested keys w →
+    Nested keys (item f ∷ w)
 nested-item keys f w h k =
     let J : Forest = joined (nest_word w).0 in
     let fs : List Frame = (nest_word w).1 in
@@ -121,7 +130,8 @@ nested-item keys f w h k =
           ∙ ap (λ p. appended_from n None f ++ word_events m p w) (sym (unlinked-last f n None h));
     }
 
-nested-closes : (key : ℕ × ℕ) (keys : List (ℕ × ℕ)) (c : List Code) (w : List Token) → c ≢ [] → key ≡ key_of c → Nested keys w → Nested (key ∷ keys) (closes c ∷ w)
+nested-closes : (key : ℕ × ℕ) (keys : List (ℕ × ℕ)) (c : List Code) (w : List Token) → c ≢ [] → key ≡ key_of c →
+    Nested keys w → Nested (key ∷ keys) (closes c ∷ w)
 nested-closes key keys c w h e k =
     record {
       first = tt;
@@ -136,15 +146,18 @@ record Onto (keys : List (ℕ × ℕ)) (o : List Code) (inside : List Forest) (f
   events : (n : ℕ) → appended_from n None (joined (onto pair_group loose loose o inside fs).0) ++ frames_events (n + event_count (joined (onto pair_group loose loose o inside fs).0)) (onto pair_group loose loose o inside fs).1
       ≡ opened_events o ++ (appended_from (n + 4) None (joined inside) ++ frames_events (n + 4 + event_count (joined inside)) fs)
 
-group-count : (front back : List Code) (inside after : List Forest) → front ≢ [] → back ≢ [] → event_count (joined (pair_group front inside back ++ after)) ≡ 8 + event_count (joined inside) + event_count (joined after)
+group-count : (front back : List Code) (inside after : List Forest) → front ≢ [] → back ≢ [] →
+    event_count (joined (pair_group front inside back ++ after)) ≡ 8 + event_count (joined inside) + event_count (joined after)
 group-count [] back inside after f b = absurd (f refl)
 group-count (x ∷ xs) [] inside after f b = absurd (b refl)
 group-count (x ∷ xs) (y ∷ ys) inside after f b = omega arith
 
 regroup : (a b c d e : List Event) → (a ++ (b ++ (c ++ d))) ++ e ≡ a ++ (b ++ (c ++ (d ++ e)))
-regroup a b c d e = append_assoc a (b ++ (c ++ d)) e ∙ ap (λ es. a ++ es) (append_assoc b (c ++ d) e ∙ ap (λ es. b ++ es) (append_assoc c d e))
+regroup a b c d e =
+    append_assoc a (b ++ (c ++ d)) e ∙ ap (λ es. a ++ es) (append_assoc b (c ++ d) e ∙ ap (λ es. b ++ es) (append_assoc c d e))
 
-onto-word : (keys : List (ℕ × ℕ)) (o : List Code) (inside : List Forest) (fs : List Frame) → o ≢ [] → AreFrames (key_of o ∷ keys) fs → Onto keys o inside fs
+onto-word : (keys : List (ℕ × ℕ)) (o : List Code) (inside : List Forest) (fs : List Frame) → o ≢ [] →
+    AreFrames (key_of o ∷ keys) fs → Onto keys o inside fs
 onto-word keys o inside [] h k = absurd k
 onto-word keys o inside (f ∷ fs) h k =
     let J : Forest = joined inside in
@@ -160,10 +173,12 @@ onto-word keys o inside (f ∷ fs) h k =
           ∙ regroup (opened_events o) (appended_from (n + 4) None J) (closed_events f.0) (appended_from (n + 4 + event_count J + 4) None A) (frames_events (n + 4 + event_count J + 4 + event_count A) fs);
     }
   where
-    unlinked-group : (front back : List Code) (inside after : List Forest) → IsUnlinkedRow (joined after) → IsUnlinkedRow (joined (pair_group front inside back ++ after))
+    unlinked-group : (front back : List Code) (inside after : List Forest) → IsUnlinkedRow (joined after) →
+        IsUnlinkedRow (joined (pair_group front inside back ++ after))
     unlinked-group front back inside after h = h
 
-nested-opens : (keys : List (ℕ × ℕ)) (o : List Code) (w : List Token) → o ≢ [] → Nested (key_of o ∷ keys) w → Nested keys (opens o ∷ w)
+nested-opens : (keys : List (ℕ × ℕ)) (o : List Code) (w : List Token) → o ≢ [] → Nested (key_of o ∷ keys) w →
+    Nested keys (opens o ∷ w)
 nested-opens keys o w h k =
     let r : Onto keys o (nest_word w).0 (nest_word w).1 = onto-word keys o (nest_word w).0 (nest_word w).1 h k.frames in
     record { first = r.first; frames = r.frames; events = λ n. r.events n ∙ ap (λ es. opened_events o ++ es) (k.events (n + 4)) }
@@ -176,7 +191,8 @@ nested-word (opens o ∷ w) keys h = nested-opens keys o w h.0 (nested-word w (k
 nested-word (closes c ∷ w) [] h = absurd h
 nested-word (closes c ∷ w) (key ∷ keys) h = nested-closes key keys c w h.0 h.1.0 (nested-word w keys h.1.1)
 
-word-any : (w : List Token) (keys : List (ℕ × ℕ)) (n : ℕ) (p : Option ℕ) → Matches keys w → word_events n p w ≡ word_events n None w
+word-any : (w : List Token) (keys : List (ℕ × ℕ)) (n : ℕ) (p : Option ℕ) → Matches keys w →
+    word_events n p w ≡ word_events n None w
 word-any [] keys n p h = refl
 word-any (item f ∷ w) keys n p h =
     ap (λ es. es ++ word_events (n + event_count f) (last_link n p f) w) (unlinked-events f n p h.0)
@@ -200,7 +216,8 @@ matched-unlinked w h =
     let c : Closed (nest_word w).0 (nest_word w).1 = closed (nest_word w).0 (nest_word w).1 k.frames in
     subst (λ (fs : List Forest). IsUnlinkedRow (joined fs)) (sym c.all) k.first
 
-pub matched-events : (w : List Token) (n : ℕ) (p : Option ℕ) → Matches [] w → appended_from n p (assembled w) ≡ word_events n p w
+pub matched-events : (w : List Token) (n : ℕ) (p : Option ℕ) → Matches [] w →
+    appended_from n p (assembled w) ≡ word_events n p w
 matched-events w n p h =
     let k : Nested [] w = nested-word w [] h in
     let c : Closed (nest_word w).0 (nest_word w).1 = closed (nest_word w).0 (nest_word w).1 k.frames in
@@ -220,13 +237,16 @@ items-none (item f ∷ w) h = items-none w h
 items-none (opens o ∷ w) h = absurd h
 items-none (closes c ∷ w) h = absurd h
 
-items-joined : (w : List Token) (n : ℕ) (p : Option ℕ) → AreItems w → appended_from n p (joined (nest_word w).0) ≡ word_events n p w
+items-joined : (w : List Token) (n : ℕ) (p : Option ℕ) → AreItems w →
+    appended_from n p (joined (nest_word w).0) ≡ word_events n p w
 items-joined [] n p h = refl
-items-joined (item f ∷ w) n p h = appended_from-row n p f (joined (nest_word w).0) ∙ ap (λ es. appended_from n p f ++ es) (items-joined w (n + event_count f) (last_link n p f) h)
+items-joined (item f ∷ w) n p h =
+    appended_from-row n p f (joined (nest_word w).0) ∙ ap (λ es. appended_from n p f ++ es) (items-joined w (n + event_count f) (last_link n p f) h)
 items-joined (opens o ∷ w) n p h = absurd h
 items-joined (closes c ∷ w) n p h = absurd h
 
-pub items-events : (w : List Token) (n : ℕ) (p : Option ℕ) → AreItems w → appended_from n p (assembled w) ≡ word_events n p w
+pub items-events : (w : List Token) (n : ℕ) (p : Option ℕ) → AreItems w →
+    appended_from n p (assembled w) ≡ word_events n p w
 items-events w n p h =
     ap (λ fs. appended_from n p (joined ((nest_word w).0 ++ after_loose pair_group loose loose fs))) (items-none w h)
     ∙ ap (λ fs. appended_from n p (joined fs)) (append-nil (nest_word w).0)
@@ -234,21 +254,25 @@ items-events w n p h =
 
 -- Both.
 
-pub flat-events : (w : List Token) (n : ℕ) (p : Option ℕ) → Matches [] w ⊎ AreItems w → appended_from n p (assembled w) ≡ word_events n p w
+pub flat-events : (w : List Token) (n : ℕ) (p : Option ℕ) → Matches [] w ⊎ AreItems w →
+    appended_from n p (assembled w) ≡ word_events n p w
 flat-events w n p (inl h) = matched-events w n p h
 flat-events w n p (inr h) = items-events w n p h
 
 pub length-word : (w : List Token) (n : ℕ) (p : Option ℕ) → length (word_events n p w) ≡ word_count w
 length-word [] n p = refl
-length-word (item f ∷ w) n p = let a = length-append (appended_from n p f) (word_events (n + event_count f) (last_link n p f) w) in let b = length-appended_from n p f in let c = length-word w (n + event_count f) (last_link n p f) in omega (arith, a, b, c)
+length-word (item f ∷ w) n p =
+    let a = length-append (appended_from n p f) (word_events (n + event_count f) (last_link n p f) w) in let b = length-appended_from n p f in let c = length-word w (n + event_count f) (last_link n p f) in omega (arith, a, b, c)
 length-word (opens o ∷ w) n p = let c = length-word w (n + 4) p in omega (arith, c)
 length-word (closes o ∷ w) n p = let c = length-word w (n + 4) p in omega (arith, c)
 
 pub flat-count : (w : List Token) → Matches [] w ⊎ AreItems w → event_count (assembled w) ≡ word_count w
-flat-count w h = sym (length-appended_from 0 None (assembled w)) ∙ ap length (flat-events w 0 None h) ∙ length-word w 0 None
+flat-count w h =
+    sym (length-appended_from 0 None (assembled w)) ∙ ap length (flat-events w 0 None h) ∙ length-word w 0 None
 
 -- words behind words
-pub word-append : (v w : List Token) (n : ℕ) (p : Option ℕ) → word_events n p (v ++ w) ≡ word_events n p v ++ word_events (n + word_count v) (word_link n p v) w
+pub word-append : (v w : List Token) (n : ℕ) (p : Option ℕ) →
+    word_events n p (v ++ w) ≡ word_events n p v ++ word_events (n + word_count v) (word_link n p v) w
 word-append [] w n p = let z : n ≡ n + 0 = omega arith in ap (λ i. word_events i p w) z
 word-append (item f ∷ v) w n p =
     let z : n + event_count f + word_count v ≡ n + (event_count f + word_count v) = omega arith in

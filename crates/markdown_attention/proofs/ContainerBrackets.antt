@@ -40,7 +40,8 @@ take-key k m cs h l a = λ i. (sym (take-marker k m cs h l a) i, sym (length-tak
 
 cut-length : (ns : List ℕ) (cs : List Code) → total ns ≤ length cs → length (cut_front ns cs).1 ≡ length cs - total ns
 cut-length [] cs l = omega arith
-cut-length (n ∷ ns) cs l = let d = length-drop n cs in let r = cut-length ns (drop n cs) (omega (arith, l, d)) in omega (arith, l, d, r)
+cut-length (n ∷ ns) cs l =
+    let d = length-drop n cs in let r = cut-length ns (drop n cs) (omega (arith, l, d)) in omega (arith, l, d, r)
 
 cut-marker : (ns : List ℕ) (m : ℕ) (cs : List Code) → HasMarker m cs → HasMarker m (cut_front ns cs).1
 cut-marker [] m cs h = h
@@ -59,11 +60,14 @@ some-append (n ∷ ns) ms h k = (h.0, some-append ns ms h.1 k)
 
 pub some-reverse : (ns : List ℕ) → AreSome ns → AreSome (reverse ns)
 some-reverse [] h = tt
-some-reverse (n ∷ ns) h = subst (λ (xs : List ℕ). AreSome xs) (sym (reverse-first n ns)) (some-append (reverse ns) (n ∷ []) (some-reverse ns h.1) (h.0, tt))
+some-reverse (n ∷ ns) h =
+    subst (λ (xs : List ℕ). AreSome xs) (sym (reverse-first n ns)) (some-append (reverse ns) (n ∷ []) (some-reverse ns h.1) (h.0, tt))
 
 -- Brackets of a run.
 
-closes-match : (m : ℕ) (ns : List ℕ) (cs : List Code) (keys : List (ℕ × ℕ)) (w : List Token) → AreSome ns → total ns ≤ length cs → HasMarker m cs → Matches keys w → Matches (with_marker m ns ++ keys) (map closes (cut_front ns cs).0 ++ w)
+closes-match : (m : ℕ) (ns : List ℕ) (cs : List Code) (keys : List (ℕ × ℕ)) (w : List Token) → AreSome ns →
+    total ns ≤ length cs → HasMarker m cs → Matches keys w →
+    Matches (with_marker m ns ++ keys) (map closes (cut_front ns cs).0 ++ w)
 closes-match m [] cs keys w s l h k = k
 closes-match m (n ∷ ns) cs keys w s l h k =
     let d = length-drop n cs in
@@ -75,15 +79,19 @@ abbrev pushed : ℕ → List ℕ → List (ℕ × ℕ) → List (ℕ × ℕ)
 pushed m [] keys = keys
 pushed m (n ∷ ns) keys = pushed m ns ((m, n) ∷ keys)
 
-pushed-append : (m : ℕ) (ns ms : List ℕ) (keys : List (ℕ × ℕ)) → pushed m (ns ++ ms) keys ≡ pushed m ms (pushed m ns keys)
+pushed-append : (m : ℕ) (ns ms : List ℕ) (keys : List (ℕ × ℕ)) →
+    pushed m (ns ++ ms) keys ≡ pushed m ms (pushed m ns keys)
 pushed-append m [] ms keys = refl
 pushed-append m (n ∷ ns) ms keys = pushed-append m ns ms ((m, n) ∷ keys)
 
 pushed-reverse : (m : ℕ) (ns : List ℕ) (keys : List (ℕ × ℕ)) → pushed m (reverse ns) keys ≡ with_marker m ns ++ keys
 pushed-reverse m [] keys = refl
-pushed-reverse m (n ∷ ns) keys = ap (λ xs. pushed m xs keys) (reverse-first n ns) ∙ pushed-append m (reverse ns) (n ∷ []) keys ∙ ap (λ xs. (m, n) ∷ xs) (pushed-reverse m ns keys)
+pushed-reverse m (n ∷ ns) keys =
+    ap (λ xs. pushed m xs keys) (reverse-first n ns) ∙ pushed-append m (reverse ns) (n ∷ []) keys ∙ ap (λ xs. (m, n) ∷ xs) (pushed-reverse m ns keys)
 
-opens-match : (m : ℕ) (ns : List ℕ) (cs : List Code) (keys : List (ℕ × ℕ)) (w : List Token) → AreSome ns → total ns ≤ length cs → HasMarker m cs → Matches (pushed m ns keys) w → Matches keys (map opens (cut_front ns cs).0 ++ w)
+opens-match : (m : ℕ) (ns : List ℕ) (cs : List Code) (keys : List (ℕ × ℕ)) (w : List Token) → AreSome ns →
+    total ns ≤ length cs → HasMarker m cs → Matches (pushed m ns keys) w →
+    Matches keys (map opens (cut_front ns cs).0 ++ w)
 opens-match m [] cs keys w s l h k = k
 opens-match m (n ∷ ns) cs keys w s l h k =
     let d = length-drop n cs in
@@ -128,11 +136,14 @@ module _ (s : Setting) (pairs_of : List Run → List Pair) where
   unfolding tokens_of
   tokens-empty ps n = refl
 
-  pub tokens-run : (link : Option Content) (cs : List Code) (rest : Forest) (ps : List Pair) (n : ℕ) → tokens (leaf_then N.AttentionSequence link cs rest) ps n ≡ run_tokens ps n (run_of s cs) ++ tokens rest ps (suc n)
+  pub tokens-run : (link : Option Content) (cs : List Code) (rest : Forest) (ps : List Pair) (n : ℕ) →
+      tokens (leaf_then N.AttentionSequence link cs rest) ps n ≡ run_tokens ps n (run_of s cs) ++ tokens rest ps (suc n)
   unfolding tokens_of
   tokens-run link cs rest ps n = refl
 
-  pub tokens-leaf : (name : Name) (link : Option Content) (cs : List Code) (rest : Forest) (ps : List Pair) (n : ℕ) → is_run name ≡ false → tokens (leaf_then name link cs rest) ps n ≡ item (leaf_then name link cs empty) ∷ tokens rest ps n
+  pub tokens-leaf : (name : Name) (link : Option Content) (cs : List Code) (rest : Forest) (ps : List Pair) (n : ℕ) →
+      is_run name ≡ false →
+      tokens (leaf_then name link cs rest) ps n ≡ item (leaf_then name link cs empty) ∷ tokens rest ps n
   unfolding tokens_of
   tokens-leaf N.AttentionSequence link cs rest ps n e = cc
   tokens-leaf _ link cs rest ps n e = refl
@@ -147,26 +158,31 @@ module _ (s : Setting) (pairs_of : List Run → List Pair) where
   no-brackets empty ps n h = subst (λ (w : List Token). AreItems w) (sym (tokens-empty ps n)) tt
   no-brackets (leaf_then name link cs rest) ps n h =
       subst (λ (w : List Token). AreItems w) (sym (tokens-leaf name link cs rest ps n (or_parts (is_run name) (has_run rest) h).0)) (no-brackets rest ps n (or_parts (is_run name) (has_run rest) h).1)
-  no-brackets (group_then name a b inside rest) ps n h = subst (λ (w : List Token). AreItems w) (sym (tokens-group name a b inside rest ps n)) (no-brackets rest ps n h)
+  no-brackets (group_then name a b inside rest) ps n h =
+      subst (λ (w : List Token). AreItems w) (sym (tokens-group name a b inside rest ps n)) (no-brackets rest ps n h)
 
 pub runs-empty : (s : Setting) → runs_of s empty ≡ []
 unfolding runs_of
 runs-empty s = refl
 
-pub runs-run : (s : Setting) (link : Option Content) (cs : List Code) (rest : Forest) → runs_of s (leaf_then N.AttentionSequence link cs rest) ≡ run_of s cs ∷ runs_of s rest
+pub runs-run : (s : Setting) (link : Option Content) (cs : List Code) (rest : Forest) →
+    runs_of s (leaf_then N.AttentionSequence link cs rest) ≡ run_of s cs ∷ runs_of s rest
 unfolding runs_of
 runs-run s link cs rest = refl
 
-pub runs-leaf : (s : Setting) (name : Name) (link : Option Content) (cs : List Code) (rest : Forest) → is_run name ≡ false → runs_of s (leaf_then name link cs rest) ≡ runs_of s rest
+pub runs-leaf : (s : Setting) (name : Name) (link : Option Content) (cs : List Code) (rest : Forest) →
+    is_run name ≡ false → runs_of s (leaf_then name link cs rest) ≡ runs_of s rest
 unfolding runs_of
 runs-leaf s N.AttentionSequence link cs rest e = cc
 runs-leaf s _ link cs rest e = refl
 
-pub runs-group : (s : Setting) (name : Name) (a b : Point) (inside rest : Forest) → runs_of s (group_then name a b inside rest) ≡ runs_of s rest
+pub runs-group : (s : Setting) (name : Name) (a b : Point) (inside rest : Forest) →
+    runs_of s (group_then name a b inside rest) ≡ runs_of s rest
 unfolding runs_of
 runs-group s name a b inside rest = refl
 
-drop-first : (R : List Run) (n : ℕ) (r : Run) (rs : List Run) → r ∷ rs ≡ drop n R → (run_at R n ≡ r) × (rs ≡ drop (suc n) R)
+drop-first : (R : List Run) (n : ℕ) (r : Run) (rs : List Run) → r ∷ rs ≡ drop n R →
+    (run_at R n ≡ r) × (rs ≡ drop (suc n) R)
 drop-first [] zero r rs e = cc
 drop-first [] (suc n) r rs e = cc
 drop-first (x ∷ R) zero r rs e = (cc, cc)
@@ -190,7 +206,8 @@ module _ (s : Setting) (pairs_of : List Run → List Pair) (R : List Run) (ps : 
   abbrev around : ℕ → List (ℕ × ℕ)
   around n = keys_where R (passes n) ps
 
-  row-match : (t : Forest) (n : ℕ) → IsUnlinkedRow t → runs_of s t ≡ drop n R → Matches (open_at n) (tokens s pairs_of t ps n)
+  row-match : (t : Forest) (n : ℕ) → IsUnlinkedRow t → runs_of s t ≡ drop n R →
+      Matches (open_at n) (tokens s pairs_of t ps n)
   row-match empty n h e =
       subst (λ (w : List Token). Matches (open_at n) w) (sym (tokens-empty s pairs_of ps n)) (none-last R n ps (drop-none R n (sym (runs-empty s) ∙ e)) cut.ranked)
   row-match (leaf_then name link cs rest) n h e = elim (cases_Bool (is_run name)) [
@@ -218,6 +235,7 @@ module _ (s : Setting) (pairs_of : List Run → List Pair) (R : List Run) (ps : 
       subst (λ (w : List Token). Matches (open_at n) w) (sym (tokens-group s pairs_of name a b inside rest ps n)) (tt, row-match rest n h (sym (runs-group s name a b inside rest) ∙ e))
 
 -- the tokens of a row match
-pub row-matches : (s : Setting) (pairs_of : List Run → List Pair) (t : Forest) (ps : List Pair) → AreCut (runs_of s t) ps → IsUnlinkedRow t → Matches [] (tokens_of s pairs_of t ps 0)
+pub row-matches : (s : Setting) (pairs_of : List Run → List Pair) (t : Forest) (ps : List Pair) →
+    AreCut (runs_of s t) ps → IsUnlinkedRow t → Matches [] (tokens_of s pairs_of t ps 0)
 row-matches s pairs_of t ps cut h =
     subst (λ (x : List (ℕ × ℕ)). Matches x (tokens_of s pairs_of t ps 0)) (none-first (runs_of s t) ps cut.ranked) (row-match s pairs_of (runs_of s t) ps cut t 0 h refl)

@@ -39,15 +39,18 @@ module _ (bytes : List ℕ) where
 
   sound_plain : (document : List ℕ) (a : Reading Forest) → ReadsPlain document a → Sound (as_plain a)
   unfolding as_plain
-  sound_plain document a h = on_any _ _ (yields_bind (IsPlainTree document) _ _ _ h.plain λ tree k. yields_gives _ (plain tree) (quiet-good bytes tree (plain-quiet document tree k)))
+  sound_plain document a h =
+      on_any _ _ (yields_bind (IsPlainTree document) _ _ _ h.plain λ tree k. yields_gives _ (plain tree) (quiet-good bytes tree (plain-quiet document tree k)))
 
   sound_line_ending : Sound line_ending
   unfolding line_ending
-  sound_line_ending = on_any _ _ (then_any _ _ _ λ c. yields_gives _ (plain (leaf Name.LineEnding c)) (good-leaf bytes Name.LineEnding c refl))
+  sound_line_ending =
+      on_any _ _ (then_any _ _ _ λ c. yields_gives _ (plain (leaf Name.LineEnding c)) (good-leaf bytes Name.LineEnding c refl))
 
   sound_data_code : Sound data_code
   unfolding data_code
-  sound_data_code = on_any _ _ (then_any _ _ _ λ c. yields_gives _ (plain (leaf Name.Data c)) (good-leaf bytes Name.Data c refl))
+  sound_data_code =
+      on_any _ _ (then_any _ _ _ λ c. yields_gives _ (plain (leaf Name.Data c)) (good-leaf bytes Name.Data c refl))
 
   sound_run : (m : ℕ) → IsMarker m → Sound (attention_run m)
   unfolding attention_run ◌>>=◌ gives
@@ -75,7 +78,8 @@ module _ (bytes : List ℕ) where
 
   -- Elements.
 
-  sound_text_element : (s : Setting) (end : ℕ) (earlier : List Element) (previous : Option Code) → Sound (text_element s end earlier previous)
+  sound_text_element : (s : Setting) (end : ℕ) (earlier : List Element) (previous : Option Code) →
+      Sound (text_element s end earlier previous)
   sound_text_element s end earlier previous = record { at = λ cs k. text_has s end earlier previous (Passes (IsSound bytes)) cs (each cs k) (sound_data_code.at cs k) }
     where
       each : (cs : List Code) → AreSingles bytes cs → EachConstruct s end earlier previous (Passes (IsSound bytes)) cs
@@ -104,14 +108,17 @@ module _ (bytes : List ℕ) where
       at_some : (r : Option (Element × List Code)) → r ≡ Some (e, h.0) → Passes (IsSound bytes) r → IsSound bytes e
       at_some r n x = subst (λ z. Passes (IsSound bytes) z) n x
 
-      covered : (r : Option (Element × List Code)) → r ≡ Some (e, h.0) → At (element_codes (unused earlier)) [] cs r → element_codes (unused earlier) e ++ h.0 ≡ cs
+      covered : (r : Option (Element × List Code)) → r ≡ Some (e, h.0) → At (element_codes (unused earlier)) [] cs r →
+          element_codes (unused earlier) e ++ h.0 ≡ cs
       covered r n x = subst (λ z. At (element_codes (unused earlier)) [] cs z) n x
 
-  pub sound-elements : (s : Setting) (cs : List Code) (es : List Element) → AreSingles bytes cs → AreElements s cs es → AllAre (IsSound bytes) es
+  pub sound-elements : (s : Setting) (cs : List Code) (es : List Element) → AreSingles bytes cs → AreElements s cs es →
+      AllAre (IsSound bytes) es
   sound-elements s cs es k h = all_sound s _ es [] None cs k h
 
 -- The tree of labels.
 
 pub good-tree : (bytes : List ℕ) (s : Setting) (cs : List Code) → AreSingles bytes cs → IsGood bytes (label_tree s cs)
 unfolding label_tree
-good-tree bytes s cs k = good-labels bytes (elements_of s cs) (sound-elements bytes s cs (elements_of s cs) k (text_elements s cs))
+good-tree bytes s cs k =
+    good-labels bytes (elements_of s cs) (sound-elements bytes s cs (elements_of s cs) k (text_elements s cs))

@@ -67,8 +67,10 @@ module _ (s : Setting) (tildes : Bool) (bytes : List ℕ) (same : s.bytes ≡ by
   abbrev list : List Sequence
   list = runs_from tildes bytes 0 0 outermost es
 
-  pub tree-grouped : (after : List Event) (probes : ℕ) → IsStriped t → HaveRunPlaces bytes es → IsGrouped options list es after probes → after ≡ appended_from 0 None (paired s (pair_list s) t)
-  tree-grouped after probes st places g = g.events ∙ group-events s tildes bytes same on es places g.pairs options given g.lists g.within t h st e
+  pub tree-grouped : (after : List Event) (probes : ℕ) → IsStriped t → HaveRunPlaces bytes es →
+      IsGrouped options list es after probes → after ≡ appended_from 0 None (paired s (pair_list s) t)
+  tree-grouped after probes st places g =
+      g.events ∙ group-events s tildes bytes same on es places g.pairs options given g.lists g.within t h st e
 
   pub tree-probed : (after : List Event) (probes : ℕ) → IsGrouped options list es after probes → IsProbed s t probes
   tree-probed after probes g =
@@ -95,7 +97,8 @@ module _ (T : Tokenizer) (after : List Event) (probes : ℕ) (g : IsGrouped T.pa
       tree-grouped s T.parse_state.now.options.now.constructs.gfm_strikethrough T.parse_state.now.bytes.now is.bytes (ap (λ (o : ParseOptions). o.constructs.gfm_strikethrough) is.options)
       T.parse_state.now.options.now is.options t runs T.events e after probes striped places g
 
-  pub left-probed : (s : Setting) (t : Forest) → IsOf s T → HasRuns T.parse_state.now.bytes.now t → T.events ≡ appended_from 0 None t → IsProbed s t probes
+  pub left-probed : (s : Setting) (t : Forest) → IsOf s T → HasRuns T.parse_state.now.bytes.now t →
+      T.events ≡ appended_from 0 None t → IsProbed s t probes
   left-probed s t is runs e =
       tree-probed s T.parse_state.now.options.now.constructs.gfm_strikethrough T.parse_state.now.bytes.now is.bytes (ap (λ (o : ParseOptions). o.constructs.gfm_strikethrough) is.options)
       T.parse_state.now.options.now is.options t runs T.events e after probes g

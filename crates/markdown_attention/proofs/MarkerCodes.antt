@@ -67,7 +67,8 @@ other-marker n l (inr (inr e)) = omega (arith, l, e)
 ending-marker : (c : Code) → is_line_ending c ≡ true → IsMarker c.value → ⊥
 ending-marker c h m = let e : c.value ≡ 10 = eqb-true c.value 10 h in other-marker c.value (omega (arith, e)) m
 
-pub singles-join : (bytes : List ℕ) (a b : List Code) → ends_line a ≡ true → AreSingles bytes a → AreSingles bytes b → AreSingles bytes (a ++ b)
+pub singles-join : (bytes : List ℕ) (a b : List Code) → ends_line a ≡ true → AreSingles bytes a → AreSingles bytes b →
+    AreSingles bytes (a ++ b)
 singles-join bytes [] b e h k = k
 singles-join bytes (c ∷ []) b e h k = ((λ m. absurd (ending-marker c e m)), k)
 singles-join bytes (c ∷ d ∷ ds) b e h k =
@@ -100,7 +101,8 @@ module _ (bytes : List ℕ) (p : Point) (s : Stands bytes p) where
       outside : next_column p (p.index + 1) 0 ≡ shifted p 1
       outside = λ i. record { line = p.line; column = p.column + 1; index = p.index + 1; vs = sym none i }
 
-  pub marker-here : IsMarker (value_at bytes p) → (get_or bytes p.index 0 ≡ value_at bytes p) × (stop_at bytes p ≡ shifted p 1)
+  pub marker-here : IsMarker (value_at bytes p) →
+      (get_or bytes p.index 0 ≡ value_at bytes p) × (stop_at bytes p ≡ shifted p 1)
   marker-here = by-tests (is_line_ending_byte (get_or bytes p.index 0)) (get_or bytes p.index 0 == tab_value) refl refl
 
 -- a marker is no column of a tab
@@ -113,7 +115,8 @@ no-tab bytes p s m = elim (cases_lt 0 p.vs) [
   | inr l ↦ omega (arith, l)
 ]
 
-single-first : (bytes : List ℕ) (p : Point) (c : Code) (cs : List Code) → Stands bytes p → p.index < length bytes → c ≡ code_here bytes p → StartAt c.stop cs → IsMarker c.value → IsSingle bytes c cs
+single-first : (bytes : List ℕ) (p : Point) (c : Code) (cs : List Code) → Stands bytes p → p.index < length bytes →
+    c ≡ code_here bytes p → StartAt c.stop cs → IsMarker c.value → IsSingle bytes c cs
 single-first bytes p c cs s w e n m =
     let here : (get_or bytes p.index 0 ≡ value_at bytes p) × (stop_at bytes p ≡ shifted p 1) = marker-here bytes p s (subst (λ (x : Code). IsMarker x.value) e m) in
     let start : c.start ≡ p = ap (λ (x : Code). x.start) e in
@@ -125,14 +128,16 @@ single-first bytes p c cs s w e n m =
       next = n;
     }
 
-singles-at : (bytes : List ℕ) (p : Point) (cs : List Code) → Stands bytes p → codes_at bytes p ≡ cs → IsChain p cs → AreSingles bytes cs
+singles-at : (bytes : List ℕ) (p : Point) (cs : List Code) → Stands bytes p → codes_at bytes p ≡ cs → IsChain p cs →
+    AreSingles bytes cs
 singles-at bytes p [] s e h = tt
 singles-at bytes p (c ∷ cs) s e h =
     let one : IsFirst bytes p c cs = first-of bytes p c cs s e in
     (λ m. single-first bytes p c cs s one.in_bytes one.code (chain-start c.stop cs h.2) m, singles-at bytes c.stop cs one.stands (sym one.rest) h.2)
 
 singles-document : (bytes : List ℕ) → AreSingles bytes (codes_of bytes)
-singles-document bytes = singles-at bytes document_start (codes_of bytes) (stands-start bytes) refl (chain-document bytes)
+singles-document bytes =
+    singles-at bytes document_start (codes_of bytes) (stands-start bytes) refl (chain-document bytes)
 
 -- The codes of a content.
 
@@ -147,9 +152,11 @@ singles-piece bytes piece =
     subst (λ (x : List Code). AreSingles bytes x) (sym (piece-codes-is bytes piece))
     (singles-front bytes (before_in piece.end back) (from_in piece.end back) (subst (λ (x : List Code). AreSingles bytes x) parts behind))
 
-pub singles-content : (bytes : List ℕ) (pieces : List Piece) → are_pieces bytes pieces ≡ true → AreSingles bytes (content_of bytes pieces)
+pub singles-content : (bytes : List ℕ) (pieces : List Piece) → are_pieces bytes pieces ≡ true →
+    AreSingles bytes (content_of bytes pieces)
 singles-content bytes [] h = tt
-singles-content bytes (piece ∷ []) h = subst (λ (x : List Code). AreSingles bytes x) (sym (append-nil (piece_codes (codes_of bytes) piece))) (singles-piece bytes piece)
+singles-content bytes (piece ∷ []) h =
+    subst (λ (x : List Code). AreSingles bytes x) (sym (append-nil (piece_codes (codes_of bytes) piece))) (singles-piece bytes piece)
 singles-content bytes (piece ∷ next ∷ more) h =
     singles-join bytes (piece_codes (codes_of bytes) piece) (content_of bytes (next ∷ more)) (followed_by bytes piece next more h).ends (singles-piece bytes piece)
     (singles-content bytes (next ∷ more) (piece_row bytes piece (next ∷ more) h).others)
@@ -158,7 +165,8 @@ singles-content bytes (piece ∷ next ∷ more) h =
 
 -- where it stands
 abbrev pub IsPlaced : List ℕ → List Code → Type 0
-IsPlaced bytes cs = IsUtf8 bytes → IsRunPlace bytes (start_of cs) (stop_of document_start cs) × ((stop_of document_start cs).column ≤ 4 * (stop_of document_start cs).index + 1)
+IsPlaced bytes cs =
+    IsUtf8 bytes → IsRunPlace bytes (start_of cs) (stop_of document_start cs) × ((stop_of document_start cs).column ≤ 4 * (stop_of document_start cs).index + 1)
 
 -- what a leaf of a run covers
 abbrev pub IsRunLeaf : List ℕ → List Code → Type 0
@@ -170,7 +178,8 @@ marker-ascii n (inr (inl e)) = omega (arith, e)
 marker-ascii n (inr (inr e)) = omega (arith, e)
 
 -- a run ends between characters
-run-between : (bytes : List ℕ) (m : ℕ) (p : Point) (cs : List Code) → IsUtf8 bytes → IsMarker m → AreSingles bytes cs → IsCharBoundary bytes p.index → IsCharBoundary bytes (stop_of p (span (is_value m) cs).0).index
+run-between : (bytes : List ℕ) (m : ℕ) (p : Point) (cs : List Code) → IsUtf8 bytes → IsMarker m → AreSingles bytes cs →
+    IsCharBoundary bytes p.index → IsCharBoundary bytes (stop_of p (span (is_value m) cs).0).index
 run-between bytes m p [] u k h b = b
 run-between bytes m p (c ∷ cs) u k h b = by_test (is_value m c) refl (λ x. run-between bytes m c.stop cs u k h.1 x)
   where
@@ -185,7 +194,8 @@ run-between bytes m p (c ∷ cs) u k h b = by_test (is_value m c) refl (λ x. ru
         more (subst (λ (n : ℕ). IsCharBoundary bytes n) stop (IsCharBoundary-after_ascii bytes c.start.index u one.within low))
     by_test false e more = b
 
-run-stripe : (bytes : List ℕ) (m : ℕ) (p : Point) (cs : List Code) → IsMarker m → AreSingles bytes cs → StartAt p cs → IsStripe m p (span (is_value m) cs).0
+run-stripe : (bytes : List ℕ) (m : ℕ) (p : Point) (cs : List Code) → IsMarker m → AreSingles bytes cs → StartAt p cs →
+    IsStripe m p (span (is_value m) cs).0
 run-stripe bytes m p [] k h s = tt
 run-stripe bytes m p (c ∷ cs) k h s = by_test (is_value m c) refl (λ n. run-stripe bytes m (shifted p 1) cs k h.1 n)
   where
@@ -198,12 +208,15 @@ run-stripe bytes m p (c ∷ cs) k h s = by_test (is_value m c) refl (λ n. run-s
         (same, (s, (stop, more (subst (λ (x : Point). StartAt x cs) stop one.next))))
     by_test false e more = tt
 
-pub run-leaf : (bytes : List ℕ) (m : ℕ) (cs : List Code) → IsMarker m → AreSingles bytes cs → Passes (IsRunLeaf bytes) (some (is_value m) cs)
+pub run-leaf : (bytes : List ℕ) (m : ℕ) (cs : List Code) → IsMarker m → AreSingles bytes cs →
+    Passes (IsRunLeaf bytes) (some (is_value m) cs)
 unfolding some
 run-leaf bytes m [] k h = tt
 run-leaf bytes m (c ∷ cs) k h = by_test (is_value m c) refl (run-stripe bytes m c.start (c ∷ cs) k h refl) (λ u b. run-between bytes m c.start (c ∷ cs) u k h b)
   where
-    leaf-of : (ds : List Code) → c.value ≡ m → IsStripe m c.start (c ∷ ds) → (IsUtf8 bytes → IsCharBoundary bytes c.start.index → IsCharBoundary bytes (stop_of c.stop ds).index) → IsRunLeaf bytes (c ∷ ds)
+    leaf-of : (ds : List Code) → c.value ≡ m → IsStripe m c.start (c ∷ ds) →
+        (IsUtf8 bytes → IsCharBoundary bytes c.start.index → IsCharBoundary bytes (stop_of c.stop ds).index) →
+        IsRunLeaf bytes (c ∷ ds)
     leaf-of ds e x y =
         let stop : stop_of c.stop ds ≡ shifted c.start (suc (length ds)) = stripe-stop m c.start c.start (c ∷ ds) x refl in
         let one : IsSingle bytes c cs = h.0 (subst IsMarker (sym e) k) in

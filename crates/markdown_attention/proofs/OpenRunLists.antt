@@ -24,9 +24,11 @@ kind-decides m n (inl a) (inr (inl b)) e = absurd (let z : 0 ≡ 1 = sym (ap kin
 kind-decides m n (inl a) (inr (inr b)) e = absurd (let z : 0 ≡ 2 = sym (ap kind_of a) ∙ e ∙ ap kind_of b in omega arith)
 kind-decides m n (inr (inl a)) (inl b) e = absurd (let z : 1 ≡ 0 = sym (ap kind_of a) ∙ e ∙ ap kind_of b in omega arith)
 kind-decides m n (inr (inl a)) (inr (inl b)) e = a ∙ sym b
-kind-decides m n (inr (inl a)) (inr (inr b)) e = absurd (let z : 1 ≡ 2 = sym (ap kind_of a) ∙ e ∙ ap kind_of b in omega arith)
+kind-decides m n (inr (inl a)) (inr (inr b)) e =
+    absurd (let z : 1 ≡ 2 = sym (ap kind_of a) ∙ e ∙ ap kind_of b in omega arith)
 kind-decides m n (inr (inr a)) (inl b) e = absurd (let z : 2 ≡ 0 = sym (ap kind_of a) ∙ e ∙ ap kind_of b in omega arith)
-kind-decides m n (inr (inr a)) (inr (inl b)) e = absurd (let z : 2 ≡ 1 = sym (ap kind_of a) ∙ e ∙ ap kind_of b in omega arith)
+kind-decides m n (inr (inr a)) (inr (inl b)) e =
+    absurd (let z : 2 ≡ 1 = sym (ap kind_of a) ∙ e ∙ ap kind_of b in omega arith)
 kind-decides m n (inr (inr a)) (inr (inr b)) e = a ∙ sym b
 
 pub by-marker : (runs : List Sequence) → HaveMarkers runs → ListsByMarker runs
@@ -52,7 +54,8 @@ unfolding is_open
 open_from runs pairs r o =
     and_from _ _ o.may_open (and_from _ _ (lt-ltb _ _ o.some_left) (not_from_false _ o.unshut))
 
-pub shut_from : (runs : List Sequence) (pairs : List Pair) (r : ℕ) → (Open runs pairs r → ⊥) → is_open runs pairs r ≡ false
+pub shut_from : (runs : List Sequence) (pairs : List Pair) (r : ℕ) → (Open runs pairs r → ⊥) →
+    is_open runs pairs r ≡ false
 shut_from runs pairs r n =
     elim (cases_Bool (is_open runs pairs r)) [ inl y ↦ absurd (n (open_parts runs pairs r y)) | inr f ↦ f ]
 
@@ -124,13 +127,17 @@ module _ (runs : List Sequence) (turn : ℕ) (pairs : List Pair) (q : Pair) (at 
   abbrev pairs' : List Pair
   pairs' = pairs ++ q ∷ []
 
-  apart_same : (r : ℕ) → ((row_of (run_at runs r).text) ≡ (row_of (run_at runs turn).text) → ⊥) → own runs pairs' r ≡ own runs pairs r
-  apart_same r ne = in_other runs (row_of (run_at runs r).text) pairs q (λ e. ne (sym e ∙ ap (λ x. (row_of (run_at runs x).text)) at))
+  apart_same : (r : ℕ) → ((row_of (run_at runs r).text) ≡ (row_of (run_at runs turn).text) → ⊥) →
+      own runs pairs' r ≡ own runs pairs r
+  apart_same r ne =
+      in_other runs (row_of (run_at runs r).text) pairs q (λ e. ne (sym e ∙ ap (λ x. (row_of (run_at runs x).text)) at))
 
-  own_more : (r : ℕ) → (row_of (run_at runs r).text) ≡ (row_of (run_at runs turn).text) → own runs pairs' r ≡ own runs pairs r ++ q ∷ []
+  own_more : (r : ℕ) → (row_of (run_at runs r).text) ≡ (row_of (run_at runs turn).text) →
+      own runs pairs' r ≡ own runs pairs r ++ q ∷ []
   own_more r e = in_own runs (row_of (run_at runs r).text) pairs q (ap (λ x. (row_of (run_at runs x).text)) at ∙ sym e)
 
-  pub left_kept : (r : ℕ) → (r ≡ q.opener → ⊥) → (r ≡ turn → ⊥) → left runs (own runs pairs' r) r ≡ left runs (own runs pairs r) r
+  pub left_kept : (r : ℕ) → (r ≡ q.opener → ⊥) → (r ≡ turn → ⊥) →
+      left runs (own runs pairs' r) r ≡ left runs (own runs pairs r) r
   left_kept r a b =
       elim (cases_eq (row_of (run_at runs r).text) (row_of (run_at runs turn).text)) [
         | inr ne ↦ ap (λ x. left runs x r) (apart_same r ne)
@@ -210,7 +217,8 @@ module _ (runs : List Sequence) (turn : ℕ) (pairs : List Pair) (q : Pair) (at 
       let set_left : ℕ → Sequence = λ x. record (run_at runs i) { remaining = x } in
       ap (λ r. lower r q.size) (h.stands i inside) ∙ ap set_left rest
 
-  pub stands_pair : (list : List Sequence) → Stands runs list pairs → turn < length runs → Stands runs (after_taking list q.opener turn q.size) pairs'
+  pub stands_pair : (list : List Sequence) → Stands runs list pairs → turn < length runs →
+      Stands runs (after_taking list q.opener turn q.size) pairs'
   stands_pair list h here =
       let fits : turn < length list = (let e = h.same_length in omega arith) in
       let list' : List Sequence = after_taking list q.opener turn q.size in
@@ -338,7 +346,8 @@ newest_next key open_at q n h w none =
       is_open = w.is_open;
     }
 
-pub newest_top : (key : ℕ → ℕ) (open_at : ℕ → Bool) (n : ℕ) → open_at n ≡ true → Newest key open_at (key n) (n + 1) (n + 1)
+pub newest_top : (key : ℕ → ℕ) (open_at : ℕ → Bool) (n : ℕ) → open_at n ≡ true →
+    Newest key open_at (key n) (n + 1) (n + 1)
 newest_top key open_at n e =
     let same : n ≡ n + 1 - 1 = omega arith in
     record {

@@ -23,7 +23,8 @@ module _ (options : ParseOptions) (list : List Sequence) (older : List ℕ) (mar
   looked_yes b r low k o = ap (λ x. cond x 1 0) (and_from _ _ (le-leb b r low) (and_from _ _ (eq-eqb (key r) q k) o))
 
   -- looked from b counts at most what is looked from b', where no run from b on is left out
-  looked_le : (b b' r : ℕ) → (b ≤ r → key r ≡ q → open_at r ≡ true → b' ≤ r) → looked key open_at q b r ≤ looked key open_at q b' r
+  looked_le : (b b' r : ℕ) → (b ≤ r → key r ≡ q → open_at r ≡ true → b' ≤ r) →
+      looked key open_at q b r ≤ looked key open_at q b' r
   looked_le b b' r h =
       elim (cases_Bool (leb b r && (eqb (key r) q && open_at r))) [
         | inr e ↦ (let a : ◌≡◌ {A = ℕ} (looked key open_at q b r) 0 = ap (λ x. cond x 1 0) e in omega arith)
@@ -44,7 +45,8 @@ module _ (options : ParseOptions) (list : List Sequence) (older : List ℕ) (mar
     pub refused : (r : ℕ) → bound ≤ r → r < turn → key r ≡ q → open_at r ≡ true → Refused options list mark turn r
     pub count : n ≤ upto (looked key open_at q bound) turn
 
-  pub seen : (head n next : ℕ) → Newest key open_at q turn head → Passed options list older mark turn head n next → Seen n next
+  pub seen : (head n next : ℕ) → Newest key open_at q turn head → Passed options list older mark turn head n next →
+      Seen n next
   seen head zero next top h =
       record {
         bound = turn;
@@ -103,7 +105,8 @@ module _ (options : ParseOptions) (list : List Sequence) (older : List ℕ) (mar
     pub refused : (r : ℕ) → o < r → r < turn → key r ≡ q → open_at r ≡ true → Refused options list mark turn r
     pub count : looks ≤ upto (looked key open_at q (o + 1)) turn + 1
 
-  pub found_open : (head o looks : ℕ) → Newest key open_at q turn head → WalkFound options list older mark turn head o looks → FoundOpen head o looks
+  pub found_open : (head o looks : ℕ) → Newest key open_at q turn head →
+      WalkFound options list older mark turn head o looks → FoundOpen head o looks
   found_open head o looks top f =
       let s = seen head f.refused (suc o) top f.passed in
       let w = s.newest.within (omega arith) in
@@ -126,7 +129,8 @@ module _ (options : ParseOptions) (list : List Sequence) (older : List ℕ) (mar
     pub refused : (r : ℕ) → mark ≤ r → r < turn → key r ≡ q → open_at r ≡ true → Refused options list mark turn r
     pub count : looks ≤ upto (looked key open_at q mark) turn + 1
 
-  pub none_open : (head looks : ℕ) → Newest key open_at q turn head → WalkEnded options list older mark turn head looks → NoneOpen head looks
+  pub none_open : (head looks : ℕ) → Newest key open_at q turn head →
+      WalkEnded options list older mark turn head looks → NoneOpen head looks
   none_open head looks top f =
       let s = seen head f.refused f.next top f.passed in
       let m = f.marked in

@@ -76,7 +76,8 @@ sums-none f (x ∷ xs) h = omega (arith, h (x.0 + 1), sums-none f xs h)
 abbrev own : ℕ → Name → Forest → Texts
 own m name inside = if is_text name then (m, inside) ∷ [] else []
 
-own-yes : (f : ℕ → ℕ) (m : ℕ) (name : Name) (inside : Forest) → is_text name ≡ true → sums f (own m name inside) ≡ f (m + 1) + 0
+own-yes : (f : ℕ → ℕ) (m : ℕ) (name : Name) (inside : Forest) → is_text name ≡ true →
+    sums f (own m name inside) ≡ f (m + 1) + 0
 own-yes f m name inside e = ap (λ (b : Bool). sums f (if b then (m, inside) ∷ [] else [])) e
 
 own-no : (f : ℕ → ℕ) (m : ℕ) (name : Name) (inside : Forest) → is_text name ≡ false → sums f (own m name inside) ≡ 0
@@ -182,7 +183,8 @@ abbrev Stays : ℕ → Texts → Sequence → Type 0
 Stays r xs q = (row_of q.text ≡ r) ⊎ (1 ≤ hits (row_of q.text) xs)
 
 module _ (tildes : Bool) (bytes : List ℕ) where
-  stays-tree : (t : Forest) (n i m : ℕ) (k : Container) → Every (Stays (row_around k) (texts_of m t)) (tree_runs tildes bytes n i m k t)
+  stays-tree : (t : Forest) (n i m : ℕ) (k : Container) →
+      Every (Stays (row_around k) (texts_of m t)) (tree_runs tildes bytes n i m k t)
   stays-tree empty n i m k = tt
   stays-tree (leaf_then name link cs rest) n i m k =
       let here : List Sequence = leaf_run tildes bytes n i k name (start_of cs) (stop_of document_start cs) in
@@ -232,7 +234,8 @@ module _ (list : List Sequence) (texts : Texts) where
   one-more : (p : Pair) (ps : List Pair) (m : ℕ) → in_row (p ∷ ps) m ≡ is_row (row_in p) m + in_row ps m
   one-more p ps m = by_test (row_in p == m)
     where
-      by_test : (b : Bool) → length (cond b (p ∷ pairs_in list m ps) (pairs_in list m ps)) ≡ (if b then 1 else 0) + in_row ps m
+      by_test : (b : Bool) →
+          length (cond b (p ∷ pairs_in list m ps) (pairs_in list m ps)) ≡ (if b then 1 else 0) + in_row ps m
       by_test true = omega arith
       by_test false = omega arith
 
@@ -272,9 +275,11 @@ module _ (s : Setting) (tildes : Bool) (bytes : List ℕ) (same : s.bytes ≡ by
   each-front [] ys h = (tt, h)
   each-front (x ∷ xs) ys h = let r = each-front xs ys h.1 in ((h.0, r.0), r.1)
 
-  rows-paired : (t : Forest) (m : ℕ) → HasRuns bytes t → EachText (texts_of m t) → sum_by count_of (rows_inside s t) ≡ sums of_row (texts_of m t)
+  rows-paired : (t : Forest) (m : ℕ) → HasRuns bytes t → EachText (texts_of m t) →
+      sum_by count_of (rows_inside s t) ≡ sums of_row (texts_of m t)
   rows-paired empty m h k = ap (λ x. sum_by count_of x) (rows-empty s)
-  rows-paired (leaf_then name link cs rest) m h k = ap (λ x. sum_by count_of x) (rows-leaf s name link cs rest) ∙ rows-paired rest m h.1 k
+  rows-paired (leaf_then name link cs rest) m h k =
+      ap (λ x. sum_by count_of x) (rows-leaf s name link cs rest) ∙ rows-paired rest m h.1 k
   rows-paired (group_then name a b inside rest) m h k =
       let m' : ℕ = m + as_text name in
       let past : ℕ = m' + text_count inside in
@@ -301,7 +306,8 @@ module _ (s : Setting) (tildes : Bool) (bytes : List ℕ) (same : s.bytes ≡ by
   all_runs = tree_runs tildes bytes 0 0 0 None t
 
   module _ (lists : ArePairLists options all_runs pairs) (within : AreWithin all_runs pairs) where
-    counted : (k : Option ℕ) (rs : List Run) → map shape_of rs ≡ map whole_shape (runs_in (row_of k) all_runs) → length (pair_list s rs) ≡ length (pairs_in all_runs (row_of k) pairs)
+    counted : (k : Option ℕ) (rs : List Run) → map shape_of rs ≡ map whole_shape (runs_in (row_of k) all_runs) →
+        length (pair_list s rs) ≡ length (pairs_in all_runs (row_of k) pairs)
     counted k rs e =
         ap length (same_pair_list s rs (pair_list s rs) (pairs_of (row_of k) all_runs pairs) (some_pair_list s rs) (lists s k rs given e))
         ∙ length-map (pairs_in all_runs (row_of k) pairs) (placed (row_of k) all_runs)
@@ -311,7 +317,8 @@ module _ (s : Setting) (tildes : Bool) (bytes : List ℕ) (same : s.bytes ≡ by
 
     each-counted : (xs : Texts) → All IsShaped xs → EachText s tildes bytes same on all_runs pairs xs
     each-counted [] a = tt
-    each-counted (x ∷ xs) a = (counted (Some x.0) (runs_of s x.1) (All-head IsShaped x xs a), each-counted xs (All-tail IsShaped x xs a))
+    each-counted (x ∷ xs) a =
+        (counted (Some x.0) (runs_of s x.1) (All-head IsShaped x xs a), each-counted xs (All-tail IsShaped x xs a))
 
     once-all : (ps : List Pair) → AreWithin all_runs ps → AreOnce all_runs (texts_of 0 t) ps
     once-all [] w = tt

@@ -24,7 +24,8 @@ pub record Lists (options : ParseOptions) (runs : List Sequence) (turn : ℕ) (p
   pub older_down : (r : ℕ) → r < turn → get_or older r 0 ≤ r
   pub heads_le : (k : ℕ) → k < length heads → get_or heads k 0 ≤ turn
   pub heads_are : (k : ℕ) → k < length heads → Newest (list_of runs) (is_open runs pairs) k turn (get_or heads k 0)
-  pub older_are : (r : ℕ) → r < turn → is_open runs pairs r ≡ true → Newest (list_of runs) (is_open runs pairs) (list_of runs r) r (get_or older r 0)
+  pub older_are : (r : ℕ) → r < turn → is_open runs pairs r ≡ true →
+      Newest (list_of runs) (is_open runs pairs) (list_of runs r) r (get_or older r 0)
   pub marks_le : (k c : ℕ) → k < length heads → c < 6 → mark_of marks k c ≤ turn
   pub refusals : (r c : ℕ) → r < turn → c < 6 → is_open runs pairs r ≡ true → r < mark_of marks (list_of runs r) c
       → Refuses options (run_at runs r) (left runs (own runs pairs r) r) c
@@ -73,7 +74,8 @@ module _ (older : List ℕ) (turn : ℕ) (key : ℕ → ℕ) (open_at : ℕ → 
     pub high : bound ≤ turn
     pub newest : Newest key open_at q bound next
 
-  cut_from : (head n next : ℕ) → o < turn → Newest key open_at q turn head → CutFrom older o head n next → CutNewest next
+  cut_from : (head n next : ℕ) → o < turn → Newest key open_at q turn head → CutFrom older o head n next →
+      CutNewest next
   cut_from head zero next l top c =
       record { bound = turn; low = omega arith; high = omega arith; newest = subst (λ x. Newest key open_at q turn x) (sym c) top }
   cut_from head (suc n) next l top c =
@@ -91,7 +93,8 @@ module _ (older : List ℕ) (turn : ℕ) (key : ℕ → ℕ) (open_at : ℕ → 
         newest = subst (λ x. Newest key open_at q r x) (sym c.3) (subst (λ x. Newest key open_at x r (get_or older r 0)) at (older_are r (omega arith) is));
       }
 
-  pub cut_newest : (head next : ℕ) → o < turn → Newest key open_at q turn head → IsCut older o head next → Newest key open_at q (o + 1) next
+  pub cut_newest : (head next : ℕ) → o < turn → Newest key open_at q turn head → IsCut older o head next →
+      Newest key open_at q (o + 1) next
   cut_newest head next l top c =
       let s = cut_from head c.steps next l top c.cut in
       let b = s.low in
@@ -319,10 +322,12 @@ module _ (options : ParseOptions) (runs list : List Sequence) (turn : ℕ) (pair
     abbrev container : ℕ
     container = (row_of (run_at runs turn).text)
 
-    in_container : (r i : ℕ) → list_of runs r ≡ i → container * 3 ≤ i → i < container * 3 + 3 → (row_of (run_at runs r).text) ≡ container
+    in_container : (r i : ℕ) → list_of runs r ≡ i → container * 3 ≤ i → i < container * 3 + 3 →
+        (row_of (run_at runs r).text) ≡ container
     in_container r i e low high = let z = kinds (run_at runs r).marker in omega arith
 
-    not_in_container : (r i : ℕ) → list_of runs r ≡ i → (i < container * 3) ⊎ (container * 3 + 3 ≤ i) → (row_of (run_at runs r).text) ≡ container → ⊥
+    not_in_container : (r i : ℕ) → list_of runs r ≡ i → (i < container * 3) ⊎ (container * 3 + 3 ≤ i) →
+        (row_of (run_at runs r).text) ≡ container → ⊥
     not_in_container r i e far c = let z = kinds (run_at runs r).marker in
         elim far [ inl below ↦ omega arith | inr above ↦ omega arith ]
 

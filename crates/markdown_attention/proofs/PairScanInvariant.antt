@@ -103,14 +103,16 @@ module _ (options : ParseOptions) (runs : List Sequence) where
       }
 
 -- the pairs are of two runs of one container
-within-from : (options : ParseOptions) (runs : List Sequence) (k end : ℕ) (done : List Pair) (last : ℕ) (ps : List Pair) → PairsFrom options runs k end done last ps → AreWithin runs ps
+within-from : (options : ParseOptions) (runs : List Sequence) (k end : ℕ) (done : List Pair) (last : ℕ) (ps : List Pair) →
+    PairsFrom options runs k end done last ps → AreWithin runs ps
 within-from options runs k end done last [] h = tt
 within-from options runs k end done last (p ∷ ps) h =
     let e = h.0.eligible in
     (record { order = e.before; within = e.within; row = e.opener_in ∙ sym e.closer_in }, within-from options runs k end (done ++ p ∷ []) p.closer ps h.1)
 
 -- what holds of the pairs of each container holds of all
-within-each : (runs : List Sequence) (ps : List Pair) → ((k : ℕ) → AreWithin runs (pairs_in runs k ps)) → AreWithin runs ps
+within-each : (runs : List Sequence) (ps : List Pair) → ((k : ℕ) → AreWithin runs (pairs_in runs k ps)) →
+    AreWithin runs ps
 within-each runs [] h = tt
 within-each runs (p ∷ ps) h =
     let k : ℕ = row_of (run_at runs p.closer).text in (
@@ -118,15 +120,20 @@ within-each runs (p ∷ ps) h =
       within-each runs ps (λ j. rest j (eqb k j) (h j)),
     )
   where
-    rest : (j : ℕ) (b : Bool) → AreWithin runs (cond b (p ∷ pairs_in runs j ps) (pairs_in runs j ps)) → AreWithin runs (pairs_in runs j ps)
+    rest : (j : ℕ) (b : Bool) → AreWithin runs (cond b (p ∷ pairs_in runs j ps) (pairs_in runs j ps)) →
+        AreWithin runs (pairs_in runs j ps)
     rest j true a = a.1
     rest j false a = a
 
-pub all-within : (options : ParseOptions) (runs : List Sequence) (turn : ℕ) (pairs : List Pair) → Scanned options runs turn pairs → AreWithin runs pairs
-all-within options runs turn pairs h = within-each runs pairs (λ k. within-from options runs k turn [] 0 (pairs_in runs k pairs) (h.lists k))
+pub all-within : (options : ParseOptions) (runs : List Sequence) (turn : ℕ) (pairs : List Pair) →
+    Scanned options runs turn pairs → AreWithin runs pairs
+all-within options runs turn pairs h =
+    within-each runs pairs (λ k. within-from options runs k turn [] 0 (pairs_in runs k pairs) (h.lists k))
 
 -- of a run no more is taken than it has
-once-next : (options : ParseOptions) (runs : List Sequence) (k : ℕ) (done : List Pair) (last : ℕ) (p : Pair) (g : ℕ) → IsNext options runs k done last p → taken done g ≤ (run_at runs g).size → taken (done ++ p ∷ []) g ≤ (run_at runs g).size
+once-next : (options : ParseOptions) (runs : List Sequence) (k : ℕ) (done : List Pair) (last : ℕ) (p : Pair) (g : ℕ) →
+    IsNext options runs k done last p → taken done g ≤ (run_at runs g).size →
+    taken (done ++ p ∷ []) g ≤ (run_at runs g).size
 once-next options runs k done last p g n h =
     let f = fits_size (left runs done p.opener) (left runs done p.closer) p.size n.eligible.opener_left n.eligible.closer_left n.size in
     let push = taken_push done p g in
@@ -147,8 +154,11 @@ once-next options runs k done last p g n h =
           ]
     ]
 
-once-from : (options : ParseOptions) (runs : List Sequence) (k end : ℕ) (done : List Pair) (last : ℕ) (ps : List Pair) (g : ℕ) → PairsFrom options runs k end done last ps → taken done g ≤ (run_at runs g).size → taken (done ++ ps) g ≤ (run_at runs g).size
-once-from options runs k end done last [] g h t = subst (λ (x : List Pair). taken x g ≤ (run_at runs g).size) (sym (append-nil done)) t
+once-from : (options : ParseOptions) (runs : List Sequence) (k end : ℕ) (done : List Pair) (last : ℕ) (ps : List Pair) (g : ℕ) →
+    PairsFrom options runs k end done last ps → taken done g ≤ (run_at runs g).size →
+    taken (done ++ ps) g ≤ (run_at runs g).size
+once-from options runs k end done last [] g h t =
+    subst (λ (x : List Pair). taken x g ≤ (run_at runs g).size) (sym (append-nil done)) t
 once-from options runs k end done last (p ∷ ps) g h t =
     subst (λ (x : List Pair). taken x g ≤ (run_at runs g).size) (append_assoc done (p ∷ []) ps) (once-from options runs k end (done ++ p ∷ []) p.closer ps g h.1 (once-next options runs k done last p g h.0 t))
 
@@ -156,7 +166,8 @@ none-taken : (g n : ℕ) → taken [] g ≤ n
 unfolding taken
 none-taken g n = omega arith
 
-pub all-once : (options : ParseOptions) (runs : List Sequence) (turn : ℕ) (pairs : List Pair) → Scanned options runs turn pairs → AreTakenOnce runs pairs
+pub all-once : (options : ParseOptions) (runs : List Sequence) (turn : ℕ) (pairs : List Pair) →
+    Scanned options runs turn pairs → AreTakenOnce runs pairs
 all-once options runs turn pairs h g =
     let k : ℕ = row_of (run_at runs g).text in
     once-from options runs k turn [] 0 (pairs_in runs k pairs) g (h.lists k) (none-taken g (run_at runs g).size)

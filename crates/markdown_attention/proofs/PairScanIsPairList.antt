@@ -28,7 +28,8 @@ three options a b x y =
     && (not (eqb (ruled_size options b.size y % 3) 0) && eqb ((ruled_size options a.size x + ruled_size options b.size y) % 3) 0)
 
 abbrev tilde : ParseOptions → ℕ → ℕ → ℕ → Bool
-tilde options marker x y = eqb marker 126 && not (eqb x y && (eqb x 2 || (eqb x 1 && options.gfm_strikethrough_single_tilde)))
+tilde options marker x y =
+    eqb marker 126 && not (eqb x y && (eqb x 2 || (eqb x 1 && options.gfm_strikethrough_single_tilde)))
 
 and-assoc : (a b c : Bool) → ((a && b) && c) ≡ (a && (b && c))
 and-assoc true b c = refl
@@ -40,7 +41,8 @@ IsTildeWhole r x = r.marker ≡ 126 → 0 < x → x ≡ r.size
 
 -- the size read of a whole run
 read-whole : (options : ParseOptions) (size x : ℕ) → x ≡ size → ruled_size options size x ≡ x
-read-whole options size x e = elim (cases_Bool options.attention_first_lengths) [ inl w ↦ rw w (sym e) | inr r ↦ rw r refl ]
+read-whole options size x e =
+    elim (cases_Bool options.attention_first_lengths) [ inl w ↦ rw w (sym e) | inr r ↦ rw r refl ]
 
 -- what sizes of tildes the rule for them allows
 tilde-sizes : (options : ParseOptions) (x y : ℕ) → is_tilde_pair options x y ≡ true → (x ≡ y) × ((y ≡ 2) ⊎ (y ≡ 1))
@@ -59,14 +61,16 @@ three-equal x y e (inl two) = λ z. omega arith
 three-equal x y e (inr one) = λ z. omega arith
 
 -- the rule of three never refuses what the rule for tildes allows
-three-tilde : (options : ParseOptions) (a b : Sequence) (x y : ℕ) → x ≡ a.size → y ≡ b.size → is_tilde_pair options x y ≡ true → three options a b x y ≡ false
+three-tilde : (options : ParseOptions) (a b : Sequence) (x y : ℕ) → x ≡ a.size → y ≡ b.size →
+    is_tilde_pair options x y ≡ true → three options a b x y ≡ false
 three-tilde options a b x y ea eb h =
     let t = tilde-sizes options x y h in
     let none : eqb ((ruled_size options a.size x + ruled_size options b.size y) % 3) 0 ≡ false =
     rw (read-whole options a.size x ea, read-whole options b.size y eb) (ne_eqb ((x + y) % 3) 0 (three-equal x y t.0 t.1)) in
     rw none (ap (λ z. (a.may_close || b.may_open) && z) (and-false (not (eqb (ruled_size options b.size y % 3) 0))) ∙ and-false (a.may_close || b.may_open))
 
-tilde-same : (options : ParseOptions) (x y : ℕ) → (eqb x y && (eqb x 2 || (eqb x 1 && options.gfm_strikethrough_single_tilde))) ≡ is_tilde_pair options x y
+tilde-same : (options : ParseOptions) (x y : ℕ) →
+    (eqb x y && (eqb x 2 || (eqb x 1 && options.gfm_strikethrough_single_tilde))) ≡ is_tilde_pair options x y
 tilde-same options x y =
     elim (cases_eq x y) [
       | inl e ↦ rw (eq-eqb x y e) (ap (λ z. eqb z 2 || (eqb z 1 && options.gfm_strikethrough_single_tilde)) e)
@@ -128,7 +132,8 @@ module _ (options : ParseOptions) (runs : List Sequence) (k : ℕ) where
       let all = n.size ∙ size-all (left runs done p.opener) (left runs done p.closer) t.0 t.1 in
       (all, all ∙ t.0)
 
-  whole-pair : (done : List Pair) (last : ℕ) (p : Pair) → IsNext options runs k done last p → AreTildesWhole done → AreTildesWhole (done ++ p ∷ [])
+  whole-pair : (done : List Pair) (last : ℕ) (p : Pair) → IsNext options runs k done last p → AreTildesWhole done →
+      AreTildesWhole (done ++ p ∷ [])
   whole-pair done last p n w i is some =
       elim (cases_eq i p.opener) [
         | inl opens ↦
@@ -222,10 +227,12 @@ module _ (s : Setting) (runs : List Sequence) (k : ℕ) (rs : List Run) (shapes 
   takes_same : (i : ℕ) (p : Pair) → Member i → Both p → Model.taken_by (f i) (placed k runs p) ≡ takes i p
   takes_same i p a b = rw (eqb_same p.opener i b.opener a, eqb_same p.closer i b.closer a)
 
-  around_same : (i : ℕ) (p : Pair) → Member i → Both p → Model.is_strictly_within (f i) (placed k runs p) ≡ is_around i p
+  around_same : (i : ℕ) (p : Pair) → Member i → Both p →
+      Model.is_strictly_within (f i) (placed k runs p) ≡ is_around i p
   around_same i p a b = rw (ltb_same p.opener i b.opener a, ltb_same i p.closer a b.closer)
 
-  taken_same : (done : List Pair) (i : ℕ) → Member i → All Both done → sum_by (Model.taken_by (f i)) (moved done) ≡ taken done i
+  taken_same : (done : List Pair) (i : ℕ) → Member i → All Both done →
+      sum_by (Model.taken_by (f i)) (moved done) ≡ taken done i
   unfolding taken
   taken_same [] i a h = refl
   taken_same (p ∷ ps) i a h =
@@ -234,17 +241,20 @@ module _ (s : Setting) (runs : List Sequence) (k : ℕ) (rs : List Run) (shapes 
       ∙ ap (λ x. takes i p + x) (taken_same ps i a (All-tail Both p ps h))
       ∙ sym (sum_by-cons (takes i) p ps)
 
-  shut_same : (done : List Pair) (i : ℕ) → Member i → All Both done → list_any (Model.is_strictly_within (f i)) (moved done) ≡ is_shut done i
+  shut_same : (done : List Pair) (i : ℕ) → Member i → All Both done →
+      list_any (Model.is_strictly_within (f i)) (moved done) ≡ is_shut done i
   unfolding is_shut
   shut_same [] i a h = refl
   shut_same (p ∷ ps) i a h =
       ap (λ x. x || list_any (Model.is_strictly_within (f i)) (moved ps)) (around_same i p a (All-head Both p ps h))
       ∙ ap (λ x. is_around i p || x) (shut_same ps i a (All-tail Both p ps h))
 
-  left_same : (done : List Pair) (i : ℕ) → Member i → All Both done → Model.remaining rs (moved done) (f i) ≡ left runs done i
+  left_same : (done : List Pair) (i : ℕ) → Member i → All Both done →
+      Model.remaining rs (moved done) (f i) ≡ left runs done i
   left_same done i a h = rw ((stands i a).size, taken_same done i a h) refl
 
-  ruled_same : (done : List Pair) (i : ℕ) → Member i → All Both done → Model.ruled_size s rs (moved done) (f i) ≡ ruled_size s.options (run_at runs i).size (left runs done i)
+  ruled_same : (done : List Pair) (i : ℕ) → Member i → All Both done →
+      Model.ruled_size s rs (moved done) (f i) ≡ ruled_size s.options (run_at runs i).size (left runs done i)
   ruled_same done i a h = λ z. cond s.options.attention_first_lengths ((stands i a).size z) (left_same done i a h z)
 
   three_same : (done : List Pair) (o c : ℕ) → Member o → Member c → All Both done
@@ -383,7 +393,8 @@ module _ (s : Setting) (runs : List Sequence) (k : ℕ) (rs : List Run) (shapes 
       )
 
   pub to-model : (pairs : List Pair) → AreItsPairs s.options runs k pairs → Model.IsPairList s rs (moved pairs)
-  to-model pairs h = pairs_to [] 0 0 pairs (All-nil Both) (whole-start s.options runs k) (record { to = λ c m l. omega arith; from = λ c m l. omega arith }) h
+  to-model pairs h =
+      pairs_to [] 0 0 pairs (All-nil Both) (whole-start s.options runs k) (record { to = λ c m l. omega arith; from = λ c m l. omega arith }) h
 
 pub are-pair-lists : (options : ParseOptions) (runs : List Sequence) (pairs : List Pair)
     → ((k : ℕ) → AreItsPairs options runs k (pairs_in runs k pairs)) → ArePairLists options runs pairs

@@ -67,7 +67,8 @@ module _ (options : ParseOptions) (runs list : List Sequence) (turn : ℕ) (pair
       ]
 
   mark_inside : k * 6 + class < length marks
-  mark_inside = let a = keys turn here in let b = class_small options (run_at list turn) (run_at list turn).remaining in omega arith
+  mark_inside =
+      let a = keys turn here in let b = class_small options (run_at list turn) (run_at list turn).remaining in omega arith
 
   pub end_turn : (probes' head : ℕ) (heads' marks' : List ℕ) → head ≡ get_or heads k 0
       → heads' ≡ cond (closer.may_open && ltb 0 closer.remaining) (set heads k (turn + 1)) heads

@@ -12,22 +12,32 @@ use Rattle.markdown_attention.proofs.RunNumbers.{place-order}
 use Rattle.markdown_attention.specs.RunEdits.{closed_sizes, opened_sizes}
 use Rattle.markdown_attention.specs.RunEvents.{total}
 
-closing-yes : (i : ℕ) (q : Model.Pair) (qs : List Model.Pair) → (q.closer == i) ≡ true → closing_sizes i (q ∷ qs) ≡ q.size ∷ closing_sizes i qs
-closing-yes i q qs e = ap (λ (x : Bool). elim x as (λ y. List ℕ) [ true ↦ q.size ∷ closing_sizes i qs | false ↦ closing_sizes i qs ]) e
+closing-yes : (i : ℕ) (q : Model.Pair) (qs : List Model.Pair) → (q.closer == i) ≡ true →
+    closing_sizes i (q ∷ qs) ≡ q.size ∷ closing_sizes i qs
+closing-yes i q qs e =
+    ap (λ (x : Bool). elim x as (λ y. List ℕ) [ true ↦ q.size ∷ closing_sizes i qs | false ↦ closing_sizes i qs ]) e
 
-closing-no : (i : ℕ) (q : Model.Pair) (qs : List Model.Pair) → (q.closer == i) ≡ false → closing_sizes i (q ∷ qs) ≡ closing_sizes i qs
-closing-no i q qs e = ap (λ (x : Bool). elim x as (λ y. List ℕ) [ true ↦ q.size ∷ closing_sizes i qs | false ↦ closing_sizes i qs ]) e
+closing-no : (i : ℕ) (q : Model.Pair) (qs : List Model.Pair) → (q.closer == i) ≡ false →
+    closing_sizes i (q ∷ qs) ≡ closing_sizes i qs
+closing-no i q qs e =
+    ap (λ (x : Bool). elim x as (λ y. List ℕ) [ true ↦ q.size ∷ closing_sizes i qs | false ↦ closing_sizes i qs ]) e
 
-opening-yes : (i : ℕ) (q : Model.Pair) (qs : List Model.Pair) → (q.opener == i) ≡ true → opening_sizes i (q ∷ qs) ≡ q.size ∷ opening_sizes i qs
-opening-yes i q qs e = ap (λ (x : Bool). elim x as (λ y. List ℕ) [ true ↦ q.size ∷ opening_sizes i qs | false ↦ opening_sizes i qs ]) e
+opening-yes : (i : ℕ) (q : Model.Pair) (qs : List Model.Pair) → (q.opener == i) ≡ true →
+    opening_sizes i (q ∷ qs) ≡ q.size ∷ opening_sizes i qs
+opening-yes i q qs e =
+    ap (λ (x : Bool). elim x as (λ y. List ℕ) [ true ↦ q.size ∷ opening_sizes i qs | false ↦ opening_sizes i qs ]) e
 
-opening-no : (i : ℕ) (q : Model.Pair) (qs : List Model.Pair) → (q.opener == i) ≡ false → opening_sizes i (q ∷ qs) ≡ opening_sizes i qs
-opening-no i q qs e = ap (λ (x : Bool). elim x as (λ y. List ℕ) [ true ↦ q.size ∷ opening_sizes i qs | false ↦ opening_sizes i qs ]) e
+opening-no : (i : ℕ) (q : Model.Pair) (qs : List Model.Pair) → (q.opener == i) ≡ false →
+    opening_sizes i (q ∷ qs) ≡ opening_sizes i qs
+opening-no i q qs e =
+    ap (λ (x : Bool). elim x as (λ y. List ℕ) [ true ↦ q.size ∷ opening_sizes i qs | false ↦ opening_sizes i qs ]) e
 
-closed-by : (g : ℕ) (p : Pair) (ps : List Pair) (b : Bool) → (p.closer == g) ≡ b → closed_sizes g (p ∷ ps) ≡ (if b then p.size ∷ closed_sizes g ps else closed_sizes g ps)
+closed-by : (g : ℕ) (p : Pair) (ps : List Pair) (b : Bool) → (p.closer == g) ≡ b →
+    closed_sizes g (p ∷ ps) ≡ (if b then p.size ∷ closed_sizes g ps else closed_sizes g ps)
 closed-by g p ps b e = ap (λ (x : Bool). if x then p.size ∷ closed_sizes g ps else closed_sizes g ps) e
 
-opened-by : (g : ℕ) (p : Pair) (ps : List Pair) (b : Bool) → (p.opener == g) ≡ b → opened_sizes g (p ∷ ps) ≡ (if b then p.size ∷ opened_sizes g ps else opened_sizes g ps)
+opened-by : (g : ℕ) (p : Pair) (ps : List Pair) (b : Bool) → (p.opener == g) ≡ b →
+    opened_sizes g (p ∷ ps) ≡ (if b then p.size ∷ opened_sizes g ps else opened_sizes g ps)
 opened-by g p ps b e = ap (λ (x : Bool). if x then p.size ∷ opened_sizes g ps else opened_sizes g ps) e
 
 module _ (k : ℕ) (list : List Sequence) (g : ℕ) (within : g < length list) (inside : is_in k (run_at list g) ≡ true) where
@@ -43,7 +53,8 @@ module _ (k : ℕ) (list : List Sequence) (g : ℕ) (within : g < length list) (
   local-no : (p : Pair) (ps : List Pair) → in_row p ≡ false → local (p ∷ ps) ≡ local ps
   local-no p ps e = ap (λ (b : Bool). map (placed k list) (cond b (p ∷ pairs_in list k ps) (pairs_in list k ps))) e
 
-  apart : (j : ℕ) → j < length list → is_in k (run_at list j) ≡ true → (j ≡ g → ⊥) → (place_in k list j == place_in k list g) ≡ false
+  apart : (j : ℕ) → j < length list → is_in k (run_at list j) ≡ true → (j ≡ g → ⊥) →
+      (place_in k list j == place_in k list g) ≡ false
   apart j l e ne =
       ne_eqb (place_in k list j) (place_in k list g) (λ same.
       elim (cases_lt j g) [
@@ -55,7 +66,8 @@ module _ (k : ℕ) (list : List Sequence) (g : ℕ) (within : g < length list) (
             ]
       ])
 
-  pub closing-local : (ps : List Pair) → AreWithin list ps → closing_sizes (place_in k list g) (local ps) ≡ closed_sizes g ps
+  pub closing-local : (ps : List Pair) → AreWithin list ps →
+      closing_sizes (place_in k list g) (local ps) ≡ closed_sizes g ps
   closing-local [] w = refl
   closing-local (p ∷ ps) w =
       let i : ℕ = place_in k list g in
@@ -80,7 +92,8 @@ module _ (k : ℕ) (list : List Sequence) (g : ℕ) (within : g < length list) (
             ]
       ]
 
-  pub opening-local : (ps : List Pair) → AreWithin list ps → opening_sizes (place_in k list g) (local ps) ≡ opened_sizes g ps
+  pub opening-local : (ps : List Pair) → AreWithin list ps →
+      opening_sizes (place_in k list g) (local ps) ≡ opened_sizes g ps
   opening-local [] w = refl
   opening-local (p ∷ ps) w =
       let i : ℕ = place_in k list g in
@@ -107,10 +120,12 @@ module _ (k : ℕ) (list : List Sequence) (g : ℕ) (within : g < length list) (
             ]
       ]
 
-  takes-by : (p : Pair) (o c : Bool) → (p.opener == g) ≡ o → (p.closer == g) ≡ c → takes g p ≡ (if o || c then p.size else 0)
+  takes-by : (p : Pair) (o c : Bool) → (p.opener == g) ≡ o → (p.closer == g) ≡ c →
+      takes g p ≡ (if o || c then p.size else 0)
   takes-by p o c e f = λ i. if e i || f i then p.size else 0
 
-  sum-local : (ps : List Pair) → AreWithin list ps → sum_by (takes g) (pairs_in list k ps) ≡ total (closed_sizes g ps) + total (opened_sizes g ps)
+  sum-local : (ps : List Pair) → AreWithin list ps →
+      sum_by (takes g) (pairs_in list k ps) ≡ total (closed_sizes g ps) + total (opened_sizes g ps)
   sum-local [] w = refl
   sum-local (p ∷ ps) w =
       let ih = sum-local ps w.1 in
@@ -144,6 +159,7 @@ module _ (k : ℕ) (list : List Sequence) (g : ℕ) (within : g < length list) (
         ]
       ]
 
-  pub taken-local : (ps : List Pair) → AreWithin list ps → taken (pairs_in list k ps) g ≡ total (closed_sizes g ps) + total (opened_sizes g ps)
+  pub taken-local : (ps : List Pair) → AreWithin list ps →
+      taken (pairs_in list k ps) g ≡ total (closed_sizes g ps) + total (opened_sizes g ps)
   unfolding taken
   taken-local ps w = sum-local ps w

@@ -22,7 +22,8 @@ pub closed-are : (g : ℕ) (ps : List Pair) → sizes_at true g ps ≡ closed_si
 closed-are g [] = refl
 closed-are g (p ∷ ps) = by-test (p.closer == g) (closed-are g ps)
   where
-    by-test : (b : Bool) → sizes_at true g ps ≡ closed_sizes g ps → (if b then p.size ∷ [] else []) ++ sizes_at true g ps ≡ (if b then p.size ∷ closed_sizes g ps else closed_sizes g ps)
+    by-test : (b : Bool) → sizes_at true g ps ≡ closed_sizes g ps →
+        (if b then p.size ∷ [] else []) ++ sizes_at true g ps ≡ (if b then p.size ∷ closed_sizes g ps else closed_sizes g ps)
     by-test true e = ap (λ xs. p.size ∷ xs) e
     by-test false e = e
 
@@ -30,35 +31,43 @@ pub opened-are : (g : ℕ) (ps : List Pair) → sizes_at false g ps ≡ opened_s
 opened-are g [] = refl
 opened-are g (p ∷ ps) = by-test (p.opener == g) (opened-are g ps)
   where
-    by-test : (b : Bool) → sizes_at false g ps ≡ opened_sizes g ps → (if b then p.size ∷ [] else []) ++ sizes_at false g ps ≡ (if b then p.size ∷ opened_sizes g ps else opened_sizes g ps)
+    by-test : (b : Bool) → sizes_at false g ps ≡ opened_sizes g ps →
+        (if b then p.size ∷ [] else []) ++ sizes_at false g ps ≡ (if b then p.size ∷ opened_sizes g ps else opened_sizes g ps)
     by-test true e = ap (λ xs. p.size ∷ xs) e
     by-test false e = e
 
 -- No event that comes is linked.
 
-four : (a b c d : Event) → IsUnlinked a → IsUnlinked b → IsUnlinked c → IsUnlinked d → All IsUnlinked (a ∷ b ∷ c ∷ d ∷ [])
-four a b c d h i j k = All-cons IsUnlinked a (b ∷ c ∷ d ∷ []) h (All-cons IsUnlinked b (c ∷ d ∷ []) i (All-cons IsUnlinked c (d ∷ []) j (All-cons IsUnlinked d [] k (All-nil IsUnlinked))))
+four : (a b c d : Event) → IsUnlinked a → IsUnlinked b → IsUnlinked c → IsUnlinked d →
+    All IsUnlinked (a ∷ b ∷ c ∷ d ∷ [])
+four a b c d h i j k =
+    All-cons IsUnlinked a (b ∷ c ∷ d ∷ []) h (All-cons IsUnlinked b (c ∷ d ∷ []) i (All-cons IsUnlinked c (d ∷ []) j (All-cons IsUnlinked d [] k (All-nil IsUnlinked))))
 
 closing-plain : (m : ℕ) (p : Point) (k : ℕ) → All IsUnlinked (closing_at m p k)
-closing-plain m p k = four (event Kind.Exit (pair_names m k).2 p) (event Kind.Enter (pair_names m k).1 p) (event Kind.Exit (pair_names m k).1 (shifted p k)) (event Kind.Exit (pair_names m k).0 (shifted p k)) refl refl refl refl
+closing-plain m p k =
+    four (event Kind.Exit (pair_names m k).2 p) (event Kind.Enter (pair_names m k).1 p) (event Kind.Exit (pair_names m k).1 (shifted p k)) (event Kind.Exit (pair_names m k).0 (shifted p k)) refl refl refl refl
 
 opening-plain : (m : ℕ) (p : Point) (k : ℕ) → All IsUnlinked (opening_at m p k)
-opening-plain m p k = four (event Kind.Enter (pair_names m k).0 p) (event Kind.Enter (pair_names m k).1 p) (event Kind.Exit (pair_names m k).1 (shifted p k)) (event Kind.Enter (pair_names m k).2 (shifted p k)) refl refl refl refl
+opening-plain m p k =
+    four (event Kind.Enter (pair_names m k).0 p) (event Kind.Enter (pair_names m k).1 p) (event Kind.Exit (pair_names m k).1 (shifted p k)) (event Kind.Enter (pair_names m k).2 (shifted p k)) refl refl refl refl
 
 closings-plain : (m : ℕ) (p : Point) (ks : List ℕ) → All IsUnlinked (closings_from m p ks)
 closings-plain m p [] = All-nil IsUnlinked
-closings-plain m p (k ∷ ks) = All-append IsUnlinked (closing_at m p k) (closings_from m (shifted p k) ks) (closing-plain m p k) (closings-plain m (shifted p k) ks)
+closings-plain m p (k ∷ ks) =
+    All-append IsUnlinked (closing_at m p k) (closings_from m (shifted p k) ks) (closing-plain m p k) (closings-plain m (shifted p k) ks)
 
 openings-plain : (m : ℕ) (p : Point) (ks : List ℕ) → All IsUnlinked (openings_from m p ks)
 openings-plain m p [] = All-nil IsUnlinked
-openings-plain m p (k ∷ ks) = All-append IsUnlinked (opening_at m p k) (openings_from m (shifted p k) ks) (opening-plain m p k) (openings-plain m (shifted p k) ks)
+openings-plain m p (k ∷ ks) =
+    All-append IsUnlinked (opening_at m p k) (openings_from m (shifted p k) ks) (opening-plain m p k) (openings-plain m (shifted p k) ks)
 
 data-plain : (p : Point) (k : ℕ) → All IsUnlinked (data_at p k)
 data-plain p zero = All-nil IsUnlinked
 data-plain p (suc k) =
     All-cons IsUnlinked (event Kind.Enter Name.Data p) (event Kind.Exit Name.Data (shifted p (suc k)) ∷ []) refl (All-cons IsUnlinked (event Kind.Exit Name.Data (shifted p (suc k))) [] refl (All-nil IsUnlinked))
 
-pub events-plain : (m : ℕ) (p : Point) (fronts : List ℕ) (kept : ℕ) (backs : List ℕ) (es : List Event) → es ≡ marker_events m p fronts kept backs → All IsUnlinked es
+pub events-plain : (m : ℕ) (p : Point) (fronts : List ℕ) (kept : ℕ) (backs : List ℕ) (es : List Event) →
+    es ≡ marker_events m p fronts kept backs → All IsUnlinked es
 unfolding marker_events
 events-plain m p fronts kept backs es e =
     let F : List Event = closings_from m p fronts in
@@ -73,9 +82,11 @@ point-read [] i e l h = absurd (omega (arith, l))
 point-read (x ∷ es) zero e l h = ap (λ (y : Event). y.point) h
 point-read (x ∷ es) (suc i) e l h = point-read es i e (omega (arith, l)) h
 
-edits-push : (f : Sequence → List Event) (rs : List Sequence) (r : Sequence) → edits_by f (rs ++ r ∷ []) ≡ edits_by f rs ++ (record { at = r.event; remove = 2; events = f r; before = false }) ∷ []
+edits-push : (f : Sequence → List Event) (rs : List Sequence) (r : Sequence) →
+    edits_by f (rs ++ r ∷ []) ≡ edits_by f rs ++ (record { at = r.event; remove = 2; events = f r; before = false }) ∷ []
 edits-push f [] r = refl
-edits-push f (x ∷ rs) r = ap (λ es. (record { at = x.event; remove = 2; events = f x; before = false }) ∷ es) (edits-push f rs r)
+edits-push f (x ∷ rs) r =
+    ap (λ es. (record { at = x.event; remove = 2; events = f x; before = false }) ∷ es) (edits-push f rs r)
 
 pub edits-more : (f : Sequence → List Event) (rs : List Sequence) (k : ℕ) (d : Sequence) (now new : List Edit) (es : List Event) → k < length rs → now ≡ edits_by f (take k rs) → es ≡ f (get_or rs k d)
     → new ≡ now ++ (record { at = (get_or rs k d).event; remove = 2; events = es; before = false }) ∷ [] → new ≡ edits_by f (take (k + 1) rs)
@@ -95,16 +106,22 @@ room-read p q f g b d k e h j r = (
 
 -- By the pairs.
 
-edits-alike : (f g : Sequence → List Event) (rs : List Sequence) → ((r : Sequence) → f r ≡ g r) → edits_by f rs ≡ edits_by g rs
+edits-alike : (f g : Sequence → List Event) (rs : List Sequence) → ((r : Sequence) → f r ≡ g r) →
+    edits_by f rs ≡ edits_by g rs
 edits-alike f g [] h = refl
-edits-alike f g (r ∷ rs) h = λ i. (record { at = r.event; remove = 2; events = h r i; before = false }) ∷ edits-alike f g rs h i
+edits-alike f g (r ∷ rs) h =
+    λ i. (record { at = r.event; remove = 2; events = h r i; before = false }) ∷ edits-alike f g rs h i
 
-pub edits-are : (es : List Event) (pairs : List Pair) (fronts backs : List (List ℕ)) (rs : List Sequence) → AreSizes true pairs fronts → AreSizes false pairs backs → edits_by (added_for es fronts backs) rs ≡ run_edits (point_in es) pairs rs
+pub edits-are : (es : List Event) (pairs : List Pair) (fronts backs : List (List ℕ)) (rs : List Sequence) →
+    AreSizes true pairs fronts → AreSizes false pairs backs →
+    edits_by (added_for es fronts backs) rs ≡ run_edits (point_in es) pairs rs
 edits-are es pairs fronts backs rs f b =
     edits-alike (added_for es fronts backs) (grouped_events (point_in es) pairs) rs
     (λ r. λ i. marker_events r.marker (point_in es r.event) ((f r.number ∙ closed-are r.number pairs) i) r.remaining ((b r.number ∙ opened-are r.number pairs) i))
 
-pub room-by : (es : List Event) (count : ℕ) (pairs : List Pair) (fronts backs : List (List ℕ)) (r : Sequence) → AreSizes true pairs fronts → AreSizes false pairs backs → length fronts ≡ count → length backs ≡ count → HasRoomFor es count pairs r → HasRoom es fronts backs r
+pub room-by : (es : List Event) (count : ℕ) (pairs : List Pair) (fronts backs : List (List ℕ)) (r : Sequence) →
+    AreSizes true pairs fronts → AreSizes false pairs backs → length fronts ≡ count → length backs ≡ count →
+    HasRoomFor es count pairs r → HasRoom es fronts backs r
 room-by es count pairs fronts backs r f b l m h =
     let F : get_or fronts r.number [] ≡ closed_sizes r.number pairs = f r.number ∙ closed-are r.number pairs in
     let B : get_or backs r.number [] ≡ opened_sizes r.number pairs = b r.number ∙ opened-are r.number pairs in

@@ -38,19 +38,24 @@ module _ (s : Setting) where
         (subst (λ (ds : List Code). HasMarker (marker_of ds) ds) (sym (run-codes s cs)) (stripe-marker (marker_of cs) (start_of cs) cs (h.0 e).1.1), marked-row rest h.1))
     | inr e ↦ subst (λ (rs : List Run). AreMarked rs) (sym (runs-leaf s name link cs rest e)) (marked-row rest h.1)
   ]
-  marked-row (group_then name a b inside rest) h = subst (λ (rs : List Run). AreMarked rs) (sym (runs-group s name a b inside rest)) (marked-row rest h.1.1)
+  marked-row (group_then name a b inside rest) h =
+      subst (λ (rs : List Run). AreMarked rs) (sym (runs-group s name a b inside rest)) (marked-row rest h.1.1)
 
   pub cut-row : (t : Forest) (ps : List Pair) → HasStripes t → IsPairList s (runs_of s t) ps → AreCut (runs_of s t) ps
-  cut-row t ps h l = record { ranked = ranked s (runs_of s t) ps l; once = (pairs_are_sound s (runs_of s t) ps l).taken_once; marked = λ i. marked-at (runs_of s t) i (marked-row t h) }
+  cut-row t ps h l =
+      record { ranked = ranked s (runs_of s t) ps l; once = (pairs_are_sound s (runs_of s t) ps l).taken_once; marked = λ i. marked-at (runs_of s t) i (marked-row t h) }
 
-  pub flat-row : (t : Forest) → HasStripes t → (has_run t ≡ true → IsUnlinkedRow t) → IsFlat (tokens_of s (pair_list s) t (pair_list s (runs_of s t)) 0)
+  pub flat-row : (t : Forest) → HasStripes t → (has_run t ≡ true → IsUnlinkedRow t) →
+      IsFlat (tokens_of s (pair_list s) t (pair_list s (runs_of s t)) 0)
   flat-row t h u = by-runs (has_run t) refl
     where
       by-runs : (b : Bool) → has_run t ≡ b → IsFlat (tokens_of s (pair_list s) t (pair_list s (runs_of s t)) 0)
-      by-runs true e = inl (row-matches s (pair_list s) t (pair_list s (runs_of s t)) (cut-row t (pair_list s (runs_of s t)) h (some_pair_list s (runs_of s t))) (u e))
+      by-runs true e =
+          inl (row-matches s (pair_list s) t (pair_list s (runs_of s t)) (cut-row t (pair_list s (runs_of s t)) h (some_pair_list s (runs_of s t))) (u e))
       by-runs false e = inr (no-brackets s (pair_list s) t (pair_list s (runs_of s t)) 0 e)
 
   pub ready-row : (t : Forest) → HasStripes t → IsReady s (pair_list s) t
   ready-row empty h = tt
   ready-row (leaf_then name link cs rest) h = (λ e. (h.0 e).0, ready-row rest h.1)
-  ready-row (group_then name a b inside rest) h = ((h.0.0, flat-row inside h.1.0 h.0.1), (ready-row inside h.1.0, ready-row rest h.1.1))
+  ready-row (group_then name a b inside rest) h =
+      ((h.0.0, flat-row inside h.1.0 h.0.1), (ready-row inside h.1.0, ready-row rest h.1.1))

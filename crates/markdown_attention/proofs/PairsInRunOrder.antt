@@ -15,7 +15,8 @@ use Rattle.markdown_attention.specs.RunEvents.{total, AreSome}
 
 -- f holds where g or h does, and these two not both
 abbrev pub Sorts : Bool → Bool → Bool → Type 0
-Sorts f g h = ((f ≡ true) × ((g ≡ true) × (h ≡ false))) ⊎ (((f ≡ true) × ((g ≡ false) × (h ≡ true))) ⊎ ((f ≡ false) × ((g ≡ false) × (h ≡ false))))
+Sorts f g h =
+    ((f ≡ true) × ((g ≡ true) × (h ≡ false))) ⊎ (((f ≡ true) × ((g ≡ false) × (h ≡ true))) ⊎ ((f ≡ false) × ((g ≡ false) × (h ≡ false))))
 
 -- Pairs by the runs between theirs.
 
@@ -92,24 +93,31 @@ module _ (R : List Run) where
   keys_where f [] = []
   keys_where f (p ∷ ps) = elim (f p) [ true ↦ key p ∷ keys_where f ps | false ↦ keys_where f ps ]
 
-  keys-by : (b : Bool) (f : Pair → Bool) (p : Pair) (ps : List Pair) → f p ≡ b → keys_where f (p ∷ ps) ≡ elim b [ true ↦ key p ∷ keys_where f ps | false ↦ keys_where f ps ]
-  keys-by b f p ps e = ap (λ (x : Bool). elim x as (λ y. List (ℕ × ℕ)) [ true ↦ key p ∷ keys_where f ps | false ↦ keys_where f ps ]) e
+  keys-by : (b : Bool) (f : Pair → Bool) (p : Pair) (ps : List Pair) → f p ≡ b →
+      keys_where f (p ∷ ps) ≡ elim b [ true ↦ key p ∷ keys_where f ps | false ↦ keys_where f ps ]
+  keys-by b f p ps e =
+      ap (λ (x : Bool). elim x as (λ y. List (ℕ × ℕ)) [ true ↦ key p ∷ keys_where f ps | false ↦ keys_where f ps ]) e
 
-  keys-yes : (f : Pair → Bool) (p : Pair) (ps : List Pair) → f p ≡ true → keys_where f (p ∷ ps) ≡ key p ∷ keys_where f ps
+  keys-yes : (f : Pair → Bool) (p : Pair) (ps : List Pair) → f p ≡ true →
+      keys_where f (p ∷ ps) ≡ key p ∷ keys_where f ps
   keys-yes f p ps e = keys-by true f p ps e
 
   keys-no : (f : Pair → Bool) (p : Pair) (ps : List Pair) → f p ≡ false → keys_where f (p ∷ ps) ≡ keys_where f ps
   keys-no f p ps e = keys-by false f p ps e
 
-  none-where : (f : Pair → Bool) (ps : List Pair) → AreRanked ps → ((q : Pair) → Placed q → f q ≡ false) → keys_where f ps ≡ []
+  none-where : (f : Pair → Bool) (ps : List Pair) → AreRanked ps → ((q : Pair) → Placed q → f q ≡ false) →
+      keys_where f ps ≡ []
   none-where f [] r h = refl
   none-where f (q ∷ qs) r h = keys-no f q qs (h q r.0) ∙ none-where f qs r.1.1 h
 
-  none-later : (g : Pair → Bool) (p : Pair) (ps : List Pair) → AllLater p ps → ((q : Pair) → Later p q → g q ≡ true → ⊥) → keys_where g ps ≡ []
+  none-later : (g : Pair → Bool) (p : Pair) (ps : List Pair) → AllLater p ps →
+      ((q : Pair) → Later p q → g q ≡ true → ⊥) → keys_where g ps ≡ []
   none-later g p [] a h = refl
   none-later g p (q ∷ qs) a h = keys-no g q qs (false_from_ne_true (g q) (h q a.0)) ∙ none-later g p qs a.1 h
 
-  split-keys : (f g h : Pair → Bool) (ps : List Pair) → ((p : Pair) → Placed p → Sorts (f p) (g p) (h p)) → ((p q : Pair) → Later p q → h p ≡ true → g q ≡ true → ⊥) → AreRanked ps → keys_where f ps ≡ keys_where g ps ++ keys_where h ps
+  split-keys : (f g h : Pair → Bool) (ps : List Pair) → ((p : Pair) → Placed p → Sorts (f p) (g p) (h p)) →
+      ((p q : Pair) → Later p q → h p ≡ true → g q ≡ true → ⊥) → AreRanked ps →
+      keys_where f ps ≡ keys_where g ps ++ keys_where h ps
   split-keys f g h [] sorts apart r = refl
   split-keys f g h (p ∷ ps) sorts apart r =
       let ih = split-keys f g h ps sorts apart r.1.1 in
@@ -132,14 +140,16 @@ module _ (R : List Run) where
       ]
 
   -- before a run: those that it closes, and those around it
-  pub before-run : (n : ℕ) (ps : List Pair) → AreRanked ps → keys_where (spans n) ps ≡ keys_where (closes_at n) ps ++ keys_where (passes n) ps
+  pub before-run : (n : ℕ) (ps : List Pair) → AreRanked ps →
+      keys_where (spans n) ps ≡ keys_where (closes_at n) ps ++ keys_where (passes n) ps
   before-run n ps r =
       split-keys (spans n) (closes_at n) (passes n) ps (λ p h. sort-before p.opener p.closer n h.order)
       (λ p q l a b. let x : n < p.closer = ltb-true n p.closer (and-right (nat_lt p.opener n) (nat_lt n p.closer) a) in let y : q.closer ≡ n = eqb-true q.closer n b in let z = l.0 in omega (arith, x, y, z))
       r
 
   -- after it: those that it opens, and those around it
-  pub after-run : (n : ℕ) (ps : List Pair) → AreRanked ps → keys_where (spans (suc n)) ps ≡ keys_where (opens_at n) ps ++ keys_where (passes n) ps
+  pub after-run : (n : ℕ) (ps : List Pair) → AreRanked ps →
+      keys_where (spans (suc n)) ps ≡ keys_where (opens_at n) ps ++ keys_where (passes n) ps
   after-run n ps r =
       split-keys (spans (suc n)) (opens_at n) (passes n) ps (λ p h. sort-after p.opener p.closer n h.order)
       (λ p q l a b.
@@ -156,15 +166,19 @@ module _ (R : List Run) where
   none-first ps r = none-where (spans 0) ps r (λ q h. and_left _ _ (le-ltb q.opener 0 (omega arith)))
 
   pub none-last : (n : ℕ) (ps : List Pair) → length R ≤ n → AreRanked ps → keys_where (spans n) ps ≡ []
-  none-last n ps l r = none-where (spans n) ps r (λ q h. let w = h.within in and_right _ _ (lt-leb n q.closer (omega (arith, w, l))))
+  none-last n ps l r =
+      none-where (spans n) ps r (λ q h. let w = h.within in and_right _ _ (lt-leb n q.closer (omega (arith, w, l))))
 
   -- Sizes.
 
-  pub closed-keys : (n : ℕ) (ps : List Pair) → AreRanked ps → keys_where (closes_at n) ps ≡ with_marker (marker_of (run_at R n).codes) (closing_sizes n ps)
+  pub closed-keys : (n : ℕ) (ps : List Pair) → AreRanked ps →
+      keys_where (closes_at n) ps ≡ with_marker (marker_of (run_at R n).codes) (closing_sizes n ps)
   closed-keys n [] r = refl
   closed-keys n (p ∷ ps) r = by-test (p.closer == n) refl (closed-keys n ps r.1.1)
     where
-      by-test : (b : Bool) → (p.closer == n) ≡ b → keys_where (closes_at n) ps ≡ with_marker (marker_of (run_at R n).codes) (closing_sizes n ps) → keys_where (closes_at n) (p ∷ ps) ≡ with_marker (marker_of (run_at R n).codes) (closing_sizes n (p ∷ ps))
+      by-test : (b : Bool) → (p.closer == n) ≡ b →
+          keys_where (closes_at n) ps ≡ with_marker (marker_of (run_at R n).codes) (closing_sizes n ps) →
+          keys_where (closes_at n) (p ∷ ps) ≡ with_marker (marker_of (run_at R n).codes) (closing_sizes n (p ∷ ps))
       by-test true e ih =
           let same : marker_of (run_at R p.opener).codes ≡ marker_of (run_at R n).codes = r.0.marker ∙ ap (λ i. marker_of (run_at R i).codes) (eqb-true p.closer n e) in
           keys-yes (closes_at n) p ps e ∙ (λ i. (same i, p.size) ∷ ih i)
@@ -173,11 +187,14 @@ module _ (R : List Run) where
           keys-no (closes_at n) p ps e ∙ ih
           ∙ ap (λ (x : Bool). with_marker (marker_of (run_at R n).codes) (elim x as (λ y. List ℕ) [ true ↦ p.size ∷ closing_sizes n ps | false ↦ closing_sizes n ps ])) (sym e)
 
-  pub opened-keys : (n : ℕ) (ps : List Pair) → AreRanked ps → keys_where (opens_at n) ps ≡ with_marker (marker_of (run_at R n).codes) (opening_sizes n ps)
+  pub opened-keys : (n : ℕ) (ps : List Pair) → AreRanked ps →
+      keys_where (opens_at n) ps ≡ with_marker (marker_of (run_at R n).codes) (opening_sizes n ps)
   opened-keys n [] r = refl
   opened-keys n (p ∷ ps) r = by-test (p.opener == n) refl (opened-keys n ps r.1.1)
     where
-      by-test : (b : Bool) → (p.opener == n) ≡ b → keys_where (opens_at n) ps ≡ with_marker (marker_of (run_at R n).codes) (opening_sizes n ps) → keys_where (opens_at n) (p ∷ ps) ≡ with_marker (marker_of (run_at R n).codes) (opening_sizes n (p ∷ ps))
+      by-test : (b : Bool) → (p.opener == n) ≡ b →
+          keys_where (opens_at n) ps ≡ with_marker (marker_of (run_at R n).codes) (opening_sizes n ps) →
+          keys_where (opens_at n) (p ∷ ps) ≡ with_marker (marker_of (run_at R n).codes) (opening_sizes n (p ∷ ps))
       by-test true e ih =
           let same : marker_of (run_at R p.opener).codes ≡ marker_of (run_at R n).codes = ap (λ i. marker_of (run_at R i).codes) (eqb-true p.opener n e) in
           keys-yes (opens_at n) p ps e ∙ (λ i. (same i, p.size) ∷ ih i)
@@ -190,7 +207,8 @@ module _ (R : List Run) where
   closing-some n [] r = tt
   closing-some n (p ∷ ps) r = by-test (p.closer == n) (closing-some n ps r.1.1)
     where
-      by-test : (b : Bool) → AreSome (closing_sizes n ps) → AreSome (elim b as (λ y. List ℕ) [ true ↦ p.size ∷ closing_sizes n ps | false ↦ closing_sizes n ps ])
+      by-test : (b : Bool) → AreSome (closing_sizes n ps) →
+          AreSome (elim b as (λ y. List ℕ) [ true ↦ p.size ∷ closing_sizes n ps | false ↦ closing_sizes n ps ])
       by-test true ih = (r.0.some, ih)
       by-test false ih = ih
 
@@ -198,11 +216,13 @@ module _ (R : List Run) where
   opening-some n [] r = tt
   opening-some n (p ∷ ps) r = by-test (p.opener == n) (opening-some n ps r.1.1)
     where
-      by-test : (b : Bool) → AreSome (opening_sizes n ps) → AreSome (elim b as (λ y. List ℕ) [ true ↦ p.size ∷ opening_sizes n ps | false ↦ opening_sizes n ps ])
+      by-test : (b : Bool) → AreSome (opening_sizes n ps) →
+          AreSome (elim b as (λ y. List ℕ) [ true ↦ p.size ∷ opening_sizes n ps | false ↦ opening_sizes n ps ])
       by-test true ih = (r.0.some, ih)
       by-test false ih = ih
 
-  pub total-taken : (n : ℕ) (ps : List Pair) → AreRanked ps → total (closing_sizes n ps) + total (opening_sizes n ps) ≡ sum_by (taken_by n) ps
+  pub total-taken : (n : ℕ) (ps : List Pair) → AreRanked ps →
+      total (closing_sizes n ps) + total (opening_sizes n ps) ≡ sum_by (taken_by n) ps
   total-taken n [] r = refl
   total-taken n (p ∷ ps) r =
       by-test (p.opener == n) (p.closer == n) (λ e f. let a = eqb-true p.opener n e in let b = eqb-true p.closer n f in let l = r.0.order in omega (arith, a, b, l)) (total-taken n ps r.1.1)
@@ -219,13 +239,16 @@ module _ (R : List Run) where
 -- A pair list is ranked.
 
 module _ (s : Setting) (R : List Run) where
-  all-later : (p : Pair) (end : ℕ) (earlier : List Pair) (last : ℕ) (ps : List Pair) → ((i : ℕ) → list_any (is_strictly_within i) earlier ≡ false → is_strictly_within i p ≡ false) → p.closer ≤ last → ArePairsFrom s R end earlier last ps → AllLater R p ps
+  all-later : (p : Pair) (end : ℕ) (earlier : List Pair) (last : ℕ) (ps : List Pair) →
+      ((i : ℕ) → list_any (is_strictly_within i) earlier ≡ false → is_strictly_within i p ≡ false) → p.closer ≤ last →
+      ArePairsFrom s R end earlier last ps → AllLater R p ps
   all-later p end earlier last [] h l a = tt
   all-later p end earlier last (q ∷ qs) h l a =
       let f = a.0.forward in
       ((omega (arith, f, l), h q.opener a.0.eligible.not_within), all-later p end (earlier ++ q ∷ []) q.closer qs (λ i e. h i (within_push earlier q i e).0) (omega (arith, f, l)) a.1)
 
-  ranked-from : (end : ℕ) (earlier : List Pair) (last : ℕ) (ps : List Pair) → ArePairsFrom s R end earlier last ps → AreRanked R ps
+  ranked-from : (end : ℕ) (earlier : List Pair) (last : ℕ) (ps : List Pair) → ArePairsFrom s R end earlier last ps →
+      AreRanked R ps
   ranked-from end earlier last [] a = tt
   ranked-from end earlier last (p ∷ ps) a = (
     record { some = some a.0; order = a.0.eligible.in_order; within = a.0.eligible.in_container; marker = a.0.eligible.one_marker },

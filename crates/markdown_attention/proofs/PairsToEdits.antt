@@ -46,7 +46,8 @@ module _ (T U : Tokenizer) (same : U ≡ T) (may : MayPair T) (list fin runs : L
       subst (λ (X : Tokenizer). CanEdit (run_edits (point_in X.events) pairs runs) X.events) (sym same)
       (group-can tildes bytes T.events may.places runs pairs pairing.left may.ends)
 
-  pub grouped-in : (after : List Event) → after ≡ edited (run_edits (point_in U.events) pairs runs) U.events → IsGrouped T.parse_state.now.options.now (runs_of_events T) T.events after probes
+  pub grouped-in : (after : List Event) → after ≡ edited (run_edits (point_in U.events) pairs runs) U.events →
+      IsGrouped T.parse_state.now.options.now (runs_of_events T) T.events after probes
   grouped-in after e = record {
     pairs = pairs;
     lists = pairing.lists;

@@ -22,7 +22,8 @@ openers runs n = upto (λ r. count_if (run_at runs r).may_open) n
 abbrev pub closers : List Sequence → ℕ → ℕ
 closers runs n = upto (λ r. count_if (run_at runs r).may_close) n
 
-counted : (p : Sequence → Bool) (runs : List Sequence) (n : ℕ) → n ≤ length runs → upto (λ r. count_if (p (run_at runs r))) n ≡ count_by p (take n runs)
+counted : (p : Sequence → Bool) (runs : List Sequence) (n : ℕ) → n ≤ length runs →
+    upto (λ r. count_if (p (run_at runs r))) n ≡ count_by p (take n runs)
 counted p runs zero l = refl
 counted p runs (suc n) l =
     let before = counted p runs n (omega arith) in
@@ -37,8 +38,10 @@ counted p runs (suc n) l =
     ]
 
 -- of all runs
-pub counted-all : (p : Sequence → Bool) (runs : List Sequence) → upto (λ r. count_if (p (run_at runs r))) (length runs) ≡ count_by p runs
-counted-all p runs = counted p runs (length runs) (omega arith) ∙ ap (count_by p) (take_all (length runs) runs (omega arith))
+pub counted-all : (p : Sequence → Bool) (runs : List Sequence) →
+    upto (λ r. count_if (p (run_at runs r))) (length runs) ≡ count_by p runs
+counted-all p runs =
+    counted p runs (length runs) (omega arith) ∙ ap (count_by p) (take_all (length runs) runs (omega arith))
 
 pub upto_le : (f g : ℕ → ℕ) (n : ℕ) → ((r : ℕ) → r < n → f r ≤ g r) → upto f n ≤ upto g n
 upto_le f g zero h = omega arith
@@ -111,7 +114,8 @@ unmarked_falls mark mark' r class l same low high =
     let one : 1 ≤ upto (λ c. cond (eqb c class) 1 0) 6 = upto_has class 6 l in
     omega arith
 
-pub unmarked_same : (mark mark' : ℕ → ℕ) (r : ℕ) → ((c : ℕ) → c < 6 → leb (mark' c) r ≡ leb (mark c) r) → unmarked mark' r ≤ unmarked mark r
+pub unmarked_same : (mark mark' : ℕ → ℕ) (r : ℕ) → ((c : ℕ) → c < 6 → leb (mark' c) r ≡ leb (mark c) r) →
+    unmarked mark' r ≤ unmarked mark r
 unmarked_same mark mark' r h =
     upto_le (one_unless_marked mark' r) (one_unless_marked mark r) 6
     (λ c l. let e : ◌≡◌ {A = ℕ} (cond (leb (mark' c) r) 1 0) (cond (leb (mark c) r) 1 0) = ap (λ b. cond b 1 0) (h c l) in omega arith)
@@ -138,10 +142,12 @@ kept key open_at mark r = cond (open_at r) (unmarked (mark (key r)) r) 0
 abbrev pub looked : (ℕ → ℕ) → (ℕ → Bool) → ℕ → ℕ → ℕ → ℕ
 looked key open_at q b r = cond (leb b r && (eqb (key r) q && open_at r)) 1 0
 
-kept_open : (key : ℕ → ℕ) (open_at : ℕ → Bool) (mark : ℕ → ℕ → ℕ) (r : ℕ) → open_at r ≡ true → kept key open_at mark r ≡ unmarked (mark (key r)) r
+kept_open : (key : ℕ → ℕ) (open_at : ℕ → Bool) (mark : ℕ → ℕ → ℕ) (r : ℕ) → open_at r ≡ true →
+    kept key open_at mark r ≡ unmarked (mark (key r)) r
 kept_open key open_at mark r e = rw e refl
 
-kept_shut : (key : ℕ → ℕ) (open_at : ℕ → Bool) (mark : ℕ → ℕ → ℕ) (r : ℕ) → open_at r ≡ false → kept key open_at mark r ≡ 0
+kept_shut : (key : ℕ → ℕ) (open_at : ℕ → Bool) (mark : ℕ → ℕ → ℕ) (r : ℕ) → open_at r ≡ false →
+    kept key open_at mark r ≡ 0
 kept_shut key open_at mark r e = rw e refl
 
 pub kept_le : (key : ℕ → ℕ) (open_at : ℕ → Bool) (mark : ℕ → ℕ → ℕ) (r : ℕ) → kept key open_at mark r ≤ 6
@@ -154,13 +160,16 @@ kept_le key open_at mark r =
 module _ (key : ℕ → ℕ) (open_at : ℕ → Bool) (mark mark' : ℕ → ℕ → ℕ) (turn q class : ℕ) (small : class < 6)
     (others : (q' c : ℕ) → c < 6 → (q' ≡ q → ⊥) → mark' q' c ≡ mark q' c) where
   not_looked : (r : ℕ) → open_at r ≡ false → ◌≡◌ {A = ℕ} (looked key open_at q (mark q class) r) 0
-  not_looked r e = ap (λ b. cond b 1 0) (and_right (leb (mark q class) r) (eqb (key r) q && open_at r) (and_right (eqb (key r) q) (open_at r) e))
+  not_looked r e =
+      ap (λ b. cond b 1 0) (and_right (leb (mark q class) r) (eqb (key r) q && open_at r) (and_right (eqb (key r) q) (open_at r) e))
 
   other_list : (r : ℕ) → (key r ≡ q → ⊥) → ◌≡◌ {A = ℕ} (looked key open_at q (mark q class) r) 0
-  other_list r ne = ap (λ b. cond b 1 0) (and_right (leb (mark q class) r) (eqb (key r) q && open_at r) (and_left (eqb (key r) q) (open_at r) (ne_eqb (key r) q ne)))
+  other_list r ne =
+      ap (λ b. cond b 1 0) (and_right (leb (mark q class) r) (eqb (key r) q && open_at r) (and_left (eqb (key r) q) (open_at r) (ne_eqb (key r) q ne)))
 
   marked_before : (r : ℕ) → r < mark q class → ◌≡◌ {A = ℕ} (looked key open_at q (mark q class) r) 0
-  marked_before r l = ap (λ b. cond b 1 0) (and_left (leb (mark q class) r) (eqb (key r) q && open_at r) (lt-leb (mark q class) r l))
+  marked_before r l =
+      ap (λ b. cond b 1 0) (and_left (leb (mark q class) r) (eqb (key r) q && open_at r) (lt-leb (mark q class) r l))
 
   -- a closer that finds no opener
   pub pay_none : ((c : ℕ) → c < 6 → (c ≡ class → ⊥) → mark' q c ≡ mark q c) → mark' q class ≡ turn

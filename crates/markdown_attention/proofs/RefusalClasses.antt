@@ -26,7 +26,8 @@ tilde_other y a b = rw (ne_eqb y 1 a, ne_eqb y 2 b) refl
 tilde_none : (options : ParseOptions) (x y : ℕ) → (y ≡ 1 → ⊥) → (y ≡ 2 → ⊥) → is_tilde_pair options x y ≡ false
 tilde_none options x y a b = rw (ne_eqb y 1 a, ne_eqb y 2 b) (and_right (eqb x y) false refl)
 
-tilde_same : (options : ParseOptions) (x y y' : ℕ) → tilde_class y ≡ tilde_class y' → is_tilde_pair options x y ≡ is_tilde_pair options x y'
+tilde_same : (options : ParseOptions) (x y y' : ℕ) → tilde_class y ≡ tilde_class y' →
+    is_tilde_pair options x y ≡ is_tilde_pair options x y'
 tilde_same options x y y' e =
     elim (cases_eq y 1) [
       | inl one ↦ elim (cases_eq y' 1) [

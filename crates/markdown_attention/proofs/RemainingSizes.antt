@@ -20,9 +20,11 @@ not_shut_past turn pairs h =
     (All-weaker (λ p. p.closer ≤ turn) (λ p. is_around turn p ≡ false)
     (λ p b. and_right (ltb p.opener turn) (ltb turn p.closer) (le-ltb turn p.closer b)) pairs h)
 
-pub shut_push : (pairs : List Pair) (q : Pair) (i : ℕ) → is_shut (pairs ++ q ∷ []) i ≡ (is_shut pairs i || is_around i q)
+pub shut_push : (pairs : List Pair) (q : Pair) (i : ℕ) →
+    is_shut (pairs ++ q ∷ []) i ≡ (is_shut pairs i || is_around i q)
 unfolding is_shut
-shut_push pairs q i = list_any-append (is_around i) pairs (q ∷ []) ∙ ap (λ x. list_any (is_around i) pairs || x) (or-false (is_around i q))
+shut_push pairs q i =
+    list_any-append (is_around i) pairs (q ∷ []) ∙ ap (λ x. list_any (is_around i) pairs || x) (or-false (is_around i q))
 
 pub taken_push : (pairs : List Pair) (q : Pair) (i : ℕ) → taken (pairs ++ q ∷ []) i ≡ taken pairs i + takes i q
 unfolding taken
@@ -45,7 +47,8 @@ module _ (list : List Sequence) (o c size : ℕ) (below : o < c) (within : c < l
   length_taking = length-set _ c _ ∙ length-set list o _
 
   pub taking_closer : run_at (after_taking list o c size) c ≡ lower (run_at list c) size
-  taking_closer = get_or-set_same (set list o (lower (run_at list o) size)) c (lower (run_at list c) size) no_run (rw length-set within)
+  taking_closer =
+      get_or-set_same (set list o (lower (run_at list o) size)) c (lower (run_at list c) size) no_run (rw length-set within)
 
   pub taking_opener : run_at (after_taking list o c size) o ≡ lower (run_at list o) size
   taking_opener =

@@ -37,21 +37,25 @@ count-adds {A} p = record { none = sym (length-filter p []); append = both }
         sym (length-filter p (xs ++ ys)) ∙ ap length (filter-append p xs ys) ∙ length-append (filter p xs) (filter p ys)
         ∙ (λ i. length-filter p xs i + length-filter p ys i)
 
-pub leaf-run-yes : (tildes : Bool) (bytes : List ℕ) (n i : ℕ) (k : Container) (name : Name) (p q : Point) → is_run name ≡ true → leaf_run tildes bytes n i k name p q ≡ sequence_at tildes bytes n i k p q ∷ []
+pub leaf-run-yes : (tildes : Bool) (bytes : List ℕ) (n i : ℕ) (k : Container) (name : Name) (p q : Point) →
+    is_run name ≡ true → leaf_run tildes bytes n i k name p q ≡ sequence_at tildes bytes n i k p q ∷ []
 leaf-run-yes tildes bytes n i k name p q e = rw e refl
 
-pub leaf-run-no : (tildes : Bool) (bytes : List ℕ) (n i : ℕ) (k : Container) (name : Name) (p q : Point) → is_run name ≡ false → leaf_run tildes bytes n i k name p q ≡ []
+pub leaf-run-no : (tildes : Bool) (bytes : List ℕ) (n i : ℕ) (k : Container) (name : Name) (p q : Point) →
+    is_run name ≡ false → leaf_run tildes bytes n i k name p q ≡ []
 leaf-run-no tildes bytes n i k name p q e = rw e refl
 
 pub rows-empty : (s : Setting) → rows_inside s empty ≡ []
 unfolding rows_inside
 rows-empty s = refl
 
-pub rows-leaf : (s : Setting) (name : Name) (link : Option Content) (cs : List Code) (rest : Forest) → rows_inside s (leaf_then name link cs rest) ≡ rows_inside s rest
+pub rows-leaf : (s : Setting) (name : Name) (link : Option Content) (cs : List Code) (rest : Forest) →
+    rows_inside s (leaf_then name link cs rest) ≡ rows_inside s rest
 unfolding rows_inside
 rows-leaf s name link cs rest = refl
 
-pub rows-group : (s : Setting) (name : Name) (a b : Point) (inside rest : Forest) → rows_inside s (group_then name a b inside rest) ≡ (runs_of s inside ∷ rows_inside s inside) ++ rows_inside s rest
+pub rows-group : (s : Setting) (name : Name) (a b : Point) (inside rest : Forest) →
+    rows_inside s (group_then name a b inside rest) ≡ (runs_of s inside ∷ rows_inside s inside) ++ rows_inside s rest
 unfolding rows_inside
 rows-group s name a b inside rest = refl
 
@@ -67,7 +71,8 @@ module _ (tildes : Bool) (bytes : List ℕ) where
   leaf-few n i k [] h = absurd h
   leaf-few n i k (c ∷ cs) h = (omega (arith, h.1), omega arith)
 
-  pub tree-few : (t : Forest) (n i m : ℕ) (k : Container) → HasRuns bytes t → (markers_left (at n i m k t) ≤ length (leaf_codes t)) × (length (at n i m k t) ≤ length (leaf_codes t))
+  pub tree-few : (t : Forest) (n i m : ℕ) (k : Container) → HasRuns bytes t →
+      (markers_left (at n i m k t) ≤ length (leaf_codes t)) × (length (at n i m k t) ≤ length (leaf_codes t))
   tree-few empty n i m k h = (omega arith, omega arith)
   tree-few (leaf_then name link cs rest) n i m k h =
       let here : List Sequence = leaf_run tildes bytes n i k name (start_of cs) (stop_of document_start cs) in
@@ -108,7 +113,8 @@ module _ (s : Setting) (tildes : Bool) (bytes : List ℕ) (same : s.bytes ≡ by
   abbrev in_rows : Forest → ℕ
   in_rows t = F (runs_of s t) + sum_by F (rows_inside s t)
 
-  rows-counted : (t : Forest) (n i m : ℕ) (k : Container) → HasRuns bytes t → in_rows t ≡ G (tree_runs tildes bytes n i m k t)
+  rows-counted : (t : Forest) (n i m : ℕ) (k : Container) → HasRuns bytes t →
+      in_rows t ≡ G (tree_runs tildes bytes n i m k t)
   rows-counted empty n i m k h =
       let a : F (runs_of s empty) ≡ 0 = ap F (runs-empty s) ∙ f.none in
       let b : sum_by F (rows_inside s empty) ≡ 0 = ap (λ x. sum_by F x) (rows-empty s) in
@@ -145,11 +151,13 @@ module _ (s : Setting) (tildes : Bool) (bytes : List ℕ) (same : s.bytes ≡ by
       let sum : G (front ++ back) ≡ G front + G back = g.append front back in
       omega (arith, x, y, first, rows, own, sum)
 
-  pub containers-counted : (t : Forest) → HasRuns bytes t → sum_by F (containers_of s t) ≡ G (tree_runs tildes bytes 0 0 0 None t)
+  pub containers-counted : (t : Forest) → HasRuns bytes t →
+      sum_by F (containers_of s t) ≡ G (tree_runs tildes bytes 0 0 0 None t)
   unfolding containers_of
   containers-counted t h = sum_by-cons F (runs_of s t) (rows_inside s t) ∙ rows-counted t 0 0 0 None h
 
-count-one : {A B : Type 0} (p : A → Bool) (q : B → Bool) (x : A) (y : B) → p x ≡ q y → count_by p (x ∷ []) ≡ count_by q (y ∷ [])
+count-one : {A B : Type 0} (p : A → Bool) (q : B → Bool) (x : A) (y : B) → p x ≡ q y →
+    count_by p (x ∷ []) ≡ count_by q (y ∷ [])
 count-one {A} {B} p q x y e = sym (length-filter p (x ∷ [])) ∙ by_tests (p x) (q y) e ∙ length-filter q (y ∷ [])
   where
     by_tests : (a b : Bool) → a ≡ b → length (if a then x ∷ [] else []) ≡ length (if b then y ∷ [] else [])

@@ -32,11 +32,13 @@ use Rattle.markdown_attention.proofs.TokenEvents.{stripe-events}
 
 -- Places in lists.
 
-at-behind : (front : List Sequence) (r : Sequence) (back : List Sequence) → run_at (front ++ r ∷ back) (length front) ≡ r
+at-behind : (front : List Sequence) (r : Sequence) (back : List Sequence) →
+    run_at (front ++ r ∷ back) (length front) ≡ r
 at-behind [] r back = refl
 at-behind (x ∷ front) r back = at-behind front r back
 
-place-behind : (k : ℕ) (front : List Sequence) (r : Sequence) (back : List Sequence) → place_in k (front ++ r ∷ back) (length front) ≡ length (runs_in k front)
+place-behind : (k : ℕ) (front : List Sequence) (r : Sequence) (back : List Sequence) →
+    place_in k (front ++ r ∷ back) (length front) ≡ length (runs_in k front)
 place-behind k [] r back = refl
 place-behind k (x ∷ front) r back = by-test (is_in k x) (place-behind k front r back)
   where
@@ -51,21 +53,24 @@ no-shapes (x ∷ xs) e = cc
 
 -- a row without runs is logged whatever its pairs are
 module _ (s : Setting) (comes : ℕ → List Event) where
-  logged-any : (t : Forest) (n i j : ℕ) (ps qs : List Model.Pair) → has_run t ≡ false → IsLogged s (Model.pair_list s) comes n ps i t → IsLogged s (Model.pair_list s) comes n qs j t
+  logged-any : (t : Forest) (n i j : ℕ) (ps qs : List Model.Pair) → has_run t ≡ false →
+      IsLogged s (Model.pair_list s) comes n ps i t → IsLogged s (Model.pair_list s) comes n qs j t
   logged-any empty n i j ps qs h l = tt
   logged-any (leaf_then name link cs rest) n i j ps qs h l =
       let other : is_run name ≡ false = (or_parts (is_run name) (has_run rest) h).0 in (
         (λ y. absurd (both_ways (is_run name) other y)),
         ((λ y. absurd (both_ways (is_run name) other y)), λ y. logged-any rest (n + 2) i j ps qs (or_parts (is_run name) (has_run rest) h).1 (l.1.1 other)),
       )
-  logged-any (group_then name a b inside rest) n i j ps qs h l = (l.0, logged-any rest (n + 2 + event_count inside) i j ps qs h l.1)
+  logged-any (group_then name a b inside rest) n i j ps qs h l =
+      (l.0, logged-any rest (n + 2 + event_count inside) i j ps qs h l.1)
 
 module _ (s : Setting) (tildes : Bool) (bytes : List ℕ) (same : s.bytes ≡ bytes) (on : s.options.constructs.gfm_strikethrough ≡ tildes) (at : ℕ → Point) (pairs : List Pair) (list : List Sequence) (comes : ℕ → List Event) where
   -- what the runs and pairs are known to be
   pub record AreRead : Type 0 where
     pub comes_are : (g : ℕ) → g < length list → comes (run_at list g).event
         ≡ marker_events (run_at list g).marker (at (run_at list g).event) (closed_sizes g pairs) (left_of list pairs g) (opened_sizes g pairs)
-    pub lists : (k : Option ℕ) (runs : List Run) → map shape_of runs ≡ map whole_shape (runs_in (row_of k) list) → Model.IsPairList s runs (pairs_of (row_of k) list pairs)
+    pub lists : (k : Option ℕ) (runs : List Run) → map shape_of runs ≡ map whole_shape (runs_in (row_of k) list) →
+        Model.IsPairList s runs (pairs_of (row_of k) list pairs)
     pub within : AreWithin list pairs
 
   abbrev own : Container → List Model.Pair
@@ -228,7 +233,8 @@ module _ (s : Setting) (tildes : Bool) (bytes : List ℕ) (same : s.bytes ≡ by
         (first, subst (λ (i : ℕ). Logged j (own k) i rest) count (logged rest j past k R (front ++ of) back shapes h.1.1 st.1.1 pt.1 (omega (arith, low)) whole2 front_after back_after))
 
     -- the whole tree
-    pub all-logged : (t : Forest) → HasRuns bytes t → HasStripes t → HavePoints at 0 t → list ≡ runs 0 0 0 None t → IsLogged s (Model.pair_list s) comes 0 (Model.pair_list s (runs_of s t)) 0 t
+    pub all-logged : (t : Forest) → HasRuns bytes t → HasStripes t → HavePoints at 0 t → list ≡ runs 0 0 0 None t →
+        IsLogged s (Model.pair_list s) comes 0 (Model.pair_list s (runs_of s t)) 0 t
     unfolding Lacks
     all-logged t h st pt e =
         let shapes : Shapes None (runs_of s t) = row-is s tildes bytes same on t 0 0 0 None 0 h refl (omega arith) ∙ ap (λ xs. map whole_shape (runs_in 0 xs)) (sym e) in

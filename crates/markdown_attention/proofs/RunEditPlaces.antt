@@ -27,7 +27,9 @@ from-less n m [] l h = tt
 from-less n m (r ∷ rs) l h = (let a = h.0 in omega (arith, a, l), h.1)
 
 -- the first run, or one of those behind it
-first-or : (g : ℕ) (r : Sequence) (rs : List Sequence) (n : ℕ) → r.number ≡ n → ((j : ℕ) → j < length rs → (run_at rs j).number ≡ n + 1 + j) → g < length (r ∷ rs) → (run_at (r ∷ rs) g).number ≡ n + g
+first-or : (g : ℕ) (r : Sequence) (rs : List Sequence) (n : ℕ) → r.number ≡ n →
+    ((j : ℕ) → j < length rs → (run_at rs j).number ≡ n + 1 + j) → g < length (r ∷ rs) →
+    (run_at (r ∷ rs) g).number ≡ n + g
 first-or zero r rs n e h l = e ∙ omega arith
 first-or (suc g) r rs n e h l = h g (omega (arith, l)) ∙ omega arith
 
@@ -37,14 +39,17 @@ module _ (comes : Sequence → List Event) where
 
   pub fronts-none : (k : ℕ) (rs : List Sequence) → front_at k (edits rs) ≡ []
   fronts-none k [] = refl
-  fronts-none k (r ∷ rs) = ap (λ xs. xs ++ (if (r.event == k) && false then comes r else [])) (fronts-none k rs) ∙ no-front (r.event == k) (comes r)
+  fronts-none k (r ∷ rs) =
+      ap (λ xs. xs ++ (if (r.event == k) && false then comes r else [])) (fronts-none k rs) ∙ no-front (r.event == k) (comes r)
 
   -- one edit more
-  back-by : (k : ℕ) (r : Sequence) (rs : List Sequence) (b : Bool) → (r.event == k) ≡ b → back_at k (edits (r ∷ rs)) ≡ (if b then comes r else []) ++ back_at k (edits rs)
+  back-by : (k : ℕ) (r : Sequence) (rs : List Sequence) (b : Bool) → (r.event == k) ≡ b →
+      back_at k (edits (r ∷ rs)) ≡ (if b then comes r else []) ++ back_at k (edits rs)
   back-by k r rs true e = ap (λ b. (if b && true then comes r else []) ++ back_at k (edits rs)) e
   back-by k r rs false e = ap (λ b. (if b && true then comes r else []) ++ back_at k (edits rs)) e
 
-  removed-by : (k : ℕ) (r : Sequence) (rs : List Sequence) (b : Bool) → (r.event == k) ≡ b → removed_at k (edits (r ∷ rs)) ≡ (if b then 2 else 0) + removed_at k (edits rs)
+  removed-by : (k : ℕ) (r : Sequence) (rs : List Sequence) (b : Bool) → (r.event == k) ≡ b →
+      removed_at k (edits (r ∷ rs)) ≡ (if b then 2 else 0) + removed_at k (edits rs)
   removed-by k r rs b e = ap (λ x. (if x then 2 else 0) + removed_at k (edits rs)) e
 
   back-below : (n k : ℕ) (rs : List Sequence) → AreFrom n rs → k < n → back_at k (edits rs) ≡ []
@@ -60,7 +65,8 @@ module _ (comes : Sequence → List Event) where
       removed-by k r rs false (ne_eqb r.event k (λ e. omega (arith, a, l, e))) ∙ zero-more (removed_at k (edits rs)) ∙ removed-below (r.event + 1) k rs h.1 (omega (arith, a, l))
 
   -- at the event of a run
-  pub back-run : (n k g : ℕ) (rs : List Sequence) → AreFrom n rs → g < length rs → (run_at rs g).event ≡ k → back_at k (edits rs) ≡ comes (run_at rs g)
+  pub back-run : (n k g : ℕ) (rs : List Sequence) → AreFrom n rs → g < length rs → (run_at rs g).event ≡ k →
+      back_at k (edits rs) ≡ comes (run_at rs g)
   back-run n k g [] h l e = absurd (omega (arith, l))
   back-run n k zero (r ∷ rs) h l e =
       back-by k r rs true (eq-eqb r.event k e)
@@ -73,9 +79,11 @@ module _ (comes : Sequence → List Event) where
       at-least : (n k g : ℕ) (rs : List Sequence) → AreFrom n rs → g < length rs → (run_at rs g).event ≡ k → n ≤ k
       at-least n k g [] h l e = absurd (omega (arith, l))
       at-least n k zero (r ∷ rs) h l e = let a = h.0 in omega (arith, a, e)
-      at-least n k (suc g) (r ∷ rs) h l e = let a = h.0 in let b = at-least (r.event + 1) k g rs h.1 (omega (arith, l)) e in omega (arith, a, b)
+      at-least n k (suc g) (r ∷ rs) h l e =
+          let a = h.0 in let b = at-least (r.event + 1) k g rs h.1 (omega (arith, l)) e in omega (arith, a, b)
 
-  pub added-run : (n g : ℕ) (rs : List Sequence) → AreFrom n rs → g < length rs → added_at (run_at rs g).event (edits rs) ≡ comes (run_at rs g)
+  pub added-run : (n g : ℕ) (rs : List Sequence) → AreFrom n rs → g < length rs →
+      added_at (run_at rs g).event (edits rs) ≡ comes (run_at rs g)
   added-run n g rs h l =
       ap (λ xs. xs ++ back_at (run_at rs g).event (edits rs)) (fronts-none (run_at rs g).event rs) ∙ back-run n (run_at rs g).event g rs h l refl
 
@@ -92,16 +100,20 @@ module _ (comes : Sequence → List Event) where
       number : run.number ≡ n
       is : first_run tildes bytes n i c (e ∷ es) ≡ run ∷ []
 
-    begun : (n i : ℕ) (c : Container) (e : Event) (es : List Event) → HaveRunPlaces bytes (e ∷ es) → opens_run e ≡ true → Begun n i c e es
+    begun : (n i : ℕ) (c : Container) (e : Event) (es : List Event) → HaveRunPlaces bytes (e ∷ es) →
+        opens_run e ≡ true → Begun n i c e es
     begun n i c e [] h o = absurd (h.0 o)
-    begun n i c e (x ∷ es) h o = record { run = sequence_at tildes bytes n i c e.point x.point; event = refl; number = refl; is = ap (λ b. if b then sequence_at tildes bytes n i c e.point x.point ∷ [] else []) o }
+    begun n i c e (x ∷ es) h o =
+        record { run = sequence_at tildes bytes n i c e.point x.point; event = refl; number = refl; is = ap (λ b. if b then sequence_at tildes bytes n i c e.point x.point ∷ [] else []) o }
 
-    none-begun : (n i : ℕ) (c : Container) (e : Event) (es : List Event) → opens_run e ≡ false → first_run tildes bytes n i c (e ∷ es) ≡ []
+    none-begun : (n i : ℕ) (c : Container) (e : Event) (es : List Event) → opens_run e ≡ false →
+        first_run tildes bytes n i c (e ∷ es) ≡ []
     none-begun n i c e [] o = refl
     none-begun n i c e (x ∷ es) o = ap (λ b. if b then sequence_at tildes bytes n i c e.point x.point ∷ [] else []) o
 
     abbrev rest_from : ℕ → ℕ → Around → Event → List Event → List Sequence
-    rest_from n i w e es = from (n + length (first_run tildes bytes n i w.container (e ∷ es))) (suc i) (where_after i e w) es
+    rest_from n i w e es =
+        from (n + length (first_run tildes bytes n i w.container (e ∷ es))) (suc i) (where_after i e w) es
 
     pub are-from : (es : List Event) (n i : ℕ) (w : Around) → HaveRunPlaces bytes es → AreFrom i (from n i w es)
     are-from [] n i w h = tt
@@ -117,7 +129,8 @@ module _ (comes : Sequence → List Event) where
           | inr o ↦ subst (λ (xs : List Sequence). AreFrom i (xs ++ rest)) (sym (none-begun n i w.container e es o)) (from-less (suc i) i rest (omega arith) later)
         ]
 
-    removed-place : (es : List Event) (n i : ℕ) (w : Around) (k j : ℕ) → k ≡ i + j → HaveRunPlaces bytes es → removed_at k (edits (from n i w es)) ≡ (if begins_run (drop j es) then 2 else 0)
+    removed-place : (es : List Event) (n i : ℕ) (w : Around) (k j : ℕ) → k ≡ i + j → HaveRunPlaces bytes es →
+        removed_at k (edits (from n i w es)) ≡ (if begins_run (drop j es) then 2 else 0)
     removed-place [] n i w k zero e h = refl
     removed-place [] n i w k (suc j) e h = refl
     removed-place (x ∷ es) n i w k zero e h =
@@ -147,7 +160,8 @@ module _ (comes : Sequence → List Event) where
           | inr o ↦ ap (λ xs. removed_at k (edits (xs ++ rest))) (none-begun n i w.container x es o) ∙ ih
         ]
 
-    back-place : (es : List Event) (n i : ℕ) (w : Around) (k j : ℕ) → k ≡ i + j → HaveRunPlaces bytes es → begins_run (drop j es) ≡ false → back_at k (edits (from n i w es)) ≡ []
+    back-place : (es : List Event) (n i : ℕ) (w : Around) (k j : ℕ) → k ≡ i + j → HaveRunPlaces bytes es →
+        begins_run (drop j es) ≡ false → back_at k (edits (from n i w es)) ≡ []
     back-place [] n i w k j e h f = refl
     back-place (x ∷ es) n i w k zero e h f =
         let rest : List Sequence = rest_from n i w x es in
@@ -167,21 +181,24 @@ module _ (comes : Sequence → List Event) where
         ]
 
     -- the edits of these events' runs: one for each run, at its Enter
-    pub pass-log : (es : List Event) (w : Around) → HaveRunPlaces bytes es → IsPassLog es (edits (from 0 0 w es)) (λ k. added_at k (edits (from 0 0 w es)))
+    pub pass-log : (es : List Event) (w : Around) → HaveRunPlaces bytes es →
+        IsPassLog es (edits (from 0 0 w es)) (λ k. added_at k (edits (from 0 0 w es)))
     pass-log es w h =
         record {
           added = λ k. by-test k (begins_run (drop k es)) refl;
           removed = λ k. removed-place es 0 0 w k k (omega arith) h;
         }
       where
-        by-test : (k : ℕ) (b : Bool) → begins_run (drop k es) ≡ b → added_at k (edits (from 0 0 w es)) ≡ (if begins_run (drop k es) then added_at k (edits (from 0 0 w es)) else [])
+        by-test : (k : ℕ) (b : Bool) → begins_run (drop k es) ≡ b →
+            added_at k (edits (from 0 0 w es)) ≡ (if begins_run (drop k es) then added_at k (edits (from 0 0 w es)) else [])
         by-test k true e = ap (λ (b : Bool). if b then added_at k (edits (from 0 0 w es)) else []) (sym e)
         by-test k false e =
             ap (λ xs. xs ++ back_at k (edits (from 0 0 w es))) (fronts-none k (from 0 0 w es))
             ∙ back-place es 0 0 w k k (omega arith) h e
             ∙ ap (λ (b : Bool). if b then added_at k (edits (from 0 0 w es)) else []) (sym e)
 
-    pub numbered : (es : List Event) (n i : ℕ) (w : Around) (g : ℕ) → HaveRunPlaces bytes es → g < length (from n i w es) → (run_at (from n i w es) g).number ≡ n + g
+    pub numbered : (es : List Event) (n i : ℕ) (w : Around) (g : ℕ) → HaveRunPlaces bytes es →
+        g < length (from n i w es) → (run_at (from n i w es) g).number ≡ n + g
     numbered [] n i w g h l = absurd (omega (arith, l))
     numbered (e ∷ es) n i w g h l =
         let rest : List Sequence = rest_from n i w e es in

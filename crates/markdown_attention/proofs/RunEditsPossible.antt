@@ -61,7 +61,8 @@ module _ (comes : Sequence → List Event) (tildes : Bool) (bytes : List ℕ) wh
   abbrev log_of : List Event → List Edit
   log_of es = edits_by comes (from 0 0 outermost es)
 
-  goes-unlinked : (es : List Event) (j : ℕ) → HaveRunPlaces bytes es → HaveRunEnds es → is_removed (log_of es) j ≡ true → linked_at es j ≡ false
+  goes-unlinked : (es : List Event) (j : ℕ) → HaveRunPlaces bytes es → HaveRunEnds es →
+      is_removed (log_of es) j ≡ true → linked_at es j ≡ false
   goes-unlinked es j p h r =
       elim (cases_Bool (begins_run (drop j es))) [
         | inl b ↦ linked-drop 0 j es j (omega arith) ∙ first-unlinked (drop j es) b (ends-drop j es h)
@@ -69,7 +70,8 @@ module _ (comes : Sequence → List Event) (tildes : Bool) (bytes : List ℕ) wh
       ]
     where
       before : (j : ℕ) → begins_run (drop j es) ≡ false → is_removed (log_of es) j ≡ true → linked_at es j ≡ false
-      before zero b r = absurd (both_ways (is_removed (log_of es) 0) (stays-here es (log_of es) (λ k. added_at k (log_of es)) (pass-log comes tildes bytes es outermost p) 0 b (λ q e. absurd (omega (arith, e)))) r)
+      before zero b r =
+          absurd (both_ways (is_removed (log_of es) 0) (stays-here es (log_of es) (λ k. added_at k (log_of es)) (pass-log comes tildes bytes es outermost p) 0 b (λ q e. absurd (omega (arith, e)))) r)
       before (suc j) b r =
           elim (cases_Bool (begins_run (drop j es))) [
             | inl d ↦ linked-drop 1 j es (suc j) (omega arith) ∙ second-unlinked (drop j es) d (ends-drop j es h)
@@ -79,4 +81,5 @@ module _ (comes : Sequence → List Event) (tildes : Bool) (bytes : List ℕ) wh
           ]
 
   pub can-group : (es : List Event) → HaveRunPlaces bytes es → HaveRunEnds es → CanEdit (log_of es) es
-  can-group es p h = record { places = within es 0 0 outermost (length es) (omega arith); unlinked = λ j r. goes-unlinked es j p h r }
+  can-group es p h =
+      record { places = within es 0 0 outermost (length es) (omega arith); unlinked = λ j r. goes-unlinked es j p h r }

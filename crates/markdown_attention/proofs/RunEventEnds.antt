@@ -18,7 +18,8 @@ use Rattle.markdown_attention.proofs.TokenEvents.{stripe-stop}
 no-link : {A : Type 0} → (c : Content) → ◌≡◌ {A = Option Content} (Some c) None → A
 no-link c e = cc
 
-stripe-end : (cs : List Code) → cs ≢ [] → IsStripe (marker_of cs) (start_of cs) cs → stop_of document_start cs ≡ shifted (start_of cs) ((stop_of document_start cs).index - (start_of cs).index)
+stripe-end : (cs : List Code) → cs ≢ [] → IsStripe (marker_of cs) (start_of cs) cs →
+    stop_of document_start cs ≡ shifted (start_of cs) ((stop_of document_start cs).index - (start_of cs).index)
 stripe-end [] n h = absurd (n refl)
 stripe-end (c ∷ cs) n h =
     let p : Point = c.start in
@@ -31,7 +32,8 @@ stripe-end (c ∷ cs) n h =
 other-event : (e : Event) (es : List Event) → opens_run e ≡ false → HaveRunEnds es → HaveRunEnds (e ∷ es)
 other-event e es o h = (λ y. absurd (both_ways (opens_run e) o y), h)
 
-pub ends-row : (t : Forest) (n : ℕ) (previous : Option ℕ) (rest : List Event) → HasStripes t → HaveRunEnds rest → HaveRunEnds (appended_from n previous t ++ rest)
+pub ends-row : (t : Forest) (n : ℕ) (previous : Option ℕ) (rest : List Event) → HasStripes t → HaveRunEnds rest →
+    HaveRunEnds (appended_from n previous t ++ rest)
 ends-row empty n previous rest h r = r
 ends-row (leaf_then name None cs t) n previous rest h r =
     let more : HaveRunEnds (appended_from (n + 2) previous t ++ rest) = ends-row t (n + 2) previous rest h.1 r in
@@ -50,4 +52,5 @@ ends-row (group_then name a b inside t) n previous rest h r =
     other-event (event Kind.Enter name a) ((inner ++ (x ∷ row)) ++ rest) h.0.0 (subst (λ (xs : List Event). HaveRunEnds xs) (sym apart) whole)
 
 pub ends-of : (t : Forest) (es : List Event) → HasStripes t → es ≡ appended_from 0 None t → HaveRunEnds es
-ends-of t es h e = subst (λ (xs : List Event). HaveRunEnds xs) (append-nil (appended_from 0 None t) ∙ sym e) (ends-row t 0 None [] h tt)
+ends-of t es h e =
+    subst (λ (xs : List Event). HaveRunEnds xs) (append-nil (appended_from 0 None t) ∙ sym e) (ends-row t 0 None [] h tt)

@@ -13,7 +13,8 @@ pub record Placed (k : ℕ) (list : List Sequence) (i : ℕ) : Type 0 where
   pub within : place_in k list i < length (runs_in k list)
   pub is : run_at (runs_in k list) (place_in k list i) ≡ run_at list i
 
-place-later : (k : ℕ) (r : Sequence) (rs : List Sequence) (i : ℕ) → Placed k rs i → (b : Bool) → is_in k r ≡ b → Placed k (r ∷ rs) (suc i)
+place-later : (k : ℕ) (r : Sequence) (rs : List Sequence) (i : ℕ) → Placed k rs i → (b : Bool) → is_in k r ≡ b →
+    Placed k (r ∷ rs) (suc i)
 place-later k r rs i rest true h = record { within = rw h (let w = rest.within in omega arith); is = rw h rest.is }
 place-later k r rs i rest false h = record { within = rw h rest.within; is = rw h rest.is }
 
@@ -29,8 +30,10 @@ pub record Found (k : ℕ) (list : List Sequence) (j : ℕ) : Type 0 where
   pub inside : is_in k (run_at list run) ≡ true
   pub is : place_in k list run ≡ j
 
-later : (k : ℕ) (r : Sequence) (rs : List Sequence) (j j' : ℕ) (x : Found k rs j) → place_in k (r ∷ rs) (suc x.run) ≡ j' → Found k (r ∷ rs) j'
-later k r rs j j' x e = record { run = suc x.run; within = (let w = x.within in omega arith); inside = x.inside; is = e }
+later : (k : ℕ) (r : Sequence) (rs : List Sequence) (j j' : ℕ) (x : Found k rs j) →
+    place_in k (r ∷ rs) (suc x.run) ≡ j' → Found k (r ∷ rs) j'
+later k r rs j j' x e =
+    record { run = suc x.run; within = (let w = x.within in omega arith); inside = x.inside; is = e }
 
 find-later : (k : ℕ) (r : Sequence) (rs : List Sequence) → ((j : ℕ) → j < length (runs_in k rs) → Found k rs j)
     → (b : Bool) → is_in k r ≡ b → (j : ℕ) → j < length (cond b (r ∷ runs_in k rs) (runs_in k rs)) → Found k (r ∷ rs) j
@@ -47,11 +50,13 @@ order-later : (k : ℕ) (r : Sequence) (rs : List Sequence) (i j : ℕ) → plac
 order-later k r rs i j rest true h = rw h (omega (arith, rest))
 order-later k r rs i j rest false h = rw h rest
 
-pub place-order : (k : ℕ) (list : List Sequence) (i j : ℕ) → i < j → j < length list → is_in k (run_at list i) ≡ true → place_in k list i < place_in k list j
+pub place-order : (k : ℕ) (list : List Sequence) (i j : ℕ) → i < j → j < length list → is_in k (run_at list i) ≡ true →
+    place_in k list i < place_in k list j
 place-order k [] i j l m e = absurd (omega arith)
 place-order k (r ∷ rs) i zero l m e = absurd (omega arith)
 place-order k (r ∷ rs) zero (suc j) l m e = rw e (omega arith)
-place-order k (r ∷ rs) (suc i) (suc j) l m e = order-later k r rs i j (place-order k rs i j (omega arith) (omega arith) e) (is_in k r) refl
+place-order k (r ∷ rs) (suc i) (suc j) l m e =
+    order-later k r rs i j (place-order k rs i j (omega arith) (omega arith) e) (is_in k r) refl
 
 -- Runs of equal shapes, one by one.
 
@@ -70,8 +75,10 @@ shape-sequence [] i = refl
 shape-sequence (r ∷ rs) zero = refl
 shape-sequence (r ∷ rs) (suc i) = shape-sequence rs i
 
-pub same-shape : (runs : List Run) (list : List Sequence) → map shape_of runs ≡ map whole_shape list → (i : ℕ) → shape_of (Model.run_at runs i) ≡ whole_shape (run_at list i)
+pub same-shape : (runs : List Run) (list : List Sequence) → map shape_of runs ≡ map whole_shape list → (i : ℕ) →
+    shape_of (Model.run_at runs i) ≡ whole_shape (run_at list i)
 same-shape runs list e i = shape-run runs i ∙ ap (λ x. shape_at x i) e ∙ sym (shape-sequence list i)
 
-pub same-length : (runs : List Run) (list : List Sequence) → map shape_of runs ≡ map whole_shape list → length runs ≡ length list
+pub same-length : (runs : List Run) (list : List Sequence) → map shape_of runs ≡ map whole_shape list →
+    length runs ≡ length list
 same-length runs list e = sym (length-map runs shape_of) ∙ ap length e ∙ length-map list whole_shape

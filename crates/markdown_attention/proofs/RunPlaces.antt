@@ -22,10 +22,12 @@ use Rattle.markdown_attention.proofs.MarkerCodes.{IsPlaced, singles-content}
 use Rattle.markdown_attention.proofs.ElementsHaveMarkerRuns.{good-tree}
 
 module _ (bytes : List ℕ) (u : IsUtf8 bytes) where
-  other-event : (e : Event) (es : List Event) → opens_run e ≡ false → HaveRunPlaces bytes es → HaveRunPlaces bytes (e ∷ es)
+  other-event : (e : Event) (es : List Event) → opens_run e ≡ false → HaveRunPlaces bytes es →
+      HaveRunPlaces bytes (e ∷ es)
   other-event e es o h = (λ y. absurd (both_ways (opens_run e) o y), h)
 
-  pub places-row : (t : Forest) (n : ℕ) (previous : Option ℕ) (rest : List Event) → HasRuns bytes t → EachRun (IsPlaced bytes) t → HaveRunPlaces bytes rest → HaveRunPlaces bytes (appended_from n previous t ++ rest)
+  pub places-row : (t : Forest) (n : ℕ) (previous : Option ℕ) (rest : List Event) → HasRuns bytes t →
+      EachRun (IsPlaced bytes) t → HaveRunPlaces bytes rest → HaveRunPlaces bytes (appended_from n previous t ++ rest)
   places-row empty n previous rest g h r = r
   places-row (leaf_then name None cs t) n previous rest g h r =
       let more : HaveRunPlaces bytes (appended_from (n + 2) previous t ++ rest) = places-row t (n + 2) previous rest g.1 h.1 r in
@@ -45,7 +47,8 @@ module _ (bytes : List ℕ) (u : IsUtf8 bytes) where
 
 -- the place where a run ends fits
 module _ (bytes : List ℕ) (u : IsUtf8 bytes) (few : length bytes ≤ document_limit) where
-  end-fits : (cs : List Code) → IsPlaced bytes cs → ((stop_of document_start cs).column < 2 ^ 64) × ((stop_of document_start cs).index < 2 ^ 64)
+  end-fits : (cs : List Code) → IsPlaced bytes cs →
+      ((stop_of document_start cs).column < 2 ^ 64) × ((stop_of document_start cs).index < 2 ^ 64)
   end-fits cs h =
       let low : (stop_of document_start cs).index ≤ length bytes = (h u).0.to_between.0 in
       let wide : (stop_of document_start cs).column ≤ 4 * (stop_of document_start cs).index + 1 = (h u).1 in
@@ -54,7 +57,8 @@ module _ (bytes : List ℕ) (u : IsUtf8 bytes) (few : length bytes ≤ document_
   no-room : (e : Event) (es : List Event) → opens_run e ≡ false → HaveRunRoom es → HaveRunRoom (e ∷ es)
   no-room e es o h = (λ y. absurd (both_ways (opens_run e) o y), h)
 
-  room-row : (t : Forest) (n : ℕ) (previous : Option ℕ) (rest : List Event) → HasRuns bytes t → EachRun (IsPlaced bytes) t → HaveRunRoom rest → HaveRunRoom (appended_from n previous t ++ rest)
+  room-row : (t : Forest) (n : ℕ) (previous : Option ℕ) (rest : List Event) → HasRuns bytes t →
+      EachRun (IsPlaced bytes) t → HaveRunRoom rest → HaveRunRoom (appended_from n previous t ++ rest)
   room-row empty n previous rest g h r = r
   room-row (leaf_then name None cs t) n previous rest g h r =
       let more : HaveRunRoom (appended_from (n + 2) previous t ++ rest) = room-row t (n + 2) previous rest g.1 h.1 r in
@@ -80,7 +84,8 @@ pub record MeetsPass (bytes : List ℕ) (t : Forest) : Type 0 where
   pub ends : HaveRunEnds (appended_from 0 None t)
   pub room : HaveRunRoom (appended_from 0 None t)
 
-pub good-meets : (bytes : List ℕ) (t : Forest) → IsUtf8 bytes → length bytes ≤ document_limit → IsGood bytes t → MeetsPass bytes t
+pub good-meets : (bytes : List ℕ) (t : Forest) → IsUtf8 bytes → length bytes ≤ document_limit → IsGood bytes t →
+    MeetsPass bytes t
 good-meets bytes t u few g = record {
   runs = g.0;
   striped = ((λ e. g.1.1.0), g.1.0);
@@ -90,6 +95,7 @@ good-meets bytes t u few g = record {
 }
 
 -- the tree of labels of each content meets it
-pub tree-meets : (bytes : List ℕ) (s : Setting) (pieces : List Piece) → IsContent bytes pieces → MeetsPass bytes (label_tree s (content_of bytes pieces))
+pub tree-meets : (bytes : List ℕ) (s : Setting) (pieces : List Piece) → IsContent bytes pieces →
+    MeetsPass bytes (label_tree s (content_of bytes pieces))
 tree-meets bytes s pieces h =
     good-meets bytes (label_tree s (content_of bytes pieces)) h.is_text h.fits (good-tree bytes s (content_of bytes pieces) (singles-content bytes pieces h.in_order))

@@ -27,10 +27,12 @@ record Fits (r : Sequence) (i : ℕ) (es : List Event) : Type 0 where
   index : (point_in es at).index + r.size < 2 ^ 64
 
 fits-later : (r : Sequence) (i : ℕ) (e : Event) (es : List Event) → Fits r (suc i) es → Fits r i (e ∷ es)
-fits-later r i e es f = record { at = suc f.at; event = omega (arith, f.event); within = omega (arith, f.within); column = f.column; index = f.index }
+fits-later r i e es f =
+    record { at = suc f.at; event = omega (arith, f.event); within = omega (arith, f.within); column = f.column; index = f.index }
 
 module _ (tildes : Bool) (bytes : List ℕ) where
-  fits : (es : List Event) (n i : ℕ) (w : Around) (g : ℕ) → HaveRunPlaces bytes es → HaveRunEnds es → HaveRunRoom es → g < length (runs_from tildes bytes n i w es) → Fits (run_at (runs_from tildes bytes n i w es) g) i es
+  fits : (es : List Event) (n i : ℕ) (w : Around) (g : ℕ) → HaveRunPlaces bytes es → HaveRunEnds es → HaveRunRoom es →
+      g < length (runs_from tildes bytes n i w es) → Fits (run_at (runs_from tildes bytes n i w es) g) i es
   fits [] n i w g h k m l = absurd (omega (arith, l))
   fits (e ∷ []) n i w g h k m l = absurd (omega (arith, l))
   fits (e ∷ x ∷ es) n i w g h k m l =

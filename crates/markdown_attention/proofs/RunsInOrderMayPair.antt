@@ -40,7 +40,8 @@ record IsFurther (bytes : List ℕ) (p q : Point) (n : ℕ) : Type 0 where
 
 module _ (bytes : List ℕ) (u : IsUtf8 bytes) (m : ℕ) (is : IsMarker m) where
   same-point : (p q : Point) → IsPoint bytes p → IsPoint bytes q → (p.index ≡ q.index) × (p.vs ≡ q.vs) → p ≡ q
-  same-point p q h k e = sym h.here ∙ ap (λ (x : ℕ × ℕ). point_at bytes x) (same-pair p.index p.vs (place_of q) e.0 e.1) ∙ k.here
+  same-point p q h k e =
+      sym h.here ∙ ap (λ (x : ℕ × ℕ). point_at bytes x) (same-pair p.index p.vs (place_of q) e.0 e.1) ∙ k.here
 
   -- a marker at a place on the way to another, and what follows it
   record IsFirstMarker (p q : Point) (cs : List Code) : Type 0 where
@@ -51,7 +52,8 @@ module _ (bytes : List ℕ) (u : IsUtf8 bytes) (m : ℕ) (is : IsMarker m) where
     point : IsPoint bytes (stop_at bytes p)
     reached : is_before (place_of q) (place_of (stop_at bytes p)) ≡ false
 
-  first-marker : (p q : Point) (c : Code) (cs : List Code) → codes_to bytes p q ≡ c ∷ cs → c.value ≡ m → IsPoint bytes p → IsPoint bytes q → is_before (place_of p) (place_of q) ≡ true → IsFirstMarker p q cs
+  first-marker : (p q : Point) (c : Code) (cs : List Code) → codes_to bytes p q ≡ c ∷ cs → c.value ≡ m →
+      IsPoint bytes p → IsPoint bytes q → is_before (place_of p) (place_of q) ≡ true → IsFirstMarker p q cs
   first-marker p q c cs e v h k before =
       let f : IsFirstTo bytes p q = first-to bytes p q h k before in
       let way : IsToward bytes p (place_of q) = toward bytes p (place_of q) h (there-point bytes q k) before in
@@ -70,7 +72,8 @@ module _ (bytes : List ℕ) (u : IsUtf8 bytes) (m : ℕ) (is : IsMarker m) where
       }
 
   -- equal markers up to a place are as many columns
-  along-markers : (p q : Point) (cs : List Code) → codes_to bytes p q ≡ cs → HasMarker m cs → IsPoint bytes p → IsPoint bytes q → is_before (place_of q) (place_of p) ≡ false → IsFurther bytes p q (length cs)
+  along-markers : (p q : Point) (cs : List Code) → codes_to bytes p q ≡ cs → HasMarker m cs → IsPoint bytes p →
+      IsPoint bytes q → is_before (place_of q) (place_of p) ≡ false → IsFurther bytes p q (length cs)
   along-markers p q [] e marks h k l =
       elim (cases_Bool (is_before (place_of p) (place_of q))) [
         | inl before ↦ absurd (cons≢nil (code_here bytes p) (codes_to bytes (stop_at bytes p) q) (sym (first-to bytes p q h k before).codes ∙ e))
@@ -100,7 +103,8 @@ record IsFit (bytes : List ℕ) (p q : Point) : Type 0 where
   column : q.column ≤ 4 * q.index + 4
 
 module _ (bytes : List ℕ) (u : IsUtf8 bytes) where
-  fit-codes : (m : ℕ) → IsMarker m → (p q : Point) (cs : List Code) → codes_to bytes p q ≡ cs → cs ≢ [] → HasMarker m cs → IsPoint bytes p → IsPoint bytes q → IsFit bytes p q
+  fit-codes : (m : ℕ) → IsMarker m → (p q : Point) (cs : List Code) → codes_to bytes p q ≡ cs → cs ≢ [] →
+      HasMarker m cs → IsPoint bytes p → IsPoint bytes q → IsFit bytes p q
   fit-codes m is p q [] e some marks h k = absurd (some refl)
   fit-codes m is p q (c ∷ cs) e some marks h k =
       elim (cases_Bool (is_before (place_of p) (place_of q))) [
@@ -129,7 +133,8 @@ module _ (bytes : List ℕ) (u : IsUtf8 bytes) where
 -- All runs.
 
 behind : (bytes : List ℕ) (e : Event) (es : List Event) → HaveRunsInOrder bytes (e ∷ es) → HaveRunsInOrder bytes es
-behind bytes e es h = record { runs = λ i b. h.runs (suc i) b; order = λ i j l a b. h.order (suc i) (suc j) (omega (arith, l)) a b }
+behind bytes e es h =
+    record { runs = λ i b. h.runs (suc i) b; order = λ i j l a b. h.order (suc i) (suc j) (omega (arith, l)) a b }
 
 -- each run of these events begins at this byte or later
 abbrev BeginFrom : ℕ → List Event → Type 0
@@ -157,7 +162,8 @@ module _ (bytes : List ℕ) (u : IsUtf8 bytes) where
   abbrev AreFew : ℕ → List Sequence → Type 0
   AreFew low list = (markers_left list + low ≤ length bytes) × (length list + low ≤ length bytes)
 
-  few-in : (tildes : Bool) (es : List Event) (n i : ℕ) (w : Around) (low : ℕ) → HaveRunsInOrder bytes es → BeginFrom low es → low ≤ length bytes → AreFew low (runs_from tildes bytes n i w es)
+  few-in : (tildes : Bool) (es : List Event) (n i : ℕ) (w : Around) (low : ℕ) → HaveRunsInOrder bytes es →
+      BeginFrom low es → low ≤ length bytes → AreFew low (runs_from tildes bytes n i w es)
   few-in tildes [] n i w low h b l = (omega (arith, l), omega (arith, l))
   few-in tildes (e ∷ []) n i w low h b l = (omega (arith, l), omega (arith, l))
   few-in tildes (e ∷ x ∷ es) n i w low h b l =
@@ -186,7 +192,8 @@ module _ (bytes : List ℕ) (u : IsUtf8 bytes) where
       rest : List Sequence → List Sequence
       rest xs = runs_from tildes bytes (n + length xs) (suc i) next (x ∷ es)
 
-      by_test : (t : Bool) → opens_run e ≡ t → first_run tildes bytes n i w.container (e ∷ x ∷ es) ≡ (if t then q ∷ [] else [])
+      by_test : (t : Bool) → opens_run e ≡ t →
+          first_run tildes bytes n i w.container (e ∷ x ∷ es) ≡ (if t then q ∷ [] else [])
       by_test t o = ap (λ (z : Bool). if z then q ∷ [] else []) o
 
 pub in-order-may_pair : (T : Tokenizer) → T.map ≡ [] → IsUtf8 T.parse_state.now.bytes.now → length T.parse_state.now.bytes.now ≤ document_limit

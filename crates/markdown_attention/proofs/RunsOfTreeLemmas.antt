@@ -33,11 +33,13 @@ module _ (tildes : Bool) (bytes : List ℕ) where
   from n i w es = runs_from tildes bytes n i w es
 
   -- an event that begins no run
-  no-first : (n i : ℕ) (k : Container) (e : Event) (es : List Event) → opens_run e ≡ false → first_run tildes bytes n i k (e ∷ es) ≡ []
+  no-first : (n i : ℕ) (k : Container) (e : Event) (es : List Event) → opens_run e ≡ false →
+      first_run tildes bytes n i k (e ∷ es) ≡ []
   no-first n i k e [] h = refl
   no-first n i k e (x ∷ es) h = rw h refl
 
-  passes : (n i : ℕ) (w : Where) (e : Event) (es : List Event) → opens_run e ≡ false → from n i w (e ∷ es) ≡ from n (i + 1) (where_after i e w) es
+  passes : (n i : ℕ) (w : Where) (e : Event) (es : List Event) → opens_run e ≡ false →
+      from n i w (e ∷ es) ≡ from n (i + 1) (where_after i e w) es
   passes n i w e es h =
       ap (λ (f : List Sequence). f ++ from (n + length f) (suc i) (where_after i e w) es) (no-first n i w.container e es h)
       ∙ (let a : n + 0 ≡ n = omega arith in let b : suc i ≡ i + 1 = omega arith in λ z. from (a z) (b z) (where_after i e w) es)
@@ -69,13 +71,16 @@ module _ (tildes : Bool) (bytes : List ℕ) where
       let size : n + length here + length more ≡ n + length (here ++ more) = (let x = length-append here more in omega arith) in
       sym (append_assoc here more _) ∙ (λ z. (here ++ more) ++ from (size z) (e z) (counted (u z) w) es)
 
-  within-is : (i : ℕ) (name : Name) (p : Point) (w : Where) → (where_after i (event Kind.Enter name p) w).container ≡ inner i w.texts w.container name
+  within-is : (i : ℕ) (name : Name) (p : Point) (w : Where) →
+      (where_after i (event Kind.Enter name p) w).container ≡ inner i w.texts w.container name
   within-is i name p w = elim (cases_Bool (is_text name)) [ inl t ↦ rw t refl | inr f ↦ rw f refl ]
 
-  texts-within : (i : ℕ) (name : Name) (p : Point) (w : Where) → (where_after i (event Kind.Enter name p) w).texts ≡ w.texts + as_text name
+  texts-within : (i : ℕ) (name : Name) (p : Point) (w : Where) →
+      (where_after i (event Kind.Enter name p) w).texts ≡ w.texts + as_text name
   texts-within i name p w = elim (cases_Bool (is_text name)) [ inl t ↦ rw t refl | inr f ↦ rw f (omega arith) ]
 
-  back-out : (i j m : ℕ) (name : Name) (p q : Point) (w : Where) → where_after j (event Kind.Exit name q) (counted m (where_after i (event Kind.Enter name p) w)) ≡ counted m w
+  back-out : (i j m : ℕ) (name : Name) (p q : Point) (w : Where) →
+      where_after j (event Kind.Exit name q) (counted m (where_after i (event Kind.Enter name p) w)) ≡ counted m w
   back-out i j m name p q w = elim (cases_Bool (is_text name)) [ inl t ↦ rw t refl | inr f ↦ rw f refl ]
 
   pub tree-runs : (t : Forest) (n i : ℕ) (previous : Option ℕ) (w : Where) (es : List Event) → HasRuns bytes t
@@ -132,14 +137,18 @@ module _ (s : Setting) (tildes : Bool) (bytes : List ℕ) (same : s.bytes ≡ by
   pub filters : (k : ℕ) (xs ys : List Sequence) → runs_in k (xs ++ ys) ≡ runs_in k xs ++ runs_in k ys
   filters k xs ys = filter-append (is_in k) xs ys
 
-  beside : (v : ℕ) (o : Option ℕ) → is_beside_marker s.options.constructs.gfm_strikethrough v o ≡ Runs.is_beside_marker s v o
+  beside : (v : ℕ) (o : Option ℕ) →
+      is_beside_marker s.options.constructs.gfm_strikethrough v o ≡ Runs.is_beside_marker s v o
   beside v None = refl
   beside v (Some c) = refl
 
-  flanking : (v : ℕ) (b a : Option ℕ) → is_flanking s.options.constructs.gfm_strikethrough v b a ≡ Runs.is_flanking s v b a
-  flanking v b a = ap (λ x. (is_other (class_of a) || (Runs.is_punctuation_class (class_of a) && not (is_other (class_of b)))) || x) (beside v a)
+  flanking : (v : ℕ) (b a : Option ℕ) →
+      is_flanking s.options.constructs.gfm_strikethrough v b a ≡ Runs.is_flanking s v b a
+  flanking v b a =
+      ap (λ x. (is_other (class_of a) || (Runs.is_punctuation_class (class_of a) && not (is_other (class_of b)))) || x) (beside v a)
 
-  pub leaf-shape : (n i : ℕ) (k : Container) (cs : List Code) → IsRun bytes cs → shape_of (run_of s cs) ≡ whole_shape (sequence_at tildes bytes n i k (start_of cs) (stop_of document_start cs))
+  pub leaf-shape : (n i : ℕ) (k : Container) (cs : List Code) → IsRun bytes cs →
+      shape_of (run_of s cs) ≡ whole_shape (sequence_at tildes bytes n i k (start_of cs) (stop_of document_start cs))
   unfolding run_of
   leaf-shape n i k [] h = absurd h
   leaf-shape n i k (c ∷ cs) h =
@@ -157,12 +166,14 @@ module _ (s : Setting) (tildes : Bool) (bytes : List ℕ) (same : s.bytes ≡ by
       ∙ (λ z. shape (same z) (sym h.0 z) (sym size z) (is_flanking (on z) (sym h.0 z) (before_index (same z) c.start.index) (after_index (same z) to))
       (is_flanking (on z) (sym h.0 z) (after_index (same z) to) (before_index (same z) c.start.index)))
 
-  runs-leaf : (name : Name) (link : Option Content) (cs : List Code) (rest : Forest) → runs_of s (leaf_then name link cs rest) ≡ cond (is_run name) (run_of s cs ∷ runs_of s rest) (runs_of s rest)
+  runs-leaf : (name : Name) (link : Option Content) (cs : List Code) (rest : Forest) →
+      runs_of s (leaf_then name link cs rest) ≡ cond (is_run name) (run_of s cs ∷ runs_of s rest) (runs_of s rest)
   unfolding runs_of
   runs-leaf N.AttentionSequence link cs rest = refl
   runs-leaf name link cs rest = refl
 
-  runs-group : (name : Name) (p q : Point) (inside rest : Forest) → runs_of s (group_then name p q inside rest) ≡ runs_of s rest
+  runs-group : (name : Name) (p q : Point) (inside rest : Forest) →
+      runs_of s (group_then name p q inside rest) ≡ runs_of s rest
   unfolding runs_of
   runs-group name p q inside rest = refl
 
@@ -177,21 +188,25 @@ module _ (s : Setting) (tildes : Bool) (bytes : List ℕ) (same : s.bytes ≡ by
   none-in (group_then name p q inside rest) h = none-in rest h
 
   -- a leaf's run, in a row and in others
-  pub leaf-in : (n i : ℕ) (k : Container) (r : ℕ) (name : Name) (p q : Point) → row_around k ≡ r → runs_in r (leaf_run tildes bytes n i k name p q) ≡ leaf_run tildes bytes n i k name p q
+  pub leaf-in : (n i : ℕ) (k : Container) (r : ℕ) (name : Name) (p q : Point) → row_around k ≡ r →
+      runs_in r (leaf_run tildes bytes n i k name p q) ≡ leaf_run tildes bytes n i k name p q
   leaf-in n i k r name p q e =
       elim (cases_Bool (is_run name)) [ inl is ↦ rw (is, eq-eqb (row_around k) r e) refl | inr off ↦ rw off refl ]
 
-  pub leaf-out : (n i : ℕ) (k : Container) (r : ℕ) (name : Name) (p q : Point) → (row_around k ≡ r → ⊥) → runs_in r (leaf_run tildes bytes n i k name p q) ≡ []
+  pub leaf-out : (n i : ℕ) (k : Container) (r : ℕ) (name : Name) (p q : Point) → (row_around k ≡ r → ⊥) →
+      runs_in r (leaf_run tildes bytes n i k name p q) ≡ []
   leaf-out n i k r name p q e =
       elim (cases_Bool (is_run name)) [ inl is ↦ rw (is, ne_eqb (row_around k) r e) refl | inr off ↦ rw off refl ]
 
   -- the row of what stands inside a group
   pub inner-row : (i m : ℕ) (k : Container) (name : Name)
       → ((is_text name ≡ true) × ((row_around (inner i m k name) ≡ m + 1) × (as_text name ≡ 1))) ⊎ ((is_text name ≡ false) × (inner i m k name ≡ k))
-  inner-row i m k name = elim (cases_Bool (is_text name)) [ inl is ↦ inl (is, (rw is refl, rw is refl)) | inr off ↦ inr (off, rw off refl) ]
+  inner-row i m k name =
+      elim (cases_Bool (is_text name)) [ inl is ↦ inl (is, (rw is refl, rw is refl)) | inr off ↦ inr (off, rw off refl) ]
 
   -- texts have numbers of their own: no run of another row
-  pub others : (t : Forest) (n i m : ℕ) (k : Container) (r : ℕ) → (row_around k ≡ r → ⊥) → (r ≤ m) ⊎ (m + text_count t < r) → runs_in r (runs n i m k t) ≡ []
+  pub others : (t : Forest) (n i m : ℕ) (k : Container) (r : ℕ) → (row_around k ≡ r → ⊥) →
+      (r ≤ m) ⊎ (m + text_count t < r) → runs_in r (runs n i m k t) ≡ []
   others empty n i m k r ne far = refl
   others (leaf_then name link cs rest) n i m k r ne far =
       let here : List Sequence = leaf_run tildes bytes n i k name (start_of cs) (stop_of document_start cs) in
@@ -215,7 +230,8 @@ module _ (s : Setting) (tildes : Bool) (bytes : List ℕ) (same : s.bytes ≡ by
   leaf-row false r x rs xs h next = next
 
   -- the runs of a row, in its container
-  pub row-is : (t : Forest) (n i m : ℕ) (k : Container) (r : ℕ) → HasRuns bytes t → row_around k ≡ r → r ≤ m → Whole t (runs_in r (runs n i m k t))
+  pub row-is : (t : Forest) (n i m : ℕ) (k : Container) (r : ℕ) → HasRuns bytes t → row_around k ≡ r → r ≤ m →
+      Whole t (runs_in r (runs n i m k t))
   unfolding runs_of
   row-is empty n i m k r h e low = refl
   row-is (leaf_then name link cs rest) n i m k r h e low =
@@ -247,7 +263,8 @@ module _ (s : Setting) (tildes : Bool) (bytes : List ℕ) (same : s.bytes ≡ by
   Lacks : ℕ → ℕ → List Sequence → Type 0
   Lacks low high xs = (r : ℕ) → low < r → r ≤ high → runs_in r xs ≡ []
 
-  between : (r : ℕ) (front here back : List Sequence) → runs_in r front ≡ [] → runs_in r back ≡ [] → runs_in r (front ++ (here ++ back)) ≡ runs_in r here
+  between : (r : ℕ) (front here back : List Sequence) → runs_in r front ≡ [] → runs_in r back ≡ [] →
+      runs_in r (front ++ (here ++ back)) ≡ runs_in r here
   between r front here back f b =
       filters r front (here ++ back) ∙ ap (λ xs. xs ++ runs_in r (here ++ back)) f
       ∙ filters r here back ∙ ap (λ xs. runs_in r here ++ xs) b ∙ append-nil (runs_in r here)

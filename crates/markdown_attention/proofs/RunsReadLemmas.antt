@@ -17,7 +17,8 @@ use Rattle.markdown_attention.specs.declared.attention.reading.Where.{Where}
 use Rattle.markdown_attention.specs.declared.attention.runs.Sequence.{Sequence}
 
 -- the first of the events from i on, and those behind it
-pub first-event : (events : List Event) (i : ℕ) (e : Event) → i < length events → e ≡ get_or events i e → drop i events ≡ e ∷ drop (i + 1) events
+pub first-event : (events : List Event) (i : ℕ) (e : Event) → i < length events → e ≡ get_or events i e →
+    drop i events ≡ e ∷ drop (i + 1) events
 first-event events i e l h = drop_more events i e l ∙ ap (λ x. x ∷ drop (i + 1) events) (sym h)
 
 -- behind the Enter of a run stands another event
@@ -31,7 +32,8 @@ module _ (bytes : List ℕ) (events : List Event) (i : ℕ) (e : Event) (l : i <
   behind = let p : FirstHasPlaces bytes (e ∷ drop (i + 1) events) = subst (FirstHasPlaces bytes) (first-event events i e l h) places in p opens
 
   pub exit-within : i + 1 < length events
-  exit-within = let some = some-behind bytes e (drop (i + 1) events) behind in let n = length-drop (i + 1) events in omega arith
+  exit-within =
+      let some = some-behind bytes e (drop (i + 1) events) behind in let n = length-drop (i + 1) events in omega arith
 
   module _ (x : Event) (k : x ≡ get_or events (i + 1) x) where
     pub exit-place : IsRunPlace bytes e.point x.point
@@ -64,10 +66,13 @@ pub record Reading (tildes : Bool) (bytes : List ℕ) (events : List Event) (i :
   pub counted : w.texts + count_by opens_text (drop i events) ≡ count_by opens_text events
   pub few : w.texts ≤ i
 
-pub reading-start : (tildes : Bool) (bytes : List ℕ) (events : List Event) → HaveRunPlaces bytes events → Reading tildes bytes events 0 [] outermost
-reading-start tildes bytes events h = record { all = refl; numbered = λ i l. absurd (omega arith); places = h; counted = omega arith; few = omega arith }
+pub reading-start : (tildes : Bool) (bytes : List ℕ) (events : List Event) → HaveRunPlaces bytes events →
+    Reading tildes bytes events 0 [] outermost
+reading-start tildes bytes events h =
+    record { all = refl; numbered = λ i l. absurd (omega arith); places = h; counted = omega arith; few = omega arith }
 
-numbered-one : (list : List Sequence) (r : Sequence) → Numbered list → r.number ≡ length list → Numbered (list ++ r ∷ [])
+numbered-one : (list : List Sequence) (r : Sequence) → Numbered list → r.number ≡ length list →
+    Numbered (list ++ r ∷ [])
 numbered-one list r h e i l =
     elim (cases_lt i (length list)) [
       | inl below ↦ ap (λ (x : Sequence). x.number) (get_or_append_left list (r ∷ []) no_run i below) ∙ h i below
@@ -150,16 +155,21 @@ left-before : (high : ℕ) (ks : List Container) → All (λ k. row_around k ≤
 left-before high [] h = omega arith
 left-before high (k ∷ ks) h = All-head (λ k. row_around k ≤ high) k ks h
 
-rest-before : (high : ℕ) (ks : List Container) → All (λ k. row_around k ≤ high) ks → All (λ k. row_around k ≤ high) (rest_of ks)
+rest-before : (high : ℕ) (ks : List Container) → All (λ k. row_around k ≤ high) ks →
+    All (λ k. row_around k ≤ high) (rest_of ks)
 rest-before high [] h = h
 rest-before high (k ∷ ks) h = All-tail (λ k. row_around k ≤ high) k ks h
 
-before-after : (high i : ℕ) (e : Event) (w : Where) → w.texts + as_opened e ≤ high → AreBefore high w → AreBefore high (where_after i e w)
+before-after : (high i : ℕ) (e : Event) (w : Where) → w.texts + as_opened e ≤ high → AreBefore high w →
+    AreBefore high (where_after i e w)
 before-after high i e w = by_test (is_text e.name) (is_enter e.kind)
   where
-    by_test : (t b : Bool) → w.texts + cond (b && t) 1 0 ≤ high → AreBefore high w → AreBefore high (cond t (cond b (into_text i w) (out_of_text w)) w)
-    by_test true true l h = record { container = l; outer = All-cons (λ k. row_around k ≤ high) w.container w.outer h.container h.outer }
-    by_test true false l h = record { container = left-before high w.outer h.outer; outer = rest-before high w.outer h.outer }
+    by_test : (t b : Bool) → w.texts + cond (b && t) 1 0 ≤ high → AreBefore high w →
+        AreBefore high (cond t (cond b (into_text i w) (out_of_text w)) w)
+    by_test true true l h =
+        record { container = l; outer = All-cons (λ k. row_around k ≤ high) w.container w.outer h.container h.outer }
+    by_test true false l h =
+        record { container = left-before high w.outer h.outer; outer = rest-before high w.outer h.outer }
     by_test false b l h = h
 
 first-read : (tildes : Bool) (bytes : List ℕ) (high n i : ℕ) (k : Container) (es : List Event) → FirstHasPlaces bytes es → row_around k ≤ high
@@ -168,8 +178,10 @@ first-read tildes bytes high n i k [] h l = All-nil (IsRead high)
 first-read tildes bytes high n i k (e ∷ []) h l = All-nil (IsRead high)
 first-read tildes bytes high n i k (e ∷ x ∷ es) h l = by_test (opens_run e) h
   where
-    by_test : (b : Bool) → (b ≡ true → IsRunPlace bytes e.point x.point) → All (IsRead high) (cond b (sequence_at tildes bytes n i k e.point x.point ∷ []) [])
-    by_test true p = All-cons (IsRead high) (sequence_at tildes bytes n i k e.point x.point) [] (record { whole = refl; marker = (p refl).marker; row = l }) (All-nil (IsRead high))
+    by_test : (b : Bool) → (b ≡ true → IsRunPlace bytes e.point x.point) →
+        All (IsRead high) (cond b (sequence_at tildes bytes n i k e.point x.point ∷ []) [])
+    by_test true p =
+        All-cons (IsRead high) (sequence_at tildes bytes n i k e.point x.point) [] (record { whole = refl; marker = (p refl).marker; row = l }) (All-nil (IsRead high))
     by_test false p = All-nil (IsRead high)
 
 pub are-read : (tildes : Bool) (bytes : List ℕ) (high : ℕ) (es : List Event) (n i : ℕ) (w : Where) → HaveRunPlaces bytes es → w.texts + count_by opens_text es ≤ high → AreBefore high w

@@ -27,7 +27,8 @@ stripe-marker m p (c ∷ cs) h = (h.0, stripe-marker m (shifted p 1) cs h.1.1.1)
 stripe-at : (m : ℕ) (p q : Point) (cs : List Code) → p ≡ q → IsStripe m p cs → IsStripe m q cs
 stripe-at m p q cs e h = subst (λ (x : Point). IsStripe m x cs) e h
 
-stripe-drop : (k m : ℕ) (p : Point) (cs : List Code) → k ≤ length cs → IsStripe m p cs → IsStripe m (shifted p k) (drop k cs)
+stripe-drop : (k m : ℕ) (p : Point) (cs : List Code) → k ≤ length cs → IsStripe m p cs →
+    IsStripe m (shifted p k) (drop k cs)
 stripe-drop zero m p cs l h = stripe-at m p (shifted p 0) cs (sym (shift-none p)) h
 stripe-drop (suc k) m p [] l h = tt
 stripe-drop (suc k) m p (c ∷ cs) l h =
@@ -38,7 +39,8 @@ stripe-take zero m p cs h = tt
 stripe-take (suc k) m p [] h = tt
 stripe-take (suc k) m p (c ∷ cs) h = (h.0, (h.1.0, (h.1.1.0, stripe-take k m (shifted p 1) cs h.1.1.1)))
 
-pub stripe-stop : (m : ℕ) (p q : Point) (cs : List Code) → IsStripe m p cs → q ≡ p → stop_of q cs ≡ shifted p (length cs)
+pub stripe-stop : (m : ℕ) (p q : Point) (cs : List Code) → IsStripe m p cs → q ≡ p →
+    stop_of q cs ≡ shifted p (length cs)
 stripe-stop m p q [] h e = e ∙ sym (shift-none p)
 stripe-stop m p q (c ∷ cs) h e =
     stripe-stop m (shifted p 1) c.stop cs h.1.1.1 h.1.1.0 ∙ shift-shift p 1 (length cs) ∙ shift-same p (1 + length cs) (suc (length cs)) (omega arith)
@@ -71,7 +73,8 @@ opening-is m p k cs b =
 
 -- brackets cut from a stripe, and what is left of it
 
-closings-are : (ks : List ℕ) (m : ℕ) (p : Point) (cs : List Code) → AreSome ks → total ks ≤ length cs → IsStripe m p cs → closed_all (cut_front ks cs).0 ≡ closings_from m p ks
+closings-are : (ks : List ℕ) (m : ℕ) (p : Point) (cs : List Code) → AreSome ks → total ks ≤ length cs →
+    IsStripe m p cs → closed_all (cut_front ks cs).0 ≡ closings_from m p ks
 closings-are [] m p cs a l h = refl
 closings-are (k ∷ ks) m p cs a l h =
     let here : k ≤ length cs = omega (arith, l) in
@@ -79,7 +82,8 @@ closings-are (k ∷ ks) m p cs a l h =
     let b : Bracket m p k (take k cs) = bracket m p k (take k cs) (stripe-take k m p cs h) (length-take-le k cs here) a.0 in
     λ i. closing-is m p k (take k cs) b i ++ closings-are ks m (shifted p k) (drop k cs) a.1 (omega (arith, l, d)) (stripe-drop k m p cs here h) i
 
-openings-are : (ks : List ℕ) (m : ℕ) (p : Point) (cs : List Code) → AreSome ks → total ks ≤ length cs → IsStripe m p cs → opened_all (cut_front ks cs).0 ≡ openings_from m p ks
+openings-are : (ks : List ℕ) (m : ℕ) (p : Point) (cs : List Code) → AreSome ks → total ks ≤ length cs →
+    IsStripe m p cs → opened_all (cut_front ks cs).0 ≡ openings_from m p ks
 openings-are [] m p cs a l h = refl
 openings-are (k ∷ ks) m p cs a l h =
     let here : k ≤ length cs = omega (arith, l) in
@@ -87,7 +91,8 @@ openings-are (k ∷ ks) m p cs a l h =
     let b : Bracket m p k (take k cs) = bracket m p k (take k cs) (stripe-take k m p cs h) (length-take-le k cs here) a.0 in
     λ i. opening-is m p k (take k cs) b i ++ openings-are ks m (shifted p k) (drop k cs) a.1 (omega (arith, l, d)) (stripe-drop k m p cs here h) i
 
-rest-stripe : (ks : List ℕ) (m : ℕ) (p : Point) (cs : List Code) → total ks ≤ length cs → IsStripe m p cs → IsStripe m (shifted p (total ks)) (cut_front ks cs).1
+rest-stripe : (ks : List ℕ) (m : ℕ) (p : Point) (cs : List Code) → total ks ≤ length cs → IsStripe m p cs →
+    IsStripe m (shifted p (total ks)) (cut_front ks cs).1
 rest-stripe [] m p cs l h = stripe-at m p (shifted p 0) cs (sym (shift-none p)) h
 rest-stripe (k ∷ ks) m p cs l h =
     let d = length-drop k cs in
@@ -95,7 +100,8 @@ rest-stripe (k ∷ ks) m p cs l h =
 
 rest-length : (ks : List ℕ) (cs : List Code) → total ks ≤ length cs → length (cut_front ks cs).1 ≡ length cs - total ks
 rest-length [] cs l = omega arith
-rest-length (k ∷ ks) cs l = let d = length-drop k cs in let r = rest-length ks (drop k cs) (omega (arith, l, d)) in omega (arith, l, d, r)
+rest-length (k ∷ ks) cs l =
+    let d = length-drop k cs in let r = rest-length ks (drop k cs) (omega (arith, l, d)) in omega (arith, l, d, r)
 
 data-is : (m : ℕ) (p : Point) (k : ℕ) (cs : List Code) → IsStripe m p cs → length cs ≡ k → left_over cs ≡ data_at p k
 data-is m p zero [] h l = refl

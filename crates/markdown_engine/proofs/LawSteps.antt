@@ -15,7 +15,10 @@ unfolding settled
 settled-same T e = let P : List Attempt → Type 0 = λ x. record T { attempts = x } ≡ T in subst P e refl
 
 -- a step that opens no attempt
-pub Goes-plain : (ready : StateName → Tokenizer → Type 0) (ends : StateName → Tokenizer → Bool → Tokenizer → Type 0) (weight : StateName → Tokenizer → ℕ) (n : ℕ) (End : Bool → Tokenizer → Type 0) (st : State) (T : Tokenizer) → T.attempts ≡ [] → ready_state ready st T → weight_state weight st T < n → ((ok : Bool) (U : Tokenizer) → ends_state ends st T ok U → End ok U) → Goes ready ends weight n End T.attempts st (settled T)
+pub Goes-plain : (ready : StateName → Tokenizer → Type 0) (ends : StateName → Tokenizer → Bool → Tokenizer → Type 0) (weight : StateName → Tokenizer → ℕ) (n : ℕ) (End : Bool → Tokenizer → Type 0) (st : State) (T : Tokenizer) →
+    T.attempts ≡ [] → ready_state ready st T → weight_state weight st T < n →
+    ((ok : Bool) (U : Tokenizer) → ends_state ends st T ok U → End ok U) →
+    Goes ready ends weight n End T.attempts st (settled T)
 Goes-plain ready ends weight n End st T alone on falls closed =
     let now : Goes ready ends weight n End [] st T = (record { goes_on = on; falls = falls }, closed) in
     rw (settled-same T alone) (subst (λ (fs : List Attempt). Goes ready ends weight n End fs st T) (sym alone) now)
@@ -24,7 +27,8 @@ settled-attempted : (r : Bool) (ok nok : State) (T : Tokenizer) → T.attempts �
 unfolding settled attempted
 settled-attempted r ok nok T e = let P : List Attempt → Type 0 = λ x. record T { attempts = x } ≡ T in subst P e refl
 
-attempts-attempted : (r : Bool) (ok nok : State) (T : Tokenizer) → T.attempts ≡ [] → (attempted r ok nok T).attempts ≡ frame_of r ok nok T ∷ []
+attempts-attempted : (r : Bool) (ok nok : State) (T : Tokenizer) → T.attempts ≡ [] →
+    (attempted r ok nok T).attempts ≡ frame_of r ok nok T ∷ []
 unfolding attempted
 attempts-attempted r ok nok T e = ap (λ x. frame_of r ok nok T ∷ x) e
 
@@ -35,7 +39,10 @@ pub record Follows (ready : StateName → Tokenizer → Type 0) (ends : StateNam
   pub closed : (ok : Bool) (V : Tokenizer) → ends_state ends st U ok V → End ok V
 
 -- a step that opens one attempt, which restores after an Ok or not
-Goes-tried : (ready : StateName → Tokenizer → Type 0) (ends : StateName → Tokenizer → Bool → Tokenizer → Type 0) (weight : StateName → Tokenizer → ℕ) (n : ℕ) (End : Bool → Tokenizer → Type 0) (r : Bool) (st ok nok : State) (T : Tokenizer) → T.attempts ≡ [] → ready_state ready st T → weight_state weight st T < n → ((b : Bool) (U : Tokenizer) → U.attempts ≡ [] → ends_state ends st T b U → Follows ready ends weight n End (going_state (frame_of r ok nok T) b) (going_in (frame_of r ok nok T) b U)) → Goes ready ends weight n End (attempted r ok nok T).attempts st (settled (attempted r ok nok T))
+Goes-tried : (ready : StateName → Tokenizer → Type 0) (ends : StateName → Tokenizer → Bool → Tokenizer → Type 0) (weight : StateName → Tokenizer → ℕ) (n : ℕ) (End : Bool → Tokenizer → Type 0) (r : Bool) (st ok nok : State) (T : Tokenizer) →
+    T.attempts ≡ [] → ready_state ready st T → weight_state weight st T < n →
+    ((b : Bool) (U : Tokenizer) → U.attempts ≡ [] → ends_state ends st T b U → Follows ready ends weight n End (going_state (frame_of r ok nok T) b) (going_in (frame_of r ok nok T) b U)) →
+    Goes ready ends weight n End (attempted r ok nok T).attempts st (settled (attempted r ok nok T))
 Goes-tried ready ends weight n End r st ok nok T alone on falls follows =
     rw (settled-attempted r ok nok T alone, attempts-attempted r ok nok T alone) (
       record { goes_on = on; falls = falls },
@@ -43,7 +50,11 @@ Goes-tried ready ends weight n End r st ok nok T alone on falls follows =
     )
 
 -- a step that opens one attempt
-pub Goes-attempt : (ready : StateName → Tokenizer → Type 0) (ends : StateName → Tokenizer → Bool → Tokenizer → Type 0) (weight : StateName → Tokenizer → ℕ) (n : ℕ) (End : Bool → Tokenizer → Type 0) (st ok nok : State) (T : Tokenizer) → T.attempts ≡ [] → ready_state ready st T → weight_state weight st T < n → ((U : Tokenizer) → U.attempts ≡ [] → ends_state ends st T true U → Follows ready ends weight n End ok U) → ((U : Tokenizer) → U.attempts ≡ [] → ends_state ends st T false U → Follows ready ends weight n End nok (restored (frame_of false ok nok T) U)) → Goes ready ends weight n End (attempted false ok nok T).attempts st (settled (attempted false ok nok T))
+pub Goes-attempt : (ready : StateName → Tokenizer → Type 0) (ends : StateName → Tokenizer → Bool → Tokenizer → Type 0) (weight : StateName → Tokenizer → ℕ) (n : ℕ) (End : Bool → Tokenizer → Type 0) (st ok nok : State) (T : Tokenizer) →
+    T.attempts ≡ [] → ready_state ready st T → weight_state weight st T < n →
+    ((U : Tokenizer) → U.attempts ≡ [] → ends_state ends st T true U → Follows ready ends weight n End ok U) →
+    ((U : Tokenizer) → U.attempts ≡ [] → ends_state ends st T false U → Follows ready ends weight n End nok (restored (frame_of false ok nok T) U)) →
+    Goes ready ends weight n End (attempted false ok nok T).attempts st (settled (attempted false ok nok T))
 unfolding frame_of
 Goes-attempt ready ends weight n End st ok nok T alone on falls if_ok if_nok =
     Goes-tried ready ends weight n End false st ok nok T alone on falls (λ b U now e.
@@ -53,7 +64,11 @@ Goes-attempt ready ends weight n End st ok nok T alone on falls if_ok if_nok =
     ] e)
 
 -- a step that opens one check: an Ok restores too
-pub Goes-check : (ready : StateName → Tokenizer → Type 0) (ends : StateName → Tokenizer → Bool → Tokenizer → Type 0) (weight : StateName → Tokenizer → ℕ) (n : ℕ) (End : Bool → Tokenizer → Type 0) (st ok nok : State) (T : Tokenizer) → T.attempts ≡ [] → ready_state ready st T → weight_state weight st T < n → ((U : Tokenizer) → U.attempts ≡ [] → ends_state ends st T true U → Follows ready ends weight n End ok (restored (frame_of true ok nok T) U)) → ((U : Tokenizer) → U.attempts ≡ [] → ends_state ends st T false U → Follows ready ends weight n End nok (restored (frame_of true ok nok T) U)) → Goes ready ends weight n End (attempted true ok nok T).attempts st (settled (attempted true ok nok T))
+pub Goes-check : (ready : StateName → Tokenizer → Type 0) (ends : StateName → Tokenizer → Bool → Tokenizer → Type 0) (weight : StateName → Tokenizer → ℕ) (n : ℕ) (End : Bool → Tokenizer → Type 0) (st ok nok : State) (T : Tokenizer) →
+    T.attempts ≡ [] → ready_state ready st T → weight_state weight st T < n →
+    ((U : Tokenizer) → U.attempts ≡ [] → ends_state ends st T true U → Follows ready ends weight n End ok (restored (frame_of true ok nok T) U)) →
+    ((U : Tokenizer) → U.attempts ≡ [] → ends_state ends st T false U → Follows ready ends weight n End nok (restored (frame_of true ok nok T) U)) →
+    Goes ready ends weight n End (attempted true ok nok T).attempts st (settled (attempted true ok nok T))
 unfolding frame_of
 Goes-check ready ends weight n End st ok nok T alone on falls if_ok if_nok =
     Goes-tried ready ends weight n End true st ok nok T alone on falls (λ b U now e.
@@ -66,7 +81,8 @@ drop-append-length : {X : Type 0} → (a b : List X) (n : ℕ) → n ≡ length 
 drop-append-length a b n e = grind (arith, common_steps)
 
 -- a failed attempt puts back what a run that has only grown it has done
-pub restored-grown : (r : Bool) (ok nok : State) (T U : Tokenizer) → Grown 0 T U → restored (frame_of r ok nok T) U ≡ scratched U.tokenize_state T
+pub restored-grown : (r : Bool) (ok nok : State) (T U : Tokenizer) → Grown 0 T U →
+    restored (frame_of r ok nok T) U ≡ scratched U.tokenize_state T
 unfolding restored frame_of unwound
 restored-grown r ok nok T U g =
     let stack : U.stack ≡ g.opened ++ T.stack = g.stack in
@@ -77,19 +93,24 @@ restored-grown r ok nok T U g =
     rw (kept, edits, as_before) g.same
 
 -- a failed attempt puts back all but the scratch fields
-pub restored-fails : (r : Bool) (ok nok : State) (s : TokenizeState) (T U : Tokenizer) → Fails s T U → restored (frame_of r ok nok T) U ≡ scratched s T
-restored-fails r ok nok s T U f = restored-grown r ok nok T U f.grown ∙ ap (λ (x : TokenizeState). scratched x T) f.scratch
+pub restored-fails : (r : Bool) (ok nok : State) (s : TokenizeState) (T U : Tokenizer) → Fails s T U →
+    restored (frame_of r ok nok T) U ≡ scratched s T
+restored-fails r ok nok s T U f =
+    restored-grown r ok nok T U f.grown ∙ ap (λ (x : TokenizeState). scratched x T) f.scratch
 
 pub Grown-refl : (d : ℕ) (T : Tokenizer) → Grown d T T
 unfolding unwound scratched
-Grown-refl d T = record { added = []; events = search common_steps; edits = []; map = search common_steps; opened = take d T.stack; stack = search common_steps; same = refl }
+Grown-refl d T =
+    record { added = []; events = search common_steps; edits = []; map = search common_steps; opened = take d T.stack; stack = search common_steps; same = refl }
 
 -- a step by a test
-pub if-step : (P : Stepped → Type 0) (b : Bool) (x y : Stepped) → (b ≡ true → P x) → (b ≡ false → P y) → P (if b then x else y)
+pub if-step : (P : Stepped → Type 0) (b : Bool) (x y : Stepped) → (b ≡ true → P x) → (b ≡ false → P y) →
+    P (if b then x else y)
 if-step P true x y p q = p refl
 if-step P false x y p q = q refl
 
 -- a step by the current code
-pub code-step : (P : Stepped → Type 0) (o : Option ℕ) (f : Option ℕ → Stepped) → (o ≡ None → P (f None)) → ((c : ℕ) → o ≡ Some c → P (f (Some c))) → P (f o)
+pub code-step : (P : Stepped → Type 0) (o : Option ℕ) (f : Option ℕ → Stepped) → (o ≡ None → P (f None)) →
+    ((c : ℕ) → o ≡ Some c → P (f (Some c))) → P (f o)
 code-step P None f p q = p refl
 code-step P (Some c) f p q = q c refl

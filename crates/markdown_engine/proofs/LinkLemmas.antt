@@ -35,13 +35,15 @@ ends-linked (e ∷ x ∷ y ∷ es) h =
     let r = ends-linked (x ∷ y ∷ es) h in
     record { front = suc r.front; size = omega (arith, r.size); enter = r.enter; exit = ap (previous_at (e ∷ x ∷ y ∷ es)) (next r.front) ∙ r.exit }
 
-changed-last : {A : Type 0} → (f : A → A) (xs : List A) (x : A) (i : ℕ) → i ≡ length xs → changed_at f i (xs ++ x ∷ []) ≡ xs ++ f x ∷ []
+changed-last : {A : Type 0} → (f : A → A) (xs : List A) (x : A) (i : ℕ) → i ≡ length xs →
+    changed_at f i (xs ++ x ∷ []) ≡ xs ++ f x ∷ []
 changed-last f [] x i e = rw e refl
 changed-last f (y ∷ ys) x zero e = absurd (omega (arith, e))
 changed-last f (y ∷ ys) x (suc i) e = ap (λ zs. y ∷ zs) (changed-last f ys x i (omega (arith, e)))
 
 -- an Enter linked back to the linked content just before keeps the chains
-pub connected-linked : (es : List Event) (n : Name) (p : Point) (c : Content) → IsLinked es → ends_linked es ≡ true → IsLinked (es ++ record { kind = Kind.Enter; name = n; point = p; link = Some (link_back (Some (length es - 2)) c) } ∷ [])
+pub connected-linked : (es : List Event) (n : Name) (p : Point) (c : Content) → IsLinked es → ends_linked es ≡ true →
+    IsLinked (es ++ record { kind = Kind.Enter; name = n; point = p; link = Some (link_back (Some (length es - 2)) c) } ∷ [])
 connected-linked es n p c h e =
     let r = ends-linked es e in
     let fresh : Event = record { kind = Kind.Enter; name = n; point = p; link = Some (link_back None c) } in
@@ -61,7 +63,8 @@ pub ends-linked-size : (es : List Event) → ends_linked es ≡ true → 2 ≤ l
 ends-linked-size es h = omega (arith, (ends-linked es h).size)
 
 -- an Enter with a link and an Exit behind any events are linked content just before
-pub ends_linked-append : (es : List Event) (a b : Event) → ends_linked ((es ++ a ∷ []) ++ b ∷ []) ≡ has_link a.link && not (has_link b.link)
+pub ends_linked-append : (es : List Event) (a b : Event) →
+    ends_linked ((es ++ a ∷ []) ++ b ∷ []) ≡ has_link a.link && not (has_link b.link)
 ends_linked-append [] a b = refl
 ends_linked-append (e ∷ []) a b = refl
 ends_linked-append (e ∷ x ∷ []) a b = ends_linked-append (x ∷ []) a b

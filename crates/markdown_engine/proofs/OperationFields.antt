@@ -162,7 +162,9 @@ unfolding registered
 attempts-registered n T = one-of (λ U. U.attempts ≡ T.attempts) (is_registered n T.resolvers) T _ refl refl
 
 -- for the steps of states
-pub ruleset op_rules = (stack-applied, cursor-applied, scratch-applied, input-applied, stack-scratched, cursor-scratched, scratch-scratched, input-scratched)
+pub ruleset op_rules =
+    (stack-applied, cursor-applied, scratch-applied, input-applied, stack-scratched, cursor-scratched, scratch-scratched, input-scratched)
 
 -- for what a module's laws ask for besides
-pub ruleset law_rules = (op_rules, attempts-applied, attempts-scratched, resolvers-applied, resolvers-scratched, failed-applied, failed-scratched, ahead-consumed, left-ahead)
+pub ruleset law_rules =
+    (op_rules, attempts-applied, attempts-scratched, resolvers-applied, resolvers-scratched, failed-applied, failed-scratched, ahead-consumed, left-ahead)

@@ -43,9 +43,11 @@ drop-both m n xs = drop-drop n m xs
 
 pub ahead-done : (os : List Op) (T : Tokenizer) → ahead (done os T) ≡ drop (moves os) (ahead T)
 ahead-done [] T = refl
-ahead-done (o ∷ os) T = ahead-done os (applied o T) ∙ ap (drop (moves os)) (ahead-applied o T) ∙ drop-both (op_moves o) (moves os) (ahead T)
+ahead-done (o ∷ os) T =
+    ahead-done os (applied o T) ∙ ap (drop (moves os)) (ahead-applied o T) ∙ drop-both (op_moves o) (moves os) (ahead T)
 
-pub left-done : (os : List Op) (T : Tokenizer) → moves os ≤ length (ahead T) → codes_left (done os T) + moves os ≡ codes_left T
+pub left-done : (os : List Op) (T : Tokenizer) → moves os ≤ length (ahead T) →
+    codes_left (done os T) + moves os ≡ codes_left T
 left-done os T h =
     let same : length (ahead (done os T)) ≡ length (drop (moves os) (ahead T)) = ap length (ahead-done os T) in
     let here : length (drop (moves os) (ahead T)) + moves os ≡ length (ahead T) = grind (arith, common_steps) in
@@ -66,7 +68,8 @@ stack-kept d (EnterLink n c) ns h = refl
 stack-kept d (EnterConnected n c) ns h = refl
 stack-kept d Consume ns h = refl
 
-pub Grown-applied : (d : ℕ) (o : Op) (T U : Tokenizer) → op_stays d o ≡ true → Grown (op_depth d o) (applied o T) U → Grown d T U
+pub Grown-applied : (d : ℕ) (o : Op) (T U : Tokenizer) → op_stays d o ≡ true → Grown (op_depth d o) (applied o T) U →
+    Grown d T U
 unfolding applied unwound scratched
 Grown-applied d o T U h g =
     record { added = op_events o T ++ g.added; events = g.events ∙ ap (λ es. es ++ g.added) (extended-append T.events (op_events o T)) ∙ append_assoc T.events (op_events o T) g.added; edits = g.edits; map = g.map; opened = g.opened; stack = g.stack ∙ ap (λ ns. g.opened ++ ns) (stack-kept d o T.stack h); same = ap (λ (x : Tokenizer). record x { events = T.events; stack = T.stack; cursor = T.cursor }) g.same }

@@ -59,8 +59,10 @@ apart n i l = λ e. omega (arith, e)
 
 not-below : (n i : ℕ) (parts : List Part) → i < n → All (λ e. e.at ≢ i) (edits_from n parts)
 not-below n i [] l = All-nil (λ e. e.at ≢ i)
-not-below n i (comes es ∷ parts) l = All-cons (λ e. e.at ≢ i) (coming n es) (edits_from n parts) (apart n i l) (not-below n i parts l)
-not-below n i (goes e es ∷ parts) l = All-cons (λ e. e.at ≢ i) (going n (suc (length es))) (edits_from (n + suc (length es)) parts) (apart n i l) (not-below (n + suc (length es)) i parts (omega arith))
+not-below n i (comes es ∷ parts) l =
+    All-cons (λ e. e.at ≢ i) (coming n es) (edits_from n parts) (apart n i l) (not-below n i parts l)
+not-below n i (goes e es ∷ parts) l =
+    All-cons (λ e. e.at ≢ i) (going n (suc (length es))) (edits_from (n + suc (length es)) parts) (apart n i l) (not-below (n + suc (length es)) i parts (omega arith))
 not-below n i (stays t ∷ parts) l = not-below (n + event_count t) i parts (omega arith)
 not-below n i (keeps kind name p ∷ parts) l = not-below (n + 1) i parts (omega arith)
 
@@ -86,7 +88,8 @@ record IsQuiet (log : List Edit) (n k : ℕ) : Type 0 where
   none : (j : ℕ) → n ≤ j → j < n + k → added_at j log ≡ []
   stay : (j : ℕ) → n ≤ j → j < n + k → is_removed log j ≡ false
 
-quiet : (log : List Edit) (n : ℕ) (xs tail : List Event) → IsQuiet log n (length xs) → edited_from log n (xs ++ tail) ≡ all_moved log xs ++ edited_from log (n + length xs) tail
+quiet : (log : List Edit) (n : ℕ) (xs tail : List Event) → IsQuiet log n (length xs) →
+    edited_from log n (xs ++ tail) ≡ all_moved log xs ++ edited_from log (n + length xs) tail
 unfolding all_moved
 quiet log n [] tail q = ap (λ i. edited_from log i tail) (omega arith)
 quiet log n (x ∷ xs) tail q =
@@ -97,7 +100,10 @@ quiet log n (x ∷ xs) tail q =
     ∙ ap (λ i. moved log x ∷ all_moved log xs ++ edited_from log i tail) next
 
 -- some events stay, and nothing comes between them
-stretch : (log : List Edit) (n : ℕ) (pre xs tail : List Event) → 0 < length xs → added_at n log ≡ pre → ((j : ℕ) → n < j → j < n + length xs → added_at j log ≡ []) → ((j : ℕ) → n ≤ j → j < n + length xs → is_removed log j ≡ false) → edited_from log n (xs ++ tail) ≡ pre ++ (all_moved log xs ++ edited_from log (n + length xs) tail)
+stretch : (log : List Edit) (n : ℕ) (pre xs tail : List Event) → 0 < length xs → added_at n log ≡ pre →
+    ((j : ℕ) → n < j → j < n + length xs → added_at j log ≡ []) →
+    ((j : ℕ) → n ≤ j → j < n + length xs → is_removed log j ≡ false) →
+    edited_from log n (xs ++ tail) ≡ pre ++ (all_moved log xs ++ edited_from log (n + length xs) tail)
 unfolding all_moved
 stretch log n pre [] tail l a b c = absurd (omega arith)
 stretch log n pre (x ∷ xs) tail l a b c =
@@ -108,7 +114,10 @@ stretch log n pre (x ∷ xs) tail l a b c =
     ∙ ap (λ i. pre ++ (moved log x ∷ all_moved log xs ++ edited_from log i tail)) next
 
 -- some events go, and nothing comes between them
-gone-rest : (log : List Edit) (n : ℕ) (xs tail : List Event) → ((j : ℕ) → n ≤ j → j < n + length xs → added_at j log ≡ []) → ((j : ℕ) → n ≤ j → j < n + length xs → is_removed log j ≡ true) → edited_from log n (xs ++ tail) ≡ edited_from log (n + length xs) tail
+gone-rest : (log : List Edit) (n : ℕ) (xs tail : List Event) →
+    ((j : ℕ) → n ≤ j → j < n + length xs → added_at j log ≡ []) →
+    ((j : ℕ) → n ≤ j → j < n + length xs → is_removed log j ≡ true) →
+    edited_from log n (xs ++ tail) ≡ edited_from log (n + length xs) tail
 gone-rest log n [] tail a b = ap (λ i. edited_from log i tail) (omega arith)
 gone-rest log n (x ∷ xs) tail a b =
     let next : suc n + length xs ≡ n + suc (length xs) = omega arith in
@@ -117,7 +126,10 @@ gone-rest log n (x ∷ xs) tail a b =
     ∙ gone-rest log (suc n) xs tail (λ j l h. a j (omega arith) (omega arith)) (λ j l h. b j (omega arith) (omega arith))
     ∙ ap (λ i. edited_from log i tail) next
 
-gone : (log : List Edit) (n : ℕ) (pre : List Event) (x : Event) (xs tail : List Event) → added_at n log ≡ pre → ((j : ℕ) → n < j → j < n + suc (length xs) → added_at j log ≡ []) → ((j : ℕ) → n ≤ j → j < n + suc (length xs) → is_removed log j ≡ true) → edited_from log n ((x ∷ xs) ++ tail) ≡ pre ++ edited_from log (n + suc (length xs)) tail
+gone : (log : List Edit) (n : ℕ) (pre : List Event) (x : Event) (xs tail : List Event) → added_at n log ≡ pre →
+    ((j : ℕ) → n < j → j < n + suc (length xs) → added_at j log ≡ []) →
+    ((j : ℕ) → n ≤ j → j < n + suc (length xs) → is_removed log j ≡ true) →
+    edited_from log n ((x ∷ xs) ++ tail) ≡ pre ++ edited_from log (n + suc (length xs)) tail
 gone log n pre x xs tail a b c =
     let next : suc n + length xs ≡ n + suc (length xs) = omega arith in
     ap (λ ys. ys ++ (cond (is_removed log n) [] (moved log x ∷ []) ++ edited_from log (suc n) (xs ++ tail))) a
@@ -125,7 +137,9 @@ gone log n pre x xs tail a b c =
     ∙ ap (λ ys. pre ++ ys) (gone-rest log (suc n) xs tail (λ j l h. b j (omega arith) (omega arith)) (λ j l h. c j (omega arith) (omega arith)) ∙ ap (λ i. edited_from log i tail) next)
 
 -- the numbers of a stretch that stays
-numbers : (log : List Edit) (n m k j : ℕ) → moved_number log n ≡ m → ((j : ℕ) → n < j → j < n + k → added_at j log ≡ []) → ((j : ℕ) → n ≤ j → j < n + k → is_removed log j ≡ false) → j < k → moved_number log (n + j) ≡ m + j
+numbers : (log : List Edit) (n m k j : ℕ) → moved_number log n ≡ m →
+    ((j : ℕ) → n < j → j < n + k → added_at j log ≡ []) → ((j : ℕ) → n ≤ j → j < n + k → is_removed log j ≡ false) →
+    j < k → moved_number log (n + j) ≡ m + j
 numbers log n m k zero a b c l = let e : n + 0 ≡ n = omega arith in ap (moved_number log) e ∙ a ∙ omega arith
 numbers log n m k (suc j) a b c l =
     let e : n + suc j ≡ suc (n + j) = omega arith in
@@ -135,7 +149,9 @@ numbers log n m k (suc j) a b c l =
     ap (moved_number log) e ∙ moved-start log (suc (n + j)) ∙ omega (arith, r, s, z)
 
 -- a row that is moved
-shift : (log : List Edit) (n m : ℕ) (p : Option ℕ) (t : Forest) → ((j : ℕ) → j < event_count t → moved_number log (n + j) ≡ m + j) → all_moved log (appended_from n p t) ≡ appended_from m (option_map (moved_number log) p) t
+shift : (log : List Edit) (n m : ℕ) (p : Option ℕ) (t : Forest) →
+    ((j : ℕ) → j < event_count t → moved_number log (n + j) ≡ m + j) →
+    all_moved log (appended_from n p t) ≡ appended_from m (option_map (moved_number log) p) t
 unfolding all_moved
 shift log n m p empty h = refl
 shift log n m p (leaf_then name None cs rest) h =
@@ -172,9 +188,11 @@ record After (log : List Edit) (n m : ℕ) (parts : List Part) : Type 0 where
   number : start log n ≡ m
 
 rest-after : (log : List Edit) (n m : ℕ) (parts : List Part) → After log n m parts → Rest log n m [] parts
-rest-after log n m parts a = record { here = a.later n (omega arith); later = λ i l. a.later i (omega arith); cuts = a.cuts; short = a.short; number = omega (arith, a.number) }
+rest-after log n m parts a =
+    record { here = a.later n (omega arith); later = λ i l. a.later i (omega arith); cuts = a.cuts; short = a.short; number = omega (arith, a.number) }
 
-rest-comes : (log : List Edit) (n m : ℕ) (pre es : List Event) (parts : List Part) → Rest log n m pre (comes es ∷ parts) → Rest log n (m + length es) (pre ++ es) parts
+rest-comes : (log : List Edit) (n m : ℕ) (pre es : List Event) (parts : List Part) →
+    Rest log n m pre (comes es ∷ parts) → Rest log n (m + length es) (pre ++ es) parts
 rest-comes log n m pre es parts r = record {
   here = r.here ∙ ap (λ x. pre ++ x) (back-here n es (edits_from n parts)) ∙ sym (append_assoc pre es (back_at n (edits_from n parts)));
   later = λ i l. r.later i l ∙ back-other i n es (edits_from n parts) (λ e. omega (arith, e));
@@ -184,7 +202,8 @@ rest-comes log n m pre es parts r = record {
 }
 
 -- no range of a place before reaches past n, and none begins from n up to n + k
-stay-of : (log : List Edit) (n k : ℕ) → ((p : ℕ) → p < n → p + removed_at p log ≤ n) → ((p : ℕ) → n ≤ p → p < n + k → removed_at p log ≡ 0) → (j : ℕ) → n ≤ j → j < n + k → is_removed log j ≡ false
+stay-of : (log : List Edit) (n k : ℕ) → ((p : ℕ) → p < n → p + removed_at p log ≤ n) →
+    ((p : ℕ) → n ≤ p → p < n + k → removed_at p log ≡ 0) → (j : ℕ) → n ≤ j → j < n + k → is_removed log j ≡ false
 stay-of log n k a b j l h = stays-where log j (λ p g. elim (leb_tells n p) [
   | inl t ↦ omega (arith, b p t.1 (omega arith))
   | inr f ↦ omega (arith, a p f.1)
@@ -201,7 +220,11 @@ record Block (log : List Edit) (n m k : ℕ) (pre : List Event) (parts : List Pa
   number : moved_number log n ≡ m
   after : After log (n + k) (m + k) parts
 
-block : (log : List Edit) (n m k : ℕ) (pre : List Event) (parts : List Part) → 0 < k → added_at n log ≡ pre ++ back_at n (edits_from (n + k) parts) → ((i : ℕ) → n < i → added_at i log ≡ back_at i (edits_from (n + k) parts)) → ((i : ℕ) → n ≤ i → removed_at i log ≡ removed_at i (edits_from (n + k) parts)) → ((p : ℕ) → p < n → p + removed_at p log ≤ n) → start log n + length pre ≡ m → Block log n m k pre parts
+block : (log : List Edit) (n m k : ℕ) (pre : List Event) (parts : List Part) → 0 < k →
+    added_at n log ≡ pre ++ back_at n (edits_from (n + k) parts) →
+    ((i : ℕ) → n < i → added_at i log ≡ back_at i (edits_from (n + k) parts)) →
+    ((i : ℕ) → n ≤ i → removed_at i log ≡ removed_at i (edits_from (n + k) parts)) →
+    ((p : ℕ) → p < n → p + removed_at p log ≤ n) → start log n + length pre ≡ m → Block log n m k pre parts
 block log n m k pre parts l here later cuts short counted =
     let first : added_at n log ≡ pre = here ∙ ap (λ x. pre ++ x) (back-below (n + k) n parts (omega arith)) ∙ append-nil pre in
     let none : (j : ℕ) → n < j → j < n + k → added_at j log ≡ [] = λ j h g. later j h ∙ back-below (n + k) j parts g in
@@ -226,18 +249,25 @@ block log n m k pre parts l here later cuts short counted =
       };
     }
 
-row-block : (log : List Edit) (n m : ℕ) (pre : List Event) (t : Forest) (parts : List Part) → 0 < event_count t → Rest log n m pre (stays t ∷ parts) → Block log n m (event_count t) pre parts
+row-block : (log : List Edit) (n m : ℕ) (pre : List Event) (t : Forest) (parts : List Part) → 0 < event_count t →
+    Rest log n m pre (stays t ∷ parts) → Block log n m (event_count t) pre parts
 row-block log n m pre t parts l r = block log n m (event_count t) pre parts l r.here r.later r.cuts r.short r.number
 
-one-block : (log : List Edit) (n m : ℕ) (pre : List Event) (kind : Kind) (name : Name) (p : Point) (parts : List Part) → Rest log n m pre (keeps kind name p ∷ parts) → Block log n m 1 pre parts
-one-block log n m pre kind name p parts r = block log n m 1 pre parts (omega arith) r.here r.later r.cuts r.short r.number
+one-block : (log : List Edit) (n m : ℕ) (pre : List Event) (kind : Kind) (name : Name) (p : Point) (parts : List Part) →
+    Rest log n m pre (keeps kind name p ∷ parts) → Block log n m 1 pre parts
+one-block log n m pre kind name p parts r =
+    block log n m 1 pre parts (omega arith) r.here r.later r.cuts r.short r.number
 
-start-gone : (log : List Edit) (i : ℕ) → is_removed log i ≡ true → start log (suc i) ≡ start log i + length (added_at i log)
+start-gone : (log : List Edit) (i : ℕ) → is_removed log i ≡ true →
+    start log (suc i) ≡ start log i + length (added_at i log)
 start-gone log i h = ap (λ b. start log i + length (added_at i log) + cond b 0 1) h ∙ omega arith
 
 -- the numbers of a stretch that goes
-start-goes : (log : List Edit) (n k j : ℕ) → ((j : ℕ) → n < j → j < n + k → added_at j log ≡ []) → ((j : ℕ) → n ≤ j → j < n + k → is_removed log j ≡ true) → j < k → start log (n + suc j) ≡ start log n + length (added_at n log)
-start-goes log n k zero a b l = let e : n + 1 ≡ suc n = omega arith in ap (start log) e ∙ start-gone log n (b n (omega arith) (omega arith))
+start-goes : (log : List Edit) (n k j : ℕ) → ((j : ℕ) → n < j → j < n + k → added_at j log ≡ []) →
+    ((j : ℕ) → n ≤ j → j < n + k → is_removed log j ≡ true) → j < k →
+    start log (n + suc j) ≡ start log n + length (added_at n log)
+start-goes log n k zero a b l =
+    let e : n + 1 ≡ suc n = omega arith in ap (start log) e ∙ start-gone log n (b n (omega arith) (omega arith))
 start-goes log n k (suc j) a b l =
     let e : n + suc (suc j) ≡ suc (n + suc j) = omega arith in
     ap (start log) e
@@ -250,7 +280,8 @@ record Gone (log : List Edit) (n m k : ℕ) (pre : List Event) (parts : List Par
   goes : (j : ℕ) → n ≤ j → j < n + k → is_removed log j ≡ true
   after : After log (n + k) m parts
 
-gone-block : (log : List Edit) (n m : ℕ) (pre : List Event) (e : Event) (es : List Event) (parts : List Part) → Rest log n m pre (goes e es ∷ parts) → Gone log n m (suc (length es)) pre parts
+gone-block : (log : List Edit) (n m : ℕ) (pre : List Event) (e : Event) (es : List Event) (parts : List Part) →
+    Rest log n m pre (goes e es ∷ parts) → Gone log n m (suc (length es)) pre parts
 gone-block log n m pre e es parts r =
     let k : ℕ = suc (length es) in
     let later : List Edit = edits_from (n + k) parts in
@@ -275,7 +306,9 @@ gone-block log n m pre e es parts r =
       };
     }
   where
-    within : (p : ℕ) → n ≤ p → p < n + suc (length es) → removed_at n log ≡ suc (length es) → ((j : ℕ) → n < j → removed_at j log ≡ removed_at j (edits_from (n + suc (length es)) parts)) → p + removed_at p log ≤ n + suc (length es)
+    within : (p : ℕ) → n ≤ p → p < n + suc (length es) → removed_at n log ≡ suc (length es) →
+        ((j : ℕ) → n < j → removed_at j log ≡ removed_at j (edits_from (n + suc (length es)) parts)) →
+        p + removed_at p log ≤ n + suc (length es)
     within p l h cut other = elim (leb_tells p n) [
       | inl t ↦ let q : p ≡ n = omega (arith, t.1) in omega (arith, ap (λ i. removed_at i log) q, cut)
       | inr f ↦ omega (arith, other p f.1, removed-below (n + suc (length es)) p parts h)
@@ -284,9 +317,11 @@ gone-block log n m pre e es parts r =
 -- The whole.
 
 Leaves : List Edit → List Part → Type 0
-Leaves log parts = (n m : ℕ) (pre : List Event) → Rest log n m pre parts → edited_from log n (before_from n parts) ≡ pre ++ after_from m parts
+Leaves log parts =
+    (n m : ℕ) (pre : List Event) → Rest log n m pre parts → edited_from log n (before_from n parts) ≡ pre ++ after_from m parts
 
-rest-nothing : (log : List Edit) (n m : ℕ) (pre : List Event) (parts : List Part) → Rest log n m pre (stays empty ∷ parts) → Rest log n m pre parts
+rest-nothing : (log : List Edit) (n m : ℕ) (pre : List Event) (parts : List Part) →
+    Rest log n m pre (stays empty ∷ parts) → Rest log n m pre parts
 rest-nothing log n m pre parts r =
     let e : n + 0 ≡ n = omega arith in
     record {
@@ -297,7 +332,8 @@ rest-nothing log n m pre parts r =
       number = r.number;
     }
 
-leaves-nothing : (log : List Edit) (t : Forest) (parts : List Part) → event_count t ≡ 0 → Leaves log parts → Leaves log (stays t ∷ parts)
+leaves-nothing : (log : List Edit) (t : Forest) (parts : List Part) → event_count t ≡ 0 → Leaves log parts →
+    Leaves log (stays t ∷ parts)
 unfolding Leaves
 leaves-nothing log empty parts z law n m pre r =
     let e : n + 0 ≡ n = omega arith in
@@ -306,7 +342,8 @@ leaves-nothing log empty parts z law n m pre r =
 leaves-nothing log (leaf_then name link cs rest) parts z law n m pre r = absurd (omega (arith, z))
 leaves-nothing log (group_then name a b inside rest) parts z law n m pre r = absurd (omega (arith, z))
 
-leaves-row : (log : List Edit) (t : Forest) (parts : List Part) → 0 < event_count t → Leaves log parts → Leaves log (stays t ∷ parts)
+leaves-row : (log : List Edit) (t : Forest) (parts : List Part) → 0 < event_count t → Leaves log parts →
+    Leaves log (stays t ∷ parts)
 unfolding Leaves
 leaves-row log t parts l law n m pre r =
     let b = row-block log n m pre t parts l r in
@@ -340,10 +377,12 @@ leaves log (keeps kind name p ∷ parts) n m pre r =
     ∙ ap (λ xs. pre ++ (event kind name p ∷ xs)) (leaves log parts (n + 1) (m + 1) [] (rest-after log (n + 1) (m + 1) parts b.after))
 
 rest-whole : (log : List Edit) (parts : List Part) → Does log parts → Rest log 0 0 [] parts
-rest-whole log parts d = record { here = d.added 0; later = λ i l. d.added i; cuts = λ i l. d.removed i; short = λ p l. absurd (omega (arith, l)); number = refl }
+rest-whole log parts d =
+    record { here = d.added 0; later = λ i l. d.added i; cuts = λ i l. d.removed i; short = λ p l. absurd (omega (arith, l)); number = refl }
 
 -- edits that do what the parts say leave their events
-pub parts-edited : (log : List Edit) (parts : List Part) → Does log parts → edited log (before_from 0 parts) ≡ after_from 0 parts
+pub parts-edited : (log : List Edit) (parts : List Part) → Does log parts →
+    edited log (before_from 0 parts) ≡ after_from 0 parts
 unfolding Leaves
 parts-edited log parts d = leaves log parts 0 0 [] (rest-whole log parts d)
 
@@ -359,9 +398,11 @@ linked-none [] ys i l u = absurd (omega (arith, l))
 linked-none (x ∷ xs) ys zero l u = ap has_link u.0
 linked-none (x ∷ xs) ys (suc i) l u = linked-none xs ys i (omega (arith, l)) u.1
 
-goes-unlinked : (log : List Edit) (parts : List Part) (n m : ℕ) (pre : List Event) → Rest log n m pre parts → GoUnlinked parts → (i j : ℕ) → i ≡ n + j → is_removed log i ≡ true → linked_at (before_from n parts) j ≡ false
+goes-unlinked : (log : List Edit) (parts : List Part) (n m : ℕ) (pre : List Event) → Rest log n m pre parts →
+    GoUnlinked parts → (i j : ℕ) → i ≡ n + j → is_removed log i ≡ true → linked_at (before_from n parts) j ≡ false
 goes-unlinked log [] n m pre r u i j e h = refl
-goes-unlinked log (comes es ∷ parts) n m pre r u i j e h = goes-unlinked log parts n (m + length es) (pre ++ es) (rest-comes log n m pre es parts r) u i j e h
+goes-unlinked log (comes es ∷ parts) n m pre r u i j e h =
+    goes-unlinked log parts n (m + length es) (pre ++ es) (rest-comes log n m pre es parts r) u i j e h
 goes-unlinked log (goes x es ∷ parts) n m pre r u i j e h =
     let g = gone-block log n m pre x es parts r in
     let k : ℕ = suc (length es) in
@@ -393,10 +434,15 @@ goes-unlinked log (stays t ∷ parts) n m pre r u i j e h = elim (eqb_tells (eve
       ]
 ]
   where
-    none : (t : Forest) → event_count t ≡ 0 → Rest log n m pre (stays t ∷ parts) → (Rest log n m pre parts → linked_at (before_from n parts) j ≡ false) → linked_at (before_from n (stays t ∷ parts)) j ≡ false
-    none empty z r more = let e0 : n + 0 ≡ n = omega arith in ap (λ k. linked_at (before_from k parts) j) e0 ∙ more (rest-nothing log n m pre parts r)
+    none : (t : Forest) → event_count t ≡ 0 → Rest log n m pre (stays t ∷ parts) →
+        (Rest log n m pre parts → linked_at (before_from n parts) j ≡ false) →
+        linked_at (before_from n (stays t ∷ parts)) j ≡ false
+    none empty z r more =
+        let e0 : n + 0 ≡ n = omega arith in ap (λ k. linked_at (before_from k parts) j) e0 ∙ more (rest-nothing log n m pre parts r)
     none (leaf_then name link cs rest) z r more = absurd (omega (arith, z))
     none (group_then name a b inside rest) z r more = absurd (omega (arith, z))
 
-pub parts-may : (log : List Edit) (parts : List Part) → Does log parts → All (λ e. e.at ≤ length (before_from 0 parts)) log → GoUnlinked parts → CanEdit log (before_from 0 parts)
-parts-may log parts d places u = record { places = places; unlinked = λ j h. goes-unlinked log parts 0 0 [] (rest-whole log parts d) u j j (omega arith) h }
+pub parts-may : (log : List Edit) (parts : List Part) → Does log parts →
+    All (λ e. e.at ≤ length (before_from 0 parts)) log → GoUnlinked parts → CanEdit log (before_from 0 parts)
+parts-may log parts d places u =
+    record { places = places; unlinked = λ j h. goes-unlinked log parts 0 0 [] (rest-whole log parts d) u j j (omega arith) h }

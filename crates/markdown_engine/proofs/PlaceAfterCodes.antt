@@ -14,7 +14,8 @@ ahead-moved_by [] rest p e = e
 ahead-moved_by (c ∷ cs) rest p e = ahead-moved_by cs rest (moved p) (ahead-moved p ∙ ap rest_of e)
 
 -- past some codes an event ends where the last of them ends
-pub stop-moved : (q : Point) (c : Code) (cs rest : List Code) (p : Place) → ahead_at p ≡ (c ∷ cs) ++ rest → exit_point (moved_by (c ∷ cs) p) ≡ stop_of q (c ∷ cs)
+pub stop-moved : (q : Point) (c : Code) (cs rest : List Code) (p : Place) → ahead_at p ≡ (c ∷ cs) ++ rest →
+    exit_point (moved_by (c ∷ cs) p) ≡ stop_of q (c ∷ cs)
 stop-moved q c [] rest p e = exit_moved p c rest e
 stop-moved q c (d ∷ cs) rest p e = stop-moved c.stop d cs rest (moved p) (ahead-moved p ∙ ap rest_of e)
 

@@ -25,7 +25,9 @@ document_few bytes =
 
 -- The codes of a content.
 
-few-between : (bytes : List ℕ) (p q : Point) (cs : List Code) → codes_to bytes p q ≡ cs → IsPoint bytes p → IsPoint bytes q → is_before (place_of q) (place_of p) ≡ false → length cs + (4 * p.index + p.vs) ≤ 4 * q.index + q.vs
+few-between : (bytes : List ℕ) (p q : Point) (cs : List Code) → codes_to bytes p q ≡ cs → IsPoint bytes p →
+    IsPoint bytes q → is_before (place_of q) (place_of p) ≡ false →
+    length cs + (4 * p.index + p.vs) ≤ 4 * q.index + q.vs
 few-between bytes p q [] e h k l =
     elim (to-cases bytes p q h k l) [
       | inl f ↦ absurd (cons≢nil (code_here bytes p) (codes_to bytes (stop_at bytes p) q) (sym f.codes ∙ e))
@@ -40,11 +42,14 @@ few-between bytes p q (c ∷ cs) e h k l =
       | inr a ↦ absurd (cons≢nil c cs (sym e ∙ a.none))
     ]
 
-few-as : (n m : ℕ) (a b c d : ℕ × ℕ) → n + (4 * a.0 + a.1) ≤ 4 * b.0 + b.1 → m ≡ n → a ≡ c → b ≡ d → m + (4 * c.0 + c.1) ≤ 4 * d.0 + d.1
+few-as : (n m : ℕ) (a b c d : ℕ × ℕ) → n + (4 * a.0 + a.1) ≤ 4 * b.0 + b.1 → m ≡ n → a ≡ c → b ≡ d →
+    m + (4 * c.0 + c.1) ≤ 4 * d.0 + d.1
 few-as n m a b c d h e f g =
     subst (λ (x : ℕ). x + (4 * c.0 + c.1) ≤ 4 * d.0 + d.1) (sym e) (subst (λ (x : ℕ × ℕ). n + (4 * c.0 + c.1) ≤ 4 * x.0 + x.1) g (subst (λ (x : ℕ × ℕ). n + (4 * x.0 + x.1) ≤ 4 * b.0 + b.1) f h))
 
-few-piece : (bytes : List ℕ) (piece : Piece) → IsThere bytes piece.start → IsThere bytes piece.end → is_before piece.end piece.start ≡ false → length (piece_codes (codes_of bytes) piece) + (4 * piece.start.0 + piece.start.1) ≤ 4 * piece.end.0 + piece.end.1
+few-piece : (bytes : List ℕ) (piece : Piece) → IsThere bytes piece.start → IsThere bytes piece.end →
+    is_before piece.end piece.start ≡ false →
+    length (piece_codes (codes_of bytes) piece) + (4 * piece.start.0 + piece.start.1) ≤ 4 * piece.end.0 + piece.end.1
 few-piece bytes piece s t h =
     let p : Point = point_at bytes piece.start in
     let q : Point = point_at bytes piece.end in
@@ -59,7 +64,8 @@ end-few bytes at t =
     let few : 0 + 4 * p.index + p.vs ≤ 4 * length bytes = few-end bytes p (stands-point bytes p t.point) in
     subst (λ (x : ℕ × ℕ). 4 * x.0 + x.1 ≤ 4 * length bytes) t.place (omega arith)
 
-few-row : (bytes : List ℕ) (piece : Piece) (more : List Piece) → are_pieces bytes (piece ∷ more) ≡ true → length (content_of bytes (piece ∷ more)) + (4 * piece.start.0 + piece.start.1) ≤ 4 * length bytes
+few-row : (bytes : List ℕ) (piece : Piece) (more : List Piece) → are_pieces bytes (piece ∷ more) ≡ true →
+    length (content_of bytes (piece ∷ more)) + (4 * piece.start.0 + piece.start.1) ≤ 4 * length bytes
 few-row bytes piece [] h =
     let row : IsPieceRow bytes piece [] = piece_row bytes piece [] h in
     let t : IsThere bytes piece.end = there bytes piece.end row.end in
@@ -77,17 +83,20 @@ few-row bytes piece (next ∷ more) h =
     omega arith
 
 -- a content has at most four codes a byte of its document
-pub content_few : (bytes : List ℕ) (pieces : List Piece) → IsContent bytes pieces → length (content_of bytes pieces) ≤ 4 * length bytes
+pub content_few : (bytes : List ℕ) (pieces : List Piece) → IsContent bytes pieces →
+    length (content_of bytes pieces) ≤ 4 * length bytes
 content_few bytes [] h = omega arith
 content_few bytes (piece ∷ more) h =
     let few : length (content_of bytes (piece ∷ more)) + (4 * piece.start.0 + piece.start.1) ≤ 4 * length bytes = few-row bytes piece more h.in_order in
     omega arith
 
 -- so their number fits a `usize`
-pub content_fits : (bytes : List ℕ) (pieces : List Piece) → IsContent bytes pieces → length (content_of bytes pieces) < 2 ^ 63
+pub content_fits : (bytes : List ℕ) (pieces : List Piece) → IsContent bytes pieces →
+    length (content_of bytes pieces) < 2 ^ 63
 content_fits bytes pieces h = omega (arith, content_few bytes pieces h, h.fits)
 
 -- and so does the number of those that a run begins with
-pub codes-fit : (bytes : List ℕ) (pieces : List Piece) → IsContent bytes pieces → left_at (start_of_content bytes pieces) < 2 ^ 64
+pub codes-fit : (bytes : List ℕ) (pieces : List Piece) → IsContent bytes pieces →
+    left_at (start_of_content bytes pieces) < 2 ^ 64
 unfolding left_at start_of_content
 codes-fit bytes pieces h = omega (arith, content_fits bytes pieces h)

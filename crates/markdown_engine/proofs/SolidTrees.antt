@@ -13,7 +13,8 @@ IsSolid-leaf n (c ∷ cs) = (refl, (λ e. cc, tt))
 pub IsSolid-row : (t u : Forest) → IsSolid t → IsSolid u → IsSolid (t ⊕ u)
 IsSolid-row empty u s r = r
 IsSolid-row (leaf_then n link cs more) u s r = (s.0, (s.1.0, IsSolid-row more u s.1.1 r))
-IsSolid-row (group_then n a b inside more) u s r = (s.0, (s.1.0, (s.1.1.0, (s.1.1.1.0, IsSolid-row more u s.1.1.1.1 r))))
+IsSolid-row (group_then n a b inside more) u s r =
+    (s.0, (s.1.0, (s.1.1.0, (s.1.1.1.0, IsSolid-row more u s.1.1.1.1 r))))
 
 pub stop_of-append : (p : Point) (xs ys : List Code) → stop_of p (xs ++ ys) ≡ stop_of (stop_of p xs) ys
 stop_of-append p [] ys = refl
@@ -35,7 +36,8 @@ solid-enter (group_then n a b inside more) s = s.1.0 ∙ sym (start-append (leaf
 
 solid-exit : (p : Point) (t : Forest) → IsSolid t → exit_after p t ≡ stop_of p (leaf_codes t)
 solid-exit p empty s = refl
-solid-exit p (leaf_then n link cs more) s = solid-exit (stop_of p cs) more s.1.1 ∙ sym (stop_of-append p cs (leaf_codes more))
+solid-exit p (leaf_then n link cs more) s =
+    solid-exit (stop_of p cs) more s.1.1 ∙ sym (stop_of-append p cs (leaf_codes more))
 solid-exit p (group_then n a b inside more) s =
     solid-exit b more s.1.1.1.1
     ∙ ap (λ q. stop_of q (leaf_codes more)) (s.1.1.0 ∙ stop_of-some document_start p (leaf_codes inside) s.0)

@@ -36,7 +36,8 @@ step-two : (k m : ℕ) → suc (suc k) + m ≡ k + (2 + m)
 step-two k m = omega arith
 
 -- none of a tree's events names an earlier one, but its first linked siblings the one before
-follower-other : (p k m : ℕ) (previous : Option ℕ) (t : Forest) (es : List Event) → p < m → is_number p previous ≡ false → follower p k (appended_from m previous t ++ es) ≡ follower p (k + event_count t) es
+follower-other : (p k m : ℕ) (previous : Option ℕ) (t : Forest) (es : List Event) → p < m →
+    is_number p previous ≡ false → follower p k (appended_from m previous t ++ es) ≡ follower p (k + event_count t) es
 follower-other p k m previous empty es h e = ap (λ j. follower p j es) (omega arith)
 follower-other p k m previous (leaf_then name None cs rest) es h e =
     follower-other p (suc (suc k)) (m + 2) previous rest es (omega arith) e ∙ ap (λ j. follower p j es) (step-two k (event_count rest))
@@ -49,7 +50,8 @@ follower-other p k m previous (group_then name a b inside rest) es h e =
     ∙ follower-other p (suc (suc k + event_count inside)) (m + 2 + event_count inside) previous rest es (omega arith) e
     ∙ ap (λ j. follower p j es) (omega arith)
 
-follower-next : (p k m : ℕ) (t : Forest) (es : List Event) → p < m → follower p k (appended_from m (Some p) t ++ es) ≡ or_else (next_linked k t) (follower p (k + event_count t) es)
+follower-next : (p k m : ℕ) (t : Forest) (es : List Event) → p < m →
+    follower p k (appended_from m (Some p) t ++ es) ≡ or_else (next_linked k t) (follower p (k + event_count t) es)
 follower-next p k m empty es h = ap (λ j. follower p j es) (omega arith)
 follower-next p k m (leaf_then name None cs rest) es h =
     follower-next p (suc (suc k)) (m + 2) rest es (omega arith)
@@ -69,7 +71,9 @@ before-more n k None b = tt
 before-more n k (Some q) b = omega arith
 
 -- what a tree appends, seen with the links on, where no later event is linked back to one of it
-pub chained-tree : (n : ℕ) (previous : Option ℕ) (t : Forest) (es : List Event) → IsBefore n previous → ((p : ℕ) → n ≤ p → p < n + event_count t → NoneNames p es) → chained_from n (appended_from n previous t ++ es) ≡ events_from n previous t ++ chained_from (n + event_count t) es
+pub chained-tree : (n : ℕ) (previous : Option ℕ) (t : Forest) (es : List Event) → IsBefore n previous →
+    ((p : ℕ) → n ≤ p → p < n + event_count t → NoneNames p es) →
+    chained_from n (appended_from n previous t ++ es) ≡ events_from n previous t ++ chained_from (n + event_count t) es
 chained-tree n previous empty es b h = ap (λ k. chained_from k es) (omega arith)
 chained-tree n previous (leaf_then name None cs rest) es b h =
     ap (λ xs. event Kind.Enter name (start_of cs) ∷ event Kind.Exit name (stop_of document_start cs) ∷ xs)

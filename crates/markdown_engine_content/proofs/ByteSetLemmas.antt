@@ -12,13 +12,16 @@ same-is true false h = absurd (both_ways false refl h)
 same-is false true h = absurd (both_ways false refl h)
 same-is false false h = refl
 
-says-from : (set : List ℕ) (table : List Bool) (i k : ℕ) → is_plain_from i set table ≡ true → i + k < 256 → get_or table k false ≡ is_plain set (i + k)
+says-from : (set : List ℕ) (table : List Bool) (i k : ℕ) → is_plain_from i set table ≡ true → i + k < 256 →
+    get_or table k false ≡ is_plain set (i + k)
 says-from set [] i k h lt = absurd (omega (arith, eqb-true i 256 h, lt))
 says-from set (b ∷ bs) i zero h lt = same-is b (is_plain set i) (and_parts _ _ h).0 ∙ ap (is_plain set) (omega arith)
-says-from set (b ∷ bs) i (suc k) h lt = says-from set bs (suc i) k (and_parts _ _ h).1 (omega (arith, lt)) ∙ ap (is_plain set) (omega arith)
+says-from set (b ∷ bs) i (suc k) h lt =
+    says-from set bs (suc i) k (and_parts _ _ h).1 (omega (arith, lt)) ∙ ap (is_plain set) (omega arith)
 
 -- of each byte
-pub table-says : (set : List ℕ) (table : List Bool) (b : ℕ) → is_plain_table set table ≡ true → b < 256 → get_or table b false ≡ is_plain set b
+pub table-says : (set : List ℕ) (table : List Bool) (b : ℕ) → is_plain_table set table ≡ true → b < 256 →
+    get_or table b false ≡ is_plain set b
 table-says set table b h lt = says-from set table 0 b h (omega (arith, lt)) ∙ ap (is_plain set) (omega arith)
 
 pub plain-above : (set : List ℕ) (b : ℕ) → 13 < b → is_plain set b ≡ not (list_any (λ n. b == n) set)
@@ -29,7 +32,8 @@ not-not true = refl
 not-not false = refl
 
 -- above 13 the table tells what the set holds
-pub contained-above : (set : List ℕ) (table : List Bool) (b : ℕ) → is_plain_table set table ≡ true → b < 256 → 13 < b → not (get_or table b false) ≡ list_any (λ n. b == n) set
+pub contained-above : (set : List ℕ) (table : List Bool) (b : ℕ) → is_plain_table set table ≡ true → b < 256 → 13 < b →
+    not (get_or table b false) ≡ list_any (λ n. b == n) set
 contained-above set table b h lt above =
     ap not (table-says set table b h lt ∙ plain-above set b above) ∙ not-not (list_any (λ n. b == n) set)
 
@@ -59,14 +63,17 @@ abbrev pub ArePlainUnder : List ℕ → List ℕ → ℕ → ℕ → Type 0
 ArePlainUnder set bytes at signs = (i : ℕ) → i < 16 → bit_at signs i ≡ 0 → is_plain set (get_or bytes (at + i) 0) ≡ true
 
 -- where no bit is set before one
-pub plain-under : (set bytes : List ℕ) (at signs n : ℕ) → ArePlainUnder set bytes at signs → n ≤ 16 → ((i : ℕ) → i < n → bit_at signs i ≡ 0) → ArePlain set bytes at (at + n)
+pub plain-under : (set bytes : List ℕ) (at signs n : ℕ) → ArePlainUnder set bytes at signs → n ≤ 16 →
+    ((i : ℕ) → i < n → bit_at signs i ≡ 0) → ArePlain set bytes at (at + n)
 plain-under set bytes at signs n plain le clear i low high =
     let here : at + (i - at) ≡ i = omega (arith, low) in
     let lt : i - at < n = omega (arith, low, high) in
     ap (λ (j : ℕ). is_plain set (get_or bytes j 0)) (sym here) ∙ plain (i - at) (omega (arith, lt, le)) (clear (i - at) lt)
 
 -- without the bit of an ordinary byte
-pub plain-without : (set bytes : List ℕ) (at signs left k : ℕ) → ArePlainUnder set bytes at signs → ((i : ℕ) → i < 16 → i ≢ k → bit_at left i ≡ bit_at signs i) → is_plain set (get_or bytes (at + k) 0) ≡ true → ArePlainUnder set bytes at left
+pub plain-without : (set bytes : List ℕ) (at signs left k : ℕ) → ArePlainUnder set bytes at signs →
+    ((i : ℕ) → i < 16 → i ≢ k → bit_at left i ≡ bit_at signs i) → is_plain set (get_or bytes (at + k) 0) ≡ true →
+    ArePlainUnder set bytes at left
 plain-without set bytes at signs left k plain others here i lt clear =
     elim (cases_Bool (i == k)) [
       | inl e ↦ ap (λ (j : ℕ). is_plain set (get_or bytes (at + j) 0)) (eqb-true i k e) ∙ here

@@ -30,7 +30,8 @@ pub record IsPastByte (p q : Point) : Type 0 where
 ending-not_nine : (b : ℕ) → b ≡ tab_value → is_line_ending_byte b ≡ true → ⊥
 ending-not_nine b e h = grind (arith, nat_tests)
 
-shape-ending : (bytes : List ℕ) (p : Point) → Stands bytes p → is_line_ending_byte (get_or bytes p.index 0) ≡ true → IsPastByte p (stop_at bytes p)
+shape-ending : (bytes : List ℕ) (p : Point) → Stands bytes p → is_line_ending_byte (get_or bytes p.index 0) ≡ true →
+    IsPastByte p (stop_at bytes p)
 shape-ending bytes p s h =
     let n : ℕ = line_ending_len (get_or bytes p.index 0) (drop (p.index + 1) bytes) in
     let one : 1 ≤ n = (len-bounds (get_or bytes p.index 0) (drop (p.index + 1) bytes)).0 in
@@ -41,14 +42,16 @@ shape-ending bytes p s h =
 last-column : (t : Bool) (n : ℕ) → t ≡ true → (t && nat_lt 0 n) ≡ false → n ≡ 0
 last-column t n h k = grind (arith, nat_tests)
 
-shape-plain : (bytes : List ℕ) (p : Point) → Stands bytes p → is_line_ending_byte (get_or bytes p.index 0) ≡ false → (get_or bytes p.index 0 == tab_value && nat_lt 0 (tab_left p)) ≡ false → IsPastByte p (stop_at bytes p)
+shape-plain : (bytes : List ℕ) (p : Point) → Stands bytes p → is_line_ending_byte (get_or bytes p.index 0) ≡ false →
+    (get_or bytes p.index 0 == tab_value && nat_lt 0 (tab_left p)) ≡ false → IsPastByte p (stop_at bytes p)
 shape-plain bytes p s h k =
     let q : Point = next_column p (p.index + 1) 0 in
     let same : q ≡ stop_at bytes p = rw (h, k) refl in
     let past : IsPastByte p q = record { index = omega arith; vs = refl; last = λ l. last-column (get_or bytes p.index 0 == tab_value) (tab_left p) (eq-eqb (get_or bytes p.index 0) tab_value (s.in_tab l).1) k } in
     subst (λ (x : Point). IsPastByte p x) same past
 
-shape-tab : (bytes : List ℕ) (p : Point) → is_line_ending_byte (get_or bytes p.index 0) ≡ false → (get_or bytes p.index 0 == tab_value && nat_lt 0 (tab_left p)) ≡ true → IsInTab p (stop_at bytes p)
+shape-tab : (bytes : List ℕ) (p : Point) → is_line_ending_byte (get_or bytes p.index 0) ≡ false →
+    (get_or bytes p.index 0 == tab_value && nat_lt 0 (tab_left p)) ≡ true → IsInTab p (stop_at bytes p)
 shape-tab bytes p h k =
     let both : (get_or bytes p.index 0 == tab_value ≡ true) × (nat_lt 0 (tab_left p) ≡ true) = and_parts (get_or bytes p.index 0 == tab_value) (nat_lt 0 (tab_left p)) k in
     let q : Point = next_column p p.index (p.vs + 1) in
@@ -82,7 +85,8 @@ pub record IsArrived (bytes : List ℕ) (p q : Point) : Type 0 where
   pub index : p.index ≡ q.index
   pub vs : p.vs ≡ q.vs
 
-pub first-to : (bytes : List ℕ) (p q : Point) → IsPoint bytes p → IsPoint bytes q → is_before (place_of p) (place_of q) ≡ true → IsFirstTo bytes p q
+pub first-to : (bytes : List ℕ) (p q : Point) → IsPoint bytes p → IsPoint bytes q →
+    is_before (place_of p) (place_of q) ≡ true → IsFirstTo bytes p q
 first-to bytes p q h k before =
     let t : IsToward bytes p (place_of q) = toward bytes p (place_of q) h (there-point bytes q k) before in
     record {
@@ -92,12 +96,14 @@ first-to bytes p q h k before =
       counts = t.next.counts;
     }
 
-arrived : (bytes : List ℕ) (p q : Point) → IsPoint bytes p → is_before (place_of q) (place_of p) ≡ false → is_before (place_of p) (place_of q) ≡ false → IsArrived bytes p q
+arrived : (bytes : List ℕ) (p q : Point) → IsPoint bytes p → is_before (place_of q) (place_of p) ≡ false →
+    is_before (place_of p) (place_of q) ≡ false → IsArrived bytes p q
 arrived bytes p q h k l =
     let same : (p.index ≡ q.index) × (p.vs ≡ q.vs) = same_place (place_of p) (place_of q) l k in
     record { none = none-before bytes p (place_of q) h l; index = same.0; vs = same.1 }
 
-pub to-cases : (bytes : List ℕ) (p q : Point) → IsPoint bytes p → IsPoint bytes q → is_before (place_of q) (place_of p) ≡ false → IsFirstTo bytes p q ⊎ IsArrived bytes p q
+pub to-cases : (bytes : List ℕ) (p q : Point) → IsPoint bytes p → IsPoint bytes q →
+    is_before (place_of q) (place_of p) ≡ false → IsFirstTo bytes p q ⊎ IsArrived bytes p q
 to-cases bytes p q h k l =
     elim (cases_Bool (is_before (place_of p) (place_of q))) [
       | inl e ↦ inl (first-to bytes p q h k e)
@@ -106,12 +112,15 @@ to-cases bytes p q h k l =
 
 -- Virtual spaces among them.
 
-count-yes : (i : ℕ) (c : Code) (cs : List Code) → is_virtual_space i c ≡ true → virtual_spaces i (c ∷ cs) ≡ 1 + virtual_spaces i cs
+count-yes : (i : ℕ) (c : Code) (cs : List Code) → is_virtual_space i c ≡ true →
+    virtual_spaces i (c ∷ cs) ≡ 1 + virtual_spaces i cs
 count-yes i c cs h =
     sum_by-cons (λ (x : Code). cond (is_virtual_space i x) 1 0) c cs ∙ ap (λ (t : Bool). cond t 1 0 + virtual_spaces i cs) h
 
-count-no : (i : ℕ) (c : Code) (cs : List Code) → is_virtual_space i c ≡ false → virtual_spaces i (c ∷ cs) ≡ virtual_spaces i cs
-count-no i c cs h = let e : virtual_spaces i (c ∷ cs) ≡ 0 + virtual_spaces i cs = sum_by-cons (λ (x : Code). cond (is_virtual_space i x) 1 0) c cs ∙ ap (λ (t : Bool). cond t 1 0 + virtual_spaces i cs) h in omega arith
+count-no : (i : ℕ) (c : Code) (cs : List Code) → is_virtual_space i c ≡ false →
+    virtual_spaces i (c ∷ cs) ≡ virtual_spaces i cs
+count-no i c cs h =
+    let e : virtual_spaces i (c ∷ cs) ≡ 0 + virtual_spaces i cs = sum_by-cons (λ (x : Code). cond (is_virtual_space i x) 1 0) c cs ∙ ap (λ (t : Bool). cond t 1 0 + virtual_spaces i cs) h in omega arith
 
 is-space : (i index vs : ℕ) → index ≡ i → 0 < vs → (index == i && nat_lt 0 vs) ≡ true
 is-space i index vs e h = grind (arith, nat_tests)
@@ -123,7 +132,8 @@ later-index : (a b c d : ℕ) → is_before (c, d) (a, b) ≡ false → a ≤ c
 later-index a b c d h = grind (arith, nat_tests)
 
 -- none of an earlier tab
-none-earlier : (bytes : List ℕ) (i : ℕ) (p q : Point) (cs : List Code) → codes_to bytes p q ≡ cs → IsPoint bytes p → IsPoint bytes q → is_before (place_of q) (place_of p) ≡ false → i < p.index → virtual_spaces i cs ≡ 0
+none-earlier : (bytes : List ℕ) (i : ℕ) (p q : Point) (cs : List Code) → codes_to bytes p q ≡ cs → IsPoint bytes p →
+    IsPoint bytes q → is_before (place_of q) (place_of p) ≡ false → i < p.index → virtual_spaces i cs ≡ 0
 none-earlier bytes i p q [] e h k l lt = refl
 none-earlier bytes i p q (c ∷ cs) e h k l lt =
     elim (to-cases bytes p q h k l) [
@@ -143,11 +153,14 @@ no-count i v w h = omega arith
 add-count : (n m v w z : ℕ) → n ≡ 1 + m → w ≡ v + 1 → m + w ≡ z → n + v ≡ z
 add-count n m v w z e f g = omega arith
 
-left-column : (c d : ℕ) → 1 ≤ c → d ≡ c + 1 → 0 < 4 - (c - 1) % 4 - 1 → 1 + (4 - (d - 1) % 4 - 1 + 1) ≡ 4 - (c - 1) % 4 - 1 + 1
+left-column : (c d : ℕ) → 1 ≤ c → d ≡ c + 1 → 0 < 4 - (c - 1) % 4 - 1 →
+    1 + (4 - (d - 1) % 4 - 1 + 1) ≡ 4 - (c - 1) % 4 - 1 + 1
 left-column c d one e h = omega arith
 
 -- between two places inside one tab, all codes are
-pub spaces-inside : (bytes : List ℕ) (p q : Point) (cs : List Code) → codes_to bytes p q ≡ cs → IsPoint bytes p → IsPoint bytes q → is_before (place_of q) (place_of p) ≡ false → p.index ≡ q.index → 0 < p.vs → virtual_spaces q.index cs + p.vs ≡ q.vs
+pub spaces-inside : (bytes : List ℕ) (p q : Point) (cs : List Code) → codes_to bytes p q ≡ cs → IsPoint bytes p →
+    IsPoint bytes q → is_before (place_of q) (place_of p) ≡ false → p.index ≡ q.index → 0 < p.vs →
+    virtual_spaces q.index cs + p.vs ≡ q.vs
 spaces-inside bytes p q [] e h k l same in_tab =
     elim (to-cases bytes p q h k l) [
       | inl f ↦ absurd (cons≢nil (code_here bytes p) (codes_to bytes (stop_at bytes p) q) (sym f.codes ∙ e))
@@ -169,7 +182,9 @@ spaces-inside bytes p q (c ∷ cs) e h k l same in_tab =
     ]
 
 -- from inside a tab on, as many as it has columns left
-pub spaces-out : (bytes : List ℕ) (p q : Point) (cs : List Code) → codes_to bytes p q ≡ cs → IsPoint bytes p → IsPoint bytes q → is_before (place_of q) (place_of p) ≡ false → p.index < q.index → 0 < p.vs → virtual_spaces p.index cs ≡ tab_left p + 1
+pub spaces-out : (bytes : List ℕ) (p q : Point) (cs : List Code) → codes_to bytes p q ≡ cs → IsPoint bytes p →
+    IsPoint bytes q → is_before (place_of q) (place_of p) ≡ false → p.index < q.index → 0 < p.vs →
+    virtual_spaces p.index cs ≡ tab_left p + 1
 spaces-out bytes p q [] e h k l lt in_tab =
     elim (to-cases bytes p q h k l) [
       | inl f ↦ absurd (cons≢nil (code_here bytes p) (codes_to bytes (stop_at bytes p) q) (sym f.codes ∙ e))
@@ -206,7 +221,9 @@ not-space_way : (i index vs : ℕ) → (index < i) ⊎ ((index ≡ i) × (vs ≡
 not-space_way i index vs h = grind (arith, nat_tests)
 
 -- up to a place inside a tab that begins on the way, all columns before it but the first
-pub spaces-in : (bytes : List ℕ) (p q : Point) (cs : List Code) → codes_to bytes p q ≡ cs → IsPoint bytes p → IsPoint bytes q → is_before (place_of q) (place_of p) ≡ false → (p.index < q.index) ⊎ ((p.index ≡ q.index) × (p.vs ≡ 0)) → virtual_spaces q.index cs ≡ q.vs - 1
+pub spaces-in : (bytes : List ℕ) (p q : Point) (cs : List Code) → codes_to bytes p q ≡ cs → IsPoint bytes p →
+    IsPoint bytes q → is_before (place_of q) (place_of p) ≡ false →
+    (p.index < q.index) ⊎ ((p.index ≡ q.index) × (p.vs ≡ 0)) → virtual_spaces q.index cs ≡ q.vs - 1
 spaces-in bytes p q [] e h k l way =
     elim (to-cases bytes p q h k l) [
       | inl f ↦ absurd (cons≢nil (code_here bytes p) (codes_to bytes (stop_at bytes p) q) (sym f.codes ∙ e))

@@ -12,24 +12,30 @@ pub not-swap : (a r : Bool) → a ≡ not r → r ≡ not a
 not-swap a true h = ap not (sym h)
 not-swap a false h = ap not (sym h)
 
-text-start-by : (p : Place) (cs : List Code) (r : Bool) → ahead_at p ≡ cs → r ≡ not (is_some (code_at p)) → is_text_codes cs ≡ has_no_blank_line r cs
+text-start-by : (p : Place) (cs : List Code) (r : Bool) → ahead_at p ≡ cs → r ≡ not (is_some (code_at p)) →
+    is_text_codes cs ≡ has_no_blank_line r cs
 text-start-by p [] r e h = sym (h ∙ ap (λ (o : Option ℕ). not (is_some o)) (code_at_end p e))
 text-start-by p (c ∷ cs) r e h =
     let none : r ≡ false = h ∙ ap (λ (o : Option ℕ). not (is_some o)) (code_at_ahead p c cs e) in
     ap (λ (b : Bool). has_no_blank_line b (c ∷ cs)) (sym none)
 
-pub text-start : (p : Place) (r : Bool) → r ≡ not (is_some (code_at p)) → is_text_codes (ahead_at p) ≡ has_no_blank_line r (ahead_at p)
+pub text-start : (p : Place) (r : Bool) → r ≡ not (is_some (code_at p)) →
+    is_text_codes (ahead_at p) ≡ has_no_blank_line r (ahead_at p)
 text-start p r h = text-start-by p (ahead_at p) r refl h
 
-filled-by : (b : Bool) (c : Code) (cs : List Code) (t : Bool) → is_line_ending c ≡ t → (t ≡ true → b ≡ true) → has_no_blank_line b (c ∷ cs) ≡ has_no_blank_line (if t then false else (b || not (is_blank c))) cs
+filled-by : (b : Bool) (c : Code) (cs : List Code) (t : Bool) → is_line_ending c ≡ t → (t ≡ true → b ≡ true) →
+    has_no_blank_line b (c ∷ cs) ≡ has_no_blank_line (if t then false else (b || not (is_blank c))) cs
 filled-by b c cs true h k = let yes : b ≡ true = k refl in rw (h, yes, has_no_blank_line) refl
 filled-by b c cs false h k = rw (h, has_no_blank_line) refl
 
-blank-by : (b : Bool) (c : Code) (cs : List Code) → is_line_ending c ≡ true → b ≡ false → has_no_blank_line b (c ∷ cs) ≡ false
+blank-by : (b : Bool) (c : Code) (cs : List Code) → is_line_ending c ≡ true → b ≡ false →
+    has_no_blank_line b (c ∷ cs) ≡ false
 blank-by b c cs h e = rw (h, e, has_no_blank_line) refl
 
 -- one code further
-pub text-next : (p : Place) (v : ℕ) (b r : Bool) → code_at p ≡ Some v → (v ≡ 10 → b ≡ true) → r ≡ (if v == 10 then false else (b || not (v == 32 || v == 9))) → has_no_blank_line b (ahead_at p) ≡ has_no_blank_line r (ahead_at (moved p))
+pub text-next : (p : Place) (v : ℕ) (b r : Bool) → code_at p ≡ Some v → (v ≡ 10 → b ≡ true) →
+    r ≡ (if v == 10 then false else (b || not (v == 32 || v == 9))) →
+    has_no_blank_line b (ahead_at p) ≡ has_no_blank_line r (ahead_at (moved p))
 text-next p v b r h k e =
     let a : IsAhead p v = ahead_some p v h in
     let ending : is_line_ending a.code ≡ (v == 10) = ap (λ (n : ℕ). n == 10) a.value in
@@ -39,7 +45,8 @@ text-next p v b r h k e =
     whole ∙ ap (λ (x : Bool). has_no_blank_line (if v == 10 then false else (b || not x)) (ahead_at (moved p))) blank ∙ ap (λ (x : Bool). has_no_blank_line x (ahead_at (moved p))) (sym e)
 
 -- past the rest of a line that is filled
-pub text-stretch : (ms : List ℕ) (p q : Place) (b : Bool) → b ≡ true → q ≡ past_stretch ms p → has_no_blank_line b (ahead_at q) ≡ has_no_blank_line b (ahead_at p)
+pub text-stretch : (ms : List ℕ) (p q : Place) (b : Bool) → b ≡ true → q ≡ past_stretch ms p →
+    has_no_blank_line b (ahead_at q) ≡ has_no_blank_line b (ahead_at p)
 text-stretch ms p q b f e =
     ap (λ (x : Bool). has_no_blank_line x (ahead_at q)) f
     ∙ ap (λ (x : Place). has_no_blank_line true (ahead_at x)) e
@@ -47,7 +54,8 @@ text-stretch ms p q b f e =
     ∙ ap (λ (x : Bool). has_no_blank_line x (ahead_at p)) (sym f)
 
 -- a blank line
-pub text-blank : (p : Place) (v : ℕ) (b : Bool) → code_at p ≡ Some v → v ≡ 10 → b ≡ false → has_no_blank_line b (ahead_at p) ≡ false
+pub text-blank : (p : Place) (v : ℕ) (b : Bool) → code_at p ≡ Some v → v ≡ 10 → b ≡ false →
+    has_no_blank_line b (ahead_at p) ≡ false
 text-blank p v b h k e =
     let a : IsAhead p v = ahead_some p v h in
     let ending : is_line_ending a.code ≡ true = ap (λ (n : ℕ). n == 10) (a.value ∙ k) in

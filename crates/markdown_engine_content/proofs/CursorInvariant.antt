@@ -40,7 +40,9 @@ pub record IsOpenStanding (bytes : List ℕ) (pieces : List Piece) (p : Point) (
   pub code : slice_get (content_of bytes pieces) passed ≡ Some (code_here bytes p)
   pub point : IsPoint bytes (stop_at bytes p)
 
-open-standing-row : (bytes : List ℕ) (pieces : List Piece) (piece : Piece) (more : List Piece) (p : Point) (n : ℕ) → IsStanding bytes pieces (piece ∷ more) p n → is_open (place_of p) (piece ∷ more) ≡ true → IsOpenStanding bytes pieces p n
+open-standing-row : (bytes : List ℕ) (pieces : List Piece) (piece : Piece) (more : List Piece) (p : Point) (n : ℕ) →
+    IsStanding bytes pieces (piece ∷ more) p n → is_open (place_of p) (piece ∷ more) ≡ true →
+    IsOpenStanding bytes pieces p n
 open-standing-row bytes pieces piece more p n s h =
     let row : IsOpenRow bytes p piece more = open-row bytes p piece more s.is_point s.in_order s.within h in
     record {
@@ -49,16 +51,21 @@ open-standing-row bytes pieces piece more p n s h =
       point = row.toward.next.point;
     }
 
-pub open-standing : (bytes : List ℕ) (pieces left : List Piece) (p : Point) (n : ℕ) → IsStanding bytes pieces left p n → is_open (place_of p) left ≡ true → IsOpenStanding bytes pieces p n
+pub open-standing : (bytes : List ℕ) (pieces left : List Piece) (p : Point) (n : ℕ) → IsStanding bytes pieces left p n →
+    is_open (place_of p) left ≡ true → IsOpenStanding bytes pieces p n
 open-standing bytes pieces [] p n s h = absurd (both_ways false refl h)
 open-standing bytes pieces (piece ∷ more) p n s h = open-standing-row bytes pieces piece more p n s h
 
-pub closed-standing : (bytes : List ℕ) (pieces left : List Piece) (p : Point) (n : ℕ) → IsStanding bytes pieces left p n → is_open (place_of p) left ≡ false → (slice_get (content_of bytes pieces) n ≡ None) × (p ≡ content_end bytes pieces)
+pub closed-standing : (bytes : List ℕ) (pieces left : List Piece) (p : Point) (n : ℕ) →
+    IsStanding bytes pieces left p n → is_open (place_of p) left ≡ false →
+    (slice_get (content_of bytes pieces) n ≡ None) × (p ≡ content_end bytes pieces)
 closed-standing bytes pieces left p n s h =
     let none : (codes_in bytes (place_of p) left ≡ []) × (p ≡ content_end bytes left) = closed-row bytes p left s.is_point s.within s.entered h in
     (drop-none n (content_of bytes pieces) (s.ahead ∙ none.0), none.1 ∙ s.end)
 
-standing-point-by : (bytes : List ℕ) (pieces left : List Piece) (p : Point) (n : ℕ) → IsStanding bytes pieces left p n → (b : Bool) → is_open (place_of p) left ≡ b → p ≡ start_or (slice_get (content_of bytes pieces) n) (content_end bytes pieces)
+standing-point-by : (bytes : List ℕ) (pieces left : List Piece) (p : Point) (n : ℕ) → IsStanding bytes pieces left p n →
+    (b : Bool) → is_open (place_of p) left ≡ b →
+    p ≡ start_or (slice_get (content_of bytes pieces) n) (content_end bytes pieces)
 standing-point-by bytes pieces left p n s true h =
     ap (λ c. start_or c (content_end bytes pieces)) (sym (open-standing bytes pieces left p n s h).code)
 standing-point-by bytes pieces left p n s false h =
@@ -66,12 +73,14 @@ standing-point-by bytes pieces left p n s false h =
     none.1 ∙ ap (λ c. start_or c (content_end bytes pieces)) (sym none.0)
 
 -- the place in the document is that of the place in the content
-pub standing-point : (bytes : List ℕ) (pieces left : List Piece) (p : Point) (n : ℕ) → IsStanding bytes pieces left p n → p ≡ start_or (slice_get (content_of bytes pieces) n) (content_end bytes pieces)
+pub standing-point : (bytes : List ℕ) (pieces left : List Piece) (p : Point) (n : ℕ) →
+    IsStanding bytes pieces left p n → p ≡ start_or (slice_get (content_of bytes pieces) n) (content_end bytes pieces)
 standing-point bytes pieces left p n s = standing-point-by bytes pieces left p n s (is_open (place_of p) left) refl
 
 -- At first.
 
-standing-start-row : (bytes : List ℕ) (piece : Piece) (more : List Piece) → IsContent bytes (piece ∷ more) → IsRowStart bytes piece more → IsStanding bytes (piece ∷ more) (piece ∷ more) (point_at bytes piece.start) 0
+standing-start-row : (bytes : List ℕ) (piece : Piece) (more : List Piece) → IsContent bytes (piece ∷ more) →
+    IsRowStart bytes piece more → IsStanding bytes (piece ∷ more) (piece ∷ more) (point_at bytes piece.start) 0
 standing-start-row bytes piece more h r = record {
   content = h;
   is_point = r.point;
@@ -84,7 +93,8 @@ standing-start-row bytes piece more h r = record {
   count = omega arith;
 }
 
-pub standing-start : (bytes : List ℕ) (pieces : List Piece) → IsContent bytes pieces → IsStanding bytes pieces pieces (first_point bytes pieces) 0
+pub standing-start : (bytes : List ℕ) (pieces : List Piece) → IsContent bytes pieces →
+    IsStanding bytes pieces pieces (first_point bytes pieces) 0
 standing-start bytes [] h = record {
   content = h;
   is_point = point_start bytes;
@@ -100,7 +110,10 @@ standing-start bytes (piece ∷ more) h = standing-start-row bytes piece more h 
 
 -- After a code.
 
-standing-stay : (bytes : List ℕ) (pieces : List Piece) (piece : Piece) (more : List Piece) (p : Point) (n : ℕ) → IsStanding bytes pieces (piece ∷ more) p n → IsOpenRow bytes p piece more → IsEntered (place_of (stop_at bytes p)) (piece ∷ more) → EndsLine bytes (place_of (stop_at bytes p)) (piece ∷ more) → IsStanding bytes pieces (piece ∷ more) (stop_at bytes p) (n + 1)
+standing-stay : (bytes : List ℕ) (pieces : List Piece) (piece : Piece) (more : List Piece) (p : Point) (n : ℕ) →
+    IsStanding bytes pieces (piece ∷ more) p n → IsOpenRow bytes p piece more →
+    IsEntered (place_of (stop_at bytes p)) (piece ∷ more) → EndsLine bytes (place_of (stop_at bytes p)) (piece ∷ more) →
+    IsStanding bytes pieces (piece ∷ more) (stop_at bytes p) (n + 1)
 standing-stay bytes pieces piece more p n s row entered line = record {
   content = s.content;
   is_point = row.toward.next.point;
@@ -119,7 +132,12 @@ before-keys a b c d h k = grind (arith, nat_tests)
 count-more : (n a b c : ℕ) → n ≤ a → a + 1 ≤ b → b ≤ c → n + 1 ≤ c
 count-more n a b c h k l = omega arith
 
-go-record : (bytes : List ℕ) (pieces : List Piece) (next : Piece) (more : List Piece) (n : ℕ) → IsContent bytes pieces → IsRowStart bytes next more → are_pieces bytes (next ∷ more) ≡ true → drop (n + 1) (content_of bytes pieces) ≡ content_of bytes (next ∷ more) → content_end bytes (next ∷ more) ≡ content_end bytes pieces → n + 1 ≤ 4 * (point_at bytes next.start).index + (point_at bytes next.start).vs → IsStanding bytes pieces (next ∷ more) (point_at bytes next.start) (n + 1)
+go-record : (bytes : List ℕ) (pieces : List Piece) (next : Piece) (more : List Piece) (n : ℕ) → IsContent bytes pieces →
+    IsRowStart bytes next more → are_pieces bytes (next ∷ more) ≡ true →
+    drop (n + 1) (content_of bytes pieces) ≡ content_of bytes (next ∷ more) →
+    content_end bytes (next ∷ more) ≡ content_end bytes pieces →
+    n + 1 ≤ 4 * (point_at bytes next.start).index + (point_at bytes next.start).vs →
+    IsStanding bytes pieces (next ∷ more) (point_at bytes next.start) (n + 1)
 go-record bytes pieces next more n content rs others ahead end count = record {
   content = content;
   is_point = rs.point;
@@ -132,7 +150,10 @@ go-record bytes pieces next more n content rs others ahead end count = record {
   count = count;
 }
 
-standing-go : (bytes : List ℕ) (pieces : List Piece) (piece next : Piece) (more : List Piece) (p : Point) (n : ℕ) → IsStanding bytes pieces (piece ∷ next ∷ more) p n → IsOpenRow bytes p piece (next ∷ more) → is_open (place_of (stop_at bytes p)) (piece ∷ []) ≡ false → IsStanding bytes pieces (next ∷ more) (point_at bytes next.start) (n + 1)
+standing-go : (bytes : List ℕ) (pieces : List Piece) (piece next : Piece) (more : List Piece) (p : Point) (n : ℕ) →
+    IsStanding bytes pieces (piece ∷ next ∷ more) p n → IsOpenRow bytes p piece (next ∷ more) →
+    is_open (place_of (stop_at bytes p)) (piece ∷ []) ≡ false →
+    IsStanding bytes pieces (next ∷ more) (point_at bytes next.start) (n + 1)
 standing-go bytes pieces piece next more p n s row h =
     let q : Point = stop_at bytes p in
     let q2 : Point = point_at bytes next.start in
@@ -144,7 +165,10 @@ standing-go bytes pieces piece next more p n s row h =
     let keys : 4 * q.index + q.vs ≤ 4 * q2.index + q2.vs = before-keys q.index q.vs q2.index q2.vs later (vs-small bytes q (stands-point bytes q row.toward.next.point)) in
     go-record bytes pieces next more n s.content rs others (past ∙ none) s.end (count-more n (4 * p.index + p.vs) (4 * q.index + q.vs) (4 * q2.index + q2.vs) s.count row.toward.next.counts keys)
 
-standing-next-row : (bytes : List ℕ) (pieces : List Piece) (piece : Piece) (more : List Piece) (p : Point) (n k : ℕ) → drop k pieces ≡ piece ∷ more → IsStanding bytes pieces (piece ∷ more) p n → IsOpenRow bytes p piece more → (b : Bool) → is_open (place_of (stop_at bytes p)) (piece ∷ []) ≡ b → IsStanding bytes pieces (drop (followed bytes k (stop_at bytes p) (piece ∷ more)).0 pieces) (followed bytes k (stop_at bytes p) (piece ∷ more)).1 (n + 1)
+standing-next-row : (bytes : List ℕ) (pieces : List Piece) (piece : Piece) (more : List Piece) (p : Point) (n k : ℕ) →
+    drop k pieces ≡ piece ∷ more → IsStanding bytes pieces (piece ∷ more) p n → IsOpenRow bytes p piece more →
+    (b : Bool) → is_open (place_of (stop_at bytes p)) (piece ∷ []) ≡ b →
+    IsStanding bytes pieces (drop (followed bytes k (stop_at bytes p) (piece ∷ more)).0 pieces) (followed bytes k (stop_at bytes p) (piece ∷ more)).1 (n + 1)
 standing-next-row bytes pieces piece [] p n k left s row b e =
     subst (λ (x : List Piece). IsStanding bytes pieces x (stop_at bytes p) (n + 1)) (sym left) (standing-stay bytes pieces piece [] p n s row tt tt)
 standing-next-row bytes pieces piece (next ∷ more) p n k left s row true e =
@@ -152,23 +176,34 @@ standing-next-row bytes pieces piece (next ∷ more) p n k left s row true e =
 standing-next-row bytes pieces piece (next ∷ more) p n k left s row false e =
     rw e (subst (λ (x : List Piece). IsStanding bytes pieces x (point_at bytes next.start) (n + 1)) (sym (drop-past k pieces piece (next ∷ more) left)) (standing-go bytes pieces piece next more p n s row e))
 
-standing-next-left : (bytes : List ℕ) (pieces left : List Piece) (p : Point) (n k : ℕ) → drop k pieces ≡ left → IsStanding bytes pieces left p n → is_open (place_of p) left ≡ true → IsStanding bytes pieces (drop (followed bytes k (stop_at bytes p) left).0 pieces) (followed bytes k (stop_at bytes p) left).1 (n + 1)
+standing-next-left : (bytes : List ℕ) (pieces left : List Piece) (p : Point) (n k : ℕ) → drop k pieces ≡ left →
+    IsStanding bytes pieces left p n → is_open (place_of p) left ≡ true →
+    IsStanding bytes pieces (drop (followed bytes k (stop_at bytes p) left).0 pieces) (followed bytes k (stop_at bytes p) left).1 (n + 1)
 standing-next-left bytes pieces [] p n k e s h = absurd (both_ways false refl h)
 standing-next-left bytes pieces (piece ∷ more) p n k e s h =
     standing-next-row bytes pieces piece more p n k e s (open-row bytes p piece more s.is_point s.in_order s.within h) (is_open (place_of (stop_at bytes p)) (piece ∷ [])) refl
 
 -- after a code
-pub standing-next : (bytes : List ℕ) (pieces : List Piece) (p : Point) (n k : ℕ) → IsStanding bytes pieces (drop k pieces) p n → is_open (place_of p) (drop k pieces) ≡ true → IsStanding bytes pieces (drop (followed bytes k (stop_at bytes p) (drop k pieces)).0 pieces) (followed bytes k (stop_at bytes p) (drop k pieces)).1 (n + 1)
+pub standing-next : (bytes : List ℕ) (pieces : List Piece) (p : Point) (n k : ℕ) →
+    IsStanding bytes pieces (drop k pieces) p n → is_open (place_of p) (drop k pieces) ≡ true →
+    IsStanding bytes pieces (drop (followed bytes k (stop_at bytes p) (drop k pieces)).0 pieces) (followed bytes k (stop_at bytes p) (drop k pieces)).1 (n + 1)
 standing-next bytes pieces p n k s h = standing-next-left bytes pieces (drop k pieces) p n k refl s h
 
 -- Where an event stands that ends after a code: where the next one begins, but for a line ending.
 
-stop-within-row : (bytes : List ℕ) (pieces : List Piece) (piece : Piece) (more : List Piece) (p : Point) (n k : ℕ) → IsStanding bytes pieces (piece ∷ more) p n → IsOpenRow bytes p piece more → (is_line_ending (code_here bytes p) ≡ true → ⊥) → (b : Bool) → is_open (place_of (stop_at bytes p)) (piece ∷ []) ≡ b → stop_at bytes p ≡ (followed bytes k (stop_at bytes p) (piece ∷ more)).1
+stop-within-row : (bytes : List ℕ) (pieces : List Piece) (piece : Piece) (more : List Piece) (p : Point) (n k : ℕ) →
+    IsStanding bytes pieces (piece ∷ more) p n → IsOpenRow bytes p piece more →
+    (is_line_ending (code_here bytes p) ≡ true → ⊥) → (b : Bool) →
+    is_open (place_of (stop_at bytes p)) (piece ∷ []) ≡ b →
+    stop_at bytes p ≡ (followed bytes k (stop_at bytes p) (piece ∷ more)).1
 stop-within-row bytes pieces piece [] p n k s row other b e = refl
 stop-within-row bytes pieces piece (next ∷ more) p n k s row other true e = rw e refl
-stop-within-row bytes pieces piece (next ∷ more) p n k s row other false e = absurd (other (line-last bytes p piece next more row s.line e))
+stop-within-row bytes pieces piece (next ∷ more) p n k s row other false e =
+    absurd (other (line-last bytes p piece next more row s.line e))
 
-pub stop-within : (bytes : List ℕ) (pieces left : List Piece) (p : Point) (n k : ℕ) → IsStanding bytes pieces left p n → is_open (place_of p) left ≡ true → (is_line_ending (code_here bytes p) ≡ true → ⊥) → stop_at bytes p ≡ (followed bytes k (stop_at bytes p) left).1
+pub stop-within : (bytes : List ℕ) (pieces left : List Piece) (p : Point) (n k : ℕ) → IsStanding bytes pieces left p n →
+    is_open (place_of p) left ≡ true → (is_line_ending (code_here bytes p) ≡ true → ⊥) →
+    stop_at bytes p ≡ (followed bytes k (stop_at bytes p) left).1
 stop-within bytes pieces [] p n k s h other = absurd (both_ways false refl h)
 stop-within bytes pieces (piece ∷ more) p n k s h other =
     stop-within-row bytes pieces piece more p n k s (open-row bytes p piece more s.is_point s.in_order s.within h) other (is_open (place_of (stop_at bytes p)) (piece ∷ [])) refl

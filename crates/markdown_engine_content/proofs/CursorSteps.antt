@@ -16,7 +16,8 @@ use Rattle.markdown_engine_content.proofs.DocumentPlaces.{next, IsNext}
 use Rattle.markdown_engine_content.proofs.NextPlace.{value-is, point_fits, Fits_point}
 use Rattle.markdown_engine_content.proofs.CursorInvariant.{standing-point, standing-start, standing-next, stop-within, open-standing, closed-standing, IsOpenStanding}
 
-pub cursor_point : {bytes : List ℕ} {pieces : List Piece} {k : ℕ} {p e : Point} {before : Option ℕ} {n : ℕ} → IsCursor bytes pieces k p e before n → p ≡ point_of (content_place bytes pieces n)
+pub cursor_point : {bytes : List ℕ} {pieces : List Piece} {k : ℕ} {p e : Point} {before : Option ℕ} {n : ℕ} →
+    IsCursor bytes pieces k p e before n → p ≡ point_of (content_place bytes pieces n)
 unfolding point_of start_of_content
 cursor_point {bytes} {pieces} {k} {p} {e} {before} {n} h = standing-point bytes pieces (drop k pieces) p n h.standing
 
@@ -38,14 +39,16 @@ in-pieces pieces k at h =
       | inr l ↦ absurd (both_ways (is_open at (drop k pieces)) (ap (λ (x : List Piece). is_open at x) (drop_all k pieces l)) h)
     ]
 
-code-at-is : (bytes : List ℕ) (pieces : List Piece) (n : ℕ) (c : Code) → slice_get (content_of bytes pieces) n ≡ Some c → code_at (content_place bytes pieces n) ≡ Some c.value
+code-at-is : (bytes : List ℕ) (pieces : List Piece) (n : ℕ) (c : Code) →
+    slice_get (content_of bytes pieces) n ≡ Some c → code_at (content_place bytes pieces n) ≡ Some c.value
 unfolding code_at start_of_content
 code-at-is bytes pieces n c h = ap value_of h
 
 count-fits : (bytes : List ℕ) (p : Point) (n : ℕ) → Fits_point p → n ≤ 4 * p.index + p.vs → n + 1 < 2 ^ 64
 count-fits bytes p n f h = omega (arith, f.index, f.vs)
 
-pub at_code : {bytes : List ℕ} {pieces : List Piece} {k : ℕ} {p e : Point} {before : Option ℕ} {n : ℕ} → IsCursor bytes pieces k p e before n → is_open (place_of p) (drop k pieces) ≡ true → IsAtCode bytes pieces k p n
+pub at_code : {bytes : List ℕ} {pieces : List Piece} {k : ℕ} {p e : Point} {before : Option ℕ} {n : ℕ} →
+    IsCursor bytes pieces k p e before n → is_open (place_of p) (drop k pieces) ≡ true → IsAtCode bytes pieces k p n
 at_code {bytes} {pieces} {k} {p} {e} {before} {n} h here =
     let s : IsStanding bytes pieces (drop k pieces) p n = h.standing in
     let o : IsOpenStanding bytes pieces p n = open-standing bytes pieces (drop k pieces) p n s here in
@@ -60,7 +63,9 @@ at_code {bytes} {pieces} {k} {p} {e} {before} {n} h here =
       count = count-fits bytes p n (point_fits bytes p s.is_point s.content.fits) s.count;
     }
 
-pub cursor_end : {bytes : List ℕ} {pieces : List Piece} {k : ℕ} {p e : Point} {before : Option ℕ} {n : ℕ} → IsCursor bytes pieces k p e before n → is_open (place_of p) (drop k pieces) ≡ false → None ≡ code_at (content_place bytes pieces n)
+pub cursor_end : {bytes : List ℕ} {pieces : List Piece} {k : ℕ} {p e : Point} {before : Option ℕ} {n : ℕ} →
+    IsCursor bytes pieces k p e before n → is_open (place_of p) (drop k pieces) ≡ false →
+    None ≡ code_at (content_place bytes pieces n)
 unfolding code_at start_of_content
 cursor_end {bytes} {pieces} {k} {p} {e} {before} {n} h shut =
     sym (ap value_of (closed-standing bytes pieces (drop k pieces) p n h.standing shut).0)
@@ -68,28 +73,36 @@ cursor_end {bytes} {pieces} {k} {p} {e} {before} {n} h shut =
 some-none : IsSome {T = ℕ} None → ⊥
 some-none h = both_ways false refl h
 
-at-some-by : {bytes : List ℕ} {pieces : List Piece} {k : ℕ} {p e : Point} {before : Option ℕ} {n : ℕ} → IsCursor bytes pieces k p e before n → IsSome (code_at (content_place bytes pieces n)) → (b : Bool) → is_open (place_of p) (drop k pieces) ≡ b → is_open (place_of p) (drop k pieces) ≡ true
+at-some-by : {bytes : List ℕ} {pieces : List Piece} {k : ℕ} {p e : Point} {before : Option ℕ} {n : ℕ} →
+    IsCursor bytes pieces k p e before n → IsSome (code_at (content_place bytes pieces n)) → (b : Bool) →
+    is_open (place_of p) (drop k pieces) ≡ b → is_open (place_of p) (drop k pieces) ≡ true
 at-some-by h some true e = e
 at-some-by h some false e = absurd (some-none (subst (λ (x : Option ℕ). IsSome x) (sym (cursor_end h e)) some))
 
-pub at_some : {bytes : List ℕ} {pieces : List Piece} {k : ℕ} {p e : Point} {before : Option ℕ} {n : ℕ} (x : Place) → IsCursor bytes pieces k p e before n → content_place bytes pieces n ≡ x → IsSome (code_at x) → IsAtCode bytes pieces k p n
+pub at_some : {bytes : List ℕ} {pieces : List Piece} {k : ℕ} {p e : Point} {before : Option ℕ} {n : ℕ} (x : Place) →
+    IsCursor bytes pieces k p e before n → content_place bytes pieces n ≡ x → IsSome (code_at x) →
+    IsAtCode bytes pieces k p n
 at_some {bytes} {pieces} {k} {p} {e} {before} {n} x h is some =
     let here : IsSome (code_at (content_place bytes pieces n)) = subst (λ (y : Place). IsSome (code_at y)) (sym is) some in
     at_code h (at-some-by h here (is_open (place_of p) (drop k pieces)) refl)
 
 -- past a code
 
-pub moved_is : (bytes : List ℕ) (pieces : List Piece) (n : ℕ) → moved (content_place bytes pieces n) ≡ content_place bytes pieces (n + 1)
+pub moved_is : (bytes : List ℕ) (pieces : List Piece) (n : ℕ) →
+    moved (content_place bytes pieces n) ≡ content_place bytes pieces (n + 1)
 unfolding moved
 moved_is bytes pieces n = refl
 
-before-more : (bytes : List ℕ) (pieces : List Piece) (n : ℕ) → code_before (content_place bytes pieces (n + 1)) ≡ code_at (content_place bytes pieces n)
+before-more : (bytes : List ℕ) (pieces : List Piece) (n : ℕ) →
+    code_before (content_place bytes pieces (n + 1)) ≡ code_at (content_place bytes pieces n)
 unfolding code_before code_at
 before-more bytes pieces n = rw add-one refl
 
-exit-more : (bytes : List ℕ) (pieces : List Piece) (n : ℕ) (c : Code) → slice_get (content_of bytes pieces) n ≡ Some c → exit_point (content_place bytes pieces (n + 1)) ≡ c.stop
+exit-more : (bytes : List ℕ) (pieces : List Piece) (n : ℕ) (c : Code) → slice_get (content_of bytes pieces) n ≡ Some c →
+    exit_point (content_place bytes pieces (n + 1)) ≡ c.stop
 unfolding exit_point start_of_content
-exit-more bytes pieces n c h = rw add-one (ap (λ (x : Option Code). stop_or x (start_or (slice_get (content_of bytes pieces) (suc n)) (content_end bytes pieces))) h)
+exit-more bytes pieces n c h =
+    rw add-one (ap (λ (x : Option Code). stop_or x (start_or (slice_get (content_of bytes pieces) (suc n)) (content_end bytes pieces))) h)
 
 none≢some : (v : ℕ) → None ≡ Some v → ⊥
 none≢some v e = cc
@@ -99,19 +112,25 @@ other-value b true h e = omega arith
 other-value b false h e = both_ways (is_line_ending_byte b) h (rw e refl)
 
 -- after a line ending stands the start of a line
-value-other : (bytes : List ℕ) (p : Point) → is_line_ending_byte (get_or bytes p.index 0) ≡ false → (if get_or bytes p.index 0 == tab_value && nat_lt 0 p.vs then space_value else get_or bytes p.index 0) ≡ value_at bytes p
+value-other : (bytes : List ℕ) (p : Point) → is_line_ending_byte (get_or bytes p.index 0) ≡ false →
+    (if get_or bytes p.index 0 == tab_value && nat_lt 0 p.vs then space_value else get_or bytes p.index 0) ≡ value_at bytes p
 value-other bytes p h = rw h refl
 
-line-stop-by : (bytes : List ℕ) (p : Point) → value_at bytes p ≡ line_feed → (b : Bool) → is_line_ending_byte (get_or bytes p.index 0) ≡ b → ((stop_at bytes p).column ≡ 1) × ((stop_at bytes p).vs ≡ 0)
+line-stop-by : (bytes : List ℕ) (p : Point) → value_at bytes p ≡ line_feed → (b : Bool) →
+    is_line_ending_byte (get_or bytes p.index 0) ≡ b → ((stop_at bytes p).column ≡ 1) × ((stop_at bytes p).vs ≡ 0)
 line-stop-by bytes p v true h = subst (λ (q : Point). (q.column ≡ 1) × (q.vs ≡ 0)) (stop-ending bytes p h) (refl, refl)
 line-stop-by bytes p v false h =
     absurd (other-value (get_or bytes p.index 0) (get_or bytes p.index 0 == tab_value && nat_lt 0 p.vs) h (value-other bytes p h ∙ v))
 
-line-stop : (bytes : List ℕ) (p : Point) → value_at bytes p ≡ line_feed → ((stop_at bytes p).column ≡ 1) × ((stop_at bytes p).vs ≡ 0)
+line-stop : (bytes : List ℕ) (p : Point) → value_at bytes p ≡ line_feed →
+    ((stop_at bytes p).column ≡ 1) × ((stop_at bytes p).vs ≡ 0)
 line-stop bytes p v = line-stop-by bytes p v (is_line_ending_byte (get_or bytes p.index 0)) refl
 
 -- a cursor past the code where it stood
-pub cursor_next : {bytes : List ℕ} {pieces : List Piece} {k : ℕ} {p e : Point} {before : Option ℕ} {n : ℕ} (x : Place) (k2 v : ℕ) (p2 e2 : Point) → IsCursor bytes pieces k p e before n → content_place bytes pieces n ≡ x → IsSome (code_at x) → value_from bytes p ≡ Some v → e2 ≡ next_point bytes p → ◌≡◌ {A = ℕ × Point} (k2, p2) (followed bytes k e2 (drop k pieces)) → IsCursor bytes pieces k2 p2 e2 (Some v) (n + 1)
+pub cursor_next : {bytes : List ℕ} {pieces : List Piece} {k : ℕ} {p e : Point} {before : Option ℕ} {n : ℕ} (x : Place) (k2 v : ℕ) (p2 e2 : Point) →
+    IsCursor bytes pieces k p e before n → content_place bytes pieces n ≡ x → IsSome (code_at x) →
+    value_from bytes p ≡ Some v → e2 ≡ next_point bytes p →
+    ◌≡◌ {A = ℕ × Point} (k2, p2) (followed bytes k e2 (drop k pieces)) → IsCursor bytes pieces k2 p2 e2 (Some v) (n + 1)
 cursor_next {bytes} {pieces} {k} {p} {e} {before} {n} x k2 v p2 e2 h is some value stop go =
     let here : IsSome (code_at (content_place bytes pieces n)) = subst (λ (y : Place). IsSome (code_at y)) (sym is) some in
     let shown : is_open (place_of p) (drop k pieces) ≡ true = at-some-by h here (is_open (place_of p) (drop k pieces)) refl in
@@ -123,12 +142,15 @@ cursor_next {bytes} {pieces} {k} {p} {e} {before} {n} x k2 v p2 e2 h is some val
       standing = subst (λ (x : ℕ × Point). IsStanding bytes pieces (drop x.0 pieces) x.1 (n + 1)) went (standing-next bytes pieces p n k h.standing shown);
       before = sym value ∙ at.value ∙ sym (before-more bytes pieces n);
       exits = same ∙ sym (exit-more bytes pieces n (code_here bytes p) at.code);
-      after_line = λ f. subst (λ (q : Point). (q.column ≡ 1) × (q.vs ≡ 0)) (sym same) (line-stop bytes p (sym read ∙ same_Some v line_feed f));
-      within_line = λ other. same ∙ stop-within bytes pieces (drop k pieces) p n k h.standing shown (λ f. other (ap (λ (x : ℕ). Some x) (read ∙ eqb-true (value_at bytes p) line_feed f))) ∙ ap (λ (x : ℕ × Point). x.1) went;
+      after_line =
+          λ f. subst (λ (q : Point). (q.column ≡ 1) × (q.vs ≡ 0)) (sym same) (line-stop bytes p (sym read ∙ same_Some v line_feed f));
+      within_line =
+          λ other. same ∙ stop-within bytes pieces (drop k pieces) p n k h.standing shown (λ f. other (ap (λ (x : ℕ). Some x) (read ∙ eqb-true (value_at bytes p) line_feed f))) ∙ ap (λ (x : ℕ × Point). x.1) went;
     }
 
 -- a cursor at the start
-pub cursor_start : (bytes : List ℕ) (pieces : List Piece) (p : Point) → IsContent bytes pieces → p ≡ first_point bytes pieces → IsCursor bytes pieces 0 p p None 0
+pub cursor_start : (bytes : List ℕ) (pieces : List Piece) (p : Point) → IsContent bytes pieces →
+    p ≡ first_point bytes pieces → IsCursor bytes pieces 0 p p None 0
 unfolding code_before exit_point start_of_content
 cursor_start bytes pieces p h is =
     let s : IsStanding bytes pieces pieces p 0 = subst (λ (x : Point). IsStanding bytes pieces pieces x 0) (sym is) (standing-start bytes pieces h) in

@@ -58,10 +58,12 @@ from-any : (b : ℕ) (p : Point) (bs : List ℕ) → (b == carriage_return) ≡ 
 from-any b p [] h = refl
 from-any b p (c ∷ cs) h = rw (h, codes_from) refl
 
-from-other : (b : ℕ) (p : Point) (c : ℕ) (cs : List ℕ) → (b == carriage_return && c == line_feed) ≡ false → codes_from b p (c ∷ cs) ≡ codes_from 0 p (c ∷ cs)
+from-other : (b : ℕ) (p : Point) (c : ℕ) (cs : List ℕ) → (b == carriage_return && c == line_feed) ≡ false →
+    codes_from b p (c ∷ cs) ≡ codes_from 0 p (c ∷ cs)
 from-other b p c cs h = rw (h, codes_from) refl
 
-from-crlf : (b : ℕ) (p : Point) (c : ℕ) (cs : List ℕ) → (b == carriage_return && c == line_feed) ≡ true → codes_from b p (c ∷ cs) ≡ codes_from 0 p cs
+from-crlf : (b : ℕ) (p : Point) (c : ℕ) (cs : List ℕ) → (b == carriage_return && c == line_feed) ≡ true →
+    codes_from b p (c ∷ cs) ≡ codes_from 0 p cs
 from-crlf b p c cs h =
     let feed : c ≡ line_feed = eqb-true c line_feed (and_parts (b == carriage_return) (c == line_feed) h).1 in
     rw (h, codes_from) (subst (λ (x : ℕ). codes_from x p cs ≡ codes_from 0 p cs) (sym feed) (from-any line_feed p cs refl))
@@ -72,14 +74,16 @@ len-two b c cs h = rw h refl
 len-one : (b c : ℕ) (cs : List ℕ) → (b == carriage_return && c == line_feed) ≡ false → line_ending_len b (c ∷ cs) ≡ 1
 len-one b c cs h = rw h refl
 
-ending-cases : (b : ℕ) (p : Point) (c : ℕ) (cs : List ℕ) (t : Bool) → (b == carriage_return && c == line_feed) ≡ t → codes_from b p (c ∷ cs) ≡ codes_from 0 p (drop (line_ending_len b (c ∷ cs)) (b ∷ c ∷ cs))
+ending-cases : (b : ℕ) (p : Point) (c : ℕ) (cs : List ℕ) (t : Bool) → (b == carriage_return && c == line_feed) ≡ t →
+    codes_from b p (c ∷ cs) ≡ codes_from 0 p (drop (line_ending_len b (c ∷ cs)) (b ∷ c ∷ cs))
 ending-cases b p c cs true h =
     from-crlf b p c cs h ∙ sym (ap (λ n. codes_from 0 p (drop n (b ∷ c ∷ cs))) (len-two b c cs h))
 ending-cases b p c cs false h =
     from-other b p c cs h ∙ sym (ap (λ n. codes_from 0 p (drop n (b ∷ c ∷ cs))) (len-one b c cs h))
 
 -- a line ending is passed whole
-past-ending : (b : ℕ) (p : Point) (bs : List ℕ) → codes_from b p bs ≡ codes_from 0 p (drop (line_ending_len b bs) (b ∷ bs))
+past-ending : (b : ℕ) (p : Point) (bs : List ℕ) →
+    codes_from b p bs ≡ codes_from 0 p (drop (line_ending_len b bs) (b ∷ bs))
 past-ending b p [] = refl
 past-ending b p (c ∷ cs) = ending-cases b p c cs (b == carriage_return && c == line_feed) refl
 
@@ -88,18 +92,25 @@ drop-next : (bytes : List ℕ) (i : ℕ) → i < length bytes → drop i bytes �
 drop-next bytes i h = drop_more bytes i 0 h
 
 -- a byte that is neither line ending nor tab
-from-plain : (p : Point) (b : ℕ) (bs : List ℕ) → is_line_ending_byte b ≡ false → (b == tab_value) ≡ false → codes_from 0 p (b ∷ bs) ≡ record { value = b; start = p; stop = next_column p (p.index + 1) 0 } ∷ codes_from b (next_column p (p.index + 1) 0) bs
+from-plain : (p : Point) (b : ℕ) (bs : List ℕ) → is_line_ending_byte b ≡ false → (b == tab_value) ≡ false →
+    codes_from 0 p (b ∷ bs) ≡ record { value = b; start = p; stop = next_column p (p.index + 1) 0 } ∷ codes_from b (next_column p (p.index + 1) 0) bs
 from-plain p b bs h k = rw (h, k) refl
 
-from-ending : (p : Point) (b : ℕ) (bs : List ℕ) → is_line_ending_byte b ≡ true → codes_from 0 p (b ∷ bs) ≡ record { value = line_feed; start = p; stop = line_start (p.line + 1) (p.index + line_ending_len b bs) } ∷ codes_from b (line_start (p.line + 1) (p.index + line_ending_len b bs)) bs
+from-ending : (p : Point) (b : ℕ) (bs : List ℕ) → is_line_ending_byte b ≡ true →
+    codes_from 0 p (b ∷ bs) ≡ record { value = line_feed; start = p; stop = line_start (p.line + 1) (p.index + line_ending_len b bs) } ∷ codes_from b (line_start (p.line + 1) (p.index + line_ending_len b bs)) bs
 from-ending p b bs h = rw h refl
 
-step-plain : (bytes : List ℕ) (p : Point) (b : ℕ) → drop p.index bytes ≡ b ∷ drop (p.index + 1) bytes → is_line_ending_byte b ≡ false → (b == tab_value) ≡ false → codes_from 0 p (drop p.index bytes) ≡ record { value = b; start = p; stop = next_column p (p.index + 1) 0 } ∷ codes_from 0 (next_column p (p.index + 1) 0) (drop (p.index + 1) bytes)
+step-plain : (bytes : List ℕ) (p : Point) (b : ℕ) → drop p.index bytes ≡ b ∷ drop (p.index + 1) bytes →
+    is_line_ending_byte b ≡ false → (b == tab_value) ≡ false →
+    codes_from 0 p (drop p.index bytes) ≡ record { value = b; start = p; stop = next_column p (p.index + 1) 0 } ∷ codes_from 0 (next_column p (p.index + 1) 0) (drop (p.index + 1) bytes)
 step-plain bytes p b e h k =
     let other : (b == carriage_return) ≡ false = (or_parts (b == line_feed) (b == carriage_return) h).1 in
     ap (λ bs. codes_from 0 p bs) e ∙ from-plain p b (drop (p.index + 1) bytes) h k ∙ ap (λ cs. record { value = b; start = p; stop = next_column p (p.index + 1) 0 } ∷ cs) (from-any b (next_column p (p.index + 1) 0) (drop (p.index + 1) bytes) other)
 
-step-ending : (bytes : List ℕ) (p q : Point) (b : ℕ) → drop p.index bytes ≡ b ∷ drop (p.index + 1) bytes → is_line_ending_byte b ≡ true → q ≡ line_start (p.line + 1) (p.index + line_ending_len b (drop (p.index + 1) bytes)) → codes_from 0 p (drop p.index bytes) ≡ record { value = line_feed; start = p; stop = q } ∷ codes_from 0 q (drop q.index bytes)
+step-ending : (bytes : List ℕ) (p q : Point) (b : ℕ) → drop p.index bytes ≡ b ∷ drop (p.index + 1) bytes →
+    is_line_ending_byte b ≡ true →
+    q ≡ line_start (p.line + 1) (p.index + line_ending_len b (drop (p.index + 1) bytes)) →
+    codes_from 0 p (drop p.index bytes) ≡ record { value = line_feed; start = p; stop = q } ∷ codes_from 0 q (drop q.index bytes)
 step-ending bytes p q b e h k =
     let bs : List ℕ = drop (p.index + 1) bytes in
     let n : ℕ = line_ending_len b bs in
@@ -110,22 +121,26 @@ step-ending bytes p q b e h k =
     subst (λ (x : Point). codes_from 0 p (drop p.index bytes) ≡ record { value = line_feed; start = p; stop = x } ∷ codes_from 0 x (drop x.index bytes)) (sym k) whole
 
 -- a tab begins with its own code
-from-tab : (bytes : List ℕ) (p : Point) → drop p.index bytes ≡ tab_value ∷ drop (p.index + 1) bytes → codes_from 0 p (drop p.index bytes) ≡ tab_from tab_value bytes p
+from-tab : (bytes : List ℕ) (p : Point) → drop p.index bytes ≡ tab_value ∷ drop (p.index + 1) bytes →
+    codes_from 0 p (drop p.index bytes) ≡ tab_from tab_value bytes p
 from-tab bytes p e = ap (λ xs. codes_from 0 p xs) e
 
 -- the codes of a tab of which so many virtual spaces are left
 abbrev tab_rest : ℕ → ℕ → List ℕ → Point → List Code
-tab_rest v n bytes p = codes_of_tab v n p ++ codes_from tab_value (stop_of p (codes_of_tab v n p)) (drop (p.index + 1) bytes)
+tab_rest v n bytes p =
+    codes_of_tab v n p ++ codes_from tab_value (stop_of p (codes_of_tab v n p)) (drop (p.index + 1) bytes)
 
 -- the last column of a tab, and one that others follow
-tab-last : (v : ℕ) (bytes : List ℕ) (p : Point) → tab_left p ≡ 0 → tab_from v bytes p ≡ record { value = v; start = p; stop = next_column p (p.index + 1) 0 } ∷ codes_from 0 (next_column p (p.index + 1) 0) (drop (p.index + 1) bytes)
+tab-last : (v : ℕ) (bytes : List ℕ) (p : Point) → tab_left p ≡ 0 →
+    tab_from v bytes p ≡ record { value = v; start = p; stop = next_column p (p.index + 1) 0 } ∷ codes_from 0 (next_column p (p.index + 1) 0) (drop (p.index + 1) bytes)
 tab-last v bytes p h =
     ap (λ n. tab_rest v n bytes p) h ∙ ap (λ cs. record { value = v; start = p; stop = next_column p (p.index + 1) 0 } ∷ cs) (from-any tab_value (next_column p (p.index + 1) 0) (drop (p.index + 1) bytes) refl)
 
 left-less : (c n : ℕ) → 1 ≤ c → 4 - (c - 1) % 4 - 1 ≡ suc n → n ≡ 4 - (c + 1 - 1) % 4 - 1
 left-less c n one h = omega arith
 
-tab-more : (v n : ℕ) (bytes : List ℕ) (p : Point) → 1 ≤ p.column → tab_left p ≡ suc n → tab_from v bytes p ≡ record { value = v; start = p; stop = next_column p p.index (p.vs + 1) } ∷ tab_from space_value bytes (next_column p p.index (p.vs + 1))
+tab-more : (v n : ℕ) (bytes : List ℕ) (p : Point) → 1 ≤ p.column → tab_left p ≡ suc n →
+    tab_from v bytes p ≡ record { value = v; start = p; stop = next_column p p.index (p.vs + 1) } ∷ tab_from space_value bytes (next_column p p.index (p.vs + 1))
 tab-more v n bytes p one h =
     let q : Point = next_column p p.index (p.vs + 1) in
     ap (λ m. tab_rest v m bytes p) h ∙ ap (λ m. record { value = v; start = p; stop = q } ∷ tab_rest space_value m bytes q) (left-less p.column n one h)
@@ -156,7 +171,8 @@ before-next_index a b c h = grind (arith, nat_tests)
 before-next_column : (a b : ℕ) → is_before (a, b) (a, b + 1) ≡ true
 before-next_column a b = grind (arith, nat_tests)
 
-len-cases : (b c : ℕ) (cs : List ℕ) (t : Bool) → (b == carriage_return && c == line_feed) ≡ t → (1 ≤ line_ending_len b (c ∷ cs)) × (line_ending_len b (c ∷ cs) ≤ 1 + length (c ∷ cs))
+len-cases : (b c : ℕ) (cs : List ℕ) (t : Bool) → (b == carriage_return && c == line_feed) ≡ t →
+    (1 ≤ line_ending_len b (c ∷ cs)) × (line_ending_len b (c ∷ cs) ≤ 1 + length (c ∷ cs))
 len-cases b c cs true h = let two : line_ending_len b (c ∷ cs) ≡ 2 = len-two b c cs h in (omega arith, omega arith)
 len-cases b c cs false h = let one : line_ending_len b (c ∷ cs) ≡ 1 = len-one b c cs h in (omega arith, omega arith)
 
@@ -164,7 +180,10 @@ pub len-bounds : (b : ℕ) (bs : List ℕ) → (1 ≤ line_ending_len b bs) × (
 len-bounds b [] = (omega arith, omega arith)
 len-bounds b (c ∷ cs) = len-cases b c cs (b == carriage_return && c == line_feed) refl
 
-ending-record : (bytes : List ℕ) (p : Point) (n : ℕ) → Stands bytes p → p.index < length bytes → p.vs ≡ 0 → 1 ≤ n → p.index + n ≤ length bytes → codes_at bytes p ≡ record { value = line_feed; start = p; stop = line_start (p.line + 1) (p.index + n) } ∷ codes_from 0 (line_start (p.line + 1) (p.index + n)) (drop (p.index + n) bytes) → IsStep bytes p line_feed (line_start (p.line + 1) (p.index + n))
+ending-record : (bytes : List ℕ) (p : Point) (n : ℕ) → Stands bytes p → p.index < length bytes → p.vs ≡ 0 → 1 ≤ n →
+    p.index + n ≤ length bytes →
+    codes_at bytes p ≡ record { value = line_feed; start = p; stop = line_start (p.line + 1) (p.index + n) } ∷ codes_from 0 (line_start (p.line + 1) (p.index + n)) (drop (p.index + n) bytes) →
+    IsStep bytes p line_feed (line_start (p.line + 1) (p.index + n))
 ending-record bytes p n s lt none one fits e = record {
   codes = e;
   stands = record {
@@ -179,7 +198,9 @@ ending-record bytes p n s lt none one fits e = record {
   counts = omega arith;
 }
 
-column-record : (bytes : List ℕ) (p : Point) (v : ℕ) → Stands bytes p → p.index < length bytes → codes_at bytes p ≡ record { value = v; start = p; stop = next_column p (p.index + 1) 0 } ∷ codes_from 0 (next_column p (p.index + 1) 0) (drop (p.index + 1) bytes) → IsStep bytes p v (next_column p (p.index + 1) 0)
+column-record : (bytes : List ℕ) (p : Point) (v : ℕ) → Stands bytes p → p.index < length bytes →
+    codes_at bytes p ≡ record { value = v; start = p; stop = next_column p (p.index + 1) 0 } ∷ codes_from 0 (next_column p (p.index + 1) 0) (drop (p.index + 1) bytes) →
+    IsStep bytes p v (next_column p (p.index + 1) 0)
 column-record bytes p v s lt e = record {
   codes = e;
   stands = record {
@@ -194,7 +215,10 @@ column-record bytes p v s lt e = record {
   counts = omega arith;
 }
 
-inside-record : (bytes : List ℕ) (p : Point) (v : ℕ) → Stands bytes p → p.index < length bytes → get_or bytes p.index 0 ≡ tab_value → 0 < tab_left p → codes_at bytes p ≡ record { value = v; start = p; stop = next_column p p.index (p.vs + 1) } ∷ codes_at bytes (next_column p p.index (p.vs + 1)) → IsStep bytes p v (next_column p p.index (p.vs + 1))
+inside-record : (bytes : List ℕ) (p : Point) (v : ℕ) → Stands bytes p → p.index < length bytes →
+    get_or bytes p.index 0 ≡ tab_value → 0 < tab_left p →
+    codes_at bytes p ≡ record { value = v; start = p; stop = next_column p p.index (p.vs + 1) } ∷ codes_at bytes (next_column p p.index (p.vs + 1)) →
+    IsStep bytes p v (next_column p p.index (p.vs + 1))
 inside-record bytes p v s lt tab more e = record {
   codes = e;
   stands = record {
@@ -209,7 +233,9 @@ inside-record bytes p v s lt tab more e = record {
   counts = omega arith;
 }
 
-pub ending-step : (bytes : List ℕ) (p : Point) → Stands bytes p → p.index < length bytes → is_line_ending_byte (get_or bytes p.index 0) ≡ true → IsStep bytes p line_feed (line_start (p.line + 1) (p.index + line_ending_len (get_or bytes p.index 0) (drop (p.index + 1) bytes)))
+pub ending-step : (bytes : List ℕ) (p : Point) → Stands bytes p → p.index < length bytes →
+    is_line_ending_byte (get_or bytes p.index 0) ≡ true →
+    IsStep bytes p line_feed (line_start (p.line + 1) (p.index + line_ending_len (get_or bytes p.index 0) (drop (p.index + 1) bytes)))
 ending-step bytes p s lt h =
     let b : ℕ = get_or bytes p.index 0 in
     let n : ℕ = line_ending_len b (drop (p.index + 1) bytes) in
@@ -220,25 +246,32 @@ ending-step bytes p s lt h =
     ending-record bytes p n s lt none bounds.0 (omega arith)
     (codes-none_inside bytes p none ∙ step-ending bytes p q b (drop-next bytes p.index lt) h refl)
 
-pub plain-step : (bytes : List ℕ) (p : Point) → Stands bytes p → p.index < length bytes → is_line_ending_byte (get_or bytes p.index 0) ≡ false → (get_or bytes p.index 0 == tab_value) ≡ false → IsStep bytes p (get_or bytes p.index 0) (next_column p (p.index + 1) 0)
+pub plain-step : (bytes : List ℕ) (p : Point) → Stands bytes p → p.index < length bytes →
+    is_line_ending_byte (get_or bytes p.index 0) ≡ false → (get_or bytes p.index 0 == tab_value) ≡ false →
+    IsStep bytes p (get_or bytes p.index 0) (next_column p (p.index + 1) 0)
 plain-step bytes p s lt h k =
     let none : p.vs ≡ 0 = vs-none bytes p s k in
     column-record bytes p (get_or bytes p.index 0) s lt
     (codes-none_inside bytes p none ∙ step-plain bytes p (get_or bytes p.index 0) (drop-next bytes p.index lt) h k)
 
-tab-codes : (bytes : List ℕ) (p : Point) → p.index < length bytes → (get_or bytes p.index 0 == tab_value) ≡ true → (t : Bool) → nat_lt 0 p.vs ≡ t → codes_at bytes p ≡ tab_from (if t then space_value else tab_value) bytes p
+tab-codes : (bytes : List ℕ) (p : Point) → p.index < length bytes → (get_or bytes p.index 0 == tab_value) ≡ true →
+    (t : Bool) → nat_lt 0 p.vs ≡ t → codes_at bytes p ≡ tab_from (if t then space_value else tab_value) bytes p
 tab-codes bytes p lt h true k = at_vs-inside p.vs bytes p (ltb-true 0 p.vs k)
 tab-codes bytes p lt h false k =
     let none : p.vs ≡ 0 = omega (arith, ltb-false 0 p.vs k) in
     let tab : get_or bytes p.index 0 ≡ tab_value = eqb-true (get_or bytes p.index 0) tab_value h in
     codes-none_inside bytes p none ∙ from-tab bytes p (drop-next bytes p.index lt ∙ ap (λ x. x ∷ drop (p.index + 1) bytes) tab)
 
-pub last-step : (bytes : List ℕ) (p : Point) → Stands bytes p → p.index < length bytes → (get_or bytes p.index 0 == tab_value) ≡ true → tab_left p ≡ 0 → IsStep bytes p (if nat_lt 0 p.vs then space_value else tab_value) (next_column p (p.index + 1) 0)
+pub last-step : (bytes : List ℕ) (p : Point) → Stands bytes p → p.index < length bytes →
+    (get_or bytes p.index 0 == tab_value) ≡ true → tab_left p ≡ 0 →
+    IsStep bytes p (if nat_lt 0 p.vs then space_value else tab_value) (next_column p (p.index + 1) 0)
 last-step bytes p s lt h left =
     column-record bytes p (if nat_lt 0 p.vs then space_value else tab_value) s lt
     (tab-codes bytes p lt h (nat_lt 0 p.vs) refl ∙ tab-last (if nat_lt 0 p.vs then space_value else tab_value) bytes p left)
 
-pub more-step : (n : ℕ) (bytes : List ℕ) (p : Point) → Stands bytes p → p.index < length bytes → (get_or bytes p.index 0 == tab_value) ≡ true → tab_left p ≡ suc n → IsStep bytes p (if nat_lt 0 p.vs then space_value else tab_value) (next_column p p.index (p.vs + 1))
+pub more-step : (n : ℕ) (bytes : List ℕ) (p : Point) → Stands bytes p → p.index < length bytes →
+    (get_or bytes p.index 0 == tab_value) ≡ true → tab_left p ≡ suc n →
+    IsStep bytes p (if nat_lt 0 p.vs then space_value else tab_value) (next_column p p.index (p.vs + 1))
 more-step n bytes p s lt h left =
     let q : Point = next_column p p.index (p.vs + 1) in
     let v : ℕ = if nat_lt 0 p.vs then space_value else tab_value in

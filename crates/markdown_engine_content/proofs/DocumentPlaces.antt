@@ -13,7 +13,8 @@ use Rattle.markdown_engine_content.proofs.DocumentCodes.{codes_at, stop_at, code
 use Rattle.markdown_engine_content.proofs.DocumentWalkLemmas.{step, stands-start, chain-at, first-of, IsFirst}
 
 -- after some codes stand those that follow them
-pub along : (bytes : List ℕ) (p : Point) (front back : List Code) → Stands bytes p → codes_at bytes p ≡ front ++ back → (codes_at bytes (stop_of p front) ≡ back) × Stands bytes (stop_of p front)
+pub along : (bytes : List ℕ) (p : Point) (front back : List Code) → Stands bytes p → codes_at bytes p ≡ front ++ back →
+    (codes_at bytes (stop_of p front) ≡ back) × Stands bytes (stop_of p front)
 along bytes p [] back s e = (e, s)
 along bytes p (c ∷ cs) back s e =
     let one : IsFirst bytes p c (cs ++ back) = first-of bytes p c (cs ++ back) s e in
@@ -22,25 +23,30 @@ along bytes p (c ∷ cs) back s e =
 pub chain-document : (bytes : List ℕ) → IsChain document_start (codes_of bytes)
 chain-document bytes = chain-at bytes document_start (codes_of bytes) (stands-start bytes) refl
 
-pub chain-split : (bytes : List ℕ) (front back : List Code) → codes_of bytes ≡ front ++ back → IsChain document_start (front ++ back)
+pub chain-split : (bytes : List ℕ) (front back : List Code) → codes_of bytes ≡ front ++ back →
+    IsChain document_start (front ++ back)
 chain-split bytes front back e = subst (λ (cs : List Code). IsChain document_start cs) e (chain-document bytes)
 
 -- after any of the document's first codes is a place
-pub point-split : (bytes : List ℕ) (front back : List Code) → codes_of bytes ≡ front ++ back → point_at bytes (place_of (stop_of document_start front)) ≡ stop_of document_start front
+pub point-split : (bytes : List ℕ) (front back : List Code) → codes_of bytes ≡ front ++ back →
+    point_at bytes (place_of (stop_of document_start front)) ≡ stop_of document_start front
 point-split bytes front back e =
     let at : ℕ × ℕ = place_of (stop_of document_start front) in
     ap (λ cs. stop_of document_start (before_in at cs)) e ∙ ap (λ cs. stop_of document_start cs) (before_in-split document_start front back (chain-split bytes front back e))
 
-pub after-split : (bytes : List ℕ) (front back : List Code) → codes_of bytes ≡ front ++ back → codes_after bytes (place_of (stop_of document_start front)) ≡ back
+pub after-split : (bytes : List ℕ) (front back : List Code) → codes_of bytes ≡ front ++ back →
+    codes_after bytes (place_of (stop_of document_start front)) ≡ back
 after-split bytes front back e =
     let at : ℕ × ℕ = place_of (stop_of document_start front) in
     ap (λ cs. from_in at cs) e ∙ from_in-split document_start front back (chain-split bytes front back e)
 
 -- what a place of the document splits
-pub document-split : (bytes : List ℕ) (at : ℕ × ℕ) → codes_of bytes ≡ before_in at (codes_of bytes) ++ codes_after bytes at
+pub document-split : (bytes : List ℕ) (at : ℕ × ℕ) →
+    codes_of bytes ≡ before_in at (codes_of bytes) ++ codes_after bytes at
 document-split bytes at = split-at document_start (codes_of bytes) at (chain-document bytes)
 
-pub along-document : (bytes : List ℕ) (at : ℕ × ℕ) → (codes_at bytes (point_at bytes at) ≡ codes_after bytes at) × Stands bytes (point_at bytes at)
+pub along-document : (bytes : List ℕ) (at : ℕ × ℕ) →
+    (codes_at bytes (point_at bytes at) ≡ codes_after bytes at) × Stands bytes (point_at bytes at)
 along-document bytes at =
     along bytes document_start (before_in at (codes_of bytes)) (codes_after bytes at) (stands-start bytes) (document-split bytes at)
 
@@ -62,7 +68,8 @@ pub stop-more : (p : Point) (cs : List Code) (c : Code) → stop_of p (cs ++ c �
 stop-more p [] c = refl
 stop-more p (d ∷ cs) c = stop-more d.stop cs c
 
-next-is : (bytes : List ℕ) (p : Point) (c : Code) (cs : List Code) → codes_after bytes (place_of p) ≡ c ∷ cs → next_point bytes p ≡ c.stop
+next-is : (bytes : List ℕ) (p : Point) (c : Code) (cs : List Code) → codes_after bytes (place_of p) ≡ c ∷ cs →
+    next_point bytes p ≡ c.stop
 unfolding next_point
 next-is bytes p c cs e = ap (λ xs. stop_of p (take 1 xs)) e
 
@@ -89,7 +96,8 @@ point_start bytes = record { here = point-split bytes [] (codes_of bytes) refl }
 
 -- A place of the document by its numbers.
 
-any-split : (f : Code → Bool) (cs : List Code) → list_any f cs ≡ true → (front : List Code) × (c : Code) × (back : List Code) × (cs ≡ front ++ c ∷ back) × (f c ≡ true)
+any-split : (f : Code → Bool) (cs : List Code) → list_any f cs ≡ true →
+    (front : List Code) × (c : Code) × (back : List Code) × (cs ≡ front ++ c ∷ back) × (f c ≡ true)
 any-split f [] h = absurd (both_ways false refl h)
 any-split f (c ∷ cs) h =
     elim (or_cases (f c) (list_any f cs) h) [
@@ -105,14 +113,16 @@ pub record IsThere (bytes : List ℕ) (at : ℕ × ℕ) : Type 0 where
 pub same-pair : (a b : ℕ) (at : ℕ × ℕ) → a ≡ at.0 → b ≡ at.1 → ◌≡◌ {A = ℕ × ℕ} (a, b) at
 same-pair a b at e f = ap (λ (x : ℕ). let q : ℕ × ℕ = (x, b) in q) e ∙ ap (λ (x : ℕ). let q : ℕ × ℕ = (at.0, x) in q) f
 
-there-split : (bytes : List ℕ) (at : ℕ × ℕ) (front back : List Code) → codes_of bytes ≡ front ++ back → place_of (stop_of document_start front) ≡ at → IsThere bytes at
+there-split : (bytes : List ℕ) (at : ℕ × ℕ) (front back : List Code) → codes_of bytes ≡ front ++ back →
+    place_of (stop_of document_start front) ≡ at → IsThere bytes at
 there-split bytes at front back e h =
     let q : Point = stop_of document_start front in
     let here : point_at bytes at ≡ q = ap (λ (x : ℕ × ℕ). point_at bytes x) (sym h) ∙ point-split bytes front back e in
     let place : place_of (point_at bytes at) ≡ at = ap (λ (x : Point). place_of x) here ∙ h in
     record { place = place; point = record { here = ap (λ (x : ℕ × ℕ). point_at bytes x) place } }
 
-there-stop : (bytes : List ℕ) (at : ℕ × ℕ) → list_any (λ c. c.stop.index == at.0 && c.stop.vs == at.1) (codes_of bytes) ≡ true → IsThere bytes at
+there-stop : (bytes : List ℕ) (at : ℕ × ℕ) →
+    list_any (λ c. c.stop.index == at.0 && c.stop.vs == at.1) (codes_of bytes) ≡ true → IsThere bytes at
 there-stop bytes at h =
     let (front, c, back, e, k) = any-split (λ c. c.stop.index == at.0 && c.stop.vs == at.1) (codes_of bytes) h in
     let both : (c.stop.index == at.0 ≡ true) × (c.stop.vs == at.1 ≡ true) = and_parts (c.stop.index == at.0) (c.stop.vs == at.1) k in
@@ -135,14 +145,16 @@ pub vs-small : (bytes : List ℕ) (p : Point) → Stands bytes p → p.vs ≤ 3
 vs-small bytes p s = omega (arith, s.inside)
 
 -- the numbers of a place of the document
-pub stands-there : (bytes : List ℕ) (at : ℕ × ℕ) → IsThere bytes at → (at.0 ≤ length bytes) × (at.1 ≤ 3) × (0 < at.1 → at.0 < length bytes)
+pub stands-there : (bytes : List ℕ) (at : ℕ × ℕ) → IsThere bytes at →
+    (at.0 ≤ length bytes) × (at.1 ≤ 3) × (0 < at.1 → at.0 < length bytes)
 stands-there bytes at t =
     let s : Stands bytes (point_at bytes at) = stands-point bytes (point_at bytes at) t.point in
     subst (λ (x : ℕ × ℕ). (x.0 ≤ length bytes) × (x.1 ≤ 3) × (0 < x.1 → x.0 < length bytes)) t.place (s.in_bytes, vs-small bytes (point_at bytes at) s, λ k. (s.in_tab k).0)
 
 -- a point's own place
 pub there-point : (bytes : List ℕ) (p : Point) → IsPoint bytes p → IsThere bytes (place_of p)
-there-point bytes p h = record { place = ap (λ (x : Point). place_of x) h.here; point = subst (λ (x : Point). IsPoint bytes x) (sym h.here) h }
+there-point bytes p h =
+    record { place = ap (λ (x : Point). place_of x) h.here; point = subst (λ (x : Point). IsPoint bytes x) (sym h.here) h }
 
 -- before a place of the document there is a code, and it ends there or before
 pub record IsToward (bytes : List ℕ) (p : Point) (at : ℕ × ℕ) : Type 0 where
@@ -153,7 +165,8 @@ pub record IsToward (bytes : List ℕ) (p : Point) (at : ℕ × ℕ) : Type 0 wh
 pub inside-before : (n i v a b : ℕ) → is_before (i, v) (a, b) ≡ true → a ≤ n → (0 < b → a < n) → i < n
 inside-before n i v a b h k l = grind (arith, nat_tests)
 
-pub toward : (bytes : List ℕ) (p : Point) (at : ℕ × ℕ) → IsPoint bytes p → IsThere bytes at → is_before (place_of p) at ≡ true → IsToward bytes p at
+pub toward : (bytes : List ℕ) (p : Point) (at : ℕ × ℕ) → IsPoint bytes p → IsThere bytes at →
+    is_before (place_of p) at ≡ true → IsToward bytes p at
 toward bytes p at h t before =
     let n : (at.0 ≤ length bytes) × (at.1 ≤ 3) × (0 < at.1 → at.0 < length bytes) = stands-there bytes at t in
     let lt : p.index < length bytes = inside-before (length bytes) p.index p.vs at.0 at.1 before n.0 n.2 in

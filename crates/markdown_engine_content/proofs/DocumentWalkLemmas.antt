@@ -9,29 +9,37 @@ use Rattle.markdown_engine_content.proofs.PlaceOrder.{is_before}
 use Rattle.markdown_engine_content.proofs.AdjacentCodes.{IsChain, head_same, tail_same}
 use Rattle.markdown_engine_content.proofs.DocumentCodes.{tab_left, codes_at, value_at, stop_at, code_here, Stands, IsStep, codes-none_inside, ending-step, plain-step, last-step, more-step}
 
-pub value-ending : (bytes : List ℕ) (p : Point) → is_line_ending_byte (get_or bytes p.index 0) ≡ true → line_feed ≡ value_at bytes p
+pub value-ending : (bytes : List ℕ) (p : Point) → is_line_ending_byte (get_or bytes p.index 0) ≡ true →
+    line_feed ≡ value_at bytes p
 value-ending bytes p h = rw h refl
 
-pub stop-ending : (bytes : List ℕ) (p : Point) → is_line_ending_byte (get_or bytes p.index 0) ≡ true → line_start (p.line + 1) (p.index + line_ending_len (get_or bytes p.index 0) (drop (p.index + 1) bytes)) ≡ stop_at bytes p
+pub stop-ending : (bytes : List ℕ) (p : Point) → is_line_ending_byte (get_or bytes p.index 0) ≡ true →
+    line_start (p.line + 1) (p.index + line_ending_len (get_or bytes p.index 0) (drop (p.index + 1) bytes)) ≡ stop_at bytes p
 stop-ending bytes p h = rw h refl
 
-pub value-plain : (bytes : List ℕ) (p : Point) → is_line_ending_byte (get_or bytes p.index 0) ≡ false → (get_or bytes p.index 0 == tab_value) ≡ false → get_or bytes p.index 0 ≡ value_at bytes p
+pub value-plain : (bytes : List ℕ) (p : Point) → is_line_ending_byte (get_or bytes p.index 0) ≡ false →
+    (get_or bytes p.index 0 == tab_value) ≡ false → get_or bytes p.index 0 ≡ value_at bytes p
 value-plain bytes p h k = rw (h, k) refl
 
-pub stop-plain : (bytes : List ℕ) (p : Point) → is_line_ending_byte (get_or bytes p.index 0) ≡ false → (get_or bytes p.index 0 == tab_value) ≡ false → next_column p (p.index + 1) 0 ≡ stop_at bytes p
+pub stop-plain : (bytes : List ℕ) (p : Point) → is_line_ending_byte (get_or bytes p.index 0) ≡ false →
+    (get_or bytes p.index 0 == tab_value) ≡ false → next_column p (p.index + 1) 0 ≡ stop_at bytes p
 stop-plain bytes p h k = rw (h, k) refl
 
-pub value-tab : (bytes : List ℕ) (p : Point) → is_line_ending_byte (get_or bytes p.index 0) ≡ false → (get_or bytes p.index 0 == tab_value) ≡ true → (if nat_lt 0 p.vs then space_value else tab_value) ≡ value_at bytes p
+pub value-tab : (bytes : List ℕ) (p : Point) → is_line_ending_byte (get_or bytes p.index 0) ≡ false →
+    (get_or bytes p.index 0 == tab_value) ≡ true → (if nat_lt 0 p.vs then space_value else tab_value) ≡ value_at bytes p
 value-tab bytes p h k =
     let tab : get_or bytes p.index 0 ≡ tab_value = eqb-true (get_or bytes p.index 0) tab_value k in
     rw (h, k) (ap (λ n. if nat_lt 0 p.vs then space_value else n) (sym tab))
 
-pub stop-last : (bytes : List ℕ) (p : Point) → is_line_ending_byte (get_or bytes p.index 0) ≡ false → nat_lt 0 (tab_left p) ≡ false → next_column p (p.index + 1) 0 ≡ stop_at bytes p
+pub stop-last : (bytes : List ℕ) (p : Point) → is_line_ending_byte (get_or bytes p.index 0) ≡ false →
+    nat_lt 0 (tab_left p) ≡ false → next_column p (p.index + 1) 0 ≡ stop_at bytes p
 stop-last bytes p h k =
     let none : (get_or bytes p.index 0 == tab_value && nat_lt 0 (tab_left p)) ≡ false = and_right (get_or bytes p.index 0 == tab_value) (nat_lt 0 (tab_left p)) k in
     rw (h, none) refl
 
-pub stop-more : (bytes : List ℕ) (p : Point) → is_line_ending_byte (get_or bytes p.index 0) ≡ false → (get_or bytes p.index 0 == tab_value) ≡ true → nat_lt 0 (tab_left p) ≡ true → next_column p p.index (p.vs + 1) ≡ stop_at bytes p
+pub stop-more : (bytes : List ℕ) (p : Point) → is_line_ending_byte (get_or bytes p.index 0) ≡ false →
+    (get_or bytes p.index 0 == tab_value) ≡ true → nat_lt 0 (tab_left p) ≡ true →
+    next_column p p.index (p.vs + 1) ≡ stop_at bytes p
 stop-more bytes p h k l = rw (h, k, l) refl
 
 nil≢cons : (c : Code) (cs : List Code) → [] ≡ c ∷ cs → ⊥
@@ -45,14 +53,17 @@ few-end bytes p s =
     ]
 
 -- the code at a place, and the place after it
-step-as : (bytes : List ℕ) (p q : Point) (v : ℕ) → v ≡ value_at bytes p → q ≡ stop_at bytes p → IsStep bytes p v q → IsStep bytes p (value_at bytes p) (stop_at bytes p)
+step-as : (bytes : List ℕ) (p q : Point) (v : ℕ) → v ≡ value_at bytes p → q ≡ stop_at bytes p → IsStep bytes p v q →
+    IsStep bytes p (value_at bytes p) (stop_at bytes p)
 step-as bytes p q v e f s =
     subst (λ (x : Point). IsStep bytes p (value_at bytes p) x) f (subst (λ (x : ℕ). IsStep bytes p x q) e s)
 
 tab-not_ending : (b : ℕ) → (b == tab_value) ≡ true → is_line_ending_byte b ≡ false
 tab-not_ending b h = grind (arith, nat_tests)
 
-step-tab : (bytes : List ℕ) (p : Point) → Stands bytes p → p.index < length bytes → (get_or bytes p.index 0 == tab_value) ≡ true → (n : ℕ) → tab_left p ≡ n → IsStep bytes p (value_at bytes p) (stop_at bytes p)
+step-tab : (bytes : List ℕ) (p : Point) → Stands bytes p → p.index < length bytes →
+    (get_or bytes p.index 0 == tab_value) ≡ true → (n : ℕ) → tab_left p ≡ n →
+    IsStep bytes p (value_at bytes p) (stop_at bytes p)
 step-tab bytes p s lt h zero left =
     let plain : is_line_ending_byte (get_or bytes p.index 0) ≡ false = tab-not_ending (get_or bytes p.index 0) h in
     let none : nat_lt 0 (tab_left p) ≡ false = le-ltb 0 (tab_left p) (omega arith) in
@@ -62,14 +73,17 @@ step-tab bytes p s lt h (suc n) left =
     let more : nat_lt 0 (tab_left p) ≡ true = lt-ltb 0 (tab_left p) (omega arith) in
     step-as bytes p (next_column p p.index (p.vs + 1)) (if nat_lt 0 p.vs then space_value else tab_value) (value-tab bytes p plain h) (stop-more bytes p plain h more) (more-step n bytes p s lt h left)
 
-step-by : (bytes : List ℕ) (p : Point) → Stands bytes p → p.index < length bytes → (t u : Bool) → is_line_ending_byte (get_or bytes p.index 0) ≡ t → (get_or bytes p.index 0 == tab_value) ≡ u → IsStep bytes p (value_at bytes p) (stop_at bytes p)
+step-by : (bytes : List ℕ) (p : Point) → Stands bytes p → p.index < length bytes → (t u : Bool) →
+    is_line_ending_byte (get_or bytes p.index 0) ≡ t → (get_or bytes p.index 0 == tab_value) ≡ u →
+    IsStep bytes p (value_at bytes p) (stop_at bytes p)
 step-by bytes p s lt true u h k =
     step-as bytes p (line_start (p.line + 1) (p.index + line_ending_len (get_or bytes p.index 0) (drop (p.index + 1) bytes))) line_feed (value-ending bytes p h) (stop-ending bytes p h) (ending-step bytes p s lt h)
 step-by bytes p s lt false true h k = step-tab bytes p s lt k (tab_left p) refl
 step-by bytes p s lt false false h k =
     step-as bytes p (next_column p (p.index + 1) 0) (get_or bytes p.index 0) (value-plain bytes p h k) (stop-plain bytes p h k) (plain-step bytes p s lt h k)
 
-pub step : (bytes : List ℕ) (p : Point) → Stands bytes p → p.index < length bytes → IsStep bytes p (value_at bytes p) (stop_at bytes p)
+pub step : (bytes : List ℕ) (p : Point) → Stands bytes p → p.index < length bytes →
+    IsStep bytes p (value_at bytes p) (stop_at bytes p)
 step bytes p s lt =
     step-by bytes p s lt (is_line_ending_byte (get_or bytes p.index 0)) (get_or bytes p.index 0 == tab_value) refl refl
 
@@ -93,7 +107,8 @@ stands-start bytes = record {
 
 -- The document's codes from a place on are a chain, and few.
 
-some-left : (bytes : List ℕ) (p : Point) (c : Code) (cs : List Code) → Stands bytes p → codes_at bytes p ≡ c ∷ cs → p.index < length bytes
+some-left : (bytes : List ℕ) (p : Point) (c : Code) (cs : List Code) → Stands bytes p → codes_at bytes p ≡ c ∷ cs →
+    p.index < length bytes
 some-left bytes p c cs s e =
     elim (cases_lt p.index (length bytes)) [
       | inl k ↦ k
@@ -109,7 +124,8 @@ pub record IsFirst (bytes : List ℕ) (p : Point) (c : Code) (cs : List Code) : 
   pub later : is_before (place_of p) (place_of c.stop) ≡ true
   pub counts : 4 * p.index + p.vs + 1 ≤ 4 * c.stop.index + c.stop.vs
 
-pub first-of : (bytes : List ℕ) (p : Point) (c : Code) (cs : List Code) → Stands bytes p → codes_at bytes p ≡ c ∷ cs → IsFirst bytes p c cs
+pub first-of : (bytes : List ℕ) (p : Point) (c : Code) (cs : List Code) → Stands bytes p → codes_at bytes p ≡ c ∷ cs →
+    IsFirst bytes p c cs
 first-of bytes p c cs s e =
     let lt : p.index < length bytes = some-left bytes p c cs s e in
     let one : IsStep bytes p (value_at bytes p) (stop_at bytes p) = step bytes p s lt in
@@ -130,7 +146,8 @@ chain-at bytes p (c ∷ cs) s e =
     let one : IsFirst bytes p c cs = first-of bytes p c cs s e in
     (ap (λ (x : Code). x.start) one.code, one.later, chain-at bytes c.stop cs one.stands (sym one.rest))
 
-pub few-at : (bytes : List ℕ) (p : Point) (cs : List Code) → Stands bytes p → codes_at bytes p ≡ cs → length cs + 4 * p.index + p.vs ≤ 4 * length bytes
+pub few-at : (bytes : List ℕ) (p : Point) (cs : List Code) → Stands bytes p → codes_at bytes p ≡ cs →
+    length cs + 4 * p.index + p.vs ≤ 4 * length bytes
 few-at bytes p [] s e = few-end bytes p s
 few-at bytes p (c ∷ cs) s e =
     let one : IsFirst bytes p c cs = first-of bytes p c cs s e in

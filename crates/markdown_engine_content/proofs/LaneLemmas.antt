@@ -40,7 +40,8 @@ module _ (d : List ℕ) (i m : ℕ) (z : List ℕ) (room : i + 16 ≤ length d) 
       (ap (λ (x : ℕ). cond (stops_by f x) 1 0) (sym (get_or-chunk i 16 d k 0 lt)) ∙ ap (λ (b : Bool). cond b 1 0) (sym here) ∙ sym (bit_mask_l (map (stops_by f) v) k) ∙ ap (λ (x : ℕ). bit_at x k) (sym mask-is) ∙ clear)
 
   -- each byte whose bit is not set passes q
-  pub bits-pass : (q : ℕ → Bool) → agree_below (λ x. stops_by f x || q x) (λ _. true) 256 ≡ true → (k : ℕ) → k < 16 → bit_at m k ≡ 0 → q (get_or d (i + k) 0) ≡ true
+  pub bits-pass : (q : ℕ → Bool) → agree_below (λ x. stops_by f x || q x) (λ _. true) 256 ≡ true → (k : ℕ) → k < 16 →
+      bit_at m k ≡ 0 → q (get_or d (i + k) 0) ≡ true
   bits-pass q all k lt clear =
       sym (ap (λ (b : Bool). b || q (get_or d (i + k) 0)) (clear-fails k lt clear))
       ∙ agree_below_at (λ x. stops_by f x || q x) (λ _. true) 256 (get_or d (i + k) 0) all (fits (i + k)).fits
@@ -60,7 +61,8 @@ module _ (d : List ℕ) (i r : ℕ) (z : List ℕ) (room : i + 16 ≤ length d) 
   run-fails k from to = run_in_chunk_fails (stops_by f) d i 16 r 0 room counted k from to
 
   -- each byte at which no lane stops passes q
-  pub run-passes : (q : ℕ → Bool) → agree_below (λ x. stops_by f x || q x) (λ _. true) 256 ≡ true → (k : ℕ) → i ≤ k → k < i + r → q (get_or d k 0) ≡ true
+  pub run-passes : (q : ℕ → Bool) → agree_below (λ x. stops_by f x || q x) (λ _. true) 256 ≡ true → (k : ℕ) → i ≤ k →
+      k < i + r → q (get_or d k 0) ≡ true
   run-passes q all k from to =
       sym (ap (λ (b : Bool). b || q (get_or d k 0)) (run-fails k from to))
       ∙ agree_below_at (λ x. stops_by f x || q x) (λ _. true) 256 (get_or d k 0) all (fits k).fits

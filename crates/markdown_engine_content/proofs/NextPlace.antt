@@ -19,7 +19,8 @@ pub record Fits_point (p : Point) : Type 0 where
   pub vs : p.vs < 4
   pub from_one : 1 ≤ p.column
 
-column_fits : (bytes : List ℕ) (p : Point) → Stands bytes p → length bytes ≤ document_limit → p.vs ≤ 3 → p.column < 2 ^ 63
+column_fits : (bytes : List ℕ) (p : Point) → Stands bytes p → length bytes ≤ document_limit → p.vs ≤ 3 →
+    p.column < 2 ^ 63
 column_fits bytes p s fits small = omega (arith, s.columns, few-end bytes p s)
 
 pub point_fits : (bytes : List ℕ) (p : Point) → IsPoint bytes p → length bytes ≤ document_limit → Fits_point p
@@ -34,7 +35,9 @@ point_fits bytes p h fits =
       from_one = s.from_one;
     }
 
-pub next_ending : (bytes : List ℕ) (p : Point) → IsPoint bytes p → p.index < length bytes → is_line_ending_byte (get_or bytes p.index 0) ≡ true → line_start (p.line + 1) (p.index + line_ending_len (get_or bytes p.index 0) (drop (p.index + 1) bytes)) ≡ next_point bytes p
+pub next_ending : (bytes : List ℕ) (p : Point) → IsPoint bytes p → p.index < length bytes →
+    is_line_ending_byte (get_or bytes p.index 0) ≡ true →
+    line_start (p.line + 1) (p.index + line_ending_len (get_or bytes p.index 0) (drop (p.index + 1) bytes)) ≡ next_point bytes p
 next_ending bytes p h lt k = stop-ending bytes p k ∙ sym (next bytes p h lt).next
 
 left-some : (c : ℕ) → 1 ≤ c → (c % 4 ≡ 0 → ⊥) → 0 < 4 - (c - 1) % 4 - 1
@@ -43,13 +46,16 @@ left-some c one h = omega arith
 left-none : (c : ℕ) → 1 ≤ c → c % 4 ≡ 0 → 4 - (c - 1) % 4 - 1 ≤ 0
 left-none c one h = omega arith
 
-pub next_inside : (bytes : List ℕ) (p : Point) → IsPoint bytes p → p.index < length bytes → get_or bytes p.index 0 ≡ tab_value → (p.column % 4 ≡ 0 → ⊥) → next_column p p.index (p.vs + 1) ≡ next_point bytes p
+pub next_inside : (bytes : List ℕ) (p : Point) → IsPoint bytes p → p.index < length bytes →
+    get_or bytes p.index 0 ≡ tab_value → (p.column % 4 ≡ 0 → ⊥) → next_column p p.index (p.vs + 1) ≡ next_point bytes p
 next_inside bytes p h lt tab more =
     let one : 1 ≤ p.column = (stands-point bytes p h).from_one in
     let plain : is_line_ending_byte (get_or bytes p.index 0) ≡ false = rw tab refl in
     stop-more bytes p plain (eq-eqb (get_or bytes p.index 0) tab_value tab) (lt-ltb 0 (tab_left p) (left-some p.column one more)) ∙ sym (next bytes p h lt).next
 
-pub next_byte : (bytes : List ℕ) (p : Point) → IsPoint bytes p → p.index < length bytes → is_line_ending_byte (get_or bytes p.index 0) ≡ false → (get_or bytes p.index 0 ≡ tab_value → p.column % 4 ≡ 0) → next_column p (p.index + 1) 0 ≡ next_point bytes p
+pub next_byte : (bytes : List ℕ) (p : Point) → IsPoint bytes p → p.index < length bytes →
+    is_line_ending_byte (get_or bytes p.index 0) ≡ false → (get_or bytes p.index 0 ≡ tab_value → p.column % 4 ≡ 0) →
+    next_column p (p.index + 1) 0 ≡ next_point bytes p
 next_byte bytes p h lt plain last =
     let one : 1 ≤ p.column = (stands-point bytes p h).from_one in
     elim (cases_eq (get_or bytes p.index 0) tab_value) [
@@ -64,20 +70,26 @@ pub other_byte : (b : ℕ) → (b ≡ 10 → ⊥) → (b ≡ 13 → ⊥) → is_
 other_byte b h k = grind (arith, nat_tests)
 
 -- the value of a code, by the byte there
-pub value-is : (bytes : List ℕ) (p : Point) → IsPoint bytes p → p.index < length bytes → value_from bytes p ≡ Some (value_at bytes p)
+pub value-is : (bytes : List ℕ) (p : Point) → IsPoint bytes p → p.index < length bytes →
+    value_from bytes p ≡ Some (value_at bytes p)
 unfolding value_from
-value-is bytes p h lt = ap (λ (cs : List Code). option_map (λ (c : Code). c.value) (slice_get cs 0)) (next bytes p h lt).codes
+value-is bytes p h lt =
+    ap (λ (cs : List Code). option_map (λ (c : Code). c.value) (slice_get cs 0)) (next bytes p h lt).codes
 
-pub value_ending : (bytes : List ℕ) (p : Point) → IsPoint bytes p → p.index < length bytes → is_line_ending_byte (get_or bytes p.index 0) ≡ true → value_from bytes p ≡ Some 10
+pub value_ending : (bytes : List ℕ) (p : Point) → IsPoint bytes p → p.index < length bytes →
+    is_line_ending_byte (get_or bytes p.index 0) ≡ true → value_from bytes p ≡ Some 10
 value_ending bytes p h lt k = value-is bytes p h lt ∙ ap (λ (v : ℕ). Some v) (sym (value-ending bytes p k))
 
-pub value_space : (bytes : List ℕ) (p : Point) → IsPoint bytes p → p.index < length bytes → get_or bytes p.index 0 ≡ tab_value → 0 < p.vs → value_from bytes p ≡ Some 32
+pub value_space : (bytes : List ℕ) (p : Point) → IsPoint bytes p → p.index < length bytes →
+    get_or bytes p.index 0 ≡ tab_value → 0 < p.vs → value_from bytes p ≡ Some 32
 value_space bytes p h lt tab inside =
     let plain : is_line_ending_byte (get_or bytes p.index 0) ≡ false = rw tab refl in
     let space : (if nat_lt 0 p.vs then space_value else tab_value) ≡ space_value = rw (lt-ltb 0 p.vs inside) refl in
     value-is bytes p h lt ∙ ap (λ (v : ℕ). Some v) (sym (value-tab bytes p plain (eq-eqb (get_or bytes p.index 0) tab_value tab)) ∙ space)
 
-pub value_byte : (bytes : List ℕ) (p : Point) → IsPoint bytes p → p.index < length bytes → is_line_ending_byte (get_or bytes p.index 0) ≡ false → (get_or bytes p.index 0 ≡ tab_value → p.vs ≤ 0) → value_from bytes p ≡ Some (get_or bytes p.index 0)
+pub value_byte : (bytes : List ℕ) (p : Point) → IsPoint bytes p → p.index < length bytes →
+    is_line_ending_byte (get_or bytes p.index 0) ≡ false → (get_or bytes p.index 0 ≡ tab_value → p.vs ≤ 0) →
+    value_from bytes p ≡ Some (get_or bytes p.index 0)
 value_byte bytes p h lt plain first =
     elim (cases_eq (get_or bytes p.index 0) tab_value) [
       | inl e ↦ let none : (if nat_lt 0 p.vs then space_value else tab_value) ≡ tab_value = rw (le-ltb 0 p.vs (first e)) refl in
@@ -86,7 +98,8 @@ value_byte bytes p h lt plain first =
     ]
 
 -- the next place is one of the document
-pub next_is_point : (bytes : List ℕ) (p q : Point) → IsPoint bytes p → p.index < length bytes → q ≡ next_point bytes p → IsPoint bytes q
+pub next_is_point : (bytes : List ℕ) (p q : Point) → IsPoint bytes p → p.index < length bytes → q ≡ next_point bytes p →
+    IsPoint bytes q
 next_is_point bytes p q h lt e =
     let one : IsNext bytes p = next bytes p h lt in
     subst (λ (x : Point). IsPoint bytes x) (sym (e ∙ one.next)) one.point

@@ -24,7 +24,8 @@ end_moved p = refl
 
 -- At the start.
 
-pub ahead_start : (bytes : List ℕ) (pieces : List Piece) → ahead_at (start_of_content bytes pieces) ≡ content_of bytes pieces
+pub ahead_start : (bytes : List ℕ) (pieces : List Piece) →
+    ahead_at (start_of_content bytes pieces) ≡ content_of bytes pieces
 unfolding start_of_content ahead_at
 ahead_start bytes pieces = refl
 
@@ -52,7 +53,8 @@ point_end p h = ap (λ (x : Option Code). start_or x p.end) (drop-none p.at p.co
 
 pub exit_moved : (p : Place) (c : Code) (cs : List Code) → ahead_at p ≡ c ∷ cs → exit_point (moved p) ≡ c.stop
 unfolding ahead_at exit_point moved
-exit_moved p c cs h = rw add-one (ap (λ (x : Option Code). stop_or x (start_or (slice_get p.codes (suc p.at)) p.end)) (drop-some p.at p.codes c cs h))
+exit_moved p c cs h =
+    rw add-one (ap (λ (x : Option Code). stop_or x (start_or (slice_get p.codes (suc p.at)) p.end)) (drop-some p.at p.codes c cs h))
 
 -- from the code at the place to the codes ahead_at
 

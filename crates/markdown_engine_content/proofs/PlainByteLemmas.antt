@@ -16,7 +16,8 @@ open-index : (a b c d : ℕ) → a < c → not (a == c && b == d) ≡ true
 open-index a b c d h = grind (arith, nat_tests)
 
 -- a place before the end of its piece, by the index
-pub open-before-end : (pieces : List Piece) (k : ℕ) (p : Point) (d : Piece) → k < length pieces → p.index < (get_or pieces k d).end.0 → is_open (place_of p) (drop k pieces) ≡ true
+pub open-before-end : (pieces : List Piece) (k : ℕ) (p : Point) (d : Piece) → k < length pieces →
+    p.index < (get_or pieces k d).end.0 → is_open (place_of p) (drop k pieces) ≡ true
 open-before-end pieces k p d lt h =
     ap (λ (x : List Piece). is_open (place_of p) x) (drop_more pieces k d lt) ∙ open-index p.index p.vs (get_or pieces k d).end.0 (get_or pieces k d).end.1 h
 
@@ -27,14 +28,20 @@ some-here : (o : Option ℕ) (v : ℕ) → o ≡ Some v → IsSome o
 some-here o v e = subst (λ (x : Option ℕ). IsSome x) (sym e) refl
 
 -- past a code, where the place after it is before the end of the piece
-next-within : {bytes : List ℕ} {pieces : List Piece} {k : ℕ} {p e : Point} {before : Option ℕ} {n : ℕ} → IsCursor bytes pieces k p e before n → (d : Piece) → k < length pieces → p.index < (get_or pieces k d).end.0 → (v : ℕ) (q : Point) → value_from bytes p ≡ Some v → q ≡ next_point bytes p → q.index < (get_or pieces k d).end.0 → IsCursor bytes pieces k q q (Some v) (n + 1)
+next-within : {bytes : List ℕ} {pieces : List Piece} {k : ℕ} {p e : Point} {before : Option ℕ} {n : ℕ} →
+    IsCursor bytes pieces k p e before n → (d : Piece) → k < length pieces → p.index < (get_or pieces k d).end.0 →
+    (v : ℕ) (q : Point) → value_from bytes p ≡ Some v → q ≡ next_point bytes p → q.index < (get_or pieces k d).end.0 →
+    IsCursor bytes pieces k q q (Some v) (n + 1)
 next-within {bytes} {pieces} {k} {p} {e} {before} {n} h d lt here v q value stop fits =
     let at : IsAtCode bytes pieces k p n = at_code h (open-before-end pieces k p d lt here) in
     let code : code_at (content_place bytes pieces n) ≡ Some v = sym at.value ∙ value in
     cursor_next (content_place bytes pieces n) k v q q h refl (some-here (code_at (content_place bytes pieces n)) v code) value stop (followed-open bytes pieces k q (open-before-end pieces k q d lt fits))
 
 -- past an ordinary byte that is not the last of its piece
-pub plain_next : {bytes : List ℕ} {pieces : List Piece} {k : ℕ} {p e : Point} {before : Option ℕ} {n : ℕ} → IsCursor bytes pieces k p e before n → (d : Piece) → k < length pieces → p.index + 1 < (get_or pieces k d).end.0 → 13 < get_or bytes p.index 0 → IsCursor bytes pieces k (next_column p (p.index + 1) 0) (next_column p (p.index + 1) 0) (Some (get_or bytes p.index 0)) (n + 1)
+pub plain_next : {bytes : List ℕ} {pieces : List Piece} {k : ℕ} {p e : Point} {before : Option ℕ} {n : ℕ} →
+    IsCursor bytes pieces k p e before n → (d : Piece) → k < length pieces → p.index + 1 < (get_or pieces k d).end.0 →
+    13 < get_or bytes p.index 0 →
+    IsCursor bytes pieces k (next_column p (p.index + 1) 0) (next_column p (p.index + 1) 0) (Some (get_or bytes p.index 0)) (n + 1)
 plain_next {bytes} {pieces} {k} {p} {e} {before} {n} h d lt fits plain =
     let b : ℕ = get_or bytes p.index 0 in
     let here : p.index < (get_or pieces k d).end.0 = omega (arith, fits) in
@@ -50,7 +57,10 @@ feed-len b [] e = refl
 feed-len b (c ∷ cs) e = rw e refl
 
 -- past a line feed that is not the last byte of its piece
-pub feed_next : {bytes : List ℕ} {pieces : List Piece} {k : ℕ} {p e : Point} {before : Option ℕ} {n : ℕ} → IsCursor bytes pieces k p e before n → (d : Piece) → k < length pieces → p.index + 1 < (get_or pieces k d).end.0 → get_or bytes p.index 0 ≡ 10 → IsCursor bytes pieces k (line_start (p.line + 1) (p.index + 1)) (line_start (p.line + 1) (p.index + 1)) (Some 10) (n + 1)
+pub feed_next : {bytes : List ℕ} {pieces : List Piece} {k : ℕ} {p e : Point} {before : Option ℕ} {n : ℕ} →
+    IsCursor bytes pieces k p e before n → (d : Piece) → k < length pieces → p.index + 1 < (get_or pieces k d).end.0 →
+    get_or bytes p.index 0 ≡ 10 →
+    IsCursor bytes pieces k (line_start (p.line + 1) (p.index + 1)) (line_start (p.line + 1) (p.index + 1)) (Some 10) (n + 1)
 feed_next {bytes} {pieces} {k} {p} {e} {before} {n} h d lt fits feed =
     let b : ℕ = get_or bytes p.index 0 in
     let here : p.index < (get_or pieces k d).end.0 = omega (arith, fits) in
@@ -61,7 +71,9 @@ feed_next {bytes} {pieces} {k} {p} {e} {before} {n} h d lt fits feed =
     next-within h d lt here 10 (line_start (p.line + 1) (p.index + 1)) (value_ending bytes p h.standing.is_point at.in_bytes ending) stop fits
 
 -- the code at an ordinary byte is that byte
-pub plain_code : {bytes : List ℕ} {pieces : List Piece} {k : ℕ} {p e : Point} {before : Option ℕ} {n : ℕ} → IsCursor bytes pieces k p e before n → (d : Piece) → k < length pieces → p.index < (get_or pieces k d).end.0 → 13 < get_or bytes p.index 0 → code_at (content_place bytes pieces n) ≡ Some (get_or bytes p.index 0)
+pub plain_code : {bytes : List ℕ} {pieces : List Piece} {k : ℕ} {p e : Point} {before : Option ℕ} {n : ℕ} →
+    IsCursor bytes pieces k p e before n → (d : Piece) → k < length pieces → p.index < (get_or pieces k d).end.0 →
+    13 < get_or bytes p.index 0 → code_at (content_place bytes pieces n) ≡ Some (get_or bytes p.index 0)
 plain_code {bytes} {pieces} {k} {p} {e} {before} {n} h d lt fits plain =
     let b : ℕ = get_or bytes p.index 0 in
     let at : IsAtCode bytes pieces k p n = at_code h (open-before-end pieces k p d lt fits) in
@@ -69,7 +81,9 @@ plain_code {bytes} {pieces} {k} {p} {e} {before} {n} h d lt fits plain =
     sym at.value ∙ value_byte bytes p h.standing.is_point at.in_bytes byte (λ x. absurd (not-control b tab_value plain (omega arith) x))
 
 -- the code at a line feed is a line ending
-pub feed_code : {bytes : List ℕ} {pieces : List Piece} {k : ℕ} {p e : Point} {before : Option ℕ} {n : ℕ} → IsCursor bytes pieces k p e before n → (d : Piece) → k < length pieces → p.index < (get_or pieces k d).end.0 → get_or bytes p.index 0 ≡ 10 → code_at (content_place bytes pieces n) ≡ Some 10
+pub feed_code : {bytes : List ℕ} {pieces : List Piece} {k : ℕ} {p e : Point} {before : Option ℕ} {n : ℕ} →
+    IsCursor bytes pieces k p e before n → (d : Piece) → k < length pieces → p.index < (get_or pieces k d).end.0 →
+    get_or bytes p.index 0 ≡ 10 → code_at (content_place bytes pieces n) ≡ Some 10
 feed_code {bytes} {pieces} {k} {p} {e} {before} {n} h d lt fits feed =
     let at : IsAtCode bytes pieces k p n = at_code h (open-before-end pieces k p d lt fits) in
     sym at.value ∙ value_ending bytes p h.standing.is_point at.in_bytes (ending_byte (get_or bytes p.index 0) (inl feed))

@@ -21,7 +21,8 @@ use Rattle.markdown_engine_content.proofs.PlainByteLemmas.{plain_next, plain_cod
 pub stretch-stops : (ms : List ℕ) (c : Code) (cs : List Code) → stops ms c.value ≡ true → stretch ms (c ∷ cs) ≡ []
 stretch-stops ms c cs h = rw (h, stretch) refl
 
-pub stretch-goes : (ms : List ℕ) (c : Code) (cs : List Code) → stops ms c.value ≡ false → stretch ms (c ∷ cs) ≡ c ∷ stretch ms cs
+pub stretch-goes : (ms : List ℕ) (c : Code) (cs : List Code) → stops ms c.value ≡ false →
+    stretch ms (c ∷ cs) ≡ c ∷ stretch ms cs
 stretch-goes ms c cs h = rw (h, stretch) refl
 
 none-by : (ms : List ℕ) (p : Place) (o : Option ℕ) → code_at p ≡ o → is_free ms o ≡ false → stretch ms (ahead_at p) ≡ []
@@ -35,7 +36,8 @@ pub past-none : (ms : List ℕ) (p : Place) → is_free ms (code_at p) ≡ false
 unfolding past_stretch
 past-none ms p h = ap (λ (cs : List Code). walked cs p) (none-by ms p (code_at p) refl h)
 
-past-by : (ms : List ℕ) (p : Place) (o : Option ℕ) → code_at p ≡ o → is_free ms o ≡ true → past_stretch ms p ≡ past_stretch ms (moved p)
+past-by : (ms : List ℕ) (p : Place) (o : Option ℕ) → code_at p ≡ o → is_free ms o ≡ true →
+    past_stretch ms p ≡ past_stretch ms (moved p)
 unfolding past_stretch
 past-by ms p None e h = absurd (both_ways false refl h)
 past-by ms p (Some v) e h =
@@ -58,7 +60,8 @@ at-less ms p h =
     ]
 
 -- fewer codes are left
-pub fewer : (ms : List ℕ) (p q r : Place) → is_free ms (code_at p) ≡ true → q ≡ moved p → r.codes ≡ q.codes → q.at ≤ r.at → length r.codes - r.at < length p.codes - p.at
+pub fewer : (ms : List ℕ) (p q r : Place) → is_free ms (code_at p) ≡ true → q ≡ moved p → r.codes ≡ q.codes →
+    q.at ≤ r.at → length r.codes - r.at < length p.codes - p.at
 fewer ms p q r h e same forward =
     let lt : p.at < length p.codes = at-less ms p h in
     let at : q.at ≡ p.at + 1 = ap (λ (x : Place). x.at) e ∙ at_moved p in
@@ -69,9 +72,11 @@ fewer ms p q r h e same forward =
 
 -- it is kept past each code that is neither a line ending nor one of the bytes
 abbrev pub IsKept : List ℕ → (Place → Type 0) → Type 0
-IsKept ms P = (p : Place) (v : ℕ) → code_at p ≡ Some v → (v == line_feed) ≡ false → list_any (λ n. v == n) ms ≡ false → P p → P (moved p)
+IsKept ms P =
+    (p : Place) (v : ℕ) → code_at p ≡ Some v → (v == line_feed) ≡ false → list_any (λ n. v == n) ms ≡ false → P p → P (moved p)
 
-kept-from : (ms : List ℕ) (P : Place → Type 0) → IsKept ms P → (cs : List Code) (p : Place) → ahead_at p ≡ cs → P p → P (walked (stretch ms cs) p)
+kept-from : (ms : List ℕ) (P : Place → Type 0) → IsKept ms P → (cs : List Code) (p : Place) → ahead_at p ≡ cs → P p →
+    P (walked (stretch ms cs) p)
 kept-from ms P next [] p e k = k
 kept-from ms P next (c ∷ cs) p e k =
     elim (stops ms c.value) as (λ b. stops ms c.value ≡ b → P (walked (stretch ms (c ∷ cs)) p)) [
@@ -92,7 +97,8 @@ left-stretch ms p =
     kept ms (λ q. length (ahead_at q) ≤ length (ahead_at p)) (λ q v h ending free k. let one : length (ahead_at (moved q)) + 1 ≡ length (ahead_at q) = left_moved q v h in omega (arith, one, k)) p (omega arith)
 
 -- fewer are left behind the code where it ends
-pub left-behind : (ms : List ℕ) (p q r : Place) (v : ℕ) → q ≡ past_stretch ms p → code_at q ≡ Some v → length (ahead_at r) + 1 ≤ length (ahead_at q) → length (ahead_at r) < length (ahead_at p)
+pub left-behind : (ms : List ℕ) (p q r : Place) (v : ℕ) → q ≡ past_stretch ms p → code_at q ≡ Some v →
+    length (ahead_at r) + 1 ≤ length (ahead_at q) → length (ahead_at r) < length (ahead_at p)
 left-behind ms p q r v e h less =
     let left : length (ahead_at q) ≤ length (ahead_at p) = subst (λ (x : Place). length (ahead_at x) ≤ length (ahead_at p)) (sym e) (left-stretch ms p) in
     omega (arith, left, less)
@@ -124,12 +130,17 @@ along-more p m =
     ap (λ (c : ℕ). record { line = p.line; column = c; index = p.index + m + 1; vs = 0 }) (omega arith)
     ∙ ap (λ (i : ℕ). record { line = p.line; column = p.column + (m + 1); index = i; vs = 0 }) (omega arith)
 
-one-past : {bytes : List ℕ} {pieces : List Piece} {k : ℕ} {p e : Point} {before : Option ℕ} {n : ℕ} (ms : List ℕ) → IsCursor bytes pieces k p e before n → (d : Piece) → k < length pieces → p.index + 1 < (get_or pieces k d).end.0 → is_plain ms (get_or bytes p.index 0) ≡ true → past_stretch ms (content_place bytes pieces n) ≡ past_stretch ms (content_place bytes pieces (n + 1))
+one-past : {bytes : List ℕ} {pieces : List Piece} {k : ℕ} {p e : Point} {before : Option ℕ} {n : ℕ} (ms : List ℕ) →
+    IsCursor bytes pieces k p e before n → (d : Piece) → k < length pieces → p.index + 1 < (get_or pieces k d).end.0 →
+    is_plain ms (get_or bytes p.index 0) ≡ true →
+    past_stretch ms (content_place bytes pieces n) ≡ past_stretch ms (content_place bytes pieces (n + 1))
 one-past {bytes} {pieces} {k} {p} {e} {before} {n} ms h d lt fits plain =
     past-one ms (content_place bytes pieces n) (ap (is_free ms) (plain_code h d lt (omega (arith, fits)) (plain-parts ms _ plain).0) ∙ free-byte ms (get_or bytes p.index 0) plain)
     ∙ ap (past_stretch ms) (moved_is bytes pieces n)
 
-run-first : {bytes : List ℕ} {pieces : List Piece} {k : ℕ} {p e : Point} {before : Option ℕ} {n : ℕ} (ms : List ℕ) → IsCursor bytes pieces k p e before n → (d : Piece) → k < length pieces → p.index + 1 < (get_or pieces k d).end.0 → is_plain ms (get_or bytes p.index 0) ≡ true → IsRun bytes pieces ms k p n 1
+run-first : {bytes : List ℕ} {pieces : List Piece} {k : ℕ} {p e : Point} {before : Option ℕ} {n : ℕ} (ms : List ℕ) →
+    IsCursor bytes pieces k p e before n → (d : Piece) → k < length pieces → p.index + 1 < (get_or pieces k d).end.0 →
+    is_plain ms (get_or bytes p.index 0) ≡ true → IsRun bytes pieces ms k p n 1
 run-first {bytes} {pieces} {k} {p} {e} {before} {n} ms h d lt fits plain =
     let last : p.index ≡ p.index + 1 - 1 = omega arith in
     record {
@@ -137,7 +148,9 @@ run-first {bytes} {pieces} {k} {p} {e} {before} {n} ms h d lt fits plain =
       past = one-past ms h d lt fits plain;
     }
 
-run-more : {bytes : List ℕ} {pieces : List Piece} {k : ℕ} {p : Point} {n m : ℕ} (ms : List ℕ) → IsRun bytes pieces ms k p n m → (d : Piece) → k < length pieces → p.index + m + 1 < (get_or pieces k d).end.0 → is_plain ms (get_or bytes (p.index + m) 0) ≡ true → IsRun bytes pieces ms k p n (m + 1)
+run-more : {bytes : List ℕ} {pieces : List Piece} {k : ℕ} {p : Point} {n m : ℕ} (ms : List ℕ) →
+    IsRun bytes pieces ms k p n m → (d : Piece) → k < length pieces → p.index + m + 1 < (get_or pieces k d).end.0 →
+    is_plain ms (get_or bytes (p.index + m) 0) ≡ true → IsRun bytes pieces ms k p n (m + 1)
 run-more {bytes} {pieces} {k} {p} {n} {m} ms h d lt fits plain =
     let last : p.index + m ≡ p.index + (m + 1) - 1 = omega arith in
     let count : n + m + 1 ≡ n + (m + 1) = omega arith in
@@ -150,14 +163,20 @@ run-more {bytes} {pieces} {k} {p} {n} {m} ms h d lt fits plain =
     }
 
 -- past m + 1 ordinary bytes that are not the last of their piece
-run-suc : {bytes : List ℕ} {pieces : List Piece} {k : ℕ} {p e : Point} {before : Option ℕ} {n : ℕ} (ms : List ℕ) → IsCursor bytes pieces k p e before n → (d : Piece) → k < length pieces → (m : ℕ) → p.index + (m + 1) < (get_or pieces k d).end.0 → ArePlain ms bytes p.index (p.index + (m + 1)) → IsRun bytes pieces ms k p n (m + 1)
-run-suc {bytes} {pieces} {k} {p} {e} {before} {n} ms h d lt zero fits plain = run-first ms h d lt fits (plain p.index (omega arith) (omega arith))
+run-suc : {bytes : List ℕ} {pieces : List Piece} {k : ℕ} {p e : Point} {before : Option ℕ} {n : ℕ} (ms : List ℕ) →
+    IsCursor bytes pieces k p e before n → (d : Piece) → k < length pieces → (m : ℕ) →
+    p.index + (m + 1) < (get_or pieces k d).end.0 → ArePlain ms bytes p.index (p.index + (m + 1)) →
+    IsRun bytes pieces ms k p n (m + 1)
+run-suc {bytes} {pieces} {k} {p} {e} {before} {n} ms h d lt zero fits plain =
+    run-first ms h d lt fits (plain p.index (omega arith) (omega arith))
 run-suc {bytes} {pieces} {k} {p} {e} {before} {n} ms h d lt (suc m) fits plain =
     let one : m + 1 ≡ suc m = omega arith in
     subst (λ (x : ℕ). IsRun bytes pieces ms k p n (x + 1)) one
     (run-more ms (run-suc ms h d lt m (omega (arith, fits)) (λ i a b. plain i a (omega (arith, b)))) d lt (omega (arith, fits)) (plain (p.index + (m + 1)) (omega arith) (omega arith)))
 
-pub plain_run : {bytes : List ℕ} {pieces : List Piece} {k : ℕ} {p e : Point} {before : Option ℕ} {n : ℕ} (ms : List ℕ) → IsCursor bytes pieces k p e before n → (d : Piece) → k < length pieces → (m : ℕ) → 0 < m → p.index + m < (get_or pieces k d).end.0 → ArePlain ms bytes p.index (p.index + m) → IsRun bytes pieces ms k p n m
+pub plain_run : {bytes : List ℕ} {pieces : List Piece} {k : ℕ} {p e : Point} {before : Option ℕ} {n : ℕ} (ms : List ℕ) →
+    IsCursor bytes pieces k p e before n → (d : Piece) → k < length pieces → (m : ℕ) → 0 < m →
+    p.index + m < (get_or pieces k d).end.0 → ArePlain ms bytes p.index (p.index + m) → IsRun bytes pieces ms k p n m
 plain_run {bytes} {pieces} {k} {p} {e} {before} {n} ms h d lt m pos fits plain =
     let same : m - 1 + 1 ≡ m = omega (arith, pos) in
     subst (λ (x : ℕ). IsRun bytes pieces ms k p n x) same

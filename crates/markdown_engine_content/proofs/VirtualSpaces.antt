@@ -17,7 +17,8 @@ use Rattle.markdown_engine_content.proofs.CodesBetween.{codes_to, spaces-inside,
 between-is : (bytes : List ℕ) (p q : Point) → codes_between bytes p q ≡ codes_to bytes p q
 between-is bytes p q = piece-codes-is bytes (record { start = place_of p; end = place_of q })
 
-virtual-is : (bytes : List ℕ) (i : ℕ) (p q : Point) → virtual_spaces i (codes_to bytes p q) ≡ virtual_spaces i (codes_between bytes p q)
+virtual-is : (bytes : List ℕ) (i : ℕ) (p q : Point) →
+    virtual_spaces i (codes_to bytes p q) ≡ virtual_spaces i (codes_between bytes p q)
 virtual-is bytes i p q = ap (λ cs. virtual_spaces i cs) (sym (between-is bytes p q))
 
 abbrev pub columns_in : Point → Point → ℕ
@@ -32,7 +33,9 @@ less-sum n v w h = omega arith
 order-index : (a b c d : ℕ) → is_before (c, d) (a, b) ≡ false → (a ≡ c → ⊥) → a < c
 order-index a b c d h k = grind (arith, nat_tests)
 
-before-inside : (bytes : List ℕ) (p q : Point) → IsPoint bytes p → IsPoint bytes q → is_before (place_of q) (place_of p) ≡ false → 0 < p.vs → columns_in p q ≡ virtual_spaces p.index (codes_between bytes p q)
+before-inside : (bytes : List ℕ) (p q : Point) → IsPoint bytes p → IsPoint bytes q →
+    is_before (place_of q) (place_of p) ≡ false → 0 < p.vs →
+    columns_in p q ≡ virtual_spaces p.index (codes_between bytes p q)
 before-inside bytes p q h k l in_tab =
     elim (cases_eq p.index q.index) [
       | inl e ↦
@@ -43,7 +46,9 @@ before-inside bytes p q h k l in_tab =
           rw (ne_eqb p.index q.index e) (sym (width-more p.column) ∙ sym out ∙ virtual-is bytes p.index p q)
     ]
 
-pub before-is : (bytes : List ℕ) (p q : Point) → IsPoint bytes p → IsPoint bytes q → IsTrue (is_at_or_after (place_of p) (place_of q)) → (if nat_lt 0 p.vs then columns_in p q else 0) ≡ spaces_before bytes p q
+pub before-is : (bytes : List ℕ) (p q : Point) → IsPoint bytes p → IsPoint bytes q →
+    IsTrue (is_at_or_after (place_of p) (place_of q)) →
+    (if nat_lt 0 p.vs then columns_in p q else 0) ≡ spaces_before bytes p q
 unfolding spaces_before
 before-is bytes p q h k l =
     elim (cases_lt 0 p.vs) [
@@ -57,7 +62,8 @@ begins-in-first a b c h = grind (arith, nat_tests)
 begins-in-second : (a b c : ℕ) → (a < c) ⊎ ((a ≡ c) × (b ≡ 0)) → (a == c && nat_lt 0 b) ≡ false
 begins-in-second a b c h = grind (arith, nat_tests)
 
-begins-in : (a b c : ℕ) → (a < c) ⊎ ((a ≡ c) × (b ≡ 0)) → (is_at_or_after (a, b) (c, 0) ≡ true) × ((a == c && nat_lt 0 b) ≡ false)
+begins-in : (a b c : ℕ) → (a < c) ⊎ ((a ≡ c) × (b ≡ 0)) →
+    (is_at_or_after (a, b) (c, 0) ≡ true) × ((a == c && nat_lt 0 b) ≡ false)
 begins-in a b c h = (begins-in-first a b c h, begins-in-second a b c h)
 
 begins-out : (a b c : ℕ) → a ≡ c → 0 < b → is_at_or_after (a, b) (c, 0) ≡ false
@@ -73,7 +79,9 @@ begins-cases a b c d h =
       | inr e ↦ inl (inl (order-index a b c d h e))
     ]
 
-pub after-is : (bytes : List ℕ) (p q : Point) → IsPoint bytes p → IsPoint bytes q → IsTrue (is_at_or_after (place_of p) (place_of q)) → (if p.index == q.index && nat_lt 0 p.vs then 0 else q.vs - 1) ≡ spaces_after bytes p q
+pub after-is : (bytes : List ℕ) (p q : Point) → IsPoint bytes p → IsPoint bytes q →
+    IsTrue (is_at_or_after (place_of p) (place_of q)) →
+    (if p.index == q.index && nat_lt 0 p.vs then 0 else q.vs - 1) ≡ spaces_after bytes p q
 unfolding spaces_after
 after-is bytes p q h k l =
     let order : is_before (place_of q) (place_of p) ≡ false = not_past (place_of p) (place_of q) l in
@@ -93,7 +101,8 @@ byte_from-in bytes p h =
       | inr e ↦ rw (le-ltb 0 p.vs e) s.in_bytes
     ]
 
-pub byte-order : (a b c d : ℕ) → is_before (c, d) (a, b) ≡ false → (if nat_lt 0 b then a + 1 else a) ≤ (if nat_lt 0 d then c + 1 else c)
+pub byte-order : (a b c d : ℕ) → is_before (c, d) (a, b) ≡ false →
+    (if nat_lt 0 b then a + 1 else a) ≤ (if nat_lt 0 d then c + 1 else c)
 byte-order a b c d h = grind (arith, nat_tests)
 
 pub byte_from-order : (p q : Point) → IsTrue (is_at_or_after (place_of p) (place_of q)) → byte_from p ≤ byte_from q

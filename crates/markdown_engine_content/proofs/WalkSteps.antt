@@ -44,13 +44,16 @@ stride-next bytes p at t =
       less = falls (4 * length bytes) (4 * p.index + p.vs) (4 * q.index + q.vs) t.next.counts (few-less (4 * q.index) q.vs (4 * length bytes) few);
     }
 
-pub stride_before : (bytes : List ℕ) (p : Point) (at : ℕ × ℕ) → IsPoint bytes p → IsTrue (is_place bytes at) → is_before (place_of p) at ≡ true → IsStride bytes p (next_point bytes p) at
+pub stride_before : (bytes : List ℕ) (p : Point) (at : ℕ × ℕ) → IsPoint bytes p → IsTrue (is_place bytes at) →
+    is_before (place_of p) at ≡ true → IsStride bytes p (next_point bytes p) at
 stride_before bytes p at h place before =
     let t : IsToward bytes p at = toward bytes p at h (there bytes at place) before in
     subst (λ (x : Point). IsStride bytes p x at) (sym t.next.next) (stride-next bytes p at t)
 
 -- toward a place that is not reached yet
-pub stride : (bytes : List ℕ) (p : Point) (at : ℕ × ℕ) → IsPoint bytes p → IsTrue (is_place bytes at) → IsTrue (is_at_or_after (place_of p) at) → ((p.index ≡ at.0) × (p.vs ≡ at.1) → ⊥) → IsStride bytes p (next_point bytes p) at
+pub stride : (bytes : List ℕ) (p : Point) (at : ℕ × ℕ) → IsPoint bytes p → IsTrue (is_place bytes at) →
+    IsTrue (is_at_or_after (place_of p) at) → ((p.index ≡ at.0) × (p.vs ≡ at.1) → ⊥) →
+    IsStride bytes p (next_point bytes p) at
 stride bytes p at h place forward other =
     elim (cases_Bool (is_before (place_of p) at)) [
       | inl k ↦ stride_before bytes p at h place k
@@ -58,13 +61,16 @@ stride bytes p at h place forward other =
     ]
 
 -- a place that is reached
-pub reached : (bytes : List ℕ) (p : Point) (at : ℕ × ℕ) → IsPoint bytes p → p.index ≡ at.0 → p.vs ≡ at.1 → p ≡ point_at bytes at
+pub reached : (bytes : List ℕ) (p : Point) (at : ℕ × ℕ) → IsPoint bytes p → p.index ≡ at.0 → p.vs ≡ at.1 →
+    p ≡ point_at bytes at
 reached bytes p at h i v = sym h.here ∙ ap (λ (x : ℕ × ℕ). point_at bytes x) (same-pair p.index p.vs at i v)
 
 not_at : (a b c d : ℕ) (r : Bool) → r ≡ not (a == c && b == d) → r ≡ true → (a ≡ c) × (b ≡ d) → ⊥
 not_at a b c d r e h k = grind (arith, nat_tests)
 
 -- the same by the test of a loop
-pub stride_test : (bytes : List ℕ) (p q : Point) (at : ℕ × ℕ) (r : Bool) → IsPoint bytes p × IsTrue (is_at_or_after (place_of p) at) → IsTrue (is_place bytes at) → r ≡ not (p.index == at.0 && p.vs == at.1) → r ≡ true → q ≡ next_point bytes p → IsStride bytes p q at
+pub stride_test : (bytes : List ℕ) (p q : Point) (at : ℕ × ℕ) (r : Bool) →
+    IsPoint bytes p × IsTrue (is_at_or_after (place_of p) at) → IsTrue (is_place bytes at) →
+    r ≡ not (p.index == at.0 && p.vs == at.1) → r ≡ true → q ≡ next_point bytes p → IsStride bytes p q at
 stride_test bytes p q at r h place e t is =
     subst (λ (x : Point). IsStride bytes p x at) (sym is) (stride bytes p at h.0 place h.1 (not_at p.index p.vs at.0 at.1 r e t))

@@ -24,11 +24,14 @@ use Rattle.markdown_engine_content.proofs.ContentCodes.{none-before, passes}
 
 -- A point of the document stands at a place of it.
 
-stop-among : (p : Point) (c : Code) (front back : List Code) → list_any (λ d. d.stop.index == (stop_of c.stop front).index && d.stop.vs == (stop_of c.stop front).vs) (c ∷ front ++ back) ≡ true
-stop-among p c [] back = or_left (c.stop.index == c.stop.index && c.stop.vs == c.stop.vs) _ (and_from _ _ (eq-eqb c.stop.index c.stop.index refl) (eq-eqb c.stop.vs c.stop.vs refl))
+stop-among : (p : Point) (c : Code) (front back : List Code) →
+    list_any (λ d. d.stop.index == (stop_of c.stop front).index && d.stop.vs == (stop_of c.stop front).vs) (c ∷ front ++ back) ≡ true
+stop-among p c [] back =
+    or_left (c.stop.index == c.stop.index && c.stop.vs == c.stop.vs) _ (and_from _ _ (eq-eqb c.stop.index c.stop.index refl) (eq-eqb c.stop.vs c.stop.vs refl))
 stop-among p c (d ∷ front) back = or_right _ _ (stop-among c.stop d front back)
 
-place-split : (bytes : List ℕ) (front back : List Code) → codes_of bytes ≡ front ++ back → is_place bytes (place_of (stop_of document_start front)) ≡ true
+place-split : (bytes : List ℕ) (front back : List Code) → codes_of bytes ≡ front ++ back →
+    is_place bytes (place_of (stop_of document_start front)) ≡ true
 place-split bytes [] back e = refl
 place-split bytes (c ∷ front) back e =
     let q : Point = stop_of c.stop front in
@@ -56,7 +59,9 @@ pub record IsReaching (bytes : List ℕ) (p : Point) (at : ℕ × ℕ) (s : Stre
   pub ends : ends_line (codes_up bytes p at) ≡ ends_with s.ends_line (codes_up bytes s.point at)
   pub reached : is_place bytes at ≡ true → is_before at (place_of s.point) ≡ false
 
-pub reaching-start : (bytes : List ℕ) (p : Point) (at : ℕ × ℕ) → IsPoint bytes p → IsTrue (is_at_or_after (place_of p) at) → IsReaching bytes p at (record { point = p; has_line_ending = false; ends_line = false })
+pub reaching-start : (bytes : List ℕ) (p : Point) (at : ℕ × ℕ) → IsPoint bytes p →
+    IsTrue (is_at_or_after (place_of p) at) →
+    IsReaching bytes p at (record { point = p; has_line_ending = false; ends_line = false })
 reaching-start bytes p at h forward = record {
   point = h;
   lines = refl;
@@ -68,11 +73,15 @@ or-more : (a b c d : Bool) → b ≡ c → (a || (b || d)) ≡ ((a || c) || d)
 or-more true b c d e = refl
 or-more false b c d e = ap (λ (x : Bool). x || d) e
 
-up-next : (bytes : List ℕ) (p : Point) (at : ℕ × ℕ) → IsPoint bytes p → p.index < length bytes → is_before (place_of p) at ≡ true → codes_up bytes p at ≡ code_here bytes p ∷ codes_up bytes (stop_at bytes p) at
+up-next : (bytes : List ℕ) (p : Point) (at : ℕ × ℕ) → IsPoint bytes p → p.index < length bytes →
+    is_before (place_of p) at ≡ true → codes_up bytes p at ≡ code_here bytes p ∷ codes_up bytes (stop_at bytes p) at
 up-next bytes p at h lt before =
     passes (is_code_before at) (code_here bytes p) (codes_after bytes (place_of (stop_at bytes p))) (codes_after bytes (place_of p)) before (next bytes p h lt).codes
 
-reaching-stop : (bytes : List ℕ) (p : Point) (at : ℕ × ℕ) (s : Stretch) (t : Bool) → IsReaching bytes p at s → s.point.index < length bytes → is_before (place_of s.point) at ≡ true → is_line_ending (code_here bytes s.point) ≡ t → IsReaching bytes p at (record { point = stop_at bytes s.point; has_line_ending = s.has_line_ending || t; ends_line = t })
+reaching-stop : (bytes : List ℕ) (p : Point) (at : ℕ × ℕ) (s : Stretch) (t : Bool) → IsReaching bytes p at s →
+    s.point.index < length bytes → is_before (place_of s.point) at ≡ true →
+    is_line_ending (code_here bytes s.point) ≡ t →
+    IsReaching bytes p at (record { point = stop_at bytes s.point; has_line_ending = s.has_line_ending || t; ends_line = t })
 reaching-stop bytes p at s t h lt before is =
     let up : codes_up bytes s.point at ≡ code_here bytes s.point ∷ codes_up bytes (stop_at bytes s.point) at = up-next bytes s.point at h.point lt before in
     record {
@@ -83,14 +92,18 @@ reaching-stop bytes p at s t h lt before is =
     }
 
 -- one code further
-pub reaching-next : (bytes : List ℕ) (p : Point) (at : ℕ × ℕ) (s : Stretch) (q : Point) (v : ℕ) (t b : Bool) → IsReaching bytes p at s → s.point.index < length bytes → is_before (place_of s.point) at ≡ true → value_from bytes s.point ≡ Some v → t ≡ (v == line_feed) → q ≡ next_point bytes s.point → b ≡ (s.has_line_ending || t) → IsReaching bytes p at (record { point = q; has_line_ending = b; ends_line = t })
+pub reaching-next : (bytes : List ℕ) (p : Point) (at : ℕ × ℕ) (s : Stretch) (q : Point) (v : ℕ) (t b : Bool) →
+    IsReaching bytes p at s → s.point.index < length bytes → is_before (place_of s.point) at ≡ true →
+    value_from bytes s.point ≡ Some v → t ≡ (v == line_feed) → q ≡ next_point bytes s.point →
+    b ≡ (s.has_line_ending || t) → IsReaching bytes p at (record { point = q; has_line_ending = b; ends_line = t })
 reaching-next bytes p at s q v t b h lt before value test stop has =
     let same : value_at bytes s.point ≡ v = same_Some (value_at bytes s.point) v (sym (value-is bytes s.point h.point lt) ∙ value) in
     let is : is_line_ending (code_here bytes s.point) ≡ t = ap (λ (n : ℕ). n == line_feed) same ∙ sym test in
     let stopped : IsReaching bytes p at (record { point = q; has_line_ending = s.has_line_ending || t; ends_line = t }) = subst (λ (x : Point). IsReaching bytes p at (record { point = x; has_line_ending = s.has_line_ending || t; ends_line = t })) (sym (stop ∙ (next bytes s.point h.point lt).next)) (reaching-stop bytes p at s t h lt before is) in
     subst (λ (x : Bool). IsReaching bytes p at (record { point = q; has_line_ending = x; ends_line = t })) (sym has) stopped
 
-pub reaching-less : (bytes : List ℕ) (p q : Point) → IsPoint bytes p → p.index < length bytes → q ≡ next_point bytes p → codes_left_at bytes q < codes_left_at bytes p
+pub reaching-less : (bytes : List ℕ) (p q : Point) → IsPoint bytes p → p.index < length bytes → q ≡ next_point bytes p →
+    codes_left_at bytes q < codes_left_at bytes p
 reaching-less bytes p q h lt stop =
     let one : IsNext bytes p = next bytes p h lt in
     let n : Point = stop_at bytes p in
@@ -99,7 +112,8 @@ reaching-less bytes p q h lt stop =
     subst (λ (x : Point). codes_left_at bytes x < codes_left_at bytes p) (sym (stop ∙ one.next)) less
 
 -- at the place
-pub reaching-end : (bytes : List ℕ) (p : Point) (at : ℕ × ℕ) (s : Stretch) → IsReaching bytes p at s → s.point.index ≡ at.0 → s.point.vs ≡ at.1 → IsStretch bytes p at s
+pub reaching-end : (bytes : List ℕ) (p : Point) (at : ℕ × ℕ) (s : Stretch) → IsReaching bytes p at s →
+    s.point.index ≡ at.0 → s.point.vs ≡ at.1 → IsStretch bytes p at s
 reaching-end bytes p at s h i v =
     let same : ◌≡◌ {A = ℕ × ℕ} (place_of s.point) at = same-pair s.point.index s.point.vs at i v in
     let here : is_before (place_of s.point) at ≡ false = ap (λ (x : ℕ × ℕ). is_before (place_of s.point) x) (sym same) ∙ before-self (place_of s.point) in
@@ -112,7 +126,9 @@ reaching-end bytes p at s h i v =
     }
 
 -- where the walk stops and is not at the place, it is none of the document
-pub reaching-none : (bytes : List ℕ) (p : Point) (at : ℕ × ℕ) (s : Stretch) → IsReaching bytes p at s → (s.point.index < length bytes → is_before (place_of s.point) at ≡ true → ⊥) → ((s.point.index ≡ at.0) × (s.point.vs ≡ at.1) → ⊥) → is_place bytes at ≡ false
+pub reaching-none : (bytes : List ℕ) (p : Point) (at : ℕ × ℕ) (s : Stretch) → IsReaching bytes p at s →
+    (s.point.index < length bytes → is_before (place_of s.point) at ≡ true → ⊥) →
+    ((s.point.index ≡ at.0) × (s.point.vs ≡ at.1) → ⊥) → is_place bytes at ≡ false
 reaching-none bytes p at s h stopped other =
     false_from_ne_true (is_place bytes at)
     (λ k.
@@ -144,7 +160,9 @@ control : (v c : ℕ) → 13 < v → c ≤ 13 → v ≡ c → ⊥
 control v c h l e = omega arith
 
 -- one ordinary byte further
-reaching-byte : (bytes : List ℕ) (p : Point) (at : ℕ × ℕ) (s : Stretch) → IsReaching bytes p at s → s.point.index < length bytes → s.point.index < at.0 → 13 < get_or bytes s.point.index 0 → IsReaching bytes p at (record { point = next_column s.point (s.point.index + 1) 0; has_line_ending = s.has_line_ending; ends_line = false })
+reaching-byte : (bytes : List ℕ) (p : Point) (at : ℕ × ℕ) (s : Stretch) → IsReaching bytes p at s →
+    s.point.index < length bytes → s.point.index < at.0 → 13 < get_or bytes s.point.index 0 →
+    IsReaching bytes p at (record { point = next_column s.point (s.point.index + 1) 0; has_line_ending = s.has_line_ending; ends_line = false })
 reaching-byte bytes p at s h lt before plain =
     let v : ℕ = get_or bytes s.point.index 0 in
     let ending : is_line_ending_byte v ≡ false = other_byte v (control v 10 plain (omega arith)) (control v 13 plain (omega arith)) in
@@ -157,7 +175,9 @@ further p m =
     ∙ ap (λ (i : ℕ). record { line = p.line; column = p.column + suc m; index = i; vs = 0 }) (omega arith)
 
 -- past ordinary bytes before the place
-reaching-plain : (bytes : List ℕ) (p : Point) (at : ℕ × ℕ) (s : Stretch) (m : ℕ) → IsReaching bytes p at s → s.point.index + m ≤ length bytes → s.point.index + m ≤ at.0 → ArePlain [] bytes s.point.index (s.point.index + m) → IsReaching bytes p at (longer_by m s)
+reaching-plain : (bytes : List ℕ) (p : Point) (at : ℕ × ℕ) (s : Stretch) (m : ℕ) → IsReaching bytes p at s →
+    s.point.index + m ≤ length bytes → s.point.index + m ≤ at.0 → ArePlain [] bytes s.point.index (s.point.index + m) →
+    IsReaching bytes p at (longer_by m s)
 reaching-plain bytes p at s zero h inside before plain = h
 reaching-plain bytes p at s (suc zero) h inside before plain =
     reaching-byte bytes p at s h (omega (arith, inside)) (omega (arith, before)) (plain-parts [] _ (plain s.point.index (omega arith) (omega arith))).0
@@ -168,14 +188,17 @@ reaching-plain bytes p at s (suc (suc m)) h inside before plain =
     (reaching-byte bytes p at t more (omega (arith, inside)) (omega (arith, before)) (plain-parts [] _ (plain (s.point.index + suc m) (omega arith) (omega arith))).0)
 
 -- no more codes are left behind them
-longer-left : (bytes : List ℕ) (m : ℕ) (s : Stretch) → IsPoint bytes s.point → codes_left_at bytes (longer_by m s).point ≤ codes_left_at bytes s.point
+longer-left : (bytes : List ℕ) (m : ℕ) (s : Stretch) → IsPoint bytes s.point →
+    codes_left_at bytes (longer_by m s).point ≤ codes_left_at bytes s.point
 longer-left bytes zero s h = omega arith
 longer-left bytes (suc m) s h =
     let few : s.point.vs ≤ 3 = vs-small bytes s.point (stands-point bytes s.point h) in
     omega (arith, few)
 
-pub left-past : (bytes : List ℕ) (s t : Stretch) → IsPoint bytes s.point → t ≡ longer_by (t.point.index - s.point.index) s → codes_left_at bytes t.point ≤ codes_left_at bytes s.point
-left-past bytes s t h e = subst (λ (x : Stretch). codes_left_at bytes x.point ≤ codes_left_at bytes s.point) (sym e) (longer-left bytes (t.point.index - s.point.index) s h)
+pub left-past : (bytes : List ℕ) (s t : Stretch) → IsPoint bytes s.point →
+    t ≡ longer_by (t.point.index - s.point.index) s → codes_left_at bytes t.point ≤ codes_left_at bytes s.point
+left-past bytes s t h e =
+    subst (λ (x : Stretch). codes_left_at bytes x.point ≤ codes_left_at bytes s.point) (sym e) (longer-left bytes (t.point.index - s.point.index) s h)
 
 -- a stretch with ordinary bytes behind it is on the same way
 pub reaching-past : (bytes : List ℕ) (p : Point) (at : ℕ × ℕ) (s t : Stretch) → IsReaching bytes p at s → t ≡ longer_by (t.point.index - s.point.index) s → s.point.index ≤ t.point.index

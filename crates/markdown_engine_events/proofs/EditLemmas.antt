@@ -22,13 +22,15 @@ abbrev pub start : List Edit → ℕ → ℕ
 start log zero = 0
 start log (suc i) = start log i + length (added_at i log) + stays (is_removed log i)
 
-length-parts : (b c : Bool) (xs : List Event) → length (cond (b && c) xs []) + length (cond (b && not c) xs []) ≡ cond b (length xs) 0
+length-parts : (b c : Bool) (xs : List Event) →
+    length (cond (b && c) xs []) + length (cond (b && not c) xs []) ≡ cond b (length xs) 0
 length-parts true true xs = omega arith
 length-parts true false xs = omega arith
 length-parts false c xs = refl
 
 -- how many events an edit brings to a place
-length-added : (i : ℕ) (e : Edit) (log : List Edit) → length (added_at i (e ∷ log)) ≡ cond (e.at == i) (length e.events) 0 + length (added_at i log)
+length-added : (i : ℕ) (e : Edit) (log : List Edit) →
+    length (added_at i (e ∷ log)) ≡ cond (e.at == i) (length e.events) 0 + length (added_at i log)
 length-added i e log =
     let whole : length (added_at i (e ∷ log)) ≡ length (front_at i log) + length (cond (e.at == i && e.before) e.events []) + (length (cond (e.at == i && not e.before) e.events []) + length (back_at i log)) = simp length-append in
     let both : length (added_at i log) ≡ length (front_at i log) + length (back_at i log) = length-append (front_at i log) (back_at i log) in
@@ -64,7 +66,8 @@ stays-gone : (b : Bool) → stays b + gone b ≡ 1
 stays-gone true = refl
 stays-gone false = refl
 
-start-counts : (log : List Edit) (i : ℕ) → start log i + length (added_at i log) + removed_before log i ≡ i + added_up_to log i
+start-counts : (log : List Edit) (i : ℕ) →
+    start log i + length (added_at i log) + removed_before log i ≡ i + added_up_to log i
 start-counts log zero = let a = added-zero log in omega arith
 start-counts log (suc i) =
     let before = start-counts log i in
@@ -98,14 +101,16 @@ start-kept log i h =
     rw h (omega arith)
 
 -- events that stay keep their order
-pub moved-below : (log : List Edit) (p q : ℕ) → p < q → is_removed log p ≡ false → moved_number log p < moved_number log q
+pub moved-below : (log : List Edit) (p q : ℕ) → p < q → is_removed log p ≡ false →
+    moved_number log p < moved_number log q
 moved-below log p q l h =
     let a = start-kept log p h in
     let b = start-le log (suc p) q (omega arith) in
     let m = moved-start log q in
     omega arith
 
-pub moved-same : (log : List Edit) (p q : ℕ) → is_removed log p ≡ false → is_removed log q ≡ false → moved_number log p ≡ moved_number log q → p ≡ q
+pub moved-same : (log : List Edit) (p q : ℕ) → is_removed log p ≡ false → is_removed log q ≡ false →
+    moved_number log p ≡ moved_number log q → p ≡ q
 moved-same log p q h k e =
     elim (eqb_tells p q) [
       | inl t ↦ t.1
@@ -138,18 +143,23 @@ length-stay log true e = refl
 length-stay log false e = refl
 
 -- from place i on, number k is what number k' is from the next place on
-edited-next : (log : List Edit) (i : ℕ) (e : Event) (es : List Event) (k j : ℕ) → start log i + k ≡ start log (suc i) + j → slice_get (edited_from log i (e ∷ es)) k ≡ slice_get (edited_from log (suc i) es) j
+edited-next : (log : List Edit) (i : ℕ) (e : Event) (es : List Event) (k j : ℕ) →
+    start log i + k ≡ start log (suc i) + j →
+    slice_get (edited_from log i (e ∷ es)) k ≡ slice_get (edited_from log (suc i) es) j
 edited-next log i e es k j h =
     let size = length-stay log (is_removed log i) e in
     slice-after (added_at i log) (stay log (is_removed log i) e ++ edited_from log (suc i) es) k (stays (is_removed log i) + j) (omega arith) ∙ slice-after (stay log (is_removed log i) e) (edited_from log (suc i) es) (stays (is_removed log i) + j) j (omega arith)
 
-edited-here : (log : List Edit) (i : ℕ) (e : Event) (es : List Event) (k : ℕ) → start log i + k ≡ moved_number log i → is_removed log i ≡ false → slice_get (edited_from log i (e ∷ es)) k ≡ Some (moved log e)
+edited-here : (log : List Edit) (i : ℕ) (e : Event) (es : List Event) (k : ℕ) → start log i + k ≡ moved_number log i →
+    is_removed log i ≡ false → slice_get (edited_from log i (e ∷ es)) k ≡ Some (moved log e)
 edited-here log i e es k h r =
     let m = moved-start log i in
     slice-after (added_at i log) (stay log (is_removed log i) e ++ edited_from log (suc i) es) k 0 (omega arith) ∙ ap (λ b. slice_get (stay log b e ++ edited_from log (suc i) es) 0) r
 
 -- an event that stays is found at its number
-pub edited-at : (log : List Edit) (i q j k : ℕ) (es : List Event) → q ≡ i + j → start log i + k ≡ moved_number log q → is_removed log q ≡ false → j < length es → slice_get (edited_from log i es) k ≡ option_map (moved log) (slice_get es j)
+pub edited-at : (log : List Edit) (i q j k : ℕ) (es : List Event) → q ≡ i + j → start log i + k ≡ moved_number log q →
+    is_removed log q ≡ false → j < length es →
+    slice_get (edited_from log i es) k ≡ option_map (moved log) (slice_get es j)
 edited-at log i q j k [] at h r l = absurd (omega arith)
 edited-at log i q zero k (e ∷ es) at h r l =
     let same : q ≡ i = omega arith in
@@ -181,7 +191,8 @@ Each-append : (P : Event → Type 0) (xs ys : List Event) → Each P xs → Each
 Each-append P [] ys h g = g
 Each-append P (x ∷ xs) ys h g = λ (k : ℕ) (y : Event). each-step P x xs ys h (Each-append P xs ys (Each-tail P x xs h) g) k y
   where
-    each-step : (P : Event → Type 0) (x : Event) (xs ys : List Event) → Each P (x ∷ xs) → Each P (xs ++ ys) → (k : ℕ) (y : Event) → slice_get (x ∷ xs ++ ys) k ≡ Some y → P y
+    each-step : (P : Event → Type 0) (x : Event) (xs ys : List Event) → Each P (x ∷ xs) → Each P (xs ++ ys) →
+        (k : ℕ) (y : Event) → slice_get (x ∷ xs ++ ys) k ≡ Some y → P y
     each-step P x xs ys h g zero y e = h zero y e
     each-step P x xs ys h g (suc k) y e = g k y e
 
@@ -203,20 +214,24 @@ adds-tail e log u = λ k d h. u (suc k) d (omega arith)
 
 front-unlinked : (i : ℕ) (log : List Edit) → AddsUnlinked log → Each IsUnlinked (front_at i log)
 front-unlinked i [] u = Each-nil IsUnlinked
-front-unlinked i (e ∷ log) u = Each-append IsUnlinked (front_at i log) (cond (e.at == i && e.before) e.events []) (front-unlinked i log (adds-tail e log u)) (Each-part IsUnlinked (e.at == i && e.before) e.events (adds-head e log u))
+front-unlinked i (e ∷ log) u =
+    Each-append IsUnlinked (front_at i log) (cond (e.at == i && e.before) e.events []) (front-unlinked i log (adds-tail e log u)) (Each-part IsUnlinked (e.at == i && e.before) e.events (adds-head e log u))
 
 back-unlinked : (i : ℕ) (log : List Edit) → AddsUnlinked log → Each IsUnlinked (back_at i log)
 back-unlinked i [] u = Each-nil IsUnlinked
-back-unlinked i (e ∷ log) u = Each-append IsUnlinked (cond (e.at == i && not e.before) e.events []) (back_at i log) (Each-part IsUnlinked (e.at == i && not e.before) e.events (adds-head e log u)) (back-unlinked i log (adds-tail e log u))
+back-unlinked i (e ∷ log) u =
+    Each-append IsUnlinked (cond (e.at == i && not e.before) e.events []) (back_at i log) (Each-part IsUnlinked (e.at == i && not e.before) e.events (adds-head e log u)) (back-unlinked i log (adds-tail e log u))
 
 added-unlinked : (log : List Edit) (i : ℕ) → AddsUnlinked log → Each IsUnlinked (added_at i log)
-added-unlinked log i u = Each-append IsUnlinked (front_at i log) (back_at i log) (front-unlinked i log u) (back-unlinked i log u)
+added-unlinked log i u =
+    Each-append IsUnlinked (front_at i log) (back_at i log) (front-unlinked i log u) (back-unlinked i log u)
 
 stays-one : (b : Bool) → stays b ≡ 1 → b ≡ false
 stays-one true h = absurd (omega arith)
 stays-one false h = refl
 
-Stayed-next : (log : List Edit) (i k j : ℕ) (e : Event) (es : List Event) (x : Event) → start log i + k ≡ start log (suc i) + j → Stayed log (suc i) es j x → Stayed log i (e ∷ es) k x
+Stayed-next : (log : List Edit) (i k j : ℕ) (e : Event) (es : List Event) (x : Event) →
+    start log i + k ≡ start log (suc i) + j → Stayed log (suc i) es j x → Stayed log i (e ∷ es) k x
 Stayed-next log i k j e es x h s =
     let same : suc i + s.number ≡ i + suc s.number = omega arith in
     record {
@@ -228,7 +243,8 @@ Stayed-next log i k j e es x h s =
       is = s.is;
     }
 
-Stayed-here : (log : List Edit) (i k : ℕ) (e : Event) (es : List Event) (x : Event) → start log i + k ≡ moved_number log i → is_removed log i ≡ false → x ≡ moved log e → Stayed log i (e ∷ es) k x
+Stayed-here : (log : List Edit) (i k : ℕ) (e : Event) (es : List Event) (x : Event) →
+    start log i + k ≡ moved_number log i → is_removed log i ≡ false → x ≡ moved log e → Stayed log i (e ∷ es) k x
 Stayed-here log i k e es x h r g =
     let same : i + 0 ≡ i = omega arith in
     record {
@@ -243,7 +259,8 @@ Stayed-here log i k e es x h r g =
 same_value : (x y : Event) → Some x ≡ Some y → x ≡ y
 same_value x y h = cc
 
-edited-back : (log : List Edit) (i k : ℕ) (es : List Event) (x : Event) → AddsUnlinked log → slice_get (edited_from log i es) k ≡ Some x → IsUnlinked x ⊎ Stayed log i es k x
+edited-back : (log : List Edit) (i k : ℕ) (es : List Event) (x : Event) → AddsUnlinked log →
+    slice_get (edited_from log i es) k ≡ Some x → IsUnlinked x ⊎ Stayed log i es k x
 edited-back log i k [] x u h = inl (added-unlinked log i u k x h)
 edited-back log i k (e ∷ es) x u h =
     elim (leb_tells (start log (suc i)) (start log i + k)) [
@@ -293,12 +310,15 @@ map-back : (f : ℕ → ℕ) (o : Option ℕ) (q : ℕ) → option_map f o ≡ S
 map-back f None q h = absurd (some-none q h)
 map-back f (Some p) q h = (p, (refl, same_Some q (f p) (sym h)))
 
-linked-previous : (k : Option ℕ) (l : Option Link) (q : ℕ) → link_previous (previous_link k l) ≡ Some q → link_previous (previous_link k l) ≡ k
+linked-previous : (k : Option ℕ) (l : Option Link) (q : ℕ) → link_previous (previous_link k l) ≡ Some q →
+    link_previous (previous_link k l) ≡ k
 linked-previous k None q h = absurd (some-none q h)
 linked-previous k (Some l) q h = refl
 
-moved-previous : (log : List Edit) (e : Event) (q : ℕ) → previous_of (moved log e) ≡ Some q → (p : ℕ) × ((previous_of e ≡ Some p) × (q ≡ moved_number log p))
-moved-previous log e q h = map-back (moved_number log) (previous_of e) q (sym (linked-previous (option_map (moved_number log) (previous_of e)) e.link q h) ∙ h)
+moved-previous : (log : List Edit) (e : Event) (q : ℕ) → previous_of (moved log e) ≡ Some q →
+    (p : ℕ) × ((previous_of e ≡ Some p) × (q ≡ moved_number log p))
+moved-previous log e q h =
+    map-back (moved_number log) (previous_of e) q (sym (linked-previous (option_map (moved_number log) (previous_of e)) e.link q h) ∙ h)
 
 pub moved-linked : (log : List Edit) (e : Event) → has_link (moved log e).link ≡ has_link e.link
 moved-linked log e = has-previous (option_map (moved_number log) (previous_of e)) e.link
@@ -331,7 +351,8 @@ module _ (log : List Edit) (es : List Event) (u : AddsUnlinked log) (can : CanEd
       zero-plus n = omega arith
 
   kept-linked : (p : ℕ) → linked_at es p ≡ true → is_removed log p ≡ false
-  kept-linked p h = elim (cases_Bool (is_removed log p)) [ inl r ↦ absurd (false≢true (sym (can.unlinked p r) ∙ h)) | inr s ↦ s ]
+  kept-linked p h =
+      elim (cases_Bool (is_removed log p)) [ inl r ↦ absurd (false≢true (sym (can.unlinked p r) ∙ h)) | inr s ↦ s ]
 
   pub linked-moved : (p : ℕ) → linked_at es p ≡ true → linked_at (edited log es) (moved_number log p) ≡ true
   linked-moved p h =
@@ -351,14 +372,16 @@ enters-stay : (log : List Edit) (b : Bool) (e : Event) → MayLink e.kind e.link
 enters-stay log true e h = tt
 enters-stay log false e h = (may-previous e.kind (option_map (moved_number log) (previous_of e)) e.link h, tt)
 
-enters-edited : (log : List Edit) (i : ℕ) (es : List Event) → AddsUnlinked log → OnlyEnters es → OnlyEnters (edited_from log i es)
+enters-edited : (log : List Edit) (i : ℕ) (es : List Event) → AddsUnlinked log → OnlyEnters es →
+    OnlyEnters (edited_from log i es)
 enters-edited log i [] u h = enters-each (added_at i log) (added-unlinked log i u)
 enters-edited log i (e ∷ es) u h =
     OnlyEnters-append (added_at i log) (stay log (is_removed log i) e ++ edited_from log (suc i) es) (enters-each (added_at i log) (added-unlinked log i u))
     (OnlyEnters-append (stay log (is_removed log i) e) (edited_from log (suc i) es) (enters-stay log (is_removed log i) e h.0) (enters-edited log (suc i) es u h.1))
 
 -- edits keep the chains
-pub IsLinked-edited : (log : List Edit) (es : List Event) → AddsUnlinked log → CanEdit log es → IsLinked es → IsLinked (edited log es)
+pub IsLinked-edited : (log : List Edit) (es : List Event) → AddsUnlinked log → CanEdit log es → IsLinked es →
+    IsLinked (edited log es)
 IsLinked-edited log es u can w =
     let back = named-back log es u can in
     let stays_there = λ (j p : ℕ) (h : previous_at es j ≡ Some p). kept-linked log es u can p (w.linked j p h) in
@@ -391,27 +414,33 @@ below-max j a b = grind (arith, nat_tests)
 
 removed-range : (log : List Edit) (j i : ℕ) → removed_by log j i ≡ nat_lt j (range_end log (suc i))
 removed-range log j zero = grind (arith, nat_tests)
-removed-range log j (suc i) = ap (λ b. nat_lt j (suc i + removed_at (suc i) log) || b) (removed-range log j i) ∙ sym (below-max j (range_end log (suc i)) (suc i + removed_at (suc i) log))
+removed-range log j (suc i) =
+    ap (λ b. nat_lt j (suc i + removed_at (suc i) log) || b) (removed-range log j i) ∙ sym (below-max j (range_end log (suc i)) (suc i + removed_at (suc i) log))
 
 -- an event goes if it stands before that end
 pub removed-test : (log : List Edit) (i : ℕ) → is_removed log i ≡ nat_lt i (range_end log (suc i))
 removed-test log i = removed-range log i i
 
 -- a step of the collection, from the first edit on
-pub back_push : (i : ℕ) (log : List Edit) (e : Edit) → back_at i (log ++ e ∷ []) ≡ back_at i log ++ cond (e.at == i && not e.before) e.events []
+pub back_push : (i : ℕ) (log : List Edit) (e : Edit) →
+    back_at i (log ++ e ∷ []) ≡ back_at i log ++ cond (e.at == i && not e.before) e.events []
 back_push i [] e = append-nil (cond (e.at == i && not e.before) e.events [])
-back_push i (x ∷ log) e = ap (λ y. cond (x.at == i && not x.before) x.events [] ++ y) (back_push i log e) ∙ sym (append_assoc (cond (x.at == i && not x.before) x.events []) (back_at i log) (cond (e.at == i && not e.before) e.events []))
+back_push i (x ∷ log) e =
+    ap (λ y. cond (x.at == i && not x.before) x.events [] ++ y) (back_push i log e) ∙ sym (append_assoc (cond (x.at == i && not x.before) x.events []) (back_at i log) (cond (e.at == i && not e.before) e.events []))
 
-pub removed_push : (i : ℕ) (log : List Edit) (e : Edit) → removed_at i (log ++ e ∷ []) ≡ removed_at i log + cond (e.at == i) e.remove 0
+pub removed_push : (i : ℕ) (log : List Edit) (e : Edit) →
+    removed_at i (log ++ e ∷ []) ≡ removed_at i log + cond (e.at == i) e.remove 0
 removed_push i [] e = omega arith
 removed_push i (x ∷ log) e = let r = removed_push i log e in omega arith
 
 -- a step of the pass over the events
 
-previous-read : (es : List Event) (i : ℕ) (e : Event) → i < length es → e ≡ get_or es i e → previous_at es i ≡ previous_of e
+previous-read : (es : List Event) (i : ℕ) (e : Event) → i < length es → e ≡ get_or es i e →
+    previous_at es i ≡ previous_of e
 previous-read es i e l r = previous-get es i e (slice_get-get_or es i e l ∙ ap (λ x. Some x) (sym r))
 
-pub previous-below : (es : List Event) (i p : ℕ) (e : Event) → i < length es → e ≡ get_or es i e → IsLinked es → previous_of e ≡ Some p → p < i
+pub previous-below : (es : List Event) (i p : ℕ) (e : Event) → i < length es → e ≡ get_or es i e → IsLinked es →
+    previous_of e ≡ Some p → p < i
 previous-below es i p e l r w h = w.earlier i p (previous-read es i e l r ∙ h)
 
 map-same : (f g : ℕ → ℕ) (o : Option ℕ) → ((p : ℕ) → o ≡ Some p → f p ≡ g p) → option_map f o ≡ option_map g o
@@ -420,24 +449,31 @@ map-same f g (Some p) h = ap (λ x. Some x) (h p refl)
 
 -- the notes so far name the numbers of the events before that carry a link and that an event names
 abbrev pub Notes : List Edit → List Event → ℕ → List (ℕ × ℕ) → Type 0
-Notes log es i notes = (j by : ℕ) → j < i → linked_at es j ≡ true → previous_at es by ≡ Some j → number_of notes j ≡ moved_number log j
+Notes log es i notes =
+    (j by : ℕ) → j < i → linked_at es j ≡ true → previous_at es by ≡ Some j → number_of notes j ≡ moved_number log j
 
 -- the link looked up in them
-pub renumbered-moved : (log : List Edit) (es : List Event) (i : ℕ) (notes : List (ℕ × ℕ)) (e : Event) → i < length es → e ≡ get_or es i e → IsLinked es → Notes log es i notes → renumbered notes e ≡ moved log e
+pub renumbered-moved : (log : List Edit) (es : List Event) (i : ℕ) (notes : List (ℕ × ℕ)) (e : Event) → i < length es →
+    e ≡ get_or es i e → IsLinked es → Notes log es i notes → renumbered notes e ≡ moved log e
 renumbered-moved log es i notes e l r w n =
     ap (λ o. with_previous o e) (map-same (number_of notes) (moved_number log) (previous_of e) (λ p k. n p i (previous-below es i p e l r w k) (w.linked i p (previous-read es i e l r ∙ k)) (previous-read es i e l r ∙ k)))
 
-note-found : (e : Event) (i n j : ℕ) (notes : List (ℕ × ℕ)) → i ≡ j → has_link e.link ≡ true → number_of (noted e i n notes) j ≡ n
-note-found e i n j notes h g = ap (λ b. number_of (cond b ((i, n) ∷ notes) notes) j) g ∙ ap (λ b. cond b n (number_of notes j)) (eq-eqb i j h)
+note-found : (e : Event) (i n j : ℕ) (notes : List (ℕ × ℕ)) → i ≡ j → has_link e.link ≡ true →
+    number_of (noted e i n notes) j ≡ n
+note-found e i n j notes h g =
+    ap (λ b. number_of (cond b ((i, n) ∷ notes) notes) j) g ∙ ap (λ b. cond b n (number_of notes j)) (eq-eqb i j h)
 
-note-other : (e : Event) (i n j : ℕ) (notes : List (ℕ × ℕ)) → (i == j) ≡ false → number_of (noted e i n notes) j ≡ number_of notes j
+note-other : (e : Event) (i n j : ℕ) (notes : List (ℕ × ℕ)) → (i == j) ≡ false →
+    number_of (noted e i n notes) j ≡ number_of notes j
 note-other e i n j notes h = over (has_link e.link) i n j notes h
   where
-    over : (b : Bool) (i n j : ℕ) (notes : List (ℕ × ℕ)) → (i == j) ≡ false → number_of (cond b ((i, n) ∷ notes) notes) j ≡ number_of notes j
+    over : (b : Bool) (i n j : ℕ) (notes : List (ℕ × ℕ)) → (i == j) ≡ false →
+        number_of (cond b ((i, n) ∷ notes) notes) j ≡ number_of notes j
     over true i n j notes h = ap (λ c. cond c n (number_of notes j)) h
     over false i n j notes h = refl
 
-pub notes-kept : (log : List Edit) (es : List Event) (i n : ℕ) (e : Event) (notes : List (ℕ × ℕ)) → i < length es → e ≡ get_or es i e → n ≡ moved_number log i → Notes log es i notes → Notes log es (i + 1) (noted e i n notes)
+pub notes-kept : (log : List Edit) (es : List Event) (i n : ℕ) (e : Event) (notes : List (ℕ × ℕ)) → i < length es →
+    e ≡ get_or es i e → n ≡ moved_number log i → Notes log es i notes → Notes log es (i + 1) (noted e i n notes)
 notes-kept log es i n e notes l r m h = λ j by k g named.
     elim (eqb_tells i j) [
       | inl t ↦
@@ -446,7 +482,8 @@ notes-kept log es i n e notes l r m h = λ j by k g named.
       | inr f ↦ note-other e i n j notes f.0 ∙ h j by (omega arith) g named
     ]
 
-pub notes-gone : (log : List Edit) (es : List Event) (n m : ℕ) (notes : List (ℕ × ℕ)) → ((j : ℕ) → n ≤ j → j < m → linked_at es j ≡ false) → Notes log es n notes → Notes log es m notes
+pub notes-gone : (log : List Edit) (es : List Event) (n m : ℕ) (notes : List (ℕ × ℕ)) →
+    ((j : ℕ) → n ≤ j → j < m → linked_at es j ≡ false) → Notes log es n notes → Notes log es m notes
 notes-gone log es n m notes gone h = λ j by k g named.
     elim (leb_tells n j) [
       | inl low ↦ absurd (false≢true (sym (gone j (omega arith) k) ∙ g))
@@ -462,14 +499,16 @@ found [] i l = absurd (omega arith)
 found (x ∷ es) zero l = (x, refl)
 found (x ∷ es) (suc i) l = found es i (omega arith)
 
-pub notes-alone : (log : List Edit) (es : List Event) (n m : ℕ) (notes : List (ℕ × ℕ)) → ((j : ℕ) → n ≤ j → j < m → EndsChain j es) → Notes log es n notes → Notes log es m notes
+pub notes-alone : (log : List Edit) (es : List Event) (n m : ℕ) (notes : List (ℕ × ℕ)) →
+    ((j : ℕ) → n ≤ j → j < m → EndsChain j es) → Notes log es n notes → Notes log es m notes
 notes-alone log es n m notes ends h = λ j by k g named.
     elim (leb_tells n j) [
       | inl low ↦ absurd (ends j (omega arith) k by named)
       | inr high ↦ h j by (omega arith) g named
     ]
 
-pub range-more : (log : List Edit) (i a b c d : ℕ) → i < 2 ^ 64 - 1 → EndsAt log i i a → b ≡ min (removed_at i log) (2 ^ 64 - 1) → c ≡ min (i + b) (2 ^ 64 - 1) → d ≡ max a c → EndsAt log i (i + 1) d
+pub range-more : (log : List Edit) (i a b c d : ℕ) → i < 2 ^ 64 - 1 → EndsAt log i i a →
+    b ≡ min (removed_at i log) (2 ^ 64 - 1) → c ≡ min (i + b) (2 ^ 64 - 1) → d ≡ max a c → EndsAt log i (i + 1) d
 range-more log i a b c d l h g k m =
     let e : i + 1 ≡ suc i = omega arith in
     rw e (omega arith)
@@ -485,17 +524,20 @@ below-range log i d l h =
     tested : (i r d : ℕ) → i < 2 ^ 64 - 1 → max d i ≡ max (min r (2 ^ 64 - 1)) i → nat_lt i r ≡ nat_lt i d
     tested i r d l h = grind (arith, nat_tests)
 
-pub stays-from : (log : List Edit) (i d : ℕ) → i < 2 ^ 64 - 1 → EndsAt log i (i + 1) d → d ≤ i → is_removed log i ≡ false
+pub stays-from : (log : List Edit) (i d : ℕ) → i < 2 ^ 64 - 1 → EndsAt log i (i + 1) d → d ≤ i →
+    is_removed log i ≡ false
 stays-from log i d l h k = below-range log i d l h ∙ le-ltb i d k
 
 module _ (log : List Edit) (es : List Event) (i : ℕ) (done put : List Event) (l : i < length es) (h : done ++ edited_from log i (drop i es) ≡ edited log es) (g : put ≡ done ++ added_at i log) where
-  step : (e : Event) → e ≡ get_or es i e → edited log es ≡ put ++ (stay log (is_removed log i) e ++ edited_from log (i + 1) (drop (i + 1) es))
+  step : (e : Event) → e ≡ get_or es i e →
+      edited log es ≡ put ++ (stay log (is_removed log i) e ++ edited_from log (i + 1) (drop (i + 1) es))
   step e r =
       let cut : drop i es ≡ e ∷ drop (i + 1) es = drop_more es i e l ∙ ap (λ x. x ∷ drop (i + 1) es) (sym r) in
       let next : suc i ≡ i + 1 = omega arith in
       sym h ∙ ap (λ x. done ++ edited_from log i x) cut ∙ sym (append_assoc done (added_at i log) (stay log (is_removed log i) e ++ edited_from log (suc i) (drop (i + 1) es))) ∙ ap (λ x. x ++ (stay log (is_removed log i) e ++ edited_from log (suc i) (drop (i + 1) es))) (sym g) ∙ ap (λ n. put ++ (stay log (is_removed log i) e ++ edited_from log n (drop (i + 1) es))) next
 
-  pub step-kept : (e x : Event) → e ≡ get_or es i e → x ≡ moved log e → is_removed log i ≡ false → (put ++ x ∷ []) ++ edited_from log (i + 1) (drop (i + 1) es) ≡ edited log es
+  pub step-kept : (e x : Event) → e ≡ get_or es i e → x ≡ moved log e → is_removed log i ≡ false →
+      (put ++ x ∷ []) ++ edited_from log (i + 1) (drop (i + 1) es) ≡ edited log es
   step-kept e x r m s =
       append_assoc put (x ∷ []) (edited_from log (i + 1) (drop (i + 1) es)) ∙ ap (λ y. put ++ (y ∷ edited_from log (i + 1) (drop (i + 1) es))) m ∙ ap (λ b. put ++ (stay log b e ++ edited_from log (i + 1) (drop (i + 1) es))) (sym s) ∙ sym (step e r)
 
@@ -504,12 +546,14 @@ module _ (log : List Edit) (es : List Event) (i : ℕ) (done put : List Event) (
       let e = found es i l in
       ap (λ b. put ++ (stay log b e.0 ++ edited_from log (i + 1) (drop (i + 1) es))) (sym s) ∙ sym (step e.0 e.1)
 
-  pub step-chains : (e x : Event) → e ≡ get_or es i e → x ≡ moved log e → is_removed log i ≡ false → IsLinked (edited log es) → IsLinked (put ++ x ∷ [])
+  pub step-chains : (e x : Event) → e ≡ get_or es i e → x ≡ moved log e → is_removed log i ≡ false →
+      IsLinked (edited log es) → IsLinked (put ++ x ∷ [])
   step-chains e x r m s w =
       let P : List Event → Type 0 = λ ys. IsLinked ys in
       IsLinked-prefix (put ++ x ∷ []) (edited_from log (i + 1) (drop (i + 1) es)) (subst P (sym (step-kept e x r m s)) w)
 
-pub placed-put : (log : List Edit) (i : ℕ) (done put : List Event) → length done ≡ start log i → put ≡ done ++ added_at i log → length put ≡ moved_number log i
+pub placed-put : (log : List Edit) (i : ℕ) (done put : List Event) → length done ≡ start log i →
+    put ≡ done ++ added_at i log → length put ≡ moved_number log i
 placed-put log i done put s g = omega (arith, ap length g, length-append done (added_at i log), moved-start log i)
 
 pub unlinked-seen : (a log : List Edit) → a ≡ log → AddsUnlinked a → AddsUnlinked log

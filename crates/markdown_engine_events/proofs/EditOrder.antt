@@ -28,7 +28,9 @@ front-there : (i : ℕ) (log : List Edit) → front_at i log ≡ front_at i (fil
 front-there i [] = refl
 front-there i (e ∷ log) = front-step i e log (e.at == i) refl (front-there i log)
   where
-    front-step : (i : ℕ) (e : Edit) (log : List Edit) (b : Bool) → (e.at == i) ≡ b → front_at i log ≡ front_at i (filter (stands_at i) log) → front_at i (e ∷ log) ≡ front_at i (filter (stands_at i) (e ∷ log))
+    front-step : (i : ℕ) (e : Edit) (log : List Edit) (b : Bool) → (e.at == i) ≡ b →
+        front_at i log ≡ front_at i (filter (stands_at i) log) →
+        front_at i (e ∷ log) ≡ front_at i (filter (stands_at i) (e ∷ log))
     front-step i e log true h g = rw h (rw h (ap (λ x. x ++ cond e.before e.events []) g))
     front-step i e log false h g = rw h (append-nil (front_at i log) ∙ g)
 
@@ -38,7 +40,8 @@ found : {X : Type 0} (p : X → Bool) (xs : List X) → ((x : X) × (p x ≡ tru
 found p [] = inr refl
 found p (x ∷ xs) = found-step p x xs (p x) refl (found p xs)
   where
-    found-step : {X : Type 0} (p : X → Bool) (x : X) (xs : List X) (b : Bool) → p x ≡ b → ((x : X) × (p x ≡ true)) ⊎ (filter p xs ≡ []) → ((x : X) × (p x ≡ true)) ⊎ (filter p (x ∷ xs) ≡ [])
+    found-step : {X : Type 0} (p : X → Bool) (x : X) (xs : List X) (b : Bool) → p x ≡ b →
+        ((x : X) × (p x ≡ true)) ⊎ (filter p xs ≡ []) → ((x : X) × (p x ≡ true)) ⊎ (filter p (x ∷ xs) ≡ [])
     found-step p x xs true h r = inl (x, h)
     found-step p x xs false h (inl y) = inl y
     found-step p x xs false h (inr e) = inr (rw h e)
@@ -66,11 +69,14 @@ module _ {X : Type 0} (n : X → ℕ) (xs ys : List X) (stable : IsStableByKey n
         ]
       ]
 
-filter-kept : (cs : List Event) (p : Edit → Bool) (es : List Entry) → filter p (kept cs es) ≡ kept cs (filter (λ e. p (edit_of cs e)) es)
+filter-kept : (cs : List Event) (p : Edit → Bool) (es : List Entry) →
+    filter p (kept cs es) ≡ kept cs (filter (λ e. p (edit_of cs e)) es)
 filter-kept cs p [] = refl
 filter-kept cs p (e ∷ es) = kept-step cs p e es (p (edit_of cs e)) refl (filter-kept cs p es)
   where
-    kept-step : (cs : List Event) (p : Edit → Bool) (e : Entry) (es : List Entry) (b : Bool) → p (edit_of cs e) ≡ b → filter p (kept cs es) ≡ kept cs (filter (λ e. p (edit_of cs e)) es) → filter p (kept cs (e ∷ es)) ≡ kept cs (filter (λ e. p (edit_of cs e)) (e ∷ es))
+    kept-step : (cs : List Event) (p : Edit → Bool) (e : Entry) (es : List Entry) (b : Bool) → p (edit_of cs e) ≡ b →
+        filter p (kept cs es) ≡ kept cs (filter (λ e. p (edit_of cs e)) es) →
+        filter p (kept cs (e ∷ es)) ≡ kept cs (filter (λ e. p (edit_of cs e)) (e ∷ es))
     kept-step cs p e es true h g = rw h (ap (λ x. edit_of cs e ∷ x) g)
     kept-step cs p e es false h g = rw h g
 
@@ -78,7 +84,9 @@ back-there : (i : ℕ) (log : List Edit) → back_at i log ≡ back_at i (filter
 back-there i [] = refl
 back-there i (e ∷ log) = back-step i e log (e.at == i) refl (back-there i log)
   where
-    back-step : (i : ℕ) (e : Edit) (log : List Edit) (b : Bool) → (e.at == i) ≡ b → back_at i log ≡ back_at i (filter (stands_at i) log) → back_at i (e ∷ log) ≡ back_at i (filter (stands_at i) (e ∷ log))
+    back-step : (i : ℕ) (e : Edit) (log : List Edit) (b : Bool) → (e.at == i) ≡ b →
+        back_at i log ≡ back_at i (filter (stands_at i) log) →
+        back_at i (e ∷ log) ≡ back_at i (filter (stands_at i) (e ∷ log))
     back-step i e log true h g = rw h (rw h (ap (λ x. cond (not e.before) e.events [] ++ x) g))
     back-step i e log false h g = rw h g
 
@@ -86,11 +94,14 @@ removed-there : (i : ℕ) (log : List Edit) → removed_at i log ≡ removed_at 
 removed-there i [] = refl
 removed-there i (e ∷ log) = removed-step i e log (e.at == i) refl (removed-there i log)
   where
-    removed-step : (i : ℕ) (e : Edit) (log : List Edit) (b : Bool) → (e.at == i) ≡ b → removed_at i log ≡ removed_at i (filter (stands_at i) log) → removed_at i (e ∷ log) ≡ removed_at i (filter (stands_at i) (e ∷ log))
+    removed-step : (i : ℕ) (e : Edit) (log : List Edit) (b : Bool) → (e.at == i) ≡ b →
+        removed_at i log ≡ removed_at i (filter (stands_at i) log) →
+        removed_at i (e ∷ log) ≡ removed_at i (filter (stands_at i) (e ∷ log))
     removed-step i e log true h g = rw h (rw h (ap (λ x. e.remove + x) g))
     removed-step i e log false h g = rw h (omega (arith, g))
 
-rises-map : {X Y : Type 0} (f : X → Y) (n : Y → ℕ) (xs : List X) → IsNonDecreasingBy (λ x. n (f x)) xs → IsNonDecreasingBy n (map f xs)
+rises-map : {X Y : Type 0} (f : X → Y) (n : Y → ℕ) (xs : List X) → IsNonDecreasingBy (λ x. n (f x)) xs →
+    IsNonDecreasingBy n (map f xs)
 rises-map f n [] up = λ i j d l h. absurd (omega arith)
 rises-map f n (x ∷ xs) up = λ i j d l h.
     let size = length-map (x ∷ xs) f in
@@ -100,7 +111,8 @@ rises-map f n (x ∷ xs) up = λ i j d l h.
     omega (arith, ap n (get_or-map f (x ∷ xs) i x d low), ap n (get_or-map f (x ∷ xs) j x d high))
 
 -- edits sorted by place collect what the log collects
-pub rest-sorted : (cs : List Event) (xs ys : List Entry) → AddsUnlinked (kept cs xs) → IsPermutation xs ys → IsNonDecreasingBy (λ e. e.at) ys → IsStableByKey (λ e. e.at) nat_cmp xs ys → IsRest 0 (kept cs xs) (kept cs ys)
+pub rest-sorted : (cs : List Event) (xs ys : List Entry) → AddsUnlinked (kept cs xs) → IsPermutation xs ys →
+    IsNonDecreasingBy (λ e. e.at) ys → IsStableByKey (λ e. e.at) nat_cmp xs ys → IsRest 0 (kept cs xs) (kept cs ys)
 rest-sorted cs xs ys plain moved up stable =
     let log = kept cs xs in
     let same = λ (i : ℕ). filter-kept cs (stands_at i) ys ∙ ap (kept cs) (stays_there (λ (e : Entry). e.at) xs ys stable i) ∙ sym (filter-kept cs (stands_at i) xs) in
@@ -113,7 +125,8 @@ rest-sorted cs xs ys plain moved up stable =
     }
 
 -- edits that are in order as they were added
-pub rest-added : (cs : List Event) (xs : List Entry) → AddsUnlinked (kept cs xs) → IsNonDecreasingBy (λ e. e.at) xs → IsRest 0 (kept cs xs) (kept cs xs)
+pub rest-added : (cs : List Event) (xs : List Entry) → AddsUnlinked (kept cs xs) → IsNonDecreasingBy (λ e. e.at) xs →
+    IsRest 0 (kept cs xs) (kept cs xs)
 rest-added cs xs plain up = record {
   ahead = λ k d l. omega arith;
   rises = rises-map (edit_of cs) (λ (e : Edit). e.at) xs up;
@@ -174,21 +187,26 @@ none = record { at = 0; remove = 0; from = 0; to = 0; before = false }
 abbrev pub entry : List Entry → ℕ → Entry
 entry es k = get_or es k none
 
-kept-read : (cs : List Event) (es : List Entry) (k : ℕ) → k < length es → (e : Edit) → get_or (kept cs es) k e ≡ edit_of cs (entry es k)
+kept-read : (cs : List Event) (es : List Entry) (k : ℕ) → k < length es → (e : Edit) →
+    get_or (kept cs es) k e ≡ edit_of cs (entry es k)
 kept-read cs es k l e = get_or-map (edit_of cs) es k none e l
 
-kept-more : (cs : List Event) (es : List Entry) (k : ℕ) → k < length es → kept cs (take (k + 1) es) ≡ kept cs (take k es) ++ edit_of cs (entry es k) ∷ []
+kept-more : (cs : List Event) (es : List Entry) (k : ℕ) → k < length es →
+    kept cs (take (k + 1) es) ≡ kept cs (take k es) ++ edit_of cs (entry es k) ∷ []
 kept-more cs es k l = map_more (edit_of cs) es k none l
 
-plain-read : (cs : List Event) (r : Entry) (xs : List Event) → All IsUnlinked cs → xs ≡ (edit_of cs r).events → All IsUnlinked xs
+plain-read : (cs : List Event) (r : Entry) (xs : List Event) → All IsUnlinked cs → xs ≡ (edit_of cs r).events →
+    All IsUnlinked xs
 plain-read cs r xs u h =
     let P : List Event → Type 0 = λ ys. All IsUnlinked ys in
     subst P (sym h) (All-take IsUnlinked (r.to - r.from) (drop r.from cs) (All-drop IsUnlinked r.from cs u))
 
-pub fresh-read : (cs : List Event) (r : Entry) (xs : List Event) → All IsUnlinked cs → xs ≡ (edit_of cs r).events → All IsFresh xs
+pub fresh-read : (cs : List Event) (r : Entry) (xs : List Event) → All IsUnlinked cs → xs ≡ (edit_of cs r).events →
+    All IsFresh xs
 fresh-read cs r xs u h = λ k d l. unlinked-fresh (get_or xs k d) (plain-read cs r xs u h k d l)
 
-pub here-more : (i : ℕ) (es : List Entry) (k : ℕ) → k < length es → (entry es k).at ≡ i → All (λ e. e.at ≡ i) (take k es) → All (λ e. e.at ≡ i) (take (k + 1) es)
+pub here-more : (i : ℕ) (es : List Entry) (k : ℕ) → k < length es → (entry es k).at ≡ i →
+    All (λ e. e.at ≡ i) (take k es) → All (λ e. e.at ≡ i) (take (k + 1) es)
 here-more i es k l at all =
     let P : List Entry → Type 0 = λ ys. All (λ e. e.at ≡ i) ys in
     subst P (sym (take_more es k none l)) (All-push (λ (e : Entry). e.at ≡ i) (take k es) (entry es k) all at)
@@ -199,13 +217,22 @@ at-place a i n h = grind (arith, nat_tests)
 at-other : (a i n : ℕ) → a ≢ i → cond (a == i) n 0 ≡ 0
 at-other a i n h = rw (ne_eqb a i h) refl
 
-pub removed-left : (cs : List Event) (i : ℕ) (es : List Entry) (k : ℕ) (a : ℕ) → k < length es → a ≡ min (removed_at i (kept cs (take k es))) (2 ^ 64 - 1) → (entry es k).at ≢ i → a ≡ min (removed_at i (kept cs (take (k + 1) es))) (2 ^ 64 - 1)
-removed-left cs i es k a l g other = omega (arith, ap (removed_at i) (kept-more cs es k l), removed_push i (kept cs (take k es)) (edit_of cs (entry es k)), at-other (entry es k).at i (entry es k).remove other)
+pub removed-left : (cs : List Event) (i : ℕ) (es : List Entry) (k : ℕ) (a : ℕ) → k < length es →
+    a ≡ min (removed_at i (kept cs (take k es))) (2 ^ 64 - 1) → (entry es k).at ≢ i →
+    a ≡ min (removed_at i (kept cs (take (k + 1) es))) (2 ^ 64 - 1)
+removed-left cs i es k a l g other =
+    omega (arith, ap (removed_at i) (kept-more cs es k l), removed_push i (kept cs (take k es)) (edit_of cs (entry es k)), at-other (entry es k).at i (entry es k).remove other)
 
-pub removed-more : (cs : List Event) (i : ℕ) (es : List Entry) (k : ℕ) (a b : ℕ) → k < length es → a ≡ min (removed_at i (kept cs (take k es))) (2 ^ 64 - 1) → b ≡ min (a + (entry es k).remove) (2 ^ 64 - 1) → (entry es k).at ≡ i → b ≡ min (removed_at i (kept cs (take (k + 1) es))) (2 ^ 64 - 1)
-removed-more cs i es k a b l g m at = omega (arith, ap (removed_at i) (kept-more cs es k l), removed_push i (kept cs (take k es)) (edit_of cs (entry es k)), at-place (entry es k).at i (entry es k).remove at)
+pub removed-more : (cs : List Event) (i : ℕ) (es : List Entry) (k : ℕ) (a b : ℕ) → k < length es →
+    a ≡ min (removed_at i (kept cs (take k es))) (2 ^ 64 - 1) → b ≡ min (a + (entry es k).remove) (2 ^ 64 - 1) →
+    (entry es k).at ≡ i → b ≡ min (removed_at i (kept cs (take (k + 1) es))) (2 ^ 64 - 1)
+removed-more cs i es k a b l g m at =
+    omega (arith, ap (removed_at i) (kept-more cs es k l), removed_push i (kept cs (take k es)) (edit_of cs (entry es k)), at-place (entry es k).at i (entry es k).remove at)
 
-pub backs-more : (cs : List Event) (i : ℕ) (es : List Entry) (k : ℕ) (xs ys zs : List Event) → k < length es → ys ≡ xs ++ back_at i (kept cs (take k es)) → zs ≡ ys ++ cond ((entry es k).at == i && not (entry es k).before) (edit_of cs (entry es k)).events [] → zs ≡ xs ++ back_at i (kept cs (take (k + 1) es))
+pub backs-more : (cs : List Event) (i : ℕ) (es : List Entry) (k : ℕ) (xs ys zs : List Event) → k < length es →
+    ys ≡ xs ++ back_at i (kept cs (take k es)) →
+    zs ≡ ys ++ cond ((entry es k).at == i && not (entry es k).before) (edit_of cs (entry es k)).events [] →
+    zs ≡ xs ++ back_at i (kept cs (take (k + 1) es))
 backs-more cs i es k xs ys zs l g m =
     m ∙ ap (λ x. x ++ cond ((entry es k).at == i && not (entry es k).before) (edit_of cs (entry es k)).events []) g ∙ append_assoc xs (back_at i (kept cs (take k es))) (cond ((entry es k).at == i && not (entry es k).before) (edit_of cs (entry es k)).events []) ∙ ap (λ x. xs ++ x) (sym (ap (back_at i) (kept-more cs es k l) ∙ back_push i (kept cs (take k es)) (edit_of cs (entry es k))))
 
@@ -214,7 +241,8 @@ backs-more cs i es k xs ys zs l g m =
 pub first-rises : (es : List Entry) → IsNonDecreasingBy (λ e. e.at) (take 1 es)
 first-rises es = IsNonDecreasingBy-short (λ (e : Entry). e.at) (take 1 es) (omega (arith, length-take 1 es))
 
-pub rises-more : (es : List Entry) (k : ℕ) → 1 ≤ k → k < length es → (entry es (k - 1)).at ≤ (entry es k).at → IsNonDecreasingBy (λ e. e.at) (take k es) → IsNonDecreasingBy (λ e. e.at) (take (k + 1) es)
+pub rises-more : (es : List Entry) (k : ℕ) → 1 ≤ k → k < length es → (entry es (k - 1)).at ≤ (entry es k).at →
+    IsNonDecreasingBy (λ e. e.at) (take k es) → IsNonDecreasingBy (λ e. e.at) (take (k + 1) es)
 rises-more es k l h le up =
     let size = length-take k es in
     let last : length (take k es) - 1 ≡ k - 1 = omega arith in
@@ -222,21 +250,26 @@ rises-more es k l h le up =
     let read = λ (d : Entry). ap (λ n. get_or (take k es) n d) last ∙ get_or-take k es (k - 1) d (omega arith) ∙ get_or_default es (k - 1) d none below in
     subst (IsNonDecreasingBy (λ (e : Entry). e.at)) (sym (take_more es k none h)) (IsNonDecreasingBy-push (λ (e : Entry). e.at) (take k es) (entry es k) up (λ d m. omega (arith, ap (λ (e : Entry). e.at) (read d))))
 
-pub all-rise : (es : List Entry) (k : ℕ) → length es ≤ k → IsNonDecreasingBy (λ e. e.at) (take k es) → IsNonDecreasingBy (λ e. e.at) es
+pub all-rise : (es : List Entry) (k : ℕ) → length es ≤ k → IsNonDecreasingBy (λ e. e.at) (take k es) →
+    IsNonDecreasingBy (λ e. e.at) es
 all-rise es k l up = subst (IsNonDecreasingBy (λ (e : Entry). e.at)) (take_all k es l) up
 
 -- what an edit puts behind others at a place
-pub comes-behind : (r : Edit) (i : ℕ) (xs : List Event) → r.at ≡ i → r.before ≡ false → xs ≡ r.events → xs ≡ cond (r.at == i && not r.before) r.events []
-comes-behind r i xs at b h = h ∙ sym (ap (λ x. cond (x && not r.before) r.events []) (eq-eqb r.at i at) ∙ ap (λ x. cond (not x) r.events []) b)
+pub comes-behind : (r : Edit) (i : ℕ) (xs : List Event) → r.at ≡ i → r.before ≡ false → xs ≡ r.events →
+    xs ≡ cond (r.at == i && not r.before) r.events []
+comes-behind r i xs at b h =
+    h ∙ sym (ap (λ x. cond (x && not r.before) r.events []) (eq-eqb r.at i at) ∙ ap (λ x. cond (not x) r.events []) b)
 
-pub none-behind : (r : Edit) (i : ℕ) (ys : List Event) → r.before ≡ true → ys ≡ ys ++ cond (r.at == i && not r.before) r.events []
+pub none-behind : (r : Edit) (i : ℕ) (ys : List Event) → r.before ≡ true →
+    ys ≡ ys ++ cond (r.at == i && not r.before) r.events []
 none-behind r i ys b = none-part (r.at == i) r.before r.events ys b
   where
     none-part : (p q : Bool) (xs ys : List Event) → q ≡ true → ys ≡ ys ++ cond (p && not q) xs []
     none-part true q xs ys h = rw h (sym (append-nil ys))
     none-part false q xs ys h = sym (append-nil ys)
 
-pub none-elsewhere : (r : Edit) (i : ℕ) (ys : List Event) → r.at ≢ i → ys ≡ ys ++ cond (r.at == i && not r.before) r.events []
+pub none-elsewhere : (r : Edit) (i : ℕ) (ys : List Event) → r.at ≢ i →
+    ys ≡ ys ++ cond (r.at == i && not r.before) r.events []
 none-elsewhere r i ys other = rw (ne_eqb r.at i other) (sym (append-nil ys))
 
 -- One edit that stands at a place by itself.
@@ -245,24 +278,29 @@ one-comes : (e : Edit) (i : ℕ) (b : Bool) → e.at ≡ i → e.before ≡ b �
 one-comes e i true at b = rw (eq-eqb e.at i at) (rw b (append-nil e.events))
 one-comes e i false at b = rw (eq-eqb e.at i at) (rw b (append-nil e.events))
 
-pub one-added : (cs : List Event) (i : ℕ) (es : List Entry) → length es ≡ 1 → All (λ e. e.at ≡ i) es → added_at i (kept cs es) ≡ (edit_of cs (entry es 0)).events
+pub one-added : (cs : List Event) (i : ℕ) (es : List Entry) → length es ≡ 1 → All (λ e. e.at ≡ i) es →
+    added_at i (kept cs es) ≡ (edit_of cs (entry es 0)).events
 one-added cs i [] one here = absurd (omega arith)
 one-added cs i (x ∷ []) one here = one-comes (edit_of cs x) i x.before (here 0 x (omega arith)) refl
 one-added cs i (x ∷ y ∷ es) one here = absurd (omega arith)
 
-pub one-removed : (cs : List Event) (i : ℕ) (es : List Entry) → length es ≡ 1 → All (λ e. e.at ≡ i) es → removed_at i (kept cs es) ≡ (entry es 0).remove
+pub one-removed : (cs : List Event) (i : ℕ) (es : List Entry) → length es ≡ 1 → All (λ e. e.at ≡ i) es →
+    removed_at i (kept cs es) ≡ (entry es 0).remove
 one-removed cs i [] one here = absurd (omega arith)
 one-removed cs i (x ∷ []) one here = omega (arith, at-place x.at i x.remove (here 0 x (omega arith)))
 one-removed cs i (x ∷ y ∷ es) one here = absurd (omega arith)
 
 -- edits that are kept bring no event with a link
 pub adds-unlinked : (cs : List Event) (es : List Entry) → All IsUnlinked cs → AddsUnlinked (kept cs es)
-adds-unlinked cs es u = All-map (λ (e : Edit). All IsUnlinked e.events) (edit_of cs) es (λ k d l. plain-read cs (get_or es k d) _ u refl)
+adds-unlinked cs es u =
+    All-map (λ (e : Edit). All IsUnlinked e.events) (edit_of cs) es (λ k d l. plain-read cs (get_or es k d) _ u refl)
 
 -- A part of the edits that are kept.
 
-kept-tail : (cs : List Event) (es : List Entry) (p : ℕ) → kept cs (take (length es - p) (drop p es)) ≡ drop p (kept cs es)
-kept-tail cs es p = ap (kept cs) (take_all (length es - p) (drop p es) (omega (arith, length-drop p es))) ∙ sym (drop-map (edit_of cs) p es)
+kept-tail : (cs : List Event) (es : List Entry) (p : ℕ) →
+    kept cs (take (length es - p) (drop p es)) ≡ drop p (kept cs es)
+kept-tail cs es p =
+    ap (kept cs) (take_all (length es - p) (drop p es) (omega (arith, length-drop p es))) ∙ sym (drop-map (edit_of cs) p es)
 
 kept-at : (cs : List Event) (i : ℕ) (es : List Entry) → All (λ e. e.at ≡ i) es → All (λ e. e.at ≡ i) (kept cs es)
 kept-at cs i es h = All-map (λ (e : Edit). e.at ≡ i) (edit_of cs) es h
@@ -276,19 +314,22 @@ brought-sorted cs xs ys moved b = record {
 
 -- Edits that are added and taken off.
 
-cut-events : (cs : List Event) (a b e : ℕ) → a ≤ b → b ≤ e → take (b - a) (drop a (take e cs)) ≡ take (b - a) (drop a cs)
+cut-events : (cs : List Event) (a b e : ℕ) → a ≤ b → b ≤ e →
+    take (b - a) (drop a (take e cs)) ≡ take (b - a) (drop a cs)
 cut-events cs a b e l h =
     let all : a + (e - a) ≡ e = omega arith in
     ap (λ n. take (b - a) (drop a (take n cs))) (sym all) ∙ ap (take (b - a)) (drop-take a (e - a) cs) ∙ take-take (b - a) (e - a) (drop a cs) (omega arith)
 
 -- the first of the events are enough for edits that bring none of the others
-kept-cut : (cs : List Event) (e : ℕ) (es : List Entry) → All (λ x. x.from ≤ x.to) es → All (λ x. x.to ≤ e) es → kept (take e cs) es ≡ kept cs es
+kept-cut : (cs : List Event) (e : ℕ) (es : List Entry) → All (λ x. x.from ≤ x.to) es → All (λ x. x.to ≤ e) es →
+    kept (take e cs) es ≡ kept cs es
 kept-cut cs e [] o w = refl
 kept-cut cs e (x ∷ es) o w =
     let first : edit_of (take e cs) x ≡ edit_of cs x = ap (λ (xs : List Event). record { at = x.at; remove = x.remove; events = xs; before = x.before }) (cut-events cs x.from x.to e (o 0 x (omega arith)) (w 0 x (omega arith))) in
     ap (λ y. y ∷ kept (take e cs) es) first ∙ ap (λ ys. edit_of cs x ∷ ys) (kept-cut cs e es (λ k d l. o (suc k) d (omega arith)) (λ k d l. w (suc k) d (omega arith)))
 
-pub all-below : (es : List Entry) (n : ℕ) → 0 < n → n ≤ length es → IsNonDecreasingBy (λ e. e.to) es → All (λ e. e.to ≤ (entry es (n - 1)).to) (take n es)
+pub all-below : (es : List Entry) (n : ℕ) → 0 < n → n ≤ length es → IsNonDecreasingBy (λ e. e.to) es →
+    All (λ e. e.to ≤ (entry es (n - 1)).to) (take n es)
 all-below es n p l up = λ k d h.
     let size = length-take n es in
     let low : k < n = omega arith in
@@ -299,7 +340,8 @@ all-below es n p l up = λ k d h.
 -- the first edits, with the events that they bring
 module _ (cs : List Event) (es : List Entry) (n e : ℕ) (k : AreKept cs es) (below : All (λ x. x.to ≤ e) (take n es)) where
   pub kept-first : kept (take e cs) (take n es) ≡ take n (kept cs es)
-  kept-first = kept-cut cs e (take n es) (All-take (λ (x : Entry). x.from ≤ x.to) n es k.brought.order) below ∙ sym (take-map (edit_of cs) n es)
+  kept-first =
+      kept-cut cs e (take n es) (All-take (λ (x : Entry). x.from ≤ x.to) n es k.brought.order) below ∙ sym (take-map (edit_of cs) n es)
 
   pub are-first : AreKept (take e cs) (take n es)
   are-first =
@@ -314,7 +356,9 @@ module _ (cs : List Event) (es : List Entry) (n e : ℕ) (k : AreKept cs es) (be
         rises = IsNonDecreasingBy-take (λ (x : Entry). x.to) n es k.rises;
       }
 
-pub first-seen : (cs ds : List Event) (es fs gs : List Entry) (n e : ℕ) → fs ≡ es → gs ≡ take n es → ds ≡ take e cs → AreKept cs es → (IsNonDecreasingBy (λ x. x.to) fs → All (λ x. x.to ≤ e) (take n fs)) → (kept ds gs ≡ take n (kept cs es)) × AreKept ds gs
+pub first-seen : (cs ds : List Event) (es fs gs : List Entry) (n e : ℕ) → fs ≡ es → gs ≡ take n es → ds ≡ take e cs →
+    AreKept cs es → (IsNonDecreasingBy (λ x. x.to) fs → All (λ x. x.to ≤ e) (take n fs)) →
+    (kept ds gs ≡ take n (kept cs es)) × AreKept ds gs
 first-seen cs ds es fs gs n e seen cut short k low =
     let below = subst (λ (xs : List Entry). IsNonDecreasingBy (λ x. x.to) xs → All (λ x. x.to ≤ e) (take n xs)) seen low k.rises in (
       ap (λ xs. kept xs gs) short ∙ ap (kept (take e cs)) cut ∙ kept-first cs es n e k below,
@@ -324,7 +368,8 @@ first-seen cs ds es fs gs n e seen cut short k low =
 -- one edit more, with the events that it brings
 module _ (cs xs : List Event) (es : List Entry) (k : AreKept cs es) (x : Entry) (from : x.from ≡ length cs) (to : x.to ≡ length (cs ++ xs)) where
   before-same : kept (cs ++ xs) es ≡ kept cs es
-  before-same = sym (kept-cut (cs ++ xs) (length cs) es k.brought.order k.brought.within) ∙ ap (λ ys. kept ys es) (take-append_seam cs xs)
+  before-same =
+      sym (kept-cut (cs ++ xs) (length cs) es k.brought.order k.brought.within) ∙ ap (λ ys. kept ys es) (take-append_seam cs xs)
 
   size-both : length (cs ++ xs) ≡ length cs + length xs
   size-both = length-append cs xs
@@ -336,7 +381,8 @@ module _ (cs xs : List Event) (es : List Entry) (k : AreKept cs es) (x : Entry) 
       ap (λ m. take m (drop x.from (cs ++ xs))) count ∙ ap (λ m. take (length xs) (drop m (cs ++ xs))) from ∙ ap (take (length xs)) (drop-append_seam cs xs) ∙ take_all (length xs) xs (omega arith)
 
   pub kept-pushed : kept (cs ++ xs) (es ++ x ∷ []) ≡ kept cs es ++ (record { at = x.at; remove = x.remove; events = xs; before = x.before }) ∷ []
-  kept-pushed = map-append (edit_of (cs ++ xs)) es (x ∷ []) ∙ ap (λ ys. ys ++ edit_of (cs ++ xs) x ∷ []) before-same ∙ ap (λ (ys : List Event). kept cs es ++ (record { at = x.at; remove = x.remove; events = ys; before = x.before }) ∷ []) last-events
+  kept-pushed =
+      map-append (edit_of (cs ++ xs)) es (x ∷ []) ∙ ap (λ ys. ys ++ edit_of (cs ++ xs) x ∷ []) before-same ∙ ap (λ (ys : List Event). kept cs es ++ (record { at = x.at; remove = x.remove; events = ys; before = x.before }) ∷ []) last-events
 
   pub are-pushed : All IsUnlinked xs → AreKept (cs ++ xs) (es ++ x ∷ [])
   are-pushed u =
@@ -350,7 +396,9 @@ module _ (cs xs : List Event) (es : List Entry) (k : AreKept cs es) (x : Entry) 
         rises = IsNonDecreasingBy-push (λ (e : Entry). e.to) es x k.rises (λ d p. let w = k.brought.within (length es - 1) d (omega arith) in omega arith);
       }
 
-pub pushed-seen : (cs ds xs : List Event) (es fs : List Entry) (x : Entry) → ds ≡ cs ++ xs → fs ≡ es ++ x ∷ [] → x.from ≡ length cs → x.to ≡ length ds → AreKept cs es → All IsUnlinked xs → (kept ds fs ≡ kept cs es ++ (record { at = x.at; remove = x.remove; events = xs; before = x.before }) ∷ []) × AreKept ds fs
+pub pushed-seen : (cs ds xs : List Event) (es fs : List Entry) (x : Entry) → ds ≡ cs ++ xs → fs ≡ es ++ x ∷ [] →
+    x.from ≡ length cs → x.to ≡ length ds → AreKept cs es → All IsUnlinked xs →
+    (kept ds fs ≡ kept cs es ++ (record { at = x.at; remove = x.remove; events = xs; before = x.before }) ∷ []) × AreKept ds fs
 pushed-seen cs ds xs es fs x more longer from to k u =
     let end = to ∙ ap length more in (
       ap (λ ys. kept ys fs) more ∙ ap (kept (cs ++ xs)) longer ∙ kept-pushed cs xs es k x from end,
@@ -360,13 +408,17 @@ pushed-seen cs ds xs es fs x more longer from to k u =
 -- what is read of a map
 
 pub brought-seen : (cs ds : List Event) (es fs : List Entry) → ds ≡ cs → fs ≡ es → AreBrought cs es → AreBrought ds fs
-brought-seen cs ds es fs h g b = subst (λ (xs : List Event). AreBrought xs fs) (sym h) (subst (λ (xs : List Entry). AreBrought cs xs) (sym g) b)
+brought-seen cs ds es fs h g b =
+    subst (λ (xs : List Event). AreBrought xs fs) (sym h) (subst (λ (xs : List Entry). AreBrought cs xs) (sym g) b)
 
-pub rest-seen : (cs ds : List Event) (es fs gs : List Entry) (log : List Edit) → ds ≡ cs → fs ≡ es → kept cs es ≡ log → IsRest 0 (kept ds fs) (kept ds gs) → IsRest 0 log (kept ds gs)
-rest-seen cs ds es fs gs log h g k r = subst (λ (xs : List Edit). IsRest 0 xs (kept ds gs)) (ap (λ x. kept x fs) h ∙ ap (kept cs) g ∙ k) r
+pub rest-seen : (cs ds : List Event) (es fs gs : List Entry) (log : List Edit) → ds ≡ cs → fs ≡ es → kept cs es ≡ log →
+    IsRest 0 (kept ds fs) (kept ds gs) → IsRest 0 log (kept ds gs)
+rest-seen cs ds es fs gs log h g k r =
+    subst (λ (xs : List Edit). IsRest 0 xs (kept ds gs)) (ap (λ x. kept x fs) h ∙ ap (kept cs) g ∙ k) r
 
 -- edits at a place bring events as all do
-pub brought-here : (cs : List Event) (es : List Entry) (p k : ℕ) → AreBrought cs es → AreBrought cs (take k (take (length es - p) (drop p es)))
+pub brought-here : (cs : List Event) (es : List Entry) (p k : ℕ) → AreBrought cs es →
+    AreBrought cs (take k (take (length es - p) (drop p es)))
 brought-here cs es p k b = record {
   order = All-take (λ (e : Entry). e.from ≤ e.to) k (take (length es - p) (drop p es)) (All-take (λ (e : Entry). e.from ≤ e.to) (length es - p) (drop p es) (All-drop (λ (e : Entry). e.from ≤ e.to) p es b.order));
   within = All-take (λ (e : Entry). e.to ≤ length cs) k (take (length es - p) (drop p es)) (All-take (λ (e : Entry). e.to ≤ length cs) (length es - p) (drop p es) (All-drop (λ (e : Entry). e.to ≤ length cs) p es b.within));
@@ -380,7 +432,10 @@ pub record Passing (cs : List Event) (i k p : ℕ) (es : List Entry) : Type 0 wh
   pub removed : removed_at i (kept cs (take k (take (length es - p) (drop p es)))) ≡ removed_at i (drop p (kept cs es))
   pub behind : IsRest (i + 1) (drop p (kept cs es)) (drop (p + k) (kept cs es))
 
-pub passing : (cs : List Event) (i k p : ℕ) (es : List Entry) → IsRest i (drop p (kept cs es)) (drop p (kept cs es)) → k ≤ length (take (length es - p) (drop p es)) → All (λ e. e.at ≡ i) (take k (take (length es - p) (drop p es))) → ((e : Entry) → k < length (take (length es - p) (drop p es)) → (get_or (take (length es - p) (drop p es)) k e).at ≢ i) → Passing cs i k p es
+pub passing : (cs : List Event) (i k p : ℕ) (es : List Entry) → IsRest i (drop p (kept cs es)) (drop p (kept cs es)) →
+    k ≤ length (take (length es - p) (drop p es)) → All (λ e. e.at ≡ i) (take k (take (length es - p) (drop p es))) →
+    ((e : Entry) → k < length (take (length es - p) (drop p es)) → (get_or (take (length es - p) (drop p es)) k e).at ≢ i) →
+    Passing cs i k p es
 passing cs i k p es rest within here next =
     let tail = take (length es - p) (drop p es) in
     let is : kept cs tail ≡ drop p (kept cs es) = kept-tail cs es p in
@@ -410,12 +465,15 @@ module _ (log : List Edit) (i p : ℕ) (es : List Edit) (left : IsRest i log (dr
   pub rest-place : (q : ℕ) → IsRest (i + 1) (drop p es) (drop q es) → IsRest (i + 1) log (drop q es)
   rest-place q r = rest-trans i (i + 1) log (drop p es) (drop q es) (omega arith) left r
 
-  pub range-place : (a b : ℕ) → i < 2 ^ 64 - 1 → EndsAt log i i a → b ≡ max a (min (i + min (removed_at i (drop p es)) (2 ^ 64 - 1)) (2 ^ 64 - 1)) → EndsAt log i (i + 1) b
-  range-place a b l h g = range-more log i a _ _ b l h (ap (λ n. min n (2 ^ 64 - 1)) (left.removed i (omega arith))) refl g
+  pub range-place : (a b : ℕ) → i < 2 ^ 64 - 1 → EndsAt log i i a →
+      b ≡ max a (min (i + min (removed_at i (drop p es)) (2 ^ 64 - 1)) (2 ^ 64 - 1)) → EndsAt log i (i + 1) b
+  range-place a b l h g =
+      range-more log i a _ _ b l h (ap (λ n. min n (2 ^ 64 - 1)) (left.removed i (omega arith))) refl g
 
 -- Up to the next edit.
 
-first-left : (cs : List Event) (es : List Entry) (p : ℕ) → p < length es → (d : Edit) → get_or (drop p (kept cs es)) 0 d ≡ edit_of cs (entry es p)
+first-left : (cs : List Event) (es : List Entry) (p : ℕ) → p < length es → (d : Edit) →
+    get_or (drop p (kept cs es)) 0 d ≡ edit_of cs (entry es p)
 first-left cs es p l d =
     let at : p + 0 ≡ p = omega arith in
     get_or-drop p (kept cs es) 0 d ∙ ap (λ n. get_or (kept cs es) n d) at ∙ kept-read cs es p l d
@@ -423,28 +481,33 @@ first-left cs es p l d =
 left-size : (cs : List Event) (es : List Entry) (p : ℕ) → length (drop p (kept cs es)) ≡ length es - p
 left-size cs es p = length-drop p (kept cs es) ∙ ap (λ n. n - p) (length-map es (edit_of cs))
 
-pub next-from : (cs : List Event) (es : List Entry) (p n : ℕ) → p < length es → All (λ e. n ≤ e.at) (drop p (kept cs es)) → n ≤ (entry es p).at
+pub next-from : (cs : List Event) (es : List Entry) (p n : ℕ) → p < length es →
+    All (λ e. n ≤ e.at) (drop p (kept cs es)) → n ≤ (entry es p).at
 next-from cs es p n l all =
     let size = left-size cs es p in
     let low = all 0 (edit_of cs (entry es p)) (omega arith) in
     omega (arith, ap (λ (e : Edit). e.at) (first-left cs es p l (edit_of cs (entry es p))))
 
-pub next-rest : (cs : List Event) (es : List Entry) (p t : ℕ) → p < length es → t ≤ (entry es p).at → IsNonDecreasingBy (λ e. e.at) (drop p (kept cs es)) → All (λ e. t ≤ e.at) (drop p (kept cs es))
+pub next-rest : (cs : List Event) (es : List Entry) (p t : ℕ) → p < length es → t ≤ (entry es p).at →
+    IsNonDecreasingBy (λ e. e.at) (drop p (kept cs es)) → All (λ e. t ≤ e.at) (drop p (kept cs es))
 next-rest cs es p t l le up = λ k d m.
     let more = up 0 k d (omega arith) m in
     omega (arith, ap (λ (e : Edit). e.at) (first-left cs es p l d))
 
 -- the edits left lie from a later place on
 pub rest-later : (n m : ℕ) (log a : List Edit) → n ≤ m → IsRest n log a → All (λ e. m ≤ e.at) a → IsRest m log a
-rest-later n m log a l r h = record { ahead = h; rises = r.rises; plain = r.plain; added = λ i k. r.added i (omega arith); removed = λ i k. r.removed i (omega arith) }
+rest-later n m log a l r h =
+    record { ahead = h; rises = r.rises; plain = r.plain; added = λ i k. r.added i (omega arith); removed = λ i k. r.removed i (omega arith) }
 
 pub rest-self : (n m : ℕ) (log a : List Edit) → m ≤ n → IsRest n log a → IsRest m a a
-rest-self n m log a l r = record { ahead = λ k d h. let low = r.ahead k d h in omega arith; rises = r.rises; plain = r.plain; added = λ i h. refl; removed = λ i h. refl }
+rest-self n m log a l r =
+    record { ahead = λ k d h. let low = r.ahead k d h in omega arith; rises = r.rises; plain = r.plain; added = λ i h. refl; removed = λ i h. refl }
 
 -- A place at which no edit of those left stands.
 
 -- the first of them stands behind it, if there is one, and so do all
-pub left-behind : (cs : List Event) (es : List Entry) (p i : ℕ) → IsRest i (drop p (kept cs es)) (drop p (kept cs es)) → (length es ≤ p) ⊎ ((p < length es) × ((entry es p).at ≢ i)) → All (λ e. i + 1 ≤ e.at) (drop p (kept cs es))
+pub left-behind : (cs : List Event) (es : List Entry) (p i : ℕ) → IsRest i (drop p (kept cs es)) (drop p (kept cs es)) →
+    (length es ≤ p) ⊎ ((p < length es) × ((entry es p).at ≢ i)) → All (λ e. i + 1 ≤ e.at) (drop p (kept cs es))
 left-behind cs es p i left (inl past) = λ k d l. let size = left-size cs es p in absurd (omega arith)
 left-behind cs es p i left (inr next) =
     let low = next-from cs es p i next.0 left.ahead in

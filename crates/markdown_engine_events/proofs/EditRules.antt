@@ -77,7 +77,8 @@ length-stay : (b : Bool) (x : Event) → length (cond b [] (x ∷ [])) ≡ cond 
 length-stay true x = refl
 length-stay false x = refl
 
-length-from : (log : List Edit) (i : ℕ) (es : List Event) → length (edited_from log i es) + start log i ≡ moved_number log (i + length es)
+length-from : (log : List Edit) (i : ℕ) (es : List Event) →
+    length (edited_from log i es) + start log i ≡ moved_number log (i + length es)
 length-from log i [] =
     let e : i + 0 ≡ i = omega arith in
     omega (arith, moved-start log i, ap (moved_number log) e)
@@ -91,10 +92,12 @@ length-from log i (e ∷ es) =
 
 -- as many as the number that an event past the end would have
 pub length-edited : (log : List Edit) (es : List Event) → length (edited log es) ≡ moved_number log (length es)
-length-edited log es = let e : 0 + length es ≡ length es = omega arith in omega (arith, length-from log 0 es, ap (moved_number log) e)
+length-edited log es =
+    let e : 0 + length es ≡ length es = omega arith in omega (arith, length-from log 0 es, ap (moved_number log) e)
 
 -- what is made so far is as long as what comes before the place
-pub placed-from : (log : List Edit) (es done : List Event) (i : ℕ) → i ≤ length es → done ++ edited_from log i (drop i es) ≡ edited log es → length done ≡ start log i
+pub placed-from : (log : List Edit) (es done : List Event) (i : ℕ) → i ≤ length es →
+    done ++ edited_from log i (drop i es) ≡ edited log es → length done ≡ start log i
 placed-from log es done i l h =
     let whole = length-append done (edited_from log i (drop i es)) in
     let rest = length-from log i (drop i es) in
@@ -106,11 +109,13 @@ placed-from log es done i l h =
 
 pub front-append : (i : ℕ) (a b : List Edit) → front_at i (a ++ b) ≡ front_at i b ++ front_at i a
 front-append i [] b = sym (append-nil (front_at i b))
-front-append i (e ∷ a) b = ap (λ x. x ++ cond (e.at == i && e.before) e.events []) (front-append i a b) ∙ append_assoc (front_at i b) (front_at i a) (cond (e.at == i && e.before) e.events [])
+front-append i (e ∷ a) b =
+    ap (λ x. x ++ cond (e.at == i && e.before) e.events []) (front-append i a b) ∙ append_assoc (front_at i b) (front_at i a) (cond (e.at == i && e.before) e.events [])
 
 pub back-append : (i : ℕ) (a b : List Edit) → back_at i (a ++ b) ≡ back_at i a ++ back_at i b
 back-append i [] b = refl
-back-append i (e ∷ a) b = ap (λ x. cond (e.at == i && not e.before) e.events [] ++ x) (back-append i a b) ∙ sym (append_assoc (cond (e.at == i && not e.before) e.events []) (back_at i a) (back_at i b))
+back-append i (e ∷ a) b =
+    ap (λ x. cond (e.at == i && not e.before) e.events [] ++ x) (back-append i a b) ∙ sym (append_assoc (cond (e.at == i && not e.before) e.events []) (back_at i a) (back_at i b))
 
 pub removed-append : (i : ℕ) (a b : List Edit) → removed_at i (a ++ b) ≡ removed_at i a + removed_at i b
 removed-append i [] b = omega arith
@@ -173,9 +178,11 @@ module _ (a b : List Edit) (n : ℕ) (low : All (λ e. e.at < n) a) (high : All 
 -- what becomes of some events from place i on, without what comes behind the last
 abbrev pub edited_until : List Edit → ℕ → List Event → List Event
 edited_until log i [] = []
-edited_until log i (e ∷ es) = added_at i log ++ (cond (is_removed log i) [] (moved log e ∷ []) ++ edited_until log (suc i) es)
+edited_until log i (e ∷ es) =
+    added_at i log ++ (cond (is_removed log i) [] (moved log e ∷ []) ++ edited_until log (suc i) es)
 
-pub edited-split : (log : List Edit) (i n : ℕ) (xs ys : List Event) → n ≡ i + length xs → edited_from log i (xs ++ ys) ≡ edited_until log i xs ++ edited_from log n ys
+pub edited-split : (log : List Edit) (i n : ℕ) (xs ys : List Event) → n ≡ i + length xs →
+    edited_from log i (xs ++ ys) ≡ edited_until log i xs ++ edited_from log n ys
 edited-split log i n [] ys h = ap (λ k. edited_from log k ys) (omega arith)
 edited-split log i n (x ∷ xs) ys h =
     let e : n ≡ suc i + length xs = omega arith in
@@ -207,7 +214,8 @@ places-from : (n : ℕ) (log : List Edit) → places_test n log ≡ true → All
 places-from n [] h = λ k d l. absurd (omega arith)
 places-from n (e ∷ log) h = λ k d l. places-step n e log (leb-true e.at n (and-left (nat_le e.at n) (places_test n log) h)) (places-from n log (and-right (nat_le e.at n) (places_test n log) h)) k d l
   where
-    places-step : (n : ℕ) (e : Edit) (log : List Edit) → e.at ≤ n → All (λ x. x.at ≤ n) log → (k : ℕ) (d : Edit) → k < length (e ∷ log) → (get_or (e ∷ log) k d).at ≤ n
+    places-step : (n : ℕ) (e : Edit) (log : List Edit) → e.at ≤ n → All (λ x. x.at ≤ n) log → (k : ℕ) (d : Edit) →
+        k < length (e ∷ log) → (get_or (e ∷ log) k d).at ≤ n
     places-step n e log h g zero d l = h
     places-step n e log h g (suc k) d l = g k d (omega arith)
 
@@ -230,4 +238,5 @@ CanEdit-from_test log es h =
 
 pub edited-empty : (log : List Edit) (es : List Event) → (length log == 0) ≡ true → es ≡ edited log es
 edited-empty [] es h = sym (edited-nil es)
-edited-empty (e ∷ log) es h = absurd (elim (eqb_tells (suc (length log)) 0) [ inl t ↦ omega arith | inr f ↦ false≢true (sym f.0 ∙ h) ])
+edited-empty (e ∷ log) es h =
+    absurd (elim (eqb_tells (suc (length log)) 0) [ inl t ↦ omega arith | inr f ↦ false≢true (sym f.0 ∙ h) ])

@@ -20,7 +20,8 @@ NamesNone e = previous_of e ≡ None
 pub fresh-first : (xs : List Event) → All IsFresh xs → All NamesNone xs
 fresh-first xs u = λ k d l. fresh-unnamed (get_or xs k d) (u k d l)
 
-same-first : (f : ℕ → ℕ) (l : Option Link) → link_previous l ≡ None → previous_link (option_map f (link_previous l)) l ≡ l
+same-first : (f : ℕ → ℕ) (l : Option Link) → link_previous l ≡ None →
+    previous_link (option_map f (link_previous l)) l ≡ l
 same-first f None h = refl
 same-first f (Some l) h = ap (λ (p : Option ℕ). Some (record l { previous = p })) (ap (option_map f) h ∙ sym h)
 
@@ -28,13 +29,16 @@ first-moved : (log : List Edit) (e : Event) → NamesNone e → moved log e ≡ 
 first-moved log e h = ap (λ (l : Option Link). record e { link = l }) (same-first (moved_number log) e.link h)
 
 -- events that stay, where nothing comes, and that name none before them
-until-plain : (log : List Edit) (i : ℕ) (xs : List Event) → ((j : ℕ) → i ≤ j → j < i + length xs → added_at j log ≡ []) → ((j : ℕ) → i ≤ j → j < i + length xs → is_removed log j ≡ false) → All NamesNone xs → edited_until log i xs ≡ xs
+until-plain : (log : List Edit) (i : ℕ) (xs : List Event) →
+    ((j : ℕ) → i ≤ j → j < i + length xs → added_at j log ≡ []) →
+    ((j : ℕ) → i ≤ j → j < i + length xs → is_removed log j ≡ false) → All NamesNone xs → edited_until log i xs ≡ xs
 until-plain log i [] a r u = refl
 until-plain log i (x ∷ xs) a r u =
     ap (λ y. y ++ (cond (is_removed log i) [] (moved log x ∷ []) ++ edited_until log (suc i) xs)) (a i (omega arith) (omega arith)) ∙ ap (λ b. cond b [] (moved log x ∷ []) ++ edited_until log (suc i) xs) (r i (omega arith) (omega arith)) ∙ ap (λ y. y ∷ edited_until log (suc i) xs) (first-moved log x (u 0 x (omega arith))) ∙ ap (λ y. x ∷ y) (until-plain log (suc i) xs (λ j l h. a j (omega arith) (omega arith)) (λ j l h. r j (omega arith) (omega arith)) (λ k d l. u (suc k) d (omega arith)))
 
 -- events that go, where nothing comes
-until-gone : (log : List Edit) (i : ℕ) (xs : List Event) → ((j : ℕ) → i ≤ j → j < i + length xs → added_at j log ≡ []) → ((j : ℕ) → i ≤ j → j < i + length xs → is_removed log j ≡ true) → edited_until log i xs ≡ []
+until-gone : (log : List Edit) (i : ℕ) (xs : List Event) → ((j : ℕ) → i ≤ j → j < i + length xs → added_at j log ≡ []) →
+    ((j : ℕ) → i ≤ j → j < i + length xs → is_removed log j ≡ true) → edited_until log i xs ≡ []
 until-gone log i [] a r = refl
 until-gone log i (x ∷ xs) a r =
     ap (λ y. y ++ (cond (is_removed log i) [] (moved log x ∷ []) ++ edited_until log (suc i) xs)) (a i (omega arith) (omega arith)) ∙ ap (λ b. cond b [] (moved log x ∷ []) ++ edited_until log (suc i) xs) (r i (omega arith) (omega arith)) ∙ until-gone log (suc i) xs (λ j l h. a j (omega arith) (omega arith)) (λ j l h. r j (omega arith) (omega arith))
@@ -51,7 +55,8 @@ module _ (log rest : List Edit) (es : List Event) (n m d : ℕ) (le : n ≤ m) (
   quiet-removed : (j : ℕ) → n ≤ j → j < m → removed_at j log ≡ 0
   quiet-removed j l h = sym (left_over.removed j l) ∙ removed-none j rest (nowhere j h)
 
-  range-quiet : (k : ℕ) → n + k ≤ m → (range_end log n ≤ range_end log (n + k)) × (range_end log (n + k) ≤ max (range_end log n) (n + k - 1))
+  range-quiet : (k : ℕ) → n + k ≤ m →
+      (range_end log n ≤ range_end log (n + k)) × (range_end log (n + k) ≤ max (range_end log n) (n + k - 1))
   range-quiet zero h = let e : n + 0 ≡ n = omega arith in rw e (omega arith, omega arith)
   range-quiet (suc k) h =
       let e : n + suc k ≡ suc (n + k) = omega arith in
@@ -89,7 +94,9 @@ module _ (log rest : List Edit) (es : List Event) (n m d : ℕ) (le : n ≤ m) (
 -- The same of events that name none before them.
 
 module _ (log rest : List Edit) (es : List Event) (n m d : ℕ) (le : n ≤ m) (within : m ≤ length es) (left_over : IsRest n log rest) (ahead : All (λ e. m ≤ e.at) rest) (plain : All NamesNone (take (m - n) (drop n es))) where
-  events-stretch : m < 2 ^ 64 → EndsAt log n n d → (n < m → d ≤ n) → (done put : List Event) → done ++ edited_from log n (drop n es) ≡ edited log es → put ≡ done ++ take (m - n) (drop n es) → put ++ edited_from log m (drop m es) ≡ edited log es
+  events-stretch : m < 2 ^ 64 → EndsAt log n n d → (n < m → d ≤ n) → (done put : List Event) →
+      done ++ edited_from log n (drop n es) ≡ edited log es → put ≡ done ++ take (m - n) (drop n es) →
+      put ++ edited_from log m (drop m es) ≡ edited log es
   events-stretch g h f done put k s =
       let xs = take (m - n) (drop n es) in
       let size = size-stretch log rest es n m d le within left_over ahead in
@@ -118,7 +125,9 @@ module _ (log rest : List Edit) (es : List Event) (i m d : ℕ) (le : i < m) (wi
       let past : j < range_end log (suc j) = omega (arith, ap (range_end log) e) in
       removed-test log j ∙ lt-ltb j (range_end log (suc j)) past
 
-  pub events-gone : EndsAt log i (i + 1) d → m ≤ d → (done put : List Event) → done ++ edited_from log i (drop i es) ≡ edited log es → put ≡ done ++ added_at i log → put ++ edited_from log m (drop m es) ≡ edited log es
+  pub events-gone : EndsAt log i (i + 1) d → m ≤ d → (done put : List Event) →
+      done ++ edited_from log i (drop i es) ≡ edited log es → put ≡ done ++ added_at i log →
+      put ++ edited_from log m (drop m es) ≡ edited log es
   events-gone h f done put k s =
       let xs = take (m - (i + 1)) (drop (i + 1) es) in
       let size = size-stretch log rest es (i + 1) m d (omega arith) within left_over ahead in
@@ -144,7 +153,10 @@ module _ (log rest : List Edit) (es : List Event) (i m d : ℕ) (le : i < m) (wi
   plain-behind : All NamesNone (take (m - (i + 1)) (drop (i + 1) es))
   plain-behind = λ k x l. plain-both (suc k) x (omega arith)
 
-  pub events-first : m < 2 ^ 64 → EndsAt log i (i + 1) d → d ≤ i → is_removed log i ≡ false → (done put more : List Event) → done ++ edited_from log i (drop i es) ≡ edited log es → put ≡ done ++ added_at i log → more ≡ put ++ take (m - i) (drop i es) → more ++ edited_from log m (drop m es) ≡ edited log es
+  pub events-first : m < 2 ^ 64 → EndsAt log i (i + 1) d → d ≤ i → is_removed log i ≡ false →
+      (done put more : List Event) → done ++ edited_from log i (drop i es) ≡ edited log es →
+      put ≡ done ++ added_at i log → more ≡ put ++ take (m - i) (drop i es) →
+      more ++ edited_from log m (drop m es) ≡ edited log es
   events-first g h f stays done put more k s t =
       let kept_first = step-kept log es i done put (omega arith) k s first.0 first.0 first.1 (sym (first-moved log first.0 (plain-both 0 first.0 (omega arith)))) stays in
       events-stretch log rest es (i + 1) m d (omega arith) within left_over ahead plain-behind g (range-next log i d h) (λ l. omega arith) (put ++ first.0 ∷ []) more kept_first (t ∙ ap (λ x. put ++ x) cut-first ∙ sym (append_assoc put (first.0 ∷ []) (take (m - (i + 1)) (drop (i + 1) es))))

@@ -12,7 +12,8 @@ use Rattle.markdown_engine_content.specs.declared.event.Link.{Link}
 use Rattle.markdown_engine_events.specs.EventChains.{next_link, with_next, previous_link, with_previous, bare, bares, link_previous, previous_of, has_link, is_number, follower, chained_from, chained, changed_at, previous_at, linked_at, MayLink, OnlyEnters, EndsChain, IsLinked, IsFreshLink, IsFresh, IsUnlinked}
 
 -- what holds of events at the front, and of those behind them
-pub more-each : (P : Event → Type 0) (xs : List Event) (n m : ℕ) → All P (take n xs) → ((i : ℕ) (e : Event) → n ≤ i → i < n + m → P (get_or xs i e)) → All P (take (n + m) xs)
+pub more-each : (P : Event → Type 0) (xs : List Event) (n m : ℕ) → All P (take n xs) →
+    ((i : ℕ) (e : Event) → n ≤ i → i < n + m → P (get_or xs i e)) → All P (take (n + m) xs)
 more-each P xs n m front more k d l =
     let size : length (take (n + m) xs) ≡ min (n + m) (length xs) = length-take (n + m) xs in
     let same : get_or (take (n + m) xs) k d ≡ get_or xs k d = get_or-take (n + m) xs k d (omega (arith, l, size)) in
@@ -23,7 +24,8 @@ more-each P xs n m front more k d l =
 
 -- one event changed
 
-pub set-changed : {A : Type 0} → (f : A → A) (xs : List A) (i : ℕ) (d r : A) → d ≡ get_or xs i d → r ≡ f d → set xs i r ≡ changed_at f i xs
+pub set-changed : {A : Type 0} → (f : A → A) (xs : List A) (i : ℕ) (d r : A) → d ≡ get_or xs i d → r ≡ f d →
+    set xs i r ≡ changed_at f i xs
 set-changed f [] i d r h k = refl
 set-changed f (x ∷ xs) zero d r h k = ap (λ e. e ∷ xs) (k ∙ ap f h)
 set-changed f (x ∷ xs) (suc i) d r h k = ap (λ es. x ∷ es) (set-changed f xs i d r h k)
@@ -33,10 +35,12 @@ length-changed_at f i [] = refl
 length-changed_at f zero (x ∷ xs) = refl
 length-changed_at f (suc i) (x ∷ xs) = ap suc (length-changed_at f i xs)
 
-pub changed_at-append : {A : Type 0} → (f : A → A) (i : ℕ) (xs ys : List A) → i < length xs → changed_at f i (xs ++ ys) ≡ changed_at f i xs ++ ys
+pub changed_at-append : {A : Type 0} → (f : A → A) (i : ℕ) (xs ys : List A) → i < length xs →
+    changed_at f i (xs ++ ys) ≡ changed_at f i xs ++ ys
 changed_at-append f i [] ys h = absurd (omega arith)
 changed_at-append f zero (x ∷ xs) ys h = refl
-changed_at-append f (suc i) (x ∷ xs) ys h = let k : i < length xs = omega arith in ap (λ es. x ∷ es) (changed_at-append f i xs ys k)
+changed_at-append f (suc i) (x ∷ xs) ys h =
+    let k : i < length xs = omega arith in ap (λ es. x ∷ es) (changed_at-append f i xs ys k)
 
 next-next : (j k : Option ℕ) (l : Option Link) → next_link k (next_link j l) ≡ next_link k l
 next-next j k None = refl
@@ -49,7 +53,8 @@ next-previous : (j k : Option ℕ) (l : Option Link) → next_link k (previous_l
 next-previous j k None = refl
 next-previous j k (Some l) = refl
 
-pub with_next-with_previous : (j k : Option ℕ) (e : Event) → with_next k (with_previous j e) ≡ with_previous j (with_next k e)
+pub with_next-with_previous : (j k : Option ℕ) (e : Event) →
+    with_next k (with_previous j e) ≡ with_previous j (with_next k e)
 with_next-with_previous j k e = ap (λ (l : Option Link). record e { link = l }) (next-previous j k e.link)
 
 previous-next : (k : Option ℕ) (l : Option Link) → link_previous (next_link k l) ≡ link_previous l
@@ -71,7 +76,8 @@ bares-next k i [] = refl
 bares-next k zero (x ∷ xs) = ap (λ e. e ∷ bares xs) (with_next-with_next k None x)
 bares-next k (suc i) (x ∷ xs) = ap (λ es. bare x ∷ es) (bares-next k i xs)
 
-pub bares-previous : (k : Option ℕ) (i : ℕ) (xs : List Event) → bares (changed_at (with_previous k) i xs) ≡ changed_at (with_previous k) i (bares xs)
+pub bares-previous : (k : Option ℕ) (i : ℕ) (xs : List Event) →
+    bares (changed_at (with_previous k) i xs) ≡ changed_at (with_previous k) i (bares xs)
 bares-previous k i [] = refl
 bares-previous k zero (x ∷ xs) = ap (λ e. e ∷ bares xs) (with_next-with_previous k None x)
 bares-previous k (suc i) (x ∷ xs) = ap (λ es. bare x ∷ es) (bares-previous k i xs)
@@ -130,14 +136,16 @@ number-no : (p : ℕ) (o : Option ℕ) → o ≢ Some p → is_number p o ≡ fa
 number-no p None h = refl
 number-no p (Some q) h = ne_eqb q p (λ e. h (ap (λ x. Some x) e))
 
-pub follower-skip : (p n : ℕ) (e : Event) (es : List Event) → previous_of e ≢ Some p → follower p n (e ∷ es) ≡ follower p (suc n) es
+pub follower-skip : (p n : ℕ) (e : Event) (es : List Event) → previous_of e ≢ Some p →
+    follower p n (e ∷ es) ≡ follower p (suc n) es
 follower-skip p n e es h = rw (number-no p (previous_of e) h) refl
 
 pub follower-here : (p n : ℕ) (e : Event) (es : List Event) → previous_of e ≡ Some p → follower p n (e ∷ es) ≡ Some n
 follower-here p n e es h = rw (number-yes p (previous_of e) h) refl
 
 -- the follower is told by the first event alone
-follower-step : (p n : ℕ) (e : Event) (es fs : List Event) → follower p (suc n) es ≡ follower p (suc n) fs → follower p n (e ∷ es) ≡ follower p n (e ∷ fs)
+follower-step : (p n : ℕ) (e : Event) (es fs : List Event) → follower p (suc n) es ≡ follower p (suc n) fs →
+    follower p n (e ∷ es) ≡ follower p n (e ∷ fs)
 follower-step p n e es fs h = ap (λ o. cond (is_number p (previous_of e)) (Some n) o) h
 
 tail-ends : (p : ℕ) (e : Event) (es : List Event) → EndsChain p (e ∷ es) → EndsChain p es
@@ -147,11 +155,13 @@ pub follower-none : (p n : ℕ) (es : List Event) → EndsChain p es → followe
 follower-none p n [] h = refl
 follower-none p n (e ∷ es) h = follower-skip p n e es (h 0) ∙ follower-none p (suc n) es (tail-ends p e es h)
 
-pub follower-push : (p n : ℕ) (es : List Event) (e : Event) → previous_of e ≢ Some p → follower p n (es ++ e ∷ []) ≡ follower p n es
+pub follower-push : (p n : ℕ) (es : List Event) (e : Event) → previous_of e ≢ Some p →
+    follower p n (es ++ e ∷ []) ≡ follower p n es
 follower-push p n [] e h = follower-skip p n e [] h
 follower-push p n (x ∷ es) e h = follower-step p n x (es ++ e ∷ []) es (follower-push p (suc n) es e h)
 
-pub follower-pushed : (p n m : ℕ) (es : List Event) (e : Event) → m ≡ n + length es → previous_of e ≡ Some p → EndsChain p es → follower p n (es ++ e ∷ []) ≡ Some m
+pub follower-pushed : (p n m : ℕ) (es : List Event) (e : Event) → m ≡ n + length es → previous_of e ≡ Some p →
+    EndsChain p es → follower p n (es ++ e ∷ []) ≡ Some m
 follower-pushed p n m [] e k h u = follower-here p n e [] h ∙ ap (λ x. Some x) (omega arith)
 follower-pushed p n m (x ∷ es) e k h u =
     let next : m ≡ suc n + length es = omega arith in
@@ -171,17 +181,21 @@ previous-behind : (i k : ℕ) (es : List Event) → i ≤ k → previous_at (dro
 previous-behind zero k es h = ap (previous_at es) (omega arith)
 previous-behind (suc i) k [] h = refl
 previous-behind (suc i) zero (e ∷ es) h = absurd (omega arith)
-previous-behind (suc i) (suc k) (e ∷ es) h = ap (previous_at (drop i es)) (omega arith) ∙ previous-behind i k es (omega arith)
+previous-behind (suc i) (suc k) (e ∷ es) h =
+    ap (previous_at (drop i es)) (omega arith) ∙ previous-behind i k es (omega arith)
 
 abbrev link_next : Option Link → Option ℕ
 link_next None = None
 link_next (Some l) = l.next
 
-none-next : (k : Option ℕ) (l : Option Link) → has_link l ≡ true → next_link None (next_link k l) ≡ next_link k l → k ≡ None
+none-next : (k : Option ℕ) (l : Option Link) → has_link l ≡ true → next_link None (next_link k l) ≡ next_link k l →
+    k ≡ None
 none-next k None h e = absurd (false≢true h)
 none-next k (Some l) h e = sym (ap link_next e)
 
-follower-at : (n i p : ℕ) (es : List Event) (d : Event) → p ≡ n + i → linked_at es i ≡ true → next_link None (get_or (chained_from n es) i d).link ≡ (get_or (chained_from n es) i d).link → follower p (suc p) (drop (suc i) es) ≡ None
+follower-at : (n i p : ℕ) (es : List Event) (d : Event) → p ≡ n + i → linked_at es i ≡ true →
+    next_link None (get_or (chained_from n es) i d).link ≡ (get_or (chained_from n es) i d).link →
+    follower p (suc p) (drop (suc i) es) ≡ None
 follower-at n i p [] d at h e = absurd (false≢true h)
 follower-at n zero p (x ∷ es) d at h e =
     let here : p ≡ n = omega (arith, at) in
@@ -189,7 +203,8 @@ follower-at n zero p (x ∷ es) d at h e =
 follower-at n (suc i) p (x ∷ es) d at h e = follower-at (suc n) i p es d (omega (arith, at)) h e
 
 -- an event with no event after ends its chain
-pub chained-ends : (p : ℕ) (es : List Event) (d : Event) → IsLinked es → next_link None (get_or (chained es) p d).link ≡ (get_or (chained es) p d).link → EndsChain p es
+pub chained-ends : (p : ℕ) (es : List Event) (d : Event) → IsLinked es →
+    next_link None (get_or (chained es) p d).link ≡ (get_or (chained es) p d).link → EndsChain p es
 chained-ends p es d w e j named =
     let later : p < j = w.earlier j p named in
     let none : follower p (suc p) (drop (suc p) es) ≡ None = follower-at 0 p p es d (omega arith) (w.linked j p named) e in
@@ -197,7 +212,8 @@ chained-ends p es d w e j named =
 
 -- an event added at the end
 
-pub chained-fresh : (n : ℕ) (es : List Event) (e : Event) → previous_of e ≡ None → chained_from n (es ++ e ∷ []) ≡ chained_from n es ++ with_next None e ∷ []
+pub chained-fresh : (n : ℕ) (es : List Event) (e : Event) → previous_of e ≡ None →
+    chained_from n (es ++ e ∷ []) ≡ chained_from n es ++ with_next None e ∷ []
 chained-fresh n [] e h = refl
 chained-fresh n (x ∷ es) e h =
     let no : previous_of e ≢ Some n = λ k. some-none n (sym h ∙ k) in
@@ -207,13 +223,16 @@ other-none : (p q : ℕ) (o : Option ℕ) → o ≡ Some p → p ≢ q → o ≢
 other-none p q o h n = λ k. n cc
 
 -- the event that a new last event names is before these: nothing changes
-pub chained-push-older : (n p : ℕ) (es : List Event) (e : Event) → previous_of e ≡ Some p → p < n → chained_from n (es ++ e ∷ []) ≡ chained_from n es ++ with_next None e ∷ []
+pub chained-push-older : (n p : ℕ) (es : List Event) (e : Event) → previous_of e ≡ Some p → p < n →
+    chained_from n (es ++ e ∷ []) ≡ chained_from n es ++ with_next None e ∷ []
 chained-push-older n p [] e h l = refl
 chained-push-older n p (x ∷ es) e h l =
     let no : previous_of e ≢ Some n = other-none p n (previous_of e) h (omega arith) in
     ap (λ k. with_next k x ∷ chained_from (suc n) (es ++ e ∷ [])) (follower-push n (suc n) es e no) ∙ ap (λ r. with_next (follower n (suc n) es) x ∷ r) (chained-push-older (suc n) p es e h (omega arith))
 
-pub chained-push : (n i p m : ℕ) (es : List Event) (e : Event) → p ≡ n + i → m ≡ n + length es → i < length es → previous_of e ≡ Some p → EndsChain p es → chained_from n (es ++ e ∷ []) ≡ changed_at (with_next (Some m)) i (chained_from n es) ++ with_next None e ∷ []
+pub chained-push : (n i p m : ℕ) (es : List Event) (e : Event) → p ≡ n + i → m ≡ n + length es → i < length es →
+    previous_of e ≡ Some p → EndsChain p es →
+    chained_from n (es ++ e ∷ []) ≡ changed_at (with_next (Some m)) i (chained_from n es) ++ with_next None e ∷ []
 chained-push n i p m [] e at size l h u = absurd (omega arith)
 chained-push n zero p m (x ∷ es) e at size l h u =
     let here : p ≡ n = omega arith in
@@ -230,7 +249,8 @@ chained-push n (suc i) p m (x ∷ es) e at size l h u =
     ap (λ k. with_next k x ∷ chained_from (suc n) (es ++ e ∷ [])) (follower-push n (suc n) es e no) ∙ ap (λ r. with_next (follower n (suc n) es) x ∷ r) (chained-push (suc n) i p m es e more next within h (tail-ends p x es u))
 
 -- the end of a chain has no event after, so taking it away changes nothing
-pub chained-end : (n i p : ℕ) (es : List Event) → p ≡ n + i → EndsChain p es → changed_at (with_next None) i (chained_from n es) ≡ chained_from n es
+pub chained-end : (n i p : ℕ) (es : List Event) → p ≡ n + i → EndsChain p es →
+    changed_at (with_next None) i (chained_from n es) ≡ chained_from n es
 chained-end n i p [] at u = refl
 chained-end n zero p (x ∷ es) at u =
     let here : p ≡ n = omega arith in
@@ -250,7 +270,8 @@ previous-same : (k : Option ℕ) (l : Option Link) → has_link l ≡ true → l
 previous-same k None h = absurd (false≢true h)
 previous-same k (Some l) h = refl
 
-previous-either : (k : Option ℕ) (l : Option Link) → (link_previous (previous_link k l) ≡ k) ⊎ (link_previous (previous_link k l) ≡ None)
+previous-either : (k : Option ℕ) (l : Option Link) →
+    (link_previous (previous_link k l) ≡ k) ⊎ (link_previous (previous_link k l) ≡ None)
 previous-either k None = inr refl
 previous-either k (Some l) = inl refl
 
@@ -259,13 +280,16 @@ previous-other p q l n = λ h.
     elim (previous-either (Some p) l) [ inl a ↦ n cc | inr b ↦ some-none q (sym b ∙ h) ]
 
 -- the followers of the other events stay
-pub follower-link : (q p n i : ℕ) (es : List Event) → p ≢ q → previous_at es i ≡ None → follower q n (changed_at (with_previous (Some p)) i es) ≡ follower q n es
+pub follower-link : (q p n i : ℕ) (es : List Event) → p ≢ q → previous_at es i ≡ None →
+    follower q n (changed_at (with_previous (Some p)) i es) ≡ follower q n es
 follower-link q p n i [] d h = refl
 follower-link q p n zero (e ∷ es) d h =
     follower-skip q n (with_previous (Some p) e) es (previous-other p q e.link d) ∙ sym (follower-skip q n e es (λ k. some-none q (sym h ∙ k)))
-follower-link q p n (suc i) (e ∷ es) d h = follower-step q n e (changed_at (with_previous (Some p)) i es) es (follower-link q p (suc n) i es d h)
+follower-link q p n (suc i) (e ∷ es) d h =
+    follower-step q n e (changed_at (with_previous (Some p)) i es) es (follower-link q p (suc n) i es d h)
 
-pub follower-linked : (p n i m : ℕ) (es : List Event) → m ≡ n + i → linked_at es i ≡ true → EndsChain p es → follower p n (changed_at (with_previous (Some p)) i es) ≡ Some m
+pub follower-linked : (p n i m : ℕ) (es : List Event) → m ≡ n + i → linked_at es i ≡ true → EndsChain p es →
+    follower p n (changed_at (with_previous (Some p)) i es) ≡ Some m
 follower-linked p n i m [] at h u = absurd (false≢true h)
 follower-linked p n zero m (e ∷ es) at h u =
     follower-here p n (with_previous (Some p) e) es (previous-same (Some p) e.link h) ∙ ap (λ k. Some k) (omega arith)
@@ -273,13 +297,17 @@ follower-linked p n (suc i) m (e ∷ es) at h u =
     let more : m ≡ suc n + i = omega arith in
     follower-skip p n e (changed_at (with_previous (Some p)) i es) (u 0) ∙ follower-linked p (suc n) i m es more h (tail-ends p e es u)
 
-pub chained-link-older : (n p i : ℕ) (es : List Event) → p < n → previous_at es i ≡ None → chained_from n (changed_at (with_previous (Some p)) i es) ≡ changed_at (with_previous (Some p)) i (chained_from n es)
+pub chained-link-older : (n p i : ℕ) (es : List Event) → p < n → previous_at es i ≡ None →
+    chained_from n (changed_at (with_previous (Some p)) i es) ≡ changed_at (with_previous (Some p)) i (chained_from n es)
 chained-link-older n p i [] l h = refl
-chained-link-older n p zero (e ∷ es) l h = ap (λ y. y ∷ chained_from (suc n) es) (with_next-with_previous (Some p) (follower n (suc n) es) e)
+chained-link-older n p zero (e ∷ es) l h =
+    ap (λ y. y ∷ chained_from (suc n) es) (with_next-with_previous (Some p) (follower n (suc n) es) e)
 chained-link-older n p (suc i) (e ∷ es) l h =
     ap (λ k. with_next k e ∷ chained_from (suc n) (changed_at (with_previous (Some p)) i es)) (follower-link n p (suc n) i es (omega arith) h) ∙ ap (λ r. with_next (follower n (suc n) es) e ∷ r) (chained-link-older (suc n) p i es (omega arith) h)
 
-pub chained-link : (n p j i m : ℕ) (es : List Event) → p ≡ n + j → m ≡ n + i → j < i → previous_at es i ≡ None → linked_at es i ≡ true → EndsChain p es → chained_from n (changed_at (with_previous (Some p)) i es) ≡ changed_at (with_previous (Some p)) i (changed_at (with_next (Some m)) j (chained_from n es))
+pub chained-link : (n p j i m : ℕ) (es : List Event) → p ≡ n + j → m ≡ n + i → j < i → previous_at es i ≡ None →
+    linked_at es i ≡ true → EndsChain p es →
+    chained_from n (changed_at (with_previous (Some p)) i es) ≡ changed_at (with_previous (Some p)) i (changed_at (with_next (Some m)) j (chained_from n es))
 chained-link n p j i m [] a b l h k u = refl
 chained-link n p j zero m (e ∷ es) a b l h k u = absurd (omega arith)
 chained-link n p zero (suc i) m (e ∷ es) a b l h k u =
@@ -345,7 +373,8 @@ fresh-may k None h = tt
 fresh-may Enter (Some l) h = tt
 fresh-may Exit (Some l) h = absurd h
 
-pub fresh-of : (k : Kind) (l : Option Link) → MayLink k l → link_previous l ≡ None → next_link None l ≡ l → IsFreshLink k l
+pub fresh-of : (k : Kind) (l : Option Link) → MayLink k l → link_previous l ≡ None → next_link None l ≡ l →
+    IsFreshLink k l
 fresh-of k None m p e = tt
 fresh-of Enter (Some l) m p e = (p, sym (ap link_next e))
 fresh-of Exit (Some l) m p e = absurd m
@@ -356,7 +385,8 @@ unlinked-fresh e u = let P : Option Link → Type 0 = λ l. IsFreshLink e.kind l
 pub bare-fresh : (e : Event) → IsFresh e → bare e ≡ e
 bare-fresh e h = ap (λ (l : Option Link). record e { link = l }) (fresh-bare e.kind e.link h)
 
-previous_at-fresh : (xs : List Event) (e : Event) (j : ℕ) → previous_of e ≡ None → previous_at (xs ++ e ∷ []) j ≡ previous_at xs j
+previous_at-fresh : (xs : List Event) (e : Event) (j : ℕ) → previous_of e ≡ None →
+    previous_at (xs ++ e ∷ []) j ≡ previous_at xs j
 previous_at-fresh [] e zero h = h
 previous_at-fresh [] e (suc j) h = refl
 previous_at-fresh (x ∷ xs) e zero h = refl
@@ -376,32 +406,37 @@ IsLinked-push xs e w f =
     }
 
 -- what a last event that names another says of the others
-pub ends-before : (xs : List Event) (e : Event) (p : ℕ) → IsLinked (xs ++ e ∷ []) → previous_of e ≡ Some p → EndsChain p xs
+pub ends-before : (xs : List Event) (e : Event) (p : ℕ) → IsLinked (xs ++ e ∷ []) → previous_of e ≡ Some p →
+    EndsChain p xs
 ends-before xs e p w h = λ j k.
     let l : j < length xs = within-previous xs j p k in
     let same : j ≡ length xs = w.single j (length xs) p (previous_at-before xs (e ∷ []) j l ∙ k) (previous_at-end xs e ∙ h) in
     omega arith
 
-pub last-earlier : (xs : List Event) (e : Event) (p : ℕ) → IsLinked (xs ++ e ∷ []) → previous_of e ≡ Some p → p < length xs
+pub last-earlier : (xs : List Event) (e : Event) (p : ℕ) → IsLinked (xs ++ e ∷ []) → previous_of e ≡ Some p →
+    p < length xs
 last-earlier xs e p w h = w.earlier (length xs) p (previous_at-end xs e ∙ h)
 
 pub has-previous : (k : Option ℕ) (l : Option Link) → has_link (previous_link k l) ≡ has_link l
 has-previous k None = refl
 has-previous k (Some l) = refl
 
-pub linked_at-changed : (k : Option ℕ) (i j : ℕ) (xs : List Event) → linked_at (changed_at (with_previous k) i xs) j ≡ linked_at xs j
+pub linked_at-changed : (k : Option ℕ) (i j : ℕ) (xs : List Event) →
+    linked_at (changed_at (with_previous k) i xs) j ≡ linked_at xs j
 linked_at-changed k i j [] = refl
 linked_at-changed k zero zero (x ∷ xs) = has-previous k x.link
 linked_at-changed k zero (suc j) (x ∷ xs) = refl
 linked_at-changed k (suc i) zero (x ∷ xs) = refl
 linked_at-changed k (suc i) (suc j) (x ∷ xs) = linked_at-changed k i j xs
 
-pub previous_at-same : (k : Option ℕ) (i : ℕ) (xs : List Event) → linked_at xs i ≡ true → previous_at (changed_at (with_previous k) i xs) i ≡ k
+pub previous_at-same : (k : Option ℕ) (i : ℕ) (xs : List Event) → linked_at xs i ≡ true →
+    previous_at (changed_at (with_previous k) i xs) i ≡ k
 previous_at-same k i [] h = absurd (false≢true h)
 previous_at-same k zero (x ∷ xs) h = previous-same k x.link h
 previous_at-same k (suc i) (x ∷ xs) h = previous_at-same k i xs h
 
-pub previous_at-other : (k : Option ℕ) (i j : ℕ) (xs : List Event) → j ≢ i → previous_at (changed_at (with_previous k) i xs) j ≡ previous_at xs j
+pub previous_at-other : (k : Option ℕ) (i j : ℕ) (xs : List Event) → j ≢ i →
+    previous_at (changed_at (with_previous k) i xs) j ≡ previous_at xs j
 previous_at-other k i j [] h = refl
 previous_at-other k zero zero (x ∷ xs) h = absurd (h refl)
 previous_at-other k zero (suc j) (x ∷ xs) h = refl
@@ -413,7 +448,8 @@ may-previous k p None h = tt
 may-previous Enter p (Some l) h = tt
 may-previous Exit p (Some l) h = h
 
-OnlyEnters-changed : (p : Option ℕ) (i : ℕ) (xs : List Event) → OnlyEnters xs → OnlyEnters (changed_at (with_previous p) i xs)
+OnlyEnters-changed : (p : Option ℕ) (i : ℕ) (xs : List Event) → OnlyEnters xs →
+    OnlyEnters (changed_at (with_previous p) i xs)
 OnlyEnters-changed p i [] h = tt
 OnlyEnters-changed p zero (x ∷ xs) h = (may-previous x.kind p x.link h.0, h.1)
 OnlyEnters-changed p (suc i) (x ∷ xs) h = (h.0, OnlyEnters-changed p i xs h.1)
@@ -422,14 +458,17 @@ same_number : (a b : ℕ) → (a ≡ b) ⊎ (a ≢ b)
 same_number a b = elim (eqb_tells a b) [ inl t ↦ inl t.1 | inr f ↦ inr f.1 ]
 
 -- an event of the list with the new link names what it named, or is the one that was linked
-connected : (xs : List Event) (p i j q : ℕ) → linked_at xs i ≡ true → previous_at (changed_at (with_previous (Some p)) i xs) j ≡ Some q → ((j ≡ i) × (p ≡ q)) ⊎ ((j ≢ i) × (previous_at xs j ≡ Some q))
+connected : (xs : List Event) (p i j q : ℕ) → linked_at xs i ≡ true →
+    previous_at (changed_at (with_previous (Some p)) i xs) j ≡ Some q →
+    ((j ≡ i) × (p ≡ q)) ⊎ ((j ≢ i) × (previous_at xs j ≡ Some q))
 connected xs p i j q h k =
     elim (same_number j i) [
       | inl s ↦ inl (s, same_Some p q (sym (previous_at-same (Some p) i xs h) ∙ ap (previous_at (changed_at (with_previous (Some p)) i xs)) (sym s) ∙ k))
       | inr d ↦ inr (d, sym (previous_at-other (Some p) i j xs d) ∙ k)
     ]
 
-pub IsLinked-connect : (xs : List Event) (p i : ℕ) → IsLinked xs → p < i → linked_at xs p ≡ true → linked_at xs i ≡ true → EndsChain p xs → IsLinked (changed_at (with_previous (Some p)) i xs)
+pub IsLinked-connect : (xs : List Event) (p i : ℕ) → IsLinked xs → p < i → linked_at xs p ≡ true →
+    linked_at xs i ≡ true → EndsChain p xs → IsLinked (changed_at (with_previous (Some p)) i xs)
 IsLinked-connect xs p i w l a b u =
     record {
       earlier = λ j q h. elim (connected xs p i j q b h) [ inl s ↦ omega arith | inr d ↦ w.earlier j q d.1 ];
@@ -448,13 +487,15 @@ fresh-unnamed e f = fresh-none e.kind e.link f
 pub previous_of-bare : (e : Event) → previous_of (bare e) ≡ previous_of e
 previous_of-bare e = previous-next None e.link
 
-pub changed_at-twice : (j k : Option ℕ) (i : ℕ) (xs : List Event) → changed_at (with_next k) i (changed_at (with_next j) i xs) ≡ changed_at (with_next k) i xs
+pub changed_at-twice : (j k : Option ℕ) (i : ℕ) (xs : List Event) →
+    changed_at (with_next k) i (changed_at (with_next j) i xs) ≡ changed_at (with_next k) i xs
 changed_at-twice j k i [] = refl
 changed_at-twice j k zero (x ∷ xs) = ap (λ e. e ∷ xs) (with_next-with_next j k x)
 changed_at-twice j k (suc i) (x ∷ xs) = ap (λ es. x ∷ es) (changed_at-twice j k i xs)
 
 -- the Enter before a last Enter ends its chain, since the two events after it name nothing
-pub ends-last : (es : List Event) (p : ℕ) → IsLinked es → length es ≡ p + 3 → previous_at es (p + 1) ≡ None → previous_at es (p + 2) ≡ None → EndsChain p es
+pub ends-last : (es : List Event) (p : ℕ) → IsLinked es → length es ≡ p + 3 → previous_at es (p + 1) ≡ None →
+    previous_at es (p + 2) ≡ None → EndsChain p es
 ends-last es p w size one two = λ j h.
     let after : p < j = w.earlier j p h in
     let below : j < length es = within-previous es j p h in
@@ -468,7 +509,8 @@ ends-last es p w size one two = λ j h.
 
 -- the number of the event after is all that the kept events add
 
-pub chained-point : (n i : ℕ) (es : List Event) (d : Event) → (get_or (chained_from n es) i d).point ≡ (get_or es i d).point
+pub chained-point : (n i : ℕ) (es : List Event) (d : Event) →
+    (get_or (chained_from n es) i d).point ≡ (get_or es i d).point
 chained-point n i [] d = refl
 chained-point n zero (x ∷ es) d = refl
 chained-point n (suc i) (x ∷ es) d = chained-point (suc n) i es d

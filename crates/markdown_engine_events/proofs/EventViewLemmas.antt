@@ -5,7 +5,8 @@ use Rattle.std.specs.List.{All}
 use Rattle.markdown_engine_content.specs.declared.event.Link.{Link}
 use Rattle.markdown_engine_content.specs.declared.event.Event.{Event}
 use Rattle.markdown_engine_events.specs.EventChains.{with_next, with_previous, bare, bares, previous_of, chained, changed_at, previous_at, linked_at, EndsChain, IsLinked, IsFresh, IsFilled, OnlyEnters, MayLink, link_previous, next_link}
-use Rattle.markdown_engine_events.proofs.EventChainLemmas.{length-changed_at, changed_at-append, length-bares, bares-append, bares-next, bares-previous, get-bares, chained-fresh, chained-push, chained-end, chained-link, IsLinked-prefix, IsLinked-push, OnlyEnters-part, bare-fresh, fresh-of, chained-ends, fresh-unnamed, ends-before, last-earlier, IsLinked-connect, previous_of-bare, within-linked, changed_at-twice}
+use Rattle.markdown_engine_events.proofs.EventChainLemmas.{length-changed_at, changed_at-append, length-bares, bares-append, bares-next, bares-previous, get-bares, chained-fresh, chained-push, chained-end, chained-link, IsLinked-prefix}
+use Rattle.markdown_engine_events.proofs.EventChainLemmas.{IsLinked-push, OnlyEnters-part, bare-fresh, fresh-of, chained-ends, fresh-unnamed, ends-before, last-earlier, IsLinked-connect, previous_of-bare, within-linked, changed_at-twice}
 
 -- the kept events at their view
 pub filled-at : (xs vs : List Event) → bares xs ≡ vs → IsFilled xs → xs ≡ chained vs
@@ -14,29 +15,37 @@ filled-at xs vs v f = f.filled ∙ ap chained v
 filled-from : (ys vs : List Event) → bares ys ≡ vs → ys ≡ chained vs → IsLinked vs → IsFilled ys
 filled-from ys vs v h w = record { filled = h ∙ ap chained (sym v); linked = subst IsLinked (sym v) w }
 
-pub view-one : (xs vs ys : List Event) (e : Event) → bares xs ≡ vs → bare e ≡ e → ys ≡ xs ++ e ∷ [] → bares ys ≡ vs ++ e ∷ []
-view-one xs vs ys e v b h = ap bares h ∙ bares-append xs (e ∷ []) ∙ ap (λ x. bares xs ++ x ∷ []) b ∙ ap (λ x. x ++ e ∷ []) v
+pub view-one : (xs vs ys : List Event) (e : Event) → bares xs ≡ vs → bare e ≡ e → ys ≡ xs ++ e ∷ [] →
+    bares ys ≡ vs ++ e ∷ []
+view-one xs vs ys e v b h =
+    ap bares h ∙ bares-append xs (e ∷ []) ∙ ap (λ x. bares xs ++ x ∷ []) b ∙ ap (λ x. x ++ e ∷ []) v
 
 -- an event added that names none
 
-pub view-push : (xs vs ys : List Event) (e : Event) → bares xs ≡ vs → IsFresh e → ys ≡ xs ++ e ∷ [] → bares ys ≡ vs ++ e ∷ []
+pub view-push : (xs vs ys : List Event) (e : Event) → bares xs ≡ vs → IsFresh e → ys ≡ xs ++ e ∷ [] →
+    bares ys ≡ vs ++ e ∷ []
 view-push xs vs ys e v f h = view-one xs vs ys e v (bare-fresh e f) h
 
-pub kept-plain : (xs vs ys : List Event) (e : Event) → bares xs ≡ vs → IsFilled xs → bare e ≡ e → previous_of e ≡ None → IsLinked (vs ++ e ∷ []) → ys ≡ xs ++ e ∷ [] → IsFilled ys
+pub kept-plain : (xs vs ys : List Event) (e : Event) → bares xs ≡ vs → IsFilled xs → bare e ≡ e → previous_of e ≡ None →
+    IsLinked (vs ++ e ∷ []) → ys ≡ xs ++ e ∷ [] → IsFilled ys
 kept-plain xs vs ys e v k b n w h =
     let made : xs ++ e ∷ [] ≡ chained (vs ++ e ∷ []) = ap (λ x. x ++ e ∷ []) (filled-at xs vs v k) ∙ ap (λ x. chained vs ++ x ∷ []) (sym b) ∙ sym (chained-fresh 0 vs e n) in
     filled-from ys (vs ++ e ∷ []) (view-one xs vs ys e v b h) (h ∙ made) w
 
-pub kept-push : (xs vs ys : List Event) (e : Event) → bares xs ≡ vs → IsFilled xs → IsFresh e → ys ≡ xs ++ e ∷ [] → IsFilled ys
+pub kept-push : (xs vs ys : List Event) (e : Event) → bares xs ≡ vs → IsFilled xs → IsFresh e → ys ≡ xs ++ e ∷ [] →
+    IsFilled ys
 kept-push xs vs ys e v k f h =
     kept-plain xs vs ys e v k (bare-fresh e f) (fresh-unnamed e f) (IsLinked-push vs e (subst IsLinked v k.linked) f) h
 
 -- an event added that names an earlier one
 
-pub view-named : (xs vs ys zs : List Event) (e : Event) (p : ℕ) (k : Option ℕ) → bares xs ≡ vs → bare e ≡ e → ys ≡ xs ++ e ∷ [] → zs ≡ changed_at (with_next k) p ys → bares zs ≡ vs ++ e ∷ []
+pub view-named : (xs vs ys zs : List Event) (e : Event) (p : ℕ) (k : Option ℕ) → bares xs ≡ vs → bare e ≡ e →
+    ys ≡ xs ++ e ∷ [] → zs ≡ changed_at (with_next k) p ys → bares zs ≡ vs ++ e ∷ []
 view-named xs vs ys zs e p k v b h g = ap bares g ∙ bares-next k p ys ∙ view-one xs vs ys e v b h
 
-pub kept-named : (xs vs ys zs : List Event) (e : Event) (p m : ℕ) → bares xs ≡ vs → IsFilled xs → bare e ≡ e → previous_of e ≡ Some p → IsLinked (vs ++ e ∷ []) → m ≡ length xs → ys ≡ xs ++ e ∷ [] → zs ≡ changed_at (with_next (Some m)) p ys → IsFilled zs
+pub kept-named : (xs vs ys zs : List Event) (e : Event) (p m : ℕ) → bares xs ≡ vs → IsFilled xs → bare e ≡ e →
+    previous_of e ≡ Some p → IsLinked (vs ++ e ∷ []) → m ≡ length xs → ys ≡ xs ++ e ∷ [] →
+    zs ≡ changed_at (with_next (Some m)) p ys → IsFilled zs
 kept-named xs vs ys zs e p m v k b n w s h g =
     let less : p < length vs = last-earlier vs e p w n in
     let size : length xs ≡ length vs = sym (length-bares xs) ∙ ap length v in
@@ -53,24 +62,29 @@ kept-named xs vs ys zs e p m v k b n w s h g =
 front : (ys : List Event) (e : Event) → take (length (ys ++ e ∷ []) - 1) (ys ++ e ∷ []) ≡ ys
 front ys e = take_at ys (e ∷ []) (length (ys ++ e ∷ []) - 1) (omega (arith, length_push ys e))
 
-view-front : (xs vs ys : List Event) (e : Event) → bares xs ≡ vs → xs ≡ ys ++ e ∷ [] → bares ys ≡ take (length vs - 1) vs
+view-front : (xs vs ys : List Event) (e : Event) → bares xs ≡ vs → xs ≡ ys ++ e ∷ [] →
+    bares ys ≡ take (length vs - 1) vs
 view-front xs vs ys e v h =
     let both : vs ≡ bares ys ++ bare e ∷ [] = sym v ∙ ap bares h ∙ bares-append ys (e ∷ []) in
     sym (front (bares ys) (bare e)) ∙ ap (λ x. take (length x - 1) x) (sym both)
 
-pub view-dropped : (xs vs ys zs : List Event) (e : Event) (p : ℕ) (k : Option ℕ) → bares xs ≡ vs → xs ≡ ys ++ e ∷ [] → zs ≡ changed_at (with_next k) p ys → bares zs ≡ take (length vs - 1) vs
+pub view-dropped : (xs vs ys zs : List Event) (e : Event) (p : ℕ) (k : Option ℕ) → bares xs ≡ vs → xs ≡ ys ++ e ∷ [] →
+    zs ≡ changed_at (with_next k) p ys → bares zs ≡ take (length vs - 1) vs
 view-dropped xs vs ys zs e p k v h g = ap bares g ∙ bares-next k p ys ∙ view-front xs vs ys e v h
 
-pub view-popped : (xs vs ys : List Event) (e : Event) → bares xs ≡ vs → xs ≡ ys ++ e ∷ [] → bares ys ≡ take (length vs - 1) vs
+pub view-popped : (xs vs ys : List Event) (e : Event) → bares xs ≡ vs → xs ≡ ys ++ e ∷ [] →
+    bares ys ≡ take (length vs - 1) vs
 view-popped xs vs ys e v h = view-front xs vs ys e v h
 
 split-linked : (xs ys : List Event) (e : Event) → IsFilled xs → xs ≡ ys ++ e ∷ [] → IsLinked (bares ys ++ bare e ∷ [])
 split-linked xs ys e k h = subst IsLinked (ap bares h ∙ bares-append ys (e ∷ [])) k.linked
 
-split-filled : (xs ys : List Event) (e : Event) → IsFilled xs → xs ≡ ys ++ e ∷ [] → ys ++ e ∷ [] ≡ chained (bares ys ++ bare e ∷ [])
+split-filled : (xs ys : List Event) (e : Event) → IsFilled xs → xs ≡ ys ++ e ∷ [] →
+    ys ++ e ∷ [] ≡ chained (bares ys ++ bare e ∷ [])
 split-filled xs ys e k h = sym h ∙ k.filled ∙ ap chained (ap bares h ∙ bares-append ys (e ∷ []))
 
-pub kept-popped : (xs ys : List Event) (e : Event) → IsFilled xs → xs ≡ ys ++ e ∷ [] → previous_of e ≡ None → IsFilled ys
+pub kept-popped : (xs ys : List Event) (e : Event) → IsFilled xs → xs ≡ ys ++ e ∷ [] → previous_of e ≡ None →
+    IsFilled ys
 kept-popped xs ys e k h n =
     let none : previous_of (bare e) ≡ None = previous_of-bare e ∙ n in
     let made : ys ++ e ∷ [] ≡ chained (bares ys) ++ bare (bare e) ∷ [] = split-filled xs ys e k h ∙ chained-fresh 0 (bares ys) (bare e) none in
@@ -102,11 +116,14 @@ module _ (xs ys : List Event) (e : Event) (p : ℕ) (k : IsFilled xs) (h : xs �
 
 -- two events linked
 
-pub view-linked : (xs vs ys zs : List Event) (p i : ℕ) → bares xs ≡ vs → ys ≡ changed_at (with_next (Some i)) p xs → zs ≡ changed_at (with_previous (Some p)) i ys → bares zs ≡ changed_at (with_previous (Some p)) i vs
+pub view-linked : (xs vs ys zs : List Event) (p i : ℕ) → bares xs ≡ vs → ys ≡ changed_at (with_next (Some i)) p xs →
+    zs ≡ changed_at (with_previous (Some p)) i ys → bares zs ≡ changed_at (with_previous (Some p)) i vs
 view-linked xs vs ys zs p i v h g =
     ap bares g ∙ bares-previous (Some p) i ys ∙ ap (changed_at (with_previous (Some p)) i) (ap bares h ∙ bares-next (Some i) p xs ∙ v)
 
-pub kept-linked : (xs vs ys zs : List Event) (p i : ℕ) → bares xs ≡ vs → IsFilled xs → p < i → linked_at vs p ≡ true → linked_at vs i ≡ true → previous_at vs i ≡ None → EndsChain p vs → ys ≡ changed_at (with_next (Some i)) p xs → zs ≡ changed_at (with_previous (Some p)) i ys → IsFilled zs
+pub kept-linked : (xs vs ys zs : List Event) (p i : ℕ) → bares xs ≡ vs → IsFilled xs → p < i → linked_at vs p ≡ true →
+    linked_at vs i ≡ true → previous_at vs i ≡ None → EndsChain p vs → ys ≡ changed_at (with_next (Some i)) p xs →
+    zs ≡ changed_at (with_previous (Some p)) i ys → IsFilled zs
 kept-linked xs vs ys zs p i v k l a b n u h g =
     let here : p ≡ 0 + p = omega arith in
     let there : i ≡ 0 + i = omega arith in
@@ -121,15 +138,18 @@ view-length xs vs v = sym (length-bares xs) ∙ ap length v
 pub linked-within : (xs vs : List Event) (i : ℕ) → bares xs ≡ vs → linked_at vs i ≡ true → i < length xs
 linked-within xs vs i v h = let l = within-linked vs i h in omega (arith, view-length xs vs v)
 
-pub linked-within-changed : (xs vs ys : List Event) (f : Event → Event) (p i : ℕ) → bares xs ≡ vs → linked_at vs i ≡ true → ys ≡ changed_at f p xs → i < length ys
+pub linked-within-changed : (xs vs ys : List Event) (f : Event → Event) (p i : ℕ) → bares xs ≡ vs →
+    linked_at vs i ≡ true → ys ≡ changed_at f p xs → i < length ys
 linked-within-changed xs vs ys f p i v h g =
     let size : length ys ≡ length xs = ap length g ∙ length-changed_at f p xs in
     let l : i < length xs = linked-within xs vs i v h in
     omega arith
 
 -- an event read, without the event after
-pub bare-read : (xs vs : List Event) (i : ℕ) (d r : Event) → bares xs ≡ vs → d ≡ get_or xs i d → r ≡ bare d → r ≡ get_or vs i r
-bare-read xs vs i d r v h k = k ∙ ap bare h ∙ get-bares xs i d ∙ ap (λ x. get_or (bares xs) i x) (sym k) ∙ ap (λ x. get_or x i r) v
+pub bare-read : (xs vs : List Event) (i : ℕ) (d r : Event) → bares xs ≡ vs → d ≡ get_or xs i d → r ≡ bare d →
+    r ≡ get_or vs i r
+bare-read xs vs i d r v h k =
+    k ∙ ap bare h ∙ get-bares xs i d ∙ ap (λ x. get_or (bares xs) i x) (sym k) ∙ ap (λ x. get_or x i r) v
 
 -- events that are linked to no other
 
@@ -161,7 +181,8 @@ enters-each : (xs : List Event) → OnlyEnters xs → All (λ e. MayLink e.kind 
 enters-each [] h = λ k d l. absurd (omega arith)
 enters-each (x ∷ xs) h = λ k d l. enters-step x xs h.0 (enters-each xs h.1) k d l
   where
-    enters-step : (x : Event) (xs : List Event) → MayLink x.kind x.link → All (λ e. MayLink e.kind e.link) xs → (k : ℕ) (d : Event) → k < length (x ∷ xs) → MayLink (get_or (x ∷ xs) k d).kind (get_or (x ∷ xs) k d).link
+    enters-step : (x : Event) (xs : List Event) → MayLink x.kind x.link → All (λ e. MayLink e.kind e.link) xs →
+        (k : ℕ) (d : Event) → k < length (x ∷ xs) → MayLink (get_or (x ∷ xs) k d).kind (get_or (x ∷ xs) k d).link
     enters-step x xs h g zero d l = h
     enters-step x xs h g (suc k) d l = g k d (omega arith)
 
@@ -181,7 +202,8 @@ module _ (xs vs ws : List Event) (n m k : ℕ) (v : bares xs ≡ vs) (w : ws ≡
       let P : List Event → Type 0 = λ ys. AreBare ys in
       once ∙ sym (bares-same (take k (drop n ws)) (subst P once u)) ∙ sym (bares-part n k ws) ∙ ap (λ y. take k (drop n (bares y))) w ∙ ap (λ y. take k (drop n y)) v ∙ ap (λ j. take j (drop n vs)) (sym size)
 
-  pub part-fresh : IsFilled xs → All (λ e. link_previous e.link ≡ None) (take k (take m (drop n ws))) → All IsFresh (take k (take m (drop n ws)))
+  pub part-fresh : IsFilled xs → All (λ e. link_previous e.link ≡ None) (take k (take m (drop n ws))) →
+      All IsFresh (take k (take m (drop n ws)))
   part-fresh f none j d h =
       let ys : List Event = take k (take m (drop n ws)) in
       let P : List Event → Type 0 = λ zs. OnlyEnters zs in
@@ -201,7 +223,8 @@ module _ (xs vs ws : List Event) (n m k : ℕ) (v : bares xs ≡ vs) (w : ws ≡
       chained-ends j vs d (subst IsLinked v f.linked) (subst P same (u (j - n) d (omega (arith, size, lt))))
 
 pub view-extended : (xs vs ys zs : List Event) → bares xs ≡ vs → All IsFresh ys → zs ≡ xs ++ ys → bares zs ≡ vs ++ ys
-view-extended xs vs ys zs v u h = ap bares h ∙ bares-append xs ys ∙ ap (λ x. bares xs ++ x) (bares-same ys (λ k d l. ap (λ (e : Event). e.link) (bare-fresh (get_or ys k d) (u k d l)))) ∙ ap (λ x. x ++ ys) v
+view-extended xs vs ys zs v u h =
+    ap bares h ∙ bares-append xs ys ∙ ap (λ x. bares xs ++ x) (bares-same ys (λ k d l. ap (λ (e : Event). e.link) (bare-fresh (get_or ys k d) (u k d l)))) ∙ ap (λ x. x ++ ys) v
 
 extended : (xs ys : List Event) → IsFilled xs → All IsFresh ys → IsFilled (xs ++ ys)
 extended xs [] k u = subst IsFilled (sym (append-nil xs)) k

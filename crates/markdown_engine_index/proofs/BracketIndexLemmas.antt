@@ -20,7 +20,8 @@ pub count-first : {X : Type 0} (p : X → Bool) (x : X) (xs : List X) → count_
 count-first p x xs = sum_by-cons (λ x. one (p x)) x xs
 
 -- all before a place pass, and none from it on
-pub count-point : {X : Type 0} (p : X → Bool) (xs : List X) (i : ℕ) → i ≤ length xs → IsPartitionPoint (λ x. p x ≡ true) (λ x. p x ≡ false) xs i → count_by p xs ≡ i
+pub count-point : {X : Type 0} (p : X → Bool) (xs : List X) (i : ℕ) → i ≤ length xs →
+    IsPartitionPoint (λ x. p x ≡ true) (λ x. p x ≡ false) xs i → count_by p xs ≡ i
 count-point p [] i inside h = omega (arith, inside)
 count-point p (x ∷ xs) zero inside h =
     let here : p x ≡ false = h.1 0 x (omega arith) (omega arith) in
@@ -48,7 +49,8 @@ within-one from to p up = elim (cases_lt p from) [
         go true e = absurd (omega (arith, h, leb-true a b e))
         go false e = refl
 
-pub count-within : (from to : ℕ) (xs : List ℕ) → from ≤ to → count_by (within from to) xs + count_by (λ p. nat_lt p from) xs ≡ count_by (λ p. nat_lt p to) xs
+pub count-within : (from to : ℕ) (xs : List ℕ) → from ≤ to →
+    count_by (within from to) xs + count_by (λ p. nat_lt p from) xs ≡ count_by (λ p. nat_lt p to) xs
 count-within from to [] up = refl
 count-within from to (x ∷ xs) up =
     omega (arith, count-first (within from to) x xs, count-first (λ p. nat_lt p from) x xs, count-first (λ p. nat_lt p to) x xs, within-one from to x up, count-within from to xs up)
@@ -69,12 +71,14 @@ take-less (suc i) (suc j) (x ∷ xs) h = ap (λ ys. x ∷ ys) (take-less i j xs 
 abbrev with_place : Bool → ℕ → List ℕ → List ℕ
 with_place is at next = if is then at ∷ next else next
 
-count-place : (p : ℕ → Bool) (is : Bool) (at : ℕ) (next : List ℕ) → count_by p (with_place is at next) ≡ cond is (one (p at)) 0 + count_by p next
+count-place : (p : ℕ → Bool) (is : Bool) (at : ℕ) (next : List ℕ) →
+    count_by p (with_place is at next) ≡ cond is (one (p at)) 0 + count_by p next
 count-place p true at next = count-first p at next
 count-place p false at next = omega arith
 
 -- those before an index are the brackets of the bytes before it
-pub places-before : (t at : ℕ) (bs : List ℕ) → count_by (λ p. nat_lt p t) (places_from at bs) ≡ brackets_of (take (t - at) bs)
+pub places-before : (t at : ℕ) (bs : List ℕ) →
+    count_by (λ p. nat_lt p t) (places_from at bs) ≡ brackets_of (take (t - at) bs)
 places-before t at [] = sym (none-taken (t - at))
 places-before t at (b ∷ bs) = go (places-before t (suc at) bs) (cases_lt at t)
   where
@@ -82,7 +86,9 @@ places-before t at (b ∷ bs) = go (places-before t (suc at) bs) (cases_lt at t)
     nothing true = refl
     nothing false = refl
 
-    go : count_by (λ p. nat_lt p t) (places_from (suc at) bs) ≡ brackets_of (take (t - suc at) bs) → (at < t) ⊎ (t ≤ at) → count_by (λ p. nat_lt p t) (places_from at (b ∷ bs)) ≡ brackets_of (take (t - at) (b ∷ bs))
+    go : count_by (λ p. nat_lt p t) (places_from (suc at) bs) ≡ brackets_of (take (t - suc at) bs) →
+        (at < t) ⊎ (t ≤ at) →
+        count_by (λ p. nat_lt p t) (places_from at (b ∷ bs)) ≡ brackets_of (take (t - at) (b ∷ bs))
     go rest (inl low) =
         let size : t - at ≡ suc (t - suc at) = omega (arith, low) in
         count-place (λ p. nat_lt p t) (b == 91) at (places_from (suc at) bs)
@@ -100,7 +106,8 @@ places-before t at (b ∷ bs) = go (places-before t (suc at) bs) (cases_lt at t)
 
 -- Their order.
 
-low-by : (is : Bool) (at : ℕ) (next : List ℕ) → ((i d : ℕ) → i < length next → suc at ≤ get_or next i d) → (i d : ℕ) → i < length (with_place is at next) → at ≤ get_or (with_place is at next) i d
+low-by : (is : Bool) (at : ℕ) (next : List ℕ) → ((i d : ℕ) → i < length next → suc at ≤ get_or next i d) → (i d : ℕ) →
+    i < length (with_place is at next) → at ≤ get_or (with_place is at next) i d
 low-by true at next low zero d h = omega arith
 low-by true at next low (suc i) d h = omega (arith, low i d (omega (arith, h)))
 low-by false at next low i d h = omega (arith, low i d h)
@@ -112,7 +119,8 @@ places-low at (b ∷ bs) i d h = low-by (b == 91) at _ (places-low (suc at) bs) 
 abbrev Rises : List ℕ → Type 0
 Rises ps = IsNonDecreasingBy (λ p. p) ps
 
-rises-by : (is : Bool) (at : ℕ) (next : List ℕ) → ((i d : ℕ) → i < length next → suc at ≤ get_or next i d) → Rises next → Rises (with_place is at next)
+rises-by : (is : Bool) (at : ℕ) (next : List ℕ) → ((i d : ℕ) → i < length next → suc at ≤ get_or next i d) →
+    Rises next → Rises (with_place is at next)
 rises-by true at next low up zero zero d le lt = omega arith
 rises-by true at next low up zero (suc j) d le lt = omega (arith, low j d (omega (arith, lt)))
 rises-by true at next low up (suc i) zero d le lt = absurd (omega (arith, le))
@@ -128,7 +136,8 @@ found-rises at bs found e = subst Rises (sym e) (places-rise at bs)
 
 -- The walk that finds them.
 
-places-append : (at : ℕ) (xs : List ℕ) (b : ℕ) → places_from at (xs ++ b ∷ []) ≡ places_from at xs ++ with_place (b == 91) (at + length xs) []
+places-append : (at : ℕ) (xs : List ℕ) (b : ℕ) →
+    places_from at (xs ++ b ∷ []) ≡ places_from at xs ++ with_place (b == 91) (at + length xs) []
 places-append at [] b = ap (λ n. with_place (b == 91) n []) (omega arith)
 places-append at (x ∷ xs) b = go (x == 91) (places-append (suc at) xs b ∙ ap (λ n. places_from (suc at) xs ++ with_place (b == 91) n []) (omega arith))
   where
@@ -137,7 +146,8 @@ places-append at (x ∷ xs) b = go (x == 91) (places-append (suc at) xs b ∙ ap
     go true h = ap (λ ps. at ∷ ps) h
     go false h = h
 
-range-more : (bytes : List ℕ) (start at d : ℕ) → start ≤ at → at < length bytes → slice_range bytes start (at + 1) ≡ slice_range bytes start at ++ get_or bytes at d ∷ []
+range-more : (bytes : List ℕ) (start at d : ℕ) → start ≤ at → at < length bytes →
+    slice_range bytes start (at + 1) ≡ slice_range bytes start at ++ get_or bytes at d ∷ []
 range-more bytes start at d from inside =
     let size : (at + 1) - start ≡ (at - start) + 1 = omega (arith, from) in
     let here : start + (at - start) ≡ at = omega (arith, from) in
@@ -145,26 +155,34 @@ range-more bytes start at d from inside =
     ∙ take_more (drop start bytes) (at - start) d (omega (arith, from, inside, length-drop start bytes))
     ∙ ap (λ x. slice_range bytes start at ++ x ∷ []) (get_or-drop start bytes (at - start) d ∙ ap (λ n. get_or bytes n d) here)
 
-length-range : (bytes : List ℕ) (start at : ℕ) → start ≤ at → at < length bytes → start + length (slice_range bytes start at) ≡ at
-length-range bytes start at from inside = omega (arith, length-take (at - start) (drop start bytes), length-drop start bytes, from, inside)
+length-range : (bytes : List ℕ) (start at : ℕ) → start ≤ at → at < length bytes →
+    start + length (slice_range bytes start at) ≡ at
+length-range bytes start at from inside =
+    omega (arith, length-take (at - start) (drop start bytes), length-drop start bytes, from, inside)
 
-places-more : (bytes : List ℕ) (start at d : ℕ) → start ≤ at → at < length bytes → places_from start (slice_range bytes start (at + 1)) ≡ places_from start (slice_range bytes start at) ++ with_place (get_or bytes at d == 91) at []
+places-more : (bytes : List ℕ) (start at d : ℕ) → start ≤ at → at < length bytes →
+    places_from start (slice_range bytes start (at + 1)) ≡ places_from start (slice_range bytes start at) ++ with_place (get_or bytes at d == 91) at []
 places-more bytes start at d from inside =
     ap (places_from start) (range-more bytes start at d from inside)
     ∙ places-append start (slice_range bytes start at) (get_or bytes at d)
     ∙ ap (λ n. places_from start (slice_range bytes start at) ++ with_place (get_or bytes at d == 91) n []) (length-range bytes start at from inside)
 
-pub places-start : (bytes : List ℕ) (start at : ℕ) (found : List ℕ) → at ≤ start → found ≡ [] → found ≡ places_from start (slice_range bytes start at)
+pub places-start : (bytes : List ℕ) (start at : ℕ) (found : List ℕ) → at ≤ start → found ≡ [] →
+    found ≡ places_from start (slice_range bytes start at)
 places-start bytes start at found low e =
     let none : at - start ≡ 0 = omega (arith, low) in
     e ∙ sym (ap (λ n. places_from start (take n (drop start bytes))) none)
 
-pub places-one : (bytes : List ℕ) (start at : ℕ) (found more : List ℕ) → start ≤ at → at < length bytes → get_or bytes at 0 ≡ 91 → found ≡ places_from start (slice_range bytes start at) → more ≡ found ++ at ∷ [] → more ≡ places_from start (slice_range bytes start (at + 1))
+pub places-one : (bytes : List ℕ) (start at : ℕ) (found more : List ℕ) → start ≤ at → at < length bytes →
+    get_or bytes at 0 ≡ 91 → found ≡ places_from start (slice_range bytes start at) → more ≡ found ++ at ∷ [] →
+    more ≡ places_from start (slice_range bytes start (at + 1))
 places-one bytes start at found more from inside is k e =
     e ∙ ap (λ ps. ps ++ at ∷ []) k
     ∙ sym (places-more bytes start at 0 from inside ∙ ap (λ x. places_from start (slice_range bytes start at) ++ with_place (x == 91) at []) is)
 
-pub places-other : (bytes : List ℕ) (start at : ℕ) (found : List ℕ) → start ≤ at → at < length bytes → (get_or bytes at 0 ≡ 91 → ⊥) → found ≡ places_from start (slice_range bytes start at) → found ≡ places_from start (slice_range bytes start (at + 1))
+pub places-other : (bytes : List ℕ) (start at : ℕ) (found : List ℕ) → start ≤ at → at < length bytes →
+    (get_or bytes at 0 ≡ 91 → ⊥) → found ≡ places_from start (slice_range bytes start at) →
+    found ≡ places_from start (slice_range bytes start (at + 1))
 places-other bytes start at found from inside other k =
     k ∙ sym (places-more bytes start at 0 from inside ∙ ap (λ is. places_from start (slice_range bytes start at) ++ with_place is at []) (off (get_or bytes at 0 == 91) refl) ∙ append-nil (places_from start (slice_range bytes start at)))
   where
@@ -173,7 +191,8 @@ places-other bytes start at found from inside other k =
     off false e = refl
 
 -- where the walk ends
-pub places-end : (bytes : List ℕ) (start end at : ℕ) (found : List ℕ) → at ≡ min end (length bytes) → found ≡ places_from start (slice_range bytes start at) → found ≡ places_from start (slice_range bytes start end)
+pub places-end : (bytes : List ℕ) (start end at : ℕ) (found : List ℕ) → at ≡ min end (length bytes) →
+    found ≡ places_from start (slice_range bytes start at) → found ≡ places_from start (slice_range bytes start end)
 places-end bytes start end at found e k = k ∙ ap (places_from start) (go (cases_lt (length bytes) end))
   where
     go : (length bytes < end) ⊎ (end ≤ length bytes) → slice_range bytes start at ≡ slice_range bytes start end
@@ -219,7 +238,8 @@ counted-is bytes start end from to n h = go (nat_le start from && (nat_le from t
     go false e k = cc
 
 -- what is counted where all is known
-pub counted-known : (b : BracketPlaces) (from to m : ℕ) → b.start ≤ from → from ≤ to → to ≤ b.end → m ≡ count_by (within from to) b.places → Some m ≡ counted b from to
+pub counted-known : (b : BracketPlaces) (from to m : ℕ) → b.start ≤ from → from ≤ to → to ≤ b.end →
+    m ≡ count_by (within from to) b.places → Some m ≡ counted b from to
 counted-known b from to m first up last e =
     ap Some e
     ∙ sym (ap (λ t. if t then Some (count_by (within from to) b.places) else None) (λ i. le-leb b.start from first i && (le-leb from to up i && le-leb to b.end last i)))
@@ -245,7 +265,9 @@ search-finds xs n (Err i) h = sym (list_any_none (λ x. x == n) xs (λ k d l. of
     other k d l (inr high) e = omega (arith, h.2 k high l, get_or_default xs k d 0 l, e)
 
 -- a text among names has so many brackets where the number is among theirs
-pub has-count : {X : Type 0} (bytes : X → List ℕ) (xs : List X) (counts : List ℕ) (n : ℕ) → IsPermutation (map (λ x. brackets_of (bytes x)) xs) counts → list_any (λ x. x == n) counts ≡ has_brackets n (map bytes xs)
+pub has-count : {X : Type 0} (bytes : X → List ℕ) (xs : List X) (counts : List ℕ) (n : ℕ) →
+    IsPermutation (map (λ x. brackets_of (bytes x)) xs) counts →
+    list_any (λ x. x == n) counts ≡ has_brackets n (map bytes xs)
 has-count bytes xs counts n moved =
     sym (list_any-IsPermutation (λ x. x == n) (map (λ x. brackets_of (bytes x)) xs) counts moved)
     ∙ any_map (λ x. x == n) (λ x. brackets_of (bytes x)) xs

@@ -15,16 +15,19 @@ use Rattle.std.proofs.lemmas.List.Folds.{list_any_at, list_any_none}
 use Rattle.std.proofs.lemmas.List.Sorted.{sorted_far, ranks_by, searchable_from_sorted}
 use Rattle.markdown_engine_index.specs.NameIndex.{comes_before}
 
-not-less : (a b : ℕ) (r : Ordering) → is_lt (ordering_then (nat_cmp a b) r) ≡ false → (b ≤ a) × (a ≡ b → is_lt r ≡ false)
+not-less : (a b : ℕ) (r : Ordering) → is_lt (ordering_then (nat_cmp a b) r) ≡ false →
+    (b ≤ a) × (a ≡ b → is_lt r ≡ false)
 not-less a b r h = go (nat_cmp a b) (ranked a b (nat_cmp a b) refl) h
   where
-    go : (o : Ordering) → MatchOrdering o (a < b) (a ≡ b) (b < a) → is_lt (ordering_then o r) ≡ false → (b ≤ a) × (a ≡ b → is_lt r ≡ false)
+    go : (o : Ordering) → MatchOrdering o (a < b) (a ≡ b) (b < a) → is_lt (ordering_then o r) ≡ false →
+        (b ≤ a) × (a ≡ b → is_lt r ≡ false)
     go Less m h = cc
     go Equal m h = (omega (arith, m), λ _. h)
     go Greater m h = (omega (arith, m), λ e. absurd (omega (arith, m, e)))
 
 -- what stands between a front and a text that begins so begins so
-pub begins-between : (front name text : List ℕ) → starts_with (◌==◌) text front ≡ true → comes_before front name ≡ false → comes_before name text ≡ false → starts_with (◌==◌) name front ≡ true
+pub begins-between : (front name text : List ℕ) → starts_with (◌==◌) text front ≡ true →
+    comes_before front name ≡ false → comes_before name text ≡ false → starts_with (◌==◌) name front ≡ true
 begins-between [] name text b f t = refl
 begins-between (x ∷ front) [] text b f t = cc
 begins-between (x ∷ front) (y ∷ name) [] b f t = cc
@@ -56,7 +59,8 @@ module _ {X : Type 0} (bytes : X → List ℕ) (xs : List X) (i : ℕ) (text : L
     (p : List ℕ → Bool)
     (behind : (name : List ℕ) → p name ≡ true → comes_before text name ≡ false)
     (closed : (low high : List ℕ) → p high ≡ true → comes_before text low ≡ false → comes_before low high ≡ false → p low ≡ true) where
-  at-first : (k : ℕ) (d : X) → k < length xs → p (bytes (get_or xs k d)) ≡ true → (i < length xs) × (p (bytes (get_or xs i d)) ≡ true)
+  at-first : (k : ℕ) (d : X) → k < length xs → p (bytes (get_or xs k d)) ≡ true →
+      (i < length xs) × (p (bytes (get_or xs i d)) ≡ true)
   at-first k d inside h = go (nat_lt k i) refl
     where
       go : (b : Bool) → nat_lt k i ≡ b → (i < length xs) × (p (bytes (get_or xs i d)) ≡ true)
@@ -70,7 +74,8 @@ module _ {X : Type 0} (bytes : X → List ℕ) (xs : List X) (i : ℕ) (text : L
     where
       go : (b : Bool) → p (bytes (get_or xs i d)) ≡ b → b ≡ list_any (λ x. p (bytes x)) xs
       go true e = sym (list_any_at (λ x. p (bytes x)) xs i d inside e)
-      go false e = sym (list_any_none (λ x. p (bytes x)) xs (λ k c l. false_from_ne_true _ (λ h. false≢true (sym e ∙ ap (λ x. p (bytes x)) (get_or_default xs i d c inside) ∙ (at-first k c l h).1))))
+      go false e =
+          sym (list_any_none (λ x. p (bytes x)) xs (λ k c l. false_from_ne_true _ (λ h. false≢true (sym e ∙ ap (λ x. p (bytes x)) (get_or_default xs i d c inside) ∙ (at-first k c l h).1))))
 
   pub none : length xs ≤ i → false ≡ list_any (λ x. p (bytes x)) xs
   none past = sym (list_any_none (λ x. p (bytes x)) xs (λ k c l. false_from_ne_true _ (λ h. absurd (omega (arith, past, (at-first k c l h).0)))))
@@ -87,22 +92,27 @@ same-lists (x ∷ text) (y ∷ name) f t =
     let rest : text ≡ name = same-lists text name (low.1 first) (high.1 (sym first)) in
     (λ i. sym first i ∷ rest i)
 
-pub same-between : (text low high : List ℕ) → bytes_eq text high ≡ true → comes_before text low ≡ false → comes_before low high ≡ false → bytes_eq text low ≡ true
+pub same-between : (text low high : List ℕ) → bytes_eq text high ≡ true → comes_before text low ≡ false →
+    comes_before low high ≡ false → bytes_eq text low ≡ true
 same-between text low high e f t =
     let same : text ≡ high = (bytes_eq-Decides text high).0 e in
     (bytes_eq-Decides text low).1 (same-lists text low f (subst (λ x. comes_before low x ≡ false) (sym same) t))
 
 pub same-after : (text name : List ℕ) → bytes_eq text name ≡ true → comes_before text name ≡ false
-same-after text name e = subst (λ x. comes_before text x ≡ false) ((bytes_eq-Decides text name).0 e) (ap is_lt (tied_itself nat_list_cmp_total text))
+same-after text name e =
+    subst (λ x. comes_before text x ≡ false) ((bytes_eq-Decides text name).0 e) (ap is_lt (tied_itself nat_list_cmp_total text))
 
 -- what a search by halving asks of names in order
-pub comes-first : {X : Type 0} (bytes : X → List ℕ) (xs : List X) (text : List ℕ) → IsSortedBy (λ a b. is_lt (slice_cmp nat_cmp (bytes a) (bytes b))) xs → IsPartitionedBy (λ x. comes_before text (bytes x)) xs
+pub comes-first : {X : Type 0} (bytes : X → List ℕ) (xs : List X) (text : List ℕ) →
+    IsSortedBy (λ a b. is_lt (slice_cmp nat_cmp (bytes a) (bytes b))) xs →
+    IsPartitionedBy (λ x. comes_before text (bytes x)) xs
 comes-first bytes xs text sorted = λ i j d up inside h.
     let last : ordering_index (slice_cmp nat_cmp (bytes (get_or xs j d)) text) ≡ 0 = eqb-true _ _ (sym (is_lt_index (slice_cmp nat_cmp (bytes (get_or xs j d)) text)) ∙ h) in
     let rises : ordering_index (slice_cmp nat_cmp (bytes (get_or xs i d)) text) ≤ ordering_index (slice_cmp nat_cmp (bytes (get_or xs j d)) text) = searchable_from_sorted nat_list_cmp_total bytes xs text sorted i j d up inside in
     let first : ordering_index (slice_cmp nat_cmp (bytes (get_or xs i d)) text) ≡ 0 = omega (arith, rises, last) in
     is_lt_index (slice_cmp nat_cmp (bytes (get_or xs i d)) text) ∙ ap (λ n. n == 0) first
 
-pub any_map : {A B : Type 0} → (p : B → Bool) (f : A → B) (xs : List A) → list_any p (map f xs) ≡ list_any (λ x. p (f x)) xs
+pub any_map : {A B : Type 0} → (p : B → Bool) (f : A → B) (xs : List A) →
+    list_any p (map f xs) ≡ list_any (λ x. p (f x)) xs
 any_map p f [] = refl
 any_map p f (x ∷ xs) = ap (λ b. p (f x) || b) (any_map p f xs)

@@ -30,7 +30,8 @@ with-count : (n m : List ℕ) (ms : List (List ℕ)) → count n (with_name m ms
 with-count n m [] = refl
 with-count n m (k ∷ ms) = go (with-count n m ms) (comes_before m k)
   where
-    go : count n (with_name m ms) ≡ same n m + count n ms → (b : Bool) → count n (if b then k ∷ with_name m ms else m ∷ k ∷ ms) ≡ same n m + (same n k + count n ms)
+    go : count n (with_name m ms) ≡ same n m + count n ms → (b : Bool) →
+        count n (if b then k ∷ with_name m ms else m ∷ k ∷ ms) ≡ same n m + (same n k + count n ms)
     go h true = omega (arith, h)
     go h false = refl
 
@@ -73,7 +74,8 @@ with-ordered : (n : List ℕ) (ms : List (List ℕ)) → Ordered ms → Ordered 
 with-ordered n [] o = (tt, tt)
 with-ordered n (k ∷ ks) o = go (with-ordered n ks o.1) (comes_before n k) refl
   where
-    go : Ordered (with_name n ks) → (b : Bool) → comes_before n k ≡ b → Ordered (if b then k ∷ with_name n ks else n ∷ k ∷ ks)
+    go : Ordered (with_name n ks) → (b : Bool) → comes_before n k ≡ b →
+        Ordered (if b then k ∷ with_name n ks else n ∷ k ∷ ks)
     go w true e = (with-low k n ks (not-both n k e) o.0, w)
     go w false e = ((e, low-below n k ks e o.0), o)
 
@@ -86,7 +88,8 @@ low-at : (m z : List ℕ) (ks : List (List ℕ)) → Low m ks → 1 ≤ count z 
 low-at m z [] l c = absurd (omega (arith, c))
 low-at m z (k ∷ ks) l c = go (low-at m z ks l.1) (bytes_eq z k) refl c
   where
-    go : (1 ≤ count z ks → comes_before m z ≡ false) → (b : Bool) → bytes_eq z k ≡ b → 1 ≤ (if b then 1 else 0) + count z ks → comes_before m z ≡ false
+    go : (1 ≤ count z ks → comes_before m z ≡ false) → (b : Bool) → bytes_eq z k ≡ b →
+        1 ≤ (if b then 1 else 0) + count z ks → comes_before m z ≡ false
     go w true e c = subst (λ x. comes_before m x ≡ false) (sym ((bytes_eq-Decides z k).0 e)) l.0
     go w false e c = w (omega (arith, c))
 
@@ -109,18 +112,23 @@ unique (x ∷ xs) (y ∷ ys) o p c =
 
 -- what a sort leaves
 
-low-from : {X : Type 0} (bytes : X → List ℕ) (m : List ℕ) (xs : List X) → ((k : ℕ) (d : X) → k < length xs → comes_before m (bytes (get_or xs k d)) ≡ false) → Low m (map bytes xs)
+low-from : {X : Type 0} (bytes : X → List ℕ) (m : List ℕ) (xs : List X) →
+    ((k : ℕ) (d : X) → k < length xs → comes_before m (bytes (get_or xs k d)) ≡ false) → Low m (map bytes xs)
 low-from bytes m [] h = tt
 low-from bytes m (x ∷ xs) h = (h 0 x (omega arith), low-from bytes m xs (λ k d l. h (suc k) d (omega (arith, l))))
 
-ordered-from : {X : Type 0} (bytes : X → List ℕ) (xs : List X) → ((i j : ℕ) (d : X) → i ≤ j → j < length xs → is_lt (slice_cmp nat_cmp (bytes (get_or xs j d)) (bytes (get_or xs i d))) ≡ false) → Ordered (map bytes xs)
+ordered-from : {X : Type 0} (bytes : X → List ℕ) (xs : List X) →
+    ((i j : ℕ) (d : X) → i ≤ j → j < length xs → is_lt (slice_cmp nat_cmp (bytes (get_or xs j d)) (bytes (get_or xs i d))) ≡ false) →
+    Ordered (map bytes xs)
 ordered-from bytes [] s = tt
 ordered-from bytes (x ∷ xs) s = (
   low-from bytes (bytes x) xs (λ k d l. s 0 (suc k) d (omega arith) (omega (arith, l))),
   ordered-from bytes xs (λ i j d up inside. s (suc i) (suc j) d (omega (arith, up)) (omega (arith, inside))),
 )
 
-pub sorted-names : {X : Type 0} (bytes : X → List ℕ) (ds : List (List ℕ)) (ys : List X) → IsPermutation ds (map bytes ys) → IsSortedBy (λ a b. is_lt (slice_cmp nat_cmp (bytes a) (bytes b))) ys → map bytes ys ≡ in_order ds
+pub sorted-names : {X : Type 0} (bytes : X → List ℕ) (ds : List (List ℕ)) (ys : List X) →
+    IsPermutation ds (map bytes ys) → IsSortedBy (λ a b. is_lt (slice_cmp nat_cmp (bytes a) (bytes b))) ys →
+    map bytes ys ≡ in_order ds
 sorted-names bytes ds ys moved s =
     unique (map bytes ys) (in_order ds) (ordered-from bytes ys (sorted_far _ (ranks_by nat_list_cmp_total bytes) ys s)) (ordered-names ds)
     (λ n. sym (count-sum n (map bytes ys)) ∙ sum_by-IsPermutation (same n) ds (map bytes ys) moved ∙ count-sum n ds ∙ sym (order-count n ds))
@@ -130,7 +138,8 @@ with-any : (p : List ℕ → Bool) (n : List ℕ) (ms : List (List ℕ)) → lis
 with-any p n [] = refl
 with-any p n (k ∷ ms) = go (with-any p n ms) (comes_before n k)
   where
-    go : list_any p (with_name n ms) ≡ (p n || list_any p ms) → (b : Bool) → list_any p (if b then k ∷ with_name n ms else n ∷ k ∷ ms) ≡ (p n || (p k || list_any p ms))
+    go : list_any p (with_name n ms) ≡ (p n || list_any p ms) → (b : Bool) →
+        list_any p (if b then k ∷ with_name n ms else n ∷ k ∷ ms) ≡ (p n || (p k || list_any p ms))
     go h true = ap (λ b. p k || b) h ∙ swap (p k) (p n) (list_any p ms)
       where
         swap : (a b c : Bool) → (a || (b || c)) ≡ (b || (a || c))

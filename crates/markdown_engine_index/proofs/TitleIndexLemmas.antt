@@ -22,7 +22,8 @@ pub record IsFound (cs : List Code) (p : Place) (slash : Bool) (found : List Clo
   pub codes : p.codes ≡ cs
   pub whole : closers_of cs ≡ found ++ closers_from p.at slash (ahead_at p)
 
-pub found-start : (p q : Place) (found : List Closer) → q ≡ record p { at = 0 } → found ≡ [] → IsFound p.codes q false found
+pub found-start : (p q : Place) (found : List Closer) → q ≡ record p { at = 0 } → found ≡ [] →
+    IsFound p.codes q false found
 unfolding ahead_at
 found-start p q found e none =
     record {
@@ -30,7 +31,8 @@ found-start p q found e none =
       whole = ap (λ (x : Place). closers_from x.at false (ahead_at x)) (sym e) ∙ ap (λ xs. xs ++ closers_from q.at false (ahead_at q)) (sym none);
     }
 
-closers-here : (p q : Place) (v : ℕ) (slash : Bool) → code_at p ≡ Some v → q ≡ moved p → closers_from p.at slash (ahead_at p) ≡ with_closer (closes slash v) p.at (closes_past_spacing (ahead_at q)) (closers_from q.at (escapes slash v) (ahead_at q))
+closers-here : (p q : Place) (v : ℕ) (slash : Bool) → code_at p ≡ Some v → q ≡ moved p →
+    closers_from p.at slash (ahead_at p) ≡ with_closer (closes slash v) p.at (closes_past_spacing (ahead_at q)) (closers_from q.at (escapes slash v) (ahead_at q))
 closers-here p q v slash h e =
     let a : IsAhead p v = ahead_some p v h in
     let next : suc p.at ≡ (moved p).at = omega (arith, at_moved p) in
@@ -44,7 +46,9 @@ unfolding moved
 moved-codes p q e = ap (λ (x : Place). x.codes) e
 
 -- past a code that is not such a parenthesis
-pub found-other : (cs : List Code) (p q : Place) (v : ℕ) (slash next : Bool) (found : List Closer) → code_at p ≡ Some v → q ≡ moved p → closes slash v ≡ false → next ≡ escapes slash v → IsFound cs p slash found → IsFound cs q next found
+pub found-other : (cs : List Code) (p q : Place) (v : ℕ) (slash next : Bool) (found : List Closer) →
+    code_at p ≡ Some v → q ≡ moved p → closes slash v ≡ false → next ≡ escapes slash v → IsFound cs p slash found →
+    IsFound cs q next found
 found-other cs p q v slash next found h e other escaped k =
     record {
       codes = moved-codes p q e ∙ k.codes;
@@ -52,7 +56,10 @@ found-other cs p q v slash next found h e other escaped k =
     }
 
 -- past one
-pub found-one : (cs : List Code) (p q : Place) (v : ℕ) (slash next : Bool) (found more : List Closer) → code_at p ≡ Some v → q ≡ moved p → closes slash v ≡ true → next ≡ escapes slash v → more ≡ found ++ record { at = p.at; twice = closes_past_spacing (ahead_at q) } ∷ [] → IsFound cs p slash found → IsFound cs q next more
+pub found-one : (cs : List Code) (p q : Place) (v : ℕ) (slash next : Bool) (found more : List Closer) →
+    code_at p ≡ Some v → q ≡ moved p → closes slash v ≡ true → next ≡ escapes slash v →
+    more ≡ found ++ record { at = p.at; twice = closes_past_spacing (ahead_at q) } ∷ [] → IsFound cs p slash found →
+    IsFound cs q next more
 found-one cs p q v slash next found more h e one escaped added k =
     let here : Closer = record { at = p.at; twice = closes_past_spacing (ahead_at q) } in
     let rest : List Closer = closers_from q.at next (ahead_at q) in
@@ -65,24 +72,32 @@ found-one cs p q v slash next found more h e one escaped added k =
     }
 
 -- at the end
-pub found-all : (cs : List Code) (p : Place) (slash : Bool) (found : List Closer) → code_at p ≡ None → IsFound cs p slash found → found ≡ closers_of cs
-found-all cs p slash found h k = sym (k.whole ∙ ap (λ ds. found ++ closers_from p.at slash ds) (ahead_none p h) ∙ append-nil found)
+pub found-all : (cs : List Code) (p : Place) (slash : Bool) (found : List Closer) → code_at p ≡ None →
+    IsFound cs p slash found → found ≡ closers_of cs
+found-all cs p slash found h k =
+    sym (k.whole ∙ ap (λ ds. found ++ closers_from p.at slash ds) (ahead_none p h) ∙ append-nil found)
 
 -- Their order.
 
-low-by : (found : Bool) (at : ℕ) (twice : Bool) (next : List Closer) → ((i : ℕ) (d : Closer) → i < length next → suc at ≤ (get_or next i d).at) → (i : ℕ) (d : Closer) → i < length (with_closer found at twice next) → at ≤ (get_or (with_closer found at twice next) i d).at
+low-by : (found : Bool) (at : ℕ) (twice : Bool) (next : List Closer) →
+    ((i : ℕ) (d : Closer) → i < length next → suc at ≤ (get_or next i d).at) → (i : ℕ) (d : Closer) →
+    i < length (with_closer found at twice next) → at ≤ (get_or (with_closer found at twice next) i d).at
 low-by true at twice next low zero d h = omega arith
 low-by true at twice next low (suc i) d h = omega (arith, low i d (omega (arith, h)))
 low-by false at twice next low i d h = omega (arith, low i d h)
 
-closers-low : (at : ℕ) (slash : Bool) (cs : List Code) (i : ℕ) (d : Closer) → i < length (closers_from at slash cs) → at ≤ (get_or (closers_from at slash cs) i d).at
+closers-low : (at : ℕ) (slash : Bool) (cs : List Code) (i : ℕ) (d : Closer) → i < length (closers_from at slash cs) →
+    at ≤ (get_or (closers_from at slash cs) i d).at
 closers-low at slash [] i d h = absurd (omega (arith, h))
-closers-low at slash (c ∷ cs) i d h = low-by (closes slash c.value) at (closes_past_spacing cs) _ (closers-low (suc at) (escapes slash c.value) cs) i d h
+closers-low at slash (c ∷ cs) i d h =
+    low-by (closes slash c.value) at (closes_past_spacing cs) _ (closers-low (suc at) (escapes slash c.value) cs) i d h
 
 abbrev Rises : List Closer → Type 0
 Rises found = IsNonDecreasingBy (λ (c : Closer). c.at) found
 
-rises-by : (found : Bool) (at : ℕ) (twice : Bool) (next : List Closer) → ((i : ℕ) (d : Closer) → i < length next → suc at ≤ (get_or next i d).at) → Rises next → Rises (with_closer found at twice next)
+rises-by : (found : Bool) (at : ℕ) (twice : Bool) (next : List Closer) →
+    ((i : ℕ) (d : Closer) → i < length next → suc at ≤ (get_or next i d).at) → Rises next →
+    Rises (with_closer found at twice next)
 rises-by true at twice next low up zero zero d le lt = omega arith
 rises-by true at twice next low up zero (suc j) d le lt = omega (arith, low j d (omega (arith, lt)))
 rises-by true at twice next low up (suc i) zero d le lt = absurd (omega (arith, le))
@@ -91,21 +106,27 @@ rises-by false at twice next low up i j d le lt = up i j d le lt
 
 closers-rise : (at : ℕ) (slash : Bool) (cs : List Code) → Rises (closers_from at slash cs)
 closers-rise at slash [] = λ i j d le lt. absurd (omega (arith, lt))
-closers-rise at slash (c ∷ cs) = rises-by (closes slash c.value) at (closes_past_spacing cs) _ (closers-low (suc at) (escapes slash c.value) cs) (closers-rise (suc at) (escapes slash c.value) cs)
+closers-rise at slash (c ∷ cs) =
+    rises-by (closes slash c.value) at (closes_past_spacing cs) _ (closers-low (suc at) (escapes slash c.value) cs) (closers-rise (suc at) (escapes slash c.value) cs)
 
 pub found-rises : (cs : List Code) (found : List Closer) → found ≡ closers_of cs → Rises found
 found-rises cs found e = subst Rises (sym e) (closers-rise 0 false cs)
 
 -- The first one from a place on.
 
-pub first-found : (at i : ℕ) (cs : List Closer) (d : Closer) → AllWithin (λ (c : Closer). nat_lt c.at at ≡ true) cs 0 i → AllWithin (λ (c : Closer). nat_lt c.at at ≡ false) cs i (length cs) → i < length cs → (get_or cs i d).twice ≡ first_twice at cs
+pub first-found : (at i : ℕ) (cs : List Closer) (d : Closer) →
+    AllWithin (λ (c : Closer). nat_lt c.at at ≡ true) cs 0 i →
+    AllWithin (λ (c : Closer). nat_lt c.at at ≡ false) cs i (length cs) → i < length cs →
+    (get_or cs i d).twice ≡ first_twice at cs
 first-found at i [] d before after h = absurd (omega (arith, h))
-first-found at zero (c ∷ cs) d before after h = sym (ap (λ b. if b then first_twice at cs else c.twice) (after 0 d (omega arith) (omega arith)))
+first-found at zero (c ∷ cs) d before after h =
+    sym (ap (λ b. if b then first_twice at cs else c.twice) (after 0 d (omega arith) (omega arith)))
 first-found at (suc i) (c ∷ cs) d before after h =
     first-found at i cs d (λ k e low high. before (suc k) e (omega arith) (omega (arith, high))) (λ k e low high. after (suc k) e (omega (arith, low)) (omega (arith, high))) (omega (arith, h))
     ∙ sym (ap (λ b. if b then first_twice at cs else c.twice) (before 0 d (omega arith) (omega arith)))
 
-pub none-found : (at i : ℕ) (cs : List Closer) → AllWithin (λ (c : Closer). nat_lt c.at at ≡ true) cs 0 i → length cs ≤ i → first_twice at cs ≡ false
+pub none-found : (at i : ℕ) (cs : List Closer) → AllWithin (λ (c : Closer). nat_lt c.at at ≡ true) cs 0 i →
+    length cs ≤ i → first_twice at cs ≡ false
 none-found at i [] before h = refl
 none-found at zero (c ∷ cs) before h = absurd (omega (arith, h))
 none-found at (suc i) (c ∷ cs) before h =
@@ -115,34 +136,42 @@ none-found at (suc i) (c ∷ cs) before h =
 -- What it says of the codes.
 
 -- none of these stands before the place
-from-start : (m at : ℕ) (slash : Bool) (cs : List Code) → m ≤ at → first_twice m (closers_from at slash cs) ≡ closes_resource slash cs
+from-start : (m at : ℕ) (slash : Bool) (cs : List Code) → m ≤ at →
+    first_twice m (closers_from at slash cs) ≡ closes_resource slash cs
 from-start m at slash [] h = refl
 from-start m at slash (c ∷ cs) h = by-found (closes slash c.value) (closers_from (suc at) (escapes slash c.value) cs) (closes_resource (escapes slash c.value) cs) (from-start m (suc at) (escapes slash c.value) cs (omega (arith, h)))
   where
-    by-found : (found : Bool) (next : List Closer) (later : Bool) → first_twice m next ≡ later → first_twice m (with_closer found at (closes_past_spacing cs) next) ≡ (if found then closes_past_spacing cs else later)
+    by-found : (found : Bool) (next : List Closer) (later : Bool) → first_twice m next ≡ later →
+        first_twice m (with_closer found at (closes_past_spacing cs) next) ≡ (if found then closes_past_spacing cs else later)
     by-found true next later e = ap (λ b. if b then first_twice m next else closes_past_spacing cs) (le-ltb at m h)
     by-found false next later e = e
 
 -- an opening parenthesis is neither escaped nor escapes
-past-opening : (m at : ℕ) (slash : Bool) (c : Code) (cs : List Code) → c.value ≡ 40 → m ≤ at → first_twice m (closers_from at slash (c ∷ cs)) ≡ closes_resource false cs
+past-opening : (m at : ℕ) (slash : Bool) (c : Code) (cs : List Code) → c.value ≡ 40 → m ≤ at →
+    first_twice m (closers_from at slash (c ∷ cs)) ≡ closes_resource false cs
 past-opening m at slash c cs e h =
     ap (λ v. first_twice m (with_closer (closes slash v) at (closes_past_spacing cs) (closers_from (suc at) (escapes slash v) cs))) e
     ∙ from-start m (suc at) false cs (omega (arith, h))
 
-pub closer-behind : (k at : ℕ) (slash : Bool) (cs ds : List Code) (c : Code) → drop k cs ≡ c ∷ ds → c.value ≡ 40 → first_twice (at + k) (closers_from at slash cs) ≡ closes_resource false ds
-closer-behind zero at slash cs ds c here e = ap (λ xs. first_twice (at + 0) (closers_from at slash xs)) here ∙ past-opening (at + 0) at slash c ds e (omega arith)
+pub closer-behind : (k at : ℕ) (slash : Bool) (cs ds : List Code) (c : Code) → drop k cs ≡ c ∷ ds → c.value ≡ 40 →
+    first_twice (at + k) (closers_from at slash cs) ≡ closes_resource false ds
+closer-behind zero at slash cs ds c here e =
+    ap (λ xs. first_twice (at + 0) (closers_from at slash xs)) here ∙ past-opening (at + 0) at slash c ds e (omega arith)
 closer-behind (suc k) at slash [] ds c here e = cc
 closer-behind (suc k) at slash (d ∷ cs) ds c here e =
     past-one (closes slash d.value)
     ∙ ap (λ n. first_twice n (closers_from (suc at) (escapes slash d.value) cs)) (omega arith)
     ∙ closer-behind k (suc at) (escapes slash d.value) cs ds c here e
   where
-    past-one : (found : Bool) → first_twice (at + suc k) (with_closer found at (closes_past_spacing cs) (closers_from (suc at) (escapes slash d.value) cs)) ≡ first_twice (at + suc k) (closers_from (suc at) (escapes slash d.value) cs)
-    past-one true = ap (λ b. if b then first_twice (at + suc k) (closers_from (suc at) (escapes slash d.value) cs) else closes_past_spacing cs) (lt-ltb at (at + suc k) (omega arith))
+    past-one : (found : Bool) →
+        first_twice (at + suc k) (with_closer found at (closes_past_spacing cs) (closers_from (suc at) (escapes slash d.value) cs)) ≡ first_twice (at + suc k) (closers_from (suc at) (escapes slash d.value) cs)
+    past-one true =
+        ap (λ b. if b then first_twice (at + suc k) (closers_from (suc at) (escapes slash d.value) cs) else closes_past_spacing cs) (lt-ltb at (at + suc k) (omega arith))
     past-one false = refl
 
 -- where an index that is right for some codes rules a resource out behind a title that begins after so many, none ends there
-pub ruled-out : (index : Option (List Closer)) (cs ds : List Code) (c : Code) (k : ℕ) → IsRightFor cs index → rules_out index k ≡ true → drop k cs ≡ c ∷ ds → c.value ≡ 40 → closes_resource false ds ≡ false
+pub ruled-out : (index : Option (List Closer)) (cs ds : List Code) (c : Code) (k : ℕ) → IsRightFor cs index →
+    rules_out index k ≡ true → drop k cs ≡ c ∷ ds → c.value ≡ 40 → closes_resource false ds ≡ false
 ruled-out None cs ds c k right h here e = cc
 ruled-out (Some closers) cs ds c k right h here e =
     sym (ap (first_twice k) (right closers refl) ∙ ap (λ n. first_twice n (closers_of cs)) (omega arith) ∙ closer-behind k 0 false cs ds c here e) ∙ not-true (first_twice k closers) h

@@ -24,7 +24,8 @@ no-more c cs xs e f = cc
 -- no code follows there, so the bytes end
 end-stands : (bytes : List ℕ) → (codes_at bytes (end-of bytes) ≡ []) × Stands bytes (end-of bytes)
 unfolding end-of
-end-stands bytes = along bytes document_start (codes_of bytes) [] (stands-start bytes) (sym (append-nil (codes_of bytes)))
+end-stands bytes =
+    along bytes document_start (codes_of bytes) [] (stands-start bytes) (sym (append-nil (codes_of bytes)))
 
 not-inside : (bytes : List ℕ) → (end-of bytes).index < length bytes → ⊥
 not-inside bytes h =
@@ -51,15 +52,18 @@ end-vs bytes =
 ends-at : ℕ → Code → Bool
 ends-at n c = c.stop.index == n && c.stop.vs == 0
 
-last-ends : (n : ℕ) (p : Point) (c : Code) (cs : List Code) → (stop_of p (c ∷ cs)).index ≡ n → (stop_of p (c ∷ cs)).vs ≡ 0 → list_any (ends-at n) (c ∷ cs) ≡ true
+last-ends : (n : ℕ) (p : Point) (c : Code) (cs : List Code) → (stop_of p (c ∷ cs)).index ≡ n →
+    (stop_of p (c ∷ cs)).vs ≡ 0 → list_any (ends-at n) (c ∷ cs) ≡ true
 unfolding ends-at
 last-ends n p c [] e f = grind (arith, nat_tests)
 last-ends n p c (d ∷ cs) e f = or_right (ends-at n c) (list_any (ends-at n) (d ∷ cs)) (last-ends n c.stop d cs e f)
 
-end-place : (n : ℕ) (cs : List Code) → (stop_of document_start cs).index ≡ n → (stop_of document_start cs).vs ≡ 0 → ((n == 0 && 0 == 0) || list_any (ends-at n) cs) ≡ true
+end-place : (n : ℕ) (cs : List Code) → (stop_of document_start cs).index ≡ n → (stop_of document_start cs).vs ≡ 0 →
+    ((n == 0 && 0 == 0) || list_any (ends-at n) cs) ≡ true
 unfolding ends-at
 end-place n [] e f = rw (← e) refl
-end-place n (c ∷ cs) e f = or_right (n == 0 && 0 == 0) (list_any (ends-at n) (c ∷ cs)) (last-ends n document_start c cs e f)
+end-place n (c ∷ cs) e f =
+    or_right (n == 0 && 0 == 0) (list_any (ends-at n) (c ∷ cs)) (last-ends n document_start c cs e f)
 
 whole-end : (bytes : List ℕ) → is_place bytes (length bytes, 0) ≡ true
 unfolding ends-at end-of
@@ -68,14 +72,16 @@ whole-end bytes = end-place (length bytes) (codes_of bytes) (end-index bytes) (e
 after-start : (n : ℕ) → is_at_or_after (0, 0) (n, 0) ≡ true
 after-start n = grind (arith, nat_tests)
 
-pieces-whole : (bytes : List ℕ) → is_place bytes (length bytes, 0) ≡ true → is_at_or_after (0, 0) (length bytes, 0) ≡ true → are_pieces bytes (whole_piece bytes ∷ []) ≡ true
+pieces-whole : (bytes : List ℕ) → is_place bytes (length bytes, 0) ≡ true →
+    is_at_or_after (0, 0) (length bytes, 0) ≡ true → are_pieces bytes (whole_piece bytes ∷ []) ≡ true
 pieces-whole bytes e f = rw (e, f) refl
 
 all-one : {X : Type 0} (P : X → Type 0) (x : X) → P x → All P (x ∷ [])
 all-one P x p zero d h = p
 all-one P x p (suc k) d h = absurd (omega arith)
 
-pub whole-content : (bytes : List ℕ) → IsUtf8 bytes → length bytes ≤ document_limit → IsContent bytes (whole_piece bytes ∷ [])
+pub whole-content : (bytes : List ℕ) → IsUtf8 bytes → length bytes ≤ document_limit →
+    IsContent bytes (whole_piece bytes ∷ [])
 whole-content bytes text fits =
     let start : IsCharBoundary bytes 0 = IsCharBoundary-from_drop bytes 0 (omega arith) text in
     let end : IsCharBoundary bytes (length bytes) = IsCharBoundary-end bytes in

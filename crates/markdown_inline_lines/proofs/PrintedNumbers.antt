@@ -4,8 +4,10 @@ use Rattle.std.proofs.Math.Seq.{drop-append_seam}
 use Rattle.std.proofs.lemmas.List.{length-append, length-drop, length-take-le, drop-drop, drop-take}
 
 -- what ends at 64 is as long as the way there
-pub length-kept : (s : ℕ) (bytes kept : List ℕ) → s ≤ 64 → length bytes ≡ 128 → take (64 - s) (drop s bytes) ≡ kept → length kept ≡ 64 - s
-length-kept s bytes kept h l e = sym (ap length e) ∙ length-take-le (64 - s) (drop s bytes) (omega (arith, length-drop s bytes, l, h))
+pub length-kept : (s : ℕ) (bytes kept : List ℕ) → s ≤ 64 → length bytes ≡ 128 → take (64 - s) (drop s bytes) ≡ kept →
+    length kept ≡ 64 - s
+length-kept s bytes kept h l e =
+    sym (ap length e) ∙ length-take-le (64 - s) (drop s bytes) (omega (arith, length-drop s bytes, l, h))
 
 -- the last n of them
 pub last-kept : (s n : ℕ) (bytes kept : List ℕ) → s ≤ 64 → length bytes ≡ 128 → take (64 - s) (drop s bytes) ≡ kept → n ≤ length kept

@@ -29,7 +29,8 @@ leaf-lines : (name : Name) (cs : List Code) → is_data name ≡ false → HasLi
 leaf-lines name [] d = tt
 leaf-lines name (c ∷ cs) d = (λ e l. absurd (both_ways (is_data name) d e), tt)
 
-plain-lines : (name : Name) (link : Option Content) (cs : List Code) → is_data name ≡ false → HasLines (linked_leaf name link cs)
+plain-lines : (name : Name) (link : Option Content) (cs : List Code) → is_data name ≡ false →
+    HasLines (linked_leaf name link cs)
 plain-lines name link [] d = tt
 plain-lines name link (c ∷ cs) d = (λ e l. absurd (both_ways (is_data name) d e), tt)
 
@@ -44,11 +45,13 @@ string-leaf name (c ∷ cs) = (λ e l. some-none _ l, tt)
 line-lines : (name : Name) (k : Content) (s : List Code) → HasLines (line_leaf name (Some k) s)
 line-lines name k s = by_test (next_is is_line_ending s)
   where
-    by_test : (b : Bool) → HasLines (elim b as (λ _. Forest) [ true ↦ linked_leaf N.LineEnding (Some k) s | false ↦ linked_leaf name (Some k) s ])
+    by_test : (b : Bool) →
+        HasLines (elim b as (λ _. Forest) [ true ↦ linked_leaf N.LineEnding (Some k) s | false ↦ linked_leaf name (Some k) s ])
     by_test true = linked-lines N.LineEnding k s
     by_test false = linked-lines name k s
 
-from-lines : (name : Name) (k : Content) (later : Bool) (ss : List (List Code)) → HasLines (lines_from name (Some k) later ss)
+from-lines : (name : Name) (k : Content) (later : Bool) (ss : List (List Code)) →
+    HasLines (lines_from name (Some k) later ss)
 from-lines name k later [] = tt
 from-lines name k later (s ∷ ss) =
     elim (later && not (next_is is_line_ending s)) as (λ b. HasLines (elim b as (λ _. Forest) [ true ↦ linked_leaf N.SpaceOrTab (Some k) (span is_blank s).0 ⊕ linked_leaf name (Some k) (span is_blank s).1 ⊕ lines_from name (Some k) false ss | false ↦ line_leaf name (Some k) s ⊕ lines_from name (Some k) (next_is is_line_ending s) ss ])) [
@@ -56,7 +59,8 @@ from-lines name k later (s ∷ ss) =
       | false ↦ HasLines-row _ _ (line-lines name k s) (from-lines name k (next_is is_line_ending s) ss)
     ]
 
-string-lines : (name : Name) (f : Forest) → is_data name ≡ false → is_ending name ≡ false → HasLines f → HasLines (string_group name f)
+string-lines : (name : Name) (f : Forest) → is_data name ≡ false → is_ending name ≡ false → HasLines f →
+    HasLines (string_group name f)
 string-lines name empty d e h = tt
 string-lines name (leaf_then n l c r) d e h = ((d, e), (h, tt))
 string-lines name (group_then n a b i r) d e h = ((d, e), (h, tt))
@@ -66,7 +70,8 @@ record PlainNames (names : StringNames) : Type 0 where
   marker : is_data names.marker ≡ false
   text : (is_data names.text ≡ false) × (is_ending names.text ≡ false)
 
-between-lines : (names : StringNames) → PlainNames names → (front text back : List Code) → HasLines (between_markers names front text back)
+between-lines : (names : StringNames) → PlainNames names → (front text back : List Code) →
+    HasLines (between_markers names front text back)
 between-lines names k front text back =
     (k.whole, (HasLines-row _ _ (leaf-lines names.marker front k.marker) (HasLines-row _ _ (string-lines names.text (lines N.Data (Some Content.String) text) k.text.0 k.text.1 (from-lines N.Data Content.String false (lines_of text))) (leaf-lines names.marker back k.marker)), tt))
 
@@ -99,7 +104,8 @@ sound-label =
 
 lined-between : (opener closer : ℕ) → Lined (title_between opener closer title_names)
 unfolding title_between
-lined-between opener closer = then_any _ _ _ λ front. then_any _ _ _ λ text. then_any _ _ _ λ back. yields_passed _ _ _ (yields_gives _ _ (between-lines title_names titles-plain front text back))
+lined-between opener closer =
+    then_any _ _ _ λ front. then_any _ _ _ λ text. then_any _ _ _ λ back. yields_passed _ _ _ (yields_gives _ _ (between-lines title_names titles-plain front text back))
 
 lined-title : Lined (title title_names)
 unfolding title
@@ -113,7 +119,8 @@ lined-literal =
 
 lined-raw : (max : ℕ) → Lined (raw_destination max resource_names)
 unfolding raw_destination
-lined-raw max = then_any _ _ _ λ text. yields_passed _ _ _ (yields_gives _ _ ((refl, refl), (((refl, refl), (((refl, refl), (string-leaf N.Data text, tt)), tt)), tt)))
+lined-raw max =
+    then_any _ _ _ λ text. yields_passed _ _ _ (yields_gives _ _ ((refl, refl), (((refl, refl), (((refl, refl), (string-leaf N.Data text, tt)), tt)), tt)))
 
 lined-destination : (max : ℕ) → Lined (destination max resource_names)
 unfolding destination

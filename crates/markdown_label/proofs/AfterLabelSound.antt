@@ -16,14 +16,18 @@ use Rattle.markdown_model.specs.SingleConstructs.{outcome}
 
 sound-outcome : (s : Setting) (kind : LabelKind) (name : List ℕ) → Yields (λ o. IsSound o.1) (outcome s kind name)
 unfolding outcome
-sound-outcome s kind name = yields_either _ _ _ (yields_passed _ _ _ (yields_gives _ _ (record { tail = tt; lines = tt }))) (yields_bind IsSound _ _ _ (sound-after s _) λ tail k. yields_gives _ _ k)
+sound-outcome s kind name =
+    yields_either _ _ _ (yields_passed _ _ _ (yields_gives _ _ (record { tail = tt; lines = tt }))) (yields_bind IsSound _ _ _ (sound-after s _) λ tail k. yields_gives _ _ k)
 
-sound-by : (T : Tokenizer) (back : List Code) (ls : List Kept.LabelStart) → Yields (λ o. IsSound o.1) (outcome_by ls T back)
+sound-by : (T : Tokenizer) (back : List Code) (ls : List Kept.LabelStart) →
+    Yields (λ o. IsSound o.1) (outcome_by ls T back)
 sound-by T back [] = record { at = λ cs. tt }
 sound-by T back (l ∷ ls) = record { at = λ cs. (yields_passed _ (not (bars l)) _ (sound-outcome _ l.kind _)).at cs }
 
 sound-end : (T : Tokenizer) → Yields (λ r. IsSound r.1.1) (end_reading T)
-sound-end T = yields_passed _ _ _ (then_any _ _ _ λ back. yields_bind (λ o. IsSound o.1) _ _ _ (sound-by T back T.tokenize_state.label_starts) λ o k. yields_gives _ _ k)
+sound-end T =
+    yields_passed _ _ _ (then_any _ _ _ λ back. yields_bind (λ o. IsSound o.1) _ _ _ (sound-by T back T.tokenize_state.label_starts) λ o k. yields_gives _ _ k)
 
-pub tails-are-sound : (T : Tokenizer) (back : List Code) (kind : LabelKind) (tail : Forest) (rest : List Code) → end_reading T (ahead T) ≡ Some ((back, (kind, tail)), rest) → IsSound tail
+pub tails-are-sound : (T : Tokenizer) (back : List Code) (kind : LabelKind) (tail : Forest) (rest : List Code) →
+    end_reading T (ahead T) ≡ Some ((back, (kind, tail)), rest) → IsSound tail
 tails-are-sound T back kind tail rest e = subst (λ o. Passes (λ r. IsSound r.1.1) o) e ((sound-end T).at (ahead T))

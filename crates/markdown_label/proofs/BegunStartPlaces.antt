@@ -35,7 +35,8 @@ use Rattle.markdown_label.proofs.ReferenceFullTree.{get-after}
 use Rattle.markdown_label.proofs.KeptStartPlaces.{within-grown}
 
 -- where nothing changes that they speak of
-within-same : (T U : Tokenizer) → bytes_of U ≡ bytes_of T → U.events ≡ T.events → (ls : List Kept.LabelStart) → AreWithin T ls → AreWithin U ls
+within-same : (T U : Tokenizer) → bytes_of U ≡ bytes_of T → U.events ≡ T.events → (ls : List Kept.LabelStart) →
+    AreWithin T ls → AreWithin U ls
 within-same T U bytes events ls k = within-grown T U [] bytes (events ∙ sym (append-nil T.events)) ls k
 
 -- a start is kept whose last event is the last one
@@ -67,14 +68,18 @@ first-is v [] e = cc
 first-is v (c ∷ cs) e = record { code = c; value = eqb-true c.value v e; whole = refl }
 
 -- one marker
-one-within : (c : Code) (rest : List Code) (T : Tokenizer) → ReadsText T → AreWithin T T.tokenize_state.label_starts → ahead T ≡ c ∷ rest → nat_lt c.value 128 ≡ true → (let U : Tokenizer = kept_start LabelKind.Link 4 (done link_ops T) in AreWithin U U.tokenize_state.label_starts)
+one-within : (c : Code) (rest : List Code) (T : Tokenizer) → ReadsText T → AreWithin T T.tokenize_state.label_starts →
+    ahead T ≡ c ∷ rest → nat_lt c.value 128 ≡ true →
+    (let U : Tokenizer = kept_start LabelKind.Link 4 (done link_ops T) in AreWithin U U.tokenize_state.label_starts)
 one-within c rest T text k codes low =
     let t : Forest = group N.LabelLink (leaf N.LabelMarker (c ∷ [])) in
     let is : done link_ops T ≡ past None t T = ops-past t rest T (IsSolid-group N.LabelLink (leaf N.LabelMarker (c ∷ [])) (λ x. cc) (IsSolid-leaf N.LabelMarker (c ∷ []))) codes in
     subst (λ (V : Tokenizer). AreWithin (kept_start LabelKind.Link 4 V) (kept_start LabelKind.Link 4 V).tokenize_state.label_starts) (sym is)
     (within-past LabelKind.Link 4 t (_ ∷ _ ∷ _ ∷ []) _ T refl (marker-ends (bytes_of T) T.cursor c rest text codes low) k)
 
-pub link-within : (T : Tokenizer) → ReadsText T → AreWithin T T.tokenize_state.label_starts → link_test T (ahead T) ≡ true → (let U : Tokenizer = kept_start LabelKind.Link 4 (done link_ops T) in AreWithin U U.tokenize_state.label_starts)
+pub link-within : (T : Tokenizer) → ReadsText T → AreWithin T T.tokenize_state.label_starts →
+    link_test T (ahead T) ≡ true →
+    (let U : Tokenizer = kept_start LabelKind.Link 4 (done link_ops T) in AreWithin U U.tokenize_state.label_starts)
 link-within T text k e =
     let f : Begins 91 (ahead T) = first-is 91 (ahead T) (and-right _ _ e) in
     one-within f.code (rest_of (ahead T)) T text k f.whole (ap (λ v. nat_lt v 128) f.value)
@@ -92,7 +97,8 @@ pair-within kind whole a b c d rest T text k codes low =
     subst (λ (V : Tokenizer). AreWithin (kept_start kind 6 V) (kept_start kind 6 V).tokenize_state.label_starts) (sym is)
     (within-past kind 6 t (_ ∷ _ ∷ _ ∷ _ ∷ _ ∷ []) _ T refl (marker-ends (bytes_of T) (moved T.cursor) d rest (text-moved (bytes_of T) T.cursor text) (ahead-moved T.cursor ∙ ap rest_of codes) low) k)
 
-pub two-whole : (v w : ℕ) (cs : List Code) (f : Begins v cs) (g : Begins w (rest_of cs)) → cs ≡ f.code ∷ g.code ∷ rest_of (rest_of cs)
+pub two-whole : (v w : ℕ) (cs : List Code) (f : Begins v cs) (g : Begins w (rest_of cs)) →
+    cs ≡ f.code ∷ g.code ∷ rest_of (rest_of cs)
 two-whole v w cs f g = f.whole ∙ ap (λ xs. f.code ∷ xs) g.whole
 
 pub footnote-within : (T : Tokenizer) → ReadsText T → AreWithin T T.tokenize_state.label_starts → footnote_test T (ahead T) ≡ true

@@ -37,7 +37,8 @@ unlike c n = go (c == 91) refl
 
 none : (xs : List ℕ) → ((k : ℕ) → k < length xs → get_or xs k 0 ≡ 91 → ⊥) → brackets_of xs ≡ 0
 none [] h = refl
-none (x ∷ xs) h = omega (arith, first x xs, unlike x (h 0 (omega arith)), none xs (λ k l e. h (suc k) (omega (arith, l)) e))
+none (x ∷ xs) h =
+    omega (arith, first x xs, unlike x (h 0 (omega arith)), none xs (λ k l e. h (suc k) (omega (arith, l)) e))
 
 -- Characters.
 
@@ -83,7 +84,8 @@ folded-one c = elim (cases_eq c 91) [
 of-folded : (cs : List ℕ) → brackets_of (default_case_fold cs) ≡ brackets_of cs
 unfolding default_case_fold
 of-folded [] = refl
-of-folded (c ∷ cs) = both (full_fold c) (default_case_fold cs) ∙ ap₂ ◌+◌ (folded-one c) (of-folded cs) ∙ sym (first c cs)
+of-folded (c ∷ cs) =
+    both (full_fold c) (default_case_fold cs) ∙ ap₂ ◌+◌ (folded-one c) (of-folded cs) ∙ sym (first c cs)
 
 -- Words.
 
@@ -102,9 +104,11 @@ of-parts (c ∷ cs) = go (of-parts cs) (separates_words c) refl
     space : separates_words c ≡ true → one_of c ≡ 0
     space e = unlike c (λ k. false≢true (ap separates_words (sym k) ∙ e))
 
-    go : total (slice_split separates_words cs) ≡ brackets_of cs → (b : Bool) → separates_words c ≡ b → total (slice_split separates_words (c ∷ cs)) ≡ brackets_of (c ∷ cs)
+    go : total (slice_split separates_words cs) ≡ brackets_of cs → (b : Bool) → separates_words c ≡ b →
+        total (slice_split separates_words (c ∷ cs)) ≡ brackets_of (c ∷ cs)
     go rest true e = ap total (slice_split-cons_yes separates_words c cs e) ∙ omega (arith, rest, first c cs, space e)
-    go rest false e = ap total (slice_split-cons_no separates_words c cs e) ∙ omega (arith, rest, first c cs, onto (slice_split separates_words cs))
+    go rest false e =
+        ap total (slice_split-cons_no separates_words c cs e) ∙ omega (arith, rest, first c cs, onto (slice_split separates_words cs))
 
 of-words : (ps : List (List ℕ)) → total (filter is_nonempty ps) ≡ total ps
 of-words [] = refl
@@ -114,10 +118,12 @@ of-words ((c ∷ cs) ∷ ps) = omega (arith, of-words ps)
 of-join : (ps : List (List ℕ)) → brackets_of (join_with_byte 32 ps) ≡ total ps
 of-join [] = refl
 of-join (p ∷ []) = omega arith
-of-join (p ∷ q ∷ ps) = omega (arith, both p (32 ∷ join_with_byte 32 (q ∷ ps)), first 32 (join_with_byte 32 (q ∷ ps)), of-join (q ∷ ps))
+of-join (p ∷ q ∷ ps) =
+    omega (arith, both p (32 ∷ join_with_byte 32 (q ∷ ps)), first 32 (join_with_byte 32 (q ∷ ps)), of-join (q ∷ ps))
 
 of-joined : (cs : List ℕ) → brackets_of (joined_words cs) ≡ brackets_of cs
-of-joined cs = of-join (filter is_nonempty (slice_split separates_words cs)) ∙ of-words (slice_split separates_words cs) ∙ of-parts cs
+of-joined cs =
+    of-join (filter is_nonempty (slice_split separates_words cs)) ∙ of-words (slice_split separates_words cs) ∙ of-parts cs
 
 -- an identifier has as many opening brackets as its text
 pub of-identifier : (bs : List ℕ) → IsUtf8 bs → brackets_of (identifier_of bs) ≡ brackets_of bs

@@ -21,7 +21,8 @@ place-get [] i d h = absurd (omega arith)
 place-get (x ∷ es) zero d h = refl
 place-get (x ∷ es) (suc i) d h = place-get es i d (omega (arith, h))
 
-pub place-lent : (es : List Event) (i : ℕ) (e : Event) → i < length es → e ≡ slice_index_or (chained es) i e → e.point ≡ place_at es i
+pub place-lent : (es : List Event) (i : ℕ) (e : Event) → i < length es → e ≡ slice_index_or (chained es) i e →
+    e.point ≡ place_at es i
 place-lent es i e h same = ap (λ (x : Event). x.point) same ∙ chained-point 0 i es e ∙ place-get es i e h
 
 -- from a place to another, which need not be behind it: then there is nothing between
@@ -66,7 +67,8 @@ module _ (T : Tokenizer) (m n : ℕ) (a b : Event) (k : AreAround T m n) (front 
     last = max-between (bytes_of T) a.point.index b.point.index from-between to-between;
   })
 
-  pub lent-name : (end : ℕ) → end ≡ max b.point.index a.point.index → identifier_of (slice_range (bytes_of T) a.point.index end) ≡ identifier_between T m n
+  pub lent-name : (end : ℕ) → end ≡ max b.point.index a.point.index →
+      identifier_of (slice_range (bytes_of T) a.point.index end) ≡ identifier_between T m n
   lent-name end e =
       ap (λ j. identifier_of (slice_range (bytes_of T) a.point.index j)) e
       ∙ ap identifier_of (bytes-from (bytes_of T) a.point.index b.point.index)

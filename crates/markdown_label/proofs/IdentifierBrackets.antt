@@ -23,14 +23,16 @@ use Rattle.markdown_label.proofs.IdentifierFrontLemmas.{range-parts, cuts-text}
 use Rattle.markdown_label.proofs.NameIndexSearch.{any-definition, any-footnote}
 
 -- a text is none of those that have another number of brackets
-unlike-all : (ds : List (List ℕ)) (name : List ℕ) → has_brackets (brackets_of name) ds ≡ false → is_defined ds name ≡ false
+unlike-all : (ds : List (List ℕ)) (name : List ℕ) → has_brackets (brackets_of name) ds ≡ false →
+    is_defined ds name ≡ false
 unlike-all [] name h = refl
 unlike-all (d ∷ ds) name h =
     let parts = or_parts (brackets_of d == brackets_of name) (has_brackets (brackets_of name) ds) h in
     or_from (bytes_eq name d) (is_defined ds name) (off (bytes_eq name d) refl parts.0) (unlike-all ds name parts.1)
   where
     off : (b : Bool) → bytes_eq name d ≡ b → (brackets_of d == brackets_of name) ≡ false → b ≡ false
-    off true e k = absurd (false≢true (sym k ∙ (Decides-eqb (brackets_of d) (brackets_of name)).1 (ap brackets_of (sym ((bytes_eq-Decides name d).0 e)))))
+    off true e k =
+        absurd (false≢true (sym k ∙ (Decides-eqb (brackets_of d) (brackets_of name)).1 (ap brackets_of (sym ((bytes_eq-Decides name d).0 e)))))
     off false e k = refl
 
 first : (x : ℕ) (xs : List ℕ) → brackets_of (x ∷ xs) ≡ cond (x == 91) 1 0 + brackets_of xs
@@ -45,7 +47,9 @@ link-brackets kind name = go (is_footnote kind)
     go false = refl
 
 -- what is counted between two indexes is how many brackets the identifier has
-between-brackets : (bytes : List ℕ) (start end from to n : ℕ) → AreCuts bytes from to → counted (brackets_between bytes start end) from to ≡ Some n → n ≡ brackets_of (identifier_of (slice_range bytes from to))
+between-brackets : (bytes : List ℕ) (start end from to n : ℕ) → AreCuts bytes from to →
+    counted (brackets_between bytes start end) from to ≡ Some n →
+    n ≡ brackets_of (identifier_of (slice_range bytes from to))
 between-brackets bytes start end from to n cuts h =
     let k = counted-is bytes start end from to n h in
     let parts : slice_range bytes start to ≡ slice_range bytes start from ++ slice_range bytes from to = range-parts bytes start from to k.0 cuts.in_order cuts.first.0 in
@@ -54,7 +58,9 @@ between-brackets bytes start end from to n cuts h =
     let here : n ≡ brackets_of (slice_range bytes from to) = omega (arith, k.1, both) in
     here ∙ sym (of-identifier (slice_range bytes from to) (cuts-text bytes from to cuts))
 
-unknown-by : (s : Setting) (kind : LabelKind) (name : List ℕ) (n : ℕ) → n ≡ brackets_of name → (is_footnote kind && has_brackets n s.footnotes) ≡ false → has_brackets n s.definitions ≡ false → IsUnknown s kind name
+unknown-by : (s : Setting) (kind : LabelKind) (name : List ℕ) (n : ℕ) → n ≡ brackets_of name →
+    (is_footnote kind && has_brackets n s.footnotes) ≡ false → has_brackets n s.definitions ≡ false →
+    IsUnknown s kind name
 unknown-by s kind name n e f d = record {
   call = calls (is_footnote kind) f;
   link = unlike-all s.definitions (link_identifier kind name) (ap (λ m. has_brackets m s.definitions) (link-brackets kind name ∙ sym e) ∙ d);
@@ -68,7 +74,9 @@ module _ (T : Tokenizer) (names : Names) (listed : IsListed T) (known : T.tokeni
   brackets-of : names.brackets ≡ brackets_between (bytes_of T) names.brackets.start names.brackets.end
   brackets-of = ap (λ (x : Names). x.brackets) (listed names known)
 
-  pub lacks-unknown : (kind : LabelKind) (from to : ℕ) → AreCuts (bytes_of T) from to → lacks_count names kind from to ≡ true → IsUnknown (setting_in T) kind (identifier_of (slice_range (bytes_of T) from to))
+  pub lacks-unknown : (kind : LabelKind) (from to : ℕ) → AreCuts (bytes_of T) from to →
+      lacks_count names kind from to ≡ true →
+      IsUnknown (setting_in T) kind (identifier_of (slice_range (bytes_of T) from to))
   lacks-unknown kind from to cuts h = go (counted names.brackets from to) refl h
     where
       go : (found : Option ℕ) → counted names.brackets from to ≡ found → (elim found [ None ↦ false | Some n ↦ not ((is_footnote kind && has_brackets n names.footnotes) || has_brackets n names.definitions) ]) ≡ true

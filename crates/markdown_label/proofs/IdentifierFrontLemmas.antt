@@ -41,7 +41,8 @@ seam-nil ys = go (slice_split separates_words ys) refl
     go [] e = absurd (omega (arith, length-slice_split separates_words ys, ap length e))
     go (p ∷ ps) e = record { before = []; left = []; right = p; after = ps; front = refl; whole = e }
 
-onto-parts : (x : ℕ) (before : List (List ℕ)) (left : List ℕ) → (b : List (List ℕ)) × (l : List ℕ) × ((right : List ℕ) (after : List (List ℕ)) → onto_first x (before ++ (left ++ right) ∷ after) ≡ b ++ (l ++ right) ∷ after)
+onto-parts : (x : ℕ) (before : List (List ℕ)) (left : List ℕ) →
+    (b : List (List ℕ)) × (l : List ℕ) × ((right : List ℕ) (after : List (List ℕ)) → onto_first x (before ++ (left ++ right) ∷ after) ≡ b ++ (l ++ right) ∷ after)
 onto-parts x [] left = ([], x ∷ left, λ right after. refl)
 onto-parts x (p ∷ before) left = ((x ∷ p) ∷ before, left, λ right after. refl)
 
@@ -93,9 +94,11 @@ spaced-words ([] ∷ ps) = spaced-words ps
 spaced-words ((c ∷ cs) ∷ ps) = ap (λ xs. 32 ∷ c ∷ cs ++ xs) (spaced-words ps)
 
 joined-drop : (cs : List ℕ) → joined_words cs ≡ drop 1 (flat_map spaced (slice_split separates_words cs))
-joined-drop cs = join-drop (filter is_nonempty (slice_split separates_words cs)) ∙ ap (drop 1) (spaced-words (slice_split separates_words cs))
+joined-drop cs =
+    join-drop (filter is_nonempty (slice_split separates_words cs)) ∙ ap (drop 1) (spaced-words (slice_split separates_words cs))
 
-spaced-front : (xs ys : List ℕ) → Begins (flat_map spaced (slice_split separates_words xs)) (flat_map spaced (slice_split separates_words (xs ++ ys)))
+spaced-front : (xs ys : List ℕ) →
+    Begins (flat_map spaced (slice_split separates_words xs)) (flat_map spaced (slice_split separates_words (xs ++ ys)))
 spaced-front xs ys =
     let s = seam xs ys in
     let b = spaced-begins s.left s.right in
@@ -119,7 +122,8 @@ joined-front xs ys =
 
 -- Case folding and UTF-8 go character by character.
 
-folded-front : (front whole : List ℕ) → Begins front whole → Begins (encode_utf8_all (default_case_fold front)) (encode_utf8_all (default_case_fold whole))
+folded-front : (front whole : List ℕ) → Begins front whole →
+    Begins (encode_utf8_all (default_case_fold front)) (encode_utf8_all (default_case_fold whole))
 folded-front front whole b = (
   encode_utf8_all (default_case_fold b.0),
   ap (λ cs. encode_utf8_all (default_case_fold cs)) b.1 ∙ ap encode_utf8_all (default_case_fold-append front b.0) ∙ encodes-append (default_case_fold front) (default_case_fold b.0),
@@ -139,20 +143,24 @@ not-begun d front more h = go (bytes_eq (front ++ more) d) refl
     go false e = refl
     go true e = absurd (false≢true (sym h ∙ (starts_is Decides-eqb d front _ refl).1 more (sym ((bytes_eq-Decides (front ++ more) d).0 e))))
 
-pub none-begins : (ds : List (List ℕ)) (front more : List ℕ) → begins_one ds front ≡ false → is_defined ds (front ++ more) ≡ false
+pub none-begins : (ds : List (List ℕ)) (front more : List ℕ) → begins_one ds front ≡ false →
+    is_defined ds (front ++ more) ≡ false
 none-begins [] front more h = refl
 none-begins (d ∷ ds) front more h =
     let parts = or_parts (starts_with (◌==◌) d front) (begins_one ds front) h in
     or_from (bytes_eq (front ++ more) d) (is_defined ds (front ++ more)) (not-begun d front more parts.0) (none-begins ds front more parts.1)
 
-link-front : (kind : LabelKind) (front more : List ℕ) → link_identifier kind (front ++ more) ≡ link_identifier kind front ++ more
+link-front : (kind : LabelKind) (front more : List ℕ) →
+    link_identifier kind (front ++ more) ≡ link_identifier kind front ++ more
 link-front kind front more = go (is_footnote kind)
   where
-    go : (b : Bool) → (elim b [ true ↦ 94 ∷ (front ++ more) | false ↦ front ++ more ]) ≡ (elim b [ true ↦ 94 ∷ front | false ↦ front ]) ++ more
+    go : (b : Bool) →
+        (elim b [ true ↦ 94 ∷ (front ++ more) | false ↦ front ++ more ]) ≡ (elim b [ true ↦ 94 ∷ front | false ↦ front ]) ++ more
     go true = refl
     go false = refl
 
-pub unknown-by : (s : Setting) (kind : LabelKind) (front name : List ℕ) → Begins front name → begins_defined s kind front ≡ false → IsUnknown s kind name
+pub unknown-by : (s : Setting) (kind : LabelKind) (front name : List ℕ) → Begins front name →
+    begins_defined s kind front ≡ false → IsUnknown s kind name
 unknown-by s kind front name b h =
     let parts = or_parts (is_footnote kind && begins_one s.footnotes front) (begins_one s.definitions (link_identifier kind front)) h in
     subst (IsUnknown s kind) (sym b.1) (record {
@@ -160,11 +168,13 @@ unknown-by s kind front name b h =
       link = ap (is_defined s.definitions) (link-front kind front b.0) ∙ none-begins s.definitions (link_identifier kind front) b.0 parts.1;
     })
   where
-    calls : (is : Bool) → is && begins_one s.footnotes front ≡ false → is && is_defined s.footnotes (front ++ b.0) ≡ false
+    calls : (is : Bool) → is && begins_one s.footnotes front ≡ false →
+        is && is_defined s.footnotes (front ++ b.0) ≡ false
     calls true e = none-begins s.footnotes front b.0 e
     calls false e = refl
 
-pub range-parts : (bs : List ℕ) (i j k : ℕ) → i ≤ j → j ≤ k → j ≤ length bs → slice_range bs i k ≡ slice_range bs i j ++ slice_range bs j k
+pub range-parts : (bs : List ℕ) (i j k : ℕ) → i ≤ j → j ≤ k → j ≤ length bs →
+    slice_range bs i k ≡ slice_range bs i j ++ slice_range bs j k
 range-parts bs i j k ij jk inside =
     let size : length (slice_range bs i j) ≡ j - i = omega (arith, length-take (j - i) (drop i bs), length-drop i bs) in
     let sum : k - i ≡ length (slice_range bs i j) + (k - j) = omega (arith, size) in
@@ -175,10 +185,13 @@ cuts-text bs i j k = IsUtf8-between bs i j k.text k.in_order k.first k.last
 
 -- a front is such a part too
 pub front-cuts : (bs : List ℕ) (i j k n : ℕ) → AreCuts bs i k → i + n ≤ j → IsCharBoundary bs j → AreCuts bs i j
-front-cuts bs i j k n cuts after last = record { text = cuts.text; in_order = omega (arith, after); first = cuts.first; last = last }
+front-cuts bs i j k n cuts after last =
+    record { text = cuts.text; in_order = omega (arith, after); first = cuts.first; last = last }
 
 -- so with a label from i to k whose front is from i to j
-pub unknown-from : (s : Setting) (kind : LabelKind) (bs front : List ℕ) (i j k : ℕ) → AreCuts bs i j → j ≤ k → front ≡ identifier_of (slice_range bs i j) → begins_defined s kind front ≡ false → IsUnknown s kind (identifier_of (slice_range bs i k))
+pub unknown-from : (s : Setting) (kind : LabelKind) (bs front : List ℕ) (i j k : ℕ) → AreCuts bs i j → j ≤ k →
+    front ≡ identifier_of (slice_range bs i j) → begins_defined s kind front ≡ false →
+    IsUnknown s kind (identifier_of (slice_range bs i k))
 unknown-from s kind bs front i j k cuts jk e h =
     let whole : slice_range bs i k ≡ slice_range bs i j ++ slice_range bs j k = range-parts bs i j k cuts.in_order jk cuts.last.0 in
     let begins : Begins (identifier_of (slice_range bs i j)) (identifier_of (slice_range bs i k)) =
@@ -186,14 +199,17 @@ unknown-from s kind bs front i j k cuts jk e h =
     unknown-by s kind front _ (subst (λ f. Begins f (identifier_of (slice_range bs i k))) (sym e) begins) h
 
 -- and where nothing is defined
-pub unknown-nothing : (s : Setting) (kind : LabelKind) (name : List ℕ) → s.definitions ≡ [] → s.footnotes ≡ [] → IsUnknown s kind name
+pub unknown-nothing : (s : Setting) (kind : LabelKind) (name : List ℕ) → s.definitions ≡ [] → s.footnotes ≡ [] →
+    IsUnknown s kind name
 unknown-nothing s kind name d f =
     record { call = ap (λ fs. is_footnote kind && is_defined fs name) f ∙ and-false (is_footnote kind); link = ap (λ ds. is_defined ds (link_identifier kind name)) d }
 
 -- what is found of a label
-pub unknown : {Z : Type 0} (s : Setting) (kind : LabelKind) (name : List ℕ) (found : Option (String Z)) → found ≡ None → IsKnownName s kind name found → IsUnknown s kind name
+pub unknown : {Z : Type 0} (s : Setting) (kind : LabelKind) (name : List ℕ) (found : Option (String Z)) → found ≡ None →
+    IsKnownName s kind name found → IsUnknown s kind name
 unknown s kind name None e h = h
 unknown s kind name (Some t) e h = cc
 
-pub known : {Z : Type 0} (s : Setting) (kind : LabelKind) (name : List ℕ) (found : Option (String Z)) (text : String Z) → found ≡ Some text → IsKnownName s kind name found → string_bytes text ≡ name
+pub known : {Z : Type 0} (s : Setting) (kind : LabelKind) (name : List ℕ) (found : Option (String Z)) (text : String Z) →
+    found ≡ Some text → IsKnownName s kind name found → string_bytes text ≡ name
 known s kind name found text e h = subst (IsKnownName s kind name) e h

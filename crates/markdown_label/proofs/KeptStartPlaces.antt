@@ -14,7 +14,8 @@ use Rattle.markdown_label.specs.LabelEnd.{place_at, EndsBetween, AreWithin}
 use Rattle.markdown_label.proofs.KeptStartStack.{place-front}
 
 -- where events are appended
-ends-grown : (T U : Tokenizer) (more : List Event) → bytes_of U ≡ bytes_of T → U.events ≡ T.events ++ more → (l : Kept.LabelStart) → EndsBetween T l → EndsBetween U l
+ends-grown : (T U : Tokenizer) (more : List Event) → bytes_of U ≡ bytes_of T → U.events ≡ T.events ++ more →
+    (l : Kept.LabelStart) → EndsBetween T l → EndsBetween U l
 ends-grown T U more same events l k =
     let place : place_at U.events l.start.1 ≡ place_at T.events l.start.1 = ap (λ es. place_at es l.start.1) events ∙ place-front T.events more l.start.1 k.within in
     record {
@@ -22,9 +23,11 @@ ends-grown T U more same events l k =
       between = subst (λ bs. IsCharBoundary bs (place_at U.events l.start.1).index) (sym same) (subst (λ (p : Point). IsCharBoundary (bytes_of T) p.index) (sym place) k.between);
     }
 
-pub within-grown : (T U : Tokenizer) (more : List Event) → bytes_of U ≡ bytes_of T → U.events ≡ T.events ++ more → (ls : List Kept.LabelStart) → AreWithin T ls → AreWithin U ls
+pub within-grown : (T U : Tokenizer) (more : List Event) → bytes_of U ≡ bytes_of T → U.events ≡ T.events ++ more →
+    (ls : List Kept.LabelStart) → AreWithin T ls → AreWithin U ls
 within-grown T U more same events [] k = tt
-within-grown T U more same events (l ∷ ls) k = (ends-grown T U more same events l k.0, within-grown T U more same events ls k.1)
+within-grown T U more same events (l ∷ ls) k =
+    (ends-grown T U more same events l k.0, within-grown T U more same events ls k.1)
 
 -- where the last one is used up
 pub within-rest : (T : Tokenizer) (ls : List Kept.LabelStart) → AreWithin T ls → AreWithin T (rest_of ls)
@@ -40,5 +43,7 @@ within-marked T (l ∷ ls) k =
       | false ↦ (record { within = k.0.within; between = k.0.between }, within-marked T ls k.1)
     ]
 
-pub within-barred : (T : Tokenizer) (kind : LabelKind) (ls : List Kept.LabelStart) → AreWithin T ls → AreWithin T (barred_by kind ls)
-within-barred T kind ls k = elim (is_image kind) as (λ b. AreWithin T (if b then ls else marked ls)) [ true ↦ k | false ↦ within-marked T ls k ]
+pub within-barred : (T : Tokenizer) (kind : LabelKind) (ls : List Kept.LabelStart) → AreWithin T ls →
+    AreWithin T (barred_by kind ls)
+within-barred T kind ls k =
+    elim (is_image kind) as (λ b. AreWithin T (if b then ls else marked ls)) [ true ↦ k | false ↦ within-marked T ls k ]

@@ -34,7 +34,8 @@ grown-one : (es more : List Event) (u : UnusedStart) (l : LabelStart) → Stands
 grown-one es more u l k =
     record { kind = k.kind; marked = k.marked; within = omega (arith, k.within, length-append es more); place = place-front es more l.start.1 k.within ∙ k.place }
 
-pub starts-grown : (es more : List Event) (us : List UnusedStart) (ls : List LabelStart) → StandFor es us ls → StandFor (es ++ more) us ls
+pub starts-grown : (es more : List Event) (us : List UnusedStart) (ls : List LabelStart) → StandFor es us ls →
+    StandFor (es ++ more) us ls
 starts-grown es more [] [] k = tt
 starts-grown es more [] (l ∷ ls) k = k
 starts-grown es more (u ∷ us) [] k = k
@@ -43,7 +44,8 @@ starts-grown es more (u ∷ us) (l ∷ ls) k = (grown-one es more u l k.0, start
 -- One more element.
 
 -- a tree that stands by itself
-pub starts-plain : (earlier : List Element) (tree : Forest) (es more : List Event) (ls : List LabelStart) → StandFor es (unused_starts earlier) ls → StandFor (es ++ more) (unused_starts (plain tree ∷ earlier)) ls
+pub starts-plain : (earlier : List Element) (tree : Forest) (es more : List Event) (ls : List LabelStart) →
+    StandFor es (unused_starts earlier) ls → StandFor (es ++ more) (unused_starts (plain tree ∷ earlier)) ls
 starts-plain earlier tree es more ls k = starts-grown es more (unused_starts earlier) ls k
 
 -- a start, whose events are appended
@@ -52,7 +54,8 @@ pub starts-start : (earlier : List Element) (kind : LabelKind) (marker : List Co
 starts-start earlier kind marker es more ls first last k within place =
     (record { kind = refl; marked = refl; within = within; place = place }, starts-grown es more (unused_starts earlier) ls k)
 
-pub starts-rest : (es : List Event) (us : List UnusedStart) (ls : List LabelStart) → StandFor es us ls → StandFor es (drop 1 us) (rest_of ls)
+pub starts-rest : (es : List Event) (us : List UnusedStart) (ls : List LabelStart) → StandFor es us ls →
+    StandFor es (drop 1 us) (rest_of ls)
 starts-rest es [] [] k = tt
 starts-rest es [] (l ∷ ls) k = absurd k
 starts-rest es (u ∷ us) [] k = absurd k
@@ -94,14 +97,16 @@ pub unused-ordered : (earlier : List Element) → AreOrdered (unused_starts earl
 unused-ordered [] = tt
 unused-ordered (plain tree ∷ earlier) = unused-ordered earlier
 unused-ordered (starts kind marker ∷ earlier) = (λ e. cc, unused-ordered earlier)
-unused-ordered (ends back outcome ∷ earlier) = ordered-with (makes_link (ends back outcome)) (drop 1 (unused_starts earlier)) (ordered-rest (unused_starts earlier) (unused-ordered earlier))
+unused-ordered (ends back outcome ∷ earlier) =
+    ordered-with (makes_link (ends back outcome)) (drop 1 (unused_starts earlier)) (ordered-rest (unused_starts earlier) (unused-ordered earlier))
 
 link-again : (us : List UnusedStart) → AreBefore us → map (with_link true) us ≡ us
 link-again [] k = refl
 link-again (u ∷ us) k = λ i. (record u { before_link = (or-true u.before_link ∙ sym k.0) i }) ∷ link-again us k.1 i
 
 -- where all before a marked start are marked, it is enough to mark up to the first that is
-mark-all : (es : List Event) (us : List UnusedStart) (ls : List LabelStart) → AreOrdered us → StandFor es us ls → StandFor es (map (with_link true) us) (marked ls)
+mark-all : (es : List Event) (us : List UnusedStart) (ls : List LabelStart) → AreOrdered us → StandFor es us ls →
+    StandFor es (map (with_link true) us) (marked ls)
 mark-all es [] [] o k = tt
 mark-all es [] (l ∷ ls) o k = absurd k
 mark-all es (u ∷ us) [] o k = absurd k
@@ -111,7 +116,8 @@ mark-all es (u ∷ us) (l ∷ ls) o k =
       | false ↦ λ e. (record { kind = k.0.kind; marked = sym (or-true u.before_link); within = k.0.within; place = k.0.place }, mark-all es us ls o.1 k.1)
     ] refl
 
-bar-all : (es : List Event) (kind : LabelKind) (us : List UnusedStart) (ls : List LabelStart) → AreOrdered us → StandFor es us ls → StandFor es (map (with_link (not (is_image kind))) us) (barred_by kind ls)
+bar-all : (es : List Event) (kind : LabelKind) (us : List UnusedStart) (ls : List LabelStart) → AreOrdered us →
+    StandFor es us ls → StandFor es (map (with_link (not (is_image kind))) us) (barred_by kind ls)
 bar-all es kind us ls o k =
     elim (is_image kind) as (λ b. StandFor es (map (with_link (not b)) us) (if b then ls else marked ls)) [
       | true ↦ subst (λ x. StandFor es x ls) (sym (link-none us)) k
@@ -125,7 +131,9 @@ starts-made earlier back kind tail es more ls k =
     bar-all (es ++ more) kind (drop 1 (unused_starts earlier)) (rest_of ls) (ordered-rest (unused_starts earlier) (unused-ordered earlier)) (starts-rest (es ++ more) (unused_starts earlier) ls (starts-grown es more (unused_starts earlier) ls k))
 
 -- an end that fails takes the last start
-pub starts-lost : (earlier : List Element) (back : List Code) (es more : List Event) (ls : List LabelStart) → StandFor es (unused_starts earlier) ls → StandFor (es ++ more) (unused_starts (ends back None ∷ earlier)) (rest_of ls)
+pub starts-lost : (earlier : List Element) (back : List Code) (es more : List Event) (ls : List LabelStart) →
+    StandFor es (unused_starts earlier) ls →
+    StandFor (es ++ more) (unused_starts (ends back None ∷ earlier)) (rest_of ls)
 starts-lost earlier back es more ls k =
     subst (λ us. StandFor (es ++ more) us (rest_of ls)) (sym (link-none (drop 1 (unused_starts earlier)))) (starts-rest (es ++ more) (unused_starts earlier) ls (starts-grown es more (unused_starts earlier) ls k))
 
@@ -135,11 +143,13 @@ starts-lost earlier back es more ls k =
 abbrev pub made_by : Setting → List Event → List LabelStart → List Code → Reading (LabelKind × Forest)
 made_by s es ls = outcome_at s (last_start es ls)
 
-outcome-parts : (s : Setting) (l : Label) (back cs : List Code) → outcome_of s (Some l) back cs ≡ (provided (not (is_barred l)) >> outcome s l.kind (label_identifier s l back)) cs
+outcome-parts : (s : Setting) (l : Label) (back cs : List Code) →
+    outcome_of s (Some l) back cs ≡ (provided (not (is_barred l)) >> outcome s l.kind (label_identifier s l back)) cs
 unfolding outcome_of footnote_call link_or_image outcome
 outcome-parts s l back cs = refl
 
-outcome-same : (s : Setting) (es : List Event) (us : List UnusedStart) (ls : List LabelStart) (o : Option Label) (back cs : List Code) → StandFor es us ls → IsLabelOf us o → outcome_of s o back cs ≡ made_by s es ls back cs
+outcome-same : (s : Setting) (es : List Event) (us : List UnusedStart) (ls : List LabelStart) (o : Option Label) (back cs : List Code) →
+    StandFor es us ls → IsLabelOf us o → outcome_of s o back cs ≡ made_by s es ls back cs
 unfolding outcome_of label_identifier
 outcome-same s es [] [] o back cs k h = ap (λ x. outcome_of s x back cs) h
 outcome-same s es [] (l ∷ ls) o back cs k h = absurd k
@@ -152,8 +162,10 @@ outcome-same s es (u ∷ us) (l ∷ ls) o back cs k h =
     ∙ outcome-parts s h.0 back cs
     ∙ (λ i. (provided (not (barred i)) >> outcome s (kind i) (identifier_of (bytes_between s (place i) (start_of back)))) cs)
 
-pub outcome-kept : (s : Setting) (earlier : List Element) (es : List Event) (ls : List LabelStart) (back cs : List Code) → StandFor es (unused_starts earlier) ls → outcome_of s (label_before earlier) back cs ≡ made_by s es ls back cs
-outcome-kept s earlier es ls back cs k = outcome-same s es (unused_starts earlier) ls (label_before earlier) back cs k (ends_take_the_nearest earlier)
+pub outcome-kept : (s : Setting) (earlier : List Element) (es : List Event) (ls : List LabelStart) (back cs : List Code) →
+    StandFor es (unused_starts earlier) ls → outcome_of s (label_before earlier) back cs ≡ made_by s es ls back cs
+outcome-kept s earlier es ls back cs k =
+    outcome-same s es (unused_starts earlier) ls (label_before earlier) back cs k (ends_take_the_nearest earlier)
 
 -- the element that begins with a `]`
 pub end-made : (s : Setting) (earlier : List Element) (es : List Event) (ls : List LabelStart) (c : Code) (cs : List Code) (kind : LabelKind) (tail : Forest) (rest : List Code) → StandFor es (unused_starts earlier) ls → is_value 93 c ≡ true → made_by s es ls (c ∷ []) cs ≡ Some ((kind, tail), rest)

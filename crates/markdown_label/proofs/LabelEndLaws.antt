@@ -32,7 +32,8 @@ use Rattle.markdown_model.proofs.GrammarSteps.{either-some, either-second, if-tr
 use Rattle.markdown_label.specs.AfterLabelParts.{rested}
 use Rattle.markdown_label.proofs.NextCodeTests.{at-value, at-none}
 use Rattle.markdown_label.specs.LabelFields.{with_kind, as_link}
-use Rattle.markdown_label.specs.LabelEnd.{identifier_between, by_definition, not_full, tail_at, link_tried, after_by, made_here, lost_here, label_seen, may_be_shortcut, collapsed_front, collapsed_back, collapsed_at, reference_collapsed_step, collapsed_open_at, AfterReady, FullReady, tail_ends, kind_set, made, after_reading_of, after_reading, after_ends, ok_ends, nok_ends, not_full_reading, reference_collapsed_ends, collapsed_open_plan, reference_collapsed_open_ends, starts_set, states_and_called, ok_words, nok_words, after_words, reference_collapsed_words, reference_collapsed_open_words, reference_not_full_words}
+use Rattle.markdown_label.specs.LabelEnd.{identifier_between, by_definition, not_full, tail_at, link_tried, after_by, made_here, lost_here, label_seen, may_be_shortcut, collapsed_front, collapsed_back, collapsed_at, reference_collapsed_step, collapsed_open_at, AfterReady, FullReady, tail_ends, kind_set, made, after_reading_of}
+use Rattle.markdown_label.specs.LabelEnd.{after_reading, after_ends, ok_ends, nok_ends, not_full_reading, reference_collapsed_ends, collapsed_open_plan, reference_collapsed_open_ends, starts_set, states_and_called, ok_words, nok_words, after_words, reference_collapsed_words, reference_collapsed_open_words, reference_not_full_words}
 use Rattle.markdown_model.specs.SingleConstructs.{outcome}
 use Rattle.markdown_label.specs.LabelSetting.{setting_in}
 use Rattle.markdown_label.proofs.LabelEndLemmas.{attempts-made, ahead-made, on-definition, goes-definition, goes-tried, tail-same, loses-here}
@@ -44,7 +45,8 @@ seen-rested : (s : TokenizeState) → rested s ≡ s → s.seen ≡ false
 seen-rested s e = ap (λ (q : TokenizeState). q.seen) (sym e)
 
 -- seen or not, the fields are as before once that is put to rest
-seen-back : (b : Bool) (T : Tokenizer) → T.tokenize_state.seen ≡ false → scratched (label_seen false (label_seen b T.tokenize_state)) (scratched (label_seen b T.tokenize_state) T) ≡ T
+seen-back : (b : Bool) (T : Tokenizer) → T.tokenize_state.seen ≡ false →
+    scratched (label_seen false (label_seen b T.tokenize_state)) (scratched (label_seen b T.tokenize_state) T) ≡ T
 unfolding scratched
 seen-back b T e = ap (λ x. record T { tokenize_state = record T.tokenize_state { seen = x } }) (sym e)
 
@@ -57,10 +59,12 @@ module _ (W : Words) (within : Within states_and_called W) where
   -- Where all ends meet.
 
   pub ok-law : Law W ok_words
-  ok-law T alone _ = Goes-end W (weight_at 1 T) (ok_ends T) true (made_here T) (attempts-made T alone) (omega arith) (λ ok U h. h)
+  ok-law T alone _ =
+      Goes-end W (weight_at 1 T) (ok_ends T) true (made_here T) (attempts-made T alone) (omega arith) (λ ok U h. h)
 
   pub nok-law : Law W nok_words
-  nok-law T alone _ = Goes-end W (weight_at 1 T) (nok_ends T) false (lost_here T) (attempts-scratched _ T ∙ alone) (omega arith) (λ ok U h. h)
+  nok-law T alone _ =
+      Goes-end W (weight_at 1 T) (nok_ends T) false (lost_here T) (attempts-scratched _ T ∙ alone) (omega arith) (λ ok U h. h)
 
   -- Collapsed references.
 
@@ -125,7 +129,8 @@ module _ (W : Words) (within : Within states_and_called W) where
       follows W n (tail_ends (after_label (setting_in M) false) M) (Next LabelEndNok) (within LabelEndNok) V tt (omega (arith, room))
       (λ ok U k. loses-here (after_label (setting_in M) false) M (is ∙ undefined-none (setting_in M) (ahead M) none) ok U (k.0, k.1 ∙ lost-seen b M))
 
-  pub tail-law : (n : ℕ) (defined : Bool) (M : Tokenizer) → M.attempts ≡ [] → FullReady M → weight_at 12 M < n → GoesIn W n (tail_ends (after_label (setting_in M) defined) M) (tail_at defined (current_of M) M)
+  pub tail-law : (n : ℕ) (defined : Bool) (M : Tokenizer) → M.attempts ≡ [] → FullReady M → weight_at 12 M < n →
+      GoesIn W n (tail_ends (after_label (setting_in M) defined) M) (tail_at defined (current_of M) M)
   tail-law n defined M alone k room =
       let s : Setting = setting_in M in
       let big : TreeReading = after_label s defined in
@@ -175,14 +180,23 @@ module _ (W : Words) (within : Within states_and_called W) where
         end = k.end;
       }
 
-  first-kind : (l : Kept.LabelStart) (ls : List Kept.LabelStart) (T : Tokenizer) → T.tokenize_state.label_starts ≡ l ∷ ls → link_tried T ≡ kind_set (link_kind l.kind) T
-  first-kind l ls T e = ap (λ x. scratched (starts_set x T.tokenize_state) T) (ap as_link e ∙ sym (ap (with_kind (link_kind l.kind)) e))
+  first-kind : (l : Kept.LabelStart) (ls : List Kept.LabelStart) (T : Tokenizer) →
+      T.tokenize_state.label_starts ≡ l ∷ ls → link_tried T ≡ kind_set (link_kind l.kind) T
+  first-kind l ls T e =
+      ap (λ x. scratched (starts_set x T.tokenize_state) T) (ap as_link e ∙ sym (ap (with_kind (link_kind l.kind)) e))
 
-  reads-as : (l : Kept.LabelStart) (ls : List Kept.LabelStart) (T : Tokenizer) → T.tokenize_state.label_starts ≡ l ∷ ls → after_reading T (ahead T) ≡ outcome (setting_in T) l.kind (identifier_between T l.start.1 T.tokenize_state.end) (ahead T)
+  reads-as : (l : Kept.LabelStart) (ls : List Kept.LabelStart) (T : Tokenizer) →
+      T.tokenize_state.label_starts ≡ l ∷ ls →
+      after_reading T (ahead T) ≡ outcome (setting_in T) l.kind (identifier_between T l.start.1 T.tokenize_state.end) (ahead T)
   reads-as l ls T e = ap (λ x. after_reading_of x T (ahead T)) e
 
   -- a tail that makes the label or not, of a start tried as a link's
-  tail-after : (l : Kept.LabelStart) (ls : List Kept.LabelStart) (T : Tokenizer) → T.tokenize_state.label_starts ≡ l ∷ ls → (name : List ℕ) → name ≡ identifier_between T l.start.1 T.tokenize_state.end → is_footnote l.kind && is_defined (setting_in T).footnotes name ≡ false → (ok : Bool) (U : Tokenizer) → tail_ends (after_label (setting_in T) (is_defined (setting_in T).definitions (link_identifier l.kind name))) (link_tried T) ok U → after_ends T ok U
+  tail-after : (l : Kept.LabelStart) (ls : List Kept.LabelStart) (T : Tokenizer) →
+      T.tokenize_state.label_starts ≡ l ∷ ls → (name : List ℕ) →
+      name ≡ identifier_between T l.start.1 T.tokenize_state.end →
+      is_footnote l.kind && is_defined (setting_in T).footnotes name ≡ false → (ok : Bool) (U : Tokenizer) →
+      tail_ends (after_label (setting_in T) (is_defined (setting_in T).definitions (link_identifier l.kind name))) (link_tried T) ok U →
+      after_ends T ok U
   unfolding made scratched
   tail-after l ls T e name named other true U k =
       record {
@@ -201,11 +215,15 @@ module _ (W : Words) (within : Within states_and_called W) where
       }
 
   -- a call, with nothing behind it
-  call-kept : (l : Kept.LabelStart) (ls : List Kept.LabelStart) (T : Tokenizer) → T.tokenize_state.label_starts ≡ l ∷ ls → l.kind ≡ LabelKind.GfmFootnote → kind_set LabelKind.GfmFootnote T ≡ T
+  call-kept : (l : Kept.LabelStart) (ls : List Kept.LabelStart) (T : Tokenizer) →
+      T.tokenize_state.label_starts ≡ l ∷ ls → l.kind ≡ LabelKind.GfmFootnote → kind_set LabelKind.GfmFootnote T ≡ T
   call-kept l ls T e h =
       ap (λ x. scratched (starts_set x T.tokenize_state) T) (ap (with_kind LabelKind.GfmFootnote) e ∙ ap (λ x. record l { kind = x } ∷ ls) (sym h) ∙ sym e) ∙ scratched-same T
 
-  call-after : (l : Kept.LabelStart) (ls : List Kept.LabelStart) (T : Tokenizer) → T.tokenize_state.label_starts ≡ l ∷ ls → is_footnote l.kind && is_defined (setting_in T).footnotes (identifier_between T l.start.1 T.tokenize_state.end) ≡ true → (ok : Bool) (U : Tokenizer) → ok_ends T ok U → after_ends T ok U
+  call-after : (l : Kept.LabelStart) (ls : List Kept.LabelStart) (T : Tokenizer) →
+      T.tokenize_state.label_starts ≡ l ∷ ls →
+      is_footnote l.kind && is_defined (setting_in T).footnotes (identifier_between T l.start.1 T.tokenize_state.end) ≡ true →
+      (ok : Bool) (U : Tokenizer) → ok_ends T ok U → after_ends T ok U
   unfolding made
   call-after l ls T e called true U k =
       let name : List ℕ = identifier_between T l.start.1 T.tokenize_state.end in
@@ -220,11 +238,14 @@ module _ (W : Words) (within : Within states_and_called W) where
       }
   call-after l ls T e called false U k = cc
 
-  tail-there : (n : ℕ) (defined : Bool) (T : Tokenizer) → T.attempts ≡ [] → FullReady (link_tried T) → weight_at 12 T < n → GoesIn W n (tail_ends (after_label (setting_in T) defined) (link_tried T)) (tail_at defined (current_of T) (link_tried T))
+  tail-there : (n : ℕ) (defined : Bool) (T : Tokenizer) → T.attempts ≡ [] → FullReady (link_tried T) →
+      weight_at 12 T < n →
+      GoesIn W n (tail_ends (after_label (setting_in T) defined) (link_tried T)) (tail_at defined (current_of T) (link_tried T))
   unfolding scratched
   tail-there n defined T alone k room = tail-law n defined (link_tried T) alone k room
 
-  after-goes : (l : Kept.LabelStart) (ls : List Kept.LabelStart) (T : Tokenizer) → T.attempts ≡ [] → AfterReady T → T.tokenize_state.label_starts ≡ l ∷ ls → GoesIn W (weight_at 13 T) (after_ends T) (after_by (l ∷ ls) T)
+  after-goes : (l : Kept.LabelStart) (ls : List Kept.LabelStart) (T : Tokenizer) → T.attempts ≡ [] → AfterReady T →
+      T.tokenize_state.label_starts ≡ l ∷ ls → GoesIn W (weight_at 13 T) (after_ends T) (after_by (l ∷ ls) T)
   after-goes l ls T alone k e =
       let n : ℕ = weight_at 13 T in
       let s : Setting = setting_in T in
@@ -239,6 +260,7 @@ module _ (W : Words) (within : Within states_and_called W) where
   pub after-law : Law W after_words
   after-law T alone k = by-starts T.tokenize_state.label_starts refl
     where
-      by-starts : (ls : List Kept.LabelStart) → T.tokenize_state.label_starts ≡ ls → GoesIn W (weight_at 13 T) (after_ends T) (after_by ls T)
+      by-starts : (ls : List Kept.LabelStart) → T.tokenize_state.label_starts ≡ ls →
+          GoesIn W (weight_at 13 T) (after_ends T) (after_by ls T)
       by-starts [] e = absurd (k.some e)
       by-starts (l ∷ ls) e = after-goes l ls T alone k e

@@ -20,21 +20,25 @@ use Rattle.markdown_model.specs.SingleConstructs.{outcome}
 
 -- at a `(`, at a `[`, and elsewhere
 
-pub after-paren : (s : Setting) (defined : Bool) (cs : List Code) → next_is (is_value 40) cs ≡ true → after_label s defined cs ≡ either resource (shortcut defined) cs
+pub after-paren : (s : Setting) (defined : Bool) (cs : List Code) → next_is (is_value 40) cs ≡ true →
+    after_label s defined cs ≡ either resource (shortcut defined) cs
 unfolding after_label
 after-paren s defined cs e = if-here (is_value 40) _ _ cs e
 
-pub after-bracket : (s : Setting) (defined : Bool) (cs : List Code) → next_is (is_value 40) cs ≡ false → next_is (is_value 91) cs ≡ true → after_label s defined cs ≡ reference_after_label s defined cs
+pub after-bracket : (s : Setting) (defined : Bool) (cs : List Code) → next_is (is_value 40) cs ≡ false →
+    next_is (is_value 91) cs ≡ true → after_label s defined cs ≡ reference_after_label s defined cs
 unfolding after_label
 after-bracket s defined cs e h = if-other (is_value 40) _ _ cs e ∙ if-here (is_value 91) _ _ cs h
 
-pub after-other : (s : Setting) (defined : Bool) (cs : List Code) → next_is (is_value 40) cs ≡ false → next_is (is_value 91) cs ≡ false → after_label s defined cs ≡ shortcut defined cs
+pub after-other : (s : Setting) (defined : Bool) (cs : List Code) → next_is (is_value 40) cs ≡ false →
+    next_is (is_value 91) cs ≡ false → after_label s defined cs ≡ shortcut defined cs
 unfolding after_label
 after-other s defined cs e h = if-other (is_value 40) _ _ cs e ∙ if-other (is_value 91) _ _ cs h
 
 -- References.
 
-pub full-first : (s : Setting) (defined : Bool) (cs : List Code) (r : Forest × List Code) → full_reference s cs ≡ Some r → reference_after_label s defined cs ≡ Some r
+pub full-first : (s : Setting) (defined : Bool) (cs : List Code) (r : Forest × List Code) →
+    full_reference s cs ≡ Some r → reference_after_label s defined cs ≡ Some r
 unfolding reference_after_label
 full-first s defined cs r e = either-some (full_reference s) _ cs r e
 
@@ -42,12 +46,14 @@ unless-none : {A B : Type 0} (a : Reading A) (b : Reading B) (cs : List Code) �
 unfolding unless
 unless-none a b cs e = rw (e, unless) refl
 
-unless-some : {A B : Type 0} (a : Reading A) (b : Reading B) (cs : List Code) (r : A × List Code) → ◌≡◌ {A = Option (A × List Code)} (a cs) (Some r) → unless a b cs ≡ None
+unless-some : {A B : Type 0} (a : Reading A) (b : Reading B) (cs : List Code) (r : A × List Code) →
+    ◌≡◌ {A = Option (A × List Code)} (a cs) (Some r) → unless a b cs ≡ None
 unfolding unless
 unless-some a b cs r e = rw (e, unless) refl
 
 -- the label itself is not defined, and no full reference stands there
-pub undefined-none : (s : Setting) (cs : List Code) → full_reference s cs ≡ None → reference_after_label s false cs ≡ None
+pub undefined-none : (s : Setting) (cs : List Code) → full_reference s cs ≡ None →
+    reference_after_label s false cs ≡ None
 unfolding reference_after_label shortcut_before_bracket shortcut
 undefined-none s cs e =
     either-second (full_reference s) _ cs e
@@ -61,7 +67,8 @@ undefined-none s cs e =
     shortcut-off cs = switched-off (gives empty) false cs refl
 
 -- it is defined: `[]`, or the shortcut that an option allows where no label stands
-pub defined-either : (s : Setting) (cs : List Code) → full_reference s cs ≡ None → reference_after_label s true cs ≡ either collapsed_reference (shortcut (s.options.label_shortcut_before_bracket && not (is_some (label reference_names cs)))) cs
+pub defined-either : (s : Setting) (cs : List Code) → full_reference s cs ≡ None →
+    reference_after_label s true cs ≡ either collapsed_reference (shortcut (s.options.label_shortcut_before_bracket && not (is_some (label reference_names cs)))) cs
 unfolding reference_after_label shortcut_before_bracket shortcut
 defined-either s cs e =
     either-second (full_reference s) _ cs e
@@ -101,9 +108,11 @@ collapsed-whole =
     (Covers-row _ _ ws (us ++ []) (Covers-leaf _ front ws p.0) (Covers-leaf _ back (us ++ []) (r.0 ∙ sym (append-nil us)))))))
 
 abbrev closes : List Code → Reading Forest
-closes front = one (is_value 93) >>= λ back. gives (group N.Reference (leaf N.ReferenceMarker front ⊕ leaf N.ReferenceMarker back))
+closes front =
+    one (is_value 93) >>= λ back. gives (group N.Reference (leaf N.ReferenceMarker front ⊕ leaf N.ReferenceMarker back))
 
-closes-by : (a : Code) (cs : List Code) → tree_ops (closes (a ∷ []) cs) ≡ preceded collapsed_front (collapsed_open_plan cs)
+closes-by : (a : Code) (cs : List Code) →
+    tree_ops (closes (a ∷ []) cs) ≡ preceded collapsed_front (collapsed_open_plan cs)
 unfolding gives
 closes-by a [] = ap tree_ops (bind-none _ _ _ (one-not (is_value 93) [] refl))
 closes-by a (c ∷ cs) =
@@ -112,9 +121,11 @@ closes-by a (c ∷ cs) =
       | false ↦ λ e. ap tree_ops (bind-none _ _ _ (one-not (is_value 93) (c ∷ cs) e))
     ] refl
 
-pub collapsed-here : (c : Code) (cs : List Code) → is_value 91 c ≡ true → plan_of collapsed_reference (c ∷ cs) ≡ preceded collapsed_front (collapsed_open_plan cs)
+pub collapsed-here : (c : Code) (cs : List Code) → is_value 91 c ≡ true →
+    plan_of collapsed_reference (c ∷ cs) ≡ preceded collapsed_front (collapsed_open_plan cs)
 unfolding collapsed_reference
-collapsed-here c cs e = ap tree_ops (bind-some _ _ _ (c ∷ []) cs _ (one-here (is_value 91) c cs e) refl) ∙ closes-by c cs
+collapsed-here c cs e =
+    ap tree_ops (bind-some _ _ _ (c ∷ []) cs _ (one-here (is_value 91) c cs e) refl) ∙ closes-by c cs
 
 pub collapsed-none : (cs : List Code) → next_is (is_value 91) cs ≡ false → plan_of collapsed_reference cs ≡ None
 unfolding collapsed_reference
@@ -122,19 +133,27 @@ collapsed-none cs e = ap tree_ops (bind-none _ _ cs (one-not (is_value 91) cs e)
 
 -- Outcomes.
 
-pub outcome-call : (s : Setting) (kind : LabelKind) (name : List ℕ) (cs : List Code) → is_footnote kind && is_defined s.footnotes name ≡ true → outcome s kind name cs ≡ Some ((LabelKind.GfmFootnote, empty), cs)
+pub outcome-call : (s : Setting) (kind : LabelKind) (name : List ℕ) (cs : List Code) →
+    is_footnote kind && is_defined s.footnotes name ≡ true →
+    outcome s kind name cs ≡ Some ((LabelKind.GfmFootnote, empty), cs)
 unfolding outcome gives
-outcome-call s kind name cs e = either-some _ _ cs ((LabelKind.GfmFootnote, empty), cs) (switched-on (gives (LabelKind.GfmFootnote, empty)) _ cs e)
+outcome-call s kind name cs e =
+    either-some _ _ cs ((LabelKind.GfmFootnote, empty), cs) (switched-on (gives (LabelKind.GfmFootnote, empty)) _ cs e)
 
 abbrev tail_of : Setting → LabelKind → List ℕ → Reading Forest
 tail_of s kind name = after_label s (is_defined s.definitions (link_identifier kind name))
 
-pub outcome-tail : (s : Setting) (kind : LabelKind) (name : List ℕ) (cs : List Code) (tree : Forest) (rest : List Code) → is_footnote kind && is_defined s.footnotes name ≡ false → after_label s (is_defined s.definitions (link_identifier kind name)) cs ≡ Some (tree, rest) → outcome s kind name cs ≡ Some ((link_kind kind, tree), rest)
+pub outcome-tail : (s : Setting) (kind : LabelKind) (name : List ℕ) (cs : List Code) (tree : Forest) (rest : List Code) →
+    is_footnote kind && is_defined s.footnotes name ≡ false →
+    after_label s (is_defined s.definitions (link_identifier kind name)) cs ≡ Some (tree, rest) →
+    outcome s kind name cs ≡ Some ((link_kind kind, tree), rest)
 unfolding outcome gives
 outcome-tail s kind name cs tree rest e h =
     either-second _ _ cs (switched-off (gives (LabelKind.GfmFootnote, empty)) _ cs e) ∙ bind-some (tail_of s kind name) (λ t. gives (link_kind kind, t)) cs tree rest _ h refl
 
-pub outcome-none : (s : Setting) (kind : LabelKind) (name : List ℕ) (cs : List Code) → is_footnote kind && is_defined s.footnotes name ≡ false → after_label s (is_defined s.definitions (link_identifier kind name)) cs ≡ None → outcome s kind name cs ≡ None
+pub outcome-none : (s : Setting) (kind : LabelKind) (name : List ℕ) (cs : List Code) →
+    is_footnote kind && is_defined s.footnotes name ≡ false →
+    after_label s (is_defined s.definitions (link_identifier kind name)) cs ≡ None → outcome s kind name cs ≡ None
 unfolding outcome gives
 outcome-none s kind name cs e h =
     either-second _ _ cs (switched-off (gives (LabelKind.GfmFootnote, empty)) _ cs e) ∙ bind-none (tail_of s kind name) (λ t. gives (link_kind kind, t)) cs h

@@ -61,7 +61,8 @@ place-there xs ys y = ap point_or (get-there xs ys y)
 abbrev makes : List Kept.LabelStart → Tokenizer → List Code → Reading (List Code × (LabelKind × Forest))
 makes ls T back = outcome_by ls T back >>= λ o. gives (back, o)
 
-pub reading-at : (T : Tokenizer) (x : Code) (cs : List Code) → is_on T ≡ true → ahead T ≡ x ∷ cs → is_value 93 x ≡ true → end_reading T (ahead T) ≡ makes T.tokenize_state.label_starts T (x ∷ []) cs
+pub reading-at : (T : Tokenizer) (x : Code) (cs : List Code) → is_on T ≡ true → ahead T ≡ x ∷ cs →
+    is_value 93 x ≡ true → end_reading T (ahead T) ≡ makes T.tokenize_state.label_starts T (x ∷ []) cs
 reading-at T x cs on whole e =
     ap (end_reading T) whole
     ∙ switched-on (one (is_value 93) >>= λ back. makes T.tokenize_state.label_starts T back) (is_on T) (x ∷ cs) on
@@ -70,13 +71,16 @@ reading-at T x cs on whole e =
 reading-off : (T : Tokenizer) → is_on T ≡ false → end_reading T (ahead T) ≡ None
 reading-off T off = switched-off _ (is_on T) (ahead T) off
 
-reading-other : (T : Tokenizer) (b : Bool) → is_on T ≡ b → next_is (is_value 93) (ahead T) ≡ false → end_reading T (ahead T) ≡ None
-reading-other T true on e = switched-on _ (is_on T) (ahead T) on ∙ bind-none (one (is_value 93)) _ (ahead T) (one-not (is_value 93) (ahead T) e)
+reading-other : (T : Tokenizer) (b : Bool) → is_on T ≡ b → next_is (is_value 93) (ahead T) ≡ false →
+    end_reading T (ahead T) ≡ None
+reading-other T true on e =
+    switched-on _ (is_on T) (ahead T) on ∙ bind-none (one (is_value 93)) _ (ahead T) (one-not (is_value 93) (ahead T) e)
 reading-other T false off e = reading-off T off
 
 -- The end's own events.
 
-end-past : (T : Tokenizer) (x : Code) (cs : List Code) → ahead T ≡ x ∷ cs → done end_ops (ended T) ≡ past None (end_tree (x ∷ [])) (ended T)
+end-past : (T : Tokenizer) (x : Code) (cs : List Code) → ahead T ≡ x ∷ cs →
+    done end_ops (ended T) ≡ past None (end_tree (x ∷ [])) (ended T)
 unfolding scratched
 end-past T x cs whole =
     ops-past (end_tree (x ∷ [])) cs (ended T) (IsSolid-group N.LabelEnd (leaf N.LabelMarker (x ∷ [])) (λ e. cc) (IsSolid-leaf N.LabelMarker (x ∷ []))) whole
@@ -93,14 +97,17 @@ module _ (T : Tokenizer) (x : Code) (cs : List Code) (whole : ahead T ≡ x ∷ 
   left-there : codes_left P + 1 ≡ codes_left T
   left-there = omega (arith, left-ahead P, left-ahead T, ap length ahead-there, ap length whole)
 
-  name-there : (l : Kept.LabelStart) → l.start.1 < length T.events → identifier_between P l.start.1 P.tokenize_state.end ≡ identifier_of (bytes_between (setting_in T) (place_at T.events l.start.1) x.start)
+  name-there : (l : Kept.LabelStart) → l.start.1 < length T.events →
+      identifier_between P l.start.1 P.tokenize_state.end ≡ identifier_of (bytes_between (setting_in T) (place_at T.events l.start.1) x.start)
   unfolding past scratched
   name-there l within =
       let front : place_at P.events l.start.1 ≡ place_at T.events l.start.1 = place-front T.events (appended_from (length T.events) None (end_tree (x ∷ []))) l.start.1 within in
       let back : place_at P.events (length T.events) ≡ x.start = place-there T.events _ _ in
       λ i. identifier_of (bytes_between (setting_in T) (front i) (back i))
 
-  reads-there : (l : Kept.LabelStart) (ls : List Kept.LabelStart) → T.tokenize_state.label_starts ≡ l ∷ ls → l.start.1 < length T.events → bars l ≡ false → after_reading P (ahead P) ≡ outcome_by T.tokenize_state.label_starts T (x ∷ []) cs
+  reads-there : (l : Kept.LabelStart) (ls : List Kept.LabelStart) → T.tokenize_state.label_starts ≡ l ∷ ls →
+      l.start.1 < length T.events → bars l ≡ false →
+      after_reading P (ahead P) ≡ outcome_by T.tokenize_state.label_starts T (x ∷ []) cs
   unfolding past scratched
   reads-there l ls e within active =
       let s = setting_in T in
@@ -109,11 +116,13 @@ module _ (T : Tokenizer) (x : Code) (cs : List Code) (whole : ahead T ≡ x ∷ 
       ∙ ap (outcome s l.kind (identifier_of (bytes_between s (place_at T.events l.start.1) x.start))) ahead-there
       ∙ sym (ap (λ y. outcome_by y T (x ∷ []) cs) e ∙ switched-on (outcome s l.kind (identifier_of (bytes_between s (place_at T.events l.start.1) x.start))) (not (bars l)) cs (ap not active))
 
-  first-within : (ls : List Kept.LabelStart) → AreWithin T ls → (m : Kept.LabelStart) (ms : List Kept.LabelStart) → ls ≡ m ∷ ms → EndsBetween T m
+  first-within : (ls : List Kept.LabelStart) → AreWithin T ls → (m : Kept.LabelStart) (ms : List Kept.LabelStart) →
+      ls ≡ m ∷ ms → EndsBetween T m
   first-within ls w m ms e = (subst (AreWithin T) e w).0
 
   -- what stands between the start and the end is whole characters
-  around-there : (m : Kept.LabelStart) (ms : List Kept.LabelStart) → P.tokenize_state.label_starts ≡ m ∷ ms → StartReady T → is_value 93 x ≡ true → AreAround P m.start.1 P.tokenize_state.end
+  around-there : (m : Kept.LabelStart) (ms : List Kept.LabelStart) → P.tokenize_state.label_starts ≡ m ∷ ms →
+      StartReady T → is_value 93 x ≡ true → AreAround P m.start.1 P.tokenize_state.end
   unfolding past scratched
   around-there m ms e k here =
       let w : EndsBetween T m = first-within T.tokenize_state.label_starts k.within m ms e in
@@ -130,7 +139,8 @@ module _ (T : Tokenizer) (x : Code) (cs : List Code) (whole : ahead T ≡ x ∷ 
         to = subst (λ (q : Point). IsCharBoundary (bytes_of T) q.index) (sym back) (code-begins (bytes_of T) T.cursor x cs k.text whole first);
       }
 
-  after-there : (l : Kept.LabelStart) (ls : List Kept.LabelStart) → T.tokenize_state.label_starts ≡ l ∷ ls → StartReady T → is_value 93 x ≡ true → AfterReady P
+  after-there : (l : Kept.LabelStart) (ls : List Kept.LabelStart) → T.tokenize_state.label_starts ≡ l ∷ ls →
+      StartReady T → is_value 93 x ≡ true → AfterReady P
   unfolding past scratched moved
   after-there l ls e k here =
       let f : TokenizeState → TokenizeState = ended_at (length T.events) in
@@ -152,23 +162,31 @@ module _ (T : Tokenizer) (x : Code) (cs : List Code) (whole : ahead T ≡ x ∷ 
       none-some : (l : Kept.LabelStart) (ls : List Kept.LabelStart) → l ∷ ls ≡ [] → ⊥
       none-some l ls h = cc
 
-  lost-there : (l : Kept.LabelStart) (ls : List Kept.LabelStart) → T.tokenize_state.label_starts ≡ l ∷ ls → is_on T ≡ true → is_value 93 x ≡ true → lost_fields T ≡ loosened (lost_starts (l ∷ ls)) T.tokenize_state
+  lost-there : (l : Kept.LabelStart) (ls : List Kept.LabelStart) → T.tokenize_state.label_starts ≡ l ∷ ls →
+      is_on T ≡ true → is_value 93 x ≡ true → lost_fields T ≡ loosened (lost_starts (l ∷ ls)) T.tokenize_state
   lost-there l ls e on here =
       if-true _ _ _ (ap (λ b. b && next_is (is_value 93) (ahead T)) on ∙ ap (next_is (is_value 93)) whole ∙ here)
       ∙ ap (λ y. lost_by y T.tokenize_state) e
 
-  active-fields : (l : Kept.LabelStart) (ls : List Kept.LabelStart) → T.tokenize_state.label_starts ≡ l ∷ ls → bars l ≡ false → loosened (as_link P.tokenize_state.label_starts) P.tokenize_state ≡ loosened (lost_starts (l ∷ ls)) T.tokenize_state
+  active-fields : (l : Kept.LabelStart) (ls : List Kept.LabelStart) → T.tokenize_state.label_starts ≡ l ∷ ls →
+      bars l ≡ false →
+      loosened (as_link P.tokenize_state.label_starts) P.tokenize_state ≡ loosened (lost_starts (l ∷ ls)) T.tokenize_state
   unfolding past scratched
-  active-fields l ls e active = ap (λ ys. loosened (as_link ys) T.tokenize_state) e ∙ ap (λ ys. loosened ys T.tokenize_state) (sym (if-false _ _ _ active))
+  active-fields l ls e active =
+      ap (λ ys. loosened (as_link ys) T.tokenize_state) e ∙ ap (λ ys. loosened ys T.tokenize_state) (sym (if-false _ _ _ active))
 
-  barred-fields : (l : Kept.LabelStart) (ls : List Kept.LabelStart) → T.tokenize_state.label_starts ≡ l ∷ ls → bars l ≡ true → loosened (ended T).tokenize_state.label_starts (ended T).tokenize_state ≡ loosened (lost_starts (l ∷ ls)) T.tokenize_state
+  barred-fields : (l : Kept.LabelStart) (ls : List Kept.LabelStart) → T.tokenize_state.label_starts ≡ l ∷ ls →
+      bars l ≡ true →
+      loosened (ended T).tokenize_state.label_starts (ended T).tokenize_state ≡ loosened (lost_starts (l ∷ ls)) T.tokenize_state
   unfolding scratched
   barred-fields l ls e barred = ap (λ ys. loosened ys T.tokenize_state) (e ∙ sym (if-true _ _ _ barred))
 
   lost-ended : Fails (loosened (ended T).tokenize_state.label_starts (ended T).tokenize_state) T (lost_here (ended T))
   lost-ended = let f = Fails-lost (ended T) in record { grown = Grown-scratched 0 _ T _ f.grown; scratch = f.scratch }
 
-  ends-there : (l : Kept.LabelStart) (ls : List Kept.LabelStart) → T.tokenize_state.label_starts ≡ l ∷ ls → l.start.1 < length T.events → bars l ≡ false → is_on T ≡ true → is_value 93 x ≡ true → (ok : Bool) (U : Tokenizer) → after_ends P ok U → start_ends T ok U
+  ends-there : (l : Kept.LabelStart) (ls : List Kept.LabelStart) → T.tokenize_state.label_starts ≡ l ∷ ls →
+      l.start.1 < length T.events → bars l ≡ false → is_on T ≡ true → is_value 93 x ≡ true →
+      (ok : Bool) (U : Tokenizer) → after_ends P ok U → start_ends T ok U
   unfolding end_made gives
   ends-there l ls e within active on here true U k =
       record {
@@ -187,7 +205,9 @@ module _ (T : Tokenizer) (x : Code) (cs : List Code) (whole : ahead T ≡ x ∷ 
         fails = subst (λ s. Fails s T U) (active-fields l ls e active ∙ sym (lost-there l ls e on here)) (then-fails None (end_tree (x ∷ [])) _ _ T P U refl k.fails);
       }
 
-  barred-there : (l : Kept.LabelStart) (ls : List Kept.LabelStart) → T.tokenize_state.label_starts ≡ l ∷ ls → bars l ≡ true → is_on T ≡ true → is_value 93 x ≡ true → (ok : Bool) (U : Tokenizer) → nok_ends (ended T) ok U → start_ends T ok U
+  barred-there : (l : Kept.LabelStart) (ls : List Kept.LabelStart) → T.tokenize_state.label_starts ≡ l ∷ ls →
+      bars l ≡ true → is_on T ≡ true → is_value 93 x ≡ true → (ok : Bool) (U : Tokenizer) → nok_ends (ended T) ok U →
+      start_ends T ok U
   barred-there l ls e barred on here true U k = cc
   barred-there l ls e barred on here false U k =
       record {
@@ -196,7 +216,8 @@ module _ (T : Tokenizer) (x : Code) (cs : List Code) (whole : ahead T ≡ x ∷ 
       }
 
 module _ (W : Words) (within : Within states_and_called W) where
-  nok-here : (T : Tokenizer) → T.attempts ≡ [] → end_reading T (ahead T) ≡ None → lost_fields T ≡ T.tokenize_state → GoesIn W (weight_at 3 T) (start_ends T) (stepped Nok T)
+  nok-here : (T : Tokenizer) → T.attempts ≡ [] → end_reading T (ahead T) ≡ None → lost_fields T ≡ T.tokenize_state →
+      GoesIn W (weight_at 3 T) (start_ends T) (stepped Nok T)
   nok-here T alone none same = Goes-end W (weight_at 3 T) (start_ends T) false T alone (omega arith) fails
     where
       fails : (ok : Bool) (U : Tokenizer) → (ok ≡ false) × (U ≡ T) → start_ends T ok U
@@ -204,20 +225,27 @@ module _ (W : Words) (within : Within states_and_called W) where
       fails false U h =
           record { refused = none; fails = subst (λ s. Fails s T U) (sym same) (subst (λ y. Fails T.tokenize_state T y) (sym h.1) (record { grown = Grown-refl 0 T; scratch = refl })) }
 
-  other-here : (T : Tokenizer) → T.attempts ≡ [] → is_on T && next_is (is_value 93) (ahead T) ≡ false → end_reading T (ahead T) ≡ None → GoesIn W (weight_at 3 T) (start_ends T) (stepped Nok T)
+  other-here : (T : Tokenizer) → T.attempts ≡ [] → is_on T && next_is (is_value 93) (ahead T) ≡ false →
+      end_reading T (ahead T) ≡ None → GoesIn W (weight_at 3 T) (start_ends T) (stepped Nok T)
   other-here T alone h none = nok-here T alone none (if-false _ _ _ h)
 
-  by-switch : (T : Tokenizer) (b : Bool) → is_on T ≡ b → is_on T && next_is (is_value 93) (ahead T) ≡ false → end_reading T (ahead T) ≡ None
+  by-switch : (T : Tokenizer) (b : Bool) → is_on T ≡ b → is_on T && next_is (is_value 93) (ahead T) ≡ false →
+      end_reading T (ahead T) ≡ None
   by-switch T true on h = reading-other T true on (sym (ap (λ y. y && next_is (is_value 93) (ahead T)) on) ∙ h)
   by-switch T false off h = reading-off T off
 
-  goes-after : (T : Tokenizer) → T.attempts ≡ [] → StartReady T → is_on T ≡ true → (x : Code) (cs : List Code) → (whole : ahead T ≡ x ∷ cs) → is_value 93 x ≡ true → (l : Kept.LabelStart) (ls : List Kept.LabelStart) → T.tokenize_state.label_starts ≡ l ∷ ls → l.start.1 < length T.events → bars l ≡ false → GoesIn W (weight_at 3 T) (start_ends T) (stepped (Next LabelEndAfter) (past None (end_tree (x ∷ [])) (ended T)))
+  goes-after : (T : Tokenizer) → T.attempts ≡ [] → StartReady T → is_on T ≡ true → (x : Code) (cs : List Code) →
+      (whole : ahead T ≡ x ∷ cs) → is_value 93 x ≡ true → (l : Kept.LabelStart) (ls : List Kept.LabelStart) →
+      T.tokenize_state.label_starts ≡ l ∷ ls → l.start.1 < length T.events → bars l ≡ false →
+      GoesIn W (weight_at 3 T) (start_ends T) (stepped (Next LabelEndAfter) (past None (end_tree (x ∷ [])) (ended T)))
   unfolding past scratched
   goes-after T alone k on x cs whole here l ls e w h =
       let P : Tokenizer = past None (end_tree (x ∷ [])) (ended T) in
       Goes-plain W (weight_at 3 T) (start_ends T) (Next LabelEndAfter) (within LabelEndAfter) P alone (after-there T x cs whole l ls e k here) (omega (arith, left-there T x cs whole)) (ends-there T x cs whole l ls e w h on here)
 
-  takes-start : (T : Tokenizer) → T.attempts ≡ [] → StartReady T → is_on T ≡ true → (x : Code) (cs : List Code) → ahead T ≡ x ∷ cs → is_value 93 x ≡ true → (ls : List Kept.LabelStart) → T.tokenize_state.label_starts ≡ ls → AreWithin T ls → GoesIn W (weight_at 3 T) (start_ends T) (start_by ls T)
+  takes-start : (T : Tokenizer) → T.attempts ≡ [] → StartReady T → is_on T ≡ true → (x : Code) (cs : List Code) →
+      ahead T ≡ x ∷ cs → is_value 93 x ≡ true → (ls : List Kept.LabelStart) → T.tokenize_state.label_starts ≡ ls →
+      AreWithin T ls → GoesIn W (weight_at 3 T) (start_ends T) (start_by ls T)
   unfolding scratched
   takes-start T alone k on x cs whole here [] e w =
       nok-here T alone (reading-at T x cs on whole here ∙ bind-none (outcome_by T.tokenize_state.label_starts T (x ∷ [])) _ cs (ap (λ y. outcome_by y T (x ∷ []) cs) e))

@@ -9,7 +9,8 @@ use Rattle.markdown_label.proofs.ReferenceFullLaws as ReferenceFullLaws
 use Rattle.markdown_plan.specs.LayerEquation.{Within, AreLawful}
 
 -- of these states, and of any other as it is given
-pub laws : (W : Words) → Within states_and_called W → (t : StateName → StateWords) → AreLawful W t → AreLawful W (states t)
+pub laws : (W : Words) → Within states_and_called W → (t : StateName → StateWords) → AreLawful W t →
+    AreLawful W (states t)
 laws W within t other H.LabelEndAfter = LabelEndLaws.after-law W within
 laws W within t other H.LabelEndOk = LabelEndLaws.ok-law W within
 laws W within t other H.LabelEndNok = LabelEndLaws.nok-law W within

@@ -24,7 +24,8 @@ use Rattle.markdown_plan.specs.LayerEquation.{Within, AreLawful}
 use Rattle.markdown_plan.proofs.PlanSteps.{Grown-after}
 use Rattle.markdown_plan.proofs.LawStepsOfLayer.{Goes-end, Goes-ops}
 use Rattle.markdown_model.specs.CodeTests.{is_value, next_is}
-use Rattle.markdown_label.specs.LabelStarts.{kept_start, link_ops, links_on, link_at, footnote_front, footnote_back, footnotes_on, footnote_at, footnote_open_at, image_front, image_back, images_on, image_at, image_open_at, is_caret, begins_as, link_test, link_ends, footnote_open_test, footnote_open_ends, footnote_test, footnote_ends, image_after_test, image_after_ends, image_open_test, image_open_ends, image_test, image_ends, states, link_words, footnote_words, footnote_open_words, image_words, image_open_words, image_after_words}
+use Rattle.markdown_label.specs.LabelStarts.{kept_start, link_ops, links_on, link_at, footnote_front, footnote_back, footnotes_on, footnote_at, footnote_open_at, image_front, image_back, images_on, image_at, image_open_at, is_caret, begins_as, link_test, link_ends, footnote_open_test}
+use Rattle.markdown_label.specs.LabelStarts.{footnote_open_ends, footnote_test, footnote_ends, image_after_test, image_after_ends, image_open_test, image_open_ends, image_test, image_ends, states, link_words, footnote_words, footnote_open_words, image_words, image_open_words, image_after_words}
 use Rattle.markdown_label.proofs.LabelEndLemmas.{attempts-before}
 use Rattle.markdown_label.proofs.LabelStartOps.{footnote-open-ready, image-open-ready, image-after-ready}
 use Rattle.markdown_label.proofs.NextCodeTests.{at-value, at-none}
@@ -33,24 +34,33 @@ attempts-kept : (kind : LabelKind) (size : ℕ) (T : Tokenizer) → T.attempts �
 attempts-kept kind size T alone = attempts-before R.Label _ ∙ attempts-scratched _ T ∙ alone
 
 -- tests on the codes ahead go on past operations
-begins-then : (d : ℕ) (kind : LabelKind) (size : ℕ) (os ps : List Op) (p q : List Code → Bool) (T : Tokenizer) → stays d os ≡ true → p (ahead T) ≡ q (ahead (done os T)) → (ok : Bool) (U : Tokenizer) → begins_as (depth_after d os) kind size ps q (done os T) ok U → begins_as d kind size (os ++ ps) p T ok U
-begins-then d kind size os ps p q T st e true U k = record { holds = e ∙ k.holds; left = k.left ∙ ap (kept_start kind size) (sym (done-append os ps T)) }
-begins-then d kind size os ps p q T st e false U k = record { refused = e ∙ k.refused; grown = Grown-after d os T U st k.grown; scratch = k.scratch ∙ scratch-done os T }
+begins-then : (d : ℕ) (kind : LabelKind) (size : ℕ) (os ps : List Op) (p q : List Code → Bool) (T : Tokenizer) →
+    stays d os ≡ true → p (ahead T) ≡ q (ahead (done os T)) → (ok : Bool) (U : Tokenizer) →
+    begins_as (depth_after d os) kind size ps q (done os T) ok U → begins_as d kind size (os ++ ps) p T ok U
+begins-then d kind size os ps p q T st e true U k =
+    record { holds = e ∙ k.holds; left = k.left ∙ ap (kept_start kind size) (sym (done-append os ps T)) }
+begins-then d kind size os ps p q T st e false U k =
+    record { refused = e ∙ k.refused; grown = Grown-after d os T U st k.grown; scratch = k.scratch ∙ scratch-done os T }
 
 module _ (W : Words) where
   -- it does not hold
-  goes-not : (n d : ℕ) (kind : LabelKind) (size : ℕ) (os : List Op) (p : List Code → Bool) (T : Tokenizer) → T.attempts ≡ [] → 0 < n → p (ahead T) ≡ false → GoesIn W n (begins_as d kind size os p T) (stepped Nok T)
+  goes-not : (n d : ℕ) (kind : LabelKind) (size : ℕ) (os : List Op) (p : List Code → Bool) (T : Tokenizer) →
+      T.attempts ≡ [] → 0 < n → p (ahead T) ≡ false → GoesIn W n (begins_as d kind size os p T) (stepped Nok T)
   goes-not n d kind size os p T alone some e = Goes-end W n (begins_as d kind size os p T) false T alone some fails
     where
       fails : (ok : Bool) (U : Tokenizer) → (ok ≡ false) × (U ≡ T) → begins_as d kind size os p T ok U
       fails true U h = cc
-      fails false U h = record { refused = e; grown = subst (λ (x : Tokenizer). Grown d T x) (sym h.1) (Grown-refl d T); scratch = ap (λ (x : Tokenizer). x.tokenize_state) h.1 }
+      fails false U h =
+          record { refused = e; grown = subst (λ (x : Tokenizer). Grown d T x) (sym h.1) (Grown-refl d T); scratch = ap (λ (x : Tokenizer). x.tokenize_state) h.1 }
 
   -- it holds
-  goes-kept : (n d : ℕ) (kind : LabelKind) (size : ℕ) (os : List Op) (p : List Code → Bool) (T : Tokenizer) → T.attempts ≡ [] → 0 < n → p (ahead T) ≡ true → GoesIn W n (begins_as d kind size os p T) (stepped Ok (kept_start kind size (done os T)))
+  goes-kept : (n d : ℕ) (kind : LabelKind) (size : ℕ) (os : List Op) (p : List Code → Bool) (T : Tokenizer) →
+      T.attempts ≡ [] → 0 < n → p (ahead T) ≡ true →
+      GoesIn W n (begins_as d kind size os p T) (stepped Ok (kept_start kind size (done os T)))
   goes-kept n d kind size os p T alone some e = Goes-end W n (begins_as d kind size os p T) true (kept_start kind size (done os T)) (attempts-kept kind size (done os T) (attempts-done os T ∙ alone)) some holds
     where
-      holds : (ok : Bool) (U : Tokenizer) → (ok ≡ true) × (U ≡ kept_start kind size (done os T)) → begins_as d kind size os p T ok U
+      holds : (ok : Bool) (U : Tokenizer) → (ok ≡ true) × (U ≡ kept_start kind size (done os T)) →
+          begins_as d kind size os p T ok U
       holds true U h = record { holds = e; left = h.1 }
       holds false U h = cc
 
@@ -119,8 +129,10 @@ module _ (W : Words) (within : Within states W) where
       (λ h. goes-not W (weight_at 1 T) 0 LabelKind.Image 6 [] (image_after_test T) T alone (omega arith) (same ∙ ap not h))
       (λ h. goes-kept W (weight_at 1 T) 0 LabelKind.Image 6 [] (image_after_test T) T alone (omega arith) (same ∙ ap not h))
 
-  after-same : (T : Tokenizer) → image_after_test T (rest_of (ahead T)) ≡ image_after_test (done image_back T) (ahead (done image_back T))
-  after-same T = let a = sym (ahead-one image_back T refl) in let f = sym (footnotes-done image_back T) in (λ i. not (f i && next_is (is_value 94) (a i)))
+  after-same : (T : Tokenizer) →
+      image_after_test T (rest_of (ahead T)) ≡ image_after_test (done image_back T) (ahead (done image_back T))
+  after-same T =
+      let a = sym (ahead-one image_back T refl) in let f = sym (footnotes-done image_back T) in (λ i. not (f i && next_is (is_value 94) (a i)))
 
   pub image_open-law : Law W image_open_words
   image_open-law T alone k =
@@ -150,8 +162,10 @@ module _ (W : Words) (within : Within states W) where
       (λ ok U x. x))
       (λ h. goes-not W n 0 LabelKind.Image 6 os (image_test T) T alone (omega arith) (and-not (images_on T) _ (same ∙ h) after)))
     where
-      open-same : (T : Tokenizer) → image_open_test T (rest_of (ahead T)) ≡ image_open_test (done image_front T) (ahead (done image_front T))
-      open-same T = let a = sym (ahead-one image_front T refl) in let f = sym (footnotes-done image_front T) in (λ i. next_is (is_value 91) (a i) && not (f i && next_is (is_value 94) (rest_of (a i))))
+      open-same : (T : Tokenizer) →
+          image_open_test T (rest_of (ahead T)) ≡ image_open_test (done image_front T) (ahead (done image_front T))
+      open-same T =
+          let a = sym (ahead-one image_front T refl) in let f = sym (footnotes-done image_front T) in (λ i. next_is (is_value 91) (a i) && not (f i && next_is (is_value 94) (rest_of (a i))))
 
 -- of these states, and of any other as it is given
 pub laws : (W : Words) → Within states W → (t : StateName → StateWords) → AreLawful W t → AreLawful W (states t)

@@ -8,7 +8,8 @@ use Rattle.markdown_label.specs.LabelSetting.{setting_in, IsListed}
 
 module _ (T : Tokenizer) (names : Names) (listed : IsListed T) (known : T.tokenize_state.names ≡ Some names) (p : List ℕ → Bool) where
   pub any-definition : list_any p names.definitions ≡ list_any p (setting_in T).definitions
-  any-definition = ap (λ (n : Names). list_any p n.definitions) (listed names known) ∙ any-order p (setting_in T).definitions
+  any-definition =
+      ap (λ (n : Names). list_any p n.definitions) (listed names known) ∙ any-order p (setting_in T).definitions
 
   pub any-footnote : list_any p names.footnotes ≡ list_any p (setting_in T).footnotes
   any-footnote = ap (λ (n : Names). list_any p n.footnotes) (listed names known) ∙ any-order p (setting_in T).footnotes

@@ -8,7 +8,8 @@ use Rattle.markdown_engine.specs.declared.tokenizer.Tokenizer.{Tokenizer}
 use Rattle.markdown_engine.proofs.OperationFields.{Begins, ahead-none, ahead-some}
 use Rattle.markdown_model.specs.CodeTests.{is_value, next_is}
 
-pub at-value : (T : Tokenizer) (c v : ℕ) (b : Bool) → current_of T ≡ Some c → (c == v) ≡ b → next_is (is_value v) (ahead T) ≡ b
+pub at-value : (T : Tokenizer) (c v : ℕ) (b : Bool) → current_of T ≡ Some c → (c == v) ≡ b →
+    next_is (is_value v) (ahead T) ≡ b
 at-value T c v b e h =
     let x : Begins c (ahead T) = ahead-some T c e in
     ap (next_is (is_value v)) x.whole ∙ ap (λ n. n == v) x.value ∙ h

@@ -59,11 +59,15 @@ shape-of cs t rest e = subst (λ o. Passes IsReference o) e (label-shape.at cs)
 
 -- What is read.
 
-full-defined : (s : Setting) (cs : List Code) (t : Forest) (rest : List Code) → label reference_names cs ≡ Some (t, rest) → is_defined s.definitions (reference_identifier s t) ≡ true → full_reference s cs ≡ Some (t, rest)
+full-defined : (s : Setting) (cs : List Code) (t : Forest) (rest : List Code) →
+    label reference_names cs ≡ Some (t, rest) → is_defined s.definitions (reference_identifier s t) ≡ true →
+    full_reference s cs ≡ Some (t, rest)
 unfolding full_reference gives
 full-defined s cs t rest e h = bind-some (label reference_names) _ cs t rest _ e (switched-on (gives t) _ rest h)
 
-full-undefined : (s : Setting) (cs : List Code) (t : Forest) (rest : List Code) → label reference_names cs ≡ Some (t, rest) → is_defined s.definitions (reference_identifier s t) ≡ false → full_reference s cs ≡ None
+full-undefined : (s : Setting) (cs : List Code) (t : Forest) (rest : List Code) →
+    label reference_names cs ≡ Some (t, rest) → is_defined s.definitions (reference_identifier s t) ≡ false →
+    full_reference s cs ≡ None
 unfolding full_reference gives
 full-undefined s cs t rest e h = bind-some (label reference_names) _ cs t rest _ e (switched-off (gives t) _ rest h)
 
@@ -73,46 +77,62 @@ full-missing s cs e = bind-none (label reference_names) _ cs e
 
 -- the label as it is read with the names set
 LabelRead : Tokenizer → Tokenizer → Type 0
-LabelRead T U = Reads (label reference_names) None (names_set T.tokenize_state) (scratched (names_set T.tokenize_state) T) U
+LabelRead T U =
+    Reads (label reference_names) None (names_set T.tokenize_state) (scratched (names_set T.tokenize_state) T) U
 
-label-read : (T U : Tokenizer) → PartialLabel.start_ends (scratched (names_set T.tokenize_state) T) true U → Reads (label reference_names) None (names_set T.tokenize_state) (scratched (names_set T.tokenize_state) T) U
+label-read : (T U : Tokenizer) → PartialLabel.start_ends (scratched (names_set T.tokenize_state) T) true U →
+    Reads (label reference_names) None (names_set T.tokenize_state) (scratched (names_set T.tokenize_state) T) U
 unfolding scratched
 label-read T U k = k
 
-label-refused : (T U : Tokenizer) → PartialLabel.start_ends (scratched (names_set T.tokenize_state) T) false U → (label reference_names (ahead T) ≡ None) × Fails (names_set T.tokenize_state) (scratched (names_set T.tokenize_state) T) U
+label-refused : (T U : Tokenizer) → PartialLabel.start_ends (scratched (names_set T.tokenize_state) T) false U →
+    (label reference_names (ahead T) ≡ None) × Fails (names_set T.tokenize_state) (scratched (names_set T.tokenize_state) T) U
 unfolding scratched
 label-refused T U k = (k.refused, k.fails)
 
 -- past the label, with the names put to rest
-past-back : (t : Forest) (T U : Tokenizer) (b : Bool) → rested T.tokenize_state ≡ T.tokenize_state → U ≡ past None t (scratched (names_set T.tokenize_state) (scratched (names_set T.tokenize_state) T)) → (V : Tokenizer) → V ≡ scratched (label_seen b (names_rested U.tokenize_state)) U → V ≡ past None t (scratched (label_seen b T.tokenize_state) T)
+past-back : (t : Forest) (T U : Tokenizer) (b : Bool) → rested T.tokenize_state ≡ T.tokenize_state →
+    U ≡ past None t (scratched (names_set T.tokenize_state) (scratched (names_set T.tokenize_state) T)) →
+    (V : Tokenizer) → V ≡ scratched (label_seen b (names_rested U.tokenize_state)) U →
+    V ≡ past None t (scratched (label_seen b T.tokenize_state) T)
 unfolding past scratched
 past-back t T U b rest left V e =
     e
     ∙ ap (λ (x : Tokenizer). scratched (label_seen b (names_rested x.tokenize_state)) x) left
     ∙ ap (λ q. past None t (scratched (label_seen b q) T)) (names-back T.tokenize_state rest)
 
-kept-back : (t : Forest) (T U : Tokenizer) → rested T.tokenize_state ≡ T.tokenize_state → U ≡ past None t (scratched (names_set T.tokenize_state) (scratched (names_set T.tokenize_state) T)) → (V : Tokenizer) → V ≡ scratched (names_rested U.tokenize_state) U → V ≡ past None t (scratched T.tokenize_state T)
+kept-back : (t : Forest) (T U : Tokenizer) → rested T.tokenize_state ≡ T.tokenize_state →
+    U ≡ past None t (scratched (names_set T.tokenize_state) (scratched (names_set T.tokenize_state) T)) →
+    (V : Tokenizer) → V ≡ scratched (names_rested U.tokenize_state) U → V ≡ past None t (scratched T.tokenize_state T)
 unfolding past scratched
 kept-back t T U rest left V e =
     e
     ∙ ap (λ (x : Tokenizer). scratched (names_rested x.tokenize_state) x) left
     ∙ ap (λ q. past None t (scratched q T)) (names-back T.tokenize_state rest)
 
-name-is : (t : Forest) (T U : Tokenizer) → IsReference t → length T.events ≡ T.tokenize_state.end + 4 → U ≡ past None t (scratched (names_set T.tokenize_state) (scratched (names_set T.tokenize_state) T)) → reference_name U ≡ reference_identifier (setting_in T) t
+name-is : (t : Forest) (T U : Tokenizer) → IsReference t → length T.events ≡ T.tokenize_state.end + 4 →
+    U ≡ past None t (scratched (names_set T.tokenize_state) (scratched (names_set T.tokenize_state) T)) →
+    reference_name U ≡ reference_identifier (setting_in T) t
 unfolding past scratched
 name-is t T U k end left =
     ap reference_name left ∙ name-there (setting_in T) T.events t (T.tokenize_state.end + 7) _ k (omega (arith, end)) refl
 
-setting-past : (t : Forest) (T U : Tokenizer) → U ≡ past None t (scratched (names_set T.tokenize_state) (scratched (names_set T.tokenize_state) T)) → setting_in U ≡ setting_in T
+setting-past : (t : Forest) (T U : Tokenizer) →
+    U ≡ past None t (scratched (names_set T.tokenize_state) (scratched (names_set T.tokenize_state) T)) →
+    setting_in U ≡ setting_in T
 unfolding past scratched
 setting-past t T U left = ap setting_in left
 
-as-label : (T U : Tokenizer) → Reads (label reference_names) None (names_set T.tokenize_state) (scratched (names_set T.tokenize_state) T) U → LabelRead T U
+as-label : (T U : Tokenizer) →
+    Reads (label reference_names) None (names_set T.tokenize_state) (scratched (names_set T.tokenize_state) T) U →
+    LabelRead T U
 unfolding LabelRead
 as-label T U k = k
 
 -- what stands between its brackets is whole characters
-text-around : (T U : Tokenizer) → FullReady T → (r : Reads (label reference_names) None (names_set T.tokenize_state) (scratched (names_set T.tokenize_state) T) U) → ReferenceIsAround U
+text-around : (T U : Tokenizer) → FullReady T →
+    (r : Reads (label reference_names) None (names_set T.tokenize_state) (scratched (names_set T.tokenize_state) T) U) →
+    ReferenceIsAround U
 unfolding past scratched
 text-around T U f r =
     let k : HasText r.tree = subst (λ o. Passes HasText o) r.holds (label-text.at (ahead T)) in
@@ -123,7 +143,11 @@ text-around T U f r =
     (subst (λ bs. IsCharBoundary bs k.x.start.index) (sym same) places.0)
     (subst (λ bs. IsCharBoundary bs (stop_of document_start (k.x ∷ k.xs)).index) (sym same) places.1)
 
-whole-read : (T U V : Tokenizer) → FullReady T → (r : Reads (label reference_names) None (names_set T.tokenize_state) (scratched (names_set T.tokenize_state) T) U) → is_defined (setting_in T).definitions (reference_identifier (setting_in T) r.tree) ≡ true → V ≡ scratched (names_rested U.tokenize_state) U → EndsAs (full_reference (setting_in T)) None T.tokenize_state T true V
+whole-read : (T U V : Tokenizer) → FullReady T →
+    (r : Reads (label reference_names) None (names_set T.tokenize_state) (scratched (names_set T.tokenize_state) T) U) →
+    is_defined (setting_in T).definitions (reference_identifier (setting_in T) r.tree) ≡ true →
+    V ≡ scratched (names_rested U.tokenize_state) U →
+    EndsAs (full_reference (setting_in T)) None T.tokenize_state T true V
 unfolding scratched
 whole-read T U V k r found e =
     record {
@@ -135,7 +159,10 @@ whole-read T U V k r found e =
       after = ap ahead e ∙ r.after;
     }
 
-whole-refused : (T U V : Tokenizer) → FullReady T → (r : Reads (label reference_names) None (names_set T.tokenize_state) (scratched (names_set T.tokenize_state) T) U) → is_defined (setting_in T).definitions (reference_identifier (setting_in T) r.tree) ≡ false → V ≡ scratched (label_seen true (names_rested U.tokenize_state)) U → FullFails T V
+whole-refused : (T U V : Tokenizer) → FullReady T →
+    (r : Reads (label reference_names) None (names_set T.tokenize_state) (scratched (names_set T.tokenize_state) T) U) →
+    is_defined (setting_in T).definitions (reference_identifier (setting_in T) r.tree) ≡ false →
+    V ≡ scratched (label_seen true (names_rested U.tokenize_state)) U → FullFails T V
 unfolding scratched
 whole-refused T U V k r found e =
     record {
@@ -144,7 +171,8 @@ whole-refused T U V k r found e =
     }
 
 -- no label stands there
-none-there : (T V : Tokenizer) → FullReady T → label reference_names (ahead T) ≡ None → V ≡ scratched (names_rested (names_set T.tokenize_state)) T → FullFails T V
+none-there : (T V : Tokenizer) → FullReady T → label reference_names (ahead T) ≡ None →
+    V ≡ scratched (names_rested (names_set T.tokenize_state)) T → FullFails T V
 none-there T V k none e =
     let same : V ≡ T = e ∙ ap (λ q. scratched q T) (names-back T.tokenize_state k.part.rest) ∙ scratched-same T in
     record {
@@ -152,14 +180,17 @@ none-there T V k none e =
       fails = subst (λ s. Fails s T V) (sym (ap (λ o. label_seen (is_some o) T.tokenize_state) none ∙ seen-rest T.tokenize_state k.part.rest)) (subst (λ x. Fails T.tokenize_state T x) (sym same) (record { grown = Grown-refl 0 T; scratch = refl }));
     }
 
-missing-ends : (T : Tokenizer) → FullReady T → label reference_names (ahead T) ≡ None → (ok : Bool) (V : Tokenizer) → reference_full_missing_ends (scratched (names_set T.tokenize_state) (scratched (names_set T.tokenize_state) T)) ok V → reference_full_ends T ok V
+missing-ends : (T : Tokenizer) → FullReady T → label reference_names (ahead T) ≡ None → (ok : Bool) (V : Tokenizer) →
+    reference_full_missing_ends (scratched (names_set T.tokenize_state) (scratched (names_set T.tokenize_state) T)) ok V →
+    reference_full_ends T ok V
 unfolding scratched
 missing-ends T k none true V h = cc
 missing-ends T k none false V h = none-there T V k none h.1
 
 module _ (W : Words) (within : Within states_and_called W) where
   pub reference_full_missing-law : Law W reference_full_missing_words
-  reference_full_missing-law T alone _ = Goes-end W (weight_at 1 T) (reference_full_missing_ends T) false (scratched (names_rested T.tokenize_state) T) (attempts-scratched _ T ∙ alone) (omega arith) (λ ok U h. h)
+  reference_full_missing-law T alone _ =
+      Goes-end W (weight_at 1 T) (reference_full_missing_ends T) false (scratched (names_rested T.tokenize_state) T) (attempts-scratched _ T ∙ alone) (omega arith) (λ ok U h. h)
 
   pub reference_full_after-law : Law W reference_full_after_words
   reference_full_after-law T alone _ =
@@ -172,7 +203,8 @@ module _ (W : Words) (within : Within states_and_called W) where
       (λ h. Goes-end W n (reference_full_after_ends T) false (scratched (label_seen true s) T) (attempts-scratched _ T ∙ alone) (omega arith) (λ ok U x. (x.0 ∙ sym h, x.1 ∙ ap left (sym x.0))))
 
   -- behind a label
-  defined-ends : (T U : Tokenizer) → FullReady T → LabelRead T U → (ok : Bool) (V : Tokenizer) → reference_full_after_ends U ok V → reference_full_ends T ok V
+  defined-ends : (T U : Tokenizer) → FullReady T → LabelRead T U → (ok : Bool) (V : Tokenizer) →
+      reference_full_after_ends U ok V → reference_full_ends T ok V
   unfolding LabelRead
   defined-ends T U k r true V h =
       let found : is_defined (setting_in T).definitions (reference_identifier (setting_in T) r.tree) ≡ true =
@@ -183,7 +215,8 @@ module _ (W : Words) (within : Within states_and_called W) where
       sym (h.0 ∙ (λ i. is_defined (setting-past r.tree T U r.left i).definitions (name-is r.tree T U (shape-of _ r.tree r.rest r.holds) k.end r.left i))) in
       whole-refused T U V k r found h.1
 
-  missing-goes : (T : Tokenizer) → FullReady T → label reference_names (ahead T) ≡ None → FollowsIn W (weight_at 12 T) (reference_full_ends T) (Next LabelEndReferenceFullMissing) (scratched (names_set T.tokenize_state) (scratched (names_set T.tokenize_state) T))
+  missing-goes : (T : Tokenizer) → FullReady T → label reference_names (ahead T) ≡ None →
+      FollowsIn W (weight_at 12 T) (reference_full_ends T) (Next LabelEndReferenceFullMissing) (scratched (names_set T.tokenize_state) (scratched (names_set T.tokenize_state) T))
   missing-goes T k none =
       let q : TokenizeState = names_set T.tokenize_state in
       follows W (weight_at 12 T) (reference_full_ends T) (Next LabelEndReferenceFullMissing) (within LabelEndReferenceFullMissing) (scratched q (scratched q T)) tt (omega (arith, left-scratched q (scratched q T), left-scratched q T)) (missing-ends T k none)

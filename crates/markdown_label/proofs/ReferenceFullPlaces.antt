@@ -29,7 +29,8 @@ AreLeaves (group_then name enter exit inside rest) = ⊥
 leaves-exit : (p : Point) (t : Forest) → AreLeaves t → exit_after p t ≡ stop_of p (leaf_codes t)
 unfolding AreLeaves
 leaves-exit p empty k = refl
-leaves-exit p (leaf_then name link cs rest) k = leaves-exit (stop_of p cs) rest k ∙ sym (stop_of-append p cs (leaf_codes rest))
+leaves-exit p (leaf_then name link cs rest) k =
+    leaves-exit (stop_of p cs) rest k ∙ sym (stop_of-append p cs (leaf_codes rest))
 leaves-exit p (group_then name enter exit inside rest) k = absurd k
 
 leaves-row : (t u : Forest) → AreLeaves t → AreLeaves u → AreLeaves (t ⊕ u)
@@ -44,13 +45,15 @@ leaves-linked name link [] = tt
 leaves-linked name link (c ∷ cs) = tt
 
 leaves-line : (name : Name) (link : Option Content) (s : List Code) → AreLeaves (line_leaf name link s)
-leaves-line name link s = elim (next_is is_line_ending s) as (λ b. AreLeaves (elim b as (λ _. Forest) [ true ↦ linked_leaf N.LineEnding link s | false ↦ linked_leaf name link s ])) [ true ↦ leaves-linked N.LineEnding link s | false ↦ leaves-linked name link s ]
+leaves-line name link s =
+    elim (next_is is_line_ending s) as (λ b. AreLeaves (elim b as (λ _. Forest) [ true ↦ linked_leaf N.LineEnding link s | false ↦ linked_leaf name link s ])) [ true ↦ leaves-linked N.LineEnding link s | false ↦ leaves-linked name link s ]
 
 leaves-none : AreLeaves empty
 unfolding AreLeaves
 leaves-none = tt
 
-leaves-from : (name : Name) (link : Option Content) (later : Bool) (ss : List (List Code)) → AreLeaves (lines_from name link later ss)
+leaves-from : (name : Name) (link : Option Content) (later : Bool) (ss : List (List Code)) →
+    AreLeaves (lines_from name link later ss)
 leaves-from name link later [] = leaves-none
 leaves-from name link later (s ∷ ss) =
     elim (later && not (next_is is_line_ending s)) as (λ b. AreLeaves (elim b as (λ _. Forest) [ true ↦ linked_leaf N.SpaceOrTab link (span is_blank s).0 ⊕ linked_leaf name link (span is_blank s).1 ⊕ lines_from name link false ss | false ↦ line_leaf name link s ⊕ lines_from name link (next_is is_line_ending s) ss ])) [
@@ -77,9 +80,12 @@ record IsBegun (c : Code) (t : Forest) : Type 0 where
   is : t ≡ leaf_then name link codes rest
   enter : enter_of t ≡ c.start
 
-begun-by : (b : Bool) (name : Name) (link : Option Content) (c : Code) (cs : List Code) (more : Forest) → IsBegun c ((elim b as (λ _. Forest) [ true ↦ linked_leaf N.LineEnding link (c ∷ cs) | false ↦ linked_leaf name link (c ∷ cs) ]) ⊕ more)
-begun-by true name link c cs more = record { name = N.LineEnding; link = link; codes = c ∷ cs; rest = more; is = refl; enter = refl }
-begun-by false name link c cs more = record { name = name; link = link; codes = c ∷ cs; rest = more; is = refl; enter = refl }
+begun-by : (b : Bool) (name : Name) (link : Option Content) (c : Code) (cs : List Code) (more : Forest) →
+    IsBegun c ((elim b as (λ _. Forest) [ true ↦ linked_leaf N.LineEnding link (c ∷ cs) | false ↦ linked_leaf name link (c ∷ cs) ]) ⊕ more)
+begun-by true name link c cs more =
+    record { name = N.LineEnding; link = link; codes = c ∷ cs; rest = more; is = refl; enter = refl }
+begun-by false name link c cs more =
+    record { name = name; link = link; codes = c ∷ cs; rest = more; is = refl; enter = refl }
 
 lines-begun : (name : Name) (link : Option Content) (c : Code) (cs : List Code) → IsBegun c (lines name link (c ∷ cs))
 lines-begun name link c cs =
@@ -125,7 +131,8 @@ one-value : (v : ℕ) → Yields (IsOne v) (one (is_value v))
 unfolding one
 one-value v = record { at = at }
   where
-    by-test : (b : Bool) (c : Code) (cs : List Code) → is_value v c ≡ b → Passes (IsOne v) (elim b as (λ _. Option (List Code × List Code)) [ true ↦ Some (c ∷ [], cs) | false ↦ None ])
+    by-test : (b : Bool) (c : Code) (cs : List Code) → is_value v c ≡ b →
+        Passes (IsOne v) (elim b as (λ _. Option (List Code × List Code)) [ true ↦ Some (c ∷ [], cs) | false ↦ None ])
     by-test true c cs e = record { code = c; is = refl; value = eqb-true c.value v e }
     by-test false c cs e = tt
 
@@ -133,7 +140,8 @@ one-value v = record { at = at }
     at [] = tt
     at (c ∷ cs) = by-test (is_value v c) c cs refl
 
-made : (c x : Code) (xs : List Code) (d : Code) → c.value ≡ 91 → d.value ≡ 93 → HasText (between_markers reference_names (c ∷ []) (x ∷ xs) (d ∷ []))
+made : (c x : Code) (xs : List Code) (d : Code) → c.value ≡ 91 → d.value ≡ 93 →
+    HasText (between_markers reference_names (c ∷ []) (x ∷ xs) (d ∷ []))
 made c x xs d o e =
     let L : Forest = lines N.Data (Some Content.String) (x ∷ xs) in
     let k : IsLines x xs L = lines-text N.Data (Some Content.String) x xs in
@@ -160,7 +168,8 @@ made c x xs d o e =
     of-leaf empty name link codes rest is enter exit all = cc
     of-leaf (group_then n a b inside more) name link codes rest is enter exit all = cc
 
-text-some : (p : Code → Bool) (text : List Code) → list_any p text ≡ true → (x : Code) × (xs : List Code) × (text ≡ x ∷ xs)
+text-some : (p : Code → Bool) (text : List Code) → list_any p text ≡ true →
+    (x : Code) × (xs : List Code) × (text ≡ x ∷ xs)
 text-some p [] e = cc
 text-some p (x ∷ xs) e = (x, xs, refl)
 

@@ -22,7 +22,8 @@ pub record AreThere (es whole : List Event) (from to : Point) : Type 0 where
   pub exit : place_at whole (length whole - 4) ≡ to
   pub long : length es + 8 ≤ length whole
 
-pub text-there : (es : List Event) (t : Forest) (k : IsReference t) → AreThere es (es ++ appended_from (length es) None t) k.from k.to
+pub text-there : (es : List Event) (t : Forest) (k : IsReference t) →
+    AreThere es (es ++ appended_from (length es) None t) k.from k.to
 text-there es t k =
     let n : ℕ = length es in
     let A : List Event = appended_from (n + 1 + 2 + 1) None k.inside in

@@ -38,7 +38,8 @@ some-one : (p : Code → Bool) → Yields (λ x. x ≢ []) (one p)
 unfolding one
 some-one p = record { at = at }
   where
-    by-test : (b : Bool) (c : Code) (cs : List Code) → Passes (λ x. x ≢ []) (elim b as (λ _. Option (List Code × List Code)) [ true ↦ Some (c ∷ [], cs) | false ↦ None ])
+    by-test : (b : Bool) (c : Code) (cs : List Code) →
+        Passes (λ x. x ≢ []) (elim b as (λ _. Option (List Code × List Code)) [ true ↦ Some (c ∷ [], cs) | false ↦ None ])
     by-test true c cs = λ e. cc
     by-test false c cs = tt
 
@@ -54,7 +55,8 @@ record IsSomeLeaf (t : Forest) : Type 0 where
   rest : Forest
   is : t ≡ leaf_then name link codes rest
 
-line-some : (b : Bool) (name : Name) (link : Option Content) (c : Code) (cs : List Code) (more : Forest) → IsSomeLeaf ((elim b as (λ _. Forest) [ true ↦ linked_leaf N.LineEnding link (c ∷ cs) | false ↦ linked_leaf name link (c ∷ cs) ]) ⊕ more)
+line-some : (b : Bool) (name : Name) (link : Option Content) (c : Code) (cs : List Code) (more : Forest) →
+    IsSomeLeaf ((elim b as (λ _. Forest) [ true ↦ linked_leaf N.LineEnding link (c ∷ cs) | false ↦ linked_leaf name link (c ∷ cs) ]) ⊕ more)
 line-some true name link c cs more = record { name = N.LineEnding; link = link; codes = c ∷ cs; rest = more; is = refl }
 line-some false name link c cs more = record { name = name; link = link; codes = c ∷ cs; rest = more; is = refl }
 
@@ -68,7 +70,8 @@ any-some : (p : Code → Bool) (text : List Code) → list_any p text ≡ true �
 any-some p [] e = cc
 any-some p (c ∷ cs) e = λ h. cc
 
-shape : (front text back : List Code) → front ≢ [] → text ≢ [] → back ≢ [] → IsReference (between_markers reference_names front text back)
+shape : (front text back : List Code) → front ≢ [] → text ≢ [] → back ≢ [] →
+    IsReference (between_markers reference_names front text back)
 shape [] text back f t b = absurd (f refl)
 shape (x ∷ xs) text [] f t b = absurd (b refl)
 shape (x ∷ xs) text (y ∷ ys) f t b =

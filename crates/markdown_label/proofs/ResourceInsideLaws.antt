@@ -40,7 +40,8 @@ use Rattle.markdown_partial.specs.PartialSpaceOrTabEol.{WhitespaceAtRest}
 use Rattle.markdown_partial_link.specs.PartialDestination as PartialDestination
 use Rattle.markdown_partial_link.specs.PartialTitle as PartialTitle
 use Rattle.markdown_label.specs.AfterLabelParts.{PartReady, rested, names_rested}
-use Rattle.markdown_label.specs.Resource.{destination_asked, destination_rested, title_asked, front_ops, at_space, at_close, at_title, at_parenthesis, is_hopeless, spaced, destination_put, destination_after_step, title_put, title_after_step, RowReads, RowEnds, closes, or_without, and_then, after_title, between, after_destination_of, after_destination, opened, InReady, open_ends, destination_after_ends, missing_ends, between_ends, title_after_ends, end_ends, open_words, destination_after_words, missing_words, between_words, title_after_words, end_words, states_and_called}
+use Rattle.markdown_label.specs.Resource.{destination_asked, destination_rested, title_asked, front_ops, at_space, at_close, at_title, at_parenthesis, is_hopeless, spaced, destination_put, destination_after_step, title_put, title_after_step, RowReads, RowEnds, closes, or_without, and_then, after_title, between}
+use Rattle.markdown_label.specs.Resource.{after_destination_of, after_destination, opened, InReady, open_ends, destination_after_ends, missing_ends, between_ends, title_after_ends, end_ends, open_words, destination_after_words, missing_words, between_words, title_after_words, end_words, states_and_called}
 use Rattle.markdown_label.proofs.NextCodeTests.{at-value, at-none}
 use Rattle.markdown_label.proofs.ResourceWithoutTitleEnd.{no-title, none-twice}
 use Rattle.markdown_label.proofs.ResourceLaws.{NoLinks, indexed-same, titled-same, codes-read, row-then, row-scratched, row-same, no-space, closes-here, fields-read, in-read, spacing-unlinked, spaced-law}
@@ -58,35 +59,44 @@ missing-back : (s : TokenizeState) → rested s ≡ s → destination_rested (ti
 missing-back s e = ap (λ q. destination_rested (title_asked q)) (sym e) ∙ e
 
 -- a part read with names set: past it, and past it with the names put to rest
-asked-left : (q : TokenizeState) (r : TreeReading) (T U : Tokenizer) → (k : Reads r None q (scratched q T) U) → U ≡ past None k.tree (scratched q T)
+asked-left : (q : TokenizeState) (r : TreeReading) (T U : Tokenizer) → (k : Reads r None q (scratched q T) U) →
+    U ≡ past None k.tree (scratched q T)
 unfolding scratched
 asked-left q r T U k = k.left
 
-asked-fields : (q : TokenizeState) (r : TreeReading) (T U : Tokenizer) → (k : Reads r None q (scratched q T) U) → U.tokenize_state ≡ q
+asked-fields : (q : TokenizeState) (r : TreeReading) (T U : Tokenizer) → (k : Reads r None q (scratched q T) U) →
+    U.tokenize_state ≡ q
 unfolding past scratched
 asked-fields q r T U k = ap (λ (x : Tokenizer). x.tokenize_state) k.left
 
-asked-stack : (q : TokenizeState) (r : TreeReading) (T U : Tokenizer) → (k : Reads r None q (scratched q T) U) → U.stack ≡ T.stack
+asked-stack : (q : TokenizeState) (r : TreeReading) (T U : Tokenizer) → (k : Reads r None q (scratched q T) U) →
+    U.stack ≡ T.stack
 unfolding past scratched
 asked-stack q r T U k = ap (λ (x : Tokenizer). x.stack) k.left
 
-asked-fewer : (q : TokenizeState) (r : TreeReading) (T U : Tokenizer) → (k : Reads r None q (scratched q T) U) → codes_left U ≤ codes_left T
+asked-fewer : (q : TokenizeState) (r : TreeReading) (T U : Tokenizer) → (k : Reads r None q (scratched q T) U) →
+    codes_left U ≤ codes_left T
 asked-fewer q r T U k = omega (arith, left-read r None q (scratched q T) U k, left-scratched q T)
 
-asked-codes : (q : TokenizeState) (r : TreeReading) (T U : Tokenizer) → (k : Reads r None q (scratched q T) U) → U.cursor.codes ≡ T.cursor.codes
+asked-codes : (q : TokenizeState) (r : TreeReading) (T U : Tokenizer) → (k : Reads r None q (scratched q T) U) →
+    U.cursor.codes ≡ T.cursor.codes
 unfolding scratched
 asked-codes q r T U k = codes-read r q (scratched q T) U k
 
-asked-whole : (q : TokenizeState) (r : TreeReading) (T U : Tokenizer) → (k : Reads r None q (scratched q T) U) → ahead T ≡ leaf_codes k.tree ++ ahead U
+asked-whole : (q : TokenizeState) (r : TreeReading) (T U : Tokenizer) → (k : Reads r None q (scratched q T) U) →
+    ahead T ≡ leaf_codes k.tree ++ ahead U
 unfolding scratched
 asked-whole q r T U k = k.whole ∙ ap (λ xs. leaf_codes k.tree ++ xs) (sym k.after)
 
-asked-holds : (q : TokenizeState) (r : TreeReading) (T U : Tokenizer) → (k : Reads r None q (scratched q T) U) → r (ahead T) ≡ Some (k.tree, ahead U)
+asked-holds : (q : TokenizeState) (r : TreeReading) (T U : Tokenizer) → (k : Reads r None q (scratched q T) U) →
+    r (ahead T) ≡ Some (k.tree, ahead U)
 unfolding scratched
 asked-holds q r T U k = k.holds ∙ ap (λ xs. Some (k.tree, xs)) (sym k.after)
 
 -- the fields are as they were in T
-part-back : (put : TokenizeState → TokenizeState) (T U : Tokenizer) → PartReady T → codes_left U ≤ codes_left T → U.cursor.codes ≡ T.cursor.codes → put U.tokenize_state ≡ T.tokenize_state → PartReady (scratched (put U.tokenize_state) U)
+part-back : (put : TokenizeState → TokenizeState) (T U : Tokenizer) → PartReady T → codes_left U ≤ codes_left T →
+    U.cursor.codes ≡ T.cursor.codes → put U.tokenize_state ≡ T.tokenize_state →
+    PartReady (scratched (put U.tokenize_state) U)
 unfolding scratched
 part-back put T U p fewer codes e =
     record { short = omega (arith, fewer, p.short); indexed = indexed-same T (scratched (put U.tokenize_state) U) codes (ap (λ (s : TokenizeState). s.sequences) e) p.indexed; titled = titled-same T (scratched (put U.tokenize_state) U) codes (ap (λ (s : TokenizeState). s.titles) e) p.titled; spaces = subst WhitespaceAtRest (sym e) p.spaces; rest = subst (λ (s : TokenizeState). rested s ≡ s) (sym e) p.rest }
@@ -101,20 +111,24 @@ destination-yields =
 
 between-yields : (opener closer : ℕ) → Yields NoLinks (title_between opener closer title_names)
 unfolding title_between
-between-yields opener closer = then_any _ _ _ λ front. then_any _ _ _ λ text. then_any _ _ _ λ back. yields_passed _ _ _ (yields_gives _ _ tt)
+between-yields opener closer =
+    then_any _ _ _ λ front. then_any _ _ _ λ text. then_any _ _ _ λ back. yields_passed _ _ _ (yields_gives _ _ tt)
 
 title-yields : Yields NoLinks (title title_names)
 unfolding title
 title-yields = yields_either _ _ _ (between-yields _ _) (yields_either _ _ _ (between-yields _ _) (between-yields _ _))
 
-given-unlinked : (r : TreeReading) → Yields NoLinks r → (cs : List Code) (t : Forest) (rest : List Code) → r cs ≡ Some (t, rest) → NoLinks t
+given-unlinked : (r : TreeReading) → Yields NoLinks r → (cs : List Code) (t : Forest) (rest : List Code) →
+    r cs ≡ Some (t, rest) → NoLinks t
 given-unlinked r y cs t rest e = subst (λ o. Passes NoLinks o) e (y.at cs)
 
 titles-here : (T : Tokenizer) (o : Option ℕ) → current_of T ≡ o → at_title o ≡ begins_title (ahead T)
 titles-here T None e = sym (ap begins_title (ahead-none T e))
-titles-here T (Some v) e = let b : Begins v (ahead T) = ahead-some T v e in sym (ap begins_title b.whole ∙ ap (λ x. x == 34 || (x == 39 || (x == 40 || false))) b.value)
+titles-here T (Some v) e =
+    let b : Begins v (ahead T) = ahead-some T v e in sym (ap begins_title b.whole ∙ ap (λ x. x == 34 || (x == 39 || (x == 40 || false))) b.value)
 
-parenthesis-here : (T : Tokenizer) (o : Option ℕ) → current_of T ≡ o → at_parenthesis o ≡ next_is (is_value 40) (ahead T)
+parenthesis-here : (T : Tokenizer) (o : Option ℕ) → current_of T ≡ o →
+    at_parenthesis o ≡ next_is (is_value 40) (ahead T)
 parenthesis-here T None e = sym (at-none T 40 e)
 parenthesis-here T (Some v) e = sym (at-value T v 40 (v == 40) e refl)
 
@@ -138,7 +152,8 @@ exited-ahead : (T : Tokenizer) → ahead (applied (Exit N.Resource) T) ≡ ahead
 unfolding applied
 exited-ahead T = refl
 
-twice : (q : TokenizeState) (T : Tokenizer) → destination_put (scratched q (scratched q T)) ≡ scratched (destination_rested q) T
+twice : (q : TokenizeState) (T : Tokenizer) →
+    destination_put (scratched q (scratched q T)) ≡ scratched (destination_rested q) T
 unfolding scratched
 twice q T = refl
 
@@ -154,23 +169,30 @@ title-ready T p =
       rest = ap (λ s. PartialTitle.rested (title_asked s)) (sym p.part.rest) ∙ ap title_asked p.part.rest;
     }
 
-destination-read : (T U : Tokenizer) → PartialDestination.start_ends (scratched (destination_asked T.tokenize_state) T) true U → Reads (destination 32 resource_names) None (destination_asked T.tokenize_state) (scratched (destination_asked T.tokenize_state) T) U
+destination-read : (T U : Tokenizer) →
+    PartialDestination.start_ends (scratched (destination_asked T.tokenize_state) T) true U →
+    Reads (destination 32 resource_names) None (destination_asked T.tokenize_state) (scratched (destination_asked T.tokenize_state) T) U
 unfolding scratched
 destination-read T U k = k
 
-destination-refused : (T U : Tokenizer) → PartialDestination.start_ends (scratched (destination_asked T.tokenize_state) T) false U → (destination 32 resource_names (ahead T) ≡ None) × Fails (destination_asked T.tokenize_state) (scratched (destination_asked T.tokenize_state) T) U
+destination-refused : (T U : Tokenizer) →
+    PartialDestination.start_ends (scratched (destination_asked T.tokenize_state) T) false U →
+    (destination 32 resource_names (ahead T) ≡ None) × Fails (destination_asked T.tokenize_state) (scratched (destination_asked T.tokenize_state) T) U
 unfolding scratched
 destination-refused T U k = (k.refused, k.fails)
 
-title-read : (T U : Tokenizer) → PartialTitle.start_ends (scratched (title_asked T.tokenize_state) T) true U → Reads (title title_names) None (title_asked T.tokenize_state) (scratched (title_asked T.tokenize_state) T) U
+title-read : (T U : Tokenizer) → PartialTitle.start_ends (scratched (title_asked T.tokenize_state) T) true U →
+    Reads (title title_names) None (title_asked T.tokenize_state) (scratched (title_asked T.tokenize_state) T) U
 unfolding scratched
 title-read T U k = k
 
-title-refused : (T U : Tokenizer) → PartialTitle.start_ends (scratched (title_asked T.tokenize_state) T) false U → (title title_names (ahead T) ≡ None) × Fails (title_asked T.tokenize_state) (scratched (title_asked T.tokenize_state) T) U
+title-refused : (T U : Tokenizer) → PartialTitle.start_ends (scratched (title_asked T.tokenize_state) T) false U →
+    (title title_names (ahead T) ≡ None) × Fails (title_asked T.tokenize_state) (scratched (title_asked T.tokenize_state) T) U
 unfolding scratched
 title-refused T U k = (k.refused, k.fails)
 
-marker-read : (T U : Tokenizer) (c : Code) (cs : List Code) → ahead T ≡ c ∷ cs → is_value 41 c ≡ true → U ≡ done (front_ops ++ Exit N.Resource ∷ []) T → RowReads closes T.tokenize_state T U
+marker-read : (T U : Tokenizer) (c : Code) (cs : List Code) → ahead T ≡ c ∷ cs → is_value 41 c ≡ true →
+    U ≡ done (front_ops ++ Exit N.Resource ∷ []) T → RowReads closes T.tokenize_state T U
 unfolding gives
 marker-read T U c cs e g left =
     let t : Forest = leaf N.ResourceMarker (c ∷ []) in
@@ -185,7 +207,8 @@ marker-read T U c cs e g left =
     }
 
 -- the closing marker is read
-closed-so : (T : Tokenizer) (ok : Bool) (U : Tokenizer) → next_is (is_value 41) (ahead T) ≡ true → (ok ≡ true) × (U ≡ done (front_ops ++ Exit N.Resource ∷ []) T) → end_ends T ok U
+closed-so : (T : Tokenizer) (ok : Bool) (U : Tokenizer) → next_is (is_value 41) (ahead T) ≡ true →
+    (ok ≡ true) × (U ≡ done (front_ops ++ Exit N.Resource ∷ []) T) → end_ends T ok U
 closed-so T false U h x = cc
 closed-so T true U h x = by-codes (ahead T) refl h
   where
@@ -195,24 +218,34 @@ closed-so T true U h x = by-codes (ahead T) refl h
 
 module _ (W : Words) (within : Within states_and_called W) where
   pub missing-law : Law W missing_words
-  missing-law T alone _ = Goes-end W (weight_at 1 T) (missing_ends T) false (destination_put T) (attempts-scratched _ T ∙ alone) (omega arith) (λ ok U h. h)
+  missing-law T alone _ =
+      Goes-end W (weight_at 1 T) (missing_ends T) false (destination_put T) (attempts-scratched _ T ∙ alone) (omega arith) (λ ok U h. h)
 
   -- on to the closing marker
-  end-there : (n : ℕ) (r : TreeReading) (T : Tokenizer) → InReady T → weight_at 1 T < n → closes (ahead T) ≡ r (ahead T) → FollowsIn W n (RowEnds r T.tokenize_state T) (Next LabelEndResourceEnd) T
-  end-there n r T p room e = follows W n (RowEnds r T.tokenize_state T) (Next LabelEndResourceEnd) (within LabelEndResourceEnd) T p room (λ ok V h. row-same closes r T.tokenize_state T e ok V h)
+  end-there : (n : ℕ) (r : TreeReading) (T : Tokenizer) → InReady T → weight_at 1 T < n →
+      closes (ahead T) ≡ r (ahead T) → FollowsIn W n (RowEnds r T.tokenize_state T) (Next LabelEndResourceEnd) T
+  end-there n r T p room e =
+      follows W n (RowEnds r T.tokenize_state T) (Next LabelEndResourceEnd) (within LabelEndResourceEnd) T p room (λ ok V h. row-same closes r T.tokenize_state T e ok V h)
 
-  end-goes : (n : ℕ) (r : TreeReading) (T : Tokenizer) → T.attempts ≡ [] → InReady T → weight_at 1 T < n → closes (ahead T) ≡ r (ahead T) → GoesIn W n (RowEnds r T.tokenize_state T) (stepped (Retry LabelEndResourceEnd) T)
-  end-goes n r T alone p room e = Goes-plain W n (RowEnds r T.tokenize_state T) (Retry LabelEndResourceEnd) (within LabelEndResourceEnd) T alone p room (λ ok V h. row-same closes r T.tokenize_state T e ok V h)
+  end-goes : (n : ℕ) (r : TreeReading) (T : Tokenizer) → T.attempts ≡ [] → InReady T → weight_at 1 T < n →
+      closes (ahead T) ≡ r (ahead T) → GoesIn W n (RowEnds r T.tokenize_state T) (stepped (Retry LabelEndResourceEnd) T)
+  end-goes n r T alone p room e =
+      Goes-plain W n (RowEnds r T.tokenize_state T) (Retry LabelEndResourceEnd) (within LabelEndResourceEnd) T alone p room (λ ok V h. row-same closes r T.tokenize_state T e ok V h)
 
   -- whitespace that may stand there, and what follows it
-  space-then : (n : ℕ) (r next : TreeReading) (st : StateName) {w : StateWords} → words_in W st ≡ w → (T U : Tokenizer) → (k : Reads (space_or_tab_eol None) None T.tokenize_state T U) → r (ahead T) ≡ behind k.tree (next (ahead U)) → w.ready U → weight_at w.rank U < n → ((ok : Bool) (V : Tokenizer) → w.ends U ok V → RowEnds next U.tokenize_state U ok V) → FollowsIn W n (RowEnds r T.tokenize_state T) (Next st) U
+  space-then : (n : ℕ) (r next : TreeReading) (st : StateName) {w : StateWords} → words_in W st ≡ w →
+      (T U : Tokenizer) → (k : Reads (space_or_tab_eol None) None T.tokenize_state T U) →
+      r (ahead T) ≡ behind k.tree (next (ahead U)) → w.ready U → weight_at w.rank U < n →
+      ((ok : Bool) (V : Tokenizer) → w.ends U ok V → RowEnds next U.tokenize_state U ok V) →
+      FollowsIn W n (RowEnds r T.tokenize_state T) (Next st) U
   space-then n r next st {w} say T U k e on falls closed =
       follows W n (RowEnds r T.tokenize_state T) (Next st) {w = w} say U on falls
       (λ ok V h.
       row-then r next k.tree T.tokenize_state T.tokenize_state T U (spacing-unlinked (ahead T) k.tree k.rest k.holds) k.left (k.whole ∙ ap (λ xs. leaf_codes k.tree ++ xs) (sym k.after)) e ok V
       (subst (λ (s : TokenizeState). RowEnds next s U ok V) (fields-read (space_or_tab_eol None) T U k) (closed ok V h)))
 
-  after-title-goes : (n : ℕ) (T : Tokenizer) → T.attempts ≡ [] → InReady T → weight_at 8 T < n → GoesIn W n (RowEnds after_title T.tokenize_state T) (if at_space (current_of T) then spaced LabelEndResourceEnd LabelEndResourceEnd T else stepped (Retry LabelEndResourceEnd) T)
+  after-title-goes : (n : ℕ) (T : Tokenizer) → T.attempts ≡ [] → InReady T → weight_at 8 T < n →
+      GoesIn W n (RowEnds after_title T.tokenize_state T) (if at_space (current_of T) then spaced LabelEndResourceEnd LabelEndResourceEnd T else stepped (Retry LabelEndResourceEnd) T)
   after-title-goes n T alone p room =
       if-step (GoesIn W n (RowEnds after_title T.tokenize_state T)) (at_space (current_of T)) _ _
       (λ h. spaced-law W within n (RowEnds after_title T.tokenize_state T) LabelEndResourceEnd LabelEndResourceEnd T alone p.part room
@@ -226,7 +259,8 @@ module _ (W : Words) (within : Within states_and_called W) where
       GoesOn-map W (weight_at 9 T) (RowEnds after_title (names_rested T.tokenize_state) (title_put T)) (title_after_ends T) (title_after_step T) (λ ok U x. row-scratched after_title (names_rested T.tokenize_state) (names_rested T.tokenize_state) T ok U x)
       (after-title-goes (weight_at 9 T) (title_put T) alone (record { part = p.part; whole = p.whole }) (omega arith))
 
-  after-destination-goes : (n : ℕ) (T : Tokenizer) → T.attempts ≡ [] → InReady T → weight_at 12 T < n → GoesIn W n (RowEnds after_destination T.tokenize_state T) (if at_space (current_of T) then spaced LabelEndResourceBetween LabelEndResourceEnd T else stepped (Retry LabelEndResourceEnd) T)
+  after-destination-goes : (n : ℕ) (T : Tokenizer) → T.attempts ≡ [] → InReady T → weight_at 12 T < n →
+      GoesIn W n (RowEnds after_destination T.tokenize_state T) (if at_space (current_of T) then spaced LabelEndResourceBetween LabelEndResourceEnd T else stepped (Retry LabelEndResourceEnd) T)
   after-destination-goes n T alone p room =
       if-step (GoesIn W n (RowEnds after_destination T.tokenize_state T)) (at_space (current_of T)) _ _
       (λ h. spaced-law W within n (RowEnds after_destination T.tokenize_state T) LabelEndResourceBetween LabelEndResourceEnd T alone p.part (omega (arith, room))
@@ -242,17 +276,22 @@ module _ (W : Words) (within : Within states_and_called W) where
 
   -- nothing is read
   refuses-so : (r : TreeReading) (T V : Tokenizer) → r (ahead T) ≡ None → V ≡ T → RowEnds r T.tokenize_state T false V
-  refuses-so r T V e same = record { refused = e; grown = subst (λ (x : Tokenizer). Grown 1 T x) (sym same) (Grown-refl 1 T); scratch = ap (λ (x : Tokenizer). x.tokenize_state) same }
+  refuses-so r T V e same =
+      record { refused = e; grown = subst (λ (x : Tokenizer). Grown 1 T x) (sym same) (Grown-refl 1 T); scratch = ap (λ (x : Tokenizer). x.tokenize_state) same }
 
-  missing-there : (n : ℕ) (q : TokenizeState) (r : TreeReading) (T : Tokenizer) → weight_at 1 T < n → destination_rested q ≡ T.tokenize_state → r (ahead T) ≡ None → FollowsIn W n (RowEnds r T.tokenize_state T) (Next LabelEndResourceDestinationMissing) (scratched q (scratched q T))
+  missing-there : (n : ℕ) (q : TokenizeState) (r : TreeReading) (T : Tokenizer) → weight_at 1 T < n →
+      destination_rested q ≡ T.tokenize_state → r (ahead T) ≡ None →
+      FollowsIn W n (RowEnds r T.tokenize_state T) (Next LabelEndResourceDestinationMissing) (scratched q (scratched q T))
   missing-there n q r T room back none =
       follows W n (RowEnds r T.tokenize_state T) (Next LabelEndResourceDestinationMissing) (within LabelEndResourceDestinationMissing) (scratched q (scratched q T)) tt
       (omega (arith, room, left-scratched q (scratched q T), left-scratched q T)) lost
     where
-      put-back : (V : Tokenizer) → V ≡ destination_put (scratched q (scratched q T)) → V ≡ scratched (destination_rested q) T
+      put-back : (V : Tokenizer) → V ≡ destination_put (scratched q (scratched q T)) →
+          V ≡ scratched (destination_rested q) T
       put-back V e = e ∙ twice q T
 
-      lost : (ok : Bool) (V : Tokenizer) → missing_ends (scratched q (scratched q T)) ok V → RowEnds r T.tokenize_state T ok V
+      lost : (ok : Bool) (V : Tokenizer) → missing_ends (scratched q (scratched q T)) ok V →
+          RowEnds r T.tokenize_state T ok V
       lost true V h = cc
       lost false V h = refuses-so r T V none (put-back V h.1 ∙ ap (λ s. scratched s T) back ∙ scratched-same T)
 
@@ -281,7 +320,8 @@ module _ (W : Words) (within : Within states_and_called W) where
       (missing-there n q opened T (omega arith) (destination-back s p.part.rest) (other ∙ ap (λ o. and_then o after_destination) k.0))))
 
   -- no resource ends behind a title in parentheses
-  given-up : (T : Tokenizer) → InReady T → is_hopeless T ≡ true → (ok : Bool) (U : Tokenizer) → (ok ≡ false) × (U ≡ T) → between_ends T ok U
+  given-up : (T : Tokenizer) → InReady T → is_hopeless T ≡ true → (ok : Bool) (U : Tokenizer) → (ok ≡ false) × (U ≡ T) →
+      between_ends T ok U
   given-up T p h true U x = cc
   given-up T p h false U x = refuses-so between T U (hopeless-between T p h) x.1
 

@@ -54,7 +54,8 @@ unlinked n (leaf_then name None cs rest) h = unlinked (n + 2) rest h.1
 unlinked n (leaf_then name (Some c) cs rest) h = cc
 unlinked n (group_then name a b i rest) h = unlinked (n + 2 + event_count i) rest h
 
-pub past-then : (t u : Forest) (s1 s2 : TokenizeState) (T U : Tokenizer) → NoLinks t → U ≡ past None t (scratched s1 T) → past None u (scratched s2 U) ≡ past None (t ⊕ u) (scratched s2 T)
+pub past-then : (t u : Forest) (s1 s2 : TokenizeState) (T U : Tokenizer) → NoLinks t →
+    U ≡ past None t (scratched s1 T) → past None u (scratched s2 U) ≡ past None (t ⊕ u) (scratched s2 T)
 unfolding past scratched
 past-then t u s1 s2 T U none e =
     ap (λ (x : Tokenizer). past None u (scratched s2 x)) e
@@ -62,7 +63,9 @@ past-then t u s1 s2 T U none e =
     ∙ past-past None t u (scratched s2 T)
 
 -- a part is read, and then the rest of the row
-pub row-then : (r1 r2 : TreeReading) (t : Forest) (s1 s2 : TokenizeState) (T U : Tokenizer) → NoLinks t → U ≡ past None t (scratched s1 T) → ahead T ≡ leaf_codes t ++ ahead U → r1 (ahead T) ≡ behind t (r2 (ahead U)) → (ok : Bool) (V : Tokenizer) → RowEnds r2 s2 U ok V → RowEnds r1 s2 T ok V
+pub row-then : (r1 r2 : TreeReading) (t : Forest) (s1 s2 : TokenizeState) (T U : Tokenizer) → NoLinks t →
+    U ≡ past None t (scratched s1 T) → ahead T ≡ leaf_codes t ++ ahead U → r1 (ahead T) ≡ behind t (r2 (ahead U)) →
+    (ok : Bool) (V : Tokenizer) → RowEnds r2 s2 U ok V → RowEnds r1 s2 T ok V
 row-then r1 r2 t s1 s2 T U none e w h true V k =
     record {
       tree = t ⊕ k.tree;
@@ -79,13 +82,18 @@ row-then r1 r2 t s1 s2 T U none e w h false V k =
       scratch = k.scratch;
     }
 
-pub row-scratched : (r : TreeReading) (s q : TokenizeState) (T : Tokenizer) (ok : Bool) (V : Tokenizer) → RowEnds r s (scratched q T) ok V → RowEnds r s T ok V
+pub row-scratched : (r : TreeReading) (s q : TokenizeState) (T : Tokenizer) (ok : Bool) (V : Tokenizer) →
+    RowEnds r s (scratched q T) ok V → RowEnds r s T ok V
 unfolding scratched
-row-scratched r s q T true V k = record { tree = k.tree; rest = k.rest; holds = k.holds; left = k.left; whole = k.whole; after = k.after }
-row-scratched r s q T false V k = record { refused = k.refused; grown = Grown-scratched 1 q T V k.grown; scratch = k.scratch }
+row-scratched r s q T true V k =
+    record { tree = k.tree; rest = k.rest; holds = k.holds; left = k.left; whole = k.whole; after = k.after }
+row-scratched r s q T false V k =
+    record { refused = k.refused; grown = Grown-scratched 1 q T V k.grown; scratch = k.scratch }
 
-pub row-same : (r1 r2 : TreeReading) (s : TokenizeState) (T : Tokenizer) → r1 (ahead T) ≡ r2 (ahead T) → (ok : Bool) (V : Tokenizer) → RowEnds r1 s T ok V → RowEnds r2 s T ok V
-row-same r1 r2 s T e true V k = record { tree = k.tree; rest = k.rest; holds = sym e ∙ k.holds; left = k.left; whole = k.whole; after = k.after }
+pub row-same : (r1 r2 : TreeReading) (s : TokenizeState) (T : Tokenizer) → r1 (ahead T) ≡ r2 (ahead T) →
+    (ok : Bool) (V : Tokenizer) → RowEnds r1 s T ok V → RowEnds r2 s T ok V
+row-same r1 r2 s T e true V k =
+    record { tree = k.tree; rest = k.rest; holds = sym e ∙ k.holds; left = k.left; whole = k.whole; after = k.after }
 row-same r1 r2 s T e false V k = record { refused = sym e ∙ k.refused; grown = k.grown; scratch = k.scratch }
 
 -- The next code.
@@ -95,7 +103,8 @@ no-ending : (cs : List Code) → next_is is_line_ending cs ≡ false → at_endi
 no-ending [] e = refl
 no-ending (c ∷ cs) e = if-false _ _ _ e
 
-pub no-space : (T : Tokenizer) (o : Option ℕ) → current_of T ≡ o → at_space o ≡ false → space_or_tab_eol None (ahead T) ≡ None
+pub no-space : (T : Tokenizer) (o : Option ℕ) → current_of T ≡ o → at_space o ≡ false →
+    space_or_tab_eol None (ahead T) ≡ None
 no-space T None e h =
     let none : ahead T ≡ [] = ahead-none T e in
     spacing-none None (ahead T) (ap (next_is is_blank) none) ∙ no-ending (ahead T) (ap (next_is is_line_ending) none)
@@ -108,11 +117,13 @@ no-space T (Some v) e h =
 
 pub closes-here : (T : Tokenizer) (o : Option ℕ) → current_of T ≡ o → at_close o ≡ next_is (is_value 41) (ahead T)
 closes-here T None e = sym (ap (next_is (is_value 41)) (ahead-none T e))
-closes-here T (Some v) e = let b : Begins v (ahead T) = ahead-some T v e in sym (ap (next_is (is_value 41)) b.whole ∙ ap (λ x. x == 41) b.value)
+closes-here T (Some v) e =
+    let b : Begins v (ahead T) = ahead-some T v e in sym (ap (next_is (is_value 41)) b.whole ∙ ap (λ x. x == 41) b.value)
 
 -- Past a part with the fields as before.
 
-pub fields-read : (r : TreeReading) (T U : Tokenizer) → (k : Reads r None T.tokenize_state T U) → U.tokenize_state ≡ T.tokenize_state
+pub fields-read : (r : TreeReading) (T U : Tokenizer) → (k : Reads r None T.tokenize_state T U) →
+    U.tokenize_state ≡ T.tokenize_state
 unfolding past scratched
 fields-read r T U k = ap (λ (x : Tokenizer). x.tokenize_state) k.left
 
@@ -121,14 +132,19 @@ unfolding past scratched
 stack-read r T U k = ap (λ (x : Tokenizer). x.stack) k.left
 
 -- what is known of sequences is right for a tokenizer with the same codes, of which as much is known
-pub indexed-same : (T U : Tokenizer) → U.cursor.codes ≡ T.cursor.codes → U.tokenize_state.sequences ≡ T.tokenize_state.sequences → IsRightFor T.cursor.codes T.tokenize_state.sequences → IsRightFor U.cursor.codes U.tokenize_state.sequences
+pub indexed-same : (T U : Tokenizer) → U.cursor.codes ≡ T.cursor.codes →
+    U.tokenize_state.sequences ≡ T.tokenize_state.sequences → IsRightFor T.cursor.codes T.tokenize_state.sequences →
+    IsRightFor U.cursor.codes U.tokenize_state.sequences
 indexed-same T U codes same right last known = right last (sym same ∙ known) ∙ ap last_begins (sym codes)
 
 -- and so is what is known of the ends of titles
-pub titled-same : (T U : Tokenizer) → U.cursor.codes ≡ T.cursor.codes → U.tokenize_state.titles ≡ T.tokenize_state.titles → Titles.IsRightFor T.cursor.codes T.tokenize_state.titles → Titles.IsRightFor U.cursor.codes U.tokenize_state.titles
+pub titled-same : (T U : Tokenizer) → U.cursor.codes ≡ T.cursor.codes →
+    U.tokenize_state.titles ≡ T.tokenize_state.titles → Titles.IsRightFor T.cursor.codes T.tokenize_state.titles →
+    Titles.IsRightFor U.cursor.codes U.tokenize_state.titles
 titled-same T U codes same right closers known = right closers (sym same ∙ known) ∙ ap Titles.closers_of (sym codes)
 
-pub codes-read : (r : TreeReading) (s : TokenizeState) (T U : Tokenizer) → (k : Reads r None s T U) → U.cursor.codes ≡ T.cursor.codes
+pub codes-read : (r : TreeReading) (s : TokenizeState) (T U : Tokenizer) → (k : Reads r None s T U) →
+    U.cursor.codes ≡ T.cursor.codes
 unfolding past scratched
 codes-read r s T U k = ap (λ (x : Tokenizer). x.cursor.codes) k.left ∙ same-codes (leaf_codes k.tree) T.cursor
 
@@ -144,7 +160,8 @@ part-read r T U k p =
     }
 
 pub in-read : (r : TreeReading) (T U : Tokenizer) → Reads r None T.tokenize_state T U → InReady T → InReady U
-in-read r T U k p = record { part = part-read r T U k p.part; whole = subst (λ ns. ns ≡ N.Resource ∷ rest_of ns) (sym (stack-read r T U k)) p.whole }
+in-read r T U k p =
+    record { part = part-read r T U k p.part; whole = subst (λ ns. ns ≡ N.Resource ∷ rest_of ns) (sym (stack-read r T U k)) p.whole }
 
 -- whitespace by itself is not linked
 
@@ -165,10 +182,12 @@ spacing-yields =
     (row-unlinked (linked_leaf N.SpaceOrTab None front) _ (leaf-unlinked N.SpaceOrTab front) (row-unlinked (linked_leaf N.LineEnding None ending) _ (leaf-unlinked N.LineEnding ending) (leaf-unlinked N.SpaceOrTab back))))
     (then_any _ _ _ λ blank. yields_gives _ _ (leaf-unlinked N.SpaceOrTab blank))
 
-pub spacing-unlinked : (cs : List Code) (t : Forest) (rest : List Code) → space_or_tab_eol None cs ≡ Some (t, rest) → NoLinks t
+pub spacing-unlinked : (cs : List Code) (t : Forest) (rest : List Code) → space_or_tab_eol None cs ≡ Some (t, rest) →
+    NoLinks t
 spacing-unlinked cs t rest e = subst (λ o. Passes NoLinks o) e (spacing-yields.at cs)
 
-same-frame : (r : Bool) (ok nok : State) (s : TokenizeState) (T : Tokenizer) → frame_of r ok nok (scratched s T) ≡ frame_of r ok nok T
+same-frame : (r : Bool) (ok nok : State) (s : TokenizeState) (T : Tokenizer) →
+    frame_of r ok nok (scratched s T) ≡ frame_of r ok nok T
 unfolding frame_of scratched
 same-frame r ok nok s T = refl
 
@@ -190,7 +209,8 @@ module _ (W : Words) (within : Within states_and_called W) where
       subst (λ (x : Tokenizer). FollowsIn W n End (Next nok) x) (sym (ap (λ f. restored f U) (same-frame false (Next ok) (Next nok) s T) ∙ restored-fails false (Next ok) (Next nok) T.tokenize_state T U k.fails ∙ scratched-same T)) (none k.refused))
 
   -- behind the opening marker
-  before-open : (T U : Tokenizer) → InReady T → Reads (space_or_tab_eol None) None T.tokenize_state T U → FollowsIn W (weight_at 15 T) (before_ends T) (Next LabelEndResourceOpen) U
+  before-open : (T U : Tokenizer) → InReady T → Reads (space_or_tab_eol None) None T.tokenize_state T U →
+      FollowsIn W (weight_at 15 T) (before_ends T) (Next LabelEndResourceOpen) U
   before-open T U p k =
       follows W (weight_at 15 T) (before_ends T) (Next LabelEndResourceOpen) (within LabelEndResourceOpen) U (in-read (space_or_tab_eol None) T U k p) (omega (arith, left-read (space_or_tab_eol None) None T.tokenize_state T U k))
       (λ ok V h.
@@ -199,8 +219,10 @@ module _ (W : Words) (within : Within states_and_called W) where
       (subst (λ (s : TokenizeState). RowEnds opened s U ok V) (fields-read (space_or_tab_eol None) T U k) h))
 
   -- where no whitespace stands
-  open-closed : (T : Tokenizer) → space_or_tab_eol None (ahead T) ≡ None → (ok : Bool) (V : Tokenizer) → open_ends T ok V → before_ends T ok V
-  open-closed T none ok V h = row-same opened inside T.tokenize_state T (sym (ap (λ o. or_without o opened (ahead T)) none)) ok V h
+  open-closed : (T : Tokenizer) → space_or_tab_eol None (ahead T) ≡ None → (ok : Bool) (V : Tokenizer) →
+      open_ends T ok V → before_ends T ok V
+  open-closed T none ok V h =
+      row-same opened inside T.tokenize_state T (sym (ap (λ o. or_without o opened (ahead T)) none)) ok V h
 
   pub before-law : Law W before_words
   before-law T alone p =

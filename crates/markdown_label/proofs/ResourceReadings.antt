@@ -32,7 +32,8 @@ optional-none : (a : Reading Forest) (cs : List Code) → a cs ≡ None → opti
 unfolding optional_tree gives
 optional-none a cs e = either-second a (gives empty) cs e
 
-optional-some : (a : Reading Forest) (cs : List Code) (r : Forest × List Code) → a cs ≡ Some r → optional_tree a cs ≡ Some r
+optional-some : (a : Reading Forest) (cs : List Code) (r : Forest × List Code) → a cs ≡ Some r →
+    optional_tree a cs ≡ Some r
 unfolding optional_tree
 optional-some a cs r e = either-some a (gives empty) cs r e
 
@@ -61,17 +62,24 @@ title-stays (c ∷ cs) e = closes-none (c ∷ cs) (no-title-closes c.value e)
 
 spaced-none : (cs : List Code) → space_or_tab_eol None cs ≡ None → spaced_title cs ≡ None
 unfolding spaced_title
-spaced-none cs e = bind-none (before (space_or_tab_eol None) begins_title) _ cs (before-none (space_or_tab_eol None) begins_title cs e)
+spaced-none cs e =
+    bind-none (before (space_or_tab_eol None) begins_title) _ cs (before-none (space_or_tab_eol None) begins_title cs e)
 
-spaced-other : (cs : List Code) (sp : Forest) (r1 : List Code) → space_or_tab_eol None cs ≡ Some (sp, r1) → begins_title r1 ≡ false → spaced_title cs ≡ None
+spaced-other : (cs : List Code) (sp : Forest) (r1 : List Code) → space_or_tab_eol None cs ≡ Some (sp, r1) →
+    begins_title r1 ≡ false → spaced_title cs ≡ None
 unfolding spaced_title
-spaced-other cs sp r1 e b = bind-none (before (space_or_tab_eol None) begins_title) _ cs (before-other (space_or_tab_eol None) begins_title cs sp r1 e b)
+spaced-other cs sp r1 e b =
+    bind-none (before (space_or_tab_eol None) begins_title) _ cs (before-other (space_or_tab_eol None) begins_title cs sp r1 e b)
 
-spaced-missing : (cs : List Code) (sp : Forest) (r1 : List Code) → space_or_tab_eol None cs ≡ Some (sp, r1) → begins_title r1 ≡ true → title title_names r1 ≡ None → spaced_title cs ≡ None
+spaced-missing : (cs : List Code) (sp : Forest) (r1 : List Code) → space_or_tab_eol None cs ≡ Some (sp, r1) →
+    begins_title r1 ≡ true → title title_names r1 ≡ None → spaced_title cs ≡ None
 unfolding spaced_title
-spaced-missing cs sp r1 e b n = bind-some (before (space_or_tab_eol None) begins_title) _ cs sp r1 _ (before-some (space_or_tab_eol None) begins_title cs sp r1 e b) (bind-none (title title_names) _ r1 n)
+spaced-missing cs sp r1 e b n =
+    bind-some (before (space_or_tab_eol None) begins_title) _ cs sp r1 _ (before-some (space_or_tab_eol None) begins_title cs sp r1 e b) (bind-none (title title_names) _ r1 n)
 
-spaced-some : (cs : List Code) (sp : Forest) (r1 : List Code) (t : Forest) (r2 : List Code) (b : Forest) (r3 : List Code) → space_or_tab_eol None cs ≡ Some (sp, r1) → begins_title r1 ≡ true → title title_names r1 ≡ Some (t, r2) → optional_tree (space_or_tab_eol None) r2 ≡ Some (b, r3) → spaced_title cs ≡ Some (sp ⊕ (t ⊕ b), r3)
+spaced-some : (cs : List Code) (sp : Forest) (r1 : List Code) (t : Forest) (r2 : List Code) (b : Forest) (r3 : List Code) →
+    space_or_tab_eol None cs ≡ Some (sp, r1) → begins_title r1 ≡ true → title title_names r1 ≡ Some (t, r2) →
+    optional_tree (space_or_tab_eol None) r2 ≡ Some (b, r3) → spaced_title cs ≡ Some (sp ⊕ (t ⊕ b), r3)
 unfolding spaced_title gives
 spaced-some cs sp r1 t r2 b r3 e h n o =
     bind-some (before (space_or_tab_eol None) begins_title) _ cs sp r1 _ (before-some (space_or_tab_eol None) begins_title cs sp r1 e h)
@@ -81,20 +89,25 @@ spaced-some cs sp r1 t r2 b r3 e h n o =
 after-part : List Code → Option (Forest × List Code)
 after-part cs = either spaced_title (optional_tree (space_or_tab_eol None)) cs
 
-between-title : (r1 : List Code) (b : Bool) → begins_title r1 ≡ b → between r1 ≡ (if b then and_then (title title_names r1) after_title else closes r1)
+between-title : (r1 : List Code) (b : Bool) → begins_title r1 ≡ b →
+    between r1 ≡ (if b then and_then (title title_names r1) after_title else closes r1)
 between-title r1 b e = ap (λ x. if x then and_then (title title_names r1) after_title else closes r1) e
 
-behind-three : (sp t b : Forest) (r3 : List Code) → closed (Some (sp ⊕ (t ⊕ b), r3)) ≡ behind sp (behind t (behind b (closes r3)))
+behind-three : (sp t b : Forest) (r3 : List Code) →
+    closed (Some (sp ⊕ (t ⊕ b), r3)) ≡ behind sp (behind t (behind b (closes r3)))
 unfolding closed
 behind-three sp t b r3 = behind-row sp (t ⊕ b) (closes r3) ∙ ap (behind sp) (behind-row t b (closes r3))
 
-with-title : (cs : List Code) (sp : Forest) (r1 : List Code) → space_or_tab_eol None cs ≡ Some (sp, r1) → begins_title r1 ≡ true → (o : Option (Forest × List Code)) → title title_names r1 ≡ o → closed (after-part cs) ≡ behind sp (and_then o after_title)
+with-title : (cs : List Code) (sp : Forest) (r1 : List Code) → space_or_tab_eol None cs ≡ Some (sp, r1) →
+    begins_title r1 ≡ true → (o : Option (Forest × List Code)) → title title_names r1 ≡ o →
+    closed (after-part cs) ≡ behind sp (and_then o after_title)
 unfolding after-part closed
 with-title cs sp r1 e h None n =
     ap closed (either-second spaced_title _ cs (spaced-missing cs sp r1 e h n) ∙ optional-some (space_or_tab_eol None) cs (sp, r1) e) ∙ ap (behind sp) (title-stays r1 h)
 with-title cs sp r1 e h (Some (t, r2)) n = by-space (space_or_tab_eol None r2) refl
   where
-    by-space : (q : Option (Forest × List Code)) → space_or_tab_eol None r2 ≡ q → closed (after-part cs) ≡ behind sp (behind t (after_title r2))
+    by-space : (q : Option (Forest × List Code)) → space_or_tab_eol None r2 ≡ q →
+        closed (after-part cs) ≡ behind sp (behind t (after_title r2))
     by-space None g =
         ap closed (either-some spaced_title _ cs _ (spaced-some cs sp r1 t r2 empty r2 e h n (optional-none (space_or_tab_eol None) r2 g)))
         ∙ behind-three sp t empty r2
@@ -104,9 +117,11 @@ with-title cs sp r1 e h (Some (t, r2)) n = by-space (space_or_tab_eol None r2) r
         ∙ behind-three sp t b.0 b.1
         ∙ ap (λ x. behind sp (behind t x)) (sym (ap (λ x. or_without x closes r2) g))
 
-after-closed : (cs : List Code) (o : Option (Forest × List Code)) → space_or_tab_eol None cs ≡ o → closed (after-part cs) ≡ after_destination_of o cs
+after-closed : (cs : List Code) (o : Option (Forest × List Code)) → space_or_tab_eol None cs ≡ o →
+    closed (after-part cs) ≡ after_destination_of o cs
 unfolding after-part closed
-after-closed cs None e = ap closed (either-second spaced_title _ cs (spaced-none cs e) ∙ optional-none (space_or_tab_eol None) cs e) ∙ behind-empty (closes cs)
+after-closed cs None e =
+    ap closed (either-second spaced_title _ cs (spaced-none cs e) ∙ optional-none (space_or_tab_eol None) cs e) ∙ behind-empty (closes cs)
 after-closed cs (Some (sp, r1)) e =
     elim (begins_title r1) as (λ b. begins_title r1 ≡ b → closed (after-part cs) ≡ behind sp (between r1)) [
       | true ↦ λ h. with-title cs sp r1 e h (title title_names r1) refl ∙ ap (behind sp) (sym (between-title r1 true h))
@@ -115,7 +130,8 @@ after-closed cs (Some (sp, r1)) e =
 
 -- From the destination on.
 
-part-by : (cs : List Code) (o : Option (Forest × List Code)) → destination 32 resource_names cs ≡ o → closed (destination_and_title cs) ≡ and_then o after_destination
+part-by : (cs : List Code) (o : Option (Forest × List Code)) → destination 32 resource_names cs ≡ o →
+    closed (destination_and_title cs) ≡ and_then o after_destination
 unfolding destination_and_title closed ◌>>=◌ gives after-part
 part-by cs None e = ap closed (bind-none (destination 32 resource_names) _ cs e)
 part-by cs (Some (t, r)) e =
@@ -123,7 +139,8 @@ part-by cs (Some (t, r)) e =
     ∙ row-behind (after-part r)
     ∙ ap (behind t) (after-closed r (space_or_tab_eol None r) refl)
   where
-    row-behind : (o : Option (Forest × List Code)) → closed (elim o as (λ _. Option (Forest × List Code)) [ None ↦ None | Some a ↦ Some (t ⊕ a.0, a.1) ]) ≡ behind t (closed o)
+    row-behind : (o : Option (Forest × List Code)) →
+        closed (elim o as (λ _. Option (Forest × List Code)) [ None ↦ None | Some a ↦ Some (t ⊕ a.0, a.1) ]) ≡ behind t (closed o)
     row-behind None = refl
     row-behind (Some a) = behind-row t a.0 (closes a.1)
 
@@ -142,20 +159,26 @@ abbrev pub grouped : Code → Option (Forest × List Code) → Option (Forest ×
 grouped c None = None
 grouped c (Some r) = Some (group N.Resource (leaf N.ResourceMarker (c ∷ []) ⊕ r.0), r.1)
 
-closes-by : (c : Code) (sp ins : Forest) (cs : List Code) → (one (is_value 41) >>= λ back. gives (group N.Resource (leaf N.ResourceMarker (c ∷ []) ⊕ sp ⊕ ins ⊕ leaf N.ResourceMarker back))) cs ≡ grouped c (behind sp (behind ins (closes cs)))
+closes-by : (c : Code) (sp ins : Forest) (cs : List Code) →
+    (one (is_value 41) >>= λ back. gives (group N.Resource (leaf N.ResourceMarker (c ∷ []) ⊕ sp ⊕ ins ⊕ leaf N.ResourceMarker back))) cs ≡ grouped c (behind sp (behind ins (closes cs)))
 unfolding gives ◌>>=◌
-closes-by c sp ins cs = elim (one (is_value 41) cs) as (λ o. elim o as (λ _. Option (Forest × List Code)) [ None ↦ None | Some r ↦ Some (group N.Resource (leaf N.ResourceMarker (c ∷ []) ⊕ sp ⊕ ins ⊕ leaf N.ResourceMarker r.0), r.1) ] ≡ grouped c (behind sp (behind ins (elim o as (λ _. Option (Forest × List Code)) [ None ↦ None | Some r ↦ Some (leaf N.ResourceMarker r.0, r.1) ])))) [ None ↦ refl | Some r ↦ refl ]
+closes-by c sp ins cs =
+    elim (one (is_value 41) cs) as (λ o. elim o as (λ _. Option (Forest × List Code)) [ None ↦ None | Some r ↦ Some (group N.Resource (leaf N.ResourceMarker (c ∷ []) ⊕ sp ⊕ ins ⊕ leaf N.ResourceMarker r.0), r.1) ] ≡ grouped c (behind sp (behind ins (elim o as (λ _. Option (Forest × List Code)) [ None ↦ None | Some r ↦ Some (leaf N.ResourceMarker r.0, r.1) ])))) [ None ↦ refl | Some r ↦ refl ]
 
 inside-by : (c : Code) (sp : Forest) (cs : List Code) (o : Option (Forest × List Code)) → if_next (is_value 41) (gives empty) destination_and_title cs ≡ o
     → (if_next (is_value 41) (gives empty) destination_and_title >>= λ ins. one (is_value 41) >>= λ back. gives (group N.Resource (leaf N.ResourceMarker (c ∷ []) ⊕ sp ⊕ ins ⊕ leaf N.ResourceMarker back))) cs ≡ grouped c (behind sp (closed o))
 unfolding closed
 inside-by c sp cs None e = bind-none (if_next (is_value 41) (gives empty) destination_and_title) _ cs e
-inside-by c sp cs (Some (t, r)) e = bind-some (if_next (is_value 41) (gives empty) destination_and_title) _ cs t r _ e (closes-by c sp t r)
+inside-by c sp cs (Some (t, r)) e =
+    bind-some (if_next (is_value 41) (gives empty) destination_and_title) _ cs t r _ e (closes-by c sp t r)
 
-inside-whole : (c : Code) (sp : Forest) (cs : List Code) → (if_next (is_value 41) (gives empty) destination_and_title >>= λ ins. one (is_value 41) >>= λ back. gives (group N.Resource (leaf N.ResourceMarker (c ∷ []) ⊕ sp ⊕ ins ⊕ leaf N.ResourceMarker back))) cs ≡ grouped c (behind sp (opened cs))
-inside-whole c sp cs = inside-by c sp cs (if_next (is_value 41) (gives empty) destination_and_title cs) refl ∙ ap (λ x. grouped c (behind sp x)) (opened-closed cs)
+inside-whole : (c : Code) (sp : Forest) (cs : List Code) →
+    (if_next (is_value 41) (gives empty) destination_and_title >>= λ ins. one (is_value 41) >>= λ back. gives (group N.Resource (leaf N.ResourceMarker (c ∷ []) ⊕ sp ⊕ ins ⊕ leaf N.ResourceMarker back))) cs ≡ grouped c (behind sp (opened cs))
+inside-whole c sp cs =
+    inside-by c sp cs (if_next (is_value 41) (gives empty) destination_and_title cs) refl ∙ ap (λ x. grouped c (behind sp x)) (opened-closed cs)
 
-pub resource-by : (c : Code) (cs : List Code) (o : Option (Forest × List Code)) → is_value 40 c ≡ true → space_or_tab_eol None cs ≡ o → resource (c ∷ cs) ≡ grouped c (or_without o opened cs)
+pub resource-by : (c : Code) (cs : List Code) (o : Option (Forest × List Code)) → is_value 40 c ≡ true →
+    space_or_tab_eol None cs ≡ o → resource (c ∷ cs) ≡ grouped c (or_without o opened cs)
 unfolding resource
 resource-by c cs None h e =
     bind-some (one (is_value 40)) _ (c ∷ cs) (c ∷ []) cs _ (one-here (is_value 40) c cs h)

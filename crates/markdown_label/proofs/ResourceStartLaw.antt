@@ -48,9 +48,11 @@ record EndsIn (t : Forest) : Type 0 where
 
 behind-ends : (t : Forest) (o : Option (Forest × List Code)) → Passes EndsIn o → Passes EndsIn (behind t o)
 behind-ends t None k = tt
-behind-ends t (Some r) k = record { front = t ⊕ k.front; code = k.code; is = ap (λ x. t ⊕ x) k.is ∙ sym (row-assoc t k.front (leaf_then N.ResourceMarker None (k.code ∷ []) empty)) }
+behind-ends t (Some r) k =
+    record { front = t ⊕ k.front; code = k.code; is = ap (λ x. t ⊕ x) k.is ∙ sym (row-assoc t k.front (leaf_then N.ResourceMarker None (k.code ∷ []) empty)) }
 
-closes-here : (c : Code) (cs : List Code) → is_value 41 c ≡ true → closes (c ∷ cs) ≡ Some (leaf N.ResourceMarker (c ∷ []), cs)
+closes-here : (c : Code) (cs : List Code) → is_value 41 c ≡ true →
+    closes (c ∷ cs) ≡ Some (leaf N.ResourceMarker (c ∷ []), cs)
 unfolding gives
 closes-here c cs e = bind-some (one (is_value 41)) _ (c ∷ cs) (c ∷ []) cs _ (one-here (is_value 41) c cs e) refl
 
@@ -62,15 +64,18 @@ closes-ends (c ∷ cs) =
       | false ↦ λ e. subst (λ o. Passes EndsIn o) (sym (closes-none (c ∷ cs) e)) tt
     ] refl
 
-or-ends : (o : Option (Forest × List Code)) (next : TreeReading) (cs : List Code) → ((ds : List Code) → Passes EndsIn (next ds)) → Passes EndsIn (or_without o next cs)
+or-ends : (o : Option (Forest × List Code)) (next : TreeReading) (cs : List Code) →
+    ((ds : List Code) → Passes EndsIn (next ds)) → Passes EndsIn (or_without o next cs)
 or-ends None next cs h = h cs
 or-ends (Some r) next cs h = behind-ends r.0 (next r.1) (h r.1)
 
-and-ends : (o : Option (Forest × List Code)) (next : TreeReading) → ((ds : List Code) → Passes EndsIn (next ds)) → Passes EndsIn (and_then o next)
+and-ends : (o : Option (Forest × List Code)) (next : TreeReading) → ((ds : List Code) → Passes EndsIn (next ds)) →
+    Passes EndsIn (and_then o next)
 and-ends None next h = tt
 and-ends (Some r) next h = behind-ends r.0 (next r.1) (h r.1)
 
-if-ends : (b : Bool) (x y : Option (Forest × List Code)) → Passes EndsIn x → Passes EndsIn y → Passes EndsIn (if b then x else y)
+if-ends : (b : Bool) (x y : Option (Forest × List Code)) → Passes EndsIn x → Passes EndsIn y →
+    Passes EndsIn (if b then x else y)
 if-ends true x y p q = p
 if-ends false x y p q = q
 
@@ -78,21 +83,24 @@ title-ends : (cs : List Code) → Passes EndsIn (after_title cs)
 title-ends cs = or-ends (space_or_tab_eol None cs) closes cs closes-ends
 
 between-ends : (cs : List Code) → Passes EndsIn (between cs)
-between-ends cs = if-ends (begins_title cs) (and_then (title title_names cs) after_title) (closes cs) (and-ends (title title_names cs) after_title title-ends) (closes-ends cs)
+between-ends cs =
+    if-ends (begins_title cs) (and_then (title title_names cs) after_title) (closes cs) (and-ends (title title_names cs) after_title title-ends) (closes-ends cs)
 
 destination-ends : (cs : List Code) (o : Option (Forest × List Code)) → Passes EndsIn (after_destination_of o cs)
 destination-ends cs None = closes-ends cs
 destination-ends cs (Some r) = behind-ends r.0 (between r.1) (between-ends r.1)
 
 opened-ends : (cs : List Code) → Passes EndsIn (opened cs)
-opened-ends cs = if-ends (next_is (is_value 41) cs) (closes cs) (and_then (destination 32 resource_names cs) after_destination) (closes-ends cs) (and-ends (destination 32 resource_names cs) after_destination (λ ds. destination-ends ds (space_or_tab_eol None ds)))
+opened-ends cs =
+    if-ends (next_is (is_value 41) cs) (closes cs) (and_then (destination 32 resource_names cs) after_destination) (closes-ends cs) (and-ends (destination 32 resource_names cs) after_destination (λ ds. destination-ends ds (space_or_tab_eol None ds)))
 
 inside-ends : (cs : List Code) (t : Forest) (rest : List Code) → inside cs ≡ Some (t, rest) → EndsIn t
 inside-ends cs t rest e = subst (λ o. Passes EndsIn o) e (or-ends (space_or_tab_eol None cs) opened cs opened-ends)
 
 -- So the group ends where its last code ends.
 
-exit-last : (p : Point) (x : Forest) (b : Code) → exit_after p (x ⊕ leaf_then N.ResourceMarker None (b ∷ []) empty) ≡ b.stop
+exit-last : (p : Point) (x : Forest) (b : Code) →
+    exit_after p (x ⊕ leaf_then N.ResourceMarker None (b ∷ []) empty) ≡ b.stop
 exit-last p empty b = refl
 exit-last p (leaf_then n l cs rest) b = exit-last (stop_of p cs) rest b
 exit-last p (group_then n a e i rest) b = exit-last e rest b
@@ -104,7 +112,9 @@ same-exit p q t k =
     ∙ sym (ap (λ x. stop_of q (leaf_codes x)) k.is ∙ ap (stop_of q) (leaf_codes-row k.front (leaf_then N.ResourceMarker None (k.code ∷ []) empty)) ∙ stop-more q (leaf_codes k.front) k.code)
 
 -- the whole group is passed
-group-made : (x : Code) (t : Forest) (rest : List Code) (T : Tokenizer) → EndsIn t → ahead T ≡ (x ∷ leaf_codes t) ++ rest → applied (Exit N.Resource) (past None (leaf_then N.ResourceMarker None (x ∷ []) t) (applied (Enter N.Resource) T)) ≡ past None (group N.Resource (leaf N.ResourceMarker (x ∷ []) ⊕ t)) T
+group-made : (x : Code) (t : Forest) (rest : List Code) (T : Tokenizer) → EndsIn t →
+    ahead T ≡ (x ∷ leaf_codes t) ++ rest →
+    applied (Exit N.Resource) (past None (leaf_then N.ResourceMarker None (x ∷ []) t) (applied (Enter N.Resource) T)) ≡ past None (group N.Resource (leaf N.ResourceMarker (x ∷ []) ⊕ t)) T
 group-made x t rest T k e =
     let I : Forest = leaf_then N.ResourceMarker None (x ∷ []) t in
     let first : point_of T.cursor ≡ x.start = point_ahead T.cursor x (leaf_codes t ++ rest) e in
@@ -132,11 +142,15 @@ module _ (T : Tokenizer) (x : Code) (cs : List Code) (whole : ahead T ≡ x ∷ 
 
   ready-there : PartReady T → InReady P
   unfolding past applied moved
-  ready-there p = record { part = record { short = omega (arith, left-there, p.short); indexed = p.indexed; titled = p.titled; spaces = p.spaces; rest = p.rest }; whole = refl }
+  ready-there p =
+      record { part = record { short = omega (arith, left-there, p.short); indexed = p.indexed; titled = p.titled; spaces = p.spaces; rest = p.rest }; whole = refl }
 
-  row-there : (t : Forest) (U : Tokenizer) → U ≡ applied (Exit N.Resource) (past None t (scratched P.tokenize_state P)) → U ≡ applied (Exit N.Resource) (past None (M ⊕ t) (applied (Enter N.Resource) T))
+  row-there : (t : Forest) (U : Tokenizer) →
+      U ≡ applied (Exit N.Resource) (past None t (scratched P.tokenize_state P)) →
+      U ≡ applied (Exit N.Resource) (past None (M ⊕ t) (applied (Enter N.Resource) T))
   unfolding past applied scratched
-  row-there t U e = e ∙ ap (applied (Exit N.Resource)) (past-then M t T.tokenize_state T.tokenize_state (applied (Enter N.Resource) T) P (refl, tt) refl)
+  row-there t U e =
+      e ∙ ap (applied (Exit N.Resource)) (past-then M t T.tokenize_state T.tokenize_state (applied (Enter N.Resource) T) P (refl, tt) refl)
 
   fields-there : P.tokenize_state ≡ T.tokenize_state
   unfolding past applied
@@ -169,14 +183,18 @@ module _ (T : Tokenizer) (x : Code) (cs : List Code) (whole : ahead T ≡ x ∷ 
   attempts-there e = e
 
 module _ (W : Words) (within : Within states_and_called W) where
-  refuses-here : (T : Tokenizer) → T.attempts ≡ [] → resource (ahead T) ≡ None → GoesIn W (weight_at 12 T) (resource_ends T) (stepped Nok T)
+  refuses-here : (T : Tokenizer) → T.attempts ≡ [] → resource (ahead T) ≡ None →
+      GoesIn W (weight_at 12 T) (resource_ends T) (stepped Nok T)
   refuses-here T alone none = Goes-end W (weight_at 12 T) (resource_ends T) false T alone (omega arith) lost
     where
       lost : (ok : Bool) (U : Tokenizer) → (ok ≡ false) × (U ≡ T) → resource_ends T ok U
       lost true U x = cc
-      lost false U x = record { refused = none; fails = subst (λ y. Fails T.tokenize_state T y) (sym x.1) (record { grown = Grown-refl 0 T; scratch = refl }) }
+      lost false U x =
+          record { refused = none; fails = subst (λ y. Fails T.tokenize_state T y) (sym x.1) (record { grown = Grown-refl 0 T; scratch = refl }) }
 
-  goes-in : (T : Tokenizer) → T.attempts ≡ [] → PartReady T → (x : Code) (cs : List Code) → ahead T ≡ x ∷ cs → is_value 40 x ≡ true → GoesIn W (weight_at 12 T) (resource_ends T) (stepped (Next LabelEndResourceBefore) (done (Enter N.Resource ∷ front_ops) T))
+  goes-in : (T : Tokenizer) → T.attempts ≡ [] → PartReady T → (x : Code) (cs : List Code) → ahead T ≡ x ∷ cs →
+      is_value 40 x ≡ true →
+      GoesIn W (weight_at 12 T) (resource_ends T) (stepped (Next LabelEndResourceBefore) (done (Enter N.Resource ∷ front_ops) T))
   goes-in T alone p x cs whole h =
       let A : Tokenizer = past None (leaf N.ResourceMarker (x ∷ [])) (applied (Enter N.Resource) T) in
       subst (λ (y : Tokenizer). GoesIn W (weight_at 12 T) (resource_ends T) (stepped (Next LabelEndResourceBefore) y)) (sym (opened-past T x cs whole))

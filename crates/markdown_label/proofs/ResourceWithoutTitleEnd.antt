@@ -27,11 +27,14 @@ abbrev Rests : {A : Type 0} → (List Code → Type 0) → Option (A × List Cod
 Rests P None = Unit {0}
 Rests P (Some r) = P r.1
 
-rests-bind : {A B : Type 0} (P Q : List Code → Type 0) (a : Reading A) (next : A → Reading B) (cs : List Code) → Rests P (a cs) → ((x : A) (rest : List Code) → P rest → Rests Q (next x rest)) → Rests Q ((a >>= next) cs)
+rests-bind : {A B : Type 0} (P Q : List Code → Type 0) (a : Reading A) (next : A → Reading B) (cs : List Code) →
+    Rests P (a cs) → ((x : A) (rest : List Code) → P rest → Rests Q (next x rest)) → Rests Q ((a >>= next) cs)
 unfolding ◌>>=◌
-rests-bind {A} {B} P Q a next cs h k = elim (a cs) as (λ o. Rests P o → Rests Q (elim o as (λ _. Option (B × List Code)) [ None ↦ None | Some r ↦ next r.0 r.1 ])) [ None ↦ λ h. tt | Some r ↦ λ h. k r.0 r.1 h ] h
+rests-bind {A} {B} P Q a next cs h k =
+    elim (a cs) as (λ o. Rests P o → Rests Q (elim o as (λ _. Option (B × List Code)) [ None ↦ None | Some r ↦ next r.0 r.1 ])) [ None ↦ λ h. tt | Some r ↦ λ h. k r.0 r.1 h ] h
 
-rests-passed : {B : Type 0} (Q : List Code → Type 0) (test : Bool) (b : Reading B) (cs : List Code) → Rests Q (b cs) → Rests Q ((provided test >> b) cs)
+rests-passed : {B : Type 0} (Q : List Code → Type 0) (test : Bool) (b : Reading B) (cs : List Code) → Rests Q (b cs) →
+    Rests Q ((provided test >> b) cs)
 unfolding ◌>>◌ provided
 rests-passed Q true b cs h = h
 rests-passed Q false b cs h = tt
@@ -40,11 +43,14 @@ rests-gives : {A : Type 0} (Q : List Code → Type 0) (x : A) (cs : List Code) �
 unfolding gives
 rests-gives Q x cs h = h
 
-rests-either : {A : Type 0} (Q : List Code → Type 0) (a b : Reading A) (cs : List Code) → Rests Q (a cs) → Rests Q (b cs) → Rests Q (either a b cs)
+rests-either : {A : Type 0} (Q : List Code → Type 0) (a b : Reading A) (cs : List Code) → Rests Q (a cs) →
+    Rests Q (b cs) → Rests Q (either a b cs)
 unfolding either
-rests-either {A} Q a b cs h k = elim (a cs) as (λ o. Rests Q o → Rests Q (elim o as (λ _. Option (A × List Code)) [ None ↦ b cs | Some r ↦ Some r ])) [ None ↦ λ h. k | Some r ↦ λ h. h ] h
+rests-either {A} Q a b cs h k =
+    elim (a cs) as (λ o. Rests Q o → Rests Q (elim o as (λ _. Option (A × List Code)) [ None ↦ b cs | Some r ↦ Some r ])) [ None ↦ λ h. k | Some r ↦ λ h. h ] h
 
-rests-before : {A : Type 0} (Q : List Code → Type 0) (a : Reading A) (p : List Code → Bool) (cs : List Code) → Rests Q (a cs) → Rests Q (before a p cs)
+rests-before : {A : Type 0} (Q : List Code → Type 0) (a : Reading A) (p : List Code → Bool) (cs : List Code) →
+    Rests Q (a cs) → Rests Q (before a p cs)
 unfolding before
 rests-before {A} Q a p cs h =
     elim (a cs) as (λ o. Rests Q o → Rests Q (elim o as (λ _. Option (A × List Code)) [ None ↦ None | Some r ↦ elim (p r.1) as (λ _. Option (A × List Code)) [ true ↦ Some r | false ↦ None ] ])) [
@@ -52,10 +58,12 @@ rests-before {A} Q a p cs h =
       | Some r ↦ λ h. elim (p r.1) as (λ b. Rests Q (elim b as (λ _. Option (A × List Code)) [ true ↦ Some r | false ↦ None ])) [ true ↦ h | false ↦ tt ]
     ] h
 
-rests-one : (Q : List Code → Type 0) (p : Code → Bool) (cs : List Code) → ((c : Code) (ds : List Code) → cs ≡ c ∷ ds → p c ≡ true → Q ds) → Rests Q (one p cs)
+rests-one : (Q : List Code → Type 0) (p : Code → Bool) (cs : List Code) →
+    ((c : Code) (ds : List Code) → cs ≡ c ∷ ds → p c ≡ true → Q ds) → Rests Q (one p cs)
 unfolding one
 rests-one Q p [] k = tt
-rests-one Q p (c ∷ cs) k = elim (p c) as (λ b. p c ≡ b → Rests Q (elim b as (λ _. Option (List Code × List Code)) [ true ↦ Some (c ∷ [], cs) | false ↦ None ])) [ true ↦ λ e. k c cs refl e | false ↦ λ e. tt ] refl
+rests-one Q p (c ∷ cs) k =
+    elim (p c) as (λ b. p c ≡ b → Rests Q (elim b as (λ _. Option (List Code × List Code)) [ true ↦ Some (c ∷ [], cs) | false ↦ None ])) [ true ↦ λ e. k c cs refl e | false ↦ λ e. tt ] refl
 
 -- No parenthesis, past whitespace.
 
@@ -90,7 +98,8 @@ any-rest cs h = span-rest cs h
 
 some-rest : (cs : List Code) → Unclosed cs → Rests Unclosed (some is_blank cs)
 unfolding some
-some-rest cs h = elim (is_empty (span is_blank cs).0) as (λ b. Rests Unclosed (elim b as (λ _. Option (List Code × List Code)) [ true ↦ None | false ↦ Some (span is_blank cs) ])) [ true ↦ tt | false ↦ span-rest cs h ]
+some-rest cs h =
+    elim (is_empty (span is_blank cs).0) as (λ b. Rests Unclosed (elim b as (λ _. Option (List Code × List Code)) [ true ↦ None | false ↦ Some (span is_blank cs) ])) [ true ↦ tt | false ↦ span-rest cs h ]
 
 spacing-rest : (cs : List Code) → Unclosed cs → Rests Unclosed (space_or_tab_eol None cs)
 unfolding space_or_tab_eol spaces_across spaces_on_line
@@ -121,7 +130,8 @@ after-none cs h = by-space (space_or_tab_eol None cs) refl
   where
     by-space : (o : Option (Forest × List Code)) → space_or_tab_eol None cs ≡ o → after_title cs ≡ None
     by-space None e = ap (λ x. or_without x closes cs) e ∙ closes-none cs (next-unclosed cs h)
-    by-space (Some r) e = ap (λ x. or_without x closes cs) e ∙ ap (behind r.0) (closes-none r.1 (next-unclosed r.1 (subst (λ o. Rests Unclosed o) e (spacing-rest cs h))))
+    by-space (Some r) e =
+        ap (λ x. or_without x closes cs) e ∙ ap (behind r.0) (closes-none r.1 (next-unclosed r.1 (subst (λ o. Rests Unclosed o) e (spacing-rest cs h))))
 
 -- No two parentheses with nothing but whitespace between them.
 
@@ -131,7 +141,8 @@ NoEnd cs = closes_twice cs ≡ false
 no-end-closed : (c : Code) (cs : List Code) → is_value 41 c ≡ true → NoEnd (c ∷ cs) → Unclosed cs
 no-end-closed c cs e h = sym (ap (λ b. b && closes_past_spacing cs) e) ∙ h
 
-rests-first : (Q : List Code → Type 0) (c : Code) (o : Option (List Code × List Code)) → Rests Q o → Rests Q (with_first c o)
+rests-first : (Q : List Code → Type 0) (c : Code) (o : Option (List Code × List Code)) → Rests Q o →
+    Rests Q (with_first c o)
 rests-first Q c None h = tt
 rests-first Q c (Some r) h = h
 
@@ -148,15 +159,19 @@ behind-slash c cs h =
     sym (ap (λ b. if b then closes_past_spacing cs else closes_resource (escapes true c.value) cs) (and-false (c.value == 41)) ∙ ap (λ b. closes_resource b cs) (and-false (c.value == 92)))
     ∙ h
 
-past-slash : (c : Code) (cs : List Code) (b : Bool) → takes c ≡ b → Rests NoEnd (titled false cs) → Rests NoEnd (titled true (c ∷ cs))
-past-slash c cs true e k = subst (Rests NoEnd) (sym (text-taken (is_value 41) takes (λ c. false) true c cs e)) (rests-first NoEnd c (titled false cs) k)
+past-slash : (c : Code) (cs : List Code) (b : Bool) → takes c ≡ b → Rests NoEnd (titled false cs) →
+    Rests NoEnd (titled true (c ∷ cs))
+past-slash c cs true e k =
+    subst (Rests NoEnd) (sym (text-taken (is_value 41) takes (λ c. false) true c cs e)) (rests-first NoEnd c (titled false cs) k)
 past-slash c cs false e k =
     let slash = or_parts (c.value == 92) (c.value == 41 || false) e in
     let other = or_parts (c.value == 41) false slash.1 in
     subst (Rests NoEnd) (sym (text-next (is_value 41) takes (λ c. false) true c cs e other.0 refl ∙ ap (λ b. with_first c (titled b cs)) slash.0))
     (rests-first NoEnd c (titled false cs) k)
 
-past-other : (c : Code) (cs : List Code) (b : Bool) → (c.value == 41) ≡ b → closes_resource false (c ∷ cs) ≡ false → ((slash : Bool) → closes_resource slash cs ≡ false → Rests NoEnd (titled slash cs)) → Rests NoEnd (titled false (c ∷ cs))
+past-other : (c : Code) (cs : List Code) (b : Bool) → (c.value == 41) ≡ b → closes_resource false (c ∷ cs) ≡ false →
+    ((slash : Bool) → closes_resource slash cs ≡ false → Rests NoEnd (titled slash cs)) →
+    Rests NoEnd (titled false (c ∷ cs))
 past-other c cs true e h k =
     subst (Rests NoEnd) (sym (text-stops (is_value 41) takes (λ c. false) false c cs refl e))
     (ap (λ b. b && closes_past_spacing cs) e ∙ sym (ap (λ b. if b && true then closes_past_spacing cs else closes_resource (escapes false c.value) cs) e) ∙ h)
@@ -171,17 +186,20 @@ text-rest slash [] h = subst (Rests NoEnd) (sym (text-end (is_value 41) takes (�
 text-rest true (c ∷ cs) h = past-slash c cs (takes c) refl (text-rest false cs (behind-slash c cs h))
 text-rest false (c ∷ cs) h = past-other c cs (c.value == 41) refl h (λ slash k. text-rest slash cs k)
 
-whole-rest : (cs : List Code) → closes_resource false cs ≡ false → Rests NoEnd (up_to (is_value 41) takes (λ c. false) cs)
+whole-rest : (cs : List Code) → closes_resource false cs ≡ false →
+    Rests NoEnd (up_to (is_value 41) takes (λ c. false) cs)
 unfolding up_to
 whole-rest cs h = text-rest false cs h
 
-other-value : (n m : ℕ) (c : Code) (cs ds : List Code) (d : Code) → (n == m) ≡ false → is_value n c ≡ true → c ∷ cs ≡ d ∷ ds → is_value m d ≡ true → ⊥
+other-value : (n m : ℕ) (c : Code) (cs ds : List Code) (d : Code) → (n == m) ≡ false → is_value n c ≡ true →
+    c ∷ cs ≡ d ∷ ds → is_value m d ≡ true → ⊥
 other-value n m c cs ds d other e same k = differ (sym (ap (λ v. v == m) (eqb-true c.value n e) ∙ other) ∙ ap (λ xs. next_is (is_value m) xs) same ∙ k)
   where
     differ : false ≡ true → ⊥
     differ x = cc
 
-title-rest : (c : Code) (cs : List Code) → is_value 40 c ≡ true → closes_resource false cs ≡ false → Rests Unclosed (title title_names (c ∷ cs))
+title-rest : (c : Code) (cs : List Code) → is_value 40 c ≡ true → closes_resource false cs ≡ false →
+    Rests Unclosed (title title_names (c ∷ cs))
 unfolding title title_between
 title-rest c cs e h =
     rests-either Unclosed _ _ (c ∷ cs)
@@ -192,7 +210,8 @@ title-rest c cs e h =
     rests-bind NoEnd Unclosed (up_to (is_value 41) takes (λ c. false)) _ r (whole-rest r k) λ inside r k.
     rests-bind Unclosed Unclosed (one (is_value 41)) _ r (rests-one Unclosed (is_value 41) r (λ d ds same t. no-end-closed d ds t (subst NoEnd same k))) λ back r k. rests-passed Unclosed _ _ r (rests-gives Unclosed _ r k)))
 
-pub no-title : (c : Code) (cs : List Code) → is_value 40 c ≡ true → closes_resource false cs ≡ false → between (c ∷ cs) ≡ None
+pub no-title : (c : Code) (cs : List Code) → is_value 40 c ≡ true → closes_resource false cs ≡ false →
+    between (c ∷ cs) ≡ None
 no-title c cs e h = if-true (begins_title (c ∷ cs)) _ _ (ap (λ v. v == 34 || (v == 39 || (v == 40 || false))) (eqb-true c.value 40 e)) ∙ by-title (title title_names (c ∷ cs)) refl
   where
     by-title : (o : Option (Forest × List Code)) → title title_names (c ∷ cs) ≡ o → and_then o after_title ≡ None
@@ -201,7 +220,9 @@ no-title c cs e h = if-true (begins_title (c ∷ cs)) _ _ (ap (λ v. v == 34 || 
 
 -- so it is where no closing parenthesis further on has another one behind it
 
-none-by : (b slash : Bool) (c : Code) (cs : List Code) → Titles.closes slash c.value ≡ b → closes_twice (c ∷ cs) ≡ false → closes_resource (escapes slash c.value) cs ≡ false → (if b then closes_past_spacing cs else closes_resource (escapes slash c.value) cs) ≡ false
+none-by : (b slash : Bool) (c : Code) (cs : List Code) → Titles.closes slash c.value ≡ b →
+    closes_twice (c ∷ cs) ≡ false → closes_resource (escapes slash c.value) cs ≡ false →
+    (if b then closes_past_spacing cs else closes_resource (escapes slash c.value) cs) ≡ false
 none-by true slash c cs e h k = sym (ap (λ b. b && closes_past_spacing cs) (and-left (c.value == 41) _ e)) ∙ h
 none-by false slash c cs e h k = k
 
@@ -211,5 +232,6 @@ none-from slash (c ∷ cs) h =
     let here = later-none (last_where closes_twice cs) (closes_twice (c ∷ cs)) h in
     none-by (Titles.closes slash c.value) slash c cs refl here.1 (none-from (escapes slash c.value) cs here.0)
 
-pub none-twice : (c : Code) (cs : List Code) → last_where closes_twice (c ∷ cs) ≡ None → closes_resource false cs ≡ false
+pub none-twice : (c : Code) (cs : List Code) → last_where closes_twice (c ∷ cs) ≡ None →
+    closes_resource false cs ≡ false
 none-twice c cs h = none-from false cs (later-none (last_where closes_twice cs) (closes_twice (c ∷ cs)) h).0

@@ -34,7 +34,8 @@ own_labels n (label_then f inside back tail rest) =
     own_labels (n + suc (last_of f)) inside
     ++ opening_edit n f ∷ replacing e 4 (ended back.start back.stop) ∷ replacing x 0 (closed (kind_of f) (tail_stop back tail)) ∷ own_labels x rest
 own_labels n (unused_then f rest) = own_labels (n + suc (last_of f)) rest
-own_labels n (failed_then f inside rest) = own_labels (n + suc (last_of f)) inside ++ own_labels (n + suc (last_of f) + count inside) rest
+own_labels n (failed_then f inside rest) =
+    own_labels (n + suc (last_of f)) inside ++ own_labels (n + suc (last_of f) + count inside) rest
 
 -- of the starts that become data, in the order of their places
 abbrev pub own_loose : ℕ → Brackets → List Edit
@@ -53,7 +54,8 @@ own_unused n (tree_then t rest) = own_unused (n + event_count t) rest
 own_unused n (label_then f inside back tail rest) =
     own_unused (n + suc (last_of f) + count inside + 4 + event_count (tail_row tail)) rest ++ own_unused (n + suc (last_of f)) inside
 own_unused n (unused_then f rest) = own_unused (n + suc (last_of f)) rest ++ data_edit n f ∷ []
-own_unused n (failed_then f inside rest) = own_unused (n + suc (last_of f) + count inside) rest ++ own_unused (n + suc (last_of f)) inside
+own_unused n (failed_then f inside rest) =
+    own_unused (n + suc (last_of f) + count inside) rest ++ own_unused (n + suc (last_of f)) inside
 
 -- of those whose ends failed, in the order of the ends
 abbrev pub own_failed : ℕ → Brackets → List Edit
@@ -78,7 +80,8 @@ within-append lo hi (e ∷ a) b g h = (g.0, within-append lo hi a b g.1 h)
 
 within-wider : (lo hi low high : ℕ) (a : List Edit) → low ≤ lo → hi ≤ high → Within lo hi a → Within low high a
 within-wider lo hi low high [] l h g = tt
-within-wider lo hi low high (e ∷ a) l h g = ((omega (arith, g.0.0), (omega (arith, g.0.1.0), g.0.1.1)), within-wider lo hi low high a l h g.1)
+within-wider lo hi low high (e ∷ a) l h g =
+    ((omega (arith, g.0.0), (omega (arith, g.0.1.0), g.0.1.1)), within-wider lo hi low high a l h g.1)
 
 abbrev come : ℕ → ℕ → List Event → List Event
 come n i es = cond (n == i && true) es []
@@ -128,7 +131,8 @@ within-labels n (failed_then f inside rest) =
     (within-wider e (e + count rest + 1) n hi (own_labels e rest) (omega arith) (omega arith) (within-labels e rest))
 
 -- two stretches, one after the other
-two-within : (n i e hi : ℕ) (inside rest : Brackets) (a b : List Edit) → n ≤ i → i + count inside ≤ e → e + count rest ≤ hi → Within i (i + count inside) a → Within e (e + count rest) b → Within n hi (a ++ b)
+two-within : (n i e hi : ℕ) (inside rest : Brackets) (a b : List Edit) → n ≤ i → i + count inside ≤ e →
+    e + count rest ≤ hi → Within i (i + count inside) a → Within e (e + count rest) b → Within n hi (a ++ b)
 two-within n i e hi inside rest a b g h k u v =
     within-append n hi a b (within-wider i (i + count inside) n hi a g (omega arith) u) (within-wider e (e + count rest) n hi b (omega arith) k v)
 
@@ -149,7 +153,8 @@ within-loose n (failed_then f inside rest) =
     ((omega arith, (omega arith, refl)), two-within n i e (n + (suc (last_of f) + (count inside + count rest))) inside rest (own_loose i inside) (own_loose e rest) (omega arith) (omega arith) (omega arith) (within-loose i inside) (within-loose e rest))
 
 -- two stretches, the later one first
-two-back : (n i e hi : ℕ) (inside rest : Brackets) (a b : List Edit) → n ≤ i → i + count inside ≤ e → e + count rest ≤ hi → Within i (i + count inside) a → Within e (e + count rest) b → Within n hi (b ++ a)
+two-back : (n i e hi : ℕ) (inside rest : Brackets) (a b : List Edit) → n ≤ i → i + count inside ≤ e →
+    e + count rest ≤ hi → Within i (i + count inside) a → Within e (e + count rest) b → Within n hi (b ++ a)
 two-back n i e hi inside rest a b g h k u v =
     within-append n hi b a (within-wider e (e + count rest) n hi b (omega arith) k v) (within-wider i (i + count inside) n hi a g (omega arith) u)
 
@@ -192,19 +197,22 @@ within-failed n (failed_then f inside rest) =
 -- What comes at a place.
 
 -- a start's edit, as parts
-opens-come : (n i : ℕ) (f : Front) (es : List Event) (parts : List Part) → back_at i (edits_from n (comes es ∷ going_of (start_events f) ∷ parts)) ≡ come n i es ++ back_at i (edits_from (n + suc (last_of f)) parts)
+opens-come : (n i : ℕ) (f : Front) (es : List Event) (parts : List Part) →
+    back_at i (edits_from n (comes es ∷ going_of (start_events f) ∷ parts)) ≡ come n i es ++ back_at i (edits_from (n + suc (last_of f)) parts)
 opens-come n i (link_front c) es parts = ap (λ x. come n i es ++ x) (back-going i n 4 (edits_from (n + 4) parts))
 opens-come n i (image_front c d) es parts = ap (λ x. come n i es ++ x) (back-going i n 6 (edits_from (n + 6) parts))
 opens-come n i (call_front c d) es parts = ap (λ x. come n i es ++ x) (back-going i n 6 (edits_from (n + 6) parts))
 opens-come n i (caret_front c d) es parts = ap (λ x. come n i es ++ x) (back-going i n 6 (edits_from (n + 6) parts))
 
 -- the edits of an end, as parts
-ends-come : (e i : ℕ) (f : Front) (back : Code) (tail : Tail) (parts : List Part) → back_at i (edits_from e (behind_end f back tail parts)) ≡ come e i (ended back.start back.stop) ++ (come (e + 4 + event_count (tail_row tail)) i (closed (kind_of f) (tail_stop back tail)) ++ back_at i (edits_from (e + 4 + event_count (tail_row tail)) parts))
+ends-come : (e i : ℕ) (f : Front) (back : Code) (tail : Tail) (parts : List Part) →
+    back_at i (edits_from e (behind_end f back tail parts)) ≡ come e i (ended back.start back.stop) ++ (come (e + 4 + event_count (tail_row tail)) i (closed (kind_of f) (tail_stop back tail)) ++ back_at i (edits_from (e + 4 + event_count (tail_row tail)) parts))
 ends-come e i f back tail parts =
     ap (λ x. come e i (ended back.start back.stop) ++ x) (back-going i e 4 (edits_from (e + 4) (stays (tail_row tail) ∷ comes (closed (kind_of f) (tail_stop back tail)) ∷ parts)))
 
 abbrev Whole : (a d o e c r s m : List Event) → Type 0
-Whole a d o e c r s m = o ++ ((a ++ d) ++ (e ++ (c ++ ((r ++ s) ++ m)))) ≡ ((a ++ (o ++ (e ++ (c ++ r)))) ++ (d ++ s)) ++ m
+Whole a d o e c r s m =
+    o ++ ((a ++ d) ++ (e ++ (c ++ ((r ++ s) ++ m)))) ≡ ((a ++ (o ++ (e ++ (c ++ r)))) ++ (d ++ s)) ++ m
 
 whole-one : (a d o e c r s m : List Event) → a ≡ [] → d ≡ [] → Whole a d o e c r s m
 whole-one a d o e c r s m g h = rw (g, h) (simp append_assoc refl)
@@ -218,7 +226,8 @@ whole-three a d o e c r s m g h = rw (g, h) (simp (append_assoc, append-nil) ref
 abbrev Comes : Brackets → Type 0
 Comes b = (n i : ℕ) (more : List Part) → back_at i (edits_from n (parts_of b ++ more)) ≡ (back_at i (own_labels n b) ++ back_at i (own_loose n b)) ++ back_at i (edits_from (n + count b) more)
 
-label-comes : (f : Front) (inside : Brackets) (back : Code) (tail : Tail) (rest : Brackets) → Comes inside → Comes rest → Comes (label_then f inside back tail rest)
+label-comes : (f : Front) (inside : Brackets) (back : Code) (tail : Tail) (rest : Brackets) → Comes inside →
+    Comes rest → Comes (label_then f inside back tail rest)
 label-comes f inside back tail rest in_law rest_law n i more =
     let k : ℕ = n + suc (last_of f) in
     let e : ℕ = k + count inside in
@@ -324,7 +333,8 @@ failed-comes f inside rest in_law rest_law n i more =
 pub comes-all : (b : Brackets) → Comes b
 comes-all nothing n i more = ap (λ j. back_at i (edits_from j more)) (omega arith)
 comes-all (tree_then t rest) n i more = tree-comes t rest (comes-all rest) n i more
-comes-all (label_then f inside back tail rest) n i more = label-comes f inside back tail rest (comes-all inside) (comes-all rest) n i more
+comes-all (label_then f inside back tail rest) n i more =
+    label-comes f inside back tail rest (comes-all inside) (comes-all rest) n i more
 comes-all (unused_then f rest) n i more = unused-comes f rest (comes-all rest) n i more
 comes-all (failed_then f inside rest) n i more = failed-comes f inside rest (comes-all inside) (comes-all rest) n i more
 
@@ -333,7 +343,8 @@ comes-all (failed_then f inside rest) n i more = failed-comes f inside rest (com
 abbrev go : ℕ → ℕ → ℕ → ℕ
 go n i k = cond (n == i) k 0
 
-opens-go : (n i : ℕ) (f : Front) (es : List Event) (parts : List Part) → removed_at i (edits_from n (comes es ∷ going_of (start_events f) ∷ parts)) ≡ go n i (suc (last_of f)) + removed_at i (edits_from (n + suc (last_of f)) parts)
+opens-go : (n i : ℕ) (f : Front) (es : List Event) (parts : List Part) →
+    removed_at i (edits_from n (comes es ∷ going_of (start_events f) ∷ parts)) ≡ go n i (suc (last_of f)) + removed_at i (edits_from (n + suc (last_of f)) parts)
 opens-go n i (link_front c) es parts = removed-coming i n es (going n 4 ∷ edits_from (n + 4) parts)
 opens-go n i (image_front c d) es parts = removed-coming i n es (going n 6 ∷ edits_from (n + 6) parts)
 opens-go n i (call_front c d) es parts = removed-coming i n es (going n 6 ∷ edits_from (n + 6) parts)
@@ -346,7 +357,8 @@ go-none n i = zero-of (n == i)
     zero-of true = refl
     zero-of false = refl
 
-ends-go : (e i : ℕ) (f : Front) (back : Code) (tail : Tail) (parts : List Part) → removed_at i (edits_from e (behind_end f back tail parts)) ≡ go e i 4 + removed_at i (edits_from (e + 4 + event_count (tail_row tail)) parts)
+ends-go : (e i : ℕ) (f : Front) (back : Code) (tail : Tail) (parts : List Part) →
+    removed_at i (edits_from e (behind_end f back tail parts)) ≡ go e i 4 + removed_at i (edits_from (e + 4 + event_count (tail_row tail)) parts)
 ends-go e i f back tail parts =
     let x : ℕ = e + 4 + event_count (tail_row tail) in
     removed-coming i e (ended back.start back.stop) (going e 4 ∷ coming x (closed (kind_of f) (tail_stop back tail)) ∷ edits_from x parts)
@@ -356,7 +368,8 @@ abbrev Goes : Brackets → Type 0
 Goes b = (n i : ℕ) (more : List Part) → removed_at i (edits_from n (parts_of b ++ more)) ≡ (removed_at i (own_labels n b) + removed_at i (own_loose n b)) + removed_at i (edits_from (n + count b) more)
 
 pub goes-all : (b : Brackets) → Goes b
-goes-all nothing n i more = let e : n ≡ n + 0 = omega arith in ap (λ j. removed_at i (edits_from j more)) e ∙ omega arith
+goes-all nothing n i more =
+    let e : n ≡ n + 0 = omega arith in ap (λ j. removed_at i (edits_from j more)) e ∙ omega arith
 goes-all (tree_then t rest) n i more =
     goes-all rest (n + event_count t) i more
     ∙ ap (λ j. (removed_at i (own_labels (n + event_count t) rest) + removed_at i (own_loose (n + event_count t) rest)) + removed_at i (edits_from j more)) (omega arith)
@@ -409,16 +422,19 @@ unused-place r s o g = rw g (simp append-nil refl)
 unused-off : (r s o : List Event) → o ≡ [] → (r ++ (o ++ [])) ++ s ≡ o ++ (r ++ s)
 unused-off r s o g = rw g (simp append-nil refl)
 
-failed-place : (b c r s o : List Event) → b ≡ [] → c ≡ [] → r ≡ [] → (r ++ b) ++ (c ++ (o ++ s)) ≡ o ++ ((b ++ c) ++ (r ++ s))
+failed-place : (b c r s o : List Event) → b ≡ [] → c ≡ [] → r ≡ [] →
+    (r ++ b) ++ (c ++ (o ++ s)) ≡ o ++ ((b ++ c) ++ (r ++ s))
 failed-place b c r s o g h k = rw (g, h, k) refl
 
-failed-off : (b c r s o : List Event) → o ≡ [] → (r ++ b) ++ (c ++ s) ≡ (b ++ c) ++ (r ++ s) → (r ++ b) ++ (c ++ (o ++ s)) ≡ o ++ ((b ++ c) ++ (r ++ s))
+failed-off : (b c r s o : List Event) → o ≡ [] → (r ++ b) ++ (c ++ s) ≡ (b ++ c) ++ (r ++ s) →
+    (r ++ b) ++ (c ++ (o ++ s)) ≡ o ++ ((b ++ c) ++ (r ++ s))
 failed-off b c r s o g h = rw g h
 
 abbrev LooseComes : Brackets → Type 0
 LooseComes b = (n i : ℕ) → back_at i (own_unused n b) ++ back_at i (own_failed n b) ≡ back_at i (own_loose n b)
 
-two-loose : (k x i : ℕ) (inside rest : Brackets) → k + count inside ≤ x → (back_at i (own_unused x rest) ++ back_at i (own_unused k inside)) ++ (back_at i (own_failed k inside) ++ back_at i (own_failed x rest)) ≡ (back_at i (own_unused k inside) ++ back_at i (own_failed k inside)) ++ (back_at i (own_unused x rest) ++ back_at i (own_failed x rest))
+two-loose : (k x i : ℕ) (inside rest : Brackets) → k + count inside ≤ x →
+    (back_at i (own_unused x rest) ++ back_at i (own_unused k inside)) ++ (back_at i (own_failed k inside) ++ back_at i (own_failed x rest)) ≡ (back_at i (own_unused k inside) ++ back_at i (own_failed k inside)) ++ (back_at i (own_unused x rest) ++ back_at i (own_failed x rest))
 two-loose k x i inside rest l = elim (leb_tells (k + count inside) i) [
   | inl t ↦
       loose-late (back_at i (own_unused k inside)) (back_at i (own_failed k inside)) (back_at i (own_unused x rest)) (back_at i (own_failed x rest))
@@ -475,7 +491,8 @@ loose-comes (failed_then f inside rest) n i =
     ∙ ap (λ xs. o ++ (back_at i (own_loose k inside) ++ xs)) (loose-comes rest e i)
     ∙ ap (λ xs. o ++ xs) (sym (back-append i (own_loose k inside) (own_loose e rest)))
 
-pub loose-goes : (b : Brackets) (n i : ℕ) → removed_at i (own_unused n b) + removed_at i (own_failed n b) ≡ removed_at i (own_loose n b)
+pub loose-goes : (b : Brackets) (n i : ℕ) →
+    removed_at i (own_unused n b) + removed_at i (own_failed n b) ≡ removed_at i (own_loose n b)
 loose-goes nothing n i = refl
 loose-goes (tree_then t rest) n i = loose-goes rest (n + event_count t) i
 loose-goes (label_then f inside back tail rest) n i =
@@ -521,7 +538,8 @@ own-goes b i =
     omega (arith, one, two, three, four, five)
 
 pub own-does : (b : Brackets) → Does (own b) (parts_of b)
-own-does b = record { added = λ i. ap (λ xs. xs ++ back_at i (own b)) (front-within 0 (count b + 1) i (own b) (own-within b)) ∙ own-comes b i; removed = own-goes b }
+own-does b =
+    record { added = λ i. ap (λ xs. xs ++ back_at i (own b)) (front-within 0 (count b + 1) i (own b) (own-within b)) ∙ own-comes b i; removed = own-goes b }
 
 within-places : (hi : ℕ) (log : List Edit) → Within 0 (hi + 1) log → All (λ e. e.at ≤ hi) log
 within-places hi [] h = All-nil (λ e. e.at ≤ hi)

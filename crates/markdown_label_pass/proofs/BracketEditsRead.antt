@@ -9,7 +9,8 @@ use Rattle.markdown_engine_content.specs.declared.event.Kind.{Kind}
 use Rattle.markdown_engine.specs.declared.tokenizer.Label.{Label}
 use Rattle.markdown_engine_events.specs.declared.util.edit_map.Edit.{Edit}
 use Rattle.markdown_engine.proofs.TreeEvents.{length-appended_from}
-use Rattle.markdown_label_pass.specs.Brackets.{Front, link_front, image_front, call_front, caret_front, kind_of, end_row, Tail, no_tail, one_tail, tail_row, Brackets, nothing, tree_then, label_then, unused_then, failed_then, flat, IsApart, last_of, count, numbers_of, labels_at, unused_at, failed_at, place_at, opened, opened_of, ended, closed, as_data, first_start, last_stop, start_events, end_events, tail_stop, replacing, label_edits, labels_edits, loose_edit, loose_edits}
+use Rattle.markdown_label_pass.specs.Brackets.{Front, link_front, image_front, call_front, caret_front, kind_of, end_row, Tail, no_tail, one_tail, tail_row, Brackets, nothing, tree_then, label_then, unused_then, failed_then, flat, IsApart, last_of, count, numbers_of}
+use Rattle.markdown_label_pass.specs.Brackets.{labels_at, unused_at, failed_at, place_at, opened, opened_of, ended, closed, as_data, first_start, last_stop, start_events, end_events, tail_stop, replacing, label_edits, labels_edits, loose_edit, loose_edits}
 use Rattle.markdown_label_pass.proofs.EventsOfBrackets.{row-then, start-then, flat-then, tail-last, count-is}
 use Rattle.markdown_label_pass.proofs.BracketEdits.{opening_edit, data_edit, own_labels, own_unused, own_failed}
 
@@ -42,20 +43,23 @@ start-length (image_front c d) = refl
 start-length (call_front c d) = refl
 start-length (caret_front c d) = refl
 
-opened-read : (f : Front) (ys : List Event) → opened (kind_of f) (place_at (start_events f ++ ys) 0) (place_at (start_events f ++ ys) 2) (place_at (start_events f ++ ys) 3) (place_at (start_events f ++ ys) (last_of f)) ≡ opened_of f
+opened-read : (f : Front) (ys : List Event) →
+    opened (kind_of f) (place_at (start_events f ++ ys) 0) (place_at (start_events f ++ ys) 2) (place_at (start_events f ++ ys) 3) (place_at (start_events f ++ ys) (last_of f)) ≡ opened_of f
 opened-read (link_front c) ys = refl
 opened-read (image_front c d) ys = refl
 opened-read (call_front c d) ys = refl
 opened-read (caret_front c d) ys = refl
 
-data-read : (f : Front) (ys : List Event) → as_data (place_at (start_events f ++ ys) 0) (place_at (start_events f ++ ys) (last_of f)) ≡ as_data (first_start f) (last_stop f)
+data-read : (f : Front) (ys : List Event) →
+    as_data (place_at (start_events f ++ ys) 0) (place_at (start_events f ++ ys) (last_of f)) ≡ as_data (first_start f) (last_stop f)
 data-read (link_front c) ys = refl
 data-read (image_front c d) ys = refl
 data-read (call_front c d) ys = refl
 data-read (caret_front c d) ys = refl
 
 edit-is : (n m k j : ℕ) (xs ys : List Event) → n ≡ m → k ≡ j → xs ≡ ys → replacing n k xs ≡ replacing m j ys
-edit-is n m k j xs ys g h l = ap (λ i. replacing i k xs) g ∙ ap (λ i. replacing m i xs) h ∙ ap (λ zs. replacing m j zs) l
+edit-is n m k j xs ys g h l =
+    ap (λ i. replacing i k xs) g ∙ ap (λ i. replacing m i xs) h ∙ ap (λ zs. replacing m j zs) l
 
 -- where events begin with those of a start
 module _ (es : List Event) (n : ℕ) (f : Front) (ys : List Event) (there : drop n es ≡ start_events f ++ ys) where
@@ -92,7 +96,9 @@ module _ (es : List Event) (e : ℕ) (back : Code) (ys : List Event) (there : dr
   behind-end = drop-part e 4 es (end_events back) ys there refl
 
 -- where the last event of a label stands
-last-place : (es : List Event) (e : ℕ) (back : Code) (tail : Tail) (ys : List Event) → drop e es ≡ end_events back ++ (appended_from (e + 4) None (tail_row tail) ++ ys) → place_at es (e + 4 + event_count (tail_row tail) - 1) ≡ tail_stop back tail
+last-place : (es : List Event) (e : ℕ) (back : Code) (tail : Tail) (ys : List Event) →
+    drop e es ≡ end_events back ++ (appended_from (e + 4) None (tail_row tail) ++ ys) →
+    place_at es (e + 4 + event_count (tail_row tail) - 1) ≡ tail_stop back tail
 last-place es e back no_tail ys there = place-drop es e (e + 4 + 0 - 1) 3 (omega arith) ∙ ap (λ xs. place_at xs 3) there
 last-place es e back (one_tail name a b inside) ys there =
     let inner : List Event = appended_from (e + 4 + 1) None inside in
@@ -105,7 +111,9 @@ last-place es e back (one_tail name a b inside) ys there =
     ∙ ap (λ xs. place_at xs (event_count inside)) split
     ∙ here
 
-closing-read : (es : List Event) (e : ℕ) (f : Front) (back : Code) (tail : Tail) (ys : List Event) → drop e es ≡ end_events back ++ (appended_from (e + 4) None (tail_row tail) ++ ys) → replacing (e + 4 + event_count (tail_row tail) - 1 + 1) 0 (closed (kind_of f) (place_at es (e + 4 + event_count (tail_row tail) - 1))) ≡ replacing (e + 4 + event_count (tail_row tail)) 0 (closed (kind_of f) (tail_stop back tail))
+closing-read : (es : List Event) (e : ℕ) (f : Front) (back : Code) (tail : Tail) (ys : List Event) →
+    drop e es ≡ end_events back ++ (appended_from (e + 4) None (tail_row tail) ++ ys) →
+    replacing (e + 4 + event_count (tail_row tail) - 1 + 1) 0 (closed (kind_of f) (place_at es (e + 4 + event_count (tail_row tail) - 1))) ≡ replacing (e + 4 + event_count (tail_row tail)) 0 (closed (kind_of f) (tail_stop back tail))
 closing-read es e f back tail ys there =
     edit-is (e + 4 + event_count (tail_row tail) - 1 + 1) (e + 4 + event_count (tail_row tail)) 0 0 (closed (kind_of f) (place_at es (e + 4 + event_count (tail_row tail) - 1))) (closed (kind_of f) (tail_stop back tail)) (omega arith) refl (ap (closed (kind_of f)) (last-place es e back tail ys there))
 
@@ -121,7 +129,9 @@ record LabelThere (es : List Event) (n : ℕ) (f : Front) (inside : Brackets) (b
   end : drop (n + suc (last_of f) + count inside) es ≡ end_events back ++ (appended_from (n + suc (last_of f) + count inside + 4) None (tail_row tail) ++ after)
   rest_there : drop (n + suc (last_of f) + count inside + 4 + event_count (tail_row tail)) es ≡ appended_from (n + suc (last_of f) + count inside + 4 + event_count (tail_row tail)) None (flat rest) ++ ys
 
-label-there : (es : List Event) (n : ℕ) (f : Front) (inside : Brackets) (back : Code) (tail : Tail) (rest : Brackets) (ys : List Event) → IsApart inside → drop n es ≡ appended_from n None (flat (label_then f inside back tail rest)) ++ ys → LabelThere es n f inside back tail rest ys
+label-there : (es : List Event) (n : ℕ) (f : Front) (inside : Brackets) (back : Code) (tail : Tail) (rest : Brackets) (ys : List Event) →
+    IsApart inside → drop n es ≡ appended_from n None (flat (label_then f inside back tail rest)) ++ ys →
+    LabelThere es n f inside back tail rest ys
 label-there es n f inside back tail rest ys h there =
     let k : ℕ = n + suc (last_of f) in
     let e : ℕ = k + count inside in
@@ -144,10 +154,13 @@ label-there es n f inside back tail rest ys h there =
       inner = inner;
       after = last;
       end = end;
-      rest_there = drop-part g (event_count (tail_row tail)) es (appended_from g None (tail_row tail)) last (behind-end es e back (appended_from g None (tail_row tail) ++ last) end) (length-appended_from g None (tail_row tail));
+      rest_there =
+          drop-part g (event_count (tail_row tail)) es (appended_from g None (tail_row tail)) last (behind-end es e back (appended_from g None (tail_row tail) ++ last) end) (length-appended_from g None (tail_row tail));
     }
 
-tree-there : (es : List Event) (n : ℕ) (t : Forest) (rest : Brackets) (ys : List Event) → IsApart (tree_then t rest) → drop n es ≡ appended_from n None (t ⊕ flat rest) ++ ys → drop (n + event_count t) es ≡ appended_from (n + event_count t) None (flat rest) ++ ys
+tree-there : (es : List Event) (n : ℕ) (t : Forest) (rest : Brackets) (ys : List Event) → IsApart (tree_then t rest) →
+    drop n es ≡ appended_from n None (t ⊕ flat rest) ++ ys →
+    drop (n + event_count t) es ≡ appended_from (n + event_count t) None (flat rest) ++ ys
 tree-there es n t rest ys h there =
     drop-part n (event_count t) es (appended_from n None t) (appended_from (n + event_count t) None (flat rest) ++ ys) (there ∙ row-then n t (flat rest) ys (h.0 n)) (length-appended_from n None t)
 
@@ -158,7 +171,8 @@ record FailedThere (es : List Event) (n : ℕ) (f : Front) (inside rest : Bracke
   inner : drop (n + suc (last_of f)) es ≡ appended_from (n + suc (last_of f)) None (flat inside) ++ behind
   rest_there : drop (n + suc (last_of f) + count inside) es ≡ appended_from (n + suc (last_of f) + count inside) None (flat rest) ++ ys
 
-failed-there : (es : List Event) (n : ℕ) (f : Front) (inside rest : Brackets) (ys : List Event) → IsApart inside → drop n es ≡ appended_from n None (flat (failed_then f inside rest)) ++ ys → FailedThere es n f inside rest ys
+failed-there : (es : List Event) (n : ℕ) (f : Front) (inside rest : Brackets) (ys : List Event) → IsApart inside →
+    drop n es ≡ appended_from n None (flat (failed_then f inside rest)) ++ ys → FailedThere es n f inside rest ys
 failed-there es n f inside rest ys h there =
     let k : ℕ = n + suc (last_of f) in
     let e : ℕ = k + count inside in
@@ -170,7 +184,8 @@ failed-there es n f inside rest ys h there =
       start = start;
       behind = appended_from e None (flat rest) ++ ys;
       inner = inner;
-      rest_there = drop-part k (count inside) es (appended_from k None (flat inside)) (appended_from e None (flat rest) ++ ys) inner (length-appended_from k None (flat inside) ∙ count-is inside);
+      rest_there =
+          drop-part k (count inside) es (appended_from k None (flat inside)) (appended_from e None (flat rest) ++ ys) inner (length-appended_from k None (flat inside) ∙ count-is inside);
     }
 
 record UnusedThere (es : List Event) (n : ℕ) (f : Front) (rest : Brackets) (ys : List Event) : Type 0 where
@@ -178,7 +193,8 @@ record UnusedThere (es : List Event) (n : ℕ) (f : Front) (rest : Brackets) (ys
   start : drop n es ≡ start_events f ++ more
   rest_there : drop (n + suc (last_of f)) es ≡ appended_from (n + suc (last_of f)) None (flat rest) ++ ys
 
-unused-there : (es : List Event) (n : ℕ) (f : Front) (rest : Brackets) (ys : List Event) → drop n es ≡ appended_from n None (flat (unused_then f rest)) ++ ys → UnusedThere es n f rest ys
+unused-there : (es : List Event) (n : ℕ) (f : Front) (rest : Brackets) (ys : List Event) →
+    drop n es ≡ appended_from n None (flat (unused_then f rest)) ++ ys → UnusedThere es n f rest ys
 unused-there es n f rest ys there =
     let k : ℕ = n + suc (last_of f) in
     let start : drop n es ≡ start_events f ++ (appended_from k None (flat rest) ++ ys) = there ∙ start-then n f (flat rest) ys in
@@ -186,20 +202,24 @@ unused-there es n f rest ys there =
 
 -- The lists.
 
-pub labels_edits-append : (es : List Event) (a b : List Label) → labels_edits es (a ++ b) ≡ labels_edits es a ++ labels_edits es b
+pub labels_edits-append : (es : List Event) (a b : List Label) →
+    labels_edits es (a ++ b) ≡ labels_edits es a ++ labels_edits es b
 labels_edits-append es [] b = refl
 labels_edits-append es (l ∷ a) b = ap (λ xs. label_edits es l ++ xs) (labels_edits-append es a b)
 
-pub loose_edits-append : (es : List Event) (a b : List (ℕ × ℕ)) → loose_edits es (a ++ b) ≡ loose_edits es a ++ loose_edits es b
+pub loose_edits-append : (es : List Event) (a b : List (ℕ × ℕ)) →
+    loose_edits es (a ++ b) ≡ loose_edits es a ++ loose_edits es b
 loose_edits-append es [] b = refl
 loose_edits-append es (s ∷ a) b = ap (λ xs. loose_edit es s ∷ xs) (loose_edits-append es a b)
 
 three : (a b c d e f : Edit) (xs ys : List Edit) → a ≡ d → b ≡ e → c ≡ f → xs ≡ ys → a ∷ b ∷ c ∷ xs ≡ d ∷ e ∷ f ∷ ys
 three a b c d e f xs ys g h k l = cc
 
-pub labels-read : (es : List Event) (n : ℕ) (b : Brackets) (ys : List Event) → IsApart b → drop n es ≡ appended_from n None (flat b) ++ ys → labels_edits es (labels_at n b) ≡ own_labels n b
+pub labels-read : (es : List Event) (n : ℕ) (b : Brackets) (ys : List Event) → IsApart b →
+    drop n es ≡ appended_from n None (flat b) ++ ys → labels_edits es (labels_at n b) ≡ own_labels n b
 labels-read es n nothing ys h there = refl
-labels-read es n (tree_then t rest) ys h there = labels-read es (n + event_count t) rest ys h.1 (tree-there es n t rest ys h there)
+labels-read es n (tree_then t rest) ys h there =
+    labels-read es (n + event_count t) rest ys h.1 (tree-there es n t rest ys h there)
 labels-read es n (label_then f inside back tail rest) ys h there =
     let l = label-there es n f inside back tail rest ys h.0 there in
     let k : ℕ = n + suc (last_of f) in
@@ -221,9 +241,11 @@ labels-read es n (failed_then f inside rest) ys h there =
     ∙ ap (λ xs. xs ++ labels_edits es (labels_at e rest)) (labels-read es k inside l.behind h.0 l.inner)
     ∙ ap (λ xs. own_labels k inside ++ xs) (labels-read es e rest ys h.1 l.rest_there)
 
-pub unused-read : (es : List Event) (n : ℕ) (b : Brackets) (ys : List Event) → IsApart b → drop n es ≡ appended_from n None (flat b) ++ ys → loose_edits es (unused_at n b) ≡ own_unused n b
+pub unused-read : (es : List Event) (n : ℕ) (b : Brackets) (ys : List Event) → IsApart b →
+    drop n es ≡ appended_from n None (flat b) ++ ys → loose_edits es (unused_at n b) ≡ own_unused n b
 unused-read es n nothing ys h there = refl
-unused-read es n (tree_then t rest) ys h there = unused-read es (n + event_count t) rest ys h.1 (tree-there es n t rest ys h there)
+unused-read es n (tree_then t rest) ys h there =
+    unused-read es (n + event_count t) rest ys h.1 (tree-there es n t rest ys h there)
 unused-read es n (label_then f inside back tail rest) ys h there =
     let l = label-there es n f inside back tail rest ys h.0 there in
     let k : ℕ = n + suc (last_of f) in
@@ -245,9 +267,11 @@ unused-read es n (failed_then f inside rest) ys h there =
     ∙ ap (λ xs. xs ++ loose_edits es (unused_at k inside)) (unused-read es e rest ys h.1 l.rest_there)
     ∙ ap (λ xs. own_unused e rest ++ xs) (unused-read es k inside l.behind h.0 l.inner)
 
-pub failed-read : (es : List Event) (n : ℕ) (b : Brackets) (ys : List Event) → IsApart b → drop n es ≡ appended_from n None (flat b) ++ ys → loose_edits es (failed_at n b) ≡ own_failed n b
+pub failed-read : (es : List Event) (n : ℕ) (b : Brackets) (ys : List Event) → IsApart b →
+    drop n es ≡ appended_from n None (flat b) ++ ys → loose_edits es (failed_at n b) ≡ own_failed n b
 failed-read es n nothing ys h there = refl
-failed-read es n (tree_then t rest) ys h there = failed-read es (n + event_count t) rest ys h.1 (tree-there es n t rest ys h there)
+failed-read es n (tree_then t rest) ys h there =
+    failed-read es (n + event_count t) rest ys h.1 (tree-there es n t rest ys h there)
 failed-read es n (label_then f inside back tail rest) ys h there =
     let l = label-there es n f inside back tail rest ys h.0 there in
     let k : ℕ = n + suc (last_of f) in

@@ -25,7 +25,8 @@ flat-behind (label_then f inside back tail rest) c =
     ∙ ap (λ x. start_row f ⊕ (flat inside ⊕ x)) (sym (row-assoc (end_row back) (tail_row tail ⊕ flat rest) (flat c)))
     ∙ ap (λ x. start_row f ⊕ x) (sym (row-assoc (flat inside) (end_row back ⊕ (tail_row tail ⊕ flat rest)) (flat c)))
     ∙ sym (row-assoc (start_row f) (flat inside ⊕ (end_row back ⊕ (tail_row tail ⊕ flat rest))) (flat c))
-flat-behind (unused_then f rest) c = ap (λ x. start_row f ⊕ x) (flat-behind rest c) ∙ sym (row-assoc (start_row f) (flat rest) (flat c))
+flat-behind (unused_then f rest) c =
+    ap (λ x. start_row f ⊕ x) (flat-behind rest c) ∙ sym (row-assoc (start_row f) (flat rest) (flat c))
 flat-behind (failed_then f inside rest) c =
     ap (λ x. start_row f ⊕ (flat inside ⊕ x)) (flat-behind rest c)
     ∙ ap (λ x. start_row f ⊕ x) (sym (row-assoc (flat inside) (flat rest) (flat c)))
@@ -144,7 +145,8 @@ at-zero : (b : Brackets) → 0 + count b ≡ count b
 at-zero b = omega arith
 
 -- where an end makes a label, its events come, its start is no longer waiting, and the label is the last one
-pub labelled-flat : (a : Brackets) (f : Front) (inside : Brackets) (back : Code) (tail : Tail) → flat (labelled a f inside back tail) ≡ flat (waiting a f inside) ⊕ (end_row back ⊕ tail_row tail)
+pub labelled-flat : (a : Brackets) (f : Front) (inside : Brackets) (back : Code) (tail : Tail) →
+    flat (labelled a f inside back tail) ≡ flat (waiting a f inside) ⊕ (end_row back ⊕ tail_row tail)
 labelled-flat a f inside back tail =
     flat-behind a (label_then f inside back tail nothing)
     ∙ ap (λ x. flat a ⊕ (start_row f ⊕ (flat inside ⊕ (end_row back ⊕ x)))) (row-empty (tail_row tail))
@@ -152,7 +154,8 @@ labelled-flat a f inside back tail =
     ∙ sym (row-assoc (flat a) (start_row f ⊕ flat inside) (end_row back ⊕ tail_row tail))
     ∙ ap (λ x. x ⊕ (end_row back ⊕ tail_row tail)) (sym (flat-behind a (unused_then f inside)))
 
-pub labelled-labels : (a : Brackets) (f : Front) (inside : Brackets) (back : Code) (tail : Tail) → labels_at 0 (labelled a f inside back tail) ≡ labels_at 0 (waiting a f inside) ++ new_label a f inside tail ∷ []
+pub labelled-labels : (a : Brackets) (f : Front) (inside : Brackets) (back : Code) (tail : Tail) →
+    labels_at 0 (labelled a f inside back tail) ≡ labels_at 0 (waiting a f inside) ++ new_label a f inside tail ∷ []
 labelled-labels a f inside back tail =
     let k : ℕ = count a + suc (last_of f) in
     labels-behind 0 a (label_then f inside back tail nothing)
@@ -161,17 +164,20 @@ labelled-labels a f inside back tail =
     ∙ ap (λ i. (labels_at 0 a ++ labels_at (i + suc (last_of f)) inside) ++ new_label a f inside tail ∷ []) (sym (at-zero a))
     ∙ ap (λ ls. ls ++ new_label a f inside tail ∷ []) (sym (labels-behind 0 a (unused_then f inside)))
 
-pub waiting-unused : (a : Brackets) (f : Front) (inside : Brackets) → IsClosed inside → unused_at 0 (waiting a f inside) ≡ numbers_of (count a) f ∷ unused_at 0 a
+pub waiting-unused : (a : Brackets) (f : Front) (inside : Brackets) → IsClosed inside →
+    unused_at 0 (waiting a f inside) ≡ numbers_of (count a) f ∷ unused_at 0 a
 waiting-unused a f inside h =
     unused-behind 0 a (unused_then f inside)
     ∙ ap (λ i. unused_at i (unused_then f inside) ++ unused_at 0 a) (at-zero a)
     ∙ ap (λ ls. (ls ++ numbers_of (count a) f ∷ []) ++ unused_at 0 a) (closed-unused (count a + suc (last_of f)) inside h)
 
-pub labelled-unused : (a : Brackets) (f : Front) (inside : Brackets) (back : Code) (tail : Tail) → IsClosed inside → unused_at 0 (labelled a f inside back tail) ≡ unused_at 0 a
+pub labelled-unused : (a : Brackets) (f : Front) (inside : Brackets) (back : Code) (tail : Tail) → IsClosed inside →
+    unused_at 0 (labelled a f inside back tail) ≡ unused_at 0 a
 labelled-unused a f inside back tail h =
     unused-behind 0 a (label_then f inside back tail nothing) ∙ ap (λ ls. ls ++ unused_at 0 a) (closed-unused (0 + count a + suc (last_of f)) inside h)
 
-pub labelled-failed : (a : Brackets) (f : Front) (inside : Brackets) (back : Code) (tail : Tail) → failed_at 0 (labelled a f inside back tail) ≡ failed_at 0 (waiting a f inside)
+pub labelled-failed : (a : Brackets) (f : Front) (inside : Brackets) (back : Code) (tail : Tail) →
+    failed_at 0 (labelled a f inside back tail) ≡ failed_at 0 (waiting a f inside)
 labelled-failed a f inside back tail =
     failed-behind 0 a (label_then f inside back tail nothing)
     ∙ ap (λ ls. failed_at 0 a ++ ls) (append-nil (failed_at (0 + count a + suc (last_of f)) inside))
@@ -182,17 +188,20 @@ pub failed-flat : (a : Brackets) (f : Front) (inside : Brackets) → flat (faile
 failed-flat a f inside =
     flat-behind a (failed_then f inside nothing) ∙ ap (λ x. flat a ⊕ (start_row f ⊕ x)) (row-empty (flat inside)) ∙ sym (flat-behind a (unused_then f inside))
 
-pub failed-labels : (a : Brackets) (f : Front) (inside : Brackets) → labels_at 0 (failed a f inside) ≡ labels_at 0 (waiting a f inside)
+pub failed-labels : (a : Brackets) (f : Front) (inside : Brackets) →
+    labels_at 0 (failed a f inside) ≡ labels_at 0 (waiting a f inside)
 failed-labels a f inside =
     labels-behind 0 a (failed_then f inside nothing)
     ∙ ap (λ ls. labels_at 0 a ++ ls) (append-nil (labels_at (0 + count a + suc (last_of f)) inside))
     ∙ sym (labels-behind 0 a (unused_then f inside))
 
-pub failed-unused : (a : Brackets) (f : Front) (inside : Brackets) → IsClosed inside → unused_at 0 (failed a f inside) ≡ unused_at 0 a
+pub failed-unused : (a : Brackets) (f : Front) (inside : Brackets) → IsClosed inside →
+    unused_at 0 (failed a f inside) ≡ unused_at 0 a
 failed-unused a f inside h =
     unused-behind 0 a (failed_then f inside nothing) ∙ ap (λ ls. ls ++ unused_at 0 a) (closed-unused (0 + count a + suc (last_of f)) inside h)
 
-pub failed-failed : (a : Brackets) (f : Front) (inside : Brackets) → failed_at 0 (failed a f inside) ≡ failed_at 0 (waiting a f inside) ++ numbers_of (count a) f ∷ []
+pub failed-failed : (a : Brackets) (f : Front) (inside : Brackets) →
+    failed_at 0 (failed a f inside) ≡ failed_at 0 (waiting a f inside) ++ numbers_of (count a) f ∷ []
 failed-failed a f inside =
     let k : ℕ = count a + suc (last_of f) in
     failed-behind 0 a (failed_then f inside nothing)
@@ -255,7 +264,8 @@ behind-assoc (unused_then f rest) b c = ap (unused_then f) (behind-assoc rest b 
 behind-assoc (failed_then f inside rest) b c = ap (failed_then f inside) (behind-assoc rest b c)
 
 -- behind a start that waits, all that follows comes inside it
-pub waiting-behind : (a : Brackets) (f : Front) (inside c : Brackets) → behind (waiting a f inside) c ≡ waiting a f (behind inside c)
+pub waiting-behind : (a : Brackets) (f : Front) (inside c : Brackets) →
+    behind (waiting a f inside) c ≡ waiting a f (behind inside c)
 waiting-behind a f inside c = behind-assoc a (unused_then f inside) c
 
 -- Trees of rows that are joined.
@@ -266,7 +276,8 @@ joined-append (t ∷ a) b = ap (λ x. t ⊕ x) (joined-append a b) ∙ sym (row-
 
 pub grouped-behind : (b c : Brackets) → grouped (behind b c) ≡ grouped b ⊕ grouped c
 grouped-behind nothing c = refl
-grouped-behind (tree_then t rest) c = ap (λ x. t ⊕ x) (grouped-behind rest c) ∙ sym (row-assoc t (grouped rest) (grouped c))
+grouped-behind (tree_then t rest) c =
+    ap (λ x. t ⊕ x) (grouped-behind rest c) ∙ sym (row-assoc t (grouped rest) (grouped c))
 grouped-behind (label_then f inside back tail rest) c =
     let g : Forest = label_group (kind_of f) (codes_of f) (grouped inside) (back ∷ []) (tail_row tail) in
     ap (λ x. g ⊕ x) (grouped-behind rest c) ∙ sym (row-assoc g (grouped rest) (grouped c))

@@ -10,7 +10,8 @@ use Rattle.markdown_engine_content.specs.declared.event.Name.{Name}
 use Rattle.markdown_engine.proofs.TreeEvents.{appended_from-row}
 use Rattle.markdown_model.specs.Passes.{label_group, label_name, start_marker, start_tree}
 use Rattle.markdown_engine.specs.OrderedEdits.{Part, comes, stays, before_from, after_from}
-use Rattle.markdown_label_pass.specs.Brackets.{Front, link_front, image_front, call_front, caret_front, kind_of, codes_of, start_row, end_row, Tail, no_tail, one_tail, tail_row, Brackets, nothing, tree_then, label_then, unused_then, failed_then, flat, grouped, IsApart, last_of, count, opened_of, ended, closed, as_data, first_start, last_stop, going_of, start_events, end_events, tail_stop, parts_of}
+use Rattle.markdown_label_pass.specs.Brackets.{Front, link_front, image_front, call_front, caret_front, kind_of, codes_of, start_row, end_row, Tail, no_tail, one_tail, tail_row, Brackets, nothing, tree_then, label_then, unused_then}
+use Rattle.markdown_label_pass.specs.Brackets.{failed_then, flat, grouped, IsApart, last_of, count, opened_of, ended, closed, as_data, first_start, last_stop, going_of, start_events, end_events, tail_stop, parts_of}
 
 -- Rows.
 
@@ -19,15 +20,19 @@ count-join empty u = omega arith
 count-join (leaf_then name link cs rest) u = omega (arith, count-join rest u)
 count-join (group_then name a b inside rest) u = omega (arith, count-join rest u)
 
-pub last-join : (n : ℕ) (p : Option ℕ) (t u : Forest) → last_link n p (t ⊕ u) ≡ last_link (n + event_count t) (last_link n p t) u
+pub last-join : (n : ℕ) (p : Option ℕ) (t u : Forest) →
+    last_link n p (t ⊕ u) ≡ last_link (n + event_count t) (last_link n p t) u
 last-join n p empty u = ap (λ i. last_link i p u) (omega arith)
-last-join n p (leaf_then name None cs rest) u = last-join (n + 2) p rest u ∙ ap (λ i. last_link i (last_link (n + 2) p rest) u) (omega arith)
-last-join n p (leaf_then name (Some c) cs rest) u = last-join (n + 2) (Some n) rest u ∙ ap (λ i. last_link i (last_link (n + 2) (Some n) rest) u) (omega arith)
+last-join n p (leaf_then name None cs rest) u =
+    last-join (n + 2) p rest u ∙ ap (λ i. last_link i (last_link (n + 2) p rest) u) (omega arith)
+last-join n p (leaf_then name (Some c) cs rest) u =
+    last-join (n + 2) (Some n) rest u ∙ ap (λ i. last_link i (last_link (n + 2) (Some n) rest) u) (omega arith)
 last-join n p (group_then name a b inside rest) u =
     last-join (n + 2 + event_count inside) p rest u ∙ ap (λ i. last_link i (last_link (n + 2 + event_count inside) p rest) u) (omega arith)
 
 -- a row behind one that is linked with none behind it, and other events
-pub row-then : (n : ℕ) (t u : Forest) (zs : List Event) → last_link n None t ≡ None → appended_from n None (t ⊕ u) ++ zs ≡ appended_from n None t ++ (appended_from (n + event_count t) None u ++ zs)
+pub row-then : (n : ℕ) (t u : Forest) (zs : List Event) → last_link n None t ≡ None →
+    appended_from n None (t ⊕ u) ++ zs ≡ appended_from n None t ++ (appended_from (n + event_count t) None u ++ zs)
 row-then n t u zs h =
     ap (λ xs. xs ++ zs) (appended_from-row n None t u ∙ ap (λ p. appended_from n None t ++ appended_from (n + event_count t) p u) h)
     ∙ append_assoc (appended_from n None t) (appended_from (n + event_count t) None u) zs
@@ -56,20 +61,23 @@ pub tail-last : (n : ℕ) (t : Tail) → last_link n None (tail_row t) ≡ None
 tail-last n no_tail = refl
 tail-last n (one_tail name a b inside) = refl
 
-before-going : (n : ℕ) (f : Front) (parts : List Part) → before_from n (going_of (start_events f) ∷ parts) ≡ start_events f ++ before_from (n + suc (last_of f)) parts
+before-going : (n : ℕ) (f : Front) (parts : List Part) →
+    before_from n (going_of (start_events f) ∷ parts) ≡ start_events f ++ before_from (n + suc (last_of f)) parts
 before-going n (link_front c) parts = refl
 before-going n (image_front c d) parts = refl
 before-going n (call_front c d) parts = refl
 before-going n (caret_front c d) parts = refl
 
-after-going : (m : ℕ) (f : Front) (parts : List Part) → after_from m (going_of (start_events f) ∷ parts) ≡ after_from m parts
+after-going : (m : ℕ) (f : Front) (parts : List Part) →
+    after_from m (going_of (start_events f) ∷ parts) ≡ after_from m parts
 after-going m (link_front c) parts = refl
 after-going m (image_front c d) parts = refl
 after-going m (call_front c d) parts = refl
 after-going m (caret_front c d) parts = refl
 
 -- a row behind a start
-pub start-then : (n : ℕ) (f : Front) (u : Forest) (zs : List Event) → appended_from n None (start_row f ⊕ u) ++ zs ≡ start_events f ++ (appended_from (n + suc (last_of f)) None u ++ zs)
+pub start-then : (n : ℕ) (f : Front) (u : Forest) (zs : List Event) →
+    appended_from n None (start_row f ⊕ u) ++ zs ≡ start_events f ++ (appended_from (n + suc (last_of f)) None u ++ zs)
 start-then n f u zs =
     row-then n (start_row f) u zs (start-last n f)
     ∙ ap (λ i. appended_from n None (start_row f) ++ (appended_from (n + i) None u ++ zs)) (start-count f)
@@ -89,7 +97,8 @@ count-is (failed_then f inside rest) =
 -- no row is linked with one behind it
 pub flat-last : (n : ℕ) (b : Brackets) → IsApart b → last_link n None (flat b) ≡ None
 flat-last n nothing h = refl
-flat-last n (tree_then t rest) h = last-join n None t (flat rest) ∙ ap (λ p. last_link (n + event_count t) p (flat rest)) (h.0 n) ∙ flat-last (n + event_count t) rest h.1
+flat-last n (tree_then t rest) h =
+    last-join n None t (flat rest) ∙ ap (λ p. last_link (n + event_count t) p (flat rest)) (h.0 n) ∙ flat-last (n + event_count t) rest h.1
 flat-last n (label_then f inside back tail rest) h =
     let u : Forest = tail_row tail ⊕ flat rest in
     let i : ℕ = n + event_count (start_row f) in
@@ -113,19 +122,23 @@ flat-last n (failed_then f inside rest) h =
     ∙ flat-last (i + event_count (flat inside)) rest h.1
 
 -- a row behind brackets
-pub flat-then : (n : ℕ) (b : Brackets) (u : Forest) (zs : List Event) → IsApart b → appended_from n None (flat b ⊕ u) ++ zs ≡ appended_from n None (flat b) ++ (appended_from (n + count b) None u ++ zs)
+pub flat-then : (n : ℕ) (b : Brackets) (u : Forest) (zs : List Event) → IsApart b →
+    appended_from n None (flat b ⊕ u) ++ zs ≡ appended_from n None (flat b) ++ (appended_from (n + count b) None u ++ zs)
 flat-then n b u zs h =
     row-then n (flat b) u zs (flat-last n b h) ∙ ap (λ i. appended_from n None (flat b) ++ (appended_from (n + i) None u ++ zs)) (count-is b)
 
 -- Before.
 
 abbrev BeforeLaw : Brackets → Type 0
-BeforeLaw b = (n : ℕ) (more : List Part) → before_from n (parts_of b ++ more) ≡ appended_from n None (flat b) ++ before_from (n + count b) more
+BeforeLaw b =
+    (n : ℕ) (more : List Part) → before_from n (parts_of b ++ more) ≡ appended_from n None (flat b) ++ before_from (n + count b) more
 
 abbrev pub behind_end : Front → Code → Tail → List Part → List Part
-behind_end f back tail parts = comes (ended back.start back.stop) ∷ going_of (end_events back) ∷ stays (tail_row tail) ∷ comes (closed (kind_of f) (tail_stop back tail)) ∷ parts
+behind_end f back tail parts =
+    comes (ended back.start back.stop) ∷ going_of (end_events back) ∷ stays (tail_row tail) ∷ comes (closed (kind_of f) (tail_stop back tail)) ∷ parts
 
-before-end : (e : ℕ) (f : Front) (back : Code) (tail : Tail) (rest : Brackets) (more : List Part) → BeforeLaw rest → before_from e (behind_end f back tail (parts_of rest ++ more)) ≡ appended_from e None (end_row back ⊕ (tail_row tail ⊕ flat rest)) ++ before_from (e + (4 + (event_count (tail_row tail) + count rest))) more
+before-end : (e : ℕ) (f : Front) (back : Code) (tail : Tail) (rest : Brackets) (more : List Part) → BeforeLaw rest →
+    before_from e (behind_end f back tail (parts_of rest ++ more)) ≡ appended_from e None (end_row back ⊕ (tail_row tail ⊕ flat rest)) ++ before_from (e + (4 + (event_count (tail_row tail) + count rest))) more
 before-end e f back tail rest more law =
     let g : ℕ = e + 4 in
     let x : ℕ = g + event_count (tail_row tail) in
@@ -174,18 +187,21 @@ before (failed_then f inside rest) h n more =
 
 -- the events before are those of the flat tree
 pub before-parts : (b : Brackets) → IsApart b → before_from 0 (parts_of b) ≡ appended_from 0 None (flat b)
-before-parts b h = ap (before_from 0) (sym (append-nil (parts_of b))) ∙ before b h 0 [] ∙ append-nil (appended_from 0 None (flat b))
+before-parts b h =
+    ap (before_from 0) (sym (append-nil (parts_of b))) ∙ before b h 0 [] ∙ append-nil (appended_from 0 None (flat b))
 
 -- After.
 
-regroup : (us es ts : List Event) (x y : Event) → ((us ++ es) ++ (x ∷ ts)) ++ (y ∷ []) ≡ us ++ (es ++ (x ∷ (ts ++ (y ∷ []))))
+regroup : (us es ts : List Event) (x y : Event) →
+    ((us ++ es) ++ (x ∷ ts)) ++ (y ∷ []) ≡ us ++ (es ++ (x ∷ (ts ++ (y ∷ []))))
 regroup us es ts x y = append_assoc (us ++ es) (x ∷ ts) (y ∷ []) ∙ append_assoc us es (x ∷ (ts ++ (y ∷ [])))
 
 -- the number of what follows the end
 abbrev behind : ℕ → Front → Forest → ℕ
 behind m f inside = m + length (opened_of f) + event_count inside + 6
 
-label-size : (f : Front) (inside : Forest) (back : Code) (tail : Tail) → event_count (label_group (kind_of f) (codes_of f) inside (back ∷ []) (tail_row tail)) ≡ length (opened_of f) + event_count inside + 6 + event_count (tail_row tail) + 1
+label-size : (f : Front) (inside : Forest) (back : Code) (tail : Tail) →
+    event_count (label_group (kind_of f) (codes_of f) inside (back ∷ []) (tail_row tail)) ≡ length (opened_of f) + event_count inside + 6 + event_count (tail_row tail) + 1
 label-size (link_front c) inside back no_tail = omega arith
 label-size (link_front c) inside back (one_tail name a b t) = omega arith
 label-size (image_front c d) inside back no_tail = omega arith
@@ -209,7 +225,9 @@ ending back =
     ∷ event Kind.Enter Name.LabelEnd back.start ∷ event Kind.Enter Name.LabelMarker back.start ∷ event Kind.Exit Name.LabelMarker back.stop ∷ event Kind.Exit Name.LabelEnd back.stop
     ∷ []
 
-spread : (m i j : ℕ) (f : Front) (inside : Forest) (back : Code) (tail : Tail) → i ≡ m + length (opened_of f) → j ≡ behind m f inside → opened_of f ++ (((appended_from i None inside ++ ending back) ++ (event Kind.Exit Name.Label back.stop ∷ appended_from j None (tail_row tail))) ++ closed (kind_of f) (tail_stop back tail)) ≡ opened_of f ++ (appended_from (m + length (opened_of f)) None inside ++ (ended back.start back.stop ++ (appended_from (behind m f inside) None (tail_row tail) ++ closed (kind_of f) (tail_stop back tail))))
+spread : (m i j : ℕ) (f : Front) (inside : Forest) (back : Code) (tail : Tail) → i ≡ m + length (opened_of f) →
+    j ≡ behind m f inside →
+    opened_of f ++ (((appended_from i None inside ++ ending back) ++ (event Kind.Exit Name.Label back.stop ∷ appended_from j None (tail_row tail))) ++ closed (kind_of f) (tail_stop back tail)) ≡ opened_of f ++ (appended_from (m + length (opened_of f)) None inside ++ (ended back.start back.stop ++ (appended_from (behind m f inside) None (tail_row tail) ++ closed (kind_of f) (tail_stop back tail))))
 spread m i j f inside back tail h k =
     let y : Event = event Kind.Exit (label_name (kind_of f)) (tail_stop back tail) in
     let x : Event = event Kind.Exit Name.Label back.stop in
@@ -218,7 +236,8 @@ spread m i j f inside back tail h k =
     ∙ ap (λ n. opened_of f ++ (appended_from (m + length (opened_of f)) None inside ++ (ended back.start back.stop ++ (appended_from n None (tail_row tail) ++ closed (kind_of f) (tail_stop back tail))))) k
 
 -- the events of a label
-label-events : (m : ℕ) (f : Front) (inside : Forest) (back : Code) (tail : Tail) → appended_from m None (label_group (kind_of f) (codes_of f) inside (back ∷ []) (tail_row tail)) ≡ opened_of f ++ (appended_from (m + length (opened_of f)) None inside ++ (ended back.start back.stop ++ (appended_from (behind m f inside) None (tail_row tail) ++ closed (kind_of f) (tail_stop back tail))))
+label-events : (m : ℕ) (f : Front) (inside : Forest) (back : Code) (tail : Tail) →
+    appended_from m None (label_group (kind_of f) (codes_of f) inside (back ∷ []) (tail_row tail)) ≡ opened_of f ++ (appended_from (m + length (opened_of f)) None inside ++ (ended back.start back.stop ++ (appended_from (behind m f inside) None (tail_row tail) ++ closed (kind_of f) (tail_stop back tail))))
 label-events m (link_front c) inside back no_tail =
     spread m (m + 1 + 1 + 2 + 2 + 1) (m + 1 + 2 + event_count (label_body (link_front c) inside back)) (link_front c) inside back no_tail (omega arith) (omega arith)
 label-events m (link_front c) inside back (one_tail name a b t) =
@@ -236,7 +255,8 @@ label-events m (caret_front c d) inside back no_tail =
 label-events m (caret_front c d) inside back (one_tail name a b t) =
     spread m (m + 1 + 1 + 2 + 2 + 1 + 2) (m + 1 + 2 + event_count (label_body (caret_front c d) inside back)) (caret_front c d) inside back (one_tail name a b t) (omega arith) (omega arith)
 
-data-then : (m : ℕ) (f : Front) (u : Forest) (zs : List Event) → appended_from m None (leaf Name.Data (codes_of f) ⊕ u) ++ zs ≡ as_data (first_start f) (last_stop f) ++ (appended_from (m + 2) None u ++ zs)
+data-then : (m : ℕ) (f : Front) (u : Forest) (zs : List Event) →
+    appended_from m None (leaf Name.Data (codes_of f) ⊕ u) ++ zs ≡ as_data (first_start f) (last_stop f) ++ (appended_from (m + 2) None u ++ zs)
 data-then m (link_front c) u zs = refl
 data-then m (image_front c d) u zs = refl
 data-then m (call_front c d) u zs = refl
@@ -248,7 +268,8 @@ data-count (image_front c d) u = refl
 data-count (call_front c d) u = refl
 data-count (caret_front c d) u = refl
 
-data-last : (n : ℕ) (f : Front) (u : Forest) → last_link n None (leaf Name.Data (codes_of f) ⊕ u) ≡ last_link (n + 2) None u
+data-last : (n : ℕ) (f : Front) (u : Forest) →
+    last_link n None (leaf Name.Data (codes_of f) ⊕ u) ≡ last_link (n + 2) None u
 data-last n (link_front c) u = refl
 data-last n (image_front c d) u = refl
 data-last n (call_front c d) u = refl
@@ -256,7 +277,8 @@ data-last n (caret_front c d) u = refl
 
 grouped-last : (n : ℕ) (b : Brackets) → IsApart b → last_link n None (grouped b) ≡ None
 grouped-last n nothing h = refl
-grouped-last n (tree_then t rest) h = last-join n None t (grouped rest) ∙ ap (λ p. last_link (n + event_count t) p (grouped rest)) (h.0 n) ∙ grouped-last (n + event_count t) rest h.1
+grouped-last n (tree_then t rest) h =
+    last-join n None t (grouped rest) ∙ ap (λ p. last_link (n + event_count t) p (grouped rest)) (h.0 n) ∙ grouped-last (n + event_count t) rest h.1
 grouped-last n (label_then f inside back tail rest) h =
     let u : Forest = label_group (kind_of f) (codes_of f) (grouped inside) (back ∷ []) (tail_row tail) in
     last-join n None u (grouped rest) ∙ grouped-last (n + event_count u) rest h.1
@@ -268,7 +290,8 @@ grouped-last n (failed_then f inside rest) h =
     ∙ grouped-last (n + 2 + event_count (grouped inside)) rest h.1
 
 abbrev AfterLaw : Brackets → Type 0
-AfterLaw b = (m : ℕ) (more : List Part) → after_from m (parts_of b ++ more) ≡ appended_from m None (grouped b) ++ after_from (m + event_count (grouped b)) more
+AfterLaw b =
+    (m : ℕ) (more : List Part) → after_from m (parts_of b ++ more) ≡ appended_from m None (grouped b) ++ after_from (m + event_count (grouped b)) more
 
 four : (a b c d e z : List Event) → (a ++ (b ++ (c ++ (d ++ e)))) ++ z ≡ a ++ (b ++ (c ++ (d ++ (e ++ z))))
 four a b c d e z =
@@ -324,4 +347,5 @@ after (failed_then f inside rest) h m more =
 
 -- the events after are those of the grouped tree
 pub after-parts : (b : Brackets) → IsApart b → after_from 0 (parts_of b) ≡ appended_from 0 None (grouped b)
-after-parts b h = ap (after_from 0) (sym (append-nil (parts_of b))) ∙ after b h 0 [] ∙ append-nil (appended_from 0 None (grouped b))
+after-parts b h =
+    ap (after_from 0) (sym (append-nil (parts_of b))) ∙ after b h 0 [] ∙ append-nil (appended_from 0 None (grouped b))

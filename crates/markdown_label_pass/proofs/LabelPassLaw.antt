@@ -37,7 +37,8 @@ go-unlinked (tree_then t rest) = go-unlinked rest
 go-unlinked (label_then f inside back tail rest) =
     going-unlinked f _ (go-append (parts_of inside) _ (go-unlinked inside) ((refl, (refl, (refl, (refl, tt)))), go-unlinked rest))
 go-unlinked (unused_then f rest) = going-unlinked f (parts_of rest) (go-unlinked rest)
-go-unlinked (failed_then f inside rest) = going-unlinked f _ (go-append (parts_of inside) (parts_of rest) (go-unlinked inside) (go-unlinked rest))
+go-unlinked (failed_then f inside rest) =
+    going-unlinked f _ (go-append (parts_of inside) (parts_of rest) (go-unlinked inside) (go-unlinked rest))
 
 -- The whole.
 

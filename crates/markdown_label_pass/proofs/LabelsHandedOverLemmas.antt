@@ -18,13 +18,16 @@ use Rattle.markdown_label_pass.proofs.LabelPassLaw.{edits-group, edits-may, labe
 
 -- Lists, one item more.
 
-pub labels-more : (es : List Event) (ls : List Label) (k : ℕ) (l : Label) → k < length ls → l ≡ get_or ls k l → labels_edits es (take (k + 1) ls) ≡ labels_edits es (take k ls) ++ label_edits es l
+pub labels-more : (es : List Event) (ls : List Label) (k : ℕ) (l : Label) → k < length ls → l ≡ get_or ls k l →
+    labels_edits es (take (k + 1) ls) ≡ labels_edits es (take k ls) ++ label_edits es l
 labels-more es ls k l h r =
     ap (labels_edits es) (take_more ls k l h ∙ ap (λ x. take k ls ++ x ∷ []) (sym r))
     ∙ labels_edits-append es (take k ls) (l ∷ [])
     ∙ ap (λ x. labels_edits es (take k ls) ++ x) (append-nil (label_edits es l))
 
-pub labels-next : (es : List Event) (ls : List Label) (k : ℕ) (l : Label) (old here new : List Edit) → k < length ls → l ≡ get_or ls k l → here ≡ old ++ labels_edits es (take k ls) → new ≡ here ++ label_edits es l → new ≡ old ++ labels_edits es (take (k + 1) ls)
+pub labels-next : (es : List Event) (ls : List Label) (k : ℕ) (l : Label) (old here new : List Edit) → k < length ls →
+    l ≡ get_or ls k l → here ≡ old ++ labels_edits es (take k ls) → new ≡ here ++ label_edits es l →
+    new ≡ old ++ labels_edits es (take (k + 1) ls)
 labels-next es ls k l old here new h r g m =
     m ∙ ap (λ x. x ++ label_edits es l) g ∙ append_assoc old (labels_edits es (take k ls)) (label_edits es l) ∙ ap (λ x. old ++ x) (sym (labels-more es ls k l h r))
 
@@ -32,24 +35,32 @@ starts_of-append : (a b : List LabelStart) → starts_of (a ++ b) ≡ starts_of 
 starts_of-append [] b = refl
 starts_of-append (s ∷ a) b = ap (λ x. s.start ∷ x) (starts_of-append a b)
 
-pub starts-next : (es : List Event) (ss : List LabelStart) (k : ℕ) (s : LabelStart) (old here new : List Edit) → k < length ss → s ≡ get_or ss k s → here ≡ old ++ loose_edits es (starts_of (take k ss)) → new ≡ here ++ loose_edit es s.start ∷ [] → new ≡ old ++ loose_edits es (starts_of (take (k + 1) ss))
+pub starts-next : (es : List Event) (ss : List LabelStart) (k : ℕ) (s : LabelStart) (old here new : List Edit) →
+    k < length ss → s ≡ get_or ss k s → here ≡ old ++ loose_edits es (starts_of (take k ss)) →
+    new ≡ here ++ loose_edit es s.start ∷ [] → new ≡ old ++ loose_edits es (starts_of (take (k + 1) ss))
 starts-next es ss k s old here new h r g m =
     let cut : take (k + 1) ss ≡ take k ss ++ s ∷ [] = take_more ss k s h ∙ ap (λ x. take k ss ++ x ∷ []) (sym r) in
     let more : loose_edits es (starts_of (take (k + 1) ss)) ≡ loose_edits es (starts_of (take k ss)) ++ loose_edit es s.start ∷ [] = ap (λ x. loose_edits es (starts_of x)) cut ∙ ap (loose_edits es) (starts_of-append (take k ss) (s ∷ [])) ∙ loose_edits-append es (starts_of (take k ss)) (s.start ∷ []) in
     m ∙ ap (λ x. x ++ loose_edit es s.start ∷ []) g ∙ append_assoc old (loose_edits es (starts_of (take k ss))) (loose_edit es s.start ∷ []) ∙ ap (λ x. old ++ x) (sym more)
 
-pub start-at : (n : ℕ) (ss : List LabelStart) (k : ℕ) (s : LabelStart) → All (IsStartWithin n) (starts_of ss) → k < length ss → s ≡ get_or ss k s → IsStartWithin n s.start
+pub start-at : (n : ℕ) (ss : List LabelStart) (k : ℕ) (s : LabelStart) → All (IsStartWithin n) (starts_of ss) →
+    k < length ss → s ≡ get_or ss k s → IsStartWithin n s.start
 start-at n [] k s h g r = absurd (omega (arith, g))
-start-at n (x ∷ ss) zero s h g r = subst (λ (y : LabelStart). IsStartWithin n y.start) (sym r) (h 0 x.start (omega arith))
+start-at n (x ∷ ss) zero s h g r =
+    subst (λ (y : LabelStart). IsStartWithin n y.start) (sym r) (h 0 x.start (omega arith))
 start-at n (x ∷ ss) (suc k) s h g r = start-at n ss k s (λ i d l. h (suc i) d (omega (arith, l))) (omega (arith, g)) r
 
 -- the top of a stack
-pub starts-top : (es : List Event) (s : LabelStart) (ss all : List LabelStart) (old here new : List Edit) → all ≡ s ∷ ss → here ++ loose_edits es (starts_of all) ≡ old → new ≡ here ++ loose_edit es s.start ∷ [] → new ++ loose_edits es (starts_of ss) ≡ old
+pub starts-top : (es : List Event) (s : LabelStart) (ss all : List LabelStart) (old here new : List Edit) →
+    all ≡ s ∷ ss → here ++ loose_edits es (starts_of all) ≡ old → new ≡ here ++ loose_edit es s.start ∷ [] →
+    new ++ loose_edits es (starts_of ss) ≡ old
 starts-top es s ss all old here new r g m =
     ap (λ x. x ++ loose_edits es (starts_of ss)) m ∙ append_assoc here (loose_edit es s.start ∷ []) (loose_edits es (starts_of ss)) ∙ ap (λ x. here ++ loose_edits es (starts_of x)) (sym r) ∙ g
 
-pub rest-within : (n : ℕ) (s : LabelStart) (ss all : List LabelStart) → all ≡ s ∷ ss → All (IsStartWithin n) (starts_of all) → All (IsStartWithin n) (starts_of ss)
-rest-within n s ss all r h = let there : All (IsStartWithin n) (starts_of (s ∷ ss)) = subst (λ (x : List LabelStart). All (IsStartWithin n) (starts_of x)) r h in λ i d l. there (suc i) d (omega (arith, l))
+pub rest-within : (n : ℕ) (s : LabelStart) (ss all : List LabelStart) → all ≡ s ∷ ss →
+    All (IsStartWithin n) (starts_of all) → All (IsStartWithin n) (starts_of ss)
+rest-within n s ss all r h =
+    let there : All (IsStartWithin n) (starts_of (s ∷ ss)) = subst (λ (x : List LabelStart). All (IsStartWithin n) (starts_of x)) r h in λ i d l. there (suc i) d (omega (arith, l))
 
 -- The whole.
 
@@ -58,13 +69,16 @@ module _ (b : Brackets) (s : TokenizeState) (es : List Event) (h : HasBrackets b
   sized = omega (arith, ap length h.events, length-appended_from 0 None (flat b), count-is b)
 
   pub has-labels : All (IsWithin (length es)) s.labels
-  has-labels = subst (λ (ls : List Label). All (IsWithin (length es)) ls) (sym h.labels) (labels-within 0 (length es) b sized)
+  has-labels =
+      subst (λ (ls : List Label). All (IsWithin (length es)) ls) (sym h.labels) (labels-within 0 (length es) b sized)
 
   pub has-unused : All (IsStartWithin (length es)) (starts_of s.label_starts)
-  has-unused = subst (λ (ss : List (ℕ × ℕ)). All (IsStartWithin (length es)) ss) (sym h.unused) (unused-within 0 (length es) b sized)
+  has-unused =
+      subst (λ (ss : List (ℕ × ℕ)). All (IsStartWithin (length es)) ss) (sym h.unused) (unused-within 0 (length es) b sized)
 
   pub has-failed : All (IsStartWithin (length es)) (starts_of s.label_starts_loose)
-  has-failed = subst (λ (ss : List (ℕ × ℕ)). All (IsStartWithin (length es)) ss) (sym h.failed) (failed-within 0 (length es) b sized)
+  has-failed =
+      subst (λ (ss : List (ℕ × ℕ)). All (IsStartWithin (length es)) ss) (sym h.failed) (failed-within 0 (length es) b sized)
 
   log-is : all_edits es s.labels (starts_of s.label_starts) (starts_of s.label_starts_loose) ≡ all_edits es (labels_at 0 b) (unused_at 0 b) (failed_at 0 b)
   log-is =
@@ -72,14 +86,19 @@ module _ (b : Brackets) (s : TokenizeState) (es : List Event) (h : HasBrackets b
       ∙ ap (λ ss. all_edits es (labels_at 0 b) ss (starts_of s.label_starts_loose)) h.unused
       ∙ ap (λ ss. all_edits es (labels_at 0 b) (unused_at 0 b) ss) h.failed
 
-  pub has-may : (log : List Edit) → log ≡ all_edits es s.labels (starts_of s.label_starts) (starts_of s.label_starts_loose) → CanEdit log es
+  pub has-may : (log : List Edit) →
+      log ≡ all_edits es s.labels (starts_of s.label_starts) (starts_of s.label_starts_loose) → CanEdit log es
   has-may log e = subst (λ (x : List Edit). CanEdit x es) (sym (e ∙ log-is)) (edits-may b es h.apart h.events)
 
-  pub has-group : (log : List Edit) → log ≡ all_edits es s.labels (starts_of s.label_starts) (starts_of s.label_starts_loose) → edited log es ≡ appended_from 0 None (grouped b)
+  pub has-group : (log : List Edit) →
+      log ≡ all_edits es s.labels (starts_of s.label_starts) (starts_of s.label_starts_loose) →
+      edited log es ≡ appended_from 0 None (grouped b)
   has-group log e = ap (λ (x : List Edit). edited x es) (e ∙ log-is) ∙ edits-group b es h.apart h.events
 
 -- the edits asked for, one list after another
-pub asked : (es : List Event) (labels ls : List Label) (unused failed fs : List (ℕ × ℕ)) (m0 m1 m2 m3 : List Edit) → m0 ≡ [] → m1 ≡ m0 ++ labels_edits es ls → ls ≡ labels → m2 ≡ m1 ++ loose_edits es unused → m3 ≡ m2 ++ loose_edits es fs → fs ≡ failed → m3 ≡ all_edits es labels unused failed
+pub asked : (es : List Event) (labels ls : List Label) (unused failed fs : List (ℕ × ℕ)) (m0 m1 m2 m3 : List Edit) →
+    m0 ≡ [] → m1 ≡ m0 ++ labels_edits es ls → ls ≡ labels → m2 ≡ m1 ++ loose_edits es unused →
+    m3 ≡ m2 ++ loose_edits es fs → fs ≡ failed → m3 ≡ all_edits es labels unused failed
 asked es labels ls unused failed fs m0 m1 m2 m3 e0 e1 l e2 e3 f =
     e3
     ∙ ap (λ x. m2 ++ loose_edits es x) f
@@ -93,11 +112,16 @@ get-own [] k d h = absurd (omega (arith, h))
 get-own (x ∷ xs) zero d h = refl
 get-own (x ∷ xs) (suc k) d h = get-own xs k d (omega (arith, h))
 
-pub labels-step : (es : List Event) (ls : List Label) (k : ℕ) (d : Label) (old here new : List Edit) → k < length ls → here ≡ old ++ labels_edits es (take k ls) → new ≡ here ++ label_edits es (get_or ls k d) → new ≡ old ++ labels_edits es (take (k + 1) ls)
+pub labels-step : (es : List Event) (ls : List Label) (k : ℕ) (d : Label) (old here new : List Edit) → k < length ls →
+    here ≡ old ++ labels_edits es (take k ls) → new ≡ here ++ label_edits es (get_or ls k d) →
+    new ≡ old ++ labels_edits es (take (k + 1) ls)
 labels-step es ls k d old here new h g m = labels-next es ls k (get_or ls k d) old here new h (get-own ls k d h) g m
 
-pub starts-step : (es : List Event) (ss : List LabelStart) (k : ℕ) (d : LabelStart) (old here new : List Edit) → k < length ss → here ≡ old ++ loose_edits es (starts_of (take k ss)) → new ≡ here ++ loose_edit es (get_or ss k d).start ∷ [] → new ≡ old ++ loose_edits es (starts_of (take (k + 1) ss))
+pub starts-step : (es : List Event) (ss : List LabelStart) (k : ℕ) (d : LabelStart) (old here new : List Edit) →
+    k < length ss → here ≡ old ++ loose_edits es (starts_of (take k ss)) →
+    new ≡ here ++ loose_edit es (get_or ss k d).start ∷ [] → new ≡ old ++ loose_edits es (starts_of (take (k + 1) ss))
 starts-step es ss k d old here new h g m = starts-next es ss k (get_or ss k d) old here new h (get-own ss k d h) g m
 
-pub start-within : (n : ℕ) (ss : List LabelStart) (k : ℕ) (d : LabelStart) → All (IsStartWithin n) (starts_of ss) → k < length ss → IsStartWithin n (get_or ss k d).start
+pub start-within : (n : ℕ) (ss : List LabelStart) (k : ℕ) (d : LabelStart) → All (IsStartWithin n) (starts_of ss) →
+    k < length ss → IsStartWithin n (get_or ss k d).start
 start-within n ss k d h g = start-at n ss k (get_or ss k d) h g (get-own ss k d g)

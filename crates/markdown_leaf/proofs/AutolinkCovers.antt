@@ -27,8 +27,10 @@ use Rattle.markdown_plan.proofs.PassedByReadings.{Gives, IsSome, Covers, Gives-b
 weaker : (a : Reading (List Code)) → Gives IsSome a → Gives (λ x ws. x ≡ ws) a
 weaker a g cs x rest k = let r = g cs x rest k in record { codes = r.codes; whole = r.whole; holds = r.holds.0 }
 
-given : (test : Bool) (text ws : List Code) → IsSome text ws → Gives (λ y vs. IsSome y (ws ++ vs)) (provided test >> gives text)
-given test text ws p = Gives-switched test (gives text) (λ y vs. IsSome y (ws ++ vs)) (Gives-gives text (λ y vs. IsSome y (ws ++ vs)) (p.0 ∙ sym (append-nil ws), p.1))
+given : (test : Bool) (text ws : List Code) → IsSome text ws →
+    Gives (λ y vs. IsSome y (ws ++ vs)) (provided test >> gives text)
+given test text ws p =
+    Gives-switched test (gives text) (λ y vs. IsSome y (ws ++ vs)) (Gives-gives text (λ y vs. IsSome y (ws ++ vs)) (p.0 ∙ sym (append-nil ws), p.1))
 
 label-gives : Gives IsSome domain_label
 unfolding domain_label
@@ -49,7 +51,8 @@ domains-gives = Gives-then domain_label more_labels label-gives more-gives
 
 scheme-gives : Gives IsSome scheme
 unfolding scheme
-scheme-gives = Gives-bind _ _ IsSome IsSome (Gives-then (one is_letter) (some is_scheme_code) (Gives-one is_letter) (weaker (some is_scheme_code) (Gives-some is_scheme_code))) (λ text ws p. given _ text ws p)
+scheme-gives =
+    Gives-bind _ _ IsSome IsSome (Gives-then (one is_letter) (some is_scheme_code) (Gives-one is_letter) (weaker (some is_scheme_code) (Gives-some is_scheme_code))) (λ text ws p. given _ text ws p)
 
 uri-gives : Gives IsSome uri
 unfolding uri
@@ -57,9 +60,11 @@ uri-gives = Gives-then scheme (one (is_value 58) then_ any_number is_uri_code) s
 
 email-gives : Gives IsSome email_address
 unfolding email_address
-email-gives = Gives-then (some is_local_code) (one (is_value 64) then_ domains) (Gives-some is_local_code) (weaker (one (is_value 64) then_ domains) (Gives-then (one (is_value 64)) domains (Gives-one (is_value 64)) (weaker domains domains-gives)))
+email-gives =
+    Gives-then (some is_local_code) (one (is_value 64) then_ domains) (Gives-some is_local_code) (weaker (one (is_value 64) then_ domains) (Gives-then (one (is_value 64)) domains (Gives-one (is_value 64)) (weaker domains domains-gives)))
 
-brackets-cover : (inside : Reading (List Code)) (name : Name) → Gives IsSome inside → Gives Covers (in_angle_brackets inside name)
+brackets-cover : (inside : Reading (List Code)) (name : Name) → Gives IsSome inside →
+    Gives Covers (in_angle_brackets inside name)
 unfolding in_angle_brackets
 brackets-cover inside name g =
     Gives-bind _ _ IsSome Covers (Gives-one (is_value 60)) (λ front ws p.
@@ -72,11 +77,13 @@ brackets-cover inside name g =
 
 pub whole-link : (on : Bool) → Gives Covers (provided on >> autolink)
 unfolding autolink
-whole-link on = Gives-switched on _ Covers (Gives-either _ _ Covers (brackets-cover uri N.AutolinkProtocol uri-gives) (brackets-cover email_address N.AutolinkEmail email-gives))
+whole-link on =
+    Gives-switched on _ Covers (Gives-either _ _ Covers (brackets-cover uri N.AutolinkProtocol uri-gives) (brackets-cover email_address N.AutolinkEmail email-gives))
 
 -- The end of the link.
 
-pub ended-here : (n : Name) (c : Code) (cs : List Code) → is_value 62 c ≡ true → ended n (Some ([], c ∷ cs)) ≡ Some (n, ending n)
+pub ended-here : (n : Name) (c : Code) (cs : List Code) → is_value 62 c ≡ true →
+    ended n (Some ([], c ∷ cs)) ≡ Some (n, ending n)
 ended-here n c cs h = ap (λ b. if b then Some (n, ending n) else None) h
 
 pub ended-other : (n : Name) (cs : List Code) → next_is (is_value 62) cs ≡ false → ended n (Some ([], cs)) ≡ None
@@ -85,16 +92,20 @@ ended-other n cs h = ap (λ b. if b then Some (n, ending n) else None) h
 -- More labels.
 
 pub more-none : (cs : List Code) → next_is (is_value 46) cs ≡ false → more_labels cs ≡ Some ([], cs)
-more-none cs h = repeatedly-next dot_label dot_takes cs ∙ ap (and_then more_labels cs) (then-none (one (is_value 46)) domain_label cs (one-not (is_value 46) cs h))
+more-none cs h =
+    repeatedly-next dot_label dot_takes cs ∙ ap (and_then more_labels cs) (then-none (one (is_value 46)) domain_label cs (one-not (is_value 46) cs h))
 
 dot-here : (c : Code) (cs : List Code) → is_value 46 c ≡ true → dot_label (c ∷ cs) ≡ after (c ∷ []) (domain_label cs)
 dot-here c cs h = then-after (one (is_value 46)) domain_label (c ∷ cs) (c ∷ []) cs (one-here (is_value 46) c cs h)
 
-joined-by : (x y : List Code) (o : Option (List Code × List Code)) → Holds o → (c : Code) → elim o as (λ _. Option (List Code × List Code)) [ None ↦ Some (c ∷ x, y) | Some s ↦ Some ((c ∷ x) ++ s.0, s.1) ] ≡ with_first c (after x o)
-joined-by x y o k c = ap (λ (z : Option (List Code × List Code)). elim z as (λ _. Option (List Code × List Code)) [ None ↦ Some (c ∷ x, y) | Some s ↦ Some ((c ∷ x) ++ s.0, s.1) ]) k.is ∙ ap (λ (z : Option (List Code × List Code)). with_first c (after x z)) (sym k.is)
+joined-by : (x y : List Code) (o : Option (List Code × List Code)) → Holds o → (c : Code) →
+    elim o as (λ _. Option (List Code × List Code)) [ None ↦ Some (c ∷ x, y) | Some s ↦ Some ((c ∷ x) ++ s.0, s.1) ] ≡ with_first c (after x o)
+joined-by x y o k c =
+    ap (λ (z : Option (List Code × List Code)). elim z as (λ _. Option (List Code × List Code)) [ None ↦ Some (c ∷ x, y) | Some s ↦ Some ((c ∷ x) ++ s.0, s.1) ]) k.is ∙ ap (λ (z : Option (List Code × List Code)). with_first c (after x z)) (sym k.is)
 
 -- a dot, and whether a label follows
-dot-by : (c : Code) (cs : List Code) (o : Option (List Code × List Code)) → is_value 46 c ≡ true → domain_label cs ≡ o → up_to_bracket N.AutolinkEmail more_labels (c ∷ cs) ≡ preceded_by (Consume ∷ []) (up_to_bracket N.AutolinkEmail domains cs)
+dot-by : (c : Code) (cs : List Code) (o : Option (List Code × List Code)) → is_value 46 c ≡ true → domain_label cs ≡ o →
+    up_to_bracket N.AutolinkEmail more_labels (c ∷ cs) ≡ preceded_by (Consume ∷ []) (up_to_bracket N.AutolinkEmail domains cs)
 dot-by c cs None h e =
     ap (ended N.AutolinkEmail) (repeatedly-next dot_label dot_takes (c ∷ cs) ∙ ap (and_then more_labels (c ∷ cs)) (dot-here c cs h ∙ ap (after (c ∷ [])) e))
     ∙ ended-other N.AutolinkEmail (c ∷ cs) (ap (λ v. v == 62) (eqb-true c.value 46 h))
@@ -106,7 +117,8 @@ dot-by c cs (Some r) h e =
     ∙ joined-by r.0 r.1 (more_labels r.1) (repeatedly-holds dot_label r.1) c
     ∙ ap (with_first c) (sym (then-after domain_label more_labels cs r.0 r.1 e)))
 
-pub more-dot : (c : Code) (cs : List Code) → is_value 46 c ≡ true → up_to_bracket N.AutolinkEmail more_labels (c ∷ cs) ≡ preceded_by (Consume ∷ []) (up_to_bracket N.AutolinkEmail domains cs)
+pub more-dot : (c : Code) (cs : List Code) → is_value 46 c ≡ true →
+    up_to_bracket N.AutolinkEmail more_labels (c ∷ cs) ≡ preceded_by (Consume ∷ []) (up_to_bracket N.AutolinkEmail domains cs)
 more-dot c cs h = dot-by c cs (domain_label cs) h refl
 
 -- The operations of the tree.
@@ -114,41 +126,53 @@ more-dot c cs h = dot-by c cs (domain_label cs) h refl
 abbrev pub bracket_ops : List Op
 bracket_ops = Enter N.Autolink ∷ Enter N.AutolinkMarker ∷ Consume ∷ Exit N.AutolinkMarker ∷ []
 
-link-ops : (name : Name) (c t d : Code) (text : List Code) → ops_of (group N.Autolink (leaf N.AutolinkMarker (c ∷ []) ⊕ leaf name (t ∷ text) ⊕ leaf N.AutolinkMarker (d ∷ []))) ≡ bracket_ops ++ Enter name ∷ (consumes (t ∷ text) ++ ending name)
-link-ops name c t d text = ap (λ os. bracket_ops ++ Enter name ∷ Consume ∷ os) (append_assoc (consumes text) (Exit name ∷ Enter N.AutolinkMarker ∷ Consume ∷ Exit N.AutolinkMarker ∷ []) (Exit N.Autolink ∷ []))
+link-ops : (name : Name) (c t d : Code) (text : List Code) →
+    ops_of (group N.Autolink (leaf N.AutolinkMarker (c ∷ []) ⊕ leaf name (t ∷ text) ⊕ leaf N.AutolinkMarker (d ∷ []))) ≡ bracket_ops ++ Enter name ∷ (consumes (t ∷ text) ++ ending name)
+link-ops name c t d text =
+    ap (λ os. bracket_ops ++ Enter name ∷ Consume ∷ os) (append_assoc (consumes text) (Exit name ∷ Enter N.AutolinkMarker ∷ Consume ∷ Exit N.AutolinkMarker ∷ []) (Exit N.Autolink ∷ []))
 
 -- after the text
-back-by : (name : Name) (c : Code) (text rest : List Code) (b : Bool) → text ≢ [] → next_is (is_value 62) rest ≡ b → tree_ops ((one (is_value 62) >>= λ back. gives (group N.Autolink (leaf N.AutolinkMarker (c ∷ []) ⊕ leaf name text ⊕ leaf N.AutolinkMarker back))) rest) ≡ preceded bracket_ops (opened (if b then Some (name, consumes text ++ ending name) else None))
+back-by : (name : Name) (c : Code) (text rest : List Code) (b : Bool) → text ≢ [] → next_is (is_value 62) rest ≡ b →
+    tree_ops ((one (is_value 62) >>= λ back. gives (group N.Autolink (leaf N.AutolinkMarker (c ∷ []) ⊕ leaf name text ⊕ leaf N.AutolinkMarker back))) rest) ≡ preceded bracket_ops (opened (if b then Some (name, consumes text ++ ending name) else None))
 unfolding gives
 back-by name c [] rest b some e = absurd (some refl)
 back-by name c (t ∷ text) rest false some e = ap tree_ops (bind-none _ _ rest (one-not (is_value 62) rest e))
 back-by name c (t ∷ text) [] true some e = cc
-back-by name c (t ∷ text) (d ∷ rest) true some e = ap tree_ops (bind-some _ _ (d ∷ rest) (d ∷ []) rest _ (one-here (is_value 62) d rest e) refl) ∙ ap (λ os. Some os) (link-ops name c t d text)
+back-by name c (t ∷ text) (d ∷ rest) true some e =
+    ap tree_ops (bind-some _ _ (d ∷ rest) (d ∷ []) rest _ (one-here (is_value 62) d rest e) refl) ∙ ap (λ os. Some os) (link-ops name c t d text)
 
-inside-by : (inside : Reading (List Code)) (name : Name) (c : Code) (cs : List Code) (o : Option (List Code × List Code)) → Gives IsSome inside → is_value 60 c ≡ true → inside cs ≡ o → tree_ops (in_angle_brackets inside name (c ∷ cs)) ≡ preceded bracket_ops (opened (ended name o))
+inside-by : (inside : Reading (List Code)) (name : Name) (c : Code) (cs : List Code) (o : Option (List Code × List Code)) →
+    Gives IsSome inside → is_value 60 c ≡ true → inside cs ≡ o →
+    tree_ops (in_angle_brackets inside name (c ∷ cs)) ≡ preceded bracket_ops (opened (ended name o))
 unfolding in_angle_brackets
-inside-by inside name c cs None g h e = ap tree_ops (bind-some _ _ (c ∷ cs) (c ∷ []) cs _ (one-here (is_value 60) c cs h) (bind-none _ _ cs e))
+inside-by inside name c cs None g h e =
+    ap tree_ops (bind-some _ _ (c ∷ cs) (c ∷ []) cs _ (one-here (is_value 60) c cs h) (bind-none _ _ cs e))
 inside-by inside name c cs (Some r) g h e =
     ap tree_ops (bind-some _ _ (c ∷ cs) (c ∷ []) cs _ (one-here (is_value 60) c cs h) (bind-some _ _ cs r.0 r.1 _ e refl))
     ∙ back-by name c r.0 r.1 (next_is (is_value 62) r.1) (g cs r.0 r.1 e).holds.1 refl
 
-either-by : (os : List Op) (o p : Option (Forest × List Code)) (a b : Option (Name × List Op)) → tree_ops o ≡ preceded os (opened a) → tree_ops p ≡ preceded os (opened b) → tree_ops (elim o as (λ _. Option (Forest × List Code)) [ None ↦ p | Some r ↦ Some r ]) ≡ preceded os (opened (or_else a b))
+either-by : (os : List Op) (o p : Option (Forest × List Code)) (a b : Option (Name × List Op)) →
+    tree_ops o ≡ preceded os (opened a) → tree_ops p ≡ preceded os (opened b) →
+    tree_ops (elim o as (λ _. Option (Forest × List Code)) [ None ↦ p | Some r ↦ Some r ]) ≡ preceded os (opened (or_else a b))
 either-by os None p None b e f = f
 either-by os None p (Some x) b e f = cc
 either-by os (Some r) p None b e f = cc
 either-by os (Some r) p (Some x) b e f = e
 
-pub link-here : (on : Bool) (c : Code) (cs : List Code) → on ≡ true → is_value 60 c ≡ true → plan_of (provided on >> autolink) (c ∷ cs) ≡ preceded bracket_ops (opened (open_naming cs))
+pub link-here : (on : Bool) (c : Code) (cs : List Code) → on ≡ true → is_value 60 c ≡ true →
+    plan_of (provided on >> autolink) (c ∷ cs) ≡ preceded bracket_ops (opened (open_naming cs))
 unfolding autolink either
 link-here on c cs e h =
     ap tree_ops (switched-on autolink on (c ∷ cs) e)
     ∙ either-by bracket_ops (in_angle_brackets uri N.AutolinkProtocol (c ∷ cs)) (in_angle_brackets email_address N.AutolinkEmail (c ∷ cs)) (up_to_bracket N.AutolinkProtocol uri cs) (up_to_bracket N.AutolinkEmail email_address cs) (inside-by uri N.AutolinkProtocol c cs (uri cs) uri-gives h refl) (inside-by email_address N.AutolinkEmail c cs (email_address cs) email-gives h refl)
 
-no-brackets : (inside : Reading (List Code)) (name : Name) (cs : List Code) → next_is (is_value 60) cs ≡ false → in_angle_brackets inside name cs ≡ None
+no-brackets : (inside : Reading (List Code)) (name : Name) (cs : List Code) → next_is (is_value 60) cs ≡ false →
+    in_angle_brackets inside name cs ≡ None
 unfolding in_angle_brackets
 no-brackets inside name cs h = bind-none _ _ cs (one-not (is_value 60) cs h)
 
-pub no-link : (on : Bool) (cs : List Code) → on && next_is (is_value 60) cs ≡ false → plan_of (provided on >> autolink) cs ≡ None
+pub no-link : (on : Bool) (cs : List Code) → on && next_is (is_value 60) cs ≡ false →
+    plan_of (provided on >> autolink) cs ≡ None
 unfolding autolink either
 no-link false cs e = ap tree_ops (switched-off autolink false cs refl)
 no-link true cs e =

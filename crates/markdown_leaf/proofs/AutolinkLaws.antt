@@ -26,7 +26,9 @@ use Rattle.markdown_model.specs.CodeTests.{is_value, is_alphanumeric, is_letter,
 use Rattle.markdown_model.specs.Grammar.{any_number}
 use Rattle.markdown_model.specs.LeafConstructs.{uri, email_address, is_scheme_code, is_uri_code, is_local_code}
 use Rattle.markdown_plan.specs.ByteTests.{letter_value, alphanumeric_value}
-use Rattle.markdown_leaf.specs.Autolink.{scheme_value, local_value, uri_value, is_on, opening, ending, start_at, start_step, open_at, scheme_or_at, scheme_inside_at, url_inside_at, url_inside_step, uri_stops, email_atext_at, email_at_sign_or_dot_at, in_label_at, email_label_at, InsideReady, LabelReady, link_here, start_ends, ended, up_to_bracket, or_else, scheme_rest, local_rest, domains, is_label_code, label_rest, open_naming, scheme_naming, open_ends, scheme_or_ends, scheme_inside_ends, url_inside_ends, email_atext_ends, email_at_sign_or_dot_ends, email_label_ends, states, email_at_sign_or_dot_words, email_atext_words, email_label_words, email_value_words, open_words, scheme_inside_words, scheme_or_words, start_words, url_inside_words}
+use Rattle.markdown_leaf.specs.Autolink.{scheme_value, local_value, uri_value, is_on, opening, ending, start_at, start_step, open_at, scheme_or_at, scheme_inside_at, url_inside_at, url_inside_step, uri_stops, email_atext_at, email_at_sign_or_dot_at, in_label_at, email_label_at}
+use Rattle.markdown_leaf.specs.Autolink.{InsideReady, LabelReady, link_here, start_ends, ended, up_to_bracket, or_else, scheme_rest, local_rest, domains, is_label_code, label_rest, open_naming, scheme_naming, open_ends, scheme_or_ends, scheme_inside_ends, url_inside_ends}
+use Rattle.markdown_leaf.specs.Autolink.{email_atext_ends, email_at_sign_or_dot_ends, email_label_ends, states, email_at_sign_or_dot_words, email_atext_words, email_label_words, email_value_words, open_words, scheme_inside_words, scheme_or_words, start_words, url_inside_words}
 use Rattle.markdown_plan.specs.Plan.{Plan, preceded, plan_of, DoesAs, KeepsAs}
 use Rattle.markdown_plan.specs.ScratchFields.{with_size}
 use Rattle.markdown_plan.specs.LateNames.{Naming, NamesAs, renamed, preceded_by, opening_of}
@@ -60,7 +62,8 @@ scheme-local v h =
     or-here (v == 45) _ (local_value v) f (λ g. value-local 45 v refl g) (λ g.
     or-here (v == 46) false (local_value v) g (λ i. value-local 46 v refl i) (λ i. cc))))
 
-or-both : (os : List Op) (a b x y : Option (Name × List Op)) → a ≡ preceded_by os x → b ≡ preceded_by os y → or_else a b ≡ preceded_by os (or_else x y)
+or-both : (os : List Op) (a b x y : Option (Name × List Op)) → a ≡ preceded_by os x → b ≡ preceded_by os y →
+    or_else a b ≡ preceded_by os (or_else x y)
 or-both os a b x y e f = ap (λ z. or_else z b) e ∙ ap (λ z. or_else (preceded_by os x) z) f ∙ or-next os x y
 
 or-right : (a b x : Option (Name × List Op)) → a ≡ None → b ≡ x → or_else a b ≡ x
@@ -82,7 +85,8 @@ left-test true false b e f g = sym g ∙ f
 
 inside-kept : (T : Tokenizer) → InsideReady T → InsideReady (done (Consume ∷ []) T)
 unfolding applied
-inside-kept T k = record { stand_open = k.stand_open; some = k.some; entered = renamed-consumed N.AutolinkProtocol T ∙ ap (λ (x : Tokenizer). applied Consume x) k.entered }
+inside-kept T k =
+    record { stand_open = k.stand_open; some = k.some; entered = renamed-consumed N.AutolinkProtocol T ∙ ap (λ (x : Tokenizer). applied Consume x) k.entered }
 
 inside-next : (r : TokenizeState) (T : Tokenizer) → InsideReady T → InsideReady (scratched r (done (Consume ∷ []) T))
 unfolding applied scratched
@@ -99,9 +103,11 @@ inside-entered T =
     record { stand_open = refl; some = some-event (done bracket_ops T) N.AutolinkProtocol; entered = renamed-entered N.AutolinkProtocol N.AutolinkProtocol (done bracket_ops T) }
 
 -- what the run after the bracket says
-open-says : (T : Tokenizer) (ok : Bool) (U : Tokenizer) → T.tokenize_state.size ≡ 0 → open_ends (done opening T) ok U → NamesAs 1 open_naming T.tokenize_state (done opening T) ok U
+open-says : (T : Tokenizer) (ok : Bool) (U : Tokenizer) → T.tokenize_state.size ≡ 0 → open_ends (done opening T) ok U →
+    NamesAs 1 open_naming T.tokenize_state (done opening T) ok U
 unfolding applied
-open-says T ok U k x = subst (λ (s : TokenizeState). NamesAs 1 open_naming s (done opening T) ok U) (ap (λ n. with_size n T.tokenize_state) (sym k)) x
+open-says T ok U k x =
+    subst (λ (s : TokenizeState). NamesAs 1 open_naming s (done opening T) ok U) (ap (λ n. with_size n T.tokenize_state) (sym k)) x
 
 module _ (W : Words) (within : Within states W) where
   pub open-law : Law W open_words
@@ -244,7 +250,9 @@ module _ (W : Words) (within : Within states W) where
       (λ h. Goes-refused W 1 1 p s T alone (ap p b.whole ∙ ap (ended N.AutolinkEmail) (domains-none (b.code ∷ cs) (ap alphanumeric_value b.value ∙ h)))))
 
   -- at a code of a label, where the link does not hold at any other
-  in-label : (well : Bool) (T : Tokenizer) → T.attempts ≡ [] → LabelReady T → (next_is is_label_code (ahead T) ≡ false → up_to_bracket N.AutolinkEmail (label_rest T.tokenize_state.size well) (ahead T) ≡ None) → GoesIn W (weight_at 1 T) (NamesAs 1 (up_to_bracket N.AutolinkEmail (label_rest T.tokenize_state.size well)) (with_size 0 T.tokenize_state) T) (in_label_at (current_of T) T)
+  in-label : (well : Bool) (T : Tokenizer) → T.attempts ≡ [] → LabelReady T →
+      (next_is is_label_code (ahead T) ≡ false → up_to_bracket N.AutolinkEmail (label_rest T.tokenize_state.size well) (ahead T) ≡ None) →
+      GoesIn W (weight_at 1 T) (NamesAs 1 (up_to_bracket N.AutolinkEmail (label_rest T.tokenize_state.size well)) (with_size 0 T.tokenize_state) T) (in_label_at (current_of T) T)
   unfolding applied scratched
   in-label well T alone k end =
       let n : ℕ = T.tokenize_state.size in
@@ -276,7 +284,8 @@ module _ (W : Words) (within : Within states W) where
       ] refl))))
 
   pub email_value-law : Law W email_value_words
-  email_value-law T alone k = in-label false T alone k (λ h. ap (ended N.AutolinkEmail) (label-unended T.tokenize_state.size (ahead T) h))
+  email_value-law T alone k =
+      in-label false T alone k (λ h. ap (ended N.AutolinkEmail) (label-unended T.tokenize_state.size (ahead T) h))
 
   pub email_label-law : Law W email_label_words
   unfolding applied scratched renamed
@@ -303,7 +312,9 @@ module _ (W : Words) (within : Within states W) where
       (λ h. subst (λ (o : Option ℕ). P (in_label_at o T)) e (in-label true T alone k (λ i. ap p b.whole ∙ end (b.code ∷ cs) (sym (ap (λ xs. next_is is_label_code xs) b.whole) ∙ i) (ap (λ v. v == 46) b.value ∙ g) (ap (λ v. v == 62) b.value ∙ h))))))
 
   -- past the bracket, the leaf entered
-  link-opened : (T : Tokenizer) → 1 ≤ length (ahead T) → T.attempts ≡ [] → T.tokenize_state.size ≡ 0 → plan_of (link_here T) (ahead T) ≡ preceded bracket_ops (opening_of open_naming (drop 1 (ahead T))) → GoesIn W (weight_at 3 T) (KeepsAs 0 (plan_of (link_here T)) T) (stepped (Next AutolinkOpen) (done opening T))
+  link-opened : (T : Tokenizer) → 1 ≤ length (ahead T) → T.attempts ≡ [] → T.tokenize_state.size ≡ 0 →
+      plan_of (link_here T) (ahead T) ≡ preceded bracket_ops (opening_of open_naming (drop 1 (ahead T))) →
+      GoesIn W (weight_at 3 T) (KeepsAs 0 (plan_of (link_here T)) T) (stepped (Next AutolinkOpen) (done opening T))
   link-opened T more alone k e =
       let s : TokenizeState = T.tokenize_state in
       let p : Plan = plan_of (link_here T) in
@@ -330,7 +341,8 @@ module _ (W : Words) (within : Within states W) where
       (λ h. Goes-no W 3 0 p T alone (ap p b.whole ∙ no-link (is_on T) (b.code ∷ rest_of (ahead T)) (ap (λ v. is_on T && (v == 60)) b.value ∙ h)))))
 
 -- over a code that is none of those at which a URI ends, a call does no more than pass it
-pub uri-steady : (T : Tokenizer) (set : List ℕ) → Some uri_stops ≡ Some set → is_free set (current_of T) ≡ true → url_inside_step T ≡ stepped (Next AutolinkUrlInside) (consumed T)
+pub uri-steady : (T : Tokenizer) (set : List ℕ) → Some uri_stops ≡ Some set → is_free set (current_of T) ≡ true →
+    url_inside_step T ≡ stepped (Next AutolinkUrlInside) (consumed T)
 uri-steady T set known free =
     steady-at set T url_inside_at (stepped (Next AutolinkUrlInside) (consumed T)) free (λ v a b.
     let same : set ≡ uri_stops = cc in

@@ -19,7 +19,8 @@ use Rattle.markdown_model.proofs.GrammarSteps.{bind-some, bind-none, one-here, o
 
 -- The end of the link.
 
-ended-more : (n : Name) (c : Code) (o : Option (List Code × List Code)) → ended n (with_first c o) ≡ preceded_by (Consume ∷ []) (ended n o)
+ended-more : (n : Name) (c : Code) (o : Option (List Code × List Code)) →
+    ended n (with_first c o) ≡ preceded_by (Consume ∷ []) (ended n o)
 ended-more n c None = refl
 ended-more n c (Some r) =
     elim (next_is (is_value 62) r.1) as (λ b. (if b then Some (n, Consume ∷ (consumes r.0 ++ ending n)) else None) ≡ preceded_by (Consume ∷ []) (if b then Some (n, consumes r.0 ++ ending n) else None)) [
@@ -27,16 +28,19 @@ ended-more n c (Some r) =
       | false ↦ refl
     ]
 
-pub bracket-next : (n : Name) (a b : Reading (List Code)) (c : Code) (cs : List Code) → a (c ∷ cs) ≡ with_first c (b cs) → up_to_bracket n a (c ∷ cs) ≡ preceded_by (Consume ∷ []) (up_to_bracket n b cs)
+pub bracket-next : (n : Name) (a b : Reading (List Code)) (c : Code) (cs : List Code) →
+    a (c ∷ cs) ≡ with_first c (b cs) → up_to_bracket n a (c ∷ cs) ≡ preceded_by (Consume ∷ []) (up_to_bracket n b cs)
 bracket-next n a b c cs e = ap (ended n) e ∙ ended-more n c (b cs)
 
-pub or-next : (os : List Op) (a b : Option (Name × List Op)) → or_else (preceded_by os a) (preceded_by os b) ≡ preceded_by os (or_else a b)
+pub or-next : (os : List Op) (a b : Option (Name × List Op)) →
+    or_else (preceded_by os a) (preceded_by os b) ≡ preceded_by os (or_else a b)
 or-next os None b = refl
 or-next os (Some x) b = refl
 
 -- Schemes.
 
-if-after : (b : Bool) (c : Code) (front : List Code) (o : Option (List Code × List Code)) → (if b then after (c ∷ front) o else None) ≡ with_first c (if b then after front o else None)
+if-after : (b : Bool) (c : Code) (front : List Code) (o : Option (List Code × List Code)) →
+    (if b then after (c ∷ front) o else None) ≡ with_first c (if b then after front o else None)
 if-after true c front o = after-more c front o
 if-after false c front o = refl
 
@@ -47,20 +51,24 @@ if-none false o e = refl
 abbrev colon : Reading (List Code)
 colon = one (is_value 58) then_ any_number is_uri_code
 
-pub scheme-more : (k : ℕ) (c : Code) (cs : List Code) → is_scheme_code c ≡ true → scheme_rest k (c ∷ cs) ≡ with_first c (scheme_rest (k + 1) cs)
+pub scheme-more : (k : ℕ) (c : Code) (cs : List Code) → is_scheme_code c ≡ true →
+    scheme_rest k (c ∷ cs) ≡ with_first c (scheme_rest (k + 1) cs)
 scheme-more k c cs h =
     let s : List Code × List Code = span is_scheme_code cs in
     ap (λ (r : List Code × List Code). if is_between 2 32 (k + length r.0) then after r.0 (colon r.1) else None) (span-takes is_scheme_code c cs h)
     ∙ ap (λ n. if is_between 2 32 n then after (c ∷ s.0) (colon s.1) else None) (counted k s.0 c)
     ∙ if-after (is_between 2 32 (k + 1 + length s.0)) c s.0 (colon s.1)
 
-pub scheme-here : (k : ℕ) (cs : List Code) → next_is is_scheme_code cs ≡ false → scheme_rest k cs ≡ (if is_between 2 32 k then after [] (colon cs) else None)
+pub scheme-here : (k : ℕ) (cs : List Code) → next_is is_scheme_code cs ≡ false →
+    scheme_rest k cs ≡ (if is_between 2 32 k then after [] (colon cs) else None)
 scheme-here k cs h =
     ap (λ (r : List Code × List Code). if is_between 2 32 (k + length r.0) then after r.0 (colon r.1) else None) (span-none is_scheme_code cs h)
     ∙ ap (λ n. if is_between 2 32 n then after [] (colon cs) else None) (none-more k)
 
-colon-here : (c : Code) (cs : List Code) → is_value 58 c ≡ true → colon (c ∷ cs) ≡ with_first c (any_number is_uri_code cs)
-colon-here c cs h = then-after (one (is_value 58)) (any_number is_uri_code) (c ∷ cs) (c ∷ []) cs (one-here (is_value 58) c cs h) ∙ after-one c (any_number is_uri_code cs)
+colon-here : (c : Code) (cs : List Code) → is_value 58 c ≡ true →
+    colon (c ∷ cs) ≡ with_first c (any_number is_uri_code cs)
+colon-here c cs h =
+    then-after (one (is_value 58)) (any_number is_uri_code) (c ∷ cs) (c ∷ []) cs (one-here (is_value 58) c cs h) ∙ after-one c (any_number is_uri_code cs)
 
 within-is : (a b k : ℕ) → a ≤ k → k ≤ b → is_between a b k ≡ true
 within-is a b k h l = grind (arith, nat_tests, common_steps)
@@ -68,14 +76,16 @@ within-is a b k h l = grind (arith, nat_tests, common_steps)
 beyond-is : (a b k : ℕ) → b < k → is_between a b k ≡ false
 beyond-is a b k h = grind (arith, nat_tests, common_steps)
 
-pub scheme-colon : (k : ℕ) (c : Code) (cs : List Code) → is_value 58 c ≡ true → 2 ≤ k → k ≤ 32 → scheme_rest k (c ∷ cs) ≡ with_first c (any_number is_uri_code cs)
+pub scheme-colon : (k : ℕ) (c : Code) (cs : List Code) → is_value 58 c ≡ true → 2 ≤ k → k ≤ 32 →
+    scheme_rest k (c ∷ cs) ≡ with_first c (any_number is_uri_code cs)
 scheme-colon k c cs h l m =
     scheme-here k (c ∷ cs) (ap scheme_value (eqb-true c.value 58 h))
     ∙ ap (λ b. if b then after [] (colon (c ∷ cs)) else None) (within-is 2 32 k l m)
     ∙ after-none (colon (c ∷ cs))
     ∙ colon-here c cs h
 
-pub scheme-other : (k : ℕ) (cs : List Code) → next_is is_scheme_code cs ≡ false → next_is (is_value 58) cs ≡ false → scheme_rest k cs ≡ None
+pub scheme-other : (k : ℕ) (cs : List Code) → next_is is_scheme_code cs ≡ false → next_is (is_value 58) cs ≡ false →
+    scheme_rest k cs ≡ None
 scheme-other k cs h l =
     scheme-here k cs h ∙ if-none (is_between 2 32 k) (after [] (colon cs)) (ap (after []) (then-none (one (is_value 58)) (any_number is_uri_code) cs (one-not (is_value 58) cs l)))
 
@@ -89,9 +99,11 @@ scheme-long k c cs h l =
     ∙ ap (λ b. if b then after (c ∷ s.0) (colon s.1) else None) (beyond-is 2 32 (k + length (c ∷ s.0)) (longer k c s.0 l))
 
 -- a scheme from its first letter on
-scheme-all : (c : Code) (cs : List Code) (r : List Code × List Code) → is_letter c ≡ true → span is_scheme_code cs ≡ r → scheme (c ∷ cs) ≡ (if is_between 2 32 (1 + length r.0) then Some (c ∷ r.0, r.1) else None)
+scheme-all : (c : Code) (cs : List Code) (r : List Code × List Code) → is_letter c ≡ true → span is_scheme_code cs ≡ r →
+    scheme (c ∷ cs) ≡ (if is_between 2 32 (1 + length r.0) then Some (c ∷ r.0, r.1) else None)
 unfolding scheme gives
-scheme-all c cs ([], rest) h e = bind-none _ _ (c ∷ cs) (then-other (one is_letter) (some is_scheme_code) (c ∷ cs) (c ∷ []) cs (one-here is_letter c cs h) (some-nothing is_scheme_code cs rest e))
+scheme-all c cs ([], rest) h e =
+    bind-none _ _ (c ∷ cs) (then-other (one is_letter) (some is_scheme_code) (c ∷ cs) (c ∷ []) cs (one-here is_letter c cs h) (some-nothing is_scheme_code cs rest e))
 scheme-all c cs (d ∷ ds, rest) h e =
     bind-some _ _ (c ∷ cs) (c ∷ d ∷ ds) rest _ (then-some (one is_letter) (some is_scheme_code) (c ∷ cs) (c ∷ []) cs (d ∷ ds) rest (one-here is_letter c cs h) (some-span is_scheme_code cs d ds rest e)) refl
     ∙ ap (λ n. (provided (is_between 2 32 n) >> gives (c ∷ d ∷ ds)) rest) (one-more (d ∷ ds) c)
@@ -100,7 +112,9 @@ scheme-all c cs (d ∷ ds, rest) h e =
       | false ↦ switched-off (gives (c ∷ d ∷ ds)) false rest refl
     ]
 
-uri-by : (b : Bool) (cs : List Code) (c : Code) (s : List Code × List Code) → scheme cs ≡ (if b then Some (c ∷ s.0, s.1) else None) → (scheme then_ colon) cs ≡ (if b then after (c ∷ s.0) (colon s.1) else None)
+uri-by : (b : Bool) (cs : List Code) (c : Code) (s : List Code × List Code) →
+    scheme cs ≡ (if b then Some (c ∷ s.0, s.1) else None) →
+    (scheme then_ colon) cs ≡ (if b then after (c ∷ s.0) (colon s.1) else None)
 uri-by true cs c s e = then-after scheme colon cs (c ∷ s.0) s.1 e
 uri-by false cs c s e = then-none scheme colon cs e
 
@@ -120,8 +134,10 @@ uri-none cs h = then-none scheme colon cs (scheme-none cs h)
 
 -- URIs after the colon.
 
-pub url-more : (c : Code) (cs : List Code) → is_uri_code c ≡ true → any_number is_uri_code (c ∷ cs) ≡ with_first c (any_number is_uri_code cs)
-url-more c cs h = any-number-is is_uri_code (c ∷ cs) ∙ ap (λ (r : List Code × List Code). Some r) (span-takes is_uri_code c cs h) ∙ ap (with_first c) (sym (any-number-is is_uri_code cs))
+pub url-more : (c : Code) (cs : List Code) → is_uri_code c ≡ true →
+    any_number is_uri_code (c ∷ cs) ≡ with_first c (any_number is_uri_code cs)
+url-more c cs h =
+    any-number-is is_uri_code (c ∷ cs) ∙ ap (λ (r : List Code × List Code). Some r) (span-takes is_uri_code c cs h) ∙ ap (with_first c) (sym (any-number-is is_uri_code cs))
 
 pub url-end : (cs : List Code) → next_is is_uri_code cs ≡ false → any_number is_uri_code cs ≡ Some ([], cs)
 url-end cs h = any-number-is is_uri_code cs ∙ ap (λ (r : List Code × List Code). Some r) (span-none is_uri_code cs h)
@@ -131,13 +147,15 @@ url-end cs h = any-number-is is_uri_code cs ∙ ap (λ (r : List Code × List Co
 abbrev at_sign : Reading (List Code)
 at_sign = one (is_value 64) then_ domains
 
-pub local-more : (c : Code) (cs : List Code) → is_local_code c ≡ true → local_rest (c ∷ cs) ≡ with_first c (local_rest cs)
+pub local-more : (c : Code) (cs : List Code) → is_local_code c ≡ true →
+    local_rest (c ∷ cs) ≡ with_first c (local_rest cs)
 local-more c cs h =
     let s : List Code × List Code = span is_local_code cs in
     ap (λ (r : List Code × List Code). after r.0 (at_sign r.1)) (span-takes is_local_code c cs h) ∙ after-more c s.0 (at_sign s.1)
 
 local-here : (cs : List Code) → next_is is_local_code cs ≡ false → local_rest cs ≡ at_sign cs
-local-here cs h = ap (λ (r : List Code × List Code). after r.0 (at_sign r.1)) (span-none is_local_code cs h) ∙ after-none (at_sign cs)
+local-here cs h =
+    ap (λ (r : List Code × List Code). after r.0 (at_sign r.1)) (span-none is_local_code cs h) ∙ after-none (at_sign cs)
 
 pub local-at : (c : Code) (cs : List Code) → is_value 64 c ≡ true → local_rest (c ∷ cs) ≡ with_first c (domains cs)
 local-at c cs h =
@@ -145,10 +163,12 @@ local-at c cs h =
     ∙ then-after (one (is_value 64)) domains (c ∷ cs) (c ∷ []) cs (one-here (is_value 64) c cs h)
     ∙ after-one c (domains cs)
 
-pub local-other : (cs : List Code) → next_is is_local_code cs ≡ false → next_is (is_value 64) cs ≡ false → local_rest cs ≡ None
+pub local-other : (cs : List Code) → next_is is_local_code cs ≡ false → next_is (is_value 64) cs ≡ false →
+    local_rest cs ≡ None
 local-other cs h l = local-here cs h ∙ then-none (one (is_value 64)) domains cs (one-not (is_value 64) cs l)
 
-pub email-first : (c : Code) (cs : List Code) → is_local_code c ≡ true → email_address (c ∷ cs) ≡ with_first c (local_rest cs)
+pub email-first : (c : Code) (cs : List Code) → is_local_code c ≡ true →
+    email_address (c ∷ cs) ≡ with_first c (local_rest cs)
 unfolding email_address
 email-first c cs h =
     let s : List Code × List Code = span is_local_code cs in
@@ -160,11 +180,13 @@ email-none cs h = then-none (some is_local_code) at_sign cs (some-none is_local_
 
 -- Labels.
 
-ends-first : (c : Code) (cs : List Code) → ends_well (is_alphanumeric c) cs ≡ is_some_code is_alphanumeric (last_code (c ∷ cs))
+ends-first : (c : Code) (cs : List Code) →
+    ends_well (is_alphanumeric c) cs ≡ is_some_code is_alphanumeric (last_code (c ∷ cs))
 ends-first c [] = refl
 ends-first c (d ∷ ds) = refl
 
-pub label-more : (k : ℕ) (well : Bool) (c : Code) (cs : List Code) → is_label_code c ≡ true → label_rest k well (c ∷ cs) ≡ with_first c (label_rest (k + 1) (is_alphanumeric c) cs)
+pub label-more : (k : ℕ) (well : Bool) (c : Code) (cs : List Code) → is_label_code c ≡ true →
+    label_rest k well (c ∷ cs) ≡ with_first c (label_rest (k + 1) (is_alphanumeric c) cs)
 label-more k well c cs h =
     let s : List Code × List Code = span is_label_code cs in
     ap (λ (r : List Code × List Code). if nat_le (k + length r.0) 63 && ends_well well r.0 then after r.0 (more_labels r.1) else None) (span-takes is_label_code c cs h)
@@ -178,13 +200,15 @@ too-many k c cs h = let l : 63 < k + length (c ∷ cs) = omega (arith, h) in gri
 few-enough : (k : ℕ) → k ≤ 63 → nat_le k 63 ≡ true
 few-enough k h = grind (arith, nat_tests, common_steps)
 
-pub label-long : (k : ℕ) (well : Bool) (c : Code) (cs : List Code) → is_label_code c ≡ true → 63 ≤ k → label_rest k well (c ∷ cs) ≡ None
+pub label-long : (k : ℕ) (well : Bool) (c : Code) (cs : List Code) → is_label_code c ≡ true → 63 ≤ k →
+    label_rest k well (c ∷ cs) ≡ None
 label-long k well c cs h l =
     let s : List Code × List Code = span is_label_code cs in
     ap (λ (r : List Code × List Code). if nat_le (k + length r.0) 63 && ends_well well r.0 then after r.0 (more_labels r.1) else None) (span-takes is_label_code c cs h)
     ∙ ap (λ b. if b && ends_well well (c ∷ s.0) then after (c ∷ s.0) (more_labels s.1) else None) (too-many k c s.0 l)
 
-label-here : (k : ℕ) (well : Bool) (cs : List Code) → next_is is_label_code cs ≡ false → label_rest k well cs ≡ (if nat_le k 63 && well then after [] (more_labels cs) else None)
+label-here : (k : ℕ) (well : Bool) (cs : List Code) → next_is is_label_code cs ≡ false →
+    label_rest k well cs ≡ (if nat_le k 63 && well then after [] (more_labels cs) else None)
 label-here k well cs h =
     ap (λ (r : List Code × List Code). if nat_le (k + length r.0) 63 && ends_well well r.0 then after r.0 (more_labels r.1) else None) (span-none is_label_code cs h)
     ∙ ap (λ n. if nat_le n 63 && well then after [] (more_labels cs) else None) (none-more k)
@@ -196,18 +220,23 @@ none-well false o = refl
 pub label-unended : (k : ℕ) (cs : List Code) → next_is is_label_code cs ≡ false → label_rest k false cs ≡ None
 label-unended k cs h = label-here k false cs h ∙ none-well (nat_le k 63) (after [] (more_labels cs))
 
-pub label-ended : (k : ℕ) (cs : List Code) → next_is is_label_code cs ≡ false → k ≤ 63 → label_rest k true cs ≡ more_labels cs
-label-ended k cs h l = label-here k true cs h ∙ ap (λ b. if b && true then after [] (more_labels cs) else None) (few-enough k l) ∙ after-none (more_labels cs)
+pub label-ended : (k : ℕ) (cs : List Code) → next_is is_label_code cs ≡ false → k ≤ 63 →
+    label_rest k true cs ≡ more_labels cs
+label-ended k cs h l =
+    label-here k true cs h ∙ ap (λ b. if b && true then after [] (more_labels cs) else None) (few-enough k l) ∙ after-none (more_labels cs)
 
 -- Domains.
 
 -- a label from its first code on
-label-by : (b : Bool) (text rest : List Code) → is_length_in 1 63 text && next_is is_alphanumeric text && is_some_code is_alphanumeric (last_code text) ≡ b → (provided (is_length_in 1 63 text && next_is is_alphanumeric text && is_some_code is_alphanumeric (last_code text)) >> gives text) rest ≡ (if b then Some (text, rest) else None)
+label-by : (b : Bool) (text rest : List Code) →
+    is_length_in 1 63 text && next_is is_alphanumeric text && is_some_code is_alphanumeric (last_code text) ≡ b →
+    (provided (is_length_in 1 63 text && next_is is_alphanumeric text && is_some_code is_alphanumeric (last_code text)) >> gives text) rest ≡ (if b then Some (text, rest) else None)
 unfolding gives
 label-by true text rest e = switched-on (gives text) _ rest e
 label-by false text rest e = switched-off (gives text) _ rest e
 
-label-test : (c : Code) (front : List Code) → is_alphanumeric c ≡ true → is_length_in 1 63 (c ∷ front) && next_is is_alphanumeric (c ∷ front) && is_some_code is_alphanumeric (last_code (c ∷ front)) ≡ nat_le (1 + length front) 63 && ends_well true front
+label-test : (c : Code) (front : List Code) → is_alphanumeric c ≡ true →
+    is_length_in 1 63 (c ∷ front) && next_is is_alphanumeric (c ∷ front) && is_some_code is_alphanumeric (last_code (c ∷ front)) ≡ nat_le (1 + length front) 63 && ends_well true front
 label-test c front h = three (nat_le 1 (length (c ∷ front))) (nat_le (length (c ∷ front)) 63) (is_alphanumeric c) (is_some_code is_alphanumeric (last_code (c ∷ front))) (nat_le (1 + length front) 63) (ends_well true front) (some-length front c) h (ap (λ n. nat_le n 63) (one-more front c)) (sym (ends-first c front) ∙ ap (λ b. ends_well b front) h)
   where
     three : (a b x l m f : Bool) → a ≡ true → x ≡ true → b ≡ m → l ≡ f → (a && b) && x && l ≡ m && f
@@ -226,17 +255,21 @@ alphanumeric-label : (a b : Bool) → a ≡ true → a || b ≡ true
 alphanumeric-label true b e = refl
 alphanumeric-label false b e = cc
 
-label-first : (c : Code) (cs : List Code) → is_alphanumeric c ≡ true → domain_label (c ∷ cs) ≡ (if nat_le (1 + length (span is_label_code cs).0) 63 && ends_well true (span is_label_code cs).0 then Some (c ∷ (span is_label_code cs).0, (span is_label_code cs).1) else None)
+label-first : (c : Code) (cs : List Code) → is_alphanumeric c ≡ true →
+    domain_label (c ∷ cs) ≡ (if nat_le (1 + length (span is_label_code cs).0) 63 && ends_well true (span is_label_code cs).0 then Some (c ∷ (span is_label_code cs).0, (span is_label_code cs).1) else None)
 unfolding domain_label
 label-first c cs h =
     let s : List Code × List Code = span is_label_code cs in
     bind-some _ _ (c ∷ cs) (c ∷ s.0) s.1 _ (some-here is_label_code c cs (alphanumeric-label (is_alphanumeric c) (is_value 45 c) h)) (label-by _ (c ∷ s.0) s.1 (label-test c s.0 h))
 
-domains-by : (b : Bool) (cs : List Code) (c : Code) (s : List Code × List Code) → domain_label cs ≡ (if b then Some (c ∷ s.0, s.1) else None) → domains cs ≡ (if b then after (c ∷ s.0) (more_labels s.1) else None)
+domains-by : (b : Bool) (cs : List Code) (c : Code) (s : List Code × List Code) →
+    domain_label cs ≡ (if b then Some (c ∷ s.0, s.1) else None) →
+    domains cs ≡ (if b then after (c ∷ s.0) (more_labels s.1) else None)
 domains-by true cs c s e = then-after domain_label more_labels cs (c ∷ s.0) s.1 e
 domains-by false cs c s e = then-none domain_label more_labels cs e
 
-pub domains-first : (c : Code) (cs : List Code) → is_alphanumeric c ≡ true → domains (c ∷ cs) ≡ with_first c (label_rest 1 true cs)
+pub domains-first : (c : Code) (cs : List Code) → is_alphanumeric c ≡ true →
+    domains (c ∷ cs) ≡ with_first c (label_rest 1 true cs)
 domains-first c cs h =
     let s : List Code × List Code = span is_label_code cs in
     let b : Bool = nat_le (1 + length s.0) 63 && ends_well true s.0 in
@@ -246,7 +279,8 @@ middle-false : (a x l : Bool) → x ≡ false → a && x && l ≡ false
 middle-false true x l e = ap (λ b. b && l) e
 middle-false false x l e = refl
 
-label-none-by : (c : Code) (cs : List Code) (b : Bool) → is_alphanumeric c ≡ false → is_label_code c ≡ b → domain_label (c ∷ cs) ≡ None
+label-none-by : (c : Code) (cs : List Code) (b : Bool) → is_alphanumeric c ≡ false → is_label_code c ≡ b →
+    domain_label (c ∷ cs) ≡ None
 unfolding domain_label
 label-none-by c cs true h e =
     let s : List Code × List Code = span is_label_code cs in

@@ -29,7 +29,8 @@ use Rattle.markdown_plan.specs.LayerEquation.{Within, AreLawful}
 -- The reading, by what stands there.
 
 -- after a backslash
-escape-value : (slash : Code) (cs : List Code) → tree_ops ((one is_ascii_punctuation >>= λ read. gives (escape_tree (slash ∷ []) read)) cs) ≡ preceded opening (inside_plan cs)
+escape-value : (slash : Code) (cs : List Code) →
+    tree_ops ((one is_ascii_punctuation >>= λ read. gives (escape_tree (slash ∷ []) read)) cs) ≡ preceded opening (inside_plan cs)
 unfolding gives
 escape-value slash [] = ap tree_ops (bind-none _ _ _ (one-not is_ascii_punctuation [] refl))
 escape-value slash (c ∷ cs) =
@@ -38,15 +39,18 @@ escape-value slash (c ∷ cs) =
       | false ↦ λ e. ap tree_ops (bind-none _ _ _ (one-not is_ascii_punctuation (c ∷ cs) e))
     ] refl
 
-escape-slash : (on : Bool) (c : Code) (cs : List Code) → on ≡ true → (c.value == 92) ≡ true → plan_of (provided on >> character_escape) (c ∷ cs) ≡ preceded opening (inside_plan cs)
+escape-slash : (on : Bool) (c : Code) (cs : List Code) → on ≡ true → (c.value == 92) ≡ true →
+    plan_of (provided on >> character_escape) (c ∷ cs) ≡ preceded opening (inside_plan cs)
 unfolding character_escape
 escape-slash on c cs e h =
     ap tree_ops (switched-on character_escape on (c ∷ cs) e ∙ bind-some _ _ _ _ _ _ (one-here (is_value 92) c cs h) refl) ∙ escape-value c cs
 
-no-escape : (on : Bool) (cs : List Code) → on && next_is (is_value 92) cs ≡ false → plan_of (provided on >> character_escape) cs ≡ None
+no-escape : (on : Bool) (cs : List Code) → on && next_is (is_value 92) cs ≡ false →
+    plan_of (provided on >> character_escape) cs ≡ None
 unfolding character_escape
 no-escape false cs e = ap tree_ops (switched-off character_escape false cs refl)
-no-escape true cs e = ap tree_ops (switched-on character_escape true cs refl ∙ bind-none _ _ _ (one-not (is_value 92) cs e))
+no-escape true cs e =
+    ap tree_ops (switched-on character_escape true cs refl ∙ bind-none _ _ _ (one-not (is_value 92) cs e))
 
 whole : (on : Bool) → Gives Covers (provided on >> character_escape)
 unfolding character_escape

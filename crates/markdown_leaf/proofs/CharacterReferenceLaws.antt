@@ -22,7 +22,8 @@ use Rattle.markdown_model.specs.CodeTests.{is_value, is_among, is_alphanumeric, 
 use Rattle.markdown_model.specs.Grammar.{◌>>◌, provided, some}
 use Rattle.markdown_model.specs.LeafConstructs.{Parts, character_reference, reference_tree, named_parts, decimal_parts, hexadecimal_parts}
 use Rattle.markdown_util.specs.Reference.{html_5_rows, IsMarker, value_size_max}
-use Rattle.markdown_leaf.specs.CharacterReference.{IsAtRest, IsOpened, IsValue, is_on, marked, sized, rested, opening, number_sign, hexadecimal_sign, value_start, closing, begins_name, is_taken, start_at, start_step, named_step, open_at, decimal_step, numeric_at, value_at, reference_here, value_plan, numeric_plan, named_plan, open_plan, start_ends, open_ends, numeric_ends, value_ends, states, numeric_words, open_words, start_words, value_words}
+use Rattle.markdown_leaf.specs.CharacterReference.{IsAtRest, IsOpened, IsValue, is_on, marked, sized, rested, opening, number_sign, hexadecimal_sign, value_start, closing, begins_name, is_taken, start_at, start_step, named_step, open_at, decimal_step}
+use Rattle.markdown_leaf.specs.CharacterReference.{numeric_at, value_at, reference_here, value_plan, numeric_plan, named_plan, open_plan, start_ends, open_ends, numeric_ends, value_ends, states, numeric_words, open_words, start_words, value_words}
 use Rattle.markdown_plan.specs.Plan.{Plan, preceded, plan_of, DoesAs, KeepsAs}
 use Rattle.markdown_leaf.proofs.CharacterReferenceReadings.{reference-start, no-reference, value-close, value-more, value-end, value-stop}
 use Rattle.markdown_plan.proofs.PlanSteps.{EndsAs-plan, no-codes}
@@ -68,7 +69,8 @@ whole-hexadecimal =
     Gives-bind _ _ IsSome _ (Gives-one (is_value 59)) (λ back bs b.
     Gives-gives _ _ (record { some = p.1; whole = rw (p.0, n.0, h.0, q.0, u, b.0, append-nil) refl })))))))
 
-parts-cover : (p : Parts) → p.front ≢ [] → Covers (reference_tree p) (p.front ++ (p.number ++ (p.hexadecimal ++ (p.value ++ p.back))))
+parts-cover : (p : Parts) → p.front ≢ [] →
+    Covers (reference_tree p) (p.front ++ (p.number ++ (p.hexadecimal ++ (p.value ++ p.back))))
 parts-cover p some =
     Covers-group N.CharacterReference _ _ (some-first p.front _ some)
     (Covers-row _ _ p.front _ (Covers-leaf _ p.front p.front refl)
@@ -90,13 +92,17 @@ rested-same s e h =
     subst (λ m. record s { marker = m; size = 0 } ≡ s) e (subst (λ n. record s { marker = s.marker; size = n } ≡ s) h refl)
 
 opened-done : (T : Tokenizer) → IsAtRest T → IsOpened (done opening T)
-opened-done T r = record { whole = grind (arith, law_rules); marker = ap (λ (s : TokenizeState). s.marker) (scratch-done opening T) ∙ r.marker; size = ap (λ (s : TokenizeState). s.size) (scratch-done opening T) ∙ r.size }
+opened-done T r =
+    record { whole = grind (arith, law_rules); marker = ap (λ (s : TokenizeState). s.marker) (scratch-done opening T) ∙ r.marker; size = ap (λ (s : TokenizeState). s.size) (scratch-done opening T) ∙ r.size }
 
 numbered-done : (T : Tokenizer) → IsOpened T → IsOpened (done number_sign T)
-numbered-done T o = record { whole = grind (arith, law_rules, o.whole); marker = ap (λ (s : TokenizeState). s.marker) (scratch-done number_sign T) ∙ o.marker; size = ap (λ (s : TokenizeState). s.size) (scratch-done number_sign T) ∙ o.size }
+numbered-done T o =
+    record { whole = grind (arith, law_rules, o.whole); marker = ap (λ (s : TokenizeState). s.marker) (scratch-done number_sign T) ∙ o.marker; size = ap (λ (s : TokenizeState). s.size) (scratch-done number_sign T) ∙ o.size }
 
 -- on in the value, of this kind
-value-from : (m : ℕ) (os : List Op) (T : Tokenizer) → IsOpened T → (ok : Bool) (U : Tokenizer) → value_ends (scratched (marked m T.tokenize_state) (done os T)) ok U → DoesAs 2 (value_plan m 0) (rested T.tokenize_state) (scratched (marked m T.tokenize_state) (done os T)) ok U
+value-from : (m : ℕ) (os : List Op) (T : Tokenizer) → IsOpened T → (ok : Bool) (U : Tokenizer) →
+    value_ends (scratched (marked m T.tokenize_state) (done os T)) ok U →
+    DoesAs 2 (value_plan m 0) (rested T.tokenize_state) (scratched (marked m T.tokenize_state) (done os T)) ok U
 value-from m os T o ok U k =
     let V : Tokenizer = scratched (marked m T.tokenize_state) (done os T) in
     let now : V.tokenize_state ≡ marked m T.tokenize_state = scratch-scratched (marked m T.tokenize_state) (done os T) in
@@ -104,7 +110,9 @@ value-from m os T o ok U k =
     (subst (λ (s : TokenizeState). DoesAs 2 (value_plan s.marker s.size) (rested s) V ok U) now k)
 
 -- in a value of this kind
-is-value : (m : ℕ) (V : Tokenizer) (s : TokenizeState) (more : List Name) → V.stack ≡ N.CharacterReferenceValue ∷ N.CharacterReference ∷ more → V.tokenize_state ≡ marked m s → s.size ≡ 0 → IsMarker m → IsValue V
+is-value : (m : ℕ) (V : Tokenizer) (s : TokenizeState) (more : List Name) →
+    V.stack ≡ N.CharacterReferenceValue ∷ N.CharacterReference ∷ more → V.tokenize_state ≡ marked m s → s.size ≡ 0 →
+    IsMarker m → IsValue V
 is-value m V s more e now z k =
     let size : V.tokenize_state.size ≡ 0 = ap (λ (q : TokenizeState). q.size) now ∙ z in
     record {
@@ -114,10 +122,12 @@ is-value m V s more e now z k =
       size = omega (arith, size);
     }
 
-started : (m : ℕ) (T : Tokenizer) → IsOpened T → (scratched (marked m T.tokenize_state) (done value_start T)).stack ≡ N.CharacterReferenceValue ∷ N.CharacterReference ∷ rest_of T.stack
+started : (m : ℕ) (T : Tokenizer) → IsOpened T →
+    (scratched (marked m T.tokenize_state) (done value_start T)).stack ≡ N.CharacterReferenceValue ∷ N.CharacterReference ∷ rest_of T.stack
 started m T o = grind (arith, law_rules, o.whole)
 
-signed : (T : Tokenizer) → IsOpened T → (scratched (marked 120 T.tokenize_state) (done hexadecimal_sign T)).stack ≡ N.CharacterReferenceValue ∷ N.CharacterReference ∷ rest_of T.stack
+signed : (T : Tokenizer) → IsOpened T →
+    (scratched (marked 120 T.tokenize_state) (done hexadecimal_sign T)).stack ≡ N.CharacterReferenceValue ∷ N.CharacterReference ∷ rest_of T.stack
 signed T o = grind (arith, law_rules, o.whole)
 
 less-more : (n max : ℕ) → nat_lt n max ≡ true → n + 1 ≤ max
@@ -128,9 +138,11 @@ unfolding is_taken
 taken-room m n c e = less-more n (value_size_max m) (and-left _ _ e)
 
 -- one code further on in the value
-value-on : (T : Tokenizer) → IsValue T → (c : ℕ) → is_taken T.tokenize_state.marker T.tokenize_state.size c ≡ true → IsValue (scratched (sized (T.tokenize_state.size + 1) T.tokenize_state) (done (Consume ∷ []) T))
+value-on : (T : Tokenizer) → IsValue T → (c : ℕ) → is_taken T.tokenize_state.marker T.tokenize_state.size c ≡ true →
+    IsValue (scratched (sized (T.tokenize_state.size + 1) T.tokenize_state) (done (Consume ∷ []) T))
 unfolding scratched applied
-value-on T v c e = record { value = v.value; whole = v.whole; marker = v.marker; size = taken-room T.tokenize_state.marker T.tokenize_state.size c e }
+value-on T v c e =
+    record { value = v.value; whole = v.whole; marker = v.marker; size = taken-room T.tokenize_state.marker T.tokenize_state.size c e }
 
 sign-test : (c : Code) → is_among (codes "xX") c ≡ (c.value == 120) || (c.value == 88)
 sign-test c = ap (λ b. (c.value == 120) || b) (or-false (c.value == 88))
@@ -157,7 +169,8 @@ module _ (W : Words) (within : Within states W) where
       (λ h. Goes-no W 4 0 p T alone (ap p b.whole ∙ no-reference (is_on T) (b.code ∷ rest_of (ahead T)) (ap (λ v. is_on T && (v == 38)) b.value ∙ h)))))
 
   -- neither a number nor a name of the table, or the start of a name
-  named-law : (T : Tokenizer) → T.attempts ≡ [] → IsOpened T → next_is (is_value 35) (ahead T) ≡ false → GoesIn W (weight_at 3 T) (open_ends T) (named_step T)
+  named-law : (T : Tokenizer) → T.attempts ≡ [] → IsOpened T → next_is (is_value 35) (ahead T) ≡ false →
+      GoesIn W (weight_at 3 T) (open_ends T) (named_step T)
   named-law T alone o none =
       let P : Stepped → Type 0 = GoesIn W (weight_at 3 T) (open_ends T) in
       let V : Tokenizer = scratched (marked 38 T.tokenize_state) (done value_start T) in
@@ -183,7 +196,8 @@ module _ (W : Words) (within : Within states W) where
       (λ h. named-law T alone o (ap (next_is (is_value 35)) b.whole ∙ ap (λ v. v == 35) b.value ∙ h)))
 
   -- decimal digits
-  decimal-law : (T : Tokenizer) → T.attempts ≡ [] → IsOpened T → next_is (is_among (codes "xX")) (ahead T) ≡ false → GoesIn W (weight_at 2 T) (numeric_ends T) (decimal_step T)
+  decimal-law : (T : Tokenizer) → T.attempts ≡ [] → IsOpened T → next_is (is_among (codes "xX")) (ahead T) ≡ false →
+      GoesIn W (weight_at 2 T) (numeric_ends T) (decimal_step T)
   decimal-law T alone o none =
       let V : Tokenizer = scratched (marked 35 T.tokenize_state) (done value_start T) in
       Goes-on W 2 1 numeric_plan (value_plan 35 0) value_start (rested T.tokenize_state) (marked 35 T.tokenize_state) T (Retry CharacterReferenceValue) (within CharacterReferenceValue) alone refl (no-codes T) (omega arith)

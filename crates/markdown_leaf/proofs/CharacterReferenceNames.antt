@@ -42,14 +42,17 @@ name-utf8 bs e = IsUtf8-from_ascii bs (name-ascii bs e)
 -- What was passed.
 
 -- what stands at the next number does not matter
-pub passing-set : (A B : List Code) (name : List ℕ) (n x : ℕ) → IsPassing A B name n → IsPassing A B (slice_set name n x) n
-passing-set A B name n x p = record { passed = p.passed; front = p.front; back = p.back; values = take-set name n x ∙ p.values; count = p.count; all = p.all }
+pub passing-set : (A B : List Code) (name : List ℕ) (n x : ℕ) → IsPassing A B name n →
+    IsPassing A B (slice_set name n x) n
+passing-set A B name n x p =
+    record { passed = p.passed; front = p.front; back = p.back; values = take-set name n x ∙ p.values; count = p.count; all = p.all }
 
 values-append : (xs ys : List Code) → values_of (xs ++ ys) ≡ values_of xs ++ values_of ys
 values-append [] ys = refl
 values-append (x ∷ xs) ys = ap (λ vs. x.value ∷ vs) (values-append xs ys)
 
-pub passing-more : (A B C : List Code) (c : Code) (name : List ℕ) (n : ℕ) → IsPassing A B name n → n < length name → B ≡ c ∷ C → is_ascii_alphanumeric c.value ≡ true → IsPassing A C (slice_set name n c.value) (n + 1)
+pub passing-more : (A B C : List Code) (c : Code) (name : List ℕ) (n : ℕ) → IsPassing A B name n → n < length name →
+    B ≡ c ∷ C → is_ascii_alphanumeric c.value ≡ true → IsPassing A C (slice_set name n c.value) (n + 1)
 passing-more A B C c name n p l e h =
     record {
       passed = p.passed ++ c ∷ [];
@@ -66,11 +69,13 @@ first-value : (p : Place) → code_at p ≡ value_of (first_of (ahead_at p))
 unfolding code_at ahead_at
 first-value p = ap value_of (first-drop p.at p.codes)
 
-begins : (cs : List Code) (v : ℕ) → value_of (first_of cs) ≡ Some v → (c : Code) × ((c.value ≡ v) × (cs ≡ c ∷ rest_of cs))
+begins : (cs : List Code) (v : ℕ) → value_of (first_of cs) ≡ Some v →
+    (c : Code) × ((c.value ≡ v) × (cs ≡ c ∷ rest_of cs))
 begins [] v e = cc
 begins (c ∷ cs) v e = (c, (cc, refl))
 
-next-test : (cs : List Code) (v : ℕ) (b : Bool) → value_of (first_of cs) ≡ Some v → is_ascii_alphanumeric v ≡ b → next_is is_name_code cs ≡ b
+next-test : (cs : List Code) (v : ℕ) (b : Bool) → value_of (first_of cs) ≡ Some v → is_ascii_alphanumeric v ≡ b →
+    next_is is_name_code cs ≡ b
 next-test [] v b e h = cc
 next-test (c ∷ cs) v b e h = let same : c.value ≡ v = cc in ap is_ascii_alphanumeric same ∙ h
 
@@ -78,18 +83,23 @@ none-next : (cs : List Code) → value_of (first_of cs) ≡ None → next_is is_
 none-next [] e = refl
 none-next (c ∷ cs) e = cc
 
-pub passing-step : (A : List Code) (p q : Place) (v : ℕ) (name : List ℕ) (n : ℕ) → IsPassing A (ahead_at p) name n → n < length name → code_at p ≡ Some v → is_ascii_alphanumeric v ≡ true → q ≡ moved p → IsPassing A (ahead_at q) (slice_set name n v) (n + 1)
+pub passing-step : (A : List Code) (p q : Place) (v : ℕ) (name : List ℕ) (n : ℕ) → IsPassing A (ahead_at p) name n →
+    n < length name → code_at p ≡ Some v → is_ascii_alphanumeric v ≡ true → q ≡ moved p →
+    IsPassing A (ahead_at q) (slice_set name n v) (n + 1)
 passing-step A p q v name n k l e h m =
     let b = begins (ahead_at p) v (sym (first-value p) ∙ e) in
     let there : rest_of (ahead_at p) ≡ ahead_at q = sym (ahead-moved p) ∙ ap ahead_at (sym m) in
     let step : IsPassing A (rest_of (ahead_at p)) (slice_set name n b.0.value) (n + 1) = passing-more A (ahead_at p) (rest_of (ahead_at p)) b.0 name n k l b.1.1 (ap is_ascii_alphanumeric b.1.0 ∙ h) in
     subst (λ xs. IsPassing A xs (slice_set name n v) (n + 1)) there (subst (λ x. IsPassing A (rest_of (ahead_at p)) (slice_set name n x) (n + 1)) b.1.0 step)
 
-pub passed-other : (A : List Code) (p : Place) (v : ℕ) (name : List ℕ) (n x : ℕ) → IsPassing A (ahead_at p) name n → n ≤ length name → code_at p ≡ Some v → is_ascii_alphanumeric v ≡ false → HasPassed A (ahead_at p) (slice_set name n x) n
+pub passed-other : (A : List Code) (p : Place) (v : ℕ) (name : List ℕ) (n x : ℕ) → IsPassing A (ahead_at p) name n →
+    n ≤ length name → code_at p ≡ Some v → is_ascii_alphanumeric v ≡ false →
+    HasPassed A (ahead_at p) (slice_set name n x) n
 passed-other A p v name n x k l e h =
     record { passing = passing-set A (ahead_at p) name n x k; room = omega (arith, length-set name n x); ends = λ _. next-test (ahead_at p) v false (sym (first-value p) ∙ e) h }
 
-pub passed-end : (A : List Code) (p : Place) (name : List ℕ) (n x : ℕ) → IsPassing A (ahead_at p) name n → n ≤ length name → code_at p ≡ None → HasPassed A (ahead_at p) (slice_set name n x) n
+pub passed-end : (A : List Code) (p : Place) (name : List ℕ) (n x : ℕ) → IsPassing A (ahead_at p) name n →
+    n ≤ length name → code_at p ≡ None → HasPassed A (ahead_at p) (slice_set name n x) n
 passed-end A p name n x k l e =
     record { passing = passing-set A (ahead_at p) name n x k; room = omega (arith, length-set name n x); ends = λ _. none-next (ahead_at p) (sym (first-value p) ∙ e) }
 
@@ -101,11 +111,13 @@ eq-bytes xs ys e = (bytes_eq-Decides xs ys).0 e
 value-short : (bs : List ℕ) → is_value 38 bs ≡ true → length bs ≤ 31
 value-short bs e = leb-true (length bs) 31 (and-right _ _ (and-left _ _ e))
 
-later-row : (b : Bool) (x : List ℕ) (o : Option (List ℕ)) → is_some (elim b as (λ _. Option (List ℕ)) [ true ↦ Some x | false ↦ o ]) ≡ true → b ≡ false → is_some o ≡ true
+later-row : (b : Bool) (x : List ℕ) (o : Option (List ℕ)) →
+    is_some (elim b as (λ _. Option (List ℕ)) [ true ↦ Some x | false ↦ o ]) ≡ true → b ≡ false → is_some o ≡ true
 later-row true x o e h = cc
 later-row false x o e h = e
 
-short-by : (rows : Table) (name : List ℕ) → list_all (λ (row : List ℕ × List ℕ). is_value 38 row.0) rows ≡ true → has_value rows name ≡ true → length name ≤ 31
+short-by : (rows : Table) (name : List ℕ) → list_all (λ (row : List ℕ × List ℕ). is_value 38 row.0) rows ≡ true →
+    has_value rows name ≡ true → length name ≤ 31
 short-by [] name e h = cc
 short-by (row ∷ rows) name e h =
     elim (bytes_eq row.0 name) as (λ b. bytes_eq row.0 name ≡ b → length name ≤ 31) [
@@ -141,18 +153,22 @@ no-semicolon : (cs : List Code) → value_of (first_of cs) ≡ None → next_is 
 no-semicolon [] e = refl
 no-semicolon (c ∷ cs) e = cc
 
-begins-as : (A : List Code) → begins_name A ≡ is_name html_5_rows (span is_name_code A).0 && next_is (has_code 59) (span is_name_code A).1
-begins-as A = ap (λ (s : List Code × List Code). is_name html_5_rows s.0 && next_is (has_code 59) s.1) (span-agrees is_alphanumeric is_name_code same-code A)
+begins-as : (A : List Code) →
+    begins_name A ≡ is_name html_5_rows (span is_name_code A).0 && next_is (has_code 59) (span is_name_code A).1
+begins-as A =
+    ap (λ (s : List Code × List Code). is_name html_5_rows s.0 && next_is (has_code 59) s.1) (span-agrees is_alphanumeric is_name_code same-code A)
 
 -- no code of a name is left
-all-passed : (A B : List Code) (name : List ℕ) (n : ℕ) → HasPassed A B name n → next_is is_name_code B ≡ false → begins_name A ≡ has_value html_5_rows (take n name) && next_is (has_code 59) B
+all-passed : (A B : List Code) (name : List ℕ) (n : ℕ) → HasPassed A B name n → next_is is_name_code B ≡ false →
+    begins_name A ≡ has_value html_5_rows (take n name) && next_is (has_code 59) B
 all-passed A B name n k e =
     let stop : span is_name_code B ≡ ([], B) = span-none is_name_code B e in
     let front : (span is_name_code A).0 ≡ k.passing.passed = k.passing.front ∙ ap (λ (s : List Code × List Code). k.passing.passed ++ s.0) stop ∙ append-nil k.passing.passed in
     let back : (span is_name_code A).1 ≡ B = k.passing.back ∙ ap (λ (s : List Code × List Code). s.1) stop in
     begins-as A ∙ rw (front, back) (ap (λ x. has_value html_5_rows x && next_is (has_code 59) B) (sym k.passing.values))
 
-pub stands-at : (A : List Code) (p : Place) (name : List ℕ) (n : ℕ) → HasPassed A (ahead_at p) name n → code_at p ≡ Some 59 → has_value html_5_rows (take n name) ≡ begins_name A
+pub stands-at : (A : List Code) (p : Place) (name : List ℕ) (n : ℕ) → HasPassed A (ahead_at p) name n →
+    code_at p ≡ Some 59 → has_value html_5_rows (take n name) ≡ begins_name A
 stands-at A p name n k e =
     let first : value_of (first_of (ahead_at p)) ≡ Some 59 = sym (first-value p) ∙ e in
     let law = all-passed A (ahead_at p) name n k (next-test (ahead_at p) 59 false first refl) in
@@ -165,7 +181,8 @@ span-some p (c ∷ cs) e =
     omega arith
 
 -- codes of a name are left, where there was no more room
-too-long : (A B : List Code) (name : List ℕ) (n : ℕ) → HasPassed A B name n → length name ≡ 31 → next_is is_name_code B ≡ true → begins_name A ≡ false
+too-long : (A B : List Code) (name : List ℕ) (n : ℕ) → HasPassed A B name n → length name ≡ 31 →
+    next_is is_name_code B ≡ true → begins_name A ≡ false
 too-long A B name n k l e =
     let front : List Code = (span is_name_code A).0 in
     let size : length front ≡ n + length (span is_name_code B).0 = ap length k.passing.front ∙ length-append k.passing.passed (span is_name_code B).0 ∙ ap (λ m. m + length (span is_name_code B).0) k.passing.count in
@@ -178,18 +195,23 @@ too-long A B name n k l e =
       | false ↦ λ h. begins-as A ∙ ap (λ b. b && next_is (has_code 59) (span is_name_code A).1) h
     ] refl
 
-other-next : (A B : List Code) (name : List ℕ) (n : ℕ) → HasPassed A B name n → length name ≡ 31 → next_is (has_code 59) B ≡ false → false ≡ begins_name A
+other-next : (A B : List Code) (name : List ℕ) (n : ℕ) → HasPassed A B name n → length name ≡ 31 →
+    next_is (has_code 59) B ≡ false → false ≡ begins_name A
 other-next A B name n k l e =
     elim (next_is is_name_code B) as (λ b. next_is is_name_code B ≡ b → false ≡ begins_name A) [
       | true ↦ λ h. sym (too-long A B name n k l h)
       | false ↦ λ h. sym (all-passed A B name n k h ∙ rw e (and-false _))
     ] refl
 
-pub stands-none : (A : List Code) (p : Place) (name : List ℕ) (n : ℕ) → HasPassed A (ahead_at p) name n → length name ≡ 31 → code_at p ≡ None → false ≡ begins_name A
-stands-none A p name n k l e = other-next A (ahead_at p) name n k l (no-semicolon (ahead_at p) (sym (first-value p) ∙ e))
+pub stands-none : (A : List Code) (p : Place) (name : List ℕ) (n : ℕ) → HasPassed A (ahead_at p) name n →
+    length name ≡ 31 → code_at p ≡ None → false ≡ begins_name A
+stands-none A p name n k l e =
+    other-next A (ahead_at p) name n k l (no-semicolon (ahead_at p) (sym (first-value p) ∙ e))
 
 other-value : (v : ℕ) → (v ≡ 59 → ⊥) → (v == 59) ≡ false
 other-value v h = grind arith
 
-pub stands-other : (A : List Code) (p : Place) (v : ℕ) (name : List ℕ) (n : ℕ) → HasPassed A (ahead_at p) name n → length name ≡ 31 → code_at p ≡ Some v → (v ≡ 59 → ⊥) → false ≡ begins_name A
-stands-other A p v name n k l e h = other-next A (ahead_at p) name n k l (semicolon-next (ahead_at p) v (sym (first-value p) ∙ e) ∙ other-value v h)
+pub stands-other : (A : List Code) (p : Place) (v : ℕ) (name : List ℕ) (n : ℕ) → HasPassed A (ahead_at p) name n →
+    length name ≡ 31 → code_at p ≡ Some v → (v ≡ 59 → ⊥) → false ≡ begins_name A
+stands-other A p v name n k l e h =
+    other-next A (ahead_at p) name n k l (semicolon-next (ahead_at p) v (sym (first-value p) ∙ e) ∙ other-value v h)

@@ -27,17 +27,20 @@ use Rattle.markdown_model.proofs.DefinitionSteps.{span-agrees}
 between-size : (n max : ℕ) → nat_lt 0 n ≡ true → n ≤ max → is_between 1 max (n + 0) ≡ true
 between-size n max e h = grind arith
 
-pub value-close : (m n : ℕ) (c : Code) (cs : List Code) → (c.value == 59) ≡ true → nat_lt 0 n ≡ true → n ≤ value_size_max m → value_plan m n (c ∷ cs) ≡ Some closing
+pub value-close : (m n : ℕ) (c : Code) (cs : List Code) → (c.value == 59) ≡ true → nat_lt 0 n ≡ true →
+    n ≤ value_size_max m → value_plan m n (c ∷ cs) ≡ Some closing
 value-close m n c cs e h l =
     let other : is_value_code m c ≡ false = ap (is_value_byte m) (eqb-true c.value 59 e) ∙ semicolon_stops m in
     ap (value_of m n) (span-none (is_value_code m) (c ∷ cs) other)
     ∙ if-true _ (Some closing) None (rw (e, between-size n (value_size_max m) h l) refl)
 
-preceded-if : (os : List Op) (b : Bool) (x : List Op) → (if b then Some (os ++ x) else None) ≡ preceded os (if b then Some x else None)
+preceded-if : (os : List Op) (b : Bool) (x : List Op) →
+    (if b then Some (os ++ x) else None) ≡ preceded os (if b then Some x else None)
 preceded-if os true x = refl
 preceded-if os false x = refl
 
-pub value-more : (m n : ℕ) (c : Code) (cs : List Code) → is_taken m n c.value ≡ true → value_plan m n (c ∷ cs) ≡ preceded (Consume ∷ []) (value_plan m (n + 1) cs)
+pub value-more : (m n : ℕ) (c : Code) (cs : List Code) → is_taken m n c.value ≡ true →
+    value_plan m n (c ∷ cs) ≡ preceded (Consume ∷ []) (value_plan m (n + 1) cs)
 unfolding is_taken
 value-more m n c cs e =
     let s : List Code × List Code = span (is_value_code m) cs in
@@ -55,7 +58,8 @@ none-yet n max e = grind arith
 pub value-end : (m n : ℕ) → value_plan m n [] ≡ None
 value-end m n = if-false _ _ _ (and-false (is_between 1 (value_size_max m) (n + 0)))
 
-pub value-stop : (m n : ℕ) (c : Code) (cs : List Code) → (c.value == 59) && nat_lt 0 n ≡ false → is_taken m n c.value ≡ false → value_plan m n (c ∷ cs) ≡ None
+pub value-stop : (m n : ℕ) (c : Code) (cs : List Code) → (c.value == 59) && nat_lt 0 n ≡ false →
+    is_taken m n c.value ≡ false → value_plan m n (c ∷ cs) ≡ None
 unfolding is_taken
 value-stop m n c cs e h =
     elim (is_value_code m c) as (λ b. is_value_code m c ≡ b → value_plan m n (c ∷ cs) ≡ None) [
@@ -76,10 +80,13 @@ module _ (p : Code → Bool) (ok : List Code → Bool) (f : List Code → List C
   tail-nothing : (cs r : List Code) → span p cs ≡ ([], r) → tail cs ≡ None
   tail-nothing cs r e = bind-none _ _ _ (some-nothing p cs r e)
 
-  tail-refused : (cs : List Code) (v : Code) (vs r : List Code) → span p cs ≡ (v ∷ vs, r) → ok (v ∷ vs) ≡ false → tail cs ≡ None
-  tail-refused cs v vs r e h = bind-some _ _ _ _ _ _ (some-span p cs v vs r e) (after-none _ _ _ (provided-false (ok (v ∷ vs)) r h))
+  tail-refused : (cs : List Code) (v : Code) (vs r : List Code) → span p cs ≡ (v ∷ vs, r) → ok (v ∷ vs) ≡ false →
+      tail cs ≡ None
+  tail-refused cs v vs r e h =
+      bind-some _ _ _ _ _ _ (some-span p cs v vs r e) (after-none _ _ _ (provided-false (ok (v ∷ vs)) r h))
 
-  tail-open : (cs : List Code) (v : Code) (vs r : List Code) → span p cs ≡ (v ∷ vs, r) → ok (v ∷ vs) ≡ true → next_is (is_value 59) r ≡ false → tail cs ≡ None
+  tail-open : (cs : List Code) (v : Code) (vs r : List Code) → span p cs ≡ (v ∷ vs, r) → ok (v ∷ vs) ≡ true →
+      next_is (is_value 59) r ≡ false → tail cs ≡ None
   tail-open cs v vs r e h k =
       bind-some _ _ _ _ _ _ (some-span p cs v vs r e) (after-some _ _ _ _ _ _ (provided-true (ok (v ∷ vs)) r h) (bind-none _ _ _ (one-not (is_value 59) r k)))
 
@@ -91,7 +98,8 @@ module _ (p : Code → Bool) (ok : List Code → Bool) (f : List Code → List C
         | true ↦ λ k. tail-open cs v vs r e k (left-true _ _ h k)
       ] refl
 
-  tail-whole : (cs : List Code) (v : Code) (vs : List Code) (b : Code) (r : List Code) → span p cs ≡ (v ∷ vs, b ∷ r) → ok (v ∷ vs) ≡ true → (b.value == 59) ≡ true → tail cs ≡ Some (f (v ∷ vs) (b ∷ []), r)
+  tail-whole : (cs : List Code) (v : Code) (vs : List Code) (b : Code) (r : List Code) → span p cs ≡ (v ∷ vs, b ∷ r) →
+      ok (v ∷ vs) ≡ true → (b.value == 59) ≡ true → tail cs ≡ Some (f (v ∷ vs) (b ∷ []), r)
   unfolding gives
   tail-whole cs v vs b r e h k =
       bind-some _ _ _ _ _ _ (some-span p cs v vs (b ∷ r) e) (after-some _ _ _ _ _ _ (provided-true (ok (v ∷ vs)) (b ∷ r) h) (bind-some _ _ _ _ _ _ (one-here (is_value 59) b r k) refl))
@@ -103,12 +111,16 @@ part_ops (Some r) = Some (ops_of (reference_tree r.0))
 
 -- the parts whose value is not passed yet have these operations
 abbrev Begins : List Op → (List Code → List Code → Parts) → Type 0
-Begins os f = (v : Code) (vs : List Code) (b : Code) → Some (ops_of (reference_tree (f (v ∷ vs) (b ∷ [])))) ≡ preceded os (Some (consumes (v ∷ vs) ++ closing))
+Begins os f =
+    (v : Code) (vs : List Code) (b : Code) → Some (ops_of (reference_tree (f (v ∷ vs) (b ∷ [])))) ≡ preceded os (Some (consumes (v ∷ vs) ++ closing))
 
 between-some : (k max : ℕ) → is_between 1 max (0 + suc k) ≡ nat_le (suc k) max
 between-some k max = grind arith
 
-tail-by : (m : ℕ) (os : List Op) (p : Code → Bool) (ok : List Code → Bool) (f : List Code → List Code → Parts) → Begins os f → (cs w r : List Code) → span p cs ≡ (w, r) → (is_empty w ≡ false → ok w ≡ nat_le (length w) (value_size_max m)) → part_ops (tail p ok f cs) ≡ preceded os (value_of m 0 (w, r))
+tail-by : (m : ℕ) (os : List Op) (p : Code → Bool) (ok : List Code → Bool) (f : List Code → List Code → Parts) →
+    Begins os f → (cs w r : List Code) → span p cs ≡ (w, r) →
+    (is_empty w ≡ false → ok w ≡ nat_le (length w) (value_size_max m)) →
+    part_ops (tail p ok f cs) ≡ preceded os (value_of m 0 (w, r))
 tail-by m os p ok f g cs [] r e h = ap part_ops (tail-nothing p ok f cs r e)
 tail-by m os p ok f g cs (v ∷ vs) r e h =
     let max : ℕ = value_size_max m in
@@ -121,21 +133,29 @@ tail-by m os p ok f g cs (v ∷ vs) r e h =
       ] refl
     ] refl
   where
-    closed : (r : List Code) → span p cs ≡ (v ∷ vs, r) → next_is (is_value 59) r ≡ true → is_between 1 (value_size_max m) (0 + suc (length vs)) ≡ true → ok (v ∷ vs) ≡ true → part_ops (tail p ok f cs) ≡ preceded os (value_of m 0 (v ∷ vs, r))
+    closed : (r : List Code) → span p cs ≡ (v ∷ vs, r) → next_is (is_value 59) r ≡ true →
+        is_between 1 (value_size_max m) (0 + suc (length vs)) ≡ true → ok (v ∷ vs) ≡ true →
+        part_ops (tail p ok f cs) ≡ preceded os (value_of m 0 (v ∷ vs, r))
     closed [] e t i k = cc
-    closed (b ∷ r) e t i k = ap part_ops (tail-whole p ok f cs v vs b r e k t) ∙ g v vs b ∙ ap (preceded os) (sym (if-true _ _ _ (ap (λ x. x && (b.value == 59)) i ∙ t)))
+    closed (b ∷ r) e t i k =
+        ap part_ops (tail-whole p ok f cs v vs b r e k t) ∙ g v vs b ∙ ap (preceded os) (sym (if-true _ _ _ (ap (λ x. x && (b.value == 59)) i ∙ t)))
 
-tail-plan : (m : ℕ) (os : List Op) (p : Code → Bool) (ok : List Code → Bool) (f : List Code → List Code → Parts) → Begins os f → (cs : List Code) → ((c : Code) → p c ≡ is_value_code m c) → (is_empty (span p cs).0 ≡ false → ok (span p cs).0 ≡ nat_le (length (span p cs).0) (value_size_max m)) → part_ops (tail p ok f cs) ≡ preceded os (value_plan m 0 cs)
+tail-plan : (m : ℕ) (os : List Op) (p : Code → Bool) (ok : List Code → Bool) (f : List Code → List Code → Parts) →
+    Begins os f → (cs : List Code) → ((c : Code) → p c ≡ is_value_code m c) →
+    (is_empty (span p cs).0 ≡ false → ok (span p cs).0 ≡ nat_le (length (span p cs).0) (value_size_max m)) →
+    part_ops (tail p ok f cs) ≡ preceded os (value_plan m 0 cs)
 tail-plan m os p ok f g cs same h =
     tail-by m os p ok f g cs (span p cs).0 (span p cs).1 refl h ∙ ap (λ s. preceded os (value_of m 0 s)) (span-agrees p (is_value_code m) same cs)
 
 -- The three kinds.
 
-ops-of : (o : Option (Parts × List Code)) → tree_ops (elim o as (λ _. Option (Forest × List Code)) [ None ↦ None | Some r ↦ Some (reference_tree r.0, r.1) ]) ≡ part_ops o
+ops-of : (o : Option (Parts × List Code)) →
+    tree_ops (elim o as (λ _. Option (Forest × List Code)) [ None ↦ None | Some r ↦ Some (reference_tree r.0, r.1) ]) ≡ part_ops o
 ops-of None = refl
 ops-of (Some r) = refl
 
-reference-ops : (a : Reading Parts) (cs : List Code) → tree_ops ((a >>= λ parts. gives (reference_tree parts)) cs) ≡ part_ops (a cs)
+reference-ops : (a : Reading Parts) (cs : List Code) →
+    tree_ops ((a >>= λ parts. gives (reference_tree parts)) cs) ≡ part_ops (a cs)
 unfolding ◌>>=◌ gives
 reference-ops a cs = ops-of (a cs)
 
@@ -146,31 +166,42 @@ abbrev decimal_by : Code → Code → List Code → List Code → Parts
 decimal_by c d value back = record { front = c ∷ []; number = d ∷ []; hexadecimal = []; value = value; back = back }
 
 abbrev hexadecimal_by : Code → Code → Code → List Code → List Code → Parts
-hexadecimal_by c d x value back = record { front = c ∷ []; number = d ∷ []; hexadecimal = x ∷ []; value = value; back = back }
+hexadecimal_by c d x value back =
+    record { front = c ∷ []; number = d ∷ []; hexadecimal = x ∷ []; value = value; back = back }
 
-named-is : (c : Code) (cs : List Code) → (c.value == 38) ≡ true → named_parts html_5_rows (c ∷ cs) ≡ tail is_alphanumeric (is_name html_5_rows) (named_by c) cs
+named-is : (c : Code) (cs : List Code) → (c.value == 38) ≡ true →
+    named_parts html_5_rows (c ∷ cs) ≡ tail is_alphanumeric (is_name html_5_rows) (named_by c) cs
 unfolding named_parts
 named-is c cs e = bind-some _ _ _ _ _ _ (one-here (is_value 38) c cs e) refl
 
-decimal-is : (c d : Code) (cs : List Code) → (c.value == 38) ≡ true → (d.value == 35) ≡ true → decimal_parts (c ∷ d ∷ cs) ≡ tail is_digit (λ v. nat_le (length v) 7) (decimal_by c d) cs
+decimal-is : (c d : Code) (cs : List Code) → (c.value == 38) ≡ true → (d.value == 35) ≡ true →
+    decimal_parts (c ∷ d ∷ cs) ≡ tail is_digit (λ v. nat_le (length v) 7) (decimal_by c d) cs
 unfolding decimal_parts
-decimal-is c d cs e h = bind-some _ _ _ _ _ _ (one-here (is_value 38) c (d ∷ cs) e) (bind-some _ _ _ _ _ _ (one-here (is_value 35) d cs h) refl)
+decimal-is c d cs e h =
+    bind-some _ _ _ _ _ _ (one-here (is_value 38) c (d ∷ cs) e) (bind-some _ _ _ _ _ _ (one-here (is_value 35) d cs h) refl)
 
-hexadecimal-is : (c d x : Code) (cs : List Code) → (c.value == 38) ≡ true → (d.value == 35) ≡ true → is_among (codes "xX") x ≡ true → hexadecimal_parts (c ∷ d ∷ x ∷ cs) ≡ tail is_hex_digit (λ v. nat_le (length v) 6) (hexadecimal_by c d x) cs
+hexadecimal-is : (c d x : Code) (cs : List Code) → (c.value == 38) ≡ true → (d.value == 35) ≡ true →
+    is_among (codes "xX") x ≡ true →
+    hexadecimal_parts (c ∷ d ∷ x ∷ cs) ≡ tail is_hex_digit (λ v. nat_le (length v) 6) (hexadecimal_by c d x) cs
 unfolding hexadecimal_parts
 hexadecimal-is c d x cs e h k =
     bind-some _ _ _ _ _ _ (one-here (is_value 38) c (d ∷ x ∷ cs) e)
     (bind-some _ _ _ _ _ _ (one-here (is_value 35) d (x ∷ cs) h) (bind-some _ _ _ _ _ _ (one-here (is_among (codes "xX")) x cs k) refl))
 
-no-decimal : (c : Code) (cs : List Code) → (c.value == 38) ≡ true → next_is (is_value 35) cs ≡ false → decimal_parts (c ∷ cs) ≡ None
+no-decimal : (c : Code) (cs : List Code) → (c.value == 38) ≡ true → next_is (is_value 35) cs ≡ false →
+    decimal_parts (c ∷ cs) ≡ None
 unfolding decimal_parts
-no-decimal c cs e h = bind-some _ _ _ _ _ _ (one-here (is_value 38) c cs e) (bind-none _ _ _ (one-not (is_value 35) cs h))
+no-decimal c cs e h =
+    bind-some _ _ _ _ _ _ (one-here (is_value 38) c cs e) (bind-none _ _ _ (one-not (is_value 35) cs h))
 
-no-hexadecimal : (c : Code) (cs : List Code) → (c.value == 38) ≡ true → next_is (is_value 35) cs ≡ false → hexadecimal_parts (c ∷ cs) ≡ None
+no-hexadecimal : (c : Code) (cs : List Code) → (c.value == 38) ≡ true → next_is (is_value 35) cs ≡ false →
+    hexadecimal_parts (c ∷ cs) ≡ None
 unfolding hexadecimal_parts
-no-hexadecimal c cs e h = bind-some _ _ _ _ _ _ (one-here (is_value 38) c cs e) (bind-none _ _ _ (one-not (is_value 35) cs h))
+no-hexadecimal c cs e h =
+    bind-some _ _ _ _ _ _ (one-here (is_value 38) c cs e) (bind-none _ _ _ (one-not (is_value 35) cs h))
 
-no-sign : (c d : Code) (cs : List Code) → (c.value == 38) ≡ true → (d.value == 35) ≡ true → next_is (is_among (codes "xX")) cs ≡ false → hexadecimal_parts (c ∷ d ∷ cs) ≡ None
+no-sign : (c d : Code) (cs : List Code) → (c.value == 38) ≡ true → (d.value == 35) ≡ true →
+    next_is (is_among (codes "xX")) cs ≡ false → hexadecimal_parts (c ∷ d ∷ cs) ≡ None
 unfolding hexadecimal_parts
 no-sign c d cs e h k =
     bind-some _ _ _ _ _ _ (one-here (is_value 38) c (d ∷ cs) e)
@@ -198,24 +229,30 @@ begins-hexadecimal : (c d x : Code) → Begins (opening ++ number_sign ++ hexade
 begins-hexadecimal c d x v vs b = rw (append_assoc (consumes vs) value_end (Exit N.CharacterReference ∷ [])) refl
 
 -- a name of the table and a `;`
-named-here : (c : Code) (cs : List Code) → (c.value == 38) ≡ true → begins_name cs ≡ true → part_ops (named_parts html_5_rows (c ∷ cs)) ≡ preceded opening (preceded value_start (value_plan 38 0 cs))
+named-here : (c : Code) (cs : List Code) → (c.value == 38) ≡ true → begins_name cs ≡ true →
+    part_ops (named_parts html_5_rows (c ∷ cs)) ≡ preceded opening (preceded value_start (value_plan 38 0 cs))
 named-here c cs e h =
     let short : nat_le (length (span is_alphanumeric cs).0) 31 ≡ true = le-leb _ 31 (subst (λ n. n ≤ 31) (length-values (span is_alphanumeric cs).0) (name-short _ (and-left _ _ h))) in
     ap part_ops (named-is c cs e)
     ∙ tail-plan 38 (opening ++ value_start) is_alphanumeric (is_name html_5_rows) (named_by c) (begins-named c) cs same-code (λ _. and-left _ _ h ∙ sym short)
     ∙ preceded-twice opening value_start (value_plan 38 0 cs)
 
-no-name : (c : Code) (cs : List Code) → (c.value == 38) ≡ true → begins_name cs ≡ false → named_parts html_5_rows (c ∷ cs) ≡ None
-no-name c cs e h = named-is c cs e ∙ tail-none is_alphanumeric (is_name html_5_rows) (named_by c) cs (span is_alphanumeric cs).0 (span is_alphanumeric cs).1 refl h
+no-name : (c : Code) (cs : List Code) → (c.value == 38) ≡ true → begins_name cs ≡ false →
+    named_parts html_5_rows (c ∷ cs) ≡ None
+no-name c cs e h =
+    named-is c cs e ∙ tail-none is_alphanumeric (is_name html_5_rows) (named_by c) cs (span is_alphanumeric cs).0 (span is_alphanumeric cs).1 refl h
 
-decimal-here : (c d : Code) (cs : List Code) → (c.value == 38) ≡ true → (d.value == 35) ≡ true → part_ops (decimal_parts (c ∷ d ∷ cs)) ≡ preceded opening (preceded number_sign (preceded value_start (value_plan 35 0 cs)))
+decimal-here : (c d : Code) (cs : List Code) → (c.value == 38) ≡ true → (d.value == 35) ≡ true →
+    part_ops (decimal_parts (c ∷ d ∷ cs)) ≡ preceded opening (preceded number_sign (preceded value_start (value_plan 35 0 cs)))
 decimal-here c d cs e h =
     ap part_ops (decimal-is c d cs e h)
     ∙ tail-plan 35 (opening ++ number_sign ++ value_start) is_digit (λ v. nat_le (length v) 7) (decimal_by c d) (begins-decimal c d) cs (λ k. refl) (λ _. refl)
     ∙ preceded-twice opening (number_sign ++ value_start) (value_plan 35 0 cs)
     ∙ ap (preceded opening) (preceded-twice number_sign value_start (value_plan 35 0 cs))
 
-hexadecimal-here : (c d x : Code) (cs : List Code) → (c.value == 38) ≡ true → (d.value == 35) ≡ true → is_among (codes "xX") x ≡ true → part_ops (hexadecimal_parts (c ∷ d ∷ x ∷ cs)) ≡ preceded opening (preceded number_sign (preceded hexadecimal_sign (value_plan 120 0 cs)))
+hexadecimal-here : (c d x : Code) (cs : List Code) → (c.value == 38) ≡ true → (d.value == 35) ≡ true →
+    is_among (codes "xX") x ≡ true →
+    part_ops (hexadecimal_parts (c ∷ d ∷ x ∷ cs)) ≡ preceded opening (preceded number_sign (preceded hexadecimal_sign (value_plan 120 0 cs)))
 hexadecimal-here c d x cs e h k =
     ap part_ops (hexadecimal-is c d x cs e h k)
     ∙ tail-plan 120 (opening ++ number_sign ++ hexadecimal_sign) is_hex_digit (λ v. nat_le (length v) 6) (hexadecimal_by c d x) (begins-hexadecimal c d x) cs (λ y. refl) (λ _. refl)
@@ -223,7 +260,8 @@ hexadecimal-here c d x cs e h k =
     ∙ ap (preceded opening) (preceded-twice number_sign hexadecimal_sign (value_plan 120 0 cs))
 
 -- no digit is an `x`
-no-digits : (c d x : Code) (cs : List Code) → (c.value == 38) ≡ true → (d.value == 35) ≡ true → is_among (codes "xX") x ≡ true → decimal_parts (c ∷ d ∷ x ∷ cs) ≡ None
+no-digits : (c d x : Code) (cs : List Code) → (c.value == 38) ≡ true → (d.value == 35) ≡ true →
+    is_among (codes "xX") x ≡ true → decimal_parts (c ∷ d ∷ x ∷ cs) ≡ None
 no-digits c d x cs e h k =
     decimal-is c d (x ∷ cs) e h
     ∙ tail-nothing is_digit (λ v. nat_le (length v) 7) (decimal_by c d) (x ∷ cs) (x ∷ cs) (span-none is_digit (x ∷ cs) (letter-digit x.value (either-eq _ _ k)))
@@ -232,7 +270,8 @@ no-digits c d x cs e h k =
 sign-letter : (v : ℕ) → (v == 35) ≡ true → is_ascii_alphanumeric v ≡ false
 sign-letter v e = ap is_ascii_alphanumeric (eqb-true v 35 e)
 
-no-letters : (c d : Code) (cs : List Code) → (c.value == 38) ≡ true → (d.value == 35) ≡ true → named_parts html_5_rows (c ∷ d ∷ cs) ≡ None
+no-letters : (c d : Code) (cs : List Code) → (c.value == 38) ≡ true → (d.value == 35) ≡ true →
+    named_parts html_5_rows (c ∷ d ∷ cs) ≡ None
 no-letters c d cs e h =
     named-is c (d ∷ cs) e
     ∙ tail-nothing is_alphanumeric (is_name html_5_rows) (named_by c) (d ∷ cs) (d ∷ cs) (span-none is_alphanumeric (d ∷ cs) (same-code d ∙ sign-letter d.value h))
@@ -244,7 +283,8 @@ abbrev parts : Reading Parts
 parts = either (named_parts html_5_rows) numbered
 
 -- a number
-number-parts : (c d : Code) (cs : List Code) → (c.value == 38) ≡ true → (d.value == 35) ≡ true → part_ops (parts (c ∷ d ∷ cs)) ≡ preceded opening (preceded number_sign (numeric_plan cs))
+number-parts : (c d : Code) (cs : List Code) → (c.value == 38) ≡ true → (d.value == 35) ≡ true →
+    part_ops (parts (c ∷ d ∷ cs)) ≡ preceded opening (preceded number_sign (numeric_plan cs))
 number-parts c d cs e h =
     ap part_ops (either-second (named_parts html_5_rows) numbered (c ∷ d ∷ cs) (no-letters c d cs e h))
     ∙ elim (next_is (is_among (codes "xX")) cs) as (λ b. next_is (is_among (codes "xX")) cs ≡ b → part_ops (numbered (c ∷ d ∷ cs)) ≡ preceded opening (preceded number_sign (if b then preceded hexadecimal_sign (value_plan 120 0 (rest_of cs)) else preceded value_start (value_plan 35 0 cs)))) [
@@ -252,12 +292,15 @@ number-parts c d cs e h =
       | false ↦ λ k. ap part_ops (either-first decimal_parts hexadecimal_parts (c ∷ d ∷ cs) (no-sign c d cs e h k)) ∙ decimal-here c d cs e h
     ] refl
   where
-    signed : (cs : List Code) → next_is (is_among (codes "xX")) cs ≡ true → part_ops (numbered (c ∷ d ∷ cs)) ≡ preceded opening (preceded number_sign (preceded hexadecimal_sign (value_plan 120 0 (rest_of cs))))
+    signed : (cs : List Code) → next_is (is_among (codes "xX")) cs ≡ true →
+        part_ops (numbered (c ∷ d ∷ cs)) ≡ preceded opening (preceded number_sign (preceded hexadecimal_sign (value_plan 120 0 (rest_of cs))))
     signed [] k = cc
-    signed (x ∷ cs) k = ap part_ops (either-second decimal_parts hexadecimal_parts (c ∷ d ∷ x ∷ cs) (no-digits c d x cs e h k)) ∙ hexadecimal-here c d x cs e h k
+    signed (x ∷ cs) k =
+        ap part_ops (either-second decimal_parts hexadecimal_parts (c ∷ d ∷ x ∷ cs) (no-digits c d x cs e h k)) ∙ hexadecimal-here c d x cs e h k
 
 -- a name, or nothing
-name-parts : (c : Code) (cs : List Code) → (c.value == 38) ≡ true → next_is (is_value 35) cs ≡ false → part_ops (parts (c ∷ cs)) ≡ preceded opening (named_plan cs)
+name-parts : (c : Code) (cs : List Code) → (c.value == 38) ≡ true → next_is (is_value 35) cs ≡ false →
+    part_ops (parts (c ∷ cs)) ≡ preceded opening (named_plan cs)
 name-parts c cs e h =
     ap part_ops (either-first (named_parts html_5_rows) numbered (c ∷ cs) (either-second decimal_parts hexadecimal_parts (c ∷ cs) (no-decimal c cs e h) ∙ no-hexadecimal c cs e h))
     ∙ elim (begins_name cs) as (λ b. begins_name cs ≡ b → part_ops (named_parts html_5_rows (c ∷ cs)) ≡ preceded opening (if b then preceded value_start (value_plan 38 0 cs) else None)) [
@@ -265,18 +308,21 @@ name-parts c cs e h =
       | false ↦ λ k. ap part_ops (no-name c cs e k)
     ] refl
 
-reference-parts : (c : Code) (cs : List Code) → (c.value == 38) ≡ true → part_ops (parts (c ∷ cs)) ≡ preceded opening (open_plan cs)
+reference-parts : (c : Code) (cs : List Code) → (c.value == 38) ≡ true →
+    part_ops (parts (c ∷ cs)) ≡ preceded opening (open_plan cs)
 reference-parts c cs e =
     elim (next_is (is_value 35) cs) as (λ b. next_is (is_value 35) cs ≡ b → part_ops (parts (c ∷ cs)) ≡ preceded opening (if b then preceded number_sign (numeric_plan (rest_of cs)) else named_plan cs)) [
       | true ↦ λ h. numbered-here cs h
       | false ↦ λ h. name-parts c cs e h
     ] refl
   where
-    numbered-here : (cs : List Code) → next_is (is_value 35) cs ≡ true → part_ops (parts (c ∷ cs)) ≡ preceded opening (preceded number_sign (numeric_plan (rest_of cs)))
+    numbered-here : (cs : List Code) → next_is (is_value 35) cs ≡ true →
+        part_ops (parts (c ∷ cs)) ≡ preceded opening (preceded number_sign (numeric_plan (rest_of cs)))
     numbered-here [] h = cc
     numbered-here (d ∷ cs) h = number-parts c d cs e h
 
-pub reference-start : (on : Bool) (c : Code) (cs : List Code) → on ≡ true → (c.value == 38) ≡ true → plan_of (provided on >> character_reference html_5_rows) (c ∷ cs) ≡ preceded opening (open_plan cs)
+pub reference-start : (on : Bool) (c : Code) (cs : List Code) → on ≡ true → (c.value == 38) ≡ true →
+    plan_of (provided on >> character_reference html_5_rows) (c ∷ cs) ≡ preceded opening (open_plan cs)
 unfolding character_reference
 reference-start on c cs o e =
     ap tree_ops (switched-on (character_reference html_5_rows) on (c ∷ cs) o) ∙ reference-ops parts (c ∷ cs) ∙ reference-parts c cs e
@@ -289,7 +335,9 @@ named-other cs e =
     ∙ either-second decimal_parts hexadecimal_parts cs (bind-none _ _ _ (one-not (is_value 38) cs e))
     ∙ bind-none _ _ _ (one-not (is_value 38) cs e)
 
-pub no-reference : (on : Bool) (cs : List Code) → on && next_is (is_value 38) cs ≡ false → plan_of (provided on >> character_reference html_5_rows) cs ≡ None
+pub no-reference : (on : Bool) (cs : List Code) → on && next_is (is_value 38) cs ≡ false →
+    plan_of (provided on >> character_reference html_5_rows) cs ≡ None
 unfolding character_reference
 no-reference false cs e = ap tree_ops (switched-off (character_reference html_5_rows) false cs refl)
-no-reference true cs e = ap tree_ops (switched-on (character_reference html_5_rows) true cs refl) ∙ reference-ops parts cs ∙ ap part_ops (named-other cs e)
+no-reference true cs e =
+    ap tree_ops (switched-on (character_reference html_5_rows) true cs refl) ∙ reference-ops parts cs ∙ ap part_ops (named-other cs e)

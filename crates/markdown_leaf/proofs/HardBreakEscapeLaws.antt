@@ -29,7 +29,8 @@ use Rattle.markdown_plan.specs.LayerEquation.{Within, AreLawful}
 
 -- The reading, by what stands there.
 
-break-slash : (on : Bool) (c : Code) (cs : List Code) → on ≡ true → (c.value == 92) ≡ true → plan_of (provided on >> hard_break_escape) (c ∷ cs) ≡ preceded opening (after_plan cs)
+break-slash : (on : Bool) (c : Code) (cs : List Code) → on ≡ true → (c.value == 92) ≡ true →
+    plan_of (provided on >> hard_break_escape) (c ∷ cs) ≡ preceded opening (after_plan cs)
 unfolding hard_break_escape gives
 break-slash on c cs e h =
     ap tree_ops (switched-on hard_break_escape on (c ∷ cs) e)
@@ -38,10 +39,12 @@ break-slash on c cs e h =
       | false ↦ λ k. ap tree_ops (bind-none _ _ _ (before-other _ _ _ _ _ (one-here (is_value 92) c cs h) k))
     ] refl
 
-no-break : (on : Bool) (cs : List Code) → on && next_is (is_value 92) cs ≡ false → plan_of (provided on >> hard_break_escape) cs ≡ None
+no-break : (on : Bool) (cs : List Code) → on && next_is (is_value 92) cs ≡ false →
+    plan_of (provided on >> hard_break_escape) cs ≡ None
 unfolding hard_break_escape
 no-break false cs e = ap tree_ops (switched-off hard_break_escape false cs refl)
-no-break true cs e = ap tree_ops (switched-on hard_break_escape true cs refl ∙ bind-none _ _ _ (before-none _ _ _ (one-not (is_value 92) cs e)))
+no-break true cs e =
+    ap tree_ops (switched-on hard_break_escape true cs refl ∙ bind-none _ _ _ (before-none _ _ _ (one-not (is_value 92) cs e)))
 
 whole : (on : Bool) → Gives Covers (provided on >> hard_break_escape)
 unfolding hard_break_escape

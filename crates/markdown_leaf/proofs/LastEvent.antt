@@ -3,7 +3,8 @@ use Rattle.std.proofs.Common.{◌≡◌, ℕ, zero, suc, ◌+◌, List, [], ◌�
 use Rattle.markdown_engine_content.specs.declared.event.Event.{Event}
 use Rattle.markdown_model.specs.SingleConstructs.{ends_escape, follows_escape}
 
-pub last-escape : (es : List Event) (n : ℕ) (e : Event) → n + 1 ≡ length es → e ≡ slice_index_or es n e → ends_escape e ≡ follows_escape es
+pub last-escape : (es : List Event) (n : ℕ) (e : Event) → n + 1 ≡ length es → e ≡ slice_index_or es n e →
+    ends_escape e ≡ follows_escape es
 last-escape [] n e h k = absurd (omega (arith, h))
 last-escape (x ∷ []) zero e h k = ap ends_escape k
 last-escape (x ∷ []) (suc n) e h k = absurd (omega (arith, h))

@@ -18,7 +18,8 @@ abbrev pub Parts : List (List Code) × List Code → List Code → Type 0
 Parts x ws = joined_codes x.0 ++ x.1 ≡ ws
 
 pub Gives-closing : (p : Code → Bool) (n : ℕ) → Gives Parts (closing p n)
-Gives-closing p n cs x rest k = record { codes = joined_codes x.0 ++ x.1; whole = read-codes span_codes (closing p n) (covers_closing p n) cs rest x k; holds = refl }
+Gives-closing p n cs x rest k =
+    record { codes = joined_codes x.0 ++ x.1; whole = read-codes span_codes (closing p n) (covers_closing p n) cs rest x k; holds = refl }
 
 -- The leaves inside.
 
@@ -32,7 +33,8 @@ covers-line name (c ∷ cs) =
 
 pub covers-lines : (name : Name) (ss : List (List Code)) → Covers (line_leaves name ss) (joined_codes ss)
 covers-lines name [] = Covers-leaf name [] [] refl
-covers-lines name (s ∷ ss) = Covers-row (line_leaf name None s) (line_leaves name ss) s (joined_codes ss) (covers-line name s) (covers-lines name ss)
+covers-lines name (s ∷ ss) =
+    Covers-row (line_leaf name None s) (line_leaves name ss) s (joined_codes ss) (covers-line name s) (covers-lines name ss)
 
 -- Spans.
 
@@ -48,6 +50,8 @@ whole-span m names allowed =
     (subst (λ us. Covers (line_leaves names.text inside.0 ⊕ leaf names.sequence inside.1) us) (q ∙ sym (append-nil vs))
     (Covers-row (line_leaves names.text inside.0) (leaf names.sequence inside.1) (joined_codes inside.0) inside.1 (covers-lines names.text inside.0) (Covers-leaf names.sequence inside.1 inside.1 refl))))))))
 
-pub whole-here : (m : ℕ) (names : SpanNames) (allowed : ℕ → Bool) (on escaped : Bool) (previous : Option Code) → Gives Covers (provided on >> span_here m names allowed escaped previous)
+pub whole-here : (m : ℕ) (names : SpanNames) (allowed : ℕ → Bool) (on escaped : Bool) (previous : Option Code) →
+    Gives Covers (provided on >> span_here m names allowed escaped previous)
 unfolding span_here
-whole-here m names allowed on escaped previous = Gives-switched on _ Covers (Gives-switched _ _ Covers (whole-span m names allowed))
+whole-here m names allowed on escaped previous =
+    Gives-switched on _ Covers (Gives-switched _ _ Covers (whole-span m names allowed))

@@ -22,7 +22,8 @@ use Rattle.markdown_engine.proofs.OperationFields.{ahead-none, ahead-some, Begin
 use Rattle.markdown_model.specs.CodeTests.{is_value, is_some_code, next_is}
 use Rattle.markdown_model.specs.LeafConstructs.{SpanNames, code_names, math_names}
 use Rattle.markdown_plan.specs.Plan.{Plan, preceded, plan_of, KeepsAs}
-use Rattle.markdown_leaf.specs.RawText.{data_step, data_stops, names_in, begun, rested, is_same, is_barred, code_just_before, code_is_on, math_is_on, single_dollar, opened, start_at, start_step, after_opening, sequence_open_at, between_at, after_data, data_at, after_run, sequence_close_at, StartReady, SequenceOpenReady, DataReady, SequenceCloseReady, span_at, is_hopeless, closed_ops, inside_plan, is_data, data_plan, run_naming, opening_plan, start_ends, sequence_open_ends, between_ends, data_ends, sequence_close_ends, states, between_words, data_words, sequence_close_words, sequence_open_words, start_words}
+use Rattle.markdown_leaf.specs.RawText.{data_step, data_stops, names_in, begun, rested, is_same, is_barred, code_just_before, code_is_on, math_is_on, single_dollar, opened, start_at, start_step, after_opening, sequence_open_at, between_at, after_data, data_at, after_run, sequence_close_at, StartReady, SequenceOpenReady, DataReady}
+use Rattle.markdown_leaf.specs.RawText.{SequenceCloseReady, span_at, is_hopeless, closed_ops, inside_plan, is_data, data_plan, run_naming, opening_plan, start_ends, sequence_open_ends, between_ends, data_ends, sequence_close_ends, states, between_words, data_words, sequence_close_words, sequence_open_words, start_words}
 use Rattle.markdown_model.specs.SingleConstructs.{follows_escape}
 use Rattle.markdown_plan.specs.ScratchFields.{with_size, with_size_b}
 use Rattle.markdown_plan.specs.LateNames.{Naming, renamed}
@@ -48,14 +49,16 @@ or-left : (a b : Bool) → (a || b) ≡ false → a ≡ false
 or-left false b e = refl
 or-left true b e = cc
 
-free-is : (e : Bool) (m : ℕ) (o : Option Code) → not (is_same m (value_of o) && not e) ≡ (e || not (is_some_code (is_value m) o))
+free-is : (e : Bool) (m : ℕ) (o : Option Code) →
+    not (is_same m (value_of o) && not e) ≡ (e || not (is_some_code (is_value m) o))
 free-is true m None = refl
 free-is false m None = refl
 free-is true m (Some d) = elim (d.value == m) as (λ b. not (b && false) ≡ true) [ true ↦ refl | false ↦ refl ]
 free-is false m (Some d) = elim (d.value == m) as (λ b. not (b && true) ≡ not b) [ true ↦ refl | false ↦ refl ]
 
 -- nothing bars a span of this marker
-barred-is : (m : ℕ) (T : Tokenizer) → not (is_barred m T) ≡ (follows_escape T.events || not (is_some_code (is_value m) (code_just_before T)))
+barred-is : (m : ℕ) (T : Tokenizer) →
+    not (is_barred m T) ≡ (follows_escape T.events || not (is_some_code (is_value m) (code_just_before T)))
 unfolding code_before
 barred-is m T = free-is (follows_escape T.events) m (code_just_before T)
 
@@ -93,7 +96,9 @@ module _ (W : Words) (within : Within states W) where
       (λ ok U x. x))))
 
   -- data ends where none comes next
-  data-ends-here : (T : Tokenizer) → T.attempts ≡ [] → DataReady T → next_is (is_data T.tokenize_state.marker (names_in T.tokenize_state) T.tokenize_state.size) (ahead T) ≡ false → GoesIn W (weight_at 3 T) (data_ends T) (after_data T)
+  data-ends-here : (T : Tokenizer) → T.attempts ≡ [] → DataReady T →
+      next_is (is_data T.tokenize_state.marker (names_in T.tokenize_state) T.tokenize_state.size) (ahead T) ≡ false →
+      GoesIn W (weight_at 3 T) (data_ends T) (after_data T)
   unfolding scratched applied
   data-ends-here T alone k h =
       let s : TokenizeState = T.tokenize_state in
@@ -123,7 +128,9 @@ module _ (W : Words) (within : Within states W) where
       (λ ok U x. x)))
 
   -- the run ends where no marker comes next
-  run-ends-here : (T : Tokenizer) → T.attempts ≡ [] → SequenceCloseReady T → next_is (is_value T.tokenize_state.marker) (ahead T) ≡ false → GoesIn W (weight_at 3 T) (sequence_close_ends T) (after_run T)
+  run-ends-here : (T : Tokenizer) → T.attempts ≡ [] → SequenceCloseReady T →
+      next_is (is_value T.tokenize_state.marker) (ahead T) ≡ false →
+      GoesIn W (weight_at 3 T) (sequence_close_ends T) (after_run T)
   unfolding scratched applied renamed
   run-ends-here T alone k h =
       let s : TokenizeState = T.tokenize_state in
@@ -161,11 +168,16 @@ module _ (W : Words) (within : Within states W) where
   -- The opening run.
 
   -- nothing closes where the run is too short or hopeless
-  none-opened : (T : Tokenizer) → SequenceOpenReady T → next_is (is_value T.tokenize_state.marker) (ahead T) ≡ false → (short : Bool) → (short || is_hopeless T) ≡ true → (if not short then preceded (Exit T.tokenize_state.token_2 ∷ []) (inside_plan T.tokenize_state.marker (names_in T.tokenize_state) T.tokenize_state.size (ahead T)) else None) ≡ None
+  none-opened : (T : Tokenizer) → SequenceOpenReady T → next_is (is_value T.tokenize_state.marker) (ahead T) ≡ false →
+      (short : Bool) → (short || is_hopeless T) ≡ true →
+      (if not short then preceded (Exit T.tokenize_state.token_2 ∷ []) (inside_plan T.tokenize_state.marker (names_in T.tokenize_state) T.tokenize_state.size (ahead T)) else None) ≡ None
   none-opened T k h true e = refl
-  none-opened T k h false e = ap (λ o. preceded (Exit T.tokenize_state.token_2 ∷ []) (closed_ops (names_in T.tokenize_state) o)) (hopeless-none T k.marker k.indexed e h)
+  none-opened T k h false e =
+      ap (λ o. preceded (Exit T.tokenize_state.token_2 ∷ []) (closed_ops (names_in T.tokenize_state) o)) (hopeless-none T k.marker k.indexed e h)
 
-  run-opened : (T : Tokenizer) → T.attempts ≡ [] → SequenceOpenReady T → next_is (is_value T.tokenize_state.marker) (ahead T) ≡ false → GoesIn W (weight_at 3 T) (sequence_open_ends T) (after_opening T)
+  run-opened : (T : Tokenizer) → T.attempts ≡ [] → SequenceOpenReady T →
+      next_is (is_value T.tokenize_state.marker) (ahead T) ≡ false →
+      GoesIn W (weight_at 3 T) (sequence_open_ends T) (after_opening T)
   unfolding scratched applied
   run-opened T alone k h =
       let s : TokenizeState = T.tokenize_state in
@@ -203,7 +215,10 @@ module _ (W : Words) (within : Within states W) where
   -- The start.
 
   -- past the first marker of a span
-  span-opened : (m : ℕ) (names : SpanNames) (T : Tokenizer) → T.attempts ≡ [] → StartReady T → (m == 10) ≡ false → 1 ≤ length (ahead T) → plan_of (span_at T) (ahead T) ≡ preceded (Enter names.whole ∷ Enter names.sequence ∷ Consume ∷ []) (opening_plan (single_dollar T) m names 1 (drop 1 (ahead T))) → GoesIn W (weight_at 4 T) (KeepsAs 0 (plan_of (span_at T)) T) (opened m names T)
+  span-opened : (m : ℕ) (names : SpanNames) (T : Tokenizer) → T.attempts ≡ [] → StartReady T → (m == 10) ≡ false →
+      1 ≤ length (ahead T) →
+      plan_of (span_at T) (ahead T) ≡ preceded (Enter names.whole ∷ Enter names.sequence ∷ Consume ∷ []) (opening_plan (single_dollar T) m names 1 (drop 1 (ahead T))) →
+      GoesIn W (weight_at 4 T) (KeepsAs 0 (plan_of (span_at T)) T) (opened m names T)
   span-opened m names T alone k other more e =
       Goes-on W 4 0 (plan_of (span_at T)) (opening_plan (single_dollar T) m names 1) (Enter names.whole ∷ Enter names.sequence ∷ Consume ∷ []) T.tokenize_state (begun m names T.tokenize_state) T (Next RawTextSequenceOpen) (within RawTextSequenceOpen) alone refl more (omega arith) e
       (start-opened m names T other more k)
@@ -237,7 +252,8 @@ module _ (W : Words) (within : Within states W) where
       (ap p b.whole ∙ no-span on math single escaped previous (b.code ∷ rest_of (ahead T)) (ap (λ v. (v == 96) && (on && (escaped || not (is_some_code (is_value 96) previous)))) b.value ∙ ap (λ f. (c == 96) && (on && f)) (sym code_free) ∙ h) (ap (λ v. (v == 36) && (math && (escaped || not (is_some_code (is_value 36) previous)))) b.value ∙ ap (λ f. (c == 36) && (math && f)) (sym math_free) ∙ g))))))
 
 -- over a code that is neither a line ending nor the marker, a call does no more than pass it
-pub data-steady : (T : Tokenizer) (set : List ℕ) → data_stops T.tokenize_state ≡ Some set → is_free set (current_of T) ≡ true → data_step T ≡ stepped (Next RawTextData) (consumed T)
+pub data-steady : (T : Tokenizer) (set : List ℕ) → data_stops T.tokenize_state ≡ Some set →
+    is_free set (current_of T) ≡ true → data_step T ≡ stepped (Next RawTextData) (consumed T)
 data-steady T set known free =
     let m : ℕ = T.tokenize_state.marker in
     steady-at set T data_at (stepped (Next RawTextData) (consumed T)) free (λ v a b.

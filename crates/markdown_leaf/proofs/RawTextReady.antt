@@ -19,25 +19,31 @@ use Rattle.markdown_plan.specs.ScratchFields.{with_size, with_size_b, Fits}
 use Rattle.markdown_plan.specs.LateNames.{renamed}
 
 -- fewer codes are left
-fits-after : (n k : ℕ) (os : List Op) (r : TokenizeState) (X T : Tokenizer) → codes_left X ≡ codes_left T → moves os ≤ length (ahead X) → n ≤ k + moves os → Fits k T → Fits n (scratched r (done os X))
-fits-after n k os r X T same within less f = omega (arith, left-done os X within, left-scratched r (done os X), same, less, f)
+fits-after : (n k : ℕ) (os : List Op) (r : TokenizeState) (X T : Tokenizer) → codes_left X ≡ codes_left T →
+    moves os ≤ length (ahead X) → n ≤ k + moves os → Fits k T → Fits n (scratched r (done os X))
+fits-after n k os r X T same within less f =
+    omega (arith, left-done os X within, left-scratched r (done os X), same, less, f)
 
 pub some-event : (T : Tokenizer) (m : Name) → 0 < length (applied (Enter m) T).events
 unfolding applied
 some-event T m = grind (arith, common_steps)
 
 -- what was right stays right
-indexed-after : (os : List Op) (r : TokenizeState) (T : Tokenizer) → r.runs ≡ T.tokenize_state.runs → IsIndexed T → IsIndexed (scratched r (done os T))
+indexed-after : (os : List Op) (r : TokenizeState) (T : Tokenizer) → r.runs ≡ T.tokenize_state.runs → IsIndexed T →
+    IsIndexed (scratched r (done os T))
 unfolding scratched
 indexed-after os r T same k =
     same ∙ k ∙ ap (λ (x : LastRuns). last_runs x.asked T.cursor.codes) (sym same) ∙ ap (λ cs. last_runs r.runs.asked cs) (sym (codes-done os T))
 
-pub start-opened : (m : ℕ) (names : SpanNames) (T : Tokenizer) → (m == 10) ≡ false → 1 ≤ length (ahead T) → StartReady T → SequenceOpenReady (scratched (begun m names T.tokenize_state) (done (Enter names.whole ∷ Enter names.sequence ∷ Consume ∷ []) T))
+pub start-opened : (m : ℕ) (names : SpanNames) (T : Tokenizer) → (m == 10) ≡ false → 1 ≤ length (ahead T) →
+    StartReady T →
+    SequenceOpenReady (scratched (begun m names T.tokenize_state) (done (Enter names.whole ∷ Enter names.sequence ∷ Consume ∷ []) T))
 unfolding scratched applied
 start-opened m names T h within k =
     record { marker = h; stand_open = refl; fits = fits-after 1 0 (Enter names.whole ∷ Enter names.sequence ∷ Consume ∷ []) (begun m names T.tokenize_state) T T refl within (omega arith) k.fits; indexed = indexed-after (Enter names.whole ∷ Enter names.sequence ∷ Consume ∷ []) (begun m names T.tokenize_state) T refl k.indexed }
 
-pub opened-more : (T : Tokenizer) → 1 ≤ length (ahead T) → SequenceOpenReady T → SequenceOpenReady (scratched (with_size (T.tokenize_state.size + 1) T.tokenize_state) (done (Consume ∷ []) T))
+pub opened-more : (T : Tokenizer) → 1 ≤ length (ahead T) → SequenceOpenReady T →
+    SequenceOpenReady (scratched (with_size (T.tokenize_state.size + 1) T.tokenize_state) (done (Consume ∷ []) T))
 unfolding scratched applied
 opened-more T within k =
     record { marker = k.marker; stand_open = k.stand_open; fits = fits-after (T.tokenize_state.size + 1) T.tokenize_state.size (Consume ∷ []) (with_size (T.tokenize_state.size + 1) T.tokenize_state) T T refl within (omega arith) k.fits; indexed = indexed-after (Consume ∷ []) (with_size (T.tokenize_state.size + 1) T.tokenize_state) T refl k.indexed }
@@ -47,17 +53,20 @@ unfolding applied
 opened-between T k =
     record { marker = k.marker; stand_open = second-open T.stack T.tokenize_state.token_2 T.tokenize_state.token_1 k.stand_open; fits = omega (arith, k.fits) }
 
-pub between-ending : (T : Tokenizer) → 1 ≤ length (ahead T) → BetweenReady T → BetweenReady (done (Enter N.LineEnding ∷ Consume ∷ Exit N.LineEnding ∷ []) T)
+pub between-ending : (T : Tokenizer) → 1 ≤ length (ahead T) → BetweenReady T →
+    BetweenReady (done (Enter N.LineEnding ∷ Consume ∷ Exit N.LineEnding ∷ []) T)
 unfolding applied
 between-ending T within k =
     record { marker = k.marker; stand_open = k.stand_open; fits = omega (arith, left-done (Enter N.LineEnding ∷ Consume ∷ Exit N.LineEnding ∷ []) T within, k.fits) }
 
-pub between-data : (T : Tokenizer) → 1 ≤ length (ahead T) → BetweenReady T → DataReady (done (Enter T.tokenize_state.token_3 ∷ Consume ∷ []) T)
+pub between-data : (T : Tokenizer) → 1 ≤ length (ahead T) → BetweenReady T →
+    DataReady (done (Enter T.tokenize_state.token_3 ∷ Consume ∷ []) T)
 unfolding applied
 between-data T within k =
     record { marker = k.marker; stand_open = ap (λ ns. T.tokenize_state.token_3 ∷ ns) k.stand_open; fits = omega (arith, left-done (Enter T.tokenize_state.token_3 ∷ Consume ∷ []) T within, k.fits) }
 
-pub between-run : (T : Tokenizer) → 1 ≤ length (ahead T) → BetweenReady T → SequenceCloseReady (scratched (with_size_b 1 T.tokenize_state) (done (Enter T.tokenize_state.token_2 ∷ Consume ∷ []) T))
+pub between-run : (T : Tokenizer) → 1 ≤ length (ahead T) → BetweenReady T →
+    SequenceCloseReady (scratched (with_size_b 1 T.tokenize_state) (done (Enter T.tokenize_state.token_2 ∷ Consume ∷ []) T))
 unfolding scratched applied
 between-run T within k =
     let n : Name = T.tokenize_state.token_2 in
@@ -72,14 +81,16 @@ between-run T within k =
 
 pub data-next : (T : Tokenizer) → 1 ≤ length (ahead T) → DataReady T → DataReady (done (Consume ∷ []) T)
 unfolding applied
-data-next T within k = record { marker = k.marker; stand_open = k.stand_open; fits = omega (arith, left-done (Consume ∷ []) T within, k.fits) }
+data-next T within k =
+    record { marker = k.marker; stand_open = k.stand_open; fits = omega (arith, left-done (Consume ∷ []) T within, k.fits) }
 
 pub data-between : (T : Tokenizer) → DataReady T → BetweenReady (done (Exit T.tokenize_state.token_3 ∷ []) T)
 unfolding applied
 data-between T k =
     record { marker = k.marker; stand_open = second-open T.stack T.tokenize_state.token_3 T.tokenize_state.token_1 k.stand_open; fits = k.fits }
 
-pub run-next : (T : Tokenizer) → 1 ≤ length (ahead T) → SequenceCloseReady T → SequenceCloseReady (scratched (with_size_b (T.tokenize_state.size_b + 1) T.tokenize_state) (done (Consume ∷ []) T))
+pub run-next : (T : Tokenizer) → 1 ≤ length (ahead T) → SequenceCloseReady T →
+    SequenceCloseReady (scratched (with_size_b (T.tokenize_state.size_b + 1) T.tokenize_state) (done (Consume ∷ []) T))
 unfolding scratched applied
 run-next T within k =
     let n : Name = T.tokenize_state.token_2 in
@@ -92,12 +103,17 @@ run-next T within k =
       fits = fits-after (T.tokenize_state.size_b + 1) T.tokenize_state.size_b (Consume ∷ []) r T T refl within (omega arith) k.fits;
     }
 
-pub run-between : (T : Tokenizer) → SequenceCloseReady T → BetweenReady (scratched (with_size_b 0 T.tokenize_state) (done (Exit T.tokenize_state.token_3 ∷ []) (renamed T.tokenize_state.token_3 T)))
+pub run-between : (T : Tokenizer) → SequenceCloseReady T →
+    BetweenReady (scratched (with_size_b 0 T.tokenize_state) (done (Exit T.tokenize_state.token_3 ∷ []) (renamed T.tokenize_state.token_3 T)))
 unfolding scratched applied renamed
 run-between T k =
     record { marker = k.marker; stand_open = second-open T.stack T.tokenize_state.token_2 T.tokenize_state.token_1 k.stand_open; fits = omega (arith, k.fits) }
 
 -- what the opening run's end says, right after its first marker
-pub opening-says : (m : ℕ) (names : SpanNames) (T : Tokenizer) (ok : Bool) (U : Tokenizer) → T.tokenize_state ≡ rested T.tokenize_state → sequence_open_ends (scratched (begun m names T.tokenize_state) (done (Enter names.whole ∷ Enter names.sequence ∷ Consume ∷ []) T)) ok U → DoesAs 2 (opening_plan (single_dollar T) m names 1) T.tokenize_state (scratched (begun m names T.tokenize_state) (done (Enter names.whole ∷ Enter names.sequence ∷ Consume ∷ []) T)) ok U
+pub opening-says : (m : ℕ) (names : SpanNames) (T : Tokenizer) (ok : Bool) (U : Tokenizer) →
+    T.tokenize_state ≡ rested T.tokenize_state →
+    sequence_open_ends (scratched (begun m names T.tokenize_state) (done (Enter names.whole ∷ Enter names.sequence ∷ Consume ∷ []) T)) ok U →
+    DoesAs 2 (opening_plan (single_dollar T) m names 1) T.tokenize_state (scratched (begun m names T.tokenize_state) (done (Enter names.whole ∷ Enter names.sequence ∷ Consume ∷ []) T)) ok U
 unfolding scratched applied
-opening-says m names T ok U e x = subst (λ (s : TokenizeState). DoesAs 2 (opening_plan (single_dollar T) m names 1) s (scratched (begun m names T.tokenize_state) (done (Enter names.whole ∷ Enter names.sequence ∷ Consume ∷ []) T)) ok U) (sym e) x
+opening-says m names T ok U e x =
+    subst (λ (s : TokenizeState). DoesAs 2 (opening_plan (single_dollar T) m names 1) s (scratched (begun m names T.tokenize_state) (done (Enter names.whole ∷ Enter names.sequence ∷ Consume ∷ []) T)) ok U) (sym e) x

@@ -16,7 +16,8 @@ use Rattle.markdown_plan.proofs.FirstStretch.{stretch-alone, stretch-span}
 use Rattle.markdown_leaf.specs.RawText.{HasMarker, IsIndexed, is_hopeless, is_data}
 
 -- The first stretch is not the closing run.
-closing-skip : (p : Code → Bool) (n : ℕ) (s : List Code) (ss : List (List Code)) → (next_is p s && length s == n) ≡ false → closing_run p n ss ≡ None → closing_run p n (s ∷ ss) ≡ None
+closing-skip : (p : Code → Bool) (n : ℕ) (s : List Code) (ss : List (List Code)) →
+    (next_is p s && length s == n) ≡ false → closing_run p n ss ≡ None → closing_run p n (s ∷ ss) ≡ None
 unfolding closing_run
 closing-skip p n s ss h e = rw (h, e, closing_run) refl
 
@@ -65,11 +66,14 @@ module _ (m : ℕ) where
 
   module _ (n : ℕ) where
     -- past another code
-    none-past : (c : Code) (cs : List Code) → is_value m c ≡ false → last_run m n (c ∷ cs) ≡ None → last_run m n cs ≡ None
-    none-past c cs h e = sym (ap (λ b. last_run_from m n b cs) h) ∙ (later-none (last_run_from m n (c.value == m) cs) (true && (c.value == m && leading m (c ∷ cs) == n)) e).0
+    none-past : (c : Code) (cs : List Code) → is_value m c ≡ false → last_run m n (c ∷ cs) ≡ None →
+        last_run m n cs ≡ None
+    none-past c cs h e =
+        sym (ap (λ b. last_run_from m n b cs) h) ∙ (later-none (last_run_from m n (c.value == m) cs) (true && (c.value == m && leading m (c ∷ cs) == n)) e).0
 
     -- past codes that are others
-    none-past-all : (q : Code → Bool) → ((c : Code) → q c ≡ true → is_value m c ≡ false) → (cs : List Code) → last_run m n cs ≡ None → last_run m n (span q cs).1 ≡ None
+    none-past-all : (q : Code → Bool) → ((c : Code) → q c ≡ true → is_value m c ≡ false) → (cs : List Code) →
+        last_run m n cs ≡ None → last_run m n (span q cs).1 ≡ None
     none-past-all q other [] e = e
     none-past-all q other (c ∷ cs) e =
         elim (q c) as (λ b. q c ≡ b → last_run m n (elim b as (λ _. List Code × List Code) [ true ↦ let s = span q cs in (c ∷ s.0, s.1) | false ↦ ([], c ∷ cs) ]).1 ≡ None) [
@@ -78,14 +82,16 @@ module _ (m : ℕ) where
         ] refl
 
     -- past a run
-    none-past-run : (c : Code) (cs : List Code) → is_value m c ≡ true → last_run m n (c ∷ cs) ≡ None → last_run m n (span (is_value m) cs).1 ≡ None
+    none-past-run : (c : Code) (cs : List Code) → is_value m c ≡ true → last_run m n (c ∷ cs) ≡ None →
+        last_run m n (span (is_value m) cs).1 ≡ None
     none-past-run c cs h e =
         let size : ℕ = leading m (c ∷ cs) in
         let rest : (span (is_value m) cs).1 ≡ drop size (c ∷ cs) = run-rest cs ∙ ap (λ r. drop r (c ∷ cs)) (sym (leading-more c cs h)) in
         ap (last_run m n) rest ∙ none-after m n size (c ∷ cs) (last_run m n (drop size (c ∷ cs))) (past-leading (c ∷ cs)) (ap (λ o. begins_before size o) e) refl
 
     -- the run at hand has another size
-    other-size : (c : Code) (cs : List Code) → is_value m c ≡ true → last_run m n (c ∷ cs) ≡ None → (is_value m c && length (c ∷ (span (is_value m) cs).0) == n) ≡ false
+    other-size : (c : Code) (cs : List Code) → is_value m c ≡ true → last_run m n (c ∷ cs) ≡ None →
+        (is_value m c && length (c ∷ (span (is_value m) cs).0) == n) ≡ false
     other-size c cs h e =
         ap (λ k. is_value m c && k == n) (sized (length (span (is_value m) cs).0) (leading m cs) (run-length cs) ∙ sym (leading-more c cs h))
         ∙ (later-none (last_run_from m n (c.value == m) cs) (true && (c.value == m && leading m (c ∷ cs) == n)) e).1
@@ -97,21 +103,25 @@ module _ (m : ℕ) where
     module _ (e : (m == 10) ≡ false) where
       -- fewer codes than these close no span
       abbrev FewerClose : List Code → Type 0
-      FewerClose cs = (ds : List Code) → length ds ≤ length cs → last_run m n ds ≡ None → closing (is_value m) n ds ≡ None
+      FewerClose cs =
+          (ds : List Code) → length ds ≤ length cs → last_run m n ds ≡ None → closing (is_value m) n ds ≡ None
 
-      at-ending : (c : Code) (cs : List Code) → FewerClose cs → last_run m n (c ∷ cs) ≡ None → is_line_ending c ≡ true → closing (is_value m) n (c ∷ cs) ≡ None
+      at-ending : (c : Code) (cs : List Code) → FewerClose cs → last_run m n (c ∷ cs) ≡ None → is_line_ending c ≡ true →
+          closing (is_value m) n (c ∷ cs) ≡ None
       at-ending c cs fewer h k =
           let other : is_value m c ≡ false = other-value c.value 10 m (flipped m 10 e) k in
           ap (closing_run (is_value m) n) (stretch-alone (is_value m) c cs (ending-alone m code_names n c cs k))
           ∙ closing-skip (is_value m) n (c ∷ []) (stretches (is_value m) cs) (and_left (is_value m c) (length (c ∷ []) == n) other) (fewer cs (omega arith) (none-past c cs other h))
 
-      at-marker : (c : Code) (cs : List Code) → FewerClose cs → last_run m n (c ∷ cs) ≡ None → is_value m c ≡ true → closing (is_value m) n (c ∷ cs) ≡ None
+      at-marker : (c : Code) (cs : List Code) → FewerClose cs → last_run m n (c ∷ cs) ≡ None → is_value m c ≡ true →
+          closing (is_value m) n (c ∷ cs) ≡ None
       at-marker c cs fewer h g =
           let rest : List Code = (span (is_value m) cs).1 in
           ap (closing_run (is_value m) n) (stretch-span (is_value m) (is_value m) (λ a b k. agree-marker m code_names n e a b k) c cs g)
           ∙ closing-skip (is_value m) n (c ∷ (span (is_value m) cs).0) (stretches (is_value m) rest) (other-size c cs g h) (fewer rest (span-rest (is_value m) cs) (none-past-run c cs g h))
 
-      at-data : (c : Code) (cs : List Code) → FewerClose cs → last_run m n (c ∷ cs) ≡ None → is_line_ending c ≡ false → is_value m c ≡ false → closing (is_value m) n (c ∷ cs) ≡ None
+      at-data : (c : Code) (cs : List Code) → FewerClose cs → last_run m n (c ∷ cs) ≡ None → is_line_ending c ≡ false →
+          is_value m c ≡ false → closing (is_value m) n (c ∷ cs) ≡ None
       at-data c cs fewer h k g =
           let q : Code → Bool = is_data m code_names n in
           let rest : List Code = (span q cs).1 in
@@ -123,7 +133,8 @@ module _ (m : ℕ) where
           neither false true x y = cc
           neither false false x y = refl
 
-      at-code : (c : Code) (cs : List Code) → FewerClose cs → last_run m n (c ∷ cs) ≡ None → closing (is_value m) n (c ∷ cs) ≡ None
+      at-code : (c : Code) (cs : List Code) → FewerClose cs → last_run m n (c ∷ cs) ≡ None →
+          closing (is_value m) n (c ∷ cs) ≡ None
       at-code c cs fewer h =
           elim (is_line_ending c) as (λ b. is_line_ending c ≡ b → closing (is_value m) n (c ∷ cs) ≡ None) [
             | true ↦ λ k. at-ending c cs fewer h k
@@ -133,7 +144,8 @@ module _ (m : ℕ) where
             ] refl
           ] refl
 
-      absent-from : (fuel : ℕ) (cs : List Code) → length cs ≤ fuel → last_run m n cs ≡ None → closing (is_value m) n cs ≡ None
+      absent-from : (fuel : ℕ) (cs : List Code) → length cs ≤ fuel → last_run m n cs ≡ None →
+          closing (is_value m) n cs ≡ None
       unfolding closing_run
       absent-from fuel [] l h = refl
       absent-from zero (c ∷ cs) l h = absurd (none-left (length cs) l)
@@ -146,6 +158,9 @@ module _ (m : ℕ) where
       closing-absent cs h = absent-from (length cs) cs (omega arith) h
 
 -- Past an opening run that no run of its size follows, no span closes.
-pub hopeless-none : (T : Tokenizer) → HasMarker T → IsIndexed T → is_hopeless T ≡ true → next_is (is_value T.tokenize_state.marker) (ahead T) ≡ false → closing (is_value T.tokenize_state.marker) T.tokenize_state.size (ahead T) ≡ None
+pub hopeless-none : (T : Tokenizer) → HasMarker T → IsIndexed T → is_hopeless T ≡ true →
+    next_is (is_value T.tokenize_state.marker) (ahead T) ≡ false →
+    closing (is_value T.tokenize_state.marker) T.tokenize_state.size (ahead T) ≡ None
 unfolding ahead_at
-hopeless-none T e k h g = closing-absent T.tokenize_state.marker T.tokenize_state.size e (ahead T) (ruled-out T.tokenize_state.runs T.cursor.codes T.tokenize_state.marker T.tokenize_state.size T.cursor.at k h (none-leading T.tokenize_state.marker (ahead T) g))
+hopeless-none T e k h g =
+    closing-absent T.tokenize_state.marker T.tokenize_state.size e (ahead T) (ruled-out T.tokenize_state.runs T.cursor.codes T.tokenize_state.marker T.tokenize_state.size T.cursor.at k h (none-leading T.tokenize_state.marker (ahead T) g))

@@ -17,7 +17,8 @@ use Rattle.markdown_partial.specs.TrimmedData.{between, IsStretch}
 use Rattle.markdown_partial.proofs.TrimWalks.{IsBegun, IsEnded, backward, stretch-cases}
 use Rattle.markdown_leaf_email_pass.specs.EmailScan.{has_sign}
 
-sign-first : (bytes : List ℕ) (p q : Point) → IsBegun bytes p q → has_sign bytes p q ≡ (value_at bytes p == 64) || has_sign bytes (stop_at bytes p) q
+sign-first : (bytes : List ℕ) (p q : Point) → IsBegun bytes p q →
+    has_sign bytes p q ≡ (value_at bytes p == 64) || has_sign bytes (stop_at bytes p) q
 unfolding has_sign
 sign-first bytes p q b = ap (list_any (is_value 64)) b.codes
 
@@ -35,7 +36,8 @@ value-sign bytes p e =
     let plain = sign-plain (get_or bytes p.index 0) e in
     ap (λ v. v == 64) (sym (value-plain bytes p plain.0 plain.1) ∙ e)
 
-value-other : (b : ℕ) (t : Bool) → b ≢ 64 → ((if is_line_ending_byte b then 10 else (if (b == 9) && t then 32 else b)) == 64) ≡ false
+value-other : (b : ℕ) (t : Bool) → b ≢ 64 →
+    ((if is_line_ending_byte b then 10 else (if (b == 9) && t then 32 else b)) == 64) ≡ false
 value-other b t h = by-cases (is_line_ending_byte b) ((b == 9) && t)
   where
     by-cases : (x y : Bool) → ((if x then 10 else (if y then 32 else b)) == 64) ≡ false
@@ -81,7 +83,8 @@ stop-before bytes p i lt e = by-ending (is_line_ending_byte b) ((b == tab_value)
         clash : {x : ℕ} → x ≡ 64 → x ≡ 10 → ⊥
         clash h k = omega (arith, h, k)
 
-    by-ending : (x y : Bool) → (if x then line_start (p.line + 1) (p.index + n) else (if y then next_column p p.index (p.vs + 1) else next_column p (p.index + 1) 0)).index ≤ i
+    by-ending : (x y : Bool) →
+        (if x then line_start (p.line + 1) (p.index + n) else (if y then next_column p p.index (p.vs + 1) else next_column p (p.index + 1) 0)).index ≤ i
     by-ending true y = by-len
     by-ending false true = omega (arith, lt)
     by-ending false false = omega (arith, lt)
@@ -91,7 +94,8 @@ later-index a b c d h = grind (arith, nat_tests)
 
 -- By the bytes.
 
-sign-at : (bytes : List ℕ) (i : ℕ) (cs : List Code) (p q : Point) → IsStretch bytes p q → between bytes p q ≡ cs → p.index ≤ i → i < q.index → get_or bytes i 0 ≡ 64 → has_sign bytes p q ≡ true
+sign-at : (bytes : List ℕ) (i : ℕ) (cs : List Code) (p q : Point) → IsStretch bytes p q → between bytes p q ≡ cs →
+    p.index ≤ i → i < q.index → get_or bytes i 0 ≡ 64 → has_sign bytes p q ≡ true
 sign-at bytes i [] p q s e low high sign =
     elim (stretch-cases bytes p q s) [
       | inl b ↦ absurd (cons≢nil (code_here bytes p) (between bytes (stop_at bytes p) q) (sym b.codes ∙ e))
@@ -111,7 +115,8 @@ sign-at bytes i (c ∷ cs) p q s e low high sign =
     ]
 
 -- a place within a tab that another one is before has no `@`
-tab-other : (bytes : List ℕ) (p q : Point) → IsPoint bytes q → is_before (place_of p) (place_of q) ≡ true → q.index ≤ p.index → get_or bytes p.index 0 ≢ 64
+tab-other : (bytes : List ℕ) (p q : Point) → IsPoint bytes q → is_before (place_of p) (place_of q) ≡ true →
+    q.index ≤ p.index → get_or bytes p.index 0 ≢ 64
 tab-other bytes p q h before le e =
     let inside = same-index p.index p.vs q.index q.vs before le in
     let tab : get_or bytes q.index 0 ≡ 9 = ((stands-point bytes q h).in_tab (omega (arith, inside.1))).1 in
@@ -126,7 +131,8 @@ tab-other bytes p q h before le e =
 abbrev NoSign : List ℕ → ℕ → ℕ → Type 0
 NoSign bytes from to = (i : ℕ) → from ≤ i → i < to → get_or bytes i 0 ≢ 64
 
-sign-not : (bytes : List ℕ) (cs : List Code) (p q : Point) → IsStretch bytes p q → between bytes p q ≡ cs → NoSign bytes p.index q.index → has_sign bytes p q ≡ false
+sign-not : (bytes : List ℕ) (cs : List Code) (p q : Point) → IsStretch bytes p q → between bytes p q ≡ cs →
+    NoSign bytes p.index q.index → has_sign bytes p q ≡ false
 sign-not bytes [] p q s e none =
     elim (stretch-cases bytes p q s) [
       | inl b ↦ absurd (cons≢nil (code_here bytes p) (between bytes (stop_at bytes p) q) (sym b.codes ∙ e))
@@ -149,7 +155,8 @@ sign-not bytes (c ∷ cs) p q s e none =
 
 -- In a slice of the bytes.
 
-in-slice : (bytes : List ℕ) (a b k : ℕ) → b ≤ length bytes → a + k < b → get_or (slice_range bytes a b) k 0 ≡ get_or bytes (a + k) 0
+in-slice : (bytes : List ℕ) (a b k : ℕ) → b ≤ length bytes → a + k < b →
+    get_or (slice_range bytes a b) k 0 ≡ get_or bytes (a + k) 0
 in-slice bytes a b k within lt = get_or-take (b - a) (drop a bytes) k 0 (omega (arith, lt)) ∙ get_or-drop a bytes k 0
 
 slice-length : (bytes : List ℕ) (a b : ℕ) → a ≤ b → b ≤ length bytes → length (slice_range bytes a b) ≡ b - a
@@ -171,7 +178,8 @@ inside bytes p q s = record { order = not-later p.index p.vs q.index q.vs (backw
     not-later a b c d h = grind (arith, nat_tests)
 
 -- whether one of these bytes is an `@`
-pub sign-in : (bytes : List ℕ) (p q : Point) → IsStretch bytes p q → (r : Bool) → IsAnyAnswer (λ y b. (y == 64) ≡ b) (slice_range bytes p.index q.index) r → r ≡ has_sign bytes p q
+pub sign-in : (bytes : List ℕ) (p q : Point) → IsStretch bytes p q → (r : Bool) →
+    IsAnyAnswer (λ y b. (y == 64) ≡ b) (slice_range bytes p.index q.index) r → r ≡ has_sign bytes p q
 sign-in bytes p q s true k =
     let w : IsInside bytes p q = inside bytes p q s in
     let len = slice-length bytes p.index q.index w.order w.within in

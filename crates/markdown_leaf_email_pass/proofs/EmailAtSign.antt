@@ -39,9 +39,12 @@ module _ (bytes : List ℕ) (p q : Point) (scan : Scan) (v : ℕ) (t : Bool) (b 
       ∙ ap (λ x. if x then option_map (literal_to scan) (domain_end (is_xmpp scan.name) (stop_at bytes p) (between bytes (stop_at bytes p) q)) else None) (ap (is_sign scan) (sym same) ∙ sym test)
 
   pub no-literal : t ≡ false → None ≡ literal_here scan (between bytes p q)
-  no-literal h = sym (here ∙ ap (λ x. if x then option_map (literal_to scan) (domain_end (is_xmpp scan.name) (stop_at bytes p) (between bytes (stop_at bytes p) q)) else None) h)
+  no-literal h =
+      sym (here ∙ ap (λ x. if x then option_map (literal_to scan) (domain_end (is_xmpp scan.name) (stop_at bytes p) (between bytes (stop_at bytes p) q)) else None) h)
 
-  pub literal-by : (r : Point) (x : Bool) (o : Option Point) → t ≡ true → r ≡ next_point bytes p → x ≡ is_xmpp scan.name → o ≡ domain_end x r (between bytes r q) → option_map (literal_to scan) o ≡ literal_here scan (between bytes p q)
+  pub literal-by : (r : Point) (x : Bool) (o : Option Point) → t ≡ true → r ≡ next_point bytes p →
+      x ≡ is_xmpp scan.name → o ≡ domain_end x r (between bytes r q) →
+      option_map (literal_to scan) o ≡ literal_here scan (between bytes p q)
   literal-by r x o h e f g =
       ap (option_map (literal_to scan)) (g ∙ ap (λ y. domain_end y r (between bytes r q)) f ∙ ap (λ (y : Point). domain_end (is_xmpp scan.name) y (between bytes y q)) (e ∙ b.next))
       ∙ sym (here ∙ ap (λ y. if y then option_map (literal_to scan) (domain_end (is_xmpp scan.name) (stop_at bytes p) (between bytes (stop_at bytes p) q)) else None) h)
@@ -68,7 +71,8 @@ record IsThree (bytes : List ℕ) (p e : Point) (a b c : List Code) : Type 0 whe
   one : IsSplit bytes p e a (b ++ c)
   two : IsSplit bytes (stop_of p a) e b c
 
-three : (bytes : List ℕ) (p e : Point) (a b c : List Code) → IsStretch bytes p e → between bytes p e ≡ a ++ (b ++ c) → IsThree bytes p e a b c
+three : (bytes : List ℕ) (p e : Point) (a b c : List Code) → IsStretch bytes p e → between bytes p e ≡ a ++ (b ++ c) →
+    IsThree bytes p e a b c
 three bytes p e a b c s h =
     let one : IsSplit bytes p e a (b ++ c) = split bytes p e a (b ++ c) s h in
     record { one = one; two = split bytes (stop_of p a) e b c one.after one.back_codes }
@@ -88,7 +92,9 @@ literal-same bytes p e name a front c domain rest s h =
     }
 
 -- an `@` with these codes before it and after it
-same-at : (bytes : List ℕ) (p q e : Point) (before : List Code) (c : Code) (cs : List Code) → IsStretch bytes p e → between bytes p e ≡ reverse before ++ c ∷ cs → AreSame bytes p e cs (email_at before c cs) (literal_here (scan_of p q before) (c ∷ cs))
+same-at : (bytes : List ℕ) (p q e : Point) (before : List Code) (c : Code) (cs : List Code) → IsStretch bytes p e →
+    between bytes p e ≡ reverse before ++ c ∷ cs →
+    AreSame bytes p e cs (email_at before c cs) (literal_here (scan_of p q before) (c ∷ cs))
 unfolding email_at literal_here scan_of domain_end
 same-at bytes p q e before c cs s h = by (is_value 64 c && (not (is_empty local.0) && not (next_is (is_value 47) local.1))) (is_email_domain domain.0)
   where
@@ -116,7 +122,8 @@ same-at bytes p q e before c cs s h = by (is_value 64 c && (not (is_empty local.
     by : (a d : Bool) → AreSame bytes p e cs
         (elim (a && d) [ true ↦ Some (reverse protocol.2, leaf protocol.0 (reverse (local.0 ++ protocol.1) ++ c ∷ domain.0), domain.1) | false ↦ None ])
         (if a then option_map (literal_to (scan_of p q before)) (if d then Some (stop_of c.stop domain.0) else None) else None)
-    by true true = (literal-same bytes p e protocol.0 (reverse protocol.2) (reverse (local.0 ++ protocol.1)) c domain.0 domain.1 s whole, plain-leaf protocol.0 (reverse (local.0 ++ protocol.1) ++ c ∷ domain.0), fewer)
+    by true true =
+        (literal-same bytes p e protocol.0 (reverse protocol.2) (reverse (local.0 ++ protocol.1)) c domain.0 domain.1 s whole, plain-leaf protocol.0 (reverse (local.0 ++ protocol.1) ++ c ∷ domain.0), fewer)
     by true false = tt
     by false d = tt
 
@@ -128,12 +135,15 @@ rest_events bytes n p q e = appended_from 0 None (email_leaves n (reverse (betwe
 
 -- the events so far and those that are left are these
 abbrev pub AreLeft : List ℕ → Point → Point → Point → List Event → List Event → Type 0
-AreLeft bytes p q e events all = (n : ℕ) × (length (between bytes q e) ≤ n) × (events ++ rest_events bytes n p q e ≡ all)
+AreLeft bytes p q e events all =
+    (n : ℕ) × (length (between bytes q e) ≤ n) × (events ++ rest_events bytes n p q e ≡ all)
 
 abbrev chosen : ℕ → List Code → Code → List Code → Option (List Code × Forest × List Code) → Forest
-chosen n before c cs o = elim o as (λ _. Forest) [ None ↦ email_leaves n (c ∷ before) cs | Some r ↦ leaf N.Data r.0 ⊕ r.1 ⊕ email_leaves n [] r.2 ]
+chosen n before c cs o =
+    elim o as (λ _. Forest) [ None ↦ email_leaves n (c ∷ before) cs | Some r ↦ leaf N.Data r.0 ⊕ r.1 ⊕ email_leaves n [] r.2 ]
 
-leaves-more : (n : ℕ) (before : List Code) (c : Code) (cs : List Code) → email_leaves (suc n) before (c ∷ cs) ≡ chosen n before c cs (email_at before c cs)
+leaves-more : (n : ℕ) (before : List Code) (c : Code) (cs : List Code) →
+    email_leaves (suc n) before (c ∷ cs) ≡ chosen n before c cs (email_at before c cs)
 unfolding email_leaves
 leaves-more n before c cs = refl
 
@@ -162,16 +172,20 @@ module _ (bytes : List ℕ) (p q e : Point) (scan : Scan) (front : IsStretch byt
   one-less zero l = absurd (let size = ap length b.codes in omega (arith, l, size))
   one-less (suc m) l = (m, refl, let size = ap length b.codes in omega (arith, l, size))
 
-  read-on : (m : ℕ) → rest_events bytes (suc m) p q e ≡ appended_from 0 None (chosen m before (code_here bytes q) after (email_at before (code_here bytes q) after))
+  read-on : (m : ℕ) →
+      rest_events bytes (suc m) p q e ≡ appended_from 0 None (chosen m before (code_here bytes q) after (email_at before (code_here bytes q) after))
   read-on m = ap (λ xs. appended_from 0 None (email_leaves (suc m) before xs)) b.codes ∙ ap (appended_from 0 None) (leaves-more m before (code_here bytes q) after)
 
-  nothing-found : (o : Option (List Code × Forest × List Code)) (l : Option Literal) → l ≡ None → AreSame bytes p e after o l → (m : ℕ) → chosen m before (code_here bytes q) after o ≡ email_leaves m (code_here bytes q ∷ before) after
+  nothing-found : (o : Option (List Code × Forest × List Code)) (l : Option Literal) → l ≡ None →
+      AreSame bytes p e after o l → (m : ℕ) →
+      chosen m before (code_here bytes q) after o ≡ email_leaves m (code_here bytes q ∷ before) after
   nothing-found None l h s m = refl
   nothing-found (Some r) None h s m = absurd s
   nothing-found (Some r) (Some l) h s m = cc
 
   -- past a code that is no `@` of a literal
-  left-passed : (events all : List Event) (r : Point) → literal_here scan (between bytes q e) ≡ None → r ≡ next_point bytes q → AreLeft bytes p q e events all → AreLeft bytes p r e events all
+  left-passed : (events all : List Event) (r : Point) → literal_here scan (between bytes q e) ≡ None →
+      r ≡ next_point bytes q → AreLeft bytes p q e events all → AreLeft bytes p r e events all
   left-passed events all r h g (n, l, w) =
       let more = one-less n l in
       let m : ℕ = more.0 in
@@ -185,7 +199,9 @@ module _ (bytes : List ℕ) (p q e : Point) (scan : Scan) (front : IsStretch byt
       ∙ ap (λ (x : Point). rest_events bytes m p x e) (sym there) in
       (m, subst (λ (x : Point). length (between bytes x e) ≤ m) (sym there) more.2, ap (λ xs. events ++ xs) (sym same) ∙ w)
 
-  found-as : (o : Option (List Code × Forest × List Code)) (k : Option Literal) (l : Literal) → k ≡ Some l → AreSame bytes p e after o k → (r : List Code × Forest × List Code) × (o ≡ Some r) × IsSame bytes p e r l × IsPlain r.1 × (length r.2 ≤ length after)
+  found-as : (o : Option (List Code × Forest × List Code)) (k : Option Literal) (l : Literal) → k ≡ Some l →
+      AreSame bytes p e after o k →
+      (r : List Code × Forest × List Code) × (o ≡ Some r) × IsSame bytes p e r l × IsPlain r.1 × (length r.2 ≤ length after)
   found-as None None l h s = cc
   found-as None (Some k) l h s = absurd s
   found-as (Some r) None l h s = absurd s
@@ -200,7 +216,8 @@ module _ (bytes : List ℕ) (p q e : Point) (scan : Scan) (front : IsStretch byt
     left_over : AreLeft bytes l.end l.end e new all
     fewer : length (between bytes l.end e) < length (between bytes q e)
 
-  left-found : (events new all : List Event) (l : Literal) → literal_here scan (between bytes q e) ≡ Some l → new ≡ events ++ literal_events p l → AreLeft bytes p q e events all → IsPast events new all l
+  left-found : (events new all : List Event) (l : Literal) → literal_here scan (between bytes q e) ≡ Some l →
+      new ≡ events ++ literal_events p l → AreLeft bytes p q e events all → IsPast events new all l
   unfolding literal_events
   left-found events new all l h added (n, k, w) =
       let more = one-less n k in
@@ -234,21 +251,24 @@ module _ (bytes : List ℕ) (p q e : Point) (scan : Scan) (front : IsStretch byt
 
 -- what is read of the data at hand, and the events so far with those that are left
 abbrev pub IsUnder : List ℕ → Scan → Point → List Event → List Event → Type 0
-IsUnder bytes scan e events all = IsStretch bytes scan.from scan.point × IsStretch bytes scan.point e × (scan ≡ scan_at bytes scan.from scan.point) × AreLeft bytes scan.from scan.point e events all
+IsUnder bytes scan e events all =
+    IsStretch bytes scan.from scan.point × IsStretch bytes scan.point e × (scan ≡ scan_at bytes scan.from scan.point) × AreLeft bytes scan.from scan.point e events all
 
 places : (bytes : List ℕ) (p q : Point) (scan : Scan) → scan ≡ scan_at bytes p q → (scan.from ≡ p) × (scan.point ≡ q)
 unfolding scan_at scan_of
 places bytes p q scan h = (ap (λ (x : Scan). x.from) h, ap (λ (x : Scan). x.point) h)
 
 -- a scan stands under what its places do
-under-at : (bytes : List ℕ) (p q e : Point) (scan : Scan) (events all : List Event) → IsStretch bytes p q → IsStretch bytes q e → scan ≡ scan_at bytes p q → AreLeft bytes p q e events all → IsUnder bytes scan e events all
+under-at : (bytes : List ℕ) (p q e : Point) (scan : Scan) (events all : List Event) → IsStretch bytes p q →
+    IsStretch bytes q e → scan ≡ scan_at bytes p q → AreLeft bytes p q e events all → IsUnder bytes scan e events all
 under-at bytes p q e scan events all f s h l =
     let there = places bytes p q scan h in
     let Under : Point → Point → Type 0 = λ x y. IsStretch bytes x y × IsStretch bytes y e × (scan ≡ scan_at bytes x y) × AreLeft bytes x y e events all in
     subst (λ (x : Point). Under x scan.point) (sym there.0) (subst (λ (y : Point). Under p y) (sym there.1) (f, s, h, l))
 
 -- at first all is left
-pub under-first : (bytes : List ℕ) (p e : Point) (scan : Scan) (events : List Event) → IsStretch bytes p e → scan ≡ scan_at bytes p p → events ≡ [] → IsUnder bytes scan e events (mail_events bytes p e)
+pub under-first : (bytes : List ℕ) (p e : Point) (scan : Scan) (events : List Event) → IsStretch bytes p e →
+    scan ≡ scan_at bytes p p → events ≡ [] → IsUnder bytes scan e events (mail_events bytes p e)
 unfolding mail_events with_emails
 under-first bytes p e scan events s h g =
     let size : ℕ = length (between bytes p e) in
@@ -260,14 +280,19 @@ module _ (bytes : List ℕ) (e : Point) (scan : Scan) (events all : List Event) 
   end-place l h =
       (left-found bytes scan.from scan.point e scan under.0 under.1 under.2 b events (events ++ literal_events scan.from l) all l h refl under.3).stretch.from_place
 
-  pub under-literal : (l : Literal) (more : Scan) (new : List Event) → literal_here scan (between bytes scan.point e) ≡ Some l → new ≡ events ++ literal_events scan.from l → more ≡ scan_at bytes l.end l.end → IsUnder bytes more e new all × (length (between bytes more.point e) < length (between bytes scan.point e))
+  pub under-literal : (l : Literal) (more : Scan) (new : List Event) →
+      literal_here scan (between bytes scan.point e) ≡ Some l → new ≡ events ++ literal_events scan.from l →
+      more ≡ scan_at bytes l.end l.end →
+      IsUnder bytes more e new all × (length (between bytes more.point e) < length (between bytes scan.point e))
   under-literal l more new h g k =
       let past : IsPast bytes scan.from scan.point e scan under.0 under.1 under.2 b events new all l = left-found bytes scan.from scan.point e scan under.0 under.1 under.2 b events new all l h g under.3 in (
         under-at bytes l.end l.end e more new all (stretch-self bytes l.end past.stretch.from_place) past.stretch k past.left_over,
         subst (λ (x : Point). length (between bytes x e) < length (between bytes scan.point e)) (sym (places bytes l.end l.end more k).1) past.fewer,
       )
 
-  pub under-passed : (more : Scan) → literal_here scan (between bytes scan.point e) ≡ None → more ≡ scan_at bytes scan.from (next_point bytes scan.point) → IsUnder bytes more e events all × (length (between bytes more.point e) < length (between bytes scan.point e))
+  pub under-passed : (more : Scan) → literal_here scan (between bytes scan.point e) ≡ None →
+      more ≡ scan_at bytes scan.from (next_point bytes scan.point) →
+      IsUnder bytes more e events all × (length (between bytes more.point e) < length (between bytes scan.point e))
   under-passed more h k =
       let r : Point = next_point bytes scan.point in
       let long : IsLonger bytes scan.from scan.point = longer bytes scan.from scan.point under.0 b.in_bytes in
@@ -278,7 +303,9 @@ module _ (bytes : List ℕ) (e : Point) (scan : Scan) (events all : List Event) 
       )
 
 -- at the end the data alone is left
-pub under-end : (bytes : List ℕ) (e : Point) (scan : Scan) (events all new : List Event) → IsUnder bytes scan e events all → IsEnded bytes scan.point e → new ≡ events ++ leaf_events N.Data scan.from e → new ≡ all
+pub under-end : (bytes : List ℕ) (e : Point) (scan : Scan) (events all new : List Event) →
+    IsUnder bytes scan e events all → IsEnded bytes scan.point e → new ≡ events ++ leaf_events N.Data scan.from e →
+    new ≡ all
 under-end bytes e scan events all new (s, t, r, (n, l, w)) d h =
     let p : Point = scan.from in
     let q : Point = scan.point in

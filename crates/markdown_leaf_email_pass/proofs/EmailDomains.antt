@@ -32,7 +32,8 @@ ends-is : (cs : List Code) → ends_letter false cs ≡ is_some_code is_letter (
 ends-is [] = refl
 ends-is (c ∷ cs) = ends-last c cs
 
-pub domain-whole : (slashes : Bool) (p : Point) (cs : List Code) → domain_on slashes false false p cs ≡ domain_end slashes p cs
+pub domain-whole : (slashes : Bool) (p : Point) (cs : List Code) →
+    domain_on slashes false false p cs ≡ domain_end slashes p cs
 unfolding domain_end
 domain-whole slashes p cs =
     let d = email_domain slashes cs in
@@ -41,14 +42,17 @@ domain-whole slashes p cs =
 abbrev Cut : Type 0
 Cut = List Code × List Code
 
-domain-takes : (slashes : Bool) (c : Code) (cs : List Code) → passes slashes (c ∷ cs) ≡ true → ◌≡◌ {A = Cut} (email_domain slashes (c ∷ cs)) (c ∷ (email_domain slashes cs).0, (email_domain slashes cs).1)
-domain-takes slashes c cs h = ap (λ b. elim b as (λ _. Cut) [ true ↦ (c ∷ (email_domain slashes cs).0, (email_domain slashes cs).1) | false ↦ ([], c ∷ cs) ]) h
+domain-takes : (slashes : Bool) (c : Code) (cs : List Code) → passes slashes (c ∷ cs) ≡ true →
+    ◌≡◌ {A = Cut} (email_domain slashes (c ∷ cs)) (c ∷ (email_domain slashes cs).0, (email_domain slashes cs).1)
+domain-takes slashes c cs h =
+    ap (λ b. elim b as (λ _. Cut) [ true ↦ (c ∷ (email_domain slashes cs).0, (email_domain slashes cs).1) | false ↦ ([], c ∷ cs) ]) h
 
 or-assoc : (a b c : Bool) → (a || b) || c ≡ a || (b || c)
 or-assoc true b c = refl
 or-assoc false b c = refl
 
-domain-more : (slashes dot letter : Bool) (p : Point) (c : Code) (cs : List Code) → passes slashes (c ∷ cs) ≡ true → domain_on slashes (dot || is_value 46 c) (is_letter c) c.stop cs ≡ domain_on slashes dot letter p (c ∷ cs)
+domain-more : (slashes dot letter : Bool) (p : Point) (c : Code) (cs : List Code) → passes slashes (c ∷ cs) ≡ true →
+    domain_on slashes (dot || is_value 46 c) (is_letter c) c.stop cs ≡ domain_on slashes dot letter p (c ∷ cs)
 domain-more slashes dot letter p c cs h =
     let d = email_domain slashes cs in
     ap (λ b. if b && ends_letter (is_letter c) d.0 then Some (stop_of c.stop d.0) else None) (or-assoc dot (is_value 46 c) (list_any (is_value 46) d.0))
@@ -60,13 +64,17 @@ module _ (bytes : List ℕ) (p q : Point) (stretch : IsStretch bytes p q) where
   value-is : (v : ℕ) → IsBegun bytes p q → value_from bytes p ≡ Some v → v ≡ (code_here bytes p).value
   value-is v b e = let same : Some v ≡ Some (code_here bytes p).value = sym e ∙ b.value in cc
 
-  pub word-next : (v : ℕ) → is_same_place p q ≡ false → value_from bytes p ≡ Some v → next_is is_alphanumeric (between bytes p q) ≡ alphanumeric_value v
-  word-next v h e = let b : IsBegun bytes p q = begun-where bytes p q stretch h in ap (next_is is_alphanumeric) b.codes ∙ ap alphanumeric_value (sym (value-is v b e))
+  pub word-next : (v : ℕ) → is_same_place p q ≡ false → value_from bytes p ≡ Some v →
+      next_is is_alphanumeric (between bytes p q) ≡ alphanumeric_value v
+  word-next v h e =
+      let b : IsBegun bytes p q = begun-where bytes p q stretch h in ap (next_is is_alphanumeric) b.codes ∙ ap alphanumeric_value (sym (value-is v b e))
 
   pub no-word_next : is_same_place p q ≡ true → next_is is_alphanumeric (between bytes p q) ≡ false
   no-word_next h = ap (next_is is_alphanumeric) (ended-where bytes p q stretch h).none
 
-  pub domain-next : (slashes : Bool) (v : ℕ) (r : Point) → is_same_place p q ≡ false → value_from bytes p ≡ Some v → r ≡ next_point bytes p → passes slashes (between bytes p q) ≡ domain_value slashes (next_is is_alphanumeric (between bytes r q)) v
+  pub domain-next : (slashes : Bool) (v : ℕ) (r : Point) → is_same_place p q ≡ false → value_from bytes p ≡ Some v →
+      r ≡ next_point bytes p →
+      passes slashes (between bytes p q) ≡ domain_value slashes (next_is is_alphanumeric (between bytes r q)) v
   domain-next slashes v r h e f =
       let b : IsBegun bytes p q = begun-where bytes p q stretch h in
       ap (passes slashes) b.codes
@@ -84,7 +92,10 @@ module _ (bytes : List ℕ) (p q : Point) (stretch : IsStretch bytes p q) where
         | inr d ↦ absurd (both_ways t (e ∙ ap (passes slashes) d.none) h)
       ]
 
-  pub domain-step : (slashes t dot dots letter letters : Bool) (v : ℕ) (r : Point) → t ≡ passes slashes (between bytes p q) → t ≡ true → value_from bytes p ≡ Some v → r ≡ next_point bytes p → dots ≡ dot || v == 46 → letters ≡ letter_value v → domain_on slashes dots letters r (between bytes r q) ≡ domain_on slashes dot letter p (between bytes p q)
+  pub domain-step : (slashes t dot dots letter letters : Bool) (v : ℕ) (r : Point) →
+      t ≡ passes slashes (between bytes p q) → t ≡ true → value_from bytes p ≡ Some v → r ≡ next_point bytes p →
+      dots ≡ dot || v == 46 → letters ≡ letter_value v →
+      domain_on slashes dots letters r (between bytes r q) ≡ domain_on slashes dot letter p (between bytes p q)
   domain-step slashes t dot dots letter letters v r e h f g d l =
       let b : IsBegun bytes p q = domain-begun slashes t e h in
       let c : Code = code_here bytes p in

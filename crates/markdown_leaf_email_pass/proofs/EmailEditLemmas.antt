@@ -19,7 +19,9 @@ use Rattle.markdown_leaf_email_pass.proofs.UnlinkedLeaves.{plain-emails, plain-u
 
 -- One after the other.
 
-pub mails-more : (bytes : List ℕ) (i links more : ℕ) (es : List Event) (e : Event) (old new all : List Edit) → i < length es → e ≡ get_or es i e → more ≡ links_after links e → new ≡ old ++ mail_first bytes i links (drop i es) → old ++ mails bytes i links (drop i es) ≡ all → new ++ mails bytes (i + 1) more (drop (i + 1) es) ≡ all
+pub mails-more : (bytes : List ℕ) (i links more : ℕ) (es : List Event) (e : Event) (old new all : List Edit) →
+    i < length es → e ≡ get_or es i e → more ≡ links_after links e → new ≡ old ++ mail_first bytes i links (drop i es) →
+    old ++ mails bytes i links (drop i es) ≡ all → new ++ mails bytes (i + 1) more (drop (i + 1) es) ≡ all
 mails-more bytes i links more es e old new all l h c g k =
     let here : List Edit = mail_first bytes i links (drop i es) in
     let rest : List Edit = mails bytes (i + 1) more (drop (i + 1) es) in
@@ -85,35 +87,45 @@ opens-where true false c h = cc
 opens-where false b c h = cc
 
 module _ (bytes : List ℕ) where
-  front-by : (i n : ℕ) (e x : Event) (log : List Edit) (b : Bool) → front_at i log ≡ [] → front_at i ((if b then mail bytes n e x ∷ [] else []) ++ log) ≡ []
-  front-by i n e x log true h = ap (λ xs. xs ++ (if (n == i) && false then mail_events bytes e.point x.point else [])) h ∙ no-front (n == i) (mail_events bytes e.point x.point)
+  front-by : (i n : ℕ) (e x : Event) (log : List Edit) (b : Bool) → front_at i log ≡ [] →
+      front_at i ((if b then mail bytes n e x ∷ [] else []) ++ log) ≡ []
+  front-by i n e x log true h =
+      ap (λ xs. xs ++ (if (n == i) && false then mail_events bytes e.point x.point else [])) h ∙ no-front (n == i) (mail_events bytes e.point x.point)
   front-by i n e x log false h = h
 
-  front-first : (i n links : ℕ) (es : List Event) (log : List Edit) → front_at i log ≡ [] → front_at i (mail_first bytes n links es ++ log) ≡ []
+  front-first : (i n links : ℕ) (es : List Event) (log : List Edit) → front_at i log ≡ [] →
+      front_at i (mail_first bytes n links es ++ log) ≡ []
   front-first i n links [] log h = h
   front-first i n links (e ∷ []) log h = h
   front-first i n links (e ∷ x ∷ es) log h = front-by i n e x log (may_mail bytes links e x) h
 
   front-mails : (i n links : ℕ) (es : List Event) → front_at i (mails bytes n links es) ≡ []
   front-mails i n links [] = refl
-  front-mails i n links (e ∷ es) = front-first i n links (e ∷ es) (mails bytes (suc n) (links_after links e) es) (front-mails i (suc n) (links_after links e) es)
+  front-mails i n links (e ∷ es) =
+      front-first i n links (e ∷ es) (mails bytes (suc n) (links_after links e) es) (front-mails i (suc n) (links_after links e) es)
 
-  back-by : (i n : ℕ) (e x : Event) (log : List Edit) (b : Bool) → back_at i ((if b then mail bytes n e x ∷ [] else []) ++ log) ≡ (if n == i then (if b then mail_events bytes e.point x.point else []) else []) ++ back_at i log
+  back-by : (i n : ℕ) (e x : Event) (log : List Edit) (b : Bool) →
+      back_at i ((if b then mail bytes n e x ∷ [] else []) ++ log) ≡ (if n == i then (if b then mail_events bytes e.point x.point else []) else []) ++ back_at i log
   back-by i n e x log true = ap (λ xs. xs ++ back_at i log) (yes-back (n == i) (mail_events bytes e.point x.point))
   back-by i n e x log false = ap (λ xs. xs ++ back_at i log) (sym (never (n == i)))
 
-  back-first : (i n links : ℕ) (es : List Event) (log : List Edit) → back_at i (mail_first bytes n links es ++ log) ≡ (if n == i then comes bytes links es else []) ++ back_at i log
+  back-first : (i n links : ℕ) (es : List Event) (log : List Edit) →
+      back_at i (mail_first bytes n links es ++ log) ≡ (if n == i then comes bytes links es else []) ++ back_at i log
   back-first i n links [] log = ap (λ xs. xs ++ back_at i log) (sym (never (n == i)))
   back-first i n links (e ∷ []) log = ap (λ xs. xs ++ back_at i log) (sym (never (n == i)))
   back-first i n links (e ∷ x ∷ es) log = back-by i n e x log (may_mail bytes links e x)
 
-  removed-by : (i n : ℕ) (e x : Event) (log : List Edit) (b : Bool) → removed_at i ((if b then mail bytes n e x ∷ [] else []) ++ log) ≡ (if n == i then two b else 0) + removed_at i log
+  removed-by : (i n : ℕ) (e x : Event) (log : List Edit) (b : Bool) →
+      removed_at i ((if b then mail bytes n e x ∷ [] else []) ++ log) ≡ (if n == i then two b else 0) + removed_at i log
   removed-by i n e x log true = refl
   removed-by i n e x log false = zero-plus (removed_at i log) ∙ ap (λ k. k + removed_at i log) (sym (zero-if (n == i)))
 
-  removed-first : (i n links : ℕ) (es : List Event) (log : List Edit) → removed_at i (mail_first bytes n links es ++ log) ≡ (if n == i then two (begins_mail bytes links es) else 0) + removed_at i log
-  removed-first i n links [] log = zero-plus (removed_at i log) ∙ ap (λ k. k + removed_at i log) (sym (zero-if (n == i)))
-  removed-first i n links (e ∷ []) log = zero-plus (removed_at i log) ∙ ap (λ k. k + removed_at i log) (sym (zero-if (n == i)))
+  removed-first : (i n links : ℕ) (es : List Event) (log : List Edit) →
+      removed_at i (mail_first bytes n links es ++ log) ≡ (if n == i then two (begins_mail bytes links es) else 0) + removed_at i log
+  removed-first i n links [] log =
+      zero-plus (removed_at i log) ∙ ap (λ k. k + removed_at i log) (sym (zero-if (n == i)))
+  removed-first i n links (e ∷ []) log =
+      zero-plus (removed_at i log) ∙ ap (λ k. k + removed_at i log) (sym (zero-if (n == i)))
   removed-first i n links (e ∷ x ∷ es) log = removed-by i n e x log (may_mail bytes links e x)
 
   back-earlier : (i n links : ℕ) (es : List Event) → i < n → back_at i (mails bytes n links es) ≡ []
@@ -131,7 +143,8 @@ module _ (bytes : List ℕ) where
       ∙ sym (zero-plus (removed_at i (mails bytes (suc n) (links_after links e) es)))
       ∙ removed-earlier i (suc n) (links_after links e) es (omega arith)
 
-  back-place : (i n k links : ℕ) (es : List Event) → i ≡ n + k → back_at i (mails bytes n links es) ≡ comes bytes (links_at k links es) (drop k es)
+  back-place : (i n k links : ℕ) (es : List Event) → i ≡ n + k →
+      back_at i (mails bytes n links es) ≡ comes bytes (links_at k links es) (drop k es)
   back-place i n zero links [] e = refl
   back-place i n (suc k) links [] e = refl
   back-place i n zero links (x ∷ es) e =
@@ -144,7 +157,8 @@ module _ (bytes : List ℕ) where
       ∙ ap (λ b. (if b then comes bytes links (x ∷ es) else []) ++ back_at i (mails bytes (suc n) (links_after links x) es)) (ne_eqb n i (λ h. omega (arith, e, h)))
       ∙ back-place i (suc n) k (links_after links x) es (omega (arith, e))
 
-  removed-place : (i n k links : ℕ) (es : List Event) → i ≡ n + k → removed_at i (mails bytes n links es) ≡ two (begins_mail bytes (links_at k links es) (drop k es))
+  removed-place : (i n k links : ℕ) (es : List Event) → i ≡ n + k →
+      removed_at i (mails bytes n links es) ≡ two (begins_mail bytes (links_at k links es) (drop k es))
   removed-place i n zero links [] e = refl
   removed-place i n (suc k) links [] e = refl
   removed-place i n zero links (x ∷ es) e =
@@ -172,7 +186,8 @@ module _ (bytes : List ℕ) where
   two-most false = omega arith
 
   -- what no data stands at, or just before, stays
-  pub stays-here : (j : ℕ) (es : List Event) → mails_at bytes j es ≡ false → ((p : ℕ) → suc p ≡ j → mails_at bytes p es ≡ false) → is_removed (log_of es) j ≡ false
+  pub stays-here : (j : ℕ) (es : List Event) → mails_at bytes j es ≡ false →
+      ((p : ℕ) → suc p ≡ j → mails_at bytes p es ≡ false) → is_removed (log_of es) j ≡ false
   stays-here j es h k = stays-where (log_of es) j (λ p l. reach p l)
     where
       reach : (p : ℕ) → p ≤ j → p + removed_at p (log_of es) ≤ j
@@ -187,25 +202,30 @@ module _ (bytes : List ℕ) where
           ]
 
   pub goes-first : (j : ℕ) (es : List Event) → mails_at bytes j es ≡ true → is_removed (log_of es) j ≡ true
-  goes-first j es h = let r = removed-here j es ∙ ap two h in goes-where (log_of es) j j (omega arith) (omega (arith, r))
+  goes-first j es h =
+      let r = removed-here j es ∙ ap two h in goes-where (log_of es) j j (omega arith) (omega (arith, r))
 
   pub goes-second : (j : ℕ) (es : List Event) → mails_at bytes j es ≡ true → is_removed (log_of es) (suc j) ≡ true
-  goes-second j es h = let r = removed-here j es ∙ ap two h in goes-where (log_of es) (suc j) j (omega arith) (omega (arith, r))
+  goes-second j es h =
+      let r = removed-here j es ∙ ap two h in goes-where (log_of es) (suc j) j (omega arith) (omega (arith, r))
 
   -- The edits may be made.
 
-  within-by : (n m : ℕ) (e x : Event) (log : List Edit) (b : Bool) → n ≤ m → All (λ d. d.at ≤ m) log → All (λ d. d.at ≤ m) ((if b then mail bytes n e x ∷ [] else []) ++ log)
+  within-by : (n m : ℕ) (e x : Event) (log : List Edit) (b : Bool) → n ≤ m → All (λ d. d.at ≤ m) log →
+      All (λ d. d.at ≤ m) ((if b then mail bytes n e x ∷ [] else []) ++ log)
   within-by n m e x log true h a = All-cons (λ d. d.at ≤ m) (mail bytes n e x) log h a
   within-by n m e x log false h a = a
 
-  within-first : (n m links : ℕ) (es : List Event) (log : List Edit) → n ≤ m → All (λ d. d.at ≤ m) log → All (λ d. d.at ≤ m) (mail_first bytes n links es ++ log)
+  within-first : (n m links : ℕ) (es : List Event) (log : List Edit) → n ≤ m → All (λ d. d.at ≤ m) log →
+      All (λ d. d.at ≤ m) (mail_first bytes n links es ++ log)
   within-first n m links [] log h a = a
   within-first n m links (e ∷ []) log h a = a
   within-first n m links (e ∷ x ∷ es) log h a = within-by n m e x log (may_mail bytes links e x) h a
 
   within : (n m links : ℕ) (es : List Event) → n + length es ≤ m → All (λ d. d.at ≤ m) (mails bytes n links es)
   within n m links [] h = All-nil (λ d. d.at ≤ m)
-  within n m links (e ∷ es) h = within-first n m links (e ∷ es) (mails bytes (suc n) (links_after links e) es) (omega arith) (within (suc n) m (links_after links e) es (omega arith))
+  within n m links (e ∷ es) h =
+      within-first n m links (e ∷ es) (mails bytes (suc n) (links_after links e) es) (omega arith) (within (suc n) m (links_after links e) es (omega arith))
 
   places-drop : (j : ℕ) (es : List Event) → HasPlaces bytes es → HasPlaces bytes (drop j es)
   places-drop zero es h = h
@@ -215,22 +235,28 @@ module _ (bytes : List ℕ) where
   first-linked-none : (links : ℕ) (xs : List Event) → begins_mail bytes links xs ≡ true → linked_at xs 0 ≡ false
   first-linked-none links [] h = refl
   first-linked-none links (e ∷ []) h = cc
-  first-linked-none links (e ∷ x ∷ xs) h = opens-unlinked (is_enter e.kind) (is_data e.name) (has_link e.link) (opens-where (links == 0) (opens_data e) (has_sign bytes e.point x.point) h)
+  first-linked-none links (e ∷ x ∷ xs) h =
+      opens-unlinked (is_enter e.kind) (is_data e.name) (has_link e.link) (opens-where (links == 0) (opens_data e) (has_sign bytes e.point x.point) h)
 
-  second-linked-none : (links : ℕ) (xs : List Event) → begins_mail bytes links xs ≡ true → HasPlaces bytes xs → linked_at xs 1 ≡ false
+  second-linked-none : (links : ℕ) (xs : List Event) → begins_mail bytes links xs ≡ true → HasPlaces bytes xs →
+      linked_at xs 1 ≡ false
   second-linked-none links [] h p = refl
   second-linked-none links (e ∷ []) h p = refl
-  second-linked-none links (e ∷ x ∷ xs) h p = ap has_link (p.0 (opens-where (links == 0) (opens_data e) (has_sign bytes e.point x.point) h)).1
+  second-linked-none links (e ∷ x ∷ xs) h p =
+      ap has_link (p.0 (opens-where (links == 0) (opens_data e) (has_sign bytes e.point x.point) h)).1
 
-  goes-unlinked : (j : ℕ) (es : List Event) → HasPlaces bytes es → is_removed (log_of es) j ≡ true → linked_at es j ≡ false
+  goes-unlinked : (j : ℕ) (es : List Event) → HasPlaces bytes es → is_removed (log_of es) j ≡ true →
+      linked_at es j ≡ false
   goes-unlinked j es p h =
       elim (cases_Bool (mails_at bytes j es)) [
         | inl b ↦ linked-drop 0 j es j (omega arith) ∙ first-linked-none (links_at j 0 es) (drop j es) b
         | inr b ↦ unlinked-before j es p h b
       ]
     where
-      unlinked-before : (j : ℕ) (es : List Event) → HasPlaces bytes es → is_removed (log_of es) j ≡ true → mails_at bytes j es ≡ false → linked_at es j ≡ false
-      unlinked-before zero es p h b = absurd (both_ways (is_removed (log_of es) zero) (stays-here zero es b (λ q e. absurd (omega (arith, e)))) h)
+      unlinked-before : (j : ℕ) (es : List Event) → HasPlaces bytes es → is_removed (log_of es) j ≡ true →
+          mails_at bytes j es ≡ false → linked_at es j ≡ false
+      unlinked-before zero es p h b =
+          absurd (both_ways (is_removed (log_of es) zero) (stays-here zero es b (λ q e. absurd (omega (arith, e)))) h)
       unlinked-before (suc j) es p h b =
           elim (cases_Bool (mails_at bytes j es)) [
             | inl d ↦ linked-drop 1 j es (suc j) (omega arith) ∙ second-linked-none (links_at j 0 es) (drop j es) d (places-drop j es p)

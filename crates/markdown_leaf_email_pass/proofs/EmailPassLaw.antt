@@ -48,23 +48,27 @@ unfolding with_emails_apart
 row-nothing true = refl
 row-nothing false = refl
 
-row-data : (cs : List Code) (rest : Forest) → mail_row true (leaf_then N.Data None cs rest) ≡ with_emails cs ⊕ mail_row true rest
+row-data : (cs : List Code) (rest : Forest) →
+    mail_row true (leaf_then N.Data None cs rest) ≡ with_emails cs ⊕ mail_row true rest
 unfolding with_emails_apart
 row-data cs rest = refl
 
-row-other : (b : Bool) (n : Name) (cs : List Code) (rest : Forest) → is_data n ≡ false → mail_row b (leaf_then n None cs rest) ≡ leaf_then n None cs (mail_row b rest)
+row-other : (b : Bool) (n : Name) (cs : List Code) (rest : Forest) → is_data n ≡ false →
+    mail_row b (leaf_then n None cs rest) ≡ leaf_then n None cs (mail_row b rest)
 unfolding with_emails_apart
 row-other false n cs rest e = refl
 row-other true N.Data cs rest e = cc
 row-other true _ cs rest e = refl
 
-row-linked : (b : Bool) (n : Name) (c : Content) (cs : List Code) (rest : Forest) → mail_row b (leaf_then n (Some c) cs rest) ≡ leaf_then n (Some c) cs (mail_row b rest)
+row-linked : (b : Bool) (n : Name) (c : Content) (cs : List Code) (rest : Forest) →
+    mail_row b (leaf_then n (Some c) cs rest) ≡ leaf_then n (Some c) cs (mail_row b rest)
 unfolding with_emails_apart
 row-linked false n c cs rest = refl
 row-linked true N.Data c cs rest = refl
 row-linked true _ c cs rest = refl
 
-row-group : (b : Bool) (n : Name) (p q : Point) (inside rest : Forest) → mail_row b (group_then n p q inside rest) ≡ group_then n p q (mail_row (b && not (is_link n)) inside) (mail_row b rest)
+row-group : (b : Bool) (n : Name) (p q : Point) (inside rest : Forest) →
+    mail_row b (group_then n p q inside rest) ≡ group_then n p q (mail_row (b && not (is_link n)) inside) (mail_row b rest)
 unfolding with_emails_apart
 row-group false n p q inside rest = refl
 row-group true N.Link p q inside rest = refl
@@ -86,20 +90,23 @@ links-closed _ links = refl
 
 -- the events of data with its literals are the same wherever they stand
 
-emails-row : (m : ℕ) (q : Option ℕ) (cs : List Code) (t : Forest) → appended_from m q (with_emails cs ⊕ t) ≡ appended_from 0 None (with_emails cs) ++ appended_from (m + event_count (with_emails cs)) q t
+emails-row : (m : ℕ) (q : Option ℕ) (cs : List Code) (t : Forest) →
+    appended_from m q (with_emails cs ⊕ t) ≡ appended_from 0 None (with_emails cs) ++ appended_from (m + event_count (with_emails cs)) q t
 emails-row m q cs t =
     let D : Forest = with_emails cs in
     appended_from-row m q D t
     ∙ ap (λ xs. xs ++ appended_from (m + event_count D) (last_link m q D) t) (plain-events m 0 q None D (plain-emails cs))
     ∙ ap (λ o. appended_from 0 None D ++ appended_from (m + event_count D) o t) (plain-last m q D (plain-emails cs))
 
-events-are : (bytes : List ℕ) (p q : Point) → mail_events bytes p q ≡ appended_from 0 None (with_emails (between bytes p q))
+events-are : (bytes : List ℕ) (p q : Point) →
+    mail_events bytes p q ≡ appended_from 0 None (with_emails (between bytes p q))
 unfolding mail_events
 events-are bytes p q = refl
 
 -- data without an `@` stays as it is
 
-no-emails : (bytes : List ℕ) (p q : Point) → has_sign bytes p q ≡ false → with_emails (between bytes p q) ≡ leaf N.Data (between bytes p q)
+no-emails : (bytes : List ℕ) (p q : Point) → has_sign bytes p q ≡ false →
+    with_emails (between bytes p q) ≡ leaf N.Data (between bytes p q)
 unfolding has_sign
 no-emails bytes p q h = unsigned-emails (between bytes p q) h
 
@@ -111,7 +118,8 @@ leaf-some name (c ∷ cs) h = refl
 
 -- an event that is no Enter of data, and two that are not such data
 
-opens-not : (bytes : List ℕ) (links : ℕ) (xs : List Event) (e : Event) (rest : List Event) → xs ≡ e ∷ rest → opens_data e ≡ false → begins_mail bytes links xs ≡ false
+opens-not : (bytes : List ℕ) (links : ℕ) (xs : List Event) (e : Event) (rest : List Event) → xs ≡ e ∷ rest →
+    opens_data e ≡ false → begins_mail bytes links xs ≡ false
 opens-not bytes links [] e rest h o = cc
 opens-not bytes links (x ∷ []) e rest h o = refl
 opens-not bytes links (x ∷ y ∷ xs) e rest h o = by (links == 0) (opens_data x) (has_sign bytes x.point y.point) (ap first_opens h ∙ o)
@@ -124,12 +132,14 @@ opens-not bytes links (x ∷ y ∷ xs) e rest h o = by (links == 0) (opens_data 
     by true b c k = ap (λ d. d && c) k
     by false b c k = refl
 
-comes-none : (bytes : List ℕ) (links : ℕ) (xs : List Event) → begins_mail bytes links xs ≡ false → comes bytes links xs ≡ []
+comes-none : (bytes : List ℕ) (links : ℕ) (xs : List Event) → begins_mail bytes links xs ≡ false →
+    comes bytes links xs ≡ []
 comes-none bytes links [] h = refl
 comes-none bytes links (e ∷ []) h = refl
 comes-none bytes links (e ∷ x ∷ xs) h = ap (λ b. if b then mail_events bytes e.point x.point else []) h
 
-links-next : (n links : ℕ) (es : List Event) (e : Event) (rest : List Event) → drop n es ≡ e ∷ rest → links_at (suc n) links es ≡ links_after (links_at n links es) e
+links-next : (n links : ℕ) (es : List Event) (e : Event) (rest : List Event) → drop n es ≡ e ∷ rest →
+    links_at (suc n) links es ≡ links_after (links_at n links es) e
 links-next zero links [] e rest h = cc
 links-next zero links (x ∷ es) e rest h = ap first_after h
   where
@@ -159,12 +169,16 @@ module _ (bytes : List ℕ) (es : List Event) where
     fresh : Fresh (n + 1)
 
   drop-next : (n : ℕ) (e : Event) (rest : List Event) → drop n es ≡ e ∷ rest → drop (n + 1) es ≡ rest
-  drop-next n e rest h = let one : n + 1 ≡ suc n = omega arith in ap (λ i. drop i es) one ∙ drop-more n es ∙ ap rest_of h
+  drop-next n e rest h =
+      let one : n + 1 ≡ suc n = omega arith in ap (λ i. drop i es) one ∙ drop-more n es ∙ ap rest_of h
 
-  links-after : (n : ℕ) (e : Event) (rest : List Event) → drop n es ≡ e ∷ rest → links_at (n + 1) 0 es ≡ links_after (links_at n 0 es) e
-  links-after n e rest h = let one : n + 1 ≡ suc n = omega arith in ap (λ i. links_at i 0 es) one ∙ links-next n 0 es e rest h
+  links-after : (n : ℕ) (e : Event) (rest : List Event) → drop n es ≡ e ∷ rest →
+      links_at (n + 1) 0 es ≡ links_after (links_at n 0 es) e
+  links-after n e rest h =
+      let one : n + 1 ≡ suc n = omega arith in ap (λ i. links_at i 0 es) one ∙ links-next n 0 es e rest h
 
-  step : (n : ℕ) (e : Event) (rest : List Event) → drop n es ≡ e ∷ rest → mails_at bytes n es ≡ false → Fresh n → Step n e rest
+  step : (n : ℕ) (e : Event) (rest : List Event) → drop n es ≡ e ∷ rest → mails_at bytes n es ≡ false → Fresh n →
+      Step n e rest
   step n e rest h begins f =
       let one : suc n ≡ n + 1 = omega arith in
       let stay : is_removed log n ≡ false = stays-here bytes n es begins f in
@@ -191,7 +205,8 @@ module _ (bytes : List ℕ) (es : List Event) where
     open_links : links_at (n + 2) 0 es ≡ links_after (links_after (links_at n 0 es) e) x
     fresh : Fresh (n + 2)
 
-  pair : (n : ℕ) (e x : Event) (rest : List Event) → drop n es ≡ e ∷ x ∷ rest → mails_at bytes n es ≡ false → opens_data x ≡ false → Fresh n → Pair n e x rest
+  pair : (n : ℕ) (e x : Event) (rest : List Event) → drop n es ≡ e ∷ x ∷ rest → mails_at bytes n es ≡ false →
+      opens_data x ≡ false → Fresh n → Pair n e x rest
   pair n e x rest h o k f =
       let a : Step n e (x ∷ rest) = step n e (x ∷ rest) h o f in
       let b : Step (n + 1) x rest = step (n + 1) x rest a.there (opens-not bytes (links_at (n + 1) 0 es) (drop (n + 1) es) x rest a.there k) a.fresh in
@@ -213,7 +228,8 @@ module _ (bytes : List ℕ) (es : List Event) where
     open_links : links_at (n + 2) 0 es ≡ links_after (links_after (links_at n 0 es) e) x
     fresh : Fresh (n + 2)
 
-  data-cut : (n : ℕ) (e x : Event) (rest : List Event) → drop n es ≡ e ∷ x ∷ rest → may_mail bytes (links_at n 0 es) e x ≡ true → opens_data x ≡ false → Cut n e x rest
+  data-cut : (n : ℕ) (e x : Event) (rest : List Event) → drop n es ≡ e ∷ x ∷ rest →
+      may_mail bytes (links_at n 0 es) e x ≡ true → opens_data x ≡ false → Cut n e x rest
   data-cut n e x rest h o k =
       let T : List Event = mail_events bytes e.point x.point in
       let same : suc (suc n) ≡ n + 2 = omega arith in
@@ -240,7 +256,8 @@ module _ (bytes : List ℕ) (es : List Event) where
             ∙ ap (λ i. T ++ edited_from log i rest) same;
         placed = ap (start log) (sym same) ∙ p2 ∙ omega (arith, p1, size, size2);
         there = ap (λ i. drop i es) (sym again) ∙ drop-next (n + 1) x rest next;
-        open_links = ap (λ i. links_at i 0 es) (sym again) ∙ links-after (n + 1) x rest next ∙ ap (λ l. links_after l x) (links-after n e (x ∷ rest) h);
+        open_links =
+            ap (λ i. links_at i 0 es) (sym again) ∙ links-after (n + 1) x rest next ∙ ap (λ l. links_after l x) (links-after n e (x ∷ rest) h);
         fresh = subst (λ (i : ℕ). Fresh i) again (fresh-after (n + 1) (ap (λ i. mails_at bytes i es) one ∙ second));
       }
 
@@ -276,7 +293,11 @@ module _ (bytes : List ℕ) (es : List Event) where
       }
 
   -- a leaf that stays
-  leaf-stays : (name : Name) (cs : List Code) (rest : Forest) (n m links : ℕ) (previous : Option ℕ) (tail : List Event) → Here n m links previous (leaf_then name None cs rest) tail → may_mail bytes links (event Enter name (start_of cs)) (event Exit name (stop_of document_start cs)) ≡ false → mail_row (links == 0) (leaf_then name None cs rest) ≡ leaf_then name None cs (mail_row (links == 0) rest) → Law rest → Mails n m links previous (leaf_then name None cs rest) tail
+  leaf-stays : (name : Name) (cs : List Code) (rest : Forest) (n m links : ℕ) (previous : Option ℕ) (tail : List Event) →
+      Here n m links previous (leaf_then name None cs rest) tail →
+      may_mail bytes links (event Enter name (start_of cs)) (event Exit name (stop_of document_start cs)) ≡ false →
+      mail_row (links == 0) (leaf_then name None cs rest) ≡ leaf_then name None cs (mail_row (links == 0) rest) →
+      Law rest → Mails n m links previous (leaf_then name None cs rest) tail
   leaf-stays name cs rest n m links previous tail h o is law =
       let e : Event = event Enter name (start_of cs) in
       let x : Event = event Exit name (stop_of document_start cs) in
@@ -296,7 +317,8 @@ module _ (bytes : List ℕ) (es : List Event) where
         fresh = subst (λ (i : ℕ). Fresh i) same r.fresh;
       }
 
-  leaf-linked : (name : Name) (c : Content) (cs : List Code) (rest : Forest) → Law rest → Law (leaf_then name (Some c) cs rest)
+  leaf-linked : (name : Name) (c : Content) (cs : List Code) (rest : Forest) → Law rest →
+      Law (leaf_then name (Some c) cs rest)
   leaf-linked name c cs rest law n m links previous tail h =
       let e : Event = record { kind = Enter; name = name; point = start_of cs; link = Some (link_back previous c) } in
       let x : Event = event Exit name (stop_of document_start cs) in
@@ -319,7 +341,10 @@ module _ (bytes : List ℕ) (es : List Event) where
       }
 
   -- data outside links
-  leaf-mailed : (cs : List Code) (rest : Forest) (n m links : ℕ) (previous : Option ℕ) (tail : List Event) → Here n m links previous (leaf_then N.Data None cs rest) tail → (links == 0) ≡ true → has_sign bytes (start_of cs) (stop_of document_start cs) ≡ true → Law rest → Mails n m links previous (leaf_then N.Data None cs rest) tail
+  leaf-mailed : (cs : List Code) (rest : Forest) (n m links : ℕ) (previous : Option ℕ) (tail : List Event) →
+      Here n m links previous (leaf_then N.Data None cs rest) tail → (links == 0) ≡ true →
+      has_sign bytes (start_of cs) (stop_of document_start cs) ≡ true → Law rest →
+      Mails n m links previous (leaf_then N.Data None cs rest) tail
   leaf-mailed cs rest n m links previous tail h outside sign law =
       let e : Event = event Enter N.Data (start_of cs) in
       let x : Event = event Exit N.Data (stop_of document_start cs) in
@@ -355,7 +380,8 @@ module _ (bytes : List ℕ) (es : List Event) where
   leaf-data : (cs : List Code) (rest : Forest) → Law rest → Law (leaf_then N.Data None cs rest)
   leaf-data cs rest law n m links previous tail h = by (links == 0) (has_sign bytes (start_of cs) (stop_of document_start cs)) refl refl
     where
-      by : (b c : Bool) → (links == 0) ≡ b → has_sign bytes (start_of cs) (stop_of document_start cs) ≡ c → Mails n m links previous (leaf_then N.Data None cs rest) tail
+      by : (b c : Bool) → (links == 0) ≡ b → has_sign bytes (start_of cs) (stop_of document_start cs) ≡ c →
+          Mails n m links previous (leaf_then N.Data None cs rest) tail
       by true true e s = leaf-mailed cs rest n m links previous tail h e s law
       by true false e s =
           let part : IsPart bytes cs = h.has_parts.0 refl refl in
@@ -366,15 +392,19 @@ module _ (bytes : List ℕ) (es : List Event) where
           leaf-stays N.Data cs rest n m links previous tail h (ap (λ b. (b && true) && has_sign bytes (start_of cs) (stop_of document_start cs)) e)
           (ap (λ b. mail_row b (leaf_then N.Data None cs rest)) e ∙ ap (λ b. leaf_then N.Data None cs (mail_row b rest)) (sym e)) law
 
-  leaf-other : (name : Name) (cs : List Code) (rest : Forest) → is_data name ≡ false → Law rest → Law (leaf_then name None cs rest)
+  leaf-other : (name : Name) (cs : List Code) (rest : Forest) → is_data name ≡ false → Law rest →
+      Law (leaf_then name None cs rest)
   leaf-other name cs rest e law n m links previous tail h =
       leaf-stays name cs rest n m links previous tail h (opens-not bytes links (event Enter name (start_of cs) ∷ event Exit name (stop_of document_start cs) ∷ []) (event Enter name (start_of cs)) (event Exit name (stop_of document_start cs) ∷ []) refl (and_left (is_data name) true e)) (row-other (links == 0) name cs rest e) law
 
-  leaf-plain : (name : Name) (cs : List Code) (rest : Forest) (b : Bool) → is_data name ≡ b → Law rest → Law (leaf_then name None cs rest)
-  leaf-plain name cs rest true e law = subst (λ (x : Name). Law (leaf_then x None cs rest)) (sym (data-name name e)) (leaf-data cs rest law)
+  leaf-plain : (name : Name) (cs : List Code) (rest : Forest) (b : Bool) → is_data name ≡ b → Law rest →
+      Law (leaf_then name None cs rest)
+  leaf-plain name cs rest true e law =
+      subst (λ (x : Name). Law (leaf_then x None cs rest)) (sym (data-name name e)) (leaf-data cs rest law)
   leaf-plain name cs rest false e law = leaf-other name cs rest e law
 
-  law-group : (name : Name) (a b : Point) (inside rest : Forest) → Law inside → Law rest → Law (group_then name a b inside rest)
+  law-group : (name : Name) (a b : Point) (inside rest : Forest) → Law inside → Law rest →
+      Law (group_then name a b inside rest)
   law-group name a b inside rest law_inside law_rest n m links previous tail h =
       let ci : ℕ = event_count inside in
       let cr : ℕ = event_count rest in
@@ -399,7 +429,8 @@ module _ (bytes : List ℕ) (es : List Event) where
       let r2 : Mails (n + 2 + ci) (m + 2 + mi) links previous rest tail =
       law_rest (n + 2 + ci) (m + 2 + mi) links previous tail (record {
         there = ap (λ i. drop i es) (sym next) ∙ s2.there;
-        open_links = ap (λ i. links_at i 0 es) (sym next) ∙ s2.open_links ∙ ap (λ l. links_behind l Exit name) r1.open_links ∙ links-closed name links;
+        open_links =
+            ap (λ i. links_at i 0 es) (sym next) ∙ s2.open_links ∙ ap (λ l. links_behind l Exit name) r1.open_links ∙ links-closed name links;
         placed = ap (start log) (sym next) ∙ s2.placed ∙ ap (λ i. i + 1) r1.placed ∙ next2;
         fresh = subst (λ (i : ℕ). Fresh i) next s2.fresh;
         has_parts = h.has_parts.1.1;
@@ -428,7 +459,8 @@ module _ (bytes : List ℕ) (es : List Event) where
   law (group_then name a b inside rest) = law-group name a b inside rest (law inside) (law rest)
 
 -- the pass over the events of a tree leaves those of the tree with its literals
-pub mailed-tree : (bytes : List ℕ) (t : Forest) → HasParts bytes t → (es : List Event) → es ≡ appended_from 0 None t → edited (log_of bytes es) es ≡ appended_from 0 None (with_emails_apart t)
+pub mailed-tree : (bytes : List ℕ) (t : Forest) → HasParts bytes t → (es : List Event) → es ≡ appended_from 0 None t →
+    edited (log_of bytes es) es ≡ appended_from 0 None (with_emails_apart t)
 mailed-tree bytes t h es e =
     let all : es ≡ appended_from 0 None t ++ [] = e ∙ sym (append-nil (appended_from 0 None t)) in
     let r : Mails bytes es 0 0 0 None t [] = law bytes es t 0 0 0 None [] (record { there = all; open_links = refl; placed = refl; fresh = λ p k. absurd (omega (arith, k)); has_parts = h }) in

@@ -24,7 +24,8 @@ use Rattle.markdown_leaf_email_pass.proofs.StretchesInOrder.{none-self, IsLonger
 abbrev Spanned : Type 0
 Spanned = List Code × List Code
 
-pub scan-start : (bytes : List ℕ) (p : Point) → IsPoint bytes p → scan_at bytes p p ≡ record { from = p; point = p; word = p; local = false; after_slash = false; name = N.GfmAutolinkLiteralEmail; start = p }
+pub scan-start : (bytes : List ℕ) (p : Point) → IsPoint bytes p →
+    scan_at bytes p p ≡ record { from = p; point = p; word = p; local = false; after_slash = false; name = N.GfmAutolinkLiteralEmail; start = p }
 unfolding scan_at scan_of email_protocol
 scan-start bytes p h = ap (λ cs. scan_of p p (reverse cs)) (none-self bytes p h)
 
@@ -33,11 +34,15 @@ stop-last p c before = ap (stop_of p) (reverse-append (c ∷ []) before) ∙ sto
 
 -- A code of a local part.
 
-word-of : (p : Point) (c : Code) (before : List Code) (b : Bool) → is_alphanumeric c ≡ b → stop_of p (reverse (span is_alphanumeric (c ∷ before)).1) ≡ (if b then stop_of p (reverse (span is_alphanumeric before).1) else c.stop)
+word-of : (p : Point) (c : Code) (before : List Code) (b : Bool) → is_alphanumeric c ≡ b →
+    stop_of p (reverse (span is_alphanumeric (c ∷ before)).1) ≡ (if b then stop_of p (reverse (span is_alphanumeric before).1) else c.stop)
 word-of p c before true h = ap (λ (s : Spanned). stop_of p (reverse s.1)) (span-takes is_alphanumeric c before h)
-word-of p c before false h = ap (λ (s : Spanned). stop_of p (reverse s.1)) (span-none is_alphanumeric (c ∷ before) h) ∙ stop-last p c before
+word-of p c before false h =
+    ap (λ (s : Spanned). stop_of p (reverse s.1)) (span-none is_alphanumeric (c ∷ before) h) ∙ stop-last p c before
 
-past-local : (p q r : Point) (c : Code) (before : List Code) (word : Point) → is_local c ≡ true → word ≡ (if is_alphanumeric c then (scan_of p q before).word else c.stop) → scan_of p r (c ∷ before) ≡ record (scan_of p q before) { point = r; word = word; local = true }
+past-local : (p q r : Point) (c : Code) (before : List Code) (word : Point) → is_local c ≡ true →
+    word ≡ (if is_alphanumeric c then (scan_of p q before).word else c.stop) →
+    scan_of p r (c ∷ before) ≡ record (scan_of p q before) { point = r; word = word; local = true }
 unfolding scan_of
 past-local p q r c before word h e =
     let s : ◌≡◌ {A = Spanned} (span is_local (c ∷ before)) (c ∷ (span is_local before).0, (span is_local before).1) = span-takes is_local c before h in
@@ -53,7 +58,8 @@ past-local p q r c before word h e =
 
 -- Another code.
 
-name-of : (c : Code) (before : List Code) → (email_protocol (c ∷ before)).0 ≡ (if is_value 58 c then word_name (reverse (span is_alphanumeric before).0) else N.GfmAutolinkLiteralEmail)
+name-of : (c : Code) (before : List Code) →
+    (email_protocol (c ∷ before)).0 ≡ (if is_value 58 c then word_name (reverse (span is_alphanumeric before).0) else N.GfmAutolinkLiteralEmail)
 unfolding email_protocol word_name
 name-of c before = by (is_value 58 c) (is_word "mailto" (reverse (span is_alphanumeric before).0)) (is_word "xmpp" (reverse (span is_alphanumeric before).0))
   where
@@ -65,13 +71,15 @@ name-of c before = by (is_value 58 c) (is_word "mailto" (reverse (span is_alphan
             | true ↦ (N.GfmAutolinkLiteralXmpp, c ∷ s.0, s.1)
             | false ↦ (N.GfmAutolinkLiteralEmail, [], c ∷ before)
           ]
-        ] in ◌≡◌ {A = Name} r.0 (if a then (if m then N.GfmAutolinkLiteralMailto else (if x then N.GfmAutolinkLiteralXmpp else N.GfmAutolinkLiteralEmail)) else N.GfmAutolinkLiteralEmail)
+        ] in ◌≡◌ {A =
+        Name} r.0 (if a then (if m then N.GfmAutolinkLiteralMailto else (if x then N.GfmAutolinkLiteralXmpp else N.GfmAutolinkLiteralEmail)) else N.GfmAutolinkLiteralEmail)
     by true true x = refl
     by true false true = refl
     by true false false = refl
     by false m x = refl
 
-start-of : (p : Point) (c : Code) (before : List Code) → stop_of p (reverse (email_protocol (c ∷ before)).2) ≡ (if is_email (email_protocol (c ∷ before)).0 then c.stop else stop_of p (reverse (span is_alphanumeric before).1))
+start-of : (p : Point) (c : Code) (before : List Code) →
+    stop_of p (reverse (email_protocol (c ∷ before)).2) ≡ (if is_email (email_protocol (c ∷ before)).0 then c.stop else stop_of p (reverse (span is_alphanumeric before).1))
 unfolding email_protocol
 start-of p c before = by (is_value 58 c && is_word "mailto" (reverse (span is_alphanumeric before).0)) (is_value 58 c && is_word "xmpp" (reverse (span is_alphanumeric before).0))
   where
@@ -92,7 +100,10 @@ not-word : (c : Code) (b : Bool) → is_alphanumeric c ≡ b → is_local c ≡ 
 not-word c true h l = let yes : is_local c ≡ true = ap (λ x. x || is_among (codes "+-._") c) h in cc
 not-word c false h l = h
 
-past-other : (p q r : Point) (c : Code) (before : List Code) (name : Name) (start : Point) → is_local c ≡ false → name ≡ (if is_value 58 c then word_name (reverse (span is_alphanumeric before).0) else N.GfmAutolinkLiteralEmail) → start ≡ (if is_email name then c.stop else (scan_of p q before).word) → scan_of p r (c ∷ before) ≡ record { from = p; point = r; word = c.stop; local = false; after_slash = is_value 47 c; name = name; start = start }
+past-other : (p q r : Point) (c : Code) (before : List Code) (name : Name) (start : Point) → is_local c ≡ false →
+    name ≡ (if is_value 58 c then word_name (reverse (span is_alphanumeric before).0) else N.GfmAutolinkLiteralEmail) →
+    start ≡ (if is_email name then c.stop else (scan_of p q before).word) →
+    scan_of p r (c ∷ before) ≡ record { from = p; point = r; word = c.stop; local = false; after_slash = is_value 47 c; name = name; start = start }
 unfolding scan_of
 past-other p q r c before name start h e f =
     let s : ◌≡◌ {A = Spanned} (span is_local (c ∷ before)) ([], c ∷ before) = span-none is_local (c ∷ before) h in
@@ -116,7 +127,8 @@ past-other p q r c before name start h e f =
 -- Along a stretch.
 
 -- the letters and digits right before
-pub word-stretch : (bytes : List ℕ) (p q : Point) (scan : Scan) → IsStretch bytes p q → scan ≡ scan_at bytes p q → IsStretch bytes scan.word q × (between bytes scan.word q ≡ reverse (span is_alphanumeric (reverse (between bytes p q))).0)
+pub word-stretch : (bytes : List ℕ) (p q : Point) (scan : Scan) → IsStretch bytes p q → scan ≡ scan_at bytes p q →
+    IsStretch bytes scan.word q × (between bytes scan.word q ≡ reverse (span is_alphanumeric (reverse (between bytes p q))).0)
 unfolding scan_at scan_of
 word-stretch bytes p q scan s e =
     let before : List Code = reverse (between bytes p q) in
@@ -126,7 +138,8 @@ word-stretch bytes p q scan s e =
     let there : scan.word ≡ stop_of p (reverse w.1) = ap (λ (x : Scan). x.word) e in
     (subst (λ (x : Point). IsStretch bytes x q) (sym there) r.after, ap (λ (x : Point). between bytes x q) there ∙ r.back_codes)
 
-value-same : (bytes : List ℕ) (q : Point) (code : ℕ) (v : ℕ) → value_from bytes q ≡ Some v → value_from bytes q ≡ Some code → v ≡ code
+value-same : (bytes : List ℕ) (q : Point) (code : ℕ) (v : ℕ) → value_from bytes q ≡ Some v →
+    value_from bytes q ≡ Some code → v ≡ code
 value-same bytes q code v e f = let same : Some v ≡ Some code = sym e ∙ f in cc
 
 module _ (bytes : List ℕ) (p q r : Point) (scan : Scan) (code : ℕ) (stretch : IsStretch bytes p q) (begins : q.index < length bytes) (read : scan ≡ scan_at bytes p q) (value : value_from bytes q ≡ Some code) (next : r ≡ next_point bytes q) where
@@ -147,14 +160,19 @@ module _ (bytes : List ℕ) (p q r : Point) (scan : Scan) (code : ℕ) (stretch 
   unfolding scan_at
   read-of = read
 
-  pub passed-local : (t : Bool) (word : Point) → t ≡ local_value code → t ≡ true → word ≡ (if alphanumeric_value code then scan.word else r) → record scan { point = r; word = word; local = true } ≡ scan_at bytes p (next_point bytes q)
+  pub passed-local : (t : Bool) (word : Point) → t ≡ local_value code → t ≡ true →
+      word ≡ (if alphanumeric_value code then scan.word else r) →
+      record scan { point = r; word = word; local = true } ≡ scan_at bytes p (next_point bytes q)
   passed-local t word e h f =
       let c : Code = code_here bytes q in
       let before : List Code = reverse (between bytes p q) in
       ap (λ (x : Scan). record x { point = r; word = word; local = true }) read-of
       ∙ sym (there ∙ past-local p q r c before word (ap local_value same ∙ sym e ∙ h) (f ∙ ap (λ v. if alphanumeric_value v then scan.word else r) (sym same) ∙ ap (λ (x : Scan). if is_alphanumeric c then x.word else r) read-of ∙ ap (λ (x : Point). if is_alphanumeric c then (scan_of p q before).word else x) (next ∙ long.next)))
 
-  pub passed-other : (t : Bool) (name : Name) (start : Point) → t ≡ local_value code → t ≡ false → name ≡ (if code == 58 then word_name (between bytes scan.word q) else N.GfmAutolinkLiteralEmail) → start ≡ (if is_email name then r else scan.word) → record { from = p; point = r; word = r; local = false; after_slash = code == 47; name = name; start = start } ≡ scan_at bytes p (next_point bytes q)
+  pub passed-other : (t : Bool) (name : Name) (start : Point) → t ≡ local_value code → t ≡ false →
+      name ≡ (if code == 58 then word_name (between bytes scan.word q) else N.GfmAutolinkLiteralEmail) →
+      start ≡ (if is_email name then r else scan.word) →
+      record { from = p; point = r; word = r; local = false; after_slash = code == 47; name = name; start = start } ≡ scan_at bytes p (next_point bytes q)
   passed-other t name start e h f g =
       let c : Code = code_here bytes q in
       let before : List Code = reverse (between bytes p q) in

@@ -20,7 +20,8 @@ pub record IsJoined (bytes : List ℕ) (p m q : Point) : Type 0 where
   pub whole : IsStretch bytes p q
   pub codes : between bytes p q ≡ between bytes p m ++ between bytes m q
 
-join-by : (bytes : List ℕ) (cs : List Code) (p m q : Point) → IsStretch bytes p m → IsStretch bytes m q → between bytes p m ≡ cs → IsJoined bytes p m q
+join-by : (bytes : List ℕ) (cs : List Code) (p m q : Point) → IsStretch bytes p m → IsStretch bytes m q →
+    between bytes p m ≡ cs → IsJoined bytes p m q
 join-by bytes [] p m q s t e =
     elim (stretch-cases bytes p m s) [
       | inl b ↦ absurd (cons≢nil (code_here bytes p) (between bytes (stop_at bytes p) m) (sym b.codes ∙ e))

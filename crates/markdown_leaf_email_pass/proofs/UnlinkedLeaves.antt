@@ -35,7 +35,8 @@ plain-row (group_then name a b inside rest) u g h = absurd g
 -- their events are the same wherever they stand
 pub plain-events : (n k : ℕ) (p q : Option ℕ) (t : Forest) → IsPlain t → appended_from n p t ≡ appended_from k q t
 plain-events n k p q empty h = refl
-plain-events n k p q (leaf_then name None cs rest) h = λ i. event Kind.Enter name (start_of cs) ∷ event Kind.Exit name (stop_of document_start cs) ∷ plain-events (n + 2) (k + 2) p q rest h i
+plain-events n k p q (leaf_then name None cs rest) h =
+    λ i. event Kind.Enter name (start_of cs) ∷ event Kind.Exit name (stop_of document_start cs) ∷ plain-events (n + 2) (k + 2) p q rest h i
 plain-events n k p q (leaf_then name (Some c) cs rest) h = absurd h
 plain-events n k p q (group_then name a b inside rest) h = absurd h
 
@@ -55,8 +56,10 @@ plain-unlinked n p (leaf_then name (Some c) cs rest) h = absurd h
 plain-unlinked n p (group_then name a b inside rest) h = absurd h
 
 -- two rows, the second plain
-pub plain-join : (t u : Forest) → IsPlain u → appended_from 0 None (t ⊕ u) ≡ appended_from 0 None t ++ appended_from 0 None u
-plain-join t u h = appended_from-row 0 None t u ∙ ap (λ es. appended_from 0 None t ++ es) (plain-events (0 + event_count t) 0 (last_link 0 None t) None u h)
+pub plain-join : (t u : Forest) → IsPlain u →
+    appended_from 0 None (t ⊕ u) ≡ appended_from 0 None t ++ appended_from 0 None u
+plain-join t u h =
+    appended_from-row 0 None t u ∙ ap (λ es. appended_from 0 None t ++ es) (plain-events (0 + event_count t) 0 (last_link 0 None t) None u h)
 
 -- Literals.
 
@@ -64,7 +67,8 @@ IsPlainFound : Option (List Code × Forest × List Code) → Type 0
 IsPlainFound None = Unit {0}
 IsPlainFound (Some r) = IsPlain r.1
 
-found-test : (b : Bool) (xs : List Code) (name : Name) (cs ds : List Code) → IsPlainFound (elim b [ true ↦ Some (xs, leaf name cs, ds) | false ↦ None ])
+found-test : (b : Bool) (xs : List Code) (name : Name) (cs ds : List Code) →
+    IsPlainFound (elim b [ true ↦ Some (xs, leaf name cs, ds) | false ↦ None ])
 unfolding IsPlainFound
 found-test true xs name cs ds = plain-leaf name cs
 found-test false xs name cs ds = tt
@@ -77,16 +81,20 @@ plain-found before c cs =
     let domain : List Code × List Code = email_domain (is_xmpp protocol.0) cs in
     found-test (is_value (byte "@") c && (not (is_empty local.0) && not (next_is (is_value (byte "/")) local.1)) && is_email_domain domain.0) (reverse protocol.2) protocol.0 (reverse (local.0 ++ protocol.1) ++ c ∷ domain.0) domain.1
 
-by-found : (n : ℕ) (before : List Code) (c : Code) (cs : List Code) (o : Option (List Code × Forest × List Code)) → IsPlainFound o → ((xs : List Code) → IsPlain (email_leaves n [] xs)) → IsPlain (email_leaves n (c ∷ before) cs) → IsPlain (elim o [ None ↦ email_leaves n (c ∷ before) cs | Some r ↦ leaf Name.Data r.0 ⊕ r.1 ⊕ email_leaves n [] r.2 ])
+by-found : (n : ℕ) (before : List Code) (c : Code) (cs : List Code) (o : Option (List Code × Forest × List Code)) →
+    IsPlainFound o → ((xs : List Code) → IsPlain (email_leaves n [] xs)) → IsPlain (email_leaves n (c ∷ before) cs) →
+    IsPlain (elim o [ None ↦ email_leaves n (c ∷ before) cs | Some r ↦ leaf Name.Data r.0 ⊕ r.1 ⊕ email_leaves n [] r.2 ])
 unfolding IsPlainFound
 by-found n before c cs None f g h = h
-by-found n before c cs (Some r) f g h = plain-row (leaf Name.Data r.0) (r.1 ⊕ email_leaves n [] r.2) (plain-leaf Name.Data r.0) (plain-row r.1 (email_leaves n [] r.2) f (g r.2))
+by-found n before c cs (Some r) f g h =
+    plain-row (leaf Name.Data r.0) (r.1 ⊕ email_leaves n [] r.2) (plain-leaf Name.Data r.0) (plain-row r.1 (email_leaves n [] r.2) f (g r.2))
 
 pub plain-leaves : (n : ℕ) (before cs : List Code) → IsPlain (email_leaves n before cs)
 unfolding email_leaves
 plain-leaves n before [] = plain-leaf Name.Data (reverse before)
 plain-leaves zero before (c ∷ cs) = plain-leaf Name.Data (reverse before ++ c ∷ cs)
-plain-leaves (suc n) before (c ∷ cs) = by-found n before c cs (email_at before c cs) (plain-found before c cs) (λ xs. plain-leaves n [] xs) (plain-leaves n (c ∷ before) cs)
+plain-leaves (suc n) before (c ∷ cs) =
+    by-found n before c cs (email_at before c cs) (plain-found before c cs) (λ xs. plain-leaves n [] xs) (plain-leaves n (c ∷ before) cs)
 
 pub plain-emails : (cs : List Code) → IsPlain (with_emails cs)
 unfolding with_emails
@@ -94,7 +102,8 @@ plain-emails cs = plain-leaves (length cs) [] cs
 
 -- Codes without an `@` hold no literal.
 
-unsigned-at : (before : List Code) (c : Code) (cs : List Code) → is_value (byte "@") c ≡ false → email_at before c cs ≡ None
+unsigned-at : (before : List Code) (c : Code) (cs : List Code) → is_value (byte "@") c ≡ false →
+    email_at before c cs ≡ None
 unfolding email_at
 unsigned-at before c cs h =
     let local : List Code × List Code = span is_local before in
@@ -105,7 +114,8 @@ unsigned-at before c cs h =
       | false ↦ None
     ]) h
 
-unsigned-leaves : (n : ℕ) (before cs : List Code) → list_any (is_value (byte "@")) cs ≡ false → email_leaves n before cs ≡ leaf Name.Data (reverse before ++ cs)
+unsigned-leaves : (n : ℕ) (before cs : List Code) → list_any (is_value (byte "@")) cs ≡ false →
+    email_leaves n before cs ≡ leaf Name.Data (reverse before ++ cs)
 unfolding email_leaves
 unsigned-leaves n before [] h = ap (leaf Name.Data) (sym (append-nil (reverse before)))
 unsigned-leaves zero before (c ∷ cs) h = refl

@@ -9,17 +9,24 @@ use Rattle.markdown_engine.specs.declared.tokenizer.Attempt.{Attempt}
 use Rattle.markdown_engine.specs.declared.tokenizer.Tokenizer.{Tokenizer}
 use Rattle.markdown_plan.proofs.LawStepsOfLayer.{said-ready, said-ends, said-weight}
 
-settled-both : (then1 else1 then2 else2 : State) (T : Tokenizer) → T.attempts ≡ [] → settled (attempted false then1 else1 (attempted true then2 else2 T)) ≡ T
+settled-both : (then1 else1 then2 else2 : State) (T : Tokenizer) → T.attempts ≡ [] →
+    settled (attempted false then1 else1 (attempted true then2 else2 T)) ≡ T
 unfolding settled attempted
-settled-both then1 else1 then2 else2 T e = let P : List Attempt → Type 0 = λ x. record T { attempts = x } ≡ T in subst P e refl
+settled-both then1 else1 then2 else2 T e =
+    let P : List Attempt → Type 0 = λ x. record T { attempts = x } ≡ T in subst P e refl
 
-attempts-both : (then1 else1 then2 else2 : State) (T : Tokenizer) → T.attempts ≡ [] → (attempted false then1 else1 (attempted true then2 else2 T)).attempts ≡ frame_of false then1 else1 T ∷ frame_of true then2 else2 T ∷ []
+attempts-both : (then1 else1 then2 else2 : State) (T : Tokenizer) → T.attempts ≡ [] →
+    (attempted false then1 else1 (attempted true then2 else2 T)).attempts ≡ frame_of false then1 else1 T ∷ frame_of true then2 else2 T ∷ []
 unfolding attempted frame_of
 attempts-both then1 else1 then2 else2 T e = ap (λ x. frame_of false then1 else1 T ∷ frame_of true then2 else2 T ∷ x) e
 
 module _ (W : Words) where
   -- what the run after the attempt has to meet: it goes on in the check
-  pub Goes-looked : (n : ℕ) (E : Bool → Tokenizer → Type 0) (st : State) {w : StateWords} → words_at W st ≡ w → (then1 else1 then2 else2 : State) (T : Tokenizer) → T.attempts ≡ [] → w.ready T → weight_at w.rank T < n → ((U : Tokenizer) → U.attempts ≡ [] → w.ends T true U → Goes W.ready W.ends (weight_in W) n E (frame_of true then2 else2 T ∷ []) then1 U) → ((U : Tokenizer) → U.attempts ≡ [] → w.ends T false U → Goes W.ready W.ends (weight_in W) n E (frame_of true then2 else2 T ∷ []) else1 (going_in (frame_of false then1 else1 T) false U)) → GoesIn W n E (stepped st (attempted false then1 else1 (attempted true then2 else2 T)))
+  pub Goes-looked : (n : ℕ) (E : Bool → Tokenizer → Type 0) (st : State) {w : StateWords} → words_at W st ≡ w →
+      (then1 else1 then2 else2 : State) (T : Tokenizer) → T.attempts ≡ [] → w.ready T → weight_at w.rank T < n →
+      ((U : Tokenizer) → U.attempts ≡ [] → w.ends T true U → Goes W.ready W.ends (weight_in W) n E (frame_of true then2 else2 T ∷ []) then1 U) →
+      ((U : Tokenizer) → U.attempts ≡ [] → w.ends T false U → Goes W.ready W.ends (weight_in W) n E (frame_of true then2 else2 T ∷ []) else1 (going_in (frame_of false then1 else1 T) false U)) →
+      GoesIn W n E (stepped st (attempted false then1 else1 (attempted true then2 else2 T)))
   unfolding frame_of
   Goes-looked n E st {w} say then1 else1 then2 else2 T alone on falls if_ok if_nok =
       rw (settled-both then1 else1 then2 else2 T alone, attempts-both then1 else1 then2 else2 T alone) (
@@ -31,6 +38,9 @@ module _ (W : Words) where
       )
 
   -- with this attempt open, the run goes on with this state
-  pub goes-then : (n : ℕ) (E : Bool → Tokenizer → Type 0) (f : Attempt) (fs : List Attempt) (st : State) {w : StateWords} → words_at W st ≡ w → (U : Tokenizer) → w.ready U → weight_at w.rank U < n → ((ok : Bool) (V : Tokenizer) → V.attempts ≡ [] → w.ends U ok V → Goes W.ready W.ends (weight_in W) n E fs (going_state f ok) (going_in f ok V)) → Goes W.ready W.ends (weight_in W) n E (f ∷ fs) st U
+  pub goes-then : (n : ℕ) (E : Bool → Tokenizer → Type 0) (f : Attempt) (fs : List Attempt) (st : State) {w : StateWords} →
+      words_at W st ≡ w → (U : Tokenizer) → w.ready U → weight_at w.rank U < n →
+      ((ok : Bool) (V : Tokenizer) → V.attempts ≡ [] → w.ends U ok V → Goes W.ready W.ends (weight_in W) n E fs (going_state f ok) (going_in f ok V)) →
+      Goes W.ready W.ends (weight_in W) n E (f ∷ fs) st U
   goes-then n E f fs st {w} say U on falls closed =
       (record { goes_on = said-ready W st w say U on; falls = omega (arith, falls, said-weight W st w say U) }, λ ok V now x. closed ok V now (said-ends W st w say U ok V x))

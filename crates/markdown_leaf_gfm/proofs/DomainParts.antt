@@ -24,19 +24,22 @@ rest_plain zero before = last_parts_plain 0 before
 rest_plain (suc zero) before = last_parts_plain 1 before
 rest_plain (suc (suc n)) before = true
 
-dot-rest : (n : ℕ) (c : Code) (before : List Code) → (c.value == 46) ≡ true → rest_plain n (c ∷ before) ≡ rest_plain (suc n) before
+dot-rest : (n : ℕ) (c : Code) (before : List Code) → (c.value == 46) ≡ true →
+    rest_plain n (c ∷ before) ≡ rest_plain (suc n) before
 unfolding rest_plain
 dot-rest zero c before e = rw (e, last_parts_plain) refl
 dot-rest (suc zero) c before e = rw (e, last_parts_plain) refl
 dot-rest (suc (suc n)) c before e = refl
 
-under-rest : (n : ℕ) (c : Code) (before : List Code) → (c.value == 46) ≡ false → (c.value == 95) ≡ true → rest_plain n (c ∷ before) ≡ not (is_few n)
+under-rest : (n : ℕ) (c : Code) (before : List Code) → (c.value == 46) ≡ false → (c.value == 95) ≡ true →
+    rest_plain n (c ∷ before) ≡ not (is_few n)
 unfolding rest_plain
 under-rest zero c before e h = rw (e, h, last_parts_plain) refl
 under-rest (suc zero) c before e h = rw (e, h, last_parts_plain) refl
 under-rest (suc (suc n)) c before e h = refl
 
-other-rest : (n : ℕ) (c : Code) (before : List Code) → (c.value == 46) ≡ false → (c.value == 95) ≡ false → rest_plain n (c ∷ before) ≡ rest_plain n before
+other-rest : (n : ℕ) (c : Code) (before : List Code) → (c.value == 46) ≡ false → (c.value == 95) ≡ false →
+    rest_plain n (c ∷ before) ≡ rest_plain n before
 unfolding rest_plain
 other-rest zero c before e h = rw (e, h, last_parts_plain) refl
 other-rest (suc zero) c before e h = rw (e, h, last_parts_plain) refl
@@ -47,31 +50,37 @@ abbrev plain_by : ℕ → ℕ → List Code → Bool
 plain_by zero n before = rest_plain n before
 plain_by (suc b) n before = false
 
-plain-dot : (b n : ℕ) (c : Code) (before : List Code) → (c.value == 46) ≡ true → plain_by b n (c ∷ before) ≡ plain_by (barred_with false b n) (more_dots true n) before
+plain-dot : (b n : ℕ) (c : Code) (before : List Code) → (c.value == 46) ≡ true →
+    plain_by b n (c ∷ before) ≡ plain_by (barred_with false b n) (more_dots true n) before
 plain-dot zero n c before e = dot-rest n c before e
 plain-dot (suc b) n c before e = refl
 
-plain-under : (b n : ℕ) (c : Code) (before : List Code) → (c.value == 46) ≡ false → (c.value == 95) ≡ true → plain_by b n (c ∷ before) ≡ plain_by (barred_with true b n) (more_dots false n) before
+plain-under : (b n : ℕ) (c : Code) (before : List Code) → (c.value == 46) ≡ false → (c.value == 95) ≡ true →
+    plain_by b n (c ∷ before) ≡ plain_by (barred_with true b n) (more_dots false n) before
 unfolding rest_plain
 plain-under zero zero c before e h = under-rest zero c before e h
 plain-under zero (suc zero) c before e h = under-rest (suc zero) c before e h
 plain-under zero (suc (suc n)) c before e h = refl
 plain-under (suc b) n c before e h = refl
 
-plain-other : (b n : ℕ) (c : Code) (before : List Code) → (c.value == 46) ≡ false → (c.value == 95) ≡ false → plain_by b n (c ∷ before) ≡ plain_by (barred_with false b n) (more_dots false n) before
+plain-other : (b n : ℕ) (c : Code) (before : List Code) → (c.value == 46) ≡ false → (c.value == 95) ≡ false →
+    plain_by b n (c ∷ before) ≡ plain_by (barred_with false b n) (more_dots false n) before
 plain-other zero n c before e h = other-rest n c before e h
 plain-other (suc b) n c before e h = refl
 
-plain-first : (under dot : Bool) (b n : ℕ) (c : Code) (before : List Code) → (c.value == 95) ≡ under → (c.value == 46) ≡ dot → plain_by b n (c ∷ before) ≡ plain_by (barred_with under b n) (more_dots dot n) before
+plain-first : (under dot : Bool) (b n : ℕ) (c : Code) (before : List Code) → (c.value == 95) ≡ under →
+    (c.value == 46) ≡ dot → plain_by b n (c ∷ before) ≡ plain_by (barred_with under b n) (more_dots dot n) before
 plain-first true true b n c before e h = absurd (never-both c.value e h)
 plain-first true false b n c before e h = plain-under b n c before h e
 plain-first false true b n c before e h = plain-dot b n c before h
 plain-first false false b n c before e h = plain-other b n c before h e
 
-plain-turned : (cs before : List Code) → last_parts_plain 0 (turned cs before) ≡ plain_by (barred_in cs) (dots_in cs) before
+plain-turned : (cs before : List Code) →
+    last_parts_plain 0 (turned cs before) ≡ plain_by (barred_in cs) (dots_in cs) before
 unfolding turned rest_plain
 plain-turned [] before = refl
-plain-turned (c ∷ cs) before = plain-turned cs (c ∷ before) ∙ plain-first (c.value == 95) (c.value == 46) (barred_in cs) (dots_in cs) c before refl refl
+plain-turned (c ∷ cs) before =
+    plain-turned cs (c ∷ before) ∙ plain-first (c.value == 95) (c.value == 46) (barred_in cs) (dots_in cs) c before refl refl
 
 nothing-before : (n : ℕ) → rest_plain n [] ≡ true
 unfolding rest_plain
@@ -103,40 +112,54 @@ found_by at behind dots (suc b) n = at + suc b
 many-dots : (d n : ℕ) → nat_lt (d + suc (suc n)) 2 ≡ false
 many-dots d n = grind (arith, nat_tests, common_steps)
 
-found-under : (at behind dots b n : ℕ) → found_by (suc at) (suc at) 0 b n ≡ found_by at behind dots (barred_with true b n) (more_dots false n)
+found-under : (at behind dots b n : ℕ) →
+    found_by (suc at) (suc at) 0 b n ≡ found_by at behind dots (barred_with true b n) (more_dots false n)
 found-under at behind dots (suc b) n = omega arith
 found-under at behind dots zero zero = omega arith
 found-under at behind dots zero (suc zero) = omega arith
 found-under at behind dots zero (suc (suc n)) = if-false _ _ _ (many-dots 0 n) ∙ sym (if-false _ _ _ (many-dots dots n))
 
-found-dot : (at behind dots b n : ℕ) → found_by (suc at) behind (dots + 1) b n ≡ found_by at behind dots (barred_with false b n) (more_dots true n)
+found-dot : (at behind dots b n : ℕ) →
+    found_by (suc at) behind (dots + 1) b n ≡ found_by at behind dots (barred_with false b n) (more_dots true n)
 found-dot at behind dots (suc b) n = omega arith
 found-dot at behind dots zero n = ap (λ k. if nat_lt k 2 then behind else 0) (omega arith)
 
-found-far : (at behind dots b n : ℕ) → nat_lt dots 2 ≡ false → found_by (suc at) behind dots b n ≡ found_by at behind dots (barred_with false b n) (more_dots true n)
+found-far : (at behind dots b n : ℕ) → nat_lt dots 2 ≡ false →
+    found_by (suc at) behind dots b n ≡ found_by at behind dots (barred_with false b n) (more_dots true n)
 found-far at behind dots (suc b) n e = omega arith
 found-far at behind dots zero n e = if-false _ _ _ (many n e) ∙ sym (if-false _ _ _ (many (suc n) e))
   where
     many : (n : ℕ) → nat_lt dots 2 ≡ false → nat_lt (dots + n) 2 ≡ false
     many n e = grind (arith, nat_tests, common_steps, e)
 
-found-other : (at behind dots b n : ℕ) → found_by (suc at) behind dots b n ≡ found_by at behind dots (barred_with false b n) (more_dots false n)
+found-other : (at behind dots b n : ℕ) →
+    found_by (suc at) behind dots b n ≡ found_by at behind dots (barred_with false b n) (more_dots false n)
 found-other at behind dots (suc b) n = omega arith
 found-other at behind dots zero n = refl
 
 abbrev behind_by : Bool → Bool → Bool → ℕ → ℕ → ℕ → ℕ × ℕ
-behind_by under dot few at behind dots = if under then (at, 0) else (if dot && few then (behind, dots + 1) else (behind, dots))
+behind_by under dot few at behind dots =
+    if under then (at, 0) else (if dot && few then (behind, dots + 1) else (behind, dots))
 
-found-first : (under dot few : Bool) (at behind dots : ℕ) (v : ℕ) (cs : List Code) → (v == 95) ≡ under → (v == 46) ≡ dot → nat_lt dots 2 ≡ few → ((a x d : ℕ) → barred_by a x d cs ≡ found_by a x d (barred_in cs) (dots_in cs)) → barred_by (suc at) (behind_by under dot few (suc at) behind dots).0 (behind_by under dot few (suc at) behind dots).1 cs ≡ found_by at behind dots (barred_with under (barred_in cs) (dots_in cs)) (more_dots dot (dots_in cs))
+found-first : (under dot few : Bool) (at behind dots : ℕ) (v : ℕ) (cs : List Code) → (v == 95) ≡ under →
+    (v == 46) ≡ dot → nat_lt dots 2 ≡ few →
+    ((a x d : ℕ) → barred_by a x d cs ≡ found_by a x d (barred_in cs) (dots_in cs)) →
+    barred_by (suc at) (behind_by under dot few (suc at) behind dots).0 (behind_by under dot few (suc at) behind dots).1 cs ≡ found_by at behind dots (barred_with under (barred_in cs) (dots_in cs)) (more_dots dot (dots_in cs))
 found-first true true few at behind dots v cs e h f ih = absurd (never-both v e h)
-found-first true false few at behind dots v cs e h f ih = ih (suc at) (suc at) 0 ∙ found-under at behind dots (barred_in cs) (dots_in cs)
-found-first false true true at behind dots v cs e h f ih = ih (suc at) behind (dots + 1) ∙ found-dot at behind dots (barred_in cs) (dots_in cs)
-found-first false true false at behind dots v cs e h f ih = ih (suc at) behind dots ∙ found-far at behind dots (barred_in cs) (dots_in cs) f
-found-first false false few at behind dots v cs e h f ih = ih (suc at) behind dots ∙ found-other at behind dots (barred_in cs) (dots_in cs)
+found-first true false few at behind dots v cs e h f ih =
+    ih (suc at) (suc at) 0 ∙ found-under at behind dots (barred_in cs) (dots_in cs)
+found-first false true true at behind dots v cs e h f ih =
+    ih (suc at) behind (dots + 1) ∙ found-dot at behind dots (barred_in cs) (dots_in cs)
+found-first false true false at behind dots v cs e h f ih =
+    ih (suc at) behind dots ∙ found-far at behind dots (barred_in cs) (dots_in cs) f
+found-first false false few at behind dots v cs e h f ih =
+    ih (suc at) behind dots ∙ found-other at behind dots (barred_in cs) (dots_in cs)
 
-found-is : (cs : List Code) (at behind dots : ℕ) → barred_by at behind dots cs ≡ found_by at behind dots (barred_in cs) (dots_in cs)
+found-is : (cs : List Code) (at behind dots : ℕ) →
+    barred_by at behind dots cs ≡ found_by at behind dots (barred_in cs) (dots_in cs)
 found-is [] at behind dots = ap (λ k. if nat_lt k 2 then behind else 0) (omega arith)
-found-is (c ∷ cs) at behind dots = found-first (c.value == 95) (c.value == 46) (nat_lt dots 2) at behind dots c.value cs refl refl refl (λ a x d. found-is cs a x d)
+found-is (c ∷ cs) at behind dots =
+    found-first (c.value == 95) (c.value == 46) (nat_lt dots 2) at behind dots c.value cs refl refl refl (λ a x d. found-is cs a x d)
 
 -- as many codes from the front on are barred
 pub front-barred : (cs : List Code) (at : ℕ) → barred_by at 0 0 cs - at ≡ barred_in cs

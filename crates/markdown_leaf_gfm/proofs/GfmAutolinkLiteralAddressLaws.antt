@@ -24,7 +24,8 @@ use Rattle.markdown_plan.specs.Plan.{Plan, preceded, DoesAs}
 use Rattle.markdown_plan.proofs.PlanSteps.{preceded-nil, no-codes, ahead-after}
 use Rattle.markdown_plan.specs.Characters.{at_later, bytes_of, later_value}
 use Rattle.markdown_plan.proofs.CharactersAlongContent.{text-consumed, text-passed}
-use Rattle.markdown_leaf_gfm.specs.GfmAutolinkLiteral.{end_of, kind_here, trail_value, mark_value, at_domain_mark, known_after, is_known, count_value, rested, saw, underscored, dotted, marked, path_passed, domain_rested, looked, domain_at, domain_on, is_well, passing, is_space_at, is_open_mark, path_at, path_punctuation_at, LiteralReady, PathReady, Knows, MarkReady, LookReady, passed_code, path_plan, path_punctuation_plan, domain_plan, domain_after_plan, nothing_more, domain_ends, domain_after_ends, path_ends, path_punctuation_ends, states, domain_after_words, domain_punctuation_words, domain_words, path_after_words, path_punctuation_words, path_words}
+use Rattle.markdown_leaf_gfm.specs.GfmAutolinkLiteral.{end_of, kind_here, trail_value, mark_value, at_domain_mark, known_after, is_known, count_value, rested, saw, underscored, dotted, marked, path_passed, domain_rested, looked, domain_at, domain_on, is_well, passing, is_space_at, is_open_mark, path_at, path_punctuation_at, LiteralReady, PathReady, Knows, MarkReady}
+use Rattle.markdown_leaf_gfm.specs.GfmAutolinkLiteral.{LookReady, passed_code, path_plan, path_punctuation_plan, domain_plan, domain_after_plan, nothing_more, domain_ends, domain_after_ends, path_ends, path_punctuation_ends, states, domain_after_words, domain_punctuation_words, domain_words, path_after_words, path_punctuation_words, path_words}
 use Rattle.markdown_leaf_gfm.proofs.KnownTrails.{knows-nothing, knows-mark, mark-past, known-past, known-here}
 use Rattle.markdown_leaf_gfm.proofs.GfmAutolinkLiteralReadings.{domain-more, domain-stop, domain-end, path-more, path-stop}
 use Rattle.markdown_leaf_gfm.proofs.TrailChecks.{space-here, looked-back}
@@ -36,7 +37,9 @@ use Rattle.markdown_engine.specs.declared.state.StateName.{StateName}
 
 -- The conditions go on.
 
-ready-next : (r : TokenizeState) (T : Tokenizer) (c : ℕ) → LiteralReady T → current_of T ≡ Some c → r.size ≤ T.tokenize_state.size + 1 → r.size_b ≤ T.tokenize_state.size_b + 1 → LiteralReady (scratched r (done (Consume ∷ []) T))
+ready-next : (r : TokenizeState) (T : Tokenizer) (c : ℕ) → LiteralReady T → current_of T ≡ Some c →
+    r.size ≤ T.tokenize_state.size + 1 → r.size_b ≤ T.tokenize_state.size_b + 1 →
+    LiteralReady (scratched r (done (Consume ∷ []) T))
 unfolding scratched
 ready-next r T c k e m n =
     record {
@@ -50,7 +53,9 @@ some-mark None e = let no : false ≡ true = e in cc
 some-mark (Some v) e = refl
 
 -- at a mark behind a mark of a domain
-mark-ready : (r : TokenizeState) (T : Tokenizer) → LiteralReady (scratched r (done (Consume ∷ []) T)) → at_domain_mark (current_of (scratched r (done (Consume ∷ []) T))) ≡ true → trails_in (bytes_of T) (end_of T) None (rest_of (ahead T)) ≡ false → MarkReady (scratched r (done (Consume ∷ []) T))
+mark-ready : (r : TokenizeState) (T : Tokenizer) → LiteralReady (scratched r (done (Consume ∷ []) T)) →
+    at_domain_mark (current_of (scratched r (done (Consume ∷ []) T))) ≡ true →
+    trails_in (bytes_of T) (end_of T) None (rest_of (ahead T)) ≡ false → MarkReady (scratched r (done (Consume ∷ []) T))
 unfolding scratched applied moved
 mark-ready r T goes h t =
     record {
@@ -65,40 +70,63 @@ ready-passed T c k e =
 
 -- How the rest of a run ends, as the definition reads it.
 
-pub domain-then : (r : TokenizeState) (T : Tokenizer) (ok : Bool) (U : Tokenizer) → domain_ends (scratched r (done (Consume ∷ []) T)) ok U → DoesAs 0 (domain_plan (bytes_of T) (end_of T) r) (rested r) (scratched r (done (Consume ∷ []) T)) ok U
+pub domain-then : (r : TokenizeState) (T : Tokenizer) (ok : Bool) (U : Tokenizer) →
+    domain_ends (scratched r (done (Consume ∷ []) T)) ok U →
+    DoesAs 0 (domain_plan (bytes_of T) (end_of T) r) (rested r) (scratched r (done (Consume ∷ []) T)) ok U
 unfolding scratched applied moved
 domain-then r T ok U k = k
 
-domain-passed : (T : Tokenizer) (ok : Bool) (U : Tokenizer) → domain_ends (done (Consume ∷ []) T) ok U → DoesAs 0 (domain_plan (bytes_of T) (end_of T) T.tokenize_state) (rested T.tokenize_state) (done (Consume ∷ []) T) ok U
+domain-passed : (T : Tokenizer) (ok : Bool) (U : Tokenizer) → domain_ends (done (Consume ∷ []) T) ok U →
+    DoesAs 0 (domain_plan (bytes_of T) (end_of T) T.tokenize_state) (rested T.tokenize_state) (done (Consume ∷ []) T) ok U
 unfolding applied moved
 domain-passed T ok U k = k
 
-path-then : (r : TokenizeState) (T : Tokenizer) (ok : Bool) (U : Tokenizer) → path_ends (scratched r (done (Consume ∷ []) T)) ok U → DoesAs 0 (path_plan (bytes_of T) (end_of T) r.size r.size_b) (rested r) (scratched r (done (Consume ∷ []) T)) ok U
+path-then : (r : TokenizeState) (T : Tokenizer) (ok : Bool) (U : Tokenizer) →
+    path_ends (scratched r (done (Consume ∷ []) T)) ok U →
+    DoesAs 0 (path_plan (bytes_of T) (end_of T) r.size r.size_b) (rested r) (scratched r (done (Consume ∷ []) T)) ok U
 unfolding scratched applied moved
 path-then r T ok U k = k
 
-path-rested : (T : Tokenizer) (ok : Bool) (U : Tokenizer) → path_ends (scratched (domain_rested T.tokenize_state) T) ok U → DoesAs 0 (path_plan (bytes_of T) (end_of T) T.tokenize_state.size T.tokenize_state.size_b) (rested T.tokenize_state) (scratched (domain_rested T.tokenize_state) T) ok U
+path-rested : (T : Tokenizer) (ok : Bool) (U : Tokenizer) →
+    path_ends (scratched (domain_rested T.tokenize_state) T) ok U →
+    DoesAs 0 (path_plan (bytes_of T) (end_of T) T.tokenize_state.size T.tokenize_state.size_b) (rested T.tokenize_state) (scratched (domain_rested T.tokenize_state) T) ok U
 unfolding scratched
 path-rested T ok U k = k
 
 -- the plan reads the same here
-pub does-same : (p q : Plan) (s : TokenizeState) (T : Tokenizer) (ok : Bool) (U : Tokenizer) → p (ahead T) ≡ q (ahead T) → DoesAs 0 q s T ok U → DoesAs 0 p s T ok U
+pub does-same : (p q : Plan) (s : TokenizeState) (T : Tokenizer) (ok : Bool) (U : Tokenizer) →
+    p (ahead T) ≡ q (ahead T) → DoesAs 0 q s T ok U → DoesAs 0 p s T ok U
 does-same p q s T true U e k = record { ops = k.ops; holds = e ∙ k.holds; left = k.left }
 does-same p q s T false U e k = record { none = e ∙ k.none; grown = k.grown; scratch = k.scratch }
 
 module _ (W : Words) where
   -- another state takes over here
-  over : (k : ℕ) (p q : Plan) (s : TokenizeState) (T : Tokenizer) (st : StateName) {w : StateWords} → words_in W st ≡ w → T.attempts ≡ [] → w.rank < k → p (ahead T) ≡ q (ahead T) → w.ready T → ((ok : Bool) (U : Tokenizer) → w.ends T ok U → DoesAs 0 q s T ok U) → GoesIn W (weight_at k T) (DoesAs 0 p s T) (stepped (Retry st) T)
+  over : (k : ℕ) (p q : Plan) (s : TokenizeState) (T : Tokenizer) (st : StateName) {w : StateWords} →
+      words_in W st ≡ w → T.attempts ≡ [] → w.rank < k → p (ahead T) ≡ q (ahead T) → w.ready T →
+      ((ok : Bool) (U : Tokenizer) → w.ends T ok U → DoesAs 0 q s T ok U) →
+      GoesIn W (weight_at k T) (DoesAs 0 p s T) (stepped (Retry st) T)
   over k p q s T st {w} say alone less e on closed =
       Goes-plain W (weight_at k T) (DoesAs 0 p s T) (Retry st) {w = w} say T alone on (omega (arith, less)) (λ ok U x. does-same p q s T ok U e (closed ok U x))
 
-  pub follows-here : (k : ℕ) (p q : Plan) (s : TokenizeState) (T U : Tokenizer) (st : StateName) {w : StateWords} → words_in W st ≡ w → U ≡ T → w.rank < k → p (ahead T) ≡ q (ahead T) → w.ready T → ((ok : Bool) (V : Tokenizer) → w.ends T ok V → DoesAs 0 q s T ok V) → FollowsIn W (weight_at k T) (DoesAs 0 p s T) (Next st) U
+  pub follows-here : (k : ℕ) (p q : Plan) (s : TokenizeState) (T U : Tokenizer) (st : StateName) {w : StateWords} →
+      words_in W st ≡ w → U ≡ T → w.rank < k → p (ahead T) ≡ q (ahead T) → w.ready T →
+      ((ok : Bool) (V : Tokenizer) → w.ends T ok V → DoesAs 0 q s T ok V) →
+      FollowsIn W (weight_at k T) (DoesAs 0 p s T) (Next st) U
   follows-here k p q s T U st {w} say same less e on closed =
       subst (λ (x : Tokenizer). FollowsIn W (weight_at k T) (DoesAs 0 p s T) (Next st) x) (sym same)
       (follows W _ _ (Next st) {w = w} say T on (omega (arith, less)) (λ ok V x. does-same p q s T ok V e (closed ok V x)))
 
   -- one of two states takes over, by whether a trail begins here
-  over-look : Within states W → (k : ℕ) (p q1 q2 : Plan) (s : TokenizeState) (T : Tokenizer) (held : StateName) {v : StateWords} → words_in W held ≡ v → (failed : StateName) {w : StateWords} → words_in W failed ≡ w → T.attempts ≡ [] → LookReady T → 1 < k → v.rank < k → w.rank < k → (trails_in (bytes_of T) (end_of T) None (ahead T) ≡ true → p (ahead T) ≡ q1 (ahead T)) → (trails_in (bytes_of T) (end_of T) None (ahead T) ≡ false → p (ahead T) ≡ q2 (ahead T)) → v.ready T → ((ok : Bool) (U : Tokenizer) → v.ends T ok U → DoesAs 0 q1 s T ok U) → (trails_in (bytes_of T) (end_of T) None (ahead T) ≡ false → w.ready T) → ((ok : Bool) (U : Tokenizer) → w.ends T ok U → DoesAs 0 q2 s T ok U) → GoesIn W (weight_at k T) (DoesAs 0 p s T) (looked held failed T)
+  over-look : Within states W →
+      (k : ℕ) (p q1 q2 : Plan) (s : TokenizeState) (T : Tokenizer) (held : StateName) {v : StateWords} →
+      words_in W held ≡ v → (failed : StateName) {w : StateWords} → words_in W failed ≡ w → T.attempts ≡ [] →
+      LookReady T → 1 < k → v.rank < k → w.rank < k →
+      (trails_in (bytes_of T) (end_of T) None (ahead T) ≡ true → p (ahead T) ≡ q1 (ahead T)) →
+      (trails_in (bytes_of T) (end_of T) None (ahead T) ≡ false → p (ahead T) ≡ q2 (ahead T)) → v.ready T →
+      ((ok : Bool) (U : Tokenizer) → v.ends T ok U → DoesAs 0 q1 s T ok U) →
+      (trails_in (bytes_of T) (end_of T) None (ahead T) ≡ false → w.ready T) →
+      ((ok : Bool) (U : Tokenizer) → w.ends T ok U → DoesAs 0 q2 s T ok U) →
+      GoesIn W (weight_at k T) (DoesAs 0 p s T) (looked held failed T)
   over-look within k p q1 q2 s T held {v} say1 failed {w} say2 alone look one less1 less2 e1 e2 on1 closed1 on2 closed2 =
       let test : Bool = trails_in (bytes_of T) (end_of T) None (ahead T) in
       Goes-check W (weight_at k T) (DoesAs 0 p s T) (Retry GfmAutolinkLiteralTrail) (within GfmAutolinkLiteralTrail) (Next held) (Next failed) T alone look
@@ -117,16 +145,19 @@ or-cases false false e = (refl, refl)
 no-mark : (v : ℕ) → among_values (codes "._") v ≡ false → ((v == 46) ≡ false) × ((v == 95) ≡ false)
 no-mark v e = or-cases (v == 46) (v == 95) e
 
-pub code-by : (bytes : List ℕ) (end : ℕ) (c : Code) (cs : List Code) → is_among (codes "._") c ≡ false → is_domain_code bytes end (c ∷ cs) ≡ ((is_value 45 c || is_later_byte c) || is_other (class_of (after_index bytes c.start.index)))
+pub code-by : (bytes : List ℕ) (end : ℕ) (c : Code) (cs : List Code) → is_among (codes "._") c ≡ false →
+    is_domain_code bytes end (c ∷ cs) ≡ ((is_value 45 c || is_later_byte c) || is_other (class_of (after_index bytes c.start.index)))
 code-by bytes end c cs e =
     ap (λ b. elim b as (λ _. Bool) [ true ↦ not (trails bytes end (c ∷ cs)) | false ↦ (is_value 45 c || is_later_byte c) || is_other (class_of (after_index bytes c.start.index)) ]) e
 
-pub mark-by : (bytes : List ℕ) (end : ℕ) (c : Code) (cs : List Code) → is_among (codes "._") c ≡ true → is_domain_code bytes end (c ∷ cs) ≡ not (trails_in bytes end None (c ∷ cs))
+pub mark-by : (bytes : List ℕ) (end : ℕ) (c : Code) (cs : List Code) → is_among (codes "._") c ≡ true →
+    is_domain_code bytes end (c ∷ cs) ≡ not (trails_in bytes end None (c ∷ cs))
 unfolding trails
 mark-by bytes end c cs e =
     ap (λ b. elim b as (λ _. Bool) [ true ↦ not (trails bytes end (c ∷ cs)) | false ↦ (is_value 45 c || is_later_byte c) || is_other (class_of (after_index bytes c.start.index)) ]) e
 
-mark-fields : (s : TokenizeState) (c : Code) → is_among (codes "._") c ≡ true → passed_code c s ≡ marked (Some c.value) s
+mark-fields : (s : TokenizeState) (c : Code) → is_among (codes "._") c ≡ true →
+    passed_code c s ≡ marked (Some c.value) s
 mark-fields s c h =
     elim (c.value == 46) as (λ b. (c.value == 46) ≡ b → passed_code c s ≡ (if c.value == 95 then underscored s else dotted s)) [
       | true ↦ λ e. if-true _ _ _ e ∙ sym (if-false _ _ _ (ap (λ v. v == 95) (eqb-true c.value 46 e)))
@@ -136,11 +167,13 @@ mark-fields s c h =
       ] refl
     ] refl
 
-marked-size : (b : Bool) (s : TokenizeState) → (let r : TokenizeState = if b then underscored s else dotted s in r.size ≡ s.size)
+marked-size : (b : Bool) (s : TokenizeState) →
+    (let r : TokenizeState = if b then underscored s else dotted s in r.size ≡ s.size)
 marked-size true s = refl
 marked-size false s = refl
 
-marked-size_b : (b : Bool) (s : TokenizeState) → (let r : TokenizeState = if b then underscored s else dotted s in r.size_b ≡ s.size_b)
+marked-size_b : (b : Bool) (s : TokenizeState) →
+    (let r : TokenizeState = if b then underscored s else dotted s in r.size_b ≡ s.size_b)
 marked-size_b true s = refl
 marked-size_b false s = refl
 
@@ -148,7 +181,8 @@ marked-rested : (b : Bool) (s : TokenizeState) → rested (if b then underscored
 marked-rested true s = refl
 marked-rested false s = refl
 
-plain-fields : (s : TokenizeState) (c : Code) → (c.value == 46) ≡ false → (c.value == 95) ≡ false → passed_code c s ≡ (if c.value == 45 then s else saw s)
+plain-fields : (s : TokenizeState) (c : Code) → (c.value == 46) ≡ false → (c.value == 95) ≡ false →
+    passed_code c s ≡ (if c.value == 45 then s else saw s)
 plain-fields s c e h = if-false _ _ _ e ∙ if-false _ _ _ h
 
 -- a `.` or a `_` is a mark
@@ -172,7 +206,9 @@ none-here T e h = let no : false ≡ true = subst IsSome e h in cc
 
 module _ (W : Words) (within : Within states W) where
   -- past a mark that does not trail
-  mark-on : (T : Tokenizer) (c : ℕ) → current_of T ≡ Some c → among_values (codes "._") c ≡ true → trails_in (bytes_of T) (end_of T) None (ahead T) ≡ false → domain_plan (bytes_of T) (end_of T) T.tokenize_state (ahead T) ≡ preceded (Consume ∷ []) (domain_plan (bytes_of T) (end_of T) (marked (Some c) T.tokenize_state) (rest_of (ahead T)))
+  mark-on : (T : Tokenizer) (c : ℕ) → current_of T ≡ Some c → among_values (codes "._") c ≡ true →
+      trails_in (bytes_of T) (end_of T) None (ahead T) ≡ false →
+      domain_plan (bytes_of T) (end_of T) T.tokenize_state (ahead T) ≡ preceded (Consume ∷ []) (domain_plan (bytes_of T) (end_of T) (marked (Some c) T.tokenize_state) (rest_of (ahead T)))
   mark-on T c e h t =
       let B : List ℕ = bytes_of T in
       let E : ℕ = end_of T in
@@ -290,7 +326,9 @@ count-few n v k = by_test (v == n)
 -- Paths.
 
 module _ (W : Words) (within : Within states W) where
-  path-ready : (known : ℕ) (T : Tokenizer) (c : ℕ) → LiteralReady T → current_of T ≡ Some c → Knows (bytes_of T) (end_of T) known (ahead T) → PathReady (scratched (path_passed known c T.tokenize_state) (done (Consume ∷ []) T))
+  path-ready : (known : ℕ) (T : Tokenizer) (c : ℕ) → LiteralReady T → current_of T ≡ Some c →
+      Knows (bytes_of T) (end_of T) known (ahead T) →
+      PathReady (scratched (path_passed known c T.tokenize_state) (done (Consume ∷ []) T))
   unfolding scratched applied moved
   path-ready known T c on e k =
       let s : TokenizeState = T.tokenize_state in
@@ -304,7 +342,10 @@ module _ (W : Words) (within : Within states W) where
       }
 
   -- one code further
-  passes : (k known : ℕ) (p : Plan) (T : Tokenizer) (c : ℕ) → 0 < k → T.attempts ≡ [] → LiteralReady T → current_of T ≡ Some c → Knows (bytes_of T) (end_of T) known (ahead T) → p (ahead T) ≡ path_punctuation_plan (bytes_of T) (end_of T) T.tokenize_state.size T.tokenize_state.size_b (ahead T) → GoesIn W (weight_at k T) (DoesAs 0 p (rested T.tokenize_state) T) (passing known c T)
+  passes : (k known : ℕ) (p : Plan) (T : Tokenizer) (c : ℕ) → 0 < k → T.attempts ≡ [] → LiteralReady T →
+      current_of T ≡ Some c → Knows (bytes_of T) (end_of T) known (ahead T) →
+      p (ahead T) ≡ path_punctuation_plan (bytes_of T) (end_of T) T.tokenize_state.size T.tokenize_state.size_b (ahead T) →
+      GoesIn W (weight_at k T) (DoesAs 0 p (rested T.tokenize_state) T) (passing known c T)
   passes k known p T c high alone on e knows same =
       let B : List ℕ = bytes_of T in
       let E : ℕ = end_of T in
@@ -316,7 +357,8 @@ module _ (W : Words) (within : Within states W) where
       (same ∙ ap (path_punctuation_plan B E s.size s.size_b) b.whole ∙ ap (λ v. preceded (Consume ∷ []) (path_plan B E (count_value 40 v s.size) (count_value 41 v s.size_b) more)) b.value)
       (path-ready known T c on e knows) (λ ok U x. path-then r T ok U x)
 
-  ends-here : (T : Tokenizer) (c : ℕ) (e : current_of T ≡ Some c) → (let b = ahead-some T c e in ends_path (bytes_of T) (end_of T) T.tokenize_state.size T.tokenize_state.size_b (b.code ∷ rest_of (ahead T)) ≡ is_space_at c T || (is_open_mark c T.tokenize_state && trails_in (bytes_of T) (end_of T) None (ahead T)))
+  ends-here : (T : Tokenizer) (c : ℕ) (e : current_of T ≡ Some c) →
+      (let b = ahead-some T c e in ends_path (bytes_of T) (end_of T) T.tokenize_state.size T.tokenize_state.size_b (b.code ∷ rest_of (ahead T)) ≡ is_space_at c T || (is_open_mark c T.tokenize_state && trails_in (bytes_of T) (end_of T) None (ahead T)))
   unfolding trails
   ends-here T c e =
       let B : List ℕ = bytes_of T in

@@ -29,7 +29,8 @@ stack-consumes [] T = refl
 stack-consumes (c ∷ cs) T = stack-consumes cs (applied Consume T) ∙ stack-applied Consume T
 
 left-passed : (os : List Op) (T : Tokenizer) → codes_left (done os T) ≤ codes_left T
-left-passed os T = omega (arith, left-ahead T, left-ahead (done os T), ap length (ahead-done os T), length-drop (moves os) (ahead T))
+left-passed os T =
+    omega (arith, left-ahead T, left-ahead (done os T), ap length (ahead-done os T), length-drop (moves os) (ahead T))
 
 -- what the operations of a reading are
 record IsPassed (o : Option (List Code × List Code)) (os : List Op) : Type 0 where
@@ -54,15 +55,19 @@ pub begins-first : (o : Option (List Op)) → Begins (preceded (Consume ∷ []) 
 begins-first None os e = cc
 begins-first (Some xs) os e = (xs, cc)
 
-enter-same : (name : Name) (T : Tokenizer) → rested T.tokenize_state ≡ T.tokenize_state → scratched (rested T.tokenize_state) (entered_literal name T) ≡ entered_literal name T
-enter-same name T e = ap (λ (x : TokenizeState). scratched x (entered_literal name T)) (e ∙ sym (scratch-done (Enter name ∷ []) T)) ∙ scratched-same (entered_literal name T)
+enter-same : (name : Name) (T : Tokenizer) → rested T.tokenize_state ≡ T.tokenize_state →
+    scratched (rested T.tokenize_state) (entered_literal name T) ≡ entered_literal name T
+enter-same name T e =
+    ap (λ (x : TokenizeState). scratched x (entered_literal name T)) (e ∙ sym (scratch-done (Enter name ∷ []) T)) ∙ scratched-same (entered_literal name T)
 
 module _ (W : Words) (name : Name) (st last : StateName) (reading : Reading (List Code)) (p : Plan) (T : Tokenizer) (resting : rested T.tokenize_state ≡ T.tokenize_state) (same : p (ahead T) ≡ leaf_ops name (reading (ahead T))) where
   abbrev inside : Plan
   inside cs = pass_ops (reading cs)
 
   -- the codes are passed, and the literal is exited
-  passed-literal : (U V : Tokenizer) → Begins (inside (ahead T)) → DoesAs 0 inside (rested T.tokenize_state) (entered_literal name T) true U → V ≡ done (Exit name ∷ []) U → DoesAs 0 p T.tokenize_state T true V
+  passed-literal : (U V : Tokenizer) → Begins (inside (ahead T)) →
+      DoesAs 0 inside (rested T.tokenize_state) (entered_literal name T) true U → V ≡ done (Exit name ∷ []) U →
+      DoesAs 0 p T.tokenize_state T true V
   passed-literal U V some k e =
       let A : Tokenizer = entered_literal name T in
       let holds : inside (ahead T) ≡ Some k.ops = ap inside (sym (ahead-done (Enter name ∷ []) T)) ∙ k.holds in
@@ -75,7 +80,8 @@ module _ (W : Words) (name : Name) (st last : StateName) (reading : Reading (Lis
         left = e ∙ ap (done (Exit name ∷ [])) left ∙ sym (done-append (consumes r.text) (Exit name ∷ []) A) ∙ ap (done (Enter name ∷ (consumes r.text ++ Exit name ∷ []))) (sym (scratched-same T));
       }
 
-  opens-still : (U : Tokenizer) → DoesAs 0 inside (rested T.tokenize_state) (entered_literal name T) true U → IsOpen name U
+  opens-still : (U : Tokenizer) → DoesAs 0 inside (rested T.tokenize_state) (entered_literal name T) true U →
+      IsOpen name U
   opens-still U k =
       let A : Tokenizer = entered_literal name T in
       let holds : inside (ahead T) ≡ Some k.ops = ap inside (sym (ahead-done (Enter name ∷ []) T)) ∙ k.holds in
@@ -84,18 +90,21 @@ module _ (W : Words) (name : Name) (st last : StateName) (reading : Reading (Lis
       let stack : U.stack ≡ name ∷ T.stack = ap (λ (x : Tokenizer). x.stack) left ∙ stack-consumes r.text A ∙ stack-applied (Enter name) T in
       stack ∙ ap (λ ns. name ∷ rest_of ns) (sym stack)
 
-  left-literal : (U : Tokenizer) → DoesAs 0 inside (rested T.tokenize_state) (entered_literal name T) true U → codes_left U ≤ codes_left T
+  left-literal : (U : Tokenizer) → DoesAs 0 inside (rested T.tokenize_state) (entered_literal name T) true U →
+      codes_left U ≤ codes_left T
   left-literal U k =
       let A : Tokenizer = entered_literal name T in
       omega (arith, ap codes_left (k.left ∙ ap (done k.ops) (enter-same name T resting)), left-passed k.ops A, left-applied (Enter name) T refl)
 
   -- they are not
-  back-literal : (U : Tokenizer) → DoesAs 0 inside (rested T.tokenize_state) (entered_literal name T) false U → restored (frame_of false (Next last) Nok (entered_literal name T)) U ≡ entered_literal name T
+  back-literal : (U : Tokenizer) → DoesAs 0 inside (rested T.tokenize_state) (entered_literal name T) false U →
+      restored (frame_of false (Next last) Nok (entered_literal name T)) U ≡ entered_literal name T
   back-literal U k =
       let A : Tokenizer = entered_literal name T in
       restored-grown false (Next last) Nok A U k.grown ∙ ap (λ (x : TokenizeState). scratched x A) k.scratch ∙ enter-same name T resting
 
-  failed-literal : (U V : Tokenizer) → DoesAs 0 inside (rested T.tokenize_state) (entered_literal name T) false U → V ≡ entered_literal name T → DoesAs 0 p T.tokenize_state T false V
+  failed-literal : (U V : Tokenizer) → DoesAs 0 inside (rested T.tokenize_state) (entered_literal name T) false U →
+      V ≡ entered_literal name T → DoesAs 0 p T.tokenize_state T false V
   failed-literal U V k e =
       let none : inside (ahead T) ≡ None = ap inside (sym (ahead-done (Enter name ∷ []) T)) ∙ k.none in
       record {
@@ -104,7 +113,12 @@ module _ (W : Words) (name : Name) (st last : StateName) (reading : Reading (Lis
         scratch = ap (λ (x : Tokenizer). x.tokenize_state) e ∙ scratch-done (Enter name ∷ []) T;
       }
 
-  pub literal-law : (k : ℕ) {v w : StateWords} → words_in W st ≡ v → words_in W last ≡ w → T.attempts ≡ [] → v.rank < k → w.rank < k → Begins (inside (ahead T)) → v.ready (entered_literal name T) → ((ok : Bool) (U : Tokenizer) → v.ends (entered_literal name T) ok U → DoesAs 0 inside (rested T.tokenize_state) (entered_literal name T) ok U) → ((U : Tokenizer) → IsOpen name U → w.ready U) → ((U : Tokenizer) (ok : Bool) (V : Tokenizer) → w.ends U ok V → (ok ≡ true) × (V ≡ done (Exit name ∷ []) U)) → GoesIn W (weight_at k T) (DoesAs 0 p T.tokenize_state T) (stepped (Retry st) (attempted false (Next last) Nok (entered_literal name T)))
+  pub literal-law : (k : ℕ) {v w : StateWords} → words_in W st ≡ v → words_in W last ≡ w → T.attempts ≡ [] →
+      v.rank < k → w.rank < k → Begins (inside (ahead T)) → v.ready (entered_literal name T) →
+      ((ok : Bool) (U : Tokenizer) → v.ends (entered_literal name T) ok U → DoesAs 0 inside (rested T.tokenize_state) (entered_literal name T) ok U) →
+      ((U : Tokenizer) → IsOpen name U → w.ready U) →
+      ((U : Tokenizer) (ok : Bool) (V : Tokenizer) → w.ends U ok V → (ok ≡ true) × (V ≡ done (Exit name ∷ []) U)) →
+      GoesIn W (weight_at k T) (DoesAs 0 p T.tokenize_state T) (stepped (Retry st) (attempted false (Next last) Nok (entered_literal name T)))
   literal-law k {v} {w} say_first say_last alone less one some on closed last_ready last_end =
       let A : Tokenizer = entered_literal name T in
       let n : ℕ = weight_at k T in

@@ -27,7 +27,8 @@ mapped : (List Code → Forest) → Codes → Option (Forest × List Code)
 mapped f None = None
 mapped f (Some r) = Some (f r.0, r.1)
 
-bind-gives : (a : Reading (List Code)) (f : List Code → Forest) (cs : List Code) → (a >>= λ x. gives (f x)) cs ≡ mapped f (a cs)
+bind-gives : (a : Reading (List Code)) (f : List Code → Forest) (cs : List Code) →
+    (a >>= λ x. gives (f x)) cs ≡ mapped f (a cs)
 unfolding mapped gives
 bind-gives a f cs = by_what (a cs) refl
   where
@@ -40,7 +41,9 @@ unfolding mapped
 mapped-after f x None = refl
 mapped-after f x (Some r) = refl
 
-bind-then : (a k : Reading (List Code)) (next : List Code → Reading Forest) (f : List Code → Forest) → ((x r : List Code) → next x r ≡ mapped (λ y. f (x ++ y)) (k r)) → (cs : List Code) → (a >>= next) cs ≡ mapped f ((a then_ k) cs)
+bind-then : (a k : Reading (List Code)) (next : List Code → Reading Forest) (f : List Code → Forest) →
+    ((x r : List Code) → next x r ≡ mapped (λ y. f (x ++ y)) (k r)) → (cs : List Code) →
+    (a >>= next) cs ≡ mapped f ((a then_ k) cs)
 unfolding mapped
 bind-then a k next f h cs = by_what (a cs) refl
   where
@@ -65,12 +68,14 @@ unfolding mapped
 mapped-ops name None = refl
 mapped-ops name (Some r) = refl
 
-pub ops-leaf : (name : Name) (x : List Code) (os : List Op) → consumes x ≡ Consume ∷ os → ops_of (leaf name x) ≡ Enter name ∷ (consumes x ++ Exit name ∷ [])
+pub ops-leaf : (name : Name) (x : List Code) (os : List Op) → consumes x ≡ Consume ∷ os →
+    ops_of (leaf name x) ≡ Enter name ∷ (consumes x ++ Exit name ∷ [])
 ops-leaf name [] os e = cc
 ops-leaf name (c ∷ cs) os e = refl
 
 module _ (bytes : List ℕ) (end : ℕ) where
-  protocol-text : (cs : List Code) → (one_word_of schemes >>= λ scheme. domain bytes end >>= λ host. path bytes end >>= λ further. gives (leaf N.GfmAutolinkLiteralProtocol (scheme ++ host ++ further))) cs ≡ mapped (leaf N.GfmAutolinkLiteralProtocol) (prefix_reading bytes end 0 0 cs)
+  protocol-text : (cs : List Code) →
+      (one_word_of schemes >>= λ scheme. domain bytes end >>= λ host. path bytes end >>= λ further. gives (leaf N.GfmAutolinkLiteralProtocol (scheme ++ host ++ further))) cs ≡ mapped (leaf N.GfmAutolinkLiteralProtocol) (prefix_reading bytes end 0 0 cs)
   protocol-text cs =
       let name : List Code → Forest = leaf N.GfmAutolinkLiteralProtocol in
       bind-then (one_word_of schemes) (address bytes end) _ name (λ x r.
@@ -78,15 +83,19 @@ module _ (bytes : List ℕ) (end : ℕ) where
       bind-gives (path bytes end) (λ w. name (x ++ z ++ w)) t ∙ mapped-same _ (λ w. name (x ++ (z ++ w))) (λ w. ap name (append_assoc x z w)) (path bytes end t)) r) cs
 
   -- where no letter stands before
-  protocol-by : (previous : Option Code) (cs : List Code) (b : Bool) → is_some_code is_letter previous ≡ b → tree_ops (gfm_autolink_literal_protocol bytes end previous cs) ≡ (if not b then leaf_ops N.GfmAutolinkLiteralProtocol (prefix_reading bytes end 0 0 cs) else None)
+  protocol-by : (previous : Option Code) (cs : List Code) (b : Bool) → is_some_code is_letter previous ≡ b →
+      tree_ops (gfm_autolink_literal_protocol bytes end previous cs) ≡ (if not b then leaf_ops N.GfmAutolinkLiteralProtocol (prefix_reading bytes end 0 0 cs) else None)
   unfolding gfm_autolink_literal_protocol
   protocol-by previous cs true e = ap tree_ops (switched-off _ _ cs (ap not e))
   protocol-by previous cs false e =
       ap tree_ops (switched-on _ _ cs (ap not e) ∙ protocol-text cs) ∙ mapped-ops N.GfmAutolinkLiteralProtocol (prefix_reading bytes end 0 0 cs)
 
-  pub protocol-is : (on : Bool) (previous : Option Code) (cs : List Code) → plan_of (provided on >> gfm_autolink_literal_protocol bytes end previous) cs ≡ (if on && not (is_some_code is_letter previous) then leaf_ops N.GfmAutolinkLiteralProtocol (prefix_reading bytes end 0 0 cs) else None)
-  protocol-is true previous cs = ap tree_ops (switched-on (gfm_autolink_literal_protocol bytes end previous) true cs refl) ∙ protocol-by previous cs (is_some_code is_letter previous) refl
-  protocol-is false previous cs = ap tree_ops (switched-off (gfm_autolink_literal_protocol bytes end previous) false cs refl)
+  pub protocol-is : (on : Bool) (previous : Option Code) (cs : List Code) →
+      plan_of (provided on >> gfm_autolink_literal_protocol bytes end previous) cs ≡ (if on && not (is_some_code is_letter previous) then leaf_ops N.GfmAutolinkLiteralProtocol (prefix_reading bytes end 0 0 cs) else None)
+  protocol-is true previous cs =
+      ap tree_ops (switched-on (gfm_autolink_literal_protocol bytes end previous) true cs refl) ∙ protocol-by previous cs (is_some_code is_letter previous) refl
+  protocol-is false previous cs =
+      ap tree_ops (switched-off (gfm_autolink_literal_protocol bytes end previous) false cs refl)
 
 -- What they cover.
 
@@ -104,10 +113,13 @@ gives-letters (n ∷ ns) =
 gives-one-word : (words : List (List ℕ)) → Gives Itself (one_word_of words)
 unfolding one_word_of
 gives-one-word [] cs x rest k = cc
-gives-one-word (word ∷ words) cs x rest k = Gives-either (letters word) (one_word_of words) Itself (gives-letters word) (gives-one-word words) cs x rest k
+gives-one-word (word ∷ words) cs x rest k =
+    Gives-either (letters word) (one_word_of words) Itself (gives-letters word) (gives-one-word words) cs x rest k
 
 module _ (bytes : List ℕ) (end : ℕ) where
-  domain-by : (cs : List Code) (b : Bool) (x rest : List Code) → (elim b as (λ _. Codes) [ true ↦ Some (domain_from bytes end cs) | false ↦ None ]) ≡ Some (x, rest) → Read Itself cs x rest
+  domain-by : (cs : List Code) (b : Bool) (x rest : List Code) →
+      (elim b as (λ _. Codes) [ true ↦ Some (domain_from bytes end cs) | false ↦ None ]) ≡ Some (x, rest) →
+      Read Itself cs x rest
   domain-by cs false x rest k = cc
   domain-by cs true x rest k =
       let d : List Code × List Code = domain_from bytes end cs in
@@ -118,13 +130,15 @@ module _ (bytes : List ℕ) (end : ℕ) where
   unfolding domain
   gives-domain cs x rest k = domain-by cs (is_domain (domain_from bytes end cs).0) x rest k
 
-  path-by : (c : Code) (cs : List Code) (b : Bool) (s : List Code × List Code) → cs ≡ s.0 ++ s.1 → (let r : List Code × List Code = elim b as (λ _. List Code × List Code) [ true ↦ ([], c ∷ cs) | false ↦ (c ∷ s.0, s.1) ] in c ∷ cs ≡ r.0 ++ r.1)
+  path-by : (c : Code) (cs : List Code) (b : Bool) (s : List Code × List Code) → cs ≡ s.0 ++ s.1 →
+      (let r : List Code × List Code = elim b as (λ _. List Code × List Code) [ true ↦ ([], c ∷ cs) | false ↦ (c ∷ s.0, s.1) ] in c ∷ cs ≡ r.0 ++ r.1)
   path-by c cs true s e = refl
   path-by c cs false s e = ap (λ xs. c ∷ xs) e
 
   path-parts : (o k : ℕ) (cs : List Code) → cs ≡ (path_from bytes end o k cs).0 ++ (path_from bytes end o k cs).1
   path-parts o k [] = refl
-  path-parts o k (c ∷ cs) = path-by c cs (ends_path bytes end o k (c ∷ cs)) (path_from bytes end (count_if 40 c o) (count_if 41 c k) cs) (path-parts (count_if 40 c o) (count_if 41 c k) cs)
+  path-parts o k (c ∷ cs) =
+      path-by c cs (ends_path bytes end o k (c ∷ cs)) (path_from bytes end (count_if 40 c o) (count_if 41 c k) cs) (path-parts (count_if 40 c o) (count_if 41 c k) cs)
 
   gives-path : Gives Itself (path bytes end)
   unfolding path
@@ -133,7 +147,8 @@ module _ (bytes : List ℕ) (end : ℕ) where
       let same = both-parts d.0 x d.1 rest k in
       record { codes = x; whole = path-parts 0 0 cs ∙ ap (λ y. y ++ d.1) same.0 ∙ ap (λ y. x ++ y) same.1; holds = refl }
 
-  pub whole-protocol : (on : Bool) (previous : Option Code) → Gives Covers (provided on >> gfm_autolink_literal_protocol bytes end previous)
+  pub whole-protocol : (on : Bool) (previous : Option Code) →
+      Gives Covers (provided on >> gfm_autolink_literal_protocol bytes end previous)
   unfolding gfm_autolink_literal_protocol
   whole-protocol on previous =
       Gives-switched on (gfm_autolink_literal_protocol bytes end previous) Covers
@@ -145,12 +160,14 @@ module _ (bytes : List ℕ) (end : ℕ) where
       (Covers-leaf N.GfmAutolinkLiteralProtocol _ _
       (append_assoc a c d ∙ ap (λ x. x ++ (c ++ d)) p ∙ ap (λ x. ws ++ (x ++ d)) r ∙ ap (λ x. ws ++ (us ++ x)) (t ∙ sym (append-nil ts)))))))))
 
-  www-text : (cs : List Code) → www_from_here bytes end cs ≡ mapped (leaf N.GfmAutolinkLiteralWww) (address bytes end cs)
+  www-text : (cs : List Code) →
+      www_from_here bytes end cs ≡ mapped (leaf N.GfmAutolinkLiteralWww) (address bytes end cs)
   unfolding www_from_here
   www-text cs =
       bind-then (domain bytes end) (path bytes end) _ (leaf N.GfmAutolinkLiteralWww) (λ z t. bind-gives (path bytes end) (λ w. leaf N.GfmAutolinkLiteralWww (z ++ w)) t) cs
 
-  pub from-here-is : (cs : List Code) → plan_of (www_from_here bytes end) cs ≡ leaf_ops N.GfmAutolinkLiteralWww (address bytes end cs)
+  pub from-here-is : (cs : List Code) →
+      plan_of (www_from_here bytes end) cs ≡ leaf_ops N.GfmAutolinkLiteralWww (address bytes end cs)
   from-here-is cs = ap tree_ops (www-text cs) ∙ mapped-ops N.GfmAutolinkLiteralWww (address bytes end cs)
 
   whole-from-here : Gives Covers (www_from_here bytes end)
@@ -161,19 +178,24 @@ module _ (bytes : List ℕ) (end : ℕ) where
       Gives-gives (leaf N.GfmAutolinkLiteralWww (c ++ d)) _
       (Covers-leaf N.GfmAutolinkLiteralWww _ _ (ap (λ x. x ++ d) r ∙ ap (λ x. us ++ x) (t ∙ sym (append-nil ts))))))
 
-  pub whole-www : (on : Bool) (previous : Option Code) → Gives Covers (provided on >> gfm_autolink_literal_www bytes end previous)
+  pub whole-www : (on : Bool) (previous : Option Code) →
+      Gives Covers (provided on >> gfm_autolink_literal_www bytes end previous)
   unfolding gfm_autolink_literal_www
   whole-www on previous =
       Gives-switched on (gfm_autolink_literal_www bytes end previous) Covers (λ cs x rest k.
       Gives-switched (may_precede_www previous && begins_with_www cs) (www_from_here bytes end) Covers whole-from-here cs x rest k)
 
-  pub www-is : (on : Bool) (previous : Option Code) (cs : List Code) → on && (may_precede_www previous && begins_with_www cs) ≡ true → plan_of (provided on >> gfm_autolink_literal_www bytes end previous) cs ≡ plan_of (www_from_here bytes end) cs
+  pub www-is : (on : Bool) (previous : Option Code) (cs : List Code) →
+      on && (may_precede_www previous && begins_with_www cs) ≡ true →
+      plan_of (provided on >> gfm_autolink_literal_www bytes end previous) cs ≡ plan_of (www_from_here bytes end) cs
   unfolding gfm_autolink_literal_www
   www-is true previous cs e =
       ap tree_ops (switched-on (gfm_autolink_literal_www bytes end previous) true cs refl ∙ switched-on (www_from_here bytes end) (may_precede_www previous && begins_with_www cs) cs e)
   www-is false previous cs e = cc
 
-  pub www-none : (on : Bool) (previous : Option Code) (cs : List Code) → on && (may_precede_www previous && begins_with_www cs) ≡ false → plan_of (provided on >> gfm_autolink_literal_www bytes end previous) cs ≡ None
+  pub www-none : (on : Bool) (previous : Option Code) (cs : List Code) →
+      on && (may_precede_www previous && begins_with_www cs) ≡ false →
+      plan_of (provided on >> gfm_autolink_literal_www bytes end previous) cs ≡ None
   unfolding gfm_autolink_literal_www
   www-none true previous cs e =
       ap tree_ops (switched-on (gfm_autolink_literal_www bytes end previous) true cs refl ∙ switched-off (www_from_here bytes end) (may_precede_www previous && begins_with_www cs) cs e)

@@ -18,7 +18,8 @@ use Rattle.markdown_model.specs.CodeTests.{is_letter, is_some_code, next_is}
 use Rattle.markdown_plan.specs.Plan.{Plan, plan_of, DoesAs}
 use Rattle.markdown_plan.proofs.PlanSteps.{EndsAs-plan}
 use Rattle.markdown_plan.specs.Characters.{bytes_of}
-use Rattle.markdown_leaf_gfm.specs.GfmAutolinkLiteral.{end_of, before_of, is_on, may_begin, is_letter_before, begins_scheme, scheme_with, word_at, words_like, are_schemes, rested, sized, spelled, protocol_start_at, protocol_start_step, prefix_at, prefix_by, slashes_at, entered_literal, WordReady, SchemeReady, LiteralReady, StartReady, pass_ops, prefix_reading, prefix_plan, slashes_plan, domain_plan, protocol_here, protocol_start_ends, protocol_after_ends, prefix_ends, slashes_ends, states, prefix_words, protocol_after_words, protocol_start_words, slashes_words}
+use Rattle.markdown_leaf_gfm.specs.GfmAutolinkLiteral.{end_of, before_of, is_on, may_begin, is_letter_before, begins_scheme, scheme_with, word_at, words_like, are_schemes, rested, sized, spelled, protocol_start_at, protocol_start_step, prefix_at, prefix_by, slashes_at, entered_literal, WordReady, SchemeReady}
+use Rattle.markdown_leaf_gfm.specs.GfmAutolinkLiteral.{LiteralReady, StartReady, pass_ops, prefix_reading, prefix_plan, slashes_plan, domain_plan, protocol_here, protocol_start_ends, protocol_after_ends, prefix_ends, slashes_ends, states, prefix_words, protocol_after_words, protocol_start_words, slashes_words}
 use Rattle.markdown_leaf_gfm.proofs.GfmAutolinkLiteralReadings.{prefix-at, prefix-more, prefix-colon, prefix-none, prefix-end, slashes-more, slashes-last, slashes-none}
 use Rattle.markdown_leaf_gfm.proofs.SchemesLeft.{Goes, Beginning, tails, goes-with, goes-none, next-words, schemes-behind, no-colon-for, begins-first-letters, beginning}
 use Rattle.markdown_model.specs.GfmAutolinkLiteral.{schemes}
@@ -33,19 +34,23 @@ use Rattle.markdown_plan.specs.LayerEquation.{Within}
 
 -- The conditions go on.
 
-word-next : (n : ℕ) (T : Tokenizer) (c : ℕ) → WordReady T → current_of T ≡ Some c → WordReady (scratched (sized n T.tokenize_state) (done (Consume ∷ []) T))
+word-next : (n : ℕ) (T : Tokenizer) (c : ℕ) → WordReady T → current_of T ≡ Some c →
+    WordReady (scratched (sized n T.tokenize_state) (done (Consume ∷ []) T))
 unfolding scratched
 word-next n T c k e =
     record { text = text-consumed (sized n T.tokenize_state) T k.text; fresh = k.fresh; short = omega (arith, k.short, left-consumed T c e, left-scratched (sized n T.tokenize_state) (done (Consume ∷ []) T)) }
 
 -- past a code of a scheme
-scheme-next : (k n : ℕ) (T : Tokenizer) (c : ℕ) → SchemeReady T → are_schemes (words_like (word_at schemes k) n schemes) ≡ true → current_of T ≡ Some c → SchemeReady (scratched (spelled k n T.tokenize_state) (done (Consume ∷ []) T))
+scheme-next : (k n : ℕ) (T : Tokenizer) (c : ℕ) → SchemeReady T →
+    are_schemes (words_like (word_at schemes k) n schemes) ≡ true → current_of T ≡ Some c →
+    SchemeReady (scratched (spelled k n T.tokenize_state) (done (Consume ∷ []) T))
 unfolding scratched
 scheme-next k n T c r w e =
     record { text = text-consumed (spelled k n T.tokenize_state) T r.text; fresh = r.fresh; short = omega (arith, r.short, left-consumed T c e, left-scratched (spelled k n T.tokenize_state) (done (Consume ∷ []) T)); words = w }
 
 -- and past its colon
-colon-next : (T : Tokenizer) (c : ℕ) → SchemeReady T → current_of T ≡ Some c → WordReady (scratched (spelled 0 0 T.tokenize_state) (done (Consume ∷ []) T))
+colon-next : (T : Tokenizer) (c : ℕ) → SchemeReady T → current_of T ≡ Some c →
+    WordReady (scratched (spelled 0 0 T.tokenize_state) (done (Consume ∷ []) T))
 unfolding scratched
 colon-next T c r e =
     record { text = text-consumed (spelled 0 0 T.tokenize_state) T r.text; fresh = r.fresh; short = omega (arith, r.short, left-consumed T c e, left-scratched (spelled 0 0 T.tokenize_state) (done (Consume ∷ []) T)) }
@@ -54,7 +59,8 @@ colon-next T c r e =
 none-closed : (T : Tokenizer) → WordReady T → T.tokenize_state.size_b ≡ 0
 none-closed T k = ap (λ (s : TokenizeState). s.size_b) k.fresh
 
-address-ready : (T : Tokenizer) (c : ℕ) → WordReady T → current_of T ≡ Some c → LiteralReady (scratched (sized 0 T.tokenize_state) (done (Consume ∷ []) T))
+address-ready : (T : Tokenizer) (c : ℕ) → WordReady T → current_of T ≡ Some c →
+    LiteralReady (scratched (sized 0 T.tokenize_state) (done (Consume ∷ []) T))
 unfolding scratched
 address-ready T c k e =
     record {
@@ -65,15 +71,21 @@ address-ready T c k e =
 
 -- How the rest of a run ends, as the definition reads it.
 
-prefix-then : (k n : ℕ) (T : Tokenizer) (ok : Bool) (U : Tokenizer) → prefix_ends (scratched (spelled k n T.tokenize_state) (done (Consume ∷ []) T)) ok U → DoesAs 0 (prefix_plan (bytes_of T) (end_of T) k n) (rested T.tokenize_state) (scratched (spelled k n T.tokenize_state) (done (Consume ∷ []) T)) ok U
+prefix-then : (k n : ℕ) (T : Tokenizer) (ok : Bool) (U : Tokenizer) →
+    prefix_ends (scratched (spelled k n T.tokenize_state) (done (Consume ∷ []) T)) ok U →
+    DoesAs 0 (prefix_plan (bytes_of T) (end_of T) k n) (rested T.tokenize_state) (scratched (spelled k n T.tokenize_state) (done (Consume ∷ []) T)) ok U
 unfolding scratched applied moved
 prefix-then k n T ok U h = h
 
-colon-then : (T : Tokenizer) (ok : Bool) (U : Tokenizer) → slashes_ends (scratched (spelled 0 0 T.tokenize_state) (done (Consume ∷ []) T)) ok U → DoesAs 0 (slashes_plan (bytes_of T) (end_of T) 0) (rested T.tokenize_state) (scratched (spelled 0 0 T.tokenize_state) (done (Consume ∷ []) T)) ok U
+colon-then : (T : Tokenizer) (ok : Bool) (U : Tokenizer) →
+    slashes_ends (scratched (spelled 0 0 T.tokenize_state) (done (Consume ∷ []) T)) ok U →
+    DoesAs 0 (slashes_plan (bytes_of T) (end_of T) 0) (rested T.tokenize_state) (scratched (spelled 0 0 T.tokenize_state) (done (Consume ∷ []) T)) ok U
 unfolding scratched applied moved
 colon-then T ok U h = h
 
-slashes-then : (n : ℕ) (T : Tokenizer) (ok : Bool) (U : Tokenizer) → slashes_ends (scratched (sized n T.tokenize_state) (done (Consume ∷ []) T)) ok U → DoesAs 0 (slashes_plan (bytes_of T) (end_of T) n) (rested T.tokenize_state) (scratched (sized n T.tokenize_state) (done (Consume ∷ []) T)) ok U
+slashes-then : (n : ℕ) (T : Tokenizer) (ok : Bool) (U : Tokenizer) →
+    slashes_ends (scratched (sized n T.tokenize_state) (done (Consume ∷ []) T)) ok U →
+    DoesAs 0 (slashes_plan (bytes_of T) (end_of T) n) (rested T.tokenize_state) (scratched (sized n T.tokenize_state) (done (Consume ∷ []) T)) ok U
 unfolding scratched applied moved
 slashes-then n T ok U k = k
 
@@ -88,7 +100,9 @@ module _ (W : Words) (within : Within states W) where
       plan : Plan
       plan = prefix_plan (bytes_of T) (end_of T) T.tokenize_state.size_b T.tokenize_state.size
 
-      by_scheme : (c : ℕ) → current_of T ≡ Some c → (o : Option ℕ) → scheme_with T.tokenize_state.size_b T.tokenize_state.size c ≡ o → GoesIn W (weight_at 1 T) (prefix_ends T) (prefix_by c o T)
+      by_scheme : (c : ℕ) → current_of T ≡ Some c → (o : Option ℕ) →
+          scheme_with T.tokenize_state.size_b T.tokenize_state.size c ≡ o →
+          GoesIn W (weight_at 1 T) (prefix_ends T) (prefix_by c o T)
       by_scheme c e None f =
           let b = ahead-some T c e in
           Goes-nok W 1 0 plan (rested T.tokenize_state) T alone
@@ -144,7 +158,8 @@ before-letter T = by_code (last_of T.cursor.codes T.cursor.at)
     by_code None = refl
     by_code (Some c) = refl
 
-here-is : (T : Tokenizer) (cs : List Code) → plan_of (protocol_here T) cs ≡ (if may_begin T then leaf_ops N.GfmAutolinkLiteralProtocol (prefix_reading (bytes_of T) (end_of T) 0 0 cs) else None)
+here-is : (T : Tokenizer) (cs : List Code) →
+    plan_of (protocol_here T) cs ≡ (if may_begin T then leaf_ops N.GfmAutolinkLiteralProtocol (prefix_reading (bytes_of T) (end_of T) 0 0 cs) else None)
 here-is T cs =
     protocol-is (bytes_of T) (end_of T) (is_on T) (before_of T) cs
     ∙ ap (λ b. if is_on T && not b then leaf_ops N.GfmAutolinkLiteralProtocol (prefix_reading (bytes_of T) (end_of T) 0 0 cs) else None) (sym (before-letter T))
@@ -153,8 +168,10 @@ here-is T cs =
 all-schemes : are_schemes schemes ≡ true
 all-schemes = refl
 
-no-literal : (T : Tokenizer) (cs : List Code) (b : Bool) → may_begin T ≡ b → b && next_is (λ c. begins_scheme c.value) cs ≡ false → plan_of (protocol_here T) cs ≡ None
-no-literal T [] true e h = here-is T [] ∙ if-true _ _ _ e ∙ ap (leaf_ops N.GfmAutolinkLiteralProtocol) (passed-none _ (prefix-end (bytes_of T) (end_of T) 0 0 all-schemes))
+no-literal : (T : Tokenizer) (cs : List Code) (b : Bool) → may_begin T ≡ b →
+    b && next_is (λ c. begins_scheme c.value) cs ≡ false → plan_of (protocol_here T) cs ≡ None
+no-literal T [] true e h =
+    here-is T [] ∙ if-true _ _ _ e ∙ ap (leaf_ops N.GfmAutolinkLiteralProtocol) (passed-none _ (prefix-end (bytes_of T) (end_of T) 0 0 all-schemes))
 no-literal T (c ∷ cs) true e h =
     here-is T (c ∷ cs)
     ∙ if-true _ _ _ e
@@ -171,12 +188,16 @@ scheme-ready T k =
       words = ap (λ (s : TokenizeState). are_schemes (words_like (word_at schemes s.size_b) s.size schemes)) (sym k.resting) ∙ all-schemes;
     }
 
-prefix-entered : (T : Tokenizer) → rested T.tokenize_state ≡ T.tokenize_state → (ok : Bool) (U : Tokenizer) → prefix_ends (entered_literal N.GfmAutolinkLiteralProtocol T) ok U → DoesAs 0 (λ cs. pass_ops (prefix_reading (bytes_of T) (end_of T) 0 0 cs)) (rested T.tokenize_state) (entered_literal N.GfmAutolinkLiteralProtocol T) ok U
+prefix-entered : (T : Tokenizer) → rested T.tokenize_state ≡ T.tokenize_state → (ok : Bool) (U : Tokenizer) →
+    prefix_ends (entered_literal N.GfmAutolinkLiteralProtocol T) ok U →
+    DoesAs 0 (λ cs. pass_ops (prefix_reading (bytes_of T) (end_of T) 0 0 cs)) (rested T.tokenize_state) (entered_literal N.GfmAutolinkLiteralProtocol T) ok U
 unfolding applied
-prefix-entered T e ok U k = subst (λ (s : TokenizeState). DoesAs 0 (λ cs. pass_ops (prefix_reading (bytes_of T) (end_of T) s.size_b s.size cs)) (rested T.tokenize_state) (entered_literal N.GfmAutolinkLiteralProtocol T) ok U) (sym e) k
+prefix-entered T e ok U k =
+    subst (λ (s : TokenizeState). DoesAs 0 (λ cs. pass_ops (prefix_reading (bytes_of T) (end_of T) s.size_b s.size cs)) (rested T.tokenize_state) (entered_literal N.GfmAutolinkLiteralProtocol T) ok U) (sym e) k
 
 -- a first letter is passed
-first-passed : (T : Tokenizer) (c : Code) (cs : List Code) → begins_scheme c.value ≡ true → Begins (pass_ops (prefix_reading (bytes_of T) (end_of T) 0 0 (c ∷ cs)))
+first-passed : (T : Tokenizer) (c : Code) (cs : List Code) → begins_scheme c.value ≡ true →
+    Begins (pass_ops (prefix_reading (bytes_of T) (end_of T) 0 0 (c ∷ cs)))
 first-passed T c cs h =
     let b : Beginning c.value = beginning schemes c.value all-schemes (sym (begins-first-letters schemes c.value all-schemes) ∙ h) in
     subst Begins (sym (prefix-at (bytes_of T) (end_of T) 0 0 b.letter (tails b.letter schemes) c cs all-schemes b.spells b.stands refl)) (begins-first _)

@@ -36,14 +36,19 @@ record Says (s : TokenizeState) (before : List Code) : Type 0 where
   last : last_parts_plain 1 before ≡ not (s.marker == 95)
   both : last_parts_plain 0 before ≡ not (s.marker == 95) && not (s.marker_b == 95)
 
-dot-says : (s : TokenizeState) (c : Code) (before : List Code) → (c.value == 46) ≡ true → Says s before → Says (dotted s) (c ∷ before)
+dot-says : (s : TokenizeState) (c : Code) (before : List Code) → (c.value == 46) ≡ true → Says s before →
+    Says (dotted s) (c ∷ before)
 dot-says s c before e k = record { last = rw (e, last_parts_plain) refl; both = rw (e, last_parts_plain) k.last }
 
-underscore-says : (s : TokenizeState) (c : Code) (before : List Code) → (c.value == 46) ≡ false → (c.value == 95) ≡ true → Says s before → Says (underscored s) (c ∷ before)
-underscore-says s c before e h k = record { last = rw (e, h, last_parts_plain) refl; both = rw (e, h, last_parts_plain) refl }
+underscore-says : (s : TokenizeState) (c : Code) (before : List Code) → (c.value == 46) ≡ false →
+    (c.value == 95) ≡ true → Says s before → Says (underscored s) (c ∷ before)
+underscore-says s c before e h k =
+    record { last = rw (e, h, last_parts_plain) refl; both = rw (e, h, last_parts_plain) refl }
 
-plain-says : (s : TokenizeState) (c : Code) (before : List Code) → (c.value == 46) ≡ false → (c.value == 95) ≡ false → Says s before → Says s (c ∷ before)
-plain-says s c before e h k = record { last = rw (e, h, last_parts_plain) k.last; both = rw (e, h, last_parts_plain) k.both }
+plain-says : (s : TokenizeState) (c : Code) (before : List Code) → (c.value == 46) ≡ false → (c.value == 95) ≡ false →
+    Says s before → Says s (c ∷ before)
+plain-says s c before e h k =
+    record { last = rw (e, h, last_parts_plain) k.last; both = rw (e, h, last_parts_plain) k.both }
 
 saw-says : (s : TokenizeState) (before : List Code) → Says s before → Says (saw s) before
 saw-says s before k = record { last = k.last; both = k.both }
@@ -66,7 +71,10 @@ turned-is (c ∷ cs) before =
 whole-test : TokenizeState → List Code → List Code → Bool
 whole-test s cs before = (s.seen || list_any is_seen cs) && last_parts_plain 0 (turned cs before)
 
-fold-by : (c : Code) (cs before : List Code) (s r : TokenizeState) → passed_code c s ≡ r → is_well (fields_after cs r) ≡ whole-test r cs (c ∷ before) → (r.seen || list_any is_seen cs) ≡ (s.seen || (is_seen c || list_any is_seen cs)) → is_well (fields_after (c ∷ cs) s) ≡ whole-test s (c ∷ cs) before
+fold-by : (c : Code) (cs before : List Code) (s r : TokenizeState) → passed_code c s ≡ r →
+    is_well (fields_after cs r) ≡ whole-test r cs (c ∷ before) →
+    (r.seen || list_any is_seen cs) ≡ (s.seen || (is_seen c || list_any is_seen cs)) →
+    is_well (fields_after (c ∷ cs) s) ≡ whole-test s (c ∷ cs) before
 unfolding whole-test turned
 fold-by c cs before s r e h k =
     ap (λ (q : TokenizeState). is_well (fields_after cs q)) e ∙ h ∙ ap (λ b. b && last_parts_plain 0 (turned cs (c ∷ before))) k
@@ -75,7 +83,8 @@ end-test : (a b x : Bool) → x ≡ b → a && b ≡ (a || false) && x
 end-test true b x e = sym e
 end-test false b x e = refl
 
-fold-is : (cs before : List Code) (s : TokenizeState) → Says s before → is_well (fields_after cs s) ≡ whole-test s cs before
+fold-is : (cs before : List Code) (s : TokenizeState) → Says s before →
+    is_well (fields_after cs s) ≡ whole-test s cs before
 unfolding whole-test turned
 fold-is [] before s k = end-test s.seen _ _ k.both
 fold-is (c ∷ cs) before s k =
@@ -100,23 +109,28 @@ says-rested s e = subst (λ (q : TokenizeState). Says q []) e (record { last = r
 
 domain-test : (s : TokenizeState) (cs : List Code) → rested s ≡ s → is_well (fields_after cs s) ≡ is_domain cs
 unfolding whole-test turned
-domain-test s cs e = fold-is cs [] s (says-rested s e) ∙ ap (λ xs. (s.seen || list_any is_seen cs) && last_parts_plain 0 xs) (turned-is cs [] ∙ append-nil (reverse cs)) ∙ ap (λ (q : TokenizeState). (q.seen || list_any is_seen cs) && last_parts_plain 0 (reverse cs)) (sym e)
+domain-test s cs e =
+    fold-is cs [] s (says-rested s e) ∙ ap (λ xs. (s.seen || list_any is_seen cs) && last_parts_plain 0 xs) (turned-is cs [] ∙ append-nil (reverse cs)) ∙ ap (λ (q : TokenizeState). (q.seen || list_any is_seen cs) && last_parts_plain 0 (reverse cs)) (sym e)
 
 -- Domains and paths, code by code.
 
-preceded-if : (o : Op) (b : Bool) (os : List Op) → (if b then Some (o ∷ os) else None) ≡ preceded (o ∷ []) (if b then Some os else None)
+preceded-if : (o : Op) (b : Bool) (os : List Op) →
+    (if b then Some (o ∷ os) else None) ≡ preceded (o ∷ []) (if b then Some os else None)
 preceded-if o true os = refl
 preceded-if o false os = refl
 
 module _ (bytes : List ℕ) (end : ℕ) where
   -- the rest of a domain, from its front
   domain_of : TokenizeState → List Code × List Code → Option (List Op)
-  domain_of s d = if is_well (fields_after d.0 s) then Some (consumes d.0 ++ consumes (path_from bytes end s.size s.size_b d.1).0) else None
+  domain_of s d =
+      if is_well (fields_after d.0 s) then Some (consumes d.0 ++ consumes (path_from bytes end s.size s.size_b d.1).0) else None
 
   first_of : Bool → Code → List Code → List Code × List Code
-  first_of b c cs = elim b [ true ↦ (c ∷ (domain_from bytes end cs).0, (domain_from bytes end cs).1) | false ↦ ([], c ∷ cs) ]
+  first_of b c cs =
+      elim b [ true ↦ (c ∷ (domain_from bytes end cs).0, (domain_from bytes end cs).1) | false ↦ ([], c ∷ cs) ]
 
-  more-of : (s r : TokenizeState) (c : Code) (d : List Code × List Code) → passed_code c s ≡ r → r.size ≡ s.size → r.size_b ≡ s.size_b → domain_of s (c ∷ d.0, d.1) ≡ preceded (Consume ∷ []) (domain_of r d)
+  more-of : (s r : TokenizeState) (c : Code) (d : List Code × List Code) → passed_code c s ≡ r → r.size ≡ s.size →
+      r.size_b ≡ s.size_b → domain_of s (c ∷ d.0, d.1) ≡ preceded (Consume ∷ []) (domain_of r d)
   unfolding domain_of
   more-of s r c d e m n =
       ap (λ (q : TokenizeState). if is_well (fields_after d.0 q) then Some (Consume ∷ consumes d.0 ++ consumes (path_from bytes end s.size s.size_b d.1).0) else None) e
@@ -124,11 +138,15 @@ module _ (bytes : List ℕ) (end : ℕ) where
       ∙ ap (λ (k : ℕ). if is_well (fields_after d.0 r) then Some (Consume ∷ consumes d.0 ++ consumes (path_from bytes end r.size k d.1).0) else None) (sym n)
       ∙ preceded-if Consume (is_well (fields_after d.0 r)) _
 
-  pub domain-more : (s r : TokenizeState) (c : Code) (cs : List Code) → is_domain_code bytes end (c ∷ cs) ≡ true → passed_code c s ≡ r → r.size ≡ s.size → r.size_b ≡ s.size_b → domain_plan bytes end s (c ∷ cs) ≡ preceded (Consume ∷ []) (domain_plan bytes end r cs)
+  pub domain-more : (s r : TokenizeState) (c : Code) (cs : List Code) → is_domain_code bytes end (c ∷ cs) ≡ true →
+      passed_code c s ≡ r → r.size ≡ s.size → r.size_b ≡ s.size_b →
+      domain_plan bytes end s (c ∷ cs) ≡ preceded (Consume ∷ []) (domain_plan bytes end r cs)
   unfolding domain_of first_of
-  domain-more s r c cs h e m n = ap (λ b. domain_of s (first_of b c cs)) h ∙ more-of s r c (domain_from bytes end cs) e m n
+  domain-more s r c cs h e m n =
+      ap (λ b. domain_of s (first_of b c cs)) h ∙ more-of s r c (domain_from bytes end cs) e m n
 
-  pub domain-stop : (s : TokenizeState) (c : Code) (cs : List Code) → is_domain_code bytes end (c ∷ cs) ≡ false → domain_plan bytes end s (c ∷ cs) ≡ domain_after_plan bytes end s (c ∷ cs)
+  pub domain-stop : (s : TokenizeState) (c : Code) (cs : List Code) → is_domain_code bytes end (c ∷ cs) ≡ false →
+      domain_plan bytes end s (c ∷ cs) ≡ domain_after_plan bytes end s (c ∷ cs)
   unfolding domain_of first_of
   domain-stop s c cs h = ap (λ b. domain_of s (first_of b c cs)) h
 
@@ -136,7 +154,9 @@ module _ (bytes : List ℕ) (end : ℕ) where
   domain-end s = refl
 
   -- a domain and a path, with the fields at rest
-  tried : (s : TokenizeState) (cs : List Code) (b : Bool) → is_domain (domain_from bytes end cs).0 ≡ b → is_well (fields_after (domain_from bytes end cs).0 s) ≡ b → s.size ≡ 0 → s.size_b ≡ 0 → pass_ops (address bytes end cs) ≡ domain_plan bytes end s cs
+  tried : (s : TokenizeState) (cs : List Code) (b : Bool) → is_domain (domain_from bytes end cs).0 ≡ b →
+      is_well (fields_after (domain_from bytes end cs).0 s) ≡ b → s.size ≡ 0 → s.size_b ≡ 0 →
+      pass_ops (address bytes end cs) ≡ domain_plan bytes end s cs
   unfolding domain path ◌then_◌
   tried s cs true e h m n =
       let d : List Code × List Code = domain_from bytes end cs in
@@ -146,9 +166,11 @@ module _ (bytes : List ℕ) (end : ℕ) where
       ∙ ap (λ j. Some (consumes d.0 ++ consumes (p j 0))) (sym m)
       ∙ ap (λ j. Some (consumes d.0 ++ consumes (p s.size j))) (sym n)
       ∙ sym (if-true _ _ _ h)
-  tried s cs false e h m n = ap pass_ops (then-none (domain bytes end) (path bytes end) cs (rw (e, domain) refl)) ∙ sym (if-false _ _ _ h)
+  tried s cs false e h m n =
+      ap pass_ops (then-none (domain bytes end) (path bytes end) cs (rw (e, domain) refl)) ∙ sym (if-false _ _ _ h)
 
-  pub address-is : (s : TokenizeState) (cs : List Code) → rested s ≡ s → pass_ops (address bytes end cs) ≡ domain_plan bytes end s cs
+  pub address-is : (s : TokenizeState) (cs : List Code) → rested s ≡ s →
+      pass_ops (address bytes end cs) ≡ domain_plan bytes end s cs
   address-is s cs e =
       tried s cs (is_domain (domain_from bytes end cs).0) refl (domain-test s (domain_from bytes end cs).0 e) (ap (λ (q : TokenizeState). q.size) (sym e)) (ap (λ (q : TokenizeState). q.size_b) (sym e))
 
@@ -156,17 +178,20 @@ module _ (bytes : List ℕ) (end : ℕ) where
   path_split_by b o k c cs =
       elim b [ true ↦ ([], c ∷ cs) | false ↦ (let s = path_from bytes end (count_if 40 c o) (count_if 41 c k) cs in (c ∷ s.0, s.1)) ]
 
-  pub path-more : (o k : ℕ) (c : Code) (cs : List Code) → ends_path bytes end o k (c ∷ cs) ≡ false → path_plan bytes end o k (c ∷ cs) ≡ preceded (Consume ∷ []) (path_plan bytes end (count_if 40 c o) (count_if 41 c k) cs)
+  pub path-more : (o k : ℕ) (c : Code) (cs : List Code) → ends_path bytes end o k (c ∷ cs) ≡ false →
+      path_plan bytes end o k (c ∷ cs) ≡ preceded (Consume ∷ []) (path_plan bytes end (count_if 40 c o) (count_if 41 c k) cs)
   unfolding path_split_by
   path-more o k c cs e = ap (λ b. Some (consumes (path_split_by b o k c cs).0)) e
 
-  pub path-stop : (o k : ℕ) (c : Code) (cs : List Code) → ends_path bytes end o k (c ∷ cs) ≡ true → path_plan bytes end o k (c ∷ cs) ≡ Some []
+  pub path-stop : (o k : ℕ) (c : Code) (cs : List Code) → ends_path bytes end o k (c ∷ cs) ≡ true →
+      path_plan bytes end o k (c ∷ cs) ≡ Some []
   unfolding path_split_by
   path-stop o k c cs e = ap (λ b. Some (consumes (path_split_by b o k c cs).0)) e
 
 -- Words.
 
-pub then-first : (a b k : Reading (List Code)) (c : Code) (cs : List Code) → a (c ∷ cs) ≡ with_first c (b cs) → (a then_ k) (c ∷ cs) ≡ with_first c ((b then_ k) cs)
+pub then-first : (a b k : Reading (List Code)) (c : Code) (cs : List Code) → a (c ∷ cs) ≡ with_first c (b cs) →
+    (a then_ k) (c ∷ cs) ≡ with_first c ((b then_ k) cs)
 then-first a b k c cs e = by_what (b cs) refl
   where
     by_what : (o : Option (List Code × List Code)) → b cs ≡ o → (a then_ k) (c ∷ cs) ≡ with_first c ((b then_ k) cs)
@@ -176,7 +201,8 @@ then-first a b k c cs e = by_what (b cs) refl
         ∙ after-more c r.0 (k r.1)
         ∙ ap (with_first c) (sym (then-after b k cs r.0 r.1 h))
 
-pub ops-first : (c : Code) (o : Option (List Code × List Code)) → pass_ops (with_first c o) ≡ preceded (Consume ∷ []) (pass_ops o)
+pub ops-first : (c : Code) (o : Option (List Code × List Code)) →
+    pass_ops (with_first c o) ≡ preceded (Consume ∷ []) (pass_ops o)
 ops-first c None = refl
 ops-first c (Some r) = refl
 
@@ -189,10 +215,13 @@ next-same : (p q : Code → Bool) → ((c : Code) → p c ≡ q c) → (cs : Lis
 next-same p q h [] = refl
 next-same p q h (c ∷ cs) = h c
 
-letters-here : (n : ℕ) (ns : List ℕ) (k : Reading (List Code)) (c : Code) (cs : List Code) → letter_test n c ≡ true → pass_ops ((letters (n ∷ ns) then_ k) (c ∷ cs)) ≡ preceded (Consume ∷ []) (pass_ops ((letters ns then_ k) cs))
-letters-here n ns k c cs e = ap pass_ops (then-first (letters (n ∷ ns)) (letters ns) k c cs (letters-more n ns c cs e)) ∙ ops-first c ((letters ns then_ k) cs)
+letters-here : (n : ℕ) (ns : List ℕ) (k : Reading (List Code)) (c : Code) (cs : List Code) → letter_test n c ≡ true →
+    pass_ops ((letters (n ∷ ns) then_ k) (c ∷ cs)) ≡ preceded (Consume ∷ []) (pass_ops ((letters ns then_ k) cs))
+letters-here n ns k c cs e =
+    ap pass_ops (then-first (letters (n ∷ ns)) (letters ns) k c cs (letters-more n ns c cs e)) ∙ ops-first c ((letters ns then_ k) cs)
 
-letters-other : (n : ℕ) (ns : List ℕ) (k : Reading (List Code)) (cs : List Code) → next_is (letter_test n) cs ≡ false → pass_ops ((letters (n ∷ ns) then_ k) cs) ≡ None
+letters-other : (n : ℕ) (ns : List ℕ) (k : Reading (List Code)) (cs : List Code) → next_is (letter_test n) cs ≡ false →
+    pass_ops ((letters (n ∷ ns) then_ k) cs) ≡ None
 letters-other n ns k cs e = ap pass_ops (then-none (letters (n ∷ ns)) k cs (letters-none n ns cs e))
 
 then-same : (a b k : Reading (List Code)) (cs : List Code) → a cs ≡ b cs → (a then_ k) cs ≡ (b then_ k) cs
@@ -227,27 +256,40 @@ module _ (bytes : List ℕ) (end : ℕ) where
       ∙ ap pass_ops (then-same (one_word_of (tails 58 left)) (letters (codes "//")) (address bytes end) cs
       (colon-read left cs h (ap (λ a. no_words (tails a left)) (sym colon) ∙ left-some schemes (word_at schemes k) n j g.letter g.more g.rest))))
 
-  pub prefix-none : (k n : ℕ) (c : Code) (cs : List Code) → are_schemes (words_like (word_at schemes k) n schemes) ≡ true → one_begins (words_like (word_at schemes k) n schemes) c.value ≡ false → prefix_plan bytes end k n (c ∷ cs) ≡ None
-  prefix-none k n c cs h e = ap pass_ops (then-none (one_word_of (words_like (word_at schemes k) n schemes)) (address bytes end) (c ∷ cs) (words-none (words_like (word_at schemes k) n schemes) c cs h e))
+  pub prefix-none : (k n : ℕ) (c : Code) (cs : List Code) →
+      are_schemes (words_like (word_at schemes k) n schemes) ≡ true →
+      one_begins (words_like (word_at schemes k) n schemes) c.value ≡ false → prefix_plan bytes end k n (c ∷ cs) ≡ None
+  prefix-none k n c cs h e =
+      ap pass_ops (then-none (one_word_of (words_like (word_at schemes k) n schemes)) (address bytes end) (c ∷ cs) (words-none (words_like (word_at schemes k) n schemes) c cs h e))
 
-  pub prefix-end : (k n : ℕ) → are_schemes (words_like (word_at schemes k) n schemes) ≡ true → prefix_plan bytes end k n [] ≡ None
-  prefix-end k n h = ap pass_ops (then-none (one_word_of (words_like (word_at schemes k) n schemes)) (address bytes end) [] (words-end (words_like (word_at schemes k) n schemes) h))
+  pub prefix-end : (k n : ℕ) → are_schemes (words_like (word_at schemes k) n schemes) ≡ true →
+      prefix_plan bytes end k n [] ≡ None
+  prefix-end k n h =
+      ap pass_ops (then-none (one_word_of (words_like (word_at schemes k) n schemes)) (address bytes end) [] (words-end (words_like (word_at schemes k) n schemes) h))
 
-  slashes-by : (b : Bool) (c : Code) (cs : List Code) → (c.value == 47) ≡ true → pass_ops ((letters (if b then codes "//" else codes "/") then_ address bytes end) (c ∷ cs)) ≡ preceded (Consume ∷ []) (if b then slashes_plan bytes end 1 cs else pass_ops (address bytes end cs))
+  slashes-by : (b : Bool) (c : Code) (cs : List Code) → (c.value == 47) ≡ true →
+      pass_ops ((letters (if b then codes "//" else codes "/") then_ address bytes end) (c ∷ cs)) ≡ preceded (Consume ∷ []) (if b then slashes_plan bytes end 1 cs else pass_ops (address bytes end cs))
   slashes-by true c cs e = letters-here 47 _ (address bytes end) c cs (sym (case-slash c.value) ∙ e)
   slashes-by false c cs e =
       letters-here 47 _ (address bytes end) c cs (sym (case-slash c.value) ∙ e)
       ∙ ap (λ o. preceded (Consume ∷ []) (pass_ops o)) (then-nothing (letters []) (address bytes end) cs (letters-nil cs))
 
-  pub slashes-more : (n : ℕ) (c : Code) (cs : List Code) → (c.value == 47) ≡ true → (n == 0) ≡ true → slashes_plan bytes end n (c ∷ cs) ≡ preceded (Consume ∷ []) (slashes_plan bytes end 1 cs)
+  pub slashes-more : (n : ℕ) (c : Code) (cs : List Code) → (c.value == 47) ≡ true → (n == 0) ≡ true →
+      slashes_plan bytes end n (c ∷ cs) ≡ preceded (Consume ∷ []) (slashes_plan bytes end 1 cs)
   slashes-more n c cs e h = slashes-by (n == 0) c cs e ∙ ap (preceded (Consume ∷ [])) (if-true _ _ _ h)
 
-  pub slashes-last : (n : ℕ) (c : Code) (cs : List Code) (s : TokenizeState) → (c.value == 47) ≡ true → (n == 0) ≡ false → rested s ≡ s → slashes_plan bytes end n (c ∷ cs) ≡ preceded (Consume ∷ []) (domain_plan bytes end s cs)
-  slashes-last n c cs s e h k = slashes-by (n == 0) c cs e ∙ ap (preceded (Consume ∷ [])) (if-false _ _ _ h ∙ address-is bytes end s cs k)
+  pub slashes-last : (n : ℕ) (c : Code) (cs : List Code) (s : TokenizeState) → (c.value == 47) ≡ true →
+      (n == 0) ≡ false → rested s ≡ s →
+      slashes_plan bytes end n (c ∷ cs) ≡ preceded (Consume ∷ []) (domain_plan bytes end s cs)
+  slashes-last n c cs s e h k =
+      slashes-by (n == 0) c cs e ∙ ap (preceded (Consume ∷ [])) (if-false _ _ _ h ∙ address-is bytes end s cs k)
 
-  none-by : (b : Bool) (cs : List Code) → next_is (is_value 47) cs ≡ false → pass_ops ((letters (if b then codes "//" else codes "/") then_ address bytes end) cs) ≡ None
-  none-by true cs e = letters-other 47 _ (address bytes end) cs (next-same (letter_test 47) (is_value 47) (λ c. sym (case-slash c.value)) cs ∙ e)
-  none-by false cs e = letters-other 47 _ (address bytes end) cs (next-same (letter_test 47) (is_value 47) (λ c. sym (case-slash c.value)) cs ∙ e)
+  none-by : (b : Bool) (cs : List Code) → next_is (is_value 47) cs ≡ false →
+      pass_ops ((letters (if b then codes "//" else codes "/") then_ address bytes end) cs) ≡ None
+  none-by true cs e =
+      letters-other 47 _ (address bytes end) cs (next-same (letter_test 47) (is_value 47) (λ c. sym (case-slash c.value)) cs ∙ e)
+  none-by false cs e =
+      letters-other 47 _ (address bytes end) cs (next-same (letter_test 47) (is_value 47) (λ c. sym (case-slash c.value)) cs ∙ e)
 
   pub slashes-none : (n : ℕ) (cs : List Code) → next_is (is_value 47) cs ≡ false → slashes_plan bytes end n cs ≡ None
   slashes-none n cs e = none-by (n == 0) cs e
@@ -265,7 +307,8 @@ left-after : Option (List Code × List Code) → Bool
 left-after None = false
 left-after (Some r) = not (is_empty r.1)
 
-left-same : (o : Option (List Code × List Code)) → elim o as (λ _. Bool) [ None ↦ false | Some r ↦ not (is_empty r.1) ] ≡ left-after o
+left-same : (o : Option (List Code × List Code)) →
+    elim o as (λ _. Bool) [ None ↦ false | Some r ↦ not (is_empty r.1) ] ≡ left-after o
 unfolding left-after
 left-same None = refl
 left-same (Some r) = refl
@@ -275,29 +318,40 @@ unfolding left-after
 left-first c None = refl
 left-first c (Some r) = refl
 
-word-more : (n : ℕ) (ns : List ℕ) (c : Code) (cs : List Code) → letter_test n c ≡ true → left-after (letters (n ∷ ns) (c ∷ cs)) ≡ left-after (letters ns cs)
+word-more : (n : ℕ) (ns : List ℕ) (c : Code) (cs : List Code) → letter_test n c ≡ true →
+    left-after (letters (n ∷ ns) (c ∷ cs)) ≡ left-after (letters ns cs)
 word-more n ns c cs e = ap left-after (letters-more n ns c cs e) ∙ left-first c (letters ns cs)
 
-word-none : (n : ℕ) (ns : List ℕ) (cs : List Code) → next_is (letter_test n) cs ≡ false → left-after (letters (n ∷ ns) cs) ≡ false
+word-none : (n : ℕ) (ns : List ℕ) (cs : List Code) → next_is (letter_test n) cs ≡ false →
+    left-after (letters (n ∷ ns) cs) ≡ false
 unfolding left-after
 word-none n ns cs e = ap left-after (letters-none n ns cs e)
 
 many-w : (n v : ℕ) → 4 ≤ n → www_letter n v ≡ false
 many-w n v h = grind (arith, nat_tests)
 
-pub www-more : (n : ℕ) (c : Code) (cs : List Code) → www_letter n c.value ≡ true → www_test n (c ∷ cs) ≡ www_test (n + 1) cs
+pub www-more : (n : ℕ) (c : Code) (cs : List Code) → www_letter n c.value ≡ true →
+    www_test n (c ∷ cs) ≡ www_test (n + 1) cs
 www-more zero c cs e = left-same _ ∙ word-more 119 _ c cs (sym (case-w c.value) ∙ e) ∙ sym (left-same _)
 www-more (suc zero) c cs e = left-same _ ∙ word-more 119 _ c cs (sym (case-w c.value) ∙ e) ∙ sym (left-same _)
 www-more (suc (suc zero)) c cs e = left-same _ ∙ word-more 119 _ c cs (sym (case-w c.value) ∙ e) ∙ sym (left-same _)
-www-more (suc (suc (suc zero))) c cs e = left-same _ ∙ word-more 46 _ c cs (sym (case-dot c.value) ∙ e) ∙ sym (left-same _)
-www-more (suc (suc (suc (suc n)))) c cs e = let no : false ≡ true = sym (many-w (suc (suc (suc (suc n)))) c.value (omega arith)) ∙ e in cc
+www-more (suc (suc (suc zero))) c cs e =
+    left-same _ ∙ word-more 46 _ c cs (sym (case-dot c.value) ∙ e) ∙ sym (left-same _)
+www-more (suc (suc (suc (suc n)))) c cs e =
+    let no : false ≡ true = sym (many-w (suc (suc (suc (suc n)))) c.value (omega arith)) ∙ e in cc
 
-pub www-other : (n : ℕ) (cs : List Code) → n ≤ 3 → next_is (λ c. www_letter n c.value) cs ≡ false → www_test n cs ≡ false
-www-other zero cs h e = left-same _ ∙ word-none 119 _ cs (next-same (letter_test 119) _ (λ c. sym (case-w c.value)) cs ∙ e)
-www-other (suc zero) cs h e = left-same _ ∙ word-none 119 _ cs (next-same (letter_test 119) _ (λ c. sym (case-w c.value)) cs ∙ e)
-www-other (suc (suc zero)) cs h e = left-same _ ∙ word-none 119 _ cs (next-same (letter_test 119) _ (λ c. sym (case-w c.value)) cs ∙ e)
-www-other (suc (suc (suc zero))) cs h e = left-same _ ∙ word-none 46 _ cs (next-same (letter_test 46) _ (λ c. sym (case-dot c.value)) cs ∙ e)
+pub www-other : (n : ℕ) (cs : List Code) → n ≤ 3 → next_is (λ c. www_letter n c.value) cs ≡ false →
+    www_test n cs ≡ false
+www-other zero cs h e =
+    left-same _ ∙ word-none 119 _ cs (next-same (letter_test 119) _ (λ c. sym (case-w c.value)) cs ∙ e)
+www-other (suc zero) cs h e =
+    left-same _ ∙ word-none 119 _ cs (next-same (letter_test 119) _ (λ c. sym (case-w c.value)) cs ∙ e)
+www-other (suc (suc zero)) cs h e =
+    left-same _ ∙ word-none 119 _ cs (next-same (letter_test 119) _ (λ c. sym (case-w c.value)) cs ∙ e)
+www-other (suc (suc (suc zero))) cs h e =
+    left-same _ ∙ word-none 46 _ cs (next-same (letter_test 46) _ (λ c. sym (case-dot c.value)) cs ∙ e)
 www-other (suc (suc (suc (suc n)))) cs h e = absurd (omega (arith, h))
 
 pub www-left : (cs : List Code) → www_test 4 cs ≡ not (is_empty cs)
-www-left cs = ap (λ (o : Option (List Code × List Code)). elim o as (λ _. Bool) [ None ↦ false | Some r ↦ not (is_empty r.1) ]) (letters-nil cs)
+www-left cs =
+    ap (λ (o : Option (List Code × List Code)). elim o as (λ _. Bool) [ None ↦ false | Some r ↦ not (is_empty r.1) ]) (letters-nil cs)

@@ -20,10 +20,12 @@ laws W within t other H.GfmAutolinkLiteralWwwPrefixInside = GfmAutolinkLiteralWw
 laws W within t other H.GfmAutolinkLiteralWwwPrefixAfter = GfmAutolinkLiteralWwwLaws.www_prefix_after-law W within
 laws W within t other H.GfmAutolinkLiteralWwwAfter = GfmAutolinkLiteralWwwLaws.www_after-law W
 laws W within t other H.GfmAutolinkLiteralDomainInside = GfmAutolinkLiteralAddressLaws.domain-law W within
-laws W within t other H.GfmAutolinkLiteralDomainAtPunctuation = GfmAutolinkLiteralAddressLaws.domain_punctuation-law W within
+laws W within t other H.GfmAutolinkLiteralDomainAtPunctuation =
+    GfmAutolinkLiteralAddressLaws.domain_punctuation-law W within
 laws W within t other H.GfmAutolinkLiteralDomainAfter = GfmAutolinkLiteralAddressLaws.domain_after-law W within
 laws W within t other H.GfmAutolinkLiteralPathInside = GfmAutolinkLiteralAddressLaws.path-law W within
-laws W within t other H.GfmAutolinkLiteralPathAtPunctuation = GfmAutolinkLiteralAddressLaws.path_punctuation-law W within
+laws W within t other H.GfmAutolinkLiteralPathAtPunctuation =
+    GfmAutolinkLiteralAddressLaws.path_punctuation-law W within
 laws W within t other H.GfmAutolinkLiteralPathAfter = GfmAutolinkLiteralAddressLaws.path_after-law W
 laws W within t other H.GfmAutolinkLiteralTrail = GfmAutolinkLiteralTrailLaws.trail-law W within
 laws W within t other H.GfmAutolinkLiteralTrailBracketAfter = GfmAutolinkLiteralTrailLaws.bracket_after-law W within

@@ -23,11 +23,13 @@ use Rattle.markdown_engine.specs.StateWords.{Words, Law, GoesIn}
 use Rattle.markdown_plan.specs.LayerEquation.{Within}
 
 -- past a code the document and the content's end are the same
-trails-then : (mode : Option Bool) (T : Tokenizer) → trails_in (bytes_of (done (Consume ∷ []) T)) (end_of (done (Consume ∷ []) T)) mode (ahead (done (Consume ∷ []) T)) ≡ trails_in (bytes_of T) (end_of T) mode (rest_of (ahead T))
+trails-then : (mode : Option Bool) (T : Tokenizer) →
+    trails_in (bytes_of (done (Consume ∷ []) T)) (end_of (done (Consume ∷ []) T)) mode (ahead (done (Consume ∷ []) T)) ≡ trails_in (bytes_of T) (end_of T) mode (rest_of (ahead T))
 unfolding applied moved
 trails-then mode T = ap (trails_in (bytes_of T) (end_of T) mode) (ahead-consumed T)
 
-on-then : (T : Tokenizer) → trails_on (bytes_of (done (Consume ∷ []) T)) (end_of (done (Consume ∷ []) T)) (ahead (done (Consume ∷ []) T)) ≡ trails_on (bytes_of T) (end_of T) (rest_of (ahead T))
+on-then : (T : Tokenizer) →
+    trails_on (bytes_of (done (Consume ∷ []) T)) (end_of (done (Consume ∷ []) T)) (ahead (done (Consume ∷ []) T)) ≡ trails_on (bytes_of T) (end_of T) (rest_of (ahead T))
 unfolding applied moved
 on-then T = ap (trails_on (bytes_of T) (end_of T)) (ahead-consumed T)
 
@@ -65,7 +67,8 @@ trail-law W within T alone look =
     ∙ back))))))
 
 -- whether a bracket ends here, by the codes ahead
-bracket-ahead : (cs : List Code) → ends_bracket (value_of (first_of cs)) ≡ (is_empty cs || next_is (λ d. is_whitespace_code d || is_among (codes "([") d) cs)
+bracket-ahead : (cs : List Code) →
+    ends_bracket (value_of (first_of cs)) ≡ (is_empty cs || next_is (λ d. is_whitespace_code d || is_among (codes "([") d) cs)
 bracket-ahead [] = refl
 bracket-ahead (c ∷ cs) = refl
 

@@ -26,7 +26,8 @@ use Rattle.markdown_model.specs.GfmAutolinkLiteral.{domain, domain_from, path, p
 use Rattle.markdown_plan.specs.Plan.{Plan, plan_of, DoesAs}
 use Rattle.markdown_plan.proofs.PlanSteps.{EndsAs-plan}
 use Rattle.markdown_plan.specs.Characters.{bytes_of}
-use Rattle.markdown_leaf_gfm.specs.GfmAutolinkLiteral.{end_of, before_of, is_on, rested, sized, refused, precedes_www, www_letter, may_begin_www, is_ruled_out, KnowsDomains, www_start_at, www_start_step, www_prefix_at, entered_literal, StartReady, LiteralReady, WwwReady, Tries, is_well, fields_after, domain_plan, address, pass_ops, domain_ends, www_test, www_prefix_ends, www_after_ends, www_here, www_start_ends, states, www_after_words, www_prefix_after_words, www_prefix_words, www_start_words}
+use Rattle.markdown_leaf_gfm.specs.GfmAutolinkLiteral.{end_of, before_of, is_on, rested, sized, refused, precedes_www, www_letter, may_begin_www, is_ruled_out, KnowsDomains, www_start_at, www_start_step, www_prefix_at, entered_literal, StartReady, LiteralReady, WwwReady, Tries, is_well}
+use Rattle.markdown_leaf_gfm.specs.GfmAutolinkLiteral.{fields_after, domain_plan, address, pass_ops, domain_ends, www_test, www_prefix_ends, www_after_ends, www_here, www_start_ends, states, www_after_words, www_prefix_after_words, www_prefix_words, www_start_words}
 use Rattle.markdown_leaf_gfm.proofs.GfmAutolinkLiteralReadings.{address-is, www-more, www-other, www-left}
 use Rattle.markdown_leaf_gfm.specs.DomainOutlook.{is_barred}
 use Rattle.markdown_leaf_gfm.proofs.DomainOutlookLemmas.{ruled-out}
@@ -40,7 +41,8 @@ use Rattle.markdown_plan.specs.LayerEquation.{Within}
 
 -- In the word.
 
-tries-here : (test : Bool) (T : Tokenizer) (ok : Bool) (U : Tokenizer) → ok ≡ test → U ≡ scratched (rested T.tokenize_state) T → Tries test T ok U
+tries-here : (test : Bool) (T : Tokenizer) (ok : Bool) (U : Tokenizer) → ok ≡ test →
+    U ≡ scratched (rested T.tokenize_state) T → Tries test T ok U
 tries-here test T ok U e h =
     let s : TokenizeState = rested T.tokenize_state in
     record {
@@ -49,7 +51,8 @@ tries-here test T ok U e h =
       scratch = ap (λ (x : Tokenizer). x.tokenize_state) h ∙ scratch-scratched s T;
     }
 
-tries-past : (n : ℕ) (test then1 : Bool) (T : Tokenizer) (ok : Bool) (U : Tokenizer) → then1 ≡ test → Tries then1 (scratched (sized n T.tokenize_state) (done (Consume ∷ []) T)) ok U → Tries test T ok U
+tries-past : (n : ℕ) (test then1 : Bool) (T : Tokenizer) (ok : Bool) (U : Tokenizer) → then1 ≡ test →
+    Tries then1 (scratched (sized n T.tokenize_state) (done (Consume ∷ []) T)) ok U → Tries test T ok U
 tries-past n test then1 T ok U e k =
     record {
       answer = k.answer ∙ e;
@@ -57,9 +60,12 @@ tries-past n test then1 T ok U e k =
       scratch = k.scratch ∙ ap (λ (x : TokenizeState). rested x) (scratch-scratched (sized n T.tokenize_state) (done (Consume ∷ []) T));
     }
 
-www-then : (n : ℕ) (T : Tokenizer) (ok : Bool) (U : Tokenizer) → www_prefix_ends (scratched (sized n T.tokenize_state) (done (Consume ∷ []) T)) ok U → Tries (www_test n (rest_of (ahead T))) (scratched (sized n T.tokenize_state) (done (Consume ∷ []) T)) ok U
+www-then : (n : ℕ) (T : Tokenizer) (ok : Bool) (U : Tokenizer) →
+    www_prefix_ends (scratched (sized n T.tokenize_state) (done (Consume ∷ []) T)) ok U →
+    Tries (www_test n (rest_of (ahead T))) (scratched (sized n T.tokenize_state) (done (Consume ∷ []) T)) ok U
 unfolding scratched
-www-then n T ok U k = subst (λ cs. Tries (www_test n cs) (scratched (sized n T.tokenize_state) (done (Consume ∷ []) T)) ok U) (ahead-consumed T) k
+www-then n T ok U k =
+    subst (λ cs. Tries (www_test n cs) (scratched (sized n T.tokenize_state) (done (Consume ∷ []) T)) ok U) (ahead-consumed T) k
 
 few-letters : (n v : ℕ) → www_letter n v ≡ true → n ≤ 3
 few-letters n v e = grind (arith, nat_tests)
@@ -77,7 +83,8 @@ www-end n true h e = ap (λ k. www_test k []) (eqb-true n 4 e) ∙ www-left []
 www-end n false h e = www-other n [] (not-four n h e) refl
 
 module _ (W : Words) (within : Within states W) where
-  tries-ended : (T : Tokenizer) (test : Bool) → T.attempts ≡ [] → test ≡ false → GoesIn W (weight_at 1 T) (Tries test T) (refused T)
+  tries-ended : (T : Tokenizer) (test : Bool) → T.attempts ≡ [] → test ≡ false →
+      GoesIn W (weight_at 1 T) (Tries test T) (refused T)
   tries-ended T test alone e =
       Goes-end W (weight_at 1 T) (Tries test T) false (scratched (rested T.tokenize_state) T) (attempts-scratched (rested T.tokenize_state) T ∙ alone) (omega arith) (λ ok U x. tries-here test T ok U (x.0 ∙ sym e) x.1)
 
@@ -104,15 +111,19 @@ module _ (W : Words) (within : Within states W) where
 
   -- The address.
 
-  begins-by : (s : TokenizeState) (d : List Code) (os : List Op) → s.seen ≡ false → Begins (if is_well (fields_after d s) then Some (consumes d ++ os) else None)
-  begins-by s [] os e xs k = let no : None ≡ Some xs = sym (if-false (is_well s) (Some os) None (ap (λ b. b && (not (s.marker == 95) && not (s.marker_b == 95))) e)) ∙ k in cc
+  begins-by : (s : TokenizeState) (d : List Code) (os : List Op) → s.seen ≡ false →
+      Begins (if is_well (fields_after d s) then Some (consumes d ++ os) else None)
+  begins-by s [] os e xs k =
+      let no : None ≡ Some xs = sym (if-false (is_well s) (Some os) None (ap (λ b. b && (not (s.marker == 95) && not (s.marker_b == 95))) e)) ∙ k in cc
   begins-by s (c ∷ cs) os e xs k = by_test (is_well (fields_after (c ∷ cs) s)) xs k
     where
-      by_test : (b : Bool) (xs : List Op) → (if b then Some (Consume ∷ consumes cs ++ os) else None) ≡ Some xs → (more : List Op) × (xs ≡ Consume ∷ more)
+      by_test : (b : Bool) (xs : List Op) → (if b then Some (Consume ∷ consumes cs ++ os) else None) ≡ Some xs →
+          (more : List Op) × (xs ≡ Consume ∷ more)
       by_test true xs k = (consumes cs ++ os, cc)
       by_test false xs k = cc
 
-  begins-address : (bytes : List ℕ) (end : ℕ) (s : TokenizeState) (cs : List Code) → rested s ≡ s → Begins (pass_ops (address bytes end cs))
+  begins-address : (bytes : List ℕ) (end : ℕ) (s : TokenizeState) (cs : List Code) → rested s ≡ s →
+      Begins (pass_ops (address bytes end cs))
   begins-address bytes end s cs e =
       subst Begins (sym (address-is bytes end s cs e)) (begins-by s (domain_from bytes end cs).0 (consumes (path_from bytes end s.size s.size_b (domain_from bytes end cs).1).0) (ap (λ (x : TokenizeState). x.seen) (sym e)))
 
@@ -123,7 +134,9 @@ module _ (W : Words) (within : Within states W) where
       let closed : T.tokenize_state.size_b ≡ 0 = ap (λ (x : TokenizeState). x.size_b) (sym k.resting) in
       record { text = k.text; opened = omega (arith, opened, k.short); closed = omega (arith, closed, k.short) }
 
-  address-entered : (T : Tokenizer) → rested T.tokenize_state ≡ T.tokenize_state → (ok : Bool) (U : Tokenizer) → domain_ends (entered_literal N.GfmAutolinkLiteralWww T) ok U → DoesAs 0 (λ cs. pass_ops (address (bytes_of T) (end_of T) cs)) (rested T.tokenize_state) (entered_literal N.GfmAutolinkLiteralWww T) ok U
+  address-entered : (T : Tokenizer) → rested T.tokenize_state ≡ T.tokenize_state → (ok : Bool) (U : Tokenizer) →
+      domain_ends (entered_literal N.GfmAutolinkLiteralWww T) ok U →
+      DoesAs 0 (λ cs. pass_ops (address (bytes_of T) (end_of T) cs)) (rested T.tokenize_state) (entered_literal N.GfmAutolinkLiteralWww T) ok U
   unfolding applied
   address-entered T e ok U k =
       let A : Tokenizer = entered_literal N.GfmAutolinkLiteralWww T in
@@ -150,11 +163,13 @@ module _ (W : Words) (within : Within states W) where
       by_code (Some c) = refl
 
   -- the word is looked at, and all is as before
-  back-here : (T U : Tokenizer) (test ok : Bool) → rested T.tokenize_state ≡ T.tokenize_state → Tries test T ok U → restored (frame_of true (Next GfmAutolinkLiteralWwwPrefixAfter) Nok T) U ≡ T
+  back-here : (T U : Tokenizer) (test ok : Bool) → rested T.tokenize_state ≡ T.tokenize_state → Tries test T ok U →
+      restored (frame_of true (Next GfmAutolinkLiteralWwwPrefixAfter) Nok T) U ≡ T
   back-here T U test ok e k =
       restored-grown true (Next GfmAutolinkLiteralWwwPrefixAfter) Nok T U k.grown ∙ ap (λ (x : TokenizeState). scratched x T) (k.scratch ∙ e) ∙ scratched-same T
 
-  no-fall : (T : Tokenizer) (p : Plan) → p (ahead T) ≡ None → (ok : Bool) (V : Tokenizer) → (ok ≡ false) × (V ≡ T) → DoesAs 0 p T.tokenize_state T ok V
+  no-fall : (T : Tokenizer) (p : Plan) → p (ahead T) ≡ None → (ok : Bool) (V : Tokenizer) → (ok ≡ false) × (V ≡ T) →
+      DoesAs 0 p T.tokenize_state T ok V
   no-fall T p e ok V x =
       subst (λ b. DoesAs 0 p T.tokenize_state T b V) (sym x.0)
       (record { none = e; grown = subst (λ (y : Tokenizer). Grown 0 T y) (sym x.1) (Grown-refl 0 T); scratch = ap (λ (y : Tokenizer). y.tokenize_state) x.1 })
@@ -167,12 +182,15 @@ module _ (W : Words) (within : Within states W) where
   may_be : Tokenizer → Bool
   may_be T = is_on T && precedes_www (previous_of T)
 
-  stands-by : (T : Tokenizer) (cs : List Code) → is_on T && (may_precede_www (before_of T) && begins_with_www cs) ≡ may_be T && www_test 0 cs
+  stands-by : (T : Tokenizer) (cs : List Code) →
+      is_on T && (may_precede_www (before_of T) && begins_with_www cs) ≡ may_be T && www_test 0 cs
   unfolding may_be
-  stands-by T cs = and-three (is_on T) (may_precede_www (before_of T)) (begins_with_www cs) ∙ ap (λ m. (is_on T && m) && begins_with_www cs) (sym (before-www T))
+  stands-by T cs =
+      and-three (is_on T) (may_precede_www (before_of T)) (begins_with_www cs) ∙ ap (λ m. (is_on T && m) && begins_with_www cs) (sym (before-www T))
 
   -- no domain begins where that is known
-  barred-domain : (bytes : List ℕ) (end : ℕ) (cs : List Code) → is_barred bytes end cs ≡ true → domain bytes end cs ≡ None
+  barred-domain : (bytes : List ℕ) (end : ℕ) (cs : List Code) → is_barred bytes end cs ≡ true →
+      domain bytes end cs ≡ None
   unfolding domain
   barred-domain bytes end cs e =
       ap (λ b. elim b as (λ _. Option (List Code × List Code)) [ true ↦ Some (domain_from bytes end cs) | false ↦ None ])
@@ -183,7 +201,8 @@ module _ (W : Words) (within : Within states W) where
       no-domain true false k = refl
       no-domain false b k = refl
 
-  ruled-none : (T : Tokenizer) → KnowsDomains T → is_ruled_out T ≡ true → plan_of (www_from_here (bytes_of T) (end_of T)) (ahead T) ≡ None
+  ruled-none : (T : Tokenizer) → KnowsDomains T → is_ruled_out T ≡ true →
+      plan_of (www_from_here (bytes_of T) (end_of T)) (ahead T) ≡ None
   unfolding ahead_at
   ruled-none T knows e =
       from-here-is (bytes_of T) (end_of T) (ahead T)
@@ -194,11 +213,14 @@ module _ (W : Words) (within : Within states W) where
   first-part true false w e = e
   first-part false k w e = cc
 
-  www-stands : (T : Tokenizer) (cs : List Code) → may_begin_www T && www_test 0 cs ≡ true → plan_of (www_here T) cs ≡ plan_of (www_from_here (bytes_of T) (end_of T)) cs
+  www-stands : (T : Tokenizer) (cs : List Code) → may_begin_www T && www_test 0 cs ≡ true →
+      plan_of (www_here T) cs ≡ plan_of (www_from_here (bytes_of T) (end_of T)) cs
   unfolding may_be
-  www-stands T cs e = www-is (bytes_of T) (end_of T) (is_on T) (before_of T) cs (stands-by T cs ∙ first-part (may_be T) (is_ruled_out T) (www_test 0 cs) e)
+  www-stands T cs e =
+      www-is (bytes_of T) (end_of T) (is_on T) (before_of T) cs (stands-by T cs ∙ first-part (may_be T) (is_ruled_out T) (www_test 0 cs) e)
 
-  fails-by : (T : Tokenizer) (cs : List Code) (b : Bool) → KnowsDomains T → ahead T ≡ cs → may_be T && www_test 0 cs ≡ b → is_ruled_out T ≡ true → plan_of (www_here T) cs ≡ None
+  fails-by : (T : Tokenizer) (cs : List Code) (b : Bool) → KnowsDomains T → ahead T ≡ cs →
+      may_be T && www_test 0 cs ≡ b → is_ruled_out T ≡ true → plan_of (www_here T) cs ≡ None
   fails-by T cs true knows here e k =
       www-is (bytes_of T) (end_of T) (is_on T) (before_of T) cs (stands-by T cs ∙ e) ∙ ap (plan_of (www_from_here (bytes_of T) (end_of T))) (sym here) ∙ ruled-none T knows k
   fails-by T cs false knows here e k = www-none (bytes_of T) (end_of T) (is_on T) (before_of T) cs (stands-by T cs ∙ e)
@@ -207,13 +229,16 @@ module _ (W : Words) (within : Within states W) where
   and-same true = refl
   and-same false = refl
 
-  www-fails : (T : Tokenizer) (cs : List Code) → KnowsDomains T → ahead T ≡ cs → may_begin_www T && www_test 0 cs ≡ false → plan_of (www_here T) cs ≡ None
+  www-fails : (T : Tokenizer) (cs : List Code) → KnowsDomains T → ahead T ≡ cs →
+      may_begin_www T && www_test 0 cs ≡ false → plan_of (www_here T) cs ≡ None
   unfolding may_be
   www-fails T cs knows here e = by_known (is_ruled_out T) refl e
     where
-      by_known : (k : Bool) → is_ruled_out T ≡ k → (may_be T && not k) && www_test 0 cs ≡ false → plan_of (www_here T) cs ≡ None
+      by_known : (k : Bool) → is_ruled_out T ≡ k → (may_be T && not k) && www_test 0 cs ≡ false →
+          plan_of (www_here T) cs ≡ None
       by_known true h f = fails-by T cs (may_be T && www_test 0 cs) knows here refl h
-      by_known false h f = www-none (bytes_of T) (end_of T) (is_on T) (before_of T) cs (stands-by T cs ∙ ap (λ m. m && www_test 0 cs) (sym (and-same (may_be T))) ∙ f)
+      by_known false h f =
+          www-none (bytes_of T) (end_of T) (is_on T) (before_of T) cs (stands-by T cs ∙ ap (λ m. m && www_test 0 cs) (sym (and-same (may_be T))) ∙ f)
 
   no-word : (a b w : Bool) → a && b ≡ false → (b ≡ false → w ≡ false) → a && w ≡ false
   no-word true b w e h = h e

@@ -35,7 +35,8 @@ use Rattle.markdown_partial.proofs.WhitespaceReadings.{space-all}
 use Rattle.markdown_plan.specs.Plan.{Plan, preceded, tree_ops, plan_of, KeepsAs}
 use Rattle.markdown_plan.proofs.PlanSteps.{EndsAs-plan}
 use Rattle.markdown_plan.proofs.PassedByReadings.{Gives, Covers, IsSome, Gives-bind, Gives-before, Gives-switched, Gives-one, Gives-gives, Covers-group, Covers-row, Covers-leaf, some-first}
-use Rattle.markdown_leaf_gfm.specs.GfmTaskListItemCheck.{opening, value, closing, is_mark, is_space, may_begin, start_at, start_step, inside_at, close_at, space_asked, looked, after_at, after_space_or_tab_at, MayLook, IsOpened, check_here, start_ends, after_plan, close_plan, inside_plan, inside_ends, close_ends, after_ends, after_space_or_tab_ends, states_and_called, after_space_or_tab_words, after_words, close_words, inside_words, start_words, states}
+use Rattle.markdown_leaf_gfm.specs.GfmTaskListItemCheck.{opening, value, closing, is_mark, is_space, may_begin, start_at, start_step, inside_at, close_at, space_asked, looked, after_at, after_space_or_tab_at, MayLook, IsOpened, check_here, start_ends, after_plan}
+use Rattle.markdown_leaf_gfm.specs.GfmTaskListItemCheck.{close_plan, inside_plan, inside_ends, close_ends, after_ends, after_space_or_tab_ends, states_and_called, after_space_or_tab_words, after_words, close_words, inside_words, start_words, states}
 use Rattle.markdown_leaf_gfm.proofs.CheckSteps.{Goes-looked, goes-then}
 use Rattle.markdown_model.proofs.GrammarSteps.{span-takes, bind-some, bind-none, before-some, before-none, before-other, one-here, one-not, switched-on, switched-off, and-left, and-right, if-true, if-false}
 use Rattle.markdown_engine.specs.StateWords.{StateWords, Words, Law, GoesIn, weight_in}
@@ -46,13 +47,16 @@ use Rattle.markdown_plan.specs.LayerEquation.{Within, AreLawful}
 
 -- from the closing bracket on
 abbrev closes : Name → List Code → List Code → Reading Forest
-closes name front read = before (one (is_value 93)) begins_task_text >>= λ back. gives (group N.GfmTaskListItemCheck (leaf N.GfmTaskListItemMarker front ⊕ leaf name read ⊕ leaf N.GfmTaskListItemMarker back))
+closes name front read =
+    before (one (is_value 93)) begins_task_text >>= λ back. gives (group N.GfmTaskListItemCheck (leaf N.GfmTaskListItemMarker front ⊕ leaf name read ⊕ leaf N.GfmTaskListItemMarker back))
 
 -- from the value on
 abbrev goes_on : List Code → Reading Forest
-goes_on front = one (λ c. is_whitespace_code c || is_among (codes "xX") c) >>= λ read. closes (check_name read) front read
+goes_on front =
+    one (λ c. is_whitespace_code c || is_among (codes "xX") c) >>= λ read. closes (check_name read) front read
 
-close-reading : (name : Name) (a v : Code) (cs : List Code) → tree_ops (closes name (a ∷ []) (v ∷ []) cs) ≡ preceded opening (preceded (value name) (close_plan cs))
+close-reading : (name : Name) (a v : Code) (cs : List Code) →
+    tree_ops (closes name (a ∷ []) (v ∷ []) cs) ≡ preceded opening (preceded (value name) (close_plan cs))
 unfolding gives
 close-reading name a v [] = ap tree_ops (bind-none _ _ _ (before-none _ _ _ (one-not (is_value 93) [] refl)))
 close-reading name a v (c ∷ cs) =
@@ -65,17 +69,21 @@ close-reading name a v (c ∷ cs) =
       | false ↦ λ e. ap tree_ops (bind-none _ _ _ (before-none _ _ _ (one-not (is_value 93) (c ∷ cs) e)))
     ] refl
 
-name-by : (read : List Code) (b : Bool) → next_is (is_among (codes "xX")) read ≡ b → check_name read ≡ (if b then N.GfmTaskListItemValueChecked else N.GfmTaskListItemValueUnchecked)
+name-by : (read : List Code) (b : Bool) → next_is (is_among (codes "xX")) read ≡ b →
+    check_name read ≡ (if b then N.GfmTaskListItemValueChecked else N.GfmTaskListItemValueUnchecked)
 name-by read true e = rw (e, check_name) refl
 name-by read false e = rw (e, check_name) refl
 
-value-here : (a c : Code) (cs : List Code) (b : Bool) → is_among (codes "xX") c ≡ b → is_whitespace_code c || is_among (codes "xX") c ≡ true → tree_ops (goes_on (a ∷ []) (c ∷ cs)) ≡ preceded opening (preceded (value (if b then N.GfmTaskListItemValueChecked else N.GfmTaskListItemValueUnchecked)) (close_plan cs))
+value-here : (a c : Code) (cs : List Code) (b : Bool) → is_among (codes "xX") c ≡ b →
+    is_whitespace_code c || is_among (codes "xX") c ≡ true →
+    tree_ops (goes_on (a ∷ []) (c ∷ cs)) ≡ preceded opening (preceded (value (if b then N.GfmTaskListItemValueChecked else N.GfmTaskListItemValueUnchecked)) (close_plan cs))
 value-here a c cs b e h =
     let name : Name = if b then N.GfmTaskListItemValueChecked else N.GfmTaskListItemValueUnchecked in
     ap tree_ops (bind-some _ _ _ (c ∷ []) cs _ (one-here (λ d. is_whitespace_code d || is_among (codes "xX") d) c cs h) (ap (λ n. closes n (a ∷ []) (c ∷ []) cs) (name-by (c ∷ []) b e))) ∙ close-reading name a c cs
 
 value-reading : (a : Code) (cs : List Code) → tree_ops (goes_on (a ∷ []) cs) ≡ preceded opening (inside_plan cs)
-value-reading a [] = ap tree_ops (bind-none _ _ _ (one-not (λ d. is_whitespace_code d || is_among (codes "xX") d) [] refl))
+value-reading a [] =
+    ap tree_ops (bind-none _ _ _ (one-not (λ d. is_whitespace_code d || is_among (codes "xX") d) [] refl))
 value-reading a (c ∷ cs) =
     let checked : Option (List Op) = preceded (value N.GfmTaskListItemValueChecked) (close_plan cs) in
     let unchecked : Option (List Op) = preceded (value N.GfmTaskListItemValueUnchecked) (close_plan cs) in
@@ -88,15 +96,18 @@ value-reading a (c ∷ cs) =
       ] refl
     ] refl
 
-check-bracket : (on : Bool) (c : Code) (cs : List Code) → on ≡ true → (c.value == 91) ≡ true → plan_of (provided on >> gfm_task_list_item_check) (c ∷ cs) ≡ preceded opening (inside_plan cs)
+check-bracket : (on : Bool) (c : Code) (cs : List Code) → on ≡ true → (c.value == 91) ≡ true →
+    plan_of (provided on >> gfm_task_list_item_check) (c ∷ cs) ≡ preceded opening (inside_plan cs)
 unfolding gfm_task_list_item_check
 check-bracket on c cs e h =
     ap tree_ops (switched-on gfm_task_list_item_check on (c ∷ cs) e ∙ bind-some _ _ _ _ _ _ (one-here (is_value 91) c cs h) refl) ∙ value-reading c cs
 
-no-check : (on : Bool) (cs : List Code) → on && next_is (is_value 91) cs ≡ false → plan_of (provided on >> gfm_task_list_item_check) cs ≡ None
+no-check : (on : Bool) (cs : List Code) → on && next_is (is_value 91) cs ≡ false →
+    plan_of (provided on >> gfm_task_list_item_check) cs ≡ None
 unfolding gfm_task_list_item_check
 no-check false cs e = ap tree_ops (switched-off gfm_task_list_item_check false cs refl)
-no-check true cs e = ap tree_ops (switched-on gfm_task_list_item_check true cs refl ∙ bind-none _ _ _ (one-not (is_value 91) cs e))
+no-check true cs e =
+    ap tree_ops (switched-on gfm_task_list_item_check true cs refl ∙ bind-none _ _ _ (one-not (is_value 91) cs e))
 
 whole : (on : Bool) → Gives Covers (provided on >> gfm_task_list_item_check)
 unfolding gfm_task_list_item_check
@@ -138,7 +149,9 @@ start-law W within T alone look =
     (λ h. Goes-no W 2 0 p T alone (ap p b.whole ∙ no-check (may_begin T) (b.code ∷ rest_of (ahead T)) (ap (λ v. may_begin T && (v == 91)) b.value ∙ h)))))
 
 -- past the value of this name
-value-goes : (W : Words) → Within states_and_called W → (name : Name) (T : Tokenizer) → T.attempts ≡ [] → IsOpened T → 1 ≤ length (ahead T) → inside_plan (ahead T) ≡ preceded (value name) (close_plan (rest_of (ahead T))) → GoesIn W (weight_at 1 T) (inside_ends T) (stepped (Next GfmTaskListItemCheckClose) (done (value name) T))
+value-goes : (W : Words) → Within states_and_called W → (name : Name) (T : Tokenizer) → T.attempts ≡ [] → IsOpened T →
+    1 ≤ length (ahead T) → inside_plan (ahead T) ≡ preceded (value name) (close_plan (rest_of (ahead T))) →
+    GoesIn W (weight_at 1 T) (inside_ends T) (stepped (Next GfmTaskListItemCheckClose) (done (value name) T))
 value-goes W within name T alone on some e =
     Goes-next W 1 1 inside_plan close_plan (value name) T (Next GfmTaskListItemCheckClose) (within GfmTaskListItemCheckClose) alone refl some (omega arith) e
     (record { whole = (let w : IsOpen N.GfmTaskListItemCheck T = on.whole in grind (arith, law_rules)); look = look-done (value name) T some on.look })
@@ -185,7 +198,8 @@ record Spaced (T U : Tokenizer) : Type 0 where
   after : ahead U ≡ (span is_blank (ahead T)).1
   fewer : codes_left U ≤ codes_left T
 
-space-there : (T : Tokenizer) → next_is is_blank (ahead T) ≡ true → codes_left T ≤ most → space_or_tab N.SpaceOrTab None 1 most (ahead T) ≡ Some (linked_leaf N.SpaceOrTab None (span is_blank (ahead T)).0, (span is_blank (ahead T)).1)
+space-there : (T : Tokenizer) → next_is is_blank (ahead T) ≡ true → codes_left T ≤ most →
+    space_or_tab N.SpaceOrTab None 1 most (ahead T) ≡ Some (linked_leaf N.SpaceOrTab None (span is_blank (ahead T)).0, (span is_blank (ahead T)).1)
 space-there T h l = space-all N.SpaceOrTab None most (ahead T) h (omega (arith, left-ahead T, l))
 
 rest_read : Option (Forest × List Code) → List Code
@@ -193,11 +207,13 @@ rest_read None = []
 rest_read (Some r) = r.1
 
 -- set back, a tokenizer has its scratch fields back too
-back-there : (s : TokenizeState) (T : Tokenizer) → rested s ≡ s → T.tokenize_state ≡ s → scratched (rested (space_asked s)) (scratched (space_asked s) T) ≡ T
+back-there : (s : TokenizeState) (T : Tokenizer) → rested s ≡ s → T.tokenize_state ≡ s →
+    scratched (rested (space_asked s)) (scratched (space_asked s) T) ≡ T
 unfolding scratched
 back-there s T e h = ap (λ (x : TokenizeState). scratched x T) (e ∙ sym h) ∙ scratched-same T
 
-spaced : (T U : Tokenizer) → MayLook T → next_is is_blank (ahead T) ≡ true → PartialSpaceOrTab.start_ends (scratched (space_asked T.tokenize_state) T) true U → Spaced T U
+spaced : (T U : Tokenizer) → MayLook T → next_is is_blank (ahead T) ≡ true →
+    PartialSpaceOrTab.start_ends (scratched (space_asked T.tokenize_state) T) true U → Spaced T U
 unfolding scratched rest_read
 spaced T U look h k =
     let s : TokenizeState = T.tokenize_state in
@@ -213,29 +229,36 @@ spaced T U look h k =
 some-none : (o : Option (Forest × List Code)) (r : Forest × List Code) → o ≡ Some r → o ≡ None → ⊥
 some-none o r e h = cc
 
-never-refused : (T U : Tokenizer) → MayLook T → next_is is_blank (ahead T) ≡ true → PartialSpaceOrTab.start_ends (scratched (space_asked T.tokenize_state) T) false U → ⊥
+never-refused : (T U : Tokenizer) → MayLook T → next_is is_blank (ahead T) ≡ true →
+    PartialSpaceOrTab.start_ends (scratched (space_asked T.tokenize_state) T) false U → ⊥
 unfolding scratched
 never-refused T U look h k = some-none _ _ (space-there T h look.short) k.refused
 
 space-ready : (T : Tokenizer) → MayLook T → PartialSpaceOrTab.StartReady (scratched (space_asked T.tokenize_state) T)
 unfolding scratched
-space-ready T look = record { none_yet = ap (λ (s : TokenizeState). s.space_or_tab_size) (sym look.resting); linked = λ h. cc }
+space-ready T look =
+    record { none_yet = ap (λ (s : TokenizeState). s.space_or_tab_size) (sym look.resting); linked = λ h. cc }
 
 -- at a blank code the text of the item follows where a further code does
-blank-text : (c : Code) (cs : List Code) → is_line_ending c ≡ false → is_blank c ≡ true → begins_task_text (c ∷ cs) ≡ not (is_empty (span is_blank (c ∷ cs)).1)
+blank-text : (c : Code) (cs : List Code) → is_line_ending c ≡ false → is_blank c ≡ true →
+    begins_task_text (c ∷ cs) ≡ not (is_empty (span is_blank (c ∷ cs)).1)
 blank-text c cs e h =
     let more : Bool = not (is_empty (span is_blank cs).1) in
     ap (λ b. b || (is_blank c && more)) e ∙ ap (λ b. b && more) h ∙ ap (λ (s : List Code × List Code). not (is_empty s.1)) (sym (span-takes is_blank c cs h))
 
 -- the check ends, whether it holds or not, where it began
-check-ended : (W : Words) (n : ℕ) (End : Bool → Tokenizer → Type 0) (ok : Bool) (A V X : Tokenizer) → 0 < n → restored (frame_of true State.Ok Nok A) V ≡ X → End ok X → Goes W.ready W.ends (weight_in W) n End [] (going_state (frame_of true State.Ok Nok A) ok) (going_in (frame_of true State.Ok Nok A) ok V)
+check-ended : (W : Words) (n : ℕ) (End : Bool → Tokenizer → Type 0) (ok : Bool) (A V X : Tokenizer) → 0 < n →
+    restored (frame_of true State.Ok Nok A) V ≡ X → End ok X →
+    Goes W.ready W.ends (weight_in W) n End [] (going_state (frame_of true State.Ok Nok A) ok) (going_in (frame_of true State.Ok Nok A) ok V)
 unfolding frame_of
 check-ended W n End true A V X some e k =
     (record { goes_on = tt; falls = some }, λ ok U x. subst (λ b. End b U) (sym x.0) (subst (End true) (sym (x.1 ∙ e)) k))
 check-ended W n End false A V X some e k =
     (record { goes_on = tt; falls = some }, λ ok U x. subst (λ b. End b U) (sym x.0) (subst (End false) (sym (x.1 ∙ e)) k))
 
-look-law : (W : Words) → Within states_and_called W → (T : Tokenizer) → T.attempts ≡ [] → MayLook T → next_is is_blank (ahead T) ≡ true → begins_task_text (ahead T) ≡ not (is_empty (span is_blank (ahead T)).1) → GoesIn W (weight_at 4 T) (after_ends T) (stepped (Retry SpaceOrTabStart) (looked T))
+look-law : (W : Words) → Within states_and_called W → (T : Tokenizer) → T.attempts ≡ [] → MayLook T →
+    next_is is_blank (ahead T) ≡ true → begins_task_text (ahead T) ≡ not (is_empty (span is_blank (ahead T)).1) →
+    GoesIn W (weight_at 4 T) (after_ends T) (stepped (Retry SpaceOrTabStart) (looked T))
 look-law W within T alone look b text =
     let s : TokenizeState = T.tokenize_state in
     let n : ℕ = weight_at 4 T in
@@ -274,7 +297,8 @@ after_space_or_tab-law W T alone _ =
     (λ c e. Goes-end W n (after_space_or_tab_ends T) true T alone (omega arith) (λ ok U k. (k.0 ∙ ap (λ cs. not (is_empty cs)) (sym (ahead-some T c e).whole), k.1)))
 
 -- of these states, and of any other as it is given
-pub laws : (W : Words) → Within states_and_called W → (t : StateName → StateWords) → AreLawful W t → AreLawful W (states t)
+pub laws : (W : Words) → Within states_and_called W → (t : StateName → StateWords) → AreLawful W t →
+    AreLawful W (states t)
 laws W within t other H.GfmTaskListItemCheckStart = start-law W within
 laws W within t other H.GfmTaskListItemCheckInside = inside-law W within
 laws W within t other H.GfmTaskListItemCheckClose = close-law W within

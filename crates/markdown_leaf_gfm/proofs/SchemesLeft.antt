@@ -27,12 +27,14 @@ is_spelling n = n == 58 || is_between 97 122 n
 spelling-first : (n : ℕ) (ns : List ℕ) → is_scheme (n ∷ ns) ≡ true → is_spelling n ≡ true
 spelling-first n ns h = by_test (n == 58) refl h
   where
-    by_test : (b : Bool) → (n == 58) ≡ b → (if b then is_slashes ns else is_between 97 122 n && is_scheme ns) ≡ true → is_spelling n ≡ true
+    by_test : (b : Bool) → (n == 58) ≡ b → (if b then is_slashes ns else is_between 97 122 n && is_scheme ns) ≡ true →
+        is_spelling n ≡ true
     by_test true e k = ap (λ b. b || is_between 97 122 n) e
     by_test false e k = ap (λ b. b || is_between 97 122 n) e ∙ and-left (is_between 97 122 n) (is_scheme ns) k
 
 -- a code stands for one of these at most
-one-letter : (n m v : ℕ) → is_spelling n ≡ true → is_spelling m ≡ true → stands_for n v ≡ true → (n == m) ≡ false → stands_for m v ≡ false
+one-letter : (n m v : ℕ) → is_spelling n ≡ true → is_spelling m ≡ true → stands_for n v ≡ true → (n == m) ≡ false →
+    stands_for m v ≡ false
 one-letter n m v h k e f = grind (arith, nat_tests)
 
 pub colon-for : (n v : ℕ) → is_spelling n ≡ true → stands_for n v ≡ true → (v == 58) ≡ true → (n == 58) ≡ true
@@ -47,7 +49,8 @@ spelling-low n h = grind (arith, nat_tests)
 pub both-stand : (n v : ℕ) → nat_lt n 129 ≡ true → list_any (λ m. v == m) (in_both_cases n) ≡ stands_for n v
 both-stand n v h = by_case (is_between 97 122 n) refl
   where
-    by_case : (b : Bool) → is_between 97 122 n ≡ b → list_any (λ m. v == m) (if b then (n - 32) ∷ n ∷ [] else n ∷ []) ≡ stands_for n v
+    by_case : (b : Bool) → is_between 97 122 n ≡ b →
+        list_any (λ m. v == m) (if b then (n - 32) ∷ n ∷ [] else n ∷ []) ≡ stands_for n v
     by_case true e = grind (arith, nat_tests)
     by_case false e = grind (arith, nat_tests)
 
@@ -65,13 +68,15 @@ tail_of : ℕ → Option (List ℕ) → Option (List ℕ)
 tail_of a None = None
 tail_of a (Some word) = tail_at a word
 
-tails-before : (a : ℕ) (o : Option (List ℕ)) (words : List (List ℕ)) → tails a (some_before o words) ≡ some_before (tail_of a o) (tails a words)
+tails-before : (a : ℕ) (o : Option (List ℕ)) (words : List (List ℕ)) →
+    tails a (some_before o words) ≡ some_before (tail_of a o) (tails a words)
 unfolding tail_of
 tails-before a None words = refl
 tails-before a (Some word) words = refl
 
 -- behind a front, and a letter that a word with this front has next
-next-rest : (first next : List ℕ) (n a : ℕ) (r word : List ℕ) → rest_like first n next ≡ Some (a ∷ r) → rest_like next (suc n) word ≡ tail_of a (rest_like first n word)
+next-rest : (first next : List ℕ) (n a : ℕ) (r word : List ℕ) → rest_like first n next ≡ Some (a ∷ r) →
+    rest_like next (suc n) word ≡ tail_of a (rest_like first n word)
 unfolding tail_of
 next-rest first [] zero a r word e = cc
 next-rest first (b ∷ next) zero a r [] e = refl
@@ -90,15 +95,18 @@ next-rest (o ∷ more) (l ∷ next) (suc n) a r word e = by_test (o == l) refl e
     More : Type 0
     More = (rest : List ℕ) → rest_like more n next ≡ Some (a ∷ r) → rest_like next (suc n) rest ≡ tail_of a (rest_like more n rest)
 
-    behind : (word : List ℕ) → o ≡ l → rest_like more n next ≡ Some (a ∷ r) → More → rest_like (l ∷ next) (suc (suc n)) word ≡ tail_of a (rest_like (o ∷ more) (suc n) word)
+    behind : (word : List ℕ) → o ≡ l → rest_like more n next ≡ Some (a ∷ r) → More →
+        rest_like (l ∷ next) (suc (suc n)) word ≡ tail_of a (rest_like (o ∷ more) (suc n) word)
     behind [] s k again = refl
     behind (c ∷ word) s k again = by_next (l == c) refl ∙ ap (λ x. tail_of a (if x == c then rest_like more n word else None)) (sym s)
       where
-        by_next : (b : Bool) → (l == c) ≡ b → (if b then rest_like next (suc n) word else None) ≡ tail_of a (if b then rest_like more n word else None)
+        by_next : (b : Bool) → (l == c) ≡ b →
+            (if b then rest_like next (suc n) word else None) ≡ tail_of a (if b then rest_like more n word else None)
         by_next true f = again word k
         by_next false f = refl
 
-    by_test : (b : Bool) → (o == l) ≡ b → (if b then rest_like more n next else None) ≡ Some (a ∷ r) → More → rest_like (l ∷ next) (suc (suc n)) word ≡ tail_of a (rest_like (o ∷ more) (suc n) word)
+    by_test : (b : Bool) → (o == l) ≡ b → (if b then rest_like more n next else None) ≡ Some (a ∷ r) → More →
+        rest_like (l ∷ next) (suc (suc n)) word ≡ tail_of a (rest_like (o ∷ more) (suc n) word)
     by_test true s k again = behind word (eqb-true o l s) k again
     by_test false s k again = cc
 
@@ -106,14 +114,16 @@ abbrev pub no_words : List (List ℕ) → Bool
 no_words [] = true
 no_words (word ∷ words) = false
 
-words-behind : (first next : List ℕ) (n a : ℕ) (r : List ℕ) (words : List (List ℕ)) → rest_like first n next ≡ Some (a ∷ r) → words_like next (suc n) words ≡ tails a (words_like first n words)
+words-behind : (first next : List ℕ) (n a : ℕ) (r : List ℕ) (words : List (List ℕ)) →
+    rest_like first n next ≡ Some (a ∷ r) → words_like next (suc n) words ≡ tails a (words_like first n words)
 words-behind first next n a r [] e = refl
 words-behind first next n a r (word ∷ words) e =
     ap (λ o. some_before o (words_like next (suc n) words)) (next-rest first next n a r word e)
     ∙ ap (some_before (tail_of a (rest_like first n word))) (words-behind first next n a r words e)
     ∙ sym (tails-before a (rest_like first n word) (words_like first n words))
 
-pub next-words : (first next : List ℕ) (n a : ℕ) (r : List ℕ) (words : List (List ℕ)) → rest_like first n next ≡ Some (a ∷ r) → words_like next (n + 1) words ≡ tails a (words_like first n words)
+pub next-words : (first next : List ℕ) (n a : ℕ) (r : List ℕ) (words : List (List ℕ)) →
+    rest_like first n next ≡ Some (a ∷ r) → words_like next (n + 1) words ≡ tails a (words_like first n words)
 next-words first next n a r words e = ap (λ k. words_like next k words) one-more ∙ words-behind first next n a r words e
   where
     one-more : n + 1 ≡ suc n
@@ -122,7 +132,9 @@ next-words first next n a r words e = ap (λ k. words_like next k words) one-mor
 -- What is read.
 
 -- a letter that stands here
-pub words-more : (a : ℕ) (words : List (List ℕ)) (c : Code) (cs : List Code) → are_schemes words ≡ true → is_spelling a ≡ true → stands_for a c.value ≡ true → one_word_of words (c ∷ cs) ≡ with_first c (one_word_of (tails a words) cs)
+pub words-more : (a : ℕ) (words : List (List ℕ)) (c : Code) (cs : List Code) → are_schemes words ≡ true →
+    is_spelling a ≡ true → stands_for a c.value ≡ true →
+    one_word_of words (c ∷ cs) ≡ with_first c (one_word_of (tails a words) cs)
 unfolding one_word_of
 words-more a [] c cs h s e = refl
 words-more a ([] ∷ words) c cs h s e = cc
@@ -146,7 +158,8 @@ begins (n ∷ ns) v = stands_for n v
 abbrev pub one_begins : List (List ℕ) → ℕ → Bool
 one_begins words v = list_any (λ word. begins word v) words
 
-pub words-none : (words : List (List ℕ)) (c : Code) (cs : List Code) → are_schemes words ≡ true → one_begins words c.value ≡ false → one_word_of words (c ∷ cs) ≡ None
+pub words-none : (words : List (List ℕ)) (c : Code) (cs : List Code) → are_schemes words ≡ true →
+    one_begins words c.value ≡ false → one_word_of words (c ∷ cs) ≡ None
 unfolding one_word_of
 words-none [] c cs h e = refl
 words-none ([] ∷ words) c cs h e = cc
@@ -158,7 +171,8 @@ pub words-end : (words : List (List ℕ)) → are_schemes words ≡ true → one
 unfolding one_word_of
 words-end [] h = refl
 words-end ([] ∷ words) h = cc
-words-end ((b ∷ rest) ∷ words) h = either-second (letters (b ∷ rest)) (one_word_of words) [] (letters-none b rest [] refl) ∙ words-end words (and-right (is_scheme (b ∷ rest)) (are_schemes words) h)
+words-end ((b ∷ rest) ∷ words) h =
+    either-second (letters (b ∷ rest)) (one_word_of words) [] (letters-none b rest [] refl) ∙ words-end words (and-right (is_scheme (b ∷ rest)) (are_schemes words) h)
 
 -- Behind a colon stand the slashes.
 
@@ -169,7 +183,8 @@ AllSlashes (word ∷ words) = (word ≡ codes "//") × AllSlashes words
 two-slashes : (ns : List ℕ) → is_slashes ns ≡ true → ns ≡ codes "//"
 two-slashes [] h = cc
 two-slashes (n ∷ []) h = cc
-two-slashes (n ∷ m ∷ []) h = λ i. eqb-true n 47 (and-left (n == 47) (m == 47) h) i ∷ eqb-true m 47 (and-right (n == 47) (m == 47) h) i ∷ []
+two-slashes (n ∷ m ∷ []) h =
+    λ i. eqb-true n 47 (and-left (n == 47) (m == 47) h) i ∷ eqb-true m 47 (and-right (n == 47) (m == 47) h) i ∷ []
 two-slashes (n ∷ m ∷ l ∷ ns) h = cc
 
 slashes-left : (words : List (List ℕ)) → are_schemes words ≡ true → AllSlashes (tails 58 words)
@@ -182,39 +197,52 @@ slashes-left ((b ∷ rest) ∷ words) h =
     turned : (x y : ℕ) (t : Bool) → (x == y) ≡ t → (y == x) ≡ t
     turned x y t e = grind (arith, nat_tests)
 
-    by_test : (t : Bool) → (b == 58) ≡ t → (if t then is_slashes rest else is_between 97 122 b && is_scheme rest) ≡ true → AllSlashes (tails 58 words) → AllSlashes (some_before (if 58 == b then Some rest else None) (tails 58 words))
-    by_test true e k more = subst (λ x. AllSlashes (some_before (if x then Some rest else None) (tails 58 words))) (sym (turned b 58 true e)) (two-slashes rest k, more)
-    by_test false e k more = subst (λ x. AllSlashes (some_before (if x then Some rest else None) (tails 58 words))) (sym (turned b 58 false e)) more
+    by_test : (t : Bool) → (b == 58) ≡ t →
+        (if t then is_slashes rest else is_between 97 122 b && is_scheme rest) ≡ true → AllSlashes (tails 58 words) →
+        AllSlashes (some_before (if 58 == b then Some rest else None) (tails 58 words))
+    by_test true e k more =
+        subst (λ x. AllSlashes (some_before (if x then Some rest else None) (tails 58 words))) (sym (turned b 58 true e)) (two-slashes rest k, more)
+    by_test false e k more =
+        subst (λ x. AllSlashes (some_before (if x then Some rest else None) (tails 58 words))) (sym (turned b 58 false e)) more
 
-slashes-none : (words : List (List ℕ)) (cs : List Code) → AllSlashes words → letters (codes "//") cs ≡ None → one_word_of words cs ≡ None
+slashes-none : (words : List (List ℕ)) (cs : List Code) → AllSlashes words → letters (codes "//") cs ≡ None →
+    one_word_of words cs ≡ None
 unfolding one_word_of AllSlashes
 slashes-none [] cs h e = refl
-slashes-none (word ∷ words) cs h e = either-second (letters word) (one_word_of words) cs (ap (λ w. letters w cs) h.0 ∙ e) ∙ slashes-none words cs h.1 e
+slashes-none (word ∷ words) cs h e =
+    either-second (letters word) (one_word_of words) cs (ap (λ w. letters w cs) h.0 ∙ e) ∙ slashes-none words cs h.1 e
 
-slashes-read : (words : List (List ℕ)) (cs : List Code) → AllSlashes words → no_words words ≡ false → one_word_of words cs ≡ letters (codes "//") cs
+slashes-read : (words : List (List ℕ)) (cs : List Code) → AllSlashes words → no_words words ≡ false →
+    one_word_of words cs ≡ letters (codes "//") cs
 unfolding one_word_of AllSlashes
 slashes-read [] cs h k = cc
 slashes-read (word ∷ words) cs h k = by_what (letters (codes "//") cs) refl
   where
-    by_what : (o : Option (List Code × List Code)) → letters (codes "//") cs ≡ o → either (letters word) (one_word_of words) cs ≡ letters (codes "//") cs
+    by_what : (o : Option (List Code × List Code)) → letters (codes "//") cs ≡ o →
+        either (letters word) (one_word_of words) cs ≡ letters (codes "//") cs
     by_what None e = slashes-none (word ∷ words) cs h e ∙ sym e
     by_what (Some r) e = either-some (letters word) (one_word_of words) cs r (ap (λ w. letters w cs) h.0 ∙ e) ∙ sym e
 
-pub colon-read : (words : List (List ℕ)) (cs : List Code) → are_schemes words ≡ true → no_words (tails 58 words) ≡ false → one_word_of (tails 58 words) cs ≡ letters (codes "//") cs
+pub colon-read : (words : List (List ℕ)) (cs : List Code) → are_schemes words ≡ true →
+    no_words (tails 58 words) ≡ false → one_word_of (tails 58 words) cs ≡ letters (codes "//") cs
 colon-read words cs h k = slashes-read (tails 58 words) cs (slashes-left words h) k
 
 -- behind a letter they are schemes still
-pub schemes-behind : (a : ℕ) (words : List (List ℕ)) → are_schemes words ≡ true → (a == 58) ≡ false → are_schemes (tails a words) ≡ true
+pub schemes-behind : (a : ℕ) (words : List (List ℕ)) → are_schemes words ≡ true → (a == 58) ≡ false →
+    are_schemes (tails a words) ≡ true
 schemes-behind a [] h e = refl
 schemes-behind a ([] ∷ words) h e = cc
 schemes-behind a ((b ∷ rest) ∷ words) h e =
     by_test (a == b) refl (and-left (is_scheme (b ∷ rest)) (are_schemes words) h) (schemes-behind a words (and-right (is_scheme (b ∷ rest)) (are_schemes words) h) e)
   where
     rest-is : (b == 58) ≡ false → is_scheme (b ∷ rest) ≡ true → is_scheme rest ≡ true
-    rest-is f k = and-right (is_between 97 122 b) (is_scheme rest) (ap (λ t. if t then is_slashes rest else is_between 97 122 b && is_scheme rest) (sym f) ∙ k)
+    rest-is f k =
+        and-right (is_between 97 122 b) (is_scheme rest) (ap (λ t. if t then is_slashes rest else is_between 97 122 b && is_scheme rest) (sym f) ∙ k)
 
-    by_test : (t : Bool) → (a == b) ≡ t → is_scheme (b ∷ rest) ≡ true → are_schemes (tails a words) ≡ true → are_schemes (some_before (if t then Some rest else None) (tails a words)) ≡ true
-    by_test true k s more = ap (λ t. t && are_schemes (tails a words)) (rest-is (subst (λ x. (x == 58) ≡ false) (eqb-true a b k) e) s) ∙ more
+    by_test : (t : Bool) → (a == b) ≡ t → is_scheme (b ∷ rest) ≡ true → are_schemes (tails a words) ≡ true →
+        are_schemes (some_before (if t then Some rest else None) (tails a words)) ≡ true
+    by_test true k s more =
+        ap (λ t. t && are_schemes (tails a words)) (rest-is (subst (λ x. (x == 58) ≡ false) (eqb-true a b k) e) s) ∙ more
     by_test false k s more = more
 
 -- A scheme that goes on so.
@@ -226,13 +254,15 @@ one-less : (n : ℕ) → suc n - 1 ≡ n
 one-less n = omega arith
 
 word-behind : (word : List ℕ) (words : List (List ℕ)) (n : ℕ) → word_at (word ∷ words) (suc n) ≡ word_at words n
-word-behind word words n = ap (λ b. if b then word else word_at words (suc n - 1)) (not-first n) ∙ ap (word_at words) (one-less n)
+word-behind word words n =
+    ap (λ b. if b then word else word_at words (suc n - 1)) (not-first n) ∙ ap (word_at words) (one-less n)
 
 goes_behind : ℕ → List ℕ → ℕ → ℕ → List ℕ → Bool
 goes_behind letter rest n v [] = false
 goes_behind letter rest n v (other ∷ more) = if other == letter then goes_on_like more rest n v else false
 
-goes-behind : (first : List ℕ) (letter : ℕ) (rest : List ℕ) (n v : ℕ) → goes_on_like first (letter ∷ rest) (suc n) v ≡ goes_behind letter rest n v first
+goes-behind : (first : List ℕ) (letter : ℕ) (rest : List ℕ) (n v : ℕ) →
+    goes_on_like first (letter ∷ rest) (suc n) v ≡ goes_behind letter rest n v first
 unfolding goes_behind
 goes-behind [] letter rest n v = ap (λ b. if b then stands_for letter v else false) (not-first n)
 goes-behind (other ∷ more) letter rest n v =
@@ -251,7 +281,8 @@ goes-on first (l ∷ rest) zero v = refl
 goes-on [] (l ∷ rest) (suc n) v = sym (goes-behind [] l rest n v)
 goes-on (o ∷ more) (l ∷ rest) (suc n) v = by_test (o == l) (goes-on more rest n v) ∙ sym (goes-behind (o ∷ more) l rest n v)
   where
-    by_test : (t : Bool) → begins_rest (rest_like more n rest) v ≡ goes_on_like more rest n v → begins_rest (if t then rest_like more n rest else None) v ≡ (if t then goes_on_like more rest n v else false)
+    by_test : (t : Bool) → begins_rest (rest_like more n rest) v ≡ goes_on_like more rest n v →
+        begins_rest (if t then rest_like more n rest else None) v ≡ (if t then goes_on_like more rest n v else false)
     by_test true k = k
     by_test false k = refl
 
@@ -281,7 +312,8 @@ below n m e = grind (arith, nat_tests)
 rest-drop : (word : List ℕ) (n : ℕ) → n ≤ length word → rest_like word n word ≡ Some (drop n word)
 rest-drop word zero h = refl
 rest-drop [] (suc n) h = absurd (omega (arith, h))
-rest-drop (b ∷ rest) (suc n) h = ap (λ t. if t then rest_like rest n rest else None) (same b) ∙ rest-drop rest n (omega (arith, h))
+rest-drop (b ∷ rest) (suc n) h =
+    ap (λ t. if t then rest_like rest n rest else None) (same b) ∙ rest-drop rest n (omega (arith, h))
 
 -- the word itself
 rest-itself : (word : List ℕ) (n v : ℕ) → has_at word n v ≡ true → Left (rest_like word n word) v
@@ -300,22 +332,31 @@ record Found (words : List (List ℕ)) (k : ℕ) (word : List ℕ) (n v j : ℕ)
   counts : j ≡ number + k
   goes : goes_on_like word (word_at words number) n v ≡ true
 
-found : (words : List (List ℕ)) (k : ℕ) (word : List ℕ) (n v j : ℕ) → first_like words k word n v ≡ Some j → Found words k word n v j
+found : (words : List (List ℕ)) (k : ℕ) (word : List ℕ) (n v j : ℕ) → first_like words k word n v ≡ Some j →
+    Found words k word n v j
 found [] k word n v j e = cc
 found (other ∷ words) k word n v j e = by_test (goes_on_like word other n v) refl e (λ f. found words (k + 1) word n v j f)
   where
-    by_test : (t : Bool) → goes_on_like word other n v ≡ t → (if t then Some k else first_like words (k + 1) word n v) ≡ Some j → (first_like words (k + 1) word n v ≡ Some j → Found words (k + 1) word n v j) → Found (other ∷ words) k word n v j
+    by_test : (t : Bool) → goes_on_like word other n v ≡ t →
+        (if t then Some k else first_like words (k + 1) word n v) ≡ Some j →
+        (first_like words (k + 1) word n v ≡ Some j → Found words (k + 1) word n v j) →
+        Found (other ∷ words) k word n v j
     by_test true g f more = let first : j ≡ k = cc in record { number = zero; counts = first ∙ omega arith; goes = g }
-    by_test false g f more = let h = more f in record { number = suc h.number; counts = h.counts ∙ omega arith; goes = ap (λ w. goes_on_like word w n v) (word-behind other words h.number) ∙ h.goes }
+    by_test false g f more =
+        let h = more f in record { number = suc h.number; counts = h.counts ∙ omega arith; goes = ap (λ w. goes_on_like word w n v) (word-behind other words h.number) ∙ h.goes }
 
 module _ (k n v j : ℕ) where
   pub goes-with : scheme_with k n v ≡ Some j → Goes schemes (word_at schemes k) n v j
   goes-with e = by_test (has_at (word_at schemes k) n v) refl e
     where
-      by_left : (i : ℕ) → j ≡ i → Left (rest_like (word_at schemes k) n (word_at schemes i)) v → Goes schemes (word_at schemes k) n v j
-      by_left i f l = record { letter = l.letter; more = l.more; rest = ap (λ x. rest_like (word_at schemes k) n (word_at schemes x)) f ∙ l.is; stands = l.stands }
+      by_left : (i : ℕ) → j ≡ i → Left (rest_like (word_at schemes k) n (word_at schemes i)) v →
+          Goes schemes (word_at schemes k) n v j
+      by_left i f l =
+          record { letter = l.letter; more = l.more; rest = ap (λ x. rest_like (word_at schemes k) n (word_at schemes x)) f ∙ l.is; stands = l.stands }
 
-      by_test : (t : Bool) → has_at (word_at schemes k) n v ≡ t → (if t then Some k else first_like schemes 0 (word_at schemes k) n v) ≡ Some j → Goes schemes (word_at schemes k) n v j
+      by_test : (t : Bool) → has_at (word_at schemes k) n v ≡ t →
+          (if t then Some k else first_like schemes 0 (word_at schemes k) n v) ≡ Some j →
+          Goes schemes (word_at schemes k) n v j
       by_test true h f = let itself : j ≡ k = cc in by_left k itself (rest-itself (word_at schemes k) n v h)
       by_test false h f =
           let g = found schemes 0 (word_at schemes k) n v j f in
@@ -323,23 +364,29 @@ module _ (k n v j : ℕ) where
           (left-of (rest_like (word_at schemes k) n (word_at schemes g.number)) v (goes-on (word_at schemes k) (word_at schemes g.number) n v ∙ g.goes))
 
 -- where no scheme goes on so, nothing that is left begins so
-none-like : (words : List (List ℕ)) (k : ℕ) (word : List ℕ) (n v : ℕ) → first_like words k word n v ≡ None → one_begins (words_like word n words) v ≡ false
+none-like : (words : List (List ℕ)) (k : ℕ) (word : List ℕ) (n v : ℕ) → first_like words k word n v ≡ None →
+    one_begins (words_like word n words) v ≡ false
 unfolding begins_rest
 none-like [] k word n v e = refl
 none-like (other ∷ words) k word n v e = by_test (goes_on_like word other n v) refl e (λ f. none-like words (k + 1) word n v f)
   where
-    before : (o : Option (List ℕ)) → begins_rest o v ≡ false → one_begins (words_like word n words) v ≡ false → one_begins (some_before o (words_like word n words)) v ≡ false
+    before : (o : Option (List ℕ)) → begins_rest o v ≡ false → one_begins (words_like word n words) v ≡ false →
+        one_begins (some_before o (words_like word n words)) v ≡ false
     before None h more = more
     before (Some rest) h more = ap (λ t. t || one_begins (words_like word n words) v) h ∙ more
 
-    by_test : (t : Bool) → goes_on_like word other n v ≡ t → (if t then Some k else first_like words (k + 1) word n v) ≡ None → (first_like words (k + 1) word n v ≡ None → one_begins (words_like word n words) v ≡ false) → one_begins (words_like word n (other ∷ words)) v ≡ false
+    by_test : (t : Bool) → goes_on_like word other n v ≡ t →
+        (if t then Some k else first_like words (k + 1) word n v) ≡ None →
+        (first_like words (k + 1) word n v ≡ None → one_begins (words_like word n words) v ≡ false) →
+        one_begins (words_like word n (other ∷ words)) v ≡ false
     by_test true g f more = cc
     by_test false g f more = before (rest_like word n other) (goes-on word other n v ∙ g) (more f)
 
 pub goes-none : (k n v : ℕ) → scheme_with k n v ≡ None → one_begins (words_like (word_at schemes k) n schemes) v ≡ false
 goes-none k n v e = by_test (has_at (word_at schemes k) n v) e
   where
-    by_test : (t : Bool) → (if t then Some k else first_like schemes 0 (word_at schemes k) n v) ≡ None → one_begins (words_like (word_at schemes k) n schemes) v ≡ false
+    by_test : (t : Bool) → (if t then Some k else first_like schemes 0 (word_at schemes k) n v) ≡ None →
+        one_begins (words_like (word_at schemes k) n schemes) v ≡ false
     by_test true f = cc
     by_test false f = none-like schemes 0 (word_at schemes k) n v f
 
@@ -360,7 +407,8 @@ rest-below [] word (suc n) a r e = cc
 rest-below (o ∷ more) [] (suc n) a r e = cc
 rest-below (o ∷ more) (l ∷ rest) (suc n) a r e = by_test (o == l) e (λ k. rest-below more rest n a r k)
   where
-    by_test : (t : Bool) → (if t then rest_like more n rest else None) ≡ Some (a ∷ r) → (rest_like more n rest ≡ Some (a ∷ r) → n < length rest) → suc n < length (l ∷ rest)
+    by_test : (t : Bool) → (if t then rest_like more n rest else None) ≡ Some (a ∷ r) →
+        (rest_like more n rest ≡ Some (a ∷ r) → n < length rest) → suc n < length (l ∷ rest)
     by_test true k more = omega (arith, more k)
     by_test false k more = cc
 
@@ -372,18 +420,23 @@ few-passed k n v j e =
     let g = goes-with k n v j e in omega (arith, rest-below (word_at schemes k) (word_at schemes j) n g.letter g.more g.rest, within-total schemes j, all-few)
 
 -- what is left of a word is among what is left of all
-pub left-letter : (words : List (List ℕ)) (word : List ℕ) (n j a : ℕ) (r : List ℕ) → are_schemes (words_like word n words) ≡ true → rest_like word n (word_at words j) ≡ Some (a ∷ r) → is_spelling a ≡ true
+pub left-letter : (words : List (List ℕ)) (word : List ℕ) (n j a : ℕ) (r : List ℕ) →
+    are_schemes (words_like word n words) ≡ true → rest_like word n (word_at words j) ≡ Some (a ∷ r) →
+    is_spelling a ≡ true
 left-letter [] word zero j a r h e = cc
 left-letter [] [] (suc n) j a r h e = cc
 left-letter [] (o ∷ more) (suc n) j a r h e = cc
-left-letter (other ∷ words) word n zero a r h e = spelling-first a r (and-left (is_scheme (a ∷ r)) (are_schemes (words_like word n words)) (ap (λ o. are_schemes (some_before o (words_like word n words))) (sym e) ∙ h))
+left-letter (other ∷ words) word n zero a r h e =
+    spelling-first a r (and-left (is_scheme (a ∷ r)) (are_schemes (words_like word n words)) (ap (λ o. are_schemes (some_before o (words_like word n words))) (sym e) ∙ h))
 left-letter (other ∷ words) word n (suc j) a r h e = left-letter words word n j a r (others (rest_like word n other) h) (ap (rest_like word n) (sym (word-behind other words j)) ∙ e)
   where
-    others : (o : Option (List ℕ)) → are_schemes (some_before o (words_like word n words)) ≡ true → are_schemes (words_like word n words) ≡ true
+    others : (o : Option (List ℕ)) → are_schemes (some_before o (words_like word n words)) ≡ true →
+        are_schemes (words_like word n words) ≡ true
     others None k = k
     others (Some x) k = and-right (is_scheme x) (are_schemes (words_like word n words)) k
 
-pub left-some : (words : List (List ℕ)) (word : List ℕ) (n j a : ℕ) (r : List ℕ) → rest_like word n (word_at words j) ≡ Some (a ∷ r) → no_words (tails a (words_like word n words)) ≡ false
+pub left-some : (words : List (List ℕ)) (word : List ℕ) (n j a : ℕ) (r : List ℕ) →
+    rest_like word n (word_at words j) ≡ Some (a ∷ r) → no_words (tails a (words_like word n words)) ≡ false
 left-some [] word zero j a r e = cc
 left-some [] [] (suc n) j a r e = cc
 left-some [] (o ∷ more) (suc n) j a r e = cc
@@ -391,17 +444,20 @@ left-some (other ∷ words) word n zero a r e =
     ap (λ o. no_words (tails a (some_before o (words_like word n words)))) e ∙ ap (λ t. no_words (some_before (if t then Some r else None) (tails a (words_like word n words)))) (same a)
 left-some (other ∷ words) word n (suc j) a r e = before (rest_like word n other) (left-some words word n j a r (ap (rest_like word n) (sym (word-behind other words j)) ∙ e))
   where
-    by_tail : (o : Option (List ℕ)) → no_words (tails a (words_like word n words)) ≡ false → no_words (some_before o (tails a (words_like word n words))) ≡ false
+    by_tail : (o : Option (List ℕ)) → no_words (tails a (words_like word n words)) ≡ false →
+        no_words (some_before o (tails a (words_like word n words))) ≡ false
     by_tail None k = k
     by_tail (Some x) k = refl
 
-    before : (o : Option (List ℕ)) → no_words (tails a (words_like word n words)) ≡ false → no_words (tails a (some_before o (words_like word n words))) ≡ false
+    before : (o : Option (List ℕ)) → no_words (tails a (words_like word n words)) ≡ false →
+        no_words (tails a (some_before o (words_like word n words))) ≡ false
     before None k = k
     before (Some x) k = by_tail (tail_at a x) k
 
 -- The first letters.
 
-pub among-filter : (p : ℕ → Bool) (ns : List ℕ) (v : ℕ) → list_any (λ m. v == m) (filter p ns) ≡ list_any (λ m. v == m) ns && p v
+pub among-filter : (p : ℕ → Bool) (ns : List ℕ) (v : ℕ) →
+    list_any (λ m. v == m) (filter p ns) ≡ list_any (λ m. v == m) ns && p v
 among-filter p [] v = refl
 among-filter p (n ∷ ns) v = by_test (p n) (v == n) refl refl (among-filter p ns v)
   where
@@ -416,7 +472,8 @@ among-filter p (n ∷ ns) v = by_test (p n) (v == n) refl refl (among-filter p n
         none false = refl
     by_test false false k f more = more
 
-first-letters : (n : ℕ) (ns : List ℕ) (words : List (List ℕ)) (v : ℕ) → list_any (λ m. v == m) (first_letters ((n ∷ ns) ∷ words)) ≡ list_any (λ m. v == m) (in_both_cases n) || list_any (λ m. v == m) (first_letters words)
+first-letters : (n : ℕ) (ns : List ℕ) (words : List (List ℕ)) (v : ℕ) →
+    list_any (λ m. v == m) (first_letters ((n ∷ ns) ∷ words)) ≡ list_any (λ m. v == m) (in_both_cases n) || list_any (λ m. v == m) (first_letters words)
 first-letters n ns words v =
     list_any-append (λ m. v == m) (in_both_cases n) (filter (λ m. not (list_any (λ k. m == k) (in_both_cases n))) (first_letters words))
     ∙ ap (λ b. list_any (λ m. v == m) (in_both_cases n) || b) (among-filter (λ m. not (list_any (λ k. m == k) (in_both_cases n))) (first_letters words) v)
@@ -428,7 +485,8 @@ first-letters n ns words v =
     either-way false false = refl
 
 -- one of these words begins with a code if it is one of their first letters
-pub begins-first-letters : (words : List (List ℕ)) (v : ℕ) → are_schemes words ≡ true → list_any (λ m. v == m) (first_letters words) ≡ one_begins words v
+pub begins-first-letters : (words : List (List ℕ)) (v : ℕ) → are_schemes words ≡ true →
+    list_any (λ m. v == m) (first_letters words) ≡ one_begins words v
 begins-first-letters [] v h = refl
 begins-first-letters ([] ∷ words) v h = cc
 begins-first-letters ((n ∷ ns) ∷ words) v h =

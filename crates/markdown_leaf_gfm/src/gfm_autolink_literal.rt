@@ -28,7 +28,8 @@ ghost use Rattle.markdown_engine.specs.Operations.{HasCode, IsOpen, current_of, 
 ghost use Rattle.markdown_engine_content.specs.declared.event.Name.TheVariants.{GfmAutolinkLiteralProtocol, GfmAutolinkLiteralWww};
 ghost use Rattle.markdown_plan.specs.Characters.{at_later};
 ghost use Rattle.markdown_partial.specs.PartialSpaceOrTab.{most};
-ghost use Rattle.markdown_leaf_gfm.specs.GfmAutolinkLiteral.{kind_here, trail_value, mark_value, known_after, is_known, count_value, stands_for, has_at, goes_on_like, word_at, first_like, scheme_with, begins_scheme, marked, domain_on, rested, refused, protocol_start_step, protocol_after_step, prefix_by, prefix_step, slashes_step, precedes_www, www_letter, is_ruled_out, www_start_step, www_prefix_step, www_prefix_after_step, www_after_step, domain_step, domain_punctuation_step, domain_after_step, passing, path_step, path_punctuation_step, path_after_step, trail_step, bracket_after_step, reference_start_step, reference_step, MayClass, TrailReady, MayCount};
+ghost use Rattle.markdown_leaf_gfm.specs.GfmAutolinkLiteral.{kind_here, trail_value, mark_value, known_after, is_known, count_value, stands_for, has_at, goes_on_like, word_at, first_like, scheme_with, begins_scheme, marked, domain_on, rested, refused, protocol_start_step, protocol_after_step, prefix_by, prefix_step, slashes_step, precedes_www, www_letter, is_ruled_out};
+ghost use Rattle.markdown_leaf_gfm.specs.GfmAutolinkLiteral.{www_start_step, www_prefix_step, www_prefix_after_step, www_after_step, domain_step, domain_punctuation_step, domain_after_step, passing, path_step, path_punctuation_step, path_after_step, trail_step, bracket_after_step, reference_start_step, reference_step, MayClass, TrailReady, MayCount};
 
 use markdown_engine::state::{State, StateName};
 use markdown_engine::tokenizer::{TokenizeState, Tokenizer};

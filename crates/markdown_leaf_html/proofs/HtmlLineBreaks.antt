@@ -22,51 +22,63 @@ pub record Goes (r : Reading (List Code)) : Type 0 where
 
 -- One code of a text.
 
-pub text-ending : (m : Mode) (c : Code) (o : Option (List Code × List Code)) → is_line_ending c ≡ true → text_from m (with_first c o) ≡ preceded (left_open m ++ ending_ops) (text_from AtStart o)
+pub text-ending : (m : Mode) (c : Code) (o : Option (List Code × List Code)) → is_line_ending c ≡ true →
+    text_from m (with_first c o) ≡ preceded (left_open m ++ ending_ops) (text_from AtStart o)
 text-ending m c None e = refl
 text-ending m c (Some r) e =
     ap (λ os. Some (os ++ Exit N.HtmlText ∷ [])) (from-ending m c r.0 e ∙ sym (append_assoc (left_open m) ending_ops (ops_from AtStart r.0)))
     ∙ ap (λ os. Some os) (append_assoc (left_open m ++ ending_ops) (ops_from AtStart r.0) (Exit N.HtmlText ∷ []))
 
-pub text-blank : (m : Mode) (c : Code) (o : Option (List Code × List Code)) → is_line_ending c ≡ false → takes_blank m && is_blank c ≡ true → text_from m (with_first c o) ≡ preceded (to_blank m ++ Consume ∷ []) (text_from InBlank o)
+pub text-blank : (m : Mode) (c : Code) (o : Option (List Code × List Code)) → is_line_ending c ≡ false →
+    takes_blank m && is_blank c ≡ true →
+    text_from m (with_first c o) ≡ preceded (to_blank m ++ Consume ∷ []) (text_from InBlank o)
 text-blank m c None e h = refl
 text-blank m c (Some r) e h =
     ap (λ os. Some (os ++ Exit N.HtmlText ∷ [])) (from-blank m c r.0 e h ∙ sym (append_assoc (to_blank m) (Consume ∷ []) (ops_from InBlank r.0)))
     ∙ ap (λ os. Some os) (append_assoc (to_blank m ++ Consume ∷ []) (ops_from InBlank r.0) (Exit N.HtmlText ∷ []))
 
-pub text-code : (c : Code) (o : Option (List Code × List Code)) → is_line_ending c ≡ false → text_from InLine (with_first c o) ≡ preceded (Consume ∷ []) (text_from InLine o)
+pub text-code : (c : Code) (o : Option (List Code × List Code)) → is_line_ending c ≡ false →
+    text_from InLine (with_first c o) ≡ preceded (Consume ∷ []) (text_from InLine o)
 text-code c None e = refl
 text-code c (Some r) e = ap (λ os. Some (os ++ Exit N.HtmlText ∷ [])) (from-data InLine c r.0 e refl)
 
 -- on to data, before a code that is data
-to-data : (m : Mode) (c : Code) (cs : List Code) → is_line_ending c ≡ false → takes_blank m && is_blank c ≡ false → ops_from m (c ∷ cs) ≡ to_data m ++ ops_from InLine (c ∷ cs)
+to-data : (m : Mode) (c : Code) (cs : List Code) → is_line_ending c ≡ false → takes_blank m && is_blank c ≡ false →
+    ops_from m (c ∷ cs) ≡ to_data m ++ ops_from InLine (c ∷ cs)
 to-data m c cs e h = from-data m c cs e h ∙ ap (λ os. to_data m ++ os) (sym (from-data InLine c cs e refl))
 
 -- what a reading gives begins with the code at hand
-first-by : (c : Code) (cs x rest : List Code) → x ++ rest ≡ c ∷ cs → 1 + length rest ≤ suc (length cs) → (xs : List Code) × (x ≡ c ∷ xs)
+first-by : (c : Code) (cs x rest : List Code) → x ++ rest ≡ c ∷ cs → 1 + length rest ≤ suc (length cs) →
+    (xs : List Code) × (x ≡ c ∷ xs)
 first-by c cs [] rest e h = absurd (omega (arith, ap length e, h))
 first-by c cs (x ∷ xs) rest e h = (xs, ap (λ y. y ∷ xs) (cc))
 
-text-data-by : (m : Mode) (c : Code) (cs : List Code) (o : Option (List Code × List Code)) → At itself [] (c ∷ cs) o → Left 1 (c ∷ cs) o → is_line_ending c ≡ false → takes_blank m && is_blank c ≡ false → text_from m o ≡ preceded (to_data m) (text_from InLine o)
+text-data-by : (m : Mode) (c : Code) (cs : List Code) (o : Option (List Code × List Code)) → At itself [] (c ∷ cs) o →
+    Left 1 (c ∷ cs) o → is_line_ending c ≡ false → takes_blank m && is_blank c ≡ false →
+    text_from m o ≡ preceded (to_data m) (text_from InLine o)
 text-data-by m c cs None a l e h = refl
 text-data-by m c cs (Some r) a l e h =
     let f = first-by c cs r.0 r.1 a l in
     let same : ops_from m r.0 ≡ to_data m ++ ops_from InLine r.0 = ap (ops_from m) f.1 ∙ to-data m c f.0 e h ∙ ap (λ xs. to_data m ++ ops_from InLine xs) (sym f.1) in
     ap (λ os. Some (os ++ Exit N.HtmlText ∷ [])) same ∙ ap (λ os. Some os) (append_assoc (to_data m) (ops_from InLine r.0) (Exit N.HtmlText ∷ []))
 
-text-end-by : (m : Mode) (o : Option (List Code × List Code)) → Left 1 [] o → text_from m o ≡ preceded (to_data m) (text_from InLine o)
+text-end-by : (m : Mode) (o : Option (List Code × List Code)) → Left 1 [] o →
+    text_from m o ≡ preceded (to_data m) (text_from InLine o)
 text-end-by m None l = refl
 text-end-by m (Some r) l = absurd (omega (arith, l))
 
 -- The operations of a break.
 
-pub break-ending : (m : Mode) (c : Code) (cs : List Code) → is_line_ending c ≡ true → break_from m (c ∷ cs) ≡ (left_open m ++ ending_ops) ++ break_from AtStart cs
+pub break-ending : (m : Mode) (c : Code) (cs : List Code) → is_line_ending c ≡ true →
+    break_from m (c ∷ cs) ≡ (left_open m ++ ending_ops) ++ break_from AtStart cs
 break-ending m c cs e = rw e (sym (append_assoc (left_open m) ending_ops (break_from AtStart cs)))
 
-pub break-blank : (m : Mode) (c : Code) (cs : List Code) → is_line_ending c ≡ false → takes_blank m && is_blank c ≡ true → break_from m (c ∷ cs) ≡ (to_blank m ++ Consume ∷ []) ++ break_from InBlank cs
+pub break-blank : (m : Mode) (c : Code) (cs : List Code) → is_line_ending c ≡ false →
+    takes_blank m && is_blank c ≡ true → break_from m (c ∷ cs) ≡ (to_blank m ++ Consume ∷ []) ++ break_from InBlank cs
 break-blank m c cs e h = rw (e, h) (sym (append_assoc (to_blank m) (Consume ∷ []) (break_from InBlank cs)))
 
-pub break-data : (m : Mode) (c : Code) (cs : List Code) → is_line_ending c ≡ false → takes_blank m && is_blank c ≡ false → break_from m (c ∷ cs) ≡ to_data m
+pub break-data : (m : Mode) (c : Code) (cs : List Code) → is_line_ending c ≡ false →
+    takes_blank m && is_blank c ≡ false → break_from m (c ∷ cs) ≡ to_data m
 break-data m c cs e h = rw (e, h) refl
 
 pub moves-row : (xs ys : List Op) → moves (xs ++ ys) ≡ moves xs + moves ys
@@ -97,7 +109,9 @@ moves-on xs ys e = omega (arith, moves-row xs ys, e)
 abbrev Breaks : Reading (List Code) → Mode → List Code → List Op → Type 0
 Breaks r m cs os = text_from m (r cs) ≡ preceded os (text_of r (drop (moves os) cs))
 
-breaks-more : (r : Reading (List Code)) (m n : Mode) (c : Code) (cs : List Code) (front os : List Op) → moves front ≡ 1 → text_from m (r (c ∷ cs)) ≡ preceded front (text_from n (r cs)) → Breaks r n cs os → Breaks r m (c ∷ cs) (front ++ os)
+breaks-more : (r : Reading (List Code)) (m n : Mode) (c : Code) (cs : List Code) (front os : List Op) →
+    moves front ≡ 1 → text_from m (r (c ∷ cs)) ≡ preceded front (text_from n (r cs)) → Breaks r n cs os →
+    Breaks r m (c ∷ cs) (front ++ os)
 breaks-more r m n c cs front os one e k =
     let rest : drop (moves (front ++ os)) (c ∷ cs) ≡ drop (moves os) cs = ap (λ x. drop x (c ∷ cs)) (moves-on front os one) in
     e ∙ ap (preceded front) k ∙ sym (preceded-twice front os (text_of r (drop (moves os) cs))) ∙ ap (λ xs. preceded (front ++ os) (text_of r xs)) (sym rest)
@@ -105,7 +119,9 @@ breaks-more r m n c cs front os one e k =
 whitespace-is : (c : Code) → is_blank c ≡ true → is_whitespace_code c ≡ true
 whitespace-is c e = ap (λ b. b || is_line_ending c) e
 
-breaks-by : (ending blank : Bool) (r : Reading (List Code)) → Goes r → (m : Mode) (c : Code) (cs : List Code) → is_line_ending c ≡ ending → takes_blank m && is_blank c ≡ blank → ((n : Mode) → Breaks r n cs (break_from n cs)) → Breaks r m (c ∷ cs) (break_from m (c ∷ cs))
+breaks-by : (ending blank : Bool) (r : Reading (List Code)) → Goes r → (m : Mode) (c : Code) (cs : List Code) →
+    is_line_ending c ≡ ending → takes_blank m && is_blank c ≡ blank → ((n : Mode) → Breaks r n cs (break_from n cs)) →
+    Breaks r m (c ∷ cs) (break_from m (c ∷ cs))
 breaks-by true blank r g m c cs e h more =
     subst (λ os. Breaks r m (c ∷ cs) os) (sym (break-ending m c cs e))
     (breaks-more r m AtStart c cs (left_open m ++ ending_ops) (break_from AtStart cs) (moves-ending m)
@@ -120,8 +136,10 @@ breaks-by false false r g m c cs e h more =
     ∙ ap (λ n. preceded (to_data m) (text_of r (drop n (c ∷ cs)))) (sym (moves-data m)))
 
 pub breaks : (r : Reading (List Code)) → Goes r → (m : Mode) (cs : List Code) → Breaks r m cs (break_from m cs)
-breaks r g m [] = text-end-by m (r []) (g.consumes.at []) ∙ ap (λ n. preceded (to_data m) (text_of r (drop n []))) (sym (moves-data m))
-breaks r g m (c ∷ cs) = breaks-by (is_line_ending c) (takes_blank m && is_blank c) r g m c cs refl refl (λ n. breaks r g n cs)
+breaks r g m [] =
+    text-end-by m (r []) (g.consumes.at []) ∙ ap (λ n. preceded (to_data m) (text_of r (drop n []))) (sym (moves-data m))
+breaks r g m (c ∷ cs) =
+    breaks-by (is_line_ending c) (takes_blank m && is_blank c) r g m c cs refl refl (λ n. breaks r g n cs)
 
 -- What a break leaves open.
 
@@ -134,16 +152,20 @@ record Steady (d : ℕ) (os : List Op) : Type 0 where
   closes : stays d os ≡ true
   depth : depth_after d os ≡ 2
 
-steady-by : (ending blank : Bool) (m : Mode) (c : Code) (cs : List Code) → is_line_ending c ≡ ending → takes_blank m && is_blank c ≡ blank → ((n : Mode) → Steady (depth_of n) (break_from n cs)) → Steady (depth_of m) (break_from m (c ∷ cs))
+steady-by : (ending blank : Bool) (m : Mode) (c : Code) (cs : List Code) → is_line_ending c ≡ ending →
+    takes_blank m && is_blank c ≡ blank → ((n : Mode) → Steady (depth_of n) (break_from n cs)) →
+    Steady (depth_of m) (break_from m (c ∷ cs))
 steady-by true blank m c cs e h more = subst (λ os. Steady (depth_of m) os) (sym (break-ending m c cs e)) (past-ending m (more AtStart))
   where
-    past-ending : (n : Mode) → Steady 1 (break_from AtStart cs) → Steady (depth_of n) ((left_open n ++ ending_ops) ++ break_from AtStart cs)
+    past-ending : (n : Mode) → Steady 1 (break_from AtStart cs) →
+        Steady (depth_of n) ((left_open n ++ ending_ops) ++ break_from AtStart cs)
     past-ending InLine k = record { closes = k.closes; depth = k.depth }
     past-ending AtStart k = record { closes = k.closes; depth = k.depth }
     past-ending InBlank k = record { closes = k.closes; depth = k.depth }
 steady-by false true m c cs e h more = subst (λ os. Steady (depth_of m) os) (sym (break-blank m c cs e h)) (past-blank m h (more InBlank))
   where
-    past-blank : (n : Mode) → takes_blank n && is_blank c ≡ true → Steady 2 (break_from InBlank cs) → Steady (depth_of n) ((to_blank n ++ Consume ∷ []) ++ break_from InBlank cs)
+    past-blank : (n : Mode) → takes_blank n && is_blank c ≡ true → Steady 2 (break_from InBlank cs) →
+        Steady (depth_of n) ((to_blank n ++ Consume ∷ []) ++ break_from InBlank cs)
     past-blank InLine i k = cc
     past-blank AtStart i k = record { closes = k.closes; depth = k.depth }
     past-blank InBlank i k = record { closes = k.closes; depth = k.depth }
@@ -171,14 +193,20 @@ break-depth cs = (steady InLine cs).depth
 
 -- How many codes a break passes.
 
-fewer-by : (ending blank : Bool) (m : Mode) (c : Code) (cs : List Code) → is_line_ending c ≡ ending → takes_blank m && is_blank c ≡ blank → ((n : Mode) → moves (break_from n cs) ≤ length cs) → moves (break_from m (c ∷ cs)) ≤ suc (length cs)
-fewer-by true blank m c cs e h more = omega (arith, ap moves (break-ending m c cs e), moves-on (left_open m ++ ending_ops) (break_from AtStart cs) (moves-ending m), more AtStart)
-fewer-by false true m c cs e h more = omega (arith, ap moves (break-blank m c cs e h), moves-on (to_blank m ++ Consume ∷ []) (break_from InBlank cs) (moves-blank m), more InBlank)
+fewer-by : (ending blank : Bool) (m : Mode) (c : Code) (cs : List Code) → is_line_ending c ≡ ending →
+    takes_blank m && is_blank c ≡ blank → ((n : Mode) → moves (break_from n cs) ≤ length cs) →
+    moves (break_from m (c ∷ cs)) ≤ suc (length cs)
+fewer-by true blank m c cs e h more =
+    omega (arith, ap moves (break-ending m c cs e), moves-on (left_open m ++ ending_ops) (break_from AtStart cs) (moves-ending m), more AtStart)
+fewer-by false true m c cs e h more =
+    omega (arith, ap moves (break-blank m c cs e h), moves-on (to_blank m ++ Consume ∷ []) (break_from InBlank cs) (moves-blank m), more InBlank)
 fewer-by false false m c cs e h more = omega (arith, ap moves (break-data m c cs e h), moves-data m)
 
 pub break-fits : (m : Mode) (cs : List Code) → moves (break_from m cs) ≤ length cs
 break-fits m [] = omega (arith, moves-data m)
-break-fits m (c ∷ cs) = fewer-by (is_line_ending c) (takes_blank m && is_blank c) m c cs refl refl (λ n. break-fits n cs)
+break-fits m (c ∷ cs) =
+    fewer-by (is_line_ending c) (takes_blank m && is_blank c) m c cs refl refl (λ n. break-fits n cs)
 
 pub break-moves : (m : Mode) (c : Code) (cs : List Code) → is_line_ending c ≡ true → 1 ≤ moves (break_from m (c ∷ cs))
-break-moves m c cs e = omega (arith, ap moves (break-ending m c cs e), moves-on (left_open m ++ ending_ops) (break_from AtStart cs) (moves-ending m))
+break-moves m c cs e =
+    omega (arith, ap moves (break-ending m c cs e), moves-on (left_open m ++ ending_ops) (break_from AtStart cs) (moves-ending m))

@@ -48,7 +48,8 @@ pub record Within (W : Words) : Type 1 where
 
 -- Breaks, by what stands there.
 
-prefix-ending : (c : Code) (cs : List Code) → is_line_ending c ≡ true → prefix_from (c ∷ cs) ≡ ending_ops ++ break_from AtStart cs
+prefix-ending : (c : Code) (cs : List Code) → is_line_ending c ≡ true →
+    prefix_from (c ∷ cs) ≡ ending_ops ++ break_from AtStart cs
 prefix-ending c cs e = rw e refl
 
 pub prefix-data : (cs : List Code) → next_is is_line_ending cs ≡ false → prefix_from cs ≡ Enter N.HtmlTextData ∷ []
@@ -56,7 +57,8 @@ prefix-data [] e = refl
 prefix-data (c ∷ cs) e = rw e refl
 
 -- where no blank code stands
-start-by : (ending : Bool) (c : Code) (cs : List Code) → is_line_ending c ≡ ending → is_blank c ≡ false → break_from AtStart (c ∷ cs) ≡ prefix_from (c ∷ cs)
+start-by : (ending : Bool) (c : Code) (cs : List Code) → is_line_ending c ≡ ending → is_blank c ≡ false →
+    break_from AtStart (c ∷ cs) ≡ prefix_from (c ∷ cs)
 start-by true c cs e h = break-ending AtStart c cs e ∙ sym (prefix-ending c cs e)
 start-by false c cs e h = break-data AtStart c cs e h ∙ sym (prefix-data (c ∷ cs) e)
 
@@ -72,11 +74,15 @@ blank-not-ending c true e h = let no : true ≡ false = sym h ∙ ap blank_value
 abbrev Inside : List Code → List Code × List Code → Type 0
 Inside cs s = break_from InBlank cs ≡ consumes s.0 ++ Exit N.SpaceOrTab ∷ prefix_from s.1
 
-inside-ended : (ending : Bool) (c : Code) (cs : List Code) → is_line_ending c ≡ ending → is_blank c ≡ false → break_from InBlank (c ∷ cs) ≡ Exit N.SpaceOrTab ∷ prefix_from (c ∷ cs)
-inside-ended true c cs e h = break-ending InBlank c cs e ∙ ap (λ os. Exit N.SpaceOrTab ∷ os) (sym (prefix-ending c cs e))
-inside-ended false c cs e h = break-data InBlank c cs e h ∙ ap (λ os. Exit N.SpaceOrTab ∷ os) (sym (prefix-data (c ∷ cs) e))
+inside-ended : (ending : Bool) (c : Code) (cs : List Code) → is_line_ending c ≡ ending → is_blank c ≡ false →
+    break_from InBlank (c ∷ cs) ≡ Exit N.SpaceOrTab ∷ prefix_from (c ∷ cs)
+inside-ended true c cs e h =
+    break-ending InBlank c cs e ∙ ap (λ os. Exit N.SpaceOrTab ∷ os) (sym (prefix-ending c cs e))
+inside-ended false c cs e h =
+    break-data InBlank c cs e h ∙ ap (λ os. Exit N.SpaceOrTab ∷ os) (sym (prefix-data (c ∷ cs) e))
 
-inside-by : (b : Bool) (c : Code) (cs : List Code) → is_blank c ≡ b → Inside cs (span is_blank cs) → Inside (c ∷ cs) (span is_blank (c ∷ cs))
+inside-by : (b : Bool) (c : Code) (cs : List Code) → is_blank c ≡ b → Inside cs (span is_blank cs) →
+    Inside (c ∷ cs) (span is_blank (c ∷ cs))
 inside-by true c cs h k =
     subst (λ s. Inside (c ∷ cs) s) (sym (span-takes is_blank c cs h)) (break-blank InBlank c cs (blank-not-ending c (is_line_ending c) refl h) h ∙ ap (λ os. Consume ∷ os) k)
 inside-by false c cs h k =
@@ -86,7 +92,8 @@ inside-blank : (cs : List Code) → Inside cs (span is_blank cs)
 inside-blank [] = refl
 inside-blank (c ∷ cs) = inside-by (is_blank c) c cs refl (inside-blank cs)
 
-start-blank : (cs : List Code) → next_is is_blank cs ≡ true → break_from AtStart cs ≡ ops_of (linked_leaf N.SpaceOrTab None (span is_blank cs).0) ++ prefix_from (span is_blank cs).1
+start-blank : (cs : List Code) → next_is is_blank cs ≡ true →
+    break_from AtStart cs ≡ ops_of (linked_leaf N.SpaceOrTab None (span is_blank cs).0) ++ prefix_from (span is_blank cs).1
 start-blank [] h = cc
 start-blank (c ∷ cs) h =
     subst (λ (s : List Code × List Code). break_from AtStart (c ∷ cs) ≡ ops_of (linked_leaf N.SpaceOrTab None s.0) ++ prefix_from s.1) (sym (span-takes is_blank c cs h))
@@ -95,10 +102,13 @@ start-blank (c ∷ cs) h =
 
 -- Tests on the code at hand.
 
-pub next-at : (p : ℕ → Bool) (T : Tokenizer) (c : ℕ) → current_of T ≡ Some c → next_is (λ (d : Code). p d.value) (ahead T) ≡ p c
-next-at p T c e = let b : Begins c (ahead T) = ahead-some T c e in ap (λ cs. next_is (λ (d : Code). p d.value) cs) b.whole ∙ ap p b.value
+pub next-at : (p : ℕ → Bool) (T : Tokenizer) (c : ℕ) → current_of T ≡ Some c →
+    next_is (λ (d : Code). p d.value) (ahead T) ≡ p c
+next-at p T c e =
+    let b : Begins c (ahead T) = ahead-some T c e in ap (λ cs. next_is (λ (d : Code). p d.value) cs) b.whole ∙ ap p b.value
 
-pub next-end : (p : ℕ → Bool) (T : Tokenizer) → current_of T ≡ None → next_is (λ (d : Code). p d.value) (ahead T) ≡ false
+pub next-end : (p : ℕ → Bool) (T : Tokenizer) → current_of T ≡ None →
+    next_is (λ (d : Code). p d.value) (ahead T) ≡ false
 next-end p T e = ap (λ cs. next_is (λ (d : Code). p d.value) cs) (ahead-none T e)
 
 -- The blank codes that are attempted.
@@ -124,7 +134,9 @@ record Spaced (T U : Tokenizer) : Type 0 where
   after : ahead U ≡ (span is_blank (ahead T)).1
   fewer : codes_left U ≤ codes_left T
 
-spaced : (T U : Tokenizer) → next_is is_blank (ahead T) ≡ true → space_or_tab N.SpaceOrTab None 1 most (ahead T) ≡ Some (blank_tree T, (span is_blank (ahead T)).1) → Reads (space_or_tab N.SpaceOrTab None 1 most) None T.tokenize_state T U → Spaced T U
+spaced : (T U : Tokenizer) → next_is is_blank (ahead T) ≡ true →
+    space_or_tab N.SpaceOrTab None 1 most (ahead T) ≡ Some (blank_tree T, (span is_blank (ahead T)).1) →
+    Reads (space_or_tab N.SpaceOrTab None 1 most) None T.tokenize_state T U → Spaced T U
 unfolding read_tree read_rest
 spaced T U h there k =
     let same = sym k.holds ∙ there in
@@ -134,7 +146,8 @@ spaced T U h there k =
     let whole : ahead T ≡ leaf_codes (blank_tree T) ++ k.rest = k.whole ∙ ap (λ t. leaf_codes t ++ k.rest) tree in
     record { left = left; passed = left ∙ sym (ops-past (blank_tree T) k.rest T (solid-leaf (span is_blank (ahead T)).0) whole); after = k.after ∙ rest; fewer = left-read (space_or_tab N.SpaceOrTab None 1 most) None T.tokenize_state T U k }
 
-space-there : (T : Tokenizer) → AfterReady T → next_is is_blank (ahead T) ≡ true → space_or_tab N.SpaceOrTab None 1 most (ahead T) ≡ Some (blank_tree T, (span is_blank (ahead T)).1)
+space-there : (T : Tokenizer) → AfterReady T → next_is is_blank (ahead T) ≡ true →
+    space_or_tab N.SpaceOrTab None 1 most (ahead T) ≡ Some (blank_tree T, (span is_blank (ahead T)).1)
 space-there T k h = space-all N.SpaceOrTab None most (ahead T) h (omega (arith, left-ahead T, k.spaces.short))
 
 spaced-ready : (T U : Tokenizer) → AfterReady T → Spaced T U → AfterReady U
@@ -146,13 +159,17 @@ spaced-ready T U k s =
 module _ (W : Words) (within : Within W) where
   -- After the blank codes at the start of a line.
 
-  data-here : (T : Tokenizer) → T.attempts ≡ [] → next_is is_line_ending (ahead T) ≡ false → GoesIn W (weight_at 1 T) (line_ending_after_prefix_ends T) (data_entered T)
+  data-here : (T : Tokenizer) → T.attempts ≡ [] → next_is is_line_ending (ahead T) ≡ false →
+      GoesIn W (weight_at 1 T) (line_ending_after_prefix_ends T) (data_entered T)
   data-here T alone h =
       Goes-end W (weight_at 1 T) (line_ending_after_prefix_ends T) true (done (Enter N.HtmlTextData ∷ []) T) (attempts-done (Enter N.HtmlTextData ∷ []) T ∙ alone) (omega arith)
       (λ ok U x. (x.0, x.1 ∙ ap (λ os. done os T) (sym (prefix-data (ahead T) h))))
 
   -- past a line ending, on to the start of the next line
-  passed-on : (j : ℕ) (E : Bool → Tokenizer → Type 0) (os : List Op) (T : Tokenizer) → T.attempts ≡ [] → moves os ≡ 1 → 1 ≤ length (ahead T) → AfterReady (done os T) → ((ok : Bool) (U : Tokenizer) → (ok ≡ true) × (U ≡ done (os ++ break_from AtStart (rest_of (ahead T))) T) → E ok U) → GoesIn W (weight_at j T) E (stepped (Next H.HtmlTextLineEndingAfter) (done os T))
+  passed-on : (j : ℕ) (E : Bool → Tokenizer → Type 0) (os : List Op) (T : Tokenizer) → T.attempts ≡ [] → moves os ≡ 1 →
+      1 ≤ length (ahead T) → AfterReady (done os T) →
+      ((ok : Bool) (U : Tokenizer) → (ok ≡ true) × (U ≡ done (os ++ break_from AtStart (rest_of (ahead T))) T) → E ok U) →
+      GoesIn W (weight_at j T) E (stepped (Next H.HtmlTextLineEndingAfter) (done os T))
   passed-on j E os T alone one more k closed =
       let V : Tokenizer = done os T in
       let rest : ahead V ≡ rest_of (ahead T) = ahead-done os T ∙ ap (λ n. drop n (ahead T)) one in
@@ -175,15 +192,18 @@ module _ (W : Words) (within : Within W) where
 
   -- At the start of a line.
 
-  plain-here : (T : Tokenizer) → T.attempts ≡ [] → AfterReady T → next_is is_blank (ahead T) ≡ false → GoesIn W (weight_at 4 T) (line_ending_after_ends T) (stepped (Retry H.HtmlTextLineEndingAfterPrefix) T)
+  plain-here : (T : Tokenizer) → T.attempts ≡ [] → AfterReady T → next_is is_blank (ahead T) ≡ false →
+      GoesIn W (weight_at 4 T) (line_ending_after_ends T) (stepped (Retry H.HtmlTextLineEndingAfterPrefix) T)
   plain-here T alone k h =
       Goes-plain W (weight_at 4 T) (line_ending_after_ends T) (Retry H.HtmlTextLineEndingAfterPrefix) within.prefix T alone k (omega arith)
       (λ ok U x. let e = x in (e.0, e.1 ∙ ap (λ os. done os T) (sym (start-plain (ahead T) h))))
 
-  never-refused : (T U : Tokenizer) → AfterReady T → next_is is_blank (ahead T) ≡ true → EndsAs (space_or_tab N.SpaceOrTab None 1 most) None T.tokenize_state T false U → ⊥
+  never-refused : (T U : Tokenizer) → AfterReady T → next_is is_blank (ahead T) ≡ true →
+      EndsAs (space_or_tab N.SpaceOrTab None 1 most) None T.tokenize_state T false U → ⊥
   never-refused T U k h x = let no = sym (space-there T k h) ∙ x.refused in cc
 
-  spaced-closed : (T U : Tokenizer) → next_is is_blank (ahead T) ≡ true → Spaced T U → (ok : Bool) (V : Tokenizer) → line_ending_after_prefix_ends U ok V → line_ending_after_ends T ok V
+  spaced-closed : (T U : Tokenizer) → next_is is_blank (ahead T) ≡ true → Spaced T U → (ok : Bool) (V : Tokenizer) →
+      line_ending_after_prefix_ends U ok V → line_ending_after_ends T ok V
   spaced-closed T U h s ok V x = (
     x.0,
     x.1 ∙ ap (λ cs. done (prefix_from cs) U) s.after ∙ ap (λ (y : Tokenizer). done (prefix_from (span is_blank (ahead T)).1) y) s.passed

@@ -26,7 +26,8 @@ abbrev pub Each : (ℕ → Type 0) → List ℕ → Type 0
 Each P [] = Unit {0}
 Each P (n ∷ ns) = P n × Each P ns
 
-among-by : (P : ℕ → Type 0) (v n : ℕ) (ns : List ℕ) (b : Bool) → (v == n) ≡ b → b || among_values ns v ≡ true → P n → (among_values ns v ≡ true → P v) → P v
+among-by : (P : ℕ → Type 0) (v n : ℕ) (ns : List ℕ) (b : Bool) → (v == n) ≡ b → b || among_values ns v ≡ true → P n →
+    (among_values ns v ≡ true → P v) → P v
 among-by P v n ns true e h p more = subst P (sym (eqb-true v n e)) p
 among-by P v n ns false e h p more = more h
 
@@ -51,7 +52,8 @@ optional-not : (a : Reading (List Code)) (cs : List Code) → a cs ≡ None → 
 unfolding optional gives
 optional-not a cs e = either-right a (gives []) cs e
 
-optional-read : (a : Reading (List Code)) (cs : List Code) (r : List Code × List Code) → ◌≡◌ {A = Option (List Code × List Code)} (a cs) (Some r) → optional a cs ≡ Some r
+optional-read : (a : Reading (List Code)) (cs : List Code) (r : List Code × List Code) →
+    ◌≡◌ {A = Option (List Code × List Code)} (a cs) (Some r) → optional a cs ≡ Some r
 unfolding optional
 optional-read a cs r e = either-here a (gives []) cs r e ∙ e
 
@@ -63,7 +65,8 @@ tag-end-slash c cs e =
 
 pub tag-end-other : (cs : List Code) → next_is (is_value 47) cs ≡ false → tag_end cs ≡ word ">" cs
 unfolding word
-tag-end-other cs e = then-nothing (optional (word "/")) (word ">") cs (optional-not (word "/") cs (word-none 47 [] cs e))
+tag-end-other cs e =
+    then-nothing (optional (word "/")) (word ">") cs (optional-not (word "/") cs (word-none 47 [] cs e))
 
 -- Rounds.
 
@@ -77,11 +80,13 @@ unfolding repeated
 repeated-found zero a cs = record { codes = []; rest = cs; is = refl }
 repeated-found (suc n) a cs = by-first (a cs)
   where
-    by-rounds : (x : List Code × List Code) (o : Option (List Code × List Code)) → Found (elim o as (λ _. Option (List Code × List Code)) [ None ↦ Some x | Some s ↦ Some (x.0 ++ s.0, s.1) ])
+    by-rounds : (x : List Code × List Code) (o : Option (List Code × List Code)) →
+        Found (elim o as (λ _. Option (List Code × List Code)) [ None ↦ Some x | Some s ↦ Some (x.0 ++ s.0, s.1) ])
     by-rounds x None = record { codes = x.0; rest = x.1; is = refl }
     by-rounds x (Some s) = record { codes = x.0 ++ s.0; rest = s.1; is = refl }
 
-    by-first : (o : Option (List Code × List Code)) → Found (elim o as (λ _. Option (List Code × List Code)) [ None ↦ Some ([], cs) | Some x ↦ elim (repeated n a x.1) as (λ _. Option (List Code × List Code)) [ None ↦ Some x | Some s ↦ Some (x.0 ++ s.0, s.1) ] ])
+    by-first : (o : Option (List Code × List Code)) →
+        Found (elim o as (λ _. Option (List Code × List Code)) [ None ↦ Some ([], cs) | Some x ↦ elim (repeated n a x.1) as (λ _. Option (List Code × List Code)) [ None ↦ Some x | Some s ↦ Some (x.0 ++ s.0, s.1) ] ])
     by-first None = record { codes = []; rest = cs; is = refl }
     by-first (Some x) = by-rounds x (repeated n a x.1)
 
@@ -93,7 +98,9 @@ module _ (a : Reading (List Code)) (takes : Consumes 1 a) where
   rounds-none : (b : Reading (List Code)) (cs : List Code) → a cs ≡ None → (repeatedly a then_ b) cs ≡ b cs
   rounds-none b cs e = then-nothing (repeatedly a) b cs (repeatedly-next a takes cs ∙ ap (and_then (repeatedly a) cs) e)
 
-  rounds-more : (b : Reading (List Code)) (cs x q : List Code) → ◌≡◌ {A = Option (List Code × List Code)} (a cs) (Some (x, q)) → (repeatedly a then_ b) cs ≡ after x ((repeatedly a then_ b) q)
+  rounds-more : (b : Reading (List Code)) (cs x q : List Code) →
+      ◌≡◌ {A = Option (List Code × List Code)} (a cs) (Some (x, q)) →
+      (repeatedly a then_ b) cs ≡ after x ((repeatedly a then_ b) q)
   rounds-more b cs x q e =
       let k : Found (repeatedly a q) = repeatedly-found a q in
       let whole : repeatedly a cs ≡ Some (x ++ k.codes, k.rest) =
@@ -128,23 +135,29 @@ spaced-is b cs = then-after optional_spaces b cs (front cs) (behind cs) (optiona
 
 -- Attributes.
 
-attribute-name-is : (c : Code) (cs : List Code) → is_attribute_first c ≡ true → attribute_name (c ∷ cs) ≡ with_first c (any_number is_attribute_code cs)
+attribute-name-is : (c : Code) (cs : List Code) → is_attribute_first c ≡ true →
+    attribute_name (c ∷ cs) ≡ with_first c (any_number is_attribute_code cs)
 unfolding attribute_name
 attribute-name-is c cs e = one-on is_attribute_first (any_number is_attribute_code) c cs e
 
 attribute-none : (cs : List Code) → next_is is_attribute_first cs ≡ false → attribute cs ≡ None
 unfolding attribute attribute_name
-attribute-none cs e = then-none attribute_name (optional initializer) cs (one-none is_attribute_first (any_number is_attribute_code) cs e)
+attribute-none cs e =
+    then-none attribute_name (optional initializer) cs (one-none is_attribute_first (any_number is_attribute_code) cs e)
 
-attribute-first : (c : Code) (cs : List Code) → is_attribute_first c ≡ true → attribute (c ∷ cs) ≡ with_first c ((any_number is_attribute_code then_ optional initializer) cs)
+attribute-first : (c : Code) (cs : List Code) → is_attribute_first c ≡ true →
+    attribute (c ∷ cs) ≡ with_first c ((any_number is_attribute_code then_ optional initializer) cs)
 unfolding attribute
-attribute-first c cs e = then-first attribute_name (any_number is_attribute_code) (optional initializer) c cs (attribute-name-is c cs e)
+attribute-first c cs e =
+    then-first attribute_name (any_number is_attribute_code) (optional initializer) c cs (attribute-name-is c cs e)
 
-optional-found : (a : Reading (List Code)) (cs : List Code) (o : Option (List Code × List Code)) → a cs ≡ o → Found (optional a cs)
+optional-found : (a : Reading (List Code)) (cs : List Code) (o : Option (List Code × List Code)) → a cs ≡ o →
+    Found (optional a cs)
 optional-found a cs None e = record { codes = []; rest = cs; is = optional-not a cs e }
 optional-found a cs (Some r) e = record { codes = r.0; rest = r.1; is = optional-read a cs r e }
 
-any-found : (p : Code → Bool) (b : Reading (List Code)) (cs : List Code) → ((ds : List Code) → Found (b ds)) → Found ((any_number p then_ b) cs)
+any-found : (p : Code → Bool) (b : Reading (List Code)) (cs : List Code) → ((ds : List Code) → Found (b ds)) →
+    Found ((any_number p then_ b) cs)
 unfolding any_number
 any-found p b cs found =
     let s : List Code × List Code = span p cs in
@@ -173,10 +186,14 @@ spaced-none : (cs : List Code) → next_is is_whitespace_code cs ≡ false → s
 spaced-none cs e = then-none spaces attribute cs (spaces-are-none cs e)
 
 rest-none : (cs : List Code) → next_is is_whitespace_code cs ≡ false → tag_rest cs ≡ tag_end cs
-rest-none cs e = rounds-none spaced spaced-takes (optional_spaces then_ tag_end) cs (spaced-none cs e) ∙ spaces-none tag_end cs e
+rest-none cs e =
+    rounds-none spaced spaced-takes (optional_spaces then_ tag_end) cs (spaced-none cs e) ∙ spaces-none tag_end cs e
 
-between-by : (space first : Bool) (cs : List Code) → next_is is_whitespace_code cs ≡ space → next_is is_attribute_first (behind cs) ≡ first → next_is is_attribute_first cs ≡ false → tag_rest cs ≡ tag_between cs
-between-by false first cs e h k = rest-none cs e ∙ sym (spaces-none tag_next cs e ∙ next-other is_attribute_first (attribute then_ tag_rest) tag_end cs k)
+between-by : (space first : Bool) (cs : List Code) → next_is is_whitespace_code cs ≡ space →
+    next_is is_attribute_first (behind cs) ≡ first → next_is is_attribute_first cs ≡ false →
+    tag_rest cs ≡ tag_between cs
+between-by false first cs e h k =
+    rest-none cs e ∙ sym (spaces-none tag_next cs e ∙ next-other is_attribute_first (attribute then_ tag_rest) tag_end cs k)
 between-by true false cs e h k =
     let none : spaced cs ≡ None = then-after spaces attribute cs (front cs) (behind cs) (spaces-are cs e) ∙ ap (after (front cs)) (attribute-none (behind cs) h) in
     rounds-none spaced spaced-takes (optional_spaces then_ tag_end) cs none
@@ -195,20 +212,25 @@ between-by true true cs e h k =
 pub rest-between : (cs : List Code) → next_is is_attribute_first cs ≡ false → tag_rest cs ≡ tag_between cs
 rest-between cs e = between-by (next_is is_whitespace_code cs) (next_is is_attribute_first (behind cs)) cs refl refl e
 
-pub rest-refused : (cs : List Code) → next_is is_whitespace_code cs ≡ false → next_is (is_value 47) cs ≡ false → next_is (is_value 62) cs ≡ false → tag_rest cs ≡ None
+pub rest-refused : (cs : List Code) → next_is is_whitespace_code cs ≡ false → next_is (is_value 47) cs ≡ false →
+    next_is (is_value 62) cs ≡ false → tag_rest cs ≡ None
 rest-refused cs e h k = rest-none cs e ∙ tag-end-other cs h ∙ end-none cs k
 
-pub between-none : (cs : List Code) → next_is is_whitespace_code cs ≡ false → next_is is_attribute_first cs ≡ false → next_is (is_value 47) cs ≡ false → tag_between cs ≡ word ">" cs
-between-none cs e h k = spaces-none tag_next cs e ∙ next-other is_attribute_first (attribute then_ tag_rest) tag_end cs h ∙ tag-end-other cs k
+pub between-none : (cs : List Code) → next_is is_whitespace_code cs ≡ false → next_is is_attribute_first cs ≡ false →
+    next_is (is_value 47) cs ≡ false → tag_between cs ≡ word ">" cs
+between-none cs e h k =
+    spaces-none tag_next cs e ∙ next-other is_attribute_first (attribute then_ tag_rest) tag_end cs h ∙ tag-end-other cs k
 
-pub between-slash : (c : Code) (cs : List Code) → is_value 47 c ≡ true → tag_between (c ∷ cs) ≡ with_first c (word ">" cs)
+pub between-slash : (c : Code) (cs : List Code) → is_value 47 c ≡ true →
+    tag_between (c ∷ cs) ≡ with_first c (word ">" cs)
 between-slash c cs e =
     let v : c.value ≡ 47 = eqb-true c.value 47 e in
     spaces-none tag_next (c ∷ cs) (ap whitespace_value v)
     ∙ next-other is_attribute_first (attribute then_ tag_rest) tag_end (c ∷ cs) (ap (λ x. is_attribute_first (record { value = x; start = c.start; stop = c.stop })) v)
     ∙ tag-end-slash c cs e
 
-pub between-first : (c : Code) (cs : List Code) → is_whitespace_code c ≡ false → is_attribute_first c ≡ true → tag_between (c ∷ cs) ≡ with_first c (name_rest cs)
+pub between-first : (c : Code) (cs : List Code) → is_whitespace_code c ≡ false → is_attribute_first c ≡ true →
+    tag_between (c ∷ cs) ≡ with_first c (name_rest cs)
 between-first c cs e h =
     spaces-none tag_next (c ∷ cs) e
     ∙ next-here is_attribute_first (attribute then_ tag_rest) tag_end (c ∷ cs) h
@@ -216,7 +238,8 @@ between-first c cs e h =
 
 -- The name of an attribute.
 
-pub name-rest-on : (c : Code) (cs : List Code) → is_attribute_code c ≡ true → name_rest (c ∷ cs) ≡ with_first c (name_rest cs)
+pub name-rest-on : (c : Code) (cs : List Code) → is_attribute_code c ≡ true →
+    name_rest (c ∷ cs) ≡ with_first c (name_rest cs)
 name-rest-on c cs e =
     then-first (any_number is_attribute_code then_ optional initializer) (any_number is_attribute_code then_ optional initializer) tag_rest c cs
     (then-first (any_number is_attribute_code) (any_number is_attribute_code) (optional initializer) c cs (any-on is_attribute_code c cs e))
@@ -228,8 +251,10 @@ abbrev equals : Reading (List Code)
 equals = one (is_value 61) then_ value_here
 
 -- after the name, where it has no value
-plain-by : (cs : List Code) → initializer cs ≡ None → next_is is_attribute_first cs ≡ false → (optional initializer then_ tag_rest) cs ≡ after (front cs) (tag_next (behind cs))
-plain-by cs e k = then-nothing (optional initializer) tag_rest cs (optional-not initializer cs e) ∙ rest-between cs k ∙ spaced-is tag_next cs
+plain-by : (cs : List Code) → initializer cs ≡ None → next_is is_attribute_first cs ≡ false →
+    (optional initializer then_ tag_rest) cs ≡ after (front cs) (tag_next (behind cs))
+plain-by cs e k =
+    then-nothing (optional initializer) tag_rest cs (optional-not initializer cs e) ∙ rest-between cs k ∙ spaced-is tag_next cs
 
 equals-none : (c : Code) (cs : List Code) → is_value 61 c ≡ true → tag_next (c ∷ cs) ≡ None
 equals-none c cs e =
@@ -238,7 +263,9 @@ equals-none c cs e =
     ∙ tag-end-other (c ∷ cs) (ap (λ x. x == 47) v)
     ∙ end-none (c ∷ cs) (ap (λ x. x == 62) v)
 
-value-by : (cs : List Code) (e : Code) (r : List Code) (o : Option (List Code × List Code)) → behind cs ≡ e ∷ r → is_value 61 e ≡ true → value_here r ≡ o → next_is is_attribute_first cs ≡ false → (optional initializer then_ tag_rest) cs ≡ after (front cs) (with_first e (value_rest r))
+value-by : (cs : List Code) (e : Code) (r : List Code) (o : Option (List Code × List Code)) → behind cs ≡ e ∷ r →
+    is_value 61 e ≡ true → value_here r ≡ o → next_is is_attribute_first cs ≡ false →
+    (optional initializer then_ tag_rest) cs ≡ after (front cs) (with_first e (value_rest r))
 value-by cs e r None b h k first =
     let none : initializer cs ≡ None = spaced-is equals cs ∙ ap (λ x. after (front cs) (equals x)) b ∙ ap (after (front cs)) (one-on (is_value 61) value_here e r h ∙ ap (with_first e) k) in
     plain-by cs none first
@@ -251,7 +278,8 @@ value-by cs e r (Some v) b h k first =
     ∙ after-twice (front cs) (e ∷ v.0) (tag_rest v.1)
     ∙ ap (after (front cs)) (after-more e v.0 (tag_rest v.1) ∙ ap (with_first e) (sym (then-after value_here tag_rest r v.0 v.1 k)))
 
-after-by : (cs ds : List Code) → behind cs ≡ ds → (b : Bool) → next_is (is_value 61) ds ≡ b → next_is is_attribute_first cs ≡ false → (optional initializer then_ tag_rest) cs ≡ after (front cs) (name_next ds)
+after-by : (cs ds : List Code) → behind cs ≡ ds → (b : Bool) → next_is (is_value 61) ds ≡ b →
+    next_is is_attribute_first cs ≡ false → (optional initializer then_ tag_rest) cs ≡ after (front cs) (name_next ds)
 after-by cs ds e false h first =
     let none : initializer cs ≡ None = spaced-is equals cs ∙ ap (λ x. after (front cs) (equals x)) e ∙ ap (after (front cs)) (one-none (is_value 61) value_here ds h) in
     plain-by cs none first
@@ -269,37 +297,44 @@ name-rest-end cs e =
     ∙ after-by cs (behind cs) refl (next_is (is_value 61) (behind cs)) refl (not-first-next cs e)
     ∙ sym (spaced-is name_next cs)
 
-pub name-after-equals : (c : Code) (cs : List Code) → is_value 61 c ≡ true → name_after (c ∷ cs) ≡ with_first c (value_rest cs)
+pub name-after-equals : (c : Code) (cs : List Code) → is_value 61 c ≡ true →
+    name_after (c ∷ cs) ≡ with_first c (value_rest cs)
 name-after-equals c cs e =
     spaces-none name_next (c ∷ cs) (ap whitespace_value (eqb-true c.value 61 e))
     ∙ next-here (is_value 61) (one (is_value 61) then_ value_rest) tag_next (c ∷ cs) e
     ∙ one-on (is_value 61) value_rest c cs e
 
-pub name-after-other : (cs : List Code) → next_is is_whitespace_code cs ≡ false → next_is (is_value 61) cs ≡ false → name_after cs ≡ tag_between cs
+pub name-after-other : (cs : List Code) → next_is is_whitespace_code cs ≡ false → next_is (is_value 61) cs ≡ false →
+    name_after cs ≡ tag_between cs
 name-after-other cs e h =
     spaces-none name_next cs e ∙ next-other (is_value 61) (one (is_value 61) then_ value_rest) tag_next cs h ∙ sym (spaces-none tag_next cs e)
 
 -- Values.
 
-value-here-is : (cs : List Code) → next_is is_whitespace_code cs ≡ false → value_rest cs ≡ (attribute_value then_ tag_rest) cs
+value-here-is : (cs : List Code) → next_is is_whitespace_code cs ≡ false →
+    value_rest cs ≡ (attribute_value then_ tag_rest) cs
 value-here-is cs e = then-same value_here attribute_value tag_rest cs (spaces-none attribute_value cs e)
 
-pub value-space : (c : Code) (cs : List Code) → is_whitespace_code c ≡ true → value_rest (c ∷ cs) ≡ with_first c (value_rest cs)
+pub value-space : (c : Code) (cs : List Code) → is_whitespace_code c ≡ true →
+    value_rest (c ∷ cs) ≡ with_first c (value_rest cs)
 value-space c cs e = then-first value_here value_here tag_rest c cs (spaces-first attribute_value c cs e)
 
 quote-none : (q : ℕ) (cs : List Code) → next_is (is_value q) cs ≡ false → quoted_value q cs ≡ None
 unfolding quoted_value
 quote-none q cs e = one-none (is_value q) (any_number (λ c. not (is_value q c)) then_ one (is_value q)) cs e
 
-quote-first : (q : ℕ) (c : Code) (cs : List Code) → is_value q c ≡ true → quoted_value q (c ∷ cs) ≡ with_first c ((any_number (λ d. not (is_value q d)) then_ one (is_value q)) cs)
+quote-first : (q : ℕ) (c : Code) (cs : List Code) → is_value q c ≡ true →
+    quoted_value q (c ∷ cs) ≡ with_first c ((any_number (λ d. not (is_value q d)) then_ one (is_value q)) cs)
 unfolding quoted_value
 quote-first q c cs e = one-on (is_value q) (any_number (λ d. not (is_value q d)) then_ one (is_value q)) c cs e
 
 unquoted-none-first : (cs : List Code) → next_is (λ c. not (ends_value c)) cs ≡ false → unquoted_value cs ≡ None
 unfolding unquoted_value before
-unquoted-none-first cs e = ap (λ (o : Option (List Code × List Code)). elim o as (λ _. Option (List Code × List Code)) [ None ↦ None | Some r ↦ elim (next_is is_after_value r.1) as (λ _. Option (List Code × List Code)) [ true ↦ Some r | false ↦ None ] ]) (one-none (λ c. not (ends_value c)) (any_number is_unquoted_code) cs e)
+unquoted-none-first cs e =
+    ap (λ (o : Option (List Code × List Code)). elim o as (λ _. Option (List Code × List Code)) [ None ↦ None | Some r ↦ elim (next_is is_after_value r.1) as (λ _. Option (List Code × List Code)) [ true ↦ Some r | false ↦ None ] ]) (one-none (λ c. not (ends_value c)) (any_number is_unquoted_code) cs e)
 
-value-double : (c : Code) (cs : List Code) → is_value 34 c ≡ true → attribute_value (c ∷ cs) ≡ with_first c ((any_number (λ d. not (is_value 34 d)) then_ one (is_value 34)) cs)
+value-double : (c : Code) (cs : List Code) → is_value 34 c ≡ true →
+    attribute_value (c ∷ cs) ≡ with_first c ((any_number (λ d. not (is_value 34 d)) then_ one (is_value 34)) cs)
 unfolding attribute_value
 value-double c cs e =
     let v : c.value ≡ 34 = eqb-true c.value 34 e in
@@ -307,7 +342,8 @@ value-double c cs e =
     (either-none (quoted_value 39) unquoted_value (c ∷ cs) (quote-none 39 (c ∷ cs) (ap (λ x. x == 39) v)) (unquoted-none-first (c ∷ cs) (ap (λ x. not (ends_value (record { value = x; start = c.start; stop = c.stop }))) v)))
     ∙ quote-first 34 c cs e
 
-value-single : (c : Code) (cs : List Code) → is_value 39 c ≡ true → attribute_value (c ∷ cs) ≡ with_first c ((any_number (λ d. not (is_value 39 d)) then_ one (is_value 39)) cs)
+value-single : (c : Code) (cs : List Code) → is_value 39 c ≡ true →
+    attribute_value (c ∷ cs) ≡ with_first c ((any_number (λ d. not (is_value 39 d)) then_ one (is_value 39)) cs)
 unfolding attribute_value
 value-single c cs e =
     let v : c.value ≡ 39 = eqb-true c.value 39 e in
@@ -318,14 +354,16 @@ value-single c cs e =
 abbrev Quoted : Code → List Code → ℕ → Type 0
 Quoted c cs q = is_value q c ≡ true → value_rest (c ∷ cs) ≡ with_first c (quoted_rest q cs)
 
-pub value-quote : (q : ℕ) (c : Code) (cs : List Code) → quote_value q ≡ true → is_value q c ≡ true → value_rest (c ∷ cs) ≡ with_first c (quoted_rest q cs)
+pub value-quote : (q : ℕ) (c : Code) (cs : List Code) → quote_value q ≡ true → is_value q c ≡ true →
+    value_rest (c ∷ cs) ≡ with_first c (quoted_rest q cs)
 value-quote q c cs h =
     among-each (Quoted c cs) q (codes "\"'") h (
       λ e. value-here-is (c ∷ cs) (ap whitespace_value (eqb-true c.value 34 e)) ∙ then-first attribute_value (any_number (λ d. not (is_value 34 d)) then_ one (is_value 34)) tag_rest c cs (value-double c cs e),
       (λ e. value-here-is (c ∷ cs) (ap whitespace_value (eqb-true c.value 39 e)) ∙ then-first attribute_value (any_number (λ d. not (is_value 39 d)) then_ one (is_value 39)) tag_rest c cs (value-single c cs e), tt),
     )
 
-value-refused : (cs : List Code) → next_is is_whitespace_code cs ≡ false → next_is (is_value 34) cs ≡ false → next_is (is_value 39) cs ≡ false → next_is (λ c. not (ends_value c)) cs ≡ false → value_rest cs ≡ None
+value-refused : (cs : List Code) → next_is is_whitespace_code cs ≡ false → next_is (is_value 34) cs ≡ false →
+    next_is (is_value 39) cs ≡ false → next_is (λ c. not (ends_value c)) cs ≡ false → value_rest cs ≡ None
 unfolding attribute_value
 value-refused cs e h k l =
     value-here-is cs e
@@ -341,12 +379,14 @@ value-none c cs h =
     value-refused (c ∷ cs) k.0 k.1 k.2 k.3
 
 -- no test keeps it from an unquoted value
-plain-value : (c : Code) → is_whitespace_code c ≡ false → quote_value c.value ≡ false → starts_no_value c.value ≡ false → ends_value c ≡ false
+plain-value : (c : Code) → is_whitespace_code c ≡ false → quote_value c.value ≡ false →
+    starts_no_value c.value ≡ false → ends_value c ≡ false
 plain-value c e h k =
     or_from (is_whitespace_code c) _ e
     (or_from (c.value == 34) _ (or_parts (c.value == 34) _ h).0 (or_from (c.value == 39) _ (or_parts (c.value == 39) _ (or_parts (c.value == 34) _ h).1).0 k))
 
-pub value-plain : (c : Code) (cs : List Code) → is_whitespace_code c ≡ false → quote_value c.value ≡ false → starts_no_value c.value ≡ false → value_rest (c ∷ cs) ≡ with_first c (unquoted_rest cs)
+pub value-plain : (c : Code) (cs : List Code) → is_whitespace_code c ≡ false → quote_value c.value ≡ false →
+    starts_no_value c.value ≡ false → value_rest (c ∷ cs) ≡ with_first c (unquoted_rest cs)
 unfolding attribute_value unquoted_value
 value-plain c cs e h k =
     value-here-is (c ∷ cs) e
@@ -365,29 +405,34 @@ pub quoted-end : (q : ℕ) → quoted_rest q [] ≡ None
 quoted-end q =
     then-none (quoted_inside q) tag_rest [] (then-nothing (any_number (λ c. not (is_value q c))) (one (is_value q)) [] (any-none (λ c. not (is_value q c)) [] refl) ∙ one-not (is_value q) [] refl)
 
-pub quoted-close : (q : ℕ) (c : Code) (cs : List Code) → is_value q c ≡ true → quoted_rest q (c ∷ cs) ≡ with_first c (tag_rest cs)
+pub quoted-close : (q : ℕ) (c : Code) (cs : List Code) → is_value q c ≡ true →
+    quoted_rest q (c ∷ cs) ≡ with_first c (tag_rest cs)
 quoted-close q c cs e =
     then-after (quoted_inside q) tag_rest (c ∷ cs) (c ∷ []) cs (then-nothing (any_number (λ d. not (is_value q d))) (one (is_value q)) (c ∷ cs) (any-none (λ d. not (is_value q d)) (c ∷ cs) (ap not e)) ∙ one-here (is_value q) c cs e)
     ∙ after-more c [] (tag_rest cs) ∙ ap (with_first c) (after-none (tag_rest cs))
 
-pub quoted-more : (q : ℕ) (c : Code) (cs : List Code) → is_value q c ≡ false → quoted_rest q (c ∷ cs) ≡ with_first c (quoted_rest q cs)
+pub quoted-more : (q : ℕ) (c : Code) (cs : List Code) → is_value q c ≡ false →
+    quoted_rest q (c ∷ cs) ≡ with_first c (quoted_rest q cs)
 quoted-more q c cs e =
     then-first (quoted_inside q) (quoted_inside q) tag_rest c cs
     (then-first (any_number (λ d. not (is_value q d))) (any_number (λ d. not (is_value q d))) (one (is_value q)) c cs (any-on (λ d. not (is_value q d)) c cs (ap not e)))
 
 -- Unquoted values.
 
-pub unquoted-more : (c : Code) (cs : List Code) → is_unquoted_code c ≡ true → unquoted_rest (c ∷ cs) ≡ with_first c (unquoted_rest cs)
+pub unquoted-more : (c : Code) (cs : List Code) → is_unquoted_code c ≡ true →
+    unquoted_rest (c ∷ cs) ≡ with_first c (unquoted_rest cs)
 unquoted-more c cs e =
     then-first (before (any_number is_unquoted_code) (next_is is_after_value)) (before (any_number is_unquoted_code) (next_is is_after_value)) tag_rest c cs
     (before-first (any_number is_unquoted_code) (any_number is_unquoted_code) (next_is is_after_value) c cs (any-on is_unquoted_code c cs e))
 
-pub unquoted-after : (cs : List Code) → next_is is_unquoted_code cs ≡ false → next_is is_after_value cs ≡ true → unquoted_rest cs ≡ tag_rest cs
+pub unquoted-after : (cs : List Code) → next_is is_unquoted_code cs ≡ false → next_is is_after_value cs ≡ true →
+    unquoted_rest cs ≡ tag_rest cs
 unquoted-after cs e h =
     then-nothing (before (any_number is_unquoted_code) (next_is is_after_value)) tag_rest cs
     (before-some (any_number is_unquoted_code) (next_is is_after_value) cs [] cs (any-none is_unquoted_code cs e) h)
 
-pub unquoted-none : (cs : List Code) → next_is is_unquoted_code cs ≡ false → next_is is_after_value cs ≡ false → unquoted_rest cs ≡ None
+pub unquoted-none : (cs : List Code) → next_is is_unquoted_code cs ≡ false → next_is is_after_value cs ≡ false →
+    unquoted_rest cs ≡ None
 unquoted-none cs e h =
     then-none (before (any_number is_unquoted_code) (next_is is_after_value)) tag_rest cs
     (before-other (any_number is_unquoted_code) (next_is is_after_value) cs [] cs (any-none is_unquoted_code cs e) h)
@@ -404,33 +449,38 @@ takes-tag-end : Covers itself [] tag_end
 takes-tag-end = takes_then _ _ (takes_optional _ (takes_word "/")) (takes_word ">")
 
 takes-tag-rest : Covers itself [] tag_rest
-takes-tag-rest = takes_then _ _ (takes_repeatedly _ (takes_then _ _ takes_spaces takes_attribute)) (takes_then _ _ takes_optional_spaces takes-tag-end)
+takes-tag-rest =
+    takes_then _ _ (takes_repeatedly _ (takes_then _ _ takes_spaces takes_attribute)) (takes_then _ _ takes_optional_spaces takes-tag-end)
 
 optional-spaces-take : Consumes 0 optional_spaces
 unfolding optional_spaces
 optional-spaces-take = any_takes is_whitespace_code
 
 tag-rest-takes : Consumes 1 tag_rest
-tag-rest-takes = second_takes _ _ (takes_no_more itself _ (takes_repeatedly _ (takes_then _ _ takes_spaces takes_attribute))) (second_takes _ _ optional-spaces-take tag-end-takes)
+tag-rest-takes =
+    second_takes _ _ (takes_no_more itself _ (takes_repeatedly _ (takes_then _ _ takes_spaces takes_attribute))) (second_takes _ _ optional-spaces-take tag-end-takes)
 
 attribute-consumes : Consumes 1 attribute
 unfolding attribute attribute_name
 attribute-consumes = then_takes _ _ (then_takes _ _ (one_takes is_attribute_first) (any_takes is_attribute_code)) (takes_no_more itself _ (takes_optional _ takes-initializer))
   where
     takes-initializer : Covers itself [] initializer
-    takes-initializer = takes_then _ _ takes_optional_spaces (takes_then _ _ (takes_one (is_value 61)) (takes_then _ _ takes_optional_spaces takes_attribute_value))
+    takes-initializer =
+        takes_then _ _ takes_optional_spaces (takes_then _ _ (takes_one (is_value 61)) (takes_then _ _ takes_optional_spaces takes_attribute_value))
 
 takes-next : Covers itself [] tag_next
 takes-next = by_next _ _ is_attribute_first _ _ (takes_then _ _ takes_attribute takes-tag-rest) takes-tag-end
 
 next-takes : Consumes 1 tag_next
-next-takes = next_takes is_attribute_first _ _ (then_takes _ _ attribute-consumes (weaker _ tag-rest-takes)) tag-end-takes
+next-takes =
+    next_takes is_attribute_first _ _ (then_takes _ _ attribute-consumes (weaker _ tag-rest-takes)) tag-end-takes
 
 takes-value : Covers itself [] value_rest
 takes-value = takes_then _ _ (takes_then _ _ takes_optional_spaces takes_attribute_value) takes-tag-rest
 
 value-takes : Consumes 1 value_rest
-value-takes = second_takes _ _ (takes_no_more itself _ (takes_then _ _ takes_optional_spaces takes_attribute_value)) tag-rest-takes
+value-takes =
+    second_takes _ _ (takes_no_more itself _ (takes_then _ _ takes_optional_spaces takes_attribute_value)) tag-rest-takes
 
 pub between-goes : Goes tag_between
 between-goes =

@@ -40,7 +40,8 @@ solid-leaf name [] = tt
 solid-leaf name (c ∷ cs) = (refl, (λ e. cc, tt))
 
 solid-line : (name : Name) (s : List Code) → IsSolid (line_leaf name None s)
-solid-line name s = elim (next_is is_line_ending s) as (λ b. IsSolid (elim b as (λ _. Forest) [ true ↦ linked_leaf N.LineEnding None s | false ↦ linked_leaf name None s ])) [ true ↦ solid-leaf N.LineEnding s | false ↦ solid-leaf name s ]
+solid-line name s =
+    elim (next_is is_line_ending s) as (λ b. IsSolid (elim b as (λ _. Forest) [ true ↦ linked_leaf N.LineEnding None s | false ↦ linked_leaf name None s ])) [ true ↦ solid-leaf N.LineEnding s | false ↦ solid-leaf name s ]
 
 solid-lines : (name : Name) (later : Bool) (ss : List (List Code)) → IsSolid (lines_from name None later ss)
 solid-lines name later [] = tt
@@ -86,20 +87,24 @@ text-none cs e =
 
 -- The operations of the tree.
 
-tree-by : (c : Code) (cs : List Code) (o : Option (List Code × List Code)) → is_line_ending c ≡ false → html_codes (c ∷ cs) ≡ with_first c o → tree_ops (html_text (c ∷ cs)) ≡ preceded opening (text_from InLine o)
+tree-by : (c : Code) (cs : List Code) (o : Option (List Code × List Code)) → is_line_ending c ≡ false →
+    html_codes (c ∷ cs) ≡ with_first c o → tree_ops (html_text (c ∷ cs)) ≡ preceded opening (text_from InLine o)
 unfolding html_text gives
 tree-by c cs None h e = ap tree_ops (bind-none html_codes _ (c ∷ cs) e)
 tree-by c cs (Some r) h e =
     ap tree_ops (bind-some html_codes _ (c ∷ cs) (c ∷ r.0) r.1 _ e refl)
     ∙ ap (λ os. Some (Enter N.HtmlText ∷ (os ++ Exit N.HtmlText ∷ []))) (ops-lines c r.0 h)
 
-pub html-opens : (on : Bool) (c : Code) (cs : List Code) → on ≡ true → is_value 60 c ≡ true → is_line_ending c ≡ false → plan_of (provided on >> html_text) (c ∷ cs) ≡ preceded opening (text_of open_rest cs)
-html-opens on c cs e h k = ap tree_ops (switched-on html_text on (c ∷ cs) e) ∙ tree-by c cs (open_rest cs) k (text-on c cs h)
+pub html-opens : (on : Bool) (c : Code) (cs : List Code) → on ≡ true → is_value 60 c ≡ true → is_line_ending c ≡ false →
+    plan_of (provided on >> html_text) (c ∷ cs) ≡ preceded opening (text_of open_rest cs)
+html-opens on c cs e h k =
+    ap tree_ops (switched-on html_text on (c ∷ cs) e) ∙ tree-by c cs (open_rest cs) k (text-on c cs h)
 
 html-none : (cs : List Code) → next_is (is_value 60) cs ≡ false → html_text cs ≡ None
 unfolding html_text
 html-none cs e = bind-none html_codes _ cs (text-none cs e)
 
-pub no-html : (on : Bool) (cs : List Code) → on && next_is (is_value 60) cs ≡ false → plan_of (provided on >> html_text) cs ≡ None
+pub no-html : (on : Bool) (cs : List Code) → on && next_is (is_value 60) cs ≡ false →
+    plan_of (provided on >> html_text) cs ≡ None
 no-html false cs e = ap tree_ops (switched-off html_text false cs refl)
 no-html true cs e = ap tree_ops (switched-on html_text true cs refl ∙ html-none cs e)

@@ -23,14 +23,19 @@ use Rattle.markdown_plan.specs.ByteTests.{letter_value, among_values}
 use Rattle.markdown_plan.specs.Plan.{DoesAs}
 use Rattle.markdown_plan.specs.ScratchFields.{with_size}
 use Rattle.markdown_leaf_html.specs.HtmlLines.{InLine, break_from, text_from, text_of}
-use Rattle.markdown_leaf_html.specs.HtmlTextRests.{Part, state_of, reading_of, Open, DeclarationOpen, CommentOpenInside, Comment, CommentClose, CommentEnd, Cdata, CdataClose, CdataEnd, Declaration, Instruction, InstructionClose, TagCloseStart, TagClose, TagCloseBetween, TagOpen, TagOpenBetween, AttributeName, AttributeNameAfter, ValueBefore, ValueQuotedAfter, ValueUnquoted, End, rank_of, tag_rest, tag_next, name_next, value_rest, quoted_rest, closing_between, marked, after_mark, after_two_marks, cdata_opening, instruction_after_one, declaration_rest}
+use Rattle.markdown_leaf_html.specs.HtmlTextRests.{Part, state_of, reading_of, Open, DeclarationOpen, CommentOpenInside, Comment, CommentClose, CommentEnd, Cdata, CdataClose, CdataEnd, Declaration, Instruction, InstructionClose, TagCloseStart, TagClose, TagCloseBetween, TagOpen, TagOpenBetween, AttributeName}
+use Rattle.markdown_leaf_html.specs.HtmlTextRests.{AttributeNameAfter, ValueBefore, ValueQuotedAfter, ValueUnquoted, End, rank_of, tag_rest, tag_next, name_next, value_rest, quoted_rest, closing_between, marked, after_mark, after_two_marks, cdata_opening, instruction_after_one, declaration_rest}
 use Rattle.markdown_leaf_html.specs.HtmlByteTests.{blank_value, whitespace_value, name_value, attribute_first_value, attribute_rest_value, after_value, barred_value}
-use Rattle.markdown_leaf_html.specs.HtmlText.{rested, with_marker, closing, is_hopeless, past_code, past_unless, prefix_value, cdata_passed, starts_no_value, quote_value, quote_passed, PartReady, CdataReady, QuotedReady, part_ends, quoted_ends, open_at, declaration_open_at, comment_open_inside_at, marked_at, after_mark_at, after_two_marks_at, over_to, cdata_open_inside_at, cdata_open_inside_step, declaration_at, instruction_at, instruction_close_at, tag_close_start_at, tag_close_at, tag_close_between_at, tag_open_at, tag_open_between_at, tag_open_attribute_name_at, tag_open_attribute_name_after_at, tag_open_attribute_value_before_at, tag_open_attribute_value_quoted_at, tag_open_attribute_value_quoted_step, tag_open_attribute_value_quoted_after_at, tag_open_attribute_value_unquoted_at, end_at, cdata_open_inside_words, tag_open_attribute_value_quoted_words, part_words}
+use Rattle.markdown_leaf_html.specs.HtmlText.{rested, with_marker, closing, is_hopeless, past_code, past_unless, prefix_value, cdata_passed, starts_no_value, quote_value, quote_passed, PartReady, CdataReady, QuotedReady, part_ends, quoted_ends, open_at, declaration_open_at, comment_open_inside_at, marked_at, after_mark_at}
+use Rattle.markdown_leaf_html.specs.HtmlText.{after_two_marks_at, over_to, cdata_open_inside_at, cdata_open_inside_step, declaration_at, instruction_at, instruction_close_at, tag_close_start_at, tag_close_at, tag_close_between_at, tag_open_at, tag_open_between_at, tag_open_attribute_name_at, tag_open_attribute_name_after_at}
+use Rattle.markdown_leaf_html.specs.HtmlText.{tag_open_attribute_value_before_at, tag_open_attribute_value_quoted_at, tag_open_attribute_value_quoted_step, tag_open_attribute_value_quoted_after_at, tag_open_attribute_value_unquoted_at, end_at, cdata_open_inside_words, tag_open_attribute_value_quoted_words, part_words}
 use Rattle.markdown_leaf_html.proofs.HtmlLineBreaks.{Goes}
 use Rattle.markdown_leaf_html.proofs.HtmlLineLemmas.{from-data}
 use Rattle.markdown_leaf_html.proofs.HtmlCodeReadings.{then-nothing, word-end, word-then, word-then-none, up-goes}
-use Rattle.markdown_leaf_html.proofs.HtmlKindReadings.{end-here, end-none, marked-end, marked-on, marked-other, after-mark-on, after-mark-other, after-two-end, after-two-one, comment-inside-dash, comment-inside-none, declaration-goes, declaration-end, declaration-here, declaration-other, instruction-goes, instruction-end, instruction-mark, instruction-other, instruction-one-end, instruction-one-other, spaces-first, spaces-none, closing-goes, name-on, name-none, name-first, name-not, marked-none, marked-dash, marked-letter, marked-bracket, open-none, open-letter, open-slash, open-question, open-bang}
-use Rattle.markdown_leaf_html.proofs.HtmlTagReadings.{among-each, rest-between, rest-refused, between-none, between-slash, between-first, name-rest-on, name-rest-end, name-after-equals, name-after-other, value-space, value-quote, value-end, value-none, value-plain, quoted-end, quoted-close, quoted-more, unquoted-more, unquoted-after, unquoted-none, between-goes, name-after-goes, value-goes, quoted-goes}
+use Rattle.markdown_leaf_html.proofs.HtmlKindReadings.{end-here, end-none, marked-end, marked-on, marked-other, after-mark-on, after-mark-other, after-two-end, after-two-one, comment-inside-dash, comment-inside-none, declaration-goes, declaration-end, declaration-here, declaration-other, instruction-goes, instruction-end, instruction-mark}
+use Rattle.markdown_leaf_html.proofs.HtmlKindReadings.{instruction-other, instruction-one-end, instruction-one-other, spaces-first, spaces-none, closing-goes, name-on, name-none, name-first, name-not, marked-none, marked-dash, marked-letter, marked-bracket, open-none, open-letter, open-slash, open-question, open-bang}
+use Rattle.markdown_leaf_html.proofs.HtmlTagReadings.{among-each, rest-between, rest-refused, between-none, between-slash, between-first, name-rest-on, name-rest-end, name-after-equals, name-after-other, value-space, value-quote, value-end}
+use Rattle.markdown_leaf_html.proofs.HtmlTagReadings.{value-none, value-plain, quoted-end, quoted-close, quoted-more, unquoted-more, unquoted-after, unquoted-none, between-goes, name-after-goes, value-goes, quoted-goes}
 use Rattle.markdown_leaf_html.proofs.HtmlWithoutEnd.{hopeless-none, instruction-absent, declaration-absent, section-absent, comment-absent}
 use Rattle.markdown_leaf_html.proofs.HtmlTextReady.{quoted-next, quoted-broken, quoted-opened, quoted-closed, cdata-opened, cdata-next, cdata-closed, part-next}
 use Rattle.markdown_leaf_html.proofs.HtmlLineEndingLaws.{Within, next-at, next-end}
@@ -45,7 +50,8 @@ at : (p : ℕ → Bool) (T : Tokenizer) (c : ℕ) (e : current_of T ≡ Some c) 
 at p T c e = ap p (ahead-some T c e).value
 
 -- of a code of this value
-is-so : (p : ℕ → Bool) (n : ℕ) (T : Tokenizer) (c : ℕ) (e : current_of T ≡ Some c) → (c == n) ≡ true → p (ahead-some T c e).code.value ≡ p n
+is-so : (p : ℕ → Bool) (n : ℕ) (T : Tokenizer) (c : ℕ) (e : current_of T ≡ Some c) → (c == n) ≡ true →
+    p (ahead-some T c e).code.value ≡ p n
 is-so p n T c e h = ap p ((ahead-some T c e).value ∙ eqb-true c n h)
 
 blank-whitespace : (v : ℕ) → blank_value v ≡ true → whitespace_value v ≡ true
@@ -105,11 +111,15 @@ prefix-plain (suc (suc (suc (suc zero)))) h = refl
 prefix-plain (suc (suc (suc (suc (suc zero))))) h = refl
 prefix-plain (suc (suc (suc (suc (suc (suc n)))))) h = absurd (omega arith)
 
-prefix-on : (n : ℕ) → n < 6 → (c : Code) (cs : List Code) → is_value (prefix_value n) c ≡ true → cdata_opening n (c ∷ cs) ≡ with_first c (cdata_opening (n + 1) cs)
-prefix-on n h c cs e = ap (λ ns. (word_of ns then_ through "]]>") (c ∷ cs)) (prefix-from n h) ∙ word-then (prefix_value n) (drop (n + 1) (codes "CDATA[")) (through "]]>") c cs e
+prefix-on : (n : ℕ) → n < 6 → (c : Code) (cs : List Code) → is_value (prefix_value n) c ≡ true →
+    cdata_opening n (c ∷ cs) ≡ with_first c (cdata_opening (n + 1) cs)
+prefix-on n h c cs e =
+    ap (λ ns. (word_of ns then_ through "]]>") (c ∷ cs)) (prefix-from n h) ∙ word-then (prefix_value n) (drop (n + 1) (codes "CDATA[")) (through "]]>") c cs e
 
-prefix-none : (n : ℕ) → n < 6 → (cs : List Code) → next_is (is_value (prefix_value n)) cs ≡ false → cdata_opening n cs ≡ None
-prefix-none n h cs e = ap (λ ns. (word_of ns then_ through "]]>") cs) (prefix-from n h) ∙ word-then-none (prefix_value n) (drop (n + 1) (codes "CDATA[")) (through "]]>") cs e
+prefix-none : (n : ℕ) → n < 6 → (cs : List Code) → next_is (is_value (prefix_value n)) cs ≡ false →
+    cdata_opening n cs ≡ None
+prefix-none n h cs e =
+    ap (λ ns. (word_of ns then_ through "]]>") cs) (prefix-from n h) ∙ word-then-none (prefix_value n) (drop (n + 1) (codes "CDATA[")) (through "]]>") cs e
 
 prefix-end : (n : ℕ) (cs : List Code) → n ≡ 6 → cdata_opening n cs ≡ marked 93 cs
 unfolding through
@@ -126,13 +136,16 @@ abbrev Barred : ℕ → Type 0
 Barred v = (unquoted_value_test v ≡ false) × (after_value v ≡ false)
 
 barred-each : (v : ℕ) → barred_value v ≡ true → Barred v
-barred-each v h = among-each Barred v (codes "\"'<=`") h ((refl, refl), ((refl, refl), ((refl, refl), ((refl, refl), ((refl, refl), tt)))))
+barred-each v h =
+    among-each Barred v (codes "\"'<=`") h ((refl, refl), ((refl, refl), ((refl, refl), ((refl, refl), ((refl, refl), tt)))))
 
 less : (n : ℕ) → n < 6 → (n + 1 == 6) ≡ false → n + 1 < 6
 less n h e = grind arith
 
 -- what the end of a quoted value says after some operations
-quoted-says : (os : List Op) (T : Tokenizer) → QuotedReady T → (ok : Bool) (U : Tokenizer) → quoted_ends (done os T) ok U → DoesAs 2 (text_of (quoted_rest T.tokenize_state.marker)) (with_marker 0 T.tokenize_state) (done os T) ok U
+quoted-says : (os : List Op) (T : Tokenizer) → QuotedReady T → (ok : Bool) (U : Tokenizer) →
+    quoted_ends (done os T) ok U →
+    DoesAs 2 (text_of (quoted_rest T.tokenize_state.marker)) (with_marker 0 T.tokenize_state) (done os T) ok U
 quoted-says os T r ok U x =
     subst (λ (q : TokenizeState). DoesAs 2 (text_of (quoted_rest T.tokenize_state.marker)) q (done os T) ok U) r.rest
     (subst (λ (q : TokenizeState). DoesAs 2 (text_of (quoted_rest q.marker)) (rested q) (done os T) ok U) (scratch-done os T) x)
@@ -178,7 +191,9 @@ module _ (W : Words) (within : Within W) where
       (λ h4. part-fails W within Open T alone (open-none (ahead T) (next-at letter_value T c e ∙ h4) (next-at (λ v. v == 47) T c e ∙ h2) (next-at (λ v. v == 33) T c e ∙ h1) (next-at (λ v. v == 63) T c e ∙ h3)))))))
 
   -- into the opening of a CDATA section
-  cdata-entered : (T : Tokenizer) (c : ℕ) → T.attempts ≡ [] → PartReady T → (e : current_of T ≡ Some c) → (c == 91) ≡ true → GoesIn W (weight_at (rank_of DeclarationOpen) T) (part_ends DeclarationOpen T) (past_code H.HtmlTextCdataOpenInside T)
+  cdata-entered : (T : Tokenizer) (c : ℕ) → T.attempts ≡ [] → PartReady T → (e : current_of T ≡ Some c) →
+      (c == 91) ≡ true →
+      GoesIn W (weight_at (rank_of DeclarationOpen) T) (part_ends DeclarationOpen T) (past_code H.HtmlTextCdataOpenInside T)
   cdata-entered T c alone r e h =
       let V : Tokenizer = done (Consume ∷ []) T in
       let more : 1 ≤ length (ahead T) = some-codes T c e in
@@ -190,7 +205,9 @@ module _ (W : Words) (within : Within W) where
       (λ ok U x. subst (λ (s : TokenizeState). DoesAs 2 (text_of (cdata_opening 0)) s V ok U) (next.rest ∙ scratch-done (Consume ∷ []) T)
       (subst (λ (n : ℕ). DoesAs 2 (text_of (cdata_opening n)) (rested V.tokenize_state) V ok U) size x))
 
-  cdata-tried : (T : Tokenizer) (c : ℕ) → T.attempts ≡ [] → PartReady T → (e : current_of T ≡ Some c) → (c == 91) ≡ true → GoesIn W (weight_at (rank_of DeclarationOpen) T) (part_ends DeclarationOpen T) (past_unless SectionEnd H.HtmlTextCdataOpenInside T)
+  cdata-tried : (T : Tokenizer) (c : ℕ) → T.attempts ≡ [] → PartReady T → (e : current_of T ≡ Some c) →
+      (c == 91) ≡ true →
+      GoesIn W (weight_at (rank_of DeclarationOpen) T) (part_ends DeclarationOpen T) (past_unless SectionEnd H.HtmlTextCdataOpenInside T)
   cdata-tried T c alone r e h =
       let b : Begins c (ahead T) = ahead-some T c e in
       let rest : List Code = rest_of (ahead T) in
@@ -228,7 +245,8 @@ module _ (W : Words) (within : Within W) where
 
   -- In what ends with a mark twice and a `>`, after one mark, and after two.
   module _ (mark : ℕ) (inside close end : Part) (k : IsMarked mark inside close end) where
-    marked-law : (T : Tokenizer) → T.attempts ≡ [] → PartReady T → GoesIn W (weight_at (rank_of inside) T) (part_ends inside T) (marked_at mark (state_of inside) (state_of close) (current_of T) T)
+    marked-law : (T : Tokenizer) → T.attempts ≡ [] → PartReady T →
+        GoesIn W (weight_at (rank_of inside) T) (part_ends inside T) (marked_at mark (state_of inside) (state_of close) (current_of T) T)
     marked-law T alone r =
         let P : Stepped → Type 0 = GoesIn W (weight_at (rank_of inside) T) (part_ends inside T) in
         code-step P (current_of T) (λ o. marked_at mark (state_of inside) (state_of close) o T)
@@ -242,7 +260,8 @@ module _ (W : Words) (within : Within W) where
         (λ g. part-past W within inside close T c alone r e h (read k.inside_reads _ ∙ marked-on mark b.code rest (at (λ v. v == mark) T c e ∙ g) ∙ ap (with_first b.code) (sym (read k.close_reads rest))))
         (λ g. part-past W within inside inside T c alone r e h (read k.inside_reads _ ∙ marked-other mark b.code rest (at (λ v. v == mark) T c e ∙ g) ∙ ap (with_first b.code) (sym (read k.inside_reads rest))))))
 
-    after_mark-law : (T : Tokenizer) → T.attempts ≡ [] → PartReady T → GoesIn W (weight_at (rank_of close) T) (part_ends close T) (after_mark_at mark (state_of inside) (state_of end) (current_of T) T)
+    after_mark-law : (T : Tokenizer) → T.attempts ≡ [] → PartReady T →
+        GoesIn W (weight_at (rank_of close) T) (part_ends close T) (after_mark_at mark (state_of inside) (state_of end) (current_of T) T)
     after_mark-law T alone r =
         let P : Stepped → Type 0 = GoesIn W (weight_at (rank_of close) T) (part_ends close T) in
         let over : next_is (is_value mark) (ahead T) ≡ false → P (over_to (state_of inside) T) = λ n. part-over W within close inside T alone r (omega (arith, k.inside_rank, k.close_rank)) (read k.close_reads _ ∙ after-mark-other mark (ahead T) n ∙ sym (read k.inside_reads _)) in
@@ -255,7 +274,8 @@ module _ (W : Words) (within : Within W) where
         (λ h. part-past W within close end T c alone r e (ap (λ v. v == 10) (eqb-true c mark h) ∙ k.plain) (read k.close_reads _ ∙ after-mark-on mark b.code rest (at (λ v. v == mark) T c e ∙ h) ∙ ap (with_first b.code) (sym (read k.end_reads rest))))
         (λ h. over (next-at (λ v. v == mark) T c e ∙ h)))
 
-    after_two_marks-law : (T : Tokenizer) → T.attempts ≡ [] → PartReady T → GoesIn W (weight_at (rank_of end) T) (part_ends end T) (after_two_marks_at mark (state_of inside) (state_of close) (current_of T) T)
+    after_two_marks-law : (T : Tokenizer) → T.attempts ≡ [] → PartReady T →
+        GoesIn W (weight_at (rank_of end) T) (part_ends end T) (after_two_marks_at mark (state_of inside) (state_of close) (current_of T) T)
     after_two_marks-law T alone r =
         let P : Stepped → Type 0 = GoesIn W (weight_at (rank_of end) T) (part_ends end T) in
         let one : next_is (is_value 62) (ahead T) ≡ false → reading_of end (ahead T) ≡ after_mark mark (ahead T) = λ n. read k.end_reads _ ∙ after-two-one mark (ahead T) n in
@@ -428,7 +448,9 @@ module _ (W : Words) (within : Within W) where
       (λ i. part-over W within AttributeNameAfter TagOpenBetween T alone r (omega arith) (name-after-other (ahead T) (next-at whitespace_value T c e ∙ or_from (blank_value c) _ g h) (next-at (λ v. v == 61) T c e ∙ i))))))
 
   -- into a quoted value
-  quote-entered : (T : Tokenizer) (c : ℕ) → T.attempts ≡ [] → PartReady T → (e : current_of T ≡ Some c) → (c == 10) ≡ false → quote_value c ≡ true → GoesIn W (weight_at (rank_of ValueBefore) T) (part_ends ValueBefore T) (quote_passed c T)
+  quote-entered : (T : Tokenizer) (c : ℕ) → T.attempts ≡ [] → PartReady T → (e : current_of T ≡ Some c) →
+      (c == 10) ≡ false → quote_value c ≡ true →
+      GoesIn W (weight_at (rank_of ValueBefore) T) (part_ends ValueBefore T) (quote_passed c T)
   unfolding scratched
   quote-entered T c alone r e h k =
       let s : TokenizeState = T.tokenize_state in
@@ -500,7 +522,9 @@ module _ (W : Words) (within : Within W) where
 
   -- The opening of a CDATA section.
 
-  cdata-passed : (T : Tokenizer) (c : ℕ) → T.attempts ≡ [] → CdataReady T → (e : current_of T ≡ Some c) → (c == prefix_value T.tokenize_state.size) ≡ true → GoesIn W (weight_at 2 T) (DoesAs 2 (text_of (cdata_opening T.tokenize_state.size)) (with_size 0 T.tokenize_state) T) (cdata_passed T.tokenize_state.size T)
+  cdata-passed : (T : Tokenizer) (c : ℕ) → T.attempts ≡ [] → CdataReady T → (e : current_of T ≡ Some c) →
+      (c == prefix_value T.tokenize_state.size) ≡ true →
+      GoesIn W (weight_at 2 T) (DoesAs 2 (text_of (cdata_opening T.tokenize_state.size)) (with_size 0 T.tokenize_state) T) (cdata_passed T.tokenize_state.size T)
   unfolding scratched applied
   cdata-passed T c alone r e h =
       let s : TokenizeState = T.tokenize_state in
@@ -536,7 +560,9 @@ module _ (W : Words) (within : Within W) where
 
   -- Quoted values.
 
-  quoted-ended : (T : Tokenizer) (c : ℕ) → T.attempts ≡ [] → QuotedReady T → (e : current_of T ≡ Some c) → (c == T.tokenize_state.marker) ≡ true → GoesIn W (weight_at 2 T) (DoesAs 2 (text_of (quoted_rest T.tokenize_state.marker)) (with_marker 0 T.tokenize_state) T) (record { state = Next H.HtmlTextTagOpenAttributeValueQuotedAfter; left = scratched (with_marker 0 T.tokenize_state) (done (Consume ∷ []) T) })
+  quoted-ended : (T : Tokenizer) (c : ℕ) → T.attempts ≡ [] → QuotedReady T → (e : current_of T ≡ Some c) →
+      (c == T.tokenize_state.marker) ≡ true →
+      GoesIn W (weight_at 2 T) (DoesAs 2 (text_of (quoted_rest T.tokenize_state.marker)) (with_marker 0 T.tokenize_state) T) (record { state = Next H.HtmlTextTagOpenAttributeValueQuotedAfter; left = scratched (with_marker 0 T.tokenize_state) (done (Consume ∷ []) T) })
   unfolding scratched applied
   quoted-ended T c alone r e h =
       let s : TokenizeState = T.tokenize_state in

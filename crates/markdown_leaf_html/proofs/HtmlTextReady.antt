@@ -43,7 +43,8 @@ after-ending InLine ns = refl
 after-ending AtStart ns = refl
 after-ending InBlank ns = refl
 
-after-blank : (m : Mode) (ns : List Name) → takes_blank m ≡ true → stacks (to_blank m ++ Consume ∷ []) (opened m ns) ≡ N.SpaceOrTab ∷ ns
+after-blank : (m : Mode) (ns : List Name) → takes_blank m ≡ true →
+    stacks (to_blank m ++ Consume ∷ []) (opened m ns) ≡ N.SpaceOrTab ∷ ns
 after-blank InLine ns e = cc
 after-blank AtStart ns e = refl
 after-blank InBlank ns e = refl
@@ -53,22 +54,27 @@ after-data InLine ns = refl
 after-data AtStart ns = refl
 after-data InBlank ns = refl
 
-broken-by : (ending blank : Bool) (m : Mode) (ns : List Name) (c : Code) (cs : List Code) → is_line_ending c ≡ ending → takes_blank m && is_blank c ≡ blank → ((n : Mode) → stacks (break_from n cs) (opened n ns) ≡ N.HtmlTextData ∷ ns) → stacks (break_from m (c ∷ cs)) (opened m ns) ≡ N.HtmlTextData ∷ ns
+broken-by : (ending blank : Bool) (m : Mode) (ns : List Name) (c : Code) (cs : List Code) → is_line_ending c ≡ ending →
+    takes_blank m && is_blank c ≡ blank → ((n : Mode) → stacks (break_from n cs) (opened n ns) ≡ N.HtmlTextData ∷ ns) →
+    stacks (break_from m (c ∷ cs)) (opened m ns) ≡ N.HtmlTextData ∷ ns
 broken-by true blank m ns c cs e h more =
     ap (λ os. stacks os (opened m ns)) (break-ending m c cs e) ∙ stacks-append (left_open m ++ ending_ops) (break_from AtStart cs) (opened m ns) ∙ ap (stacks (break_from AtStart cs)) (after-ending m ns) ∙ more AtStart
 broken-by false true m ns c cs e h more =
     ap (λ os. stacks os (opened m ns)) (break-blank m c cs e h) ∙ stacks-append (to_blank m ++ Consume ∷ []) (break_from InBlank cs) (opened m ns) ∙ ap (stacks (break_from InBlank cs)) (after-blank m ns (and-left (takes_blank m) _ h)) ∙ more InBlank
 broken-by false false m ns c cs e h more = ap (λ os. stacks os (opened m ns)) (break-data m c cs e h) ∙ after-data m ns
 
-broken-stack : (m : Mode) (ns : List Name) (cs : List Code) → stacks (break_from m cs) (opened m ns) ≡ N.HtmlTextData ∷ ns
+broken-stack : (m : Mode) (ns : List Name) (cs : List Code) →
+    stacks (break_from m cs) (opened m ns) ≡ N.HtmlTextData ∷ ns
 broken-stack m ns [] = after-data m ns
-broken-stack m ns (c ∷ cs) = broken-by (is_line_ending c) (takes_blank m && is_blank c) m ns c cs refl refl (λ n. broken-stack n ns cs)
+broken-stack m ns (c ∷ cs) =
+    broken-by (is_line_ending c) (takes_blank m && is_blank c) m ns c cs refl refl (λ n. broken-stack n ns cs)
 
 -- these two are open, with others behind them
 open-by : (xs : List Name) (a b : Name) (ns : List Name) → xs ≡ a ∷ b ∷ ns → xs ≡ a ∷ b ∷ drop 2 xs
 open-by xs a b ns e = e ∙ ap (λ z. a ∷ b ∷ z) (ap (drop 2) (sym e))
 
-open-broken : (T : Tokenizer) (cs : List Code) → AreOpen N.HtmlTextData N.HtmlText T → AreOpen N.HtmlTextData N.HtmlText (done (break_from InLine cs) T)
+open-broken : (T : Tokenizer) (cs : List Code) → AreOpen N.HtmlTextData N.HtmlText T →
+    AreOpen N.HtmlTextData N.HtmlText (done (break_from InLine cs) T)
 open-broken T cs h =
     let ns : List Name = N.HtmlText ∷ drop 2 T.stack in
     open-by _ N.HtmlTextData N.HtmlText (drop 2 T.stack) (stack-done (break_from InLine cs) T ∙ ap (stacks (break_from InLine cs)) h ∙ broken-stack InLine ns cs)
@@ -83,27 +89,32 @@ spaces-done os T h k =
 
 -- what was right stays right past operations
 indexed-past : (os : List Op) (T : Tokenizer) → IsIndexed T → IsIndexed (done os T)
-indexed-past os T right last known = right last (ap (λ (s : TokenizeState). s.sequences) (sym (scratch-done os T)) ∙ known) ∙ ap last_begins (sym (codes-done os T))
+indexed-past os T right last known =
+    right last (ap (λ (s : TokenizeState). s.sequences) (sym (scratch-done os T)) ∙ known) ∙ ap last_begins (sym (codes-done os T))
 
 -- The states of one place.
 
 pub inside-next : (T : Tokenizer) → 1 ≤ length (ahead T) → InsideReady T → InsideReady (done (Consume ∷ []) T)
 unfolding applied
-inside-next T more k = record { stand_open = k.stand_open; spaces = spaces-done (Consume ∷ []) T more k.spaces; indexed = indexed-past (Consume ∷ []) T k.indexed }
+inside-next T more k =
+    record { stand_open = k.stand_open; spaces = spaces-done (Consume ∷ []) T more k.spaces; indexed = indexed-past (Consume ∷ []) T k.indexed }
 
 pub inside-broken : (T : Tokenizer) → InsideReady T → InsideReady (done (break_from InLine (ahead T)) T)
 inside-broken T k =
     let os : List Op = break_from InLine (ahead T) in
     record { stand_open = open-broken T (ahead T) k.stand_open; spaces = spaces-done os T (break-fits InLine (ahead T)) k.spaces; indexed = indexed-past os T k.indexed }
 
-rest-done : (os : List Op) (T : Tokenizer) (P : TokenizeState → Type 0) → P T.tokenize_state → P (done os T).tokenize_state
+rest-done : (os : List Op) (T : Tokenizer) (P : TokenizeState → Type 0) → P T.tokenize_state →
+    P (done os T).tokenize_state
 rest-done os T P k = subst P (sym (scratch-done os T)) k
 
 pub part-next : (T : Tokenizer) → 1 ≤ length (ahead T) → PartReady T → PartReady (done (Consume ∷ []) T)
-part-next T more k = record { inside = inside-next T more k.inside; rest = rest-done (Consume ∷ []) T (λ s. rested s ≡ s) k.rest }
+part-next T more k =
+    record { inside = inside-next T more k.inside; rest = rest-done (Consume ∷ []) T (λ s. rested s ≡ s) k.rest }
 
 pub part-broken : (T : Tokenizer) → PartReady T → PartReady (done (break_from InLine (ahead T)) T)
-part-broken T k = record { inside = inside-broken T k.inside; rest = rest-done (break_from InLine (ahead T)) T (λ s. rested s ≡ s) k.rest }
+part-broken T k =
+    record { inside = inside-broken T k.inside; rest = rest-done (break_from InLine (ahead T)) T (λ s. rested s ≡ s) k.rest }
 
 pub quoted-next : (T : Tokenizer) → 1 ≤ length (ahead T) → QuotedReady T → QuotedReady (done (Consume ∷ []) T)
 quoted-next T more k =
@@ -122,12 +133,14 @@ quoted-broken T k =
     }
 
 -- with other scratch fields, where those of whitespace are at rest, and the same is known of sequences
-pub inside-scratched : (r : TokenizeState) (T : Tokenizer) → PartialSpaceOrTab.rested r ≡ r → r.sequences ≡ T.tokenize_state.sequences → InsideReady T → InsideReady (scratched r T)
+pub inside-scratched : (r : TokenizeState) (T : Tokenizer) → PartialSpaceOrTab.rested r ≡ r →
+    r.sequences ≡ T.tokenize_state.sequences → InsideReady T → InsideReady (scratched r T)
 unfolding scratched
 inside-scratched r T e same k =
     record { stand_open = k.stand_open; spaces = record { resting = e; short = k.spaces.short }; indexed = λ last known. k.indexed last (sym same ∙ known) }
 
-pub quoted-opened : (c : ℕ) (T : Tokenizer) → 1 ≤ length (ahead T) → whitespace_value c ≡ false → PartReady T → QuotedReady (scratched (with_marker c T.tokenize_state) (done (Consume ∷ []) T))
+pub quoted-opened : (c : ℕ) (T : Tokenizer) → 1 ≤ length (ahead T) → whitespace_value c ≡ false → PartReady T →
+    QuotedReady (scratched (with_marker c T.tokenize_state) (done (Consume ∷ []) T))
 unfolding scratched applied
 quoted-opened c T more h k =
     let s : TokenizeState = T.tokenize_state in
@@ -137,7 +150,8 @@ quoted-opened c T more h k =
       quote = h;
     }
 
-pub quoted-closed : (T : Tokenizer) → 1 ≤ length (ahead T) → QuotedReady T → PartReady (scratched (with_marker 0 T.tokenize_state) (done (Consume ∷ []) T))
+pub quoted-closed : (T : Tokenizer) → 1 ≤ length (ahead T) → QuotedReady T →
+    PartReady (scratched (with_marker 0 T.tokenize_state) (done (Consume ∷ []) T))
 unfolding scratched applied
 quoted-closed T more k =
     record { inside = inside-scratched (with_marker 0 T.tokenize_state) (done (Consume ∷ []) T) (ap (with_marker 0) k.inside.spaces.resting) refl (inside-next T more k.inside); rest = k.rest }
@@ -147,7 +161,8 @@ cdata-opened T k =
     let size : T.tokenize_state.size ≡ 0 = ap (λ (s : TokenizeState). s.size) (sym k.rest) in
     record { inside = k.inside; rest = k.rest ∙ ap (λ n. with_size n T.tokenize_state) size; size = omega (arith, size) }
 
-pub cdata-next : (T : Tokenizer) → 1 ≤ length (ahead T) → T.tokenize_state.size + 1 < 6 → CdataReady T → CdataReady (scratched (with_size (T.tokenize_state.size + 1) T.tokenize_state) (done (Consume ∷ []) T))
+pub cdata-next : (T : Tokenizer) → 1 ≤ length (ahead T) → T.tokenize_state.size + 1 < 6 → CdataReady T →
+    CdataReady (scratched (with_size (T.tokenize_state.size + 1) T.tokenize_state) (done (Consume ∷ []) T))
 unfolding scratched applied
 cdata-next T more h k =
     let s : TokenizeState = T.tokenize_state in
@@ -157,18 +172,21 @@ cdata-next T more h k =
       size = h;
     }
 
-pub cdata-closed : (T : Tokenizer) → 1 ≤ length (ahead T) → CdataReady T → PartReady (scratched (with_size 0 T.tokenize_state) (done (Consume ∷ []) T))
+pub cdata-closed : (T : Tokenizer) → 1 ≤ length (ahead T) → CdataReady T →
+    PartReady (scratched (with_size 0 T.tokenize_state) (done (Consume ∷ []) T))
 unfolding scratched applied
 cdata-closed T more k =
     record { inside = inside-scratched (with_size 0 T.tokenize_state) (done (Consume ∷ []) T) (ap (with_size 0) k.inside.spaces.resting) refl (inside-next T more k.inside); rest = k.rest }
 
 pub start-opened : (T : Tokenizer) → 1 ≤ length (ahead T) → StartReady T → PartReady (done opening T)
 unfolding applied
-start-opened T more k = record { inside = record { stand_open = refl; spaces = spaces-done opening T more k.spaces; indexed = indexed-past opening T k.indexed }; rest = k.rest }
+start-opened T more k =
+    record { inside = record { stand_open = refl; spaces = spaces-done opening T more k.spaces; indexed = indexed-past opening T k.indexed }; rest = k.rest }
 
 -- Line endings.
 
-pub before-passed : (T : Tokenizer) → 1 ≤ length (ahead T) → InsideReady T → AfterReady (done (Exit N.HtmlTextData ∷ ending_ops) T)
+pub before-passed : (T : Tokenizer) → 1 ≤ length (ahead T) → InsideReady T →
+    AfterReady (done (Exit N.HtmlTextData ∷ ending_ops) T)
 unfolding applied
 before-passed T more k =
     record { stand_open = second-open T.stack N.HtmlTextData N.HtmlText k.stand_open; spaces = spaces-done (Exit N.HtmlTextData ∷ ending_ops) T more k.spaces }

@@ -32,8 +32,10 @@ laws W within t other H.HtmlTextTagOpenBetween = HtmlTextLaws.tag_open_between-l
 laws W within t other H.HtmlTextTagOpenAttributeName = HtmlTextLaws.tag_open_attribute_name-law W within
 laws W within t other H.HtmlTextTagOpenAttributeNameAfter = HtmlTextLaws.tag_open_attribute_name_after-law W within
 laws W within t other H.HtmlTextTagOpenAttributeValueBefore = HtmlTextLaws.tag_open_attribute_value_before-law W within
-laws W within t other H.HtmlTextTagOpenAttributeValueQuotedAfter = HtmlTextLaws.tag_open_attribute_value_quoted_after-law W within
-laws W within t other H.HtmlTextTagOpenAttributeValueUnquoted = HtmlTextLaws.tag_open_attribute_value_unquoted-law W within
+laws W within t other H.HtmlTextTagOpenAttributeValueQuotedAfter =
+    HtmlTextLaws.tag_open_attribute_value_quoted_after-law W within
+laws W within t other H.HtmlTextTagOpenAttributeValueUnquoted =
+    HtmlTextLaws.tag_open_attribute_value_unquoted-law W within
 laws W within t other H.HtmlTextEnd = HtmlTextLaws.end-law W within
 laws W within t other H.HtmlTextCdataOpenInside = HtmlTextLaws.cdata_open_inside-law W within
 laws W within t other H.HtmlTextTagOpenAttributeValueQuoted = HtmlTextLaws.tag_open_attribute_value_quoted-law W within

@@ -55,7 +55,9 @@ rank-low ValueUnquoted = omega arith
 rank-low End = omega arith
 
 -- one code of a text
-pub text-next : (r q : Reading (List Code)) (T : Tokenizer) (c : ℕ) (e : current_of T ≡ Some c) → (c == 10) ≡ false → r ((ahead-some T c e).code ∷ rest_of (ahead T)) ≡ with_first (ahead-some T c e).code (q (rest_of (ahead T))) → text_of r (ahead T) ≡ preceded (Consume ∷ []) (text_of q (rest_of (ahead T)))
+pub text-next : (r q : Reading (List Code)) (T : Tokenizer) (c : ℕ) (e : current_of T ≡ Some c) → (c == 10) ≡ false →
+    r ((ahead-some T c e).code ∷ rest_of (ahead T)) ≡ with_first (ahead-some T c e).code (q (rest_of (ahead T))) →
+    text_of r (ahead T) ≡ preceded (Consume ∷ []) (text_of q (rest_of (ahead T)))
 text-next r q T c e h k =
     let b : Begins c (ahead T) = ahead-some T c e in
     ap (text_of r) b.whole ∙ ap (text_from InLine) k ∙ text-code b.code (q (rest_of (ahead T))) (ap (λ v. v == 10) b.value ∙ h)
@@ -69,30 +71,44 @@ pub not-ending : (p : ℕ → Bool) (c : ℕ) → p c ≡ true → p 10 ≡ fals
 not-ending p c h k = not-ending-by p c (c == 10) refl h k
 
 module _ (W : Words) (within : Within W) where
-  pub part-past : (k j : Part) (T : Tokenizer) (c : ℕ) → T.attempts ≡ [] → PartReady T → (e : current_of T ≡ Some c) → (c == 10) ≡ false → reading_of k ((ahead-some T c e).code ∷ rest_of (ahead T)) ≡ with_first (ahead-some T c e).code (reading_of j (rest_of (ahead T))) → GoesIn W (weight_at (rank_of k) T) (part_ends k T) (past_code (state_of j) T)
+  pub part-past : (k j : Part) (T : Tokenizer) (c : ℕ) → T.attempts ≡ [] → PartReady T → (e : current_of T ≡ Some c) →
+      (c == 10) ≡ false →
+      reading_of k ((ahead-some T c e).code ∷ rest_of (ahead T)) ≡ with_first (ahead-some T c e).code (reading_of j (rest_of (ahead T))) →
+      GoesIn W (weight_at (rank_of k) T) (part_ends k T) (past_code (state_of j) T)
   part-past k j T c alone r e h same =
       let more : 1 ≤ length (ahead T) = some-codes T c e in
       Goes-next W (rank_of k) 2 (text_of (reading_of k)) (text_of (reading_of j)) (Consume ∷ []) T (Next (state_of j)) (within.parts j) alone refl more (omega (arith, rank-low j)) (text-next (reading_of k) (reading_of j) T c e h same) (part-next T more r)
       (λ ok U x. x)
 
-  pub part-fails : (k : Part) (T : Tokenizer) → T.attempts ≡ [] → reading_of k (ahead T) ≡ None → GoesIn W (weight_at (rank_of k) T) (part_ends k T) (stepped Nok T)
+  pub part-fails : (k : Part) (T : Tokenizer) → T.attempts ≡ [] → reading_of k (ahead T) ≡ None →
+      GoesIn W (weight_at (rank_of k) T) (part_ends k T) (stepped Nok T)
   part-fails k T alone none = Goes-no W (rank_of k) 2 (text_of (reading_of k)) T alone (ap (text_from InLine) none)
 
   -- past a code, unless it is known that what begins with it does not end
-  pub part-unless : (k j : Part) (s : Sequence) (T : Tokenizer) (c : ℕ) → T.attempts ≡ [] → PartReady T → (e : current_of T ≡ Some c) → (c == 10) ≡ false → reading_of k ((ahead-some T c e).code ∷ rest_of (ahead T)) ≡ with_first (ahead-some T c e).code (reading_of j (rest_of (ahead T))) → (last_where (begins_at s) ((ahead-some T c e).code ∷ rest_of (ahead T)) ≡ None → reading_of j (rest_of (ahead T)) ≡ None) → GoesIn W (weight_at (rank_of k) T) (part_ends k T) (past_unless s (state_of j) T)
+  pub part-unless : (k j : Part) (s : Sequence) (T : Tokenizer) (c : ℕ) → T.attempts ≡ [] → PartReady T →
+      (e : current_of T ≡ Some c) → (c == 10) ≡ false →
+      reading_of k ((ahead-some T c e).code ∷ rest_of (ahead T)) ≡ with_first (ahead-some T c e).code (reading_of j (rest_of (ahead T))) →
+      (last_where (begins_at s) ((ahead-some T c e).code ∷ rest_of (ahead T)) ≡ None → reading_of j (rest_of (ahead T)) ≡ None) →
+      GoesIn W (weight_at (rank_of k) T) (part_ends k T) (past_unless s (state_of j) T)
   part-unless k j s T c alone r e h same none =
       let b : Begins c (ahead T) = ahead-some T c e in
       if-step (GoesIn W (weight_at (rank_of k) T) (part_ends k T)) (is_hopeless s T) _ _
       (λ g. part-fails k T alone (ap (reading_of k) b.whole ∙ same ∙ ap (with_first b.code) (none (ap (last_where (begins_at s)) (sym b.whole) ∙ hopeless-none s T r.inside.indexed g))))
       (λ g. part-past k j T c alone r e h same)
 
-  pub part-over : (k j : Part) (T : Tokenizer) → T.attempts ≡ [] → PartReady T → rank_of j < rank_of k → reading_of k (ahead T) ≡ reading_of j (ahead T) → GoesIn W (weight_at (rank_of k) T) (part_ends k T) (over_to (state_of j) T)
+  pub part-over : (k j : Part) (T : Tokenizer) → T.attempts ≡ [] → PartReady T → rank_of j < rank_of k →
+      reading_of k (ahead T) ≡ reading_of j (ahead T) →
+      GoesIn W (weight_at (rank_of k) T) (part_ends k T) (over_to (state_of j) T)
   part-over k j T alone r lower same =
       Goes-next W (rank_of k) 2 (text_of (reading_of k)) (text_of (reading_of j)) [] T (Retry (state_of j)) (within.parts j) alone refl (omega arith) (omega (arith, lower)) (ap (text_from InLine) same ∙ preceded-nil (text_of (reading_of j) (ahead T))) r
       (λ ok U x. x)
 
   -- past a line ending and the whitespace after it
-  pub text-broken : (k : ℕ) (r : Reading (List Code)) (s : TokenizeState) (st : StateName) {w : StateWords} → words_in W st ≡ w → (T : Tokenizer) → 1 < k → k < 5 → w.rank ≡ k → Goes r → T.attempts ≡ [] → InsideReady T → current_of T ≡ Some 10 → w.ready (done (break_from InLine (ahead T)) T) → ((ok : Bool) (U : Tokenizer) → w.ends (done (break_from InLine (ahead T)) T) ok U → DoesAs 2 (text_of r) s (done (break_from InLine (ahead T)) T) ok U) → GoesIn W (weight_at k T) (DoesAs 2 (text_of r) s T) (broken st T)
+  pub text-broken : (k : ℕ) (r : Reading (List Code)) (s : TokenizeState) (st : StateName) {w : StateWords} →
+      words_in W st ≡ w → (T : Tokenizer) → 1 < k → k < 5 → w.rank ≡ k → Goes r → T.attempts ≡ [] → InsideReady T →
+      current_of T ≡ Some 10 → w.ready (done (break_from InLine (ahead T)) T) →
+      ((ok : Bool) (U : Tokenizer) → w.ends (done (break_from InLine (ahead T)) T) ok U → DoesAs 2 (text_of r) s (done (break_from InLine (ahead T)) T) ok U) →
+      GoesIn W (weight_at k T) (DoesAs 2 (text_of r) s T) (broken st T)
   text-broken k r s st {w} say T high low level g alone inside e on closed =
       let os : List Op = break_from InLine (ahead T) in
       let V : Tokenizer = done os T in
@@ -108,7 +124,8 @@ module _ (W : Words) (within : Within W) where
       (subst (λ (y : Tokenizer). DoesAs 2 (text_of r) s y ok X) (sym (kept os T)) (closed ok X m))))))
       (λ U now x. let no : false ≡ true = x.0 in cc)
 
-  pub part-broken-on : (k : Part) (T : Tokenizer) → 1 < rank_of k → Goes (reading_of k) → T.attempts ≡ [] → PartReady T → current_of T ≡ Some 10 → GoesIn W (weight_at (rank_of k) T) (part_ends k T) (broken (state_of k) T)
+  pub part-broken-on : (k : Part) (T : Tokenizer) → 1 < rank_of k → Goes (reading_of k) → T.attempts ≡ [] →
+      PartReady T → current_of T ≡ Some 10 → GoesIn W (weight_at (rank_of k) T) (part_ends k T) (broken (state_of k) T)
   part-broken-on k T high g alone r e =
       text-broken (rank_of k) (reading_of k) T.tokenize_state (state_of k) (within.parts k) T high (rank-low k) refl g alone r.inside e (part-broken T r)
       (λ ok U x. subst (λ (s : TokenizeState). DoesAs 2 (text_of (reading_of k)) s (done (break_from InLine (ahead T)) T) ok U) (scratch-done (break_from InLine (ahead T)) T) x)

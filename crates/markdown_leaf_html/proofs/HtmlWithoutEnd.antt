@@ -17,29 +17,35 @@ use Rattle.markdown_leaf_html.specs.HtmlTextRests.{comment_inside, cdata_opening
 use Rattle.markdown_leaf_html.proofs.HtmlCodeReadings.{then-nothing, either-none, word-end, word-then, word-then-none, word-absent, up-absent}
 
 -- what is ruled out at a place does not begin from there on
-pub hopeless-none : (s : Sequence) (T : Tokenizer) → IsIndexed T → is_hopeless s T ≡ true → last_where (begins_at s) (ahead T) ≡ None
+pub hopeless-none : (s : Sequence) (T : Tokenizer) → IsIndexed T → is_hopeless s T ≡ true →
+    last_where (begins_at s) (ahead T) ≡ None
 unfolding ahead_at
 hopeless-none s T right h = ruled-out T.tokenize_state.sequences T.cursor.codes s T.cursor.at right h
 
 -- past the code at hand
-later-absent : (ns : List ℕ) (c : Code) (cs : List Code) → last_where (stand_next ns) (c ∷ cs) ≡ None → last_where (stand_next ns) cs ≡ None
+later-absent : (ns : List ℕ) (c : Code) (cs : List Code) → last_where (stand_next ns) (c ∷ cs) ≡ None →
+    last_where (stand_next ns) cs ≡ None
 later-absent ns c cs h = (later-none (last_where (stand_next ns) cs) (stand_next ns (c ∷ cs)) h).0
 
 -- at the code at hand
-here-absent : (n : ℕ) (ns : List ℕ) (cs : List Code) → last_where (stand_next (n ∷ ns)) cs ≡ None → stand_next (n ∷ ns) cs ≡ false
+here-absent : (n : ℕ) (ns : List ℕ) (cs : List Code) → last_where (stand_next (n ∷ ns)) cs ≡ None →
+    stand_next (n ∷ ns) cs ≡ false
 here-absent n ns [] h = refl
 here-absent n ns (c ∷ cs) h = (later-none (last_where (stand_next (n ∷ ns)) cs) (stand_next (n ∷ ns) (c ∷ cs)) h).1
 
-pub instruction-absent : (c : Code) (cs : List Code) → last_where (begins_at InstructionEnd) (c ∷ cs) ≡ None → through "?>" cs ≡ None
+pub instruction-absent : (c : Code) (cs : List Code) → last_where (begins_at InstructionEnd) (c ∷ cs) ≡ None →
+    through "?>" cs ≡ None
 unfolding through
 instruction-absent c cs h = up-absent (codes "?>") cs (later-absent (codes "?>") c cs h)
 
-pub declaration-absent : (c : Code) (cs : List Code) → last_where (begins_at DeclarationEnd) (c ∷ cs) ≡ None → through ">" cs ≡ None
+pub declaration-absent : (c : Code) (cs : List Code) → last_where (begins_at DeclarationEnd) (c ∷ cs) ≡ None →
+    through ">" cs ≡ None
 unfolding through
 declaration-absent c cs h = up-absent (codes ">") cs (later-absent (codes ">") c cs h)
 
 -- behind other values either
-after-absent : (ws ns : List ℕ) (cs : List Code) → last_where (stand_next ns) cs ≡ None → (word_of ws then_ up_to_word ns) cs ≡ None
+after-absent : (ws ns : List ℕ) (cs : List Code) → last_where (stand_next ns) cs ≡ None →
+    (word_of ws then_ up_to_word ns) cs ≡ None
 after-absent [] ns cs h = then-nothing (word_of []) (up_to_word ns) cs (word-end cs) ∙ up-absent ns cs h
 after-absent (w ∷ ws) ns [] h = word-then-none w ws (up_to_word ns) [] refl
 after-absent (w ∷ ws) ns (c ∷ cs) h =
@@ -48,12 +54,14 @@ after-absent (w ∷ ws) ns (c ∷ cs) h =
       | false ↦ λ e. word-then-none w ws (up_to_word ns) (c ∷ cs) e
     ] refl
 
-pub section-absent : (c : Code) (cs : List Code) → last_where (begins_at SectionEnd) (c ∷ cs) ≡ None → cdata_opening 0 cs ≡ None
+pub section-absent : (c : Code) (cs : List Code) → last_where (begins_at SectionEnd) (c ∷ cs) ≡ None →
+    cdata_opening 0 cs ≡ None
 unfolding through
 section-absent c cs h = after-absent (codes "CDATA[") (codes "]]>") cs (later-absent (codes "]]>") c cs h)
 
 -- the hyphen at hand may be the first of the end
-pub comment-absent : (c : Code) (cs : List Code) → is_value 45 c ≡ true → last_where (begins_at CommentEnd) (c ∷ cs) ≡ None → comment_inside cs ≡ None
+pub comment-absent : (c : Code) (cs : List Code) → is_value 45 c ≡ true →
+    last_where (begins_at CommentEnd) (c ∷ cs) ≡ None → comment_inside cs ≡ None
 unfolding word through
 comment-absent c cs e h =
     let later : last_where (begins_at CommentEnd) cs ≡ None = later-absent (codes "-->") c cs h in

@@ -29,7 +29,9 @@ ghost use Rattle.markdown_engine.specs.Operations.{HasCode, current_of};
 ghost use Rattle.markdown_engine_content.specs.declared.event.Name.TheVariants.{HtmlText, HtmlTextData};
 ghost use Rattle.markdown_plan.specs.ScratchFields.{AreOpen};
 ghost use Rattle.markdown_leaf_html.specs.HtmlByteTests.{name_value, attribute_first_value, attribute_rest_value, after_value};
-ghost use Rattle.markdown_leaf_html.specs.HtmlText.{stops_in, past_unless, broken, ending_passed, start_step, open_step, declaration_open_step, comment_open_inside_step, comment_step, comment_close_step, comment_end_step, cdata_open_inside_step, cdata_step, cdata_close_step, cdata_end_step, declaration_step, instruction_step, instruction_close_step, tag_close_start_step, tag_close_step, tag_close_between_step, tag_open_step, tag_open_between_step, tag_open_attribute_name_step, tag_open_attribute_name_after_step, tag_open_attribute_value_before_step, tag_open_attribute_value_quoted_step, tag_open_attribute_value_quoted_after_step, tag_open_attribute_value_unquoted_step, end_step, line_ending_before_step, line_ending_after_step, line_ending_after_prefix_step};
+ghost use Rattle.markdown_leaf_html.specs.HtmlText.{stops_in, past_unless, broken, ending_passed, start_step, open_step, declaration_open_step, comment_open_inside_step, comment_step, comment_close_step, comment_end_step, cdata_open_inside_step, cdata_step, cdata_close_step, cdata_end_step};
+ghost use Rattle.markdown_leaf_html.specs.HtmlText.{declaration_step, instruction_step, instruction_close_step, tag_close_start_step, tag_close_step, tag_close_between_step, tag_open_step, tag_open_between_step, tag_open_attribute_name_step, tag_open_attribute_name_after_step};
+ghost use Rattle.markdown_leaf_html.specs.HtmlText.{tag_open_attribute_value_before_step, tag_open_attribute_value_quoted_step, tag_open_attribute_value_quoted_after_step, tag_open_attribute_value_unquoted_step, end_step, line_ending_before_step, line_ending_after_step, line_ending_after_prefix_step};
 
 use markdown_engine::state::{State, StateName};
 use markdown_engine::tokenizer::{TokenizeState, Tokenizer};

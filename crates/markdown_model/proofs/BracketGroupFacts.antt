@@ -13,7 +13,8 @@ all-append P [] b g h = h
 all-append P (t ∷ a) b g h = (g.0, all-append P a b g.1 h)
 
 -- and so of their row, if it holds of nothing and of two rows
-pub joined-has : (P : Forest → Type 0) → P empty → ((t u : Forest) → P t → P u → P (t ⊕ u)) → (ts : List Forest) → AllHave P ts → P (joined ts)
+pub joined-has : (P : Forest → Type 0) → P empty → ((t u : Forest) → P t → P u → P (t ⊕ u)) → (ts : List Forest) →
+    AllHave P ts → P (joined ts)
 joined-has P none row [] h = none
 joined-has P none row (t ∷ ts) h = row t (joined ts) h.0 (joined-has P none row ts h.1)
 
@@ -41,15 +42,19 @@ module _ {O C : Type 0} (P : Forest → Type 0) (IsOpen : O → Type 0) (IsClose
     onto-has : (o : O) (inside : List Forest) (more : List (C × List Forest)) → IsOpen o → AllHave P inside → CutsHave more
         → AllHave P (onto wrap loose_open loose_close o inside more).0 × CutsHave (onto wrap loose_open loose_close o inside more).1
     onto-has o inside [] l g h = (all-append P (loose_open o) inside (open-has o l) g, tt)
-    onto-has o inside (c ∷ more) l g h = (all-append P (wrap o inside c.0) c.1 (wrap-has o inside c.0 l g h.0.0) h.0.1, h.1)
+    onto-has o inside (c ∷ more) l g h =
+        (all-append P (wrap o inside c.0) c.1 (wrap-has o inside c.0 l g h.0.0) h.0.1, h.1)
 
-    nest-has : (w : List (Bracketed O C Forest)) → WordHas w → AllHave P (nest wrap loose_open loose_close w).0 × CutsHave (nest wrap loose_open loose_close w).1
+    nest-has : (w : List (Bracketed O C Forest)) → WordHas w →
+        AllHave P (nest wrap loose_open loose_close w).0 × CutsHave (nest wrap loose_open loose_close w).1
     nest-has [] h = (tt, tt)
     nest-has (item t ∷ w) h = let r = nest-has w h.1 in ((h.0, r.0), r.1)
     nest-has (closes c ∷ w) h = let r = nest-has w h.1 in (tt, ((h.0, r.0), r.1))
-    nest-has (opens o ∷ w) h = let r = nest-has w h.1 in onto-has o (nest wrap loose_open loose_close w).0 (nest wrap loose_open loose_close w).1 h.0 r.0 r.1
+    nest-has (opens o ∷ w) h =
+        let r = nest-has w h.1 in onto-has o (nest wrap loose_open loose_close w).0 (nest wrap loose_open loose_close w).1 h.0 r.0 r.1
 
-    after-has : (more : List (C × List Forest)) → CutsHave more → AllHave P (after_loose wrap loose_open loose_close more)
+    after-has : (more : List (C × List Forest)) → CutsHave more →
+        AllHave P (after_loose wrap loose_open loose_close more)
     after-has [] h = tt
     after-has (c ∷ more) h =
         all-append P (loose_close c.0 ++ c.1) (after_loose wrap loose_open loose_close more) (all-append P (loose_close c.0) c.1 (close-has c.0 h.0.0) h.0.1) (after-has more h.1)

@@ -60,28 +60,34 @@ module _ {M : Type 0} (m : Adds M) where
     sum-onto : (d : ℕ) (o : O) (inside : List Forest) (more : List (C × List Forest))
         → let r : Frames = onto wrap loose_open loose_close o inside more in
         m.plus (sum_of r.0) (frames d r.1) ≡ m.plus (opened o) (m.plus (sum_of inside) (frames (suc d) more))
-    sum-onto d o inside [] = m.right _ ∙ sum-append (loose_open o) inside ∙ (λ i. m.plus (sum-open o i) (sym (m.right (sum_of inside)) i))
+    sum-onto d o inside [] =
+        m.right _ ∙ sum-append (loose_open o) inside ∙ (λ i. m.plus (sum-open o i) (sym (m.right (sum_of inside)) i))
     sum-onto d o inside (c ∷ more) =
         (λ i. m.plus ((sum-append (wrap o inside c.0) c.1 ∙ (λ j. m.plus (sum-wrap o inside c.0 j) (sum_of c.1))) i) (frames d more))
         ∙ m.assoc (m.plus (opened o) (m.plus (sum_of inside) (closed c.0))) (sum_of c.1) (frames d more)
         ∙ m.assoc (opened o) (m.plus (sum_of inside) (closed c.0)) (m.plus (sum_of c.1) (frames d more))
         ∙ ap (m.plus (opened o)) (m.assoc (sum_of inside) (closed c.0) (m.plus (sum_of c.1) (frames d more)))
 
-    sum-nest : (d : ℕ) (w : List (Bracketed O C Forest)) → m.plus (sum_of (nest_word w).0) (frames d (nest_word w).1) ≡ word_sum loose_close opened closed d w
+    sum-nest : (d : ℕ) (w : List (Bracketed O C Forest)) →
+        m.plus (sum_of (nest_word w).0) (frames d (nest_word w).1) ≡ word_sum loose_close opened closed d w
     sum-nest d [] = m.left m.none
-    sum-nest d (item f ∷ w) = m.assoc (m.of f) (sum_of (nest_word w).0) (frames d (nest_word w).1) ∙ ap (m.plus (m.of f)) (sum-nest d w)
+    sum-nest d (item f ∷ w) =
+        m.assoc (m.of f) (sum_of (nest_word w).0) (frames d (nest_word w).1) ∙ ap (m.plus (m.of f)) (sum-nest d w)
     sum-nest zero (closes c ∷ w) = m.left _ ∙ ap (m.plus (sum_of (loose_close c))) (sum-nest zero w)
     sum-nest (suc d) (closes c ∷ w) = m.left _ ∙ ap (m.plus (closed c)) (sum-nest d w)
-    sum-nest d (opens o ∷ w) = sum-onto d o (nest_word w).0 (nest_word w).1 ∙ ap (m.plus (opened o)) (sum-nest (suc d) w)
+    sum-nest d (opens o ∷ w) =
+        sum-onto d o (nest_word w).0 (nest_word w).1 ∙ ap (m.plus (opened o)) (sum-nest (suc d) w)
 
-    sum-after_loose : (fs : List (C × List Forest)) → sum_of (after_loose wrap loose_open loose_close fs) ≡ frames zero fs
+    sum-after_loose : (fs : List (C × List Forest)) →
+        sum_of (after_loose wrap loose_open loose_close fs) ≡ frames zero fs
     sum-after_loose [] = refl
     sum-after_loose (f ∷ fs) =
         sum-append (loose_close f.0 ++ f.1) (after_loose wrap loose_open loose_close fs)
         ∙ (λ i. m.plus (sum-append (loose_close f.0) f.1 i) (sum-after_loose fs i))
         ∙ m.assoc (sum_of (loose_close f.0)) (sum_of f.1) (frames zero fs)
 
-    pub sum-nested : (w : List (Bracketed O C Forest)) → sum_of (nested wrap loose_open loose_close w) ≡ word_sum loose_close opened closed zero w
+    pub sum-nested : (w : List (Bracketed O C Forest)) →
+        sum_of (nested wrap loose_open loose_close w) ≡ word_sum loose_close opened closed zero w
     sum-nested w =
         sum-append (nest_word w).0 (after_loose wrap loose_open loose_close (nest_word w).1)
         ∙ ap (m.plus (sum_of (nest_word w).0)) (sum-after_loose (nest_word w).1)

@@ -46,7 +46,8 @@ module _ (a : Reading (List Code)) (takes : Consumes 1 a) where
           ap rest_of (sym (λ i. elim (more.is i) as (λ _. Option (List Code × List Code)) [ None ↦ Some x | Some y ↦ Some (x.0 ++ y.0, y.1) ]) ∙ k) in
           subst (λ z. a z ≡ None) same (next x.1 more.codes more.rest (omega arith) more.is)
 
-repeats : (a : Reading (List Code)) → ReadsACode a → (cs text rest : List Code) → repeatedly a cs ≡ Some (text, rest) → a rest ≡ None
+repeats : (a : Reading (List Code)) → ReadsACode a → (cs text rest : List Code) → repeatedly a cs ≡ Some (text, rest) →
+    a rest ≡ None
 unfolding repeatedly
 repeats a h cs text rest e = stops a (consumes a h) (length cs) cs text rest (omega arith) e
 

@@ -38,7 +38,8 @@ span-stops p (c ∷ cs) = by_test (p c) refl (span-stops p cs)
 -- two tests that agree span alike
 pub span-agrees : (p q : Code → Bool) → ((c : Code) → p c ≡ q c) → (cs : List Code) → span p cs ≡ span q cs
 span-agrees p q same [] = refl
-span-agrees p q same (c ∷ cs) = λ i. elim (same c i) as (λ _. List Code × List Code) [ true ↦ (c ∷ (span-agrees p q same cs i).0, (span-agrees p q same cs i).1) | false ↦ ([], c ∷ cs) ]
+span-agrees p q same (c ∷ cs) =
+    λ i. elim (same c i) as (λ _. List Code × List Code) [ true ↦ (c ∷ (span-agrees p q same cs i).0, (span-agrees p q same cs i).1) | false ↦ ([], c ∷ cs) ]
 
 -- Stretches: the first one goes on as long as codes join its first code.
 
@@ -57,14 +58,16 @@ joins-same p c d h e = by_tests (is_line_ending c) (is_line_ending d) (is_line_e
     by_tests false false l true false z k = absurd (cc)
     by_tests false false l false true z k = absurd (cc)
 
-pub stretches-next : (p : Code → Bool) (c : Code) (cs : List Code) → stretches p (c ∷ cs) ≡ (c ∷ (span (joins p c) cs).0) ∷ stretches p (span (joins p c) cs).1
+pub stretches-next : (p : Code → Bool) (c : Code) (cs : List Code) →
+    stretches p (c ∷ cs) ≡ (c ∷ (span (joins p c) cs).0) ∷ stretches p (span (joins p c) cs).1
 stretches-next p c [] = refl
 stretches-next p c (d ∷ ds) = ap (onto_stretch p c) (stretches-next p d ds) ∙ by_test (joins p c d) refl (sym (stretches-next p d ds))
   where
     by_test : (b : Bool) → joins p c d ≡ b → (d ∷ (span (joins p d) ds).0) ∷ stretches p (span (joins p d) ds).1 ≡ stretches p (d ∷ ds)
         → elim b as (λ _. List (List Code)) [ true ↦ (c ∷ d ∷ (span (joins p d) ds).0) ∷ stretches p (span (joins p d) ds).1 | false ↦ (c ∷ []) ∷ (d ∷ (span (joins p d) ds).0) ∷ stretches p (span (joins p d) ds).1 ]
         ≡ (let s : List Code × List Code = elim b [ true ↦ (d ∷ (span (joins p c) ds).0, (span (joins p c) ds).1) | false ↦ ([], d ∷ ds) ] in (c ∷ s.0) ∷ stretches p s.1)
-    by_test true e h = λ i. (c ∷ d ∷ (span-agrees (joins p d) (joins p c) (joins-same p c d e) ds i).0) ∷ stretches p (span-agrees (joins p d) (joins p c) (joins-same p c d e) ds i).1
+    by_test true e h =
+        λ i. (c ∷ d ∷ (span-agrees (joins p d) (joins p c) (joins-same p c d e) ds i).0) ∷ stretches p (span-agrees (joins p d) (joins p c) (joins-same p c d e) ds i).1
     by_test false e h = ap (λ x. (c ∷ []) ∷ x) h
 
 -- Lines, from the code at hand on.
@@ -82,10 +85,12 @@ lines_of-ending c cs h = stretches-next (λ x. true) c cs ∙ (λ i. (c ∷ (not
 
     nothing : (ds : List Code) → span (joins (λ x. true) c) ds ≡ ([], ds)
     nothing [] = refl
-    nothing (d ∷ ds) = λ i. elim (joins_none (is_line_ending c) (is_line_ending d) h i) as (λ _. List Code × List Code) [ true ↦ (d ∷ (span (joins (λ x. true) c) ds).0, (span (joins (λ x. true) c) ds).1) | false ↦ ([], d ∷ ds) ]
+    nothing (d ∷ ds) =
+        λ i. elim (joins_none (is_line_ending c) (is_line_ending d) h i) as (λ _. List Code × List Code) [ true ↦ (d ∷ (span (joins (λ x. true) c) ds).0, (span (joins (λ x. true) c) ds).1) | false ↦ ([], d ∷ ds) ]
 
 -- another code begins a stretch up to the next line ending
-pub lines_of-line : (c : Code) (cs : List Code) → is_line_ending c ≡ false → lines_of (c ∷ cs) ≡ (c ∷ (span is_in_line cs).0) ∷ lines_of (span is_in_line cs).1
+pub lines_of-line : (c : Code) (cs : List Code) → is_line_ending c ≡ false →
+    lines_of (c ∷ cs) ≡ (c ∷ (span is_in_line cs).0) ∷ lines_of (span is_in_line cs).1
 lines_of-line c cs h = stretches-next (λ x. true) c cs ∙ (λ i. (c ∷ (alike i).0) ∷ lines_of (alike i).1)
   where
     joins_line : (a b : Bool) → a ≡ false → joined_by a b true true ≡ not b
@@ -126,7 +131,8 @@ module _ (a : Reading (List Code)) (takes : Consumes 1 a) where
           → and_then (repeated n a) cs r
           ≡ and_then (repeated m a) cs r
       by_answer None l more = refl
-      by_answer (Some x) l more = ap (λ z. elim z as (λ _. Option (List Code × List Code)) [ None ↦ Some x | Some y ↦ Some (x.0 ++ y.0, y.1) ]) (more x.1 (omega arith) (omega arith))
+      by_answer (Some x) l more =
+          ap (λ z. elim z as (λ _. Option (List Code × List Code)) [ None ↦ Some x | Some y ↦ Some (x.0 ++ y.0, y.1) ]) (more x.1 (omega arith) (omega arith))
 
   -- one round, and the rounds after it
   pub repeatedly-next : (cs : List Code)
@@ -138,7 +144,8 @@ module _ (a : Reading (List Code)) (takes : Consumes 1 a) where
           → and_then (repeated (length cs) a) cs r
           ≡ and_then (repeatedly a) cs r
       by_answer None l = refl
-      by_answer (Some x) l = ap (λ z. elim z as (λ _. Option (List Code × List Code)) [ None ↦ Some x | Some y ↦ Some (x.0 ++ y.0, y.1) ]) (repeated-more (length cs) (length x.1) x.1 (omega arith) (omega arith))
+      by_answer (Some x) l =
+          ap (λ z. elim z as (λ _. Option (List Code × List Code)) [ None ↦ Some x | Some y ↦ Some (x.0 ++ y.0, y.1) ]) (repeated-more (length cs) (length x.1) x.1 (omega arith) (omega arith))
 
 -- it always holds
 pub record Holds (o : Option (List Code × List Code)) : Type 0 where
@@ -188,11 +195,14 @@ email_shortens before at after = by_test _
     protocol : Name × List Code × List Code
     protocol = email_protocol (span is_local before).1
 
-    by_test : (b : Bool) → IsShorter after (elim b [ true ↦ Some (reverse protocol.2, leaf protocol.0 (reverse ((span is_local before).0 ++ protocol.1) ++ at ∷ domain.0), domain.1) | false ↦ None ])
-    by_test true = omega (arith, length-append domain.0 domain.1, ap length (domain_of_split (is_xmpp protocol.0) after))
+    by_test : (b : Bool) →
+        IsShorter after (elim b [ true ↦ Some (reverse protocol.2, leaf protocol.0 (reverse ((span is_local before).0 ++ protocol.1) ++ at ∷ domain.0), domain.1) | false ↦ None ])
+    by_test true =
+        omega (arith, length-append domain.0 domain.1, ap length (domain_of_split (is_xmpp protocol.0) after))
     by_test false = tt
 
-pub email_leaves-more : (n m : ℕ) (before cs : List Code) → length cs ≤ n → length cs ≤ m → email_leaves n before cs ≡ email_leaves m before cs
+pub email_leaves-more : (n m : ℕ) (before cs : List Code) → length cs ≤ n → length cs ≤ m →
+    email_leaves n before cs ≡ email_leaves m before cs
 unfolding email_leaves
 email_leaves-more n m before [] h k = refl
 email_leaves-more zero m before (c ∷ cs) h k = absurd (omega arith)
@@ -208,13 +218,15 @@ email_leaves-more (suc n) (suc m) before (c ∷ cs) h k = by_answer (email_at be
 
 -- What was read, and how much.
 
-pub read-codes : {A : Type 0} (f : A → List Code) (a : Reading A) → Covers f [] a → (cs rest : List Code) (x : A) → a cs ≡ Some (x, rest) → cs ≡ f x ++ rest
+pub read-codes : {A : Type 0} (f : A → List Code) (a : Reading A) → Covers f [] a → (cs rest : List Code) (x : A) →
+    a cs ≡ Some (x, rest) → cs ≡ f x ++ rest
 read-codes {A} f a h cs rest x e = sym (at_some (a cs) e (h.at cs))
   where
     at_some : (r : Option (A × List Code)) → r ≡ Some (x, rest) → At f [] cs r → f x ++ rest ≡ cs
     at_some r k z = subst (λ y. At f [] cs y) k z
 
-pub read-shorter : {A : Type 0} (n : ℕ) (a : Reading A) → Consumes n a → (cs rest : List Code) (x : A) → a cs ≡ Some (x, rest) → n + length rest ≤ length cs
+pub read-shorter : {A : Type 0} (n : ℕ) (a : Reading A) → Consumes n a → (cs rest : List Code) (x : A) →
+    a cs ≡ Some (x, rest) → n + length rest ≤ length cs
 read-shorter {A} n a h cs rest x e = at_some (a cs) e (h.at cs)
   where
     at_some : (r : Option (A × List Code)) → r ≡ Some (x, rest) → Left n cs r → n + length rest ≤ length cs

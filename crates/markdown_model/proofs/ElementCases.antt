@@ -39,13 +39,15 @@ module _ (P : Option (Element × List Code) → Type 0) (none : P None) (cs : Li
   tried_has [] v h k = k
   tried_has (row ∷ rows) v h k = by_test (list_any (λ n. v == n) row.0) (tried_has rows v h.1 k)
     where
-      by_test : (b : Bool) → P (tried rows v cs) → P ((elim b as (λ _. Reading Element) [ true ↦ row.1 | false ↦ tried rows v ]) cs)
+      by_test : (b : Bool) → P (tried rows v cs) →
+          P ((elim b as (λ _. Reading Element) [ true ↦ row.1 | false ↦ tried rows v ]) cs)
       by_test true more = h.0
       by_test false more = more
 
   -- starts of labels, each of which is a marker on a line
   module _ (starts_has : (kind : LabelKind) (marker rest : List Code) → IsSomeLine marker → marker ++ rest ≡ cs → P (Some (starts kind marker, rest))) where
-    start_has : (kind : LabelKind) (a : Reading (List Code)) → Takes a → Yields IsSomeLine a → P ((a >>= λ marker. gives (starts kind marker)) cs)
+    start_has : (kind : LabelKind) (a : Reading (List Code)) → Takes a → Yields IsSomeLine a →
+        P ((a >>= λ marker. gives (starts kind marker)) cs)
     unfolding ◌>>=◌ gives
     start_has kind a covers line = by_answer (a cs) (covers.at cs) (line.at cs)
       where
@@ -61,7 +63,8 @@ module _ (P : Option (Element × List Code) → Type 0) (none : P None) (cs : Li
 
     footnote_has : P (gfm_label_start_footnote cs)
     unfolding gfm_label_start_footnote word
-    footnote_has = start_has LabelKind.GfmFootnote _ (takes_word_of (codes "[^")) (word-some (byte "[") (codes "^") refl)
+    footnote_has =
+        start_has LabelKind.GfmFootnote _ (takes_word_of (codes "[^")) (word-some (byte "[") (codes "^") refl)
 
     link_has : P (label_start_link cs)
     unfolding label_start_link
@@ -88,11 +91,13 @@ pub record EachConstruct (s : Setting) (end : ℕ) (earlier : List Element) (pre
   pub stars : s.options.constructs.attention ≡ true → P (attention_run (byte "*") cs)
   pub underscores : s.options.constructs.attention ≡ true → P (attention_run (byte "_") cs)
   pub tildes : s.options.constructs.gfm_strikethrough ≡ true → P (attention_run (byte "~") cs)
-  pub starts_has : (kind : LabelKind) (marker rest : List Code) → IsSomeLine marker → marker ++ rest ≡ cs → P (Some (starts kind marker, rest))
+  pub starts_has : (kind : LabelKind) (marker rest : List Code) → IsSomeLine marker → marker ++ rest ≡ cs →
+      P (Some (starts kind marker, rest))
   pub ended : P (label_end s earlier cs)
 
 module _ (s : Setting) (end : ℕ) (earlier : List Element) (previous : Option Code) (P : Option (Element × List Code) → Type 0) where
-  each_has : (cs : List Code) (h : EachConstruct s end earlier previous P cs) → EachHas P h.none cs (tries s end earlier previous)
+  each_has : (cs : List Code) (h : EachConstruct s end earlier previous P cs) →
+      EachHas P h.none cs (tries s end earlier previous)
   unfolding tries code_text math_text
   each_has cs h = (h.ending, (on _ _ (λ _. image_has P h.none cs h.starts_has _), (own _ _ (search plain_constructs), (own _ _ (search plain_constructs), from_references))))
     where
@@ -116,14 +121,16 @@ module _ (s : Setting) (end : ℕ) (earlier : List Element) (previous : Option C
           (both _ _ (own _ _ (search plain_constructs)) (own _ _ (search plain_constructs)), (own _ _ (search plain_constructs), (own _ _ (search plain_constructs), from_brackets)))
 
       from_references : EachHas P h.none cs (drop 4 (tries s end earlier previous))
-      from_references = (own _ _ (search plain_constructs), (on _ _ h.stars, (on _ _ h.underscores, (on _ _ h.tildes, from_angles))))
+      from_references =
+          (own _ _ (search plain_constructs), (on _ _ h.stars, (on _ _ h.underscores, (on _ _ h.tildes, from_angles))))
 
   -- in a text, at a code
   pub row_has : (v : ℕ) (cs : List Code) → EachConstruct s end earlier previous P cs → P (data_code cs)
       → P (tried (tries s end earlier previous) v cs)
   row_has v cs h k = tried_has P h.none cs (tries s end earlier previous) v (each_has cs h) k
 
-  pub check_has : (cs : List Code) → EachConstruct s end earlier previous P cs → P (first_check s end earlier previous cs)
+  pub check_has : (cs : List Code) → EachConstruct s end earlier previous P cs →
+      P (first_check s end earlier previous cs)
   unfolding first_check
   check_has cs h = switched_plain P h.none cs s.bytes h.plain_has _ _ (search plain_constructs)
 
@@ -131,7 +138,8 @@ module _ (s : Setting) (end : ℕ) (earlier : List Element) (previous : Option C
       → P (text_element s end earlier previous cs)
   unfolding text_element
   text_has [] h k = h.none
-  text_has (c ∷ cs) h k = either_has P h.none (c ∷ cs) _ _ (check_has (c ∷ cs) h) (either_has P h.none (c ∷ cs) _ _ (row_has c.value (c ∷ cs) h k) k)
+  text_has (c ∷ cs) h k =
+      either_has P h.none (c ∷ cs) _ _ (check_has (c ∷ cs) h) (either_has P h.none (c ∷ cs) _ _ (row_has c.value (c ∷ cs) h k) k)
 
 -- Lists of elements.
 
@@ -143,7 +151,8 @@ pub all_are : (P : Element → Type 0) (choice : Choice)
     → ((earlier : List Element) (previous : Option Code) (cs : List Code) → Passes P (choice earlier previous cs))
     → (es earlier : List Element) (previous : Option Code) (cs : List Code) → AreElementsFrom choice earlier previous cs es → AllAre P es
 all_are P choice h [] earlier previous cs k = tt
-all_are P choice h (e ∷ es) earlier previous cs k = (subst (Passes P) k.1 (h earlier previous cs), all_are P choice h es (e ∷ earlier) (code_before cs k.0) k.0 k.2)
+all_are P choice h (e ∷ es) earlier previous cs k =
+    (subst (Passes P) k.1 (h earlier previous cs), all_are P choice h es (e ∷ earlier) (code_before cs k.0) k.0 k.2)
 
 -- What holds of no tree, and of what is read behind a label, holds of the tree of an outcome.
 pub outcome_yields : (Q : Forest → Type 0) → Q empty → (s : Setting)

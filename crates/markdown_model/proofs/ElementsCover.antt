@@ -22,7 +22,8 @@ module _ (d : ℕ) where
 
   pub covers_line_ending : Covers (element_codes d) [] line_ending
   unfolding line_ending
-  covers_line_ending = bind _ _ _ _ _ (takes_one _) λ c. given _ _ (plain (leaf Name.LineEnding c)) (codes-leaf Name.LineEnding c)
+  covers_line_ending =
+      bind _ _ _ _ _ (takes_one _) λ c. given _ _ (plain (leaf Name.LineEnding c)) (codes-leaf Name.LineEnding c)
 
   pub covers_data_code : Covers (element_codes d) [] data_code
   unfolding data_code
@@ -30,9 +31,11 @@ module _ (d : ℕ) where
 
   pub covers_run : (marker : ℕ) → Covers (element_codes d) [] (attention_run marker)
   unfolding attention_run
-  covers_run marker = bind _ _ _ _ _ (takes_some _) λ markers. given _ _ (plain (leaf Name.AttentionSequence markers)) (codes-leaf Name.AttentionSequence markers)
+  covers_run marker =
+      bind _ _ _ _ _ (takes_some _) λ markers. given _ _ (plain (leaf Name.AttentionSequence markers)) (codes-leaf Name.AttentionSequence markers)
 
-pub covers_text_element : (s : Setting) (end : ℕ) (earlier : List Element) (previous : Option Code) → Covers (element_codes (unused earlier)) [] (text_element s end earlier previous)
+pub covers_text_element : (s : Setting) (end : ℕ) (earlier : List Element) (previous : Option Code) →
+    Covers (element_codes (unused earlier)) [] (text_element s end earlier previous)
 covers_text_element s end earlier previous = record { at = λ cs. text_has s end earlier previous (At (element_codes d) [] cs) cs (each cs) ((covers_data_code d).at cs) }
   where
     d : ℕ
@@ -64,7 +67,8 @@ codes-elements choice covers (e ∷ es) earlier previous cs h =
     ap (λ x. element_codes (unused earlier) e ++ x) (codes-elements choice covers es (e ∷ earlier) (code_before cs h.0) h.0 h.2)
     ∙ at_some (choice earlier previous cs) h.1 ((covers earlier previous).at cs)
   where
-    at_some : (r : Option (Element × List Code)) → r ≡ Some (e, h.0) → At (element_codes (unused earlier)) [] cs r → element_codes (unused earlier) e ++ h.0 ≡ cs
+    at_some : (r : Option (Element × List Code)) → r ≡ Some (e, h.0) → At (element_codes (unused earlier)) [] cs r →
+        element_codes (unused earlier) e ++ h.0 ≡ cs
     at_some None k x = absurd (cc)
     at_some (Some y) k x = moved
       where

@@ -39,7 +39,8 @@ label_end_takes s earlier =
     first_takes _ _ (one_takes _) λ back.
     either_takes _ _ _ (both_take _ _ (takes_no_more _ _ (covers_outcome s (label_before earlier) back)) λ outcome. gives_takes _) (gives_takes _)
 
-pub text_element_takes : (s : Setting) (end : ℕ) (earlier : List Element) (previous : Option Code) → Consumes 1 (text_element s end earlier previous)
+pub text_element_takes : (s : Setting) (end : ℕ) (earlier : List Element) (previous : Option Code) →
+    Consumes 1 (text_element s end earlier previous)
 text_element_takes s end earlier previous = record { at = λ cs. text_has s end earlier previous (Left 1 cs) cs (each cs) (data_code_takes.at cs) }
   where
     each : (cs : List Code) → EachConstruct s end earlier previous (Left 1 cs) cs
@@ -76,9 +77,11 @@ data_holds : (c : Code) (cs : List Code) → Holds (data_code (c ∷ cs))
 unfolding data_code ◌>>=◌ one gives
 data_holds c cs = tt
 
-pub text_element_holds : (s : Setting) (end : ℕ) (earlier : List Element) (previous : Option Code) (c : Code) (cs : List Code) → Holds (text_element s end earlier previous (c ∷ cs))
+pub text_element_holds : (s : Setting) (end : ℕ) (earlier : List Element) (previous : Option Code) (c : Code) (cs : List Code) →
+    Holds (text_element s end earlier previous (c ∷ cs))
 unfolding text_element
-text_element_holds s end earlier previous c cs = or_holds (first_check s end earlier previous) _ (c ∷ cs) (or_holds (tried (tries s end earlier previous) c.value) data_code (c ∷ cs) (data_holds c cs))
+text_element_holds s end earlier previous c cs =
+    or_holds (first_check s end earlier previous) _ (c ∷ cs) (or_holds (tried (tries s end earlier previous) c.value) data_code (c ∷ cs) (data_holds c cs))
 
 pub string_element_holds : (s : Setting) (c : Code) (cs : List Code) → Holds (string_element s (c ∷ cs))
 unfolding string_element

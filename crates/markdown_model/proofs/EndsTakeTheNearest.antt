@@ -12,7 +12,8 @@ IsFound link [] l = l ≡ None
 IsFound link (u ∷ more) l =
     (label : Label) × (l ≡ Some label) × (label.kind ≡ u.kind) × (label.marker ≡ u.marker) × (list_any makes_link label.inside ≡ (u.before_link || link))
 
-drop-map : (link : Bool) (d : ℕ) (us : List UnusedStart) → drop d (map (with_link link) (drop 1 us)) ≡ map (with_link link) (drop (suc d) us)
+drop-map : (link : Bool) (d : ℕ) (us : List UnusedStart) →
+    drop d (map (with_link link) (drop 1 us)) ≡ map (with_link link) (drop (suc d) us)
 drop-map link d [] = none d
   where
     none : (n : ℕ) → drop n (map (with_link link) []) ≡ []
@@ -23,15 +24,18 @@ drop-map link (suc d) (u ∷ []) = refl
 drop-map link (suc d) (u ∷ v ∷ us) = drop-map link d (v ∷ us)
 
 -- a link that stood inside is one that ended after the start
-passed : (link more : Bool) (us : List UnusedStart) (l : Option Label) → IsFound (link || more) us l → IsFound more (map (with_link link) us) l
+passed : (link more : Bool) (us : List UnusedStart) (l : Option Label) → IsFound (link || more) us l →
+    IsFound more (map (with_link link) us) l
 passed link more [] l h = h
 passed link more (u ∷ us) l h = (h.0, h.1, h.2, h.3, h.4 ∙ sym (or_assoc u.before_link link more))
 
-found : (d : ℕ) (inside earlier : List Element) → IsFound (list_any makes_link inside) (drop d (unused_starts earlier)) (label_back d inside earlier)
+found : (d : ℕ) (inside earlier : List Element) →
+    IsFound (list_any makes_link inside) (drop d (unused_starts earlier)) (label_back d inside earlier)
 found zero inside [] = refl
 found (suc d) inside [] = refl
 found d inside (plain tree ∷ earlier) = found d (plain tree ∷ inside) earlier
-found zero inside (starts kind marker ∷ earlier) = (record { kind = kind; marker = marker; inside = inside }, refl, refl, refl, refl)
+found zero inside (starts kind marker ∷ earlier) =
+    (record { kind = kind; marker = marker; inside = inside }, refl, refl, refl, refl)
 found (suc d) inside (starts kind marker ∷ earlier) = found d (starts kind marker ∷ inside) earlier
 found d inside (ends marker outcome ∷ earlier) =
     subst (λ x. IsFound (list_any makes_link inside) x (label_back (suc d) (ends marker outcome ∷ inside) earlier)) (sym (drop-map (makes_link (ends marker outcome)) d (unused_starts earlier)))

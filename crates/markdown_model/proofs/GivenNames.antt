@@ -23,7 +23,8 @@ pair-named P struck strong emphasis marker size = by_tests (marker == 126) (size
     by_tests false false = emphasis
 
 -- of a hard break and of other spaces and tabs
-pub blank-named : (P : Name → Type 0) → P Name.HardBreakTrailing → P Name.SpaceOrTab → (hard : Bool) (cs : List Code) → P (blank_name hard cs)
+pub blank-named : (P : Name → Type 0) → P Name.HardBreakTrailing → P Name.SpaceOrTab → (hard : Bool) (cs : List Code) →
+    P (blank_name hard cs)
 blank-named P break blank hard cs = by_test (hard && is_hard_break_trailing cs)
   where
     by_test : (b : Bool) → P (elim b as (λ _. Name) [ true ↦ Name.HardBreakTrailing | false ↦ Name.SpaceOrTab ])
@@ -31,7 +32,8 @@ blank-named P break blank hard cs = by_test (hard && is_hard_break_trailing cs)
     by_test false = blank
 
 -- of an address, and of one behind `mailto:` or `xmpp:`
-pub email-named : (P : Name → Type 0) → P Name.GfmAutolinkLiteralEmail → P Name.GfmAutolinkLiteralMailto → P Name.GfmAutolinkLiteralXmpp → (before : List Code) → P (email_protocol before).0
+pub email-named : (P : Name → Type 0) → P Name.GfmAutolinkLiteralEmail → P Name.GfmAutolinkLiteralMailto →
+    P Name.GfmAutolinkLiteralXmpp → (before : List Code) → P (email_protocol before).0
 unfolding email_protocol
 email-named P bare mailto xmpp [] = bare
 email-named P bare mailto xmpp (c ∷ cs) = by_tests (is_value (byte ":") c && is_word "mailto" (reverse s.0)) (is_value (byte ":") c && is_word "xmpp" (reverse s.0))

@@ -7,15 +7,18 @@ use Rattle.markdown_model.specs.Grammar.{Reading, ◌>>=◌, ◌>>◌, provided,
 
 -- One reading and then another.
 
-pub bind-some : {A B : Type 0} (a : Reading A) (next : A → Reading B) (cs : List Code) (x : A) (rest : List Code) (y : Option (B × List Code)) → a cs ≡ Some (x, rest) → next x rest ≡ y → (a >>= next) cs ≡ y
+pub bind-some : {A B : Type 0} (a : Reading A) (next : A → Reading B) (cs : List Code) (x : A) (rest : List Code) (y : Option (B × List Code)) →
+    a cs ≡ Some (x, rest) → next x rest ≡ y → (a >>= next) cs ≡ y
 unfolding ◌>>=◌
 bind-some a next cs x rest y e h = rw (e, ◌>>=◌) h
 
-pub bind-none : {A B : Type 0} (a : Reading A) (next : A → Reading B) (cs : List Code) → a cs ≡ None → (a >>= next) cs ≡ None
+pub bind-none : {A B : Type 0} (a : Reading A) (next : A → Reading B) (cs : List Code) → a cs ≡ None →
+    (a >>= next) cs ≡ None
 unfolding ◌>>=◌
 bind-none a next cs e = rw (e, ◌>>=◌) refl
 
-pub after-some : {A B : Type 0} (a : Reading A) (b : Reading B) (cs : List Code) (x : A) (rest : List Code) (y : Option (B × List Code)) → a cs ≡ Some (x, rest) → b rest ≡ y → (a >> b) cs ≡ y
+pub after-some : {A B : Type 0} (a : Reading A) (b : Reading B) (cs : List Code) (x : A) (rest : List Code) (y : Option (B × List Code)) →
+    a cs ≡ Some (x, rest) → b rest ≡ y → (a >> b) cs ≡ y
 unfolding ◌>>◌
 after-some a b cs x rest y e h = rw (e, ◌>>◌) h
 
@@ -44,42 +47,55 @@ one-not p (c ∷ cs) e = one-other p c cs e
 
 -- A reading before codes that pass a test.
 
-pub before-some : {A : Type 0} (a : Reading A) (p : List Code → Bool) (cs : List Code) (x : A) (rest : List Code) → ◌≡◌ {A = Option (A × List Code)} (a cs) (Some (x, rest)) → p rest ≡ true → ◌≡◌ {A = Option (A × List Code)} (before a p cs) (Some (x, rest))
+pub before-some : {A : Type 0} (a : Reading A) (p : List Code → Bool) (cs : List Code) (x : A) (rest : List Code) →
+    ◌≡◌ {A = Option (A × List Code)} (a cs) (Some (x, rest)) → p rest ≡ true →
+    ◌≡◌ {A = Option (A × List Code)} (before a p cs) (Some (x, rest))
 unfolding before
 before-some a p cs x rest e h = rw (e, h, before) refl
 
-pub before-other : {A : Type 0} (a : Reading A) (p : List Code → Bool) (cs : List Code) (x : A) (rest : List Code) → ◌≡◌ {A = Option (A × List Code)} (a cs) (Some (x, rest)) → p rest ≡ false → before a p cs ≡ None
+pub before-other : {A : Type 0} (a : Reading A) (p : List Code → Bool) (cs : List Code) (x : A) (rest : List Code) →
+    ◌≡◌ {A = Option (A × List Code)} (a cs) (Some (x, rest)) → p rest ≡ false → before a p cs ≡ None
 unfolding before
 before-other a p cs x rest e h = rw (e, h, before) refl
 
-pub before-none : {A : Type 0} (a : Reading A) (p : List Code → Bool) (cs : List Code) → a cs ≡ None → before a p cs ≡ None
+pub before-none : {A : Type 0} (a : Reading A) (p : List Code → Bool) (cs : List Code) → a cs ≡ None →
+    before a p cs ≡ None
 unfolding before
 before-none a p cs e = rw (e, before) refl
 
 -- Spans.
 
-pub span-takes : (p : Code → Bool) (c : Code) (cs : List Code) → p c ≡ true → ◌≡◌ {A = List Code × List Code} (span p (c ∷ cs)) (c ∷ (span p cs).0, (span p cs).1)
+pub span-takes : (p : Code → Bool) (c : Code) (cs : List Code) → p c ≡ true →
+    ◌≡◌ {A = List Code × List Code} (span p (c ∷ cs)) (c ∷ (span p cs).0, (span p cs).1)
 span-takes p c cs e = rw (e, span) refl
 
-pub span-none : (p : Code → Bool) (cs : List Code) → next_is p cs ≡ false → ◌≡◌ {A = List Code × List Code} (span p cs) ([], cs)
+pub span-none : (p : Code → Bool) (cs : List Code) → next_is p cs ≡ false →
+    ◌≡◌ {A = List Code × List Code} (span p cs) ([], cs)
 span-none p [] e = refl
 span-none p (c ∷ cs) e = rw (e, span) refl
 
-pub until-goes : (p : List Code → Bool) (c : Code) (cs : List Code) → p (c ∷ cs) ≡ false → ◌≡◌ {A = List Code × List Code} (until p (c ∷ cs)) (c ∷ (until p cs).0, (until p cs).1)
+pub until-goes : (p : List Code → Bool) (c : Code) (cs : List Code) → p (c ∷ cs) ≡ false →
+    ◌≡◌ {A = List Code × List Code} (until p (c ∷ cs)) (c ∷ (until p cs).0, (until p cs).1)
 until-goes p c cs e = rw (e, until) refl
 
-pub until-stops : (p : List Code → Bool) (c : Code) (cs : List Code) → p (c ∷ cs) ≡ true → ◌≡◌ {A = List Code × List Code} (until p (c ∷ cs)) ([], c ∷ cs)
+pub until-stops : (p : List Code → Bool) (c : Code) (cs : List Code) → p (c ∷ cs) ≡ true →
+    ◌≡◌ {A = List Code × List Code} (until p (c ∷ cs)) ([], c ∷ cs)
 until-stops p c cs e = rw (e, until) refl
 
 -- Some codes.
 
-pub some-span : (p : Code → Bool) (cs : List Code) (c : Code) (more rest : List Code) → ◌≡◌ {A = List Code × List Code} (span p cs) (c ∷ more, rest) → ◌≡◌ {A = Option (List Code × List Code)} (some p cs) (Some (c ∷ more, rest))
+pub some-span : (p : Code → Bool) (cs : List Code) (c : Code) (more rest : List Code) →
+    ◌≡◌ {A = List Code × List Code} (span p cs) (c ∷ more, rest) →
+    ◌≡◌ {A = Option (List Code × List Code)} (some p cs) (Some (c ∷ more, rest))
 unfolding some
-some-span p cs c more rest e = ap (λ (s : List Code × List Code). elim (is_empty s.0) as (λ _. Option (List Code × List Code)) [ true ↦ None | false ↦ Some s ]) e
+some-span p cs c more rest e =
+    ap (λ (s : List Code × List Code). elim (is_empty s.0) as (λ _. Option (List Code × List Code)) [ true ↦ None | false ↦ Some s ]) e
 
-pub some-nothing : (p : Code → Bool) (cs rest : List Code) → ◌≡◌ {A = List Code × List Code} (span p cs) ([], rest) → some p cs ≡ None
+pub some-nothing : (p : Code → Bool) (cs rest : List Code) → ◌≡◌ {A = List Code × List Code} (span p cs) ([], rest) →
+    some p cs ≡ None
 unfolding some
-some-nothing p cs rest e = ap (λ (s : List Code × List Code). elim (is_empty s.0) as (λ _. Option (List Code × List Code)) [ true ↦ None | false ↦ Some s ]) e
+some-nothing p cs rest e =
+    ap (λ (s : List Code × List Code). elim (is_empty s.0) as (λ _. Option (List Code × List Code)) [ true ↦ None | false ↦ Some s ]) e
 
 pub any-number-is : (p : Code → Bool) (cs : List Code) → any_number p cs ≡ Some (span p cs)
 unfolding any_number
@@ -87,7 +103,8 @@ any-number-is p cs = refl
 
 -- Codes and then codes.
 
-pub then-some : (a b : Reading (List Code)) (cs x r y q : List Code) → a cs ≡ Some (x, r) → b r ≡ Some (y, q) → (a then_ b) cs ≡ Some (x ++ y, q)
+pub then-some : (a b : Reading (List Code)) (cs x r y q : List Code) → a cs ≡ Some (x, r) → b r ≡ Some (y, q) →
+    (a then_ b) cs ≡ Some (x ++ y, q)
 unfolding ◌then_◌
 then-some a b cs x r y q e h = rw (e, h, ◌then_◌) refl
 
@@ -95,7 +112,8 @@ pub then-none : (a b : Reading (List Code)) (cs : List Code) → a cs ≡ None �
 unfolding ◌then_◌
 then-none a b cs e = rw (e, ◌then_◌) refl
 
-pub then-other : (a b : Reading (List Code)) (cs x r : List Code) → a cs ≡ Some (x, r) → b r ≡ None → (a then_ b) cs ≡ None
+pub then-other : (a b : Reading (List Code)) (cs x r : List Code) → a cs ≡ Some (x, r) → b r ≡ None →
+    (a then_ b) cs ≡ None
 unfolding ◌then_◌
 then-other a b cs x r e h = rw (e, h, ◌then_◌) refl
 
@@ -105,11 +123,13 @@ pub either-first : {A : Type 0} (a b : Reading A) (cs : List Code) → b cs ≡ 
 unfolding either
 either-first {A} a b cs e = choice (a cs)
   where
-    choice : (o : Option (A × List Code)) → elim o as (λ _. Option (A × List Code)) [ None ↦ b cs | Some r ↦ Some r ] ≡ o
+    choice : (o : Option (A × List Code)) →
+        elim o as (λ _. Option (A × List Code)) [ None ↦ b cs | Some r ↦ Some r ] ≡ o
     choice None = e
     choice (Some r) = refl
 
-pub either-some : {A : Type 0} (a b : Reading A) (cs : List Code) (r : A × List Code) → ◌≡◌ {A = Option (A × List Code)} (a cs) (Some r) → ◌≡◌ {A = Option (A × List Code)} (either a b cs) (Some r)
+pub either-some : {A : Type 0} (a b : Reading A) (cs : List Code) (r : A × List Code) →
+    ◌≡◌ {A = Option (A × List Code)} (a cs) (Some r) → ◌≡◌ {A = Option (A × List Code)} (either a b cs) (Some r)
 unfolding either
 either-some a b cs r e = rw (e, either) refl
 

@@ -23,9 +23,12 @@ module _ (P : Forest → Type 0) (Q : Element → Type 0) (none : P empty) (row 
   abbrev IsEnd : End → Type 0
   IsEnd c = Q (ends c.0 c.1)
 
-  labelled-has : (o : Start) (inside : List Forest) (c : End) → IsStart o → AllHave P inside → IsEnd c → AllHave P (labelled o inside c)
-  labelled-has o inside (back, None) s h e = all-append P (loose o.1) (inside ++ loose back) (start o.0 o.1 s, tt) (all-append P inside (loose back) h (end back None e, tt))
-  labelled-has o inside (back, Some outcome) s h e = (label o.0 o.1 (joined inside) back outcome s (joined-has P none row inside h) e, tt)
+  labelled-has : (o : Start) (inside : List Forest) (c : End) → IsStart o → AllHave P inside → IsEnd c →
+      AllHave P (labelled o inside c)
+  labelled-has o inside (back, None) s h e =
+      all-append P (loose o.1) (inside ++ loose back) (start o.0 o.1 s, tt) (all-append P inside (loose back) h (end back None e, tt))
+  labelled-has o inside (back, Some outcome) s h e =
+      (label o.0 o.1 (joined inside) back outcome s (joined-has P none row inside h) e, tt)
 
   word-has : (es : List Element) → AllAre Q es → WordHas P IsStart IsEnd (map as_bracket es)
   word-has [] h = tt

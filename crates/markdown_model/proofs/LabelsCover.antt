@@ -30,15 +30,18 @@ abbrev pub unused : List Element → ℕ
 unused [] = zero
 unused (e ∷ earlier) = depth_after (unused earlier) e
 
-one_more : (marker : List Code) (outcome : Option (LabelKind × Forest)) (u d : ℕ) → depth_after u (ends marker outcome) ≤ d → u ≤ suc d
+one_more : (marker : List Code) (outcome : Option (LabelKind × Forest)) (u d : ℕ) →
+    depth_after u (ends marker outcome) ≤ d → u ≤ suc d
 one_more marker outcome zero d h = omega arith
 one_more marker outcome (suc u) d h = omega arith
 
 no_label_back : (d : ℕ) (inside earlier : List Element) → unused earlier ≤ d → label_back d inside earlier ≡ None
 no_label_back d inside [] h = refl
 no_label_back zero inside (starts kind marker ∷ earlier) h = absurd (omega arith)
-no_label_back (suc d) inside (starts kind marker ∷ earlier) h = no_label_back d (starts kind marker ∷ inside) earlier (omega arith)
-no_label_back d inside (ends marker outcome ∷ earlier) h = no_label_back (suc d) (ends marker outcome ∷ inside) earlier (one_more marker outcome (unused earlier) d h)
+no_label_back (suc d) inside (starts kind marker ∷ earlier) h =
+    no_label_back d (starts kind marker ∷ inside) earlier (omega arith)
+no_label_back d inside (ends marker outcome ∷ earlier) h =
+    no_label_back (suc d) (ends marker outcome ∷ inside) earlier (one_more marker outcome (unused earlier) d h)
 no_label_back d inside (plain tree ∷ earlier) h = no_label_back d (plain tree ∷ inside) earlier h
 
 -- without an unused start there is no label
@@ -66,7 +69,8 @@ covers_full_reference s = bind _ _ _ _ _ (covers_label reference_names) λ tree.
 
 pub covers_collapsed : Covers leaf_codes [] collapsed_reference
 unfolding collapsed_reference
-covers_collapsed = bind _ _ _ _ _ (takes_one _) λ front. bind _ _ _ _ _ (takes_one _) λ back. given _ _ _ (simp codes_laws)
+covers_collapsed =
+    bind _ _ _ _ _ (takes_one _) λ front. bind _ _ _ _ _ (takes_one _) λ back. given _ _ _ (simp codes_laws)
 
 pub covers_shortcut : (defined : Bool) → Covers leaf_codes [] (shortcut defined)
 unfolding shortcut
@@ -83,11 +87,13 @@ covers_after_label s defined =
 abbrev pub outcome_codes : LabelKind × Forest → List Code
 outcome_codes o = leaf_codes o.1
 
-pub covers_footnote_call : (s : Setting) (l : Label) (back : List Code) → Covers outcome_codes [] (footnote_call s l back)
+pub covers_footnote_call : (s : Setting) (l : Label) (back : List Code) →
+    Covers outcome_codes [] (footnote_call s l back)
 unfolding footnote_call
 covers_footnote_call s l back = if_passed _ _ _ _ (given _ _ (LabelKind.GfmFootnote, empty) refl)
 
-pub covers_link_or_image : (s : Setting) (l : Label) (back : List Code) → Covers outcome_codes [] (link_or_image s l back)
+pub covers_link_or_image : (s : Setting) (l : Label) (back : List Code) →
+    Covers outcome_codes [] (link_or_image s l back)
 unfolding link_or_image
 covers_link_or_image s l back = bind _ _ _ _ _ (covers_after_label s _) λ tail. given _ _ (link_kind l.kind, tail) refl
 
@@ -107,9 +113,11 @@ covers_ended s (Some l) zero back h = absurd (none (h refl))
   where
     none : Some l ≡ None → ⊥
     none e = cc
-covers_ended s (Some l) (suc d) back h = bind outcome_codes (element_codes (suc d)) back (outcome_of s (Some l) back) _ (covers_outcome s (Some l) back) λ outcome. given _ _ (ends back (Some outcome)) refl
+covers_ended s (Some l) (suc d) back h =
+    bind outcome_codes (element_codes (suc d)) back (outcome_of s (Some l) back) _ (covers_outcome s (Some l) back) λ outcome. given _ _ (ends back (Some outcome)) refl
 
-pub covers_label_end : (s : Setting) (earlier : List Element) → Covers (element_codes (unused earlier)) [] (label_end s earlier)
+pub covers_label_end : (s : Setting) (earlier : List Element) →
+    Covers (element_codes (unused earlier)) [] (label_end s earlier)
 unfolding label_end
 covers_label_end s earlier =
     bind _ _ _ _ _ (takes_one _) λ back.
@@ -125,8 +133,10 @@ closed (marker, None) = marker
 closed (marker, Some outcome) = marker ++ leaf_codes outcome.1
 
 pub codes-start_tree : (kind : LabelKind) (cs : List Code) → leaf_codes (start_tree kind cs) ≡ cs
-codes-start_tree LabelKind.Image cs = append-nil _ ∙ leaf_codes-row (leaf Name.LabelImageMarker (take 1 cs)) (leaf Name.LabelMarker (drop 1 cs)) ∙ (λ i. codes-leaf Name.LabelImageMarker (take 1 cs) i ++ codes-leaf Name.LabelMarker (drop 1 cs) i) ∙ take-append-drop 1 cs
-codes-start_tree LabelKind.GfmFootnote cs = append-nil _ ∙ leaf_codes-row (leaf Name.LabelMarker (take 1 cs)) (leaf Name.GfmFootnoteCallMarker (drop 1 cs)) ∙ (λ i. codes-leaf Name.LabelMarker (take 1 cs) i ++ codes-leaf Name.GfmFootnoteCallMarker (drop 1 cs) i) ∙ take-append-drop 1 cs
+codes-start_tree LabelKind.Image cs =
+    append-nil _ ∙ leaf_codes-row (leaf Name.LabelImageMarker (take 1 cs)) (leaf Name.LabelMarker (drop 1 cs)) ∙ (λ i. codes-leaf Name.LabelImageMarker (take 1 cs) i ++ codes-leaf Name.LabelMarker (drop 1 cs) i) ∙ take-append-drop 1 cs
+codes-start_tree LabelKind.GfmFootnote cs =
+    append-nil _ ∙ leaf_codes-row (leaf Name.LabelMarker (take 1 cs)) (leaf Name.GfmFootnoteCallMarker (drop 1 cs)) ∙ (λ i. codes-leaf Name.LabelMarker (take 1 cs) i ++ codes-leaf Name.GfmFootnoteCallMarker (drop 1 cs) i) ∙ take-append-drop 1 cs
 codes-start_tree LabelKind.Link cs = append-nil _ ∙ codes-leaf Name.LabelMarker cs
 codes-start_tree LabelKind.GfmUndefinedFootnote cs = append-nil _ ∙ codes-leaf Name.LabelMarker cs
 
@@ -135,7 +145,8 @@ nothing_after [] = refl
 nothing_after (c ∷ cs) = ap (λ x. c ∷ x) (nothing_after cs)
 
 -- a marker is its start and its caret
-pub whole_marker : (kind : LabelKind) (marker : List Code) → start_marker kind marker ++ drop (length (start_marker kind marker)) marker ≡ marker
+pub whole_marker : (kind : LabelKind) (marker : List Code) →
+    start_marker kind marker ++ drop (length (start_marker kind marker)) marker ≡ marker
 whole_marker LabelKind.GfmUndefinedFootnote [] = refl
 whole_marker LabelKind.GfmUndefinedFootnote (c ∷ cs) = refl
 whole_marker LabelKind.Image marker = nothing_after marker
@@ -166,7 +177,8 @@ codes-label_group kind marker inside back tail =
 pub codes-loose_start : (start : Start) → codes_of_all (loose_start start) ≡ opened start
 codes-loose_start start = codes-loose start.1
 
-pub codes-labelled : (start : Start) (inside : List Forest) (end : End) → codes_of_all (labelled start inside end) ≡ opened start ++ (codes_of_all inside ++ closed end)
+pub codes-labelled : (start : Start) (inside : List Forest) (end : End) →
+    codes_of_all (labelled start inside end) ≡ opened start ++ (codes_of_all inside ++ closed end)
 codes-labelled start inside (marker, None) =
     sum-append codes_add (loose_start start) (inside ++ loose_end (marker, None))
     ∙ (λ i. codes-loose_start start i ++ (sum-append codes_add inside (loose_end (marker, None)) ∙ ap (λ x. codes_of_all inside ++ x) (codes-loose marker)) i)
@@ -174,14 +186,16 @@ codes-labelled start inside (marker, Some outcome) =
     append-nil _ ∙ codes-label_group outcome.0 start.1 (joined inside) marker outcome.1
     ∙ ap (λ x. start.1 ++ (x ++ (marker ++ leaf_codes outcome.1))) (codes-joined inside)
 
-word-element : (d : ℕ) (es : List Element) → word_sum codes_add loose_end opened closed d (map as_bracket es) ≡ elements_codes d es
+word-element : (d : ℕ) (es : List Element) →
+    word_sum codes_add loose_end opened closed d (map as_bracket es) ≡ elements_codes d es
 word-element d [] = refl
 word-element d (plain t ∷ es) = ap (λ x. leaf_codes t ++ x) (word-element d es)
 word-element d (starts kind marker ∷ es) = ap (λ x. marker ++ x) (word-element (suc d) es)
 word-element zero (ends marker None ∷ es) = λ i. codes-loose marker i ++ word-element zero es i
 word-element zero (ends marker (Some outcome) ∷ es) = λ i. codes-loose marker i ++ word-element zero es i
 word-element (suc d) (ends marker None ∷ es) = ap (λ x. marker ++ x) (word-element d es)
-word-element (suc d) (ends marker (Some outcome) ∷ es) = ap (λ x. (marker ++ leaf_codes outcome.1) ++ x) (word-element d es)
+word-element (suc d) (ends marker (Some outcome) ∷ es) =
+    ap (λ x. (marker ++ leaf_codes outcome.1) ++ x) (word-element d es)
 
 pub codes-labels_of : (es : List Element) → leaf_codes (labels_of es) ≡ elements_codes zero es
 unfolding labels_of

@@ -26,7 +26,8 @@ same_before (suc a) zero x (ends marker outcome ∷ es) h k = absurd (no k)
 same_before (suc a) (suc b) x (ends marker outcome ∷ es) h k = ap suc (same_before a b x es h k)
 
 -- the count between two parts
-between : (a x : ℕ) (es more : List Element) → unused_after a (es ++ more) ≡ Some x → (b : ℕ) × (unused_after b more ≡ Some x)
+between : (a x : ℕ) (es more : List Element) → unused_after a (es ++ more) ≡ Some x →
+    (b : ℕ) × (unused_after b more ≡ Some x)
 between a x [] more h = (a, h)
 between a x (plain tree ∷ es) more h = between a x es more h
 between a x (starts kind marker ∷ es) more h = between (suc a) x es more h
@@ -43,9 +44,12 @@ found_closes d inside [] l h k = absurd (no h)
   where
     no : None ≡ Some l → ⊥
     no e = cc
-found_closes d inside (plain tree ∷ earlier) l h k = subst (λ x. Closes x l) (reverse-first (plain tree) inside earlier) (found_closes d (plain tree ∷ inside) earlier l h k)
-found_closes d inside (ends marker outcome ∷ earlier) l h k = subst (λ x. Closes x l) (reverse-first (ends marker outcome) inside earlier) (found_closes (suc d) (ends marker outcome ∷ inside) earlier l h k)
-found_closes (suc d) inside (starts kind marker ∷ earlier) l h k = subst (λ x. Closes x l) (reverse-first (starts kind marker) inside earlier) (found_closes d (starts kind marker ∷ inside) earlier l h k)
+found_closes d inside (plain tree ∷ earlier) l h k =
+    subst (λ x. Closes x l) (reverse-first (plain tree) inside earlier) (found_closes d (plain tree ∷ inside) earlier l h k)
+found_closes d inside (ends marker outcome ∷ earlier) l h k =
+    subst (λ x. Closes x l) (reverse-first (ends marker outcome) inside earlier) (found_closes (suc d) (ends marker outcome ∷ inside) earlier l h k)
+found_closes (suc d) inside (starts kind marker ∷ earlier) l h k =
+    subst (λ x. Closes x l) (reverse-first (starts kind marker) inside earlier) (found_closes d (starts kind marker ∷ inside) earlier l h k)
 found_closes zero inside (starts kind marker ∷ earlier) l h k = subst (λ x. Closes (reverse inside ++ starts kind marker ∷ earlier) x) same (record { balanced = k; before = earlier; stands = refl })
   where
     same : record { kind = kind; marker = marker; inside = inside } ≡ l
@@ -57,7 +61,8 @@ closes_found : (d : ℕ) (inside passed before : List Element) (kind : LabelKind
     → label_back d inside (passed ++ starts kind marker ∷ before) ≡ Some (record { kind = kind; marker = marker; inside = reverse passed ++ inside })
 closes_found d inside [] before kind marker h k = at_start d (same_before d 0 0 inside h k)
   where
-    at_start : (n : ℕ) → n ≡ 0 → label_back n inside (starts kind marker ∷ before) ≡ Some (record { kind = kind; marker = marker; inside = inside })
+    at_start : (n : ℕ) → n ≡ 0 →
+        label_back n inside (starts kind marker ∷ before) ≡ Some (record { kind = kind; marker = marker; inside = inside })
     at_start zero e = refl
     at_start (suc n) e = absurd (omega arith)
 closes_found d inside (plain tree ∷ passed) before kind marker h k =

@@ -43,7 +43,8 @@ fine-onto p c [] h = (tt, tt)
 fine-onto p c ([] ∷ more) h = (tt, h.1)
 fine-onto p c ((d ∷ ds) ∷ more) h = by_test (joins p c d) refl
   where
-    by_test : (b : Bool) → joins p c d ≡ b → AreFine (elim b [ true ↦ (c ∷ d ∷ ds) ∷ more | false ↦ (c ∷ []) ∷ (d ∷ ds) ∷ more ])
+    by_test : (b : Bool) → joins p c d ≡ b →
+        AreFine (elim b [ true ↦ (c ∷ d ∷ ds) ∷ more | false ↦ (c ∷ []) ∷ (d ∷ ds) ∷ more ])
     by_test true e =
         let apart = neither (is_line_ending c) (is_line_ending d) (and_parts (not (is_line_ending c || is_line_ending d)) ((p c && p d) || not (p c || p d)) e).0 in
         (line-first c (d ∷ ds) apart.0 (on-first d ds h.0 apart.1), h.1)
@@ -114,4 +115,5 @@ module _ (L : Name → Option Content → List Code → Type 0) where
   pub leaves-stretches : (name : Name) → ((s : List Code) → IsSomeLine s → L name None s)
       → ((s : List Code) → s ≢ [] → IsOnLine s → L Name.LineEnding None s) → (ss : List (List Code)) → AreFine ss → Leaves (line_leaves name ss)
   leaves-stretches name line ending [] h = tt
-  leaves-stretches name line ending (s ∷ ss) h = leaves-row _ _ (leaves-line name None line ending s h.0) (leaves-stretches name line ending ss h.1)
+  leaves-stretches name line ending (s ∷ ss) h =
+      leaves-row _ _ (leaves-line name None line ending s h.0) (leaves-stretches name line ending ss h.1)

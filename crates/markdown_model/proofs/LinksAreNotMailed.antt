@@ -21,12 +21,15 @@ links-join (group_then name enter exit inside rest) b =
     ap (λ x. insides_of_links inside ++ x) (links-join rest b) ∙ sym (append_assoc (insides_of_links inside) (insides_of_links rest) (insides_of_links b))
 
 links-with_emails : (cs : List Code) → insides_of_links (with_emails cs) ≡ []
-links-with_emails cs = with_emails-has (λ t. insides_of_links t ≡ []) (λ t u h k. links-join t u ∙ (λ i. h i ++ k i)) (links-leaf Name.Data) (λ before ds. links-leaf _ ds) cs
+links-with_emails cs =
+    with_emails-has (λ t. insides_of_links t ≡ []) (λ t u h k. links-join t u ∙ (λ i. h i ++ k i)) (links-leaf Name.Data) (λ before ds. links-leaf _ ds) cs
 
 pub links_are_not_mailed : LinksAreNotMailed
 unfolding with_emails_apart
 links_are_not_mailed empty = refl
-links_are_not_mailed (leaf_then Name.Data None cs rest) = links-join (with_emails cs) (with_emails_apart rest) ∙ (λ i. links-with_emails cs i ++ links_are_not_mailed rest i)
+links_are_not_mailed (leaf_then Name.Data None cs rest) =
+    links-join (with_emails cs) (with_emails_apart rest) ∙ (λ i. links-with_emails cs i ++ links_are_not_mailed rest i)
 links_are_not_mailed (leaf_then name link cs rest) = links_are_not_mailed rest
 links_are_not_mailed (group_then Name.Link enter exit inside rest) = ap (λ x. inside ∷ x) (links_are_not_mailed rest)
-links_are_not_mailed (group_then name enter exit inside rest) = λ i. links_are_not_mailed inside i ++ links_are_not_mailed rest i
+links_are_not_mailed (group_then name enter exit inside rest) =
+    λ i. links_are_not_mailed inside i ++ links_are_not_mailed rest i

@@ -32,11 +32,13 @@ IsAllowed us (plain t) = IsFree t
 IsAllowed us (starts kind marker) = Unit {0}
 IsAllowed us (ends marker None) = Unit {0}
 IsAllowed [] (ends marker (Some outcome)) = Unit {0}
-IsAllowed (u ∷ us) (ends marker (Some outcome)) = IsFree outcome.1 × (not (is_image outcome.0) ≡ true → u.before_link ≡ false)
+IsAllowed (u ∷ us) (ends marker (Some outcome)) =
+    IsFree outcome.1 × (not (is_image outcome.0) ≡ true → u.before_link ≡ false)
 
 -- Outcomes.
 
-pub yields_passed_if : {A : Type 0} (P : A → Type 0) (test : Bool) (b : Reading A) → (test ≡ true → Yields P b) → Yields P (provided test >> b)
+pub yields_passed_if : {A : Type 0} (P : A → Type 0) (test : Bool) (b : Reading A) → (test ≡ true → Yields P b) →
+    Yields P (provided test >> b)
 unfolding provided ◌>>◌
 yields_passed_if P true b h = record { at = (h refl).at }
 yields_passed_if P false b h = record { at = λ cs. tt }
@@ -45,7 +47,8 @@ abbrev IsAllowedOutcome : UnusedStart → LabelKind × Forest → Type 0
 IsAllowedOutcome u outcome = IsFree outcome.1 × (not (is_image outcome.0) ≡ true → u.before_link ≡ false)
 
 -- a start that is no image's and not barred
-not_after_link : (kind : LabelKind) (link : Bool) → (not (is_image kind) && link) ≡ false → not (is_image kind) ≡ true → link ≡ false
+not_after_link : (kind : LabelKind) (link : Bool) → (not (is_image kind) && link) ≡ false → not (is_image kind) ≡ true →
+    link ≡ false
 not_after_link LabelKind.Image link h k = absurd (cc)
 not_after_link LabelKind.Link link h k = h
 not_after_link LabelKind.GfmFootnote link h k = h
@@ -69,7 +72,8 @@ unfolding outcome_of footnote_call link_or_image
 allowed_outcome s u l back same barred = record { at = λ cs. whole.at cs }
   where
     free_start : not (is_barred l) ≡ true → not (is_image l.kind) ≡ true → u.before_link ≡ false
-    free_start h k = not_after_link u.kind u.before_link (sym barred ∙ not-true (is_barred l) h) (subst (λ x. not (is_image x) ≡ true) same k)
+    free_start h k =
+        not_after_link u.kind u.before_link (sym barred ∙ not-true (is_barred l) h) (subst (λ x. not (is_image x) ≡ true) same k)
 
     whole : Yields (IsAllowedOutcome u) (provided (not (is_barred l)) >> either (footnote_call s l back) (link_or_image s l back))
     whole = yields_passed_if _ _ _ λ h. yields_either _ _ _
@@ -88,7 +92,8 @@ allowed_ended s (u ∷ us) l back h =
     subst (λ x. Yields (IsAllowed (u ∷ us)) (outcome_of s x back >>= λ outcome. gives (ends back (Some outcome)))) (sym h.1)
     (yields_bind (IsAllowedOutcome u) _ _ _ (allowed_outcome s u h.0 back h.2 h.4) λ outcome k. yields_gives _ (ends back (Some outcome)) k)
 
-allowed_label_end : (s : Setting) (earlier : List Element) → Yields (IsAllowed (unused_starts earlier)) (label_end s earlier)
+allowed_label_end : (s : Setting) (earlier : List Element) →
+    Yields (IsAllowed (unused_starts earlier)) (label_end s earlier)
 unfolding label_end
 allowed_label_end s earlier =
     then_any _ _ _ λ back. yields_either _ _ _ (allowed_ended s (unused_starts earlier) (label_before earlier) back (ends_take_the_nearest earlier)) (yields_gives _ (ends back None) tt)
@@ -98,11 +103,13 @@ allowed_label_end s earlier =
 module _ (us : List UnusedStart) where
   allowed_plain : (bytes : List ℕ) (a : Reading Forest) → ReadsPlain bytes a → Yields (IsAllowed us) (as_plain a)
   unfolding as_plain
-  allowed_plain bytes a h = yields_bind (IsPlainTree bytes) _ _ _ h.plain λ tree k. yields_gives _ (plain tree) (quiet-free true tree (plain-quiet bytes tree k))
+  allowed_plain bytes a h =
+      yields_bind (IsPlainTree bytes) _ _ _ h.plain λ tree k. yields_gives _ (plain tree) (quiet-free true tree (plain-quiet bytes tree k))
 
   allowed_line_ending : Yields (IsAllowed us) line_ending
   unfolding line_ending
-  allowed_line_ending = then_any _ _ _ λ c. yields_gives _ (plain (leaf Name.LineEnding c)) (holds-leaf Name.LineEnding c)
+  allowed_line_ending =
+      then_any _ _ _ λ c. yields_gives _ (plain (leaf Name.LineEnding c)) (holds-leaf Name.LineEnding c)
 
   allowed_data_code : Yields (IsAllowed us) data_code
   unfolding data_code
@@ -110,9 +117,11 @@ module _ (us : List UnusedStart) where
 
   allowed_run : (marker : ℕ) → Yields (IsAllowed us) (attention_run marker)
   unfolding attention_run
-  allowed_run marker = then_any _ _ _ λ markers. yields_gives _ (plain (leaf Name.AttentionSequence markers)) (holds-leaf Name.AttentionSequence markers)
+  allowed_run marker =
+      then_any _ _ _ λ markers. yields_gives _ (plain (leaf Name.AttentionSequence markers)) (holds-leaf Name.AttentionSequence markers)
 
-allowed_text_element : (s : Setting) (end : ℕ) (earlier : List Element) (previous : Option Code) → Yields (IsAllowed (unused_starts earlier)) (text_element s end earlier previous)
+allowed_text_element : (s : Setting) (end : ℕ) (earlier : List Element) (previous : Option Code) →
+    Yields (IsAllowed (unused_starts earlier)) (text_element s end earlier previous)
 allowed_text_element s end earlier previous = record { at = λ cs. text_has s end earlier previous (Passes (IsAllowed us)) cs (each cs) ((allowed_data_code us).at cs) }
   where
     us : List UnusedStart
@@ -137,7 +146,8 @@ starts_after us (plain tree) = us
 starts_after us (starts kind marker) = record { kind = kind; marker = marker; before_link = false } ∷ us
 starts_after us (ends marker outcome) = map (with_link (makes_link (ends marker outcome))) (drop 1 us)
 
-starts_after-is : (earlier : List Element) (e : Element) → unused_starts (e ∷ earlier) ≡ starts_after (unused_starts earlier) e
+starts_after-is : (earlier : List Element) (e : Element) →
+    unused_starts (e ∷ earlier) ≡ starts_after (unused_starts earlier) e
 starts_after-is earlier (plain tree) = refl
 starts_after-is earlier (starts kind marker) = refl
 starts_after-is earlier (ends marker outcome) = refl
@@ -154,7 +164,8 @@ all_allowed choice yields (e ∷ es) earlier previous cs h = (
   subst (λ x. AllAllowed x es) (starts_after-is earlier e) (all_allowed choice yields es (e ∷ earlier) (code_before cs h.0) h.0 h.2),
 )
   where
-    at_some : (r : Option (Element × List Code)) → r ≡ Some (e, h.0) → Passes (IsAllowed (unused_starts earlier)) r → IsAllowed (unused_starts earlier) e
+    at_some : (r : Option (Element × List Code)) → r ≡ Some (e, h.0) → Passes (IsAllowed (unused_starts earlier)) r →
+        IsAllowed (unused_starts earlier) e
     at_some r k x = subst (λ z. Passes (IsAllowed (unused_starts earlier)) z) k x
 
 -- Groups of labels.
@@ -189,7 +200,8 @@ label_row kind marker inside back =
     ⊕ text_group Name.LabelText (stop_of document_start (start_marker kind marker)) (start_of back) (leaf Name.Data (caret_of kind marker) ⊕ inside)
     ⊕ group Name.LabelEnd (leaf Name.LabelMarker back)
 
-holds-label_row : (kind : LabelKind) (marker : List Code) (inside : Forest) (back : List Code) → holds_link (label_row kind marker inside back) ≡ holds_link inside
+holds-label_row : (kind : LabelKind) (marker : List Code) (inside : Forest) (back : List Code) →
+    holds_link (label_row kind marker inside back) ≡ holds_link inside
 holds-label_row kind marker inside back =
     holds-join (start_tree kind (start_marker kind marker)) _
     ∙ (λ i. holds-start_tree kind (start_marker kind marker) i
@@ -197,7 +209,8 @@ holds-label_row kind marker inside back =
     || (or-false (holds_link (leaf Name.LabelMarker back)) ∙ holds-leaf Name.LabelMarker back) i))
     ∙ or-false (holds_link inside)
 
-apart-label_row : (kind : LabelKind) (marker : List Code) (inside : Forest) (back : List Code) → AreApart inside → AreApart (label_row kind marker inside back)
+apart-label_row : (kind : LabelKind) (marker : List Code) (inside : Forest) (back : List Code) → AreApart inside →
+    AreApart (label_row kind marker inside back)
 apart-label_row kind marker inside back h =
     apart-join (start_tree kind (start_marker kind marker)) _ (free-apart (start_tree kind (start_marker kind marker)) (holds-start_tree kind (start_marker kind marker)))
     ((λ e. absurd (no e)), apart-join (leaf Name.Data (caret_of kind marker)) inside (apart-leaf Name.Data (caret_of kind marker)) h, ((λ e. absurd (no e)), apart-leaf Name.LabelMarker back, tt))
@@ -207,11 +220,13 @@ apart-label_row kind marker inside back h =
 
 holds-inner : (kind : LabelKind) (marker : List Code) (inside : Forest) (back : List Code) (tail : Forest) → IsFree tail
     → holds_link (group Name.Label (label_row kind marker inside back) ⊕ tail) ≡ holds_link inside
-holds-inner kind marker inside back tail h = (λ i. holds-label_row kind marker inside back i || h i) ∙ or-false (holds_link inside)
+holds-inner kind marker inside back tail h =
+    (λ i. holds-label_row kind marker inside back i || h i) ∙ or-false (holds_link inside)
 
 holds-label_group : (kind : LabelKind) (marker : List Code) (inside : Forest) (back : List Code) (tail : Forest) → IsFree tail
     → holds_link (label_group kind marker inside back tail) ≡ (not (is_image kind) || holds_link inside)
-holds-label_group kind marker inside back tail h = λ i. link_name kind i || (or-false _ ∙ holds-inner kind marker inside back tail h) i
+holds-label_group kind marker inside back tail h =
+    λ i. link_name kind i || (or-false _ ∙ holds-inner kind marker inside back tail h) i
 
 apart-label_group : (kind : LabelKind) (marker : List Code) (inside : Forest) (back : List Code) (tail : Forest)
     → IsFree tail → (not (is_image kind) ≡ true → holds_link inside ≡ false) → AreApart inside → AreApart (label_group kind marker inside back tail)
@@ -227,15 +242,19 @@ apart-label_group kind marker inside back tail h k a = (
 apart-loose : (cs : List Code) → AllHave AreApart (loose cs)
 apart-loose cs = (apart-leaf Name.Data cs, tt)
 
-holds-labelled : (start : Start) (inside : List Forest) (end : End) → TailFree end → any_holds (labelled start inside end) ≡ (new_link end || any_holds inside)
+holds-labelled : (start : Start) (inside : List Forest) (end : End) → TailFree end →
+    any_holds (labelled start inside end) ≡ (new_link end || any_holds inside)
 holds-labelled start inside (marker, None) h =
     sum-append holds_add (loose start.1) (inside ++ loose marker)
     ∙ (λ i. holds-loose start.1 i || (sum-append holds_add inside (loose marker) ∙ ap (λ x. any_holds inside || x) (holds-loose marker) ∙ or-false (any_holds inside)) i)
 holds-labelled start inside (marker, Some outcome) h =
     or-false _ ∙ holds-label_group outcome.0 start.1 (joined inside) marker outcome.1 h ∙ ap (λ x. not (is_image outcome.0) || x) (sum-joined holds_add inside)
 
-apart-labelled : (start : Start) (inside : List Forest) (end : End) → TailFree end → (new_link end ≡ true → any_holds inside ≡ false) → AllHave AreApart inside → AllHave AreApart (labelled start inside end)
-apart-labelled start inside (marker, None) h k a = all-append AreApart (loose start.1) (inside ++ loose marker) (apart-loose start.1) (all-append AreApart inside (loose marker) a (apart-loose marker))
+apart-labelled : (start : Start) (inside : List Forest) (end : End) → TailFree end →
+    (new_link end ≡ true → any_holds inside ≡ false) → AllHave AreApart inside →
+    AllHave AreApart (labelled start inside end)
+apart-labelled start inside (marker, None) h k a =
+    all-append AreApart (loose start.1) (inside ++ loose marker) (apart-loose start.1) (all-append AreApart inside (loose marker) a (apart-loose marker))
 apart-labelled start inside (marker, Some outcome) h k a =
     (apart-label_group outcome.0 start.1 (joined inside) marker outcome.1 h (λ e. sum-joined holds_add inside ∙ k e) (apart-joined inside a), tt)
 
@@ -251,9 +270,11 @@ FramesApart (f ∷ fs) = AllHave AreApart f.1 × FramesApart fs
 abbrev AreReady : Bool → List UnusedStart → Frames → Type 0
 AreReady link us [] = Unit {0}
 AreReady link [] (f ∷ fs) = Unit {0}
-AreReady link (u ∷ us) (f ∷ fs) = TailFree f.0 × (new_link f.0 ≡ true → (u.before_link || link) ≡ false) × AreReady (link || (new_link f.0 || any_holds f.1)) us fs
+AreReady link (u ∷ us) (f ∷ fs) =
+    TailFree f.0 × (new_link f.0 ≡ true → (u.before_link || link) ≡ false) × AreReady (link || (new_link f.0 || any_holds f.1)) us fs
 
-earlier_link : (b link : Bool) (us : List UnusedStart) (fs : Frames) → AreReady link (map (with_link b) us) fs → AreReady (b || link) us fs
+earlier_link : (b link : Bool) (us : List UnusedStart) (fs : Frames) → AreReady link (map (with_link b) us) fs →
+    AreReady (b || link) us fs
 earlier_link b link us [] h = tt
 earlier_link b link [] (f ∷ fs) h = tt
 earlier_link b link (u ∷ us) (f ∷ fs) h = (
@@ -329,7 +350,8 @@ links_do_not_nest s cs = by_test s.options.constructs.gfm_autolink_literal
     tree = trimmed s.options.constructs.hard_break_trailing true true (merged (paired s (pair_list s) (labels_of es)))
 
     trimmed_apart : AreApart tree
-    trimmed_apart = apart-trimmed s.options.constructs.hard_break_trailing true true _ (apart-merged _ (apart-paired s (pair_list s) (labels_of es) labels))
+    trimmed_apart =
+        apart-trimmed s.options.constructs.hard_break_trailing true true _ (apart-merged _ (apart-paired s (pair_list s) (labels_of es) labels))
 
     by_test : (b : Bool) → AreApart (elim b [ true ↦ with_emails_apart tree | false ↦ tree ])
     by_test true = apart-mailed tree trimmed_apart

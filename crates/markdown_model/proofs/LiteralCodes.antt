@@ -15,7 +15,8 @@ use Rattle.markdown_engine_content.proofs.TreeCodes.{leaf_codes-row}
 takes_letters : (ns : List ℕ) → Takes (letters ns)
 unfolding letters
 takes_letters [] = given _ _ [] refl
-takes_letters (n ∷ ns) = bind _ _ _ _ _ (takes_one _) λ a. bind _ _ _ _ _ (takes_letters ns) λ b. given _ _ (a ++ b) refl
+takes_letters (n ∷ ns) =
+    bind _ _ _ _ _ (takes_one _) λ a. bind _ _ _ _ _ (takes_letters ns) λ b. given _ _ (a ++ b) refl
 
 pub takes_one_word : (words : List (List ℕ)) → Takes (one_word_of words)
 unfolding one_word_of
@@ -39,11 +40,13 @@ split_stop c cs false s h = ap (λ x. c ∷ x) h
 module _ (bytes : List ℕ) (end : ℕ) where
   pub domain_split : (cs : List Code) → IsSplit cs (domain_from bytes end cs)
   domain_split [] = refl
-  domain_split (c ∷ cs) = split_first c cs (is_domain_code bytes end (c ∷ cs)) (domain_from bytes end cs) (domain_split cs)
+  domain_split (c ∷ cs) =
+      split_first c cs (is_domain_code bytes end (c ∷ cs)) (domain_from bytes end cs) (domain_split cs)
 
   pub takes_domain : Takes (domain bytes end)
   unfolding domain
-  takes_domain = record { at = λ cs. chosen_at itself [] cs (is_domain (domain_from bytes end cs).0) (Some (domain_from bytes end cs)) None (domain_split cs) tt }
+  takes_domain =
+      record { at = λ cs. chosen_at itself [] cs (is_domain (domain_from bytes end cs).0) (Some (domain_from bytes end cs)) None (domain_split cs) tt }
 
   path_split : (opened closed : ℕ) (cs : List Code) → IsSplit cs (path_from bytes end opened closed cs)
   path_split opened closed [] = refl
@@ -115,7 +118,8 @@ found before at after = by_test (is_value 64 at && (not (is_empty local.0) && no
     by_test false = tt
 
 pub reverse-first : (c : Code) (before cs : List Code) → reverse (c ∷ before) ++ cs ≡ reverse before ++ c ∷ cs
-reverse-first c before cs = ap (λ x. x ++ cs) (reverse-append (c ∷ []) before) ∙ append_assoc (reverse before) (c ∷ []) cs
+reverse-first c before cs =
+    ap (λ x. x ++ cs) (reverse-append (c ∷ []) before) ∙ append_assoc (reverse before) (c ∷ []) cs
 
 pub codes-email_leaves : (n : ℕ) (before cs : List Code) → leaf_codes (email_leaves n before cs) ≡ reverse before ++ cs
 unfolding email_leaves

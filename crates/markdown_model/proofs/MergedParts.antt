@@ -8,5 +8,6 @@ use Rattle.markdown_model.specs.Passes.{data_onto}
 
 -- two data in a row are one
 pub data_onto-twice : (cs ds : List Code) (f : Forest) → data_onto cs (data_onto ds f) ≡ data_onto (cs ++ ds) f
-data_onto-twice cs ds (leaf_then Name.Data None more rest) = ap (λ x. leaf_then Name.Data None x rest) (sym (append_assoc cs ds more))
+data_onto-twice cs ds (leaf_then Name.Data None more rest) =
+    ap (λ x. leaf_then Name.Data None x rest) (sym (append_assoc cs ds more))
 data_onto-twice cs ds rest = refl

@@ -37,7 +37,8 @@ pub record Yields {A : Type 0} (P : A → Type 0) (a : Reading A) : Type 0 where
   pub at : (cs : List Code) → Passes P (a cs)
 
 module _ {A B : Type 0} (Q : A → Type 0) (P : B → Type 0) where
-  pub yields_bind : (a : Reading A) (b : A → Reading B) → Yields Q a → ((x : A) → Q x → Yields P (b x)) → Yields P (a >>= b)
+  pub yields_bind : (a : Reading A) (b : A → Reading B) → Yields Q a → ((x : A) → Q x → Yields P (b x)) →
+      Yields P (a >>= b)
   unfolding ◌>>=◌
   yields_bind a b ha hb = record { at = λ cs. by_answer (a cs) (ha.at cs) }
     where
@@ -67,7 +68,8 @@ module _ {A : Type 0} (P : A → Type 0) where
   unfolding either
   yields_either a b ha hb = record { at = λ cs. by_answer cs (a cs) (ha.at cs) }
     where
-      by_answer : (cs : List Code) (r : Option (A × List Code)) → Passes P r → Passes P (elim r [ None ↦ b cs | Some x ↦ Some x ])
+      by_answer : (cs : List Code) (r : Option (A × List Code)) → Passes P r →
+          Passes P (elim r [ None ↦ b cs | Some x ↦ Some x ])
       by_answer cs None h = hb.at cs
       by_answer cs (Some x) h = h
 
@@ -79,7 +81,8 @@ module _ {A : Type 0} (P : A → Type 0) where
       by_test x true h = h
       by_test x false h = tt
 
-      by_answer : (r : Option (A × List Code)) → Passes P r → Passes P (elim r [ None ↦ None | Some x ↦ elim (p x.1) [ true ↦ Some x | false ↦ None ] ])
+      by_answer : (r : Option (A × List Code)) → Passes P r →
+          Passes P (elim r [ None ↦ None | Some x ↦ elim (p x.1) [ true ↦ Some x | false ↦ None ] ])
       by_answer None h = tt
       by_answer (Some x) h = by_test x (p x.1) h
 
@@ -100,7 +103,8 @@ module _ {A : Type 0} (P : A → Type 0) where
       by_answer cs (Some x) = tt
 
 -- whatever comes first
-pub then_any : {A B : Type 0} (P : B → Type 0) (a : Reading A) (b : A → Reading B) → ((x : A) → Yields P (b x)) → Yields P (a >>= b)
+pub then_any : {A B : Type 0} (P : B → Type 0) (a : Reading A) (b : A → Reading B) → ((x : A) → Yields P (b x)) →
+    Yields P (a >>= b)
 then_any P a b h = yields_bind (λ _. Unit {0}) P a b (yields_any a) (λ x _. h x)
 
 -- A row without links has them apart.

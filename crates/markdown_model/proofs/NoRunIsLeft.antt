@@ -54,7 +54,8 @@ module _ (s : Setting) (pairs_of : List Run → List Pair) where
 
   no_run-paired : (f : Forest) → HasNoRun (paired s pairs_of f)
   unfolding paired
-  no_run-paired f = no_run-assembled (tokens_of s pairs_of f (pairs_of (runs_of s f)) 0) (no_run-tokens_of f (pairs_of (runs_of s f)) 0)
+  no_run-paired f =
+      no_run-assembled (tokens_of s pairs_of f (pairs_of (runs_of s f)) 0) (no_run-tokens_of f (pairs_of (runs_of s f)) 0)
 
 -- Other passes.
 

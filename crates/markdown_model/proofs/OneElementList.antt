@@ -62,14 +62,20 @@ module _ (choice : Choice) (takes : (earlier : List Element) (previous : Option 
 
 pub text_elements : (s : Setting) (cs : List Code) → AreElements s cs (elements_of s cs)
 unfolding elements_of
-text_elements s cs = some_elements (text_choice s cs) (text_element_takes s _) (text_element_holds s _) (length cs) [] None cs (omega arith)
+text_elements s cs =
+    some_elements (text_choice s cs) (text_element_takes s _) (text_element_holds s _) (length cs) [] None cs (omega arith)
 
-pub same_text_elements : (s : Setting) (cs : List Code) (es fs : List Element) → AreElements s cs es → AreElements s cs fs → es ≡ fs
-same_text_elements s cs es fs = same_elements (text_choice s cs) (text_element_takes s _) (text_element_holds s _) [] None cs es fs
+pub same_text_elements : (s : Setting) (cs : List Code) (es fs : List Element) → AreElements s cs es →
+    AreElements s cs fs → es ≡ fs
+same_text_elements s cs es fs =
+    same_elements (text_choice s cs) (text_element_takes s _) (text_element_holds s _) [] None cs es fs
 
 pub string_elements : (s : Setting) (cs : List Code) → AreStringElements s cs (string_elements_of s cs)
 unfolding string_elements_of
-string_elements s cs = some_elements (string_choice s) (λ earlier previous. string_element_takes s) (λ earlier previous. string_element_holds s) (length cs) [] None cs (omega arith)
+string_elements s cs =
+    some_elements (string_choice s) (λ earlier previous. string_element_takes s) (λ earlier previous. string_element_holds s) (length cs) [] None cs (omega arith)
 
-pub same_string_elements : (s : Setting) (cs : List Code) (es fs : List Element) → AreStringElements s cs es → AreStringElements s cs fs → es ≡ fs
-same_string_elements s cs es fs = same_elements (string_choice s) (λ earlier previous. string_element_takes s) (λ earlier previous. string_element_holds s) [] None cs es fs
+pub same_string_elements : (s : Setting) (cs : List Code) (es fs : List Element) → AreStringElements s cs es →
+    AreStringElements s cs fs → es ≡ fs
+same_string_elements s cs es fs =
+    same_elements (string_choice s) (λ earlier previous. string_element_takes s) (λ earlier previous. string_element_holds s) [] None cs es fs

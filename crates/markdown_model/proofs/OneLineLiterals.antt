@@ -9,7 +9,8 @@ use Rattle.markdown_model.specs.GfmAutolinkLiteral.{is_other, is_space, is_domai
 use Rattle.markdown_model.proofs.NoLinkInConstructs.{Passes, Yields}
 use Rattle.markdown_model.proofs.OneLineReadings.{as_ending, filled, line-first, line-join}
 
-pub spaced-both : (bytes : List ℕ) (xs ys : List Code) → AreSpaced bytes (xs ++ ys) → AreSpaced bytes xs × AreSpaced bytes ys
+pub spaced-both : (bytes : List ℕ) (xs ys : List Code) → AreSpaced bytes (xs ++ ys) →
+    AreSpaced bytes xs × AreSpaced bytes ys
 spaced-both bytes [] ys h = (tt, h)
 spaced-both bytes (c ∷ xs) ys h = let r = spaced-both bytes xs ys h.1 in ((h.0, r.0), r.1)
 
@@ -38,7 +39,8 @@ module _ (bytes : List ℕ) (end : ℕ) where
 
   domain-stops : (c : Code) (cs : List Code) → is_line_ending c ≡ true → is_space (class_at c) ≡ true
       → is_domain_code bytes end (c ∷ cs) ≡ false
-  domain-stops c cs e h = ap (λ (x : Code). is_domain_code bytes end (x ∷ cs)) (ending-is c e) ∙ other-space (class_at c) h
+  domain-stops c cs e h =
+      ap (λ (x : Code). is_domain_code bytes end (x ∷ cs)) (ending-is c e) ∙ other-space (class_at c) h
 
   domain-lines : (cs : List Code) → AreSpaced bytes (domain_from bytes end cs).0 → IsLine (domain_from bytes end cs).0
   domain-lines [] h = refl
@@ -52,14 +54,16 @@ module _ (bytes : List ℕ) (end : ℕ) where
       by_test : (b : Bool) → is_domain_code bytes end (c ∷ cs) ≡ b
           → AreSpaced bytes (let s : List Code × List Code = elim b [ true ↦ (c ∷ (domain_from bytes end cs).0, (domain_from bytes end cs).1) | false ↦ ([], c ∷ cs) ] in s.0) → (AreSpaced bytes (domain_from bytes end cs).0 → IsLine (domain_from bytes end cs).0)
           → IsLine (let s : List Code × List Code = elim b [ true ↦ (c ∷ (domain_from bytes end cs).0, (domain_from bytes end cs).1) | false ↦ ([], c ∷ cs) ] in s.0)
-      by_test true e k more = line-first c (domain_from bytes end cs).0 (no-ending e k.0 (is_line_ending c) refl) (more k.1)
+      by_test true e k more =
+          line-first c (domain_from bytes end cs).0 (no-ending e k.0 (is_line_ending c) refl) (more k.1)
       by_test false e k more = refl
 
   path-stops : (o k : ℕ) (c : Code) (cs : List Code) → is_line_ending c ≡ true → is_space (class_at c) ≡ true
       → ends_path bytes end o k (c ∷ cs) ≡ true
   path-stops o k c cs e h = ap (λ (x : Code). ends_path bytes end o k (x ∷ cs)) (ending-is c e) ∙ ap (λ b. b || false) h
 
-  path-lines : (o k : ℕ) (cs : List Code) → AreSpaced bytes (path_from bytes end o k cs).0 → IsLine (path_from bytes end o k cs).0
+  path-lines : (o k : ℕ) (cs : List Code) → AreSpaced bytes (path_from bytes end o k cs).0 →
+      IsLine (path_from bytes end o k cs).0
   path-lines o k [] h = refl
   path-lines o k (c ∷ cs) h = by_test (ends_path bytes end o k (c ∷ cs)) refl h (path-lines (count_if 40 c o) (count_if 41 c k) cs)
     where
@@ -72,7 +76,8 @@ module _ (bytes : List ℕ) (end : ℕ) where
           → AreSpaced bytes (let s : List Code × List Code = elim b [ true ↦ ([], c ∷ cs) | false ↦ (c ∷ (path_from bytes end (count_if 40 c o) (count_if 41 c k) cs).0, (path_from bytes end (count_if 40 c o) (count_if 41 c k) cs).1) ] in s.0) → (AreSpaced bytes (path_from bytes end (count_if 40 c o) (count_if 41 c k) cs).0 → IsLine (path_from bytes end (count_if 40 c o) (count_if 41 c k) cs).0)
           → IsLine (let s : List Code × List Code = elim b [ true ↦ ([], c ∷ cs) | false ↦ (c ∷ (path_from bytes end (count_if 40 c o) (count_if 41 c k) cs).0, (path_from bytes end (count_if 40 c o) (count_if 41 c k) cs).1) ] in s.0)
       by_test true e h more = refl
-      by_test false e h more = line-first c (path_from bytes end (count_if 40 c o) (count_if 41 c k) cs).0 (no-ending e h.0 (is_line_ending c) refl) (more h.1)
+      by_test false e h more =
+          line-first c (path_from bytes end (count_if 40 c o) (count_if 41 c k) cs).0 (no-ending e h.0 (is_line_ending c) refl) (more h.1)
 
   -- a domain holds a code
   pub domain-line : Yields (IsSomeLineThere bytes) (domain bytes end)

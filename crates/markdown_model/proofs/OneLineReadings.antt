@@ -15,10 +15,12 @@ use Rattle.markdown_model.specs.CodeLines.{IsLine, IsSomeLine, IsOnLine}
 -- Codes.
 
 pub line-both : (xs ys : List Code) → IsLine (xs ++ ys) → IsLine xs × IsLine ys
-line-both xs ys h = let p = or_parts (list_any is_line_ending xs) (list_any is_line_ending ys) (sym (list_any-append is_line_ending xs ys) ∙ h) in (p.0, p.1)
+line-both xs ys h =
+    let p = or_parts (list_any is_line_ending xs) (list_any is_line_ending ys) (sym (list_any-append is_line_ending xs ys) ∙ h) in (p.0, p.1)
 
 pub line-join : (xs ys : List Code) → IsLine xs → IsLine ys → IsLine (xs ++ ys)
-line-join xs ys h k = list_any-append is_line_ending xs ys ∙ or_from (list_any is_line_ending xs) (list_any is_line_ending ys) h k
+line-join xs ys h k =
+    list_any-append is_line_ending xs ys ∙ or_from (list_any is_line_ending xs) (list_any is_line_ending ys) h k
 
 pub on-line : (cs : List Code) → IsSomeLine cs → IsOnLine cs
 on-line [] h = h.0 refl
@@ -46,7 +48,8 @@ pub not-ending : (p : Code → Bool) → Skips p → (c : Code) → p c ≡ true
 not-ending p skips c h = by_test (is_line_ending c) refl
   where
     by_test : (b : Bool) → is_line_ending c ≡ b → is_line_ending c ≡ false
-    by_test true e = absurd (both_ways (p c) (ap p (λ i. record { value = eqb-true c.value 10 e i; start = c.start; stop = c.stop }) ∙ skips c) h)
+    by_test true e =
+        absurd (both_ways (p c) (ap p (λ i. record { value = eqb-true c.value 10 e i; start = c.start; stop = c.stop }) ∙ skips c) h)
     by_test false e = e
 
 pub line-first : (c : Code) (cs : List Code) → is_line_ending c ≡ false → IsLine cs → IsLine (c ∷ cs)
@@ -169,7 +172,8 @@ word-lines (n ∷ ns) h (c ∷ cs) = by_test (c.value == n) refl (word-lines ns 
   where
     by_test : (b : Bool) → (c.value == n) ≡ b → Passes IsLine (word_of ns cs)
         → Passes IsLine (elim b [ true ↦ with_first c (word_of ns cs) | false ↦ None ])
-    by_test true e k = with-first-line c (word_of ns cs) (ap (λ v. v == 10) (eqb-true c.value n e) ∙ (or_parts (n == 10) (list_any (λ k. k == 10) ns) h).0) k
+    by_test true e k =
+        with-first-line c (word_of ns cs) (ap (λ v. v == 10) (eqb-true c.value n e) ∙ (or_parts (n == 10) (list_any (λ k. k == 10) ns) h).0) k
     by_test false e k = tt
 
 pub word-some : (n : ℕ) (ns : List ℕ) → list_any (λ k. k == 10) (n ∷ ns) ≡ false → Yields IsSomeLine (word_of (n ∷ ns))
@@ -186,7 +190,8 @@ word-some n ns h = record { at = at }
 
     by_test : (c : Code) (cs : List Code) (b : Bool) → (c.value == n) ≡ b
         → Passes IsSomeLine (elim b [ true ↦ with_first c (word_of ns cs) | false ↦ None ])
-    by_test c cs true e = by_rest c (word_of ns cs) (ap (λ v. v == 10) (eqb-true c.value n e) ∙ apart.0) (word-lines ns apart.1 cs)
+    by_test c cs true e =
+        by_rest c (word_of ns cs) (ap (λ v. v == 10) (eqb-true c.value n e) ∙ apart.0) (word-lines ns apart.1 cs)
     by_test c cs false e = tt
 
     at : (cs : List Code) → Passes IsSomeLine (word_of (n ∷ ns) cs)
@@ -201,7 +206,8 @@ AreLetters (n ∷ ns) = Skips (λ c. c.value == n || (is_letter c && c.value + 3
 letters-line : (ns : List ℕ) → AreLetters ns → Yields IsLine (letters ns)
 unfolding letters
 letters-line [] h = yields_gives _ [] refl
-letters-line (n ∷ ns) h = yields_bind IsSomeLine _ _ _ (one-line (λ c. c.value == n || (is_letter c && c.value + 32 == n)) h.0) λ a k. yields_bind IsLine _ _ _ (letters-line ns h.1) λ b l. yields_gives _ _ (line-join a b k.1 l)
+letters-line (n ∷ ns) h =
+    yields_bind IsSomeLine _ _ _ (one-line (λ c. c.value == n || (is_letter c && c.value + 32 == n)) h.0) λ a k. yields_bind IsLine _ _ _ (letters-line ns h.1) λ b l. yields_gives _ _ (line-join a b k.1 l)
 
 -- a word of one letter at least
 letters-some : (n : ℕ) (ns : List ℕ) → AreLetters (n ∷ ns) → Yields IsSomeLine (letters (n ∷ ns))
@@ -219,7 +225,8 @@ above-letters : (ns : List ℕ) → are_above ns ≡ true → AreLetters ns
 above-letters [] h = tt
 above-letters (n ∷ ns) h = ((λ c. skips n c (and-left (nat_lt 31 n) (are_above ns) h)), above-letters ns (and-right (nat_lt 31 n) (are_above ns) h))
   where
-    skips : (m : ℕ) (c : Code) → nat_lt 31 m ≡ true → (as_ending c).value == m || (is_letter (as_ending c) && (as_ending c).value + 32 == m) ≡ false
+    skips : (m : ℕ) (c : Code) → nat_lt 31 m ≡ true →
+        (as_ending c).value == m || (is_letter (as_ending c) && (as_ending c).value + 32 == m) ≡ false
     skips m c k = grind (arith, nat_tests)
 
 abbrev pub are_words : List (List ℕ) → Bool

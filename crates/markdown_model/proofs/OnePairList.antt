@@ -86,7 +86,8 @@ module _ (s : Setting) (runs : List Run) (earlier : List Pair) (o c : ℕ) where
 -- Uniqueness.
 
 module _ (s : Setting) (runs : List Run) where
-  same_closer : (earlier : List Pair) (last : ℕ) (p q : Pair) → IsNextPair s runs earlier last p → IsNextPair s runs earlier last q → p.closer ≤ q.closer
+  same_closer : (earlier : List Pair) (last : ℕ) (p q : Pair) → IsNextPair s runs earlier last p →
+      IsNextPair s runs earlier last q → p.closer ≤ q.closer
   same_closer earlier last p q hp hq = ⊎_elim (λ below. absurd (hp.leftmost q.opener q.closer hq.forward below hq.eligible)) (λ not_below. not_below) (below_or_not q.closer p.closer)
     where
       below_or_not : (a b : ℕ) → (a < b) ⊎ (b ≤ a)
@@ -95,7 +96,8 @@ module _ (s : Setting) (runs : List Run) where
   moved : (earlier : List Pair) (o c d : ℕ) → c ≡ d → IsEligible s runs earlier o c → IsEligible s runs earlier o d
   moved earlier o c d e h = subst (λ x. IsEligible s runs earlier o x) e h
 
-  same_next : (earlier : List Pair) (last : ℕ) (p q : Pair) → IsNextPair s runs earlier last p → IsNextPair s runs earlier last q → p ≡ q
+  same_next : (earlier : List Pair) (last : ℕ) (p q : Pair) → IsNextPair s runs earlier last p →
+      IsNextPair s runs earlier last q → p ≡ q
   same_next earlier last p q hp hq = λ i. record { opener = openers i; closer = closers i; size = sizes i }
     where
       below_or_not : (a b : ℕ) → (a < b) ⊎ (b ≤ a)
@@ -122,10 +124,13 @@ module _ (s : Setting) (runs : List Run) where
       sizes : p.size ≡ q.size
       sizes = hp.size ∙ (λ i. pair_size runs earlier (openers i) (closers i)) ∙ sym hq.size
 
-  same_pairs : (earlier : List Pair) (last : ℕ) (ps qs : List Pair) → ArePairsFrom s runs (length runs) earlier last ps → ArePairsFrom s runs (length runs) earlier last qs → ps ≡ qs
+  same_pairs : (earlier : List Pair) (last : ℕ) (ps qs : List Pair) →
+      ArePairsFrom s runs (length runs) earlier last ps → ArePairsFrom s runs (length runs) earlier last qs → ps ≡ qs
   same_pairs earlier last [] [] a b = refl
-  same_pairs earlier last [] (q ∷ qs) a b = absurd (a q.opener q.closer b.0.forward b.0.eligible.in_container b.0.eligible)
-  same_pairs earlier last (p ∷ ps) [] a b = absurd (b p.opener p.closer a.0.forward a.0.eligible.in_container a.0.eligible)
+  same_pairs earlier last [] (q ∷ qs) a b =
+      absurd (a q.opener q.closer b.0.forward b.0.eligible.in_container b.0.eligible)
+  same_pairs earlier last (p ∷ ps) [] a b =
+      absurd (b p.opener p.closer a.0.forward a.0.eligible.in_container a.0.eligible)
   same_pairs earlier last (p ∷ ps) (q ∷ qs) a b =
       let e : p ≡ q = same_next earlier last p q a.0 b.0 in
       let rest : ArePairsFrom s runs (length runs) (earlier ++ p ∷ []) p.closer qs = subst (λ x. ArePairsFrom s runs (length runs) (earlier ++ x ∷ []) x.closer qs) (sym e) b.1 in
@@ -152,8 +157,10 @@ module _ (s : Setting) (runs : List Run) (earlier : List Pair) where
   below_or_last k n h = grind arith
 
   widened : (c n : ℕ) (r : Option ℕ) → is_eligible s runs earlier n c ≡ false → IsNearest c n r → IsNearest c (suc n) r
-  widened c n None e h = λ k below fits. ⊎_elim (λ less. h k less fits) (λ same. refused n c e (subst (λ x. Eligible x c) same fits)) (below_or_last k n below)
-  widened c n (Some o) e h = (h.0, λ k after below fits. ⊎_elim (λ less. h.1 k after less fits) (λ same. refused n c e (subst (λ x. Eligible x c) same fits)) (below_or_last k n below))
+  widened c n None e h =
+      λ k below fits. ⊎_elim (λ less. h k less fits) (λ same. refused n c e (subst (λ x. Eligible x c) same fits)) (below_or_last k n below)
+  widened c n (Some o) e h =
+      (h.0, λ k after below fits. ⊎_elim (λ less. h.1 k after less fits) (λ same. refused n c e (subst (λ x. Eligible x c) same fits)) (below_or_last k n below))
 
   nearest : (c n : ℕ) → IsNearest c n (opener_below s runs earlier c n)
   unfolding opener_below
@@ -173,8 +180,10 @@ module _ (s : Setting) (runs : List Run) (earlier : List Pair) where
   here_or_later : (c d : ℕ) → c ≤ d → (suc c ≤ d) ⊎ (c ≡ d)
   here_or_later c d h = grind arith
 
-  passed_over : (c n : ℕ) (r : Option Pair) → ((k : ℕ) → Eligible k c → ⊥) → IsLeftmost (suc c) n r → IsLeftmost c (suc n) r
-  passed_over c n None none h = λ o d from to fits. ⊎_elim (λ later. h o d later (omega arith) fits) (λ same. none o (subst (λ x. Eligible o x) (sym same) fits)) (here_or_later c d from)
+  passed_over : (c n : ℕ) (r : Option Pair) → ((k : ℕ) → Eligible k c → ⊥) → IsLeftmost (suc c) n r →
+      IsLeftmost c (suc n) r
+  passed_over c n None none h =
+      λ o d from to fits. ⊎_elim (λ later. h o d later (omega arith) fits) (λ same. none o (subst (λ x. Eligible o x) (sym same) fits)) (here_or_later c d from)
   passed_over c n (Some p) none h = record {
     eligible = h.eligible;
     size = h.size;
@@ -193,7 +202,8 @@ module _ (s : Setting) (runs : List Run) (earlier : List Pair) where
     where
       by_opener : (r : Option ℕ) → IsNearest c c r → IsLeftmost (suc c) n (next_pair_from s runs earlier (suc c) n)
           → IsLeftmost c (suc n) (elim r [ Some o ↦ Some (record { opener = o; closer = c; size = pair_size runs earlier o c }) | None ↦ next_pair_from s runs earlier (suc c) n ])
-      by_opener None h later = passed_over c n (next_pair_from s runs earlier (suc c) n) (λ k fits. h k fits.in_order fits) later
+      by_opener None h later =
+          passed_over c n (next_pair_from s runs earlier (suc c) n) (λ k fits. h k fits.in_order fits) later
       by_opener (Some o) h later = record {
         eligible = h.0;
         size = refl;
@@ -223,7 +233,8 @@ abbrev left_of : List Pair → List Run → ℕ → ℕ
 left_of earlier [] k = 0
 left_of earlier (r ∷ rs) k = (length r.codes - sum_by (taken_by k) earlier) + left_of earlier rs (suc k)
 
-left_after : (earlier : List Pair) (p : Pair) (rs : List Run) (k : ℕ) → left_of (earlier ++ p ∷ []) rs k ≤ left_of earlier rs k
+left_after : (earlier : List Pair) (p : Pair) (rs : List Run) (k : ℕ) →
+    left_of (earlier ++ p ∷ []) rs k ≤ left_of earlier rs k
 left_after earlier p [] k = omega arith
 left_after earlier p (r ∷ rs) k = omega (arith, sum_by_push (taken_by k) earlier p, left_after earlier p rs (suc k))
 
@@ -243,7 +254,8 @@ left_at_first : (rs : List Run) (k : ℕ) → left_of [] rs k ≤ sum_by (λ r. 
 left_at_first [] k = omega arith
 left_at_first (r ∷ rs) k = omega (arith, sum_by-cons (λ r. length r.codes) r rs, left_at_first rs (suc k))
 
-left_at_least : (earlier : List Pair) (rs : List Run) (k j i : ℕ) → i ≡ k + j → length (run_at rs j).codes - sum_by (taken_by i) earlier ≤ left_of earlier rs k
+left_at_least : (earlier : List Pair) (rs : List Run) (k j i : ℕ) → i ≡ k + j →
+    length (run_at rs j).codes - sum_by (taken_by i) earlier ≤ left_of earlier rs k
 left_at_least earlier [] k j i e = omega arith
 left_at_least earlier (r ∷ rs) k zero i e = subst (λ x. length r.codes - sum_by (taken_by x) earlier ≤ left_of earlier (r ∷ rs) k) (sym same) (omega arith)
   where
@@ -254,7 +266,8 @@ left_at_least earlier (r ∷ rs) k (suc j) i e = omega (arith, left_at_least ear
 -- Existence.
 
 module _ (s : Setting) (runs : List Run) where
-  are_pairs : (n : ℕ) (earlier : List Pair) (last : ℕ) → left_of earlier runs 0 ≤ n → ArePairsFrom s runs (length runs) earlier last (pairs_after s runs n earlier last)
+  are_pairs : (n : ℕ) (earlier : List Pair) (last : ℕ) → left_of earlier runs 0 ≤ n →
+      ArePairsFrom s runs (length runs) earlier last (pairs_after s runs n earlier last)
   unfolding pairs_after
   are_pairs zero earlier last bound = λ o c from to fits. none_left o fits.opener_left
     where

@@ -24,7 +24,8 @@ use Rattle.markdown_model.proofs.OneElementList.{text_elements, same_text_elemen
 use Rattle.markdown_model.proofs.OnePairList.{same_pair_list, some_pair_list}
 
 pub one_pair_list : OnePairList
-one_pair_list s runs = (some_pair_list s runs, λ pairs h. same_pair_list s runs pairs (pair_list s runs) h (some_pair_list s runs))
+one_pair_list s runs =
+    (some_pair_list s runs, λ pairs h. same_pair_list s runs pairs (pair_list s runs) h (some_pair_list s runs))
 
 pub one_element_list : OneElementList
 one_element_list s cs = (
@@ -36,11 +37,13 @@ one_element_list s cs = (
 
 the_text_tree : (s : Setting) (cs : List Code) → IsTextTree s cs (text_tree s cs)
 unfolding text_tree
-the_text_tree s cs = record { elements = elements_of s cs; pairs_of = pair_list s; are_elements = text_elements s cs; are_pairs = some_pair_list s; finished = refl }
+the_text_tree s cs =
+    record { elements = elements_of s cs; pairs_of = pair_list s; are_elements = text_elements s cs; are_pairs = some_pair_list s; finished = refl }
 
 the_string_tree : (s : Setting) (cs : List Code) → IsStringTree s cs (string_tree s cs)
 unfolding string_tree
-the_string_tree s cs = record { elements = string_elements_of s cs; are_elements = string_elements s cs; finished = refl }
+the_string_tree s cs =
+    record { elements = string_elements_of s cs; are_elements = string_elements s cs; finished = refl }
 
 same_text_tree : (s : Setting) (cs : List Code) (t u : Forest) → IsTextTree s cs t → IsTextTree s cs u → t ≡ u
 same_text_tree s cs t u a b = a.finished ∙ (λ i. finished_text s (pairs i) (elements i)) ∙ sym b.finished
@@ -52,7 +55,8 @@ same_text_tree s cs t u a b = a.finished ∙ (λ i. finished_text s (pairs i) (e
     pairs = fun_ext (λ runs. same_pair_list s runs (a.pairs_of runs) (b.pairs_of runs) (a.are_pairs runs) (b.are_pairs runs))
 
 same_string_tree : (s : Setting) (cs : List Code) (t u : Forest) → IsStringTree s cs t → IsStringTree s cs u → t ≡ u
-same_string_tree s cs t u a b = a.finished ∙ ap finished_string (same_string_elements s cs a.elements b.elements a.are_elements b.are_elements) ∙ sym b.finished
+same_string_tree s cs t u a b =
+    a.finished ∙ ap finished_string (same_string_elements s cs a.elements b.elements a.are_elements b.are_elements) ∙ sym b.finished
 
 pub one_tree : OneTree
 one_tree s cs = (
@@ -63,19 +67,24 @@ one_tree s cs = (
 -- Leaves.
 
 codes-of_elements : (s : Setting) (cs : List Code) → elements_codes 0 (elements_of s cs) ≡ cs
-codes-of_elements s cs = codes-elements (text_choice s cs) (λ earlier previous. covers_text_element s _ earlier previous) (elements_of s cs) [] None cs (text_elements s cs)
+codes-of_elements s cs =
+    codes-elements (text_choice s cs) (λ earlier previous. covers_text_element s _ earlier previous) (elements_of s cs) [] None cs (text_elements s cs)
 
 codes-of_string_elements : (s : Setting) (cs : List Code) → elements_codes 0 (string_elements_of s cs) ≡ cs
-codes-of_string_elements s cs = codes-elements (string_choice s) (λ earlier previous. covers_string_element s (unused earlier)) (string_elements_of s cs) [] None cs (string_elements s cs)
+codes-of_string_elements s cs =
+    codes-elements (string_choice s) (λ earlier previous. covers_string_element s (unused earlier)) (string_elements_of s cs) [] None cs (string_elements s cs)
 
-pub codes-finished_text : (s : Setting) (pairs_of : List Run → List Pair) (es : List Element) → leaf_codes (finished_text s pairs_of es) ≡ elements_codes 0 es
+pub codes-finished_text : (s : Setting) (pairs_of : List Run → List Pair) (es : List Element) →
+    leaf_codes (finished_text s pairs_of es) ≡ elements_codes 0 es
 unfolding finished_text raw_tree
 codes-finished_text s pairs_of es = by_test s.options.constructs.gfm_autolink_literal ∙ codes-trimmed _ true true _ ∙ codes-merged _ ∙ codes-paired s pairs_of _ ∙ codes-labels_of es
   where
     trimmed_tree : Forest
-    trimmed_tree = trimmed s.options.constructs.hard_break_trailing true true (merged (paired s pairs_of (labels_of es)))
+    trimmed_tree =
+        trimmed s.options.constructs.hard_break_trailing true true (merged (paired s pairs_of (labels_of es)))
 
-    by_test : (b : Bool) → leaf_codes (elim b [ true ↦ with_emails_apart trimmed_tree | false ↦ trimmed_tree ]) ≡ leaf_codes trimmed_tree
+    by_test : (b : Bool) →
+        leaf_codes (elim b [ true ↦ with_emails_apart trimmed_tree | false ↦ trimmed_tree ]) ≡ leaf_codes trimmed_tree
     by_test true = codes-mailed trimmed_tree
     by_test false = refl
 
@@ -93,10 +102,13 @@ leaves_cover s cs = (
 -- Events.
 
 -- the events of a row leave what is open as it was
-nest_before : (n : ℕ) (previous : Option ℕ) (tree : Forest) (outer : List Name) (more : List Event) → AreNestedIn outer more → AreNestedIn outer (events_from n previous tree ++ more)
+nest_before : (n : ℕ) (previous : Option ℕ) (tree : Forest) (outer : List Name) (more : List Event) →
+    AreNestedIn outer more → AreNestedIn outer (events_from n previous tree ++ more)
 nest_before n previous empty outer more h = h
-nest_before n previous (leaf_then name None codes rest) outer more h = (outer, refl, nest_before (n + 2) previous rest outer more h)
-nest_before n previous (leaf_then name (Some content) codes rest) outer more h = (outer, refl, nest_before (n + 2) (Some n) rest outer more h)
+nest_before n previous (leaf_then name None codes rest) outer more h =
+    (outer, refl, nest_before (n + 2) previous rest outer more h)
+nest_before n previous (leaf_then name (Some content) codes rest) outer more h =
+    (outer, refl, nest_before (n + 2) (Some n) rest outer more h)
 nest_before n previous (group_then name enter exit inside rest) outer more h =
     subst (λ es. AreNestedIn (name ∷ outer) es) (sym (append_assoc (events_from (n + 1) None inside) _ more))
     (nest_before (n + 1) None inside (name ∷ outer) _ (outer, refl, nest_before (n + 2 + event_count inside) previous rest outer more h))
@@ -122,7 +134,8 @@ one_end_of a h cs tree other rest more x y = (ap trees both, ap rests both, cove
     both : ◌≡◌ {A = Forest × List Code} (tree, rest) (other, more)
     both = ap read (sym x ∙ y)
 
-    covered : (r : Option (Forest × List Code)) → r ≡ Some (tree, rest) → At leaf_codes [] cs r → leaf_codes tree ++ rest ≡ cs
+    covered : (r : Option (Forest × List Code)) → r ≡ Some (tree, rest) → At leaf_codes [] cs r →
+        leaf_codes tree ++ rest ≡ cs
     covered r e k = subst (λ z. At leaf_codes [] cs z) e k
 
 pub one_end : OneEnd

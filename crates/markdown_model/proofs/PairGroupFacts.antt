@@ -26,7 +26,8 @@ module _ (P : Forest → Type 0) (IsMarker : List Code → Type 0) (plain : (cs 
     AllMarkers [] = Unit {0}
     AllMarkers (cs ∷ more) = IsMarker cs × AllMarkers more
 
-    cut-has : (sizes : List ℕ) (cs : List Code) → IsMarker cs → AllMarkers (cut_front sizes cs).0 × IsMarker (cut_front sizes cs).1
+    cut-has : (sizes : List ℕ) (cs : List Code) → IsMarker cs →
+        AllMarkers (cut_front sizes cs).0 × IsMarker (cut_front sizes cs).1
     cut-has [] cs h = (tt, h)
     cut-has (n ∷ ns) cs h =
         let p = parts n cs h in
@@ -55,7 +56,8 @@ module _ (P : Forest → Type 0) (IsMarker : List Code → Type 0) (plain : (cs 
   module _ (none : P empty) (row : (t u : Forest) → P t → P u → P (t ⊕ u)) (sequence : (m n : ℕ) (cs : List Code) → IsMarker cs → P (leaf (pair_names m n).1 cs))
       (whole : (m n : ℕ) (a b : Point) (f : Forest) → P f → P (group_then (pair_names m n).0 a b f empty))
       (text : (m n : ℕ) (a b : Point) (f : Forest) → P f → P (group_then (pair_names m n).2 a b f empty)) where
-    pair-has : (front : List Code) (inside : List Forest) (back : List Code) → IsMarker front → AllHave P inside → IsMarker back → AllHave P (pair_group front inside back)
+    pair-has : (front : List Code) (inside : List Forest) (back : List Code) → IsMarker front → AllHave P inside →
+        IsMarker back → AllHave P (pair_group front inside back)
     pair-has front inside back f h b = (
       whole m n _ _ (leaf names.1 front ⊕ T ⊕ leaf names.1 back)
           (row (leaf names.1 front) (T ⊕ leaf names.1 back) (sequence m n front f) (row T (leaf names.1 back) (text m n _ _ (joined inside) (joined-has P none row inside h)) (sequence m n back b))),

@@ -41,7 +41,9 @@ contains_first : (p : Pair) (ps : List Pair) (x : Pair) → Contains (p ∷ ps) 
 contains_first p ps x (zero, l, e) = inl e
 contains_first p ps x (suc k, l, e) = inr (k, omega arith, e)
 
-pub within_push : (earlier : List Pair) (p : Pair) (i : ℕ) → list_any (is_strictly_within i) (earlier ++ p ∷ []) ≡ false → (list_any (is_strictly_within i) earlier ≡ false) × (is_strictly_within i p ≡ false)
+pub within_push : (earlier : List Pair) (p : Pair) (i : ℕ) →
+    list_any (is_strictly_within i) (earlier ++ p ∷ []) ≡ false →
+    (list_any (is_strictly_within i) earlier ≡ false) × (is_strictly_within i p ≡ false)
 within_push earlier p i h =
     let parts = or_parts (list_any (is_strictly_within i) earlier) (is_strictly_within i p || false) (sym (list_any-append (is_strictly_within i) earlier (p ∷ [])) ∙ h) in
     (parts.0, (or_parts (is_strictly_within i p) false parts.1).0)
@@ -76,7 +78,8 @@ module _ (s : Setting) (runs : List Run) (end : ℕ) where
 
   taken : (earlier : List Pair) (last : ℕ) (ps : List Pair) (i : ℕ) → ArePairsFrom s runs end earlier last ps
       → sum_by (taken_by i) earlier ≤ length (run_at runs i).codes → sum_by (taken_by i) (earlier ++ ps) ≤ length (run_at runs i).codes
-  taken earlier last [] i h b = subst (λ x. sum_by (taken_by i) x ≤ length (run_at runs i).codes) (sym (append-nil earlier)) b
+  taken earlier last [] i h b =
+      subst (λ x. sum_by (taken_by i) x ≤ length (run_at runs i).codes) (sym (append-nil earlier)) b
   taken earlier last (p ∷ ps) i h b =
       subst (λ x. sum_by (taken_by i) x ≤ length (run_at runs i).codes) (append_assoc earlier (p ∷ []) ps)
       (taken (earlier ++ p ∷ []) p.closer ps i h.1 (more_taken earlier last p i h.0 b))
@@ -121,7 +124,8 @@ module _ (s : Setting) (runs : List Run) (end : ℕ) where
         ]
       ]
 
-  all_take : (earlier : List Pair) (last : ℕ) (ps : List Pair) → ArePairsFrom s runs end earlier last ps → AllTake (length runs) ps
+  all_take : (earlier : List Pair) (last : ℕ) (ps : List Pair) → ArePairsFrom s runs end earlier last ps →
+      AllTake (length runs) ps
   all_take earlier last [] h = tt
   all_take earlier last (p ∷ ps) h = ((some_taken, h.0.eligible.in_order, h.0.eligible.in_container), all_take (earlier ++ p ∷ []) p.closer ps h.1)
     where
@@ -141,9 +145,11 @@ abbrev total : List Pair → List Run → ℕ → ℕ
 total pairs [] k = 0
 total pairs (r ∷ rs) k = sum_by (taken_by k) pairs + total pairs rs (suc k)
 
-total_first : (p : Pair) (ps : List Pair) (rs : List Run) (k : ℕ) → total (p ∷ ps) rs k ≡ total (p ∷ []) rs k + total ps rs k
+total_first : (p : Pair) (ps : List Pair) (rs : List Run) (k : ℕ) →
+    total (p ∷ ps) rs k ≡ total (p ∷ []) rs k + total ps rs k
 total_first p ps [] k = omega arith
-total_first p ps (r ∷ rs) k = omega (arith, sum_by-cons (taken_by k) p ps, sum_by-cons (taken_by k) p [], total_first p ps rs (suc k))
+total_first p ps (r ∷ rs) k =
+    omega (arith, sum_by-cons (taken_by k) p ps, sum_by-cons (taken_by k) p [], total_first p ps rs (suc k))
 
 one_run : (p : Pair) (rs : List Run) (k j i : ℕ) → i ≡ k + j → j < length rs → taken_by i p ≤ total (p ∷ []) rs k
 one_run p [] k j i e h = absurd (omega arith)
@@ -154,7 +160,8 @@ one_run p (r ∷ rs) k zero i e h =
     same = omega arith
 one_run p (r ∷ rs) k (suc j) i e h = omega (arith, one_run p rs (suc k) j i (omega arith) (omega arith))
 
-two_runs : (p : Pair) (rs : List Run) (k a b i j : ℕ) → i ≡ k + a → j ≡ k + b → a < b → b < length rs → taken_by i p + taken_by j p ≤ total (p ∷ []) rs k
+two_runs : (p : Pair) (rs : List Run) (k a b i j : ℕ) → i ≡ k + a → j ≡ k + b → a < b → b < length rs →
+    taken_by i p + taken_by j p ≤ total (p ∷ []) rs k
 two_runs p [] k a b i j e f h l = absurd (omega arith)
 two_runs p (r ∷ rs) k zero zero i j e f h l = absurd (omega arith)
 two_runs p (r ∷ rs) k zero (suc b) i j e f h l =
@@ -163,7 +170,8 @@ two_runs p (r ∷ rs) k zero (suc b) i j e f h l =
     same : i ≡ k
     same = omega arith
 two_runs p (r ∷ rs) k (suc a) zero i j e f h l = absurd (omega arith)
-two_runs p (r ∷ rs) k (suc a) (suc b) i j e f h l = omega (arith, two_runs p rs (suc k) a b i j (omega arith) (omega arith) (omega arith) (omega arith))
+two_runs p (r ∷ rs) k (suc a) (suc b) i j e f h l =
+    omega (arith, two_runs p rs (suc k) a b i j (omega arith) (omega arith) (omega arith) (omega arith))
 
 two_each : (ps : List Pair) (runs : List Run) → AllTake (length runs) ps → 2 * length ps ≤ total ps runs 0
 two_each [] runs h = omega arith
@@ -228,11 +236,13 @@ module _ (s other : Setting) (reads : ReadsPairsAlike s other) (runs others : Li
   same_ruled : (earlier : List Pair) (i : ℕ) → ruled_size s runs earlier i ≡ ruled_size other others earlier i
   same_ruled earlier i = λ k. if reads.lengths k then same_size i k else same_remaining earlier i k
 
-  same_three : (earlier : List Pair) (o c : ℕ) → is_refused_by_three s runs earlier o c ≡ is_refused_by_three other others earlier o c
+  same_three : (earlier : List Pair) (o c : ℕ) →
+      is_refused_by_three s runs earlier o c ≡ is_refused_by_three other others earlier o c
   same_three earlier o c = λ k.
       (same_close o k || same_open c k) && (not (same_ruled earlier c k % 3 == 0) && (same_ruled earlier o k + same_ruled earlier c k) % 3 == 0)
 
-  same_tilde : (earlier : List Pair) (o c : ℕ) → is_refused_as_tilde s runs earlier o c ≡ is_refused_as_tilde other others earlier o c
+  same_tilde : (earlier : List Pair) (o c : ℕ) →
+      is_refused_as_tilde s runs earlier o c ≡ is_refused_as_tilde other others earlier o c
   same_tilde earlier o c = λ k.
       same_marker o k == byte "~"
       && not (same_remaining earlier o k == same_remaining earlier c k
@@ -264,8 +274,10 @@ moved_next s other reads runs others alike earlier last p h = record {
 
 moved_pairs : (s other : Setting) → ReadsPairsAlike s other → (runs others : List Run) → map shape_of runs ≡ map shape_of others → (end : ℕ) (earlier : List Pair) (last : ℕ) (ps : List Pair)
     → ArePairsFrom s runs end earlier last ps → ArePairsFrom other others end earlier last ps
-moved_pairs s other reads runs others alike end earlier last [] h = λ o c from to fits. h o c from to (moved other s (read_back s other reads) others runs (sym alike) earlier o c fits)
-moved_pairs s other reads runs others alike end earlier last (p ∷ ps) h = (moved_next s other reads runs others alike earlier last p h.0, moved_pairs s other reads runs others alike end (earlier ++ p ∷ []) p.closer ps h.1)
+moved_pairs s other reads runs others alike end earlier last [] h =
+    λ o c from to fits. h o c from to (moved other s (read_back s other reads) others runs (sym alike) earlier o c fits)
+moved_pairs s other reads runs others alike end earlier last (p ∷ ps) h =
+    (moved_next s other reads runs others alike earlier last p h.0, moved_pairs s other reads runs others alike end (earlier ++ p ∷ []) p.closer ps h.1)
 
 pub pairs_are_local : PairsAreLocal
 pairs_are_local s other runs others pairs reads alike h =

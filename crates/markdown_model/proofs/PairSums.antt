@@ -13,7 +13,8 @@ use Rattle.markdown_model.proofs.BracketSums.{Adds, sum_of, sum-joined, sum-nest
 
 cut_front-append : (ns : List ℕ) (cs : List Code) → joined_codes (cut_front ns cs).0 ++ (cut_front ns cs).1 ≡ cs
 cut_front-append [] cs = refl
-cut_front-append (n ∷ ns) cs = append_assoc (take n cs) (joined_codes (cut_front ns (drop n cs)).0) (cut_front ns (drop n cs)).1 ∙ ap (λ x. take n cs ++ x) (cut_front-append ns (drop n cs)) ∙ take-append-drop n cs
+cut_front-append (n ∷ ns) cs =
+    append_assoc (take n cs) (joined_codes (cut_front ns (drop n cs)).0) (cut_front ns (drop n cs)).1 ∙ ap (λ x. take n cs ++ x) (cut_front-append ns (drop n cs)) ∙ take-append-drop n cs
 
 cut_front_all : (ns : List ℕ) (cs : List Code) → length cs ≤ sum_by (λ n. n) ns → (cut_front ns cs).1 ≡ []
 cut_front_all [] [] h = refl
@@ -29,9 +30,12 @@ module _ {M : Type 0} (m : Adds M) (marks : List Code → M) (sum-data : (cs : L
 
   pub token-append : (w v : List Token) → token_sum (w ++ v) ≡ m.plus (token_sum w) (token_sum v)
   token-append [] v = sym (m.left (token_sum v))
-  token-append (item f ∷ w) v = ap (m.plus (m.of f)) (token-append w v) ∙ sym (m.assoc (m.of f) (token_sum w) (token_sum v))
-  token-append (opens o ∷ w) v = ap (m.plus (marks o)) (token-append w v) ∙ sym (m.assoc (marks o) (token_sum w) (token_sum v))
-  token-append (closes c ∷ w) v = ap (m.plus (marks c)) (token-append w v) ∙ sym (m.assoc (marks c) (token_sum w) (token_sum v))
+  token-append (item f ∷ w) v =
+      ap (m.plus (m.of f)) (token-append w v) ∙ sym (m.assoc (m.of f) (token_sum w) (token_sum v))
+  token-append (opens o ∷ w) v =
+      ap (m.plus (marks o)) (token-append w v) ∙ sym (m.assoc (marks o) (token_sum w) (token_sum v))
+  token-append (closes c ∷ w) v =
+      ap (m.plus (marks c)) (token-append w v) ∙ sym (m.assoc (marks c) (token_sum w) (token_sum v))
 
   pub sum-loose : (cs : List Code) → sum_of m (loose cs) ≡ marks cs
   sum-loose cs = m.right _ ∙ sum-data cs
@@ -45,7 +49,8 @@ module _ {M : Type 0} (m : Adds M) (marks : List Code → M) (sum-data : (cs : L
 
   pub sum-assembled : ((front : List Code) (inside : List Forest) (back : List Code) → sum_of m (pair_group front inside back) ≡ m.plus (marks front) (m.plus (sum_of m inside) (marks back)))
       → (w : List Token) → m.of (assembled w) ≡ token_sum w
-  sum-assembled group w = sum-joined m (nested pair_group loose loose w) ∙ sum-nested m pair_group loose loose marks marks group sum-loose w ∙ word-token zero w
+  sum-assembled group w =
+      sum-joined m (nested pair_group loose loose w) ∙ sum-nested m pair_group loose loose marks marks group sum-loose w ∙ word-token zero w
 
   -- A run's tokens are its markers, whatever the pairs.
   module _ (marks-none : marks [] ≡ m.none) (marks-both : (xs ys : List Code) → marks (xs ++ ys) ≡ m.plus (marks xs) (marks ys)) where

@@ -27,7 +27,8 @@ codes-data_onto cs rest = refl
 pub codes-merged : (f : Forest) → leaf_codes (merged f) ≡ leaf_codes f
 unfolding merged
 codes-merged empty = refl
-codes-merged (leaf_then Name.Data None cs rest) = codes-data_onto cs (merged rest) ∙ ap (λ x. cs ++ x) (codes-merged rest)
+codes-merged (leaf_then Name.Data None cs rest) =
+    codes-data_onto cs (merged rest) ∙ ap (λ x. cs ++ x) (codes-merged rest)
 codes-merged (leaf_then name link cs rest) = ap (λ x. cs ++ x) (codes-merged rest)
 codes-merged (group_then name enter exit inside rest) = λ i. codes-merged inside i ++ codes-merged rest i
 
@@ -37,7 +38,8 @@ abbrev cut_back : Bool → List Code → List Code × List Code
 cut_back back cs = elim back [ true ↦ span is_blank (reverse cs) | false ↦ ([], reverse cs) ]
 
 cut_back-append : (back : Bool) (cs : List Code) → reverse (cut_back back cs).1 ++ reverse (cut_back back cs).0 ≡ cs
-cut_back-append true cs = sym (reverse-append (span is_blank (reverse cs)).0 (span is_blank (reverse cs)).1) ∙ ap reverse (span-append is_blank (reverse cs)) ∙ reverse-reverse cs
+cut_back-append true cs =
+    sym (reverse-append (span is_blank (reverse cs)).0 (span is_blank (reverse cs)).1) ∙ ap reverse (span-append is_blank (reverse cs)) ∙ reverse-reverse cs
 cut_back-append false cs = append-nil (reverse (reverse cs)) ∙ reverse-reverse cs
 
 abbrev cut_lead : Bool → List Code → List Code × List Code
@@ -47,7 +49,8 @@ cut_lead-append : (front : Bool) (cs : List Code) → (cut_lead front cs).0 ++ (
 cut_lead-append true cs = span-append is_blank cs
 cut_lead-append false cs = refl
 
-pub codes-three : (a b c : Name) (xs ys zs : List Code) → leaf_codes (leaf a xs ⊕ leaf b ys ⊕ leaf c zs) ≡ (xs ++ ys) ++ zs
+pub codes-three : (a b c : Name) (xs ys zs : List Code) →
+    leaf_codes (leaf a xs ⊕ leaf b ys ⊕ leaf c zs) ≡ (xs ++ ys) ++ zs
 codes-three a b c xs ys zs =
     leaf_codes-row (leaf a xs) (leaf b ys ⊕ leaf c zs)
     ∙ (λ i. codes-leaf a xs i ++ (leaf_codes-row (leaf b ys) (leaf c zs) ∙ (λ j. codes-leaf b ys j ++ codes-leaf c zs j)) i)
@@ -66,23 +69,27 @@ codes-trimmed hard front whole empty = refl
 codes-trimmed hard front whole (leaf_then Name.Data None cs rest) =
     leaf_codes-row (trimmed_data front (begins_line_ending rest || (whole && is_nothing rest)) (hard && begins_line_ending rest) cs) (trimmed hard false whole rest)
     ∙ (λ i. codes-trimmed_data front (begins_line_ending rest || (whole && is_nothing rest)) (hard && begins_line_ending rest) cs i ++ codes-trimmed hard false whole rest i)
-codes-trimmed hard front whole (leaf_then Name.LineEnding link cs rest) = ap (λ x. cs ++ x) (codes-trimmed hard true whole rest)
+codes-trimmed hard front whole (leaf_then Name.LineEnding link cs rest) =
+    ap (λ x. cs ++ x) (codes-trimmed hard true whole rest)
 codes-trimmed hard front whole (leaf_then name link cs rest) = ap (λ x. cs ++ x) (codes-trimmed hard false whole rest)
-codes-trimmed hard front whole (group_then name enter exit inside rest) = λ i. codes-trimmed hard false false inside i ++ codes-trimmed hard false whole rest i
+codes-trimmed hard front whole (group_then name enter exit inside rest) =
+    λ i. codes-trimmed hard false false inside i ++ codes-trimmed hard false whole rest i
 
 -- Emails.
 
 pub codes-mailed : (f : Forest) → leaf_codes (with_emails_apart f) ≡ leaf_codes f
 unfolding with_emails_apart
 codes-mailed empty = refl
-codes-mailed (leaf_then Name.Data None cs rest) = leaf_codes-row (with_emails cs) (with_emails_apart rest) ∙ (λ i. codes-with_emails cs i ++ codes-mailed rest i)
+codes-mailed (leaf_then Name.Data None cs rest) =
+    leaf_codes-row (with_emails cs) (with_emails_apart rest) ∙ (λ i. codes-with_emails cs i ++ codes-mailed rest i)
 codes-mailed (leaf_then name link cs rest) = ap (λ x. cs ++ x) (codes-mailed rest)
 codes-mailed (group_then Name.Link enter exit inside rest) = ap (λ x. leaf_codes inside ++ x) (codes-mailed rest)
 codes-mailed (group_then name enter exit inside rest) = λ i. codes-mailed inside i ++ codes-mailed rest i
 
 -- Pairs.
 
-pub codes-pair_group : (front : List Code) (inside : List Forest) (back : List Code) → codes_of_all (pair_group front inside back) ≡ front ++ (codes_of_all inside ++ back)
+pub codes-pair_group : (front : List Code) (inside : List Forest) (back : List Code) →
+    codes_of_all (pair_group front inside back) ≡ front ++ (codes_of_all inside ++ back)
 codes-pair_group front inside back =
     append-nil _ ∙ append-nil _
     ∙ leaf_codes-row (leaf (pair_names (marker_of front) (length front)).1 front) _
@@ -106,7 +113,8 @@ codes-run_of s [] = refl
 codes-run_of s (c ∷ cs) = refl
 
 module _ (s : Setting) (pairs_of : List Run → List Pair) where
-  pub codes-tokens_of : (f : Forest) (pairs : List Pair) (n : ℕ) → token_codes (tokens_of s pairs_of f pairs n) ≡ leaf_codes f
+  pub codes-tokens_of : (f : Forest) (pairs : List Pair) (n : ℕ) →
+      token_codes (tokens_of s pairs_of f pairs n) ≡ leaf_codes f
   unfolding tokens_of
   codes-tokens_of empty pairs n = refl
   codes-tokens_of (leaf_then Name.AttentionSequence link cs rest) pairs n =
@@ -118,4 +126,5 @@ module _ (s : Setting) (pairs_of : List Run → List Pair) where
 
   pub codes-paired : (f : Forest) → leaf_codes (paired s pairs_of f) ≡ leaf_codes f
   unfolding paired
-  codes-paired f = codes-assembled (tokens_of s pairs_of f (pairs_of (runs_of s f)) 0) ∙ codes-tokens_of f (pairs_of (runs_of s f)) 0
+  codes-paired f =
+      codes-assembled (tokens_of s pairs_of f (pairs_of (runs_of s f)) 0) ∙ codes-tokens_of f (pairs_of (runs_of s f)) 0

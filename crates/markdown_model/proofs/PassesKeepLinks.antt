@@ -47,7 +47,8 @@ unfolding merged
 holds-merged empty = refl
 holds-merged (leaf_then Name.Data None cs rest) = holds-data_onto cs (merged rest) ∙ holds-merged rest
 holds-merged (leaf_then name link cs rest) = holds-merged rest
-holds-merged (group_then name enter exit inside rest) = λ i. is_link name || (holds-merged inside i || holds-merged rest i)
+holds-merged (group_then name enter exit inside rest) =
+    λ i. is_link name || (holds-merged inside i || holds-merged rest i)
 
 pub apart-merged : (f : Forest) → AreApart f → AreApart (merged f)
 apart-merged f h = walks-merged apart (λ cs ds _ _. tt) (λ name a b inside _ g e. holds-merged inside ∙ g e) f h
@@ -66,7 +67,8 @@ module _ (hard : Bool) where
       ∙ (λ i. holds-trimmed_data front (begins_line_ending rest || (whole && is_nothing rest)) (hard && begins_line_ending rest) cs i || holds-trimmed false whole rest i)
   holds-trimmed front whole (leaf_then Name.LineEnding link cs rest) = holds-trimmed true whole rest
   holds-trimmed front whole (leaf_then name link cs rest) = holds-trimmed false whole rest
-  holds-trimmed front whole (group_then name enter exit inside rest) = λ i. is_link name || (holds-trimmed false false inside i || holds-trimmed false whole rest i)
+  holds-trimmed front whole (group_then name enter exit inside rest) =
+      λ i. is_link name || (holds-trimmed false false inside i || holds-trimmed false whole rest i)
 
   pub apart-trimmed : (front whole : Bool) (f : Forest) → AreApart f → AreApart (trimmed hard front whole f)
   apart-trimmed front whole f h =
@@ -75,18 +77,22 @@ module _ (hard : Bool) where
 -- Emails.
 
 free_with_emails : (cs : List Code) → holds_link (with_emails cs) ≡ false
-free_with_emails cs = with_emails-has IsFree (λ t u h k. holds-join t u ∙ (λ i. h i || k i)) (holds-leaf Name.Data) (λ before ds. holds-leaf _ ds) cs
+free_with_emails cs =
+    with_emails-has IsFree (λ t u h k. holds-join t u ∙ (λ i. h i || k i)) (holds-leaf Name.Data) (λ before ds. holds-leaf _ ds) cs
 
 holds-mailed : (f : Forest) → holds_link (with_emails_apart f) ≡ holds_link f
 unfolding with_emails_apart
 holds-mailed empty = refl
-holds-mailed (leaf_then Name.Data None cs rest) = holds-join (with_emails cs) (with_emails_apart rest) ∙ (λ i. free_with_emails cs i || holds-mailed rest i)
+holds-mailed (leaf_then Name.Data None cs rest) =
+    holds-join (with_emails cs) (with_emails_apart rest) ∙ (λ i. free_with_emails cs i || holds-mailed rest i)
 holds-mailed (leaf_then name link cs rest) = holds-mailed rest
 holds-mailed (group_then Name.Link enter exit inside rest) = refl
-holds-mailed (group_then name enter exit inside rest) = λ i. is_link name || (holds-mailed inside i || holds-mailed rest i)
+holds-mailed (group_then name enter exit inside rest) =
+    λ i. is_link name || (holds-mailed inside i || holds-mailed rest i)
 
 pub apart-mailed : (f : Forest) → AreApart f → AreApart (with_emails_apart f)
-apart-mailed f h = walks-mailed apart (λ cs _. free-apart (with_emails cs) (free_with_emails cs)) (λ name a b inside _ g e. holds-mailed inside ∙ g e) f h
+apart-mailed f h =
+    walks-mailed apart (λ cs _. free-apart (with_emails cs) (free_with_emails cs)) (λ name a b inside _ g e. holds-mailed inside ∙ g e) f h
 
 -- Rows of rows.
 
@@ -123,14 +129,16 @@ pair_row front inside back =
     ⊕ text_group (pair_names (marker_of front) (length front)).2 (stop_of document_start front) (start_of back) (joined inside)
     ⊕ leaf (pair_names (marker_of front) (length front)).1 back
 
-holds-pair_row : (front : List Code) (inside : List Forest) (back : List Code) → holds_link (pair_row front inside back) ≡ any_holds inside
+holds-pair_row : (front : List Code) (inside : List Forest) (back : List Code) →
+    holds_link (pair_row front inside back) ≡ any_holds inside
 holds-pair_row front inside back =
     holds-join (leaf (pair_names (marker_of front) (length front)).1 front) _
     ∙ (λ i. holds-leaf (pair_names (marker_of front) (length front)).1 front i
     || (no_link_text (marker_of front) (length front) i || (sum-joined holds_add inside i || holds-leaf (pair_names (marker_of front) (length front)).1 back i)))
     ∙ or-false (any_holds inside)
 
-holds-pair_group : (front : List Code) (inside : List Forest) (back : List Code) → any_holds (pair_group front inside back) ≡ any_holds inside
+holds-pair_group : (front : List Code) (inside : List Forest) (back : List Code) →
+    any_holds (pair_group front inside back) ≡ any_holds inside
 holds-pair_group front inside back =
     or-false _ ∙ (λ i. no_link_pair (marker_of front) (length front) i || or-false (holds_link (pair_row front inside back)) i) ∙ holds-pair_row front inside back
 
@@ -145,7 +153,8 @@ abbrev token_holds : List Token → Bool
 token_holds ts = token_sum holds_add none_held (holds-leaf Name.Data) ts
 
 holds-assembled : (ts : List Token) → holds_link (assembled ts) ≡ token_holds ts
-holds-assembled ts = sum-assembled holds_add none_held (holds-leaf Name.Data) (λ front inside back. holds-pair_group front inside back ∙ sym (or-false (any_holds inside))) ts
+holds-assembled ts =
+    sum-assembled holds_add none_held (holds-leaf Name.Data) (λ front inside back. holds-pair_group front inside back ∙ sym (or-false (any_holds inside))) ts
 
 abbrev TokensApart : List Token → Type 0
 TokensApart ts = HasWord AreApart Any (λ cs _. apart-leaf Name.Data cs) ts
@@ -156,7 +165,8 @@ apart-assembled ts h =
     (λ m n a b f k. ((λ e. absurd (both_ways _ (no_link_text m n) e)), k, tt)) ts h
 
 module _ (s : Setting) (pairs_of : List Run → List Pair) where
-  holds-tokens_of : (f : Forest) (pairs : List Pair) (n : ℕ) → token_holds (tokens_of s pairs_of f pairs n) ≡ holds_link f
+  holds-tokens_of : (f : Forest) (pairs : List Pair) (n : ℕ) →
+      token_holds (tokens_of s pairs_of f pairs n) ≡ holds_link f
   unfolding tokens_of
   holds-tokens_of empty pairs n = refl
   holds-tokens_of (leaf_then Name.AttentionSequence link cs rest) pairs n =
@@ -185,4 +195,5 @@ module _ (s : Setting) (pairs_of : List Run → List Pair) where
 
   pub apart-paired : (f : Forest) → AreApart f → AreApart (paired s pairs_of f)
   unfolding paired
-  apart-paired f h = apart-assembled (tokens_of s pairs_of f (pairs_of (runs_of s f)) 0) (apart-tokens_of f (pairs_of (runs_of s f)) 0 h)
+  apart-paired f h =
+      apart-assembled (tokens_of s pairs_of f (pairs_of (runs_of s f)) 0) (apart-tokens_of f (pairs_of (runs_of s f)) 0 h)

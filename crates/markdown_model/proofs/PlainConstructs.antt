@@ -88,7 +88,8 @@ pub record ReadsPlain (bytes : List ℕ) (a : Reading Forest) : Type 0 where
 
 -- so it takes a code at least
 
-pub leaves-some : (bytes : List ℕ) (t : Forest) → Leaves (IsOwnLeaf bytes) t → is_nothing t ≡ false → 1 ≤ length (leaf_codes t)
+pub leaves-some : (bytes : List ℕ) (t : Forest) → Leaves (IsOwnLeaf bytes) t → is_nothing t ≡ false →
+    1 ≤ length (leaf_codes t)
 leaves-some bytes empty h e = cc
 leaves-some bytes (leaf_then name link [] rest) h e = absurd (h.0.some refl)
 leaves-some bytes (leaf_then name link (c ∷ cs) rest) h e = omega (arith)
@@ -98,22 +99,28 @@ plain-some : (bytes : List ℕ) (t : Forest) → IsPlainTree bytes t → 1 ≤ l
 plain-some bytes empty h = absurd h
 plain-some bytes (leaf_then name link [] rest) h = absurd (h.0.some refl)
 plain-some bytes (leaf_then name link (c ∷ cs) rest) h = omega (arith)
-plain-some bytes (group_then name enter exit inside rest) h = omega (arith, leaves-some bytes inside h.0.leaves h.0.some, length-append (leaf_codes inside) (leaf_codes rest))
+plain-some bytes (group_then name enter exit inside rest) h =
+    omega (arith, leaves-some bytes inside h.0.leaves h.0.some, length-append (leaf_codes inside) (leaf_codes rest))
 
 pub plain-takes : (bytes : List ℕ) (a : Reading Forest) → ReadsPlain bytes a → Consumes 1 a
 plain-takes bytes a h = record { at = λ cs. by_answer cs (a cs) (h.covers.at cs) (h.plain.at cs) }
   where
-    by_answer : (cs : List Code) (r : Option (Forest × List Code)) → At leaf_codes [] cs r → Passes (IsPlainTree bytes) r → Left 1 cs r
+    by_answer : (cs : List Code) (r : Option (Forest × List Code)) → At leaf_codes [] cs r →
+        Passes (IsPlainTree bytes) r → Left 1 cs r
     by_answer cs None k p = tt
     by_answer cs (Some x) k p = omega (arith, plain-some bytes x.0 p, length-append (leaf_codes x.0) x.1, ap length k)
 
 -- Readings by a switch, and one after the other.
 
-pub reads_switched : (bytes : List ℕ) (on : Bool) (a : Reading Forest) → ReadsPlain bytes a → ReadsPlain bytes (provided on >> a)
-reads_switched bytes on a h = record { covers = if_passed leaf_codes [] on a h.covers; plain = yields_passed (IsPlainTree bytes) on a h.plain }
+pub reads_switched : (bytes : List ℕ) (on : Bool) (a : Reading Forest) → ReadsPlain bytes a →
+    ReadsPlain bytes (provided on >> a)
+reads_switched bytes on a h =
+    record { covers = if_passed leaf_codes [] on a h.covers; plain = yields_passed (IsPlainTree bytes) on a h.plain }
 
-pub reads_either : (bytes : List ℕ) (a b : Reading Forest) → ReadsPlain bytes a → ReadsPlain bytes b → ReadsPlain bytes (either a b)
-reads_either bytes a b h k = record { covers = one_of leaf_codes [] a b h.covers k.covers; plain = yields_either (IsPlainTree bytes) a b h.plain k.plain }
+pub reads_either : (bytes : List ℕ) (a b : Reading Forest) → ReadsPlain bytes a → ReadsPlain bytes b →
+    ReadsPlain bytes (either a b)
+reads_either bytes a b h k =
+    record { covers = one_of leaf_codes [] a b h.covers k.covers; plain = yields_either (IsPlainTree bytes) a b h.plain k.plain }
 
 -- Leaves and groups.
 
@@ -129,8 +136,10 @@ module _ (bytes : List ℕ) where
   row : (t u : Forest) → Row t → Row u → Row (t ⊕ u)
   row t u h k = leaves-row (IsOwnLeaf bytes) t u h k
 
-  own-leaf : (name : Name) (cs : List Code) → is_leaf_name name ≡ true → (cs ≢ [] → AreSpaced bytes cs → IsOnLine cs) → Row (leaf name cs)
-  own-leaf name cs n h = leaves-leaf (IsOwnLeaf bytes) name cs (λ some. record { named = n; unlinked = refl; some = some; line = h some })
+  own-leaf : (name : Name) (cs : List Code) → is_leaf_name name ≡ true → (cs ≢ [] → AreSpaced bytes cs → IsOnLine cs) →
+      Row (leaf name cs)
+  own-leaf name cs n h =
+      leaves-leaf (IsOwnLeaf bytes) name cs (λ some. record { named = n; unlinked = refl; some = some; line = h some })
 
   -- over one code, and over codes of a line
   one-leaf : (name : Name) (cs : List Code) → is_leaf_name name ≡ true → IsOne cs → Row (leaf name cs)
@@ -148,7 +157,8 @@ module _ (bytes : List ℕ) where
   group-alone : (name n : Name) (cs : List Code) (more : Forest) → is_group_name name ≡ true → cs ≢ [] → Row (leaf n cs)
       → Row more → IsPlainTree bytes (group name (leaf n cs ⊕ more))
   group-alone name n [] more g some h k = absurd (some refl)
-  group-alone name n (c ∷ cs) more g some h k = (record { named = g; some = refl; enters = refl; exits = refl; leaves = (h.0, k) }, refl)
+  group-alone name n (c ∷ cs) more g some h k =
+      (record { named = g; some = refl; enters = refl; exits = refl; leaves = (h.0, k) }, refl)
 
   -- or one over one code
   marked : (name n : Name) (cs : List Code) (more : Forest) → is_group_name name ≡ true → is_leaf_name n ≡ true
@@ -243,7 +253,8 @@ module _ (bytes : List ℕ) where
 
 scheme-line : Yields IsLine scheme
 unfolding scheme
-scheme-line = yields_bind IsLine _ _ _ (then-line _ _ (some-any _ (one-line _ λ c. refl)) (some-any _ (some-line _ λ c. refl))) λ text h. yields_passed _ _ _ (yields_gives _ _ h)
+scheme-line =
+    yields_bind IsLine _ _ _ (then-line _ _ (some-any _ (one-line _ λ c. refl)) (some-any _ (some-line _ λ c. refl))) λ text h. yields_passed _ _ _ (yields_gives _ _ h)
 
 label-line : Yields IsLine domain_label
 unfolding domain_label
@@ -272,7 +283,8 @@ module _ (bytes : List ℕ) where
 
   pub reads_autolink : ReadsPlain bytes autolink
   unfolding autolink
-  reads_autolink = reads_either bytes _ _ (reads_in_angle_brackets uri Name.AutolinkProtocol refl takes_uri uri-line) (reads_in_angle_brackets email_address Name.AutolinkEmail refl takes_email_address email-line)
+  reads_autolink =
+      reads_either bytes _ _ (reads_in_angle_brackets uri Name.AutolinkProtocol refl takes_uri uri-line) (reads_in_angle_brackets email_address Name.AutolinkEmail refl takes_email_address email-line)
 
 -- Spans.
 
@@ -284,7 +296,8 @@ marked-line p skips [] h e = refl
 marked-line p skips (c ∷ []) h e = ap (λ b. b || false) (not-ending p skips c e)
 marked-line p skips (c ∷ d ∷ cs) h e = h
 
-closing-lined : (p : Code → Bool) → Skips p → (n : ℕ) (ss : List (List Code)) → AreFine ss → Passes IsClosed (closing_run p n ss)
+closing-lined : (p : Code → Bool) → Skips p → (n : ℕ) (ss : List (List Code)) → AreFine ss →
+    Passes IsClosed (closing_run p n ss)
 unfolding closing_run
 closing-lined p skips n [] h = tt
 closing-lined p skips n (s ∷ ss) h = by_test (next_is p s) (length s == n) refl (closing-lined p skips n ss h.1)
@@ -329,15 +342,18 @@ module _ (bytes : List ℕ) where
 
   pub reads_code_text : (allowed : ℕ → Bool) (escaped : Bool) (previous : Option Code)
       → ReadsPlain bytes (span_here (byte "`") code_names allowed escaped previous)
-  reads_code_text allowed escaped previous = reads_span (byte "`") code_names allowed escaped previous (record { whole = refl; sequence = refl; text = refl }) (λ c. refl)
+  reads_code_text allowed escaped previous =
+      reads_span (byte "`") code_names allowed escaped previous (record { whole = refl; sequence = refl; text = refl }) (λ c. refl)
 
   pub reads_math_text : (allowed : ℕ → Bool) (escaped : Bool) (previous : Option Code)
       → ReadsPlain bytes (span_here (byte "$") math_names allowed escaped previous)
-  reads_math_text allowed escaped previous = reads_span (byte "$") math_names allowed escaped previous (record { whole = refl; sequence = refl; text = refl }) (λ c. refl)
+  reads_math_text allowed escaped previous =
+      reads_span (byte "$") math_names allowed escaped previous (record { whole = refl; sequence = refl; text = refl }) (λ c. refl)
 
   -- HTML, each kind of which begins with a word.
 
-  html-around : (text : List Code) → text ≢ [] → IsPlainTree bytes (group Name.HtmlText (lines Name.HtmlTextData None text))
+  html-around : (text : List Code) → text ≢ [] →
+      IsPlainTree bytes (group Name.HtmlText (lines Name.HtmlTextData None text))
   html-around text some = (
     record {
       named = refl;
@@ -394,7 +410,8 @@ module _ (bytes : List ℕ) where
 
   literal-alone : (name : Name) (cs : List Code) → is_leaf_name name ≡ true → cs ≢ [] → IsLineThere bytes cs
       → IsPlainTree bytes (leaf name cs)
-  literal-alone name cs n some h = leaf-alone bytes name cs some (own-leaf bytes name cs n (λ k spaced. on-line cs (k, h spaced)))
+  literal-alone name cs n some h =
+      leaf-alone bytes name cs some (own-leaf bytes name cs n (λ k spaced. on-line cs (k, h spaced)))
 
   pub reads_gfm_autolink_literal_protocol : (end : ℕ) (previous : Option Code)
       → ReadsPlain bytes (gfm_autolink_literal_protocol bytes end previous)
@@ -420,14 +437,16 @@ module _ (bytes : List ℕ) where
         (literal-alone Name.GfmAutolinkLiteralWww (host ++ further) refl (some-join host further l.0) (join-there bytes host further l.1 m));
   }
 
-  pub reads_gfm_autolink_literal_www : (end : ℕ) (previous : Option Code) → ReadsPlain bytes (gfm_autolink_literal_www bytes end previous)
+  pub reads_gfm_autolink_literal_www : (end : ℕ) (previous : Option Code) →
+      ReadsPlain bytes (gfm_autolink_literal_www bytes end previous)
   unfolding gfm_autolink_literal_www
   reads_gfm_autolink_literal_www end previous = record {
     covers = record { at = λ cs. (here cs).covers.at cs };
     plain = record { at = λ cs. (here cs).plain.at cs };
   }
     where
-      here : (cs : List Code) → ReadsPlain bytes (provided (may_precede_www previous && begins_with_www cs) >> www_from_here bytes end)
+      here : (cs : List Code) →
+          ReadsPlain bytes (provided (may_precede_www previous && begins_with_www cs) >> www_from_here bytes end)
       here cs = reads_switched bytes (may_precede_www previous && begins_with_www cs) (www_from_here bytes end) (reads_www_from_here end)
 
 -- All of them, also by a switch or one after the other.

@@ -41,7 +41,8 @@ IsQuiet strict t = marks strict t ≡ false
 -- so no link does
 pub quiet-free : (b : Bool) (t : Forest) → marks b t ≡ false → holds_link t ≡ false
 quiet-free b empty h = refl
-quiet-free b (leaf_then name link cs rest) h = quiet-free b rest (or_parts (is_mark name || (is_linked link && b)) (marks b rest) h).1
+quiet-free b (leaf_then name link cs rest) h =
+    quiet-free b rest (or_parts (is_mark name || (is_linked link && b)) (marks b rest) h).1
 quiet-free b (group_then name enter exit inside rest) h =
     let p = or_parts (is_mark name) (marks b inside || marks b rest) h in
     let q = or_parts (marks b inside) (marks b rest) p.1 in
@@ -57,15 +58,18 @@ module _ (b : Bool) where
       ∙ ap (λ x. is_mark name || x) (sym (or_assoc (marks b inside) (marks b rest) (marks b y)))
       ∙ sym (or_assoc (is_mark name) (marks b inside || marks b rest) (marks b y))
 
-  pub marks-linked_leaf : (name : Name) (link : Option Content) (cs : List Code) → marks b (linked_leaf name link cs) ≡ ((is_mark name || (is_linked link && b)) && not (is_empty cs))
+  pub marks-linked_leaf : (name : Name) (link : Option Content) (cs : List Code) →
+      marks b (linked_leaf name link cs) ≡ ((is_mark name || (is_linked link && b)) && not (is_empty cs))
   marks-linked_leaf name link [] = sym (and-false (is_mark name || (is_linked link && b)))
-  marks-linked_leaf name link (c ∷ cs) = or-false (is_mark name || (is_linked link && b)) ∙ sym (and-true (is_mark name || (is_linked link && b)))
+  marks-linked_leaf name link (c ∷ cs) =
+      or-false (is_mark name || (is_linked link && b)) ∙ sym (and-true (is_mark name || (is_linked link && b)))
 
   pub marks-leaf : (name : Name) (cs : List Code) → marks b (leaf name cs) ≡ (is_mark name && not (is_empty cs))
   marks-leaf name [] = sym (and-false (is_mark name))
   marks-leaf name (c ∷ cs) = or-false (is_mark name || false) ∙ or-false (is_mark name) ∙ sym (and-true (is_mark name))
 
-  pub marks-linked : (name : Name) (cs : List Code) → marks b (linked name cs) ≡ ((is_mark name || b) && not (is_empty cs))
+  pub marks-linked : (name : Name) (cs : List Code) →
+      marks b (linked name cs) ≡ ((is_mark name || b) && not (is_empty cs))
   marks-linked name [] = sym (and-false (is_mark name || b))
   marks-linked name (c ∷ cs) = or-false (is_mark name || b) ∙ sym (and-true (is_mark name || b))
 
@@ -86,13 +90,16 @@ module _ (b : Bool) where
 -- of leaves, by each of them
 rows-quiet : (t : Forest) → Leaves (λ name link cs. is_mark name ≡ false) t → IsQuiet false t
 rows-quiet empty h = refl
-rows-quiet (leaf_then name link cs rest) h = (λ i. (h.0 i || is_linked link && false) || rows-quiet rest h.1 i) ∙ ap (λ x. x || false) (and-false (is_linked link))
+rows-quiet (leaf_then name link cs rest) h =
+    (λ i. (h.0 i || is_linked link && false) || rows-quiet rest h.1 i) ∙ ap (λ x. x || false) (and-false (is_linked link))
 rows-quiet (group_then name enter exit inside rest) h = absurd h
 
 pub marks-data_lines : (cs : List Code) → marks false (lines Name.Data (Some Content.String) cs) ≡ false
-marks-data_lines cs = rows-quiet _ (leaves-lines _ Name.Data (Some Content.String) (λ s _. refl) (λ s _ _. refl) (λ s _. refl) cs)
+marks-data_lines cs =
+    rows-quiet _ (leaves-lines _ Name.Data (Some Content.String) (λ s _. refl) (λ s _ _. refl) (λ s _. refl) cs)
 
-pub ruleset mark_laws = (marks-reference_string, marks-title_string, marks-destination_string, marks-join, marks-leaf, marks-linked, marks-linked_leaf, marks-data_lines)
+pub ruleset mark_laws =
+    (marks-reference_string, marks-title_string, marks-destination_string, marks-join, marks-leaf, marks-linked, marks-linked_leaf, marks-data_lines)
 
 -- What stands by itself.
 
@@ -105,13 +112,16 @@ own-unmarked _ e = refl
 
 leaves-quiet : (bytes : List ℕ) (t : Forest) → Leaves (IsOwnLeaf bytes) t → IsQuiet true t
 leaves-quiet bytes empty h = refl
-leaves-quiet bytes (leaf_then name link cs rest) h = λ i. (own-unmarked name (leaf-own name h.0.named) i || (is_linked (h.0.unlinked i) && true)) || leaves-quiet bytes rest h.1 i
+leaves-quiet bytes (leaf_then name link cs rest) h =
+    λ i. (own-unmarked name (leaf-own name h.0.named) i || (is_linked (h.0.unlinked i) && true)) || leaves-quiet bytes rest h.1 i
 leaves-quiet bytes (group_then name enter exit inside rest) h = absurd h
 
 pub plain-quiet : (bytes : List ℕ) (t : Forest) → IsPlainTree bytes t → IsQuiet true t
 plain-quiet bytes empty h = absurd h
-plain-quiet bytes (leaf_then name link cs rest) h = λ i. (own-unmarked name (leaf-own name h.0.named) i || (is_linked (h.0.unlinked i) && true)) || marks true (h.1 i)
-plain-quiet bytes (group_then name enter exit inside rest) h = λ i. own-unmarked name (group-own name h.0.named) i || (leaves-quiet bytes inside h.0.leaves i || marks true (h.1 i))
+plain-quiet bytes (leaf_then name link cs rest) h =
+    λ i. (own-unmarked name (leaf-own name h.0.named) i || (is_linked (h.0.unlinked i) && true)) || marks true (h.1 i)
+plain-quiet bytes (group_then name enter exit inside rest) h =
+    λ i. own-unmarked name (group-own name h.0.named) i || (leaves-quiet bytes inside h.0.leaves i || marks true (h.1 i))
 
 -- What may follow a label.
 
@@ -135,15 +145,18 @@ quiet_label =
 
 quiet_title_between : (opener closer : ℕ) → TailFree (title_between opener closer title_names)
 unfolding title_between
-quiet_title_between opener closer = then_any _ _ _ λ front. then_any _ _ _ λ text. then_any _ _ _ λ back. yields_passed _ _ _ (yields_gives _ _ (simp mark_laws))
+quiet_title_between opener closer =
+    then_any _ _ _ λ front. then_any _ _ _ λ text. then_any _ _ _ λ back. yields_passed _ _ _ (yields_gives _ _ (simp mark_laws))
 
 quiet_title : TailFree (title title_names)
 unfolding title
-quiet_title = yields_either _ _ _ (quiet_title_between _ _) (yields_either _ _ _ (quiet_title_between _ _) (quiet_title_between _ _))
+quiet_title =
+    yields_either _ _ _ (quiet_title_between _ _) (yields_either _ _ _ (quiet_title_between _ _) (quiet_title_between _ _))
 
 quiet_literal_destination : TailFree (literal_destination resource_names)
 unfolding literal_destination
-quiet_literal_destination = then_any _ _ _ λ front. then_any _ _ _ λ text. then_any _ _ _ λ back. yields_gives _ _ (simp mark_laws)
+quiet_literal_destination =
+    then_any _ _ _ λ front. then_any _ _ _ λ text. then_any _ _ _ λ back. yields_gives _ _ (simp mark_laws)
 
 quiet_raw_destination : (max : ℕ) → TailFree (raw_destination max resource_names)
 unfolding raw_destination
@@ -174,7 +187,8 @@ quiet_resource =
 
 quiet_full_reference : (s : Setting) → TailFree (full_reference s)
 unfolding full_reference
-quiet_full_reference s = yields_bind (IsQuiet false) _ _ _ quiet_label λ tree h. yields_passed _ _ _ (yields_gives _ _ h)
+quiet_full_reference s =
+    yields_bind (IsQuiet false) _ _ _ quiet_label λ tree h. yields_passed _ _ _ (yields_gives _ _ h)
 
 quiet_collapsed_reference : TailFree collapsed_reference
 unfolding collapsed_reference

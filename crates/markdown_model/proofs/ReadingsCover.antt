@@ -32,15 +32,18 @@ itself cs = cs
 pub ruleset codes_laws = (leaf_codes-row, codes-leaf, append-nil, append_assoc)
 
 module _ {A B : Type 0} (f : A → List Code) (g : B → List Code) (read : List Code) where
-  pub bind : (a : Reading A) (b : A → Reading B) → Covers f [] a → ((x : A) → Covers g (read ++ f x) (b x)) → Covers g read (a >>= b)
+  pub bind : (a : Reading A) (b : A → Reading B) → Covers f [] a → ((x : A) → Covers g (read ++ f x) (b x)) →
+      Covers g read (a >>= b)
   unfolding ◌>>=◌
   bind a b ha hb = record { at = λ cs. by_answer cs (a cs) (ha.at cs) }
     where
-      moved : (cs : List Code) (x : A × List Code) → f x.0 ++ x.1 ≡ cs → (r : Option (B × List Code)) → At g (read ++ f x.0) x.1 r → At g read cs r
+      moved : (cs : List Code) (x : A × List Code) → f x.0 ++ x.1 ≡ cs → (r : Option (B × List Code)) →
+          At g (read ++ f x.0) x.1 r → At g read cs r
       moved cs x h None k = tt
       moved cs x h (Some y) k = k ∙ append_assoc read (f x.0) x.1 ∙ ap (λ z. read ++ z) h
 
-      by_answer : (cs : List Code) (r : Option (A × List Code)) → At f [] cs r → At g read cs (elim r [ None ↦ None | Some x ↦ b x.0 x.1 ])
+      by_answer : (cs : List Code) (r : Option (A × List Code)) → At f [] cs r →
+          At g read cs (elim r [ None ↦ None | Some x ↦ b x.0 x.1 ])
       by_answer cs None h = tt
       by_answer cs (Some x) h = moved cs x h (b x.0 x.1) ((hb x.0).at x.1)
 
@@ -58,7 +61,8 @@ module _ {A : Type 0} (f : A → List Code) (read : List Code) where
   unfolding either
   one_of a b ha hb = record { at = λ cs. by_answer cs (a cs) (ha.at cs) }
     where
-      by_answer : (cs : List Code) (r : Option (A × List Code)) → At f read cs r → At f read cs (elim r [ None ↦ b cs | Some x ↦ Some x ])
+      by_answer : (cs : List Code) (r : Option (A × List Code)) → At f read cs r →
+          At f read cs (elim r [ None ↦ b cs | Some x ↦ Some x ])
       by_answer cs None h = hb.at cs
       by_answer cs (Some x) h = h
 
@@ -66,16 +70,19 @@ module _ {A : Type 0} (f : A → List Code) (read : List Code) where
   unfolding before
   seen_before a p ha = record { at = λ cs. by_answer cs (a cs) (ha.at cs) }
     where
-      by_test : (cs : List Code) (x : A × List Code) (b : Bool) → f x.0 ++ x.1 ≡ read ++ cs → At f read cs (elim b [ true ↦ Some x | false ↦ None ])
+      by_test : (cs : List Code) (x : A × List Code) (b : Bool) → f x.0 ++ x.1 ≡ read ++ cs →
+          At f read cs (elim b [ true ↦ Some x | false ↦ None ])
       by_test cs x true h = h
       by_test cs x false h = tt
 
-      by_answer : (cs : List Code) (r : Option (A × List Code)) → At f read cs r → At f read cs (elim r [ None ↦ None | Some x ↦ elim (p x.1) [ true ↦ Some x | false ↦ None ] ])
+      by_answer : (cs : List Code) (r : Option (A × List Code)) → At f read cs r →
+          At f read cs (elim r [ None ↦ None | Some x ↦ elim (p x.1) [ true ↦ Some x | false ↦ None ] ])
       by_answer cs None h = tt
       by_answer cs (Some x) h = by_test cs x (p x.1) h
 
 -- a choice by a test
-pub chosen_at : {A : Type 0} (f : A → List Code) (read cs : List Code) (b : Bool) (x y : Option (A × List Code)) → At f read cs x → At f read cs y → At f read cs (elim b [ true ↦ x | false ↦ y ])
+pub chosen_at : {A : Type 0} (f : A → List Code) (read cs : List Code) (b : Bool) (x y : Option (A × List Code)) →
+    At f read cs x → At f read cs y → At f read cs (elim b [ true ↦ x | false ↦ y ])
 chosen_at f read cs true x y h k = h
 chosen_at f read cs false x y h k = k
 
@@ -99,7 +106,8 @@ pub takes_one : (p : Code → Bool) → Takes (one p)
 unfolding one
 takes_one p = record { at = at }
   where
-    by_test : (c : Code) (cs : List Code) (b : Bool) → At itself [] (c ∷ cs) (elim b [ true ↦ Some (c ∷ [], cs) | false ↦ None ])
+    by_test : (c : Code) (cs : List Code) (b : Bool) →
+        At itself [] (c ∷ cs) (elim b [ true ↦ Some (c ∷ [], cs) | false ↦ None ])
     by_test c cs true = refl
     by_test c cs false = tt
 
@@ -160,7 +168,8 @@ pub takes_repeatedly : (a : Reading (List Code)) → Takes a → Takes (repeated
 unfolding repeatedly
 takes_repeatedly a h = record { at = λ cs. repeated_at a h (length cs) cs }
 
-first_at : (c : Code) (cs : List Code) (r : Option (List Code × List Code)) → At itself [] cs r → At itself [] (c ∷ cs) (with_first c r)
+first_at : (c : Code) (cs : List Code) (r : Option (List Code × List Code)) → At itself [] cs r →
+    At itself [] (c ∷ cs) (with_first c r)
 first_at c cs None h = tt
 first_at c cs (Some x) h = ap (λ z. c ∷ z) h
 
@@ -168,7 +177,8 @@ word_at : (ns : List ℕ) (cs : List Code) → At itself [] cs (word_of ns cs)
 unfolding word_of
 word_at [] cs = refl
 word_at (n ∷ ns) [] = tt
-word_at (n ∷ ns) (c ∷ cs) = chosen_at itself [] (c ∷ cs) (c.value == n) (with_first c (word_of ns cs)) None (first_at c cs (word_of ns cs) (word_at ns cs)) tt
+word_at (n ∷ ns) (c ∷ cs) =
+    chosen_at itself [] (c ∷ cs) (c.value == n) (with_first c (word_of ns cs)) None (first_at c cs (word_of ns cs) (word_at ns cs)) tt
 
 pub takes_word_of : (ns : List ℕ) → Takes (word_of ns)
 takes_word_of ns = record { at = word_at ns }
@@ -202,22 +212,26 @@ takes_uri = takes_then _ _ takes_scheme (takes_then _ _ (takes_one _) (takes_any
 
 pub takes_email_address : Takes email_address
 unfolding email_address
-takes_email_address = takes_then _ _ (takes_some _) (takes_then _ _ (takes_one _) (takes_then _ _ takes_domain_label (takes_repeatedly _ (takes_then _ _ (takes_one _) takes_domain_label))))
+takes_email_address =
+    takes_then _ _ (takes_some _) (takes_then _ _ (takes_one _) (takes_then _ _ takes_domain_label (takes_repeatedly _ (takes_then _ _ (takes_one _) takes_domain_label))))
 
 -- Lines and stretches.
 
-joined_codes-onto : (p : Code → Bool) (c : Code) (ss : List (List Code)) → joined_codes (onto_stretch p c ss) ≡ c ∷ joined_codes ss
+joined_codes-onto : (p : Code → Bool) (c : Code) (ss : List (List Code)) →
+    joined_codes (onto_stretch p c ss) ≡ c ∷ joined_codes ss
 joined_codes-onto p c [] = refl
 joined_codes-onto p c ([] ∷ more) = refl
 joined_codes-onto p c ((d ∷ ds) ∷ more) = by_test (joins p c d)
   where
-    by_test : (b : Bool) → joined_codes (elim b [ true ↦ (c ∷ d ∷ ds) ∷ more | false ↦ (c ∷ []) ∷ (d ∷ ds) ∷ more ]) ≡ c ∷ d ∷ ds ++ joined_codes more
+    by_test : (b : Bool) →
+        joined_codes (elim b [ true ↦ (c ∷ d ∷ ds) ∷ more | false ↦ (c ∷ []) ∷ (d ∷ ds) ∷ more ]) ≡ c ∷ d ∷ ds ++ joined_codes more
     by_test true = refl
     by_test false = refl
 
 pub joined_codes-stretches : (p : Code → Bool) (cs : List Code) → joined_codes (stretches p cs) ≡ cs
 joined_codes-stretches p [] = refl
-joined_codes-stretches p (c ∷ cs) = joined_codes-onto p c (stretches p cs) ∙ ap (λ z. c ∷ z) (joined_codes-stretches p cs)
+joined_codes-stretches p (c ∷ cs) =
+    joined_codes-onto p c (stretches p cs) ∙ ap (λ z. c ∷ z) (joined_codes-stretches p cs)
 
 pub codes-linked_leaf : (name : Name) (link : Option Content) (s : List Code) → leaf_codes (linked_leaf name link s) ≡ s
 codes-linked_leaf name link [] = refl
@@ -226,15 +240,18 @@ codes-linked_leaf name link (c ∷ cs) = append-nil (c ∷ cs)
 pub codes-line_leaf : (name : Name) (link : Option Content) (s : List Code) → leaf_codes (line_leaf name link s) ≡ s
 codes-line_leaf name link s = by_test (next_is is_line_ending s)
   where
-    by_test : (b : Bool) → leaf_codes (elim b [ true ↦ linked_leaf Name.LineEnding link s | false ↦ linked_leaf name link s ]) ≡ s
+    by_test : (b : Bool) →
+        leaf_codes (elim b [ true ↦ linked_leaf Name.LineEnding link s | false ↦ linked_leaf name link s ]) ≡ s
     by_test true = codes-linked_leaf Name.LineEnding link s
     by_test false = codes-linked_leaf name link s
 
 pub codes-line_leaves : (name : Name) (ss : List (List Code)) → leaf_codes (line_leaves name ss) ≡ joined_codes ss
 codes-line_leaves name [] = refl
-codes-line_leaves name (s ∷ ss) = leaf_codes-row (line_leaf name None s) (line_leaves name ss) ∙ (λ i. codes-line_leaf name None s i ++ codes-line_leaves name ss i)
+codes-line_leaves name (s ∷ ss) =
+    leaf_codes-row (line_leaf name None s) (line_leaves name ss) ∙ (λ i. codes-line_leaf name None s i ++ codes-line_leaves name ss i)
 
-codes-lines_from : (name : Name) (link : Option Content) (later : Bool) (ss : List (List Code)) → leaf_codes (lines_from name link later ss) ≡ joined_codes ss
+codes-lines_from : (name : Name) (link : Option Content) (later : Bool) (ss : List (List Code)) →
+    leaf_codes (lines_from name link later ss) ≡ joined_codes ss
 codes-lines_from name link later [] = refl
 codes-lines_from name link later (s ∷ ss) = by_test (later && not (next_is is_line_ending s)) (λ b. codes-lines_from name link b ss)
   where
@@ -247,10 +264,12 @@ codes-lines_from name link later (s ∷ ss) = by_test (later && not (next_is is_
         leaf_codes-row (linked_leaf Name.SpaceOrTab link (span is_blank s).0) (linked_leaf name link (span is_blank s).1 ⊕ lines_from name link false ss)
         ∙ (λ i. codes-linked_leaf Name.SpaceOrTab link (span is_blank s).0 i ++ (leaf_codes-row (linked_leaf name link (span is_blank s).1) (lines_from name link false ss) ∙ (λ j. codes-linked_leaf name link (span is_blank s).1 j ++ h false j)) i)
         ∙ sym (append_assoc (span is_blank s).0 (span is_blank s).1 (joined_codes ss)) ∙ ap (λ z. z ++ joined_codes ss) (span-append is_blank s)
-    by_test false h = leaf_codes-row (line_leaf name link s) (lines_from name link (next_is is_line_ending s) ss) ∙ (λ i. codes-line_leaf name link s i ++ h (next_is is_line_ending s) i)
+    by_test false h =
+        leaf_codes-row (line_leaf name link s) (lines_from name link (next_is is_line_ending s) ss) ∙ (λ i. codes-line_leaf name link s i ++ h (next_is is_line_ending s) i)
 
 pub codes-lines : (name : Name) (link : Option Content) (cs : List Code) → leaf_codes (lines name link cs) ≡ cs
-codes-lines name link cs = codes-lines_from name link false (stretches (λ c. true) cs) ∙ joined_codes-stretches (λ c. true) cs
+codes-lines name link cs =
+    codes-lines_from name link false (stretches (λ c. true) cs) ∙ joined_codes-stretches (λ c. true) cs
 
 -- HTML.
 
@@ -288,23 +307,28 @@ takes_unquoted_value = seen_before _ _ _ _ (takes_then _ _ (takes_one _) (takes_
 
 pub takes_attribute_value : Takes attribute_value
 unfolding attribute_value
-takes_attribute_value = one_of _ _ _ _ (takes_quoted_value 34) (one_of _ _ _ _ (takes_quoted_value 39) takes_unquoted_value)
+takes_attribute_value =
+    one_of _ _ _ _ (takes_quoted_value 34) (one_of _ _ _ _ (takes_quoted_value 39) takes_unquoted_value)
 
 pub takes_attribute : Takes attribute
 unfolding attribute
-takes_attribute = takes_then _ _ takes_attribute_name (takes_optional _ (takes_then _ _ takes_optional_spaces (takes_then _ _ (takes_one _) (takes_then _ _ takes_optional_spaces takes_attribute_value))))
+takes_attribute =
+    takes_then _ _ takes_attribute_name (takes_optional _ (takes_then _ _ takes_optional_spaces (takes_then _ _ (takes_one _) (takes_then _ _ takes_optional_spaces takes_attribute_value))))
 
 takes_open_tag : Takes open_tag
 unfolding open_tag
-takes_open_tag = takes_then _ _ (takes_word "<") (takes_then _ _ takes_tag_name (takes_then _ _ (takes_repeatedly _ (takes_then _ _ takes_spaces takes_attribute)) (takes_then _ _ takes_optional_spaces (takes_then _ _ (takes_optional _ (takes_word "/")) (takes_word ">")))))
+takes_open_tag =
+    takes_then _ _ (takes_word "<") (takes_then _ _ takes_tag_name (takes_then _ _ (takes_repeatedly _ (takes_then _ _ takes_spaces takes_attribute)) (takes_then _ _ takes_optional_spaces (takes_then _ _ (takes_optional _ (takes_word "/")) (takes_word ">")))))
 
 takes_closing_tag : Takes closing_tag
 unfolding closing_tag
-takes_closing_tag = takes_then _ _ (takes_word "</") (takes_then _ _ takes_tag_name (takes_then _ _ takes_optional_spaces (takes_word ">")))
+takes_closing_tag =
+    takes_then _ _ (takes_word "</") (takes_then _ _ takes_tag_name (takes_then _ _ takes_optional_spaces (takes_word ">")))
 
 takes_comment : Takes comment
 unfolding comment
-takes_comment = one_of _ _ _ _ (takes_word "<!-->") (one_of _ _ _ _ (takes_word "<!--->") (takes_then _ _ (takes_word "<!--") (takes_through "-->")))
+takes_comment =
+    one_of _ _ _ _ (takes_word "<!-->") (one_of _ _ _ _ (takes_word "<!--->") (takes_then _ _ (takes_word "<!--") (takes_through "-->")))
 
 takes_instruction : Takes instruction
 unfolding instruction
@@ -320,7 +344,8 @@ takes_cdata = takes_then _ _ (takes_word "<![CDATA[") (takes_through "]]>")
 
 pub takes_html_text : Takes html_codes
 unfolding html_codes
-takes_html_text = one_of _ _ _ _ takes_open_tag (one_of _ _ _ _ takes_closing_tag (one_of _ _ _ _ takes_comment (one_of _ _ _ _ takes_instruction (one_of _ _ _ _ takes_declaration takes_cdata))))
+takes_html_text =
+    one_of _ _ _ _ takes_open_tag (one_of _ _ _ _ takes_closing_tag (one_of _ _ _ _ takes_comment (one_of _ _ _ _ takes_instruction (one_of _ _ _ _ takes_declaration takes_cdata))))
 
 -- Labels, destinations, titles and resources.
 
@@ -354,7 +379,8 @@ covers_label names =
     bind _ _ _ _ _ (takes_one _) λ front. bind _ _ _ _ _ (takes_up_to _ _ _) λ text.
     if_passed _ _ _ _ (if_passed _ _ _ _ (bind _ _ _ _ _ (takes_one _) λ back. if_passed _ _ _ _ (given _ _ (between_markers names front text back) (simp string_laws))))
 
-covers_title_between : (opener closer : ℕ) (names : StringNames) → Covers leaf_codes [] (title_between opener closer names)
+covers_title_between : (opener closer : ℕ) (names : StringNames) →
+    Covers leaf_codes [] (title_between opener closer names)
 unfolding title_between
 covers_title_between opener closer names =
     bind _ _ _ _ _ (takes_one _) λ front. bind _ _ _ _ _ (takes_up_to _ _ _) λ text.
@@ -362,11 +388,13 @@ covers_title_between opener closer names =
 
 pub covers_title : (names : StringNames) → Covers leaf_codes [] (title names)
 unfolding title
-covers_title names = one_of _ _ _ _ (covers_title_between 34 34 names) (one_of _ _ _ _ (covers_title_between 39 39 names) (covers_title_between 40 41 names))
+covers_title names =
+    one_of _ _ _ _ (covers_title_between 34 34 names) (one_of _ _ _ _ (covers_title_between 39 39 names) (covers_title_between 40 41 names))
 
 covers_spaces_across : (link : Option Content) → Covers leaf_codes [] (spaces_across link)
 unfolding spaces_across
-covers_spaces_across link = bind _ _ _ _ _ (takes_any_number _) λ front. bind _ _ _ _ _ (takes_one _) λ ending. bind _ _ _ _ _ (seen_before _ _ _ _ (takes_any_number _)) λ back. given _ _ (linked_leaf Name.SpaceOrTab link front ⊕ linked_leaf Name.LineEnding link ending ⊕ linked_leaf Name.SpaceOrTab link back) (simp string_laws)
+covers_spaces_across link =
+    bind _ _ _ _ _ (takes_any_number _) λ front. bind _ _ _ _ _ (takes_one _) λ ending. bind _ _ _ _ _ (seen_before _ _ _ _ (takes_any_number _)) λ back. given _ _ (linked_leaf Name.SpaceOrTab link front ⊕ linked_leaf Name.LineEnding link ending ⊕ linked_leaf Name.SpaceOrTab link back) (simp string_laws)
 
 covers_spaces_on_line : (link : Option Content) → Covers leaf_codes [] (spaces_on_line link)
 unfolding spaces_on_line
@@ -388,7 +416,8 @@ raw_at max slash depth (c ∷ cs) = cases (λ b d. first_at c cs (raw_from max b
     stopped zero = refl
     stopped (suc n) = tt
 
-    cases : ((b : Bool) (d : ℕ) → At itself [] (c ∷ cs) (with_first c (raw_from max b d cs))) → At itself [] (c ∷ cs) (raw_from max slash depth (c ∷ cs))
+    cases : ((b : Bool) (d : ℕ) → At itself [] (c ∷ cs) (with_first c (raw_from max b d cs))) →
+        At itself [] (c ∷ cs) (raw_from max slash depth (c ∷ cs))
     cases more =
         chosen_at itself [] (c ∷ cs) (slash && is_among (codes "()\\") c) _ _ (more false depth)
         (chosen_at itself [] (c ∷ cs) (is_whitespace_code c || (is_value 41 c && depth == 0)) _ _ (stopped depth)
@@ -406,7 +435,8 @@ covers_literal_destination names =
 
 covers_raw_destination : (max : ℕ) (names : DestinationNames) → Covers leaf_codes [] (raw_destination max names)
 unfolding raw_destination
-covers_raw_destination max names = bind _ _ _ _ _ (takes_raw max) λ text. if_passed _ _ _ _ (given _ _ _ (simp string_laws))
+covers_raw_destination max names =
+    bind _ _ _ _ _ (takes_raw max) λ text. if_passed _ _ _ _ (given _ _ _ (simp string_laws))
 
 pub covers_destination : (max : ℕ) (names : DestinationNames) → Covers leaf_codes [] (destination max names)
 unfolding destination
@@ -440,7 +470,8 @@ covers_resource =
 abbrev pub span_codes : List (List Code) × List Code → List Code
 span_codes r = joined_codes r.0 ++ r.1
 
-closing_at : (marker : Code → Bool) (n : ℕ) (ss : List (List Code)) → At span_codes [] (joined_codes ss) (closing_run marker n ss)
+closing_at : (marker : Code → Bool) (n : ℕ) (ss : List (List Code)) →
+    At span_codes [] (joined_codes ss) (closing_run marker n ss)
 unfolding closing_run
 closing_at marker n [] = tt
 closing_at marker n (s ∷ ss) = by_test (next_is marker s && length s == n) (closing_run marker n ss) (closing_at marker n ss)
@@ -449,7 +480,9 @@ closing_at marker n (s ∷ ss) = by_test (next_is marker s && length s == n) (cl
         → At span_codes [] (s ++ joined_codes ss) (elim b [ true ↦ Some (([], s), joined_codes ss) | false ↦ elim r [ None ↦ None | Some x ↦ Some ((s ∷ x.0.0, x.0.1), x.1) ] ])
     by_test true r h = refl
     by_test false None h = tt
-    by_test false (Some x) h = ap (λ z. z ++ x.1) (append_assoc s (joined_codes x.0.0) x.0.1) ∙ append_assoc s (joined_codes x.0.0 ++ x.0.1) x.1 ∙ ap (λ z. s ++ z) h
+    by_test false (Some x) h =
+        ap (λ z. z ++ x.1) (append_assoc s (joined_codes x.0.0) x.0.1) ∙ append_assoc s (joined_codes x.0.0 ++ x.0.1) x.1 ∙ ap (λ z. s ++ z) h
 
 pub covers_closing : (marker : Code → Bool) (n : ℕ) → Covers span_codes [] (closing marker n)
-covers_closing marker n = record { at = λ cs. subst (λ z. At span_codes [] z (closing marker n cs)) (joined_codes-stretches marker cs) (closing_at marker n (stretches marker cs)) }
+covers_closing marker n =
+    record { at = λ cs. subst (λ z. At span_codes [] z (closing marker n cs)) (joined_codes-stretches marker cs) (closing_at marker n (stretches marker cs)) }

@@ -20,27 +20,33 @@ pub record Consumes (n : ℕ) {A : Type 0} (a : Reading A) : Type 0 where
 
 module _ {A B : Type 0} where
   -- the first reading takes one, and the second any number
-  pub first_takes : (a : Reading A) (b : A → Reading B) → Consumes 1 a → ((x : A) → Consumes 0 (b x)) → Consumes 1 (a >>= b)
+  pub first_takes : (a : Reading A) (b : A → Reading B) → Consumes 1 a → ((x : A) → Consumes 0 (b x)) →
+      Consumes 1 (a >>= b)
   unfolding ◌>>=◌
   first_takes a b ha hb = record { at = λ cs. by_answer cs (a cs) (ha.at cs) }
     where
-      moved : (cs : List Code) (x : A × List Code) (r : Option (B × List Code)) → 1 + length x.1 ≤ length cs → Left 0 x.1 r → Left 1 cs r
+      moved : (cs : List Code) (x : A × List Code) (r : Option (B × List Code)) → 1 + length x.1 ≤ length cs →
+          Left 0 x.1 r → Left 1 cs r
       moved cs x None h k = tt
       moved cs x (Some y) h k = omega arith
 
-      by_answer : (cs : List Code) (r : Option (A × List Code)) → Left 1 cs r → Left 1 cs (elim r [ None ↦ None | Some x ↦ b x.0 x.1 ])
+      by_answer : (cs : List Code) (r : Option (A × List Code)) → Left 1 cs r →
+          Left 1 cs (elim r [ None ↦ None | Some x ↦ b x.0 x.1 ])
       by_answer cs None h = tt
       by_answer cs (Some x) h = moved cs x (b x.0 x.1) h ((hb x.0).at x.1)
 
-  pub both_take : (a : Reading A) (b : A → Reading B) → Consumes 0 a → ((x : A) → Consumes 0 (b x)) → Consumes 0 (a >>= b)
+  pub both_take : (a : Reading A) (b : A → Reading B) → Consumes 0 a → ((x : A) → Consumes 0 (b x)) →
+      Consumes 0 (a >>= b)
   unfolding ◌>>=◌
   both_take a b ha hb = record { at = λ cs. by_answer cs (a cs) (ha.at cs) }
     where
-      moved : (cs : List Code) (x : A × List Code) (r : Option (B × List Code)) → 0 + length x.1 ≤ length cs → Left 0 x.1 r → Left 0 cs r
+      moved : (cs : List Code) (x : A × List Code) (r : Option (B × List Code)) → 0 + length x.1 ≤ length cs →
+          Left 0 x.1 r → Left 0 cs r
       moved cs x None h k = tt
       moved cs x (Some y) h k = omega arith
 
-      by_answer : (cs : List Code) (r : Option (A × List Code)) → Left 0 cs r → Left 0 cs (elim r [ None ↦ None | Some x ↦ b x.0 x.1 ])
+      by_answer : (cs : List Code) (r : Option (A × List Code)) → Left 0 cs r →
+          Left 0 cs (elim r [ None ↦ None | Some x ↦ b x.0 x.1 ])
       by_answer cs None h = tt
       by_answer cs (Some x) h = moved cs x (b x.0 x.1) h ((hb x.0).at x.1)
 
@@ -60,7 +66,8 @@ module _ {A : Type 0} where
   unfolding either
   either_takes n a b ha hb = record { at = λ cs. by_answer cs (a cs) (ha.at cs) }
     where
-      by_answer : (cs : List Code) (r : Option (A × List Code)) → Left n cs r → Left n cs (elim r [ None ↦ b cs | Some x ↦ Some x ])
+      by_answer : (cs : List Code) (r : Option (A × List Code)) → Left n cs r →
+          Left n cs (elim r [ None ↦ b cs | Some x ↦ Some x ])
       by_answer cs None h = hb.at cs
       by_answer cs (Some x) h = h
 
@@ -75,7 +82,8 @@ pub one_takes : (p : Code → Bool) → Consumes 1 (one p)
 unfolding one
 one_takes p = record { at = at }
   where
-    by_test : (c : Code) (cs : List Code) (b : Bool) → Left {A = List Code} 1 (c ∷ cs) (elim b [ true ↦ Some (c ∷ [], cs) | false ↦ None ])
+    by_test : (c : Code) (cs : List Code) (b : Bool) →
+        Left {A = List Code} 1 (c ∷ cs) (elim b [ true ↦ Some (c ∷ [], cs) | false ↦ None ])
     by_test c cs true = omega arith
     by_test c cs false = tt
 
@@ -87,15 +95,18 @@ pub some_takes : (p : Code → Bool) → Consumes 1 (some p)
 unfolding some
 some_takes p = record { at = λ cs. by_front cs (span p cs) (span-append p cs) }
   where
-    by_front : (cs : List Code) (s : List Code × List Code) → s.0 ++ s.1 ≡ cs → Left {A = List Code} 1 cs (elim (is_empty s.0) [ true ↦ None | false ↦ Some s ])
+    by_front : (cs : List Code) (s : List Code × List Code) → s.0 ++ s.1 ≡ cs →
+        Left {A = List Code} 1 cs (elim (is_empty s.0) [ true ↦ None | false ↦ Some s ])
     by_front cs ([], rest) e = tt
     by_front cs (c ∷ front, rest) e = omega (arith, length-append front rest, ap length e)
 
 pub any_takes : (p : Code → Bool) → Consumes 0 (any_number p)
 unfolding any_number
-any_takes p = record { at = λ cs. omega (arith, length-append (span p cs).0 (span p cs).1, ap length (span-append p cs)) }
+any_takes p =
+    record { at = λ cs. omega (arith, length-append (span p cs).0 (span p cs).1, ap length (span-append p cs)) }
 
-pub with_takes : (n : ℕ) (c : Code) (cs : List Code) (r : Option (List Code × List Code)) → Left n cs r → Left (suc n) (c ∷ cs) (with_first c r)
+pub with_takes : (n : ℕ) (c : Code) (cs : List Code) (r : Option (List Code × List Code)) → Left n cs r →
+    Left (suc n) (c ∷ cs) (with_first c r)
 with_takes n c cs None h = tt
 with_takes n c cs (Some x) h = omega arith
 
@@ -105,7 +116,8 @@ word_takes_at [] cs = omega arith
 word_takes_at (n ∷ ns) [] = tt
 word_takes_at (n ∷ ns) (c ∷ cs) = by_test (c.value == n) (word_takes_at ns cs)
   where
-    by_test : (b : Bool) → Left (length ns) cs (word_of ns cs) → Left (suc (length ns)) (c ∷ cs) (elim b [ true ↦ with_first c (word_of ns cs) | false ↦ None ])
+    by_test : (b : Bool) → Left (length ns) cs (word_of ns cs) →
+        Left (suc (length ns)) (c ∷ cs) (elim b [ true ↦ with_first c (word_of ns cs) | false ↦ None ])
     by_test true h = with_takes (length ns) c cs (word_of ns cs) h
     by_test false h = tt
 
@@ -141,15 +153,18 @@ text_takes text n ns e = subst (λ x. Consumes 1 (word_of x)) (sym e) (word_take
 
 pub open_tag_takes : Consumes 1 open_tag
 unfolding open_tag
-open_tag_takes = then_takes _ _ (text_takes "<" _ _ refl) (takes_no_more _ _ (takes_then _ _ takes_tag_name (takes_then _ _ (takes_repeatedly _ (takes_then _ _ takes_spaces takes_attribute)) (takes_then _ _ takes_optional_spaces (takes_then _ _ (takes_optional _ (takes_word "/")) (takes_word ">"))))))
+open_tag_takes =
+    then_takes _ _ (text_takes "<" _ _ refl) (takes_no_more _ _ (takes_then _ _ takes_tag_name (takes_then _ _ (takes_repeatedly _ (takes_then _ _ takes_spaces takes_attribute)) (takes_then _ _ takes_optional_spaces (takes_then _ _ (takes_optional _ (takes_word "/")) (takes_word ">"))))))
 
 pub closing_tag_takes : Consumes 1 closing_tag
 unfolding closing_tag
-closing_tag_takes = then_takes _ _ (text_takes "</" _ _ refl) (takes_no_more _ _ (takes_then _ _ takes_tag_name (takes_then _ _ takes_optional_spaces (takes_word ">"))))
+closing_tag_takes =
+    then_takes _ _ (text_takes "</" _ _ refl) (takes_no_more _ _ (takes_then _ _ takes_tag_name (takes_then _ _ takes_optional_spaces (takes_word ">"))))
 
 pub comment_takes : Consumes 1 comment
 unfolding comment
-comment_takes = either_takes _ _ _ (text_takes "<!-->" _ _ refl) (either_takes _ _ _ (text_takes "<!--->" _ _ refl) (then_takes _ _ (text_takes "<!--" _ _ refl) (takes_no_more _ _ (takes_through "-->"))))
+comment_takes =
+    either_takes _ _ _ (text_takes "<!-->" _ _ refl) (either_takes _ _ _ (text_takes "<!--->" _ _ refl) (then_takes _ _ (text_takes "<!--" _ _ refl) (takes_no_more _ _ (takes_through "-->"))))
 
 pub instruction_takes : Consumes 1 instruction
 unfolding instruction
@@ -157,7 +172,8 @@ instruction_takes = then_takes _ _ (text_takes "<?" _ _ refl) (takes_no_more _ _
 
 pub declaration_takes : Consumes 1 declaration
 unfolding declaration
-declaration_takes = then_takes _ _ (text_takes "<!" _ _ refl) (takes_no_more _ _ (takes_then _ _ (takes_one _) (takes_through ">")))
+declaration_takes =
+    then_takes _ _ (text_takes "<!" _ _ refl) (takes_no_more _ _ (takes_then _ _ (takes_one _) (takes_through ">")))
 
 pub cdata_takes : Consumes 1 cdata
 unfolding cdata
@@ -165,4 +181,5 @@ cdata_takes = then_takes _ _ (text_takes "<![CDATA[" _ _ refl) (takes_no_more _ 
 
 pub html_text_takes : Consumes 1 html_codes
 unfolding html_codes
-html_text_takes = either_takes _ _ _ open_tag_takes (either_takes _ _ _ closing_tag_takes (either_takes _ _ _ comment_takes (either_takes _ _ _ instruction_takes (either_takes _ _ _ declaration_takes cdata_takes))))
+html_text_takes =
+    either_takes _ _ _ open_tag_takes (either_takes _ _ _ closing_tag_takes (either_takes _ _ _ comment_takes (either_takes _ _ _ instruction_takes (either_takes _ _ _ declaration_takes cdata_takes))))

@@ -38,8 +38,10 @@ string_passes s cs =
     string_has (Passes IsPlain) tt cs s (λ a _. (plain_yields a).at cs)
     ((yields_either _ _ _ (then_any _ _ _ λ c. yields_gives _ (plain (leaf Name.LineEnding c)) tt) (then_any _ _ _ λ c. yields_gives _ (plain (leaf Name.Data c)) tt)).at cs)
 
-pub string_are_plain : (s : Setting) (es earlier : List Element) (previous : Option Code) (cs : List Code) → AreElementsFrom (string_choice s) earlier previous cs es → ArePlain es
-string_are_plain s es earlier previous cs h = all_are IsPlain (string_choice s) (λ _ _ ds. string_passes s ds) es earlier previous cs h
+pub string_are_plain : (s : Setting) (es earlier : List Element) (previous : Option Code) (cs : List Code) →
+    AreElementsFrom (string_choice s) earlier previous cs es → ArePlain es
+string_are_plain s es earlier previous cs h =
+    all_are IsPlain (string_choice s) (λ _ _ ds. string_passes s ds) es earlier previous cs h
 
 -- the row of such elements
 abbrev pub row_of : List Element → Forest

@@ -23,22 +23,28 @@ abbrev Part : Type 1
 Part = List Code → Forest → List Code → Type 0
 
 -- where a reading does not hold no such part stands, and the other way round
-none-back : (a : Reading Forest) (Is : Part) (cs : List Code) → ((tree : Forest) (rest : List Code) → Is cs tree rest → a cs ≡ Some (tree, rest)) → a cs ≡ None → NoneHere Is cs
-none-back a Is cs found e tree rest i = let no : ◌≡◌ {A = Option (Forest × List Code)} None (Some (tree, rest)) = sym e ∙ found tree rest i in cc
+none-back : (a : Reading Forest) (Is : Part) (cs : List Code) →
+    ((tree : Forest) (rest : List Code) → Is cs tree rest → a cs ≡ Some (tree, rest)) → a cs ≡ None → NoneHere Is cs
+none-back a Is cs found e tree rest i =
+    let no : ◌≡◌ {A = Option (Forest × List Code)} None (Some (tree, rest)) = sym e ∙ found tree rest i in cc
 
-none-found : (a : Reading Forest) (Is : Part) (cs : List Code) → ((tree : Forest) (rest : List Code) → a cs ≡ Some (tree, rest) → Is cs tree rest) → NoneHere Is cs → a cs ≡ None
+none-found : (a : Reading Forest) (Is : Part) (cs : List Code) →
+    ((tree : Forest) (rest : List Code) → a cs ≡ Some (tree, rest) → Is cs tree rest) → NoneHere Is cs → a cs ≡ None
 none-found a Is cs back n = by_answer (a cs) refl
   where
     by_answer : (o : Option (Forest × List Code)) → a cs ≡ o → a cs ≡ None
     by_answer None e = e
     by_answer (Some r) e = absurd (n r.0 r.1 (back r.0 r.1 e))
 
-found-label : (cs : List Code) (tree : Forest) (rest : List Code) → ALabel cs tree rest → label reference_names cs ≡ Some (tree, rest)
-found-label cs tree rest m = marked-found (label reference_names) IsLabel (between_markers reference_names) (label-found reference_names) cs tree rest m
+found-label : (cs : List Code) (tree : Forest) (rest : List Code) → ALabel cs tree rest →
+    label reference_names cs ≡ Some (tree, rest)
+found-label cs tree rest m =
+    marked-found (label reference_names) IsLabel (between_markers reference_names) (label-found reference_names) cs tree rest m
 
 -- Full references.
 
-full-back : (s : Setting) (cs : List Code) (tree : Forest) (rest : List Code) → full_reference s cs ≡ Some (tree, rest) → IsFull s cs tree rest
+full-back : (s : Setting) (cs : List Code) (tree : Forest) (rest : List Code) →
+    full_reference s cs ≡ Some (tree, rest) → IsFull s cs tree rest
 unfolding full_reference
 full-back s cs tree rest e =
     let a : Went (label reference_names) _ cs (tree, rest) = bind-back (label reference_names) _ cs (tree, rest) e in
@@ -49,16 +55,19 @@ full-back s cs tree rest e =
       defined = ap (λ t. is_defined s.definitions (reference_identifier s t)) g.0 ∙ p.0;
     }
 
-full-found : (s : Setting) (cs : List Code) (tree : Forest) (rest : List Code) → IsFull s cs tree rest → full_reference s cs ≡ Some (tree, rest)
+full-found : (s : Setting) (cs : List Code) (tree : Forest) (rest : List Code) → IsFull s cs tree rest →
+    full_reference s cs ≡ Some (tree, rest)
 unfolding full_reference gives
-full-found s cs tree rest i = bind-some _ _ cs tree rest _ (found-label cs tree rest i.is) (after-some _ _ rest [] rest _ (provided-true _ rest i.defined) refl)
+full-found s cs tree rest i =
+    bind-some _ _ cs tree rest _ (found-label cs tree rest i.is) (after-some _ _ rest [] rest _ (provided-true _ rest i.defined) refl)
 
 no-full : (s : Setting) (cs : List Code) → NoneHere ALabel cs → full_reference s cs ≡ None
 no-full s cs n = none-found (full_reference s) (IsFull s) cs (full-back s cs) (λ tree rest i. n tree rest i.is)
 
 -- Collapsed ones.
 
-collapsed-back : (cs : List Code) (tree : Forest) (rest : List Code) → collapsed_reference cs ≡ Some (tree, rest) → IsCollapsed cs tree rest
+collapsed-back : (cs : List Code) (tree : Forest) (rest : List Code) → collapsed_reference cs ≡ Some (tree, rest) →
+    IsCollapsed cs tree rest
 unfolding collapsed_reference
 collapsed-back cs tree rest e =
     let a : WentOne (is_value 91) _ cs (tree, rest) = one-back (is_value 91) _ cs (tree, rest) e in
@@ -77,7 +86,8 @@ collapsed-back cs tree rest e =
       tree_is = g.0;
     }
 
-collapsed-found : (cs : List Code) (tree : Forest) (rest : List Code) → IsCollapsed cs tree rest → collapsed_reference cs ≡ Some (tree, rest)
+collapsed-found : (cs : List Code) (tree : Forest) (rest : List Code) → IsCollapsed cs tree rest →
+    collapsed_reference cs ≡ Some (tree, rest)
 unfolding collapsed_reference gives
 collapsed-found cs tree rest r =
     let a : Mark Name.ReferenceMarker 91 cs r.is.first r.is.between = r.is.is in
@@ -97,7 +107,8 @@ no-label cs tree rest r other more m = by_text m.text m.is (sym m.stands ∙ a.s
     b : Mark Name.ReferenceMarker 93 r.is.between r.is.second rest
     b = r.is.more
 
-    by_text : (text : List Code) → IsLabel m.front text m.back → m.front ∷ (text ++ (m.back ∷ more)) ≡ a.code ∷ (b.code ∷ rest) → ⊥
+    by_text : (text : List Code) → IsLabel m.front text m.back →
+        m.front ∷ (text ++ (m.back ∷ more)) ≡ a.code ∷ (b.code ∷ rest) → ⊥
     by_text [] i e = let no : false ≡ true = i.filled in cc
     by_text (c ∷ text) i e =
         let same : c ≡ b.code = cc in
@@ -107,22 +118,27 @@ no-label cs tree rest r other more m = by_text m.text m.is (sym m.stands ∙ a.s
 
 -- Shortcuts.
 
-shortcut-back : (defined : Bool) (cs : List Code) (tree : Forest) (rest : List Code) → shortcut defined cs ≡ Some (tree, rest) → (defined ≡ true) × Nothing cs tree rest
+shortcut-back : (defined : Bool) (cs : List Code) (tree : Forest) (rest : List Code) →
+    shortcut defined cs ≡ Some (tree, rest) → (defined ≡ true) × Nothing cs tree rest
 unfolding shortcut
 shortcut-back defined cs tree rest e =
     let p : (defined ≡ true) × (gives empty cs ≡ Some (tree, rest)) = provided-back defined (gives empty) cs (tree, rest) e in
     let g : (tree ≡ empty) × (cs ≡ rest) = gives-back empty tree cs rest p.1 in
     (p.0, (g.1, g.0))
 
-shortcut-found : (defined : Bool) (cs : List Code) (tree : Forest) (rest : List Code) → defined ≡ true → Nothing cs tree rest → shortcut defined cs ≡ Some (tree, rest)
+shortcut-found : (defined : Bool) (cs : List Code) (tree : Forest) (rest : List Code) → defined ≡ true →
+    Nothing cs tree rest → shortcut defined cs ≡ Some (tree, rest)
 unfolding shortcut gives
 shortcut-found defined cs tree rest d n = switched-on (gives empty) defined cs d ∙ (λ i. Some (sym n.1 i, n.0 i))
 
-unless-back : (a b : Reading Forest) (cs : List Code) (r : Forest × List Code) → ◌≡◌ {A = Option (Forest × List Code)} (unless a b cs) (Some r) → (a cs ≡ None) × (b cs ≡ Some r)
+unless-back : (a b : Reading Forest) (cs : List Code) (r : Forest × List Code) →
+    ◌≡◌ {A = Option (Forest × List Code)} (unless a b cs) (Some r) → (a cs ≡ None) × (b cs ≡ Some r)
 unfolding unless
 unless-back a b cs r e = by_answer (a cs) refl e
   where
-    by_answer : (o : Option (Forest × List Code)) → a cs ≡ o → elim o as (λ _. Option (Forest × List Code)) [ None ↦ b cs | Some x ↦ None ] ≡ Some r → (a cs ≡ None) × (b cs ≡ Some r)
+    by_answer : (o : Option (Forest × List Code)) → a cs ≡ o →
+        elim o as (λ _. Option (Forest × List Code)) [ None ↦ b cs | Some x ↦ None ] ≡ Some r →
+        (a cs ≡ None) × (b cs ≡ Some r)
     by_answer None f k = (f, k)
     by_answer (Some x) f k = cc
 
@@ -134,13 +150,16 @@ either-none : (a b : Reading Forest) (cs : List Code) → either a b cs ≡ None
 unfolding either
 either-none a b cs e = by_answer (a cs) refl e
   where
-    by_answer : (o : Option (Forest × List Code)) → a cs ≡ o → elim o as (λ _. Option (Forest × List Code)) [ None ↦ b cs | Some x ↦ Some x ] ≡ None → (a cs ≡ None) × (b cs ≡ None)
+    by_answer : (o : Option (Forest × List Code)) → a cs ≡ o →
+        elim o as (λ _. Option (Forest × List Code)) [ None ↦ b cs | Some x ↦ Some x ] ≡ None →
+        (a cs ≡ None) × (b cs ≡ None)
     by_answer None f k = (f, k)
     by_answer (Some x) f k = cc
 
 -- a resource begins with `(`
 no-resource : (cs : List Code) → next_is (is_value 40) cs ≡ false → NoneHere IsResource cs
-no-resource cs e tree rest r = let no : true ≡ false = sym (ap (next_is (is_value 40)) r.is.is.stands ∙ r.is.is.is) ∙ e in cc
+no-resource cs e tree rest r =
+    let no : true ≡ false = sym (ap (next_is (is_value 40)) r.is.is.stands ∙ r.is.is.is) ∙ e in cc
 
 next-is-one : (cs : List Code) → next_is (is_value 40) cs ≡ true → next_is (is_value 91) cs ≡ false
 next-is-one [] e = refl
@@ -150,7 +169,8 @@ module _ (s : Setting) (defined : Bool) where
   abbrev Follows : Part
   Follows = FollowsLabel s defined
 
-  at-bracket-back : (cs : List Code) (tree : Forest) (rest : List Code) → next_is (is_value 40) cs ≡ false → reference_after_label s defined cs ≡ Some (tree, rest) → Follows cs tree rest
+  at-bracket-back : (cs : List Code) (tree : Forest) (rest : List Code) → next_is (is_value 40) cs ≡ false →
+      reference_after_label s defined cs ≡ Some (tree, rest) → Follows cs tree rest
   unfolding reference_after_label shortcut_before_bracket
   at-bracket-back cs tree rest n e =
       elim (either-back (full_reference s) _ cs (tree, rest) e) [
@@ -166,32 +186,41 @@ module _ (s : Setting) (defined : Bool) where
                 inr (record {
                   is = on.1;
                   no_resource = no-resource cs n;
-                  before_bracket = λ _. (and-right _ _ on.0, none-back collapsed_reference IsCollapsed cs (collapsed-found cs) none.0, none-back (label reference_names) ALabel cs (found-label cs) none.1);
+                  before_bracket =
+                      λ _. (and-right _ _ on.0, none-back collapsed_reference IsCollapsed cs (collapsed-found cs) none.0, none-back (label reference_names) ALabel cs (found-label cs) none.1);
                 }),
               ))
         ]
       ]
 
-  shortcut-follows : (cs : List Code) (tree : Forest) (rest : List Code) → NoneHere IsResource cs → next_is (is_value 91) cs ≡ false → shortcut defined cs ≡ Some (tree, rest) → Follows cs tree rest
+  shortcut-follows : (cs : List Code) (tree : Forest) (rest : List Code) → NoneHere IsResource cs →
+      next_is (is_value 91) cs ≡ false → shortcut defined cs ≡ Some (tree, rest) → Follows cs tree rest
   shortcut-follows cs tree rest n b e =
       let on : (defined ≡ true) × Nothing cs tree rest = shortcut-back defined cs tree rest e in
       inr (inr (on.0, inr (record { is = on.1; no_resource = n; before_bracket = λ h. absurd (let no : true ≡ false = sym h ∙ b in cc) })))
 
-  follows-back : (cs : List Code) (tree : Forest) (rest : List Code) → after_label s defined cs ≡ Some (tree, rest) → Follows cs tree rest
+  follows-back : (cs : List Code) (tree : Forest) (rest : List Code) → after_label s defined cs ≡ Some (tree, rest) →
+      Follows cs tree rest
   unfolding after_label
   follows-back cs tree rest e = by_next (next_is (is_value 40) cs) (next_is (is_value 91) cs) refl refl
     where
-      at_paren : next_is (is_value 40) cs ≡ true → either resource (shortcut defined) cs ≡ Some (tree, rest) → (o : Option (Forest × List Code)) → resource cs ≡ o → Follows cs tree rest
-      at_paren h k None f = shortcut-follows cs tree rest (none-back resource IsResource cs (resource-found cs) f) (next-is-one cs h) (sym (either-second resource (shortcut defined) cs f) ∙ k)
-      at_paren h k (Some r) f = inl (resource-back cs tree rest (f ∙ sym (either-some resource (shortcut defined) cs r f) ∙ k))
+      at_paren : next_is (is_value 40) cs ≡ true → either resource (shortcut defined) cs ≡ Some (tree, rest) →
+          (o : Option (Forest × List Code)) → resource cs ≡ o → Follows cs tree rest
+      at_paren h k None f =
+          shortcut-follows cs tree rest (none-back resource IsResource cs (resource-found cs) f) (next-is-one cs h) (sym (either-second resource (shortcut defined) cs f) ∙ k)
+      at_paren h k (Some r) f =
+          inl (resource-back cs tree rest (f ∙ sym (either-some resource (shortcut defined) cs r f) ∙ k))
 
       by_next : (x y : Bool) → next_is (is_value 40) cs ≡ x → next_is (is_value 91) cs ≡ y → Follows cs tree rest
       by_next true y h k = at_paren h (sym (if-here (is_value 40) _ _ cs h) ∙ e) (resource cs) refl
-      by_next false true h k = at-bracket-back cs tree rest h (sym (if-other (is_value 40) _ _ cs h ∙ if-here (is_value 91) _ _ cs k) ∙ e)
-      by_next false false h k = shortcut-follows cs tree rest (no-resource cs h) k (sym (if-other (is_value 40) _ _ cs h ∙ if-other (is_value 91) _ _ cs k) ∙ e)
+      by_next false true h k =
+          at-bracket-back cs tree rest h (sym (if-other (is_value 40) _ _ cs h ∙ if-here (is_value 91) _ _ cs k) ∙ e)
+      by_next false false h k =
+          shortcut-follows cs tree rest (no-resource cs h) k (sym (if-other (is_value 40) _ _ cs h ∙ if-other (is_value 91) _ _ cs k) ∙ e)
 
   -- where a `[` follows
-  at-bracket : (cs : List Code) → next_is (is_value 91) cs ≡ true → after_label s defined cs ≡ reference_after_label s defined cs
+  at-bracket : (cs : List Code) → next_is (is_value 91) cs ≡ true →
+      after_label s defined cs ≡ reference_after_label s defined cs
   unfolding after_label
   at-bracket cs h = if-other (is_value 40) _ _ cs (other cs h) ∙ if-here (is_value 91) _ _ cs h
     where
@@ -199,26 +228,32 @@ module _ (s : Setting) (defined : Bool) where
       other [] e = cc
       other (c ∷ ds) e = ap (λ v. v == 40) (eqb-true c.value 91 e)
 
-  full-follows : (cs : List Code) (tree : Forest) (rest : List Code) → IsFull s cs tree rest → after_label s defined cs ≡ Some (tree, rest)
+  full-follows : (cs : List Code) (tree : Forest) (rest : List Code) → IsFull s cs tree rest →
+      after_label s defined cs ≡ Some (tree, rest)
   unfolding reference_after_label
-  full-follows cs tree rest i = at-bracket cs (ap (next_is (is_value 91)) i.is.stands ∙ i.is.is.opens) ∙ either-some (full_reference s) _ cs (tree, rest) (full-found s cs tree rest i)
+  full-follows cs tree rest i =
+      at-bracket cs (ap (next_is (is_value 91)) i.is.stands ∙ i.is.is.opens) ∙ either-some (full_reference s) _ cs (tree, rest) (full-found s cs tree rest i)
 
-  collapsed-follows : (cs : List Code) (tree : Forest) (rest : List Code) → defined ≡ true → IsCollapsed cs tree rest → after_label s defined cs ≡ Some (tree, rest)
+  collapsed-follows : (cs : List Code) (tree : Forest) (rest : List Code) → defined ≡ true → IsCollapsed cs tree rest →
+      after_label s defined cs ≡ Some (tree, rest)
   unfolding reference_after_label
   collapsed-follows cs tree rest d i =
       at-bracket cs (ap (next_is (is_value 91)) i.is.is.stands ∙ i.is.is.is)
       ∙ either-second (full_reference s) _ cs (no-full s cs (no-label cs tree rest i))
       ∙ either-some (provided defined >> collapsed_reference) _ cs (tree, rest) (switched-on collapsed_reference defined cs d ∙ collapsed-found cs tree rest i)
 
-  shortcut-here : (cs : List Code) (tree : Forest) (rest : List Code) → defined ≡ true → IsShortcut s cs tree rest → after_label s defined cs ≡ Some (tree, rest)
+  shortcut-here : (cs : List Code) (tree : Forest) (rest : List Code) → defined ≡ true → IsShortcut s cs tree rest →
+      after_label s defined cs ≡ Some (tree, rest)
   unfolding after_label reference_after_label shortcut_before_bracket
   shortcut-here cs tree rest d i = by_next (next_is (is_value 40) cs) (next_is (is_value 91) cs) refl refl
     where
       here : shortcut defined cs ≡ Some (tree, rest)
       here = shortcut-found defined cs tree rest d i.is
 
-      by_next : (x y : Bool) → next_is (is_value 40) cs ≡ x → next_is (is_value 91) cs ≡ y → after_label s defined cs ≡ Some (tree, rest)
-      by_next true y h k = if-here (is_value 40) _ _ cs h ∙ either-second resource (shortcut defined) cs (none-found resource IsResource cs (resource-back cs) i.no_resource) ∙ here
+      by_next : (x y : Bool) → next_is (is_value 40) cs ≡ x → next_is (is_value 91) cs ≡ y →
+          after_label s defined cs ≡ Some (tree, rest)
+      by_next true y h k =
+          if-here (is_value 40) _ _ cs h ∙ either-second resource (shortcut defined) cs (none-found resource IsResource cs (resource-back cs) i.no_resource) ∙ here
       by_next false true h k =
           let b : (s.options.label_shortcut_before_bracket ≡ true) × NoneHere IsCollapsed cs × NoneHere ALabel cs = i.before_bracket k in
           let collapsed : collapsed_reference cs ≡ None = none-found collapsed_reference IsCollapsed cs (collapsed-back cs) b.1 in
@@ -230,15 +265,18 @@ module _ (s : Setting) (defined : Bool) where
           ∙ shortcut-found _ cs tree rest (and_from defined _ d b.0) i.is
       by_next false false h k = if-other (is_value 40) _ _ cs h ∙ if-other (is_value 91) _ _ cs k ∙ here
 
-  resource-follows : (cs : List Code) (tree : Forest) (rest : List Code) → IsResource cs tree rest → after_label s defined cs ≡ Some (tree, rest)
+  resource-follows : (cs : List Code) (tree : Forest) (rest : List Code) → IsResource cs tree rest →
+      after_label s defined cs ≡ Some (tree, rest)
   unfolding after_label
   resource-follows cs tree rest r =
       if-here (is_value 40) _ _ cs (ap (next_is (is_value 40)) r.is.is.stands ∙ r.is.is.is) ∙ either-some resource (shortcut defined) cs (tree, rest) (resource-found cs tree rest r)
 
-  follows-found : (cs : List Code) (tree : Forest) (rest : List Code) → Follows cs tree rest → after_label s defined cs ≡ Some (tree, rest)
+  follows-found : (cs : List Code) (tree : Forest) (rest : List Code) → Follows cs tree rest →
+      after_label s defined cs ≡ Some (tree, rest)
   follows-found cs tree rest (inl r) = resource-follows cs tree rest r
   follows-found cs tree rest (inr (inl i)) = full-follows cs tree rest i
-  follows-found cs tree rest (inr (inr i)) = elim i.1 [ inl k ↦ collapsed-follows cs tree rest i.0 k | inr k ↦ shortcut-here cs tree rest i.0 k ]
+  follows-found cs tree rest (inr (inr i)) =
+      elim i.1 [ inl k ↦ collapsed-follows cs tree rest i.0 k | inr k ↦ shortcut-here cs tree rest i.0 k ]
 
 pub what_follows_is_found : WhatFollowsIsFound
 what_follows_is_found s defined = record {

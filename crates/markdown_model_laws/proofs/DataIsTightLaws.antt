@@ -31,13 +31,15 @@ last-of-more (x ∷ []) y ys = refl
 last-of-more (x ∷ z ∷ xs) y ys = last-of-more (z ∷ xs) y ys
 
 -- what the last code of a list fails, the last one of its back fails too
-last-of-back : (xs ys : List Code) → is_some_code is_blank (last_code (xs ++ ys)) ≡ false → is_some_code is_blank (last_code ys) ≡ false
+last-of-back : (xs ys : List Code) → is_some_code is_blank (last_code (xs ++ ys)) ≡ false →
+    is_some_code is_blank (last_code ys) ≡ false
 last-of-back xs [] h = refl
 last-of-back xs (y ∷ ys) h = ap (is_some_code is_blank) (sym (last-of-more xs y ys)) ∙ h
 
 last-reversed : (cs : List Code) → next_is is_blank cs ≡ false → is_some_code is_blank (last_code (reverse cs)) ≡ false
 last-reversed [] h = refl
-last-reversed (c ∷ cs) h = ap (λ x. is_some_code is_blank (last_code x)) (reverse-append (c ∷ []) cs) ∙ ap (is_some_code is_blank) (last-of-more (reverse cs) c []) ∙ h
+last-reversed (c ∷ cs) h =
+    ap (λ x. is_some_code is_blank (last_code x)) (reverse-append (c ∷ []) cs) ∙ ap (is_some_code is_blank) (last-of-more (reverse cs) c []) ∙ h
 
 -- Leaves that are no data and no line ending.
 
@@ -46,12 +48,14 @@ is_other Name.Data = false
 is_other Name.LineEnding = false
 is_other _ = true
 
-tight-other : (front whole : Bool) (name : Name) (cs : List Code) (f : Forest) → is_other name ≡ true → IsTight false whole f → IsTight front whole (leaf_then name None cs f)
+tight-other : (front whole : Bool) (name : Name) (cs : List Code) (f : Forest) → is_other name ≡ true →
+    IsTight false whole f → IsTight front whole (leaf_then name None cs f)
 tight-other front whole Name.Data cs f h k = cc
 tight-other front whole Name.LineEnding cs f h k = cc
 tight-other front whole name cs f h k = k
 
-not-ending : (name : Name) (cs : List Code) (f : Forest) → is_other name ≡ true → begins_line_ending (leaf_then name None cs f) ≡ false
+not-ending : (name : Name) (cs : List Code) (f : Forest) → is_other name ≡ true →
+    begins_line_ending (leaf_then name None cs f) ≡ false
 not-ending Name.LineEnding cs f h = cc
 not-ending name cs f h = refl
 
@@ -91,11 +95,13 @@ tight-back front whole (y ∷ ys) (z ∷ zs) name f o first last h k =
 tight-three : (front whole : Bool) (xs ys zs : List Code) (name : Name) (f : Forest) → is_other name ≡ true → NotBlankFirst front ys → NotBlankLast (ends_before whole f) ys
     → IsTight front whole f → IsTight false whole f → IsTight front whole ((leaf Name.SpaceOrTab xs ⊕ leaf Name.Data ys ⊕ leaf name zs) ⊕ f)
 tight-three front whole [] ys zs name f o first last h k = tight-back front whole ys zs name f o first last h k
-tight-three front whole (x ∷ xs) ys zs name f o first last h k = tight-back false whole ys zs name f o (never false refl) last k k
+tight-three front whole (x ∷ xs) ys zs name f o first last h k =
+    tight-back false whole ys zs name f o (never false refl) last k k
 
 -- Trimming.
 
-trimmed-next : (hard front whole : Bool) (f : Forest) → begins_data f ≡ false → ends_before whole (trimmed hard front whole f) ≡ ends_before whole f
+trimmed-next : (hard front whole : Bool) (f : Forest) → begins_data f ≡ false →
+    ends_before whole (trimmed hard front whole f) ≡ ends_before whole f
 unfolding trimmed
 trimmed-next hard front whole empty h = refl
 trimmed-next hard front whole (leaf_then Name.Data None cs rest) h = cc
@@ -113,15 +119,19 @@ front-first : (front : Bool) (cs : List Code) → NotBlankFirst front (front_cut
 front-first true cs h = span-stops is_blank cs
 front-first false cs h = cc
 
-front-last : (front : Bool) (cs : List Code) → is_some_code is_blank (last_code cs) ≡ false → is_some_code is_blank (last_code (front_cut front cs).1) ≡ false
-front-last true cs h = last-of-back (span is_blank cs).0 (span is_blank cs).1 (ap (λ x. is_some_code is_blank (last_code x)) (span-append is_blank cs) ∙ h)
+front-last : (front : Bool) (cs : List Code) → is_some_code is_blank (last_code cs) ≡ false →
+    is_some_code is_blank (last_code (front_cut front cs).1) ≡ false
+front-last true cs h =
+    last-of-back (span is_blank cs).0 (span is_blank cs).1 (ap (λ x. is_some_code is_blank (last_code x)) (span-append is_blank cs) ∙ h)
 front-last false cs h = h
 
-back-last : (back : Bool) (cs : List Code) → back ≡ true → is_some_code is_blank (last_code (reverse (back_cut back cs).1)) ≡ false
+back-last : (back : Bool) (cs : List Code) → back ≡ true →
+    is_some_code is_blank (last_code (reverse (back_cut back cs).1)) ≡ false
 back-last true cs h = last-reversed (span is_blank (reverse cs)).1 (span-stops is_blank (reverse cs))
 back-last false cs h = cc
 
-tight-data : (front whole back hard : Bool) (cs : List Code) (f : Forest) → ends_before whole f ≡ back → IsTight front whole f → IsTight false whole f → IsTight front whole (trimmed_data front back hard cs ⊕ f)
+tight-data : (front whole back hard : Bool) (cs : List Code) (f : Forest) → ends_before whole f ≡ back →
+    IsTight front whole f → IsTight false whole f → IsTight front whole (trimmed_data front back hard cs ⊕ f)
 tight-data front whole back hard cs f e h k =
     tight-three front whole (front_cut front kept).0 (front_cut front kept).1 (reverse (back_cut back cs).0) (blank_name hard (reverse (back_cut back cs).0)) f (blank-other hard (reverse (back_cut back cs).0))
     (front-first front kept) (λ l. front-last front kept (back-last back cs (sym e ∙ l))) h k
@@ -138,7 +148,8 @@ tight-any front whole (leaf_then Name.Data (Some link) cs rest) h k = k
 tight-any front whole (leaf_then name link cs rest) h k = k
 tight-any front whole (group_then name enter exit inside rest) h k = k
 
-trimmed-no-data : (hard front whole : Bool) (f : Forest) → begins_data f ≡ false → begins_data (trimmed hard front whole f) ≡ false
+trimmed-no-data : (hard front whole : Bool) (f : Forest) → begins_data f ≡ false →
+    begins_data (trimmed hard front whole f) ≡ false
 unfolding trimmed
 trimmed-no-data hard front whole empty h = refl
 trimmed-no-data hard front whole (leaf_then Name.Data None cs rest) h = cc
@@ -147,7 +158,8 @@ trimmed-no-data hard front whole (leaf_then Name.Data (Some link) cs rest) h = r
 trimmed-no-data hard front whole (leaf_then name link cs rest) h = refl
 trimmed-no-data hard front whole (group_then name enter exit inside rest) h = refl
 
-tight-trimmed : (hard front whole : Bool) (f : Forest) → IsDataApart f → IsTight front whole (trimmed hard front whole f)
+tight-trimmed : (hard front whole : Bool) (f : Forest) → IsDataApart f →
+    IsTight front whole (trimmed hard front whole f)
 unfolding trimmed
 tight-trimmed hard front whole empty h = tt
 tight-trimmed hard front whole (leaf_then Name.Data None cs rest) h =
@@ -157,7 +169,8 @@ tight-trimmed hard front whole (leaf_then Name.Data None cs rest) h =
 tight-trimmed hard front whole (leaf_then Name.LineEnding link cs rest) h = tight-trimmed hard true whole rest h
 tight-trimmed hard front whole (leaf_then Name.Data (Some link) cs rest) h = tight-trimmed hard false whole rest h
 tight-trimmed hard front whole (leaf_then name link cs rest) h = tight-trimmed hard false whole rest h
-tight-trimmed hard front whole (group_then name enter exit inside rest) h = (tight-trimmed hard false false inside h.0, tight-trimmed hard false whole rest h.1)
+tight-trimmed hard front whole (group_then name enter exit inside rest) h =
+    (tight-trimmed hard false false inside h.0, tight-trimmed hard false whole rest h.1)
 
 -- Emails.
 
@@ -165,24 +178,29 @@ tight-trimmed hard front whole (group_then name enter exit inside rest) h = (tig
 abbrev Begins : Bool → List Code → Type 0
 Begins front cs = is_empty cs ≡ true → front ≡ false
 
-first-of-more : (y : Code) (ys ds cs : List Code) → (y ∷ ys) ++ ds ≡ cs → next_is is_blank cs ≡ next_is is_blank (y ∷ ys)
+first-of-more : (y : Code) (ys ds cs : List Code) → (y ∷ ys) ++ ds ≡ cs →
+    next_is is_blank cs ≡ next_is is_blank (y ∷ ys)
 first-of-more y ys ds cs h = ap (next_is is_blank) (sym h)
 
-tight-piece : (front whole : Bool) (cs : List Code) (f : Forest) → Begins front cs → NotBlankFirst front cs → NotBlankLast (ends_before whole f) cs → IsTight false whole f → IsTight front whole (leaf Name.Data cs ⊕ f)
+tight-piece : (front whole : Bool) (cs : List Code) (f : Forest) → Begins front cs → NotBlankFirst front cs →
+    NotBlankLast (ends_before whole f) cs → IsTight false whole f → IsTight front whole (leaf Name.Data cs ⊕ f)
 tight-piece front whole [] f b first last k = subst (λ x. IsTight x whole f) (sym (b refl)) k
 tight-piece front whole (c ∷ cs) f b first last k = (refl, first, last, k)
 
 module _ (whole : Bool) (f : Forest) (k : IsTight false whole f) where
   abbrev Law : Bool → List Code → Forest → Type 0
-  Law front cs t = Begins front cs → NotBlankFirst front cs → NotBlankLast (ends_before whole f) cs → IsTight front whole (t ⊕ f)
+  Law front cs t =
+      Begins front cs → NotBlankFirst front cs → NotBlankLast (ends_before whole f) cs → IsTight front whole (t ⊕ f)
 
-  email-tight : (front : Bool) (xs : List Code) (e more : Forest) → IsEmailLeaf e → NotBlankFirst front xs → IsTight false whole (more ⊕ f) → IsTight front whole ((leaf Name.Data xs ⊕ e ⊕ more) ⊕ f)
+  email-tight : (front : Bool) (xs : List Code) (e more : Forest) → IsEmailLeaf e → NotBlankFirst front xs →
+      IsTight false whole (more ⊕ f) → IsTight front whole ((leaf Name.Data xs ⊕ e ⊕ more) ⊕ f)
   email-tight front xs e more h first l = subst (λ t. IsTight front whole ((leaf Name.Data xs ⊕ t ⊕ more) ⊕ f)) (sym h.is) (by_codes xs first)
     where
       o : is_other h.name ≡ true
       o = email-other h.name h.named
 
-      by_codes : (ys : List Code) → NotBlankFirst front ys → IsTight front whole ((leaf Name.Data ys ⊕ leaf_then h.name None (h.first ∷ h.more) empty ⊕ more) ⊕ f)
+      by_codes : (ys : List Code) → NotBlankFirst front ys →
+          IsTight front whole ((leaf Name.Data ys ⊕ leaf_then h.name None (h.first ∷ h.more) empty ⊕ more) ⊕ f)
       by_codes [] g = tight-other front whole h.name (h.first ∷ h.more) (more ⊕ f) o l
       by_codes (y ∷ ys) g =
           (refl, g, never (begins_line_ending (leaf_then h.name None (h.first ∷ h.more) (more ⊕ f)) || (whole && false)) (λ i. not-ending h.name (h.first ∷ h.more) (more ⊕ f) o i || and-false whole i), tight-other false whole h.name (h.first ∷ h.more) (more ⊕ f) o l)
@@ -192,14 +210,17 @@ module _ (whole : Bool) (f : Forest) (k : IsTight false whole f) where
   first-part front (x ∷ xs) ds cs e g h = sym (first-of-more x xs ds cs e) ∙ g h
 
   last-part : (b : Bool) (xs ys ds cs : List Code) → xs ++ (ys ++ ds) ≡ cs → NotBlankLast b cs → NotBlankLast b ds
-  last-part b xs ys ds cs e g h = last-of-back (xs ++ ys) ds (ap (λ z. is_some_code is_blank (last_code z)) (append_assoc xs ys ds ∙ e) ∙ g h)
+  last-part b xs ys ds cs e g h =
+      last-of-back (xs ++ ys) ds (ap (λ z. is_some_code is_blank (last_code z)) (append_assoc xs ys ds ∙ e) ∙ g h)
 
-  emails-tight : (n : ℕ) (front : Bool) (before cs : List Code) → Law front (reverse before ++ cs) (email_leaves n before cs)
+  emails-tight : (n : ℕ) (front : Bool) (before cs : List Code) →
+      Law front (reverse before ++ cs) (email_leaves n before cs)
   unfolding email_leaves
   emails-tight n front before [] b first last =
       let e : reverse before ++ [] ≡ reverse before = append-nil (reverse before) in
       tight-piece front whole (reverse before) f (subst (Begins front) e b) (subst (NotBlankFirst front) e first) (subst (NotBlankLast (ends_before whole f)) e last) k
-  emails-tight zero front before (c ∷ cs) b first last = tight-piece front whole (reverse before ++ c ∷ cs) f b first last k
+  emails-tight zero front before (c ∷ cs) b first last =
+      tight-piece front whole (reverse before ++ c ∷ cs) f b first last k
   emails-tight (suc n) front before (c ∷ cs) b first last =
       by_answer (email_at before c cs) (found before c cs) (answer-email before c cs) (emails-tight n front (c ∷ before) cs) (λ ds. emails-tight n false [] ds)
     where
@@ -224,14 +245,16 @@ data-begins : (cs : List Code) (f : Forest) → is_empty cs ≡ false → Begins
 data-begins [] f h = cc
 data-begins (c ∷ cs) f h = (refl, refl)
 
-pub emails-begin : (n : ℕ) (before cs : List Code) (f : Forest) → is_empty (reverse before ++ cs) ≡ false → BeginsLeaf (email_leaves n before cs ⊕ f)
+pub emails-begin : (n : ℕ) (before cs : List Code) (f : Forest) → is_empty (reverse before ++ cs) ≡ false →
+    BeginsLeaf (email_leaves n before cs ⊕ f)
 unfolding email_leaves
 emails-begin n before [] f h = data-begins (reverse before) f (ap is_empty (sym (append-nil (reverse before))) ∙ h)
 emails-begin zero before (c ∷ cs) f h = data-begins (reverse before ++ c ∷ cs) f h
 emails-begin (suc n) before (c ∷ cs) f h = by_answer (email_at before c cs) (answer-email before c cs) (emails-begin n (c ∷ before) cs f)
   where
     email-begins : (xs : List Code) (e more : Forest) → IsEmailLeaf e → BeginsLeaf ((leaf Name.Data xs ⊕ e ⊕ more) ⊕ f)
-    email-begins [] e more l = subst (λ t. BeginsLeaf ((t ⊕ more) ⊕ f)) (sym l.is) (not-ending l.name (l.first ∷ l.more) (more ⊕ f) (email-other l.name l.named), refl)
+    email-begins [] e more l =
+        subst (λ t. BeginsLeaf ((t ⊕ more) ⊕ f)) (sym l.is) (not-ending l.name (l.first ∷ l.more) (more ⊕ f) (email-other l.name l.named), refl)
     email-begins (x ∷ xs) e more l = (refl, refl)
 
     by_answer : (r : Option (List Code × Forest × List Code)) → AnswerIsEmail r → (is_empty (reverse (c ∷ before) ++ cs) ≡ false → BeginsLeaf (email_leaves n (c ∷ before) cs ⊕ f))
@@ -240,7 +263,8 @@ emails-begin (suc n) before (c ∷ cs) f h = by_answer (email_at before c cs) (a
     by_answer (Some x) k more = email-begins x.0 x.1 (email_leaves n [] x.2) k
 
 -- a tight row ends before as it did when its emails are found
-email-next : (whole : Bool) (f : Forest) → IsTight false whole f → ends_before whole (with_emails_apart f) ≡ ends_before whole f
+email-next : (whole : Bool) (f : Forest) → IsTight false whole f →
+    ends_before whole (with_emails_apart f) ≡ ends_before whole f
 unfolding with_emails_apart with_emails
 email-next whole empty h = refl
 email-next whole (leaf_then Name.Data None cs rest) h =
@@ -262,7 +286,8 @@ tight-mailed front whole (leaf_then Name.LineEnding link cs rest) h = tight-mail
 tight-mailed front whole (leaf_then Name.Data (Some link) cs rest) h = tight-mailed false whole rest h
 tight-mailed front whole (leaf_then name link cs rest) h = tight-mailed false whole rest h
 tight-mailed front whole (group_then Name.Link enter exit inside rest) h = (h.0, tight-mailed false whole rest h.1)
-tight-mailed front whole (group_then name enter exit inside rest) h = (tight-mailed false false inside h.0, tight-mailed false whole rest h.1)
+tight-mailed front whole (group_then name enter exit inside rest) h =
+    (tight-mailed false false inside h.0, tight-mailed false whole rest h.1)
 
 pub data_is_tight : DataIsTight
 unfolding text_tree string_tree finished_text finished_string

@@ -22,7 +22,8 @@ opening-from text = bare-from 40 false [] text refl
 closing-from : (text : List Code) → closing text ≡ bare_from 41 false text
 closing-from text = bare-from 41 false [] text refl
 
-to-raw : (max : ℕ) (text rest : List Code) → is_empty text ≡ false → next_is (is_value 60) text ≡ false → RawFrom max false 0 text rest → IsRaw max text rest
+to-raw : (max : ℕ) (text rest : List Code) → is_empty text ≡ false → next_is (is_value 60) text ≡ false →
+    RawFrom max false 0 text rest → IsRaw max text rest
 to-raw max text rest some first r = record {
   some = some;
   first = first;
@@ -41,12 +42,14 @@ of-raw max text rest i = record {
 }
 
 -- the next code of a text is that of the codes from it on
-next-first : (p : Code → Bool) (text rest : List Code) → is_empty text ≡ false → next_is p (text ++ rest) ≡ next_is p text
+next-first : (p : Code → Bool) (text rest : List Code) → is_empty text ≡ false →
+    next_is p (text ++ rest) ≡ next_is p text
 next-first p [] rest e = cc
 next-first p (c ∷ text) rest e = refl
 
 module _ (max : ℕ) (names : DestinationNames) where
-  raw-back : (cs : List Code) (tree : Forest) (rest : List Code) → next_is (is_value 60) cs ≡ false → raw_destination max names cs ≡ Some (tree, rest) → Raw max names cs tree rest
+  raw-back : (cs : List Code) (tree : Forest) (rest : List Code) → next_is (is_value 60) cs ≡ false →
+      raw_destination max names cs ≡ Some (tree, rest) → Raw max names cs tree rest
   unfolding raw_destination
   raw-back cs tree rest h e =
       let w : Went (raw_from max false 0) _ cs (tree, rest) = bind-back (raw_from max false 0) _ cs (tree, rest) e in
@@ -62,29 +65,35 @@ module _ (max : ℕ) (names : DestinationNames) where
         tree_is = g.0;
       }
 
-  raw-some : (text rest : List Code) → IsRaw max text rest → raw_destination max names (text ++ rest) ≡ Some (raw_tree_of names text, rest)
+  raw-some : (text rest : List Code) → IsRaw max text rest →
+      raw_destination max names (text ++ rest) ≡ Some (raw_tree_of names text, rest)
   unfolding raw_destination gives
   raw-some text rest i =
       bind-some _ _ (text ++ rest) text rest _ (raw-found max text rest false 0 (of-raw max text rest i))
       (after-some _ _ rest [] rest _ (provided-true _ rest (ap not i.some)) refl)
 
-  at-bracket : (cs : List Code) → next_is (is_value 60) cs ≡ true → destination max names cs ≡ literal_destination names cs
+  at-bracket : (cs : List Code) → next_is (is_value 60) cs ≡ true →
+      destination max names cs ≡ literal_destination names cs
   unfolding destination
   at-bracket cs e = if-here (is_value 60) (literal_destination names) (raw_destination max names) cs e
 
-  at-other : (cs : List Code) → next_is (is_value 60) cs ≡ false → destination max names cs ≡ raw_destination max names cs
+  at-other : (cs : List Code) → next_is (is_value 60) cs ≡ false →
+      destination max names cs ≡ raw_destination max names cs
   unfolding destination
   at-other cs e = if-other (is_value 60) (literal_destination names) (raw_destination max names) cs e
 
-  pub destination-back : (cs : List Code) (tree : Forest) (rest : List Code) → destination max names cs ≡ Some (tree, rest) → IsDestination max names cs tree rest
+  pub destination-back : (cs : List Code) (tree : Forest) (rest : List Code) →
+      destination max names cs ≡ Some (tree, rest) → IsDestination max names cs tree rest
   destination-back cs tree rest e = by_next (next_is (is_value 60) cs) refl
     where
       by_next : (b : Bool) → next_is (is_value 60) cs ≡ b → IsDestination max names cs tree rest
       by_next true h = inl (enclosed-back names cs tree rest (sym (at-bracket cs h) ∙ e))
       by_next false h = inr (raw-back cs tree rest h (sym (at-other cs h) ∙ e))
 
-  pub destination-found : (cs : List Code) (tree : Forest) (rest : List Code) → IsDestination max names cs tree rest → destination max names cs ≡ Some (tree, rest)
-  destination-found cs tree rest (inl m) = at-bracket cs (ap (next_is (is_value 60)) m.stands ∙ m.is.opens) ∙ marked-found (literal_destination names) IsEnclosed (enclosed_tree names) (enclosed-found names) cs tree rest m
+  pub destination-found : (cs : List Code) (tree : Forest) (rest : List Code) → IsDestination max names cs tree rest →
+      destination max names cs ≡ Some (tree, rest)
+  destination-found cs tree rest (inl m) =
+      at-bracket cs (ap (next_is (is_value 60)) m.stands ∙ m.is.opens) ∙ marked-found (literal_destination names) IsEnclosed (enclosed_tree names) (enclosed-found names) cs tree rest m
   destination-found cs tree rest (inr r) =
       at-other cs (ap (next_is (is_value 60)) r.stands ∙ next-first (is_value 60) r.text rest r.is.some ∙ r.is.first)
       ∙ ap (raw_destination max names) r.stands ∙ raw-some r.text rest r.is ∙ ap (λ t. Some (t, rest)) (sym r.tree_is)

@@ -33,7 +33,8 @@ email-name (c ∷ cs) = by_tests (is_value (byte ":") c && is_word "mailto" (rev
     by_tests false true = refl
     by_tests false false = refl
 
-email-leaf : (name : Name) (xs : List Code) (at : Code) (ys : List Code) → is_email name ≡ true → IsEmailLeaf (leaf name (xs ++ at ∷ ys))
+email-leaf : (name : Name) (xs : List Code) (at : Code) (ys : List Code) → is_email name ≡ true →
+    IsEmailLeaf (leaf name (xs ++ at ∷ ys))
 email-leaf name [] at ys h = record { name = name; first = at; more = ys; is = refl; named = h }
 email-leaf name (x ∷ xs) at ys h = record { name = name; first = x; more = xs ++ at ∷ ys; is = refl; named = h }
 
@@ -50,5 +51,6 @@ answer-email before at after = by_test _
         let protocol : Name × List Code × List Code = email_protocol local.1 in
         let domain : List Code × List Code = email_domain (is_xmpp protocol.0) after in
         AnswerIsEmail (elim b [ true ↦ Some (reverse protocol.2, leaf protocol.0 (reverse (local.0 ++ protocol.1) ++ at ∷ domain.0), domain.1) | false ↦ None ])
-    by_test true = email-leaf _ (reverse ((span is_local before).0 ++ (email_protocol (span is_local before).1).1)) at _ (email-name (span is_local before).1)
+    by_test true =
+        email-leaf _ (reverse ((span is_local before).0 ++ (email_protocol (span is_local before).1).1)) at _ (email-name (span is_local before).1)
     by_test false = tt

@@ -33,9 +33,11 @@ email-first e f h =
     ∙ ap (λ cs. data_onto (h.first ∷ cs) (merged (as_data f))) (sym (append-nil h.more))
     ∙ ap (λ t. onto (leaf_codes t) (merged (as_data f))) (sym h.is)
 
-emails-data : (n : ℕ) (before cs : List Code) (f : Forest) → merged (as_data (email_leaves n before cs ⊕ f)) ≡ onto (reverse before ++ cs) (merged (as_data f))
+emails-data : (n : ℕ) (before cs : List Code) (f : Forest) →
+    merged (as_data (email_leaves n before cs ⊕ f)) ≡ onto (reverse before ++ cs) (merged (as_data f))
 unfolding email_leaves
-emails-data n before [] f = data-first (reverse before) f ∙ ap (λ xs. onto xs (merged (as_data f))) (sym (append-nil (reverse before)))
+emails-data n before [] f =
+    data-first (reverse before) f ∙ ap (λ xs. onto xs (merged (as_data f))) (sym (append-nil (reverse before)))
 emails-data zero before (c ∷ cs) f = data-first (reverse before ++ c ∷ cs) f
 emails-data (suc n) before (c ∷ cs) f = by_answer (email_at before c cs) (found before c cs) (answer-email before c cs) (λ front ds. emails-data n front ds f)
   where
@@ -53,12 +55,14 @@ emails-data (suc n) before (c ∷ cs) f = by_answer (email_at before c cs) (foun
         join-assoc : (a b d : Forest) → (a ⊕ b) ⊕ d ≡ a ⊕ (b ⊕ d)
         join-assoc empty b d = refl
         join-assoc (leaf_then name link es rest) b d = ap (leaf_then name link es) (join-assoc rest b d)
-        join-assoc (group_then name enter exit inside rest) b d = ap (group_then name enter exit inside) (join-assoc rest b d)
+        join-assoc (group_then name enter exit inside rest) b d =
+            ap (group_then name enter exit inside) (join-assoc rest b d)
 
         three : (a b d : Forest) → (a ⊕ b ⊕ d) ⊕ f ≡ a ⊕ (b ⊕ (d ⊕ f))
         three a b d = join-assoc a (b ⊕ d) f ∙ ap (λ t. a ⊕ t) (join-assoc b d f)
 
-other-leaf : (name : Name) (cs : List Code) (f g : Forest) → merged f ≡ merged g → merged (leaf_then name None cs f) ≡ merged (leaf_then name None cs g)
+other-leaf : (name : Name) (cs : List Code) (f g : Forest) → merged f ≡ merged g →
+    merged (leaf_then name None cs f) ≡ merged (leaf_then name None cs g)
 unfolding merged
 other-leaf Name.Data cs f g h = ap (data_onto cs) h
 other-leaf name cs f g h = ap (leaf_then name None cs) h
@@ -72,8 +76,13 @@ emails_stand_in_data (leaf_then Name.Data None [] rest) h = absurd (both h.0)
     both e = cc
 emails_stand_in_data (leaf_then Name.Data None (c ∷ cs) rest) h =
     emails-data (length (c ∷ cs)) [] (c ∷ cs) (with_emails_apart rest) ∙ ap (data_onto (c ∷ cs)) (emails_stand_in_data rest h.1)
-emails_stand_in_data (leaf_then name None cs rest) h = other-leaf (if is_email name then Name.Data else name) cs (as_data (with_emails_apart rest)) (as_data rest) (emails_stand_in_data rest h)
-emails_stand_in_data (leaf_then Name.Data (Some link) cs rest) h = ap (leaf_then Name.Data (Some link) cs) (emails_stand_in_data rest h)
-emails_stand_in_data (leaf_then name (Some link) cs rest) h = ap (leaf_then name (Some link) cs) (emails_stand_in_data rest h)
-emails_stand_in_data (group_then Name.Link enter exit inside rest) h = ap (group_then Name.Link enter exit (merged (as_data inside))) (emails_stand_in_data rest h.1)
-emails_stand_in_data (group_then name enter exit inside rest) h = λ i. group_then name enter exit (emails_stand_in_data inside h.0 i) (emails_stand_in_data rest h.1 i)
+emails_stand_in_data (leaf_then name None cs rest) h =
+    other-leaf (if is_email name then Name.Data else name) cs (as_data (with_emails_apart rest)) (as_data rest) (emails_stand_in_data rest h)
+emails_stand_in_data (leaf_then Name.Data (Some link) cs rest) h =
+    ap (leaf_then Name.Data (Some link) cs) (emails_stand_in_data rest h)
+emails_stand_in_data (leaf_then name (Some link) cs rest) h =
+    ap (leaf_then name (Some link) cs) (emails_stand_in_data rest h)
+emails_stand_in_data (group_then Name.Link enter exit inside rest) h =
+    ap (group_then Name.Link enter exit (merged (as_data inside))) (emails_stand_in_data rest h.1)
+emails_stand_in_data (group_then name enter exit inside rest) h =
+    λ i. group_then name enter exit (emails_stand_in_data inside h.0 i) (emails_stand_in_data rest h.1 i)

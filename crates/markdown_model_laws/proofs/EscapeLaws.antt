@@ -38,13 +38,15 @@ no-escape : (c : Code) (cs : List Code) → is_value 92 c ≡ false → as_plain
 unfolding as_plain character_escape
 no-escape c cs h = bind-none _ _ (c ∷ cs) (bind-none _ _ (c ∷ cs) (one-other _ c cs h))
 
-no-reference : (s : Setting) (c : Code) (cs : List Code) → is_value 38 c ≡ false → as_plain (character_reference s.references) (c ∷ cs) ≡ None
+no-reference : (s : Setting) (c : Code) (cs : List Code) → is_value 38 c ≡ false →
+    as_plain (character_reference s.references) (c ∷ cs) ≡ None
 unfolding as_plain character_reference named_parts decimal_parts hexadecimal_parts
 no-reference s c cs h =
     bind-none _ _ (c ∷ cs) (bind-none _ _ (c ∷ cs)
     (either-second _ _ (c ∷ cs) (bind-none _ _ (c ∷ cs) (one-other _ c cs h)) ∙ either-second _ _ (c ∷ cs) (bind-none _ _ (c ∷ cs) (one-other _ c cs h)) ∙ bind-none _ _ (c ∷ cs) (one-other _ c cs h)))
 
-read-itself : (s : Setting) (c : Code) (cs : List Code) → IsOrdinary c.value → string_element s (c ∷ cs) ≡ Some (plain (leaf Name.Data (c ∷ [])), cs)
+read-itself : (s : Setting) (c : Code) (cs : List Code) → IsOrdinary c.value →
+    string_element s (c ∷ cs) ≡ Some (plain (leaf Name.Data (c ∷ [])), cs)
 unfolding string_element line_ending data_code gives
 read-itself s c cs h =
     either-second _ _ (c ∷ cs) (nowhere s.options.constructs.character_escape _ (c ∷ cs) (no-escape c cs h.2))
@@ -146,11 +148,13 @@ fine-next (leaf_then Name.LineEnding link cs rest) h = cc
 fine-next (leaf_then name link cs rest) h = refl
 fine-next (group_then name enter exit inside rest) h = refl
 
-whole-data : (cs : List Code) (f : Forest) → is_empty cs ≡ false → trimmed_data false false false cs ⊕ f ≡ leaf_then Name.Data None cs f
+whole-data : (cs : List Code) (f : Forest) → is_empty cs ≡ false →
+    trimmed_data false false false cs ⊕ f ≡ leaf_then Name.Data None cs f
 whole-data [] f h = cc
 whole-data (c ∷ cs) f h = shown (reverse (reverse (c ∷ cs))) (reverse-reverse (c ∷ cs))
   where
-    shown : (ds : List Code) → ds ≡ c ∷ cs → (leaf Name.SpaceOrTab [] ⊕ leaf Name.Data ds ⊕ leaf Name.SpaceOrTab []) ⊕ f ≡ leaf_then Name.Data None (c ∷ cs) f
+    shown : (ds : List Code) → ds ≡ c ∷ cs →
+        (leaf Name.SpaceOrTab [] ⊕ leaf Name.Data ds ⊕ leaf Name.SpaceOrTab []) ⊕ f ≡ leaf_then Name.Data None (c ∷ cs) f
     shown ds e = ap (λ xs. (leaf Name.SpaceOrTab [] ⊕ leaf Name.Data xs ⊕ leaf Name.SpaceOrTab []) ⊕ f) e
 
 untrimmed : (f : Forest) → IsFine f → trimmed false false false f ≡ f
@@ -160,15 +164,18 @@ untrimmed (leaf_then Name.Data None cs rest) h =
     (λ i. trimmed_data false (fine-next rest h.2 i || (false && is_nothing rest)) false cs ⊕ untrimmed rest h.2 i) ∙ whole-data cs rest h.1
 untrimmed (leaf_then Name.LineEnding link cs rest) h = cc
 untrimmed (leaf_then name link cs rest) h = ap (leaf_then name link cs) (untrimmed rest h.2)
-untrimmed (group_then name enter exit inside rest) h = λ i. group_then name enter exit (untrimmed inside h.0 i) (untrimmed rest h.1 i)
+untrimmed (group_then name enter exit inside rest) h =
+    λ i. group_then name enter exit (untrimmed inside h.0 i) (untrimmed rest h.1 i)
 
 finished : (is : List Item) → finished_string (elements is) ≡ merged (row is)
 unfolding finished_string row
-finished is = ap (λ f. trimmed false false false (merged f)) (labels_of-plain (elements is) (are-plain is)) ∙ untrimmed (merged (row is)) (fine-merged (row is) (row-fine is).0)
+finished is =
+    ap (λ f. trimmed false false false (merged f)) (labels_of-plain (elements is) (are-plain is)) ∙ untrimmed (merged (row is)) (fine-merged (row is) (row-fine is).0)
 
 -- The content of the whole document.
 
-all-codes : (bytes : List ℕ) → place_of (stop_of document_start (codes_of bytes)) ≡ (length bytes, 0) → content_of bytes (whole bytes) ≡ codes_of bytes
+all-codes : (bytes : List ℕ) → place_of (stop_of document_start (codes_of bytes)) ≡ (length bytes, 0) →
+    content_of bytes (whole bytes) ≡ codes_of bytes
 all-codes bytes e =
     append-nil (piece_codes (codes_of bytes) (record { start = (0, 0); end = (length bytes, 0) }))
     ∙ piece-codes-is bytes (record { start = (0, 0); end = (length bytes, 0) })

@@ -53,11 +53,13 @@ selves-kept : (cs : List Code) (is : List Item) → kept_codes (selves cs ++ is)
 selves-kept [] is = refl
 selves-kept (c ∷ cs) is = ap (λ x. c ∷ x) (selves-kept cs is)
 
-tab-items : (v n : ℕ) (p : Point) (is : List Item) → IsOrdinary v → AreItems is → AreItems (selves (codes_of_tab v n p) ++ is)
+tab-items : (v n : ℕ) (p : Point) (is : List Item) → IsOrdinary v → AreItems is →
+    AreItems (selves (codes_of_tab v n p) ++ is)
 tab-items v zero p is h k = (h, k)
 tab-items v (suc n) p is h k = (h, tab-items 32 n (next_column p p.index (p.vs + 1)) is (refl, refl, refl) k)
 
-tab-bytes : (all : List ℕ) (v n : ℕ) (p : Point) → codes_bytes all (codes_of_tab v n p) ≡ slice_range all (byte_from p) (p.index + 1)
+tab-bytes : (all : List ℕ) (v n : ℕ) (p : Point) →
+    codes_bytes all (codes_of_tab v n p) ≡ slice_range all (byte_from p) (p.index + 1)
 tab-bytes all v zero p = append-nil (slice_range all (byte_from p) (p.index + 1))
 tab-bytes all v (suc n) p =
     (λ i. slice_range all (byte_from p) (inside i) ++ (tab-bytes all 32 n (next_column p p.index (p.vs + 1)) ∙ ap (λ m. slice_range all m (p.index + 1)) inside ∙ slice-none all (p.index + 1)) i)
@@ -98,8 +100,10 @@ not-of-list b m h k = by_test (b == m) refl
     by_test false e = refl
     by_test true e = absurd (both_ways (is_punctuation b) h (ap is_punctuation (eqb-true b m e) ∙ k))
 
-is-punctuation : (b : ℕ) (p q : Point) → is_punctuation b ≡ true → is_ascii_punctuation (record { value = b; start = p; stop = q }) ≡ true
-is-punctuation b p q h = of-list (λ n. is_ascii_punctuation (record { value = n; start = document_start; stop = document_start })) punctuation b refl h
+is-punctuation : (b : ℕ) (p q : Point) → is_punctuation b ≡ true →
+    is_ascii_punctuation (record { value = b; start = p; stop = q }) ≡ true
+is-punctuation b p q h =
+    of-list (λ n. is_ascii_punctuation (record { value = n; start = document_start; stop = document_start })) punctuation b refl h
 
 -- it is neither a line ending nor a tab
 abbrev IsPlain : ℕ → Type 0
@@ -127,14 +131,16 @@ pub record IsHere (all : List ℕ) (p : Point) (rest : List ℕ) : Type 0 where
   pub bytes : drop p.index all ≡ rest
   pub size : p.index + length rest ≡ length all
 
-here-next : (all : List ℕ) (p q : Point) (b : ℕ) (rest : List ℕ) → IsHere all p (b ∷ rest) → EndsAt q (p.index + 1) → IsHere all q rest
+here-next : (all : List ℕ) (p q : Point) (b : ℕ) (rest : List ℕ) → IsHere all p (b ∷ rest) → EndsAt q (p.index + 1) →
+    IsHere all q rest
 here-next all p q b rest h e = record {
   vs = e.vs;
   bytes = ap (λ n. drop n all) e.index ∙ sym (drop-drop 1 p.index all) ∙ ap (λ xs. drop 1 xs) h.bytes;
   size = omega (arith, e.index, h.size);
 }
 
-here-byte : (all : List ℕ) (p : Point) (b : ℕ) (rest : List ℕ) → IsHere all p (b ∷ rest) → slice_range all (byte_from p) (p.index + 1) ≡ b ∷ []
+here-byte : (all : List ℕ) (p : Point) (b : ℕ) (rest : List ℕ) → IsHere all p (b ∷ rest) →
+    slice_range all (byte_from p) (p.index + 1) ≡ b ∷ []
 here-byte all p b rest h =
     (λ i. slice_range all (if nat_lt 0 (h.vs i) then p.index + 1 else p.index) (p.index + 1))
     ∙ (λ i. take (one i) (h.bytes i))
@@ -144,7 +150,8 @@ here-byte all p b rest h =
 
 -- the codes of a byte that is no line ending
 abbrev codes_here : ℕ → Point → List Code
-codes_here b p = if b == tab_value then codes_of_tab tab_value (tab_width p - 1) p else record { value = b; start = p; stop = next_column p (p.index + 1) 0 } ∷ []
+codes_here b p =
+    if b == tab_value then codes_of_tab tab_value (tab_width p - 1) p else record { value = b; start = p; stop = next_column p (p.index + 1) 0 } ∷ []
 
 first-codes : (before : ℕ) (p : Point) (b : ℕ) (rest : List ℕ) → b == line_feed ≡ false → b == carriage_return ≡ false
     → codes_from before p (b ∷ rest) ≡ codes_here b p ++ codes_from b (stop_of p (codes_here b p)) rest
@@ -158,21 +165,26 @@ first-codes before p b rest h k =
 here-end : (b : ℕ) (p q : Point) → EndsAt (stop_of q (codes_here b p)) (p.index + 1)
 here-end b p q = by_test (b == tab_value)
   where
-    by_test : (t : Bool) → EndsAt (stop_of q (if t then codes_of_tab tab_value (tab_width p - 1) p else record { value = b; start = p; stop = next_column p (p.index + 1) 0 } ∷ [])) (p.index + 1)
+    by_test : (t : Bool) →
+        EndsAt (stop_of q (if t then codes_of_tab tab_value (tab_width p - 1) p else record { value = b; start = p; stop = next_column p (p.index + 1) 0 } ∷ [])) (p.index + 1)
     by_test true = tab-end tab_value (tab_width p - 1) p q
     by_test false = record { index = refl; vs = refl }
 
-here-bytes : (all : List ℕ) (b : ℕ) (p : Point) → codes_bytes all (codes_here b p) ≡ slice_range all (byte_from p) (p.index + 1)
+here-bytes : (all : List ℕ) (b : ℕ) (p : Point) →
+    codes_bytes all (codes_here b p) ≡ slice_range all (byte_from p) (p.index + 1)
 here-bytes all b p = by_test (b == tab_value)
   where
-    by_test : (t : Bool) → codes_bytes all (if t then codes_of_tab tab_value (tab_width p - 1) p else record { value = b; start = p; stop = next_column p (p.index + 1) 0 } ∷ []) ≡ slice_range all (byte_from p) (p.index + 1)
+    by_test : (t : Bool) →
+        codes_bytes all (if t then codes_of_tab tab_value (tab_width p - 1) p else record { value = b; start = p; stop = next_column p (p.index + 1) 0 } ∷ []) ≡ slice_range all (byte_from p) (p.index + 1)
     by_test true = tab-bytes all tab_value (tab_width p - 1) p
     by_test false = append-nil (slice_range all (byte_from p) (p.index + 1))
 
-here-items : (b : ℕ) (p : Point) (is : List Item) → IsOrdinary b → AreItems is → AreItems (selves (codes_here b p) ++ is)
+here-items : (b : ℕ) (p : Point) (is : List Item) → IsOrdinary b → AreItems is →
+    AreItems (selves (codes_here b p) ++ is)
 here-items b p is h k = by_test (b == tab_value)
   where
-    by_test : (t : Bool) → AreItems (selves (if t then codes_of_tab tab_value (tab_width p - 1) p else record { value = b; start = p; stop = next_column p (p.index + 1) 0 } ∷ []) ++ is)
+    by_test : (t : Bool) →
+        AreItems (selves (if t then codes_of_tab tab_value (tab_width p - 1) p else record { value = b; start = p; stop = next_column p (p.index + 1) 0 } ∷ []) ++ is)
     by_test true = tab-items tab_value (tab_width p - 1) p is (refl, refl, refl) k
     by_test false = (h, k)
 
@@ -219,14 +231,17 @@ with-escape all before p q b rest text e punct h r = record {
         ∙ (λ i. record { value = 92; start = p; stop = sym e i } ∷ codes_from 92 (sym e i) (b ∷ rest))
         ∙ ap (λ x. slash ∷ x) (first-codes 92 q b rest plain.0 plain.1 ∙ ap (λ cs. cs ++ codes_from b (stop_of q cs) rest) alone)
 
-one-line : (b : ℕ) (bs : List ℕ) → has_one_line (b ∷ bs) ≡ true → ((b == line_feed) ≡ false) × ((b == carriage_return) ≡ false) × (has_one_line bs ≡ true)
+one-line : (b : ℕ) (bs : List ℕ) → has_one_line (b ∷ bs) ≡ true →
+    ((b == line_feed) ≡ false) × ((b == carriage_return) ≡ false) × (has_one_line bs ≡ true)
 one-line b bs h =
     let parts = and_parts (not (is_line_ending_byte b)) (has_one_line bs) h in
     let tests = or_parts (b == line_feed) (b == carriage_return) (not-true (is_line_ending_byte b) parts.0) in
     (tests.0, tests.1, parts.1)
 
-pub read : (all : List ℕ) (text : List ℕ) (before : ℕ) (p : Point) → has_one_line text ≡ true → IsHere all p (escaped text) → IsRead all p (codes_from before p (escaped text)) text
-read all [] before p one h = record { items = []; are = tt; codes = refl; bytes = refl; ends = record { index = omega (arith, h.size); vs = h.vs } }
+pub read : (all : List ℕ) (text : List ℕ) (before : ℕ) (p : Point) → has_one_line text ≡ true →
+    IsHere all p (escaped text) → IsRead all p (codes_from before p (escaped text)) text
+read all [] before p one h =
+    record { items = []; are = tt; codes = refl; bytes = refl; ends = record { index = omega (arith, h.size); vs = h.vs } }
 read all (b ∷ bs) before p one h = by_test (is_punctuation b) refl h (λ c q k. read all bs c q line.2 k)
   where
     line : ((b == line_feed) ≡ false) × ((b == carriage_return) ≡ false) × (has_one_line bs ≡ true)

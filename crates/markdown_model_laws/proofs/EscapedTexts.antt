@@ -30,13 +30,15 @@ odd-span (c ∷ cs) = by_test (is_value 92 c) (odd-span cs)
     by_test true h = ap not h
     by_test false h = refl
 
-pub after-last : (slash : Bool) (cs : List Code) (c : Code) → slash_after slash (cs ++ (c ∷ [])) ≡ turned (slash_after slash cs) c
+pub after-last : (slash : Bool) (cs : List Code) (c : Code) →
+    slash_after slash (cs ++ (c ∷ [])) ≡ turned (slash_after slash cs) c
 after-last slash [] c = refl
 after-last slash (d ∷ cs) c = after-last (turned slash d) cs c
 
 after-back : (cs : List Code) → slash_after false (reverse cs) ≡ slash_back cs
 after-back [] = refl
-after-back (c ∷ cs) = ap (slash_after false) (reverse-append (c ∷ []) cs) ∙ after-last false (reverse cs) c ∙ ap (λ b. turned b c) (after-back cs)
+after-back (c ∷ cs) =
+    ap (slash_after false) (reverse-append (c ∷ []) cs) ∙ after-last false (reverse cs) c ∙ ap (λ b. turned b c) (after-back cs)
 
 pub escapes-after : (cs : List Code) → escapes_next cs ≡ slash_after false cs
 escapes-after cs = odd-span (reverse cs) ∙ sym (after-back (reverse cs)) ∙ ap (slash_after false) (reverse-reverse cs)
@@ -44,7 +46,8 @@ escapes-after cs = odd-span (reverse cs) ∙ sym (after-back (reverse cs)) ∙ a
 -- Texts from a code on: `slash` says that the first is escaped.
 
 pub record Escaped (marks takes : Code → Bool) (slash : Bool) (text : List Code) : Type 0 where
-  pub inside : (before after : List Code) (c : Code) → text ≡ before ++ (c ∷ after) → marks c ≡ true → slash_after slash before && takes c ≡ true
+  pub inside : (before after : List Code) (c : Code) → text ≡ before ++ (c ∷ after) → marks c ≡ true →
+      slash_after slash before && takes c ≡ true
   pub behind : slash_after slash text ≡ false
 
 -- an escaped code does not escape
@@ -57,7 +60,8 @@ taken-turned takes true c e = by_value (is_value 92 c)
 taken-turned takes false c e = cc
 
 -- a backslash that is not escaped does
-pub next-turned : (takes : Code → Bool) → ((c : Code) → is_value 92 c ≡ true → takes c ≡ true) → (slash : Bool) (c : Code) → slash && takes c ≡ false → turned slash c ≡ (c.value == 92)
+pub next-turned : (takes : Code → Bool) → ((c : Code) → is_value 92 c ≡ true → takes c ≡ true) →
+    (slash : Bool) (c : Code) → slash && takes c ≡ false → turned slash c ≡ (c.value == 92)
 next-turned takes slashes slash c e = by_value (c.value == 92) slash refl e
   where
     by_value : (b x : Bool) → is_value 92 c ≡ b → x && takes c ≡ false → b && not x ≡ b
@@ -73,11 +77,14 @@ module _ (stop takes refuses : Code → Bool) (slashes : (c : Code) → is_value
   Is slash text = Escaped marks takes slash text
 
   -- one code more in front
-  before : (slash : Bool) (c : Code) (text : List Code) → (marks c ≡ true → slash && takes c ≡ true) → Is (turned slash c) text → Is slash (c ∷ text)
+  before : (slash : Bool) (c : Code) (text : List Code) → (marks c ≡ true → slash && takes c ≡ true) →
+      Is (turned slash c) text → Is slash (c ∷ text)
   before slash c text first h = record { inside = inside; behind = h.behind }
     where
-      inside : (xs ys : List Code) (d : Code) → c ∷ text ≡ xs ++ (d ∷ ys) → marks d ≡ true → slash_after slash xs && takes d ≡ true
-      inside [] ys d e k = let same : c ≡ d = cc in subst (λ x. slash && takes x ≡ true) same (first (subst (λ x. marks x ≡ true) (sym same) k))
+      inside : (xs ys : List Code) (d : Code) → c ∷ text ≡ xs ++ (d ∷ ys) → marks d ≡ true →
+          slash_after slash xs && takes d ≡ true
+      inside [] ys d e k =
+          let same : c ≡ d = cc in subst (λ x. slash && takes x ≡ true) same (first (subst (λ x. marks x ≡ true) (sym same) k))
       inside (x ∷ xs) ys d e k =
           let same : c ≡ x = cc in
           let more : text ≡ xs ++ (d ∷ ys) = cc in
@@ -85,7 +92,8 @@ module _ (stop takes refuses : Code → Bool) (slashes : (c : Code) → is_value
 
   -- one code less
   behind_first : (slash : Bool) (c : Code) (text : List Code) → Is slash (c ∷ text) → Is (turned slash c) text
-  behind_first slash c text h = record { inside = λ xs ys d e k. h.inside (c ∷ xs) ys d (ap (λ z. c ∷ z) e) k; behind = h.behind }
+  behind_first slash c text h =
+      record { inside = λ xs ys d e k. h.inside (c ∷ xs) ys d (ap (λ z. c ∷ z) e) k; behind = h.behind }
 
   stopped-plain : (slash : Bool) (c : Code) → slash && takes c ≡ false → stop c ≡ true → slash ≡ false
   stopped-plain true c e h = let no : takes c ≡ true = stops c h in cc
@@ -103,19 +111,23 @@ module _ (stop takes refuses : Code → Bool) (slashes : (c : Code) → is_value
       let same : ([], c ∷ cs) ≡ r = (let s : Some ([], c ∷ cs) ≡ Some r = sym (text-stops stop takes refuses slash c cs e h) ∙ g in cc) in
       subst (λ (q : List Code × List Code). Is slash q.0) same (record { inside = none; behind = stopped-plain slash c e h })
     where
-      none : (xs ys : List Code) (d : Code) → [] ≡ xs ++ (d ∷ ys) → marks d ≡ true → slash_after slash xs && takes d ≡ true
+      none : (xs ys : List Code) (d : Code) → [] ≡ xs ++ (d ∷ ys) → marks d ≡ true →
+          slash_after slash xs && takes d ≡ true
       none [] ys d p q = cc
       none (x ∷ xs) ys d p q = cc
-  read-by false false true slash c cs r e h k g f = let no : None ≡ Some r = sym (text-refused stop takes refuses slash c cs e h k) ∙ g in cc
+  read-by false false true slash c cs r e h k g f =
+      let no : None ≡ Some r = sym (text-refused stop takes refuses slash c cs e h k) ∙ g in cc
   read-by false false false slash c cs r e h k g f =
       let b : Behind c (escaped_from stop takes refuses (c.value == 92) cs) r = first-some c (escaped_from stop takes refuses (c.value == 92) cs) r (sym (text-next stop takes refuses slash c cs e h k) ∙ g) in
       let none : marks c ≡ false = rw (h, k) refl in
       subst (λ (q : List Code × List Code). Is slash q.0) (sym b.is)
       (before slash c b.others.0 (λ m. absurd (let no : true ≡ false = sym m ∙ none in cc)) (subst (λ s. Is s b.others.0) (sym (next-turned takes slashes slash c e)) (f (c.value == 92) b.others b.gives)))
 
-  pub read : (slash : Bool) (cs : List Code) (r : List Code × List Code) → escaped_from stop takes refuses slash cs ≡ Some r → Is slash r.0
+  pub read : (slash : Bool) (cs : List Code) (r : List Code × List Code) →
+      escaped_from stop takes refuses slash cs ≡ Some r → Is slash r.0
   read slash [] r e = let no : None ≡ Some r = sym (text-end stop takes refuses slash) ∙ e in cc
-  read slash (c ∷ cs) r e = read-by (slash && takes c) (stop c) (refuses c) slash c cs r refl refl refl e (λ b q h. read b cs q h)
+  read slash (c ∷ cs) r e =
+      read-by (slash && takes c) (stop c) (refuses c) slash c cs r refl refl refl e (λ b q h. read b cs q h)
 
   -- and each such text is read, up to a code that stops it
   found-by : (x y z : Bool) (slash : Bool) (c : Code) (text rest : List Code) → slash && takes c ≡ x → stop c ≡ y → refuses c ≡ z → Is slash (c ∷ text)
@@ -124,13 +136,17 @@ module _ (stop takes refuses : Code → Bool) (slashes : (c : Code) → is_value
   found-by true y z slash c text rest e h k i f =
       text-taken stop takes refuses slash c (text ++ rest) e
       ∙ ap (with_first c) (f false (subst (λ s. Is s text) (taken-turned takes slash c e) (behind_first slash c text i)))
-  found-by false true z slash c text rest e h k i f = let no : slash && takes c ≡ true = i.inside [] text c refl (or_left (stop c) (refuses c) h) in cc
-  found-by false false true slash c text rest e h k i f = let no : slash && takes c ≡ true = i.inside [] text c refl (or_right (stop c) (refuses c) k) in cc
+  found-by false true z slash c text rest e h k i f =
+      let no : slash && takes c ≡ true = i.inside [] text c refl (or_left (stop c) (refuses c) h) in cc
+  found-by false false true slash c text rest e h k i f =
+      let no : slash && takes c ≡ true = i.inside [] text c refl (or_right (stop c) (refuses c) k) in cc
   found-by false false false slash c text rest e h k i f =
       text-next stop takes refuses slash c (text ++ rest) e h k
       ∙ ap (with_first c) (f (c.value == 92) (subst (λ s. Is s text) (next-turned takes slashes slash c e) (behind_first slash c text i)))
 
-  pub found : (slash : Bool) (text rest : List Code) → Is slash text → next_is stop rest ≡ true → escaped_from stop takes refuses slash (text ++ rest) ≡ Some (text, rest)
+  pub found : (slash : Bool) (text rest : List Code) → Is slash text → next_is stop rest ≡ true →
+      escaped_from stop takes refuses slash (text ++ rest) ≡ Some (text, rest)
   found slash [] [] i h = cc
   found slash [] (c ∷ rest) i h = text-stops stop takes refuses slash c rest (ap (λ b. b && takes c) i.behind) h
-  found slash (c ∷ text) rest i h = found-by (slash && takes c) (stop c) (refuses c) slash c text rest refl refl refl i (λ b j. found b text rest j h)
+  found slash (c ∷ text) rest i h =
+      found-by (slash && takes c) (stop c) (refuses c) slash c text rest refl refl refl i (λ b j. found b text rest j h)

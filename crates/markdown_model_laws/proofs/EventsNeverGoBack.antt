@@ -46,26 +46,32 @@ use Rattle.markdown_run_leaves.proofs.OneLineTrees.{AreLeaves, leaves-trimmed_da
 
 leaves-places : (f : Forest) → AreLeaves f → places_of f ≡ ends_of (leaf_codes f)
 leaves-places empty h = refl
-leaves-places (leaf_then name link cs rest) h = ap (λ x. ends_of cs ++ x) (leaves-places rest h.1) ∙ sym (ends-join cs (leaf_codes rest))
+leaves-places (leaf_then name link cs rest) h =
+    ap (λ x. ends_of cs ++ x) (leaves-places rest h.1) ∙ sym (ends-join cs (leaf_codes rest))
 leaves-places (group_then name enter exit inside rest) h = absurd h
 
 -- Merging.
 
 onto-places : (cs : List Code) (f : Forest) → places_of (data_onto cs f) ≡ ends_of cs ++ places_of f
-onto-places cs (leaf_then Name.Data None more rest) = ap (λ x. x ++ places_of rest) (ends-join cs more) ∙ append_assoc (ends_of cs) (ends_of more) (places_of rest)
+onto-places cs (leaf_then Name.Data None more rest) =
+    ap (λ x. x ++ places_of rest) (ends-join cs more) ∙ append_assoc (ends_of cs) (ends_of more) (places_of rest)
 onto-places cs rest = refl
 
 merged-places : (f : Forest) → places_of (merged f) ≡ places_of f
 unfolding merged
 merged-places empty = refl
-merged-places (leaf_then Name.Data None cs rest) = onto-places cs (merged rest) ∙ ap (λ x. ends_of cs ++ x) (merged-places rest)
+merged-places (leaf_then Name.Data None cs rest) =
+    onto-places cs (merged rest) ∙ ap (λ x. ends_of cs ++ x) (merged-places rest)
 merged-places (leaf_then name link cs rest) = ap (λ x. ends_of cs ++ x) (merged-places rest)
-merged-places (group_then name enter exit inside rest) = λ i. place_of enter ∷ (merged-places inside i ++ (place_of exit ∷ merged-places rest i))
+merged-places (group_then name enter exit inside rest) =
+    λ i. place_of enter ∷ (merged-places inside i ++ (place_of exit ∷ merged-places rest i))
 
 -- Trimming.
 
-trimmed_data-places : (front back hard : Bool) (cs : List Code) → places_of (trimmed_data front back hard cs) ≡ ends_of cs
-trimmed_data-places front back hard cs = leaves-places (trimmed_data front back hard cs) (leaves-trimmed_data front back hard cs) ∙ ap ends_of (codes-trimmed_data front back hard cs)
+trimmed_data-places : (front back hard : Bool) (cs : List Code) →
+    places_of (trimmed_data front back hard cs) ≡ ends_of cs
+trimmed_data-places front back hard cs =
+    leaves-places (trimmed_data front back hard cs) (leaves-trimmed_data front back hard cs) ∙ ap ends_of (codes-trimmed_data front back hard cs)
 
 trimmed-places : (hard front whole : Bool) (f : Forest) → places_of (trimmed hard front whole f) ≡ places_of f
 unfolding trimmed
@@ -73,8 +79,10 @@ trimmed-places hard front whole empty = refl
 trimmed-places hard front whole (leaf_then Name.Data None cs rest) =
     places-join (trimmed_data front (begins_line_ending rest || (whole && is_nothing rest)) (hard && begins_line_ending rest) cs) (trimmed hard false whole rest)
     ∙ (λ i. trimmed_data-places front (begins_line_ending rest || (whole && is_nothing rest)) (hard && begins_line_ending rest) cs i ++ trimmed-places hard false whole rest i)
-trimmed-places hard front whole (leaf_then Name.LineEnding link cs rest) = ap (λ x. ends_of cs ++ x) (trimmed-places hard true whole rest)
-trimmed-places hard front whole (leaf_then name link cs rest) = ap (λ x. ends_of cs ++ x) (trimmed-places hard false whole rest)
+trimmed-places hard front whole (leaf_then Name.LineEnding link cs rest) =
+    ap (λ x. ends_of cs ++ x) (trimmed-places hard true whole rest)
+trimmed-places hard front whole (leaf_then name link cs rest) =
+    ap (λ x. ends_of cs ++ x) (trimmed-places hard false whole rest)
 trimmed-places hard front whole (group_then name enter exit inside rest) =
     λ i. place_of enter ∷ (trimmed-places hard false false inside i ++ (place_of exit ∷ trimmed-places hard false whole rest i))
 
@@ -86,10 +94,13 @@ emails-places cs = leaves-places (with_emails cs) (leaves-with_emails cs) ∙ ap
 mailed-places : (f : Forest) → places_of (with_emails_apart f) ≡ places_of f
 unfolding with_emails_apart
 mailed-places empty = refl
-mailed-places (leaf_then Name.Data None cs rest) = places-join (with_emails cs) (with_emails_apart rest) ∙ (λ i. emails-places cs i ++ mailed-places rest i)
+mailed-places (leaf_then Name.Data None cs rest) =
+    places-join (with_emails cs) (with_emails_apart rest) ∙ (λ i. emails-places cs i ++ mailed-places rest i)
 mailed-places (leaf_then name link cs rest) = ap (λ x. ends_of cs ++ x) (mailed-places rest)
-mailed-places (group_then Name.Link enter exit inside rest) = ap (λ x. place_of enter ∷ (places_of inside ++ (place_of exit ∷ x))) (mailed-places rest)
-mailed-places (group_then name enter exit inside rest) = λ i. place_of enter ∷ (mailed-places inside i ++ (place_of exit ∷ mailed-places rest i))
+mailed-places (group_then Name.Link enter exit inside rest) =
+    ap (λ x. place_of enter ∷ (places_of inside ++ (place_of exit ∷ x))) (mailed-places rest)
+mailed-places (group_then name enter exit inside rest) =
+    λ i. place_of enter ∷ (mailed-places inside i ++ (place_of exit ∷ mailed-places rest i))
 
 -- Events.
 
@@ -102,16 +113,19 @@ event-join [] fs = refl
 event-join (e ∷ es) fs = ap (λ x. place_of e.point ∷ x) (event-join es fs)
 
 -- a row goes on to its last place
-on-last : (p : Place) (xs : List Place) (high : Place) → GoOn p xs high → IsOn p (last_of p xs) × IsOn (last_of p xs) high
+on-last : (p : Place) (xs : List Place) (high : Place) → GoOn p xs high →
+    IsOn p (last_of p xs) × IsOn (last_of p xs) high
 on-last p [] high h = (on-itself p, h)
 on-last p (x ∷ xs) high h = let r = on-last x xs high h.1 in (on-trans p x (last_of x xs) h.0 r.0, r.1)
 
-leaf-allows : (c : Code) (cs : List Code) → Allows (ends_of (c ∷ cs)) (place_of c.start ∷ place_of (stop_of c.stop cs) ∷ [])
+leaf-allows : (c : Code) (cs : List Code) →
+    Allows (ends_of (c ∷ cs)) (place_of c.start ∷ place_of (stop_of c.stop cs) ∷ [])
 leaf-allows c cs low high h =
     let r = on-last (place_of c.stop) (ends_of cs) high h.1.1 in
     subst (λ x. GoOn low (place_of c.start ∷ x ∷ []) high) (ends-last c.stop cs) (h.0, (on-trans (place_of c.start) (place_of c.stop) (last_of (place_of c.stop) (ends_of cs)) h.1.0 r.0, r.1))
 
-events-allow : (n : ℕ) (previous : Option ℕ) (f : Forest) → IsFilled f → Allows (places_of f) (event_places (events_from n previous f))
+events-allow : (n : ℕ) (previous : Option ℕ) (f : Forest) → IsFilled f →
+    Allows (places_of f) (event_places (events_from n previous f))
 events-allow n previous empty h = allows-itself []
 events-allow n previous (leaf_then name link [] rest) h = absurd (let no : true ≡ false = h.0 in cc)
 events-allow n previous (leaf_then name None (c ∷ cs) rest) h =
@@ -144,7 +158,8 @@ all-on p q (e ∷ es) high h k =
 
 never-back : (p : Place) (es : List Event) (high : Place) → GoOn p (event_places es) high → NeverGoBack es
 never-back p [] high h = tt
-never-back p (e ∷ es) high h = (all-on (place_of e.point) (place_of e.point) es high (on-itself (place_of e.point)) h.1, never-back (place_of e.point) es high h.1)
+never-back p (e ∷ es) high h =
+    (all-on (place_of e.point) (place_of e.point) es high (on-itself (place_of e.point)) h.1, never-back (place_of e.point) es high h.1)
 
 -- The codes of a content.
 
@@ -153,7 +168,8 @@ IsForward c = IsOn (place_of c.start) (place_of c.stop)
 
 chain-forward : (p : Point) (cs : List Code) → IsChain p cs → Each IsForward cs
 chain-forward p [] h = tt
-chain-forward p (c ∷ cs) h = (subst (λ (q : Point). IsOn (place_of q) (place_of c.stop)) (sym h.0) (before-asym (place_of p) (place_of c.stop) h.1), chain-forward c.stop cs h.2)
+chain-forward p (c ∷ cs) h =
+    (subst (λ (q : Point). IsOn (place_of q) (place_of c.stop)) (sym h.0) (before-asym (place_of p) (place_of c.stop) h.1), chain-forward c.stop cs h.2)
 
 forward-join : (xs ys : List Code) → Each IsForward xs → Each IsForward ys → Each IsForward (xs ++ ys)
 forward-join [] ys h k = k
@@ -167,12 +183,14 @@ forward-filter p (c ∷ cs) h = by_test (p c) (forward-filter p cs h.1)
     by_test true k = (h.0, k)
     by_test false k = k
 
-forward-pieces : (bytes : List ℕ) (pieces : List Piece) → Each IsForward (codes_of bytes) → Each IsForward (content_of bytes pieces)
+forward-pieces : (bytes : List ℕ) (pieces : List Piece) → Each IsForward (codes_of bytes) →
+    Each IsForward (content_of bytes pieces)
 forward-pieces bytes [] h = tt
 forward-pieces bytes (piece ∷ more) h =
     forward-join (piece_codes (codes_of bytes) piece) (content_of bytes more) (forward-filter (is_in_piece piece) (codes_of bytes) h) (forward-pieces bytes more h)
 
-codes-on : (p : Place) (cs : List Code) → Each (NotBefore p) cs → Later cs → Each IsForward cs → GoOn p (ends_of cs) (last_of p (ends_of cs))
+codes-on : (p : Place) (cs : List Code) → Each (NotBefore p) cs → Later cs → Each IsForward cs →
+    GoOn p (ends_of cs) (last_of p (ends_of cs))
 codes-on p [] h k f = on-itself p
 codes-on p (c ∷ cs) h k f = (h.0, (f.0, codes-on (place_of c.stop) cs k.0 k.1 f.1))
 
@@ -197,7 +215,8 @@ module _ (s : Setting) (pieces : List Piece) (content : IsContent s.bytes pieces
 
   -- of a tree whose places go on where the codes do
   tree-back : (f : Forest) → IsFilled f → Allows (ends_of all) (places_of f) → NeverGoBack (events_of f)
-  tree-back f h k = never-back first (events_of f) (last_of first (ends_of all)) (events-allow 0 None f h first (last_of first (ends_of all)) (k first (last_of first (ends_of all)) content-on))
+  tree-back f h k =
+      never-back first (events_of f) (last_of first (ends_of all)) (events-allow 0 None f h first (last_of first (ends_of all)) (k first (last_of first (ends_of all)) content-on))
 
   -- Texts.
 
@@ -236,7 +255,8 @@ module _ (s : Setting) (pieces : List Piece) (content : IsContent s.bytes pieces
   unfolding text_tree finished_text raw_tree
   text-same = by_test s.options.constructs.gfm_autolink_literal
     where
-      by_test : (b : Bool) → places_of (elim b as (λ _. Forest) [ true ↦ with_emails_apart Trimmed | false ↦ Trimmed ]) ≡ places_of Pairs
+      by_test : (b : Bool) →
+          places_of (elim b as (λ _. Forest) [ true ↦ with_emails_apart Trimmed | false ↦ Trimmed ]) ≡ places_of Pairs
       by_test true = mailed-places Trimmed ∙ trimmed-same
       by_test false = trimmed-same
 
@@ -250,7 +270,8 @@ module _ (s : Setting) (pieces : List Piece) (content : IsContent s.bytes pieces
 
   codes-plain : leaf_codes Plain ≡ all
   unfolding string_tree
-  codes-plain = codes-labels_of (string_elements_of s all) ∙ sym (codes-finished_string (string_elements_of s all)) ∙ (leaves_cover s all).1
+  codes-plain =
+      codes-labels_of (string_elements_of s all) ∙ sym (codes-finished_string (string_elements_of s all)) ∙ (leaves_cover s all).1
 
   string-same : places_of (string_tree s all) ≡ places_of Plain
   unfolding string_tree finished_string

@@ -62,7 +62,8 @@ some-codes (c ∷ cs) ds h e = cc
 
 module _ (s : Setting) where
   -- a row that is assembled is nothing only if it was
-  pub nothing-assembled : (f : Forest) (pairs : List Pair) (n : ℕ) → IsFilled f → is_nothing (assembled (tokens_of s (pair_list s) f pairs n)) ≡ true → is_nothing f ≡ true
+  pub nothing-assembled : (f : Forest) (pairs : List Pair) (n : ℕ) → IsFilled f →
+      is_nothing (assembled (tokens_of s (pair_list s) f pairs n)) ≡ true → is_nothing f ≡ true
   unfolding tokens_of
   nothing-assembled empty pairs n h e = refl
   nothing-assembled (leaf_then Name.AttentionSequence link cs rest) pairs n h e =

@@ -44,7 +44,8 @@ pub record IsStripe (m : ℕ) (cs : List Code) : Type 0 where
 -- of a run just before the row, or zero.
 abbrev pub HasApartRuns : ℕ → Forest → Type 0
 HasApartRuns p empty = Unit {0}
-HasApartRuns p (leaf_then Name.AttentionSequence link cs rest) = IsStripe (marker_of cs) cs × ((marker_of cs == p) ≡ false) × HasApartRuns (marker_of cs) rest
+HasApartRuns p (leaf_then Name.AttentionSequence link cs rest) =
+    IsStripe (marker_of cs) cs × ((marker_of cs == p) ≡ false) × HasApartRuns (marker_of cs) rest
 HasApartRuns p (leaf_then name link cs rest) = HasApartRuns 0 rest
 HasApartRuns p (group_then name enter exit inside rest) = HasApartRuns 0 inside × HasApartRuns 0 rest
 
@@ -64,7 +65,8 @@ no-marker m h = grind (arith, nat_tests)
 quiet-apart : (b : Bool) (p : ℕ) (t : Forest) → marks b t ≡ false → HasApartRuns p t
 quiet-apart b p empty h = tt
 quiet-apart b p (leaf_then Name.AttentionSequence link cs rest) h = cc
-quiet-apart b p (leaf_then name link cs rest) h = quiet-apart b 0 rest (or_parts (is_mark name || (is_linked link && b)) (marks b rest) h).1
+quiet-apart b p (leaf_then name link cs rest) h =
+    quiet-apart b 0 rest (or_parts (is_mark name || (is_linked link && b)) (marks b rest) h).1
 quiet-apart b p (group_then name enter exit inside rest) h =
     let q = or_parts (marks b inside) (marks b rest) (or_parts (is_mark name) (marks b inside || marks b rest) h).1 in
     (quiet-apart b 0 inside q.0, quiet-apart b 0 rest q.1)
@@ -72,7 +74,8 @@ quiet-apart b p (group_then name enter exit inside rest) h =
 quiet-after : (b : Bool) (t : Forest) → marks b t ≡ false → last_run 0 t ≡ 0
 quiet-after b empty h = refl
 quiet-after b (leaf_then Name.AttentionSequence link cs rest) h = cc
-quiet-after b (leaf_then name link cs rest) h = quiet-after b rest (or_parts (is_mark name || (is_linked link && b)) (marks b rest) h).1
+quiet-after b (leaf_then name link cs rest) h =
+    quiet-after b rest (or_parts (is_mark name || (is_linked link && b)) (marks b rest) h).1
 quiet-after b (group_then name enter exit inside rest) h =
     quiet-after b rest (or_parts (marks b inside) (marks b rest) (or_parts (is_mark name) (marks b inside || marks b rest) h).1).1
 
@@ -155,7 +158,8 @@ fine_always a h = record { at = λ cs. by_answer (a cs) (h.at cs) }
 
 fine_plain : (bytes : List ℕ) (a : Reading Forest) → ReadsPlain bytes a → Fine (as_plain a)
 unfolding as_plain
-fine_plain bytes a h = fine_always _ (yields_bind (IsPlainTree bytes) _ _ _ h.plain λ tree k. yields_gives _ (plain tree) (λ rest. inl (plain-quiet bytes tree k)))
+fine_plain bytes a h =
+    fine_always _ (yields_bind (IsPlainTree bytes) _ _ _ h.plain λ tree k. yields_gives _ (plain tree) (λ rest. inl (plain-quiet bytes tree k)))
 
 quiet-leaf : (name : Name) (cs : List Code) → is_mark name ≡ false → IsQuiet true (leaf name cs)
 quiet-leaf name [] h = refl
@@ -163,17 +167,20 @@ quiet-leaf name (c ∷ cs) h = λ i. (h i || false) || false
 
 fine_line_ending : Fine line_ending
 unfolding line_ending
-fine_line_ending = fine_always _ (then_any _ _ _ λ c. yields_gives _ (plain (leaf Name.LineEnding c)) (λ rest. inl (quiet-leaf Name.LineEnding c refl)))
+fine_line_ending =
+    fine_always _ (then_any _ _ _ λ c. yields_gives _ (plain (leaf Name.LineEnding c)) (λ rest. inl (quiet-leaf Name.LineEnding c refl)))
 
 fine_data_code : Fine data_code
 unfolding data_code
-fine_data_code = fine_always _ (then_any _ _ _ λ c. yields_gives _ (plain (leaf Name.Data c)) (λ rest. inl (quiet-leaf Name.Data c refl)))
+fine_data_code =
+    fine_always _ (then_any _ _ _ λ c. yields_gives _ (plain (leaf Name.Data c)) (λ rest. inl (quiet-leaf Name.Data c refl)))
 
 fine_run : (m : ℕ) → is_marker m ≡ true → Fine (attention_run m)
 unfolding attention_run ◌>>=◌ gives some
 fine_run m h = record { at = λ cs. by_codes (span (is_value m) cs) (span-all (is_value m) cs) (span-stops (is_value m) cs) }
   where
-    read : (c : Code) (ds rest : List Code) → list_all (is_value m) (c ∷ ds) ≡ true → next_is (is_value m) rest ≡ false → IsRunTree (leaf_then Name.AttentionSequence None (c ∷ ds) empty) rest
+    read : (c : Code) (ds rest : List Code) → list_all (is_value m) (c ∷ ds) ≡ true →
+        next_is (is_value m) rest ≡ false → IsRunTree (leaf_then Name.AttentionSequence None (c ∷ ds) empty) rest
     read c ds rest k l =
         let e : m ≡ c.value = sym (eqb-true c.value m (and_parts (is_value m c) (list_all (is_value m) ds) k).0) in
         record {
@@ -201,7 +208,8 @@ fine_label_end s earlier =
     (yields_bind QuietOutcome _ _ _ (quiet_outcome s (label_before earlier) back) λ outcome k. yields_gives _ (ends back (Some outcome)) (λ rest. k))
     (yields_gives _ (ends back None) (λ rest. tt)))
 
-fine_text_element : (s : Setting) (end : ℕ) (earlier : List Element) (previous : Option Code) (cs : List Code) → AnswersFine (text_element s end earlier previous cs)
+fine_text_element : (s : Setting) (end : ℕ) (earlier : List Element) (previous : Option Code) (cs : List Code) →
+    AnswersFine (text_element s end earlier previous cs)
 fine_text_element s end earlier previous cs = text_has s end earlier previous AnswersFine cs each (fine_data_code.at cs)
   where
     each : EachConstruct s end earlier previous AnswersFine cs
@@ -229,12 +237,14 @@ AreApart p (ends marker (Some outcome) ∷ es) = IsQuiet false outcome.1 × AreA
 abbrev IsPast : ℕ → List Code → Type 0
 IsPast p cs = (next_is (is_value p) cs ≡ false) ⊎ (p ≡ 0)
 
-not-before : (p : ℕ) (xs rest cs : List Code) → IsStripe (marker_of xs) xs → xs ++ rest ≡ cs → IsPast p cs → (marker_of xs == p) ≡ false
+not-before : (p : ℕ) (xs rest cs : List Code) → IsStripe (marker_of xs) xs → xs ++ rest ≡ cs → IsPast p cs →
+    (marker_of xs == p) ≡ false
 not-before p [] rest cs h e k = absurd (both_ways true h.some refl)
 not-before p (x ∷ xs) rest cs h e (inl k) = ap (next_is (is_value p)) e ∙ k
 not-before p (x ∷ xs) rest cs h e (inr k) = subst (λ n. (x.value == n) ≡ false) (sym k) (no-marker x.value h.kind)
 
-some-tree : (t : Forest) (rest cs : List Code) → leaf_codes t ++ rest ≡ cs → 1 + length rest ≤ length cs → is_nothing t ≡ false
+some-tree : (t : Forest) (rest cs : List Code) → leaf_codes t ++ rest ≡ cs → 1 + length rest ≤ length cs →
+    is_nothing t ≡ false
 some-tree empty rest cs h k = absurd (omega (arith, k, ap length h))
 some-tree (leaf_then name link ds more) rest cs h k = refl
 some-tree (group_then name enter exit inside more) rest cs h k = refl
@@ -253,7 +263,8 @@ module _ (s : Setting) (end : ℕ) where
   apart-element (ends marker None) es d p rest cs h e l k more = more 0 (inr refl)
   apart-element (ends marker (Some outcome)) es d p rest cs h e l k more = (h, more 0 (inr refl))
 
-  all-apart : (es earlier : List Element) (previous : Option Code) (cs : List Code) (p : ℕ) → IsPast p cs → From earlier previous cs es → AreApart p es
+  all-apart : (es earlier : List Element) (previous : Option Code) (cs : List Code) (p : ℕ) → IsPast p cs →
+      From earlier previous cs es → AreApart p es
   all-apart [] earlier previous cs p k h = tt
   all-apart (e ∷ es) earlier previous cs p k h =
       apart-element e es (unused earlier) p h.0 cs
@@ -264,7 +275,8 @@ module _ (s : Setting) (end : ℕ) where
 
 -- Groups of labels.
 
-apart-label : (p : ℕ) (kind : LabelKind) (marker : List Code) (inside : Forest) (back : List Code) (tail : Forest) → HasApartRuns 0 inside → IsQuiet false tail → HasApartRuns p (label_group kind marker inside back tail)
+apart-label : (p : ℕ) (kind : LabelKind) (marker : List Code) (inside : Forest) (back : List Code) (tail : Forest) →
+    HasApartRuns 0 inside → IsQuiet false tail → HasApartRuns p (label_group kind marker inside back tail)
 apart-label p kind marker inside back tail h q =
     ((apart-join 0 (start_tree kind front) text (quiet-apart true 0 (start_tree kind front) (quiet-start_tree kind front)) (row, quiet-apart true 0 (group Name.LabelEnd (leaf Name.LabelMarker back)) (quiet-label_end back)), quiet-apart false 0 tail q), tt)
   where
@@ -296,7 +308,8 @@ labelled-apart p start inside (back, None) after h k l m =
   where
     regroup : (a b c d : List Forest) → (a ++ (b ++ c)) ++ d ≡ a ++ (b ++ (c ++ d))
     regroup a b c d = simp append_assoc
-labelled-apart p start inside (back, Some outcome) after h k l m = (apart-label p outcome.0 start.1 (joined inside) back outcome.1 (apart-joined 0 inside l) k.1, m)
+labelled-apart p start inside (back, Some outcome) after h k l m =
+    (apart-label p outcome.0 start.1 (joined inside) back outcome.1 (apart-joined 0 inside l) k.1, m)
 
 abbrev Frames : Type 0
 Frames = List (End × List Forest)
@@ -314,10 +327,12 @@ apart-onto : (p : ℕ) (start : Start) (inside : List Forest) (more : Frames) �
 apart-onto p start inside [] h k l = (after-loose p start.1 inside h k, tt)
 apart-onto p start inside (f ∷ fs) h k l = (labelled-apart p start inside f.0 f.1 h l.0 k l.1, l.2)
 
-apart-nest : (p : ℕ) (es : List Element) → AllGood es → AreApart p es → ListApart p (nest_labels es).0 × AreFrames (nest_labels es).1
+apart-nest : (p : ℕ) (es : List Element) → AllGood es → AreApart p es →
+    ListApart p (nest_labels es).0 × AreFrames (nest_labels es).1
 apart-nest p [] g h = (tt, tt)
 apart-nest p (plain tree ∷ es) g h = let r = apart-nest (last_run p tree) es g.1 h.1 in ((h.0, r.0), r.1)
-apart-nest p (starts kind marker ∷ es) g h = let r = apart-nest 0 es g.1 h in apart-onto p (kind, marker) (nest_labels es).0 (nest_labels es).1 g.0 r.0 r.1
+apart-nest p (starts kind marker ∷ es) g h =
+    let r = apart-nest 0 es g.1 h in apart-onto p (kind, marker) (nest_labels es).0 (nest_labels es).1 g.0 r.0 r.1
 apart-nest p (ends back None ∷ es) g h = let r = apart-nest 0 es g.1 h in (tt, (g.0, r.0, r.1))
 apart-nest p (ends back (Some outcome) ∷ es) g h = let r = apart-nest 0 es g.1 h.1 in (tt, ((g.0.0, h.0), r.0, r.1))
 

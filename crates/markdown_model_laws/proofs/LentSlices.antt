@@ -17,7 +17,8 @@ use Rattle.markdown_model_laws.specs.EscapedText.{is_text, text_of}
 
 -- Bytes between places.
 
-pub slice-more : (bytes : List ℕ) (a b c : ℕ) → a ≤ b → b ≤ c → slice_range bytes a b ++ slice_range bytes b c ≡ slice_range bytes a c
+pub slice-more : (bytes : List ℕ) (a b c : ℕ) → a ≤ b → b ≤ c →
+    slice_range bytes a b ++ slice_range bytes b c ≡ slice_range bytes a c
 slice-more bytes a b c h k =
     ap (λ xs. take (b - a) (drop a bytes) ++ take (c - b) xs) (sym (drop-drop (b - a) a bytes ∙ ap (λ n. drop n bytes) (omega (arith, h))))
     ∙ sym (take-add (b - a) (c - b) (drop a bytes))
@@ -34,27 +35,32 @@ abbrev pub codes_bytes : List ℕ → List Code → List ℕ
 codes_bytes bytes [] = []
 codes_bytes bytes (c ∷ cs) = position_bytes bytes c.start c.stop ++ codes_bytes bytes cs
 
-pub codes_bytes-append : (bytes : List ℕ) (cs ds : List Code) → codes_bytes bytes (cs ++ ds) ≡ codes_bytes bytes cs ++ codes_bytes bytes ds
+pub codes_bytes-append : (bytes : List ℕ) (cs ds : List Code) →
+    codes_bytes bytes (cs ++ ds) ≡ codes_bytes bytes cs ++ codes_bytes bytes ds
 codes_bytes-append bytes [] ds = refl
 codes_bytes-append bytes (c ∷ cs) ds =
     ap (λ x. position_bytes bytes c.start c.stop ++ x) (codes_bytes-append bytes cs ds) ∙ sym (append_assoc (position_bytes bytes c.start c.stop) (codes_bytes bytes cs) (codes_bytes bytes ds))
 
 -- codes that follow one another are lent as one
-chain-bytes : (bytes : List ℕ) (p : Point) (cs back : List Code) → IsChain p (cs ++ back) → position_bytes bytes p (stop_of p cs) ≡ codes_bytes bytes cs
+chain-bytes : (bytes : List ℕ) (p : Point) (cs back : List Code) → IsChain p (cs ++ back) →
+    position_bytes bytes p (stop_of p cs) ≡ codes_bytes bytes cs
 chain-bytes bytes p [] back h = slice-none bytes (byte_from p)
 chain-bytes bytes p (c ∷ cs) back h =
     sym (slice-more bytes (byte_from p) (byte_from c.stop) (byte_from (stop_of c.stop cs)) first (from-later c.stop (stop_of c.stop cs) (stop-later c.stop cs back h.2)))
     ∙ (λ i. position_bytes bytes (sym h.0 i) c.stop ++ chain-bytes bytes c.stop cs back h.2 i)
   where
-    later-numbers : (i v j w : ℕ) → is_before (i, v) (j, w) ≡ true → (if nat_lt 0 v then i + 1 else i) ≤ (if nat_lt 0 w then j + 1 else j)
+    later-numbers : (i v j w : ℕ) → is_before (i, v) (j, w) ≡ true →
+        (if nat_lt 0 v then i + 1 else i) ≤ (if nat_lt 0 w then j + 1 else j)
     later-numbers i v j w k = grind (arith, nat_tests)
 
     first : byte_from p ≤ byte_from c.stop
     first = later-numbers p.index p.vs c.stop.index c.stop.vs h.1
 
-leaf-bytes : (bytes : List ℕ) (p : Point) (cs back : List Code) → IsChain p (cs ++ back) → position_bytes bytes (start_of cs) (stop_of document_start cs) ≡ codes_bytes bytes cs
+leaf-bytes : (bytes : List ℕ) (p : Point) (cs back : List Code) → IsChain p (cs ++ back) →
+    position_bytes bytes (start_of cs) (stop_of document_start cs) ≡ codes_bytes bytes cs
 leaf-bytes bytes p [] back h = slice-none bytes (byte_from document_start)
-leaf-bytes bytes p (c ∷ cs) back h = ap (λ q. position_bytes bytes q (stop_of c.stop cs)) h.0 ∙ chain-bytes bytes p (c ∷ cs) back h
+leaf-bytes bytes p (c ∷ cs) back h =
+    ap (λ q. position_bytes bytes q (stop_of c.stop cs)) h.0 ∙ chain-bytes bytes p (c ∷ cs) back h
 
 -- The text of a tree.
 
@@ -73,11 +79,13 @@ HasNoTextGroup (group_then name a b inside rest) = (is_text name ≡ false) × H
 abbrev spans_text : List ℕ → List Span → List ℕ
 spans_text bytes ss = text_of (map (lent bytes) ss)
 
-span-text : (bytes : List ℕ) (s : Span) (ss : List Span) → spans_text bytes (s ∷ ss) ≡ (if is_text s.name then position_bytes bytes s.start s.end else []) ++ spans_text bytes ss
+span-text : (bytes : List ℕ) (s : Span) (ss : List Span) →
+    spans_text bytes (s ∷ ss) ≡ (if is_text s.name then position_bytes bytes s.start s.end else []) ++ spans_text bytes ss
 unfolding lent
 span-text bytes s ss = refl
 
-spans_text-append : (bytes : List ℕ) (ss ts : List Span) → spans_text bytes (ss ++ ts) ≡ spans_text bytes ss ++ spans_text bytes ts
+spans_text-append : (bytes : List ℕ) (ss ts : List Span) →
+    spans_text bytes (ss ++ ts) ≡ spans_text bytes ss ++ spans_text bytes ts
 spans_text-append bytes [] ts = refl
 spans_text-append bytes (s ∷ ss) ts =
     span-text bytes s (ss ++ ts)
@@ -86,18 +94,22 @@ spans_text-append bytes (s ∷ ss) ts =
     ∙ ap (λ x. x ++ spans_text bytes ts) (sym (span-text bytes s ss))
 
 abbrev Law : List ℕ → Forest → Type 0
-Law bytes t = (p : Point) (back : List Code) → IsChain p (leaf_codes t ++ back) → HasNoTextGroup t → spans_text bytes (leaves_of t) ≡ codes_bytes bytes (kept t)
+Law bytes t =
+    (p : Point) (back : List Code) → IsChain p (leaf_codes t ++ back) → HasNoTextGroup t → spans_text bytes (leaves_of t) ≡ codes_bytes bytes (kept t)
 
 leaf-law : (bytes : List ℕ) (name : Name) (cs : List Code) (ss : List Span) (ds : List Code) → position_bytes bytes (start_of cs) (stop_of document_start cs) ≡ codes_bytes bytes cs
     → spans_text bytes ss ≡ codes_bytes bytes ds → spans_text bytes (record { name = name; start = start_of cs; end = stop_of document_start cs } ∷ ss) ≡ codes_bytes bytes ((if is_text name then cs else []) ++ ds)
 leaf-law bytes name cs ss ds h k = span-text bytes (record { name = name; start = start_of cs; end = stop_of document_start cs }) ss ∙ by_test (is_text name)
   where
-    by_test : (b : Bool) → (if b then position_bytes bytes (start_of cs) (stop_of document_start cs) else []) ++ spans_text bytes ss ≡ codes_bytes bytes ((if b then cs else []) ++ ds)
+    by_test : (b : Bool) →
+        (if b then position_bytes bytes (start_of cs) (stop_of document_start cs) else []) ++ spans_text bytes ss ≡ codes_bytes bytes ((if b then cs else []) ++ ds)
     by_test true = (λ i. h i ++ k i) ∙ sym (codes_bytes-append bytes cs ds)
     by_test false = k
 
-nothing-law : (bytes : List ℕ) (name : Name) (a b : Point) (ss : List Span) → is_text name ≡ false → spans_text bytes (record { name = name; start = a; end = b } ∷ ss) ≡ spans_text bytes ss
-nothing-law bytes name a b ss h = span-text bytes (record { name = name; start = a; end = b }) ss ∙ ap (λ x. (if x then position_bytes bytes a b else []) ++ spans_text bytes ss) h
+nothing-law : (bytes : List ℕ) (name : Name) (a b : Point) (ss : List Span) → is_text name ≡ false →
+    spans_text bytes (record { name = name; start = a; end = b } ∷ ss) ≡ spans_text bytes ss
+nothing-law bytes name a b ss h =
+    span-text bytes (record { name = name; start = a; end = b }) ss ∙ ap (λ x. (if x then position_bytes bytes a b else []) ++ spans_text bytes ss) h
 
 group-law : (bytes : List ℕ) (inside rest : Forest) → Law bytes inside → Law bytes rest → (p : Point) (back : List Code) → IsChain p ((leaf_codes inside ++ leaf_codes rest) ++ back)
     → HasNoTextGroup inside → HasNoTextGroup rest → spans_text bytes (leaves_of inside ++ leaves_of rest) ≡ codes_bytes bytes (kept inside ++ kept rest)
@@ -114,7 +126,8 @@ kept-lent bytes (leaf_then name link cs rest) p back h k =
     let apart : IsChain p (cs ++ (leaf_codes rest ++ back)) = subst (λ xs. IsChain p xs) (append_assoc cs (leaf_codes rest) back) h in
     leaf-law bytes name cs (leaves_of rest) (kept rest) (leaf-bytes bytes p cs (leaf_codes rest ++ back) apart)
     (kept-lent bytes rest (stop_of p cs) back (chain-back p cs (leaf_codes rest ++ back) apart) k)
-kept-lent bytes (group_then name a b empty rest) p back h k = nothing-law bytes name a b (leaves_of rest) k.0 ∙ kept-lent bytes rest p back h k.2
+kept-lent bytes (group_then name a b empty rest) p back h k =
+    nothing-law bytes name a b (leaves_of rest) k.0 ∙ kept-lent bytes rest p back h k.2
 kept-lent bytes (group_then name a b (leaf_then m l cs more) rest) p back h k =
     group-law bytes (leaf_then m l cs more) rest (kept-lent bytes (leaf_then m l cs more)) (kept-lent bytes rest) p back h k.1 k.2
 kept-lent bytes (group_then name a b (group_then m c d inner more) rest) p back h k =

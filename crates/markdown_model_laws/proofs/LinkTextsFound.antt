@@ -28,7 +28,8 @@ pub record WentText (stop takes refuses : Code → Bool) (next : List Code → R
   pub second : next text after ≡ Some r
 
 module _ (stop takes refuses : Code → Bool) (slashes : (c : Code) → is_value 92 c ≡ true → takes c ≡ true) (stops : (c : Code) → stop c ≡ true → takes c ≡ true) where
-  text-back : (next : List Code → Reading Forest) (cs : List Code) (r : Forest × List Code) → (up_to stop takes refuses >>= next) cs ≡ Some r → WentText stop takes refuses next cs r
+  text-back : (next : List Code → Reading Forest) (cs : List Code) (r : Forest × List Code) →
+      (up_to stop takes refuses >>= next) cs ≡ Some r → WentText stop takes refuses next cs r
   unfolding up_to
   text-back next cs r e =
       let w : Went (up_to stop takes refuses) next cs r = bind-back (up_to stop takes refuses) next cs r e in
@@ -40,12 +41,15 @@ module _ (stop takes refuses : Code → Bool) (slashes : (c : Code) → is_value
         second = w.second;
       }
 
-  text-some : (text : List Code) (back : Code) (rest : List Code) → Escaped (λ c. stop c || refuses c) takes false text → stop back ≡ true → up_to stop takes refuses (text ++ (back ∷ rest)) ≡ Some (text, back ∷ rest)
+  text-some : (text : List Code) (back : Code) (rest : List Code) →
+      Escaped (λ c. stop c || refuses c) takes false text → stop back ≡ true →
+      up_to stop takes refuses (text ++ (back ∷ rest)) ≡ Some (text, back ∷ rest)
   unfolding up_to
   text-some text back rest i h = found stop takes refuses slashes stops false text (back ∷ rest) i h
 
 -- the escaped codes of a text, by the words of the grammar
-escaped-in : (marks stops takes : Code → Bool) (text : List Code) → ((c : Code) → marks c ≡ true → stops c ≡ true) → Escaped stops takes false text → IsEscapedIn marks text
+escaped-in : (marks stops takes : Code → Bool) (text : List Code) → ((c : Code) → marks c ≡ true → stops c ≡ true) →
+    Escaped stops takes false text → IsEscapedIn marks text
 escaped-in marks stops takes text more i = record {
   inside = λ before after c e h. escapes-after before ∙ and-left _ _ (i.inside before after c e (more c h));
   behind = escapes-after text ∙ i.behind;
@@ -73,7 +77,9 @@ module _ (opener closer : ℕ) (names : StringNames) where
   stops : (c : Code) → is_value closer c ≡ true → takes c ≡ true
   stops c h = or_right (c.value == 92) _ (or_left _ false h)
 
-  between-back : (cs : List Code) (tree : Forest) (rest : List Code) → title_between opener closer names cs ≡ Some (tree, rest) → Marked (IsBetween opener closer) (between_markers names) cs tree rest
+  between-back : (cs : List Code) (tree : Forest) (rest : List Code) →
+      title_between opener closer names cs ≡ Some (tree, rest) →
+      Marked (IsBetween opener closer) (between_markers names) cs tree rest
   unfolding title_between
   between-back cs tree rest e =
       let a : WentOne (is_value opener) _ cs (tree, rest) = one-back (is_value opener) _ cs (tree, rest) e in
@@ -106,16 +112,19 @@ module _ (opener closer : ℕ) (names : StringNames) where
       (after-some _ _ rest [] rest _ (provided-true _ rest i.lines) refl)))
 
   -- it does not begin with another code
-  between-none : (front : Code) (cs : List Code) → is_value opener front ≡ false → title_between opener closer names (front ∷ cs) ≡ None
+  between-none : (front : Code) (cs : List Code) → is_value opener front ≡ false →
+      title_between opener closer names (front ∷ cs) ≡ None
   unfolding title_between
   between-none front cs h = bind-none _ _ (front ∷ cs) (one-other (is_value opener) front cs h)
 
 module _ (names : StringNames) where
   weaker : (opener closer : ℕ) (cs : List Code) (tree : Forest) (rest : List Code) → ((front : Code) (text : List Code) (back : Code) → IsBetween opener closer front text back → IsTitle front text back)
       → Marked (IsBetween opener closer) (between_markers names) cs tree rest → Marked IsTitle (between_markers names) cs tree rest
-  weaker opener closer cs tree rest f m = record { front = m.front; text = m.text; back = m.back; stands = m.stands; is = f m.front m.text m.back m.is; tree_is = m.tree_is }
+  weaker opener closer cs tree rest f m =
+      record { front = m.front; text = m.text; back = m.back; stands = m.stands; is = f m.front m.text m.back m.is; tree_is = m.tree_is }
 
-  pub title-back : (cs : List Code) (tree : Forest) (rest : List Code) → title names cs ≡ Some (tree, rest) → Marked IsTitle (between_markers names) cs tree rest
+  pub title-back : (cs : List Code) (tree : Forest) (rest : List Code) → title names cs ≡ Some (tree, rest) →
+      Marked IsTitle (between_markers names) cs tree rest
   unfolding title
   title-back cs tree rest e =
       elim (either-back (title_between 34 34 names) (either (title_between 39 39 names) (title_between 40 41 names)) cs (tree, rest) e) [
@@ -126,9 +135,11 @@ module _ (names : StringNames) where
         ]
       ]
 
-  pub found-title : (front : Code) (text : List Code) (back : Code) (rest : List Code) → IsTitle front text back → title names (front ∷ (text ++ (back ∷ rest))) ≡ Some (between_markers names (front ∷ []) text (back ∷ []), rest)
+  pub found-title : (front : Code) (text : List Code) (back : Code) (rest : List Code) → IsTitle front text back →
+      title names (front ∷ (text ++ (back ∷ rest))) ≡ Some (between_markers names (front ∷ []) text (back ∷ []), rest)
   unfolding title
-  found-title front text back rest (inl i) = either-some _ _ (front ∷ (text ++ (back ∷ rest))) _ (between-found 34 34 names front text back rest i)
+  found-title front text back rest (inl i) =
+      either-some _ _ (front ∷ (text ++ (back ∷ rest))) _ (between-found 34 34 names front text back rest i)
   found-title front text back rest (inr (inl i)) =
       either-second _ _ (front ∷ (text ++ (back ∷ rest))) (between-none 34 34 names front (text ++ (back ∷ rest)) (other 39 34 front refl i.opens))
       ∙ either-some _ _ (front ∷ (text ++ (back ∷ rest))) _ (between-found 39 39 names front text back rest i)
@@ -141,7 +152,8 @@ module _ (names : StringNames) where
 pub marked-found : (a : Reading Forest) (Is : Code → List Code → Code → Type 0) (tree_of : List Code → List Code → List Code → Forest)
     → ((front : Code) (text : List Code) (back : Code) (rest : List Code) → Is front text back → a (front ∷ (text ++ (back ∷ rest))) ≡ Some (tree_of (front ∷ []) text (back ∷ []), rest))
     → (cs : List Code) (tree : Forest) (rest : List Code) → Marked Is tree_of cs tree rest → a cs ≡ Some (tree, rest)
-marked-found a Is tree_of found cs tree rest m = ap a m.stands ∙ found m.front m.text m.back rest m.is ∙ ap (λ t. Some (t, rest)) (sym m.tree_is)
+marked-found a Is tree_of found cs tree rest m =
+    ap a m.stands ∙ found m.front m.text m.back rest m.is ∙ ap (λ t. Some (t, rest)) (sym m.tree_is)
 
 pub titles_are_found : TitlesAreFound
 titles_are_found names =
@@ -175,7 +187,8 @@ bracket_stops : (c : Code) → is_value 93 c ≡ true → bracket_takes c ≡ tr
 bracket_stops c h = or_right (c.value == 91) _ (or_right (c.value == 92) _ (or_left _ false h))
 
 to-bracket : (c : Code) → brackets c ≡ true → is_bracket c ≡ true
-to-bracket c h = elim (or-parts (c.value == 91) _ h) [ inl k ↦ or_right (c.value == 93) _ k | inr k ↦ or_left _ (c.value == 91) (or-last _ k) ]
+to-bracket c h =
+    elim (or-parts (c.value == 91) _ h) [ inl k ↦ or_right (c.value == 93) _ k | inr k ↦ or_left _ (c.value == 91) (or-last _ k) ]
 
 from-bracket : (c : Code) → is_bracket c ≡ true → (brackets c ≡ true) × (bracket_takes c ≡ true)
 from-bracket c h = elim (or-parts (c.value == 93) _ h) [
@@ -187,7 +200,8 @@ module _ (names : StringNames) where
   abbrev some_filled : List Code → Bool
   some_filled text = list_any (λ c. not (is_whitespace_code c)) text
 
-  pub label-back : (cs : List Code) (tree : Forest) (rest : List Code) → label names cs ≡ Some (tree, rest) → Marked IsLabel (between_markers names) cs tree rest
+  pub label-back : (cs : List Code) (tree : Forest) (rest : List Code) → label names cs ≡ Some (tree, rest) →
+      Marked IsLabel (between_markers names) cs tree rest
   unfolding label
   label-back cs tree rest e =
       let a : WentOne (is_value 91) _ cs (tree, rest) = one-back (is_value 91) _ cs (tree, rest) e in
@@ -254,10 +268,12 @@ angle_stops : (c : Code) → is_value 62 c ≡ true → angle_takes c ≡ true
 angle_stops c h = or_right (c.value == 60) _ (or_left _ _ h)
 
 to-angle : (c : Code) → angles c ≡ true → is_angle c ≡ true
-to-angle c h = elim (or-parts (c.value == 60) _ h) [ inl k ↦ or_right (c.value == 62) _ (or_left _ (is_line_ending c) k) | inr k ↦ or_left _ (angle_refuses c) (or-last _ k) ]
+to-angle c h =
+    elim (or-parts (c.value == 60) _ h) [ inl k ↦ or_right (c.value == 62) _ (or_left _ (is_line_ending c) k) | inr k ↦ or_left _ (angle_refuses c) (or-last _ k) ]
 
 -- a code of a list in which none passes does not pass
-pub none-passes : (p : Code → Bool) (before after : List Code) (c : Code) (text : List Code) → text ≡ before ++ (c ∷ after) → list_any p text ≡ false → p c ≡ false
+pub none-passes : (p : Code → Bool) (before after : List Code) (c : Code) (text : List Code) →
+    text ≡ before ++ (c ∷ after) → list_any p text ≡ false → p c ≡ false
 none-passes p before after c text e h = here before (sym (ap (list_any p) e) ∙ h)
   where
     here : (xs : List Code) → list_any p (xs ++ (c ∷ after)) ≡ false → p c ≡ false
@@ -265,9 +281,11 @@ none-passes p before after c text e h = here before (sym (ap (list_any p) e) ∙
     here (x ∷ xs) k = here xs (or_parts (p x) _ k).1
 
 -- and where each does not pass, none does
-none-of : (p : Code → Bool) (text : List Code) → ((before after : List Code) (c : Code) → text ≡ before ++ (c ∷ after) → p c ≡ false) → list_any p text ≡ false
+none-of : (p : Code → Bool) (text : List Code) →
+    ((before after : List Code) (c : Code) → text ≡ before ++ (c ∷ after) → p c ≡ false) → list_any p text ≡ false
 none-of p [] f = refl
-none-of p (c ∷ text) f = or_from (p c) (list_any p text) (f [] text c refl) (none-of p text (λ before after d e. f (c ∷ before) after d (ap (λ xs. c ∷ xs) e)))
+none-of p (c ∷ text) f =
+    or_from (p c) (list_any p text) (f [] text c refl) (none-of p text (λ before after d e. f (c ∷ before) after d (ap (λ xs. c ∷ xs) e)))
 
 from-angle : (c : Code) → is_line_ending c ≡ false → is_angle c ≡ true → (angles c ≡ true) × (angle_takes c ≡ true)
 from-angle c n h = elim (or-parts (c.value == 62) _ h) [
@@ -277,11 +295,13 @@ from-angle c n h = elim (or-parts (c.value == 62) _ h) [
 
 -- a line ending is none of the marks
 ending-taken : (c : Code) (b : Bool) → is_line_ending c ≡ b → angle_takes c ≡ true → b ≡ false
-ending-taken c true e h = let no : false ≡ true = sym (ap (λ v. (v == 60) || ((v == 62) || ((v == 92) || false))) (eqb-true c.value 10 e)) ∙ h in cc
+ending-taken c true e h =
+    let no : false ≡ true = sym (ap (λ v. (v == 60) || ((v == 62) || ((v == 92) || false))) (eqb-true c.value 10 e)) ∙ h in cc
 ending-taken c false e h = refl
 
 module _ (names : DestinationNames) where
-  pub enclosed-back : (cs : List Code) (tree : Forest) (rest : List Code) → literal_destination names cs ≡ Some (tree, rest) → Marked IsEnclosed (enclosed_tree names) cs tree rest
+  pub enclosed-back : (cs : List Code) (tree : Forest) (rest : List Code) →
+      literal_destination names cs ≡ Some (tree, rest) → Marked IsEnclosed (enclosed_tree names) cs tree rest
   unfolding literal_destination
   enclosed-back cs tree rest e =
       let a : WentOne (is_value 60) _ cs (tree, rest) = one-back (is_value 60) _ cs (tree, rest) e in
@@ -302,8 +322,10 @@ module _ (names : DestinationNames) where
         tree_is = g.0;
       }
     where
-      by_test : {text : List Code} (before after : List Code) (c : Code) → text ≡ before ++ (c ∷ after) → (x : Bool) → is_line_ending c ≡ x → Escaped is_angle angle_takes false text → is_line_ending c ≡ false
-      by_test before after c k true h i = h ∙ ending-taken c true h (and-right _ _ (i.inside before after c k (or_right (c.value == 62) _ (or_right (c.value == 60) _ h))))
+      by_test : {text : List Code} (before after : List Code) (c : Code) → text ≡ before ++ (c ∷ after) → (x : Bool) →
+          is_line_ending c ≡ x → Escaped is_angle angle_takes false text → is_line_ending c ≡ false
+      by_test before after c k true h i =
+          h ∙ ending-taken c true h (and-right _ _ (i.inside before after c k (or_right (c.value == 62) _ (or_right (c.value == 60) _ h))))
       by_test before after c k false h i = h
 
   pub enclosed-found : (front : Code) (text : List Code) (back : Code) (rest : List Code) → IsEnclosed front text back

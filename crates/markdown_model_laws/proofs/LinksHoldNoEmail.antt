@@ -53,7 +53,8 @@ plain-leaf name [] h = (refl, refl)
 plain-leaf name (c ∷ cs) h = (or_from (is_email name) false h refl, refl)
 
 -- the parts of a group
-group-parts : (name : Name) (enter exit : Point) (inside rest : Forest) → IsPlain (group_then name enter exit inside rest) → (is_shut name inside ≡ true) × IsPlain inside × IsPlain rest
+group-parts : (name : Name) (enter exit : Point) (inside rest : Forest) →
+    IsPlain (group_then name enter exit inside rest) → (is_shut name inside ≡ true) × IsPlain inside × IsPlain rest
 group-parts name enter exit inside rest h =
     let p = or_parts (holds_email inside) (holds_email rest) h.0 in
     let q = and_parts (is_shut name inside) (seals inside && seals rest) h.1 in
@@ -73,7 +74,8 @@ is-plain = record {
 plain-join : (a b : Forest) → IsPlain a → IsPlain b → IsPlain (a ⊕ b)
 plain-join a b h k = walks-row is-plain a b h k
 
-plain-group : (name : Name) (enter exit : Point) (f : Forest) → is_shut name f ≡ true → IsPlain f → IsPlain (group_then name enter exit f empty)
+plain-group : (name : Name) (enter exit : Point) (f : Forest) → is_shut name f ≡ true → IsPlain f →
+    IsPlain (group_then name enter exit f empty)
 plain-group name enter exit f k h = is-plain.group_to name enter exit f empty k h (refl, refl)
 
 -- what labels are made of
@@ -125,7 +127,8 @@ sealed-assembled w h =
 
 module _ (s : Setting) (pairs_of : List Run → List Pair) where
   -- a row of such leaves has no bracket
-  sealed-tokens : (f : Forest) (pairs : List Pair) (n : ℕ) → IsSealed f → WordHas IsSealed Never Never (tokens_of s pairs_of f pairs n)
+  sealed-tokens : (f : Forest) (pairs : List Pair) (n : ℕ) → IsSealed f →
+      WordHas IsSealed Never Never (tokens_of s pairs_of f pairs n)
   unfolding tokens_of
   sealed-tokens empty pairs n h = tt
   sealed-tokens (leaf_then Name.AttentionSequence link cs rest) pairs n h = cc
@@ -134,10 +137,12 @@ module _ (s : Setting) (pairs_of : List Run → List Pair) where
       (and_from (not (is_data name || is_run name)) true p.0 refl, sealed-tokens rest pairs n p.1)
   sealed-tokens (group_then name enter exit inside rest) pairs n h = cc
 
-  shut-tokens : (name : Name) (f : Forest) (pairs : List Pair) (n : ℕ) → is_shut name f ≡ true → is_shut name (assembled (tokens_of s pairs_of f pairs n)) ≡ true
+  shut-tokens : (name : Name) (f : Forest) (pairs : List Pair) (n : ℕ) → is_shut name f ≡ true →
+      is_shut name (assembled (tokens_of s pairs_of f pairs n)) ≡ true
   shut-tokens name f pairs n h = by_test (is_autolink name) h
     where
-      by_test : (b : Bool) → (not b || is_sealed f) ≡ true → (not b || is_sealed (assembled (tokens_of s pairs_of f pairs n))) ≡ true
+      by_test : (b : Bool) → (not b || is_sealed f) ≡ true →
+          (not b || is_sealed (assembled (tokens_of s pairs_of f pairs n))) ≡ true
       by_test true k = sealed-assembled (tokens_of s pairs_of f pairs n) (sealed-tokens f pairs n k)
       by_test false k = refl
 
@@ -158,7 +163,8 @@ module _ (s : Setting) (pairs_of : List Run → List Pair) where
 
   plain-paired : (f : Forest) → IsPlain f → IsPlain (paired s pairs_of f)
   unfolding paired
-  plain-paired f h = plain-assembled (tokens_of s pairs_of f (pairs_of (runs_of s f)) 0) (plain-tokens f (pairs_of (runs_of s f)) 0 h)
+  plain-paired f h =
+      plain-assembled (tokens_of s pairs_of f (pairs_of (runs_of s f)) 0) (plain-tokens f (pairs_of (runs_of s f)) 0 h)
 
 -- Merging and trimming.
 
@@ -174,10 +180,12 @@ still-shut name f g more h = by_test (is_autolink name) h
     by_test false k = refl
 
 plain-merged : (f : Forest) → IsPlain f → IsPlain (merged f)
-plain-merged f h = walks-merged is-plain (λ cs ds _ _. refl) (λ name a b inside _ g. still-shut name inside (merged inside) (sealed-merged inside) g) f h
+plain-merged f h =
+    walks-merged is-plain (λ cs ds _ _. refl) (λ name a b inside _ g. still-shut name inside (merged inside) (sealed-merged inside) g) f h
 
 sealed-trimmed : (hard front whole : Bool) (f : Forest) → IsSealed f → IsSealed (trimmed hard front whole f)
-sealed-trimmed hard front whole f h = walks-trimmed sealed hard (λ x y z cs k. absurd (both_ways false refl k)) (λ name a b inside _ g. g) front whole f h
+sealed-trimmed hard front whole f h =
+    walks-trimmed sealed hard (λ x y z cs k. absurd (both_ways false refl k)) (λ name a b inside _ g. g) front whole f h
 
 plain-trimmed : (hard front whole : Bool) (f : Forest) → IsPlain f → IsPlain (trimmed hard front whole f)
 plain-trimmed hard front whole f h =
@@ -214,18 +222,27 @@ sealed-mailed (group_then name enter exit inside rest) h k = cc
 links-mailed : (f : Forest) → IsPlain f → HasPlainLinks (with_emails_apart f)
 unfolding with_emails_apart
 links-mailed empty h = tt
-links-mailed (leaf_then Name.Data None cs rest) h = links-join (with_emails cs) (with_emails_apart rest) (links-emails cs) (links-mailed rest h)
-links-mailed (leaf_then name link cs rest) h = links-mailed rest ((or_parts (is_email name) (holds_email rest) h.0).1, h.1)
-links-mailed (group_then Name.Link enter exit inside rest) h = let p = group-parts Name.Link enter exit inside rest h in (p.1.0, links-mailed rest p.2)
-links-mailed (group_then Name.Autolink enter exit inside rest) h = let p = group-parts Name.Autolink enter exit inside rest h in (sealed-mailed inside p.0 p.1.0, links-mailed rest p.2)
-links-mailed (group_then name enter exit inside rest) h = let p = group-parts name enter exit inside rest h in (links-mailed inside p.1, links-mailed rest p.2)
+links-mailed (leaf_then Name.Data None cs rest) h =
+    links-join (with_emails cs) (with_emails_apart rest) (links-emails cs) (links-mailed rest h)
+links-mailed (leaf_then name link cs rest) h =
+    links-mailed rest ((or_parts (is_email name) (holds_email rest) h.0).1, h.1)
+links-mailed (group_then Name.Link enter exit inside rest) h =
+    let p = group-parts Name.Link enter exit inside rest h in (p.1.0, links-mailed rest p.2)
+links-mailed (group_then Name.Autolink enter exit inside rest) h =
+    let p = group-parts Name.Autolink enter exit inside rest h in (sealed-mailed inside p.0 p.1.0, links-mailed rest p.2)
+links-mailed (group_then name enter exit inside rest) h =
+    let p = group-parts name enter exit inside rest h in (links-mailed inside p.1, links-mailed rest p.2)
 
 links-plain : (f : Forest) → IsPlain f → HasPlainLinks f
 links-plain empty h = tt
-links-plain (leaf_then name link cs rest) h = links-plain rest ((or_parts (is_email name) (holds_email rest) h.0).1, h.1)
-links-plain (group_then Name.Link enter exit inside rest) h = let p = group-parts Name.Link enter exit inside rest h in (p.1.0, links-plain rest p.2)
-links-plain (group_then Name.Autolink enter exit inside rest) h = let p = group-parts Name.Autolink enter exit inside rest h in (p.1.0, links-plain rest p.2)
-links-plain (group_then name enter exit inside rest) h = let p = group-parts name enter exit inside rest h in (links-plain inside p.1, links-plain rest p.2)
+links-plain (leaf_then name link cs rest) h =
+    links-plain rest ((or_parts (is_email name) (holds_email rest) h.0).1, h.1)
+links-plain (group_then Name.Link enter exit inside rest) h =
+    let p = group-parts Name.Link enter exit inside rest h in (p.1.0, links-plain rest p.2)
+links-plain (group_then Name.Autolink enter exit inside rest) h =
+    let p = group-parts Name.Autolink enter exit inside rest h in (p.1.0, links-plain rest p.2)
+links-plain (group_then name enter exit inside rest) h =
+    let p = group-parts name enter exit inside rest h in (links-plain inside p.1, links-plain rest p.2)
 
 pub links_hold_no_email : LinksHoldNoEmail
 unfolding text_tree string_tree finished_text finished_string raw_tree

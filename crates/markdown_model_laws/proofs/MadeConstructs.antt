@@ -35,7 +35,8 @@ is_at p q = p.index == q.index && p.vs == q.vs
 
 -- around something, from where it begins to where it ends
 abbrev pub reaches : Point → Point → Forest → Bool
-reaches enter exit inside = not (is_nothing inside) && (is_at enter (enter_of inside) && is_at exit (exit_after (enter_of inside) inside))
+reaches enter exit inside =
+    not (is_nothing inside) && (is_at enter (enter_of inside) && is_at exit (exit_after (enter_of inside) inside))
 
 abbrev pub is_autolink : Name → Bool
 is_autolink Name.Autolink = true
@@ -80,7 +81,8 @@ made-join texts (group_then name enter exit inside rest) b =
     regroup true true false d e = refl
     regroup true true true d e = refl
 
-pub made-leaf : (texts : Bool) (name : Name) (cs : List Code) → made texts (leaf name cs) ≡ (not (is_email name) || is_empty cs)
+pub made-leaf : (texts : Bool) (name : Name) (cs : List Code) →
+    made texts (leaf name cs) ≡ (not (is_email name) || is_empty cs)
 made-leaf texts name [] = sym (or-true (not (is_email name)))
 made-leaf texts name (c ∷ cs) = by_test (is_email name)
   where
@@ -88,7 +90,8 @@ made-leaf texts name (c ∷ cs) = by_test (is_email name)
     by_test true = refl
     by_test false = refl
 
-made-linked_leaf : (name : Name) (link : Option Content) (cs : List Code) → is_email name ≡ false → made false (linked_leaf name link cs) ≡ true
+made-linked_leaf : (name : Name) (link : Option Content) (cs : List Code) → is_email name ≡ false →
+    made false (linked_leaf name link cs) ≡ true
 made-linked_leaf name link [] h = refl
 made-linked_leaf name link (c ∷ cs) h = λ i. not (h i) && true
 
@@ -103,7 +106,8 @@ made-linked [] = refl
 made-linked (c ∷ cs) = refl
 
 -- of leaves, by each of them
-rows-made : (t : Forest) → Leaves (λ name link cs. (is_empty cs ≡ false) × (is_email name ≡ false)) t → made false t ≡ true
+rows-made : (t : Forest) → Leaves (λ name link cs. (is_empty cs ≡ false) × (is_email name ≡ false)) t →
+    made false t ≡ true
 rows-made empty h = refl
 rows-made (leaf_then name link cs rest) h = λ i. not (h.0.0 i) && (not (h.0.1 i) && rows-made rest h.1 i)
 rows-made (group_then name enter exit inside rest) h = absurd h
@@ -125,31 +129,46 @@ reaches-itself : (f : Forest) → is_nothing f ≡ false → reaches (enter_of f
 reaches-itself f h = λ i. not (h i) && (at-itself (enter_of f) i && at-itself (exit_after (enter_of f) f) i)
 
 -- a group around something
-pub made-group : (texts : Bool) (name : Name) (f : Forest) → is_single name f ≡ true → is_nothing f ≡ false → made texts f ≡ true → made texts (group name f) ≡ true
-made-group texts name f h k l = (λ i. ((texts && is_label_text name) || reaches-itself f k i) && (h i && (l i && true))) ∙ (λ i. or-true (texts && is_label_text name) i && true)
+pub made-group : (texts : Bool) (name : Name) (f : Forest) → is_single name f ≡ true → is_nothing f ≡ false →
+    made texts f ≡ true → made texts (group name f) ≡ true
+made-group texts name f h k l =
+    (λ i. ((texts && is_label_text name) || reaches-itself f k i) && (h i && (l i && true))) ∙ (λ i. or-true (texts && is_label_text name) i && true)
 
-made-string_group : (name : Name) (f : Forest) → ((g : Forest) → is_single name g ≡ true) → made false f ≡ true → made false (string_group name f) ≡ true
+made-string_group : (name : Name) (f : Forest) → ((g : Forest) → is_single name g ≡ true) → made false f ≡ true →
+    made false (string_group name f) ≡ true
 made-string_group name empty h k = refl
-made-string_group name (leaf_then n l c r) h k = made-group false name (leaf_then n l c r) (h (leaf_then n l c r)) refl k
-made-string_group name (group_then n a b x r) h k = made-group false name (group_then n a b x r) (h (group_then n a b x r)) refl k
+made-string_group name (leaf_then n l c r) h k =
+    made-group false name (leaf_then n l c r) (h (leaf_then n l c r)) refl k
+made-string_group name (group_then n a b x r) h k =
+    made-group false name (group_then n a b x r) (h (group_then n a b x r)) refl k
 
-made-reference_string : (cs : List Code) → made false (string_group Name.ReferenceString (lines Name.Data (Some Content.String) cs)) ≡ true
-made-reference_string cs = made-string_group Name.ReferenceString (lines Name.Data (Some Content.String) cs) (λ g. refl) (made-lines (Some Content.String) cs)
+made-reference_string : (cs : List Code) →
+    made false (string_group Name.ReferenceString (lines Name.Data (Some Content.String) cs)) ≡ true
+made-reference_string cs =
+    made-string_group Name.ReferenceString (lines Name.Data (Some Content.String) cs) (λ g. refl) (made-lines (Some Content.String) cs)
 
-made-title_string : (cs : List Code) → made false (string_group Name.ResourceTitleString (lines Name.Data (Some Content.String) cs)) ≡ true
-made-title_string cs = made-string_group Name.ResourceTitleString (lines Name.Data (Some Content.String) cs) (λ g. refl) (made-lines (Some Content.String) cs)
+made-title_string : (cs : List Code) →
+    made false (string_group Name.ResourceTitleString (lines Name.Data (Some Content.String) cs)) ≡ true
+made-title_string cs =
+    made-string_group Name.ResourceTitleString (lines Name.Data (Some Content.String) cs) (λ g. refl) (made-lines (Some Content.String) cs)
 
-made-destination_string : (cs : List Code) → made false (string_group Name.ResourceDestinationString (linked Name.Data cs)) ≡ true
-made-destination_string cs = made-string_group Name.ResourceDestinationString (linked Name.Data cs) (λ g. refl) (made-linked cs)
+made-destination_string : (cs : List Code) →
+    made false (string_group Name.ResourceDestinationString (linked Name.Data cs)) ≡ true
+made-destination_string cs =
+    made-string_group Name.ResourceDestinationString (linked Name.Data cs) (λ g. refl) (made-linked cs)
 
-ruleset made_laws = (made-reference_string, made-title_string, made-destination_string, made-join, made-leaf, made-space, made-ending)
+ruleset made_laws =
+    (made-reference_string, made-title_string, made-destination_string, made-join, made-leaf, made-space, made-ending)
 
-pub front-some : (name : Name) (cs : List Code) (f : Forest) → is_empty cs ≡ false → is_nothing (leaf name cs ⊕ f) ≡ false
+pub front-some : (name : Name) (cs : List Code) (f : Forest) → is_empty cs ≡ false →
+    is_nothing (leaf name cs ⊕ f) ≡ false
 front-some name [] f h = cc
 front-some name (c ∷ cs) f h = refl
 
 -- a group that begins with a marker
-pub made-front : (name marker : Name) (cs : List Code) (f : Forest) → is_single name (leaf marker cs ⊕ f) ≡ true → is_email marker ≡ false → is_empty cs ≡ false → made false f ≡ true → made false (group name (leaf marker cs ⊕ f)) ≡ true
+pub made-front : (name marker : Name) (cs : List Code) (f : Forest) → is_single name (leaf marker cs ⊕ f) ≡ true →
+    is_email marker ≡ false → is_empty cs ≡ false → made false f ≡ true →
+    made false (group name (leaf marker cs ⊕ f)) ≡ true
 made-front name marker cs f h e k l =
     made-group false name (leaf marker cs ⊕ f) h (front-some marker cs f k)
     (made-join false (leaf marker cs) f ∙ (λ i. (made-leaf false marker cs ∙ (λ j. not (e j) || is_empty cs)) i && l i))
@@ -178,7 +197,8 @@ gives-some a h k = record { at = λ cs. by_answer cs (a cs) refl }
 
     by_answer : (cs : List Code) (r : Option (List Code × List Code)) → a cs ≡ r → Passes IsSome r
     by_answer cs None e = tt
-    by_answer cs (Some x) e = some-codes x.0 cs x.1 (read-codes itself a h cs x.1 x.0 e) (read-shorter 1 a k cs x.1 x.0 e)
+    by_answer cs (Some x) e =
+        some-codes x.0 cs x.1 (read-codes itself a h cs x.1 x.0 e) (read-shorter 1 a k cs x.1 x.0 e)
 
 pub one-gives : (p : Code → Bool) → Yields IsSome (one p)
 one-gives p = gives-some (one p) (takes_one p) (one_takes p)
@@ -195,7 +215,8 @@ makes_spacing link = yields_either _ _ _
 
 -- What stands by itself.
 
-own-names : (name : Name) → is_own name ≡ true → (is_email name ≡ false) × ((is_pair name ≡ false) × ((is_data name || is_run name) ≡ false))
+own-names : (name : Name) → is_own name ≡ true →
+    (is_email name ≡ false) × ((is_pair name ≡ false) × ((is_data name || is_run name) ≡ false))
 own-names Name.Data e = cc
 own-names Name.AttentionSequence e = cc
 own-names Name.Emphasis e = cc
@@ -241,7 +262,8 @@ makes_title_between opener closer =
 
 makes_title : Makes (title title_names)
 unfolding title
-makes_title = yields_either _ _ _ (makes_title_between _ _) (yields_either _ _ _ (makes_title_between _ _) (makes_title_between _ _))
+makes_title =
+    yields_either _ _ _ (makes_title_between _ _) (yields_either _ _ _ (makes_title_between _ _) (makes_title_between _ _))
 
 makes_literal_destination : Makes (literal_destination resource_names)
 unfolding literal_destination
@@ -249,7 +271,8 @@ makes_literal_destination =
     yields_bind IsSome _ _ _ (one-gives _) λ front h. then_any _ _ _ λ text. then_any _ _ _ λ back.
     yields_gives _ _ (literal front (string_group Name.ResourceDestinationString (linked Name.Data text) ⊕ leaf Name.ResourceDestinationLiteralMarker back) h (simp made_laws))
   where
-    literal : (front : List Code) (f : Forest) → is_empty front ≡ false → made false f ≡ true → made false (group Name.ResourceDestination (group Name.ResourceDestinationLiteral (leaf Name.ResourceDestinationLiteralMarker front ⊕ f))) ≡ true
+    literal : (front : List Code) (f : Forest) → is_empty front ≡ false → made false f ≡ true →
+        made false (group Name.ResourceDestination (group Name.ResourceDestinationLiteral (leaf Name.ResourceDestinationLiteralMarker front ⊕ f))) ≡ true
     literal front f h k =
         made-group false Name.ResourceDestination (group Name.ResourceDestinationLiteral (leaf Name.ResourceDestinationLiteralMarker front ⊕ f)) refl refl (made-front Name.ResourceDestinationLiteral Name.ResourceDestinationLiteralMarker front f refl refl h k)
 
@@ -258,7 +281,8 @@ unfolding raw_destination
 makes_raw_destination max =
     then_any _ _ _ λ text. yields_passed_if _ _ _ λ h. yields_gives _ _ (raw text (not-true (is_empty text) h))
   where
-    raw : (text : List Code) → is_empty text ≡ false → made false (group Name.ResourceDestination (group Name.ResourceDestinationRaw (group Name.ResourceDestinationString (linked Name.Data text)))) ≡ true
+    raw : (text : List Code) → is_empty text ≡ false →
+        made false (group Name.ResourceDestination (group Name.ResourceDestinationRaw (group Name.ResourceDestinationString (linked Name.Data text)))) ≡ true
     raw [] k = cc
     raw (c ∷ cs) k =
         made-group false Name.ResourceDestination (group Name.ResourceDestinationRaw (group Name.ResourceDestinationString (linked Name.Data (c ∷ cs)))) refl refl
@@ -293,7 +317,8 @@ makes_full_reference s = yields_bind IsMade _ _ _ makes_label λ tree h. yields_
 
 makes_collapsed_reference : Makes collapsed_reference
 unfolding collapsed_reference
-makes_collapsed_reference = yields_bind IsSome _ _ _ (one-gives _) λ front h. then_any _ _ _ λ back. yields_gives _ _ (made-front Name.Reference Name.ReferenceMarker front (leaf Name.ReferenceMarker back) refl refl h (simp made_laws))
+makes_collapsed_reference =
+    yields_bind IsSome _ _ _ (one-gives _) λ front h. then_any _ _ _ λ back. yields_gives _ _ (made-front Name.Reference Name.ReferenceMarker front (leaf Name.ReferenceMarker back) refl refl h (simp made_laws))
 
 makes_shortcut : (defined : Bool) → Makes (shortcut defined)
 unfolding shortcut

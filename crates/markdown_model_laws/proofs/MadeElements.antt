@@ -39,11 +39,13 @@ IsGoodOutcome o = IsMade o.1
 
 good_plain : (bytes : List ℕ) (a : Reading Forest) → ReadsPlain bytes a → Yields IsGood (as_plain a)
 unfolding as_plain
-good_plain bytes a h = yields_bind (IsPlainTree bytes) _ _ _ h.plain λ tree k. yields_gives _ (plain tree) (plain-made bytes tree k)
+good_plain bytes a h =
+    yields_bind (IsPlainTree bytes) _ _ _ h.plain λ tree k. yields_gives _ (plain tree) (plain-made bytes tree k)
 
 good_line_ending : Yields IsGood line_ending
 unfolding line_ending
-good_line_ending = then_any _ _ _ λ c. yields_gives _ (plain (leaf Name.LineEnding c)) (made-leaf false Name.LineEnding c)
+good_line_ending =
+    then_any _ _ _ λ c. yields_gives _ (plain (leaf Name.LineEnding c)) (made-leaf false Name.LineEnding c)
 
 good_data_code : Yields IsGood data_code
 unfolding data_code
@@ -51,7 +53,8 @@ good_data_code = then_any _ _ _ λ c. yields_gives _ (plain (leaf Name.Data c)) 
 
 good_run : (marker : ℕ) → Yields IsGood (attention_run marker)
 unfolding attention_run
-good_run marker = then_any _ _ _ λ markers. yields_gives _ (plain (leaf Name.AttentionSequence markers)) (made-leaf false Name.AttentionSequence markers)
+good_run marker =
+    then_any _ _ _ λ markers. yields_gives _ (plain (leaf Name.AttentionSequence markers)) (made-leaf false Name.AttentionSequence markers)
 
 good_outcome : (s : Setting) (l : Option Label) (back : List Code) → Yields IsGoodOutcome (outcome_of s l back)
 good_outcome s l back = outcome_yields IsMade refl s (makes_after_label s) l back
@@ -62,7 +65,8 @@ good_label_end s earlier =
     yields_bind IsSome _ _ _ (one-gives _) λ back h.
     yields_either _ _ _ (yields_bind IsGoodOutcome _ _ _ (good_outcome s (label_before earlier) back) λ outcome k. yields_gives _ (ends back (Some outcome)) (h, k)) (yields_gives _ (ends back None) h)
 
-good_text_element : (s : Setting) (end : ℕ) (earlier : List Element) (previous : Option Code) (cs : List Code) → Passes IsGood (text_element s end earlier previous cs)
+good_text_element : (s : Setting) (end : ℕ) (earlier : List Element) (previous : Option Code) (cs : List Code) →
+    Passes IsGood (text_element s end earlier previous cs)
 good_text_element s end earlier previous cs = text_has s end earlier previous (Passes IsGood) cs each (good_data_code.at cs)
   where
     each : EachConstruct s end earlier previous (Passes IsGood) cs
@@ -112,10 +116,14 @@ single-label LabelKind.GfmFootnote f = refl
 single-label LabelKind.GfmUndefinedFootnote f = refl
 
 made-start : (kind : LabelKind) (c : Code) (cs : List Code) → IsLabelled (start_tree kind (start_marker kind (c ∷ cs)))
-made-start LabelKind.Image c cs = made-group true Name.LabelImage (leaf_then Name.LabelImageMarker None (c ∷ []) (leaf Name.LabelMarker cs)) refl refl (made-leaf true Name.LabelMarker cs)
-made-start LabelKind.GfmFootnote c cs = made-group true Name.GfmFootnoteCallLabel (leaf_then Name.LabelMarker None (c ∷ []) (leaf Name.GfmFootnoteCallMarker cs)) refl refl (made-leaf true Name.GfmFootnoteCallMarker cs)
-made-start LabelKind.Link c cs = made-group true Name.LabelLink (leaf_then Name.LabelMarker None (c ∷ cs) empty) refl refl refl
-made-start LabelKind.GfmUndefinedFootnote c cs = made-group true Name.LabelLink (leaf_then Name.LabelMarker None (c ∷ []) empty) refl refl refl
+made-start LabelKind.Image c cs =
+    made-group true Name.LabelImage (leaf_then Name.LabelImageMarker None (c ∷ []) (leaf Name.LabelMarker cs)) refl refl (made-leaf true Name.LabelMarker cs)
+made-start LabelKind.GfmFootnote c cs =
+    made-group true Name.GfmFootnoteCallLabel (leaf_then Name.LabelMarker None (c ∷ []) (leaf Name.GfmFootnoteCallMarker cs)) refl refl (made-leaf true Name.GfmFootnoteCallMarker cs)
+made-start LabelKind.Link c cs =
+    made-group true Name.LabelLink (leaf_then Name.LabelMarker None (c ∷ cs) empty) refl refl refl
+made-start LabelKind.GfmUndefinedFootnote c cs =
+    made-group true Name.LabelLink (leaf_then Name.LabelMarker None (c ∷ []) empty) refl refl refl
 
 made-end : (back : List Code) → IsSome back → IsLabelled (group Name.LabelEnd (leaf Name.LabelMarker back))
 made-end [] h = cc
@@ -130,7 +138,9 @@ start-some LabelKind.GfmUndefinedFootnote cs g = refl
 made-text : (a b : Point) (f : Forest) → IsLabelled f → IsLabelled (text_group Name.LabelText a b f)
 made-text a b f h = λ i. h i && true
 
-made-label : (kind : LabelKind) (marker : List Code) (inside : Forest) (back : List Code) (tail : Forest) → IsSome marker → IsLabelled inside → IsSome back → IsLabelled tail → IsLabelled (label_group kind marker inside back tail)
+made-label : (kind : LabelKind) (marker : List Code) (inside : Forest) (back : List Code) (tail : Forest) →
+    IsSome marker → IsLabelled inside → IsSome back → IsLabelled tail →
+    IsLabelled (label_group kind marker inside back tail)
 made-label kind [] inside back tail h k l m = cc
 made-label kind (c ∷ cs) inside back tail h k l m =
     made-group true (label_name kind) (group Name.Label row ⊕ tail) (single-label kind (group Name.Label row ⊕ tail)) refl
@@ -160,13 +170,15 @@ made-labels es h =
     (λ kind marker inside back outcome m i e. made-label outcome.0 marker inside back outcome.1 m i e.0 (made-labelled-tree outcome.1 e.1)) es h
 
 pub good-text : (s : Setting) (cs : List Code) → AllGood (elements_of s cs)
-good-text s cs = all_are IsGood (text_choice s cs) (λ earlier previous ds. good_text_element s _ earlier previous ds) (elements_of s cs) [] None cs (text_elements s cs)
+good-text s cs =
+    all_are IsGood (text_choice s cs) (λ earlier previous ds. good_text_element s _ earlier previous ds) (elements_of s cs) [] None cs (text_elements s cs)
 
 pub made-text-labels : (s : Setting) (cs : List Code) → IsLabelled (labels_of (elements_of s cs))
 made-text-labels s cs = made-labels (elements_of s cs) (good-text s cs)
 
 pub good-string : (s : Setting) (cs : List Code) → AllGood (string_elements_of s cs)
-good-string s cs = all_are IsGood (string_choice s) (λ earlier previous ds. good_string_element s ds) (string_elements_of s cs) [] None cs (string_elements s cs)
+good-string s cs =
+    all_are IsGood (string_choice s) (λ earlier previous ds. good_string_element s ds) (string_elements_of s cs) [] None cs (string_elements s cs)
 
 pub made-string-labels : (s : Setting) (cs : List Code) → IsLabelled (labels_of (string_elements_of s cs))
 made-string-labels s cs = made-labels (string_elements_of s cs) (good-string s cs)

@@ -50,21 +50,26 @@ module _ (passes : Name → Bool) where
 
   by-join : (a b : Forest) → codes_by (a ⊕ b) ≡ codes_by a ++ codes_by b
   by-join empty b = refl
-  by-join (leaf_then name link cs rest) b = ap (λ x. marked (passes name) cs ++ x) (by-join rest b) ∙ sym (append_assoc (marked (passes name) cs) (codes_by rest) (codes_by b))
-  by-join (group_then name enter exit inside rest) b = ap (λ x. codes_by inside ++ x) (by-join rest b) ∙ sym (append_assoc (codes_by inside) (codes_by rest) (codes_by b))
+  by-join (leaf_then name link cs rest) b =
+      ap (λ x. marked (passes name) cs ++ x) (by-join rest b) ∙ sym (append_assoc (marked (passes name) cs) (codes_by rest) (codes_by b))
+  by-join (group_then name enter exit inside rest) b =
+      ap (λ x. codes_by inside ++ x) (by-join rest b) ∙ sym (append_assoc (codes_by inside) (codes_by rest) (codes_by b))
 
   by-leaf : (name : Name) (cs : List Code) → codes_by (leaf name cs) ≡ marked (passes name) cs
   by-leaf name [] = refl
   by-leaf name (c ∷ cs) = append-nil (marked (passes name) (c ∷ cs))
 
-  marks-leaf : (b : Bool) (cs : List Code) (xs : Marked) → map (λ x. x.0) (marked b cs ++ xs) ≡ map (λ c. b) cs ++ map (λ x. x.0) xs
+  marks-leaf : (b : Bool) (cs : List Code) (xs : Marked) →
+      map (λ x. x.0) (marked b cs ++ xs) ≡ map (λ c. b) cs ++ map (λ x. x.0) xs
   marks-leaf b [] xs = refl
   marks-leaf b (c ∷ cs) xs = ap (λ x. b ∷ x) (marks-leaf b cs xs)
 
   by-code : (f : Forest) → map (λ x. x.0) (codes_by f) ≡ by_code passes f
   by-code empty = refl
-  by-code (leaf_then name link cs rest) = marks-leaf (passes name) cs (codes_by rest) ∙ ap (λ x. map (λ c. passes name) cs ++ x) (by-code rest)
-  by-code (group_then name enter exit inside rest) = map-append (λ x. x.0) (codes_by inside) (codes_by rest) ∙ (λ i. by-code inside i ++ by-code rest i)
+  by-code (leaf_then name link cs rest) =
+      marks-leaf (passes name) cs (codes_by rest) ∙ ap (λ x. map (λ c. passes name) cs ++ x) (by-code rest)
+  by-code (group_then name enter exit inside rest) =
+      map-append (λ x. x.0) (codes_by inside) (codes_by rest) ∙ (λ i. by-code inside i ++ by-code rest i)
 
 abbrev held : Forest → Marked
 held f = codes_by may_hold_marker f
@@ -140,7 +145,8 @@ held-data cs = by-leaf may_hold_marker Name.Data cs
 sequence-held : (marker size : ℕ) → may_hold_marker (pair_names marker size).1 ≡ true
 sequence-held = pair-named (λ names. may_hold_marker names.1 ≡ true) refl refl refl
 
-held-group : (front : List Code) (inside : List Forest) (back : List Code) → held_all (pair_group front inside back) ≡ marked true front ++ (held_all inside ++ marked true back)
+held-group : (front : List Code) (inside : List Forest) (back : List Code) →
+    held_all (pair_group front inside back) ≡ marked true front ++ (held_all inside ++ marked true back)
 held-group front inside back =
     append-nil _ ∙ append-nil _
     ∙ by-join may_hold_marker (leaf name front) _
@@ -169,7 +175,8 @@ runs_marked f = codes_by is_run f
 not-blank : (v m : ℕ) → is_marker m ≡ true → (v == m) ≡ true → (v == 32 || v == 9) ≡ false
 not-blank v m h k = grind (arith, nat_tests)
 
-stripe-held : (m : ℕ) (cs : List Code) → is_marker m ≡ true → list_all (is_value m) cs ≡ true → AreHeld (marked true cs) (marked true cs)
+stripe-held : (m : ℕ) (cs : List Code) → is_marker m ≡ true → list_all (is_value m) cs ≡ true →
+    AreHeld (marked true cs) (marked true cs)
 stripe-held m [] h k = tt
 stripe-held m (c ∷ cs) h k =
     let p = and_parts (is_value m c) (list_all (is_value m) cs) k in
@@ -183,7 +190,8 @@ module _ (s : Setting) where
   abbrev words : Forest → List Pair → ℕ → List Token
   words f pairs n = tokens_of s (pair_list s) f pairs n
 
-  held-words : (f : Forest) (m : ℕ) (pairs : List Pair) (n : ℕ) → HasApartRuns m f → AreHeld (runs_marked f) (held_word (words f pairs n))
+  held-words : (f : Forest) (m : ℕ) (pairs : List Pair) (n : ℕ) → HasApartRuns m f →
+      AreHeld (runs_marked f) (held_word (words f pairs n))
   unfolding tokens_of
   held-words empty m pairs n h = tt
   held-words (leaf_then Name.AttentionSequence link cs rest) m pairs n h =
@@ -200,18 +208,21 @@ module _ (s : Setting) where
 
   held-paired : (f : Forest) → HasApartRuns 0 f → AreHeld (runs_marked f) (held (paired s (pair_list s) f))
   unfolding paired
-  held-paired f h = subst (AreHeld (runs_marked f)) (sym (held-assembled (words f (pair_list s (runs_of s f)) 0))) (held-words f 0 (pair_list s (runs_of s f)) 0 h)
+  held-paired f h =
+      subst (AreHeld (runs_marked f)) (sym (held-assembled (words f (pair_list s (runs_of s f)) 0))) (held-words f 0 (pair_list s (runs_of s f)) 0 h)
 
 -- Merging.
 
 held-data_onto : (cs : List Code) (f : Forest) → held (data_onto cs f) ≡ marked true cs ++ held f
-held-data_onto cs (leaf_then Name.Data None more rest) = ap (λ x. x ++ held rest) (marked-append true cs more) ∙ append_assoc (marked true cs) (marked true more) (held rest)
+held-data_onto cs (leaf_then Name.Data None more rest) =
+    ap (λ x. x ++ held rest) (marked-append true cs more) ∙ append_assoc (marked true cs) (marked true more) (held rest)
 held-data_onto cs rest = refl
 
 held-merged : (f : Forest) → held (merged f) ≡ held f
 unfolding merged
 held-merged empty = refl
-held-merged (leaf_then Name.Data None cs rest) = held-data_onto cs (merged rest) ∙ ap (λ x. marked true cs ++ x) (held-merged rest)
+held-merged (leaf_then Name.Data None cs rest) =
+    held-data_onto cs (merged rest) ∙ ap (λ x. marked true cs ++ x) (held-merged rest)
 held-merged (leaf_then name link cs rest) = ap (λ x. marked (may_hold_marker name) cs ++ x) (held-merged rest)
 held-merged (group_then name enter exit inside rest) = λ i. held-merged inside i ++ held-merged rest i
 
@@ -230,15 +241,18 @@ codes-marked b (c ∷ cs) = ap (λ x. c ∷ x) (codes-marked b cs)
 
 codes-held : (f : Forest) → codes_in (held f) ≡ leaf_codes f
 codes-held empty = refl
-codes-held (leaf_then name link cs rest) = map-append (λ x. x.1) (marked (may_hold_marker name) cs) (held rest) ∙ (λ i. codes-marked (may_hold_marker name) cs i ++ codes-held rest i)
-codes-held (group_then name enter exit inside rest) = map-append (λ x. x.1) (held inside) (held rest) ∙ (λ i. codes-held inside i ++ codes-held rest i)
+codes-held (leaf_then name link cs rest) =
+    map-append (λ x. x.1) (marked (may_hold_marker name) cs) (held rest) ∙ (λ i. codes-marked (may_hold_marker name) cs i ++ codes-held rest i)
+codes-held (group_then name enter exit inside rest) =
+    map-append (λ x. x.1) (held inside) (held rest) ∙ (λ i. codes-held inside i ++ codes-held rest i)
 
 -- marked codes, and codes marked where they are not blank
 kept-any : (xs ys : Marked) → codes_in xs ≡ codes_in ys → AreBlankOrMarked ys → AreKept xs ys
 kept-any [] [] e h = tt
 kept-any [] (y ∷ ys) e h = cc
 kept-any (x ∷ xs) [] e h = cc
-kept-any (x ∷ xs) (y ∷ ys) e h = (head_same x.1 y.1 (codes_in xs) (codes_in ys) e, (λ f g. h.0 g), kept-any xs ys (tail_same x.1 y.1 (codes_in xs) (codes_in ys) e) h.1)
+kept-any (x ∷ xs) (y ∷ ys) e h =
+    (head_same x.1 y.1 (codes_in xs) (codes_in ys) e, (λ f g. h.0 g), kept-any xs ys (tail_same x.1 y.1 (codes_in xs) (codes_in ys) e) h.1)
 
 either-append : (xs ys : Marked) → AreBlankOrMarked xs → AreBlankOrMarked ys → AreBlankOrMarked (xs ++ ys)
 either-append [] ys h k = k
@@ -269,15 +283,18 @@ either-data front back hard cs = three Name.SpaceOrTab (blank_name hard (reverse
     lead : List Code × List Code
     lead = elim front [ true ↦ span is_blank (reverse cut.1) | false ↦ ([], reverse cut.1) ]
 
-    lead-blank : (b : Bool) (ds : List Code) → list_all is_blank (elim b as (λ _. List Code × List Code) [ true ↦ span is_blank ds | false ↦ ([], ds) ]).0 ≡ true
+    lead-blank : (b : Bool) (ds : List Code) →
+        list_all is_blank (elim b as (λ _. List Code × List Code) [ true ↦ span is_blank ds | false ↦ ([], ds) ]).0 ≡ true
     lead-blank true ds = span-all is_blank ds
     lead-blank false ds = refl
 
-    cut-blank : (b : Bool) (ds : List Code) → list_all is_blank (elim b as (λ _. List Code × List Code) [ true ↦ span is_blank (reverse ds) | false ↦ ([], reverse ds) ]).0 ≡ true
+    cut-blank : (b : Bool) (ds : List Code) →
+        list_all is_blank (elim b as (λ _. List Code × List Code) [ true ↦ span is_blank (reverse ds) | false ↦ ([], reverse ds) ]).0 ≡ true
     cut-blank true ds = span-all is_blank (reverse ds)
     cut-blank false ds = refl
 
-    three : (a c : Name) (xs ys zs : List Code) → list_all is_blank xs ≡ true → list_all is_blank zs ≡ true → AreBlankOrMarked (held (leaf a xs ⊕ leaf Name.Data ys ⊕ leaf c zs))
+    three : (a c : Name) (xs ys zs : List Code) → list_all is_blank xs ≡ true → list_all is_blank zs ≡ true →
+        AreBlankOrMarked (held (leaf a xs ⊕ leaf Name.Data ys ⊕ leaf c zs))
     three a c xs ys zs h k =
         subst AreBlankOrMarked
         (sym
@@ -286,7 +303,8 @@ either-data front back hard cs = three Name.SpaceOrTab (blank_name hard (reverse
         (either-append (marked (may_hold_marker a) xs) (marked true ys ++ marked (may_hold_marker c) zs) (either-blank (may_hold_marker a) xs h)
         (either-append (marked true ys) (marked (may_hold_marker c) zs) (either-marked ys) (either-blank (may_hold_marker c) zs k)))
 
-kept-data : (front back hard : Bool) (cs : List Code) → AreKept (marked true cs) (held (trimmed_data front back hard cs))
+kept-data : (front back hard : Bool) (cs : List Code) →
+    AreKept (marked true cs) (held (trimmed_data front back hard cs))
 kept-data front back hard cs =
     kept-any (marked true cs) (held (trimmed_data front back hard cs)) (codes-marked true cs ∙ sym (codes-trimmed_data front back hard cs) ∙ sym (codes-held (trimmed_data front back hard cs))) (either-data front back hard cs)
 
@@ -308,7 +326,8 @@ kept-trimmed hard front whole (group_then name enter exit inside rest) =
 -- Emails.
 
 either-leaf : (name : Name) (cs : List Code) → may_hold_marker name ≡ true → AreBlankOrMarked (held (leaf name cs))
-either-leaf name cs h = subst AreBlankOrMarked (sym (by-leaf may_hold_marker name cs ∙ ap (λ b. marked b cs) h)) (either-marked cs)
+either-leaf name cs h =
+    subst AreBlankOrMarked (sym (by-leaf may_hold_marker name cs ∙ ap (λ b. marked b cs) h)) (either-marked cs)
 
 either-with : (cs : List Code) → AreBlankOrMarked (held (with_emails cs))
 either-with cs =
@@ -324,8 +343,10 @@ kept-mailed (leaf_then Name.Data None cs rest) =
     (kept-any (marked true cs) (held (with_emails cs)) (codes-marked true cs ∙ sym (codes-with_emails cs) ∙ sym (codes-held (with_emails cs))) (either-with cs)) (kept-mailed rest))
 kept-mailed (leaf_then name link cs rest) =
     kept-append (marked (may_hold_marker name) cs) (marked (may_hold_marker name) cs) (held rest) (held (with_emails_apart rest)) (kept-same (marked (may_hold_marker name) cs)) (kept-mailed rest)
-kept-mailed (group_then Name.Link enter exit inside rest) = kept-append (held inside) (held inside) (held rest) (held (with_emails_apart rest)) (kept-same (held inside)) (kept-mailed rest)
-kept-mailed (group_then name enter exit inside rest) = kept-append (held inside) (held (with_emails_apart inside)) (held rest) (held (with_emails_apart rest)) (kept-mailed inside) (kept-mailed rest)
+kept-mailed (group_then Name.Link enter exit inside rest) =
+    kept-append (held inside) (held inside) (held rest) (held (with_emails_apart rest)) (kept-same (held inside)) (kept-mailed rest)
+kept-mailed (group_then name enter exit inside rest) =
+    kept-append (held inside) (held (with_emails_apart inside)) (held rest) (held (with_emails_apart rest)) (kept-mailed inside) (kept-mailed rest)
 
 pub each_marker_is_held : EachMarkerIsHeld
 unfolding text_tree finished_text raw_tree label_tree
@@ -345,9 +366,12 @@ each_marker_is_held s cs = by_test s.options.constructs.gfm_autolink_literal
         held-kept (runs_marked labels) (held pairs) (held done) (held-paired s labels (apart-text-labels s cs))
         (subst (λ x. AreKept x (held done)) (held-merged pairs) (kept-trimmed s.options.constructs.hard_break_trailing true true (merged pairs)))
 
-    also : (f : Forest) → AreHeld (runs_marked labels) (held f) → AreAlso (by_code is_run labels) (by_code may_hold_marker f)
+    also : (f : Forest) → AreHeld (runs_marked labels) (held f) →
+        AreAlso (by_code is_run labels) (by_code may_hold_marker f)
     also f h = subst (λ x. AreAlso (by_code is_run labels) x) (by-code may_hold_marker f) (subst (λ x. AreAlso x (map (λ y. y.0) (held f))) (by-code is_run labels) (marks-held (runs_marked labels) (held f) h))
 
-    by_test : (b : Bool) → AreAlso (by_code is_run labels) (by_code may_hold_marker (elim b as (λ _. Forest) [ true ↦ with_emails_apart done | false ↦ done ]))
-    by_test true = also (with_emails_apart done) (held-kept (runs_marked labels) (held done) (held (with_emails_apart done)) kept (kept-mailed done))
+    by_test : (b : Bool) →
+        AreAlso (by_code is_run labels) (by_code may_hold_marker (elim b as (λ _. Forest) [ true ↦ with_emails_apart done | false ↦ done ]))
+    by_test true =
+        also (with_emails_apart done) (held-kept (runs_marked labels) (held done) (held (with_emails_apart done)) kept (kept-mailed done))
     by_test false = also done kept

@@ -53,7 +53,8 @@ record IsNamed (names : Name × Name × Name) : Type 0 where
 named : (marker size : ℕ) → IsNamed (pair_names marker size)
 named = pair-named IsNamed (record { whole = refl; text = refl }) (record { whole = refl; text = refl }) (record { whole = refl; text = refl })
 
-groups-pair_group : (front : List Code) (inside : List Forest) (back : List Code) → all_groups (pair_group front inside back) ≡ 1 + all_groups inside
+groups-pair_group : (front : List Code) (inside : List Forest) (back : List Code) →
+    all_groups (pair_group front inside back) ≡ 1 + all_groups inside
 groups-pair_group front inside back =
     omega (arith, ap one n.whole, groups-join (leaf names.1 front) (group_then names.2 (stop_of document_start front) (start_of back) (joined inside) empty ⊕ leaf names.1 back), groups-leaf names.1 front, ap one n.text, sum-joined groups_add inside, groups-leaf names.1 back)
   where
@@ -78,7 +79,8 @@ made-assembled w =
 
 -- The tokens of a run.
 
-made-closes : (cs : List (List Code)) (d e : ℕ) (w : List Token) → d ≡ e + length cs → made d (map closes cs ++ w) ≡ length cs + made e w
+made-closes : (cs : List (List Code)) (d e : ℕ) (w : List Token) → d ≡ e + length cs →
+    made d (map closes cs ++ w) ≡ length cs + made e w
 made-closes [] d e w h = subst (λ n. made n w ≡ 0 + made e w) (sym same) (omega arith)
   where
     same : d ≡ e
@@ -86,7 +88,8 @@ made-closes [] d e w h = subst (λ n. made n w ≡ 0 + made e w) (sym same) (ome
 made-closes (c ∷ cs) zero e w h = absurd (omega arith)
 made-closes (c ∷ cs) (suc d) e w h = omega (arith, made-closes cs d e w (omega arith))
 
-made-opens : (os : List (List Code)) (d e : ℕ) (w : List Token) → e ≡ d + length os → made d (map opens os ++ w) ≡ made e w
+made-opens : (os : List (List Code)) (d e : ℕ) (w : List Token) → e ≡ d + length os →
+    made d (map opens os ++ w) ≡ made e w
 made-opens [] d e w h = ap (λ n. made n w) (sym same)
   where
     same : e ≡ d
@@ -123,9 +126,11 @@ abbrev AreWithin : ℕ → List Pair → Type 0
 AreWithin n [] = Unit {0}
 AreWithin n (p ∷ ps) = (p.opener < p.closer) × (p.closer < n) × AreWithin n ps
 
-within : (s : Setting) (runs : List Run) (end : ℕ) (earlier : List Pair) (last : ℕ) (ps : List Pair) → ArePairsFrom s runs end earlier last ps → AreWithin (length runs) ps
+within : (s : Setting) (runs : List Run) (end : ℕ) (earlier : List Pair) (last : ℕ) (ps : List Pair) →
+    ArePairsFrom s runs end earlier last ps → AreWithin (length runs) ps
 within s runs end earlier last [] h = tt
-within s runs end earlier last (p ∷ ps) h = (h.0.eligible.in_order, h.0.eligible.in_container, within s runs end (earlier ++ p ∷ []) p.closer ps h.1)
+within s runs end earlier last (p ∷ ps) h =
+    (h.0.eligible.in_order, h.0.eligible.in_container, within s runs end (earlier ++ p ∷ []) p.closer ps h.1)
 
 -- the pairs that are open before run n, and those that close there or later
 abbrev open_at : ℕ → List Pair → ℕ
@@ -136,33 +141,41 @@ abbrev closed_from : ℕ → List Pair → ℕ
 closed_from n [] = 0
 closed_from n (p ∷ ps) = (if nat_le n p.closer then 1 else 0) + closed_from n ps
 
-length-closing : (i : ℕ) (p : Pair) (ps : List Pair) → length (closing_sizes i (p ∷ ps)) ≡ (if p.closer == i then 1 else 0) + length (closing_sizes i ps)
+length-closing : (i : ℕ) (p : Pair) (ps : List Pair) →
+    length (closing_sizes i (p ∷ ps)) ≡ (if p.closer == i then 1 else 0) + length (closing_sizes i ps)
 length-closing i p ps = by_test (p.closer == i)
   where
-    by_test : (b : Bool) → length (elim b as (λ _. List ℕ) [ true ↦ p.size ∷ closing_sizes i ps | false ↦ closing_sizes i ps ]) ≡ (if b then 1 else 0) + length (closing_sizes i ps)
+    by_test : (b : Bool) →
+        length (elim b as (λ _. List ℕ) [ true ↦ p.size ∷ closing_sizes i ps | false ↦ closing_sizes i ps ]) ≡ (if b then 1 else 0) + length (closing_sizes i ps)
     by_test true = omega arith
     by_test false = omega arith
 
-length-opening : (i : ℕ) (p : Pair) (ps : List Pair) → length (opening_sizes i (p ∷ ps)) ≡ (if p.opener == i then 1 else 0) + length (opening_sizes i ps)
+length-opening : (i : ℕ) (p : Pair) (ps : List Pair) →
+    length (opening_sizes i (p ∷ ps)) ≡ (if p.opener == i then 1 else 0) + length (opening_sizes i ps)
 length-opening i p ps = by_test (p.opener == i)
   where
-    by_test : (b : Bool) → length (elim b as (λ _. List ℕ) [ true ↦ p.size ∷ opening_sizes i ps | false ↦ opening_sizes i ps ]) ≡ (if b then 1 else 0) + length (opening_sizes i ps)
+    by_test : (b : Bool) →
+        length (elim b as (λ _. List ℕ) [ true ↦ p.size ∷ opening_sizes i ps | false ↦ opening_sizes i ps ]) ≡ (if b then 1 else 0) + length (opening_sizes i ps)
     by_test true = omega arith
     by_test false = omega arith
 
-one-balance : (o c n : ℕ) → o < c → (if nat_lt o n && nat_le n c then 1 else 0) + (if o == n then 1 else 0) ≡ (if nat_lt o (suc n) && nat_le (suc n) c then 1 else 0) + (if c == n then 1 else 0)
+one-balance : (o c n : ℕ) → o < c →
+    (if nat_lt o n && nat_le n c then 1 else 0) + (if o == n then 1 else 0) ≡ (if nat_lt o (suc n) && nat_le (suc n) c then 1 else 0) + (if c == n then 1 else 0)
 one-balance o c n h = grind (arith, nat_tests)
 
-balance : (n m : ℕ) (ps : List Pair) → AreWithin m ps → open_at n ps + length (opening_sizes n ps) ≡ open_at (suc n) ps + length (closing_sizes n ps)
+balance : (n m : ℕ) (ps : List Pair) → AreWithin m ps →
+    open_at n ps + length (opening_sizes n ps) ≡ open_at (suc n) ps + length (closing_sizes n ps)
 balance n m [] h = refl
-balance n m (p ∷ ps) h = omega (arith, one-balance p.opener p.closer n h.0, balance n m ps h.2, length-opening n p ps, length-closing n p ps)
+balance n m (p ∷ ps) h =
+    omega (arith, one-balance p.opener p.closer n h.0, balance n m ps h.2, length-opening n p ps, length-closing n p ps)
 
 one-open : (o c n : ℕ) → o < c → (if c == n then 1 else 0) ≤ (if nat_lt o n && nat_le n c then 1 else 0)
 one-open o c n h = grind (arith, nat_tests)
 
 closed-open : (n m : ℕ) (ps : List Pair) → AreWithin m ps → length (closing_sizes n ps) ≤ open_at n ps
 closed-open n m [] h = omega arith
-closed-open n m (p ∷ ps) h = omega (arith, one-open p.opener p.closer n h.0, closed-open n m ps h.2, length-closing n p ps)
+closed-open n m (p ∷ ps) h =
+    omega (arith, one-open p.opener p.closer n h.0, closed-open n m ps h.2, length-closing n p ps)
 
 one-closed : (c n : ℕ) → (if nat_le n c then 1 else 0) ≡ (if c == n then 1 else 0) + (if nat_le (suc n) c then 1 else 0)
 one-closed c n = grind (arith, nat_tests)
@@ -202,7 +215,8 @@ module _ (s : Setting) where
   Law f = (pairs : List Pair) (n total : ℕ) → AreWithin total pairs → n + length (runs_of s f) ≡ total
       → made (open_at n pairs) (tokens_of s (pair_list s) f pairs n) ≡ pair_groups f + pairs_in (rows_inside s f) + closed_from n pairs
 
-  whole-row : (f : Forest) → Law f → pair_groups (assembled (tokens_of s (pair_list s) f (pair_list s (runs_of s f)) 0)) ≡ pair_groups f + pairs_in (rows_inside s f) + length (pair_list s (runs_of s f))
+  whole-row : (f : Forest) → Law f →
+      pair_groups (assembled (tokens_of s (pair_list s) f (pair_list s (runs_of s f)) 0)) ≡ pair_groups f + pairs_in (rows_inside s f) + length (pair_list s (runs_of s f))
   whole-row f law =
       made-assembled (tokens_of s (pair_list s) f pairs 0) ∙ ap (λ d. made d (tokens_of s (pair_list s) f pairs 0)) (sym (none-open pairs))
       ∙ law pairs 0 (length (runs_of s f)) (within s (runs_of s f) (length (runs_of s f)) [] 0 pairs (some_pair_list s (runs_of s f))) (omega arith)
@@ -226,7 +240,8 @@ module _ (s : Setting) where
       omega (arith, whole-row inside (law inside), law rest pairs n total h k, sum_by-append (λ runs. length (pair_list s runs)) (runs_of s inside ∷ rows_inside s inside) (rows_inside s rest), sum_by-cons (λ runs. length (pair_list s runs)) (runs_of s inside) (rows_inside s inside))
 
 -- grouping the pairs of all containers makes one group for each
-pub groups-paired : (s : Setting) (tree : Forest) → pair_groups (paired s (pair_list s) tree) ≡ pair_groups tree + pair_count s tree
+pub groups-paired : (s : Setting) (tree : Forest) →
+    pair_groups (paired s (pair_list s) tree) ≡ pair_groups tree + pair_count s tree
 unfolding paired containers_of
 groups-paired s tree =
     omega (arith, whole-row s tree (law s tree), sum_by-cons (λ runs. length (pair_list s runs)) (runs_of s tree) (rows_inside s tree))

@@ -34,7 +34,8 @@ unfolding merged
 groups-merged empty = refl
 groups-merged (leaf_then Name.Data None cs rest) = groups-onto cs (merged rest) ∙ groups-merged rest
 groups-merged (leaf_then name link cs rest) = groups-merged rest
-groups-merged (group_then name enter exit inside rest) = λ i. (if is_pair name then 1 else 0) + groups-merged inside i + groups-merged rest i
+groups-merged (group_then name enter exit inside rest) =
+    λ i. (if is_pair name then 1 else 0) + groups-merged inside i + groups-merged rest i
 
 groups-both : (a b : Forest) → pair_groups a ≡ 0 → pair_groups b ≡ 0 → pair_groups (a ⊕ b) ≡ 0
 groups-both a b h k = omega (arith, groups-join a b, h, k)
@@ -52,18 +53,22 @@ groups-trimmed hard front whole (leaf_then Name.Data None cs rest) =
     omega (arith, groups-join (trimmed_data front back ending cs) (trimmed hard false whole rest), groups-data front back ending cs, groups-trimmed hard false whole rest)
 groups-trimmed hard front whole (leaf_then Name.LineEnding link cs rest) = groups-trimmed hard true whole rest
 groups-trimmed hard front whole (leaf_then name link cs rest) = groups-trimmed hard false whole rest
-groups-trimmed hard front whole (group_then name enter exit inside rest) = λ i. (if is_pair name then 1 else 0) + groups-trimmed hard false false inside i + groups-trimmed hard false whole rest i
+groups-trimmed hard front whole (group_then name enter exit inside rest) =
+    λ i. (if is_pair name then 1 else 0) + groups-trimmed hard false false inside i + groups-trimmed hard false whole rest i
 
 groups-emails : (cs : List Code) → pair_groups (with_emails cs) ≡ 0
-groups-emails cs = with_emails-has (λ t. pair_groups t ≡ 0) groups-both (groups-leaf Name.Data) (λ before ds. groups-leaf _ ds) cs
+groups-emails cs =
+    with_emails-has (λ t. pair_groups t ≡ 0) groups-both (groups-leaf Name.Data) (λ before ds. groups-leaf _ ds) cs
 
 groups-mailed : (f : Forest) → pair_groups (with_emails_apart f) ≡ pair_groups f
 unfolding with_emails_apart
 groups-mailed empty = refl
-groups-mailed (leaf_then Name.Data None cs rest) = omega (arith, groups-join (with_emails cs) (with_emails_apart rest), groups-emails cs, groups-mailed rest)
+groups-mailed (leaf_then Name.Data None cs rest) =
+    omega (arith, groups-join (with_emails cs) (with_emails_apart rest), groups-emails cs, groups-mailed rest)
 groups-mailed (leaf_then name link cs rest) = groups-mailed rest
 groups-mailed (group_then Name.Link enter exit inside rest) = ap (λ n. 0 + pair_groups inside + n) (groups-mailed rest)
-groups-mailed (group_then name enter exit inside rest) = λ i. (if is_pair name then 1 else 0) + groups-mailed inside i + groups-mailed rest i
+groups-mailed (group_then name enter exit inside rest) =
+    λ i. (if is_pair name then 1 else 0) + groups-mailed inside i + groups-mailed rest i
 
 -- The tree of labels has none.
 
@@ -73,7 +78,8 @@ not-pair false h = refl
 
 pub no-groups : (f : Forest) → made true f ≡ true → pair_groups f ≡ 0
 no-groups empty h = refl
-no-groups (leaf_then name link cs rest) h = no-groups rest (and_parts (not (is_email name)) (made true rest) (and_parts (not (is_empty cs)) (not (is_email name) && made true rest) h).1).1
+no-groups (leaf_then name link cs rest) h =
+    no-groups rest (and_parts (not (is_email name)) (made true rest) (and_parts (not (is_empty cs)) (not (is_email name) && made true rest) h).1).1
 no-groups (group_then name enter exit inside rest) h =
     let p = and_parts (is_label_text name || reaches enter exit inside) (is_single name inside && (made true inside && made true rest)) h in
     let q = and_parts (is_single name inside) (made true inside && made true rest) p.1 in
@@ -96,7 +102,8 @@ each_pair_is_a_group s cs = by_test s.options.constructs.gfm_autolink_literal �
         ∙ groups-merged (raw_tree s (pair_list s) (elements_of s cs))
         ∙ omega (arith, groups-paired s labels, no-groups labels (made-text-labels s cs))
 
-    by_test : (b : Bool) → pair_groups (elim b as (λ _. Forest) [ true ↦ with_emails_apart done | false ↦ done ]) ≡ pair_groups done
+    by_test : (b : Bool) →
+        pair_groups (elim b as (λ _. Forest) [ true ↦ with_emails_apart done | false ↦ done ]) ≡ pair_groups done
     by_test true = groups-mailed done
     by_test false = refl
 
@@ -139,8 +146,10 @@ module _ (P : List Code → List Code → Type 0) where
 
   -- a pass that keeps sequences, and groups whatever it makes of what they have inside
   record KeepsSides (pass : Forest → Forest) : Type 0 where
-    sequence : (name : Name) (cs : List Code) (rest : Forest) → is_sequence name ≡ true → pass (leaf_then name None cs rest) ≡ leaf_then name None cs (pass rest)
-    group : (name : Name) (enter exit : Point) (inside rest : Forest) → (other : Forest) × (pass (group_then name enter exit inside rest) ≡ group_then name enter exit other (pass rest))
+    sequence : (name : Name) (cs : List Code) (rest : Forest) → is_sequence name ≡ true →
+        pass (leaf_then name None cs rest) ≡ leaf_then name None cs (pass rest)
+    group : (name : Name) (enter exit : Point) (inside rest : Forest) →
+        (other : Forest) × (pass (group_then name enter exit inside rest) ≡ group_then name enter exit other (pass rest))
     nothing : pass empty ≡ empty
 
   sides-kept : (pass : Forest → Forest) → KeepsSides pass → (f : Forest) → HasSides P f → HasSides P (pass f)
@@ -161,19 +170,22 @@ module _ (P : List Code → List Code → Type 0) where
   unfolding merged
   merged-keeps = record { sequence = sequence; group = λ name enter exit inside rest. (merged inside, refl); nothing = refl }
     where
-      sequence : (name : Name) (cs : List Code) (rest : Forest) → is_sequence name ≡ true → merged (leaf_then name None cs rest) ≡ leaf_then name None cs (merged rest)
+      sequence : (name : Name) (cs : List Code) (rest : Forest) → is_sequence name ≡ true →
+          merged (leaf_then name None cs rest) ≡ leaf_then name None cs (merged rest)
       sequence Name.Data cs rest h = not-data h
       sequence name cs rest h = refl
 
   pairs-merged : (f : Forest) → EachPairHas P f → EachPairHas P (merged f)
-  pairs-merged f h = walks-merged (pairs P) (λ cs ds _ _. tt) (λ name a b inside _ g e. sides-kept merged merged-keeps inside (g e)) f h
+  pairs-merged f h =
+      walks-merged (pairs P) (λ cs ds _ _. tt) (λ name a b inside _ g e. sides-kept merged merged-keeps inside (g e)) f h
 
   -- a pair's own row is trimmed at neither end
   trimmed-keeps : (hard : Bool) → KeepsSides (trimmed hard false false)
   unfolding trimmed
   trimmed-keeps hard = record { sequence = sequence; group = λ name enter exit inside rest. (trimmed hard false false inside, refl); nothing = refl }
     where
-      sequence : (name : Name) (cs : List Code) (rest : Forest) → is_sequence name ≡ true → trimmed hard false false (leaf_then name None cs rest) ≡ leaf_then name None cs (trimmed hard false false rest)
+      sequence : (name : Name) (cs : List Code) (rest : Forest) → is_sequence name ≡ true →
+          trimmed hard false false (leaf_then name None cs rest) ≡ leaf_then name None cs (trimmed hard false false rest)
       sequence Name.Data cs rest h = not-data h
       sequence Name.LineEnding cs rest h = not-ending h
       sequence name cs rest h = refl
@@ -187,11 +199,13 @@ module _ (P : List Code → List Code → Type 0) where
   unfolding with_emails_apart
   mailed-keeps = record { sequence = sequence; group = group; nothing = refl }
     where
-      sequence : (name : Name) (cs : List Code) (rest : Forest) → is_sequence name ≡ true → with_emails_apart (leaf_then name None cs rest) ≡ leaf_then name None cs (with_emails_apart rest)
+      sequence : (name : Name) (cs : List Code) (rest : Forest) → is_sequence name ≡ true →
+          with_emails_apart (leaf_then name None cs rest) ≡ leaf_then name None cs (with_emails_apart rest)
       sequence Name.Data cs rest h = not-data h
       sequence name cs rest h = refl
 
-      group : (name : Name) (enter exit : Point) (inside rest : Forest) → (other : Forest) × (with_emails_apart (group_then name enter exit inside rest) ≡ group_then name enter exit other (with_emails_apart rest))
+      group : (name : Name) (enter exit : Point) (inside rest : Forest) →
+          (other : Forest) × (with_emails_apart (group_then name enter exit inside rest) ≡ group_then name enter exit other (with_emails_apart rest))
       group Name.Link enter exit inside rest = (inside, refl)
       group name enter exit inside rest = (with_emails_apart inside, refl)
 
@@ -226,12 +240,14 @@ pairs_take_their_markers s cs = by_test s.options.constructs.gfm_autolink_litera
 
 module _ (P R : List Code → List Code → Type 0) (weaker : (front back : List Code) → P front back → R front back) where
   sides-weaker : (f : Forest) → HasSides P f → HasSides R f
-  sides-weaker f h = let x = sides-of P f h in subst (HasSides R) (sym x.is) (x.sequence, refl, weaker x.front x.back x.said)
+  sides-weaker f h =
+      let x = sides-of P f h in subst (HasSides R) (sym x.is) (x.sequence, refl, weaker x.front x.back x.said)
 
   pairs-weaker : (f : Forest) → EachPairHas P f → EachPairHas R f
   pairs-weaker empty h = tt
   pairs-weaker (leaf_then name link cs rest) h = pairs-weaker rest h
-  pairs-weaker (group_then name enter exit inside rest) h = ((λ e. sides-weaker inside (h.0 e)), pairs-weaker inside h.1, pairs-weaker rest h.2)
+  pairs-weaker (group_then name enter exit inside rest) h =
+      ((λ e. sides-weaker inside (h.0 e)), pairs-weaker inside h.1, pairs-weaker rest h.2)
 
 pub pairs_are_even : PairsAreEven
 pairs_are_even s cs =

@@ -75,7 +75,8 @@ marker-ends name c cs = record {
   last = ap (last_of (place_of c.stop)) (append-nil (ends_of cs)) ∙ ends-last c.stop cs;
 }
 
-pair-allows : (front : List Code) (inside : List Forest) (back : List Code) → IsSome front → IsSome back → Allows (ends_of front ++ (all_places inside ++ ends_of back)) (all_places (pair_group front inside back))
+pair-allows : (front : List Code) (inside : List Forest) (back : List Code) → IsSome front → IsSome back →
+    Allows (ends_of front ++ (all_places inside ++ ends_of back)) (all_places (pair_group front inside back))
 pair-allows [] inside back h k = cc
 pair-allows (c ∷ cs) inside [] h k = cc
 pair-allows (c ∷ cs) inside (d ∷ ds) h k =
@@ -140,13 +141,16 @@ onto-allows o inside (c ∷ more) source h k g = (
     joins : all_places (pair_group o inside c.0) ++ rest ≡ all_places (pair_group o inside c.0 ++ c.1) ++ frame_places more
     joins = sym (append_assoc (all_places (pair_group o inside c.0)) (all_places c.1) (frame_places more)) ∙ ap (λ x. x ++ frame_places more) (sym (sum-append places_add (pair_group o inside c.0) c.1))
 
-nest-allows : (w : List Token) → AreSome w → Allows (word_places w) (nest_places (nest_pairs w)) × AreFrames (nest_pairs w).1
+nest-allows : (w : List Token) → AreSome w →
+    Allows (word_places w) (nest_places (nest_pairs w)) × AreFrames (nest_pairs w).1
 nest-allows [] h = (allows-itself [], tt)
 nest-allows (item f ∷ w) h =
     let r = nest-allows w h in
     (subst (Allows (places_of f ++ word_places w)) (sym (append_assoc (places_of f) (all_places (nest_pairs w).0) (frame_places (nest_pairs w).1))) (allows-behind (places_of f) (word_places w) (nest_places (nest_pairs w)) r.0), r.1)
-nest-allows (closes c ∷ w) h = let r = nest-allows w h.1 in (allows-behind (ends_of c) (word_places w) (nest_places (nest_pairs w)) r.0, (h.0, r.1))
-nest-allows (opens o ∷ w) h = let r = nest-allows w h.1 in onto-allows o (nest_pairs w).0 (nest_pairs w).1 (word_places w) h.0 r.1 r.0
+nest-allows (closes c ∷ w) h =
+    let r = nest-allows w h.1 in (allows-behind (ends_of c) (word_places w) (nest_places (nest_pairs w)) r.0, (h.0, r.1))
+nest-allows (opens o ∷ w) h =
+    let r = nest-allows w h.1 in onto-allows o (nest_pairs w).0 (nest_pairs w).1 (word_places w) h.0 r.1 r.0
 
 after-places : (fs : Frames) → all_places (after_loose pair_group loose loose fs) ≡ frame_places fs
 after-places [] = refl
@@ -164,7 +168,8 @@ assembled-allows w h =
 -- Trees.
 
 module _ (s : Setting) (pairs_of : List Run → List Pair) where
-  tokens-allow : (t : Forest) (pairs : List Pair) (n : ℕ) → IsReady s pairs_of t → Allows (places_of t) (word_places (tokens_of s pairs_of t pairs n))
+  tokens-allow : (t : Forest) (pairs : List Pair) (n : ℕ) → IsReady s pairs_of t →
+      Allows (places_of t) (word_places (tokens_of s pairs_of t pairs n))
   unfolding tokens_of
   tokens-allow empty pairs n r = allows-itself []
   tokens-allow (leaf_then Name.AttentionSequence link cs rest) pairs n r =
@@ -186,7 +191,8 @@ module _ (s : Setting) (pairs_of : List Run → List Pair) where
       tail : List Place
       tail = word_places (tokens_of s pairs_of rest pairs n)
 
-  pub paired-allows : (t : Forest) → IsFlat (tokens_of s pairs_of t (pairs_of (runs_of s t)) 0) → IsReady s pairs_of t → Allows (places_of t) (places_of (paired s pairs_of t))
+  pub paired-allows : (t : Forest) → IsFlat (tokens_of s pairs_of t (pairs_of (runs_of s t)) 0) → IsReady s pairs_of t →
+      Allows (places_of t) (places_of (paired s pairs_of t))
   unfolding paired
   paired-allows t m r =
       allows-then (places_of t) (word_places (tokens_of s pairs_of t (pairs_of (runs_of s t)) 0)) (places_of (assembled (tokens_of s pairs_of t (pairs_of (runs_of s t)) 0)))

@@ -86,7 +86,8 @@ record IsSide (whole : List Code) (p : Pair) (cs : List Code) : Type 0 where
   part : IsPart cs whole
   marker : marker_of cs ≡ marker_of whole
 
-part-marker : (m : ℕ) (before part after : List Code) → list_all (is_value m) (before ++ (part ++ after)) ≡ true → 0 < length part → marker_of part ≡ m
+part-marker : (m : ℕ) (before part after : List Code) → list_all (is_value m) (before ++ (part ++ after)) ≡ true →
+    0 < length part → marker_of part ≡ m
 part-marker m before [] after h k = absurd (omega (arith, k))
 part-marker m before (c ∷ cs) after h k =
     let all = and_parts (list_all (is_value m) before) (list_all (is_value m) ((c ∷ cs) ++ after)) (sym (list_all-append (is_value m) before ((c ∷ cs) ++ after)) ∙ h) in
@@ -172,7 +173,8 @@ closing-is : (i : ℕ) (ps : List Pair) → closing_sizes i ps ≡ sizes_of (clo
 closing-is i [] = refl
 closing-is i (p ∷ ps) = by_test (p.closer == i) (closing-is i ps)
   where
-    by_test : (b : Bool) → closing_sizes i ps ≡ sizes_of (closing i ps) → (elim b as (λ _. List ℕ) [ true ↦ p.size ∷ closing_sizes i ps | false ↦ closing_sizes i ps ]) ≡ sizes_of (if_so b p (closing i ps))
+    by_test : (b : Bool) → closing_sizes i ps ≡ sizes_of (closing i ps) →
+        (elim b as (λ _. List ℕ) [ true ↦ p.size ∷ closing_sizes i ps | false ↦ closing_sizes i ps ]) ≡ sizes_of (if_so b p (closing i ps))
     by_test true e = ap (λ ns. p.size ∷ ns) e
     by_test false e = e
 
@@ -180,23 +182,28 @@ opening-is : (i : ℕ) (ps : List Pair) → opening_sizes i ps ≡ sizes_of (ope
 opening-is i [] = refl
 opening-is i (p ∷ ps) = by_test (p.opener == i) (opening-is i ps)
   where
-    by_test : (b : Bool) → opening_sizes i ps ≡ sizes_of (opening i ps) → (elim b as (λ _. List ℕ) [ true ↦ p.size ∷ opening_sizes i ps | false ↦ opening_sizes i ps ]) ≡ sizes_of (if_so b p (opening i ps))
+    by_test : (b : Bool) → opening_sizes i ps ≡ sizes_of (opening i ps) →
+        (elim b as (λ _. List ℕ) [ true ↦ p.size ∷ opening_sizes i ps | false ↦ opening_sizes i ps ]) ≡ sizes_of (if_so b p (opening i ps))
     by_test true e = ap (λ ns. p.size ∷ ns) e
     by_test false e = e
 
-all-closing : (R : Pair → Type 0) (i : ℕ) (ps : List Pair) → AllOf R ps → AllOf (λ p. R p × (p.closer ≡ i)) (closing i ps)
+all-closing : (R : Pair → Type 0) (i : ℕ) (ps : List Pair) → AllOf R ps →
+    AllOf (λ p. R p × (p.closer ≡ i)) (closing i ps)
 all-closing R i [] h = tt
 all-closing R i (p ∷ ps) h = by_test (p.closer == i) refl (all-closing R i ps h.1)
   where
-    by_test : (b : Bool) → (p.closer == i) ≡ b → AllOf (λ q. R q × (q.closer ≡ i)) (closing i ps) → AllOf (λ q. R q × (q.closer ≡ i)) (if_so b p (closing i ps))
+    by_test : (b : Bool) → (p.closer == i) ≡ b → AllOf (λ q. R q × (q.closer ≡ i)) (closing i ps) →
+        AllOf (λ q. R q × (q.closer ≡ i)) (if_so b p (closing i ps))
     by_test true e k = ((h.0, eqb-true p.closer i e), k)
     by_test false e k = k
 
-all-opening : (R : Pair → Type 0) (i : ℕ) (ps : List Pair) → AllOf R ps → AllOf (λ p. R p × (p.opener ≡ i)) (opening i ps)
+all-opening : (R : Pair → Type 0) (i : ℕ) (ps : List Pair) → AllOf R ps →
+    AllOf (λ p. R p × (p.opener ≡ i)) (opening i ps)
 all-opening R i [] h = tt
 all-opening R i (p ∷ ps) h = by_test (p.opener == i) refl (all-opening R i ps h.1)
   where
-    by_test : (b : Bool) → (p.opener == i) ≡ b → AllOf (λ q. R q × (q.opener ≡ i)) (opening i ps) → AllOf (λ q. R q × (q.opener ≡ i)) (if_so b p (opening i ps))
+    by_test : (b : Bool) → (p.opener == i) ≡ b → AllOf (λ q. R q × (q.opener ≡ i)) (opening i ps) →
+        AllOf (λ q. R q × (q.opener ≡ i)) (if_so b p (opening i ps))
     by_test true e k = ((h.0, eqb-true p.opener i e), k)
     by_test false e k = k
 
@@ -210,7 +217,8 @@ pairs-append R (p ∷ ps) qs h k = (h.0, pairs-append R ps qs h.1 k)
 
 all-reverse : (R : Pair → Type 0) (ps : List Pair) → AllOf R ps → AllOf R (reverse ps)
 all-reverse R [] h = tt
-all-reverse R (p ∷ ps) h = subst (AllOf R) (sym (reverse-append (p ∷ []) ps)) (pairs-append R (reverse ps) (p ∷ []) (all-reverse R ps h.1) (h.0, tt))
+all-reverse R (p ∷ ps) h =
+    subst (AllOf R) (sym (reverse-append (p ∷ []) ps)) (pairs-append R (reverse ps) (p ∷ []) (all-reverse R ps h.1) (h.0, tt))
 
 sizes-append : (ps qs : List Pair) → sizes_of (ps ++ qs) ≡ sizes_of ps ++ sizes_of qs
 sizes-append [] qs = refl
@@ -243,7 +251,8 @@ module _ (s : Setting) (runs : List Run) (end : ℕ) where
       let forward = h.0.forward in
       (omega arith, among q.opener h.0.eligible.not_within, later p (earlier ++ q ∷ []) q.closer qs (omega arith) (λ i e. among i (within_push earlier q i e).0) h.1)
 
-  ordered : (earlier : List Pair) (last : ℕ) (ps : List Pair) → ArePairsFrom s runs end earlier last ps → AreOrdered (length runs) ps
+  ordered : (earlier : List Pair) (last : ℕ) (ps : List Pair) → ArePairsFrom s runs end earlier last ps →
+      AreOrdered (length runs) ps
   ordered earlier last [] h = tt
   ordered earlier last (p ∷ ps) h =
       (size, h.0.eligible.in_order, h.0.eligible.in_container, later p (earlier ++ p ∷ []) p.closer ps (omega arith) (λ i e. (within_push earlier p i e).1) h.1, ordered (earlier ++ p ∷ []) p.closer ps h.1)
@@ -260,7 +269,8 @@ module _ (s : Setting) (runs : List Run) (end : ℕ) where
   abbrev HasOneMarker : Pair → Type 0
   HasOneMarker p = marker_of (run_at runs p.opener).codes ≡ marker_of (run_at runs p.closer).codes
 
-  one-marker : (earlier : List Pair) (last : ℕ) (ps : List Pair) → ArePairsFrom s runs end earlier last ps → AllOf HasOneMarker ps
+  one-marker : (earlier : List Pair) (last : ℕ) (ps : List Pair) → ArePairsFrom s runs end earlier last ps →
+      AllOf HasOneMarker ps
   one-marker earlier last [] h = tt
   one-marker earlier last (p ∷ ps) h = (h.0.eligible.one_marker, one-marker (earlier ++ p ∷ []) p.closer ps h.1)
 
@@ -306,7 +316,8 @@ split-step : (a b c : Bool) (p : Pair) (xs ys zs : List Pair) → xs ≡ ys ++ z
 split-step true true false p xs ys zs e f g h = ap (λ x. p ∷ x) e
 split-step true true true p xs ys zs e f g h = absurd (both_ways true (f refl).1 refl)
 split-step false true c p xs ys zs e f g h = absurd (both_ways false refl (f refl).0)
-split-step true false true p xs ys zs e f g h = ap (λ x. p ∷ x) (e ∙ ap (λ y. y ++ zs) (h refl)) ∙ ap (λ y. y ++ p ∷ zs) (sym (h refl))
+split-step true false true p xs ys zs e f g h =
+    ap (λ x. p ∷ x) (e ∙ ap (λ y. y ++ zs) (h refl)) ∙ ap (λ y. y ++ p ∷ zs) (sym (h refl))
 split-step false false false p xs ys zs e f g h = e
 split-step true false false p xs ys zs e f g h = absurd (both_ways true (g refl) refl)
 split-step false false true p xs ys zs e f g h = absurd (both_ways true (sym (g refl)) refl)
@@ -365,16 +376,19 @@ none-left n (p ∷ ps) h = λ i. if_so (past p.opener p.closer h.2 i) p (none-le
     past o c l = grind (arith, nat_tests)
 
 -- what pairs take of a run as its closer and as its opener is what they take of it
-taken-sizes : (n m : ℕ) (ps : List Pair) → AreOrdered m ps → total (sizes_of (closing n ps)) + total (sizes_of (opening n ps)) ≤ sum_by (taken_by n) ps
+taken-sizes : (n m : ℕ) (ps : List Pair) → AreOrdered m ps →
+    total (sizes_of (closing n ps)) + total (sizes_of (opening n ps)) ≤ sum_by (taken_by n) ps
 taken-sizes n m [] h = omega arith
 taken-sizes n m (p ∷ ps) h =
     omega (arith, first (p.closer == n) (closing n ps), first (p.opener == n) (opening n ps), one p.opener p.closer p.size h.1, taken-sizes n m ps h.4, sum_by-cons (taken_by n) p ps)
   where
-    first : (b : Bool) (qs : List Pair) → total (sizes_of (if_so b p qs)) ≡ (if b then p.size else 0) + total (sizes_of qs)
+    first : (b : Bool) (qs : List Pair) →
+        total (sizes_of (if_so b p qs)) ≡ (if b then p.size else 0) + total (sizes_of qs)
     first true qs = sum_by-cons (λ k. k) p.size (sizes_of qs)
     first false qs = omega arith
 
-    one : (o c k : ℕ) → o < c → (if c == n then k else 0) + (if o == n then k else 0) ≤ (if o == n || c == n then k else 0)
+    one : (o c k : ℕ) → o < c →
+        (if c == n then k else 0) + (if o == n then k else 0) ≤ (if o == n || c == n then k else 0)
     one o c k l = grind (arith, nat_tests)
 
 -- Bracket words.
@@ -403,7 +417,8 @@ first-onto : (m : ℕ) (o : List Code) (inside : List Forest) (more : Frames) �
 first-onto m o inside [] h = tt
 first-onto m o inside (c ∷ more) h = cc
 
-next-nest : (m : ℕ) (w : List Token) → NextIsNot m w → is_nothing (joined (nest_pairs w).0) ≡ true → FirstIsNot m (nest_pairs w).1
+next-nest : (m : ℕ) (w : List Token) → NextIsNot m w → is_nothing (joined (nest_pairs w).0) ≡ true →
+    FirstIsNot m (nest_pairs w).1
 next-nest m [] h k = tt
 next-nest m (item empty ∷ w) h k = next-nest m w h k
 next-nest m (item (leaf_then name link cs rest) ∷ w) h k = cc
@@ -433,7 +448,8 @@ module _ (s : Setting) (tree : Forest) (runs : List Run) (container : Contains (
   abbrev IsWord : List Pair → List Token → Type 0
   IsWord pending [] = pending ≡ []
   IsWord pending (item f ∷ w) = IsRight P f × IsWord pending w
-  IsWord pending (opens o ∷ w) = (p : Pair) × Q p × IsSide (opened p) p o × NextIsNot (marker_of o) w × IsWord (p ∷ pending) w
+  IsWord pending (opens o ∷ w) =
+      (p : Pair) × Q p × IsSide (opened p) p o × NextIsNot (marker_of o) w × IsWord (p ∷ pending) w
   IsWord [] (closes c ∷ w) = ⊥
   IsWord (p ∷ pending) (closes c ∷ w) = IsSide (closed p) p c × IsWord pending w
 
@@ -443,8 +459,10 @@ module _ (s : Setting) (tree : Forest) (runs : List Run) (container : Contains (
   AreFrames (p ∷ pending) [] = ⊥
   AreFrames (p ∷ pending) (f ∷ fs) = IsSide (closed p) p f.0 × AllRight P f.1 × AreFrames pending fs
 
-  of-pair : (p : Pair) (front back : List Code) → Q p → IsSide (opened p) p front → IsSide (closed p) p back → P front back
-  of-pair p front back q h k = record { runs = runs; pair = p; container = container; listed = q.0; opener = h.part; closer = k.part; opener_size = h.size; closer_size = k.size }
+  of-pair : (p : Pair) (front back : List Code) → Q p → IsSide (opened p) p front → IsSide (closed p) p back →
+      P front back
+  of-pair p front back q h k =
+      record { runs = runs; pair = p; container = container; listed = q.0; opener = h.part; closer = k.part; opener_size = h.size; closer_size = k.size }
 
   word-onto : (o : List Code) (inside : List Forest) (more : Frames) (p : Pair) (pending : List Pair) → Q p → IsSide (opened p) p o → (is_nothing (joined inside) ≡ true → FirstIsNot (marker_of o) more)
       → AllRight P inside → AreFrames (p ∷ pending) more →
@@ -464,7 +482,8 @@ module _ (s : Setting) (tree : Forest) (runs : List Run) (container : Contains (
       by_test true e = absurd (both_ways (marker_of c.0 == marker_of o) (next e) alike)
       by_test false e = e
 
-  word-nest : (pending : List Pair) (w : List Token) → IsWord pending w → AllRight P (nest_pairs w).0 × AreFrames pending (nest_pairs w).1
+  word-nest : (pending : List Pair) (w : List Token) → IsWord pending w →
+      AllRight P (nest_pairs w).0 × AreFrames pending (nest_pairs w).1
   word-nest pending [] h = (tt, subst (λ x. AreFrames x []) (sym h) tt)
   word-nest pending (item f ∷ w) h = let r = word-nest pending w h.1 in ((h.0, r.0), r.1)
   word-nest pending (opens o ∷ w) h =
@@ -482,7 +501,8 @@ module _ (s : Setting) (tree : Forest) (runs : List Run) (container : Contains (
       let r = word-nest [] w h in
       right-joined P _ (all-append (IsRight P) (nest_pairs w).0 (after_loose pair_group loose loose (nest_pairs w).1) r.0 (no-frames (nest_pairs w).1 r.1))
 
-  word-closes : (cs : List (List Code)) (ps pending : List Pair) (w : List Token) → AreSides closed cs ps → IsWord pending w → IsWord (ps ++ pending) (map closes cs ++ w)
+  word-closes : (cs : List (List Code)) (ps pending : List Pair) (w : List Token) → AreSides closed cs ps →
+      IsWord pending w → IsWord (ps ++ pending) (map closes cs ++ w)
   word-closes [] [] pending w h k = k
   word-closes [] (p ∷ ps) pending w h k = absurd h
   word-closes (c ∷ cs) [] pending w h k = absurd h
@@ -517,10 +537,12 @@ module _ (s : Setting) (tree : Forest) (runs : List Run) (container : Contains (
     back = cut_front sizes (drop kept front.1)
 
     closer-here : AllOf (λ p. (0 < p.size) × (closed p ≡ r.codes)) (closing i pairs)
-    closer-here = all-as (λ p. (0 < p.size) × (p.closer ≡ i)) (λ p. (0 < p.size) × (closed p ≡ r.codes)) (λ p h. (h.0, ap (λ n. (run_at runs n).codes) h.1 ∙ ap (λ x. x.codes) here)) (closing i pairs) (all-closing (λ p. 0 < p.size) i pairs sized)
+    closer-here =
+        all-as (λ p. (0 < p.size) × (p.closer ≡ i)) (λ p. (0 < p.size) × (closed p ≡ r.codes)) (λ p h. (h.0, ap (λ n. (run_at runs n).codes) h.1 ∙ ap (λ x. x.codes) here)) (closing i pairs) (all-closing (λ p. 0 < p.size) i pairs sized)
 
     opener-here : AllOf (λ p. (0 < p.size) × (opened p ≡ r.codes)) (opening i pairs)
-    opener-here = all-as (λ p. (0 < p.size) × (p.opener ≡ i)) (λ p. (0 < p.size) × (opened p ≡ r.codes)) (λ p h. (h.0, ap (λ n. (run_at runs n).codes) h.1 ∙ ap (λ x. x.codes) here)) (opening i pairs) (all-opening (λ p. 0 < p.size) i pairs sized)
+    opener-here =
+        all-as (λ p. (0 < p.size) × (p.opener ≡ i)) (λ p. (0 < p.size) × (opened p ≡ r.codes)) (λ p h. (h.0, ap (λ n. (run_at runs n).codes) h.1 ∙ ap (λ x. x.codes) here)) (opening i pairs) (all-opening (λ p. 0 < p.size) i pairs sized)
 
     sizes-are : sizes ≡ sizes_of (reverse (opening i pairs))
     sizes-are = ap reverse (opening-is i pairs) ∙ sizes-reverse (opening i pairs)
@@ -550,7 +572,8 @@ module _ (s : Setting) (tree : Forest) (runs : List Run) (container : Contains (
             behind.1 ∙ ap (λ x. behind.0 ++ x) (sym (take-append-drop kept front.1)) ∙ sym (append_assoc behind.0 (take kept front.1) (drop kept front.1))
             ∙ ap (λ x. (behind.0 ++ take kept front.1) ++ x) (sym (append-nil (drop kept front.1)))
 
-    word-run : (pending : List Pair) (w : List Token) → NextIsNot (marker_of r.codes) w → IsWord (opening i pairs ++ pending) w → IsWord (closing i pairs ++ pending) (run_tokens pairs i r ++ w)
+    word-run : (pending : List Pair) (w : List Token) → NextIsNot (marker_of r.codes) w →
+        IsWord (opening i pairs ++ pending) w → IsWord (closing i pairs ++ pending) (run_tokens pairs i r ++ w)
     word-run pending w n h =
         subst (IsWord (closing i pairs ++ pending)) (sym (append_assoc (map closes front.0) (item (leaf Name.Data (take kept front.1)) ∷ map opens back.0) w))
         (word-closes front.0 (closing i pairs) pending (item (leaf Name.Data (take kept front.1)) ∷ (map opens back.0 ++ w)) close-sides
@@ -596,7 +619,8 @@ module _ (s : Setting) where
   abbrev Stands : List Run → ℕ → Forest → Type 0
   Stands runs n f = (j i : ℕ) → i ≡ n + j → run_at runs i ≡ run_at (runs_of s f) j
 
-  stripe-of : (cs : List Code) → IsStripe (marker_of cs) cs → IsStripe (marker_of (run_of s cs).codes) (run_of s cs).codes
+  stripe-of : (cs : List Code) → IsStripe (marker_of cs) cs →
+      IsStripe (marker_of (run_of s cs).codes) (run_of s cs).codes
   stripe-of cs h = subst (λ x. IsStripe (marker_of x) x) (sym (codes-run_of s cs)) h
 
   module _ (tree : Forest) where
@@ -610,14 +634,16 @@ module _ (s : Setting) where
           all-both (Contains (pair_list s runs)) (HasOneMarker s runs (length runs)) (pair_list s runs) (all-listed (pair_list s runs) [] (pair_list s runs) refl)
           (one-marker s runs (length runs) [] 0 (pair_list s runs) (some_pair_list s runs))
 
-      enough-markers : (n : ℕ) (r : Run) → run_at runs n ≡ r → total (sizes_of (closing n (pair_list s runs))) + total (sizes_of (opening n (pair_list s runs))) ≤ length r.codes
+      enough-markers : (n : ℕ) (r : Run) → run_at runs n ≡ r →
+          total (sizes_of (closing n (pair_list s runs))) + total (sizes_of (opening n (pair_list s runs))) ≤ length r.codes
       enough-markers n r e =
           omega (arith, taken-sizes n (length runs) (pair_list s runs) ordered-pairs, (pairs_are_sound s runs (pair_list s runs) (some_pair_list s runs)).taken_once n, ap (λ x. length x.codes) e)
 
     abbrev AreWithin : Forest → Type 0
     AreWithin f = (runs : List Run) → Contains (rows_inside s f) runs → Contains (containers_of s tree) runs
 
-    next-tokens : (f : Forest) (runs : List Run) (container : Contains (containers_of s tree) runs) (m n : ℕ) → Stands runs n f → HasApartRuns m f → NextIsNot m (words f runs n)
+    next-tokens : (f : Forest) (runs : List Run) (container : Contains (containers_of s tree) runs) (m n : ℕ) →
+        Stands runs n f → HasApartRuns m f → NextIsNot m (words f runs n)
     unfolding tokens_of runs_of
     next-tokens empty runs container m n k h = tt
     next-tokens (leaf_then Name.AttentionSequence link cs rest) runs container m n k h =
@@ -658,7 +684,8 @@ module _ (s : Setting) where
 
         later_stands : Stands runs (suc n) rest
         later_stands j i e = st (suc j) i (omega (arith, e))
-    law (leaf_then name link cs rest) runs container m n st k g f a w = ((tt, (f.0, tt)), law rest runs container 0 n st k g f.1 a w)
+    law (leaf_then name link cs rest) runs container m n st k g f a w =
+        ((tt, (f.0, tt)), law rest runs container 0 n st k g f.1 a w)
     law (group_then name enter exit inside rest) runs container m n st k g f a w = (
       (
         ((λ e. absurd (by_name (is_pair name) g e)), (row (law inside)).0, tt),
@@ -677,6 +704,8 @@ module _ (s : Setting) where
             (λ rs h. w rs (Contains-append_left (runs_of s inside ∷ rows_inside s inside) (rows_inside s rest) rs (Contains-append_right (runs_of s inside ∷ []) (rows_inside s inside) rs h)))
 
   -- of a tree that has no group of a pair yet
-  pub right-paired : (tree : Forest) → pair_groups tree ≡ 0 → IsFilled tree → HasApartRuns 0 tree → IsRight (AreOfPair s tree) (paired s (pair_list s) tree)
+  pub right-paired : (tree : Forest) → pair_groups tree ≡ 0 → IsFilled tree → HasApartRuns 0 tree →
+      IsRight (AreOfPair s tree) (paired s (pair_list s) tree)
   unfolding paired containers_of
-  right-paired tree g f a = whole-row tree tree (law tree tree) (0, omega arith, refl) g f a (λ rs h. Contains-append_right (runs_of s tree ∷ []) (rows_inside s tree) rs h)
+  right-paired tree g f a =
+      whole-row tree tree (law tree tree) (0, omega arith, refl) g f a (λ rs h. Contains-append_right (runs_of s tree ∷ []) (rows_inside s tree) rs h)

@@ -28,15 +28,18 @@ pub last-join : (p : Place) (xs ys : List Place) → last_of p (xs ++ ys) ≡ la
 last-join p [] ys = refl
 last-join p (x ∷ xs) ys = last-join x xs ys
 
-pub on-split : (low : Place) (xs ys : List Place) (high : Place) → GoOn low (xs ++ ys) high → GoOn low xs (last_of low xs) × GoOn (last_of low xs) ys high
+pub on-split : (low : Place) (xs ys : List Place) (high : Place) → GoOn low (xs ++ ys) high →
+    GoOn low xs (last_of low xs) × GoOn (last_of low xs) ys high
 on-split low [] ys high h = (on-itself low, h)
 on-split low (x ∷ xs) ys high h = let r = on-split x xs ys high h.1 in ((h.0, r.0), r.1)
 
-on-from : (low middle : Place) (ys : List Place) (high : Place) → IsOn low middle → GoOn middle ys high → GoOn low ys high
+on-from : (low middle : Place) (ys : List Place) (high : Place) → IsOn low middle → GoOn middle ys high →
+    GoOn low ys high
 on-from low middle [] high h k = on-trans low middle high h k
 on-from low middle (y ∷ ys) high h k = (on-trans low middle y h k.0, k.1)
 
-pub on-join : (low : Place) (xs : List Place) (middle : Place) (ys : List Place) (high : Place) → GoOn low xs middle → GoOn middle ys high → GoOn low (xs ++ ys) high
+pub on-join : (low : Place) (xs : List Place) (middle : Place) (ys : List Place) (high : Place) → GoOn low xs middle →
+    GoOn middle ys high → GoOn low (xs ++ ys) high
 on-join low [] middle ys high h k = on-from low middle ys high h k
 on-join low (x ∷ xs) middle ys high h k = (h.0, on-join x xs middle ys high h.1 k)
 
@@ -79,7 +82,8 @@ allows-around x xs =
     (subst (λ r. Allows (x ∷ r) (x ∷ (x ∷ xs ++ (last_of x xs ∷ [])))) (append-nil (x ∷ xs)) (last-again x (x ∷ xs) []))
 
 -- a row between the last place before it and the first behind it
-pub allows-between : (x : Place) (xs middle : List Place) (y : Place) (ys : List Place) → Allows ((x ∷ xs) ++ (middle ++ (y ∷ ys))) ((x ∷ xs) ++ (last_of x xs ∷ (middle ++ (y ∷ y ∷ ys))))
+pub allows-between : (x : Place) (xs middle : List Place) (y : Place) (ys : List Place) →
+    Allows ((x ∷ xs) ++ (middle ++ (y ∷ ys))) ((x ∷ xs) ++ (last_of x xs ∷ (middle ++ (y ∷ y ∷ ys))))
 allows-between x xs middle y ys =
     allows-then ((x ∷ xs) ++ (middle ++ (y ∷ ys))) ((x ∷ xs) ++ (middle ++ (y ∷ y ∷ ys))) ((x ∷ xs) ++ (last_of x xs ∷ (middle ++ (y ∷ y ∷ ys))))
     (allows-behind (x ∷ xs) (middle ++ (y ∷ ys)) (middle ++ (y ∷ y ∷ ys)) (allows-behind middle (y ∷ ys) (y ∷ y ∷ ys) (again y ys)))

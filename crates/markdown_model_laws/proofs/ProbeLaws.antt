@@ -38,7 +38,8 @@ module _ (s : Setting) where
 
   no-runs : (rows : List (List Run)) → sum_by length rows ≡ 0 → all_markers rows ≡ 0
   no-runs [] h = refl
-  no-runs ([] ∷ rows) h = omega (arith, sum_by-cons markers [] rows, no-runs rows (omega (arith, h, sum_by-cons length [] rows)))
+  no-runs ([] ∷ rows) h =
+      omega (arith, sum_by-cons markers [] rows, no-runs rows (omega (arith, h, sum_by-cons length [] rows)))
   no-runs ((r ∷ runs) ∷ rows) h = absurd (omega (arith, h, sum_by-cons length (r ∷ runs) rows))
 
   -- Runs that may open or close have markers.
@@ -73,7 +74,8 @@ module _ (s : Setting) where
   row-marked (group_then name enter exit inside rest) = row-marked rest
 
   abbrev AllMarked : List (List Run) → Type 0
-  AllMarked rows = (sum_by (count_by (λ r. r.may_open)) rows ≤ all_markers rows) × (sum_by (count_by (λ r. r.may_close)) rows ≤ all_markers rows)
+  AllMarked rows =
+      (sum_by (count_by (λ r. r.may_open)) rows ≤ all_markers rows) × (sum_by (count_by (λ r. r.may_close)) rows ≤ all_markers rows)
 
   marked-first : (runs : List Run) (rows : List (List Run)) → AreMarked runs → AllMarked rows → AllMarked (runs ∷ rows)
   marked-first runs rows h k = (
@@ -120,7 +122,8 @@ module _ (s : Setting) where
       one-more = omega arith
 
   tree-pairs : (f : Forest) → pair_count s f ≤ probe_bound s f
-  tree-pairs f = for-each-pair (pair_count s f) (run_count s f) λ h. omega (arith, all-pairs (containers_of s f), no-runs (containers_of s f) h)
+  tree-pairs f =
+      for-each-pair (pair_count s f) (run_count s f) λ h. omega (arith, all-pairs (containers_of s f), no-runs (containers_of s f) h)
 
   tree-probes : (f : Forest) → list_probe_bound s f ≤ 11 * length (leaf_codes f)
   unfolding containers_of

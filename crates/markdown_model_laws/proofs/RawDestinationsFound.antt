@@ -23,7 +23,8 @@ abbrev pub bare_from : ℕ → Bool → List Code → ℕ
 bare_from n slash [] = 0
 bare_from n slash (c ∷ cs) = one_if (is_value n c && not slash) + bare_from n (turned slash c) cs
 
-pub bare-from : (n : ℕ) (slash : Bool) (before cs : List Code) → slash_after false before ≡ slash → bare_after n before cs ≡ bare_from n slash cs
+pub bare-from : (n : ℕ) (slash : Bool) (before cs : List Code) → slash_after false before ≡ slash →
+    bare_after n before cs ≡ bare_from n slash cs
 bare-from n slash before [] e = refl
 bare-from n slash before (c ∷ cs) e =
     (λ i. one_if (is_value n c && not ((escapes-after before ∙ e) i)) + bare-from n (turned slash c) (before ++ (c ∷ [])) cs (after-last false before c ∙ ap (λ b. turned b c) e) i)
@@ -36,12 +37,14 @@ no_part c = is_whitespace_code c || is_control c
 
 -- what a raw destination ends before
 abbrev pub EndsAt : Bool → List Code → Type 0
-EndsAt slash rest = rest ≡ [] ⊎ (next_is is_whitespace_code rest ≡ true ⊎ (next_is (is_value 41) rest ≡ true) × (slash ≡ false))
+EndsAt slash rest =
+    rest ≡ [] ⊎ (next_is is_whitespace_code rest ≡ true ⊎ (next_is (is_value 41) rest ≡ true) × (slash ≡ false))
 
 -- the codes from here on; `slash` says that the first is escaped, and `depth` parentheses are open before it
 pub record RawFrom (max : ℕ) (slash : Bool) (depth : ℕ) (text rest : List Code) : Type 0 where
   pub plain : list_any no_part text ≡ false
-  pub nested : (before after : List Code) → text ≡ before ++ after → (bare_from 41 slash before ≤ depth + bare_from 40 slash before) × (depth + bare_from 40 slash before ≤ bare_from 41 slash before + max)
+  pub nested : (before after : List Code) → text ≡ before ++ after →
+      (bare_from 41 slash before ≤ depth + bare_from 40 slash before) × (depth + bare_from 40 slash before ≤ bare_from 41 slash before + max)
   pub balanced : depth + bare_from 40 slash text ≡ bare_from 41 slash text
   pub ends : EndsAt (slash_after slash text) rest
 
@@ -57,14 +60,16 @@ by-parens P c h p q r =
       ]
     ]
 
-is-paren : (c : Code) (n : ℕ) → is_value n c ≡ true → ((n == 40) || ((n == 41) || ((n == 92) || false))) ≡ true → parens c ≡ true
+is-paren : (c : Code) (n : ℕ) → is_value n c ≡ true → ((n == 40) || ((n == 41) || ((n == 92) || false))) ≡ true →
+    parens c ≡ true
 is-paren c n h k = subst (λ v. ((v == 40) || ((v == 41) || ((v == 92) || false))) ≡ true) (sym (eqb-true c.value n h)) k
 
 slashes : (c : Code) → is_value 92 c ≡ true → parens c ≡ true
 slashes c h = is-paren c 92 h refl
 
 paren-part : (c : Code) → parens c ≡ true → no_part c ≡ false
-paren-part c h = by-parens (λ v. (((v == 32 || v == 9) || v == 10) || ((nat_le 1 v && nat_le v 31) || v == 127)) ≡ false) c h refl refl refl
+paren-part c h =
+    by-parens (λ v. (((v == 32 || v == 9) || v == 10) || ((nat_le 1 v && nat_le v 31) || v == 127)) ≡ false) c h refl refl refl
 
 -- a code of these, where the first is escaped or not, is not escaped
 not-escaped : (slash : Bool) (c : Code) → slash && parens c ≡ false → parens c ≡ true → slash ≡ false
@@ -77,7 +82,8 @@ counts-none slash n c e = ap one_if (and_right (is_value n c) (not slash) (ap no
 counts-other : (slash : Bool) (n : ℕ) (c : Code) → is_value n c ≡ false → one_if (is_value n c && not slash) ≡ 0
 counts-other slash n c e = ap (λ b. one_if (b && not slash)) e
 
-counts-one : (slash : Bool) (n : ℕ) (c : Code) → slash ≡ false → is_value n c ≡ true → one_if (is_value n c && not slash) ≡ 1
+counts-one : (slash : Bool) (n : ℕ) (c : Code) → slash ≡ false → is_value n c ≡ true →
+    one_if (is_value n c && not slash) ≡ 1
 counts-one slash n c e h = λ i. one_if (h i && not (e i))
 
 module _ (max : ℕ) where
@@ -94,7 +100,8 @@ module _ (max : ℕ) where
     ends = r.ends;
   }
     where
-      nested : (before after : List Code) → c ∷ text ≡ before ++ after → (bare_from 41 slash before ≤ depth + bare_from 40 slash before) × (depth + bare_from 40 slash before ≤ bare_from 41 slash before + max)
+      nested : (before after : List Code) → c ∷ text ≡ before ++ after →
+          (bare_from 41 slash before ≤ depth + bare_from 40 slash before) × (depth + bare_from 40 slash before ≤ bare_from 41 slash before + max)
       nested [] after k = (omega arith, omega (arith, d))
       nested (x ∷ xs) after k =
           let same : c ≡ x = cc in
@@ -115,14 +122,17 @@ module _ (max : ℕ) where
   }
 
   -- a code that is not escaped is read as where nothing stands before
-  plain-start : (slash : Bool) (depth : ℕ) (c : Code) (cs : List Code) → slash && parens c ≡ false → raw_from max slash depth (c ∷ cs) ≡ raw_from max false depth (c ∷ cs)
+  plain-start : (slash : Bool) (depth : ℕ) (c : Code) (cs : List Code) → slash && parens c ≡ false →
+      raw_from max slash depth (c ∷ cs) ≡ raw_from max false depth (c ∷ cs)
   plain-start true depth c cs e = raw-bare max depth c cs e
   plain-start false depth c cs e = refl
 
-  nothing : (slash : Bool) (depth : ℕ) (rest : List Code) → (depth == 0) ≡ true → depth ≤ max → EndsAt slash rest → RawFrom max slash depth [] rest
+  nothing : (slash : Bool) (depth : ℕ) (rest : List Code) → (depth == 0) ≡ true → depth ≤ max → EndsAt slash rest →
+      RawFrom max slash depth [] rest
   nothing slash depth rest e d h = record { plain = refl; nested = nested; balanced = omega (arith, eqb-true depth 0 e); ends = h }
     where
-      nested : (before after : List Code) → [] ≡ before ++ after → (bare_from 41 slash before ≤ depth + bare_from 40 slash before) × (depth + bare_from 40 slash before ≤ bare_from 41 slash before + max)
+      nested : (before after : List Code) → [] ≡ before ++ after →
+          (bare_from 41 slash before ≤ depth + bare_from 40 slash before) × (depth + bare_from 40 slash before ≤ bare_from 41 slash before + max)
       nested [] after k = (omega arith, omega (arith, d))
       nested (x ∷ xs) after k = cc
 
@@ -138,7 +148,8 @@ module _ (max : ℕ) where
       subst (λ (q : List Code × List Code). RawFrom max slash depth q.0 q.1) (sym b.is)
       (onto slash c depth more b.others.0 b.others.1 p d k (subst (λ s. RawFrom max s more b.others.0 b.others.1) (sym t) (f after more b.others m b.gives)))
 
-  stopped : (slash : Bool) (depth : ℕ) (c : Code) (cs : List Code) → slash && parens c ≡ false → stops depth c ≡ true → EndsAt slash (c ∷ cs)
+  stopped : (slash : Bool) (depth : ℕ) (c : Code) (cs : List Code) → slash && parens c ≡ false → stops depth c ≡ true →
+      EndsAt slash (c ∷ cs)
   stopped slash depth c cs e h = elim (or-parts (is_whitespace_code c) _ h) [
     | inl k ↦ inr (inl k)
     | inr k ↦ inr (inr (and-left _ _ k, not-escaped slash c e (is-paren c 41 (and-left _ _ k) refl)))
@@ -153,15 +164,19 @@ module _ (max : ℕ) where
   by-tests false true v w x y true slash depth c cs r d e f t1 t2 t3 t4 t5 t6 t7 =
       let same : ([], c ∷ cs) ≡ r = (let s : Some ([], c ∷ cs) ≡ Some r = sym (plain-start slash depth c cs t1 ∙ raw-stop max depth c cs t2 t7) ∙ e in cc) in
       subst (λ (q : List Code × List Code). RawFrom max slash depth q.0 q.1) same (nothing slash depth (c ∷ cs) t7 d (stopped slash depth c cs t1 t2))
-  by-tests false true v w x y false slash depth c cs r d e f t1 t2 t3 t4 t5 t6 t7 = let no : None ≡ Some r = sym (plain-start slash depth c cs t1 ∙ raw-space max depth c cs t2 t7) ∙ e in cc
-  by-tests false false true w x y z slash depth c cs r d e f t1 t2 t3 t4 t5 t6 t7 = let no : None ≡ Some r = sym (plain-start slash depth c cs t1 ∙ raw-control max depth c cs t2 t3) ∙ e in cc
+  by-tests false true v w x y false slash depth c cs r d e f t1 t2 t3 t4 t5 t6 t7 =
+      let no : None ≡ Some r = sym (plain-start slash depth c cs t1 ∙ raw-space max depth c cs t2 t7) ∙ e in cc
+  by-tests false false true w x y z slash depth c cs r d e f t1 t2 t3 t4 t5 t6 t7 =
+      let no : None ≡ Some r = sym (plain-start slash depth c cs t1 ∙ raw-control max depth c cs t2 t3) ∙ e in cc
   by-tests false false false true true y z slash depth c cs r d e f t1 t2 t3 t4 t5 t6 t7 =
       let off : slash ≡ false = not-escaped slash c t1 (is-paren c 40 t4 refl) in
       let below : depth < max = grind (arith, nat_tests, common_steps) in
       first slash false depth (suc depth) c cs r (sym (plain-start slash depth c cs t1 ∙ raw-open max depth c cs t2 t3 t4 t5) ∙ e) d (omega (arith, below)) (or_from _ _ (or_parts _ _ t2).0 t3)
       (omega (arith, counts-one slash 40 c off t4, counts-other slash 41 c (other 40 41 c refl t4))) (next-turned parens slashes slash c t1 ∙ other 40 92 c refl t4) f
-  by-tests false false false true false y z slash depth c cs r d e f t1 t2 t3 t4 t5 t6 t7 = let no : None ≡ Some r = sym (plain-start slash depth c cs t1 ∙ raw-deep max depth c cs t2 t3 t4 t5) ∙ e in cc
-  by-tests false false false false x true true slash depth c cs r d e f t1 t2 t3 t4 t5 t6 t7 = let no : false ≡ true = sym (or_parts (is_whitespace_code c) (is_value 41 c && depth == 0) t2).1 ∙ (λ i. t6 i && t7 i) in cc
+  by-tests false false false true false y z slash depth c cs r d e f t1 t2 t3 t4 t5 t6 t7 =
+      let no : None ≡ Some r = sym (plain-start slash depth c cs t1 ∙ raw-deep max depth c cs t2 t3 t4 t5) ∙ e in cc
+  by-tests false false false false x true true slash depth c cs r d e f t1 t2 t3 t4 t5 t6 t7 =
+      let no : false ≡ true = sym (or_parts (is_whitespace_code c) (is_value 41 c && depth == 0) t2).1 ∙ (λ i. t6 i && t7 i) in cc
   by-tests false false false false x true false slash zero c cs r d e f t1 t2 t3 t4 t5 t6 t7 = cc
   by-tests false false false false x true false slash (suc n) c cs r d e f t1 t2 t3 t4 t5 t6 t7 =
       let off : slash ≡ false = not-escaped slash c t1 (is-paren c 41 t6 refl) in
@@ -184,11 +199,14 @@ module _ (max : ℕ) where
 
   -- And each such text is read.
 
-  goes-on : (after : Bool) (more : ℕ) (c : Code) (text rest : List Code) → raw_from max after more (text ++ rest) ≡ Some (text, rest) → with_first c (raw_from max after more (text ++ rest)) ≡ Some (c ∷ text, rest)
+  goes-on : (after : Bool) (more : ℕ) (c : Code) (text rest : List Code) →
+      raw_from max after more (text ++ rest) ≡ Some (text, rest) →
+      with_first c (raw_from max after more (text ++ rest)) ≡ Some (c ∷ text, rest)
   goes-on after more c text rest e = ap (with_first c) e
 
   abbrev Found : List Code → List Code → Type 0
-  Found text rest = (slash : Bool) (depth : ℕ) → RawFrom max slash depth text rest → raw_from max slash depth (text ++ rest) ≡ Some (text, rest)
+  Found text rest =
+      (slash : Bool) (depth : ℕ) → RawFrom max slash depth text rest → raw_from max slash depth (text ++ rest) ≡ Some (text, rest)
 
   by-parts : (t w y : Bool) (slash : Bool) (depth : ℕ) (c : Code) (text rest : List Code) → RawFrom max slash depth (c ∷ text) rest → Found text rest
       → slash && parens c ≡ t → is_value 40 c ≡ w → is_value 41 c ≡ y → raw_from max slash depth (c ∷ (text ++ rest)) ≡ Some (c ∷ text, rest)
@@ -253,6 +271,9 @@ module _ (max : ℕ) where
 
       by_end : EndsAt slash (c ∷ cs) → raw_from max slash depth (c ∷ cs) ≡ Some ([], c ∷ cs)
       by_end (inl e) = cc
-      by_end (inr (inl w)) = plain-start slash depth c cs (and_right slash (parens c) (white-plain c w)) ∙ raw-stop max depth c cs (or_left _ _ w) none_open
-      by_end (inr (inr k)) = plain-start slash depth c cs (ap (λ s. s && parens c) k.1) ∙ raw-stop max depth c cs (or_right _ _ (λ i. k.0 i && none_open i)) none_open
-  raw-found (c ∷ text) rest slash depth r = by-parts (slash && parens c) (is_value 40 c) (is_value 41 c) slash depth c text rest r (raw-found text rest) refl refl refl
+      by_end (inr (inl w)) =
+          plain-start slash depth c cs (and_right slash (parens c) (white-plain c w)) ∙ raw-stop max depth c cs (or_left _ _ w) none_open
+      by_end (inr (inr k)) =
+          plain-start slash depth c cs (ap (λ s. s && parens c) k.1) ∙ raw-stop max depth c cs (or_right _ _ (λ i. k.0 i && none_open i)) none_open
+  raw-found (c ∷ text) rest slash depth r =
+      by-parts (slash && parens c) (is_value 40 c) (is_value 41 c) slash depth c text rest r (raw-found text rest) refl refl refl

@@ -27,7 +27,8 @@ ADestination = IsDestination 32 resource_names
 
 -- What the reading gives is a resource.
 
-spaced-back : (cs : List Code) (tree : Forest) (rest : List Code) → spaced_title cs ≡ Some (tree, rest) → InTurn SomeSpacing (InTurn ATitle Spacing) cs tree rest
+spaced-back : (cs : List Code) (tree : Forest) (rest : List Code) → spaced_title cs ≡ Some (tree, rest) →
+    InTurn SomeSpacing (InTurn ATitle Spacing) cs tree rest
 unfolding spaced_title
 spaced-back cs tree rest e =
     let a : Went (before (space_or_tab_eol None) begins_title) _ cs (tree, rest) = bind-back (before (space_or_tab_eol None) begins_title) _ cs (tree, rest) e in
@@ -50,7 +51,8 @@ spaced-back cs tree rest e =
       tree_is = g.0;
     }
 
-parts-back : (cs : List Code) (tree : Forest) (rest : List Code) → destination_and_title cs ≡ Some (tree, rest) → InTurn ADestination AfterDestination cs tree rest
+parts-back : (cs : List Code) (tree : Forest) (rest : List Code) → destination_and_title cs ≡ Some (tree, rest) →
+    InTurn ADestination AfterDestination cs tree rest
 unfolding destination_and_title
 parts-back cs tree rest e =
     let a : Went (destination 32 resource_names) _ cs (tree, rest) = bind-back (destination 32 resource_names) _ cs (tree, rest) e in
@@ -80,10 +82,13 @@ inside-back : (cs : List Code) (tree : Forest) (rest : List Code) → inside cs 
 inside-back cs tree rest e = by_next (next_is (is_value 41) cs) refl
   where
     by_next : (b : Bool) → next_is (is_value 41) cs ≡ b → Inside cs tree rest
-    by_next true h = let g : (tree ≡ empty) × (cs ≡ rest) = gives-back empty tree cs rest (sym (if-here (is_value 41) (gives empty) destination_and_title cs h) ∙ e) in inl (g.1, g.0)
-    by_next false h = inr (parts-back cs tree rest (sym (if-other (is_value 41) (gives empty) destination_and_title cs h) ∙ e))
+    by_next true h =
+        let g : (tree ≡ empty) × (cs ≡ rest) = gives-back empty tree cs rest (sym (if-here (is_value 41) (gives empty) destination_and_title cs h) ∙ e) in inl (g.1, g.0)
+    by_next false h =
+        inr (parts-back cs tree rest (sym (if-other (is_value 41) (gives empty) destination_and_title cs h) ∙ e))
 
-pub resource-back : (cs : List Code) (tree : Forest) (rest : List Code) → resource cs ≡ Some (tree, rest) → IsResource cs tree rest
+pub resource-back : (cs : List Code) (tree : Forest) (rest : List Code) → resource cs ≡ Some (tree, rest) →
+    IsResource cs tree rest
 unfolding resource
 resource-back cs tree rest e =
     let a : WentOne (is_value 40) _ cs (tree, rest) = one-back (is_value 40) _ cs (tree, rest) e in
@@ -121,15 +126,21 @@ resource-back cs tree rest e =
 -- And each resource is read: each part begins with a code that is no whitespace.
 
 mark-plain : (name : Name) (cs : List Code) (tree : Forest) (rest : List Code) → Mark name 41 cs tree rest → IsPlain cs
-mark-plain name cs tree rest m = record { code = m.code; more = rest; is = m.stands; plain = ap (λ v. (v == 32 || v == 9) || v == 10) (eqb-true m.code.value 41 m.is) }
+mark-plain name cs tree rest m =
+    record { code = m.code; more = rest; is = m.stands; plain = ap (λ v. (v == 32 || v == 9) || v == 10) (eqb-true m.code.value 41 m.is) }
 
-title-first : (front : Code) (text : List Code) (back : Code) → IsTitle front text back → (is_whitespace_code front ≡ false) × (is_among (codes "\"'(") front ≡ true)
-title-first front text back (inl i) = (ap (λ v. (v == 32 || v == 9) || v == 10) (eqb-true front.value 34 i.opens), ap (λ v. (v == 34) || ((v == 39) || ((v == 40) || false))) (eqb-true front.value 34 i.opens))
-title-first front text back (inr (inl i)) = (ap (λ v. (v == 32 || v == 9) || v == 10) (eqb-true front.value 39 i.opens), ap (λ v. (v == 34) || ((v == 39) || ((v == 40) || false))) (eqb-true front.value 39 i.opens))
-title-first front text back (inr (inr i)) = (ap (λ v. (v == 32 || v == 9) || v == 10) (eqb-true front.value 40 i.opens), ap (λ v. (v == 34) || ((v == 39) || ((v == 40) || false))) (eqb-true front.value 40 i.opens))
+title-first : (front : Code) (text : List Code) (back : Code) → IsTitle front text back →
+    (is_whitespace_code front ≡ false) × (is_among (codes "\"'(") front ≡ true)
+title-first front text back (inl i) =
+    (ap (λ v. (v == 32 || v == 9) || v == 10) (eqb-true front.value 34 i.opens), ap (λ v. (v == 34) || ((v == 39) || ((v == 40) || false))) (eqb-true front.value 34 i.opens))
+title-first front text back (inr (inl i)) =
+    (ap (λ v. (v == 32 || v == 9) || v == 10) (eqb-true front.value 39 i.opens), ap (λ v. (v == 34) || ((v == 39) || ((v == 40) || false))) (eqb-true front.value 39 i.opens))
+title-first front text back (inr (inr i)) =
+    (ap (λ v. (v == 32 || v == 9) || v == 10) (eqb-true front.value 40 i.opens), ap (λ v. (v == 34) || ((v == 39) || ((v == 40) || false))) (eqb-true front.value 40 i.opens))
 
 title-plain : (cs : List Code) (tree : Forest) (rest : List Code) → ATitle cs tree rest → IsPlain cs
-title-plain cs tree rest m = record { code = m.front; more = m.text ++ (m.back ∷ rest); is = m.stands; plain = (title-first m.front m.text m.back m.is).0 }
+title-plain cs tree rest m =
+    record { code = m.front; more = m.text ++ (m.back ∷ rest); is = m.stands; plain = (title-first m.front m.text m.back m.is).0 }
 
 title-begins : (cs : List Code) (tree : Forest) (rest : List Code) → ATitle cs tree rest → begins_title cs ≡ true
 title-begins cs tree rest m = ap begins_title m.stands ∙ (title-first m.front m.text m.back m.is).1
@@ -161,7 +172,8 @@ destination-begins cs tree rest (inl m) = record {
 }
 destination-begins cs tree rest (inr r) = subst Begins (sym r.stands) (raw-begins r.text rest r.is)
 
-spaced-found : (cs : List Code) (tree : Forest) (rest : List Code) → InTurn SomeSpacing (InTurn ATitle Spacing) cs tree rest → IsPlain rest → spaced_title cs ≡ Some (tree, rest)
+spaced-found : (cs : List Code) (tree : Forest) (rest : List Code) →
+    InTurn SomeSpacing (InTurn ATitle Spacing) cs tree rest → IsPlain rest → spaced_title cs ≡ Some (tree, rest)
 unfolding spaced_title gives
 spaced-found cs tree rest t p =
     bind-some _ _ cs t.first t.between _ (before-some (space_or_tab_eol None) begins_title cs t.first t.between (spacing-found cs t.first t.between t.is (title-plain t.between t.more.first t.more.between t.more.is)) (title-begins t.between t.more.first t.more.between t.more.is))
@@ -170,34 +182,43 @@ spaced-found cs tree rest t p =
     (λ i. Some (sym (t.tree_is ∙ ap (λ f. t.first ⊕ f) t.more.tree_is) i, rest))))
 
 -- behind whitespace, before a code that begins no title, there is none
-spaced-none : (cs : List Code) (tree : Forest) (rest : List Code) → Spacing cs tree rest → IsPlain rest → begins_title rest ≡ false → spaced_title cs ≡ None
+spaced-none : (cs : List Code) (tree : Forest) (rest : List Code) → Spacing cs tree rest → IsPlain rest →
+    begins_title rest ≡ false → spaced_title cs ≡ None
 unfolding spaced_title
 spaced-none cs tree rest s p b = by_read (spacing-read cs tree rest s p).is
   where
-    by_read : ((space_or_tab_eol None cs ≡ Some (tree, rest)) ⊎ ((space_or_tab_eol None cs ≡ None) × ((cs ≡ rest) × (tree ≡ empty)))) → spaced_title cs ≡ None
+    by_read : ((space_or_tab_eol None cs ≡ Some (tree, rest)) ⊎ ((space_or_tab_eol None cs ≡ None) × ((cs ≡ rest) × (tree ≡ empty)))) →
+        spaced_title cs ≡ None
     by_read (inl h) = bind-none _ _ cs (before-other (space_or_tab_eol None) begins_title cs tree rest h b)
     by_read (inr h) = bind-none _ _ cs (before-none (space_or_tab_eol None) begins_title cs h.0)
 
-after-found : (cs : List Code) (tree : Forest) (rest : List Code) → AfterDestination cs tree rest → IsPlain rest → begins_title rest ≡ false → either spaced_title (optional_tree (space_or_tab_eol None)) cs ≡ Some (tree, rest)
+after-found : (cs : List Code) (tree : Forest) (rest : List Code) → AfterDestination cs tree rest → IsPlain rest →
+    begins_title rest ≡ false → either spaced_title (optional_tree (space_or_tab_eol None)) cs ≡ Some (tree, rest)
 after-found cs tree rest (inl t) p b = either-some _ _ cs (tree, rest) (spaced-found cs tree rest t p)
-after-found cs tree rest (inr s) p b = either-second _ _ cs (spaced-none cs tree rest s p b) ∙ optional-found cs tree rest s p
+after-found cs tree rest (inr s) p b =
+    either-second _ _ cs (spaced-none cs tree rest s p b) ∙ optional-found cs tree rest s p
 
-parts-found : (cs : List Code) (tree : Forest) (rest : List Code) → InTurn ADestination AfterDestination cs tree rest → IsPlain rest → begins_title rest ≡ false → destination_and_title cs ≡ Some (tree, rest)
+parts-found : (cs : List Code) (tree : Forest) (rest : List Code) → InTurn ADestination AfterDestination cs tree rest →
+    IsPlain rest → begins_title rest ≡ false → destination_and_title cs ≡ Some (tree, rest)
 unfolding destination_and_title gives
 parts-found cs tree rest t p b =
     bind-some _ _ cs t.first t.between _ (destination-found 32 resource_names cs t.first t.between t.is)
     (bind-some _ _ t.between t.second rest _ (after-found t.between t.second rest t.more p b) (λ i. Some (sym t.tree_is i, rest)))
 
-inside-found : (cs : List Code) (tree : Forest) (rest : List Code) → Inside cs tree rest → IsPlain rest → next_is (is_value 41) rest ≡ true → begins_title rest ≡ false → inside cs ≡ Some (tree, rest)
+inside-found : (cs : List Code) (tree : Forest) (rest : List Code) → Inside cs tree rest → IsPlain rest →
+    next_is (is_value 41) rest ≡ true → begins_title rest ≡ false → inside cs ≡ Some (tree, rest)
 unfolding gives
-inside-found cs tree rest (inl h) p n b = if-here (is_value 41) (gives empty) destination_and_title cs (ap (next_is (is_value 41)) h.0 ∙ n) ∙ (λ i. Some (sym h.1 i, h.0 i))
-inside-found cs tree rest (inr t) p n b = if-other (is_value 41) (gives empty) destination_and_title cs (destination-begins cs t.first t.between t.is).other ∙ parts-found cs tree rest t p b
+inside-found cs tree rest (inl h) p n b =
+    if-here (is_value 41) (gives empty) destination_and_title cs (ap (next_is (is_value 41)) h.0 ∙ n) ∙ (λ i. Some (sym h.1 i, h.0 i))
+inside-found cs tree rest (inr t) p n b =
+    if-other (is_value 41) (gives empty) destination_and_title cs (destination-begins cs t.first t.between t.is).other ∙ parts-found cs tree rest t p b
 
 inside-plain : (cs : List Code) (tree : Forest) (rest : List Code) → Inside cs tree rest → IsPlain rest → IsPlain cs
 inside-plain cs tree rest (inl h) p = subst IsPlain (sym h.0) p
 inside-plain cs tree rest (inr t) p = (destination-begins cs t.first t.between t.is).is
 
-pub resource-found : (cs : List Code) (tree : Forest) (rest : List Code) → IsResource cs tree rest → resource cs ≡ Some (tree, rest)
+pub resource-found : (cs : List Code) (tree : Forest) (rest : List Code) → IsResource cs tree rest →
+    resource cs ≡ Some (tree, rest)
 unfolding resource gives
 resource-found cs tree rest r =
     let a : InTurn (Mark Name.ResourceMarker 40) (InTurn Spacing (InTurn Inside (Mark Name.ResourceMarker 41))) cs r.inside rest = r.is in

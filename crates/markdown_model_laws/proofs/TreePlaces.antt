@@ -34,11 +34,13 @@ ends-last p (c ∷ cs) = ends-last c.stop cs
 abbrev pub places_of : Forest → List Place
 places_of empty = []
 places_of (leaf_then name link cs rest) = ends_of cs ++ places_of rest
-places_of (group_then name enter exit inside rest) = place_of enter ∷ (places_of inside ++ (place_of exit ∷ places_of rest))
+places_of (group_then name enter exit inside rest) =
+    place_of enter ∷ (places_of inside ++ (place_of exit ∷ places_of rest))
 
 pub places-join : (a b : Forest) → places_of (a ⊕ b) ≡ places_of a ++ places_of b
 places-join empty b = refl
-places-join (leaf_then name link cs rest) b = ap (λ x. ends_of cs ++ x) (places-join rest b) ∙ sym (append_assoc (ends_of cs) (places_of rest) (places_of b))
+places-join (leaf_then name link cs rest) b =
+    ap (λ x. ends_of cs ++ x) (places-join rest b) ∙ sym (append_assoc (ends_of cs) (places_of rest) (places_of b))
 places-join (group_then name enter exit inside rest) b =
     ap (λ x. place_of enter ∷ (places_of inside ++ (place_of exit ∷ x))) (places-join rest b)
     ∙ ap (λ x. place_of enter ∷ x) (sym (append_assoc (places_of inside) (place_of exit ∷ places_of rest) (places_of b)))
@@ -52,7 +54,8 @@ pub places-last : (p : Point) (f : Forest) → last_of (place_of p) (places_of f
 places-last p empty = refl
 places-last p (leaf_then name link cs rest) =
     last-join (place_of p) (ends_of cs) (places_of rest) ∙ ap (λ x. last_of x (places_of rest)) (ends-last p cs) ∙ places-last (stop_of p cs) rest
-places-last p (group_then name enter exit inside rest) = last-join (place_of enter) (places_of inside) (place_of exit ∷ places_of rest) ∙ places-last exit rest
+places-last p (group_then name enter exit inside rest) =
+    last-join (place_of enter) (places_of inside) (place_of exit ∷ places_of rest) ∙ places-last exit rest
 
 -- and begins at the first
 pub record Begins (f : Forest) : Type 0 where
@@ -62,8 +65,10 @@ pub record Begins (f : Forest) : Type 0 where
 begins-made : (texts : Bool) (f : Forest) → made texts f ≡ true → is_nothing f ≡ false → Begins f
 begins-made texts empty h k = cc
 begins-made texts (leaf_then name link [] rest) h k = cc
-begins-made texts (leaf_then name link (c ∷ cs) rest) h k = record { more = place_of c.stop ∷ (ends_of cs ++ places_of rest); places = refl }
-begins-made texts (group_then name enter exit inside rest) h k = record { more = places_of inside ++ (place_of exit ∷ places_of rest); places = refl }
+begins-made texts (leaf_then name link (c ∷ cs) rest) h k =
+    record { more = place_of c.stop ∷ (ends_of cs ++ places_of rest); places = refl }
+begins-made texts (group_then name enter exit inside rest) h k =
+    record { more = places_of inside ++ (place_of exit ∷ places_of rest); places = refl }
 
 -- Wherever the codes go on, all places do.
 
@@ -76,7 +81,8 @@ fit-join a b h k =
     (subst (Allows (ends_of (leaf_codes a) ++ ends_of (leaf_codes b))) (sym (places-join a b)) (allows-join (ends_of (leaf_codes a)) (places_of a) (ends_of (leaf_codes b)) (places_of b) h k))
 
 pub fit-leaf : (name : Name) (cs : List Code) → IsFit (leaf name cs)
-fit-leaf name cs = allows-same (ends_of (leaf_codes (leaf name cs))) (places_of (leaf name cs)) (ap ends_of (codes-leaf name cs) ∙ sym (places-leaf name cs))
+fit-leaf name cs =
+    allows-same (ends_of (leaf_codes (leaf name cs))) (places_of (leaf name cs)) (ap ends_of (codes-leaf name cs) ∙ sym (places-leaf name cs))
 
 -- the places of a group that reaches from the first place inside to the last
 pub places-around : (f : Forest) (enter exit : Point) → Begins f → place_of enter ≡ place_of (enter_of f) → place_of exit ≡ place_of (exit_after (enter_of f) f)
@@ -173,10 +179,14 @@ group-ends name f p e = record {
 
 start-ends : (kind : LabelKind) (cs : List Code) → IsSome cs → EndsAt (start_tree kind cs) (stop_of document_start cs)
 start-ends kind [] h = cc
-start-ends LabelKind.Image (c ∷ cs) h = group-ends Name.LabelImage (leaf_then Name.LabelImageMarker None (c ∷ []) (leaf Name.LabelMarker cs)) (stop_of c.stop cs) (exit-leaf c.stop Name.LabelMarker cs)
-start-ends LabelKind.GfmFootnote (c ∷ cs) h = group-ends Name.GfmFootnoteCallLabel (leaf_then Name.LabelMarker None (c ∷ []) (leaf Name.GfmFootnoteCallMarker cs)) (stop_of c.stop cs) (exit-leaf c.stop Name.GfmFootnoteCallMarker cs)
-start-ends LabelKind.Link (c ∷ cs) h = group-ends Name.LabelLink (leaf_then Name.LabelMarker None (c ∷ cs) empty) (stop_of c.stop cs) refl
-start-ends LabelKind.GfmUndefinedFootnote (c ∷ cs) h = group-ends Name.LabelLink (leaf_then Name.LabelMarker None (c ∷ cs) empty) (stop_of c.stop cs) refl
+start-ends LabelKind.Image (c ∷ cs) h =
+    group-ends Name.LabelImage (leaf_then Name.LabelImageMarker None (c ∷ []) (leaf Name.LabelMarker cs)) (stop_of c.stop cs) (exit-leaf c.stop Name.LabelMarker cs)
+start-ends LabelKind.GfmFootnote (c ∷ cs) h =
+    group-ends Name.GfmFootnoteCallLabel (leaf_then Name.LabelMarker None (c ∷ []) (leaf Name.GfmFootnoteCallMarker cs)) (stop_of c.stop cs) (exit-leaf c.stop Name.GfmFootnoteCallMarker cs)
+start-ends LabelKind.Link (c ∷ cs) h =
+    group-ends Name.LabelLink (leaf_then Name.LabelMarker None (c ∷ cs) empty) (stop_of c.stop cs) refl
+start-ends LabelKind.GfmUndefinedFootnote (c ∷ cs) h =
+    group-ends Name.LabelLink (leaf_then Name.LabelMarker None (c ∷ cs) empty) (stop_of c.stop cs) refl
 
 pub begins-leaf : (name : Name) (c : Code) (cs : List Code) (f : Forest) → Begins (leaf_then name None (c ∷ cs) f)
 begins-leaf name c cs f = record { more = place_of c.stop ∷ (ends_of cs ++ places_of f); places = refl }
@@ -189,8 +199,10 @@ fit-start LabelKind.Image (c ∷ cs) h =
 fit-start LabelKind.GfmFootnote (c ∷ cs) h =
     fit-group Name.GfmFootnoteCallLabel (leaf_then Name.LabelMarker None (c ∷ []) (leaf Name.GfmFootnoteCallMarker cs)) (begins-leaf Name.LabelMarker c [] (leaf Name.GfmFootnoteCallMarker cs))
     (fit-join (leaf Name.LabelMarker (c ∷ [])) (leaf Name.GfmFootnoteCallMarker cs) (fit-leaf Name.LabelMarker (c ∷ [])) (fit-leaf Name.GfmFootnoteCallMarker cs))
-fit-start LabelKind.Link (c ∷ cs) h = fit-group Name.LabelLink (leaf Name.LabelMarker (c ∷ cs)) (begins-leaf Name.LabelMarker c cs empty) (fit-leaf Name.LabelMarker (c ∷ cs))
-fit-start LabelKind.GfmUndefinedFootnote (c ∷ cs) h = fit-group Name.LabelLink (leaf Name.LabelMarker (c ∷ cs)) (begins-leaf Name.LabelMarker c cs empty) (fit-leaf Name.LabelMarker (c ∷ cs))
+fit-start LabelKind.Link (c ∷ cs) h =
+    fit-group Name.LabelLink (leaf Name.LabelMarker (c ∷ cs)) (begins-leaf Name.LabelMarker c cs empty) (fit-leaf Name.LabelMarker (c ∷ cs))
+fit-start LabelKind.GfmUndefinedFootnote (c ∷ cs) h =
+    fit-group Name.LabelLink (leaf Name.LabelMarker (c ∷ cs)) (begins-leaf Name.LabelMarker c cs empty) (fit-leaf Name.LabelMarker (c ∷ cs))
 
 front-some : (kind : LabelKind) (cs : List Code) → IsSome cs → IsSome (start_marker kind cs)
 front-some kind [] h = cc
@@ -201,12 +213,15 @@ front-some LabelKind.GfmUndefinedFootnote (c ∷ cs) h = refl
 
 fit-end : (back : List Code) → IsSome back → IsFit (group Name.LabelEnd (leaf Name.LabelMarker back))
 fit-end [] h = cc
-fit-end (c ∷ cs) h = fit-group Name.LabelEnd (leaf Name.LabelMarker (c ∷ cs)) (begins-leaf Name.LabelMarker c cs empty) (fit-leaf Name.LabelMarker (c ∷ cs))
+fit-end (c ∷ cs) h =
+    fit-group Name.LabelEnd (leaf Name.LabelMarker (c ∷ cs)) (begins-leaf Name.LabelMarker c cs empty) (fit-leaf Name.LabelMarker (c ∷ cs))
 
 begins-end : (back : List Code) → Begins (group Name.LabelEnd (leaf Name.LabelMarker back))
-begins-end back = record { more = places_of (leaf Name.LabelMarker back) ++ (place_of (exit_after (enter_of (leaf Name.LabelMarker back)) (leaf Name.LabelMarker back)) ∷ []); places = refl }
+begins-end back =
+    record { more = places_of (leaf Name.LabelMarker back) ++ (place_of (exit_after (enter_of (leaf Name.LabelMarker back)) (leaf Name.LabelMarker back)) ∷ []); places = refl }
 
-end-enter : (back : List Code) → IsSome back → enter_of (group Name.LabelEnd (leaf Name.LabelMarker back)) ≡ start_of back
+end-enter : (back : List Code) → IsSome back →
+    enter_of (group Name.LabelEnd (leaf Name.LabelMarker back)) ≡ start_of back
 end-enter [] h = cc
 end-enter (c ∷ cs) h = refl
 
@@ -216,7 +231,8 @@ begins-start LabelKind.GfmFootnote cs f = record { more = _; places = refl }
 begins-start LabelKind.Link cs f = record { more = _; places = refl }
 begins-start LabelKind.GfmUndefinedFootnote cs f = record { more = _; places = refl }
 
-fit-label : (kind : LabelKind) (marker : List Code) (inside : Forest) (back : List Code) (tail : Forest) → IsSome marker → IsFit inside → IsSome back → IsFit tail → IsFit (label_group kind marker inside back tail)
+fit-label : (kind : LabelKind) (marker : List Code) (inside : Forest) (back : List Code) (tail : Forest) →
+    IsSome marker → IsFit inside → IsSome back → IsFit tail → IsFit (label_group kind marker inside back tail)
 fit-label kind marker inside back tail h k l m =
     fit-group (label_name kind) (group Name.Label row ⊕ tail) (record { more = _; places = refl })
     (fit-join (group Name.Label row) tail (fit-group Name.Label row (begins-start kind front (text ⊕ end)) fit-row) m)

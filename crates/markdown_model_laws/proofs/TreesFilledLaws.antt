@@ -39,7 +39,8 @@ nothing-merged (leaf_then name link cs rest) = refl
 nothing-merged (group_then name enter exit inside rest) = refl
 
 filled-merged : (f : Forest) → IsFilled f → IsFilled (merged f)
-filled-merged f h = walks-merged filled (λ cs ds k _. more-codes cs ds k) (λ name a b inside _ g e. g (sym (nothing-merged inside) ∙ e)) f h
+filled-merged f h =
+    walks-merged filled (λ cs ds k _. more-codes cs ds k) (λ name a b inside _ g e. g (sym (nothing-merged inside) ∙ e)) f h
 
 -- Trimming.
 
@@ -48,7 +49,8 @@ nothing-before empty f h = refl
 nothing-before (leaf_then name link cs rest) f h = h
 nothing-before (group_then name enter exit inside rest) f h = h
 
-nothing-trimmed : (hard front whole : Bool) (f : Forest) → IsFilled f → is_nothing (trimmed hard front whole f) ≡ true → is_nothing f ≡ true
+nothing-trimmed : (hard front whole : Bool) (f : Forest) → IsFilled f → is_nothing (trimmed hard front whole f) ≡ true →
+    is_nothing f ≡ true
 unfolding trimmed
 nothing-trimmed hard front whole empty h e = refl
 nothing-trimmed hard front whole (leaf_then Name.Data None cs rest) h e =

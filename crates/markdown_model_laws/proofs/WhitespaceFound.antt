@@ -20,37 +20,46 @@ pub record Spans (p : Code → Bool) (cs value after : List Code) : Type 0 where
   pub whole : cs ≡ value ++ after
   pub all : list_all p value ≡ true
 
-spans : (p : Code → Bool) (cs value after : List Code) → ◌≡◌ {A = List Code × List Code} (span p cs) (value, after) → Spans p cs value after
+spans : (p : Code → Bool) (cs value after : List Code) → ◌≡◌ {A = List Code × List Code} (span p cs) (value, after) →
+    Spans p cs value after
 spans p cs value after e =
     record { whole = sym (span-append p cs) ∙ ap (λ (s : List Code × List Code). s.0 ++ s.1) e; all = sym (ap (λ (s : List Code × List Code). list_all p s.0) e) ∙ span-all p cs }
 
 some-pair : (s r : List Code × List Code) → ◌≡◌ {A = Option (List Code × List Code)} (Some s) (Some r) → s ≡ r
-some-pair s r e = ap (λ (o : Option (List Code × List Code)). elim o as (λ _. List Code × List Code) [ None ↦ s | Some x ↦ x ]) e
+some-pair s r e =
+    ap (λ (o : Option (List Code × List Code)). elim o as (λ _. List Code × List Code) [ None ↦ s | Some x ↦ x ]) e
 
-any-back : (p : Code → Bool) (cs value after : List Code) → any_number p cs ≡ Some (value, after) → Spans p cs value after
-any-back p cs value after e = spans p cs value after (some-pair (span p cs) (value, after) (sym (any-number-is p cs) ∙ e))
+any-back : (p : Code → Bool) (cs value after : List Code) → any_number p cs ≡ Some (value, after) →
+    Spans p cs value after
+any-back p cs value after e =
+    spans p cs value after (some-pair (span p cs) (value, after) (sym (any-number-is p cs) ∙ e))
 
 pub record SpansSome (p : Code → Bool) (cs value after : List Code) : Type 0 where
   pub is : Spans p cs value after
   pub some : is_empty value ≡ false
 
-some-back : (p : Code → Bool) (cs value after : List Code) → some p cs ≡ Some (value, after) → SpansSome p cs value after
+some-back : (p : Code → Bool) (cs value after : List Code) → some p cs ≡ Some (value, after) →
+    SpansSome p cs value after
 unfolding some
 some-back p cs value after e = by_test (is_empty (span p cs).0) refl e
   where
-    by_test : (b : Bool) → is_empty (span p cs).0 ≡ b → elim b as (λ _. Option (List Code × List Code)) [ true ↦ None | false ↦ Some (span p cs) ] ≡ Some (value, after) → SpansSome p cs value after
+    by_test : (b : Bool) → is_empty (span p cs).0 ≡ b →
+        elim b as (λ _. Option (List Code × List Code)) [ true ↦ None | false ↦ Some (span p cs) ] ≡ Some (value, after) →
+        SpansSome p cs value after
     by_test true h k = cc
     by_test false h k =
         let same : span p cs ≡ (value, after) = some-pair (span p cs) (value, after) k in
         record { is = spans p cs value after same; some = sym (ap (λ (s : List Code × List Code). is_empty s.0) same) ∙ h }
 
-span-exact : (p : Code → Bool) (xs ys : List Code) → list_all p xs ≡ true → next_is p ys ≡ false → ◌≡◌ {A = List Code × List Code} (span p (xs ++ ys)) (xs, ys)
+span-exact : (p : Code → Bool) (xs ys : List Code) → list_all p xs ≡ true → next_is p ys ≡ false →
+    ◌≡◌ {A = List Code × List Code} (span p (xs ++ ys)) (xs, ys)
 span-exact p [] ys h k = span-none p ys k
 span-exact p (x ∷ xs) ys h k =
     span-takes p x (xs ++ ys) (and-left (p x) _ h)
     ∙ ap (λ (s : List Code × List Code). (x ∷ s.0, s.1)) (span-exact p xs ys (and-right (p x) _ h) k)
 
-any-some : (p : Code → Bool) (xs ys : List Code) → list_all p xs ≡ true → next_is p ys ≡ false → any_number p (xs ++ ys) ≡ Some (xs, ys)
+any-some : (p : Code → Bool) (xs ys : List Code) → list_all p xs ≡ true → next_is p ys ≡ false →
+    any_number p (xs ++ ys) ≡ Some (xs, ys)
 any-some p xs ys h k = any-number-is p (xs ++ ys) ∙ ap (λ (s : List Code × List Code). Some s) (span-exact p xs ys h k)
 
 -- The tree of whitespace on one line.
@@ -61,7 +70,8 @@ row-end name (c ∷ cs) = refl
 
 -- What the reading gives is such whitespace.
 
-across-back : (cs : List Code) (tree : Forest) (rest : List Code) → spaces_across None cs ≡ Some (tree, rest) → SomeSpacing cs tree rest
+across-back : (cs : List Code) (tree : Forest) (rest : List Code) → spaces_across None cs ≡ Some (tree, rest) →
+    SomeSpacing cs tree rest
 unfolding spaces_across
 across-back cs tree rest e =
     let a : Went (any_number is_blank) _ cs (tree, rest) = bind-back (any_number is_blank) _ cs (tree, rest) e in
@@ -75,7 +85,8 @@ across-back cs tree rest e =
       omega (arith, ap length whole, length-append a.value ((o.code ∷ []) ++ (b.value ++ rest)), length-append b.value rest),
     )
 
-line-back : (cs : List Code) (tree : Forest) (rest : List Code) → spaces_on_line None cs ≡ Some (tree, rest) → SomeSpacing cs tree rest
+line-back : (cs : List Code) (tree : Forest) (rest : List Code) → spaces_on_line None cs ≡ Some (tree, rest) →
+    SomeSpacing cs tree rest
 unfolding spaces_on_line
 line-back cs tree rest e =
     let a : Went (before (some is_blank) (λ ds. not (next_is is_line_ending ds))) _ cs (tree, rest) = bind-back (before (some is_blank) (λ ds. not (next_is is_line_ending ds))) _ cs (tree, rest) e in
@@ -90,11 +101,14 @@ line-back cs tree rest e =
     shorter [] h k = cc
     shorter (x ∷ xs) h k = omega (arith, k)
 
-pub spacing-back : (cs : List Code) (tree : Forest) (rest : List Code) → space_or_tab_eol None cs ≡ Some (tree, rest) → SomeSpacing cs tree rest
+pub spacing-back : (cs : List Code) (tree : Forest) (rest : List Code) → space_or_tab_eol None cs ≡ Some (tree, rest) →
+    SomeSpacing cs tree rest
 unfolding space_or_tab_eol
-spacing-back cs tree rest e = elim (either-back (spaces_across None) (spaces_on_line None) cs (tree, rest) e) [ inl h ↦ across-back cs tree rest h | inr h ↦ line-back cs tree rest h ]
+spacing-back cs tree rest e =
+    elim (either-back (spaces_across None) (spaces_on_line None) cs (tree, rest) e) [ inl h ↦ across-back cs tree rest h | inr h ↦ line-back cs tree rest h ]
 
-pub optional-back : (cs : List Code) (tree : Forest) (rest : List Code) → optional_tree (space_or_tab_eol None) cs ≡ Some (tree, rest) → Spacing cs tree rest
+pub optional-back : (cs : List Code) (tree : Forest) (rest : List Code) →
+    optional_tree (space_or_tab_eol None) cs ≡ Some (tree, rest) → Spacing cs tree rest
 unfolding optional_tree
 optional-back cs tree rest e =
     elim (either-back (space_or_tab_eol None) (gives empty) cs (tree, rest) e) [
@@ -128,12 +142,14 @@ across-found front e back rest h l k p =
     (bind-some _ _ (e ∷ (back ++ rest)) (e ∷ []) (back ++ rest) _ (one-here is_line_ending e (back ++ rest) l)
     (bind-some _ _ (back ++ rest) back rest _ (before-some (any_number is_blank) begins_filled_line (back ++ rest) back rest (any-some is_blank back rest k (no-blank rest p)) (filled-line rest p)) refl))
 
-across-none : (front rest : List Code) → list_all is_blank front ≡ true → IsPlain rest → spaces_across None (front ++ rest) ≡ None
+across-none : (front rest : List Code) → list_all is_blank front ≡ true → IsPlain rest →
+    spaces_across None (front ++ rest) ≡ None
 unfolding spaces_across
 across-none front rest h p =
     bind-some _ _ (front ++ rest) front rest _ (any-some is_blank front rest h (no-blank rest p)) (bind-none _ _ rest (one-not is_line_ending rest (no-ending rest p)))
 
-line-found : (c : Code) (front rest : List Code) → list_all is_blank (c ∷ front) ≡ true → IsPlain rest → spaces_on_line None (c ∷ (front ++ rest)) ≡ Some (linked_leaf Name.SpaceOrTab None (c ∷ front), rest)
+line-found : (c : Code) (front rest : List Code) → list_all is_blank (c ∷ front) ≡ true → IsPlain rest →
+    spaces_on_line None (c ∷ (front ++ rest)) ≡ Some (linked_leaf Name.SpaceOrTab None (c ∷ front), rest)
 unfolding spaces_on_line gives
 line-found c front rest h p =
     bind-some _ _ (c ∷ (front ++ rest)) (c ∷ front) rest _
@@ -153,17 +169,22 @@ pub record Read (cs : List Code) (tree : Forest) (rest : List Code) : Type 0 whe
 ending-read : (front : List Code) (e : Code) (back rest : List Code) → list_all is_blank front ≡ true → is_line_ending e ≡ true → list_all is_blank back ≡ true → IsPlain rest
     → Read (front ++ (e ∷ (back ++ rest))) (linked_leaf Name.SpaceOrTab None front ⊕ linked_leaf Name.LineEnding None (e ∷ []) ⊕ linked_leaf Name.SpaceOrTab None back) rest
 unfolding space_or_tab_eol
-ending-read front e back rest h l k p = record { is = inl (either-some _ _ (front ++ (e ∷ (back ++ rest))) _ (across-found front e back rest h l k p)) }
+ending-read front e back rest h l k p =
+    record { is = inl (either-some _ _ (front ++ (e ∷ (back ++ rest))) _ (across-found front e back rest h l k p)) }
 
-line-read : (front rest : List Code) → list_all is_blank front ≡ true → IsPlain rest → Read (front ++ rest) (linked_leaf Name.SpaceOrTab None front ⊕ empty) rest
+line-read : (front rest : List Code) → list_all is_blank front ≡ true → IsPlain rest →
+    Read (front ++ rest) (linked_leaf Name.SpaceOrTab None front ⊕ empty) rest
 unfolding space_or_tab_eol
 line-read [] rest h p = record { is = inr (nothing-read rest p, (refl, refl)) }
-line-read (c ∷ front) rest h p = record { is = inl (either-second _ _ (c ∷ (front ++ rest)) (across-none (c ∷ front) rest h p) ∙ line-found c front rest h p) }
+line-read (c ∷ front) rest h p =
+    record { is = inl (either-second _ _ (c ∷ (front ++ rest)) (across-none (c ∷ front) rest h p) ∙ line-found c front rest h p) }
 
-pub spacing-read : (cs : List Code) (tree : Forest) (rest : List Code) → Spacing cs tree rest → IsPlain rest → Read cs tree rest
+pub spacing-read : (cs : List Code) (tree : Forest) (rest : List Code) → Spacing cs tree rest → IsPlain rest →
+    Read cs tree rest
 spacing-read cs tree rest s p = by_lines s.up_to_one
   where
-    by_lines : (((s.ending ≡ []) × (s.back ≡ [])) ⊎ ((e : Code) × (s.ending ≡ e ∷ []) × (is_line_ending e ≡ true))) → Read cs tree rest
+    by_lines : (((s.ending ≡ []) × (s.back ≡ [])) ⊎ ((e : Code) × (s.ending ≡ e ∷ []) × (is_line_ending e ≡ true))) →
+        Read cs tree rest
     by_lines (inl h) =
         let whole : s.front ++ rest ≡ cs = sym (s.stands ∙ (λ i. s.front ++ (h.0 i ++ (h.1 i ++ rest)))) in
         let same : linked_leaf Name.SpaceOrTab None s.front ⊕ empty ≡ tree = sym (s.tree_is ∙ (λ i. linked_leaf Name.SpaceOrTab None s.front ⊕ linked_leaf Name.LineEnding None (h.0 i) ⊕ linked_leaf Name.SpaceOrTab None (h.1 i))) in
@@ -173,17 +194,21 @@ spacing-read cs tree rest s p = by_lines s.up_to_one
         let same : linked_leaf Name.SpaceOrTab None s.front ⊕ linked_leaf Name.LineEnding None (h.0 ∷ []) ⊕ linked_leaf Name.SpaceOrTab None s.back ≡ tree = sym (s.tree_is ∙ (λ i. linked_leaf Name.SpaceOrTab None s.front ⊕ linked_leaf Name.LineEnding None (h.1 i) ⊕ linked_leaf Name.SpaceOrTab None s.back)) in
         subst (λ xs. Read xs tree rest) whole (subst (λ t. Read (s.front ++ (h.0 ∷ (s.back ++ rest))) t rest) same (ending-read s.front h.0 s.back rest s.front_blank h.2 s.back_blank p))
 
-pub optional-found : (cs : List Code) (tree : Forest) (rest : List Code) → Spacing cs tree rest → IsPlain rest → optional_tree (space_or_tab_eol None) cs ≡ Some (tree, rest)
+pub optional-found : (cs : List Code) (tree : Forest) (rest : List Code) → Spacing cs tree rest → IsPlain rest →
+    optional_tree (space_or_tab_eol None) cs ≡ Some (tree, rest)
 unfolding optional_tree gives
 optional-found cs tree rest s p = by_read (spacing-read cs tree rest s p).is
   where
-    by_read : ((space_or_tab_eol None cs ≡ Some (tree, rest)) ⊎ ((space_or_tab_eol None cs ≡ None) × ((cs ≡ rest) × (tree ≡ empty)))) → either (space_or_tab_eol None) (gives empty) cs ≡ Some (tree, rest)
+    by_read : ((space_or_tab_eol None cs ≡ Some (tree, rest)) ⊎ ((space_or_tab_eol None cs ≡ None) × ((cs ≡ rest) × (tree ≡ empty)))) →
+        either (space_or_tab_eol None) (gives empty) cs ≡ Some (tree, rest)
     by_read (inl h) = either-some _ _ cs (tree, rest) h
     by_read (inr h) = either-second _ _ cs h.0 ∙ (λ i. Some (sym h.1.1 i, h.1.0 i))
 
-pub spacing-found : (cs : List Code) (tree : Forest) (rest : List Code) → SomeSpacing cs tree rest → IsPlain rest → space_or_tab_eol None cs ≡ Some (tree, rest)
+pub spacing-found : (cs : List Code) (tree : Forest) (rest : List Code) → SomeSpacing cs tree rest → IsPlain rest →
+    space_or_tab_eol None cs ≡ Some (tree, rest)
 spacing-found cs tree rest s p = by_read (spacing-read cs tree rest s.0 p).is
   where
-    by_read : ((space_or_tab_eol None cs ≡ Some (tree, rest)) ⊎ ((space_or_tab_eol None cs ≡ None) × ((cs ≡ rest) × (tree ≡ empty)))) → space_or_tab_eol None cs ≡ Some (tree, rest)
+    by_read : ((space_or_tab_eol None cs ≡ Some (tree, rest)) ⊎ ((space_or_tab_eol None cs ≡ None) × ((cs ≡ rest) × (tree ≡ empty)))) →
+        space_or_tab_eol None cs ≡ Some (tree, rest)
     by_read (inl h) = h
     by_read (inr h) = absurd (omega (arith, ap length h.1.0, s.1))

@@ -64,16 +64,19 @@ take-parts zero xs ys = refl
 take-parts (suc n) [] ys = refl
 take-parts (suc n) (x ∷ xs) ys = ap (λ zs. x ∷ zs) (take-parts n xs ys)
 
-pub taken-parts : (n : ℕ) (p : Code → Bool) (cs : List Code) → cs ≡ take n (span p cs).0 ++ drop (length (take n (span p cs).0)) cs
+pub taken-parts : (n : ℕ) (p : Code → Bool) (cs : List Code) →
+    cs ≡ take n (span p cs).0 ++ drop (length (take n (span p cs).0)) cs
 taken-parts n p cs =
     let law : take n (span p cs).0 ++ drop (length (take n (span p cs).0)) ((span p cs).0 ++ (span p cs).1) ≡ (span p cs).0 ++ (span p cs).1 = take-parts n (span p cs).0 (span p cs).1 in
     let P : List Code → Type 0 = λ xs. xs ≡ take n (span p cs).0 ++ drop (length (take n (span p cs).0)) xs in
     subst P (span-append p cs) (sym law)
 
-pub taken-first : (n : ℕ) (p : Code → Bool) (c : Code) (cs : List Code) → p c ≡ true → take (suc n) (span p (c ∷ cs)).0 ≡ c ∷ take n (span p cs).0
+pub taken-first : (n : ℕ) (p : Code → Bool) (c : Code) (cs : List Code) → p c ≡ true →
+    take (suc n) (span p (c ∷ cs)).0 ≡ c ∷ take n (span p cs).0
 taken-first n p c cs e = ap (λ (s : List Code × List Code). take (suc n) s.0) (span-takes p c cs e)
 
-pub taken-none : (n : ℕ) (p : Code → Bool) (cs : List Code) → next_is p cs && nat_lt 0 n ≡ false → take n (span p cs).0 ≡ []
+pub taken-none : (n : ℕ) (p : Code → Bool) (cs : List Code) → next_is p cs && nat_lt 0 n ≡ false →
+    take n (span p cs).0 ≡ []
 taken-none zero p cs e = refl
 taken-none (suc n) p [] e = refl
 taken-none (suc n) p (c ∷ cs) e = ap (λ (s : List Code × List Code). take (suc n) s.0) (span-none p (c ∷ cs) (stops (p c) n e)) where
@@ -89,7 +92,8 @@ take-all (suc n) (x ∷ xs) h = let k : length xs ≤ n = omega arith in ap (λ 
 
 -- where there are no more codes than may be taken, all that pass are
 pub taken-all : (n : ℕ) (p : Code → Bool) (cs : List Code) → length cs ≤ n → take n (span p cs).0 ≡ (span p cs).0
-taken-all n p cs h = take-all n (span p cs).0 (omega (arith, h, ap length (span-append p cs), length-append (span p cs).0 (span p cs).1))
+taken-all n p cs h =
+    take-all n (span p cs).0 (omega (arith, h, ap length (span-append p cs), length-append (span p cs).0 (span p cs).1))
 
 drop-append : (xs ys : List Code) → drop (length xs) (xs ++ ys) ≡ ys
 drop-append [] ys = refl

@@ -30,11 +30,13 @@ not-blank b h = grind (arith, nat_tests)
 feed-not-blank : (b c : ℕ) → (b == carriage_return && c == line_feed) ≡ true → false ≡ blank_byte c
 feed-not-blank b c h = grind (arith, nat_tests)
 
-ending-last : (b : ℕ) (rest : List ℕ) → is_line_ending_byte b ≡ true → false ≡ blank_byte (get_or (b ∷ rest) (line_ending_len b rest - 1) 0)
+ending-last : (b : ℕ) (rest : List ℕ) → is_line_ending_byte b ≡ true →
+    false ≡ blank_byte (get_or (b ∷ rest) (line_ending_len b rest - 1) 0)
 ending-last b [] h = not-blank b h
 ending-last b (c ∷ cs) h = by-feed (b == carriage_return && c == line_feed) refl
   where
-    by-feed : (t : Bool) → (b == carriage_return && c == line_feed) ≡ t → false ≡ blank_byte (get_or (b ∷ c ∷ cs) ((if t then 2 else 1) - 1) 0)
+    by-feed : (t : Bool) → (b == carriage_return && c == line_feed) ≡ t →
+        false ≡ blank_byte (get_or (b ∷ c ∷ cs) ((if t then 2 else 1) - 1) 0)
     by-feed true e = feed-not-blank b c e
     by-feed false e = not-blank b h
 
@@ -55,11 +57,15 @@ value-in-tab : (b : ℕ) (t : Bool) → (b == tab_value) ≡ true → blank_byte
 value-in-tab b true h = refl
 value-in-tab b false h = tab-blank b h
 
-stop-in-tab : (bytes : List ℕ) (p : Point) (t : Bool) → (get_or bytes p.index 0 == tab_value) ≡ true → true ≡ blank_before bytes (if t then next_column p p.index (p.vs + 1) else next_column p (p.index + 1) 0)
-stop-in-tab bytes p true h = or-left (nat_lt 0 (p.vs + 1)) (blank_byte (get_or bytes (p.index - 1) 0)) (inside-more p.vs)
+stop-in-tab : (bytes : List ℕ) (p : Point) (t : Bool) → (get_or bytes p.index 0 == tab_value) ≡ true →
+    true ≡ blank_before bytes (if t then next_column p p.index (p.vs + 1) else next_column p (p.index + 1) 0)
+stop-in-tab bytes p true h =
+    or-left (nat_lt 0 (p.vs + 1)) (blank_byte (get_or bytes (p.index - 1) 0)) (inside-more p.vs)
 stop-in-tab bytes p false h = sym (ap blank_byte (byte-before bytes p.index) ∙ tab-blank (get_or bytes p.index 0) h)
 
-ending-here : (bytes : List ℕ) (p : Point) → p.index < length bytes → is_line_ending_byte (get_or bytes p.index 0) ≡ true → false ≡ blank_byte (get_or bytes (p.index + line_ending_len (get_or bytes p.index 0) (drop (p.index + 1) bytes) - 1) 0)
+ending-here : (bytes : List ℕ) (p : Point) → p.index < length bytes →
+    is_line_ending_byte (get_or bytes p.index 0) ≡ true →
+    false ≡ blank_byte (get_or bytes (p.index + line_ending_len (get_or bytes p.index 0) (drop (p.index + 1) bytes) - 1) 0)
 ending-here bytes p l h =
     let b : ℕ = get_or bytes p.index 0 in
     let rest : List ℕ = drop (p.index + 1) bytes in
@@ -72,14 +78,18 @@ ending-here bytes p l h =
     ∙ ap (λ i. blank_byte (get_or bytes i 0)) same
 
 -- a code is blank where it is so by the place behind it
-here-blank : (bytes : List ℕ) (p : Point) → p.index < length bytes → is_blank (code_here bytes p) ≡ blank_before bytes (stop_at bytes p)
+here-blank : (bytes : List ℕ) (p : Point) → p.index < length bytes →
+    is_blank (code_here bytes p) ≡ blank_before bytes (stop_at bytes p)
 here-blank bytes p l = by-ending (is_line_ending_byte (get_or bytes p.index 0)) refl
   where
-    by-tab : (t : Bool) → (get_or bytes p.index 0 == tab_value) ≡ t → blank_byte (if t && nat_lt 0 p.vs then space_value else get_or bytes p.index 0) ≡ blank_before bytes (if t && nat_lt 0 (tab_left p) then next_column p p.index (p.vs + 1) else next_column p (p.index + 1) 0)
-    by-tab true e = value-in-tab (get_or bytes p.index 0) (nat_lt 0 p.vs) e ∙ stop-in-tab bytes p (nat_lt 0 (tab_left p)) e
+    by-tab : (t : Bool) → (get_or bytes p.index 0 == tab_value) ≡ t →
+        blank_byte (if t && nat_lt 0 p.vs then space_value else get_or bytes p.index 0) ≡ blank_before bytes (if t && nat_lt 0 (tab_left p) then next_column p p.index (p.vs + 1) else next_column p (p.index + 1) 0)
+    by-tab true e =
+        value-in-tab (get_or bytes p.index 0) (nat_lt 0 p.vs) e ∙ stop-in-tab bytes p (nat_lt 0 (tab_left p)) e
     by-tab false e = sym (ap blank_byte (byte-before bytes p.index))
 
-    by-ending : (t : Bool) → is_line_ending_byte (get_or bytes p.index 0) ≡ t → is_blank (code_here bytes p) ≡ blank_before bytes (stop_at bytes p)
+    by-ending : (t : Bool) → is_line_ending_byte (get_or bytes p.index 0) ≡ t →
+        is_blank (code_here bytes p) ≡ blank_before bytes (stop_at bytes p)
     by-ending true e =
         ap (λ t. blank_byte (if t then line_feed else (if get_or bytes p.index 0 == tab_value && nat_lt 0 p.vs then space_value else get_or bytes p.index 0))) e
         ∙ ending-here bytes p l e
@@ -91,7 +101,8 @@ here-blank bytes p l = by-ending (is_line_ending_byte (get_or bytes p.index 0)) 
 
 -- The last code.
 
-first-more : (xs : List Code) (d : Code) (ys : List Code) → next_is is_blank ((xs ++ d ∷ []) ++ ys) ≡ next_is is_blank (xs ++ d ∷ [])
+first-more : (xs : List Code) (d : Code) (ys : List Code) →
+    next_is is_blank ((xs ++ d ∷ []) ++ ys) ≡ next_is is_blank (xs ++ d ∷ [])
 first-more [] d ys = refl
 first-more (x ∷ xs) d ys = refl
 
@@ -102,7 +113,8 @@ ends-more c d cs =
     ∙ first-more (reverse cs) d (c ∷ [])
     ∙ ap (next_is is_blank) (sym (reverse-append (d ∷ []) cs))
 
-ends-where : (bytes : List ℕ) (p q : Point) (c : Code) (cs : List Code) → IsStretch bytes p q → IsBegun bytes p q → between bytes p q ≡ c ∷ cs → ends_blank (c ∷ cs) ≡ blank_before bytes q
+ends-where : (bytes : List ℕ) (p q : Point) (c : Code) (cs : List Code) → IsStretch bytes p q → IsBegun bytes p q →
+    between bytes p q ≡ c ∷ cs → ends_blank (c ∷ cs) ≡ blank_before bytes q
 ends-where bytes p q c [] s f e =
     let same : c ≡ code_here bytes p = head_same c (code_here bytes p) [] (between bytes (stop_at bytes p) q) (sym e ∙ f.codes) in
     let none : [] ≡ between bytes (stop_at bytes p) q = tail_same c (code_here bytes p) [] (between bytes (stop_at bytes p) q) (sym e ∙ f.codes) in
@@ -117,27 +129,32 @@ ends-where bytes p q c (d ∷ cs) s f e =
     ]
 
 -- a stretch with a code ends with the code before its end
-pub ends-is : (bytes : List ℕ) (p q : Point) → IsStretch bytes p q → is_same_place p q ≡ false → ends_blank (between bytes p q) ≡ blank_before bytes q
+pub ends-is : (bytes : List ℕ) (p q : Point) → IsStretch bytes p q → is_same_place p q ≡ false →
+    ends_blank (between bytes p q) ≡ blank_before bytes q
 ends-is bytes p q s h =
     let f : IsBegun bytes p q = begun-where bytes p q s h in
     ap ends_blank f.codes ∙ ends-where bytes p q (code_here bytes p) (between bytes (stop_at bytes p) q) s f f.codes
 
-pub ends-none : (bytes : List ℕ) (p q : Point) → IsStretch bytes p q → is_same_place p q ≡ true → ends_blank (between bytes p q) ≡ false
+pub ends-none : (bytes : List ℕ) (p q : Point) → IsStretch bytes p q → is_same_place p q ≡ true →
+    ends_blank (between bytes p q) ≡ false
 ends-none bytes p q s h = ap ends_blank (ended-where bytes p q s h).none
 
 -- a stretch begins with the code at its start
-pub starts-is : (bytes : List ℕ) (p q : Point) → IsStretch bytes p q → is_same_place p q ≡ false → starts_blank (between bytes p q) ≡ at_blank (value_from bytes p)
+pub starts-is : (bytes : List ℕ) (p q : Point) → IsStretch bytes p q → is_same_place p q ≡ false →
+    starts_blank (between bytes p q) ≡ at_blank (value_from bytes p)
 starts-is bytes p q s h =
     let f : IsBegun bytes p q = begun-where bytes p q s h in ap starts_blank f.codes ∙ sym (ap at_blank f.value)
 
-pub starts-none : (bytes : List ℕ) (p q : Point) → IsStretch bytes p q → is_same_place p q ≡ true → starts_blank (between bytes p q) ≡ false
+pub starts-none : (bytes : List ℕ) (p q : Point) → IsStretch bytes p q → is_same_place p q ≡ true →
+    starts_blank (between bytes p q) ≡ false
 starts-none bytes p q s h = ap starts_blank (ended-where bytes p q s h).none
 
 later-index : (i v a : ℕ) → is_before (i, v) (a, 0) ≡ true → 1 ≤ a
 later-index i v a h = grind (arith, nat_tests)
 
 -- the byte before the end of a stretch with a code, where the end is not inside a tab
-pub end-within : (bytes : List ℕ) (p q : Point) → IsStretch bytes p q → is_same_place p q ≡ false → q.vs ≡ 0 → (1 ≤ q.index) × (q.index ≤ length bytes)
+pub end-within : (bytes : List ℕ) (p q : Point) → IsStretch bytes p q → is_same_place p q ≡ false → q.vs ≡ 0 →
+    (1 ≤ q.index) × (q.index ≤ length bytes)
 end-within bytes p q s h v =
     let f : IsBegun bytes p q = begun-where bytes p q s h in
     let before : is_before (place_of p) (place_of q) ≡ true = before-reach (place_of p) (place_of (stop_at bytes p)) (place_of q) f.later (backward bytes (stop_at bytes p) q f.stretch) in
@@ -147,13 +164,15 @@ inside-yes : (v : ℕ) → 0 < v → nat_lt 0 v ≡ true
 inside-yes v h = grind (arith, nat_tests)
 
 -- a stretch that ends inside a tab ends with a blank code
-pub ends-inside : (bytes : List ℕ) (p q : Point) → IsStretch bytes p q → is_same_place p q ≡ false → 0 < q.vs → nat_lt 0 q.vs ≡ ends_blank (between bytes p q)
+pub ends-inside : (bytes : List ℕ) (p q : Point) → IsStretch bytes p q → is_same_place p q ≡ false → 0 < q.vs →
+    nat_lt 0 q.vs ≡ ends_blank (between bytes p q)
 ends-inside bytes p q s h k =
     inside-yes q.vs k
     ∙ or-left (nat_lt 0 q.vs) (blank_byte (get_or bytes (q.index - 1) 0)) (inside-yes q.vs k)
     ∙ sym (ends-is bytes p q s h)
 
 -- any other ends with a byte
-pub ends-byte : (bytes : List ℕ) (p q : Point) → IsStretch bytes p q → is_same_place p q ≡ false → q.vs ≡ 0 → blank_byte (get_or bytes (q.index - 1) 0) ≡ ends_blank (between bytes p q)
+pub ends-byte : (bytes : List ℕ) (p q : Point) → IsStretch bytes p q → is_same_place p q ≡ false → q.vs ≡ 0 →
+    blank_byte (get_or bytes (q.index - 1) 0) ≡ ends_blank (between bytes p q)
 ends-byte bytes p q s h k =
     ap (λ v. nat_lt 0 v || blank_byte (get_or bytes (q.index - 1) 0)) (sym k) ∙ sym (ends-is bytes p q s h)

@@ -15,10 +15,13 @@ onto : (b : Bool) → Code → Code → List Code → List (List Code) → List 
 onto true c d ds more = (c ∷ d ∷ ds) ∷ more
 onto false c d ds more = (c ∷ []) ∷ (d ∷ ds) ∷ more
 
-onto-first : (c d : Code) (ds : List Code) (more : List (List Code)) (b : Bool) → joins (λ x. true) c d ≡ b → onto_stretch (λ x. true) c ((d ∷ ds) ∷ more) ≡ onto b c d ds more
+onto-first : (c d : Code) (ds : List Code) (more : List (List Code)) (b : Bool) → joins (λ x. true) c d ≡ b →
+    onto_stretch (λ x. true) c ((d ∷ ds) ∷ more) ≡ onto b c d ds more
 unfolding onto
-onto-first c d ds more true e = ap (λ (b : Bool). let ss : List (List Code) = elim b [ true ↦ (c ∷ d ∷ ds) ∷ more | false ↦ (c ∷ []) ∷ (d ∷ ds) ∷ more ] in ss) e
-onto-first c d ds more false e = ap (λ (b : Bool). let ss : List (List Code) = elim b [ true ↦ (c ∷ d ∷ ds) ∷ more | false ↦ (c ∷ []) ∷ (d ∷ ds) ∷ more ] in ss) e
+onto-first c d ds more true e =
+    ap (λ (b : Bool). let ss : List (List Code) = elim b [ true ↦ (c ∷ d ∷ ds) ∷ more | false ↦ (c ∷ []) ∷ (d ∷ ds) ∷ more ] in ss) e
+onto-first c d ds more false e =
+    ap (λ (b : Bool). let ss : List (List Code) = elim b [ true ↦ (c ∷ d ∷ ds) ∷ more | false ↦ (c ∷ []) ∷ (d ∷ ds) ∷ more ] in ss) e
 
 -- whether two codes join where every code passes
 tied : Bool → Bool → Bool
@@ -36,11 +39,13 @@ tied-both false false e f = refl
 tied-both true b e f = cc
 tied-both false true e f = cc
 
-onto-before : (c d : Code) (ds : List Code) (more : List (List Code)) → is_line_ending d ≡ true → onto_stretch (λ x. true) c ((d ∷ ds) ∷ more) ≡ (c ∷ []) ∷ (d ∷ ds) ∷ more
+onto-before : (c d : Code) (ds : List Code) (more : List (List Code)) → is_line_ending d ≡ true →
+    onto_stretch (λ x. true) c ((d ∷ ds) ∷ more) ≡ (c ∷ []) ∷ (d ∷ ds) ∷ more
 unfolding onto tied
 onto-before c d ds more e = onto-first c d ds more false (tied-second (is_line_ending c) (is_line_ending d) e)
 
-onto-same : (c d : Code) (ds : List Code) (more : List (List Code)) → is_line_ending c ≡ false → is_line_ending d ≡ false → onto_stretch (λ x. true) c ((d ∷ ds) ∷ more) ≡ (c ∷ d ∷ ds) ∷ more
+onto-same : (c d : Code) (ds : List Code) (more : List (List Code)) → is_line_ending c ≡ false →
+    is_line_ending d ≡ false → onto_stretch (λ x. true) c ((d ∷ ds) ∷ more) ≡ (c ∷ d ∷ ds) ∷ more
 unfolding onto tied
 onto-same c d ds more e f = onto-first c d ds more true (tied-both (is_line_ending c) (is_line_ending d) e f)
 
@@ -49,17 +54,23 @@ onto-same c d ds more e f = onto-first c d ds more true (tied-both (is_line_endi
 abbrev pub up_to_break : (List Code → Bool) → List Code → List Code × List Code
 up_to_break stops cs = until (ends_stretch stops) cs
 
-pub break-stops : (stops : List Code → Bool) (c : Code) (cs : List Code) → is_line_ending c || stops (c ∷ cs) ≡ true → up_to_break stops (c ∷ cs) ≡ ([], c ∷ cs)
+pub break-stops : (stops : List Code → Bool) (c : Code) (cs : List Code) → is_line_ending c || stops (c ∷ cs) ≡ true →
+    up_to_break stops (c ∷ cs) ≡ ([], c ∷ cs)
 break-stops stops c cs e = until-stops (ends_stretch stops) c cs e
 
-pub break-goes : (stops : List Code → Bool) (c : Code) (cs : List Code) → is_line_ending c || stops (c ∷ cs) ≡ false → up_to_break stops (c ∷ cs) ≡ (c ∷ (up_to_break stops cs).0, (up_to_break stops cs).1)
+pub break-goes : (stops : List Code → Bool) (c : Code) (cs : List Code) → is_line_ending c || stops (c ∷ cs) ≡ false →
+    up_to_break stops (c ∷ cs) ≡ (c ∷ (up_to_break stops cs).0, (up_to_break stops cs).1)
 break-goes stops c cs e = until-goes (ends_stretch stops) c cs e
 
 -- a stretch of data, from a code that is no line ending on: the codes up to where data stops are its codes and those of what is left behind them
 abbrev Cut : (List Code → Bool) → Code → List Code × List Code → List Code × List Code → Type 0
-Cut stops c whole part = (lines_of (c ∷ whole.0) ≡ (c ∷ part.0) ∷ lines_of (until stops part.1).0) × (whole.1 ≡ (until stops part.1).1)
+Cut stops c whole part =
+    (lines_of (c ∷ whole.0) ≡ (c ∷ part.0) ∷ lines_of (until stops part.1).0) × (whole.1 ≡ (until stops part.1).1)
 
-cut-by : (stop ending : Bool) → (stops : List Code → Bool) (c d : Code) (cs : List Code) → is_line_ending c ≡ false → stops (d ∷ cs) ≡ stop → is_line_ending d ≡ ending → (is_line_ending d ≡ false → Cut stops d (until stops cs) (up_to_break stops cs)) → Cut stops c (until stops (d ∷ cs)) (up_to_break stops (d ∷ cs))
+cut-by : (stop ending : Bool) → (stops : List Code → Bool) (c d : Code) (cs : List Code) → is_line_ending c ≡ false →
+    stops (d ∷ cs) ≡ stop → is_line_ending d ≡ ending →
+    (is_line_ending d ≡ false → Cut stops d (until stops cs) (up_to_break stops cs)) →
+    Cut stops c (until stops (d ∷ cs)) (up_to_break stops (d ∷ cs))
 cut-by true ending stops c d cs e f g h =
     let whole : until stops (d ∷ cs) ≡ ([], d ∷ cs) = until-stops stops d cs f in
     let part : up_to_break stops (d ∷ cs) ≡ ([], d ∷ cs) = break-stops stops d cs (or_right (is_line_ending d) (stops (d ∷ cs)) f) in
@@ -81,20 +92,26 @@ cut-by false false stops c d cs e f g h =
     (ap (onto_stretch (λ x. true) c) (h g).0 ∙ onto-same c d (up_to_break stops cs).0 (lines_of (until stops (up_to_break stops cs).1).0) e g, (h g).1) in
     subst (λ s. Cut stops c s (up_to_break stops (d ∷ cs))) (sym whole) (subst (λ s. Cut stops c (d ∷ (until stops cs).0, (until stops cs).1) s) (sym part) now)
 
-cut : (stops : List Code → Bool) (c : Code) (cs : List Code) → is_line_ending c ≡ false → Cut stops c (until stops cs) (up_to_break stops cs)
+cut : (stops : List Code → Bool) (c : Code) (cs : List Code) → is_line_ending c ≡ false →
+    Cut stops c (until stops cs) (up_to_break stops cs)
 cut stops c [] e = (refl, refl)
 cut stops c (d ∷ cs) e = cut-by (stops (d ∷ cs)) (is_line_ending d) stops c d cs e refl refl (λ f. cut stops d cs f)
 
 -- Data from a code on.
 
-leaf-data : (c : Code) (cs : List Code) → is_line_ending c ≡ false → line_leaf N.Data None (c ∷ cs) ≡ leaf N.Data (c ∷ cs)
-leaf-data c cs e = ap (λ (b : Bool). let t : Forest = elim b [ true ↦ leaf N.LineEnding (c ∷ cs) | false ↦ leaf N.Data (c ∷ cs) ] in t) e
+leaf-data : (c : Code) (cs : List Code) → is_line_ending c ≡ false →
+    line_leaf N.Data None (c ∷ cs) ≡ leaf N.Data (c ∷ cs)
+leaf-data c cs e =
+    ap (λ (b : Bool). let t : Forest = elim b [ true ↦ leaf N.LineEnding (c ∷ cs) | false ↦ leaf N.Data (c ∷ cs) ] in t) e
 
-leaf-ending : (c : Code) (cs : List Code) → is_line_ending c ≡ true → line_leaf N.Data None (c ∷ cs) ≡ leaf N.LineEnding (c ∷ cs)
-leaf-ending c cs e = ap (λ (b : Bool). let t : Forest = elim b [ true ↦ leaf N.LineEnding (c ∷ cs) | false ↦ leaf N.Data (c ∷ cs) ] in t) e
+leaf-ending : (c : Code) (cs : List Code) → is_line_ending c ≡ true →
+    line_leaf N.Data None (c ∷ cs) ≡ leaf N.LineEnding (c ∷ cs)
+leaf-ending c cs e =
+    ap (λ (b : Bool). let t : Forest = elim b [ true ↦ leaf N.LineEnding (c ∷ cs) | false ↦ leaf N.Data (c ∷ cs) ] in t) e
 
 -- a stretch, and then more
-pub data-then : (stops : List Code → Bool) (c : Code) (cs : List Code) → is_line_ending c ≡ false → data_up_to stops (c ∷ cs) ≡ behind (leaf N.Data (c ∷ (up_to_break stops cs).0)) (more_data stops (up_to_break stops cs).1)
+pub data-then : (stops : List Code → Bool) (c : Code) (cs : List Code) → is_line_ending c ≡ false →
+    data_up_to stops (c ∷ cs) ≡ behind (leaf N.Data (c ∷ (up_to_break stops cs).0)) (more_data stops (up_to_break stops cs).1)
 unfolding data_up_to
 data-then stops c cs e =
     let k = cut stops c cs e in
@@ -104,7 +121,8 @@ data-then stops c cs e =
     ap (λ t. Some (t, (until stops cs).1)) tree ∙ ap (λ r. Some (leaf N.Data (c ∷ (up_to_break stops cs).0) ⊕ more, r)) k.1
 
 -- a line ending, and then more
-pub ending-then : (stops : List Code → Bool) (c : Code) (cs : List Code) → is_line_ending c ≡ true → data_up_to stops (c ∷ cs) ≡ behind (leaf N.LineEnding (c ∷ [])) (more_data stops cs)
+pub ending-then : (stops : List Code → Bool) (c : Code) (cs : List Code) → is_line_ending c ≡ true →
+    data_up_to stops (c ∷ cs) ≡ behind (leaf N.LineEnding (c ∷ [])) (more_data stops cs)
 unfolding data_up_to
 ending-then stops c cs e =
     let more : Forest = line_leaves N.Data (lines_of (until stops cs).0) in
@@ -112,9 +130,13 @@ ending-then stops c cs e =
     ∙ ap (λ t. Some (t ⊕ more, (until stops cs).1)) (leaf-ending c [] e)
 
 -- where data does not stop more data is data from here on
-pub more-goes : (stops : List Code → Bool) (c : Code) (cs : List Code) → stops (c ∷ cs) ≡ false → more_data stops (c ∷ cs) ≡ data_up_to stops (c ∷ cs)
+pub more-goes : (stops : List Code → Bool) (c : Code) (cs : List Code) → stops (c ∷ cs) ≡ false →
+    more_data stops (c ∷ cs) ≡ data_up_to stops (c ∷ cs)
 unfolding data_up_to
-more-goes stops c cs e = ap (λ (s : List Code × List Code). Some (line_leaves N.Data (lines_of s.0), s.1)) (until-goes stops c cs e)
+more-goes stops c cs e =
+    ap (λ (s : List Code × List Code). Some (line_leaves N.Data (lines_of s.0), s.1)) (until-goes stops c cs e)
 
-pub more-stops : (stops : List Code → Bool) (c : Code) (cs : List Code) → stops (c ∷ cs) ≡ true → more_data stops (c ∷ cs) ≡ Some (empty, c ∷ cs)
-more-stops stops c cs e = ap (λ (s : List Code × List Code). Some (line_leaves N.Data (lines_of s.0), s.1)) (until-stops stops c cs e)
+pub more-stops : (stops : List Code → Bool) (c : Code) (cs : List Code) → stops (c ∷ cs) ≡ true →
+    more_data stops (c ∷ cs) ≡ Some (empty, c ∷ cs)
+more-stops stops c cs e =
+    ap (λ (s : List Code × List Code). Some (line_leaves N.Data (lines_of s.0), s.1)) (until-stops stops c cs e)

@@ -9,17 +9,22 @@ use Rattle.markdown_engine.specs.declared.tokenizer.Tokenizer.{Tokenizer}
 use Rattle.markdown_engine.proofs.TreeEvents.{entered_leaf-is}
 
 -- entering a leaf changes neither the place nor the scratch fields
-pub entered-cursor : (n : Name) (link : Option Content) (connect : Bool) (T : Tokenizer) → (entered_leaf n link connect T).cursor ≡ T.cursor
+pub entered-cursor : (n : Name) (link : Option Content) (connect : Bool) (T : Tokenizer) →
+    (entered_leaf n link connect T).cursor ≡ T.cursor
 entered-cursor n link connect T = ap (λ (x : Tokenizer). x.cursor) (entered_leaf-is n link connect T)
 
-pub entered-scratch : (n : Name) (link : Option Content) (connect : Bool) (T : Tokenizer) → (entered_leaf n link connect T).tokenize_state ≡ T.tokenize_state
+pub entered-scratch : (n : Name) (link : Option Content) (connect : Bool) (T : Tokenizer) →
+    (entered_leaf n link connect T).tokenize_state ≡ T.tokenize_state
 entered-scratch n link connect T = ap (λ (x : Tokenizer). x.tokenize_state) (entered_leaf-is n link connect T)
 
-pub entered-attempts : (n : Name) (link : Option Content) (connect : Bool) (T : Tokenizer) → (entered_leaf n link connect T).attempts ≡ T.attempts
+pub entered-attempts : (n : Name) (link : Option Content) (connect : Bool) (T : Tokenizer) →
+    (entered_leaf n link connect T).attempts ≡ T.attempts
 entered-attempts n link connect T = ap (λ (x : Tokenizer). x.attempts) (entered_leaf-is n link connect T)
 
-pub entered-open : (n : Name) (link : Option Content) (connect : Bool) (T : Tokenizer) → IsOpen n (entered_leaf n link connect T)
+pub entered-open : (n : Name) (link : Option Content) (connect : Bool) (T : Tokenizer) →
+    IsOpen n (entered_leaf n link connect T)
 entered-open n link connect T = rw (entered_leaf-is n link connect T) refl
 
-pub entered-left : (n : Name) (link : Option Content) (connect : Bool) (T : Tokenizer) → codes_left (entered_leaf n link connect T) ≡ codes_left T
+pub entered-left : (n : Name) (link : Option Content) (connect : Bool) (T : Tokenizer) →
+    codes_left (entered_leaf n link connect T) ≡ codes_left T
 entered-left n link connect T = ap left_at (entered-cursor n link connect T)

@@ -14,7 +14,9 @@ use Rattle.markdown_engine_events.specs.declared.util.edit_map.Edit.{Edit}
 use Rattle.markdown_partial.specs.MergedEvents.{is_enter, is_data, opens_data, closes_data, opening, closing, joint, joints, marked, removal}
 use Rattle.markdown_engine_content.proofs.PlaceRules.{drop-more}
 
-joint-three : (es : List Event) (i j k : ℕ) (a b c : Event) → j ≡ i + 1 → k ≡ i + 2 → k < length es → a ≡ get_or es i a → b ≡ get_or es j b → c ≡ get_or es k c → joint (drop i es) ≡ opens_data a && (closes_data b && opens_data c)
+joint-three : (es : List Event) (i j k : ℕ) (a b c : Event) → j ≡ i + 1 → k ≡ i + 2 → k < length es →
+    a ≡ get_or es i a → b ≡ get_or es j b → c ≡ get_or es k c →
+    joint (drop i es) ≡ opens_data a && (closes_data b && opens_data c)
 joint-three es i j k a b c p q l e f g =
     let first : drop i es ≡ a ∷ drop j es = drop_more es i a (omega arith) ∙ ap (λ x. x ∷ drop (i + 1) es) (sym e) ∙ ap (λ n. a ∷ drop n es) (sym p) in
     let second : drop j es ≡ b ∷ drop k es = drop_more es j b (omega arith) ∙ ap (λ x. x ∷ drop (j + 1) es) (sym f) ∙ ap (λ n. b ∷ drop n es) (omega arith) in
@@ -26,7 +28,9 @@ and-three true b c = refl
 and-three false b c = refl
 
 -- whether three events are a joint
-pub joint-found : (es : List Event) (i j k : ℕ) (a b c : Event) (x y z : Bool) → j ≡ i + 1 → k ≡ i + 2 → k < length es → a ≡ get_or es i a → b ≡ get_or es j b → c ≡ get_or es k c → x ≡ opens_data a → y ≡ closes_data b → z ≡ opens_data c → (x && y) && z ≡ joint (drop i es)
+pub joint-found : (es : List Event) (i j k : ℕ) (a b c : Event) (x y z : Bool) → j ≡ i + 1 → k ≡ i + 2 → k < length es →
+    a ≡ get_or es i a → b ≡ get_or es j b → c ≡ get_or es k c → x ≡ opens_data a → y ≡ closes_data b →
+    z ≡ opens_data c → (x && y) && z ≡ joint (drop i es)
 joint-found es i j k a b c x y z p q l e f g u v w =
     and-three x y z ∙ ap (λ t. t && (y && z)) u ∙ ap (λ t. opens_data a && (t && z)) v ∙ ap (λ t. opens_data a && (closes_data b && t)) w ∙ sym (joint-three es i j k a b c p q l e f g)
 
@@ -37,7 +41,8 @@ third-none true true = refl
 third-none true false = refl
 third-none false b = refl
 
-pub joint-none : (es : List Event) (i k : ℕ) (c : Event) → k ≡ i + 2 → k < length es → c ≡ get_or es k c → opens_data c ≡ false → false ≡ joint (drop i es)
+pub joint-none : (es : List Event) (i k : ℕ) (c : Event) → k ≡ i + 2 → k < length es → c ≡ get_or es k c →
+    opens_data c ≡ false → false ≡ joint (drop i es)
 joint-none es i k c p l g h =
     let next : i + 1 + 1 ≡ k = omega (arith, p) in
     let third : opening (drop k es) ≡ false = ap opening (drop_more es k c l) ∙ ap opens_data (sym g) ∙ h in
@@ -52,8 +57,11 @@ and-last true z h = sym h
 and-last false z h = refl
 
 -- and others are one by the first two
-pub joint-two : (es : List Event) (i j k : ℕ) (a b c : Event) (x y z : Bool) → j ≡ i + 1 → k ≡ i + 2 → k < length es → a ≡ get_or es i a → b ≡ get_or es j b → c ≡ get_or es k c → x ≡ opens_data a → y ≡ closes_data b → z ≡ opens_data c → z ≡ true → x && y ≡ joint (drop i es)
-joint-two es i j k a b c x y z p q l e f g u v w h = and-last (x && y) z h ∙ joint-found es i j k a b c x y z p q l e f g u v w
+pub joint-two : (es : List Event) (i j k : ℕ) (a b c : Event) (x y z : Bool) → j ≡ i + 1 → k ≡ i + 2 → k < length es →
+    a ≡ get_or es i a → b ≡ get_or es j b → c ≡ get_or es k c → x ≡ opens_data a → y ≡ closes_data b →
+    z ≡ opens_data c → z ≡ true → x && y ≡ joint (drop i es)
+joint-two es i j k a b c x y z p q l e f g u v w h =
+    and-last (x && y) z h ∙ joint-found es i j k a b c x y z p q l e f g u v w
 
 -- too few events for a joint
 
@@ -69,29 +77,35 @@ none-marked n false log e f = f
 few : (n : ℕ) (es : List Event) → length es ≤ 2 → joints n es ≡ []
 few n [] l = refl
 few n (a ∷ []) l = none-marked (n + 1) (joint (a ∷ [])) [] (and-false (opens_data a)) refl
-few n (a ∷ b ∷ []) l = none-marked (n + 1) (joint (a ∷ b ∷ [])) (joints (suc n) (b ∷ [])) (two-short (opens_data a) (closes_data b)) (few (suc n) (b ∷ []) (omega arith))
+few n (a ∷ b ∷ []) l =
+    none-marked (n + 1) (joint (a ∷ b ∷ [])) (joints (suc n) (b ∷ [])) (two-short (opens_data a) (closes_data b)) (few (suc n) (b ∷ []) (omega arith))
 few n (a ∷ b ∷ c ∷ es) l = absurd (omega arith)
 
 pub joints-end : (i : ℕ) (es : List Event) → 2 ≤ i → length es ≤ i → joints (i - 2) (drop (i - 2) es) ≡ []
 joints-end i es h l = few (i - 2) (drop (i - 2) es) (omega (arith, length-drop (i - 2) es))
 
-pub joints-next : (i : ℕ) (es : List Event) → 2 ≤ i → i < length es → joints (i - 2) (drop (i - 2) es) ≡ marked (joint (drop (i - 2) es)) (i - 1) ++ joints (i + 1 - 2) (drop (i + 1 - 2) es)
+pub joints-next : (i : ℕ) (es : List Event) → 2 ≤ i → i < length es →
+    joints (i - 2) (drop (i - 2) es) ≡ marked (joint (drop (i - 2) es)) (i - 1) ++ joints (i + 1 - 2) (drop (i + 1 - 2) es)
 joints-next i es h l = next (drop (i - 2) es) (drop (i + 1 - 2) es) (i - 2) (i - 1) (i + 1 - 2) (omega arith) (omega arith) (omega (arith, length-drop (i - 2) es)) (rest-drop-next (i - 2) (i + 1 - 2) es (omega arith))
   where
-    next : (xs ys : List Event) (n m k : ℕ) → m ≡ n + 1 → k ≡ suc n → 0 < length xs → ys ≡ drop 1 xs → joints n xs ≡ marked (joint xs) m ++ joints k ys
+    next : (xs ys : List Event) (n m k : ℕ) → m ≡ n + 1 → k ≡ suc n → 0 < length xs → ys ≡ drop 1 xs →
+        joints n xs ≡ marked (joint xs) m ++ joints k ys
     next [] ys n m k e f g h = absurd (omega arith)
     next (x ∷ xs) ys n m k e f g h = rw (e, f, h) refl
 
     rest-drop-next : (n k : ℕ) (xs : List Event) → k ≡ n + 1 → drop k xs ≡ drop 1 (drop n xs)
     rest-drop-next n k xs e = let same : k ≡ suc n = omega (arith, e) in ap (λ m. drop m xs) same ∙ drop-more n xs
 
-pub marks-more : (i : ℕ) (es : List Event) (old new : List Edit) → 2 ≤ i → i < length es → new ≡ old ++ marked (joint (drop (i - 2) es)) (i - 1) → old ++ joints (i - 2) (drop (i - 2) es) ≡ joints 0 es → new ++ joints (i + 1 - 2) (drop (i + 1 - 2) es) ≡ joints 0 es
+pub marks-more : (i : ℕ) (es : List Event) (old new : List Edit) → 2 ≤ i → i < length es →
+    new ≡ old ++ marked (joint (drop (i - 2) es)) (i - 1) → old ++ joints (i - 2) (drop (i - 2) es) ≡ joints 0 es →
+    new ++ joints (i + 1 - 2) (drop (i + 1 - 2) es) ≡ joints 0 es
 marks-more i es old new h l e k =
     let here : List Edit = marked (joint (drop (i - 2) es)) (i - 1) in
     let more : List Edit = joints (i + 1 - 2) (drop (i + 1 - 2) es) in
     ap (λ x. x ++ more) e ∙ append_assoc old here more ∙ ap (λ x. old ++ x) (sym (joints-next i es h l)) ∙ k
 
-pub marks-end : (i : ℕ) (es : List Event) (log : List Edit) → 2 ≤ i → length es ≤ i → log ++ joints (i - 2) (drop (i - 2) es) ≡ joints 0 es → log ≡ joints 0 es
+pub marks-end : (i : ℕ) (es : List Event) (log : List Edit) → 2 ≤ i → length es ≤ i →
+    log ++ joints (i - 2) (drop (i - 2) es) ≡ joints 0 es → log ≡ joints 0 es
 marks-end i es log h l k = sym (append-nil log) ∙ ap (λ x. log ++ x) (sym (joints-end i es h l)) ∙ k
 
 -- Which events go.
@@ -110,19 +124,23 @@ removed_at-marked : (i n : ℕ) (b : Bool) (log : List Edit) → n ≢ i → rem
 removed_at-marked i n true log h = rw (ne_eqb n i h) (omega arith)
 removed_at-marked i n false log h = refl
 
-removed_at-here : (i n : ℕ) (b : Bool) (log : List Edit) → n ≡ i → removed_at i (marked b n ++ log) ≡ two b + removed_at i log
+removed_at-here : (i n : ℕ) (b : Bool) (log : List Edit) → n ≡ i →
+    removed_at i (marked b n ++ log) ≡ two b + removed_at i log
 removed_at-here i n true log h = rw (eq-eqb n i h) refl
 removed_at-here i n false log h = omega arith
 
 none-before : (i n : ℕ) (es : List Event) → i ≤ n → removed_at i (joints n es) ≡ 0
 none-before i n [] l = refl
-none-before i n (e ∷ es) l = removed_at-marked i (n + 1) (joint (e ∷ es)) (joints (suc n) es) (λ h. absurd (omega (arith, h))) ∙ none-before i (suc n) es (omega arith)
+none-before i n (e ∷ es) l =
+    removed_at-marked i (n + 1) (joint (e ∷ es)) (joints (suc n) es) (λ h. absurd (omega (arith, h))) ∙ none-before i (suc n) es (omega arith)
 
 at-joint : (i n k : ℕ) (es : List Event) → i ≡ suc (n + k) → removed_at i (joints n es) ≡ two (joint (drop k es))
 at-joint i n zero [] e = refl
 at-joint i n (suc k) [] e = refl
-at-joint i n zero (x ∷ es) e = removed_at-here i (n + 1) (joint (x ∷ es)) (joints (suc n) es) (omega (arith, e)) ∙ ap (λ m. two (joint (x ∷ es)) + m) (none-before i (suc n) es (omega (arith, e))) ∙ omega arith
-at-joint i n (suc k) (x ∷ es) e = removed_at-marked i (n + 1) (joint (x ∷ es)) (joints (suc n) es) (λ h. absurd (omega (arith, e, h))) ∙ at-joint i (suc n) k es (omega (arith, e))
+at-joint i n zero (x ∷ es) e =
+    removed_at-here i (n + 1) (joint (x ∷ es)) (joints (suc n) es) (omega (arith, e)) ∙ ap (λ m. two (joint (x ∷ es)) + m) (none-before i (suc n) es (omega (arith, e))) ∙ omega arith
+at-joint i n (suc k) (x ∷ es) e =
+    removed_at-marked i (n + 1) (joint (x ∷ es)) (joints (suc n) es) (λ h. absurd (omega (arith, e, h))) ∙ at-joint i (suc n) k es (omega (arith, e))
 
 at-place : (p : ℕ) (es : List Event) → removed_at (suc p) (joints 0 es) ≡ two (joint (drop p es))
 at-place p es = at-joint (suc p) 0 p es (omega arith)
@@ -142,7 +160,8 @@ reach-here : (j p : ℕ) (b : Bool) → p ≤ j → j < p + 2 → nat_lt j (p + 
 reach-here j p true l h = grind (arith, nat_tests)
 reach-here j p false l h = grind (arith, nat_tests)
 
-removed_by-step : (es : List Event) (j p : ℕ) → suc p ≤ j → j < suc p + 2 → removed_by (joints 0 es) j (suc p) ≡ joint (drop p es) || removed_by (joints 0 es) j p
+removed_by-step : (es : List Event) (j p : ℕ) → suc p ≤ j → j < suc p + 2 →
+    removed_by (joints 0 es) j (suc p) ≡ joint (drop p es) || removed_by (joints 0 es) j p
 removed_by-step es j p l h =
     ap (λ m. nat_lt j (suc p + m) || removed_by (joints 0 es) j p) (at-place p es)
     ∙ ap (λ b. b || removed_by (joints 0 es) j p) (reach-here j (suc p) (joint (drop p es)) l h)
@@ -171,17 +190,21 @@ none-after a b e es h = ap (λ x. a && (b && x)) h ∙ two-short a b
 none-next : (a : Bool) (e : Event) (es : List Event) → closes_data e ≡ false → a && closing (e ∷ es) ≡ false
 none-next a e es h = ap (λ x. a && (x && opening es)) h ∙ and-false a
 
-joint-before : (ds : List Event) (e : Event) (es : List Event) → rest_of ds ≡ e ∷ es → closes_data e ≡ false → joint ds ≡ false
+joint-before : (ds : List Event) (e : Event) (es : List Event) → rest_of ds ≡ e ∷ es → closes_data e ≡ false →
+    joint ds ≡ false
 joint-before [] e es h k = refl
 joint-before (a ∷ ds) e es h k = ap (λ x. opens_data a && closing x) h ∙ none-next (opens_data a) e es k
 
-joint-before-two : (ds : List Event) (e : Event) (es : List Event) → rest_of (rest_of ds) ≡ e ∷ es → opens_data e ≡ false → joint ds ≡ false
+joint-before-two : (ds : List Event) (e : Event) (es : List Event) → rest_of (rest_of ds) ≡ e ∷ es →
+    opens_data e ≡ false → joint ds ≡ false
 joint-before-two [] e es h k = refl
 joint-before-two (a ∷ []) e es h k = cc
-joint-before-two (a ∷ b ∷ ds) e es h k = ap (λ x. opens_data a && (closes_data b && opening x)) h ∙ none-after (opens_data a) (closes_data b) e es k
+joint-before-two (a ∷ b ∷ ds) e es h k =
+    ap (λ x. opens_data a && (closes_data b && opening x)) h ∙ none-after (opens_data a) (closes_data b) e es k
 
 -- what is no data stays
-pub stays-other : (es : List Event) (k : ℕ) (e : Event) (rest : List Event) → drop k es ≡ e ∷ rest → opens_data e ≡ false → closes_data e ≡ false → removed es k ≡ false
+pub stays-other : (es : List Event) (k : ℕ) (e : Event) (rest : List Event) → drop k es ≡ e ∷ rest →
+    opens_data e ≡ false → closes_data e ≡ false → removed es k ≡ false
 stays-other es zero e rest h o c = refl
 stays-other es (suc zero) e rest h o c = joint-before es e rest (sym (drop-more 0 es) ∙ h) c
 stays-other es (suc (suc k)) e rest h o c =
@@ -189,7 +212,8 @@ stays-other es (suc (suc k)) e rest h o c =
     ∙ joint-before-two (drop k es) e rest (ap rest_of (sym (drop-more k es)) ∙ sym (drop-more (suc k) es) ∙ h) o
 
 -- behind an event that is no Exit of data an event goes only with a joint that begins there
-pub goes-next : (es : List Event) (k : ℕ) (e : Event) (rest : List Event) → drop k es ≡ e ∷ rest → closes_data e ≡ false → removed es (suc k) ≡ joint (e ∷ rest)
+pub goes-next : (es : List Event) (k : ℕ) (e : Event) (rest : List Event) → drop k es ≡ e ∷ rest →
+    closes_data e ≡ false → removed es (suc k) ≡ joint (e ∷ rest)
 goes-next es zero e rest h c = ap joint h
 goes-next es (suc k) e rest h c =
     ap (λ b. joint (drop (suc k) es) || b) (joint-before (drop k es) e rest (sym (drop-more k es) ∙ h) c)
@@ -197,11 +221,13 @@ goes-next es (suc k) e rest h c =
     ∙ ap joint h
 
 -- and so behind two events, of which the second is no Enter of data
-pub goes-after : (es : List Event) (k : ℕ) (e x : Event) (rest : List Event) → drop k es ≡ e ∷ x ∷ rest → opens_data x ≡ false → removed es (suc (suc k)) ≡ joint (e ∷ x ∷ rest)
+pub goes-after : (es : List Event) (k : ℕ) (e x : Event) (rest : List Event) → drop k es ≡ e ∷ x ∷ rest →
+    opens_data x ≡ false → removed es (suc (suc k)) ≡ joint (e ∷ x ∷ rest)
 goes-after es k e x rest h o =
     ap (λ b. b || joint (drop k es)) (ap joint (drop-more k es ∙ ap rest_of h) ∙ no-joint x rest o) ∙ ap joint h
 
-pub stays-next : (es : List Event) (k : ℕ) (e : Event) (rest : List Event) → drop k es ≡ e ∷ rest → opens_data e ≡ false → closes_data e ≡ false → removed es (suc k) ≡ false
+pub stays-next : (es : List Event) (k : ℕ) (e : Event) (rest : List Event) → drop k es ≡ e ∷ rest →
+    opens_data e ≡ false → closes_data e ≡ false → removed es (suc k) ≡ false
 stays-next es k e rest h o c = goes-next es k e rest h c ∙ no-joint e rest o
 
 -- The edits may be made.
@@ -221,26 +247,31 @@ linked-opens : (a b l : Bool) → l ≡ true → a && (b && not l) ≡ false
 linked-opens a b true h = two-short a b
 linked-opens a b false h = cc
 
-stays-linked : (es : List Event) (j : ℕ) (ds : List Event) → drop j es ≡ ds → first_linked ds ≡ true → removed es j ≡ false
+stays-linked : (es : List Event) (j : ℕ) (ds : List Event) → drop j es ≡ ds → first_linked ds ≡ true →
+    removed es j ≡ false
 unfolding first_linked
 stays-linked es j [] h l = cc
-stays-linked es j (e ∷ ds) h l = stays-other es j e ds h (linked-opens (is_enter e.kind) (is_data e.name) (has_link e.link) l) (linked-opens (not (is_enter e.kind)) (is_data e.name) (has_link e.link) l)
+stays-linked es j (e ∷ ds) h l =
+    stays-other es j e ds h (linked-opens (is_enter e.kind) (is_data e.name) (has_link e.link) l) (linked-opens (not (is_enter e.kind)) (is_data e.name) (has_link e.link) l)
 
 not-both : (l r : Bool) → (l ≡ true → r ≡ false) → r ≡ true → l ≡ false
 not-both true r h k = absurd (both_ways r (h refl) k)
 not-both false r h k = refl
 
 goes-unlinked : (es : List Event) (j : ℕ) → is_removed (joints 0 es) j ≡ true → linked_at es j ≡ false
-goes-unlinked es j h = linked-drop es j ∙ not-both (first_linked (drop j es)) (removed es j) (λ l. stays-linked es j (drop j es) refl l) (sym (removed-is es j) ∙ h)
+goes-unlinked es j h =
+    linked-drop es j ∙ not-both (first_linked (drop j es)) (removed es j) (λ l. stays-linked es j (drop j es) refl l) (sym (removed-is es j) ∙ h)
 
 -- each place stands within
-within-marked : (n m : ℕ) (b : Bool) (log : List Edit) → n ≤ m → All (λ e. e.at ≤ m) log → All (λ e. e.at ≤ m) (marked b n ++ log)
+within-marked : (n m : ℕ) (b : Bool) (log : List Edit) → n ≤ m → All (λ e. e.at ≤ m) log →
+    All (λ e. e.at ≤ m) (marked b n ++ log)
 within-marked n m true log h a = All-cons (λ e. e.at ≤ m) (removal n) log h a
 within-marked n m false log h a = a
 
 within : (n m : ℕ) (es : List Event) → n + length es ≤ m → All (λ e. e.at ≤ m) (joints n es)
 within n m [] h = All-nil (λ e. e.at ≤ m)
-within n m (e ∷ es) h = within-marked (n + 1) m (joint (e ∷ es)) (joints (suc n) es) (omega arith) (within (suc n) m es (omega arith))
+within n m (e ∷ es) h =
+    within-marked (n + 1) m (joint (e ∷ es)) (joints (suc n) es) (omega arith) (within (suc n) m es (omega arith))
 
 pub can-merge : (es : List Event) → CanEdit (joints 0 es) es
 can-merge es = record { places = within 0 (length es) es (omega arith); unlinked = goes-unlinked es }

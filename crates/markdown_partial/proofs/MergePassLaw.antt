@@ -36,25 +36,30 @@ pub merged-data : (cs : List Code) (rest : Forest) → merged (leaf_then N.Data 
 unfolding merged
 merged-data cs rest = refl
 
-pub merged-linked : (n : Name) (c : Content) (cs : List Code) (rest : Forest) → merged (leaf_then n (Some c) cs rest) ≡ leaf_then n (Some c) cs (merged rest)
+pub merged-linked : (n : Name) (c : Content) (cs : List Code) (rest : Forest) →
+    merged (leaf_then n (Some c) cs rest) ≡ leaf_then n (Some c) cs (merged rest)
 unfolding merged
 merged-linked N.Data c cs rest = refl
 merged-linked _ c cs rest = refl
 
-pub merged-other : (n : Name) (cs : List Code) (rest : Forest) → is_data n ≡ false → merged (leaf_then n None cs rest) ≡ leaf_then n None cs (merged rest)
+pub merged-other : (n : Name) (cs : List Code) (rest : Forest) → is_data n ≡ false →
+    merged (leaf_then n None cs rest) ≡ leaf_then n None cs (merged rest)
 unfolding merged
 merged-other N.Data cs rest e = cc
 merged-other _ cs rest e = refl
 
-pub merged-group : (n : Name) (p q : Point) (inside rest : Forest) → merged (group_then n p q inside rest) ≡ group_then n p q (merged inside) (merged rest)
+pub merged-group : (n : Name) (p q : Point) (inside rest : Forest) →
+    merged (group_then n p q inside rest) ≡ group_then n p q (merged inside) (merged rest)
 unfolding merged
 merged-group n p q inside rest = refl
 
-onto-linked : (cs : List Code) (n : Name) (c : Content) (ds : List Code) (rest : Forest) → data_onto cs (leaf_then n (Some c) ds rest) ≡ leaf_then N.Data None cs (leaf_then n (Some c) ds rest)
+onto-linked : (cs : List Code) (n : Name) (c : Content) (ds : List Code) (rest : Forest) →
+    data_onto cs (leaf_then n (Some c) ds rest) ≡ leaf_then N.Data None cs (leaf_then n (Some c) ds rest)
 onto-linked cs N.Data c ds rest = refl
 onto-linked cs _ c ds rest = refl
 
-onto-other : (cs : List Code) (n : Name) (ds : List Code) (rest : Forest) → is_data n ≡ false → data_onto cs (leaf_then n None ds rest) ≡ leaf_then N.Data None cs (leaf_then n None ds rest)
+onto-other : (cs : List Code) (n : Name) (ds : List Code) (rest : Forest) → is_data n ≡ false →
+    data_onto cs (leaf_then n None ds rest) ≡ leaf_then N.Data None cs (leaf_then n None ds rest)
 onto-other cs N.Data ds rest e = cc
 onto-other cs _ ds rest e = refl
 
@@ -69,16 +74,20 @@ some-append : (cs ds : List Code) → cs ≢ [] → cs ++ ds ≢ []
 some-append [] ds h = absurd (h refl)
 some-append (c ∷ cs) ds h = λ e. cc
 
-onto-name : (cs : List Code) (n : Name) (ds : List Code) (rest : Forest) (b : Bool) → is_data n ≡ b → cs ≢ [] → Begun (data_onto cs (leaf_then n None ds rest))
+onto-name : (cs : List Code) (n : Name) (ds : List Code) (rest : Forest) (b : Bool) → is_data n ≡ b → cs ≢ [] →
+    Begun (data_onto cs (leaf_then n None ds rest))
 onto-name cs n ds rest true e h =
     subst (λ m. Begun (data_onto cs (leaf_then m None ds rest))) (sym (data-name n e)) (record { codes = cs ++ ds; rest = rest; is = refl; some = some-append cs ds h })
-onto-name cs n ds rest false e h = record { codes = cs; rest = leaf_then n None ds rest; is = onto-other cs n ds rest e; some = h }
+onto-name cs n ds rest false e h =
+    record { codes = cs; rest = leaf_then n None ds rest; is = onto-other cs n ds rest e; some = h }
 
 onto-begun : (cs : List Code) (t : Forest) → cs ≢ [] → Begun (data_onto cs t)
 onto-begun cs empty h = record { codes = cs; rest = empty; is = refl; some = h }
 onto-begun cs (leaf_then n None ds rest) h = onto-name cs n ds rest (is_data n) refl h
-onto-begun cs (leaf_then n (Some c) ds rest) h = record { codes = cs; rest = leaf_then n (Some c) ds rest; is = onto-linked cs n c ds rest; some = h }
-onto-begun cs (group_then n p q inside rest) h = record { codes = cs; rest = group_then n p q inside rest; is = refl; some = h }
+onto-begun cs (leaf_then n (Some c) ds rest) h =
+    record { codes = cs; rest = leaf_then n (Some c) ds rest; is = onto-linked cs n c ds rest; some = h }
+onto-begun cs (group_then n p q inside rest) h =
+    record { codes = cs; rest = group_then n p q inside rest; is = refl; some = h }
 
 -- whether the events of a row begin with data tells how it merges with data before it
 
@@ -94,7 +103,8 @@ clash : {A : Type 0} → (b : Bool) → b && false ≡ true → A
 clash true e = cc
 clash false e = cc
 
-begun : (k : ℕ) (p : Option ℕ) (t : Forest) (tail : List Event) → HasData t → opening tail ≡ false → opening (appended_from k p t ++ tail) ≡ true → Begun (merged t)
+begun : (k : ℕ) (p : Option ℕ) (t : Forest) (tail : List Event) → HasData t → opening tail ≡ false →
+    opening (appended_from k p t ++ tail) ≡ true → Begun (merged t)
 begun k p empty tail d c o = absurd (both_ways (opening tail) c o)
 begun k p (leaf_then n None cs rest) tail d c o =
     let name : is_data n ≡ true = on-true (is_data n) o in
@@ -103,7 +113,8 @@ begun k p (leaf_then n None cs rest) tail d c o =
 begun k p (leaf_then n (Some x) cs rest) tail d c o = clash (is_data n) o
 begun k p (group_then n a b inside rest) tail d c o = absurd (both_ways (is_data n) d.0 (on-true (is_data n) o))
 
-apart : (k : ℕ) (p : Option ℕ) (cs : List Code) (t : Forest) (tail : List Event) → opening (appended_from k p t ++ tail) ≡ false → data_onto cs (merged t) ≡ leaf_then N.Data None cs (merged t)
+apart : (k : ℕ) (p : Option ℕ) (cs : List Code) (t : Forest) (tail : List Event) →
+    opening (appended_from k p t ++ tail) ≡ false → data_onto cs (merged t) ≡ leaf_then N.Data None cs (merged t)
 unfolding merged
 apart k p cs empty tail o = refl
 apart k p cs (leaf_then n None ds rest) tail o =
@@ -143,11 +154,13 @@ nothing true = refl
 nothing false = refl
 
 no-front : (i n : ℕ) (b : Bool) (log : List Edit) → front_at i log ≡ [] → front_at i (marked b n ++ log) ≡ []
-no-front i n true log e = ap (λ x. x ++ (if (n == i) && false then no-events else no-events)) e ∙ nothing ((n == i) && false)
+no-front i n true log e =
+    ap (λ x. x ++ (if (n == i) && false then no-events else no-events)) e ∙ nothing ((n == i) && false)
 no-front i n false log e = e
 
 no-back : (i n : ℕ) (b : Bool) (log : List Edit) → back_at i log ≡ [] → back_at i (marked b n ++ log) ≡ []
-no-back i n true log e = ap (λ x. (if (n == i) && true then no-events else no-events) ++ x) e ∙ append-nil (if (n == i) && true then no-events else no-events) ∙ nothing ((n == i) && true)
+no-back i n true log e =
+    ap (λ x. (if (n == i) && true then no-events else no-events) ++ x) e ∙ append-nil (if (n == i) && true then no-events else no-events) ∙ nothing ((n == i) && true)
 no-back i n false log e = e
 
 front-none : (i n : ℕ) (es : List Event) → front_at i (joints n es) ≡ []
@@ -183,7 +196,8 @@ step-kept : (b : Bool) (e : Event) (es : List Event) → (if b then [] else e �
 step-kept true e es = refl
 step-kept false e es = refl
 
-edited-step : (es : List Event) (i : ℕ) (e : Event) (xs : List Event) (b : Bool) → removed es i ≡ b → edited_from (log_of es) i (e ∷ xs) ≡ kept b (moved (log_of es) e) ++ edited_from (log_of es) (suc i) xs
+edited-step : (es : List Event) (i : ℕ) (e : Event) (xs : List Event) (b : Bool) → removed es i ≡ b →
+    edited_from (log_of es) i (e ∷ xs) ≡ kept b (moved (log_of es) e) ++ edited_from (log_of es) (suc i) xs
 edited-step es i e xs b h =
     let m : Event = moved (log_of es) e in
     let rest : List Event = edited_from (log_of es) (suc i) xs in
@@ -201,17 +215,22 @@ one-if : (b : Bool) → one_if b ≡ one b
 one-if true = refl
 one-if false = refl
 
-count-step : (es : List Event) (i : ℕ) (b : Bool) → removed es i ≡ b → removed_before (log_of es) (suc i) ≡ removed_before (log_of es) i + one b
-count-step es i b h = ap (λ x. removed_before (log_of es) i + (if x then 1 else 0)) (removed-is es i ∙ h) ∙ ap (λ k. removed_before (log_of es) i + k) (one-if b)
+count-step : (es : List Event) (i : ℕ) (b : Bool) → removed es i ≡ b →
+    removed_before (log_of es) (suc i) ≡ removed_before (log_of es) i + one b
+count-step es i b h =
+    ap (λ x. removed_before (log_of es) i + (if x then 1 else 0)) (removed-is es i ∙ h) ∙ ap (λ k. removed_before (log_of es) i + k) (one-if b)
 
 -- two events
-pair : (es : List Event) (n : ℕ) (e x : Event) (rest : List Event) (f g : Bool) → removed es n ≡ f → removed es (suc n) ≡ g → edited_from (log_of es) n (e ∷ x ∷ rest) ≡ kept f (moved (log_of es) e) ++ (kept g (moved (log_of es) x) ++ edited_from (log_of es) (n + 2) rest)
+pair : (es : List Event) (n : ℕ) (e x : Event) (rest : List Event) (f g : Bool) → removed es n ≡ f →
+    removed es (suc n) ≡ g →
+    edited_from (log_of es) n (e ∷ x ∷ rest) ≡ kept f (moved (log_of es) e) ++ (kept g (moved (log_of es) x) ++ edited_from (log_of es) (n + 2) rest)
 pair es n e x rest f g h k =
     let same : suc (suc n) ≡ n + 2 = omega arith in
     edited-step es n e (x ∷ rest) f h
     ∙ ap (λ y. kept f (moved (log_of es) e) ++ y) (edited-step es (suc n) x rest g k ∙ ap (λ i. kept g (moved (log_of es) x) ++ edited_from (log_of es) i rest) same)
 
-pair-count : (es : List Event) (n : ℕ) (f g : Bool) → removed es n ≡ f → removed es (suc n) ≡ g → removed_before (log_of es) (n + 2) ≡ removed_before (log_of es) n + one f + one g
+pair-count : (es : List Event) (n : ℕ) (f g : Bool) → removed es n ≡ f → removed es (suc n) ≡ g →
+    removed_before (log_of es) (n + 2) ≡ removed_before (log_of es) n + one f + one g
 pair-count es n f g h k =
     let same : suc (suc n) ≡ n + 2 = omega arith in
     ap (removed_before (log_of es)) (sym same) ∙ count-step es (suc n) g k ∙ ap (λ i. i + one g) (count-step es n f h)
@@ -234,7 +253,8 @@ record Merges (es : List Event) (n m : ℕ) (f : Bool) (previous : Option ℕ) (
   count : n + event_count row ≡ removed_before (log_of es) (n + event_count row) + m + event_count (merged row)
 
 abbrev Law : List Event → Forest → Type 0
-Law es row = (n m : ℕ) (f : Bool) (previous : Option ℕ) (tail : List Event) → Here es n m f previous row tail → Merges es n m f previous row tail
+Law es row =
+    (n m : ℕ) (f : Bool) (previous : Option ℕ) (tail : List Event) → Here es n m f previous row tail → Merges es n m f previous row tail
 
 law-empty : (es : List Event) → Law es empty
 unfolding merged
@@ -252,7 +272,8 @@ record Next (es : List Event) (n m : ℕ) (f : Bool) (previous : Option ℕ) (e 
   events : edited_from (log_of es) n (e ∷ x ∷ appended_from (n + 2) previous row ++ tail) ≡ moved (log_of es) e ∷ moved (log_of es) x ∷ edited_from (log_of es) (n + 2) (appended_from (n + 2) previous row ++ tail)
   number : moved_number (log_of es) n ≡ m
 
-drop-two : (es : List Event) (n : ℕ) (e x : Event) (rest : List Event) → drop n es ≡ e ∷ x ∷ rest → drop (n + 2) es ≡ rest
+drop-two : (es : List Event) (n : ℕ) (e x : Event) (rest : List Event) → drop n es ≡ e ∷ x ∷ rest →
+    drop (n + 2) es ≡ rest
 drop-two es n e x rest h =
     let same : n + 2 ≡ suc (suc n) = omega arith in
     ap (λ i. drop i es) same ∙ drop-more (suc n) es ∙ ap rest_of (drop-more n es ∙ ap rest_of h)
@@ -260,7 +281,10 @@ drop-two es n e x rest h =
 number-is : (es : List Event) (n m : ℕ) → n ≡ removed_before (log_of es) n + m + 0 → moved_number (log_of es) n ≡ m
 number-is es n m h = omega (arith, h, more-none n 0 es)
 
-next-of : (es : List Event) (n m : ℕ) (f : Bool) (previous : Option ℕ) (e x : Event) (row : Forest) (tail : List Event) → drop n es ≡ e ∷ x ∷ appended_from (n + 2) previous row ++ tail → opens_data e ≡ false → closes_data e ≡ false → opens_data x ≡ false → removed es n ≡ f → n ≡ removed_before (log_of es) n + m + one f → opening tail ≡ false → HasData row → Next es n m f previous e x row tail
+next-of : (es : List Event) (n m : ℕ) (f : Bool) (previous : Option ℕ) (e x : Event) (row : Forest) (tail : List Event) →
+    drop n es ≡ e ∷ x ∷ appended_from (n + 2) previous row ++ tail → opens_data e ≡ false → closes_data e ≡ false →
+    opens_data x ≡ false → removed es n ≡ f → n ≡ removed_before (log_of es) n + m + one f → opening tail ≡ false →
+    HasData row → Next es n m f previous e x row tail
 next-of es n m f previous e x row tail h o c y flag counted closed d =
     let rest : List Event = appended_from (n + 2) previous row ++ tail in
     let stay : removed es n ≡ false = stays-other es n e (x ∷ rest) h o c in
@@ -287,13 +311,17 @@ after-is : (f : Bool) (es : List Event) → f ≡ false → after f es ≡ es
 after-is false es e = refl
 after-is true es e = absurd (both_ways true e refl)
 
-two-more : (es : List Event) (n k : ℕ) (tail : List Event) → edited_from (log_of es) (n + 2 + k) tail ≡ edited_from (log_of es) (n + (2 + k)) tail
+two-more : (es : List Event) (n k : ℕ) (tail : List Event) →
+    edited_from (log_of es) (n + 2 + k) tail ≡ edited_from (log_of es) (n + (2 + k)) tail
 two-more es n k tail = let same : n + 2 + k ≡ n + (2 + k) = omega arith in ap (λ i. edited_from (log_of es) i tail) same
 
-count-two : (es : List Event) (n k m j : ℕ) → n + 2 + k ≡ removed_before (log_of es) (n + 2 + k) + (m + 2) + j → n + (2 + k) ≡ removed_before (log_of es) (n + (2 + k)) + m + (2 + j)
-count-two es n k m j h = let same : n + 2 + k ≡ n + (2 + k) = omega arith in subst (λ i. i ≡ removed_before (log_of es) i + m + (2 + j)) same (omega (arith, h))
+count-two : (es : List Event) (n k m j : ℕ) → n + 2 + k ≡ removed_before (log_of es) (n + 2 + k) + (m + 2) + j →
+    n + (2 + k) ≡ removed_before (log_of es) (n + (2 + k)) + m + (2 + j)
+count-two es n k m j h =
+    let same : n + 2 + k ≡ n + (2 + k) = omega arith in subst (λ i. i ≡ removed_before (log_of es) i + m + (2 + j)) same (omega (arith, h))
 
-leaf-other : (es : List Event) (name : Name) (cs : List Code) (rest : Forest) → is_data name ≡ false → Law es rest → Law es (leaf_then name None cs rest)
+leaf-other : (es : List Event) (name : Name) (cs : List Code) (rest : Forest) → is_data name ≡ false → Law es rest →
+    Law es (leaf_then name None cs rest)
 leaf-other es name cs rest other law n m f previous tail h =
     let e : Event = event Kind.Enter name (start_of cs) in
     let x : Event = event Kind.Exit name (stop_of document_start cs) in
@@ -309,7 +337,8 @@ leaf-other es name cs rest other law n m f previous tail h =
       count = count-two es n (event_count rest) m (event_count (merged rest)) r.count ∙ ap (λ t. removed_before (log_of es) (n + (2 + event_count rest)) + m + event_count t) (sym is);
     }
 
-leaf-linked : (es : List Event) (name : Name) (c : Content) (cs : List Code) (rest : Forest) → Law es rest → Law es (leaf_then name (Some c) cs rest)
+leaf-linked : (es : List Event) (name : Name) (c : Content) (cs : List Code) (rest : Forest) → Law es rest →
+    Law es (leaf_then name (Some c) cs rest)
 leaf-linked es name c cs rest law n m f previous tail h =
     let e : Event = record { kind = Kind.Enter; name = name; point = start_of cs; link = Some (link_back previous c) } in
     let x : Event = event Kind.Exit name (stop_of document_start cs) in
@@ -334,7 +363,11 @@ stop-append p [] (d ∷ ds) h = refl
 stop-append p (c ∷ cs) ds h = stop-append c.stop cs ds h
 
 -- where such data stands behind it: the two are one, whose Exit is that of the second
-leaf-joined : (es : List Event) (cs : List Code) (rest : Forest) → Law es rest → (n m : ℕ) (f : Bool) (previous : Option ℕ) (tail : List Event) → Here es n m f previous (leaf_then N.Data None cs rest) tail → opening (appended_from (n + 2) previous rest ++ tail) ≡ true → Merges es n m f previous (leaf_then N.Data None cs rest) tail
+leaf-joined : (es : List Event) (cs : List Code) (rest : Forest) → Law es rest →
+    (n m : ℕ) (f : Bool) (previous : Option ℕ) (tail : List Event) →
+    Here es n m f previous (leaf_then N.Data None cs rest) tail →
+    opening (appended_from (n + 2) previous rest ++ tail) ≡ true →
+    Merges es n m f previous (leaf_then N.Data None cs rest) tail
 leaf-joined es cs rest law n m f previous tail h o =
     let more : List Event = appended_from (n + 2) previous rest ++ tail in
     let e : Event = event Kind.Enter N.Data (start_of cs) in
@@ -373,11 +406,18 @@ leaf-joined es cs rest law n m f previous tail h o =
       count = counts ∙ ap (λ t. removed_before (log_of es) (n + (2 + event_count rest)) + m + event_count t) (sym is);
     }
   where
-    joined-count : (es : List Event) (n k m j i : ℕ) → j ≡ i → n + 2 + k ≡ removed_before (log_of es) (n + 2 + k) + m + j → n + (2 + k) ≡ removed_before (log_of es) (n + (2 + k)) + m + i
-    joined-count es n k m j i e h = let same : n + 2 + k ≡ n + (2 + k) = omega arith in subst (λ a. a ≡ removed_before (log_of es) a + m + i) same (omega (arith, h, e))
+    joined-count : (es : List Event) (n k m j i : ℕ) → j ≡ i →
+        n + 2 + k ≡ removed_before (log_of es) (n + 2 + k) + m + j →
+        n + (2 + k) ≡ removed_before (log_of es) (n + (2 + k)) + m + i
+    joined-count es n k m j i e h =
+        let same : n + 2 + k ≡ n + (2 + k) = omega arith in subst (λ a. a ≡ removed_before (log_of es) a + m + i) same (omega (arith, h, e))
 
 -- where none does: it stays as it is
-leaf-apart : (es : List Event) (cs : List Code) (rest : Forest) → Law es rest → (n m : ℕ) (f : Bool) (previous : Option ℕ) (tail : List Event) → Here es n m f previous (leaf_then N.Data None cs rest) tail → opening (appended_from (n + 2) previous rest ++ tail) ≡ false → Merges es n m f previous (leaf_then N.Data None cs rest) tail
+leaf-apart : (es : List Event) (cs : List Code) (rest : Forest) → Law es rest →
+    (n m : ℕ) (f : Bool) (previous : Option ℕ) (tail : List Event) →
+    Here es n m f previous (leaf_then N.Data None cs rest) tail →
+    opening (appended_from (n + 2) previous rest ++ tail) ≡ false →
+    Merges es n m f previous (leaf_then N.Data None cs rest) tail
 leaf-apart es cs rest law n m f previous tail h o =
     let more : List Event = appended_from (n + 2) previous rest ++ tail in
     let e : Event = event Kind.Enter N.Data (start_of cs) in
@@ -410,12 +450,15 @@ leaf-apart es cs rest law n m f previous tail h o =
 leaf-data : (es : List Event) (cs : List Code) (rest : Forest) → Law es rest → Law es (leaf_then N.Data None cs rest)
 leaf-data es cs rest law n m f previous tail h = by-next (opening (appended_from (n + 2) previous rest ++ tail)) refl
   where
-    by-next : (b : Bool) → opening (appended_from (n + 2) previous rest ++ tail) ≡ b → Merges es n m f previous (leaf_then N.Data None cs rest) tail
+    by-next : (b : Bool) → opening (appended_from (n + 2) previous rest ++ tail) ≡ b →
+        Merges es n m f previous (leaf_then N.Data None cs rest) tail
     by-next true o = leaf-joined es cs rest law n m f previous tail h o
     by-next false o = leaf-apart es cs rest law n m f previous tail h o
 
-leaf-plain : (es : List Event) (name : Name) (cs : List Code) (rest : Forest) (b : Bool) → is_data name ≡ b → Law es rest → Law es (leaf_then name None cs rest)
-leaf-plain es name cs rest true e law = subst (λ n. Law es (leaf_then n None cs rest)) (sym (data-name name e)) (leaf-data es cs rest law)
+leaf-plain : (es : List Event) (name : Name) (cs : List Code) (rest : Forest) (b : Bool) → is_data name ≡ b →
+    Law es rest → Law es (leaf_then name None cs rest)
+leaf-plain es name cs rest true e law =
+    subst (λ n. Law es (leaf_then n None cs rest)) (sym (data-name name e)) (leaf-data es cs rest law)
 leaf-plain es name cs rest false e law = leaf-other es name cs rest e law
 
 -- Groups.
@@ -425,10 +468,12 @@ drop-whole k [] ys l = let same : k ≡ 0 = sym l in ap (λ i. drop i ys) same
 drop-whole zero (x ∷ xs) ys l = absurd (omega (arith, l))
 drop-whole (suc k) (x ∷ xs) ys l = drop-whole k xs ys (omega (arith, l))
 
-pub drop-part : {A : Type 0} → (n k : ℕ) (es xs ys : List A) → drop n es ≡ xs ++ ys → length xs ≡ k → drop (n + k) es ≡ ys
+pub drop-part : {A : Type 0} → (n k : ℕ) (es xs ys : List A) → drop n es ≡ xs ++ ys → length xs ≡ k →
+    drop (n + k) es ≡ ys
 drop-part n k es xs ys h l = sym (drop-drop k n es) ∙ ap (drop k) h ∙ drop-whole k xs ys l
 
-law-group : (es : List Event) (name : Name) (a b : Point) (inside rest : Forest) → Law es inside → Law es rest → Law es (group_then name a b inside rest)
+law-group : (es : List Event) (name : Name) (a b : Point) (inside rest : Forest) → Law es inside → Law es rest →
+    Law es (group_then name a b inside rest)
 law-group es name a b inside rest law_inside law_rest n m f previous tail h =
     let e : Event = event Kind.Enter name a in
     let x : Event = event Kind.Exit name b in
@@ -497,7 +542,8 @@ law es (leaf_then name (Some c) cs rest) = leaf-linked es name c cs rest (law es
 law es (group_then name a b inside rest) = law-group es name a b inside rest (law es inside) (law es rest)
 
 -- merging the events of a tree leaves those of the merged tree
-pub merged-events : (t : Forest) → HasData t → (es : List Event) → es ≡ appended_from 0 None t → edited (joints 0 es) es ≡ appended_from 0 None (merged t)
+pub merged-events : (t : Forest) → HasData t → (es : List Event) → es ≡ appended_from 0 None t →
+    edited (joints 0 es) es ≡ appended_from 0 None (merged t)
 merged-events t d es e =
     let whole : es ≡ appended_from 0 None t ++ [] = e ∙ sym (append-nil (appended_from 0 None t)) in
     let r = law es t 0 0 false None [] (record { there = whole; flag = refl; counted = refl; first = λ c. absurd (both_ways false refl c); closed = refl; has_data = d }) in

@@ -39,10 +39,13 @@ unfolding applied
 next-ahead T = current-ahead (consumed T) ∙ ap (λ cs. value_of (first_of cs)) (ahead-consumed T)
 
 -- whether data stops at the codes ahead, by the value at hand
-stops-is : (T : Tokenizer) (v : ℕ) → (e : current_of T ≡ Some v) → stops_of T.tokenize_state ((ahead-some T v e).code ∷ rest_of (ahead T)) ≡ stops_here T v
-stops-is T v e = λ i. stops_at T.tokenize_state.passes_letters T.tokenize_state.markers ((ahead-some T v e).value i) (sym (next-ahead T) i)
+stops-is : (T : Tokenizer) (v : ℕ) → (e : current_of T ≡ Some v) →
+    stops_of T.tokenize_state ((ahead-some T v e).code ∷ rest_of (ahead T)) ≡ stops_here T v
+stops-is T v e =
+    λ i. stops_at T.tokenize_state.passes_letters T.tokenize_state.markers ((ahead-some T v e).value i) (sym (next-ahead T) i)
 
-breaks-is : (T : Tokenizer) (v : ℕ) → (e : current_of T ≡ Some v) → (let c : Code = (ahead-some T v e).code in is_line_ending c || stops_of T.tokenize_state (c ∷ rest_of (ahead T))) ≡ ((v == 10) || stops_here T v)
+breaks-is : (T : Tokenizer) (v : ℕ) → (e : current_of T ≡ Some v) →
+    (let c : Code = (ahead-some T v e).code in is_line_ending c || stops_of T.tokenize_state (c ∷ rest_of (ahead T))) ≡ ((v == 10) || stops_here T v)
 breaks-is T v e = λ i. ((ahead-some T v e).value i == 10) || stops-is T v e i
 
 -- past a leaf the run goes on with more data
@@ -50,7 +53,10 @@ scratch-past : (t : Forest) (T V : Tokenizer) → V ≡ past None t T → V.toke
 unfolding past
 scratch-past t T V e = ap (λ (x : Tokenizer). x.tokenize_state) e
 
-closes : (t : Forest) (rest : List Code) (T V : Tokenizer) → last_link (length T.events) None t ≡ None → V ≡ past None t T → ahead T ≡ leaf_codes t ++ rest → data_up_to (stops_of T.tokenize_state) (ahead T) ≡ behind t (more_data (stops_of T.tokenize_state) rest) → (ok : Bool) (U : Tokenizer) → at_break_ends V ok U → start_ends T ok U
+closes : (t : Forest) (rest : List Code) (T V : Tokenizer) → last_link (length T.events) None t ≡ None →
+    V ≡ past None t T → ahead T ≡ leaf_codes t ++ rest →
+    data_up_to (stops_of T.tokenize_state) (ahead T) ≡ behind t (more_data (stops_of T.tokenize_state) rest) →
+    (ok : Bool) (U : Tokenizer) → at_break_ends V ok U → start_ends T ok U
 closes t rest T V unlinked e whole reads ok U k =
     let s : TokenizeState = T.tokenize_state in
     let left : ahead V ≡ rest = ap ahead e ∙ ahead-past None t T rest whole in
@@ -62,7 +68,8 @@ closes t rest T V unlinked e whole reads ok U k =
     (reads ∙ ap (λ cs. behind t (more_data (stops_of s) cs)) (sym left))
     ok U (subst End (scratch-past t T V e) k)
 
-ending-closes : (T : Tokenizer) (v : ℕ) → current_of T ≡ Some v → (v == 10) ≡ true → (ok : Bool) (U : Tokenizer) → at_break_ends (done ending T) ok U → start_ends T ok U
+ending-closes : (T : Tokenizer) (v : ℕ) → current_of T ≡ Some v → (v == 10) ≡ true → (ok : Bool) (U : Tokenizer) →
+    at_break_ends (done ending T) ok U → start_ends T ok U
 ending-closes T v e h ok U k =
     let b : Begins v (ahead T) = ahead-some T v e in
     let cs : List Code = rest_of (ahead T) in
@@ -74,7 +81,8 @@ opened : (T : Tokenizer) → IsOpen N.Data (done opening T)
 unfolding applied
 opened T = refl
 
-data-past : (c : Code) (cs rest : List Code) (T : Tokenizer) → ahead T ≡ (c ∷ cs) ++ rest → exited N.Data (passed cs (done opening T)) ≡ past None (leaf N.Data (c ∷ cs)) T
+data-past : (c : Code) (cs rest : List Code) (T : Tokenizer) → ahead T ≡ (c ∷ cs) ++ rest →
+    exited N.Data (passed cs (done opening T)) ≡ past None (leaf N.Data (c ∷ cs)) T
 unfolding passed applied
 data-past c cs rest T e = leaf-past N.Data None false c cs rest T e
 
@@ -85,12 +93,14 @@ scratch-opening : (T : Tokenizer) → (done opening T).tokenize_state ≡ T.toke
 unfolding applied
 scratch-opening T = refl
 
-stretch-opening : (T : Tokenizer) → stretch_of (done opening T) ≡ (up_to_break (stops_of T.tokenize_state) (rest_of (ahead T))).0
+stretch-opening : (T : Tokenizer) →
+    stretch_of (done opening T) ≡ (up_to_break (stops_of T.tokenize_state) (rest_of (ahead T))).0
 stretch-opening T =
     ap (λ (q : TokenizeState). (up_to_break (stops_of q) (ahead (done opening T))).0) (scratch-opening T)
     ∙ ap (λ cs. (up_to_break (stops_of T.tokenize_state) cs).0) (ahead-opening T)
 
-opening-closes : (T : Tokenizer) (v : ℕ) → current_of T ≡ Some v → (v == 10) ≡ false → (ok : Bool) (U : Tokenizer) → inside_ends (done opening T) ok U → start_ends T ok U
+opening-closes : (T : Tokenizer) (v : ℕ) → current_of T ≡ Some v → (v == 10) ≡ false → (ok : Bool) (U : Tokenizer) →
+    inside_ends (done opening T) ok U → start_ends T ok U
 opening-closes T v e h ok U k =
     let b : Begins v (ahead T) = ahead-some T v e in
     let cs : List Code = rest_of (ahead T) in
@@ -101,7 +111,8 @@ opening-closes T v e h ok U k =
     closes (leaf N.Data (b.code ∷ w.0)) w.1 T V refl is (whole ∙ ap (λ xs. xs ++ w.1) (sym (append-nil (b.code ∷ w.0))))
     (ap (data_up_to (stops_of T.tokenize_state)) b.whole ∙ data-then (stops_of T.tokenize_state) b.code cs (ap (λ x. x == 10) b.value ∙ h)) ok U k
 
-passing-law : (W : Words) → Within states W → (T : Tokenizer) → T.attempts ≡ [] → (v : ℕ) → current_of T ≡ Some v → GoesIn W (weight_at 1 T) (start_ends T) (passing v T)
+passing-law : (W : Words) → Within states W → (T : Tokenizer) → T.attempts ≡ [] → (v : ℕ) → current_of T ≡ Some v →
+    GoesIn W (weight_at 1 T) (start_ends T) (passing v T)
 passing-law W within T alone v e =
     let P : Stepped → Type 0 = GoesIn W (weight_at 1 T) (start_ends T) in
     let one : 1 ≤ length (ahead T) = some-codes T v e in
@@ -126,7 +137,8 @@ start-law W within T alone _ =
     (λ v e. passing-law W within T alone v e)
 
 -- the same where data does not stop
-more-here : (T : Tokenizer) (v : ℕ) → current_of T ≡ Some v → stops_here T v ≡ false → (ok : Bool) (U : Tokenizer) → start_ends T ok U → at_break_ends T ok U
+more-here : (T : Tokenizer) (v : ℕ) → current_of T ≡ Some v → stops_here T v ≡ false → (ok : Bool) (U : Tokenizer) →
+    start_ends T ok U → at_break_ends T ok U
 more-here T v e h ok U k =
     let b : Begins v (ahead T) = ahead-some T v e in
     let cs : List Code = rest_of (ahead T) in
@@ -134,7 +146,8 @@ more-here T v e h ok U k =
     ap (more_data (stops_of T.tokenize_state)) b.whole ∙ more-goes (stops_of T.tokenize_state) b.code cs (stops-is T v e ∙ h) ∙ ap (data_up_to (stops_of T.tokenize_state)) (sym b.whole) in
     EndsAs-same (more_data (stops_of T.tokenize_state)) (data_up_to (stops_of T.tokenize_state)) None T.tokenize_state T reads ok U k
 
-stop-here : (T : Tokenizer) (v : ℕ) → current_of T ≡ Some v → stops_here T v ≡ true → more_data (stops_of T.tokenize_state) (ahead T) ≡ Some (empty, ahead T)
+stop-here : (T : Tokenizer) (v : ℕ) → current_of T ≡ Some v → stops_here T v ≡ true →
+    more_data (stops_of T.tokenize_state) (ahead T) ≡ Some (empty, ahead T)
 stop-here T v e h =
     let b : Begins v (ahead T) = ahead-some T v e in
     ap (more_data (stops_of T.tokenize_state)) b.whole ∙ more-stops (stops_of T.tokenize_state) b.code (rest_of (ahead T)) (stops-is T v e ∙ h) ∙ ap (λ cs. Some (empty, cs)) (sym b.whole)
@@ -155,12 +168,14 @@ stack-consumed : (T : Tokenizer) → IsOpen N.Data T → IsOpen N.Data (done (Co
 unfolding applied
 stack-consumed T h = h
 
-stretch-ends : (T : Tokenizer) → stretch_of T ≡ [] → (ok : Bool) (U : Tokenizer) → at_break_ends (done (Exit N.Data ∷ []) T) ok U → inside_ends T ok U
+stretch-ends : (T : Tokenizer) → stretch_of T ≡ [] → (ok : Bool) (U : Tokenizer) →
+    at_break_ends (done (Exit N.Data ∷ []) T) ok U → inside_ends T ok U
 stretch-ends T e ok U k =
     let same : exited N.Data T ≡ past_stretch T = ap (exited N.Data) (sym (passed-none T) ∙ ap (λ cs. passed cs T) (sym e)) in
     subst (λ (V : Tokenizer). at_break_ends V ok U) same k
 
-stretch-goes : (T : Tokenizer) (v : ℕ) → current_of T ≡ Some v → (v == 10) || stops_here T v ≡ false → (ok : Bool) (U : Tokenizer) → inside_ends (done (Consume ∷ []) T) ok U → inside_ends T ok U
+stretch-goes : (T : Tokenizer) (v : ℕ) → current_of T ≡ Some v → (v == 10) || stops_here T v ≡ false →
+    (ok : Bool) (U : Tokenizer) → inside_ends (done (Consume ∷ []) T) ok U → inside_ends T ok U
 stretch-goes T v e h ok U k =
     let b : Begins v (ahead T) = ahead-some T v e in
     let stops : List Code → Bool = stops_of T.tokenize_state in
@@ -196,7 +211,8 @@ inside-law W within T alone token =
     Goes-ops W n (inside_ends T) (Next DataInside) (within DataInside) (Consume ∷ []) T alone (stack-consumed T token) (omega (arith, less)) (λ ok U k. stretch-goes T v e h ok U k)))
 
 -- over a code that is neither a line ending nor a marker, a call does no more than pass it
-pub inside-steady : (T : Tokenizer) (set : List ℕ) → inside_stops T.tokenize_state ≡ Some set → is_free set (current_of T) ≡ true → inside_step T ≡ stepped (Next DataInside) (consumed T)
+pub inside-steady : (T : Tokenizer) (set : List ℕ) → inside_stops T.tokenize_state ≡ Some set →
+    is_free set (current_of T) ≡ true → inside_step T ≡ stepped (Next DataInside) (consumed T)
 inside-steady T set known free =
     steady-at set T inside_at (stepped (Next DataInside) (consumed T)) free (λ v a b.
     let same : T.tokenize_state.markers ≡ set = cc in

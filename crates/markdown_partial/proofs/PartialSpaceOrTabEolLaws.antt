@@ -51,9 +51,11 @@ eol-held T r = record { short = r.short; resting = ap held r.resting; linked = r
 
 space-ready : (T : Tokenizer) → EolReady T → PartialSpaceOrTab.StartReady (scratched (space_asked T.tokenize_state) T)
 unfolding scratched
-space-ready T r = record { none_yet = ap (λ (s : TokenizeState). s.space_or_tab_size) (sym r.resting); linked = r.linked }
+space-ready T r =
+    record { none_yet = ap (λ (s : TokenizeState). s.space_or_tab_size) (sym r.resting); linked = r.linked }
 
-first-closed : (T : Tokenizer) (ok : Bool) (V : Tokenizer) → at_eol_ends (scratched (held T.tokenize_state) T) ok V → after_first_ends T ok V
+first-closed : (T : Tokenizer) (ok : Bool) (V : Tokenizer) → at_eol_ends (scratched (held T.tokenize_state) T) ok V →
+    after_first_ends T ok V
 unfolding scratched
 first-closed T ok V k = EndsAs-scratched _ _ _ (held T.tokenize_state) T ok V k
 
@@ -74,14 +76,16 @@ record Spaced (T U : Tokenizer) : Type 0 where
   after : ahead U ≡ (span is_blank (ahead T)).1
   fewer : codes_left U ≤ codes_left T
 
-space-there : (T : Tokenizer) (link : Option Content) → next_is is_blank (ahead T) ≡ true → codes_left T ≤ most → space_or_tab N.SpaceOrTab link 1 most (ahead T) ≡ Some (linked_leaf N.SpaceOrTab link (span is_blank (ahead T)).0, (span is_blank (ahead T)).1)
+space-there : (T : Tokenizer) (link : Option Content) → next_is is_blank (ahead T) ≡ true → codes_left T ≤ most →
+    space_or_tab N.SpaceOrTab link 1 most (ahead T) ≡ Some (linked_leaf N.SpaceOrTab link (span is_blank (ahead T)).0, (span is_blank (ahead T)).1)
 space-there T link h l = space-all N.SpaceOrTab link most (ahead T) h (omega (arith, left-ahead T, l))
 
 read_of : Option (Forest × List Code) → Forest × List Code
 read_of None = (empty, [])
 read_of (Some r) = r
 
-spaced : (T U : Tokenizer) → EolReady T → next_is is_blank (ahead T) ≡ true → PartialSpaceOrTab.start_ends (scratched (space_asked T.tokenize_state) T) true U → Spaced T U
+spaced : (T U : Tokenizer) → EolReady T → next_is is_blank (ahead T) ≡ true →
+    PartialSpaceOrTab.start_ends (scratched (space_asked T.tokenize_state) T) true U → Spaced T U
 unfolding scratched read_of
 spaced T U r h k =
     let s : TokenizeState = T.tokenize_state in
@@ -93,7 +97,8 @@ spaced T U r h k =
 some-none : (o : Option (Forest × List Code)) (r : Forest × List Code) → o ≡ Some r → o ≡ None → ⊥
 some-none o r e h = cc
 
-never-refused : (T U : Tokenizer) → EolReady T → next_is is_blank (ahead T) ≡ true → PartialSpaceOrTab.start_ends (scratched (space_asked T.tokenize_state) T) false U → ⊥
+never-refused : (T U : Tokenizer) → EolReady T → next_is is_blank (ahead T) ≡ true →
+    PartialSpaceOrTab.start_ends (scratched (space_asked T.tokenize_state) T) false U → ⊥
 unfolding scratched
 never-refused T U r h k = some-none _ _ (space-there T T.tokenize_state.space_or_tab_eol_content h r.short) k.refused
 
@@ -104,7 +109,10 @@ spaced-scratch T U k = ap (λ (x : Tokenizer). x.tokenize_state) k.left
 -- After a line ending.
 
 -- the blank codes of a line, where these are their ends
-indent-closed : (link : Option Content) (previous : Option ℕ) (s : TokenizeState) (T : Tokenizer) (ok : Bool) (U : Tokenizer) → ok ≡ begins_filled_line (span is_blank (ahead T)).1 → U ≡ past previous (linked_leaf N.SpaceOrTab link (span is_blank (ahead T)).0) (scratched s T) → EndsAs (indent link) previous s T ok U
+indent-closed : (link : Option Content) (previous : Option ℕ) (s : TokenizeState) (T : Tokenizer) (ok : Bool) (U : Tokenizer) →
+    ok ≡ begins_filled_line (span is_blank (ahead T)).1 →
+    U ≡ past previous (linked_leaf N.SpaceOrTab link (span is_blank (ahead T)).0) (scratched s T) →
+    EndsAs (indent link) previous s T ok U
 unfolding scratched
 indent-closed link previous s T true U h k =
     let b : List Code × List Code = span is_blank (ahead T) in
@@ -112,7 +120,8 @@ indent-closed link previous s T true U h k =
     record { tree = linked_leaf N.SpaceOrTab link b.0; rest = b.1; holds = rw (← h) refl; left = k; whole = whole; after = ap ahead k ∙ ahead-past previous _ (scratched s T) _ whole }
 indent-closed link previous s T false U h k = record { refused = rw (← h) refl; fails = Fails-past previous _ s T U k }
 
-more-closed : (T U : Tokenizer) → EolReady T → Spaced T U → (ok : Bool) (V : Tokenizer) → after_more_ends U ok V → after_eol_ends T ok V
+more-closed : (T U : Tokenizer) → EolReady T → Spaced T U → (ok : Bool) (V : Tokenizer) → after_more_ends U ok V →
+    after_eol_ends T ok V
 unfolding scratched past
 more-closed T U r k ok V m =
     let s : TokenizeState = T.tokenize_state in
@@ -120,7 +129,8 @@ more-closed T U r k ok V m =
     indent-closed s.space_or_tab_eol_content (link_before s.space_or_tab_eol_connect T) (eol_rested s) T ok V (m.0 ∙ ap begins_filled_line k.after)
     (m.1 ∙ ap (λ (q : TokenizeState). scratched q U) rest ∙ ap (scratched (eol_rested s)) k.left)
 
-none-closed : (T : Tokenizer) → span is_blank (ahead T) ≡ ([], ahead T) → (ok : Bool) (V : Tokenizer) → after_more_ends T ok V → after_eol_ends T ok V
+none-closed : (T : Tokenizer) → span is_blank (ahead T) ≡ ([], ahead T) → (ok : Bool) (V : Tokenizer) →
+    after_more_ends T ok V → after_eol_ends T ok V
 none-closed T e ok V m =
     let s : TokenizeState = T.tokenize_state in
     let previous : Option ℕ = link_before s.space_or_tab_eol_connect T in
@@ -145,22 +155,31 @@ after_eol-law W within T alone r =
 
 -- At a line ending.
 
-pub linked-append : (xs : List Event) (a b : Event) → has_link a.link ≡ true → has_link b.link ≡ false → ends_linked (xs ++ a ∷ b ∷ []) ≡ true
+pub linked-append : (xs : List Event) (a b : Event) → has_link a.link ≡ true → has_link b.link ≡ false →
+    ends_linked (xs ++ a ∷ b ∷ []) ≡ true
 linked-append [] a b h k = rw (h, k) refl
 linked-append (x ∷ []) a b h k = linked-append [] a b h k
 linked-append (x ∷ y ∷ []) a b h k = linked-append [] a b h k
 linked-append (x ∷ y ∷ z ∷ xs) a b h k = linked-append (y ∷ z ∷ xs) a b h k
 
-joins-some : (content : Option Content) (connect : Bool) → (connect ≡ true → is_some content ≡ true) → joins content connect ≡ true → is_some content ≡ true
+joins-some : (content : Option Content) (connect : Bool) → (connect ≡ true → is_some content ≡ true) →
+    joins content connect ≡ true → is_some content ≡ true
 joins-some None connect h e = h e
 joins-some (Some x) connect h e = refl
 
-joined-linked : (content : Option Content) (connect : Bool) (c : Code) (q : TokenizeState) (T U : Tokenizer) → (connect ≡ true → is_some content ≡ true) → U ≡ past (link_before connect T) (linked_leaf N.LineEnding content (c ∷ [])) (scratched q T) → joins content connect ≡ true → LinkedBefore U
+joined-linked : (content : Option Content) (connect : Bool) (c : Code) (q : TokenizeState) (T U : Tokenizer) →
+    (connect ≡ true → is_some content ≡ true) →
+    U ≡ past (link_before connect T) (linked_leaf N.LineEnding content (c ∷ [])) (scratched q T) →
+    joins content connect ≡ true → LinkedBefore U
 unfolding past scratched
 joined-linked None connect c q T U h e k = let no : false ≡ true = h k in cc
-joined-linked (Some x) connect c q T U h e k = ap (λ (t : Tokenizer). ends_linked t.events) e ∙ linked-append T.events _ _ refl refl
+joined-linked (Some x) connect c q T U h e k =
+    ap (λ (t : Tokenizer). ends_linked t.events) e ∙ linked-append T.events _ _ refl refl
 
-joined-previous : (content : Option Content) (connect : Bool) (c : Code) (q : TokenizeState) (T U : Tokenizer) → (connect ≡ true → is_some content ≡ true) → U ≡ past (link_before connect T) (linked_leaf N.LineEnding content (c ∷ [])) (scratched q T) → link_before (joins content connect) U ≡ last_link (length T.events) (link_before connect T) (linked_leaf N.LineEnding content (c ∷ []))
+joined-previous : (content : Option Content) (connect : Bool) (c : Code) (q : TokenizeState) (T U : Tokenizer) →
+    (connect ≡ true → is_some content ≡ true) →
+    U ≡ past (link_before connect T) (linked_leaf N.LineEnding content (c ∷ [])) (scratched q T) →
+    link_before (joins content connect) U ≡ last_link (length T.events) (link_before connect T) (linked_leaf N.LineEnding content (c ∷ []))
 unfolding past scratched
 joined-previous None true c q T U h e = let no : false ≡ true = h refl in cc
 joined-previous None false c q T U h e = refl
@@ -170,25 +189,31 @@ joined-previous (Some x) connect c q T U h e =
     ap Some number
 
 abbrev past_ending : Code → Tokenizer → Tokenizer → Tokenizer
-past_ending c T U = past (link_before T.tokenize_state.space_or_tab_eol_connect T) (linked_leaf N.LineEnding T.tokenize_state.space_or_tab_eol_content (c ∷ [])) U
+past_ending c T U =
+    past (link_before T.tokenize_state.space_or_tab_eol_connect T) (linked_leaf N.LineEnding T.tokenize_state.space_or_tab_eol_content (c ∷ [])) U
 
-ending-passed : (T : Tokenizer) (b : Here is_line_ending T) → exited N.LineEnding (consumed (ending_entered T.tokenize_state T)) ≡ past_ending b.code T T
+ending-passed : (T : Tokenizer) (b : Here is_line_ending T) →
+    exited N.LineEnding (consumed (ending_entered T.tokenize_state T)) ≡ past_ending b.code T T
 unfolding passed applied past
-ending-passed T b = leaf-past N.LineEnding T.tokenize_state.space_or_tab_eol_content T.tokenize_state.space_or_tab_eol_connect b.code [] (ahead (consumed T)) T b.whole
+ending-passed T b =
+    leaf-past N.LineEnding T.tokenize_state.space_or_tab_eol_content T.tokenize_state.space_or_tab_eol_connect b.code [] (ahead (consumed T)) T b.whole
 
 abbrev left_by_ending : Tokenizer → Tokenizer
-left_by_ending T = scratched (joined T.tokenize_state) (exited N.LineEnding (consumed (ending_entered T.tokenize_state T)))
+left_by_ending T =
+    scratched (joined T.tokenize_state) (exited N.LineEnding (consumed (ending_entered T.tokenize_state T)))
 
 record Joined (c : Code) (T U : Tokenizer) : Type 0 where
   left : U ≡ past_ending c T (scratched (joined T.tokenize_state) T)
   scratch : U.tokenize_state ≡ joined T.tokenize_state
   here : ahead T ≡ c ∷ ahead U
 
-ending-joined : (T : Tokenizer) (b : Here is_line_ending T) → left_by_ending T ≡ past_ending b.code T (scratched (joined T.tokenize_state) T)
+ending-joined : (T : Tokenizer) (b : Here is_line_ending T) →
+    left_by_ending T ≡ past_ending b.code T (scratched (joined T.tokenize_state) T)
 unfolding scratched past
 ending-joined T b = ap (scratched (joined T.tokenize_state)) (ending-passed T b)
 
-joined-here : (T : Tokenizer) (b : Here is_line_ending T) (U : Tokenizer) → U ≡ past_ending b.code T (scratched (joined T.tokenize_state) T) → Joined b.code T U
+joined-here : (T : Tokenizer) (b : Here is_line_ending T) (U : Tokenizer) →
+    U ≡ past_ending b.code T (scratched (joined T.tokenize_state) T) → Joined b.code T U
 unfolding scratched past applied
 joined-here T b U k =
     record { left = k; scratch = ap (λ (x : Tokenizer). x.tokenize_state) k; here = b.whole ∙ ap (λ cs. b.code ∷ cs) (sym (ap ahead k)) }
@@ -205,7 +230,8 @@ joined-ready c T U r j =
       contents = λ h. ap is_some content ∙ joins-some s.space_or_tab_eol_content s.space_or_tab_eol_connect r.contents (sym connect ∙ h);
     }
 
-ending-closed : (c : Code) (T U : Tokenizer) → is_line_ending c ≡ true → EolReady T → Joined c T U → (ok : Bool) (V : Tokenizer) → after_eol_ends U ok V → at_eol_ends T ok V
+ending-closed : (c : Code) (T U : Tokenizer) → is_line_ending c ≡ true → EolReady T → Joined c T U →
+    (ok : Bool) (V : Tokenizer) → after_eol_ends U ok V → at_eol_ends T ok V
 ending-closed c T U h r j ok V k =
     let s : TokenizeState = T.tokenize_state in
     let t : Forest = linked_leaf N.LineEnding s.space_or_tab_eol_content (c ∷ []) in
@@ -216,7 +242,8 @@ ending-closed c T U h r j ok V k =
     (ap (at_ending s.space_or_tab_eol_content s.space_or_tab_eol_ok) j.here ∙ ending-here s.space_or_tab_eol_content s.space_or_tab_eol_ok c (ahead U) h)
     ok V (subst P j.scratch k)
 
-stop-closed : (T : Tokenizer) → next_is is_line_ending (ahead T) ≡ false → (ok : Bool) (V : Tokenizer) → (ok ≡ T.tokenize_state.space_or_tab_eol_ok) × (V ≡ scratched (eol_rested T.tokenize_state) T) → at_eol_ends T ok V
+stop-closed : (T : Tokenizer) → next_is is_line_ending (ahead T) ≡ false → (ok : Bool) (V : Tokenizer) →
+    (ok ≡ T.tokenize_state.space_or_tab_eol_ok) × (V ≡ scratched (eol_rested T.tokenize_state) T) → at_eol_ends T ok V
 unfolding scratched
 stop-closed T e true V k =
     let s : TokenizeState = T.tokenize_state in
@@ -229,7 +256,8 @@ stop-closed T e false V k =
 
 ending-alone : (T : Tokenizer) → T.attempts ≡ [] → (left_by_ending T).attempts ≡ []
 unfolding scratched applied
-ending-alone T h = entered-attempts N.LineEnding T.tokenize_state.space_or_tab_eol_content T.tokenize_state.space_or_tab_eol_connect T ∙ h
+ending-alone T h =
+    entered-attempts N.LineEnding T.tokenize_state.space_or_tab_eol_content T.tokenize_state.space_or_tab_eol_connect T ∙ h
 
 pub at_eol-law : (W : Words) → Within states_and_called W → Law W at_eol_words
 at_eol-law W within T alone r =
@@ -252,10 +280,12 @@ no-connect true h = sym (h refl)
 no-connect false h = refl
 
 -- blank codes at the start are not linked
-unconnected : (T : Tokenizer) → EolReady T → T.tokenize_state.space_or_tab_eol_content ≡ None → T.tokenize_state.space_or_tab_eol_connect ≡ false
+unconnected : (T : Tokenizer) → EolReady T → T.tokenize_state.space_or_tab_eol_content ≡ None →
+    T.tokenize_state.space_or_tab_eol_connect ≡ false
 unconnected T r e = no-connect T.tokenize_state.space_or_tab_eol_connect (λ c. sym (ap is_some e) ∙ r.contents c)
 
-first-ready : (T U : Tokenizer) → EolReady T → T.tokenize_state.space_or_tab_eol_content ≡ None → Spaced T U → AfterFirstReady U
+first-ready : (T U : Tokenizer) → EolReady T → T.tokenize_state.space_or_tab_eol_content ≡ None → Spaced T U →
+    AfterFirstReady U
 first-ready T U r e k =
     let s : TokenizeState = T.tokenize_state in
     let scratch : U.tokenize_state ≡ rested (space_asked s) = spaced-scratch T U k in
@@ -264,13 +294,17 @@ first-ready T U r e k =
     let never : U.tokenize_state.space_or_tab_eol_connect ≡ true → ⊥ = λ h. (let no : false ≡ true = sym connect ∙ h in cc) in
     record { goes_on = record { short = omega (arith, r.short, k.fewer); resting = ap rested scratch ∙ sym scratch; linked = λ h. absurd (never h); contents = λ h. absurd (never h) }; plain = content ∙ e }
 
-plain-previous : (link : Option Content) (connect : Bool) (cs : List Code) (T U : Tokenizer) → link ≡ None → connect ≡ false → link_before connect U ≡ last_link (length T.events) (link_before connect T) (linked_leaf N.SpaceOrTab link cs)
+plain-previous : (link : Option Content) (connect : Bool) (cs : List Code) (T U : Tokenizer) → link ≡ None →
+    connect ≡ false →
+    link_before connect U ≡ last_link (length T.events) (link_before connect T) (linked_leaf N.SpaceOrTab link cs)
 plain-previous None false [] T U e h = refl
 plain-previous None false (c ∷ cs) T U e h = refl
 plain-previous None true cs T U e h = cc
 plain-previous (Some x) connect cs T U e h = cc
 
-start-first : (T U : Tokenizer) → EolReady T → T.tokenize_state.space_or_tab_eol_content ≡ None → next_is is_blank (ahead T) ≡ true → Spaced T U → (ok : Bool) (V : Tokenizer) → after_first_ends U ok V → start_ends T ok V
+start-first : (T U : Tokenizer) → EolReady T → T.tokenize_state.space_or_tab_eol_content ≡ None →
+    next_is is_blank (ahead T) ≡ true → Spaced T U → (ok : Bool) (V : Tokenizer) → after_first_ends U ok V →
+    start_ends T ok V
 start-first T U r e h g ok V k =
     let s : TokenizeState = T.tokenize_state in
     let link : Option Content = s.space_or_tab_eol_content in
@@ -286,7 +320,8 @@ start-first T U r e h g ok V k =
     (spacing-then link (ahead T) h ∙ ap (λ cs. behind t (at_ending link true cs)) (sym g.after))
     ok V rest
 
-start-none : (T : Tokenizer) → T.tokenize_state.space_or_tab_eol_ok ≡ false → next_is is_blank (ahead T) ≡ false → (ok : Bool) (V : Tokenizer) → at_eol_ends T ok V → start_ends T ok V
+start-none : (T : Tokenizer) → T.tokenize_state.space_or_tab_eol_ok ≡ false → next_is is_blank (ahead T) ≡ false →
+    (ok : Bool) (V : Tokenizer) → at_eol_ends T ok V → start_ends T ok V
 start-none T z h ok V k =
     let s : TokenizeState = T.tokenize_state in
     let same : space_or_tab_eol s.space_or_tab_eol_content (ahead T) ≡ at_ending s.space_or_tab_eol_content s.space_or_tab_eol_ok (ahead T) = spacing-none s.space_or_tab_eol_content (ahead T) h ∙ ap (λ b. at_ending s.space_or_tab_eol_content b (ahead T)) (sym z) in
@@ -309,7 +344,8 @@ start-law W within T alone r =
     (λ ok V m. start-none T r.none_yet (sym (blank-ahead T) ∙ h) ok V m))
 
 -- of these states, and of any other as it is given
-pub laws : (W : Words) → Within states_and_called W → (t : StateName → StateWords) → AreLawful W t → AreLawful W (states t)
+pub laws : (W : Words) → Within states_and_called W → (t : StateName → StateWords) → AreLawful W t →
+    AreLawful W (states t)
 laws W within t other H.SpaceOrTabEolStart = start-law W within
 laws W within t other H.SpaceOrTabEolAfterFirst = after_first-law W within
 laws W within t other H.SpaceOrTabEolAtEol = at_eol-law W within

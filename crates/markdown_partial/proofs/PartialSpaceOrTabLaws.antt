@@ -41,7 +41,8 @@ after-law W T alone _ =
 abbrev more : Tokenizer → Tokenizer
 more T = scratched (sized (T.tokenize_state.space_or_tab_size + 1) T.tokenize_state) (consumed T)
 
-taken-more : (s : TokenizeState) (c : Code) (cs : List Code) → s.space_or_tab_size < s.space_or_tab_max → is_blank c ≡ true → taken s (c ∷ cs) ≡ c ∷ taken (sized (s.space_or_tab_size + 1) s) cs
+taken-more : (s : TokenizeState) (c : Code) (cs : List Code) → s.space_or_tab_size < s.space_or_tab_max →
+    is_blank c ≡ true → taken s (c ∷ cs) ≡ c ∷ taken (sized (s.space_or_tab_size + 1) s) cs
 taken-more s c cs h e =
     let less : s.space_or_tab_max - s.space_or_tab_size ≡ suc (s.space_or_tab_max - (s.space_or_tab_size + 1)) = omega arith in
     ap (λ n. take n (span is_blank (c ∷ cs)).0) less ∙ taken-first (s.space_or_tab_max - (s.space_or_tab_size + 1)) is_blank c cs e
@@ -49,7 +50,8 @@ taken-more s c cs h e =
 lt-gap : (a b : ℕ) → nat_lt a b ≡ nat_lt 0 (b - a)
 lt-gap a b = grind arith
 
-inside-more : (T : Tokenizer) → T.tokenize_state.space_or_tab_size < T.tokenize_state.space_or_tab_max → Here is_blank T → (ok : Bool) (U : Tokenizer) → inside_ends (more T) ok U → inside_ends T ok U
+inside-more : (T : Tokenizer) → T.tokenize_state.space_or_tab_size < T.tokenize_state.space_or_tab_max →
+    Here is_blank T → (ok : Bool) (U : Tokenizer) → inside_ends (more T) ok U → inside_ends T ok U
 unfolding scratched applied passed
 inside-more T l b ok U k =
     let s : TokenizeState = T.tokenize_state in
@@ -58,14 +60,16 @@ inside-more T l b ok U k =
     let size : (s.space_or_tab_size + 1) + length ws ≡ s.space_or_tab_size + length (taken s (ahead T)) = omega (arith, ap length whole) in
     (k.0 ∙ ap (nat_le s.space_or_tab_min) size, k.1 ∙ ap (λ xs. scratched (rested s) (exited s.space_or_tab_token (passed xs T))) (sym whole))
 
-inside-stop : (T : Tokenizer) → taken T.tokenize_state (ahead T) ≡ [] → (ok : Bool) (U : Tokenizer) → after_ends (exited T.tokenize_state.space_or_tab_token T) ok U → inside_ends T ok U
+inside-stop : (T : Tokenizer) → taken T.tokenize_state (ahead T) ≡ [] → (ok : Bool) (U : Tokenizer) →
+    after_ends (exited T.tokenize_state.space_or_tab_token T) ok U → inside_ends T ok U
 unfolding scratched applied passed
 inside-stop T e ok U k =
     let s : TokenizeState = T.tokenize_state in
     let size : s.space_or_tab_size ≡ s.space_or_tab_size + length (taken s (ahead T)) = omega (arith, ap length e) in
     (k.0 ∙ ap (nat_le s.space_or_tab_min) size, k.1 ∙ ap (λ xs. scratched (rested s) (exited s.space_or_tab_token (passed xs T))) (sym e))
 
-open-still : (T : Tokenizer) → IsOpen T.tokenize_state.space_or_tab_token T → IsOpen (more T).tokenize_state.space_or_tab_token (more T)
+open-still : (T : Tokenizer) → IsOpen T.tokenize_state.space_or_tab_token T →
+    IsOpen (more T).tokenize_state.space_or_tab_token (more T)
 unfolding scratched applied
 open-still T h = h
 
@@ -92,7 +96,10 @@ inside-law W within T alone token =
 
 -- From the start.
 
-space-closed : (name : Name) (link : Option Content) (min max : ℕ) (previous : Option ℕ) (s : TokenizeState) (T : Tokenizer) (ok : Bool) (U : Tokenizer) → ok ≡ nat_le min (length (take max (span is_blank (ahead T)).0)) → U ≡ past previous (linked_leaf name link (take max (span is_blank (ahead T)).0)) (scratched s T) → EndsAs (space_or_tab name link min max) previous s T ok U
+space-closed : (name : Name) (link : Option Content) (min max : ℕ) (previous : Option ℕ) (s : TokenizeState) (T : Tokenizer) (ok : Bool) (U : Tokenizer) →
+    ok ≡ nat_le min (length (take max (span is_blank (ahead T)).0)) →
+    U ≡ past previous (linked_leaf name link (take max (span is_blank (ahead T)).0)) (scratched s T) →
+    EndsAs (space_or_tab name link min max) previous s T ok U
 unfolding scratched
 space-closed name link min max previous s T true U h k =
     let ws : List Code = take max (span is_blank (ahead T)).0 in
@@ -102,14 +109,18 @@ space-closed name link min max previous s T true U h k =
 space-closed name link min max previous s T false U h k =
     record { refused = space-refused name link min max (ahead T) (sym h); fails = Fails-past previous _ s T U k }
 
-taken-some : (n : ℕ) (T : Tokenizer) → 0 < n → (b : Here is_blank T) → (ws : List Code) × (take n (span is_blank (ahead T)).0 ≡ b.code ∷ ws)
+taken-some : (n : ℕ) (T : Tokenizer) → 0 < n → (b : Here is_blank T) →
+    (ws : List Code) × (take n (span is_blank (ahead T)).0 ≡ b.code ∷ ws)
 taken-some zero T h b = absurd (omega arith)
-taken-some (suc n) T h b = (take n (span is_blank (ahead (consumed T))).0, ap (λ cs. take (suc n) (span is_blank cs).0) b.whole ∙ taken-first n is_blank b.code (ahead (consumed T)) b.passes)
+taken-some (suc n) T h b =
+    (take n (span is_blank (ahead (consumed T))).0, ap (λ cs. take (suc n) (span is_blank cs).0) b.whole ∙ taken-first n is_blank b.code (ahead (consumed T)) b.passes)
 
 abbrev entered_space : TokenizeState → Tokenizer → Tokenizer
 entered_space s T = entered_leaf s.space_or_tab_token s.space_or_tab_content s.space_or_tab_connect T
 
-start-inside : (T : Tokenizer) → 0 < T.tokenize_state.space_or_tab_max → T.tokenize_state.space_or_tab_size ≡ 0 → Here is_blank T → (ok : Bool) (U : Tokenizer) → inside_ends (entered_space T.tokenize_state T) ok U → start_ends T ok U
+start-inside : (T : Tokenizer) → 0 < T.tokenize_state.space_or_tab_max → T.tokenize_state.space_or_tab_size ≡ 0 →
+    Here is_blank T → (ok : Bool) (U : Tokenizer) → inside_ends (entered_space T.tokenize_state T) ok U →
+    start_ends T ok U
 unfolding scratched applied passed past
 start-inside T l z b ok U k =
     let s : TokenizeState = T.tokenize_state in
@@ -132,7 +143,9 @@ start-inside T l z b ok U k =
     (now.0 ∙ ap (nat_le s.space_or_tab_min) count)
     (now.1 ∙ ap (λ xs. scratched (rested s) (exited name (passed xs E))) all ∙ ap (scratched (rested s)) left)
 
-start-after : (T : Tokenizer) → T.tokenize_state.space_or_tab_size ≡ 0 → take T.tokenize_state.space_or_tab_max (span is_blank (ahead T)).0 ≡ [] → (ok : Bool) (U : Tokenizer) → after_ends T ok U → start_ends T ok U
+start-after : (T : Tokenizer) → T.tokenize_state.space_or_tab_size ≡ 0 →
+    take T.tokenize_state.space_or_tab_max (span is_blank (ahead T)).0 ≡ [] → (ok : Bool) (U : Tokenizer) →
+    after_ends T ok U → start_ends T ok U
 start-after T z e ok U k =
     let s : TokenizeState = T.tokenize_state in
     let previous : Option ℕ = link_before s.space_or_tab_connect T in
@@ -141,7 +154,8 @@ start-after T z e ok U k =
     (k.0 ∙ ap (nat_le s.space_or_tab_min) count)
     (k.1 ∙ sym (past-empty previous (scratched (rested s) T)) ∙ ap (λ xs. past previous (linked_leaf s.space_or_tab_token s.space_or_tab_content xs) (scratched (rested s) T)) (sym e))
 
-open-entered : (T : Tokenizer) → IsOpen (entered_space T.tokenize_state T).tokenize_state.space_or_tab_token (entered_space T.tokenize_state T)
+open-entered : (T : Tokenizer) →
+    IsOpen (entered_space T.tokenize_state T).tokenize_state.space_or_tab_token (entered_space T.tokenize_state T)
 open-entered T =
     let s : TokenizeState = T.tokenize_state in
     let E : Tokenizer = entered_space s T in

@@ -15,17 +15,21 @@ use Rattle.markdown_partial.specs.TrimmedEvents.{closes_ending, flag, goes_befor
 
 -- At the first event.
 
-pub head-drop : (i : ℕ) (es : List Event) (e : Event) → i < length es → e ≡ get_or es i e → drop i es ≡ e ∷ drop (i + 1) es
+pub head-drop : (i : ℕ) (es : List Event) (e : Event) → i < length es → e ≡ get_or es i e →
+    drop i es ≡ e ∷ drop (i + 1) es
 head-drop i es e l h = drop_more es i e l ∙ ap (λ x. x ∷ drop (i + 1) es) (sym h)
 
-pub closes-first : (bytes : List ℕ) (i : ℕ) (es : List Event) (e : Event) → i < length es → e ≡ get_or es i e → opens_data e ≡ true → FirstHasPlaces bytes (drop i es) → ClosesAt bytes e (drop (i + 1) es)
-closes-first bytes i es e l h o p = let q = subst (λ (xs : List Event). FirstHasPlaces bytes xs) (head-drop i es e l h) p in q o
+pub closes-first : (bytes : List ℕ) (i : ℕ) (es : List Event) (e : Event) → i < length es → e ≡ get_or es i e →
+    opens_data e ≡ true → FirstHasPlaces bytes (drop i es) → ClosesAt bytes e (drop (i + 1) es)
+closes-first bytes i es e l h o p =
+    let q = subst (λ (xs : List Event). FirstHasPlaces bytes xs) (head-drop i es e l h) p in q o
 
 some-left : (bytes : List ℕ) (e : Event) (xs : List Event) → ClosesAt bytes e xs → 0 < length xs
 some-left bytes e [] h = absurd h
 some-left bytes e (x ∷ xs) h = omega arith
 
-pub next-within : (bytes : List ℕ) (i : ℕ) (es : List Event) (e : Event) → ClosesAt bytes e (drop (i + 1) es) → i + 1 < length es
+pub next-within : (bytes : List ℕ) (i : ℕ) (es : List Event) (e : Event) → ClosesAt bytes e (drop (i + 1) es) →
+    i + 1 < length es
 next-within bytes i es e h =
     elim (cases_lt (i + 1) (length es)) [
       | inl l ↦ l
@@ -34,10 +38,15 @@ next-within bytes i es e h =
 
 -- One after the other.
 
-pub places-more : (bytes : List ℕ) (i : ℕ) (es : List Event) (e : Event) → i < length es → e ≡ get_or es i e → HasPlaces bytes (drop i es) → HasPlaces bytes (drop (i + 1) es)
+pub places-more : (bytes : List ℕ) (i : ℕ) (es : List Event) (e : Event) → i < length es → e ≡ get_or es i e →
+    HasPlaces bytes (drop i es) → HasPlaces bytes (drop (i + 1) es)
 places-more bytes i es e l h p = (subst (λ (xs : List Event). HasPlaces bytes xs) (head-drop i es e l h) p).1
 
-pub trims-more : (bytes : List ℕ) (hard whole : Bool) (i : ℕ) (front more : Bool) (es : List Event) (e : Event) (old new all : List Edit) → i < length es → e ≡ get_or es i e → more ≡ closes_ending e → new ≡ old ++ trim_first bytes hard whole i front (drop i es) → old ++ trims bytes hard whole i front (drop i es) ≡ all → new ++ trims bytes hard whole (i + 1) more (drop (i + 1) es) ≡ all
+pub trims-more : (bytes : List ℕ) (hard whole : Bool) (i : ℕ) (front more : Bool) (es : List Event) (e : Event) (old new all : List Edit) →
+    i < length es → e ≡ get_or es i e → more ≡ closes_ending e →
+    new ≡ old ++ trim_first bytes hard whole i front (drop i es) →
+    old ++ trims bytes hard whole i front (drop i es) ≡ all →
+    new ++ trims bytes hard whole (i + 1) more (drop (i + 1) es) ≡ all
 trims-more bytes hard whole i front more es e old new all l h c g k =
     let here : List Edit = trim_first bytes hard whole i front (drop i es) in
     let rest : List Edit = trims bytes hard whole (i + 1) more (drop (i + 1) es) in
@@ -50,7 +59,8 @@ trims-more bytes hard whole i front more es e old new all l h c g k =
     ap (λ ys. ys ++ rest) g ∙ append_assoc old here rest ∙ ap (λ ys. old ++ ys) (sym step) ∙ k
 
 -- behind an event that is passed
-pub flag-next : (k : ℕ) (front : Bool) (es : List Event) (e : Event) → k < length es → e ≡ get_or es k e → flag (suc k) front es ≡ closes_ending e
+pub flag-next : (k : ℕ) (front : Bool) (es : List Event) (e : Event) → k < length es → e ≡ get_or es k e →
+    flag (suc k) front es ≡ closes_ending e
 flag-next k front [] e l h = absurd (omega (arith, l))
 flag-next zero front (x ∷ es) e l h = ap closes_ending (sym h)
 flag-next (suc k) front (x ∷ es) e l h = flag-next k (closes_ending x) es e (omega (arith, l)) h
@@ -60,10 +70,14 @@ event-at k [] l = absurd (omega (arith, l))
 event-at zero (x ∷ es) l = (x, refl)
 event-at (suc k) (x ∷ es) l = event-at k es (omega (arith, l))
 
-pub places-on : (bytes : List ℕ) (i : ℕ) (es : List Event) → i < length es → HasPlaces bytes (drop i es) → HasPlaces bytes (drop (i + 1) es)
+pub places-on : (bytes : List ℕ) (i : ℕ) (es : List Event) → i < length es → HasPlaces bytes (drop i es) →
+    HasPlaces bytes (drop (i + 1) es)
 places-on bytes i es l p = let at = event-at i es l in places-more bytes i es at.0 l at.1 p
 
-pub trims-on : (bytes : List ℕ) (hard whole : Bool) (i : ℕ) (es : List Event) (old new all : List Edit) → i < length es → new ≡ old ++ trim_first bytes hard whole i (flag i whole es) (drop i es) → old ++ trims bytes hard whole i (flag i whole es) (drop i es) ≡ all → new ++ trims bytes hard whole (i + 1) (flag (i + 1) whole es) (drop (i + 1) es) ≡ all
+pub trims-on : (bytes : List ℕ) (hard whole : Bool) (i : ℕ) (es : List Event) (old new all : List Edit) →
+    i < length es → new ≡ old ++ trim_first bytes hard whole i (flag i whole es) (drop i es) →
+    old ++ trims bytes hard whole i (flag i whole es) (drop i es) ≡ all →
+    new ++ trims bytes hard whole (i + 1) (flag (i + 1) whole es) (drop (i + 1) es) ≡ all
 trims-on bytes hard whole i es old new all l g k =
     let at = event-at i es l in
     let one : i + 1 ≡ suc i = omega arith in
@@ -80,7 +94,8 @@ begins_cut bytes whole front (e ∷ x ∷ es) = opens_data e && loses front (goe
 abbrev pub comes : List ℕ → Bool → Bool → Bool → List Event → List Event
 comes bytes hard whole front [] = []
 comes bytes hard whole front (e ∷ []) = []
-comes bytes hard whole front (e ∷ x ∷ es) = if opens_data e && loses front (goes_before whole es) bytes e.point x.point then trimmed_events front (goes_before whole es) (hard && goes_before false es) bytes e.point x.point else []
+comes bytes hard whole front (e ∷ x ∷ es) =
+    if opens_data e && loses front (goes_before whole es) bytes e.point x.point then trimmed_events front (goes_before whole es) (hard && goes_before false es) bytes e.point x.point else []
 
 abbrev pub two : Bool → ℕ
 two true = 2
@@ -128,36 +143,51 @@ and-first true b h = refl
 and-first false b h = cc
 
 module _ (bytes : List ℕ) (hard whole : Bool) where
-  front-by : (i n : ℕ) (front : Bool) (e x : Event) (es : List Event) (log : List Edit) (b : Bool) → front_at i log ≡ [] → front_at i ((if b then trim bytes hard whole n front e x es ∷ [] else []) ++ log) ≡ []
-  front-by i n front e x es log true h = ap (λ xs. xs ++ (if (n == i) && false then trimmed_events front (goes_before whole es) (hard && goes_before false es) bytes e.point x.point else [])) h ∙ no-front (n == i) (trimmed_events front (goes_before whole es) (hard && goes_before false es) bytes e.point x.point)
+  front-by : (i n : ℕ) (front : Bool) (e x : Event) (es : List Event) (log : List Edit) (b : Bool) →
+      front_at i log ≡ [] → front_at i ((if b then trim bytes hard whole n front e x es ∷ [] else []) ++ log) ≡ []
+  front-by i n front e x es log true h =
+      ap (λ xs. xs ++ (if (n == i) && false then trimmed_events front (goes_before whole es) (hard && goes_before false es) bytes e.point x.point else [])) h ∙ no-front (n == i) (trimmed_events front (goes_before whole es) (hard && goes_before false es) bytes e.point x.point)
   front-by i n front e x es log false h = h
 
-  front-first : (i n : ℕ) (front : Bool) (es : List Event) (log : List Edit) → front_at i log ≡ [] → front_at i (trim_first bytes hard whole n front es ++ log) ≡ []
+  front-first : (i n : ℕ) (front : Bool) (es : List Event) (log : List Edit) → front_at i log ≡ [] →
+      front_at i (trim_first bytes hard whole n front es ++ log) ≡ []
   front-first i n front [] log h = h
   front-first i n front (e ∷ []) log h = h
-  front-first i n front (e ∷ x ∷ es) log h = front-by i n front e x es log (opens_data e && loses front (goes_before whole es) bytes e.point x.point) h
+  front-first i n front (e ∷ x ∷ es) log h =
+      front-by i n front e x es log (opens_data e && loses front (goes_before whole es) bytes e.point x.point) h
 
   front-trims : (i n : ℕ) (front : Bool) (es : List Event) → front_at i (trims bytes hard whole n front es) ≡ []
   front-trims i n front [] = refl
-  front-trims i n front (e ∷ es) = front-first i n front (e ∷ es) (trims bytes hard whole (suc n) (closes_ending e) es) (front-trims i (suc n) (closes_ending e) es)
+  front-trims i n front (e ∷ es) =
+      front-first i n front (e ∷ es) (trims bytes hard whole (suc n) (closes_ending e) es) (front-trims i (suc n) (closes_ending e) es)
 
-  back-by : (i n : ℕ) (front : Bool) (e x : Event) (es : List Event) (log : List Edit) (b : Bool) → back_at i ((if b then trim bytes hard whole n front e x es ∷ [] else []) ++ log) ≡ (if n == i then (if b then trimmed_events front (goes_before whole es) (hard && goes_before false es) bytes e.point x.point else []) else []) ++ back_at i log
-  back-by i n front e x es log true = ap (λ xs. xs ++ back_at i log) (yes-back (n == i) (trimmed_events front (goes_before whole es) (hard && goes_before false es) bytes e.point x.point))
+  back-by : (i n : ℕ) (front : Bool) (e x : Event) (es : List Event) (log : List Edit) (b : Bool) →
+      back_at i ((if b then trim bytes hard whole n front e x es ∷ [] else []) ++ log) ≡ (if n == i then (if b then trimmed_events front (goes_before whole es) (hard && goes_before false es) bytes e.point x.point else []) else []) ++ back_at i log
+  back-by i n front e x es log true =
+      ap (λ xs. xs ++ back_at i log) (yes-back (n == i) (trimmed_events front (goes_before whole es) (hard && goes_before false es) bytes e.point x.point))
   back-by i n front e x es log false = ap (λ xs. xs ++ back_at i log) (sym (never (n == i)))
 
-  back-first : (i n : ℕ) (front : Bool) (es : List Event) (log : List Edit) → back_at i (trim_first bytes hard whole n front es ++ log) ≡ (if n == i then comes bytes hard whole front es else []) ++ back_at i log
+  back-first : (i n : ℕ) (front : Bool) (es : List Event) (log : List Edit) →
+      back_at i (trim_first bytes hard whole n front es ++ log) ≡ (if n == i then comes bytes hard whole front es else []) ++ back_at i log
   back-first i n front [] log = ap (λ xs. xs ++ back_at i log) (sym (never (n == i)))
   back-first i n front (e ∷ []) log = ap (λ xs. xs ++ back_at i log) (sym (never (n == i)))
-  back-first i n front (e ∷ x ∷ es) log = back-by i n front e x es log (opens_data e && loses front (goes_before whole es) bytes e.point x.point)
+  back-first i n front (e ∷ x ∷ es) log =
+      back-by i n front e x es log (opens_data e && loses front (goes_before whole es) bytes e.point x.point)
 
-  removed-by : (i n : ℕ) (front : Bool) (e x : Event) (es : List Event) (log : List Edit) (b : Bool) → removed_at i ((if b then trim bytes hard whole n front e x es ∷ [] else []) ++ log) ≡ (if n == i then two b else 0) + removed_at i log
+  removed-by : (i n : ℕ) (front : Bool) (e x : Event) (es : List Event) (log : List Edit) (b : Bool) →
+      removed_at i ((if b then trim bytes hard whole n front e x es ∷ [] else []) ++ log) ≡ (if n == i then two b else 0) + removed_at i log
   removed-by i n front e x es log true = refl
-  removed-by i n front e x es log false = zero-plus (removed_at i log) ∙ ap (λ k. k + removed_at i log) (sym (zero-if (n == i)))
+  removed-by i n front e x es log false =
+      zero-plus (removed_at i log) ∙ ap (λ k. k + removed_at i log) (sym (zero-if (n == i)))
 
-  removed-first : (i n : ℕ) (front : Bool) (es : List Event) (log : List Edit) → removed_at i (trim_first bytes hard whole n front es ++ log) ≡ (if n == i then two (begins_cut bytes whole front es) else 0) + removed_at i log
-  removed-first i n front [] log = zero-plus (removed_at i log) ∙ ap (λ k. k + removed_at i log) (sym (zero-if (n == i)))
-  removed-first i n front (e ∷ []) log = zero-plus (removed_at i log) ∙ ap (λ k. k + removed_at i log) (sym (zero-if (n == i)))
-  removed-first i n front (e ∷ x ∷ es) log = removed-by i n front e x es log (opens_data e && loses front (goes_before whole es) bytes e.point x.point)
+  removed-first : (i n : ℕ) (front : Bool) (es : List Event) (log : List Edit) →
+      removed_at i (trim_first bytes hard whole n front es ++ log) ≡ (if n == i then two (begins_cut bytes whole front es) else 0) + removed_at i log
+  removed-first i n front [] log =
+      zero-plus (removed_at i log) ∙ ap (λ k. k + removed_at i log) (sym (zero-if (n == i)))
+  removed-first i n front (e ∷ []) log =
+      zero-plus (removed_at i log) ∙ ap (λ k. k + removed_at i log) (sym (zero-if (n == i)))
+  removed-first i n front (e ∷ x ∷ es) log =
+      removed-by i n front e x es log (opens_data e && loses front (goes_before whole es) bytes e.point x.point)
 
   back-earlier : (i n : ℕ) (front : Bool) (es : List Event) → i < n → back_at i (trims bytes hard whole n front es) ≡ []
   back-earlier i n front [] l = refl
@@ -166,7 +196,8 @@ module _ (bytes : List ℕ) (hard whole : Bool) where
       ∙ ap (λ b. (if b then comes bytes hard whole front (e ∷ es) else []) ++ back_at i (trims bytes hard whole (suc n) (closes_ending e) es)) (ne_eqb n i (λ h. omega (arith, h)))
       ∙ back-earlier i (suc n) (closes_ending e) es (omega arith)
 
-  removed-earlier : (i n : ℕ) (front : Bool) (es : List Event) → i < n → removed_at i (trims bytes hard whole n front es) ≡ 0
+  removed-earlier : (i n : ℕ) (front : Bool) (es : List Event) → i < n →
+      removed_at i (trims bytes hard whole n front es) ≡ 0
   removed-earlier i n front [] l = refl
   removed-earlier i n front (e ∷ es) l =
       removed-first i n front (e ∷ es) (trims bytes hard whole (suc n) (closes_ending e) es)
@@ -174,7 +205,8 @@ module _ (bytes : List ℕ) (hard whole : Bool) where
       ∙ sym (zero-plus (removed_at i (trims bytes hard whole (suc n) (closes_ending e) es)))
       ∙ removed-earlier i (suc n) (closes_ending e) es (omega arith)
 
-  back-place : (i n k : ℕ) (front : Bool) (es : List Event) → i ≡ n + k → back_at i (trims bytes hard whole n front es) ≡ comes bytes hard whole (flag k front es) (drop k es)
+  back-place : (i n k : ℕ) (front : Bool) (es : List Event) → i ≡ n + k →
+      back_at i (trims bytes hard whole n front es) ≡ comes bytes hard whole (flag k front es) (drop k es)
   back-place i n zero front [] e = refl
   back-place i n (suc k) front [] e = refl
   back-place i n zero front (x ∷ es) e =
@@ -187,7 +219,8 @@ module _ (bytes : List ℕ) (hard whole : Bool) where
       ∙ ap (λ b. (if b then comes bytes hard whole front (x ∷ es) else []) ++ back_at i (trims bytes hard whole (suc n) (closes_ending x) es)) (ne_eqb n i (λ h. omega (arith, e, h)))
       ∙ back-place i (suc n) k (closes_ending x) es (omega (arith, e))
 
-  removed-place : (i n k : ℕ) (front : Bool) (es : List Event) → i ≡ n + k → removed_at i (trims bytes hard whole n front es) ≡ two (begins_cut bytes whole (flag k front es) (drop k es))
+  removed-place : (i n k : ℕ) (front : Bool) (es : List Event) → i ≡ n + k →
+      removed_at i (trims bytes hard whole n front es) ≡ two (begins_cut bytes whole (flag k front es) (drop k es))
   removed-place i n zero front [] e = refl
   removed-place i n (suc k) front [] e = refl
   removed-place i n zero front (x ∷ es) e =
@@ -204,10 +237,13 @@ module _ (bytes : List ℕ) (hard whole : Bool) where
   abbrev pub log_of : List Event → List Edit
   log_of es = trims bytes hard whole 0 whole es
 
-  pub added-here : (k : ℕ) (es : List Event) → added_at k (log_of es) ≡ comes bytes hard whole (flag k whole es) (drop k es)
-  added-here k es = ap (λ xs. xs ++ back_at k (log_of es)) (front-trims k 0 whole es) ∙ back-place k 0 k whole es (omega arith)
+  pub added-here : (k : ℕ) (es : List Event) →
+      added_at k (log_of es) ≡ comes bytes hard whole (flag k whole es) (drop k es)
+  added-here k es =
+      ap (λ xs. xs ++ back_at k (log_of es)) (front-trims k 0 whole es) ∙ back-place k 0 k whole es (omega arith)
 
-  pub removed-here : (k : ℕ) (es : List Event) → removed_at k (log_of es) ≡ two (begins_cut bytes whole (flag k whole es) (drop k es))
+  pub removed-here : (k : ℕ) (es : List Event) →
+      removed_at k (log_of es) ≡ two (begins_cut bytes whole (flag k whole es) (drop k es))
   removed-here k es = removed-place k 0 k whole es (omega arith)
 
   two-most : (b : Bool) → two b ≤ 2
@@ -215,7 +251,9 @@ module _ (bytes : List ℕ) (hard whole : Bool) where
   two-most false = omega arith
 
   -- what no data that loses codes stands at, or just before, stays
-  pub stays-here : (j : ℕ) (es : List Event) → begins_cut bytes whole (flag j whole es) (drop j es) ≡ false → ((p : ℕ) → suc p ≡ j → begins_cut bytes whole (flag p whole es) (drop p es) ≡ false) → is_removed (log_of es) j ≡ false
+  pub stays-here : (j : ℕ) (es : List Event) → begins_cut bytes whole (flag j whole es) (drop j es) ≡ false →
+      ((p : ℕ) → suc p ≡ j → begins_cut bytes whole (flag p whole es) (drop p es) ≡ false) →
+      is_removed (log_of es) j ≡ false
   stays-here j es h k = stays-where (log_of es) j (λ p l. reach p l)
     where
       reach : (p : ℕ) → p ≤ j → p + removed_at p (log_of es) ≤ j
@@ -229,51 +267,68 @@ module _ (bytes : List ℕ) (hard whole : Bool) where
                 ]
           ]
 
-  pub goes-first : (j : ℕ) (es : List Event) → begins_cut bytes whole (flag j whole es) (drop j es) ≡ true → is_removed (log_of es) j ≡ true
-  goes-first j es h = let r = removed-here j es ∙ ap two h in goes-where (log_of es) j j (omega arith) (omega (arith, r))
+  pub goes-first : (j : ℕ) (es : List Event) → begins_cut bytes whole (flag j whole es) (drop j es) ≡ true →
+      is_removed (log_of es) j ≡ true
+  goes-first j es h =
+      let r = removed-here j es ∙ ap two h in goes-where (log_of es) j j (omega arith) (omega (arith, r))
 
-  pub goes-second : (j : ℕ) (es : List Event) → begins_cut bytes whole (flag j whole es) (drop j es) ≡ true → is_removed (log_of es) (suc j) ≡ true
-  goes-second j es h = let r = removed-here j es ∙ ap two h in goes-where (log_of es) (suc j) j (omega arith) (omega (arith, r))
+  pub goes-second : (j : ℕ) (es : List Event) → begins_cut bytes whole (flag j whole es) (drop j es) ≡ true →
+      is_removed (log_of es) (suc j) ≡ true
+  goes-second j es h =
+      let r = removed-here j es ∙ ap two h in goes-where (log_of es) (suc j) j (omega arith) (omega (arith, r))
 
   -- The edits may be made.
 
-  within-by : (n m : ℕ) (front : Bool) (e x : Event) (es : List Event) (log : List Edit) (b : Bool) → n ≤ m → All (λ d. d.at ≤ m) log → All (λ d. d.at ≤ m) ((if b then trim bytes hard whole n front e x es ∷ [] else []) ++ log)
+  within-by : (n m : ℕ) (front : Bool) (e x : Event) (es : List Event) (log : List Edit) (b : Bool) → n ≤ m →
+      All (λ d. d.at ≤ m) log →
+      All (λ d. d.at ≤ m) ((if b then trim bytes hard whole n front e x es ∷ [] else []) ++ log)
   within-by n m front e x es log true h a = All-cons (λ d. d.at ≤ m) (trim bytes hard whole n front e x es) log h a
   within-by n m front e x es log false h a = a
 
-  within-first : (n m : ℕ) (front : Bool) (es : List Event) (log : List Edit) → n ≤ m → All (λ d. d.at ≤ m) log → All (λ d. d.at ≤ m) (trim_first bytes hard whole n front es ++ log)
+  within-first : (n m : ℕ) (front : Bool) (es : List Event) (log : List Edit) → n ≤ m → All (λ d. d.at ≤ m) log →
+      All (λ d. d.at ≤ m) (trim_first bytes hard whole n front es ++ log)
   within-first n m front [] log h a = a
   within-first n m front (e ∷ []) log h a = a
-  within-first n m front (e ∷ x ∷ es) log h a = within-by n m front e x es log (opens_data e && loses front (goes_before whole es) bytes e.point x.point) h a
+  within-first n m front (e ∷ x ∷ es) log h a =
+      within-by n m front e x es log (opens_data e && loses front (goes_before whole es) bytes e.point x.point) h a
 
-  within : (n m : ℕ) (front : Bool) (es : List Event) → n + length es ≤ m → All (λ d. d.at ≤ m) (trims bytes hard whole n front es)
+  within : (n m : ℕ) (front : Bool) (es : List Event) → n + length es ≤ m →
+      All (λ d. d.at ≤ m) (trims bytes hard whole n front es)
   within n m front [] h = All-nil (λ d. d.at ≤ m)
-  within n m front (e ∷ es) h = within-first n m front (e ∷ es) (trims bytes hard whole (suc n) (closes_ending e) es) (omega arith) (within (suc n) m (closes_ending e) es (omega arith))
+  within n m front (e ∷ es) h =
+      within-first n m front (e ∷ es) (trims bytes hard whole (suc n) (closes_ending e) es) (omega arith) (within (suc n) m (closes_ending e) es (omega arith))
 
   places-drop : (j : ℕ) (es : List Event) → HasPlaces bytes es → HasPlaces bytes (drop j es)
   places-drop zero es h = h
   places-drop (suc j) [] h = h
   places-drop (suc j) (e ∷ es) h = places-drop j es h.1
 
-  first-linked-none : (front : Bool) (xs : List Event) → begins_cut bytes whole front xs ≡ true → HasPlaces bytes xs → linked_at xs 0 ≡ false
+  first-linked-none : (front : Bool) (xs : List Event) → begins_cut bytes whole front xs ≡ true → HasPlaces bytes xs →
+      linked_at xs 0 ≡ false
   first-linked-none front [] h p = refl
   first-linked-none front (e ∷ []) h p = cc
-  first-linked-none front (e ∷ x ∷ xs) h p = opens-unlinked (is_enter e.kind) (is_data e.name) (has_link e.link) (and-first (opens_data e) (loses front (goes_before whole xs) bytes e.point x.point) h)
+  first-linked-none front (e ∷ x ∷ xs) h p =
+      opens-unlinked (is_enter e.kind) (is_data e.name) (has_link e.link) (and-first (opens_data e) (loses front (goes_before whole xs) bytes e.point x.point) h)
 
-  second-linked-none : (front : Bool) (xs : List Event) → begins_cut bytes whole front xs ≡ true → HasPlaces bytes xs → linked_at xs 1 ≡ false
+  second-linked-none : (front : Bool) (xs : List Event) → begins_cut bytes whole front xs ≡ true → HasPlaces bytes xs →
+      linked_at xs 1 ≡ false
   second-linked-none front [] h p = refl
   second-linked-none front (e ∷ []) h p = refl
-  second-linked-none front (e ∷ x ∷ xs) h p = ap has_link (p.0 (and-first (opens_data e) (loses front (goes_before whole xs) bytes e.point x.point) h)).1
+  second-linked-none front (e ∷ x ∷ xs) h p =
+      ap has_link (p.0 (and-first (opens_data e) (loses front (goes_before whole xs) bytes e.point x.point) h)).1
 
-  goes-unlinked : (j : ℕ) (es : List Event) → HasPlaces bytes es → is_removed (log_of es) j ≡ true → linked_at es j ≡ false
+  goes-unlinked : (j : ℕ) (es : List Event) → HasPlaces bytes es → is_removed (log_of es) j ≡ true →
+      linked_at es j ≡ false
   goes-unlinked j es p h =
       elim (cases_Bool (begins_cut bytes whole (flag j whole es) (drop j es))) [
         | inl b ↦ linked-drop 0 j es j (omega arith) ∙ first-linked-none (flag j whole es) (drop j es) b (places-drop j es p)
         | inr b ↦ unlinked-before j es p h b
       ]
     where
-      unlinked-before : (j : ℕ) (es : List Event) → HasPlaces bytes es → is_removed (log_of es) j ≡ true → begins_cut bytes whole (flag j whole es) (drop j es) ≡ false → linked_at es j ≡ false
-      unlinked-before zero es p h b = absurd (both_ways (is_removed (log_of es) zero) (stays-here zero es b (λ q e. absurd (omega (arith, e)))) h)
+      unlinked-before : (j : ℕ) (es : List Event) → HasPlaces bytes es → is_removed (log_of es) j ≡ true →
+          begins_cut bytes whole (flag j whole es) (drop j es) ≡ false → linked_at es j ≡ false
+      unlinked-before zero es p h b =
+          absurd (both_ways (is_removed (log_of es) zero) (stays-here zero es b (λ q e. absurd (omega (arith, e)))) h)
       unlinked-before (suc j) es p h b =
           elim (cases_Bool (begins_cut bytes whole (flag j whole es) (drop j es))) [
             | inl d ↦ linked-drop 1 j es (suc j) (omega arith) ∙ second-linked-none (flag j whole es) (drop j es) d (places-drop j es p)
@@ -281,4 +336,5 @@ module _ (bytes : List ℕ) (hard whole : Bool) where
           ]
 
   pub can-trim : (es : List Event) → HasPlaces bytes es → CanEdit (log_of es) es
-  can-trim es p = record { places = within 0 (length es) whole es (omega arith); unlinked = λ j h. goes-unlinked j es p h }
+  can-trim es p =
+      record { places = within 0 (length es) whole es (omega arith); unlinked = λ j h. goes-unlinked j es p h }

@@ -40,23 +40,27 @@ use Rattle.markdown_engine_content.proofs.PlaceRules.{drop-more}
 
 -- Trimming, step by step.
 
-pub trimmed-data : (hard front whole : Bool) (cs : List Code) (rest : Forest) → trimmed hard front whole (leaf_then N.Data None cs rest) ≡ trimmed_data front (begins_line_ending rest || (whole && is_nothing rest)) (hard && begins_line_ending rest) cs ⊕ trimmed hard false whole rest
+pub trimmed-data : (hard front whole : Bool) (cs : List Code) (rest : Forest) →
+    trimmed hard front whole (leaf_then N.Data None cs rest) ≡ trimmed_data front (begins_line_ending rest || (whole && is_nothing rest)) (hard && begins_line_ending rest) cs ⊕ trimmed hard false whole rest
 unfolding trimmed
 trimmed-data hard front whole cs rest = refl
 
-pub trimmed-other : (hard front whole : Bool) (n : Name) (cs : List Code) (rest : Forest) → is_data n ≡ false → trimmed hard front whole (leaf_then n None cs rest) ≡ leaf_then n None cs (trimmed hard (is_ending n) whole rest)
+pub trimmed-other : (hard front whole : Bool) (n : Name) (cs : List Code) (rest : Forest) → is_data n ≡ false →
+    trimmed hard front whole (leaf_then n None cs rest) ≡ leaf_then n None cs (trimmed hard (is_ending n) whole rest)
 unfolding trimmed
 trimmed-other hard front whole N.Data cs rest e = cc
 trimmed-other hard front whole N.LineEnding cs rest e = refl
 trimmed-other hard front whole _ cs rest e = refl
 
-pub trimmed-linked : (hard front whole : Bool) (n : Name) (c : Content) (cs : List Code) (rest : Forest) → trimmed hard front whole (leaf_then n (Some c) cs rest) ≡ leaf_then n (Some c) cs (trimmed hard (is_ending n) whole rest)
+pub trimmed-linked : (hard front whole : Bool) (n : Name) (c : Content) (cs : List Code) (rest : Forest) →
+    trimmed hard front whole (leaf_then n (Some c) cs rest) ≡ leaf_then n (Some c) cs (trimmed hard (is_ending n) whole rest)
 unfolding trimmed
 trimmed-linked hard front whole N.Data c cs rest = refl
 trimmed-linked hard front whole N.LineEnding c cs rest = refl
 trimmed-linked hard front whole _ c cs rest = refl
 
-pub trimmed-group : (hard front whole : Bool) (n : Name) (p q : Point) (inside rest : Forest) → trimmed hard front whole (group_then n p q inside rest) ≡ group_then n p q (trimmed hard false false inside) (trimmed hard false whole rest)
+pub trimmed-group : (hard front whole : Bool) (n : Name) (p q : Point) (inside rest : Forest) →
+    trimmed hard front whole (group_then n p q inside rest) ≡ group_then n p q (trimmed hard false false inside) (trimmed hard false whole rest)
 unfolding trimmed
 trimmed-group hard front whole n p q inside rest = refl
 
@@ -82,7 +86,8 @@ leaf-some : (name : Name) (cs : List Code) (rest : Forest) → cs ≢ [] → lea
 leaf-some name [] rest h = absurd (h refl)
 leaf-some name (c ∷ cs) rest h = refl
 
-trimmed-none : (front back hard : Bool) (cs : List Code) → loses_blank front back cs ≡ false → trimmed_data front back hard cs ≡ leaf N.Data cs
+trimmed-none : (front back hard : Bool) (cs : List Code) → loses_blank front back cs ≡ false →
+    trimmed_data front back hard cs ≡ leaf N.Data cs
 trimmed-none front back hard cs h =
     let parts = or_parts (front && starts_blank cs) (back && ends_blank cs) h in
     ap (λ (d : List Code × List Code). leaf N.SpaceOrTab (lead_of front (reverse d.1)).0 ⊕ leaf N.Data (lead_of front (reverse d.1)).1 ⊕ leaf (blank_name hard (reverse d.0)) (reverse d.0)) (cut-none back cs parts.1)
@@ -92,7 +97,8 @@ trimmed-none front back hard cs h =
 
 -- What follows a data.
 
-begins-is : (n : Name) (l : Option Content) (cs : List Code) (rest : Forest) → begins_line_ending (leaf_then n l cs rest) ≡ is_ending n
+begins-is : (n : Name) (l : Option Content) (cs : List Code) (rest : Forest) →
+    begins_line_ending (leaf_then n l cs rest) ≡ is_ending n
 begins-is N.LineEnding l cs rest = refl
 begins-is _ l cs rest = refl
 
@@ -105,19 +111,26 @@ and-one : (w : Bool) → w ≡ w && true
 and-one true = refl
 and-one false = refl
 
-before-row : (bytes : List ℕ) (whole w : Bool) (n : ℕ) (previous : Option ℕ) (row : Forest) (tail : List Event) → HasParts bytes row → w ≡ goes_before whole tail → goes_before whole (appended_from n previous row ++ tail) ≡ begins_line_ending row || (w && is_nothing row)
+before-row : (bytes : List ℕ) (whole w : Bool) (n : ℕ) (previous : Option ℕ) (row : Forest) (tail : List Event) →
+    HasParts bytes row → w ≡ goes_before whole tail →
+    goes_before whole (appended_from n previous row ++ tail) ≡ begins_line_ending row || (w && is_nothing row)
 before-row bytes whole w n previous empty tail h e = sym e ∙ and-one w
-before-row bytes whole w n previous (leaf_then name None cs rest) tail h e = sym (begins-is name None cs rest) ∙ or-none (begins_line_ending (leaf_then name None cs rest)) w
-before-row bytes whole w n previous (leaf_then name (Some c) cs rest) tail h e = sym (begins-is name (Some c) cs rest) ∙ or-none (begins_line_ending (leaf_then name (Some c) cs rest)) w
+before-row bytes whole w n previous (leaf_then name None cs rest) tail h e =
+    sym (begins-is name None cs rest) ∙ or-none (begins_line_ending (leaf_then name None cs rest)) w
+before-row bytes whole w n previous (leaf_then name (Some c) cs rest) tail h e =
+    sym (begins-is name (Some c) cs rest) ∙ or-none (begins_line_ending (leaf_then name (Some c) cs rest)) w
 before-row bytes whole w n previous (group_then name p q inside rest) tail h e = h.0.1 ∙ or-none false w
 
 -- a row that no line ending stands behind
-ending-row : (bytes : List ℕ) (n : ℕ) (previous : Option ℕ) (row : Forest) (tail : List Event) → HasParts bytes row → goes_before false tail ≡ false → goes_before false (appended_from n previous row ++ tail) ≡ begins_line_ending row
-ending-row bytes n previous row tail h e = before-row bytes false false n previous row tail h (sym e) ∙ sym (or-none (begins_line_ending row) false)
+ending-row : (bytes : List ℕ) (n : ℕ) (previous : Option ℕ) (row : Forest) (tail : List Event) → HasParts bytes row →
+    goes_before false tail ≡ false → goes_before false (appended_from n previous row ++ tail) ≡ begins_line_ending row
+ending-row bytes n previous row tail h e =
+    before-row bytes false false n previous row tail h (sym e) ∙ sym (or-none (begins_line_ending row) false)
 
 -- Part of a document.
 
-pub stop-over : (p : Point) (front : List Code) (c : Code) (cs : List Code) → stop_of p (front ++ c ∷ cs) ≡ stop_of c.stop cs
+pub stop-over : (p : Point) (front : List Code) (c : Code) (cs : List Code) →
+    stop_of p (front ++ c ∷ cs) ≡ stop_of c.stop cs
 stop-over p [] c cs = refl
 stop-over p (d ∷ front) c cs = stop-over d.stop front c cs
 
@@ -145,7 +158,8 @@ part-of bytes (c ∷ cs) h =
 
 -- the events of data that is trimmed, whatever their number
 
-plain-last : (m : ℕ) (q : Option ℕ) (a b c : Name) (xs ys zs : List Code) → last_link m q (leaf a xs ⊕ leaf b ys ⊕ leaf c zs) ≡ q
+plain-last : (m : ℕ) (q : Option ℕ) (a b c : Name) (xs ys zs : List Code) →
+    last_link m q (leaf a xs ⊕ leaf b ys ⊕ leaf c zs) ≡ q
 plain-last m q a b c [] [] [] = refl
 plain-last m q a b c [] [] (z ∷ zs) = refl
 plain-last m q a b c [] (y ∷ ys) [] = refl
@@ -155,16 +169,19 @@ plain-last m q a b c (x ∷ xs) [] (z ∷ zs) = refl
 plain-last m q a b c (x ∷ xs) (y ∷ ys) [] = refl
 plain-last m q a b c (x ∷ xs) (y ∷ ys) (z ∷ zs) = refl
 
-trimmed-last : (m : ℕ) (q : Option ℕ) (front back hard : Bool) (cs : List Code) → last_link m q (trimmed_data front back hard cs) ≡ q
+trimmed-last : (m : ℕ) (q : Option ℕ) (front back hard : Bool) (cs : List Code) →
+    last_link m q (trimmed_data front back hard cs) ≡ q
 trimmed-last m q front back hard cs =
     let lead : List Code × List Code = lead_of front (kept_of back cs) in plain-last m q N.SpaceOrTab N.Data (blank_name hard (tail_of back cs)) lead.0 lead.1 (tail_of back cs)
 
-trimmed-same : (m : ℕ) (q : Option ℕ) (front back hard : Bool) (cs : List Code) → appended_from m q (trimmed_data front back hard cs) ≡ appended_from 0 None (trimmed_data front back hard cs)
+trimmed-same : (m : ℕ) (q : Option ℕ) (front back hard : Bool) (cs : List Code) →
+    appended_from m q (trimmed_data front back hard cs) ≡ appended_from 0 None (trimmed_data front back hard cs)
 trimmed-same m q front back hard cs =
     let lead : List Code × List Code = lead_of front (kept_of back cs) in
     three-leaves m q N.SpaceOrTab N.Data (blank_name hard (tail_of back cs)) lead.0 lead.1 (tail_of back cs) ∙ sym (three-leaves 0 None N.SpaceOrTab N.Data (blank_name hard (tail_of back cs)) lead.0 lead.1 (tail_of back cs))
 
-trimmed-row : (m : ℕ) (q : Option ℕ) (front back hard : Bool) (cs : List Code) (t : Forest) → appended_from m q (trimmed_data front back hard cs ⊕ t) ≡ appended_from 0 None (trimmed_data front back hard cs) ++ appended_from (m + event_count (trimmed_data front back hard cs)) q t
+trimmed-row : (m : ℕ) (q : Option ℕ) (front back hard : Bool) (cs : List Code) (t : Forest) →
+    appended_from m q (trimmed_data front back hard cs ⊕ t) ≡ appended_from 0 None (trimmed_data front back hard cs) ++ appended_from (m + event_count (trimmed_data front back hard cs)) q t
 trimmed-row m q front back hard cs t =
     let D : Forest = trimmed_data front back hard cs in
     appended_from-row m q D t
@@ -176,13 +193,15 @@ count-row empty u = omega arith
 count-row (leaf_then name link cs rest) u = let r = count-row rest u in omega arith
 count-row (group_then name p q inside rest) u = let r = count-row rest u in omega arith
 
-events-are : (front back hard : Bool) (bytes : List ℕ) (p q : Point) → trimmed_events front back hard bytes p q ≡ appended_from 0 None (trimmed_data front back hard (between bytes p q))
+events-are : (front back hard : Bool) (bytes : List ℕ) (p q : Point) →
+    trimmed_events front back hard bytes p q ≡ appended_from 0 None (trimmed_data front back hard (between bytes p q))
 unfolding trimmed_events
 events-are front back hard bytes p q = refl
 
 -- One event.
 
-cut-first : (bytes : List ℕ) (whole front : Bool) (xs : List Event) (e : Event) (rest : List Event) → xs ≡ e ∷ rest → opens_data e ≡ false → begins_cut bytes whole front xs ≡ false
+cut-first : (bytes : List ℕ) (whole front : Bool) (xs : List Event) (e : Event) (rest : List Event) → xs ≡ e ∷ rest →
+    opens_data e ≡ false → begins_cut bytes whole front xs ≡ false
 cut-first bytes whole front [] e rest h o = cc
 cut-first bytes whole front (x ∷ []) e rest h o = refl
 cut-first bytes whole front (x ∷ y ∷ xs) e rest h o = ap (λ b. b && loses front (goes_before whole xs) bytes x.point y.point) (ap first-opens h ∙ o)
@@ -191,16 +210,19 @@ cut-first bytes whole front (x ∷ y ∷ xs) e rest h o = ap (λ b. b && loses f
     first-opens [] = false
     first-opens (z ∷ zs) = opens_data z
 
-comes-none : (bytes : List ℕ) (hard whole front : Bool) (xs : List Event) → begins_cut bytes whole front xs ≡ false → comes bytes hard whole front xs ≡ []
+comes-none : (bytes : List ℕ) (hard whole front : Bool) (xs : List Event) → begins_cut bytes whole front xs ≡ false →
+    comes bytes hard whole front xs ≡ []
 comes-none bytes hard whole front [] h = refl
 comes-none bytes hard whole front (e ∷ []) h = refl
-comes-none bytes hard whole front (e ∷ x ∷ xs) h = ap (λ b. if b then trimmed_events front (goes_before whole xs) (hard && goes_before false xs) bytes e.point x.point else []) h
+comes-none bytes hard whole front (e ∷ x ∷ xs) h =
+    ap (λ b. if b then trimmed_events front (goes_before whole xs) (hard && goes_before false xs) bytes e.point x.point else []) h
 
 abbrev first_closes : List Event → Bool
 first_closes [] = false
 first_closes (e ∷ es) = closes_ending e
 
-flag-next : (n : ℕ) (front : Bool) (es : List Event) (e : Event) (rest : List Event) → drop n es ≡ e ∷ rest → flag (suc n) front es ≡ first_closes (drop n es)
+flag-next : (n : ℕ) (front : Bool) (es : List Event) (e : Event) (rest : List Event) → drop n es ≡ e ∷ rest →
+    flag (suc n) front es ≡ first_closes (drop n es)
 flag-next zero front [] e rest h = cc
 flag-next zero front (x ∷ es) e rest h = refl
 flag-next (suc n) front [] e rest h = cc
@@ -221,7 +243,8 @@ module _ (bytes : List ℕ) (hard whole : Bool) (es : List Event) where
   other-stays n e rest h o = cut-first bytes whole (flag n whole es) (drop n es) e rest h o
 
   fresh-after : (n : ℕ) → Stays n → Fresh (n + 1)
-  fresh-after n s p k = let same : p ≡ n = omega (arith, k) in ap (λ i. begins_cut bytes whole (flag i whole es) (drop i es)) same ∙ s
+  fresh-after n s p k =
+      let same : p ≡ n = omega (arith, k) in ap (λ i. begins_cut bytes whole (flag i whole es) (drop i es)) same ∙ s
 
   -- past an event that stays
   record Step (n : ℕ) (e : Event) (rest : List Event) : Type 0 where
@@ -233,10 +256,12 @@ module _ (bytes : List ℕ) (hard whole : Bool) (es : List Event) where
     fresh : Fresh (n + 1)
 
   drop-next : (n : ℕ) (e : Event) (rest : List Event) → drop n es ≡ e ∷ rest → drop (n + 1) es ≡ rest
-  drop-next n e rest h = let one : n + 1 ≡ suc n = omega arith in ap (λ i. drop i es) one ∙ drop-more n es ∙ ap rest_of h
+  drop-next n e rest h =
+      let one : n + 1 ≡ suc n = omega arith in ap (λ i. drop i es) one ∙ drop-more n es ∙ ap rest_of h
 
   flag-after : (n : ℕ) (e : Event) (rest : List Event) → drop n es ≡ e ∷ rest → flag (n + 1) whole es ≡ closes_ending e
-  flag-after n e rest h = let one : n + 1 ≡ suc n = omega arith in ap (λ i. flag i whole es) one ∙ flag-next n whole es e rest h ∙ ap first_closes h
+  flag-after n e rest h =
+      let one : n + 1 ≡ suc n = omega arith in ap (λ i. flag i whole es) one ∙ flag-next n whole es e rest h ∙ ap first_closes h
 
   stay-step : (n : ℕ) (e : Event) (rest : List Event) → drop n es ≡ e ∷ rest → Stays n → Fresh n → Step n e rest
   stay-step n e rest h begins f =
@@ -268,7 +293,8 @@ module _ (bytes : List ℕ) (hard whole : Bool) (es : List Event) where
     flagged : flag (n + 2) whole es ≡ closes_ending x
     fresh : Fresh (n + 2)
 
-  pair : (n : ℕ) (e x : Event) (rest : List Event) → drop n es ≡ e ∷ x ∷ rest → Stays n → opens_data x ≡ false → Fresh n → Pair n e x rest
+  pair : (n : ℕ) (e x : Event) (rest : List Event) → drop n es ≡ e ∷ x ∷ rest → Stays n → opens_data x ≡ false →
+      Fresh n → Pair n e x rest
   pair n e x rest h o k f =
       let a : Step n e (x ∷ rest) = stay-step n e (x ∷ rest) h o f in
       let b : Step (n + 1) x rest = step (n + 1) x rest a.there k a.fresh in
@@ -290,7 +316,9 @@ module _ (bytes : List ℕ) (hard whole : Bool) (es : List Event) where
     flagged : flag (n + 2) whole es ≡ closes_ending x
     fresh : Fresh (n + 2)
 
-  data-cut : (n : ℕ) (front : Bool) (e x : Event) (rest : List Event) → drop n es ≡ e ∷ x ∷ rest → opens_data e ≡ true → opens_data x ≡ false → flag n whole es ≡ front → loses front (goes_before whole rest) bytes e.point x.point ≡ true → Cut n front e x rest
+  data-cut : (n : ℕ) (front : Bool) (e x : Event) (rest : List Event) → drop n es ≡ e ∷ x ∷ rest → opens_data e ≡ true →
+      opens_data x ≡ false → flag n whole es ≡ front →
+      loses front (goes_before whole rest) bytes e.point x.point ≡ true → Cut n front e x rest
   data-cut n front e x rest h o k f l =
       let T : List Event = trimmed_events front (goes_before whole rest) (hard && goes_before false rest) bytes e.point x.point in
       let same : suc (suc n) ≡ n + 2 = omega arith in
@@ -357,7 +385,8 @@ module _ (bytes : List ℕ) (hard whole : Bool) (es : List Event) where
         fresh = subst (λ (i : ℕ). Fresh i) same h.fresh;
       }
 
-  leaf-other : (name : Name) (cs : List Code) (rest : Forest) → is_data name ≡ false → Law rest → Law (leaf_then name None cs rest)
+  leaf-other : (name : Name) (cs : List Code) (rest : Forest) → is_data name ≡ false → Law rest →
+      Law (leaf_then name None cs rest)
   leaf-other name cs rest other law n m front w previous tail h =
       let e : Event = event Kind.Enter name (start_of cs) in
       let x : Event = event Kind.Exit name (stop_of document_start cs) in
@@ -375,7 +404,8 @@ module _ (bytes : List ℕ) (hard whole : Bool) (es : List Event) where
         fresh = subst (λ (i : ℕ). Fresh i) same r.fresh;
       }
 
-  leaf-linked : (name : Name) (c : Content) (cs : List Code) (rest : Forest) → Law rest → Law (leaf_then name (Some c) cs rest)
+  leaf-linked : (name : Name) (c : Content) (cs : List Code) (rest : Forest) → Law rest →
+      Law (leaf_then name (Some c) cs rest)
   leaf-linked name c cs rest law n m front w previous tail h =
       let e : Event = record { kind = Kind.Enter; name = name; point = start_of cs; link = Some (link_back previous c) } in
       let x : Event = event Kind.Exit name (stop_of document_start cs) in
@@ -398,13 +428,18 @@ module _ (bytes : List ℕ) (hard whole : Bool) (es : List Event) where
   abbrev lost : Bool → Bool → List Code → Forest → Bool
   lost front w cs rest = loses_blank front (begins_line_ending rest || (w && is_nothing rest)) cs
 
-  lost-is : (n m : ℕ) (front w : Bool) (previous : Option ℕ) (tail : List Event) (cs : List Code) (rest : Forest) → Here n m front w previous (leaf_then N.Data None cs rest) tail → loses front (goes_before whole (appended_from (n + 2) previous rest ++ tail)) bytes (start_of cs) (stop_of document_start cs) ≡ lost front w cs rest
+  lost-is : (n m : ℕ) (front w : Bool) (previous : Option ℕ) (tail : List Event) (cs : List Code) (rest : Forest) →
+      Here n m front w previous (leaf_then N.Data None cs rest) tail →
+      loses front (goes_before whole (appended_from (n + 2) previous rest ++ tail)) bytes (start_of cs) (stop_of document_start cs) ≡ lost front w cs rest
   lost-is n m front w previous tail cs rest h =
       ap (λ b. loses_blank front b (between bytes (start_of cs) (stop_of document_start cs))) (before-row bytes whole w (n + 2) previous rest tail h.has_parts.1 h.ends)
       ∙ ap (loses_blank front (begins_line_ending rest || (w && is_nothing rest))) (part-of bytes cs (h.has_parts.0 refl refl)).codes
 
   -- data that loses none stays
-  data-whole : (cs : List Code) (rest : Forest) → Law rest → (n m : ℕ) (front w : Bool) (previous : Option ℕ) (tail : List Event) → Here n m front w previous (leaf_then N.Data None cs rest) tail → lost front w cs rest ≡ false → Trims n m front w previous (leaf_then N.Data None cs rest) tail
+  data-whole : (cs : List Code) (rest : Forest) → Law rest →
+      (n m : ℕ) (front w : Bool) (previous : Option ℕ) (tail : List Event) →
+      Here n m front w previous (leaf_then N.Data None cs rest) tail → lost front w cs rest ≡ false →
+      Trims n m front w previous (leaf_then N.Data None cs rest) tail
   data-whole cs rest law n m front w previous tail h l =
       let e : Event = event Kind.Enter N.Data (start_of cs) in
       let x : Event = event Kind.Exit N.Data (stop_of document_start cs) in
@@ -428,7 +463,10 @@ module _ (bytes : List ℕ) (hard whole : Bool) (es : List Event) where
         fresh = subst (λ (i : ℕ). Fresh i) same r.fresh;
       }
 
-  data-trimmed : (cs : List Code) (rest : Forest) → Law rest → (n m : ℕ) (front w : Bool) (previous : Option ℕ) (tail : List Event) → Here n m front w previous (leaf_then N.Data None cs rest) tail → lost front w cs rest ≡ true → Trims n m front w previous (leaf_then N.Data None cs rest) tail
+  data-trimmed : (cs : List Code) (rest : Forest) → Law rest →
+      (n m : ℕ) (front w : Bool) (previous : Option ℕ) (tail : List Event) →
+      Here n m front w previous (leaf_then N.Data None cs rest) tail → lost front w cs rest ≡ true →
+      Trims n m front w previous (leaf_then N.Data None cs rest) tail
   data-trimmed cs rest law n m front w previous tail h l =
       let e : Event = event Kind.Enter N.Data (start_of cs) in
       let x : Event = event Kind.Exit N.Data (stop_of document_start cs) in
@@ -472,7 +510,8 @@ module _ (bytes : List ℕ) (hard whole : Bool) (es : List Event) where
         | inr l ↦ data-whole cs rest law n m front w previous tail h l
       ]
 
-  law-group : (name : Name) (a b : Point) (inside rest : Forest) → Law inside → Law rest → Law (group_then name a b inside rest)
+  law-group : (name : Name) (a b : Point) (inside rest : Forest) → Law inside → Law rest →
+      Law (group_then name a b inside rest)
   law-group name a b inside rest law_inside law_rest n m front w previous tail h =
       let ci : ℕ = event_count inside in
       let cr : ℕ = event_count rest in
@@ -519,8 +558,10 @@ module _ (bytes : List ℕ) (hard whole : Bool) (es : List Event) where
         fresh = subst (λ (i : ℕ). Fresh i) same r2.fresh;
       }
 
-  leaf-plain : (name : Name) (cs : List Code) (rest : Forest) (b : Bool) → is_data name ≡ b → Law rest → Law (leaf_then name None cs rest)
-  leaf-plain name cs rest true e law = subst (λ (x : Name). Law (leaf_then x None cs rest)) (sym (data-name name e)) (leaf-data cs rest law)
+  leaf-plain : (name : Name) (cs : List Code) (rest : Forest) (b : Bool) → is_data name ≡ b → Law rest →
+      Law (leaf_then name None cs rest)
+  leaf-plain name cs rest true e law =
+      subst (λ (x : Name). Law (leaf_then x None cs rest)) (sym (data-name name e)) (leaf-data cs rest law)
   leaf-plain name cs rest false e law = leaf-other name cs rest e law
 
   law : (row : Forest) → Law row
@@ -530,7 +571,9 @@ module _ (bytes : List ℕ) (hard whole : Bool) (es : List Event) where
   law (group_then name a b inside rest) = law-group name a b inside rest (law inside) (law rest)
 
 -- trimming the events of a tree leaves those of the trimmed tree
-pub trimmed-tree : (bytes : List ℕ) (hard whole : Bool) (t : Forest) → HasParts bytes t → (es : List Event) → es ≡ appended_from 0 None t → edited (log_of bytes hard whole es) es ≡ appended_from 0 None (trimmed hard whole whole t)
+pub trimmed-tree : (bytes : List ℕ) (hard whole : Bool) (t : Forest) → HasParts bytes t → (es : List Event) →
+    es ≡ appended_from 0 None t →
+    edited (log_of bytes hard whole es) es ≡ appended_from 0 None (trimmed hard whole whole t)
 trimmed-tree bytes hard whole t h es e =
     let all : es ≡ appended_from 0 None t ++ [] = e ∙ sym (append-nil (appended_from 0 None t)) in
     let r : Trims bytes hard whole es 0 0 whole whole None t [] = law bytes hard whole es t 0 0 whole whole None [] (record { there = all; flagged = refl; placed = refl; fresh = λ p k. absurd (omega (arith, k)); ends = refl; plain = refl; has_parts = h }) in
@@ -544,15 +587,20 @@ trimmed-tree bytes hard whole t h es e =
 
 -- The data of such a tree has its places.
 
-places-other : (bytes : List ℕ) (e : Event) (es : List Event) → opens_data e ≡ false → HasPlaces bytes es → HasPlaces bytes (e ∷ es)
+places-other : (bytes : List ℕ) (e : Event) (es : List Event) → opens_data e ≡ false → HasPlaces bytes es →
+    HasPlaces bytes (e ∷ es)
 places-other bytes e es h p = (λ o. absurd (both_ways (opens_data e) h o), p)
 
-places-leaf : (bytes : List ℕ) (name : Name) (cs : List Code) (rest : List Event) (b : Bool) → is_data name ≡ b → (is_data name ≡ true → IsPart bytes cs) → HasPlaces bytes rest → HasPlaces bytes (event Kind.Enter name (start_of cs) ∷ event Kind.Exit name (stop_of document_start cs) ∷ rest)
-places-leaf bytes name cs rest true e h p = (λ o. ((part-of bytes cs (h e)).stretch, refl), places-other bytes (event Kind.Exit name (stop_of document_start cs)) rest refl p)
+places-leaf : (bytes : List ℕ) (name : Name) (cs : List Code) (rest : List Event) (b : Bool) → is_data name ≡ b →
+    (is_data name ≡ true → IsPart bytes cs) → HasPlaces bytes rest →
+    HasPlaces bytes (event Kind.Enter name (start_of cs) ∷ event Kind.Exit name (stop_of document_start cs) ∷ rest)
+places-leaf bytes name cs rest true e h p =
+    (λ o. ((part-of bytes cs (h e)).stretch, refl), places-other bytes (event Kind.Exit name (stop_of document_start cs)) rest refl p)
 places-leaf bytes name cs rest false e h p =
     places-other bytes (event Kind.Enter name (start_of cs)) (event Kind.Exit name (stop_of document_start cs) ∷ rest) (ap (λ b. b && true) e) (places-other bytes (event Kind.Exit name (stop_of document_start cs)) rest refl p)
 
-pub places-row : (bytes : List ℕ) (t : Forest) (n : ℕ) (previous : Option ℕ) (rest : List Event) → HasParts bytes t → HasPlaces bytes rest → HasPlaces bytes (appended_from n previous t ++ rest)
+pub places-row : (bytes : List ℕ) (t : Forest) (n : ℕ) (previous : Option ℕ) (rest : List Event) → HasParts bytes t →
+    HasPlaces bytes rest → HasPlaces bytes (appended_from n previous t ++ rest)
 places-row bytes empty n previous rest h p = p
 places-row bytes (leaf_then name None cs t) n previous rest h p =
     places-leaf bytes name cs (appended_from (n + 2) previous t ++ rest) (is_data name) refl (λ e. h.0 e refl) (places-row bytes t (n + 2) previous rest h.1 p)
@@ -570,5 +618,7 @@ places-row bytes (group_then name a b inside t) n previous rest h p =
     places-other bytes (event Kind.Enter name a) ((inner ++ (x ∷ row)) ++ rest) (ap (λ c. c && true) h.0.0) (subst (λ (xs : List Event). HasPlaces bytes xs) (sym apart) whole)
 
 -- so the premise on the places follows from that on the tree
-pub places-of : (bytes : List ℕ) (t : Forest) (es : List Event) → HasParts bytes t → es ≡ appended_from 0 None t → HasPlaces bytes es
-places-of bytes t es h e = subst (λ (xs : List Event). HasPlaces bytes xs) (append-nil (appended_from 0 None t) ∙ sym e) (places-row bytes t 0 None [] h tt)
+pub places-of : (bytes : List ℕ) (t : Forest) (es : List Event) → HasParts bytes t → es ≡ appended_from 0 None t →
+    HasPlaces bytes es
+places-of bytes t es h e =
+    subst (λ (xs : List Event). HasPlaces bytes xs) (append-nil (appended_from 0 None t) ∙ sym e) (places-row bytes t 0 None [] h tt)

@@ -27,17 +27,21 @@ pub record IsBegun (bytes : List ℕ) (p q : Point) : Type 0 where
   pub value : value_from bytes p ≡ Some (code_here bytes p).value
   pub stretch : IsStretch bytes (stop_at bytes p) q
 
-pub forward-as : (p q : Point) → is_before (place_of q) (place_of p) ≡ false → IsTrue (is_at_or_after (place_of p) (place_of q))
+pub forward-as : (p q : Point) → is_before (place_of q) (place_of p) ≡ false →
+    IsTrue (is_at_or_after (place_of p) (place_of q))
 forward-as p q h = at_or_after-is (place_of p) (place_of q) ∙ ap (λ b. not b) h
 
 pub backward : (bytes : List ℕ) (p q : Point) → IsStretch bytes p q → is_before (place_of q) (place_of p) ≡ false
-backward bytes p q s = not-true (is_before (place_of q) (place_of p)) (sym (at_or_after-is (place_of p) (place_of q)) ∙ s.forward)
+backward bytes p q s =
+    not-true (is_before (place_of q) (place_of p)) (sym (at_or_after-is (place_of p) (place_of q)) ∙ s.forward)
 
-value-first : (bytes : List ℕ) (p : Point) (c : Code) (cs : List Code) → codes_after bytes (place_of p) ≡ c ∷ cs → value_from bytes p ≡ Some c.value
+value-first : (bytes : List ℕ) (p : Point) (c : Code) (cs : List Code) → codes_after bytes (place_of p) ≡ c ∷ cs →
+    value_from bytes p ≡ Some c.value
 unfolding value_from
 value-first bytes p c cs e = rw e refl
 
-pub begun-of : (bytes : List ℕ) (p q : Point) → IsStretch bytes p q → is_before (place_of p) (place_of q) ≡ true → IsBegun bytes p q
+pub begun-of : (bytes : List ℕ) (p q : Point) → IsStretch bytes p q → is_before (place_of p) (place_of q) ≡ true →
+    IsBegun bytes p q
 unfolding between
 begun-of bytes p q s before =
     let t : IsToward bytes p (place_of q) = toward bytes p (place_of q) s.from_place (there-point bytes q s.to_place) before in
@@ -58,9 +62,11 @@ pub record IsEnded (bytes : List ℕ) (p q : Point) : Type 0 where
   pub point : p ≡ q
 
 one-place : (bytes : List ℕ) (p q : Point) → IsPoint bytes p → IsPoint bytes q → p.index ≡ q.index → p.vs ≡ q.vs → p ≡ q
-one-place bytes p q h k e f = sym h.here ∙ ap (λ i. point_at bytes (i, p.vs)) e ∙ ap (λ v. point_at bytes (q.index, v)) f ∙ k.here
+one-place bytes p q h k e f =
+    sym h.here ∙ ap (λ i. point_at bytes (i, p.vs)) e ∙ ap (λ v. point_at bytes (q.index, v)) f ∙ k.here
 
-pub ended-of : (bytes : List ℕ) (p q : Point) → IsStretch bytes p q → is_before (place_of p) (place_of q) ≡ false → IsEnded bytes p q
+pub ended-of : (bytes : List ℕ) (p q : Point) → IsStretch bytes p q → is_before (place_of p) (place_of q) ≡ false →
+    IsEnded bytes p q
 unfolding between
 ended-of bytes p q s h =
     let same : (p.index ≡ q.index) × (p.vs ≡ q.vs) = same_place (place_of p) (place_of q) h (backward bytes p q s) in
@@ -86,7 +92,8 @@ begun-where bytes p q s h =
       | inr e ↦ absurd (both_ways (is_same_place p q) h (same-both p.index p.vs q.index q.vs e.index e.vs))
     ]
 
-same-is : (bytes : List ℕ) (p q : Point) → IsStretch bytes p q → is_same_place p q ≡ true → is_before (place_of p) (place_of q) ≡ false
+same-is : (bytes : List ℕ) (p q : Point) → IsStretch bytes p q → is_same_place p q ≡ true →
+    is_before (place_of p) (place_of q) ≡ false
 same-is bytes p q s h =
     elim (cases_Bool (is_before (place_of p) (place_of q))) [
       | inl e ↦ absurd (both_ways (is_same_place p q) (same-numbers p.index p.vs q.index q.vs e) h)
@@ -103,21 +110,26 @@ abbrev pub last_kept : Point → List Code → Point
 last_kept kept [] = kept
 last_kept kept (c ∷ cs) = last_kept (if is_blank c then kept else c.stop) cs
 
-one-fewer : (bytes : List ℕ) (p q r : Point) → IsBegun bytes p q → r ≡ next_point bytes p → length (between bytes p q) ≡ suc (length (between bytes r q))
+one-fewer : (bytes : List ℕ) (p q r : Point) → IsBegun bytes p q → r ≡ next_point bytes p →
+    length (between bytes p q) ≡ suc (length (between bytes r q))
 one-fewer bytes p q r b e = ap length b.codes ∙ ap (λ (x : Point). suc (length (between bytes x q))) (sym (e ∙ b.next))
 
 -- what is left to be walked
-pub shorter : (bytes : List ℕ) (p q : Point) (r : Point) → IsBegun bytes p q → r ≡ next_point bytes p → length (between bytes r q) < length (between bytes p q)
+pub shorter : (bytes : List ℕ) (p q : Point) (r : Point) → IsBegun bytes p q → r ≡ next_point bytes p →
+    length (between bytes r q) < length (between bytes p q)
 shorter bytes p q r b e =
     let counts = one-fewer bytes p q r b e in omega (arith, counts)
 
 pub stretch-next : (bytes : List ℕ) (p q r : Point) → IsBegun bytes p q → r ≡ next_point bytes p → IsStretch bytes r q
 stretch-next bytes p q r b e = subst (λ (x : Point). IsStretch bytes x q) (sym (e ∙ b.next)) b.stretch
 
-blank-here : (bytes : List ℕ) (p q : Point) (t : Bool) → IsBegun bytes p q → t ≡ at_blank (value_from bytes p) → t ≡ is_blank (code_here bytes p)
+blank-here : (bytes : List ℕ) (p q : Point) (t : Bool) → IsBegun bytes p q → t ≡ at_blank (value_from bytes p) →
+    t ≡ is_blank (code_here bytes p)
 blank-here bytes p q t b e = e ∙ ap at_blank b.value
 
-pub kept-next : (bytes : List ℕ) (p q r kept more : Point) (t : Bool) → IsBegun bytes p q → r ≡ next_point bytes p → t ≡ at_blank (value_from bytes p) → more ≡ (if t then kept else r) → last_kept kept (between bytes p q) ≡ last_kept more (between bytes r q)
+pub kept-next : (bytes : List ℕ) (p q r kept more : Point) (t : Bool) → IsBegun bytes p q → r ≡ next_point bytes p →
+    t ≡ at_blank (value_from bytes p) → more ≡ (if t then kept else r) →
+    last_kept kept (between bytes p q) ≡ last_kept more (between bytes r q)
 kept-next bytes p q r kept more t b e f g =
     let there : r ≡ stop_at bytes p = e ∙ b.next in
     ap (last_kept kept) b.codes
@@ -133,14 +145,16 @@ lead-no : (p : Point) (c : Code) (cs : List Code) → is_blank c ≡ false → e
 unfolding end_of_lead
 lead-no p c cs h = ap (λ (s : List Code × List Code). stop_of p s.0) (span-none is_blank (c ∷ cs) h)
 
-pub lead-next : (bytes : List ℕ) (p q r : Point) (t : Bool) → IsBegun bytes p q → r ≡ next_point bytes p → t ≡ at_blank (value_from bytes p) → t ≡ true → end_of_lead p (between bytes p q) ≡ end_of_lead r (between bytes r q)
+pub lead-next : (bytes : List ℕ) (p q r : Point) (t : Bool) → IsBegun bytes p q → r ≡ next_point bytes p →
+    t ≡ at_blank (value_from bytes p) → t ≡ true → end_of_lead p (between bytes p q) ≡ end_of_lead r (between bytes r q)
 lead-next bytes p q r t b e f h =
     let there : r ≡ stop_at bytes p = e ∙ b.next in
     ap (end_of_lead p) b.codes
     ∙ lead-yes p (code_here bytes p) (between bytes (stop_at bytes p) q) (sym (blank-here bytes p q t b f) ∙ h)
     ∙ ap (λ (x : Point). end_of_lead x (between bytes x q)) (sym there)
 
-pub lead-stop : (bytes : List ℕ) (p q : Point) (t : Bool) → IsBegun bytes p q → t ≡ at_blank (value_from bytes p) → t ≡ false → end_of_lead p (between bytes p q) ≡ p
+pub lead-stop : (bytes : List ℕ) (p q : Point) (t : Bool) → IsBegun bytes p q → t ≡ at_blank (value_from bytes p) →
+    t ≡ false → end_of_lead p (between bytes p q) ≡ p
 lead-stop bytes p q t b f h =
     ap (end_of_lead p) b.codes ∙ lead-no p (code_here bytes p) (between bytes (stop_at bytes p) q) (sym (blank-here bytes p q t b f) ∙ h)
 
@@ -148,10 +162,13 @@ pub lead-end : (bytes : List ℕ) (p q : Point) → IsEnded bytes p q → end_of
 unfolding end_of_lead
 lead-end bytes p q e = ap (end_of_lead p) e.none
 
-pub kept-same : (bytes : List ℕ) (p q r kept : Point) (t : Bool) → IsBegun bytes p q → r ≡ next_point bytes p → t ≡ at_blank (value_from bytes p) → t ≡ true → last_kept kept (between bytes p q) ≡ last_kept kept (between bytes r q)
+pub kept-same : (bytes : List ℕ) (p q r kept : Point) (t : Bool) → IsBegun bytes p q → r ≡ next_point bytes p →
+    t ≡ at_blank (value_from bytes p) → t ≡ true →
+    last_kept kept (between bytes p q) ≡ last_kept kept (between bytes r q)
 kept-same bytes p q r kept t b e f h = kept-next bytes p q r kept kept t b e f (ap (λ x. if x then kept else r) (sym h))
 
-pub kept-moved : (bytes : List ℕ) (p q r kept : Point) (t : Bool) → IsBegun bytes p q → r ≡ next_point bytes p → t ≡ at_blank (value_from bytes p) → t ≡ false → last_kept kept (between bytes p q) ≡ last_kept r (between bytes r q)
+pub kept-moved : (bytes : List ℕ) (p q r kept : Point) (t : Bool) → IsBegun bytes p q → r ≡ next_point bytes p →
+    t ≡ at_blank (value_from bytes p) → t ≡ false → last_kept kept (between bytes p q) ≡ last_kept r (between bytes r q)
 kept-moved bytes p q r kept t b e f h = kept-next bytes p q r kept r t b e f (ap (λ x. if x then kept else r) (sym h))
 
 -- Hard breaks.
@@ -160,7 +177,8 @@ fewer : (p : Code → Bool) (cs : List Code) → length (filter p cs) ≤ length
 fewer p [] = omega arith
 fewer p (c ∷ cs) = let more = fewer p cs in by-first (p c) more
   where
-    by-first : (b : Bool) → length (filter p cs) ≤ length cs → length (if b then c ∷ filter p cs else filter p cs) ≤ length (c ∷ cs)
+    by-first : (b : Bool) → length (filter p cs) ≤ length cs →
+        length (if b then c ∷ filter p cs else filter p cs) ≤ length (c ∷ cs)
     by-first true h = omega (arith, h)
     by-first false h = omega (arith, h)
 
@@ -173,27 +191,35 @@ few-between bytes p q =
     let all = document_few bytes in
     omega (arith, some, most, all)
 
-pub counted-next : (bytes : List ℕ) (p q r : Point) (n : ℕ) → IsBegun bytes p q → r ≡ next_point bytes p → n + 1 + length (between bytes r q) ≡ n + length (between bytes p q)
+pub counted-next : (bytes : List ℕ) (p q r : Point) (n : ℕ) → IsBegun bytes p q → r ≡ next_point bytes p →
+    n + 1 + length (between bytes r q) ≡ n + length (between bytes p q)
 counted-next bytes p q r n b e =
     let counts = one-fewer bytes p q r b e in omega (arith, counts)
 
-all-first : (bytes : List ℕ) (p q : Point) (t : Bool) → IsBegun bytes p q → t ≡ at_real_space (value_from bytes p) p → list_all is_real_space (between bytes p q) ≡ t && list_all is_real_space (between bytes (stop_at bytes p) q)
+all-first : (bytes : List ℕ) (p q : Point) (t : Bool) → IsBegun bytes p q → t ≡ at_real_space (value_from bytes p) p →
+    list_all is_real_space (between bytes p q) ≡ t && list_all is_real_space (between bytes (stop_at bytes p) q)
 all-first bytes p q t b e =
     ap (list_all is_real_space) b.codes ∙ ap (λ x. x && list_all is_real_space (between bytes (stop_at bytes p) q)) (sym (e ∙ ap (λ v. at_real_space v p) b.value))
 
-pub all-next : (bytes : List ℕ) (p q r : Point) (t : Bool) → IsBegun bytes p q → r ≡ next_point bytes p → t ≡ at_real_space (value_from bytes p) p → t ≡ true → list_all is_real_space (between bytes r q) ≡ list_all is_real_space (between bytes p q)
+pub all-next : (bytes : List ℕ) (p q r : Point) (t : Bool) → IsBegun bytes p q → r ≡ next_point bytes p →
+    t ≡ at_real_space (value_from bytes p) p → t ≡ true →
+    list_all is_real_space (between bytes r q) ≡ list_all is_real_space (between bytes p q)
 all-next bytes p q r t b e f h =
     let there : r ≡ stop_at bytes p = e ∙ b.next in
     ap (λ (x : Point). list_all is_real_space (between bytes x q)) there
     ∙ sym (all-first bytes p q t b f ∙ ap (λ x. x && list_all is_real_space (between bytes (stop_at bytes p) q)) h)
 
-pub all-stop : (bytes : List ℕ) (p q : Point) (t : Bool) → IsBegun bytes p q → t ≡ at_real_space (value_from bytes p) p → t ≡ false → list_all is_real_space (between bytes p q) ≡ false
-all-stop bytes p q t b f h = all-first bytes p q t b f ∙ ap (λ x. x && list_all is_real_space (between bytes (stop_at bytes p) q)) h
+pub all-stop : (bytes : List ℕ) (p q : Point) (t : Bool) → IsBegun bytes p q →
+    t ≡ at_real_space (value_from bytes p) p → t ≡ false → list_all is_real_space (between bytes p q) ≡ false
+all-stop bytes p q t b f h =
+    all-first bytes p q t b f ∙ ap (λ x. x && list_all is_real_space (between bytes (stop_at bytes p) q)) h
 
 -- codes that are no break, since one of them is no space
 pub breaks-not : (cs : List Code) → list_all is_real_space cs ≡ false → false ≡ is_hard_break_trailing cs
 breaks-not cs h = sym (and-false (nat_le 2 (length cs))) ∙ ap (λ b. nat_le 2 (length cs) && b) (sym h)
 
 -- codes that are one if they are enough, since all of them are spaces
-pub breaks-if : (cs : List Code) (n : ℕ) (t : Bool) → t ≡ nat_le 2 n → n ≡ length cs → list_all is_real_space cs ≡ true → t ≡ is_hard_break_trailing cs
-breaks-if cs n t e k h = e ∙ ap (nat_le 2) k ∙ sym (and-true (nat_le 2 (length cs))) ∙ ap (λ b. nat_le 2 (length cs) && b) (sym h)
+pub breaks-if : (cs : List Code) (n : ℕ) (t : Bool) → t ≡ nat_le 2 n → n ≡ length cs →
+    list_all is_real_space cs ≡ true → t ≡ is_hard_break_trailing cs
+breaks-if cs n t e k h =
+    e ∙ ap (nat_le 2) k ∙ sym (and-true (nat_le 2 (length cs))) ∙ ap (λ b. nat_le 2 (length cs) && b) (sym h)

@@ -45,7 +45,8 @@ blank-other hard cs = by (hard && is_hard_break_trailing cs)
     by true = refl
     by false = refl
 
-parts-trimmed : (bytes : List ℕ) (front back hard : Bool) (cs : List Code) → IsPart bytes cs → HasParts bytes (trimmed_data front back hard cs)
+parts-trimmed : (bytes : List ℕ) (front back hard : Bool) (cs : List Code) → IsPart bytes cs →
+    HasParts bytes (trimmed_data front back hard cs)
 parts-trimmed bytes front back hard cs h =
     let kept : List Code = kept_of back cs in
     let tail : List Code = tail_of back cs in
@@ -58,7 +59,8 @@ module _ (bytes : List ℕ) (hard : Bool) where
   abbrev Keeps : Forest → Type 0
   Keeps t = (front whole : Bool) → HasParts bytes t → HasParts bytes (trimmed hard front whole t)
 
-  keeps-plain : (name : Name) (cs : List Code) (rest : Forest) (b : Bool) → is_data name ≡ b → Keeps rest → Keeps (leaf_then name None cs rest)
+  keeps-plain : (name : Name) (cs : List Code) (rest : Forest) (b : Bool) → is_data name ≡ b → Keeps rest →
+      Keeps (leaf_then name None cs rest)
   keeps-plain name cs rest true e more = subst (λ (n : Name). Keeps (leaf_then n None cs rest)) (sym (data-name name e)) keeps-data
     where
       keeps-data : Keeps (leaf_then N.Data None cs rest)
@@ -69,13 +71,16 @@ module _ (bytes : List ℕ) (hard : Bool) where
   keeps-plain name cs rest false e more = keeps-other
     where
       keeps-other : Keeps (leaf_then name None cs rest)
-      keeps-other front whole h = subst (HasParts bytes) (sym (trimmed-other hard front whole name cs rest e)) (h.0, more (is_ending name) whole h.1)
+      keeps-other front whole h =
+          subst (HasParts bytes) (sym (trimmed-other hard front whole name cs rest e)) (h.0, more (is_ending name) whole h.1)
 
   -- trimming keeps data part of the document
   pub parts-kept : (t : Forest) → Keeps t
   unfolding trimmed
   parts-kept empty front whole h = tt
-  parts-kept (leaf_then name None cs rest) front whole h = keeps-plain name cs rest (is_data name) refl (parts-kept rest) front whole h
-  parts-kept (leaf_then name (Some c) cs rest) front whole h = subst (HasParts bytes) (sym (trimmed-linked hard front whole name c cs rest)) (h.0, parts-kept rest (is_ending name) whole h.1)
+  parts-kept (leaf_then name None cs rest) front whole h =
+      keeps-plain name cs rest (is_data name) refl (parts-kept rest) front whole h
+  parts-kept (leaf_then name (Some c) cs rest) front whole h =
+      subst (HasParts bytes) (sym (trimmed-linked hard front whole name c cs rest)) (h.0, parts-kept rest (is_ending name) whole h.1)
   parts-kept (group_then name a b inside rest) front whole h =
       subst (HasParts bytes) (sym (trimmed-group hard front whole name a b inside rest)) (h.0, (parts-kept inside false false h.1.0, parts-kept rest false whole h.1.1))

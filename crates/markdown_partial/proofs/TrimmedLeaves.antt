@@ -37,7 +37,8 @@ pub record IsSplit (bytes : List ℕ) (p q : Point) (front back : List Code) : T
 pub stretch-self : (bytes : List ℕ) (p : Point) → IsPoint bytes p → IsStretch bytes p p
 stretch-self bytes p h = record { from_place = h; to_place = h; forward = forward-as p p (before-self (place_of p)) }
 
-pub split : (bytes : List ℕ) (p q : Point) (front back : List Code) → IsStretch bytes p q → between bytes p q ≡ front ++ back → IsSplit bytes p q front back
+pub split : (bytes : List ℕ) (p q : Point) (front back : List Code) → IsStretch bytes p q →
+    between bytes p q ≡ front ++ back → IsSplit bytes p q front back
 split bytes p q [] back s e =
     let self : IsStretch bytes p p = stretch-self bytes p s.from_place in
     record { before = self; after = s; front_codes = (ended-of bytes p p self (before-self (place_of p))).none; back_codes = e }
@@ -75,7 +76,8 @@ none-ends bytes p q s e =
     ]
 
 -- codes from a place to another stop at the other
-pub stop-is : (bytes : List ℕ) (p q : Point) (cs : List Code) → IsStretch bytes p q → between bytes p q ≡ cs → stop_of p cs ≡ q
+pub stop-is : (bytes : List ℕ) (p q : Point) (cs : List Code) → IsStretch bytes p q → between bytes p q ≡ cs →
+    stop_of p cs ≡ q
 stop-is bytes p q cs s e =
     let h : IsSplit bytes p q cs [] = split bytes p q cs [] s (e ∙ sym (append-nil cs)) in
     (none-ends bytes (stop_of p cs) q h.after h.back_codes).point
@@ -91,7 +93,9 @@ one-span : (c : Code) (b : Bool) → is_blank c ≡ b → (span is_blank (c ∷ 
 one-span c true h = ap (λ (s : List Code × List Code). s.1) (span-takes is_blank c [] h)
 one-span c false h = ap (λ (s : List Code × List Code). s.1) (span-none is_blank (c ∷ []) h)
 
-span-one : (x : Code) (xs : List Code) (c : Code) (b : Bool) → is_blank x ≡ b → (span is_blank (xs ++ c ∷ [])).1 ≡ tailed (span is_blank xs).1 c → (span is_blank (x ∷ xs ++ c ∷ [])).1 ≡ tailed (span is_blank (x ∷ xs)).1 c
+span-one : (x : Code) (xs : List Code) (c : Code) (b : Bool) → is_blank x ≡ b →
+    (span is_blank (xs ++ c ∷ [])).1 ≡ tailed (span is_blank xs).1 c →
+    (span is_blank (x ∷ xs ++ c ∷ [])).1 ≡ tailed (span is_blank (x ∷ xs)).1 c
 span-one x xs c true h more =
     ap (λ (s : List Code × List Code). s.1) (span-takes is_blank x (xs ++ c ∷ []) h)
     ∙ more
@@ -111,13 +115,16 @@ stop-any : (p q : Point) (c : Code) (cs : List Code) → stop_of p (reverse (c �
 stop-any p q c cs =
     ap (stop_of p) (reverse-first c cs) ∙ stop-more p (reverse cs) c ∙ sym (stop-more q (reverse cs) c) ∙ ap (stop_of q) (sym (reverse-first c cs))
 
-kept-one : (p : Point) (c : Code) (b : Bool) → stop_of p (reverse (if b then [] else c ∷ [])) ≡ (if b then p else c.stop)
+kept-one : (p : Point) (c : Code) (b : Bool) →
+    stop_of p (reverse (if b then [] else c ∷ [])) ≡ (if b then p else c.stop)
 kept-one p c true = refl
 kept-one p c false = refl
 
-kept-step : (xs : List Code) (p : Point) (c : Code) → stop_of p (reverse (tailed xs c)) ≡ stop_of (if is_blank c then p else c.stop) (reverse xs)
+kept-step : (xs : List Code) (p : Point) (c : Code) →
+    stop_of p (reverse (tailed xs c)) ≡ stop_of (if is_blank c then p else c.stop) (reverse xs)
 kept-step [] p c = kept-one p c (is_blank c)
-kept-step (x ∷ xs) p c = ap (stop_of p) (reverse-append (x ∷ xs) (c ∷ [])) ∙ stop-any c.stop (if is_blank c then p else c.stop) x xs
+kept-step (x ∷ xs) p c =
+    ap (stop_of p) (reverse-append (x ∷ xs) (c ∷ [])) ∙ stop-any c.stop (if is_blank c then p else c.stop) x xs
 
 pub last-is : (p : Point) (cs : List Code) → last_kept p cs ≡ end_of_kept p cs
 unfolding end_of_kept
@@ -130,7 +137,8 @@ last-is p (c ∷ cs) =
 
 -- Leaves.
 
-pub leaf-some : (name : Name) (p q : Point) (b : Bool) → b ≡ is_same_place p q → b ≡ false → event Kind.Enter name p ∷ event Kind.Exit name q ∷ [] ≡ leaf_events name p q
+pub leaf-some : (name : Name) (p q : Point) (b : Bool) → b ≡ is_same_place p q → b ≡ false →
+    event Kind.Enter name p ∷ event Kind.Exit name q ∷ [] ≡ leaf_events name p q
 unfolding leaf_events
 leaf-some name p q b e h = ap (λ x. if x then [] else event Kind.Enter name p ∷ event Kind.Exit name q ∷ []) (sym h ∙ e)
 
@@ -138,24 +146,31 @@ leaf-nothing : (name : Name) (p q : Point) → is_same_place p q ≡ true → le
 unfolding leaf_events
 leaf-nothing name p q e = ap (λ x. if x then [] else event Kind.Enter name p ∷ event Kind.Exit name q ∷ []) e
 
-pub leaf-none : (name : Name) (p q : Point) (es : List Event) (b : Bool) → b ≡ is_same_place p q → b ≡ true → es ≡ es ++ leaf_events name p q
+pub leaf-none : (name : Name) (p q : Point) (es : List Event) (b : Bool) → b ≡ is_same_place p q → b ≡ true →
+    es ≡ es ++ leaf_events name p q
 leaf-none name p q es b e h = sym (append-nil es) ∙ ap (λ xs. es ++ xs) (sym (leaf-nothing name p q (sym e ∙ h)))
 
-start-first : (bytes : List ℕ) (p q : Point) (c : Code) (cs : List Code) → IsBegun bytes p q → between bytes p q ≡ c ∷ cs → c.start ≡ p
-start-first bytes p q c cs b e = ap (λ (x : Code). x.start) (head_same c (code_here bytes p) cs (between bytes (stop_at bytes p) q) (sym e ∙ b.codes))
+start-first : (bytes : List ℕ) (p q : Point) (c : Code) (cs : List Code) → IsBegun bytes p q →
+    between bytes p q ≡ c ∷ cs → c.start ≡ p
+start-first bytes p q c cs b e =
+    ap (λ (x : Code). x.start) (head_same c (code_here bytes p) cs (between bytes (stop_at bytes p) q) (sym e ∙ b.codes))
 
-same-by : (bytes : List ℕ) (p q : Point) (c : Code) (cs : List Code) → IsStretch bytes p q → between bytes p q ≡ c ∷ cs → (b : Bool) → is_same_place p q ≡ b → is_same_place p q ≡ false
+same-by : (bytes : List ℕ) (p q : Point) (c : Code) (cs : List Code) → IsStretch bytes p q →
+    between bytes p q ≡ c ∷ cs → (b : Bool) → is_same_place p q ≡ b → is_same_place p q ≡ false
 same-by bytes p q c cs s e true h = absurd (cons≢nil c cs (sym e ∙ (ended-where bytes p q s h).none))
 same-by bytes p q c cs s e false h = h
 
-ended-same : (bytes : List ℕ) (p q : Point) → IsStretch bytes p q → between bytes p q ≡ [] → (b : Bool) → is_same_place p q ≡ b → is_same_place p q ≡ true
+ended-same : (bytes : List ℕ) (p q : Point) → IsStretch bytes p q → between bytes p q ≡ [] → (b : Bool) →
+    is_same_place p q ≡ b → is_same_place p q ≡ true
 ended-same bytes p q s e true h = h
 ended-same bytes p q s e false h =
     let f : IsBegun bytes p q = begun-where bytes p q s h in absurd (cons≢nil (code_here bytes p) (between bytes (stop_at bytes p) q) (sym f.codes ∙ e))
 
 -- the events of a leaf over the codes from one place to another
-pub leaf-is : (bytes : List ℕ) (p q : Point) (name : Name) (cs : List Code) (n : ℕ) (previous : Option ℕ) → IsStretch bytes p q → between bytes p q ≡ cs → appended_from n previous (leaf name cs) ≡ leaf_events name p q
-leaf-is bytes p q name [] n previous s e = sym (leaf-nothing name p q (ended-same bytes p q s e (is_same_place p q) refl))
+pub leaf-is : (bytes : List ℕ) (p q : Point) (name : Name) (cs : List Code) (n : ℕ) (previous : Option ℕ) →
+    IsStretch bytes p q → between bytes p q ≡ cs → appended_from n previous (leaf name cs) ≡ leaf_events name p q
+leaf-is bytes p q name [] n previous s e =
+    sym (leaf-nothing name p q (ended-same bytes p q s e (is_same_place p q) refl))
 leaf-is bytes p q name (c ∷ cs) n previous s e =
     let differ : is_same_place p q ≡ false = same-by bytes p q c cs s e (is_same_place p q) refl in
     ap (λ (x : Point). event Kind.Enter name x ∷ event Kind.Exit name (stop_of c.stop cs) ∷ []) (start-first bytes p q c cs (begun-where bytes p q s differ) e)
@@ -181,23 +196,29 @@ cut-parts true cs = span-append is_blank (reverse cs)
 cut-parts false cs = refl
 
 pub kept-parts : (back : Bool) (cs : List Code) → cs ≡ kept_of back cs ++ tail_of back cs
-kept-parts back cs = sym (reverse-reverse cs) ∙ ap reverse (sym (cut-parts back cs)) ∙ reverse-append (cut back cs).0 (cut back cs).1
+kept-parts back cs =
+    sym (reverse-reverse cs) ∙ ap reverse (sym (cut-parts back cs)) ∙ reverse-append (cut back cs).0 (cut back cs).1
 
 pub lead-parts : (front : Bool) (kept : List Code) → kept ≡ (lead_of front kept).0 ++ (lead_of front kept).1
 lead-parts true kept = sym (span-append is_blank kept)
 lead-parts false kept = refl
 
-end-is : (bytes : List ℕ) (p q : Point) (back : Bool) → IsStretch bytes p q → (if back then end_of_kept p (between bytes p q) else q) ≡ stop_of p (kept_of back (between bytes p q))
+end-is : (bytes : List ℕ) (p q : Point) (back : Bool) → IsStretch bytes p q →
+    (if back then end_of_kept p (between bytes p q) else q) ≡ stop_of p (kept_of back (between bytes p q))
 unfolding end_of_kept
 end-is bytes p q true s = refl
-end-is bytes p q false s = sym (stop-is bytes p q (reverse (reverse (between bytes p q))) s (sym (reverse-reverse (between bytes p q))))
+end-is bytes p q false s =
+    sym (stop-is bytes p q (reverse (reverse (between bytes p q))) s (sym (reverse-reverse (between bytes p q))))
 
-start-is : (front : Bool) (p : Point) (cs : List Code) → (if front then end_of_lead p cs else p) ≡ stop_of p (lead_of front cs).0
+start-is : (front : Bool) (p : Point) (cs : List Code) →
+    (if front then end_of_lead p cs else p) ≡ stop_of p (lead_of front cs).0
 unfolding end_of_lead
 start-is true p cs = refl
 start-is false p cs = refl
 
-three : (n : ℕ) (previous : Option ℕ) (a b c : Forest) (xs ys zs : List Event) → ((m : ℕ) (o : Option ℕ) → appended_from m o a ≡ xs) → ((m : ℕ) (o : Option ℕ) → appended_from m o b ≡ ys) → ((m : ℕ) (o : Option ℕ) → appended_from m o c ≡ zs) → appended_from n previous (a ⊕ b ⊕ c) ≡ (xs ++ ys) ++ zs
+three : (n : ℕ) (previous : Option ℕ) (a b c : Forest) (xs ys zs : List Event) →
+    ((m : ℕ) (o : Option ℕ) → appended_from m o a ≡ xs) → ((m : ℕ) (o : Option ℕ) → appended_from m o b ≡ ys) →
+    ((m : ℕ) (o : Option ℕ) → appended_from m o c ≡ zs) → appended_from n previous (a ⊕ b ⊕ c) ≡ (xs ++ ys) ++ zs
 three n previous a b c xs ys zs f g h =
     let m : ℕ = n + event_count a in
     let o : Option ℕ = last_link n previous a in
@@ -207,19 +228,24 @@ three n previous a b c xs ys zs f g h =
     ∙ sym (append_assoc xs ys zs)
 
 -- a trimmed stretch is cut in two where its blank codes at the back begin
-pub end-stretch : (bytes : List ℕ) (p q e : Point) (back : Bool) → IsStretch bytes p q → e ≡ (if back then end_of_kept p (between bytes p q) else q) → IsStretch bytes p e
+pub end-stretch : (bytes : List ℕ) (p q e : Point) (back : Bool) → IsStretch bytes p q →
+    e ≡ (if back then end_of_kept p (between bytes p q) else q) → IsStretch bytes p e
 end-stretch bytes p q e back s h =
     let cs : List Code = between bytes p q in
     let one : IsSplit bytes p q (kept_of back cs) (tail_of back cs) = split bytes p q (kept_of back cs) (tail_of back cs) s (kept-parts back cs) in
     subst (λ (x : Point). IsStretch bytes p x) (sym (h ∙ end-is bytes p q back s)) one.before
 
-pub back-stretch : (bytes : List ℕ) (p q e : Point) (back : Bool) → IsStretch bytes p q → e ≡ (if back then end_of_kept p (between bytes p q) else q) → IsStretch bytes e q
+pub back-stretch : (bytes : List ℕ) (p q e : Point) (back : Bool) → IsStretch bytes p q →
+    e ≡ (if back then end_of_kept p (between bytes p q) else q) → IsStretch bytes e q
 back-stretch bytes p q e back s h =
     let cs : List Code = between bytes p q in
     let one : IsSplit bytes p q (kept_of back cs) (tail_of back cs) = split bytes p q (kept_of back cs) (tail_of back cs) s (kept-parts back cs) in
     subst (λ (x : Point). IsStretch bytes x q) (sym (h ∙ end-is bytes p q back s)) one.after
 
-trimmed-at : (bytes : List ℕ) (p q : Point) (front back hard : Bool) → IsStretch bytes p q → (e s : Point) → e ≡ stop_of p (kept_of back (between bytes p q)) → s ≡ stop_of p (lead_of front (kept_of back (between bytes p q))).0 → trimmed_events front back hard bytes p q ≡ (leaf_events N.SpaceOrTab p s ++ leaf_events N.Data s e) ++ leaf_events (blank_name hard (between bytes e q)) e q
+trimmed-at : (bytes : List ℕ) (p q : Point) (front back hard : Bool) → IsStretch bytes p q → (e s : Point) →
+    e ≡ stop_of p (kept_of back (between bytes p q)) →
+    s ≡ stop_of p (lead_of front (kept_of back (between bytes p q))).0 →
+    trimmed_events front back hard bytes p q ≡ (leaf_events N.SpaceOrTab p s ++ leaf_events N.Data s e) ++ leaf_events (blank_name hard (between bytes e q)) e q
 unfolding trimmed_events
 trimmed-at bytes p q front back hard r e s h k =
     let cs : List Code = between bytes p q in
@@ -238,7 +264,10 @@ trimmed-at bytes p q front back hard r e s h k =
     ∙ ap (λ (ds : List Code). (leaf_events N.SpaceOrTab p s ++ leaf_events N.Data s e) ++ leaf_events (blank_name hard ds) e q) (sym one.back_codes ∙ ap (λ (x : Point). between bytes x q) (sym h))
 
 -- the events of data that is trimmed are those of its three leaves
-pub trimmed-is : (bytes : List ℕ) (p q e s : Point) (front back hard : Bool) (last : Name) → IsStretch bytes p q → e ≡ (if back then end_of_kept p (between bytes p q) else q) → s ≡ (if front then end_of_lead p (between bytes p e) else p) → last ≡ blank_name hard (between bytes e q) → (leaf_events N.SpaceOrTab p s ++ leaf_events N.Data s e) ++ leaf_events last e q ≡ trimmed_events front back hard bytes p q
+pub trimmed-is : (bytes : List ℕ) (p q e s : Point) (front back hard : Bool) (last : Name) → IsStretch bytes p q →
+    e ≡ (if back then end_of_kept p (between bytes p q) else q) →
+    s ≡ (if front then end_of_lead p (between bytes p e) else p) → last ≡ blank_name hard (between bytes e q) →
+    (leaf_events N.SpaceOrTab p s ++ leaf_events N.Data s e) ++ leaf_events last e q ≡ trimmed_events front back hard bytes p q
 trimmed-is bytes p q e s front back hard last r h k l =
     let cs : List Code = between bytes p q in
     let kept : List Code = kept_of back cs in
@@ -248,7 +277,9 @@ trimmed-is bytes p q e s front back hard last r h k l =
     ap (λ (name : Name). (leaf_events N.SpaceOrTab p s ++ leaf_events N.Data s e) ++ leaf_events name e q) l
     ∙ sym (trimmed-at bytes p q front back hard r e s end (k ∙ start-is front p (between bytes p e) ∙ ap (λ xs. stop_of p (lead_of front xs).0) codes))
 
-pub pushed-leaf : (name : Name) (p q : Point) (old one two : List Event) (b : Bool) → b ≡ is_same_place p q → b ≡ false → one ≡ old ++ event Kind.Enter name p ∷ [] → two ≡ one ++ event Kind.Exit name q ∷ [] → two ≡ old ++ leaf_events name p q
+pub pushed-leaf : (name : Name) (p q : Point) (old one two : List Event) (b : Bool) → b ≡ is_same_place p q →
+    b ≡ false → one ≡ old ++ event Kind.Enter name p ∷ [] → two ≡ one ++ event Kind.Exit name q ∷ [] →
+    two ≡ old ++ leaf_events name p q
 pushed-leaf name p q old one two b e h f g =
     g ∙ ap (λ xs. xs ++ event Kind.Exit name q ∷ []) f ∙ append_assoc old (event Kind.Enter name p ∷ []) (event Kind.Exit name q ∷ []) ∙ ap (λ xs. old ++ xs) (leaf-some name p q b e h)
 
@@ -267,15 +298,18 @@ leaf-unlinked name [] = All-nil IsUnlinked
 leaf-unlinked name (c ∷ cs) =
     All-cons IsUnlinked (event Kind.Enter name c.start) (event Kind.Exit name (stop_of c.stop cs) ∷ []) refl (All-cons IsUnlinked (event Kind.Exit name (stop_of c.stop cs)) [] refl (All-nil IsUnlinked))
 
-pub leaf-same : (name : Name) (cs : List Code) (m : ℕ) (o : Option ℕ) → appended_from m o (leaf name cs) ≡ appended_from 0 None (leaf name cs)
+pub leaf-same : (name : Name) (cs : List Code) (m : ℕ) (o : Option ℕ) →
+    appended_from m o (leaf name cs) ≡ appended_from 0 None (leaf name cs)
 leaf-same name [] m o = refl
 leaf-same name (c ∷ cs) m o = refl
 
-pub three-leaves : (n : ℕ) (previous : Option ℕ) (a b c : Name) (xs ys zs : List Code) → appended_from n previous (leaf a xs ⊕ leaf b ys ⊕ leaf c zs) ≡ (appended_from 0 None (leaf a xs) ++ appended_from 0 None (leaf b ys)) ++ appended_from 0 None (leaf c zs)
+pub three-leaves : (n : ℕ) (previous : Option ℕ) (a b c : Name) (xs ys zs : List Code) →
+    appended_from n previous (leaf a xs ⊕ leaf b ys ⊕ leaf c zs) ≡ (appended_from 0 None (leaf a xs) ++ appended_from 0 None (leaf b ys)) ++ appended_from 0 None (leaf c zs)
 three-leaves n previous a b c xs ys zs =
     three n previous (leaf a xs) (leaf b ys) (leaf c zs) (appended_from 0 None (leaf a xs)) (appended_from 0 None (leaf b ys)) (appended_from 0 None (leaf c zs)) (leaf-same a xs) (leaf-same b ys) (leaf-same c zs)
 
-pub trimmed-unlinked : (front back hard : Bool) (bytes : List ℕ) (p q : Point) (es : List Event) → es ≡ trimmed_events front back hard bytes p q → All IsUnlinked es
+pub trimmed-unlinked : (front back hard : Bool) (bytes : List ℕ) (p q : Point) (es : List Event) →
+    es ≡ trimmed_events front back hard bytes p q → All IsUnlinked es
 unfolding trimmed_events
 trimmed-unlinked front back hard bytes p q es e =
     let kept : List Code = kept_of back (between bytes p q) in

@@ -15,12 +15,18 @@ use Rattle.markdown_partial.specs.PartialSpaceOrTabEol as PartialSpaceOrTabEol
 use Rattle.markdown_partial.specs.PartialSpaceOrTabEol.{WhitespaceAtRest, eol_asked, eol_rested}
 
 -- where the fields of whitespace are at rest it may be asked for
-pub asked-ready : (min max : ℕ) (kind : Name) (connect : Bool) (content : Option Content) (T : Tokenizer) → rested T.tokenize_state ≡ T.tokenize_state → (connect ≡ true → LinkedBefore T) → PartialSpaceOrTab.StartReady (scratched (asked min max kind connect content T.tokenize_state) T)
+pub asked-ready : (min max : ℕ) (kind : Name) (connect : Bool) (content : Option Content) (T : Tokenizer) →
+    rested T.tokenize_state ≡ T.tokenize_state → (connect ≡ true → LinkedBefore T) →
+    PartialSpaceOrTab.StartReady (scratched (asked min max kind connect content T.tokenize_state) T)
 unfolding scratched
-asked-ready min max kind connect content T r linked = record { none_yet = ap (λ (s : TokenizeState). s.space_or_tab_size) (sym r); linked = linked }
+asked-ready min max kind connect content T r linked =
+    record { none_yet = ap (λ (s : TokenizeState). s.space_or_tab_size) (sym r); linked = linked }
 
 -- and it is read as it was asked for, with the fields at rest
-pub asked-ends : (min max : ℕ) (kind : Name) (connect : Bool) (content : Option Content) (T : Tokenizer) → rested T.tokenize_state ≡ T.tokenize_state → (ok : Bool) (U : Tokenizer) → PartialSpaceOrTab.start_ends (scratched (asked min max kind connect content T.tokenize_state) T) ok U → EndsAs (space_or_tab kind content min max) (link_before connect T) T.tokenize_state T ok U
+pub asked-ends : (min max : ℕ) (kind : Name) (connect : Bool) (content : Option Content) (T : Tokenizer) →
+    rested T.tokenize_state ≡ T.tokenize_state → (ok : Bool) (U : Tokenizer) →
+    PartialSpaceOrTab.start_ends (scratched (asked min max kind connect content T.tokenize_state) T) ok U →
+    EndsAs (space_or_tab kind content min max) (link_before connect T) T.tokenize_state T ok U
 unfolding scratched
 asked-ends min max kind connect content T r ok U k =
     let s : TokenizeState = asked min max kind connect content T.tokenize_state in
@@ -29,7 +35,10 @@ asked-ends min max kind connect content T r ok U k =
 
 -- The same for whitespace with a line ending.
 
-pub eol-asked-ready : (connect : Bool) (content : Option Content) (T : Tokenizer) → codes_left T ≤ most → WhitespaceAtRest T.tokenize_state → (connect ≡ true → LinkedBefore T) → (connect ≡ true → is_some content ≡ true) → (at_blank (current_of T) ≡ true → content ≡ None) → PartialSpaceOrTabEol.StartReady (scratched (eol_asked connect content T.tokenize_state) T)
+pub eol-asked-ready : (connect : Bool) (content : Option Content) (T : Tokenizer) → codes_left T ≤ most →
+    WhitespaceAtRest T.tokenize_state → (connect ≡ true → LinkedBefore T) → (connect ≡ true → is_some content ≡ true) →
+    (at_blank (current_of T) ≡ true → content ≡ None) →
+    PartialSpaceOrTabEol.StartReady (scratched (eol_asked connect content T.tokenize_state) T)
 unfolding scratched
 eol-asked-ready connect content T short r linked contents plain =
     record {
@@ -38,7 +47,10 @@ eol-asked-ready connect content T short r linked contents plain =
       plain = plain;
     }
 
-pub eol-asked-ends : (connect : Bool) (content : Option Content) (T : Tokenizer) → WhitespaceAtRest T.tokenize_state → (ok : Bool) (U : Tokenizer) → PartialSpaceOrTabEol.start_ends (scratched (eol_asked connect content T.tokenize_state) T) ok U → EndsAs (space_or_tab_eol content) (link_before connect T) T.tokenize_state T ok U
+pub eol-asked-ends : (connect : Bool) (content : Option Content) (T : Tokenizer) → WhitespaceAtRest T.tokenize_state →
+    (ok : Bool) (U : Tokenizer) →
+    PartialSpaceOrTabEol.start_ends (scratched (eol_asked connect content T.tokenize_state) T) ok U →
+    EndsAs (space_or_tab_eol content) (link_before connect T) T.tokenize_state T ok U
 unfolding scratched
 eol-asked-ends connect content T r ok U k =
     let s : TokenizeState = eol_asked connect content T.tokenize_state in

@@ -17,7 +17,8 @@ use Rattle.markdown_plan.proofs.ByteTestLemmas.{no-control}
 use Rattle.markdown_partial_link.proofs.BoolLemmas.{same-value}
 use Rattle.markdown_partial_link.specs.PartialTitle.{inside_at, inside_step, inside_stops}
 
-pub enclosed-steady : (T : Tokenizer) (set : List ℕ) → stops_in DestinationEnclosed ≡ Some set → is_free set (current_of T) ≡ true → enclosed_step T ≡ stepped (Next DestinationEnclosed) (consumed T)
+pub enclosed-steady : (T : Tokenizer) (set : List ℕ) → stops_in DestinationEnclosed ≡ Some set →
+    is_free set (current_of T) ≡ true → enclosed_step T ≡ stepped (Next DestinationEnclosed) (consumed T)
 enclosed-steady T set known free =
     steady-at set T enclosed_at (stepped (Next DestinationEnclosed) (consumed T)) free (λ v a b.
     let same : set ≡ enclosed_stops = cc in
@@ -32,7 +33,8 @@ no-tab : (v : ℕ) → is_between 1 31 v ≡ false → (b : Bool) → (v == 9) �
 no-tab v h false e = e
 no-tab v h true e = absurd (both_ways (is_between 1 31 v) h (same-value v 9 e (is_between 1 31)))
 
-pub raw-steady : (T : Tokenizer) (set : List ℕ) → stops_in DestinationRaw ≡ Some set → is_free set (current_of T) ≡ true → raw_step T ≡ stepped (Next DestinationRaw) (consumed T)
+pub raw-steady : (T : Tokenizer) (set : List ℕ) → stops_in DestinationRaw ≡ Some set →
+    is_free set (current_of T) ≡ true → raw_step T ≡ stepped (Next DestinationRaw) (consumed T)
 raw-steady T set known free =
     steady-at set T raw_at (stepped (Next DestinationRaw) (consumed T)) free (λ v a b.
     let same : set ≡ raw_stops = cc in
@@ -54,7 +56,8 @@ title-set m set false true r d e f h = let same : m ≡ 39 = eqb-true m 39 e in 
 title-set m set false false true d e f h = let same : m ≡ 41 = eqb-true m 41 f in cc
 title-set m set false false false d e f h = cc
 
-pub title-steady : (T : Tokenizer) (set : List ℕ) → inside_stops T.tokenize_state ≡ Some set → is_free set (current_of T) ≡ true → inside_step T ≡ stepped (Next TitleInside) (consumed T)
+pub title-steady : (T : Tokenizer) (set : List ℕ) → inside_stops T.tokenize_state ≡ Some set →
+    is_free set (current_of T) ≡ true → inside_step T ≡ stepped (Next TitleInside) (consumed T)
 title-steady T set known free =
     let m : ℕ = T.tokenize_state.marker in
     steady-at set T inside_at (stepped (Next TitleInside) (consumed T)) free (λ v a b.

@@ -49,7 +49,9 @@ use Rattle.markdown_engine.specs.declared.state.StateName.{StateName}
 not-blank : (c : Code) → is_line_ending c ≡ true → is_blank c ≡ false
 not-blank c e = same-value c.value 10 e (λ v. v == 32 || v == 9)
 
-spacing-by : (b : Bool) (c : Code) (cs : List Code) → is_line_ending c ≡ true → begins_filled_line (span is_blank cs).1 ≡ b → space_or_tab_eol string (c ∷ cs) ≡ (if b then Some (ending_leaves c (span is_blank cs).0, (span is_blank cs).1) else None)
+spacing-by : (b : Bool) (c : Code) (cs : List Code) → is_line_ending c ≡ true →
+    begins_filled_line (span is_blank cs).1 ≡ b →
+    space_or_tab_eol string (c ∷ cs) ≡ (if b then Some (ending_leaves c (span is_blank cs).0, (span is_blank cs).1) else None)
 spacing-by true c cs e h =
     spacing-none string (c ∷ cs) (not-blank c e) ∙ ending-here string false c cs e
     ∙ ap (λ b. behind (linked_leaf N.LineEnding string (c ∷ [])) (if b then Some (linked_leaf N.SpaceOrTab string (span is_blank cs).0, (span is_blank cs).1) else None)) h
@@ -67,16 +69,21 @@ pub record Passed (connect : Bool) (c : Code) (cs : List Code) (T U : Tokenizer)
   pub linked : LinkedBefore U
   pub fewer : codes_left U + 1 ≤ codes_left T
 
-linked-twice : (xs : List Event) (a b c d : Event) → has_link c.link ≡ true → has_link d.link ≡ false → ends_linked (xs ++ a ∷ b ∷ c ∷ d ∷ []) ≡ true
-linked-twice xs a b c d h k = ap ends_linked (sym (append_assoc xs (a ∷ b ∷ []) (c ∷ d ∷ []))) ∙ linked-append (xs ++ a ∷ b ∷ []) c d h k
+linked-twice : (xs : List Event) (a b c d : Event) → has_link c.link ≡ true → has_link d.link ≡ false →
+    ends_linked (xs ++ a ∷ b ∷ c ∷ d ∷ []) ≡ true
+linked-twice xs a b c d h k =
+    ap ends_linked (sym (append_assoc xs (a ∷ b ∷ []) (c ∷ d ∷ []))) ∙ linked-append (xs ++ a ∷ b ∷ []) c d h k
 
-linked-leaves : (xs : List Event) (n : ℕ) (p : Option ℕ) (c : Code) (ws : List Code) → ends_linked (xs ++ appended_from n p (ending_leaves c ws)) ≡ true
+linked-leaves : (xs : List Event) (n : ℕ) (p : Option ℕ) (c : Code) (ws : List Code) →
+    ends_linked (xs ++ appended_from n p (ending_leaves c ws)) ≡ true
 linked-leaves xs n p c [] = linked-append xs _ _ refl refl
 linked-leaves xs n p c (w ∷ ws) = linked-twice xs _ _ _ _ refl refl
 
-past-linked : (p : Option ℕ) (c : Code) (ws : List Code) (T U : Tokenizer) → U ≡ past p (ending_leaves c ws) T → LinkedBefore U
+past-linked : (p : Option ℕ) (c : Code) (ws : List Code) (T U : Tokenizer) → U ≡ past p (ending_leaves c ws) T →
+    LinkedBefore U
 unfolding past
-past-linked p c ws T U e = ap (λ (x : Tokenizer). ends_linked x.events) e ∙ linked-leaves T.events (length T.events) p c ws
+past-linked p c ws T U e =
+    ap (λ (x : Tokenizer). ends_linked x.events) e ∙ linked-leaves T.events (length T.events) p c ws
 
 past-stack : (p : Option ℕ) (t : Forest) (T U : Tokenizer) → U ≡ past p t T → U.stack ≡ T.stack
 unfolding past
@@ -86,17 +93,24 @@ past-scratch : (p : Option ℕ) (t : Forest) (T U : Tokenizer) → U ≡ past p 
 unfolding past
 past-scratch p t T U e = ap (λ (x : Tokenizer). x.tokenize_state) e
 
-read-parts : (b : Bool) (c : Code) (cs : List Code) (tree : Forest) (rest : List Code) → is_line_ending c ≡ true → begins_filled_line (span is_blank cs).1 ≡ b → space_or_tab_eol string (c ∷ cs) ≡ Some (tree, rest) → (b ≡ true) × ((tree ≡ ending_leaves c (span is_blank cs).0) × (rest ≡ (span is_blank cs).1))
+read-parts : (b : Bool) (c : Code) (cs : List Code) (tree : Forest) (rest : List Code) → is_line_ending c ≡ true →
+    begins_filled_line (span is_blank cs).1 ≡ b → space_or_tab_eol string (c ∷ cs) ≡ Some (tree, rest) →
+    (b ≡ true) × ((tree ≡ ending_leaves c (span is_blank cs).0) × (rest ≡ (span is_blank cs).1))
 read-parts true c cs tree rest e h k =
     let same = both-parts (ending_leaves c (span is_blank cs).0) tree (span is_blank cs).1 rest (sym (spacing-by true c cs e h) ∙ k) in
     (refl, (sym same.0, sym same.1))
-read-parts false c cs tree rest e h k = let no : ◌≡◌ {A = Option (Forest × List Code)} None (Some (tree, rest)) = sym (spacing-by false c cs e h) ∙ k in cc
+read-parts false c cs tree rest e h k =
+    let no : ◌≡◌ {A = Option (Forest × List Code)} None (Some (tree, rest)) = sym (spacing-by false c cs e h) ∙ k in cc
 
-unread : (b : Bool) (c : Code) (cs : List Code) → is_line_ending c ≡ true → begins_filled_line (span is_blank cs).1 ≡ b → space_or_tab_eol string (c ∷ cs) ≡ None → b ≡ false
-unread true c cs e h k = let no : ◌≡◌ {A = Option (Forest × List Code)} (Some (ending_leaves c (span is_blank cs).0, (span is_blank cs).1)) None = sym (spacing-by true c cs e h) ∙ k in cc
+unread : (b : Bool) (c : Code) (cs : List Code) → is_line_ending c ≡ true →
+    begins_filled_line (span is_blank cs).1 ≡ b → space_or_tab_eol string (c ∷ cs) ≡ None → b ≡ false
+unread true c cs e h k =
+    let no : ◌≡◌ {A = Option (Forest × List Code)} (Some (ending_leaves c (span is_blank cs).0, (span is_blank cs).1)) None = sym (spacing-by true c cs e h) ∙ k in cc
 unread false c cs e h k = refl
 
-passed-read : (connect : Bool) (c : Code) (cs : List Code) (T U : Tokenizer) → is_line_ending c ≡ true → ahead T ≡ c ∷ cs → Reads (space_or_tab_eol string) (link_before connect T) T.tokenize_state T U → Passed connect c cs T U
+passed-read : (connect : Bool) (c : Code) (cs : List Code) (T U : Tokenizer) → is_line_ending c ≡ true →
+    ahead T ≡ c ∷ cs → Reads (space_or_tab_eol string) (link_before connect T) T.tokenize_state T U →
+    Passed connect c cs T U
 passed-read connect c cs T U e here k =
     let s : List Code × List Code = span is_blank cs in
     let parts = read-parts (begins_filled_line s.1) c cs k.tree k.rest e refl (ap (space_or_tab_eol string) (sym here) ∙ k.holds) in
@@ -120,24 +134,30 @@ stays-consumes : (d : ℕ) (cs : List Code) (os : List Op) → stays (suc d) (co
 stays-consumes d [] os = refl
 stays-consumes d (c ∷ cs) os = stays-consumes d cs os
 
-depth-consumes : (d : ℕ) (cs : List Code) (os : List Op) → depth_after (suc d) (consumes cs ++ os) ≡ depth_after (suc d) os
+depth-consumes : (d : ℕ) (cs : List Code) (os : List Op) →
+    depth_after (suc d) (consumes cs ++ os) ≡ depth_after (suc d) os
 depth-consumes d [] os = refl
 depth-consumes d (c ∷ cs) os = depth-consumes d cs os
 
-pub ending-stays : (connect : Bool) (c : Code) (ws : List Code) → stays 2 (linked_ops connect (ending_leaves c ws)) ≡ true
+pub ending-stays : (connect : Bool) (c : Code) (ws : List Code) →
+    stays 2 (linked_ops connect (ending_leaves c ws)) ≡ true
 ending-stays true c [] = refl
 ending-stays false c [] = refl
 ending-stays true c (w ∷ ws) = stays-consumes 2 ws (Exit N.SpaceOrTab ∷ [])
 ending-stays false c (w ∷ ws) = stays-consumes 2 ws (Exit N.SpaceOrTab ∷ [])
 
-pub ending-depth : (connect : Bool) (c : Code) (ws : List Code) → depth_after 2 (linked_ops connect (ending_leaves c ws)) ≡ 2
+pub ending-depth : (connect : Bool) (c : Code) (ws : List Code) →
+    depth_after 2 (linked_ops connect (ending_leaves c ws)) ≡ 2
 ending-depth true c [] = refl
 ending-depth false c [] = refl
 ending-depth true c (w ∷ ws) = depth-consumes 2 ws (Exit N.SpaceOrTab ∷ [])
 ending-depth false c (w ∷ ws) = depth-consumes 2 ws (Exit N.SpaceOrTab ∷ [])
 
 -- a run that goes on behind the line ending
-pub DoesAs-ending : (p q : Plan) (connect : Bool) (c : Code) (cs : List Code) (s : TokenizeState) (T U : Tokenizer) → Passed connect c cs T U → p (ahead T) ≡ preceded (linked_ops connect (ending_leaves c (span is_blank cs).0)) (q (span is_blank cs).1) → (ok : Bool) (V : Tokenizer) → DoesAs 2 q s U ok V → DoesAs 2 p s T ok V
+pub DoesAs-ending : (p q : Plan) (connect : Bool) (c : Code) (cs : List Code) (s : TokenizeState) (T U : Tokenizer) →
+    Passed connect c cs T U →
+    p (ahead T) ≡ preceded (linked_ops connect (ending_leaves c (span is_blank cs).0)) (q (span is_blank cs).1) →
+    (ok : Bool) (V : Tokenizer) → DoesAs 2 q s U ok V → DoesAs 2 p s T ok V
 DoesAs-ending p q connect c cs s T U j e ok V k =
     let os : List Op = linked_ops connect (ending_leaves c (span is_blank cs).0) in
     let rest : drop (moves os) (ahead T) ≡ (span is_blank cs).1 = sym (ahead-done os T) ∙ sym (ap ahead j.ops) ∙ j.after in
@@ -148,12 +168,15 @@ DoesAs-ending p q connect c cs s T U j e ok V k =
 
 -- The attempt.
 
-frame-same : (ok nok : State) (q : TokenizeState) (T U : Tokenizer) → restored (frame_of false ok nok (scratched q T)) U ≡ restored (frame_of false ok nok T) U
+frame-same : (ok nok : State) (q : TokenizeState) (T U : Tokenizer) →
+    restored (frame_of false ok nok (scratched q T)) U ≡ restored (frame_of false ok nok T) U
 unfolding frame_of scratched
 frame-same ok nok q T U = refl
 
-refused-same : (ok nok : State) (q : TokenizeState) (T U : Tokenizer) → Fails T.tokenize_state T U → restored (frame_of false ok nok (scratched q T)) U ≡ T
-refused-same ok nok q T U f = frame-same ok nok q T U ∙ restored-fails false ok nok T.tokenize_state T U f ∙ scratched-same T
+refused-same : (ok nok : State) (q : TokenizeState) (T U : Tokenizer) → Fails T.tokenize_state T U →
+    restored (frame_of false ok nok (scratched q T)) U ≡ T
+refused-same ok nok q T U f =
+    frame-same ok nok q T U ∙ restored-fails false ok nok T.tokenize_state T U f ∙ scratched-same T
 
 module _ (W : Words) (within : words_in W SpaceOrTabEolStart ≡ PartialSpaceOrTabEol.start_words) where
   abbrev pub AtEnding : ℕ → (Bool → Tokenizer → Type 0) → StateName → StateName → Code → Tokenizer → Type 0
@@ -161,7 +184,10 @@ module _ (W : Words) (within : words_in W SpaceOrTabEolStart ≡ PartialSpaceOrT
       ((U : Tokenizer) → U.attempts ≡ [] → Passed T.tokenize_state.connect c (rest_of (ahead T)) T U → FollowsIn W n End (Next after) U)
       × (begins_filled_line (span is_blank (rest_of (ahead T))).1 ≡ false → FollowsIn W n End (Next none) T)
 
-  pub ending-law : (n : ℕ) (End : Bool → Tokenizer → Type 0) (after none : StateName) (T : Tokenizer) (c : ℕ) (b : Begins c (ahead T)) → T.attempts ≡ [] → TextReady T → (T.tokenize_state.connect ≡ true → LinkedBefore T) → is_line_ending b.code ≡ true → weight_at 8 T < n → AtEnding n End after none b.code T → GoesIn W n End (stepped (Retry SpaceOrTabEolStart) (attempted false (Next after) (Next none) (scratched (eol_asked_for T.tokenize_state) T)))
+  pub ending-law : (n : ℕ) (End : Bool → Tokenizer → Type 0) (after none : StateName) (T : Tokenizer) (c : ℕ) (b : Begins c (ahead T)) →
+      T.attempts ≡ [] → TextReady T → (T.tokenize_state.connect ≡ true → LinkedBefore T) →
+      is_line_ending b.code ≡ true → weight_at 8 T < n → AtEnding n End after none b.code T →
+      GoesIn W n End (stepped (Retry SpaceOrTabEolStart) (attempted false (Next after) (Next none) (scratched (eol_asked_for T.tokenize_state) T)))
   ending-law n End after none T c b alone r linked e less k =
       let s : TokenizeState = T.tokenize_state in
       let connect : Bool = s.connect in

@@ -28,7 +28,8 @@ both-true true false e h = refl
 both-true true true e h = cc
 both-true false b e h = cc
 
-pub open-closed : (es : List Event) (x : Event) → ends_open es ≡ true → has_link x.link ≡ false → ends_linked (es ++ x ∷ []) ≡ true
+pub open-closed : (es : List Event) (x : Event) → ends_open es ≡ true → has_link x.link ≡ false →
+    ends_linked (es ++ x ∷ []) ≡ true
 open-closed [] x h k = cc
 open-closed (e ∷ []) x h k = both-true (has_link e.link) (has_link x.link) h k
 open-closed (e ∷ y ∷ []) x h k = open-closed (y ∷ []) x h k
@@ -46,19 +47,24 @@ open-rest a b c ns h = ap rest_of h ∙ ap (λ xs. b ∷ c ∷ xs) (drop-rest ns
 
 -- The fields of whitespace, and the codes left.
 
-pub text-after : (os : List Op) (r : TokenizeState) (T : Tokenizer) → moves os ≤ length (ahead T) → TextReady T → WhitespaceAtRest r → TextReady (scratched r (done os T))
+pub text-after : (os : List Op) (r : TokenizeState) (T : Tokenizer) → moves os ≤ length (ahead T) → TextReady T →
+    WhitespaceAtRest r → TextReady (scratched r (done os T))
 unfolding scratched
-text-after os r T h k rest = record { short = omega (arith, k.short, left-done os T h, left-scratched r (done os T)); resting = rest }
+text-after os r T h k rest =
+    record { short = omega (arith, k.short, left-done os T h, left-scratched r (done os T)); resting = rest }
 
 -- fewer codes are left, and the scratch fields are the same
-pub text-same : (T U : Tokenizer) → TextReady T → codes_left U + 1 ≤ codes_left T → U.tokenize_state ≡ T.tokenize_state → TextReady U
-text-same T U k fewer e = record { short = omega (arith, k.short, fewer); resting = subst (λ (s : TokenizeState). WhitespaceAtRest s) (sym e) k.resting }
+pub text-same : (T U : Tokenizer) → TextReady T → codes_left U + 1 ≤ codes_left T →
+    U.tokenize_state ≡ T.tokenize_state → TextReady U
+text-same T U k fewer e =
+    record { short = omega (arith, k.short, fewer); resting = subst (λ (s : TokenizeState). WhitespaceAtRest s) (sym e) k.resting }
 
 pub rest-joined : (s : TokenizeState) → WhitespaceAtRest s → WhitespaceAtRest (joined s)
 rest-joined s r = record { space = ap joined r.space; eol = ap joined r.eol }
 
 -- the scratch fields are those before, and as many codes or fewer are left
-pub text-kept : (os : List Op) (T : Tokenizer) → moves os ≤ length (ahead T) → (done os T).tokenize_state ≡ T.tokenize_state → TextReady T → TextReady (done os T)
+pub text-kept : (os : List Op) (T : Tokenizer) → moves os ≤ length (ahead T) →
+    (done os T).tokenize_state ≡ T.tokenize_state → TextReady T → TextReady (done os T)
 unfolding scratched
 text-kept os T h e k =
     let after : TextReady (scratched T.tokenize_state (done os T)) = text-after os T.tokenize_state T h k k.resting in
@@ -80,11 +86,13 @@ depth-data false P h = h
 
 -- Runs that fail.
 
-pub DoesAs-fails : (d : ℕ) (p : Plan) (s : TokenizeState) (T : Tokenizer) → p (ahead T) ≡ None → (ok : Bool) (U : Tokenizer) → (ok ≡ false) × (U ≡ scratched s T) → DoesAs d p s T ok U
+pub DoesAs-fails : (d : ℕ) (p : Plan) (s : TokenizeState) (T : Tokenizer) → p (ahead T) ≡ None →
+    (ok : Bool) (U : Tokenizer) → (ok ≡ false) × (U ≡ scratched s T) → DoesAs d p s T ok U
 DoesAs-fails d p s T e true U k = let no : true ≡ false = k.0 in cc
 DoesAs-fails d p s T e false U k = record { none = e; grown = Grown-same d s T U k.1; scratch = scratch-same s T U k.1 }
 
 -- by a test
-pub state-by : (Q : State → Type 0) (b : Bool) (x y : State) → (b ≡ true → Q x) → (b ≡ false → Q y) → Q (if b then x else y)
+pub state-by : (Q : State → Type 0) (b : Bool) (x y : State) → (b ≡ true → Q x) → (b ≡ false → Q y) →
+    Q (if b then x else y)
 state-by Q true x y f g = f refl
 state-by Q false x y f g = g refl

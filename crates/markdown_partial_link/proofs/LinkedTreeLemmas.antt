@@ -22,18 +22,23 @@ use Rattle.markdown_partial_link.specs.LinkedTreeOps.{enter_op, has_content, lin
 
 -- One leaf.
 
-entered-by : (linked : Bool) (n : Name) (link : Option Content) (T : Tokenizer) → applied (enter_op linked n link) T ≡ entered_leaf n link linked T
+entered-by : (linked : Bool) (n : Name) (link : Option Content) (T : Tokenizer) →
+    applied (enter_op linked n link) T ≡ entered_leaf n link linked T
 entered-by linked n None T = refl
 entered-by true n (Some c) T = refl
 entered-by false n (Some c) T = refl
 
-leaf-by : (linked : Bool) (n : Name) (link : Option Content) (cs rest : List Code) (T : Tokenizer) → cs ≢ [] → ahead T ≡ cs ++ rest → applied (Exit n) (passed cs (applied (enter_op linked n link) T)) ≡ past (link_before linked T) (leaf_then n link cs empty) T
+leaf-by : (linked : Bool) (n : Name) (link : Option Content) (cs rest : List Code) (T : Tokenizer) → cs ≢ [] →
+    ahead T ≡ cs ++ rest →
+    applied (Exit n) (passed cs (applied (enter_op linked n link) T)) ≡ past (link_before linked T) (leaf_then n link cs empty) T
 leaf-by linked n link [] rest T some e = absurd (some refl)
 leaf-by linked n link (c ∷ cs) rest T some e =
     ap (λ (x : Tokenizer). applied (Exit n) (passed (c ∷ cs) x)) (entered-by linked n link T) ∙ leaf-past n link linked c cs rest T e
 
 -- the leaf behind it is linked back to it, where it is linked
-next-link : (linked : Bool) (n : Name) (link : Option Content) (cs : List Code) (T U : Tokenizer) → (linked ≡ true → has_content link ≡ true) → U ≡ past (link_before linked T) (leaf_then n link cs empty) T → link_before (has_content link) U ≡ last_link (length T.events) (link_before linked T) (leaf_then n link cs empty)
+next-link : (linked : Bool) (n : Name) (link : Option Content) (cs : List Code) (T U : Tokenizer) →
+    (linked ≡ true → has_content link ≡ true) → U ≡ past (link_before linked T) (leaf_then n link cs empty) T →
+    link_before (has_content link) U ≡ last_link (length T.events) (link_before linked T) (leaf_then n link cs empty)
 unfolding past
 next-link true n None cs T U h e = let no : false ≡ true = h refl in cc
 next-link false n None cs T U h e = refl
@@ -44,18 +49,24 @@ next-link linked n (Some x) cs T U h e =
 
 -- One group.
 
-group-by : (n : Name) (a b : Point) (inside : Forest) (rest : List Code) (T : Tokenizer) → leaf_codes inside ≢ [] → a ≡ start_of (leaf_codes inside) → b ≡ stop_of document_start (leaf_codes inside) → ahead T ≡ leaf_codes inside ++ rest → applied (Exit n) (past None inside (applied (Enter n) T)) ≡ past None (group_then n a b inside empty) T
+group-by : (n : Name) (a b : Point) (inside : Forest) (rest : List Code) (T : Tokenizer) → leaf_codes inside ≢ [] →
+    a ≡ start_of (leaf_codes inside) → b ≡ stop_of document_start (leaf_codes inside) →
+    ahead T ≡ leaf_codes inside ++ rest →
+    applied (Exit n) (past None inside (applied (Enter n) T)) ≡ past None (group_then n a b inside empty) T
 group-by n a b inside rest T some f g e =
     group-past n None inside T
     ∙ ap (λ p. past None (group_then n p (exit_point (moved_by (leaf_codes inside) T.cursor)) inside empty) T) (solid-start (leaf_codes inside) rest T some e ∙ sym f)
     ∙ ap (λ p. past None (group_then n a p inside empty) T) (solid-stop (leaf_codes inside) rest T some e ∙ sym g)
 
 -- one tree and then a row
-row-then : (previous q : Option ℕ) (t rest : Forest) (T U : Tokenizer) → q ≡ last_link (length T.events) previous t → U ≡ past previous t T → past q rest U ≡ past previous (t ⊕ rest) T
-row-then previous q t rest T U h e = ap (past q rest) e ∙ ap (λ k. past k rest (past previous t T)) h ∙ past-past previous t rest T
+row-then : (previous q : Option ℕ) (t rest : Forest) (T U : Tokenizer) → q ≡ last_link (length T.events) previous t →
+    U ≡ past previous t T → past q rest U ≡ past previous (t ⊕ rest) T
+row-then previous q t rest T U h e =
+    ap (past q rest) e ∙ ap (λ k. past k rest (past previous t T)) h ∙ past-past previous t rest T
 
 -- The operations of a row leave the tokenizer past it, its leaves linked.
-pub linked-past : (linked : Bool) (t : Forest) (rest : List Code) (T : Tokenizer) → IsRow linked t → ahead T ≡ leaf_codes t ++ rest → done (linked_ops linked t) T ≡ past (link_before linked T) t T
+pub linked-past : (linked : Bool) (t : Forest) (rest : List Code) (T : Tokenizer) → IsRow linked t →
+    ahead T ≡ leaf_codes t ++ rest → done (linked_ops linked t) T ≡ past (link_before linked T) t T
 linked-past linked empty rest T s e = sym (past-empty (link_before linked T) T)
 linked-past linked (leaf_then n link cs more) rest T s e =
     let here : ahead T ≡ cs ++ (leaf_codes more ++ rest) = e ∙ append_assoc cs (leaf_codes more) rest in
@@ -85,11 +96,13 @@ linked-past false (group_then n a b inside more) rest T s e =
 row-enter : (linked : Bool) (t : Forest) → IsRow linked t → enter_of t ≡ start_of (leaf_codes t)
 row-enter linked empty s = refl
 row-enter linked (leaf_then n link cs more) s = sym (start-append cs (leaf_codes more) s.1.0)
-row-enter linked (group_then n a b inside more) s = s.1.1.0 ∙ sym (start-append (leaf_codes inside) (leaf_codes more) s.1.0)
+row-enter linked (group_then n a b inside more) s =
+    s.1.1.0 ∙ sym (start-append (leaf_codes inside) (leaf_codes more) s.1.0)
 
 row-exit : (linked : Bool) (p : Point) (t : Forest) → IsRow linked t → exit_after p t ≡ stop_of p (leaf_codes t)
 row-exit linked p empty s = refl
-row-exit linked p (leaf_then n link cs more) s = row-exit (has_content link) (stop_of p cs) more s.1.1 ∙ sym (stop_of-append p cs (leaf_codes more))
+row-exit linked p (leaf_then n link cs more) s =
+    row-exit (has_content link) (stop_of p cs) more s.1.1 ∙ sym (stop_of-append p cs (leaf_codes more))
 row-exit linked p (group_then n a b inside more) s =
     row-exit false b more s.1.1.1.1.1
     ∙ ap (λ q. stop_of q (leaf_codes more)) (s.1.1.1.0 ∙ stop_of-some document_start p (leaf_codes inside) s.1.0)
@@ -103,7 +116,8 @@ row-leaf : (n : Name) (xs ys : List Code) (u : Forest) → CoversRow u ys → Co
 row-leaf n [] ys u k = k
 row-leaf n (x ∷ xs) ys u k = ((λ e. e, (λ e. cc, k.0)), ap (λ zs. x ∷ xs ++ zs) k.1)
 
-pub Row-leaf : (n : Name) (x xs ys : List Code) (u : Forest) → x ≡ xs → CoversRow u ys → CoversRow (leaf n x ⊕ u) (xs ++ ys)
+pub Row-leaf : (n : Name) (x xs ys : List Code) (u : Forest) → x ≡ xs → CoversRow u ys →
+    CoversRow (leaf n x ⊕ u) (xs ++ ys)
 Row-leaf n x xs ys u e k = subst (λ zs. CoversRow (leaf n x ⊕ u) (zs ++ ys)) e (row-leaf n x ys u k)
 
 pub Row-last : (n : Name) (x xs : List Code) → x ≡ xs → CoversRow (leaf n x) (xs ++ [])
@@ -114,7 +128,8 @@ pub Row-linked : (n : Name) (x xs : List Code) → x ≡ xs → CoversRow (linke
 Row-linked n [] xs e = (tt, e)
 Row-linked n (c ∷ cs) xs e = ((λ h. refl, (λ h. cc, tt)), append-nil (c ∷ cs) ∙ e)
 
-pub Row-group : (n : Name) (xs ys : List Code) (t u : Forest) → xs ≢ [] → CoversRow t xs → CoversRow u ys → CoversRow (group n t ⊕ u) (xs ++ ys)
+pub Row-group : (n : Name) (xs ys : List Code) (t u : Forest) → xs ≢ [] → CoversRow t xs → CoversRow u ys →
+    CoversRow (group n t ⊕ u) (xs ++ ys)
 Row-group n xs ys t u some k l =
     let filled : leaf_codes t ≢ [] = λ e. some (sym k.1 ∙ e) in (
       (refl, (filled, (row-enter false t k.0, (row-exit false (enter_of t) t k.0 ∙ stop_of-some (enter_of t) document_start (leaf_codes t) filled, (k.0, l.0))))),
@@ -122,7 +137,8 @@ Row-group n xs ys t u some k l =
     )
 
 -- the group of a text, which may be empty
-pub Row-string : (n : Name) (xs ys : List Code) (t u : Forest) → CoversRow t xs → CoversRow u ys → CoversRow (string_group n t ⊕ u) (xs ++ ys)
+pub Row-string : (n : Name) (xs ys : List Code) (t u : Forest) → CoversRow t xs → CoversRow u ys →
+    CoversRow (string_group n t ⊕ u) (xs ++ ys)
 Row-string n xs ys empty u k l = subst (λ zs. CoversRow u (zs ++ ys)) k.1 l
 Row-string n xs ys (leaf_then m link cs more) u k l =
     Row-group n xs ys (leaf_then m link cs more) u (λ e. some-first cs (leaf_codes more) k.0.1.0 (k.1 ∙ e)) k l
@@ -139,7 +155,8 @@ Row-whole n xs t some k =
 
 -- Whole constructs.
 
-ops-read : (o : Option (Forest × List Code)) (os : List Op) → tree_ops o ≡ Some os → (r : Forest × List Code) × ((o ≡ Some r) × (os ≡ linked_ops false r.0))
+ops-read : (o : Option (Forest × List Code)) (os : List Op) → tree_ops o ≡ Some os →
+    (r : Forest × List Code) × ((o ≡ Some r) × (os ≡ linked_ops false r.0))
 ops-read None os e = cc
 ops-read (Some r) os e = (r, (refl, cc))
 
@@ -148,7 +165,9 @@ none-read None e = refl
 none-read (Some r) e = cc
 
 -- a run that does what the tree of a reading asks for ends as the reading
-pub EndsAs-linked : (r : TreeReading) → Gives CoversRow r → (s : TokenizeState) (T : Tokenizer) (ok : Bool) (U : Tokenizer) → DoesAs 0 (plan_of r) s T ok U → EndsAs r None s T ok U
+pub EndsAs-linked : (r : TreeReading) → Gives CoversRow r →
+    (s : TokenizeState) (T : Tokenizer) (ok : Bool) (U : Tokenizer) → DoesAs 0 (plan_of r) s T ok U →
+    EndsAs r None s T ok U
 EndsAs-linked r whole s T true U k =
     let x = ops-read (r (ahead T)) k.ops k.holds in
     let w = whole (ahead T) x.0.0 x.0.1 x.1.0 in
@@ -156,4 +175,5 @@ EndsAs-linked r whole s T true U k =
     let same : ahead (scratched s T) ≡ leaf_codes x.0.0 ++ x.0.1 = ahead-scratched s T ∙ codes in
     let left : U ≡ past None x.0.0 (scratched s T) = k.left ∙ ap (λ os. done os (scratched s T)) x.1.1 ∙ linked-past false x.0.0 x.0.1 (scratched s T) w.holds.0 same in
     record { tree = x.0.0; rest = x.0.1; holds = x.1.0; left = left; whole = codes; after = ap ahead left ∙ ahead-past None x.0.0 (scratched s T) x.0.1 same }
-EndsAs-linked r whole s T false U k = record { refused = none-read (r (ahead T)) k.none; fails = record { grown = k.grown; scratch = k.scratch } }
+EndsAs-linked r whole s T false U k =
+    record { refused = none-read (r (ahead T)) k.none; fails = record { grown = k.grown; scratch = k.scratch } }

@@ -22,9 +22,11 @@ use Rattle.markdown_model.specs.Resource.{DestinationNames, destination, raw_fro
 use Rattle.markdown_plan.specs.Plan.{Plan, preceded, DoesAs, KeepsAs}
 use Rattle.markdown_plan.specs.ScratchFields.{with_size}
 use Rattle.markdown_plan.proofs.PlanSteps.{preceded-nil, no-codes}
-use Rattle.markdown_partial_link.specs.PartialDestination.{refused, raw_on, raw_plain, raw_opens, nested, finished, names_in, control_value, bars_value, stops_value, opening, raw_opening, text_opening, closing, ending, raw_ending, start_at, start_step, entering, enclosed_before_at, enclosed_at, escapes_enclosed, enclosed_escape_at, raw_at, escapes_raw, raw_escape_at, StartReady, BeforeReady, EnclosedReady, RawReady, start_ends, text_then, enclosed_plan, before_plan, raw_plan, enclosed_before_ends, enclosed_ends, enclosed_escape_ends, raw_ends, raw_escape_ends, states, enclosed_before_words, enclosed_escape_words, enclosed_words, raw_escape_words, raw_words, start_words}
+use Rattle.markdown_partial_link.specs.PartialDestination.{refused, raw_on, raw_plain, raw_opens, nested, finished, names_in, control_value, bars_value, stops_value, opening, raw_opening, text_opening, closing, ending, raw_ending, start_at, start_step, entering, enclosed_before_at, enclosed_at, escapes_enclosed, enclosed_escape_at, raw_at, escapes_raw, raw_escape_at}
+use Rattle.markdown_partial_link.specs.PartialDestination.{StartReady, BeforeReady, EnclosedReady, RawReady, start_ends, text_then, enclosed_plan, before_plan, raw_plan, enclosed_before_ends, enclosed_ends, enclosed_escape_ends, raw_ends, raw_escape_ends, states, enclosed_before_words, enclosed_escape_words, enclosed_words, raw_escape_words, raw_words, start_words}
 use Rattle.markdown_partial_link.specs.LinkedTreeOps.{plan_of}
-use Rattle.markdown_partial_link.proofs.PartialDestinationReadings.{enclosed-none, enclosed-close, enclosed-refused, enclosed-next, enclosed-taken, enclosed-bare, text-first, destination-bracket, raw-end, raw-open-end, raw-taken, raw-bare, stops, raw-stop, raw-space, raw-control, raw-open, raw-deep, raw-close, raw-next, destination-raw, destination-end, destination-stops, destination-control, destination-covers}
+use Rattle.markdown_partial_link.proofs.PartialDestinationReadings.{enclosed-none, enclosed-close, enclosed-refused, enclosed-next, enclosed-taken, enclosed-bare, text-first, destination-bracket, raw-end, raw-open-end, raw-taken, raw-bare, stops}
+use Rattle.markdown_partial_link.proofs.PartialDestinationReadings.{raw-stop, raw-space, raw-control, raw-open, raw-deep, raw-close, raw-next, destination-raw, destination-end, destination-stops, destination-control, destination-covers}
 use Rattle.markdown_partial_link.proofs.LinkedTreeLemmas.{EndsAs-linked}
 use Rattle.markdown_partial_link.proofs.BoolLemmas.{same-value}
 use Rattle.markdown_model.proofs.GrammarSteps.{if-true, if-false, right-true}
@@ -54,7 +56,8 @@ raw-past : (T : Tokenizer) → RawReady T → RawReady (done (Consume ∷ []) T)
 unfolding applied
 raw-past T h = h
 
-nested-past : (n : ℕ) (T : Tokenizer) → RawReady T → RawReady (scratched (with_size n T.tokenize_state) (done (Consume ∷ []) T))
+nested-past : (n : ℕ) (T : Tokenizer) → RawReady T →
+    RawReady (scratched (with_size n T.tokenize_state) (done (Consume ∷ []) T))
 unfolding applied scratched
 nested-past n T h = h
 
@@ -102,7 +105,9 @@ plain-value v e =
       or-here false b c h f g = g h
 
 -- a space, or a control, that does not end the destination refuses it
-refused-by : (w : Bool) (max depth : ℕ) (c : Code) (cs : List Code) → white_value c.value ≡ w → (depth == 0 && stops_value c.value) ≡ false → is_value 41 c ≡ false → (control_value c.value || c.value == 32) ≡ true → raw_from max false depth (c ∷ cs) ≡ None
+refused-by : (w : Bool) (max depth : ℕ) (c : Code) (cs : List Code) → white_value c.value ≡ w →
+    (depth == 0 && stops_value c.value) ≡ false → is_value 41 c ≡ false →
+    (control_value c.value || c.value == 32) ≡ true → raw_from max false depth (c ∷ cs) ≡ None
 unfolding white_value
 refused-by true max depth c cs e h k g =
     let closed : (depth == 0) ≡ false = right-true (depth == 0) (stops_value c.value) h (white-stops (c.value == 9) (c.value == 10) (c.value == 32) (c.value == 41) e) in
@@ -145,7 +150,9 @@ module _ (W : Words) (within : Within states W) where
       (λ ok U x. x)))))
 
   -- the backslash means itself
-  enclosed-goes : (T : Tokenizer) → T.attempts ≡ [] → EnclosedReady T → enclosed_plan (names_in T.tokenize_state) true (ahead T) ≡ enclosed_plan (names_in T.tokenize_state) false (ahead T) → GoesIn W (weight_at 2 T) (enclosed_escape_ends T) (stepped (Retry DestinationEnclosed) T)
+  enclosed-goes : (T : Tokenizer) → T.attempts ≡ [] → EnclosedReady T →
+      enclosed_plan (names_in T.tokenize_state) true (ahead T) ≡ enclosed_plan (names_in T.tokenize_state) false (ahead T) →
+      GoesIn W (weight_at 2 T) (enclosed_escape_ends T) (stepped (Retry DestinationEnclosed) T)
   enclosed-goes T alone k e =
       let names : DestinationNames = names_in T.tokenize_state in
       Goes-next W 2 4 (enclosed_plan names true) (enclosed_plan names false) [] T (Retry DestinationEnclosed) (within DestinationEnclosed) alone refl (no-codes T) (omega arith)
@@ -171,7 +178,8 @@ module _ (W : Words) (within : Within states W) where
       (λ ok U x. x))
       (λ h. enclosed-goes T alone k (ap p b.whole ∙ enclosed-bare names b.code cs (ap escapes_enclosed b.value ∙ h) ∙ ap (enclosed_plan names false) (sym b.whole))))
 
-  before-enters : (T : Tokenizer) → T.attempts ≡ [] → BeforeReady T → next_is (is_value 62) (ahead T) ≡ false → GoesIn W (weight_at 3 T) (enclosed_before_ends T) (entering T)
+  before-enters : (T : Tokenizer) → T.attempts ≡ [] → BeforeReady T → next_is (is_value 62) (ahead T) ≡ false →
+      GoesIn W (weight_at 3 T) (enclosed_before_ends T) (entering T)
   unfolding applied
   before-enters T alone k h =
       let names : DestinationNames = names_in T.tokenize_state in
@@ -196,7 +204,9 @@ module _ (W : Words) (within : Within states W) where
   -- Without brackets.
 
   -- a code that is no parenthesis
-  raw-plain-law : (T : Tokenizer) → T.attempts ≡ [] → RawReady T → (c : ℕ) → current_of T ≡ Some c → (T.tokenize_state.size == 0 && stops_value c) ≡ false → (c == 40) ≡ false → (c == 41) ≡ false → GoesIn W (weight_at 1 T) (raw_ends T) (raw_plain c T)
+  raw-plain-law : (T : Tokenizer) → T.attempts ≡ [] → RawReady T → (c : ℕ) → current_of T ≡ Some c →
+      (T.tokenize_state.size == 0 && stops_value c) ≡ false → (c == 40) ≡ false → (c == 41) ≡ false →
+      GoesIn W (weight_at 1 T) (raw_ends T) (raw_plain c T)
   unfolding applied scratched white_value
   raw-plain-law T alone k c e h g f =
       let s : TokenizeState = T.tokenize_state in
@@ -226,7 +236,9 @@ module _ (W : Words) (within : Within states W) where
       (λ i. Goes-kept W 1 4 p p (Consume ∷ []) (with_size 0 s) T (Next DestinationRaw) (within DestinationRaw) alone refl more (omega arith) (reads false i) (raw-past T k) (λ ok U x. x)))
 
   -- past a parenthesis, with so many open
-  nested-law : (n : ℕ) (T : Tokenizer) → T.attempts ≡ [] → RawReady T → 1 ≤ length (ahead T) → raw_plan (names_in T.tokenize_state) T.tokenize_state.size_b false T.tokenize_state.size (ahead T) ≡ preceded (Consume ∷ []) (raw_plan (names_in T.tokenize_state) T.tokenize_state.size_b false n (drop 1 (ahead T))) → GoesIn W (weight_at 1 T) (raw_ends T) (nested n T)
+  nested-law : (n : ℕ) (T : Tokenizer) → T.attempts ≡ [] → RawReady T → 1 ≤ length (ahead T) →
+      raw_plan (names_in T.tokenize_state) T.tokenize_state.size_b false T.tokenize_state.size (ahead T) ≡ preceded (Consume ∷ []) (raw_plan (names_in T.tokenize_state) T.tokenize_state.size_b false n (drop 1 (ahead T))) →
+      GoesIn W (weight_at 1 T) (raw_ends T) (nested n T)
   unfolding applied scratched
   nested-law n T alone k more reads =
       let s : TokenizeState = T.tokenize_state in
@@ -234,7 +246,8 @@ module _ (W : Words) (within : Within states W) where
       Goes-on W 1 4 (q s.size) (q n) (Consume ∷ []) (with_size 0 s) (with_size n s) T (Next DestinationRaw) (within DestinationRaw) alone refl more (omega arith) reads (nested-past n T k) (λ ok U x. x)
 
   -- a code that does not end the destination
-  raw-on-law : (T : Tokenizer) → T.attempts ≡ [] → RawReady T → (c : ℕ) → current_of T ≡ Some c → (T.tokenize_state.size == 0 && stops_value c) ≡ false → GoesIn W (weight_at 1 T) (raw_ends T) (raw_on c T)
+  raw-on-law : (T : Tokenizer) → T.attempts ≡ [] → RawReady T → (c : ℕ) → current_of T ≡ Some c →
+      (T.tokenize_state.size == 0 && stops_value c) ≡ false → GoesIn W (weight_at 1 T) (raw_ends T) (raw_on c T)
   unfolding white_value
   raw-on-law T alone k c e h =
       let s : TokenizeState = T.tokenize_state in
@@ -285,7 +298,9 @@ module _ (W : Words) (within : Within states W) where
       (ap p b.whole ∙ ap at (raw-stop max depth b.code (rest_of (ahead T)) (stops-here b.code.value (depth == 0) (ap (λ v. depth == 0 && stops_value v) b.value ∙ h)) (and-left (depth == 0) (stops_value c) h))))
       (λ h. raw-on-law T alone k c e h))
 
-  raw-goes : (T : Tokenizer) → T.attempts ≡ [] → RawReady T → raw_plan (names_in T.tokenize_state) T.tokenize_state.size_b true T.tokenize_state.size (ahead T) ≡ raw_plan (names_in T.tokenize_state) T.tokenize_state.size_b false T.tokenize_state.size (ahead T) → GoesIn W (weight_at 2 T) (raw_escape_ends T) (stepped (Retry DestinationRaw) T)
+  raw-goes : (T : Tokenizer) → T.attempts ≡ [] → RawReady T →
+      raw_plan (names_in T.tokenize_state) T.tokenize_state.size_b true T.tokenize_state.size (ahead T) ≡ raw_plan (names_in T.tokenize_state) T.tokenize_state.size_b false T.tokenize_state.size (ahead T) →
+      GoesIn W (weight_at 2 T) (raw_escape_ends T) (stepped (Retry DestinationRaw) T)
   raw-goes T alone k e =
       let s : TokenizeState = T.tokenize_state in
       let names : DestinationNames = names_in s in
@@ -315,16 +330,21 @@ module _ (W : Words) (within : Within states W) where
       (λ ok U x. x))
       (λ h. raw-goes T alone k (ap p b.whole ∙ ap at (raw-bare s.size_b s.size b.code cs (ap escapes_raw b.value ∙ h)) ∙ ap q (sym b.whole))))
     where
-      same-end : (x : Bool) (names : DestinationNames) (max depth : ℕ) → (depth == 0) ≡ x → raw_plan names max true depth [] ≡ raw_plan names max false depth []
-      same-end true names max depth e = ap (text_then (raw_ending names)) (raw-end max true depth e ∙ sym (raw-end max false depth e))
-      same-end false names max depth e = ap (text_then (raw_ending names)) (raw-open-end max true depth e ∙ sym (raw-open-end max false depth e))
+      same-end : (x : Bool) (names : DestinationNames) (max depth : ℕ) → (depth == 0) ≡ x →
+          raw_plan names max true depth [] ≡ raw_plan names max false depth []
+      same-end true names max depth e =
+          ap (text_then (raw_ending names)) (raw-end max true depth e ∙ sym (raw-end max false depth e))
+      same-end false names max depth e =
+          ap (text_then (raw_ending names)) (raw-open-end max true depth e ∙ sym (raw-open-end max false depth e))
 
   -- From the start.
 
   rested : (s : TokenizeState) → s.size ≡ 0 → with_size 0 s ≡ s
   rested s e = let Q : ℕ → Type 0 = λ n. with_size n s ≡ s in subst Q e refl
 
-  raw-says : (T : Tokenizer) → StartReady T → (ok : Bool) (U : Tokenizer) → raw_ends (done (raw_opening (names_in T.tokenize_state)) T) ok U → DoesAs 4 (raw_plan (names_in T.tokenize_state) T.tokenize_state.size_b false 0) T.tokenize_state (done (raw_opening (names_in T.tokenize_state)) T) ok U
+  raw-says : (T : Tokenizer) → StartReady T → (ok : Bool) (U : Tokenizer) →
+      raw_ends (done (raw_opening (names_in T.tokenize_state)) T) ok U →
+      DoesAs 4 (raw_plan (names_in T.tokenize_state) T.tokenize_state.size_b false 0) T.tokenize_state (done (raw_opening (names_in T.tokenize_state)) T) ok U
   unfolding applied
   raw-says T k ok U x =
       let s : TokenizeState = T.tokenize_state in
@@ -333,7 +353,8 @@ module _ (W : Words) (within : Within states W) where
       let R : TokenizeState → Type 0 = λ q. DoesAs 4 (raw_plan (names_in s) s.size_b false 0) q V ok U in
       subst R (rested s k) (subst Q k x)
 
-  none-by : (w : Bool) (max : ℕ) (names : DestinationNames) (c : Code) (cs : List Code) → stops max 0 c ≡ w → is_value 60 c ≡ false → bars_value c.value ≡ true → plan_of (destination max names) (c ∷ cs) ≡ None
+  none-by : (w : Bool) (max : ℕ) (names : DestinationNames) (c : Code) (cs : List Code) → stops max 0 c ≡ w →
+      is_value 60 c ≡ false → bars_value c.value ≡ true → plan_of (destination max names) (c ∷ cs) ≡ None
   none-by true max names c cs e h k = destination-stops max names c cs h e
   none-by false max names c cs e h k =
       destination-control max names c cs h e (control-left (control_value c.value) (c.value == 32) (c.value == 41) (c.value == 9) (c.value == 10) k e) where

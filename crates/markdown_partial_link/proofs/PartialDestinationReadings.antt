@@ -19,7 +19,8 @@ use Rattle.markdown_model.proofs.GrammarSteps.{bind-some, bind-none, after-some,
 
 -- Between the brackets.
 
-pub text-first : (os : List Op) (c : Code) (o : Option (List Code × List Code)) → text_then os (with_first c o) ≡ preceded (Consume ∷ []) (text_then os o)
+pub text-first : (os : List Op) (c : Code) (o : Option (List Code × List Code)) →
+    text_then os (with_first c o) ≡ preceded (Consume ∷ []) (text_then os o)
 text-first os c None = refl
 text-first os c (Some r) = refl
 
@@ -32,43 +33,57 @@ refuses c = is_value 60 c || is_line_ending c
 pub enclosed-none : (names : DestinationNames) (slash : Bool) → enclosed_plan names slash [] ≡ None
 enclosed-none names slash = ap (text_then (ending names)) (text-end (is_value 62) takes refuses slash)
 
-pub enclosed-close : (names : DestinationNames) (c : Code) (cs : List Code) → is_value 62 c ≡ true → enclosed_plan names false (c ∷ cs) ≡ Some (ending names)
+pub enclosed-close : (names : DestinationNames) (c : Code) (cs : List Code) → is_value 62 c ≡ true →
+    enclosed_plan names false (c ∷ cs) ≡ Some (ending names)
 enclosed-close names c cs h = ap (text_then (ending names)) (text-stops (is_value 62) takes refuses false c cs refl h)
 
-pub enclosed-refused : (names : DestinationNames) (c : Code) (cs : List Code) → is_value 62 c ≡ false → refuses c ≡ true → enclosed_plan names false (c ∷ cs) ≡ None
-enclosed-refused names c cs h k = ap (text_then (ending names)) (text-refused (is_value 62) takes refuses false c cs refl h k)
+pub enclosed-refused : (names : DestinationNames) (c : Code) (cs : List Code) → is_value 62 c ≡ false →
+    refuses c ≡ true → enclosed_plan names false (c ∷ cs) ≡ None
+enclosed-refused names c cs h k =
+    ap (text_then (ending names)) (text-refused (is_value 62) takes refuses false c cs refl h k)
 
-pub enclosed-next : (names : DestinationNames) (slash : Bool) (c : Code) (cs : List Code) → is_value 62 c ≡ false → refuses c ≡ false → (c.value == 92) ≡ slash → enclosed_plan names false (c ∷ cs) ≡ preceded (Consume ∷ []) (enclosed_plan names slash cs)
+pub enclosed-next : (names : DestinationNames) (slash : Bool) (c : Code) (cs : List Code) → is_value 62 c ≡ false →
+    refuses c ≡ false → (c.value == 92) ≡ slash →
+    enclosed_plan names false (c ∷ cs) ≡ preceded (Consume ∷ []) (enclosed_plan names slash cs)
 enclosed-next names slash c cs h k e =
     ap (text_then (ending names)) (text-next (is_value 62) takes refuses false c cs refl h k)
     ∙ text-first (ending names) c (bracketed (c.value == 92) cs)
     ∙ ap (λ b. preceded (Consume ∷ []) (enclosed_plan names b cs)) e
 
-pub enclosed-taken : (names : DestinationNames) (c : Code) (cs : List Code) → takes c ≡ true → enclosed_plan names true (c ∷ cs) ≡ preceded (Consume ∷ []) (enclosed_plan names false cs)
-enclosed-taken names c cs h = ap (text_then (ending names)) (text-taken (is_value 62) takes refuses true c cs h) ∙ text-first (ending names) c (bracketed false cs)
+pub enclosed-taken : (names : DestinationNames) (c : Code) (cs : List Code) → takes c ≡ true →
+    enclosed_plan names true (c ∷ cs) ≡ preceded (Consume ∷ []) (enclosed_plan names false cs)
+enclosed-taken names c cs h =
+    ap (text_then (ending names)) (text-taken (is_value 62) takes refuses true c cs h) ∙ text-first (ending names) c (bracketed false cs)
 
-pub enclosed-bare : (names : DestinationNames) (c : Code) (cs : List Code) → takes c ≡ false → enclosed_plan names true (c ∷ cs) ≡ enclosed_plan names false (c ∷ cs)
+pub enclosed-bare : (names : DestinationNames) (c : Code) (cs : List Code) → takes c ≡ false →
+    enclosed_plan names true (c ∷ cs) ≡ enclosed_plan names false (c ∷ cs)
 enclosed-bare names c cs h = ap (text_then (ending names)) (text-bare (is_value 62) takes refuses c cs h)
 
 -- From the opening bracket.
 
-ending-ops : (names : DestinationNames) (os : List Op) → (((os ++ Exit N.Data ∷ []) ++ Exit names.text ∷ Enter names.marker ∷ Consume ∷ Exit names.marker ∷ []) ++ Exit names.literal ∷ []) ++ Exit names.whole ∷ [] ≡ os ++ ending names
+ending-ops : (names : DestinationNames) (os : List Op) →
+    (((os ++ Exit N.Data ∷ []) ++ Exit names.text ∷ Enter names.marker ∷ Consume ∷ Exit names.marker ∷ []) ++ Exit names.literal ∷ []) ++ Exit names.whole ∷ [] ≡ os ++ ending names
 ending-ops names [] = refl
 ending-ops names (o ∷ os) = ap (λ xs. o ∷ xs) (ending-ops names os)
 
 literal_tree : DestinationNames → List Code → List Code → List Code → Forest
-literal_tree names front text back = group names.whole (group names.literal (leaf names.marker front ⊕ string_group names.text (linked N.Data text) ⊕ leaf names.marker back))
+literal_tree names front text back =
+    group names.whole (group names.literal (leaf names.marker front ⊕ string_group names.text (linked N.Data text) ⊕ leaf names.marker back))
 
-literal-ops : (names : DestinationNames) (c t d : Code) (text : List Code) → linked_ops false (literal_tree names (c ∷ []) (t ∷ text) (d ∷ [])) ≡ opening names ++ (text_opening names ++ (consumes (t ∷ text) ++ ending names))
+literal-ops : (names : DestinationNames) (c t d : Code) (text : List Code) →
+    linked_ops false (literal_tree names (c ∷ []) (t ∷ text) (d ∷ [])) ≡ opening names ++ (text_opening names ++ (consumes (t ∷ text) ++ ending names))
 unfolding literal_tree
-literal-ops names c t d text = ap (λ os. opening names ++ (text_opening names ++ Consume ∷ os)) (ending-ops names (consumes text))
+literal-ops names c t d text =
+    ap (λ os. opening names ++ (text_opening names ++ Consume ∷ os)) (ending-ops names (consumes text))
 
 -- after the bracket
 rest_of_literal : DestinationNames → Code → Reading Forest
 rest_of_literal names c =
     up_to (is_value 62) takes refuses >>= λ text. one (is_value 62) >>= λ back. gives (literal_tree names (c ∷ []) text back)
 
-rest-by : (names : DestinationNames) (c : Code) (cs : List Code) (b : Bool) (o : Option (List Code × List Code)) → next_is (is_value 62) cs ≡ b → bracketed false cs ≡ o → tree_ops (rest_of_literal names c cs) ≡ preceded (opening names) (if b then Some (closing names) else preceded (text_opening names) (text_then (ending names) o))
+rest-by : (names : DestinationNames) (c : Code) (cs : List Code) (b : Bool) (o : Option (List Code × List Code)) →
+    next_is (is_value 62) cs ≡ b → bracketed false cs ≡ o →
+    tree_ops (rest_of_literal names c cs) ≡ preceded (opening names) (if b then Some (closing names) else preceded (text_opening names) (text_then (ending names) o))
 unfolding rest_of_literal literal_tree gives up_to
 rest-by names c [] true o h e = cc
 rest-by names c (d ∷ cs) true o h e =
@@ -86,28 +101,35 @@ rest-by names c cs false (Some (t ∷ text1, d ∷ rest)) h e =
     ap tree_ops (bind-some _ _ cs (t ∷ text1) (d ∷ rest) _ e (bind-some _ _ (d ∷ rest) (d ∷ []) rest _ (one-here (is_value 62) d rest k) refl))
     ∙ ap (λ os. Some os) (literal-ops names c t d text1)
 
-literal-here : (names : DestinationNames) (c : Code) (cs : List Code) → is_value 60 c ≡ true → plan_of (literal_destination names) (c ∷ cs) ≡ preceded (opening names) (before_plan names cs)
+literal-here : (names : DestinationNames) (c : Code) (cs : List Code) → is_value 60 c ≡ true →
+    plan_of (literal_destination names) (c ∷ cs) ≡ preceded (opening names) (before_plan names cs)
 unfolding literal_destination rest_of_literal literal_tree
 literal-here names c cs h =
     ap tree_ops (bind-some _ _ (c ∷ cs) (c ∷ []) cs _ (one-here (is_value 60) c cs h) refl) ∙ rest-by names c cs (next_is (is_value 62) cs) (bracketed false cs) refl refl
 
-pub if-here : {A : Type 0} (p : Code → Bool) (a b : Reading A) (cs : List Code) → next_is p cs ≡ true → if_next p a b cs ≡ a cs
+pub if-here : {A : Type 0} (p : Code → Bool) (a b : Reading A) (cs : List Code) → next_is p cs ≡ true →
+    if_next p a b cs ≡ a cs
 unfolding if_next
 if-here p a b cs e = rw (e, if_next) refl
 
-pub if-other : {A : Type 0} (p : Code → Bool) (a b : Reading A) (cs : List Code) → next_is p cs ≡ false → if_next p a b cs ≡ b cs
+pub if-other : {A : Type 0} (p : Code → Bool) (a b : Reading A) (cs : List Code) → next_is p cs ≡ false →
+    if_next p a b cs ≡ b cs
 unfolding if_next
 if-other p a b cs e = rw (e, if_next) refl
 
-if-by : {A : Type 0} (b : Bool) (x y : Reading A) (cs : List Code) (Q : A → List Code → Type 0) → Gives Q x → Gives Q y → (z : A) (rest : List Code) → elim b as (λ _. Option (A × List Code)) [ true ↦ x cs | false ↦ y cs ] ≡ Some (z, rest) → Read Q cs z rest
+if-by : {A : Type 0} (b : Bool) (x y : Reading A) (cs : List Code) (Q : A → List Code → Type 0) → Gives Q x →
+    Gives Q y → (z : A) (rest : List Code) →
+    elim b as (λ _. Option (A × List Code)) [ true ↦ x cs | false ↦ y cs ] ≡ Some (z, rest) → Read Q cs z rest
 if-by true x y cs Q g h z rest e = g cs z rest e
 if-by false x y cs Q g h z rest e = h cs z rest e
 
-Gives-if : {A : Type 0} (p : Code → Bool) (x y : Reading A) (Q : A → List Code → Type 0) → Gives Q x → Gives Q y → Gives Q (if_next p x y)
+Gives-if : {A : Type 0} (p : Code → Bool) (x y : Reading A) (Q : A → List Code → Type 0) → Gives Q x → Gives Q y →
+    Gives Q (if_next p x y)
 unfolding if_next
 Gives-if p x y Q g h cs z rest e = if-by (next_is p cs) x y cs Q g h z rest e
 
-pub destination-bracket : (max : ℕ) (names : DestinationNames) (c : Code) (cs : List Code) → is_value 60 c ≡ true → plan_of (destination max names) (c ∷ cs) ≡ preceded (opening names) (before_plan names cs)
+pub destination-bracket : (max : ℕ) (names : DestinationNames) (c : Code) (cs : List Code) → is_value 60 c ≡ true →
+    plan_of (destination max names) (c ∷ cs) ≡ preceded (opening names) (before_plan names cs)
 unfolding destination
 destination-bracket max names c cs h = ap tree_ops (if-here (is_value 60) _ _ (c ∷ cs) h) ∙ literal-here names c cs h
 
@@ -127,52 +149,67 @@ module _ (max : ℕ) where
   raw-open-end slash zero e = cc
   raw-open-end slash (suc d) e = refl
 
-  pub raw-taken : (depth : ℕ) (c : Code) (cs : List Code) → is_among (codes "()\\") c ≡ true → raw_from max true depth (c ∷ cs) ≡ with_first c (raw_from max false depth cs)
+  pub raw-taken : (depth : ℕ) (c : Code) (cs : List Code) → is_among (codes "()\\") c ≡ true →
+      raw_from max true depth (c ∷ cs) ≡ with_first c (raw_from max false depth cs)
   unfolding raw_from
   raw-taken depth c cs e = rw (e, raw_from) refl
 
-  pub raw-bare : (depth : ℕ) (c : Code) (cs : List Code) → is_among (codes "()\\") c ≡ false → raw_from max true depth (c ∷ cs) ≡ raw_from max false depth (c ∷ cs)
+  pub raw-bare : (depth : ℕ) (c : Code) (cs : List Code) → is_among (codes "()\\") c ≡ false →
+      raw_from max true depth (c ∷ cs) ≡ raw_from max false depth (c ∷ cs)
   unfolding raw_from
   raw-bare depth c cs e = rw (e, raw_from) refl
 
   abbrev pub stops : ℕ → Code → Bool
   stops depth c = is_whitespace_code c || (is_value 41 c && depth == 0)
 
-  raw-stop-by : (depth : ℕ) (c : Code) (cs : List Code) → stops depth c ≡ true → raw_from max false depth (c ∷ cs) ≡ elim depth as (λ _. Option (List Code × List Code)) [ zero ↦ Some ([], c ∷ cs) | suc d ↦ None ]
+  raw-stop-by : (depth : ℕ) (c : Code) (cs : List Code) → stops depth c ≡ true →
+      raw_from max false depth (c ∷ cs) ≡ elim depth as (λ _. Option (List Code × List Code)) [ zero ↦ Some ([], c ∷ cs) | suc d ↦ None ]
   unfolding raw_from
   raw-stop-by depth c cs e = rw (e, raw_from) refl
 
-  pub raw-stop : (depth : ℕ) (c : Code) (cs : List Code) → stops depth c ≡ true → (depth == 0) ≡ true → raw_from max false depth (c ∷ cs) ≡ Some ([], c ∷ cs)
+  pub raw-stop : (depth : ℕ) (c : Code) (cs : List Code) → stops depth c ≡ true → (depth == 0) ≡ true →
+      raw_from max false depth (c ∷ cs) ≡ Some ([], c ∷ cs)
   raw-stop zero c cs e h = raw-stop-by zero c cs e
   raw-stop (suc d) c cs e h = absurd (some-open d h)
 
-  pub raw-space : (depth : ℕ) (c : Code) (cs : List Code) → stops depth c ≡ true → (depth == 0) ≡ false → raw_from max false depth (c ∷ cs) ≡ None
+  pub raw-space : (depth : ℕ) (c : Code) (cs : List Code) → stops depth c ≡ true → (depth == 0) ≡ false →
+      raw_from max false depth (c ∷ cs) ≡ None
   raw-space zero c cs e h = cc
   raw-space (suc d) c cs e h = raw-stop-by (suc d) c cs e
 
-  pub raw-control : (depth : ℕ) (c : Code) (cs : List Code) → stops depth c ≡ false → is_control c ≡ true → raw_from max false depth (c ∷ cs) ≡ None
+  pub raw-control : (depth : ℕ) (c : Code) (cs : List Code) → stops depth c ≡ false → is_control c ≡ true →
+      raw_from max false depth (c ∷ cs) ≡ None
   unfolding raw_from
   raw-control depth c cs e h = rw (e, h, raw_from) refl
 
-  pub raw-open : (depth : ℕ) (c : Code) (cs : List Code) → stops depth c ≡ false → is_control c ≡ false → is_value 40 c ≡ true → nat_lt depth max ≡ true → raw_from max false depth (c ∷ cs) ≡ with_first c (raw_from max false (suc depth) cs)
+  pub raw-open : (depth : ℕ) (c : Code) (cs : List Code) → stops depth c ≡ false → is_control c ≡ false →
+      is_value 40 c ≡ true → nat_lt depth max ≡ true →
+      raw_from max false depth (c ∷ cs) ≡ with_first c (raw_from max false (suc depth) cs)
   unfolding raw_from
   raw-open depth c cs e h k l = rw (e, h, k, l, raw_from) refl
 
-  pub raw-deep : (depth : ℕ) (c : Code) (cs : List Code) → stops depth c ≡ false → is_control c ≡ false → is_value 40 c ≡ true → nat_lt depth max ≡ false → raw_from max false depth (c ∷ cs) ≡ None
+  pub raw-deep : (depth : ℕ) (c : Code) (cs : List Code) → stops depth c ≡ false → is_control c ≡ false →
+      is_value 40 c ≡ true → nat_lt depth max ≡ false → raw_from max false depth (c ∷ cs) ≡ None
   unfolding raw_from
   raw-deep depth c cs e h k l = rw (e, h, k, l, raw_from) refl
 
-  pub raw-close : (depth : ℕ) (c : Code) (cs : List Code) → stops depth c ≡ false → is_control c ≡ false → is_value 40 c ≡ false → is_value 41 c ≡ true → raw_from max false depth (c ∷ cs) ≡ with_first c (raw_from max false (depth - 1) cs)
+  pub raw-close : (depth : ℕ) (c : Code) (cs : List Code) → stops depth c ≡ false → is_control c ≡ false →
+      is_value 40 c ≡ false → is_value 41 c ≡ true →
+      raw_from max false depth (c ∷ cs) ≡ with_first c (raw_from max false (depth - 1) cs)
   unfolding raw_from
   raw-close depth c cs e h k l = rw (e, h, k, l, raw_from) refl
 
-  pub raw-next : (depth : ℕ) (c : Code) (cs : List Code) → stops depth c ≡ false → is_control c ≡ false → is_value 40 c ≡ false → is_value 41 c ≡ false → raw_from max false depth (c ∷ cs) ≡ with_first c (raw_from max (c.value == 92) depth cs)
+  pub raw-next : (depth : ℕ) (c : Code) (cs : List Code) → stops depth c ≡ false → is_control c ≡ false →
+      is_value 40 c ≡ false → is_value 41 c ≡ false →
+      raw_from max false depth (c ∷ cs) ≡ with_first c (raw_from max (c.value == 92) depth cs)
   unfolding raw_from
   raw-next depth c cs e h k l = rw (e, h, k, l, raw_from) refl
 
 -- The first code of a destination without brackets stands in it.
 
-raw-first-by : (max : ℕ) (c : Code) (cs : List Code) (x y z : Bool) → stops max 0 c ≡ false → is_control c ≡ false → is_value 41 c ≡ false → is_value 40 c ≡ x → nat_lt 0 max ≡ y → (o : Option (List Code × List Code)) × (raw_from max false 0 (c ∷ cs) ≡ with_first c o)
+raw-first-by : (max : ℕ) (c : Code) (cs : List Code) (x y z : Bool) → stops max 0 c ≡ false → is_control c ≡ false →
+    is_value 41 c ≡ false → is_value 40 c ≡ x → nat_lt 0 max ≡ y →
+    (o : Option (List Code × List Code)) × (raw_from max false 0 (c ∷ cs) ≡ with_first c o)
 raw-first-by max c cs true true z e h l k m = (raw_from max false 1 cs, raw-open max 0 c cs e h k m)
 raw-first-by max c cs true false z e h l k m = (None, raw-deep max 0 c cs e h k m)
 raw-first-by max c cs false y z e h l k m = (raw_from max (c.value == 92) 0 cs, raw-next max 0 c cs e h k l)
@@ -180,54 +217,70 @@ raw-first-by max c cs false y z e h l k m = (raw_from max (c.value == 92) 0 cs, 
 raw_tree : DestinationNames → List Code → Forest
 raw_tree names text = group names.whole (group names.raw (group names.text (linked N.Data text)))
 
-raw-ops-by : (names : DestinationNames) (os : List Op) → (((os ++ Exit N.Data ∷ []) ++ Exit names.text ∷ []) ++ Exit names.raw ∷ []) ++ Exit names.whole ∷ [] ≡ os ++ raw_ending names
+raw-ops-by : (names : DestinationNames) (os : List Op) →
+    (((os ++ Exit N.Data ∷ []) ++ Exit names.text ∷ []) ++ Exit names.raw ∷ []) ++ Exit names.whole ∷ [] ≡ os ++ raw_ending names
 raw-ops-by names [] = refl
 raw-ops-by names (o ∷ os) = ap (λ xs. o ∷ xs) (raw-ops-by names os)
 
-raw-by : (max : ℕ) (names : DestinationNames) (c : Code) (cs : List Code) (o : Option (List Code × List Code)) → raw_from max false 0 (c ∷ cs) ≡ with_first c o → plan_of (raw_destination max names) (c ∷ cs) ≡ preceded (raw_opening names) (text_then (raw_ending names) (with_first c o))
+raw-by : (max : ℕ) (names : DestinationNames) (c : Code) (cs : List Code) (o : Option (List Code × List Code)) →
+    raw_from max false 0 (c ∷ cs) ≡ with_first c o →
+    plan_of (raw_destination max names) (c ∷ cs) ≡ preceded (raw_opening names) (text_then (raw_ending names) (with_first c o))
 unfolding raw_destination gives raw_tree
 raw-by max names c cs None e = ap tree_ops (bind-none _ _ (c ∷ cs) e)
 raw-by max names c cs (Some r) e =
     ap tree_ops (bind-some _ _ (c ∷ cs) (c ∷ r.0) r.1 _ e (after-some _ _ r.1 [] r.1 _ (provided-true true r.1 refl) refl))
     ∙ ap (λ os. Some (raw_opening names ++ Consume ∷ os)) (raw-ops-by names (consumes r.0))
 
-raw-here : (max : ℕ) (names : DestinationNames) (c : Code) (cs : List Code) → stops max 0 c ≡ false → is_control c ≡ false → is_value 41 c ≡ false → plan_of (raw_destination max names) (c ∷ cs) ≡ preceded (raw_opening names) (raw_plan names max false 0 (c ∷ cs))
+raw-here : (max : ℕ) (names : DestinationNames) (c : Code) (cs : List Code) → stops max 0 c ≡ false →
+    is_control c ≡ false → is_value 41 c ≡ false →
+    plan_of (raw_destination max names) (c ∷ cs) ≡ preceded (raw_opening names) (raw_plan names max false 0 (c ∷ cs))
 raw-here max names c cs e h l =
     let f = raw-first-by max c cs (is_value 40 c) (nat_lt 0 max) true e h l refl refl in
     raw-by max names c cs f.0 f.1 ∙ ap (λ o. preceded (raw_opening names) (text_then (raw_ending names) o)) (sym f.1)
 
-pub destination-raw : (max : ℕ) (names : DestinationNames) (c : Code) (cs : List Code) → is_value 60 c ≡ false → stops max 0 c ≡ false → is_control c ≡ false → is_value 41 c ≡ false → plan_of (destination max names) (c ∷ cs) ≡ preceded (raw_opening names) (raw_plan names max false 0 (c ∷ cs))
+pub destination-raw : (max : ℕ) (names : DestinationNames) (c : Code) (cs : List Code) → is_value 60 c ≡ false →
+    stops max 0 c ≡ false → is_control c ≡ false → is_value 41 c ≡ false →
+    plan_of (destination max names) (c ∷ cs) ≡ preceded (raw_opening names) (raw_plan names max false 0 (c ∷ cs))
 unfolding destination
-destination-raw max names c cs k e h l = ap tree_ops (if-other (is_value 60) _ _ (c ∷ cs) k) ∙ raw-here max names c cs e h l
+destination-raw max names c cs k e h l =
+    ap tree_ops (if-other (is_value 60) _ _ (c ∷ cs) k) ∙ raw-here max names c cs e h l
 
 -- None stands there.
 
-raw-nothing : (max : ℕ) (names : DestinationNames) (cs rest : List Code) → raw_from max false 0 cs ≡ Some ([], rest) → raw_destination max names cs ≡ None
+raw-nothing : (max : ℕ) (names : DestinationNames) (cs rest : List Code) → raw_from max false 0 cs ≡ Some ([], rest) →
+    raw_destination max names cs ≡ None
 unfolding raw_destination
 raw-nothing max names cs rest e = bind-some _ _ cs [] rest _ e (after-none _ _ rest (provided-false false rest refl))
 
-raw-none : (max : ℕ) (names : DestinationNames) (cs : List Code) → raw_from max false 0 cs ≡ None → raw_destination max names cs ≡ None
+raw-none : (max : ℕ) (names : DestinationNames) (cs : List Code) → raw_from max false 0 cs ≡ None →
+    raw_destination max names cs ≡ None
 unfolding raw_destination
 raw-none max names cs e = bind-none _ _ cs e
 
 pub destination-end : (max : ℕ) (names : DestinationNames) → plan_of (destination max names) [] ≡ None
 unfolding destination
-destination-end max names = ap tree_ops (if-other (is_value 60) _ _ [] refl ∙ raw-nothing max names [] [] (raw-end max false 0 refl))
+destination-end max names =
+    ap tree_ops (if-other (is_value 60) _ _ [] refl ∙ raw-nothing max names [] [] (raw-end max false 0 refl))
 
-pub destination-stops : (max : ℕ) (names : DestinationNames) (c : Code) (cs : List Code) → is_value 60 c ≡ false → stops max 0 c ≡ true → plan_of (destination max names) (c ∷ cs) ≡ None
+pub destination-stops : (max : ℕ) (names : DestinationNames) (c : Code) (cs : List Code) → is_value 60 c ≡ false →
+    stops max 0 c ≡ true → plan_of (destination max names) (c ∷ cs) ≡ None
 unfolding destination
-destination-stops max names c cs k e = ap tree_ops (if-other (is_value 60) _ _ (c ∷ cs) k ∙ raw-nothing max names (c ∷ cs) (c ∷ cs) (raw-stop max 0 c cs e refl))
+destination-stops max names c cs k e =
+    ap tree_ops (if-other (is_value 60) _ _ (c ∷ cs) k ∙ raw-nothing max names (c ∷ cs) (c ∷ cs) (raw-stop max 0 c cs e refl))
 
-pub destination-control : (max : ℕ) (names : DestinationNames) (c : Code) (cs : List Code) → is_value 60 c ≡ false → stops max 0 c ≡ false → is_control c ≡ true → plan_of (destination max names) (c ∷ cs) ≡ None
+pub destination-control : (max : ℕ) (names : DestinationNames) (c : Code) (cs : List Code) → is_value 60 c ≡ false →
+    stops max 0 c ≡ false → is_control c ≡ true → plan_of (destination max names) (c ∷ cs) ≡ None
 unfolding destination
-destination-control max names c cs k e h = ap tree_ops (if-other (is_value 60) _ _ (c ∷ cs) k ∙ raw-none max names (c ∷ cs) (raw-control max 0 c cs e h))
+destination-control max names c cs k e h =
+    ap tree_ops (if-other (is_value 60) _ _ (c ∷ cs) k ∙ raw-none max names (c ∷ cs) (raw-control max 0 c cs e h))
 
 -- What the readings pass.
 
 Parts : List Code → List Code × List Code → Type 0
 Parts cs r = cs ≡ r.0 ++ r.1
 
-behind-raw : (c : Code) (cs : List Code) (o : Option (List Code × List Code)) (r : List Code × List Code) → with_first c o ≡ Some r → ((q : List Code × List Code) → o ≡ Some q → Parts cs q) → Parts (c ∷ cs) r
+behind-raw : (c : Code) (cs : List Code) (o : Option (List Code × List Code)) (r : List Code × List Code) →
+    with_first c o ≡ Some r → ((q : List Code × List Code) → o ≡ Some q → Parts cs q) → Parts (c ∷ cs) r
 unfolding Parts
 behind-raw c cs o r e f =
     let b : Behind c o r = first-some c o r e in
@@ -237,21 +290,29 @@ here-raw : (cs : List Code) (r : List Code × List Code) → Some ([], cs) ≡ S
 unfolding Parts
 here-raw cs r e = let same : ([], cs) ≡ r = cc in subst (λ (x : List Code × List Code). cs ≡ x.0 ++ x.1) same refl
 
-depth-raw : (depth : ℕ) (cs : List Code) (r : List Code × List Code) → elim depth as (λ _. Option (List Code × List Code)) [ zero ↦ Some ([], cs) | suc d ↦ None ] ≡ Some r → Parts cs r
+depth-raw : (depth : ℕ) (cs : List Code) (r : List Code × List Code) →
+    elim depth as (λ _. Option (List Code × List Code)) [ zero ↦ Some ([], cs) | suc d ↦ None ] ≡ Some r → Parts cs r
 depth-raw zero cs r e = here-raw cs r e
 depth-raw (suc d) cs r e = cc
 
 -- the tests of its definition, in their order
-raw-tests : (w x y z u v : Bool) (c : Code) (cs : List Code) (here : Option (List Code × List Code)) (f : Bool → ℕ → Option (List Code × List Code)) (up same down : ℕ) (slash : Bool) (r : List Code × List Code) → elim w as (λ _. Option (List Code × List Code)) [ true ↦ with_first c (f false same) | false ↦ elim x as (λ _. Option (List Code × List Code)) [ true ↦ here | false ↦ elim y as (λ _. Option (List Code × List Code)) [ true ↦ None | false ↦ elim z as (λ _. Option (List Code × List Code)) [ true ↦ elim u as (λ _. Option (List Code × List Code)) [ true ↦ with_first c (f false up) | false ↦ None ] | false ↦ elim v as (λ _. Option (List Code × List Code)) [ true ↦ with_first c (f false down) | false ↦ with_first c (f slash same) ] ] ] ] ] ≡ Some r → (here ≡ Some r → Parts (c ∷ cs) r) → ((b : Bool) (n : ℕ) (q : List Code × List Code) → f b n ≡ Some q → Parts cs q) → Parts (c ∷ cs) r
+raw-tests : (w x y z u v : Bool) (c : Code) (cs : List Code) (here : Option (List Code × List Code)) (f : Bool → ℕ → Option (List Code × List Code)) (up same down : ℕ) (slash : Bool) (r : List Code × List Code) →
+    elim w as (λ _. Option (List Code × List Code)) [ true ↦ with_first c (f false same) | false ↦ elim x as (λ _. Option (List Code × List Code)) [ true ↦ here | false ↦ elim y as (λ _. Option (List Code × List Code)) [ true ↦ None | false ↦ elim z as (λ _. Option (List Code × List Code)) [ true ↦ elim u as (λ _. Option (List Code × List Code)) [ true ↦ with_first c (f false up) | false ↦ None ] | false ↦ elim v as (λ _. Option (List Code × List Code)) [ true ↦ with_first c (f false down) | false ↦ with_first c (f slash same) ] ] ] ] ] ≡ Some r →
+    (here ≡ Some r → Parts (c ∷ cs) r) →
+    ((b : Bool) (n : ℕ) (q : List Code × List Code) → f b n ≡ Some q → Parts cs q) → Parts (c ∷ cs) r
 raw-tests true x y z u v c cs here f up same down slash r e h k = behind-raw c cs (f false same) r e (k false same)
 raw-tests false true y z u v c cs here f up same down slash r e h k = h e
 raw-tests false false true z u v c cs here f up same down slash r e h k = cc
-raw-tests false false false true true v c cs here f up same down slash r e h k = behind-raw c cs (f false up) r e (k false up)
+raw-tests false false false true true v c cs here f up same down slash r e h k =
+    behind-raw c cs (f false up) r e (k false up)
 raw-tests false false false true false v c cs here f up same down slash r e h k = cc
-raw-tests false false false false u true c cs here f up same down slash r e h k = behind-raw c cs (f false down) r e (k false down)
-raw-tests false false false false u false c cs here f up same down slash r e h k = behind-raw c cs (f slash same) r e (k slash same)
+raw-tests false false false false u true c cs here f up same down slash r e h k =
+    behind-raw c cs (f false down) r e (k false down)
+raw-tests false false false false u false c cs here f up same down slash r e h k =
+    behind-raw c cs (f slash same) r e (k slash same)
 
-raw-parts : (max : ℕ) (slash : Bool) (depth : ℕ) (cs : List Code) (r : List Code × List Code) → raw_from max slash depth cs ≡ Some r → Parts cs r
+raw-parts : (max : ℕ) (slash : Bool) (depth : ℕ) (cs : List Code) (r : List Code × List Code) →
+    raw_from max slash depth cs ≡ Some r → Parts cs r
 unfolding raw_from
 raw-parts max slash depth [] r e = depth-raw depth [] r e
 raw-parts max slash depth (c ∷ cs) r e =
@@ -295,4 +356,5 @@ literal-covers names =
 
 pub destination-covers : (max : ℕ) (names : DestinationNames) → Gives CoversRow (destination max names)
 unfolding destination
-destination-covers max names = Gives-if (is_value 60) (literal_destination names) (raw_destination max names) CoversRow (literal-covers names) (raw-covers max names)
+destination-covers max names =
+    Gives-if (is_value 60) (literal_destination names) (raw_destination max names) CoversRow (literal-covers names) (raw-covers max names)

@@ -26,7 +26,8 @@ use Rattle.markdown_plan.proofs.PlanSteps.{preceded-nil, done-scratched, no-code
 use Rattle.markdown_partial.specs.PartialSpaceOrTabEol.{WhitespaceAtRest}
 use Rattle.markdown_partial_link.specs.LinkedTreeOps.{plan_of}
 use Rattle.markdown_partial_link.specs.LinkedText.{ending, names_in, joined, enter_text, text_entered, TextReady, break_ops, inside_ops}
-use Rattle.markdown_partial_link.specs.PartialLabel.{rested, sized, opening, start_at, start_step, closed, refused, next_state, passing, is_short, at_break_at, leaving, inside_at, escapes, escape_at, StartReady, BreakReady, EolAfterReady, InsideReady, EscapeReady, start_ends, text_from, fits, inside_plan, break_plan, at_break_ends, nok_ends, inside_ends, escape_ends, states_and_called, at_break_words, eol_after_words, escape_words, inside_words, nok_words, start_words, states}
+use Rattle.markdown_partial_link.specs.PartialLabel.{rested, sized, opening, start_at, start_step, closed, refused, next_state, passing, is_short, at_break_at, leaving, inside_at, escapes, escape_at, StartReady, BreakReady, EolAfterReady, InsideReady, EscapeReady, start_ends}
+use Rattle.markdown_partial_link.specs.PartialLabel.{text_from, fits, inside_plan, break_plan, at_break_ends, nok_ends, inside_ends, escape_ends, states_and_called, at_break_words, eol_after_words, escape_words, inside_words, nok_words, start_words, states}
 use Rattle.markdown_partial_link.proofs.LinkedTreeLemmas.{EndsAs-linked}
 use Rattle.markdown_partial_link.proofs.PartialLabelReadings.{label-plain, fits-data, fits-ending, fits-none, fits-long, fits-seen, fits-unseen, label-here, label-none, label-covers}
 use Rattle.markdown_partial_link.proofs.LinkedTextLineEnding.{Passed, DoesAs-ending, ending-law}
@@ -46,7 +47,8 @@ rest-sized c s r = record { space = ap (sized c) r.space; eol = ap (sized c) r.e
 rest-size : (n : ℕ) (s : TokenizeState) → WhitespaceAtRest s → WhitespaceAtRest (with_size n s)
 rest-size n s r = record { space = ap (with_size n) r.space; eol = ap (with_size n) r.eol }
 
-opened-ready : (T : Tokenizer) → 1 ≤ length (ahead T) → StartReady T → BreakReady (done (opening (names_in T.tokenize_state)) T)
+opened-ready : (T : Tokenizer) → 1 ≤ length (ahead T) → StartReady T →
+    BreakReady (done (opening (names_in T.tokenize_state)) T)
 unfolding applied
 opened-ready T more k =
     let s : TokenizeState = T.tokenize_state in
@@ -74,13 +76,15 @@ left-ready T k =
 below : (n : ℕ) → nat_le n 999 ≡ true → n + 1 ≤ 1000
 below n h = grind (arith, nat_tests, common_steps)
 
-passed-ready : (c : ℕ) (T : Tokenizer) → 1 ≤ length (ahead T) → T.tokenize_state.size + 1 ≤ 1000 → InsideReady T → InsideReady (scratched (sized c T.tokenize_state) (done (Consume ∷ []) T))
+passed-ready : (c : ℕ) (T : Tokenizer) → 1 ≤ length (ahead T) → T.tokenize_state.size + 1 ≤ 1000 → InsideReady T →
+    InsideReady (scratched (sized c T.tokenize_state) (done (Consume ∷ []) T))
 unfolding applied scratched
 passed-ready c T more h k =
     let after : TextReady (scratched (sized c T.tokenize_state) (done (Consume ∷ []) T)) = text-after (Consume ∷ []) (sized c T.tokenize_state) T more k.text (rest-sized c T.tokenize_state k.text.resting) in
     record { text = record { short = after.short; resting = after.resting }; stand_open = k.stand_open; small = omega (arith, h); connect = k.connect; linked = k.linked }
 
-taken-ready : (T : Tokenizer) → 1 ≤ length (ahead T) → EscapeReady T → InsideReady (scratched (with_size (T.tokenize_state.size + 1) T.tokenize_state) (done (Consume ∷ []) T))
+taken-ready : (T : Tokenizer) → 1 ≤ length (ahead T) → EscapeReady T →
+    InsideReady (scratched (with_size (T.tokenize_state.size + 1) T.tokenize_state) (done (Consume ∷ []) T))
 unfolding applied scratched
 taken-ready T more k =
     let s : TokenizeState = T.tokenize_state in
@@ -91,11 +95,14 @@ taken-ready T more k =
 slash-seen : (c : ℕ) (seen : Bool) → (c == 92) ≡ true → (seen || not (c == 32 || c == 9)) ≡ true
 slash-seen c seen h = ap (λ v. seen || not (v == 32 || v == 9)) (eqb-true c 92 h) ∙ or-true seen
 
-slash-ready : (c : ℕ) (T : Tokenizer) → 1 ≤ length (ahead T) → T.tokenize_state.size + 1 ≤ 1000 → (c == 92) ≡ true → InsideReady T → EscapeReady (scratched (sized c T.tokenize_state) (done (Consume ∷ []) T))
+slash-ready : (c : ℕ) (T : Tokenizer) → 1 ≤ length (ahead T) → T.tokenize_state.size + 1 ≤ 1000 → (c == 92) ≡ true →
+    InsideReady T → EscapeReady (scratched (sized c T.tokenize_state) (done (Consume ∷ []) T))
 unfolding scratched
-slash-ready c T more h e k = record { inside = passed-ready c T more h k; fits = h; seen = slash-seen c T.tokenize_state.seen e }
+slash-ready c T more h e k =
+    record { inside = passed-ready c T more h k; fits = h; seen = slash-seen c T.tokenize_state.seen e }
 
-data-ready : (b : Bool) (c : ℕ) (T : Tokenizer) → 1 ≤ length (ahead T) → T.tokenize_state.size + 1 ≤ 1000 → BreakReady T → InsideReady (scratched (sized c (joined T.tokenize_state)) (done (enter_text b ∷ Consume ∷ []) T))
+data-ready : (b : Bool) (c : ℕ) (T : Tokenizer) → 1 ≤ length (ahead T) → T.tokenize_state.size + 1 ≤ 1000 →
+    BreakReady T → InsideReady (scratched (sized c (joined T.tokenize_state)) (done (enter_text b ∷ Consume ∷ []) T))
 unfolding scratched applied
 data-ready true c T more h k =
     let r : TokenizeState = sized c (joined T.tokenize_state) in
@@ -106,22 +113,28 @@ data-ready false c T more h k =
     let after : TextReady (scratched r (done (enter_text false ∷ Consume ∷ []) T)) = text-after (enter_text false ∷ Consume ∷ []) r T more k.text (rest-sized c (joined T.tokenize_state) (rest-joined T.tokenize_state k.text.resting)) in
     record { text = record { short = after.short; resting = after.resting }; stand_open = ap (λ ns. N.Data ∷ ns) k.stand_open; small = omega (arith, h); connect = refl; linked = open-append T.events _ refl }
 
-data-slash : (b : Bool) (c : ℕ) (T : Tokenizer) → 1 ≤ length (ahead T) → T.tokenize_state.size + 1 ≤ 1000 → (c == 92) ≡ true → BreakReady T → EscapeReady (scratched (sized c (joined T.tokenize_state)) (done (enter_text b ∷ Consume ∷ []) T))
+data-slash : (b : Bool) (c : ℕ) (T : Tokenizer) → 1 ≤ length (ahead T) → T.tokenize_state.size + 1 ≤ 1000 →
+    (c == 92) ≡ true → BreakReady T →
+    EscapeReady (scratched (sized c (joined T.tokenize_state)) (done (enter_text b ∷ Consume ∷ []) T))
 unfolding scratched
-data-slash b c T more h e k = record { inside = data-ready b c T more h k; fits = h; seen = slash-seen c T.tokenize_state.seen e }
+data-slash b c T more h e k =
+    record { inside = data-ready b c T more h k; fits = h; seen = slash-seen c T.tokenize_state.seen e }
 
-eol-ready : (c : Code) (cs : List Code) (T U : Tokenizer) → BreakReady T → Passed T.tokenize_state.connect c cs T U → EolAfterReady U
+eol-ready : (c : Code) (cs : List Code) (T U : Tokenizer) → BreakReady T → Passed T.tokenize_state.connect c cs T U →
+    EolAfterReady U
 eol-ready c cs T U k j =
     record {
       text = text-same T U k.text j.fewer j.scratch;
-      stand_open = subst (λ (s : TokenizeState). U.stack ≡ s.token_3 ∷ s.token_1 ∷ drop 2 U.stack) (sym j.scratch) (subst (λ ns. ns ≡ T.tokenize_state.token_3 ∷ T.tokenize_state.token_1 ∷ drop 2 ns) (sym j.stack) k.stand_open);
+      stand_open =
+          subst (λ (s : TokenizeState). U.stack ≡ s.token_3 ∷ s.token_1 ∷ drop 2 U.stack) (sym j.scratch) (subst (λ ns. ns ≡ T.tokenize_state.token_3 ∷ T.tokenize_state.token_1 ∷ drop 2 ns) (sym j.stack) k.stand_open);
       small = subst (λ (s : TokenizeState). s.size ≤ 1001) (sym j.scratch) k.small;
       linked = j.linked;
     }
 
 joined-ready : (T : Tokenizer) → EolAfterReady T → BreakReady (scratched (joined T.tokenize_state) T)
 unfolding scratched
-joined-ready T k = record { text = record { short = k.text.short; resting = rest-joined T.tokenize_state k.text.resting }; stand_open = k.stand_open; small = k.small; linked = λ h. k.linked }
+joined-ready T k =
+    record { text = record { short = k.text.short; resting = rest-joined T.tokenize_state k.text.resting }; stand_open = k.stand_open; small = k.small; linked = λ h. k.linked }
 
 -- Tests.
 
@@ -134,14 +147,20 @@ abbrev takes : Code → Bool
 takes c = is_among (codes "[\\]") c
 
 -- a label with too many codes does not hold
-long-breaks : (names : StringNames) (size : ℕ) (seen connect : Bool) (cs : List Code) → nat_le size 999 ≡ false → break_plan names size seen connect cs ≡ None
-long-breaks names size seen connect cs h = answer-none (fits size seen) (break_ops connect) (ending names) [] (text_from false cs) (λ r x. fits-long size seen r.0 h)
+long-breaks : (names : StringNames) (size : ℕ) (seen connect : Bool) (cs : List Code) → nat_le size 999 ≡ false →
+    break_plan names size seen connect cs ≡ None
+long-breaks names size seen connect cs h =
+    answer-none (fits size seen) (break_ops connect) (ending names) [] (text_from false cs) (λ r x. fits-long size seen r.0 h)
 
-long-insides : (names : StringNames) (size : ℕ) (seen slash : Bool) (cs : List Code) → nat_le size 999 ≡ false → inside_plan names size seen slash cs ≡ None
-long-insides names size seen slash cs h = answer-none (fits size seen) inside_ops (ending names) [] (text_from slash cs) (λ r x. fits-long size seen r.0 h)
+long-insides : (names : StringNames) (size : ℕ) (seen slash : Bool) (cs : List Code) → nat_le size 999 ≡ false →
+    inside_plan names size seen slash cs ≡ None
+long-insides names size seen slash cs h =
+    answer-none (fits size seen) inside_ops (ending names) [] (text_from slash cs) (λ r x. fits-long size seen r.0 h)
 
 -- data ends where a break is
-leaves-here : (names : StringNames) (size : ℕ) (seen : Bool) (c : Code) (cs : List Code) → (is_line_ending c || (is_value 91 c || is_value 93 c)) ≡ true → inside_plan names size seen false (c ∷ cs) ≡ preceded (Exit N.Data ∷ []) (break_plan names size seen true (c ∷ cs))
+leaves-here : (names : StringNames) (size : ℕ) (seen : Bool) (c : Code) (cs : List Code) →
+    (is_line_ending c || (is_value 91 c || is_value 93 c)) ≡ true →
+    inside_plan names size seen false (c ∷ cs) ≡ preceded (Exit N.Data ∷ []) (break_plan names size seen true (c ∷ cs))
 leaves-here names size seen c cs h =
     or-by (is_line_ending c) (is_value 91 c || is_value 93 c) h
     (λ g. leave-ending (is_value 93) takes (is_value 91) label-plain (ending names) (fits size seen) c cs g)
@@ -149,8 +168,10 @@ leaves-here names size seen c cs h =
     (λ f. leave-refused (is_value 93) takes (is_value 91) label-plain (ending names) (fits size seen) c cs (ap (λ v. v == 93) (eqb-true c.value 91 f)) f)
     (λ f. leave-stop (is_value 93) takes (is_value 91) label-plain (ending names) (fits size seen) c cs f))
 
-leaves-long : (names : StringNames) (size : ℕ) (seen : Bool) (cs : List Code) → nat_le size 999 ≡ false → inside_plan names size seen false cs ≡ preceded (Exit N.Data ∷ []) (break_plan names size seen true cs)
-leaves-long names size seen cs h = long-insides names size seen false cs h ∙ ap (preceded (Exit N.Data ∷ [])) (sym (long-breaks names size seen true cs h))
+leaves-long : (names : StringNames) (size : ℕ) (seen : Bool) (cs : List Code) → nat_le size 999 ≡ false →
+    inside_plan names size seen false cs ≡ preceded (Exit N.Data ∷ []) (break_plan names size seen true cs)
+leaves-long names size seen cs h =
+    long-insides names size seen false cs h ∙ ap (preceded (Exit N.Data ∷ [])) (sym (long-breaks names size seen true cs h))
 
 taken-line : (c : Code) → takes c ≡ true → is_line_ending c ≡ false
 taken-line c h =
@@ -163,7 +184,8 @@ module _ (W : Words) (within : Within states_and_called W) where
   nok-law T alone _ =
       Goes-end W (weight_at 1 T) (nok_ends T) false (scratched (rested T.tokenize_state) T) (attempts-scratched _ T ∙ alone) (omega arith) (λ ok U k. k)
 
-  eol-says : (T : Tokenizer) (ok : Bool) (U : Tokenizer) → at_break_ends (scratched (joined T.tokenize_state) T) ok U → DoesAs 2 (break_plan (names_in T.tokenize_state) T.tokenize_state.size T.tokenize_state.seen true) (rested T.tokenize_state) (scratched (joined T.tokenize_state) T) ok U
+  eol-says : (T : Tokenizer) (ok : Bool) (U : Tokenizer) → at_break_ends (scratched (joined T.tokenize_state) T) ok U →
+      DoesAs 2 (break_plan (names_in T.tokenize_state) T.tokenize_state.size T.tokenize_state.seen true) (rested T.tokenize_state) (scratched (joined T.tokenize_state) T) ok U
   unfolding scratched
   eol-says T ok U k = k
 
@@ -178,16 +200,23 @@ module _ (W : Words) (within : Within states_and_called W) where
 
   -- In a stretch.
 
-  sized-inside : (c : ℕ) (T : Tokenizer) (ok : Bool) (U : Tokenizer) → inside_ends (scratched (sized c T.tokenize_state) (done (Consume ∷ []) T)) ok U → DoesAs 3 (inside_plan (names_in T.tokenize_state) (T.tokenize_state.size + 1) (sized c T.tokenize_state).seen false) (rested T.tokenize_state) (scratched (sized c T.tokenize_state) (done (Consume ∷ []) T)) ok U
+  sized-inside : (c : ℕ) (T : Tokenizer) (ok : Bool) (U : Tokenizer) →
+      inside_ends (scratched (sized c T.tokenize_state) (done (Consume ∷ []) T)) ok U →
+      DoesAs 3 (inside_plan (names_in T.tokenize_state) (T.tokenize_state.size + 1) (sized c T.tokenize_state).seen false) (rested T.tokenize_state) (scratched (sized c T.tokenize_state) (done (Consume ∷ []) T)) ok U
   unfolding scratched
   sized-inside c T ok U k = k
 
-  sized-escape : (c : ℕ) (T : Tokenizer) (ok : Bool) (U : Tokenizer) → escape_ends (scratched (sized c T.tokenize_state) (done (Consume ∷ []) T)) ok U → DoesAs 3 (inside_plan (names_in T.tokenize_state) (T.tokenize_state.size + 1) (sized c T.tokenize_state).seen true) (rested T.tokenize_state) (scratched (sized c T.tokenize_state) (done (Consume ∷ []) T)) ok U
+  sized-escape : (c : ℕ) (T : Tokenizer) (ok : Bool) (U : Tokenizer) →
+      escape_ends (scratched (sized c T.tokenize_state) (done (Consume ∷ []) T)) ok U →
+      DoesAs 3 (inside_plan (names_in T.tokenize_state) (T.tokenize_state.size + 1) (sized c T.tokenize_state).seen true) (rested T.tokenize_state) (scratched (sized c T.tokenize_state) (done (Consume ∷ []) T)) ok U
   unfolding scratched
   sized-escape c T ok U k = k
 
   -- on past a code that passes
-  goes-inside : (T : Tokenizer) → T.attempts ≡ [] → InsideReady T → T.tokenize_state.size + 1 ≤ 1000 → (c : ℕ) → current_of T ≡ Some c → inside_plan (names_in T.tokenize_state) T.tokenize_state.size T.tokenize_state.seen false (ahead T) ≡ preceded (Consume ∷ []) (inside_plan (names_in T.tokenize_state) (T.tokenize_state.size + 1) (sized c T.tokenize_state).seen (c == 92) (drop 1 (ahead T))) → GoesIn W (weight_at 10 T) (inside_ends T) (passing c T)
+  goes-inside : (T : Tokenizer) → T.attempts ≡ [] → InsideReady T → T.tokenize_state.size + 1 ≤ 1000 → (c : ℕ) →
+      current_of T ≡ Some c →
+      inside_plan (names_in T.tokenize_state) T.tokenize_state.size T.tokenize_state.seen false (ahead T) ≡ preceded (Consume ∷ []) (inside_plan (names_in T.tokenize_state) (T.tokenize_state.size + 1) (sized c T.tokenize_state).seen (c == 92) (drop 1 (ahead T))) →
+      GoesIn W (weight_at 10 T) (inside_ends T) (passing c T)
   goes-inside T alone k small c h same =
       let s : TokenizeState = T.tokenize_state in
       let p : Plan = inside_plan (names_in s) s.size s.seen false in
@@ -204,7 +233,9 @@ module _ (W : Words) (within : Within states_and_called W) where
       (passed-ready c T more small k)
       (λ ok U x. sized-inside c T ok U x))
 
-  goes-leave : (T : Tokenizer) → T.attempts ≡ [] → InsideReady T → inside_plan (names_in T.tokenize_state) T.tokenize_state.size T.tokenize_state.seen false (ahead T) ≡ preceded (Exit N.Data ∷ []) (break_plan (names_in T.tokenize_state) T.tokenize_state.size T.tokenize_state.seen true (ahead T)) → GoesIn W (weight_at 10 T) (inside_ends T) (leaving T)
+  goes-leave : (T : Tokenizer) → T.attempts ≡ [] → InsideReady T →
+      inside_plan (names_in T.tokenize_state) T.tokenize_state.size T.tokenize_state.seen false (ahead T) ≡ preceded (Exit N.Data ∷ []) (break_plan (names_in T.tokenize_state) T.tokenize_state.size T.tokenize_state.seen true (ahead T)) →
+      GoesIn W (weight_at 10 T) (inside_ends T) (leaving T)
   unfolding applied
   goes-leave T alone k same =
       let s : TokenizeState = T.tokenize_state in
@@ -238,7 +269,9 @@ module _ (W : Words) (within : Within states_and_called W) where
       (λ g. goes-leave T alone k (subst here (sym b.whole) (leaves-here names s.size s.seen b.code cs (ap (λ v. v == 10 || (v == 91 || v == 93)) b.value ∙ not-false _ g))))
       (λ g. goes-leave T alone k (leaves-long names s.size s.seen (ahead T) g))))
 
-  escape-goes : (T : Tokenizer) → T.attempts ≡ [] → EscapeReady T → inside_plan (names_in T.tokenize_state) T.tokenize_state.size T.tokenize_state.seen true (ahead T) ≡ inside_plan (names_in T.tokenize_state) T.tokenize_state.size T.tokenize_state.seen false (ahead T) → GoesIn W (weight_at 11 T) (escape_ends T) (stepped (Retry LabelInside) T)
+  escape-goes : (T : Tokenizer) → T.attempts ≡ [] → EscapeReady T →
+      inside_plan (names_in T.tokenize_state) T.tokenize_state.size T.tokenize_state.seen true (ahead T) ≡ inside_plan (names_in T.tokenize_state) T.tokenize_state.size T.tokenize_state.seen false (ahead T) →
+      GoesIn W (weight_at 11 T) (escape_ends T) (stepped (Retry LabelInside) T)
   escape-goes T alone k same =
       let s : TokenizeState = T.tokenize_state in
       let q : Bool → Plan = inside_plan (names_in s) s.size s.seen in
@@ -247,7 +280,9 @@ module _ (W : Words) (within : Within states_and_called W) where
       k.inside
       (λ ok U x. x)
 
-  taken-says : (T : Tokenizer) (ok : Bool) (U : Tokenizer) → inside_ends (scratched (with_size (T.tokenize_state.size + 1) T.tokenize_state) (done (Consume ∷ []) T)) ok U → DoesAs 3 (inside_plan (names_in T.tokenize_state) (T.tokenize_state.size + 1) T.tokenize_state.seen false) (rested T.tokenize_state) (scratched (with_size (T.tokenize_state.size + 1) T.tokenize_state) (done (Consume ∷ []) T)) ok U
+  taken-says : (T : Tokenizer) (ok : Bool) (U : Tokenizer) →
+      inside_ends (scratched (with_size (T.tokenize_state.size + 1) T.tokenize_state) (done (Consume ∷ []) T)) ok U →
+      DoesAs 3 (inside_plan (names_in T.tokenize_state) (T.tokenize_state.size + 1) T.tokenize_state.seen false) (rested T.tokenize_state) (scratched (with_size (T.tokenize_state.size + 1) T.tokenize_state) (done (Consume ∷ []) T)) ok U
   unfolding scratched
   taken-says T ok U k = k
 
@@ -277,30 +312,46 @@ module _ (W : Words) (within : Within states_and_called W) where
 
   -- Between two stretches.
 
-  nok-says : (T : Tokenizer) → break_plan (names_in T.tokenize_state) T.tokenize_state.size T.tokenize_state.seen T.tokenize_state.connect (ahead T) ≡ None → (ok : Bool) (U : Tokenizer) → nok_ends T ok U → at_break_ends T ok U
-  nok-says T e ok U x = DoesAs-fails 2 (break_plan (names_in T.tokenize_state) T.tokenize_state.size T.tokenize_state.seen T.tokenize_state.connect) (rested T.tokenize_state) T e ok U x
+  nok-says : (T : Tokenizer) →
+      break_plan (names_in T.tokenize_state) T.tokenize_state.size T.tokenize_state.seen T.tokenize_state.connect (ahead T) ≡ None →
+      (ok : Bool) (U : Tokenizer) → nok_ends T ok U → at_break_ends T ok U
+  nok-says T e ok U x =
+      DoesAs-fails 2 (break_plan (names_in T.tokenize_state) T.tokenize_state.size T.tokenize_state.seen T.tokenize_state.connect) (rested T.tokenize_state) T e ok U x
 
-  nok-goes : (T : Tokenizer) → break_plan (names_in T.tokenize_state) T.tokenize_state.size T.tokenize_state.seen T.tokenize_state.connect (ahead T) ≡ None → FollowsIn W (weight_at 9 T) (at_break_ends T) (Next LabelNok) T
+  nok-goes : (T : Tokenizer) →
+      break_plan (names_in T.tokenize_state) T.tokenize_state.size T.tokenize_state.seen T.tokenize_state.connect (ahead T) ≡ None →
+      FollowsIn W (weight_at 9 T) (at_break_ends T) (Next LabelNok) T
   nok-goes T e = follows W _ _ (Next LabelNok) (within LabelNok) T tt (omega arith) (nok-says T e)
 
-  refuses-here : (T : Tokenizer) → T.attempts ≡ [] → break_plan (names_in T.tokenize_state) T.tokenize_state.size T.tokenize_state.seen T.tokenize_state.connect (ahead T) ≡ None → GoesIn W (weight_at 9 T) (at_break_ends T) (refused T)
-  refuses-here T alone e = Goes-plain W (weight_at 9 T) (at_break_ends T) (Retry LabelNok) (within LabelNok) T alone tt (omega arith) (nok-says T e)
+  refuses-here : (T : Tokenizer) → T.attempts ≡ [] →
+      break_plan (names_in T.tokenize_state) T.tokenize_state.size T.tokenize_state.seen T.tokenize_state.connect (ahead T) ≡ None →
+      GoesIn W (weight_at 9 T) (at_break_ends T) (refused T)
+  refuses-here T alone e =
+      Goes-plain W (weight_at 9 T) (at_break_ends T) (Retry LabelNok) (within LabelNok) T alone tt (omega arith) (nok-says T e)
 
-  inside-says : (b : Bool) (c : ℕ) (T : Tokenizer) (ok : Bool) (U : Tokenizer) → inside_ends (scratched (sized c (joined T.tokenize_state)) (done (enter_text b ∷ Consume ∷ []) T)) ok U → DoesAs 3 (inside_plan (names_in T.tokenize_state) (T.tokenize_state.size + 1) (sized c T.tokenize_state).seen false) (rested T.tokenize_state) (scratched (sized c (joined T.tokenize_state)) (done (enter_text b ∷ Consume ∷ []) T)) ok U
+  inside-says : (b : Bool) (c : ℕ) (T : Tokenizer) (ok : Bool) (U : Tokenizer) →
+      inside_ends (scratched (sized c (joined T.tokenize_state)) (done (enter_text b ∷ Consume ∷ []) T)) ok U →
+      DoesAs 3 (inside_plan (names_in T.tokenize_state) (T.tokenize_state.size + 1) (sized c T.tokenize_state).seen false) (rested T.tokenize_state) (scratched (sized c (joined T.tokenize_state)) (done (enter_text b ∷ Consume ∷ []) T)) ok U
   unfolding scratched
   inside-says b c T ok U k = k
 
-  escape-says : (b : Bool) (c : ℕ) (T : Tokenizer) (ok : Bool) (U : Tokenizer) → escape_ends (scratched (sized c (joined T.tokenize_state)) (done (enter_text b ∷ Consume ∷ []) T)) ok U → DoesAs 3 (inside_plan (names_in T.tokenize_state) (T.tokenize_state.size + 1) (sized c T.tokenize_state).seen true) (rested T.tokenize_state) (scratched (sized c (joined T.tokenize_state)) (done (enter_text b ∷ Consume ∷ []) T)) ok U
+  escape-says : (b : Bool) (c : ℕ) (T : Tokenizer) (ok : Bool) (U : Tokenizer) →
+      escape_ends (scratched (sized c (joined T.tokenize_state)) (done (enter_text b ∷ Consume ∷ []) T)) ok U →
+      DoesAs 3 (inside_plan (names_in T.tokenize_state) (T.tokenize_state.size + 1) (sized c T.tokenize_state).seen true) (rested T.tokenize_state) (scratched (sized c (joined T.tokenize_state)) (done (enter_text b ∷ Consume ∷ []) T)) ok U
   unfolding scratched
   escape-says b c T ok U k = k
 
-  entered-sized : (c : ℕ) (T : Tokenizer) → scratched (sized c (joined T.tokenize_state)) (done (enter_text T.tokenize_state.connect ∷ Consume ∷ []) T) ≡ scratched (sized c (text_entered T).tokenize_state) (done (Consume ∷ []) (text_entered T))
+  entered-sized : (c : ℕ) (T : Tokenizer) →
+      scratched (sized c (joined T.tokenize_state)) (done (enter_text T.tokenize_state.connect ∷ Consume ∷ []) T) ≡ scratched (sized c (text_entered T).tokenize_state) (done (Consume ∷ []) (text_entered T))
   unfolding scratched
   entered-sized c T =
       ap (λ (x : Tokenizer). scratched (sized c (joined T.tokenize_state)) x) (sym (done-scratched (Consume ∷ []) (joined T.tokenize_state) (done (enter_text T.tokenize_state.connect ∷ []) T)))
 
   -- data begins
-  data-goes : (T : Tokenizer) → T.attempts ≡ [] → BreakReady T → T.tokenize_state.size + 1 ≤ 1000 → (c : ℕ) → current_of T ≡ Some c → break_plan (names_in T.tokenize_state) T.tokenize_state.size T.tokenize_state.seen T.tokenize_state.connect (ahead T) ≡ preceded (enter_text T.tokenize_state.connect ∷ Consume ∷ []) (inside_plan (names_in T.tokenize_state) (T.tokenize_state.size + 1) (sized c T.tokenize_state).seen (c == 92) (drop 1 (ahead T))) → GoesIn W (weight_at 9 T) (at_break_ends T) (passing c (text_entered T))
+  data-goes : (T : Tokenizer) → T.attempts ≡ [] → BreakReady T → T.tokenize_state.size + 1 ≤ 1000 → (c : ℕ) →
+      current_of T ≡ Some c →
+      break_plan (names_in T.tokenize_state) T.tokenize_state.size T.tokenize_state.seen T.tokenize_state.connect (ahead T) ≡ preceded (enter_text T.tokenize_state.connect ∷ Consume ∷ []) (inside_plan (names_in T.tokenize_state) (T.tokenize_state.size + 1) (sized c T.tokenize_state).seen (c == 92) (drop 1 (ahead T))) →
+      GoesIn W (weight_at 9 T) (at_break_ends T) (passing c (text_entered T))
   data-goes T alone k small c e same =
       let s : TokenizeState = T.tokenize_state in
       let connect : Bool = s.connect in
@@ -322,7 +373,9 @@ module _ (W : Words) (within : Within states_and_called W) where
       (λ ok U x. depth-data connect (λ d. DoesAs d (q false) (rested s) V ok U) (inside-says connect c T ok U x))))
 
   -- behind a line ending and blank codes
-  eol-goes : (T : Tokenizer) → BreakReady T → (c : Code) (cs : List Code) → ahead T ≡ c ∷ cs → is_line_ending c ≡ true → (U : Tokenizer) → Passed T.tokenize_state.connect c cs T U → FollowsIn W (weight_at 9 T) (at_break_ends T) (Next LabelEolAfter) U
+  eol-goes : (T : Tokenizer) → BreakReady T → (c : Code) (cs : List Code) → ahead T ≡ c ∷ cs → is_line_ending c ≡ true →
+      (U : Tokenizer) → Passed T.tokenize_state.connect c cs T U →
+      FollowsIn W (weight_at 9 T) (at_break_ends T) (Next LabelEolAfter) U
   eol-goes T k c cs whole line U j =
       let s : TokenizeState = T.tokenize_state in
       let names : StringNames = names_in s in
@@ -334,7 +387,9 @@ module _ (W : Words) (within : Within states_and_called W) where
       (λ ok V x. DoesAs-ending p q s.connect c cs (rested s) T U j reads ok V (subst (λ (r : TokenizeState). DoesAs 2 (break_plan (names_in r) r.size r.seen true) (rested r) U ok V) j.scratch x))
 
   -- at the closing bracket
-  closes-by : (seen : Bool) (T : Tokenizer) → T.attempts ≡ [] → T.tokenize_state.seen ≡ seen → nat_le T.tokenize_state.size 999 ≡ true → (c : Code) (cs : List Code) → ahead T ≡ c ∷ cs → is_value 93 c ≡ true → GoesIn W (weight_at 9 T) (at_break_ends T) (if seen then closed T else refused T)
+  closes-by : (seen : Bool) (T : Tokenizer) → T.attempts ≡ [] → T.tokenize_state.seen ≡ seen →
+      nat_le T.tokenize_state.size 999 ≡ true → (c : Code) (cs : List Code) → ahead T ≡ c ∷ cs → is_value 93 c ≡ true →
+      GoesIn W (weight_at 9 T) (at_break_ends T) (if seen then closed T else refused T)
   closes-by true T alone e short c cs whole h =
       let s : TokenizeState = T.tokenize_state in
       let p : Plan = break_plan (names_in s) s.size s.seen s.connect in
@@ -384,7 +439,9 @@ module _ (W : Words) (within : Within states_and_called W) where
 
   -- From the start.
 
-  start-says : (T : Tokenizer) → StartReady T → (ok : Bool) (U : Tokenizer) → at_break_ends (done (opening (names_in T.tokenize_state)) T) ok U → DoesAs 2 (break_plan (names_in T.tokenize_state) 0 false false) T.tokenize_state (done (opening (names_in T.tokenize_state)) T) ok U
+  start-says : (T : Tokenizer) → StartReady T → (ok : Bool) (U : Tokenizer) →
+      at_break_ends (done (opening (names_in T.tokenize_state)) T) ok U →
+      DoesAs 2 (break_plan (names_in T.tokenize_state) 0 false false) T.tokenize_state (done (opening (names_in T.tokenize_state)) T) ok U
   unfolding applied
   start-says T k ok U x =
       let s : TokenizeState = T.tokenize_state in
@@ -415,7 +472,8 @@ module _ (W : Words) (within : Within states_and_called W) where
       (λ h. Goes-no W 11 0 p T alone (ap p b.whole ∙ label-none names (b.code ∷ cs) (ap (λ v. v == 91) b.value ∙ h)))))
 
 -- of these states, and of any other as it is given
-pub laws : (W : Words) → Within states_and_called W → (t : StateName → StateWords) → AreLawful W t → AreLawful W (states t)
+pub laws : (W : Words) → Within states_and_called W → (t : StateName → StateWords) → AreLawful W t →
+    AreLawful W (states t)
 laws W within t other H.LabelStart = start-law W within
 laws W within t other H.LabelAtBreak = at_break-law W within
 laws W within t other H.LabelEolAfter = eol_after-law W within

@@ -26,7 +26,8 @@ use Rattle.markdown_partial_link.proofs.PartialTitleReadings.{of-white, filled-b
 use Rattle.markdown_model.proofs.GrammarSteps.{bind-some, bind-none, after-some, after-none, one-here, one-not, provided-true, provided-false}
 
 -- whitespace is no bracket and no backslash
-pub label-plain : (c : Code) → is_whitespace_code c ≡ true → (is_value 93 c ≡ false) × ((is_value 91 c ≡ false) × ((c.value == 92) ≡ false))
+pub label-plain : (c : Code) → is_whitespace_code c ≡ true →
+    (is_value 93 c ≡ false) × ((is_value 91 c ≡ false) × ((c.value == 92) ≡ false))
 label-plain c h =
     let Q : ℕ → ℕ → Type 0 = λ n v. (v == n) ≡ false in
     (of-white c (Q 93) h refl refl refl, (of-white c (Q 91) h refl refl refl, of-white c (Q 92) h refl refl refl))
@@ -43,16 +44,19 @@ or-assoc : (a b c : Bool) → a || (b || c) ≡ (a || b) || c
 or-assoc true b c = refl
 or-assoc false b c = refl
 
-counted-ending : (indent : Bool) (c : Code) (cs : List Code) → is_line_ending c ≡ true → counted indent (c ∷ cs) ≡ counted true cs
+counted-ending : (indent : Bool) (c : Code) (cs : List Code) → is_line_ending c ≡ true →
+    counted indent (c ∷ cs) ≡ counted true cs
 counted-ending indent c cs e =
     ap (λ b. elim b as (λ _. ℕ) [ true ↦ counted true cs | false ↦ elim (indent && is_blank c) as (λ _. ℕ) [ true ↦ counted true cs | false ↦ suc (counted false cs) ] ]) e
 
-counted-blank : (c : Code) (cs : List Code) → is_line_ending c ≡ false → is_blank c ≡ true → counted true (c ∷ cs) ≡ counted true cs
+counted-blank : (c : Code) (cs : List Code) → is_line_ending c ≡ false → is_blank c ≡ true →
+    counted true (c ∷ cs) ≡ counted true cs
 counted-blank c cs e h =
     ap (λ b. elim b as (λ _. ℕ) [ true ↦ counted true cs | false ↦ elim (is_blank c) as (λ _. ℕ) [ true ↦ counted true cs | false ↦ suc (counted false cs) ] ]) e
     ∙ ap (λ b. elim b as (λ _. ℕ) [ true ↦ counted true cs | false ↦ suc (counted false cs) ]) h
 
-counted-data : (indent : Bool) (c : Code) (cs : List Code) → is_line_ending c ≡ false → indent && is_blank c ≡ false → counted indent (c ∷ cs) ≡ suc (counted false cs)
+counted-data : (indent : Bool) (c : Code) (cs : List Code) → is_line_ending c ≡ false → indent && is_blank c ≡ false →
+    counted indent (c ∷ cs) ≡ suc (counted false cs)
 counted-data indent c cs e h =
     ap (λ b. elim b as (λ _. ℕ) [ true ↦ counted true cs | false ↦ elim (indent && is_blank c) as (λ _. ℕ) [ true ↦ counted true cs | false ↦ suc (counted false cs) ] ]) e
     ∙ ap (λ b. elim b as (λ _. ℕ) [ true ↦ counted true cs | false ↦ suc (counted false cs) ]) h
@@ -67,7 +71,8 @@ white-code : (c : Code) → is_line_ending c ≡ false → is_whitespace_code c 
 white-code c e = ap (λ b. is_blank c || b) e ∙ or-false (is_blank c)
 
 -- data begins or goes on
-pub fits-data : (size : ℕ) (seen : Bool) (c : Code) (text : List Code) → is_line_ending c ≡ false → fits size seen (c ∷ text) ≡ fits (size + 1) (seen || not (is_blank c)) text
+pub fits-data : (size : ℕ) (seen : Bool) (c : Code) (text : List Code) → is_line_ending c ≡ false →
+    fits size seen (c ∷ text) ≡ fits (size + 1) (seen || not (is_blank c)) text
 fits-data size seen c text e =
     all-three (seen || (is_filled c || any_filled text)) (nat_le (size + counted false (c ∷ text)) 999) (ends_filled true (c ∷ text)) ((seen || not (is_blank c)) || any_filled text) (nat_le (size + 1 + counted false text) 999) (ends_filled true text)
     (or-assoc seen (is_filled c) (any_filled text) ∙ ap (λ b. (seen || not b) || any_filled text) (white-code c e))
@@ -76,7 +81,8 @@ fits-data size seen c text e =
 
 any-blank : (ws text : List Code) → AreBlank ws → any_filled (ws ++ text) ≡ any_filled text
 any-blank [] text k = refl
-any-blank (w ∷ ws) text k = ap (λ b. not b || any_filled (ws ++ text)) (white-code w k.0.1 ∙ k.0.0) ∙ any-blank ws text k.1
+any-blank (w ∷ ws) text k =
+    ap (λ b. not b || any_filled (ws ++ text)) (white-code w k.0.1 ∙ k.0.0) ∙ any-blank ws text k.1
 
 counted-blanks : (ws text : List Code) → AreBlank ws → counted true (ws ++ text) ≡ counted true text
 counted-blanks [] text k = refl
@@ -90,7 +96,8 @@ ending-white : (c : Code) → is_line_ending c ≡ true → is_whitespace_code c
 ending-white c e = ap (λ b. is_blank c || b) e ∙ or-true (is_blank c)
 
 -- a line ending, and the blank codes behind it
-pub fits-ending : (size : ℕ) (seen : Bool) (c : Code) (ws text : List Code) → is_line_ending c ≡ true → AreBlank ws → Begins text → fits size seen (c ∷ ws ++ text) ≡ fits size seen text
+pub fits-ending : (size : ℕ) (seen : Bool) (c : Code) (ws text : List Code) → is_line_ending c ≡ true → AreBlank ws →
+    Begins text → fits size seen (c ∷ ws ++ text) ≡ fits size seen text
 fits-ending size seen c ws text e k b =
     all-three (seen || (is_filled c || any_filled (ws ++ text))) (nat_le (size + counted false (c ∷ ws ++ text)) 999) (ends_filled true (c ∷ ws ++ text)) (seen || any_filled text) (nat_le (size + counted false text) 999) (ends_filled true text)
     (ap (λ x. seen || (not x || any_filled (ws ++ text))) (ending-white c e) ∙ ap (λ x. seen || x) (any-blank ws text k))
@@ -106,7 +113,8 @@ and-none true false = refl
 and-none false b = refl
 
 -- a blank line
-pub fits-none : (size : ℕ) (seen : Bool) (c : Code) (ws : List Code) (d : Code) (text : List Code) → is_line_ending c ≡ true → AreBlank ws → is_line_ending d ≡ true → fits size seen (c ∷ ws ++ d ∷ text) ≡ false
+pub fits-none : (size : ℕ) (seen : Bool) (c : Code) (ws : List Code) (d : Code) (text : List Code) →
+    is_line_ending c ≡ true → AreBlank ws → is_line_ending d ≡ true → fits size seen (c ∷ ws ++ d ∷ text) ≡ false
 fits-none size seen c ws d text e k h =
     ap (λ b. (seen || any_filled (c ∷ ws ++ d ∷ text)) && (nat_le (size + counted false (c ∷ ws ++ d ∷ text)) 999 && b)) (filled-none c ws d text e k h)
     ∙ and-none (seen || any_filled (c ∷ ws ++ d ∷ text)) (nat_le (size + counted false (c ∷ ws ++ d ∷ text)) 999)
@@ -121,7 +129,8 @@ and-middle a true c e = cc
 
 -- too many codes
 pub fits-long : (size : ℕ) (seen : Bool) (text : List Code) → nat_le size 999 ≡ false → fits size seen text ≡ false
-fits-long size seen text h = and-middle (seen || any_filled text) _ (ends_filled true text) (over size (counted false text) 999 h)
+fits-long size seen text h =
+    and-middle (seen || any_filled text) _ (ends_filled true text) (over size (counted false text) 999 h)
 
 -- the end of the text
 pub fits-seen : (size : ℕ) → nat_le size 999 ≡ true → fits size true [] ≡ true
@@ -135,7 +144,8 @@ fits-unseen size = refl
 module _ (names : StringNames) where
   -- behind the text
   back_of : Code → List Code → Reading Forest
-  back_of c text1 = one (is_value 93) >>= λ back. provided (has_no_blank_line true (text1 ++ back)) >> gives (between_markers names (c ∷ []) text1 back)
+  back_of c text1 =
+      one (is_value 93) >>= λ back. provided (has_no_blank_line true (text1 ++ back)) >> gives (between_markers names (c ∷ []) text1 back)
 
   tests_of : Code → List Code → Reading Forest
   tests_of c text1 = provided (any_filled text1) >> (provided (nat_le (counted false text1) 999) >> back_of c text1)
@@ -143,7 +153,9 @@ module _ (names : StringNames) where
   rest_of_label : Code → Reading Forest
   rest_of_label c = up_to (is_value 93) (is_among (codes "[\\]")) (is_value 91) >>= λ text1. tests_of c text1
 
-  back-by : (b : Bool) (c t : Code) (text1 : List Code) (d : Code) (rest : List Code) → ends_filled true (t ∷ text1) ≡ b → is_value 93 d ≡ true → tree_ops (back_of c (t ∷ text1) (d ∷ rest)) ≡ preceded (opening names) (if b then Some (break_ops false (t ∷ text1) ++ ending names) else None)
+  back-by : (b : Bool) (c t : Code) (text1 : List Code) (d : Code) (rest : List Code) →
+      ends_filled true (t ∷ text1) ≡ b → is_value 93 d ≡ true →
+      tree_ops (back_of c (t ∷ text1) (d ∷ rest)) ≡ preceded (opening names) (if b then Some (break_ops false (t ∷ text1) ++ ending names) else None)
   unfolding gives back_of
   back-by b c t text1 d rest e h =
       let line : is_line_ending d ≡ false = ap (λ v. v == 10) (eqb-true d.value 93 h) in
@@ -155,7 +167,9 @@ module _ (names : StringNames) where
         | false ↦ λ x. ap tree_ops (after-none _ _ rest (provided-false _ rest x))
       ] same
 
-  tests-by : (a b : Bool) (c t : Code) (text1 : List Code) (d : Code) (rest : List Code) → any_filled (t ∷ text1) ≡ a → nat_le (counted false (t ∷ text1)) 999 ≡ b → is_value 93 d ≡ true → tree_ops (tests_of c (t ∷ text1) (d ∷ rest)) ≡ preceded (opening names) (if a && (b && ends_filled true (t ∷ text1)) then Some (break_ops false (t ∷ text1) ++ ending names) else None)
+  tests-by : (a b : Bool) (c t : Code) (text1 : List Code) (d : Code) (rest : List Code) → any_filled (t ∷ text1) ≡ a →
+      nat_le (counted false (t ∷ text1)) 999 ≡ b → is_value 93 d ≡ true →
+      tree_ops (tests_of c (t ∷ text1) (d ∷ rest)) ≡ preceded (opening names) (if a && (b && ends_filled true (t ∷ text1)) then Some (break_ops false (t ∷ text1) ++ ending names) else None)
   unfolding tests_of
   tests-by true true c t text1 d rest e f h =
       ap tree_ops (after-some _ _ (d ∷ rest) [] (d ∷ rest) _ (provided-true _ (d ∷ rest) e) (after-some _ _ (d ∷ rest) [] (d ∷ rest) _ (provided-true _ (d ∷ rest) f) refl))
@@ -164,10 +178,12 @@ module _ (names : StringNames) where
       ap tree_ops (after-some _ _ (d ∷ rest) [] (d ∷ rest) _ (provided-true _ (d ∷ rest) e) (after-none _ _ (d ∷ rest) (provided-false _ (d ∷ rest) f)))
   tests-by false b c t text1 d rest e f h = ap tree_ops (after-none _ _ (d ∷ rest) (provided-false _ (d ∷ rest) e))
 
-  rest-by : (c : Code) (cs : List Code) (o : Option (List Code × List Code)) → text_from false cs ≡ o → tree_ops (rest_of_label c cs) ≡ preceded (opening names) (answer (fits 0 false) (break_ops false) (ending names) o)
+  rest-by : (c : Code) (cs : List Code) (o : Option (List Code × List Code)) → text_from false cs ≡ o →
+      tree_ops (rest_of_label c cs) ≡ preceded (opening names) (answer (fits 0 false) (break_ops false) (ending names) o)
   unfolding rest_of_label tests_of up_to
   rest-by c cs None e = ap tree_ops (bind-none _ _ cs e)
-  rest-by c cs (Some ([], rest)) e = ap tree_ops (bind-some _ _ cs [] rest _ e (after-none _ _ rest (provided-false _ rest refl)))
+  rest-by c cs (Some ([], rest)) e =
+      ap tree_ops (bind-some _ _ cs [] rest _ e (after-none _ _ rest (provided-false _ rest refl)))
   rest-by c cs (Some (t ∷ text1, [])) e =
       let no : false ≡ true = (text (is_value 93) (is_among (codes "[\\]")) (is_value 91) false cs (t ∷ text1, []) e).stops in
       cc
@@ -177,9 +193,11 @@ module _ (names : StringNames) where
       ∙ tests-by (any_filled (t ∷ text1)) (nat_le (counted false (t ∷ text1)) 999) c t text1 d rest refl refl closes
       ∙ ap (λ n. preceded (opening names) (if any_filled (t ∷ text1) && (nat_le n 999 && ends_filled true (t ∷ text1)) then Some (break_ops false (t ∷ text1) ++ ending names) else None)) (none-more (counted false (t ∷ text1)))
 
-  pub label-here : (c : Code) (cs : List Code) → is_value 91 c ≡ true → plan_of (label names) (c ∷ cs) ≡ preceded (opening names) (break_plan names 0 false false cs)
+  pub label-here : (c : Code) (cs : List Code) → is_value 91 c ≡ true →
+      plan_of (label names) (c ∷ cs) ≡ preceded (opening names) (break_plan names 0 false false cs)
   unfolding label rest_of_label tests_of back_of
-  label-here c cs h = ap tree_ops (bind-some _ _ (c ∷ cs) (c ∷ []) cs _ (one-here (is_value 91) c cs h) refl) ∙ rest-by c cs (text_from false cs) refl
+  label-here c cs h =
+      ap tree_ops (bind-some _ _ (c ∷ cs) (c ∷ []) cs _ (one-here (is_value 91) c cs h) refl) ∙ rest-by c cs (text_from false cs) refl
 
   pub label-none : (cs : List Code) → next_is (is_value 91) cs ≡ false → plan_of (label names) cs ≡ None
   unfolding label

@@ -22,7 +22,8 @@ use Rattle.markdown_plan.proofs.PlanSteps.{preceded-nil, done-scratched, no-code
 use Rattle.markdown_partial.specs.PartialSpaceOrTabEol.{WhitespaceAtRest}
 use Rattle.markdown_partial_link.specs.LinkedTreeOps.{plan_of}
 use Rattle.markdown_partial_link.specs.LinkedText.{closing, ending, names_in, joined, enter_text, text_entered, TextReady, ends_filled}
-use Rattle.markdown_partial_link.specs.PartialTitle.{begun, rested, opening, opened, start_at, start_step, beginning, begin_at, next_state, passing, at_break_at, leaving, inside_at, escapes, escape_at, is_closer, StartReady, BeginReady, BreakReady, AfterEolReady, InsideReady, start_ends, inside_plan, break_plan, begin_plan, begin_ends, at_break_ends, nok_ends, inside_ends, escape_ends, states_and_called, after_eol_words, at_break_words, begin_words, escape_words, inside_words, nok_words, start_words, states}
+use Rattle.markdown_partial_link.specs.PartialTitle.{begun, rested, opening, opened, start_at, start_step, beginning, begin_at, next_state, passing, at_break_at, leaving, inside_at, escapes, escape_at, is_closer, StartReady, BeginReady, BreakReady, AfterEolReady, InsideReady, start_ends}
+use Rattle.markdown_partial_link.specs.PartialTitle.{inside_plan, break_plan, begin_plan, begin_ends, at_break_ends, nok_ends, inside_ends, escape_ends, states_and_called, after_eol_words, at_break_words, begin_words, escape_words, inside_words, nok_words, start_words, states}
 use Rattle.markdown_partial_link.proofs.LinkedTreeLemmas.{EndsAs-linked}
 use Rattle.markdown_partial_link.proofs.LinkedTextLineEnding.{Passed, DoesAs-ending, ending-law}
 use Rattle.markdown_partial_link.proofs.LinkedTextReadings.{filled-data, filled-ending, filled-none, breaks-end, breaks-stop, breaks-data, breaks-ending, breaks-blank, insides-end, insides-next, insides-taken, insides-bare, leave-end, leave-stop, leave-ending}
@@ -39,7 +40,8 @@ use Rattle.markdown_plan.specs.LayerEquation.{Within, AreLawful}
 rest-begun : (m : ℕ) (s : TokenizeState) → WhitespaceAtRest s → WhitespaceAtRest (begun m s)
 rest-begun m s r = record { space = ap (begun m) r.space; eol = ap (begun m) r.eol }
 
-begun-ready : (m : ℕ) (T : Tokenizer) → 1 ≤ length (ahead T) → is_closer m ≡ true → StartReady T → BeginReady (scratched (begun m T.tokenize_state) (done (opening (names_in T.tokenize_state)) T))
+begun-ready : (m : ℕ) (T : Tokenizer) → 1 ≤ length (ahead T) → is_closer m ≡ true → StartReady T →
+    BeginReady (scratched (begun m T.tokenize_state) (done (opening (names_in T.tokenize_state)) T))
 unfolding scratched applied
 begun-ready m T more h k =
     let after : TextReady (scratched (begun m T.tokenize_state) (done (opening (names_in T.tokenize_state)) T)) = text-after (opening (names_in T.tokenize_state)) (begun m T.tokenize_state) T more k.text (rest-begun m T.tokenize_state k.text.resting) in
@@ -73,7 +75,8 @@ passed-ready T more k =
     let after : TextReady (done (Consume ∷ []) T) = text-kept (Consume ∷ []) T more refl k.text in
     record { text = record { short = after.short; resting = after.resting }; closer = k.closer; stand_open = k.stand_open; connect = k.connect; linked = k.linked }
 
-data-ready : (b : Bool) (T : Tokenizer) → 1 ≤ length (ahead T) → BreakReady T → InsideReady (scratched (joined T.tokenize_state) (done (enter_text b ∷ Consume ∷ []) T))
+data-ready : (b : Bool) (T : Tokenizer) → 1 ≤ length (ahead T) → BreakReady T →
+    InsideReady (scratched (joined T.tokenize_state) (done (enter_text b ∷ Consume ∷ []) T))
 unfolding scratched applied
 data-ready true T more k =
     let after : TextReady (scratched (joined T.tokenize_state) (done (enter_text true ∷ Consume ∷ []) T)) = text-after (enter_text true ∷ Consume ∷ []) (joined T.tokenize_state) T more k.text (rest-joined T.tokenize_state k.text.resting) in
@@ -82,18 +85,21 @@ data-ready false T more k =
     let after : TextReady (scratched (joined T.tokenize_state) (done (enter_text false ∷ Consume ∷ []) T)) = text-after (enter_text false ∷ Consume ∷ []) (joined T.tokenize_state) T more k.text (rest-joined T.tokenize_state k.text.resting) in
     record { text = record { short = after.short; resting = after.resting }; closer = k.closer; stand_open = ap (λ ns. N.Data ∷ ns) k.stand_open; connect = refl; linked = open-append T.events _ refl }
 
-eol-ready : (c : Code) (cs : List Code) (T U : Tokenizer) → BreakReady T → Passed T.tokenize_state.connect c cs T U → AfterEolReady U
+eol-ready : (c : Code) (cs : List Code) (T U : Tokenizer) → BreakReady T → Passed T.tokenize_state.connect c cs T U →
+    AfterEolReady U
 eol-ready c cs T U k j =
     record {
       text = text-same T U k.text j.fewer j.scratch;
       closer = ap (λ (s : TokenizeState). is_closer s.marker) j.scratch ∙ k.closer;
-      stand_open = subst (λ (s : TokenizeState). U.stack ≡ s.token_3 ∷ s.token_1 ∷ drop 2 U.stack) (sym j.scratch) (subst (λ ns. ns ≡ T.tokenize_state.token_3 ∷ T.tokenize_state.token_1 ∷ drop 2 ns) (sym j.stack) k.stand_open);
+      stand_open =
+          subst (λ (s : TokenizeState). U.stack ≡ s.token_3 ∷ s.token_1 ∷ drop 2 U.stack) (sym j.scratch) (subst (λ ns. ns ≡ T.tokenize_state.token_3 ∷ T.tokenize_state.token_1 ∷ drop 2 ns) (sym j.stack) k.stand_open);
       linked = j.linked;
     }
 
 joined-ready : (T : Tokenizer) → AfterEolReady T → BreakReady (scratched (joined T.tokenize_state) T)
 unfolding scratched
-joined-ready T k = record { text = record { short = k.text.short; resting = rest-joined T.tokenize_state k.text.resting }; closer = k.closer; stand_open = k.stand_open; linked = λ h. k.linked }
+joined-ready T k =
+    record { text = record { short = k.text.short; resting = rest-joined T.tokenize_state k.text.resting }; closer = k.closer; stand_open = k.stand_open; linked = λ h. k.linked }
 
 -- Tests.
 
@@ -102,7 +108,8 @@ module _ (W : Words) (within : Within states_and_called W) where
   nok-law T alone _ =
       Goes-end W (weight_at 1 T) (nok_ends T) false (scratched (rested T.tokenize_state) T) (attempts-scratched _ T ∙ alone) (omega arith) (λ ok U k. k)
 
-  eol-says : (T : Tokenizer) (ok : Bool) (U : Tokenizer) → at_break_ends (scratched (joined T.tokenize_state) T) ok U → DoesAs 2 (break_plan T.tokenize_state.marker (names_in T.tokenize_state) true) (rested T.tokenize_state) (scratched (joined T.tokenize_state) T) ok U
+  eol-says : (T : Tokenizer) (ok : Bool) (U : Tokenizer) → at_break_ends (scratched (joined T.tokenize_state) T) ok U →
+      DoesAs 2 (break_plan T.tokenize_state.marker (names_in T.tokenize_state) true) (rested T.tokenize_state) (scratched (joined T.tokenize_state) T) ok U
   unfolding scratched
   eol-says T ok U k = k
 
@@ -118,7 +125,9 @@ module _ (W : Words) (within : Within states_and_called W) where
   -- In a stretch.
 
   -- on past a code that passes
-  goes-inside : (T : Tokenizer) → T.attempts ≡ [] → InsideReady T → (c : ℕ) → current_of T ≡ Some c → inside_plan T.tokenize_state.marker (names_in T.tokenize_state) false (ahead T) ≡ preceded (Consume ∷ []) (inside_plan T.tokenize_state.marker (names_in T.tokenize_state) (c == 92) (drop 1 (ahead T))) → GoesIn W (weight_at 10 T) (inside_ends T) (passing c T)
+  goes-inside : (T : Tokenizer) → T.attempts ≡ [] → InsideReady T → (c : ℕ) → current_of T ≡ Some c →
+      inside_plan T.tokenize_state.marker (names_in T.tokenize_state) false (ahead T) ≡ preceded (Consume ∷ []) (inside_plan T.tokenize_state.marker (names_in T.tokenize_state) (c == 92) (drop 1 (ahead T))) →
+      GoesIn W (weight_at 10 T) (inside_ends T) (passing c T)
   unfolding applied
   goes-inside T alone k c h same =
       let s : TokenizeState = T.tokenize_state in
@@ -134,7 +143,9 @@ module _ (W : Words) (within : Within states_and_called W) where
       (passed-ready T (some-codes T c h) k)
       (λ ok U x. x))
 
-  goes-leave : (T : Tokenizer) → T.attempts ≡ [] → InsideReady T → inside_plan T.tokenize_state.marker (names_in T.tokenize_state) false (ahead T) ≡ preceded (Exit N.Data ∷ []) (break_plan T.tokenize_state.marker (names_in T.tokenize_state) true (ahead T)) → GoesIn W (weight_at 10 T) (inside_ends T) (leaving T)
+  goes-leave : (T : Tokenizer) → T.attempts ≡ [] → InsideReady T →
+      inside_plan T.tokenize_state.marker (names_in T.tokenize_state) false (ahead T) ≡ preceded (Exit N.Data ∷ []) (break_plan T.tokenize_state.marker (names_in T.tokenize_state) true (ahead T)) →
+      GoesIn W (weight_at 10 T) (inside_ends T) (leaving T)
   unfolding applied
   goes-leave T alone k same =
       let s : TokenizeState = T.tokenize_state in
@@ -167,7 +178,9 @@ module _ (W : Words) (within : Within states_and_called W) where
       goes-inside T alone k c e
       (ap p b.whole ∙ insides-next (is_value m) takes (λ x. false) (title-plain m k.closer) (ending names) (ends_filled true) (ends_filled true) (c == 92) b.code cs (ap (λ v. v == m) b.value ∙ (or_parts _ _ h).1) refl line (ap (λ v. v == 92) b.value) (λ text. filled-data b.code text line))))
 
-  escape-goes : (T : Tokenizer) → T.attempts ≡ [] → InsideReady T → inside_plan T.tokenize_state.marker (names_in T.tokenize_state) true (ahead T) ≡ inside_plan T.tokenize_state.marker (names_in T.tokenize_state) false (ahead T) → GoesIn W (weight_at 11 T) (escape_ends T) (stepped (Retry TitleInside) T)
+  escape-goes : (T : Tokenizer) → T.attempts ≡ [] → InsideReady T →
+      inside_plan T.tokenize_state.marker (names_in T.tokenize_state) true (ahead T) ≡ inside_plan T.tokenize_state.marker (names_in T.tokenize_state) false (ahead T) →
+      GoesIn W (weight_at 11 T) (escape_ends T) (stepped (Retry TitleInside) T)
   escape-goes T alone k same =
       let s : TokenizeState = T.tokenize_state in
       let q : Bool → Plan = inside_plan s.marker (names_in s) in
@@ -200,7 +213,8 @@ module _ (W : Words) (within : Within states_and_called W) where
       (passed-ready T (some-codes T c e) k)
       (λ ok U x. x))
       (λ h. escape-goes T alone k (subst same (sym b.whole) (insides-bare (is_value m) takes (λ x. false) (title-plain m k.closer) (ending names) (ends_filled true) b.code cs (ap (escapes m) b.value ∙ h))))) where
-        taken-line : (m : ℕ) → is_closer m ≡ true → (c : Code) → is_among (92 ∷ m ∷ []) c ≡ true → is_line_ending c ≡ false
+        taken-line : (m : ℕ) → is_closer m ≡ true → (c : Code) → is_among (92 ∷ m ∷ []) c ≡ true →
+            is_line_ending c ≡ false
         taken-line m k c h =
             or-by (c.value == 92) (is_value m c || false) h
             (λ g. ap (λ v. v == 10) (eqb-true c.value 92 g))
@@ -208,22 +222,33 @@ module _ (W : Words) (within : Within states_and_called W) where
 
   -- Between two stretches.
 
-  nok-says : (T : Tokenizer) → break_plan T.tokenize_state.marker (names_in T.tokenize_state) T.tokenize_state.connect (ahead T) ≡ None → (ok : Bool) (U : Tokenizer) → nok_ends T ok U → at_break_ends T ok U
-  nok-says T e ok U x = DoesAs-fails 2 (break_plan T.tokenize_state.marker (names_in T.tokenize_state) T.tokenize_state.connect) (rested T.tokenize_state) T e ok U x
+  nok-says : (T : Tokenizer) →
+      break_plan T.tokenize_state.marker (names_in T.tokenize_state) T.tokenize_state.connect (ahead T) ≡ None →
+      (ok : Bool) (U : Tokenizer) → nok_ends T ok U → at_break_ends T ok U
+  nok-says T e ok U x =
+      DoesAs-fails 2 (break_plan T.tokenize_state.marker (names_in T.tokenize_state) T.tokenize_state.connect) (rested T.tokenize_state) T e ok U x
 
-  nok-goes : (T : Tokenizer) → break_plan T.tokenize_state.marker (names_in T.tokenize_state) T.tokenize_state.connect (ahead T) ≡ None → FollowsIn W (weight_at 9 T) (at_break_ends T) (Next TitleNok) T
+  nok-goes : (T : Tokenizer) →
+      break_plan T.tokenize_state.marker (names_in T.tokenize_state) T.tokenize_state.connect (ahead T) ≡ None →
+      FollowsIn W (weight_at 9 T) (at_break_ends T) (Next TitleNok) T
   nok-goes T e = follows W _ _ (Next TitleNok) (within TitleNok) T tt (omega arith) (nok-says T e)
 
-  inside-says : (b : Bool) (T : Tokenizer) (ok : Bool) (U : Tokenizer) → inside_ends (scratched (joined T.tokenize_state) (done (enter_text b ∷ Consume ∷ []) T)) ok U → DoesAs 3 (inside_plan T.tokenize_state.marker (names_in T.tokenize_state) false) (rested T.tokenize_state) (scratched (joined T.tokenize_state) (done (enter_text b ∷ Consume ∷ []) T)) ok U
+  inside-says : (b : Bool) (T : Tokenizer) (ok : Bool) (U : Tokenizer) →
+      inside_ends (scratched (joined T.tokenize_state) (done (enter_text b ∷ Consume ∷ []) T)) ok U →
+      DoesAs 3 (inside_plan T.tokenize_state.marker (names_in T.tokenize_state) false) (rested T.tokenize_state) (scratched (joined T.tokenize_state) (done (enter_text b ∷ Consume ∷ []) T)) ok U
   unfolding scratched
   inside-says b T ok U k = k
 
-  escape-says : (b : Bool) (T : Tokenizer) (ok : Bool) (U : Tokenizer) → escape_ends (scratched (joined T.tokenize_state) (done (enter_text b ∷ Consume ∷ []) T)) ok U → DoesAs 3 (inside_plan T.tokenize_state.marker (names_in T.tokenize_state) true) (rested T.tokenize_state) (scratched (joined T.tokenize_state) (done (enter_text b ∷ Consume ∷ []) T)) ok U
+  escape-says : (b : Bool) (T : Tokenizer) (ok : Bool) (U : Tokenizer) →
+      escape_ends (scratched (joined T.tokenize_state) (done (enter_text b ∷ Consume ∷ []) T)) ok U →
+      DoesAs 3 (inside_plan T.tokenize_state.marker (names_in T.tokenize_state) true) (rested T.tokenize_state) (scratched (joined T.tokenize_state) (done (enter_text b ∷ Consume ∷ []) T)) ok U
   unfolding scratched
   escape-says b T ok U k = k
 
   -- data begins
-  data-goes : (T : Tokenizer) → T.attempts ≡ [] → BreakReady T → (c : ℕ) → current_of T ≡ Some c → break_plan T.tokenize_state.marker (names_in T.tokenize_state) T.tokenize_state.connect (ahead T) ≡ preceded (enter_text T.tokenize_state.connect ∷ Consume ∷ []) (inside_plan T.tokenize_state.marker (names_in T.tokenize_state) (c == 92) (drop 1 (ahead T))) → GoesIn W (weight_at 9 T) (at_break_ends T) (passing c (text_entered T))
+  data-goes : (T : Tokenizer) → T.attempts ≡ [] → BreakReady T → (c : ℕ) → current_of T ≡ Some c →
+      break_plan T.tokenize_state.marker (names_in T.tokenize_state) T.tokenize_state.connect (ahead T) ≡ preceded (enter_text T.tokenize_state.connect ∷ Consume ∷ []) (inside_plan T.tokenize_state.marker (names_in T.tokenize_state) (c == 92) (drop 1 (ahead T))) →
+      GoesIn W (weight_at 9 T) (at_break_ends T) (passing c (text_entered T))
   data-goes T alone k c e same =
       let s : TokenizeState = T.tokenize_state in
       let connect : Bool = s.connect in
@@ -245,7 +270,9 @@ module _ (W : Words) (within : Within states_and_called W) where
       (λ ok U x. depth-data connect (λ d. DoesAs d (q false) (rested s) V ok U) (inside-says connect T ok U x))))
 
   -- behind a line ending and blank codes
-  eol-goes : (T : Tokenizer) → BreakReady T → (c : Code) (cs : List Code) → ahead T ≡ c ∷ cs → is_line_ending c ≡ true → (U : Tokenizer) → Passed T.tokenize_state.connect c cs T U → FollowsIn W (weight_at 9 T) (at_break_ends T) (Next TitleAfterEol) U
+  eol-goes : (T : Tokenizer) → BreakReady T → (c : Code) (cs : List Code) → ahead T ≡ c ∷ cs → is_line_ending c ≡ true →
+      (U : Tokenizer) → Passed T.tokenize_state.connect c cs T U →
+      FollowsIn W (weight_at 9 T) (at_break_ends T) (Next TitleAfterEol) U
   eol-goes T k c cs whole line U j =
       let s : TokenizeState = T.tokenize_state in
       let m : ℕ = s.marker in
@@ -289,7 +316,9 @@ module _ (W : Words) (within : Within states_and_called W) where
 
   -- From the start.
 
-  begin-goes : (T : Tokenizer) → T.attempts ≡ [] → BeginReady T → next_is (is_value T.tokenize_state.marker) (ahead T) ≡ false → GoesIn W (weight_at 10 T) (begin_ends T) (beginning T)
+  begin-goes : (T : Tokenizer) → T.attempts ≡ [] → BeginReady T →
+      next_is (is_value T.tokenize_state.marker) (ahead T) ≡ false →
+      GoesIn W (weight_at 10 T) (begin_ends T) (beginning T)
   unfolding applied
   begin-goes T alone k h =
       let s : TokenizeState = T.tokenize_state in
@@ -314,11 +343,16 @@ module _ (W : Words) (within : Within states_and_called W) where
       (λ h. Goes-ok W 10 1 (begin_plan m names) (closing names) (rested s) T alone (if-true _ _ _ (here ∙ h)))
       (λ h. begin-goes T alone k (here ∙ h)))
 
-  begin-says : (m : ℕ) (T : Tokenizer) → rested T.tokenize_state ≡ T.tokenize_state → (ok : Bool) (U : Tokenizer) → begin_ends (scratched (begun m T.tokenize_state) (done (opening (names_in T.tokenize_state)) T)) ok U → DoesAs 1 (begin_plan m (names_in T.tokenize_state)) T.tokenize_state (scratched (begun m T.tokenize_state) (done (opening (names_in T.tokenize_state)) T)) ok U
+  begin-says : (m : ℕ) (T : Tokenizer) → rested T.tokenize_state ≡ T.tokenize_state → (ok : Bool) (U : Tokenizer) →
+      begin_ends (scratched (begun m T.tokenize_state) (done (opening (names_in T.tokenize_state)) T)) ok U →
+      DoesAs 1 (begin_plan m (names_in T.tokenize_state)) T.tokenize_state (scratched (begun m T.tokenize_state) (done (opening (names_in T.tokenize_state)) T)) ok U
   unfolding scratched
-  begin-says m T e ok U k = subst (λ q. DoesAs 1 (begin_plan m (names_in T.tokenize_state)) q (scratched (begun m T.tokenize_state) (done (opening (names_in T.tokenize_state)) T)) ok U) e k
+  begin-says m T e ok U k =
+      subst (λ q. DoesAs 1 (begin_plan m (names_in T.tokenize_state)) q (scratched (begun m T.tokenize_state) (done (opening (names_in T.tokenize_state)) T)) ok U) e k
 
-  opens : (m : ℕ) (T : Tokenizer) → T.attempts ≡ [] → StartReady T → 1 ≤ length (ahead T) → is_closer m ≡ true → plan_of (title (names_in T.tokenize_state)) (ahead T) ≡ preceded (opening (names_in T.tokenize_state)) (begin_plan m (names_in T.tokenize_state) (drop 1 (ahead T))) → GoesIn W (weight_at 11 T) (KeepsAs 0 (plan_of (title (names_in T.tokenize_state))) T) (opened m T)
+  opens : (m : ℕ) (T : Tokenizer) → T.attempts ≡ [] → StartReady T → 1 ≤ length (ahead T) → is_closer m ≡ true →
+      plan_of (title (names_in T.tokenize_state)) (ahead T) ≡ preceded (opening (names_in T.tokenize_state)) (begin_plan m (names_in T.tokenize_state) (drop 1 (ahead T))) →
+      GoesIn W (weight_at 11 T) (KeepsAs 0 (plan_of (title (names_in T.tokenize_state))) T) (opened m T)
   opens m T alone k more h same =
       let s : TokenizeState = T.tokenize_state in
       let names : StringNames = names_in s in
@@ -351,7 +385,8 @@ module _ (W : Words) (within : Within states_and_called W) where
       (ap p b.whole ∙ title-none names (b.code ∷ cs) (ap (λ v. v == 34) b.value ∙ h) (ap (λ v. v == 39) b.value ∙ g) (ap (λ v. v == 40) b.value ∙ f)))))))
 
 -- of these states, and of any other as it is given
-pub laws : (W : Words) → Within states_and_called W → (t : StateName → StateWords) → AreLawful W t → AreLawful W (states t)
+pub laws : (W : Words) → Within states_and_called W → (t : StateName → StateWords) → AreLawful W t →
+    AreLawful W (states t)
 laws W within t other H.TitleStart = start-law W within
 laws W within t other H.TitleBegin = begin-law W within
 laws W within t other H.TitleAtBreak = at_break-law W within

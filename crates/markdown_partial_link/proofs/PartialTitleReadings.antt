@@ -24,7 +24,8 @@ use Rattle.markdown_model.proofs.GrammarSteps.{bind-some, bind-none, after-some,
 
 -- The closing markers.
 
-closer-by : (a b c : Bool) (m : ℕ) (P : ℕ → Type 0) → (m == 34) ≡ a → (m == 39) ≡ b → (m == 41) ≡ c → a || (b || c) ≡ true → P 34 → P 39 → P 41 → P m
+closer-by : (a b c : Bool) (m : ℕ) (P : ℕ → Type 0) → (m == 34) ≡ a → (m == 39) ≡ b → (m == 41) ≡ c →
+    a || (b || c) ≡ true → P 34 → P 39 → P 41 → P m
 closer-by true b c m P e f g h x y z = subst P (sym (eqb-true m 34 e)) x
 closer-by false true c m P e f g h x y z = subst P (sym (eqb-true m 39 f)) y
 closer-by false false true m P e f g h x y z = subst P (sym (eqb-true m 41 g)) z
@@ -34,7 +35,8 @@ closer-by false false false m P e f g h x y z = cc
 pub of-closer : (m : ℕ) (P : ℕ → Type 0) → is_closer m ≡ true → P 34 → P 39 → P 41 → P m
 of-closer m P h x y z = closer-by (m == 34) (m == 39) (m == 41) m P refl refl refl h x y z
 
-white-by : (a b c : Bool) (v : ℕ) (P : ℕ → Type 0) → (v == 32) ≡ a → (v == 9) ≡ b → (v == 10) ≡ c → (a || b) || c ≡ true → P 32 → P 9 → P 10 → P v
+white-by : (a b c : Bool) (v : ℕ) (P : ℕ → Type 0) → (v == 32) ≡ a → (v == 9) ≡ b → (v == 10) ≡ c →
+    (a || b) || c ≡ true → P 32 → P 9 → P 10 → P v
 white-by true b c v P e f g h x y z = subst P (sym (eqb-true v 32 e)) x
 white-by false true c v P e f g h x y z = subst P (sym (eqb-true v 9 f)) y
 white-by false false true v P e f g h x y z = subst P (sym (eqb-true v 10 g)) z
@@ -45,7 +47,8 @@ pub of-white : (c : Code) (P : ℕ → Type 0) → is_whitespace_code c ≡ true
 of-white c P h x y z = white-by (c.value == 32) (c.value == 9) (c.value == 10) c.value P refl refl refl h x y z
 
 -- whitespace does not end a title
-pub title-plain : (m : ℕ) → is_closer m ≡ true → (c : Code) → is_whitespace_code c ≡ true → (is_value m c ≡ false) × ((false ≡ false) × ((c.value == 92) ≡ false))
+pub title-plain : (m : ℕ) → is_closer m ≡ true → (c : Code) → is_whitespace_code c ≡ true →
+    (is_value m c ≡ false) × ((false ≡ false) × ((c.value == 92) ≡ false))
 title-plain m k c h =
     let P : ℕ → Type 0 = λ n. (c.value == n) ≡ false in
     let Q : ℕ → ℕ → Type 0 = λ n v. (v == n) ≡ false in
@@ -56,16 +59,22 @@ pub closer-line : (m : ℕ) → is_closer m ≡ true → (c : Code) → is_value
 closer-line m k c h = same-value c.value m h (λ v. v == 10) ∙ of-closer m (λ n. (n == 10) ≡ false) k refl refl refl
 
 pub closer-blank : (m : ℕ) → is_closer m ≡ true → (c : Code) → is_value m c ≡ true → is_blank c ≡ false
-closer-blank m k c h = same-value c.value m h (λ v. v == 32 || v == 9) ∙ of-closer m (λ n. (n == 32 || n == 9) ≡ false) k refl refl refl
+closer-blank m k c h =
+    same-value c.value m h (λ v. v == 32 || v == 9) ∙ of-closer m (λ n. (n == 32 || n == 9) ≡ false) k refl refl refl
 
 -- The test for blank lines.
 
-filled-by : (b filled : Bool) (c : Code) (text : List Code) (d : Code) → is_line_ending c ≡ b → ((f : Bool) → has_no_blank_line f (text ++ d ∷ []) ≡ ends_filled f text) → has_no_blank_line filled (c ∷ text ++ d ∷ []) ≡ ends_filled filled (c ∷ text)
-filled-by true filled c text d e k = ap (λ b. elim b as (λ _. Bool) [ true ↦ filled && has_no_blank_line false (text ++ d ∷ []) | false ↦ has_no_blank_line (filled || not (is_blank c)) (text ++ d ∷ []) ]) e ∙ ap (λ x. filled && x) (k false) ∙ ap (λ b. elim b as (λ _. Bool) [ true ↦ filled && ends_filled false text | false ↦ ends_filled (filled || not (is_blank c)) text ]) (sym e)
-filled-by false filled c text d e k = ap (λ b. elim b as (λ _. Bool) [ true ↦ filled && has_no_blank_line false (text ++ d ∷ []) | false ↦ has_no_blank_line (filled || not (is_blank c)) (text ++ d ∷ []) ]) e ∙ k (filled || not (is_blank c)) ∙ ap (λ b. elim b as (λ _. Bool) [ true ↦ filled && ends_filled false text | false ↦ ends_filled (filled || not (is_blank c)) text ]) (sym e)
+filled-by : (b filled : Bool) (c : Code) (text : List Code) (d : Code) → is_line_ending c ≡ b →
+    ((f : Bool) → has_no_blank_line f (text ++ d ∷ []) ≡ ends_filled f text) →
+    has_no_blank_line filled (c ∷ text ++ d ∷ []) ≡ ends_filled filled (c ∷ text)
+filled-by true filled c text d e k =
+    ap (λ b. elim b as (λ _. Bool) [ true ↦ filled && has_no_blank_line false (text ++ d ∷ []) | false ↦ has_no_blank_line (filled || not (is_blank c)) (text ++ d ∷ []) ]) e ∙ ap (λ x. filled && x) (k false) ∙ ap (λ b. elim b as (λ _. Bool) [ true ↦ filled && ends_filled false text | false ↦ ends_filled (filled || not (is_blank c)) text ]) (sym e)
+filled-by false filled c text d e k =
+    ap (λ b. elim b as (λ _. Bool) [ true ↦ filled && has_no_blank_line false (text ++ d ∷ []) | false ↦ has_no_blank_line (filled || not (is_blank c)) (text ++ d ∷ []) ]) e ∙ k (filled || not (is_blank c)) ∙ ap (λ b. elim b as (λ _. Bool) [ true ↦ filled && ends_filled false text | false ↦ ends_filled (filled || not (is_blank c)) text ]) (sym e)
 
 -- before a code that is not blank
-pub filled-back : (filled : Bool) (text : List Code) (d : Code) → is_line_ending d ≡ false → is_blank d ≡ false → has_no_blank_line filled (text ++ d ∷ []) ≡ ends_filled filled text
+pub filled-back : (filled : Bool) (text : List Code) (d : Code) → is_line_ending d ≡ false → is_blank d ≡ false →
+    has_no_blank_line filled (text ++ d ∷ []) ≡ ends_filled filled text
 filled-back filled [] d e h =
     ap (λ b. elim b as (λ _. Bool) [ true ↦ filled && false | false ↦ filled || not (is_blank d) ]) e ∙ ap (λ b. filled || not b) h ∙ or-true filled
 filled-back filled (c ∷ text) d e h = filled-by (is_line_ending c) filled c text d refl (λ f. filled-back f text d e h)
@@ -73,7 +82,8 @@ filled-back filled (c ∷ text) d e h = filled-by (is_line_ending c) filled c te
 -- From the opening marker.
 
 -- the operations of a text between its markers
-pub between-ops : (names : StringNames) (c t d : Code) (text : List Code) → linked_ops false (between_markers names (c ∷ []) (t ∷ text) (d ∷ [])) ≡ opening names ++ ((Enter names.text ∷ []) ++ (break_ops false (t ∷ text) ++ ending names))
+pub between-ops : (names : StringNames) (c t d : Code) (text : List Code) →
+    linked_ops false (between_markers names (c ∷ []) (t ∷ text) (d ∷ [])) ≡ opening names ++ ((Enter names.text ∷ []) ++ (break_ops false (t ∷ text) ++ ending names))
 between-ops names c t d text =
     ap (λ os. Enter names.whole ∷ ((Enter names.marker ∷ Consume ∷ Exit names.marker ∷ os) ++ Exit names.whole ∷ [])) (text-group names.text t text (leaf names.marker (d ∷ [])))
     ∙ ap (λ os. opening names ++ Enter names.text ∷ os) (append_assoc (break_ops false (t ∷ text)) (Exit names.text ∷ Enter names.marker ∷ Consume ∷ Exit names.marker ∷ []) (Exit names.whole ∷ []))
@@ -84,7 +94,9 @@ module _ (m : ℕ) (names : StringNames) (k : is_closer m ≡ true) where
       up_to (is_value m) (is_among (92 ∷ m ∷ [])) (λ c. false) >>= λ text. one (is_value m) >>= λ back. provided (has_no_blank_line true (text ++ back)) >> gives (between_markers names (c ∷ []) text back)
 
   -- behind the text
-  back-by : (b : Bool) (c t : Code) (text : List Code) (d : Code) (rest : List Code) → ends_filled true (t ∷ text) ≡ b → is_value m d ≡ true → tree_ops ((one (is_value m) >>= λ back. provided (has_no_blank_line true ((t ∷ text) ++ back)) >> gives (between_markers names (c ∷ []) (t ∷ text) back)) (d ∷ rest)) ≡ preceded (opening names) (preceded (Enter names.text ∷ []) (if b then Some (break_ops false (t ∷ text) ++ ending names) else None))
+  back-by : (b : Bool) (c t : Code) (text : List Code) (d : Code) (rest : List Code) → ends_filled true (t ∷ text) ≡ b →
+      is_value m d ≡ true →
+      tree_ops ((one (is_value m) >>= λ back. provided (has_no_blank_line true ((t ∷ text) ++ back)) >> gives (between_markers names (c ∷ []) (t ∷ text) back)) (d ∷ rest)) ≡ preceded (opening names) (preceded (Enter names.text ∷ []) (if b then Some (break_ops false (t ∷ text) ++ ending names) else None))
   unfolding gives
   back-by true c t text d rest e h =
       ap tree_ops (bind-some _ _ (d ∷ rest) (d ∷ []) rest _ (one-here (is_value m) d rest h) (after-some _ _ rest [] rest _ (provided-true _ rest (filled-back true (t ∷ text) d (closer-line m k d h) (closer-blank m k d h) ∙ e)) refl))
@@ -92,7 +104,9 @@ module _ (m : ℕ) (names : StringNames) (k : is_closer m ≡ true) where
   back-by false c t text d rest e h =
       ap tree_ops (bind-some _ _ (d ∷ rest) (d ∷ []) rest _ (one-here (is_value m) d rest h) (after-none _ _ rest (provided-false _ rest (filled-back true (t ∷ text) d (closer-line m k d h) (closer-blank m k d h) ∙ e))))
 
-  rest-by : (c : Code) (cs : List Code) (b : Bool) (o : Option (List Code × List Code)) → next_is (is_value m) cs ≡ b → text_from m names false cs ≡ o → tree_ops (rest_of_title c cs) ≡ preceded (opening names) (if b then Some (closing names) else preceded (Enter names.text ∷ []) (answer (ends_filled true) (break_ops false) (ending names) o))
+  rest-by : (c : Code) (cs : List Code) (b : Bool) (o : Option (List Code × List Code)) → next_is (is_value m) cs ≡ b →
+      text_from m names false cs ≡ o →
+      tree_ops (rest_of_title c cs) ≡ preceded (opening names) (if b then Some (closing names) else preceded (Enter names.text ∷ []) (answer (ends_filled true) (break_ops false) (ending names) o))
   unfolding rest_of_title gives up_to
   rest-by c [] true o h e = cc
   rest-by c (d ∷ cs) true o h e =
@@ -109,7 +123,8 @@ module _ (m : ℕ) (names : StringNames) (k : is_closer m ≡ true) where
       let closes : is_value m d ≡ true = (text (is_value m) (is_among (92 ∷ m ∷ [])) (λ x. false) false cs (t ∷ text1, d ∷ rest) e).stops in
       ap tree_ops (bind-some _ _ cs (t ∷ text1) (d ∷ rest) _ e refl) ∙ back-by (ends_filled true (t ∷ text1)) c t text1 d rest refl closes
 
-  between-here : (opener : ℕ) (c : Code) (cs : List Code) → is_value opener c ≡ true → plan_of (title_between opener m names) (c ∷ cs) ≡ preceded (opening names) (begin_plan m names cs)
+  between-here : (opener : ℕ) (c : Code) (cs : List Code) → is_value opener c ≡ true →
+      plan_of (title_between opener m names) (c ∷ cs) ≡ preceded (opening names) (begin_plan m names cs)
   unfolding title_between rest_of_title
   between-here opener c cs h =
       ap tree_ops (bind-some _ _ (c ∷ cs) (c ∷ []) cs _ (one-here (is_value opener) c cs h) refl) ∙ rest-by c cs (next_is (is_value m) cs) (text_from m names false cs) refl refl
@@ -130,31 +145,36 @@ module _ (m : ℕ) (names : StringNames) (k : is_closer m ≡ true) where
       (Row-leaf names.marker front ws (vs ++ (us ++ (zs ++ []))) row p.0
       (Row-string names.text vs (us ++ (zs ++ [])) (lines N.Data string text) (leaf names.marker back) (Row-lines text vs q) last)))))))
 
-between-none : (opener closer : ℕ) (names : StringNames) (cs : List Code) → next_is (is_value opener) cs ≡ false → title_between opener closer names cs ≡ None
+between-none : (opener closer : ℕ) (names : StringNames) (cs : List Code) → next_is (is_value opener) cs ≡ false →
+    title_between opener closer names cs ≡ None
 unfolding title_between
 between-none opener closer names cs h = bind-none _ _ cs (one-not (is_value opener) cs h)
 
 -- Whole titles.
 
-pub title-none : (names : StringNames) (cs : List Code) → next_is (is_value 34) cs ≡ false → next_is (is_value 39) cs ≡ false → next_is (is_value 40) cs ≡ false → plan_of (title names) cs ≡ None
+pub title-none : (names : StringNames) (cs : List Code) → next_is (is_value 34) cs ≡ false →
+    next_is (is_value 39) cs ≡ false → next_is (is_value 40) cs ≡ false → plan_of (title names) cs ≡ None
 unfolding title
 title-none names cs e h k =
     ap tree_ops (either-second _ _ cs (between-none 34 34 names cs e) ∙ either-second _ _ cs (between-none 39 39 names cs h) ∙ between-none 40 41 names cs k)
 
-pub title-double : (names : StringNames) (c : Code) (cs : List Code) → is_value 34 c ≡ true → plan_of (title names) (c ∷ cs) ≡ preceded (opening names) (begin_plan 34 names cs)
+pub title-double : (names : StringNames) (c : Code) (cs : List Code) → is_value 34 c ≡ true →
+    plan_of (title names) (c ∷ cs) ≡ preceded (opening names) (begin_plan 34 names cs)
 unfolding title
 title-double names c cs h =
     ap tree_ops (either-first _ _ (c ∷ cs) (either-second _ _ (c ∷ cs) (between-none 39 39 names (c ∷ cs) (same-value c.value 34 h (λ v. v == 39))) ∙ between-none 40 41 names (c ∷ cs) (same-value c.value 34 h (λ v. v == 40))))
     ∙ between-here 34 names refl 34 c cs h
 
-pub title-single : (names : StringNames) (c : Code) (cs : List Code) → is_value 39 c ≡ true → plan_of (title names) (c ∷ cs) ≡ preceded (opening names) (begin_plan 39 names cs)
+pub title-single : (names : StringNames) (c : Code) (cs : List Code) → is_value 39 c ≡ true →
+    plan_of (title names) (c ∷ cs) ≡ preceded (opening names) (begin_plan 39 names cs)
 unfolding title
 title-single names c cs h =
     ap tree_ops (either-second _ _ (c ∷ cs) (between-none 34 34 names (c ∷ cs) (same-value c.value 39 h (λ v. v == 34)))
     ∙ either-first _ _ (c ∷ cs) (between-none 40 41 names (c ∷ cs) (same-value c.value 39 h (λ v. v == 40))))
     ∙ between-here 39 names refl 39 c cs h
 
-pub title-paren : (names : StringNames) (c : Code) (cs : List Code) → is_value 40 c ≡ true → plan_of (title names) (c ∷ cs) ≡ preceded (opening names) (begin_plan 41 names cs)
+pub title-paren : (names : StringNames) (c : Code) (cs : List Code) → is_value 40 c ≡ true →
+    plan_of (title names) (c ∷ cs) ≡ preceded (opening names) (begin_plan 41 names cs)
 unfolding title
 title-paren names c cs h =
     ap tree_ops (either-second _ _ (c ∷ cs) (between-none 34 34 names (c ∷ cs) (same-value c.value 40 h (λ v. v == 34)))

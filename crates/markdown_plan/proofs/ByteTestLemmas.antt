@@ -13,10 +13,12 @@ not-among v first (suc n) h low high =
     let other : v ≡ first → ⊥ = eqb-false v first parts.0 in
     not-among v (first + 1) n parts.1 (omega (arith, low, other)) (omega (arith, high))
 
-between-by : (v : ℕ) → list_any (λ k. v == k) (numbers 1 31) ≡ false → (low high : Bool) → nat_le 1 v ≡ low → nat_le v 31 ≡ high → low && high ≡ false
+between-by : (v : ℕ) → list_any (λ k. v == k) (numbers 1 31) ≡ false → (low high : Bool) → nat_le 1 v ≡ low →
+    nat_le v 31 ≡ high → low && high ≡ false
 between-by v h false high l u = refl
 between-by v h true false l u = refl
-between-by v h true true l u = absurd (not-among v 1 31 h (leb-true 1 v l) (let k : v ≤ 31 = leb-true v 31 u in omega (arith, k)))
+between-by v h true true l u =
+    absurd (not-among v 1 31 h (leb-true 1 v l) (let k : v ≤ 31 = leb-true v 31 u in omega (arith, k)))
 
 -- no control, by the list of them
 pub no-control : (v : ℕ) → list_any (λ k. v == k) controls ≡ false → (is_between 1 31 v ≡ false) × (v == 127 ≡ false)

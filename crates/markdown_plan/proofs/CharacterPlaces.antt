@@ -21,23 +21,29 @@ drop-next (x ∷ xs) zero c cs e = ap rest_of e
 drop-next (x ∷ xs) (suc n) c cs e = drop-next xs n c cs e
 
 -- where an ASCII code ends
-pub marker-ends : (bytes : List ℕ) (p : Place) (c : Code) (cs : List Code) → IsText bytes p → ahead_at p ≡ c ∷ cs → nat_lt c.value 128 ≡ true → IsCharBoundary bytes c.stop.index
+pub marker-ends : (bytes : List ℕ) (p : Place) (c : Code) (cs : List Code) → IsText bytes p → ahead_at p ≡ c ∷ cs →
+    nat_lt c.value 128 ≡ true → IsCharBoundary bytes c.stop.index
 unfolding ahead_at
 marker-ends bytes p c cs k e low = k.stop p.at c (get-here p.codes p.at c cs e) (by-next (slice_get p.codes (suc p.at)) refl)
   where
-    by-next : (o : Option Code) → slice_get p.codes (suc p.at) ≡ o → at_later (value_of (slice_get p.codes (suc p.at))) ≡ false
+    by-next : (o : Option Code) → slice_get p.codes (suc p.at) ≡ o →
+        at_later (value_of (slice_get p.codes (suc p.at))) ≡ false
     by-next None h = ap (λ x. at_later (value_of x)) h
     by-next (Some d) h = ap (λ x. at_later (value_of x)) h ∙ k.next p.at c d (get-here p.codes p.at c cs e) h low
 
 -- where a code begins that is no later byte
-pub code-begins : (bytes : List ℕ) (p : Place) (c : Code) (cs : List Code) → IsText bytes p → ahead_at p ≡ c ∷ cs → is_later_byte c ≡ false → IsCharBoundary bytes c.start.index
+pub code-begins : (bytes : List ℕ) (p : Place) (c : Code) (cs : List Code) → IsText bytes p → ahead_at p ≡ c ∷ cs →
+    is_later_byte c ≡ false → IsCharBoundary bytes c.start.index
 unfolding ahead_at
 code-begins bytes p c cs k e h = k.first p.at c (get-here p.codes p.at c cs e) h
 
-stops : (bytes : List ℕ) (p : Place) → IsText bytes p → (n : ℕ) (q : Point) (x : Code) (xs : List Code) (d : Code) (rest : List Code) → drop n p.codes ≡ x ∷ (xs ++ d ∷ rest) → is_later_byte d ≡ false → IsCharBoundary bytes (stop_of q (x ∷ xs)).index
+stops : (bytes : List ℕ) (p : Place) → IsText bytes p →
+    (n : ℕ) (q : Point) (x : Code) (xs : List Code) (d : Code) (rest : List Code) →
+    drop n p.codes ≡ x ∷ (xs ++ d ∷ rest) → is_later_byte d ≡ false → IsCharBoundary bytes (stop_of q (x ∷ xs)).index
 stops bytes p k n q x [] d rest e h =
     k.stop n x (get-here p.codes n x (d ∷ rest) e) (ap (λ o. at_later (value_of o)) (get-here p.codes (suc n) d rest (drop-next p.codes n x (d ∷ rest) e)) ∙ h)
-stops bytes p k n q x (y ∷ ys) d rest e h = stops bytes p k (suc n) x.stop y ys d rest (drop-next p.codes n x (y ∷ (ys ++ d ∷ rest)) e) h
+stops bytes p k n q x (y ∷ ys) d rest e h =
+    stops bytes p k (suc n) x.stop y ys d rest (drop-next p.codes n x (y ∷ (ys ++ d ∷ rest)) e) h
 
 -- where a text begins and ends that stands between an ASCII code and a code that is no later byte
 pub text-places : (bytes : List ℕ) (p : Place) (c x : Code) (xs : List Code) (d : Code) (rest : List Code) → IsText bytes p → ahead_at p ≡ c ∷ x ∷ (xs ++ d ∷ rest) → nat_lt c.value 128 ≡ true → is_later_byte d ≡ false

@@ -28,11 +28,13 @@ use Rattle.markdown_plan.proofs.CharactersAlongContent.{text-moved}
 -- Values and bytes.
 
 -- a code that is ASCII begins with an ASCII byte
-low-byte : (b vs : ℕ) → nat_lt (if is_line_ending_byte b then 10 else (if b == 9 && nat_lt 0 vs then 32 else b)) 128 ≡ true → b < 128
+low-byte : (b vs : ℕ) →
+    nat_lt (if is_line_ending_byte b then 10 else (if b == 9 && nat_lt 0 vs then 32 else b)) 128 ≡ true → b < 128
 low-byte b vs h = grind (arith, nat_tests)
 
 -- a code is a later byte of a character where its byte is
-later-byte : (b vs : ℕ) → later_value (if is_line_ending_byte b then 10 else (if b == 9 && nat_lt 0 vs then 32 else b)) ≡ later_value b
+later-byte : (b vs : ℕ) →
+    later_value (if is_line_ending_byte b then 10 else (if b == 9 && nat_lt 0 vs then 32 else b)) ≡ later_value b
 later-byte b vs = grind (arith, nat_tests)
 
 not-later : (b : ℕ) → (128 ≤ b → 192 ≤ b) → later_value b ≡ false
@@ -43,12 +45,14 @@ later-not b h k = grind (arith, nat_tests)
 
 -- Where a code begins, and where it ends.
 
-begins-at : (bytes : List ℕ) (p : Point) → p.index < length bytes → later_value (value_at bytes p) ≡ false → IsCharBoundary bytes p.index
+begins-at : (bytes : List ℕ) (p : Point) → p.index < length bytes → later_value (value_at bytes p) ≡ false →
+    IsCharBoundary bytes p.index
 begins-at bytes p lt h =
     let byte : later_value (get_or bytes p.index 0) ≡ false = sym (later-byte (get_or bytes p.index 0) p.vs) ∙ h in
     (omega (arith, lt), λ _ k. later-not (get_or bytes p.index 0) byte k)
 
-early-at : (bytes : List ℕ) (p : Point) → p.index < length bytes → IsCharBoundary bytes p.index → later_value (value_at bytes p) ≡ false
+early-at : (bytes : List ℕ) (p : Point) → p.index < length bytes → IsCharBoundary bytes p.index →
+    later_value (value_at bytes p) ≡ false
 early-at bytes p lt b = later-byte (get_or bytes p.index 0) p.vs ∙ not-later (get_or bytes p.index 0) (b.1 lt)
 
 get-drop : (n : ℕ) (xs : List ℕ) → get_or (drop n xs) 0 0 ≡ get_or xs n 0
@@ -58,7 +62,8 @@ get-drop (suc n) [] = refl
 get-drop (suc n) (x ∷ xs) = get-drop n xs
 
 -- past a line ending
-ending-at : (bytes : List ℕ) (i : ℕ) (b : ℕ) (t : Bool) (rest : List ℕ) → IsUtf8 bytes → IsCharBoundary bytes (i + 1) → drop (i + 1) bytes ≡ rest → IsCharBoundary bytes (i + line_ending_len b rest)
+ending-at : (bytes : List ℕ) (i : ℕ) (b : ℕ) (t : Bool) (rest : List ℕ) → IsUtf8 bytes → IsCharBoundary bytes (i + 1) →
+    drop (i + 1) bytes ≡ rest → IsCharBoundary bytes (i + line_ending_len b rest)
 ending-at bytes i b t [] u one e = one
 ending-at bytes i b t (c ∷ rest) u one e =
     elim (b == 13 && c == 10) as (λ x. (b == 13 && c == 10) ≡ x → IsCharBoundary bytes (i + (if x then 2 else 1))) [
@@ -73,7 +78,8 @@ ending-at bytes i b t (c ∷ rest) u one e =
         let feed : c ≡ 10 = eqb-true c 10 (and_parts (b == 13) (c == 10) h).1 in
         subst (λ n. IsCharBoundary bytes n) (omega arith) (IsCharBoundary-after_ascii bytes (i + 1) u lt (omega (arith, first, feed)))
 
-stops-at : (bytes : List ℕ) (p : Point) → IsUtf8 bytes → p.index < length bytes → get_or bytes p.index 0 < 128 → IsCharBoundary bytes (stop_at bytes p).index
+stops-at : (bytes : List ℕ) (p : Point) → IsUtf8 bytes → p.index < length bytes → get_or bytes p.index 0 < 128 →
+    IsCharBoundary bytes (stop_at bytes p).index
 stops-at bytes p u lt low =
     let b : ℕ = get_or bytes p.index 0 in
     let one : IsCharBoundary bytes (p.index + 1) = IsCharBoundary-after_ascii bytes p.index u lt low in
@@ -96,7 +102,8 @@ Between bytes (piece ∷ more) = IsBetweenCharacters bytes piece × Between byte
 between-all : (bytes : List ℕ) (pieces : List Piece) → All (IsBetweenCharacters bytes) pieces → Between bytes pieces
 unfolding Between
 between-all bytes [] h = tt
-between-all bytes (piece ∷ more) h = (h 0 piece (omega arith), between-all bytes more (λ k d lt. h (suc k) d (omega (arith, lt))))
+between-all bytes (piece ∷ more) h =
+    (h 0 piece (omega arith), between-all bytes more (λ k d lt. h (suc k) d (omega (arith, lt))))
 
 between-drop : (bytes : List ℕ) (k : ℕ) (pieces : List Piece) → Between bytes pieces → Between bytes (drop k pieces)
 unfolding Between
@@ -106,10 +113,12 @@ between-drop bytes (suc k) [] h = h
 between-drop bytes (suc k) (piece ∷ more) h = between-drop bytes k more h.1
 
 -- a place of a piece that stands between characters
-place-at : (bytes : List ℕ) (at : ℕ × ℕ) → is_place bytes at ≡ true → IsCharBoundary bytes at.0 → IsCharBoundary bytes (point_at bytes at).index
+place-at : (bytes : List ℕ) (at : ℕ × ℕ) → is_place bytes at ≡ true → IsCharBoundary bytes at.0 →
+    IsCharBoundary bytes (point_at bytes at).index
 place-at bytes at h b = subst (λ (x : ℕ × ℕ). IsCharBoundary bytes x.0) (sym (there bytes at h).place) b
 
-follows-at : (bytes : List ℕ) (k : ℕ) (q : Point) (left : List Piece) → Between bytes left → are_pieces bytes left ≡ true → IsCharBoundary bytes q.index → IsCharBoundary bytes (followed bytes k q left).1.index
+follows-at : (bytes : List ℕ) (k : ℕ) (q : Point) (left : List Piece) → Between bytes left →
+    are_pieces bytes left ≡ true → IsCharBoundary bytes q.index → IsCharBoundary bytes (followed bytes k q left).1.index
 unfolding Between
 follows-at bytes k q [] h e b = b
 follows-at bytes k q (piece ∷ []) h e b = b
@@ -118,11 +127,13 @@ follows-at bytes k q (piece ∷ next ∷ more) h e b =
     let start : IsCharBoundary bytes (point_at bytes next.start).index = place-at bytes next.start (piece_row bytes next more others).start h.1.0.0 in
     elim (is_open (place_of q) (piece ∷ [])) as (λ x. (let r : ℕ × Point = if x then (k, q) else (k + 1, point_at bytes next.start) in IsCharBoundary bytes r.1.index)) [ true ↦ b | false ↦ start ]
 
-end-at : (bytes : List ℕ) (pieces : List Piece) → IsUtf8 bytes → Between bytes pieces → are_pieces bytes pieces ≡ true → IsCharBoundary bytes (content_end bytes pieces).index
+end-at : (bytes : List ℕ) (pieces : List Piece) → IsUtf8 bytes → Between bytes pieces → are_pieces bytes pieces ≡ true →
+    IsCharBoundary bytes (content_end bytes pieces).index
 unfolding Between
 end-at bytes [] u h e = IsCharBoundary-start bytes u
 end-at bytes (piece ∷ []) u h e = place-at bytes piece.end (piece_row bytes piece [] e).end h.0.1
-end-at bytes (piece ∷ next ∷ more) u h e = end-at bytes (next ∷ more) u h.1 (piece_row bytes piece (next ∷ more) e).others
+end-at bytes (piece ∷ next ∷ more) u h e =
+    end-at bytes (next ∷ more) u h.1 (piece_row bytes piece (next ∷ more) e).others
 
 -- Codes of a content.
 
@@ -136,18 +147,24 @@ pub record Reached (bytes : List ℕ) (pieces : List Piece) (n : ℕ) : Type 0 w
 pub none-some : (o : Option Code) (c : Code) → o ≡ None → o ≡ Some c → ⊥
 none-some o c e h = cc
 
-reached-by : (bytes : List ℕ) (pieces : List Piece) (n k : ℕ) (p : Point) (c : Code) → IsStanding bytes pieces (drop k pieces) p n → slice_get (content_of bytes pieces) n ≡ Some c → (b : Bool) → is_open (place_of p) (drop k pieces) ≡ b → Reached bytes pieces n
+reached-by : (bytes : List ℕ) (pieces : List Piece) (n k : ℕ) (p : Point) (c : Code) →
+    IsStanding bytes pieces (drop k pieces) p n → slice_get (content_of bytes pieces) n ≡ Some c → (b : Bool) →
+    is_open (place_of p) (drop k pieces) ≡ b → Reached bytes pieces n
 reached-by bytes pieces n k p c s e true h = record { piece = k; point = p; standing = s; opens = h }
-reached-by bytes pieces n k p c s e false h = absurd (none-some _ c (closed-standing bytes pieces (drop k pieces) p n s h).0 e)
+reached-by bytes pieces n k p c s e false h =
+    absurd (none-some _ c (closed-standing bytes pieces (drop k pieces) p n s h).0 e)
 
 -- a code before it
-before-some : (n : ℕ) (cs : List Code) (c : Code) → slice_get cs (suc n) ≡ Some c → (d : Code) × (slice_get cs n ≡ Some d)
+before-some : (n : ℕ) (cs : List Code) (c : Code) → slice_get cs (suc n) ≡ Some c →
+    (d : Code) × (slice_get cs n ≡ Some d)
 before-some n [] c e = cc
 before-some zero (x ∷ xs) c e = (x, refl)
 before-some (suc n) (x ∷ xs) c e = before-some n xs c e
 
-pub reached : (bytes : List ℕ) (pieces : List Piece) → IsContent bytes pieces → (n : ℕ) (c : Code) → slice_get (content_of bytes pieces) n ≡ Some c → Reached bytes pieces n
-reached bytes pieces content zero c e = reached-by bytes pieces 0 0 (first_point bytes pieces) c (standing-start bytes pieces content) e (is_open (place_of (first_point bytes pieces)) pieces) refl
+pub reached : (bytes : List ℕ) (pieces : List Piece) → IsContent bytes pieces → (n : ℕ) (c : Code) →
+    slice_get (content_of bytes pieces) n ≡ Some c → Reached bytes pieces n
+reached bytes pieces content zero c e =
+    reached-by bytes pieces 0 0 (first_point bytes pieces) c (standing-start bytes pieces content) e (is_open (place_of (first_point bytes pieces)) pieces) refl
 reached bytes pieces content (suc n) c e =
     let d = before-some n (content_of bytes pieces) c e in
     let r : Reached bytes pieces n = reached bytes pieces content n d.0 d.1 in
@@ -158,7 +175,9 @@ reached bytes pieces content (suc n) c e =
 pub same-code : (o : Option Code) (c d : Code) → o ≡ Some c → o ≡ Some d → c ≡ d
 same-code o c d e h = cc
 
-after-at : (bytes : List ℕ) (pieces : List Piece) (n : ℕ) (c d : Code) → IsContent bytes pieces → slice_get (content_of bytes pieces) n ≡ Some c → slice_get (content_of bytes pieces) (suc n) ≡ Some d → nat_lt c.value 128 ≡ true → is_later_byte d ≡ false
+after-at : (bytes : List ℕ) (pieces : List Piece) (n : ℕ) (c d : Code) → IsContent bytes pieces →
+    slice_get (content_of bytes pieces) n ≡ Some c → slice_get (content_of bytes pieces) (suc n) ≡ Some d →
+    nat_lt c.value 128 ≡ true → is_later_byte d ≡ false
 after-at bytes pieces n c d content e f h =
     let r : Reached bytes pieces n = reached bytes pieces content n c e in
     let here : IsOpenStanding bytes pieces r.point n = open-standing bytes pieces (drop r.piece pieces) r.point n r.standing r.opens in
@@ -171,13 +190,16 @@ after-at bytes pieces n c d content e f h =
     let s : IsStanding bytes pieces (drop next.0 pieces) next.1 (suc n) = subst (λ m. IsStanding bytes pieces (drop next.0 pieces) next.1 m) (add-one n) (standing-next bytes pieces r.point n r.piece r.standing r.opens) in
     early-by next.0 next.1 (is_open (place_of next.1) (drop next.0 pieces)) s start refl
   where
-    early-by : (k : ℕ) (p : Point) (b : Bool) → IsStanding bytes pieces (drop k pieces) p (suc n) → IsCharBoundary bytes p.index → is_open (place_of p) (drop k pieces) ≡ b → is_later_byte d ≡ false
+    early-by : (k : ℕ) (p : Point) (b : Bool) → IsStanding bytes pieces (drop k pieces) p (suc n) →
+        IsCharBoundary bytes p.index → is_open (place_of p) (drop k pieces) ≡ b → is_later_byte d ≡ false
     early-by k p true s start o =
         let there : IsOpenStanding bytes pieces p (suc n) = open-standing bytes pieces (drop k pieces) p (suc n) s o in
         ap (λ (x : Code). is_later_byte x) (same-code _ _ _ f there.code) ∙ early-at bytes p there.in_bytes start
-    early-by k p false s start o = absurd (none-some _ d (closed-standing bytes pieces (drop k pieces) p (suc n) s o).0 f)
+    early-by k p false s start o =
+        absurd (none-some _ d (closed-standing bytes pieces (drop k pieces) p (suc n) s o).0 f)
 
-first-at : (bytes : List ℕ) (pieces : List Piece) (n : ℕ) (c : Code) → IsContent bytes pieces → slice_get (content_of bytes pieces) n ≡ Some c → is_later_byte c ≡ false → IsCharBoundary bytes c.start.index
+first-at : (bytes : List ℕ) (pieces : List Piece) (n : ℕ) (c : Code) → IsContent bytes pieces →
+    slice_get (content_of bytes pieces) n ≡ Some c → is_later_byte c ≡ false → IsCharBoundary bytes c.start.index
 first-at bytes pieces n c content e h =
     let r : Reached bytes pieces n = reached bytes pieces content n c e in
     let here : IsOpenStanding bytes pieces r.point n = open-standing bytes pieces (drop r.piece pieces) r.point n r.standing r.opens in
@@ -185,13 +207,15 @@ first-at bytes pieces n c content e h =
     subst (λ (x : Code). IsCharBoundary bytes x.start.index) same (begins-at bytes r.point here.in_bytes (ap (λ (x : Code). is_later_byte x) same ∙ h))
 
 -- where the next code goes on in the same piece
-follow-open : (bytes : List ℕ) (k : ℕ) (q : Point) (left : List Piece) → is_open (place_of q) left ≡ true → followed bytes k q left ≡ (k, q)
+follow-open : (bytes : List ℕ) (k : ℕ) (q : Point) (left : List Piece) → is_open (place_of q) left ≡ true →
+    followed bytes k q left ≡ (k, q)
 follow-open bytes k q [] o = refl
 follow-open bytes k q (piece ∷ []) o = refl
 follow-open bytes k q (piece ∷ next ∷ more) o = ap (λ b. if b then (k, q) else (k + 1, point_at bytes next.start)) o
 
 -- where a piece ends
-piece-ends : (bytes : List ℕ) (q : Point) (left : List Piece) (p : ℕ × ℕ) → Between bytes left → is_open p left ≡ true → is_open (place_of q) left ≡ false → IsCharBoundary bytes q.index
+piece-ends : (bytes : List ℕ) (q : Point) (left : List Piece) (p : ℕ × ℕ) → Between bytes left → is_open p left ≡ true →
+    is_open (place_of q) left ≡ false → IsCharBoundary bytes q.index
 unfolding Between
 piece-ends bytes q [] p h o e = absurd (never o)
   where
@@ -202,7 +226,9 @@ piece-ends bytes q (piece ∷ more) p h o e =
     subst (λ i. IsCharBoundary bytes i) (sym same) h.0.1
 
 -- a code ends between characters, unless a later byte follows
-ends-at : (bytes : List ℕ) (pieces : List Piece) (n : ℕ) (c : Code) → IsContent bytes pieces → slice_get (content_of bytes pieces) n ≡ Some c → at_later (value_of (slice_get (content_of bytes pieces) (suc n))) ≡ false → IsCharBoundary bytes c.stop.index
+ends-at : (bytes : List ℕ) (pieces : List Piece) (n : ℕ) (c : Code) → IsContent bytes pieces →
+    slice_get (content_of bytes pieces) n ≡ Some c →
+    at_later (value_of (slice_get (content_of bytes pieces) (suc n))) ≡ false → IsCharBoundary bytes c.stop.index
 ends-at bytes pieces n c content e h =
     let r : Reached bytes pieces n = reached bytes pieces content n c e in
     let here : IsOpenStanding bytes pieces r.point n = open-standing bytes pieces (drop r.piece pieces) r.point n r.standing r.opens in
@@ -213,7 +239,10 @@ ends-at bytes pieces n c content e h =
     let s : IsStanding bytes pieces (drop f.0 pieces) f.1 (suc n) = subst (λ m. IsStanding bytes pieces (drop f.0 pieces) f.1 m) (add-one n) (standing-next bytes pieces r.point n r.piece r.standing r.opens) in
     subst (λ (x : Code). IsCharBoundary bytes x.stop.index) same (by-open r.piece q (is_open (place_of q) left) (place_of r.point) s (between-drop bytes r.piece pieces (between-all bytes pieces content.between_characters)) r.opens refl)
   where
-    by-open : (k : ℕ) (q : Point) (b : Bool) (p : ℕ × ℕ) → (let f : ℕ × Point = followed bytes k q (drop k pieces) in IsStanding bytes pieces (drop f.0 pieces) f.1 (suc n)) → Between bytes (drop k pieces) → is_open p (drop k pieces) ≡ true → is_open (place_of q) (drop k pieces) ≡ b → IsCharBoundary bytes q.index
+    by-open : (k : ℕ) (q : Point) (b : Bool) (p : ℕ × ℕ) →
+        (let f : ℕ × Point = followed bytes k q (drop k pieces) in IsStanding bytes pieces (drop f.0 pieces) f.1 (suc n)) →
+        Between bytes (drop k pieces) → is_open p (drop k pieces) ≡ true → is_open (place_of q) (drop k pieces) ≡ b →
+        IsCharBoundary bytes q.index
     by-open k q true p s w o g =
         let f : ℕ × Point = followed bytes k q (drop k pieces) in
         let on : IsStanding bytes pieces (drop k pieces) q (suc n) = subst (λ (x : ℕ × Point). IsStanding bytes pieces (drop x.0 pieces) x.1 (suc n)) (follow-open bytes k q (drop k pieces) g) s in
@@ -222,7 +251,8 @@ ends-at bytes pieces n c content e h =
     by-open k q false p s w o g = piece-ends bytes q (drop k pieces) p w o g
 
 -- at each place of a content the text is read as characters
-pub content-text : (bytes : List ℕ) (pieces : List Piece) (n : ℕ) → IsContent bytes pieces → IsText bytes (content_place bytes pieces n)
+pub content-text : (bytes : List ℕ) (pieces : List Piece) (n : ℕ) → IsContent bytes pieces →
+    IsText bytes (content_place bytes pieces n)
 unfolding start_of_content
 content-text bytes pieces n content = record {
   text = content.is_text;
@@ -237,6 +267,7 @@ text-moved_by bytes [] p k = k
 text-moved_by bytes (c ∷ cs) p k = text-moved_by bytes cs (moved p) (text-moved bytes p k)
 
 -- and so it is past a tree
-pub text-past : (previous : Option ℕ) (tree : Forest) (s : TokenizeState) (T : Tokenizer) → ReadsText T → ReadsText (past previous tree (scratched s T))
+pub text-past : (previous : Option ℕ) (tree : Forest) (s : TokenizeState) (T : Tokenizer) → ReadsText T →
+    ReadsText (past previous tree (scratched s T))
 unfolding past scratched
 text-past previous tree s T k = text-moved_by _ (leaf_codes tree) T.cursor k

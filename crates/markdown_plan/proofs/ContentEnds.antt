@@ -18,9 +18,11 @@ follows-on bytes pieces [] k n p s o e = refl
 follows-on bytes pieces (piece ∷ []) k n p s o e = refl
 follows-on bytes pieces (piece ∷ next ∷ more) k n p s o e = by_open (is_open (place_of (stop_at bytes p)) (piece ∷ [])) refl
   where
-    by_open : (b : Bool) → is_open (place_of (stop_at bytes p)) (piece ∷ []) ≡ b → (let f : ℕ × Point = if b then (k, stop_at bytes p) else (k + 1, point_at bytes next.start) in f.1 ≡ stop_at bytes p)
+    by_open : (b : Bool) → is_open (place_of (stop_at bytes p)) (piece ∷ []) ≡ b →
+        (let f : ℕ × Point = if b then (k, stop_at bytes p) else (k + 1, point_at bytes next.start) in f.1 ≡ stop_at bytes p)
     by_open true h = refl
-    by_open false h = absurd (both_ways _ e (line-last bytes p piece next more (open-row bytes p piece (next ∷ more) s.is_point s.in_order s.within o) s.line h))
+    by_open false h =
+        absurd (both_ways _ e (line-last bytes p piece next more (open-row bytes p piece (next ∷ more) s.is_point s.in_order s.within o) s.line h))
 
 -- behind the last code, where that is no line ending, the content ends
 last-stop : (bytes : List ℕ) (pieces : List Piece) (n : ℕ) (c : Code) → IsContent bytes pieces → slice_get (content_of bytes pieces) n ≡ Some c → slice_get (content_of bytes pieces) (suc n) ≡ None → is_line_ending c ≡ false
@@ -35,7 +37,8 @@ last-stop bytes pieces n c content e last plain =
     ∙ follows-on bytes pieces (drop r.piece pieces) r.piece n r.point r.standing r.opens (ap (λ (x : Code). is_line_ending x) same ∙ plain)
     ∙ ap (λ (x : Code). x.stop) same
   where
-    at-end : (k : ℕ) (q : Point) → IsStanding bytes pieces (drop k pieces) q (suc n) → (b : Bool) → is_open (place_of q) (drop k pieces) ≡ b → q ≡ content_end bytes pieces
+    at-end : (k : ℕ) (q : Point) → IsStanding bytes pieces (drop k pieces) q (suc n) → (b : Bool) →
+        is_open (place_of q) (drop k pieces) ≡ b → q ≡ content_end bytes pieces
     at-end k q s true o = absurd (none-some _ _ last (open-standing bytes pieces (drop k pieces) q (suc n) s o).code)
     at-end k q s false o = (closed-standing bytes pieces (drop k pieces) q (suc n) s o).1
 
@@ -51,7 +54,9 @@ record HasLast (cs : List Code) : Type 0 where
 has-last : (c : Code) (cs : List Code) → HasLast (c ∷ cs)
 has-last c [] = record { number = 0; code = c; here = refl; after = refl; stop = λ p. refl; plain = λ filled h. by_test filled (is_line_ending c) refl h }
   where
-    by_test : (filled b : Bool) → is_line_ending c ≡ b → elim b as (λ _. Bool) [ true ↦ filled && false | false ↦ filled || not (is_blank c) ] ≡ true → is_line_ending c ≡ false
+    by_test : (filled b : Bool) → is_line_ending c ≡ b →
+        elim b as (λ _. Bool) [ true ↦ filled && false | false ↦ filled || not (is_blank c) ] ≡ true →
+        is_line_ending c ≡ false
     by_test true true e h = cc
     by_test false true e h = cc
     by_test filled false e h = e
@@ -59,16 +64,20 @@ has-last c (d ∷ ds) =
     let l : HasLast (d ∷ ds) = has-last d ds in
     record { number = suc l.number; code = l.code; here = l.here; after = l.after; stop = λ p. l.stop c.stop; plain = λ filled h. later l filled (is_line_ending c) h }
   where
-    later : (l : HasLast (d ∷ ds)) (filled b : Bool) → elim b as (λ _. Bool) [ true ↦ filled && has_no_blank_line false (d ∷ ds) | false ↦ has_no_blank_line (filled || not (is_blank c)) (d ∷ ds) ] ≡ true → is_line_ending l.code ≡ false
+    later : (l : HasLast (d ∷ ds)) (filled b : Bool) →
+        elim b as (λ _. Bool) [ true ↦ filled && has_no_blank_line false (d ∷ ds) | false ↦ has_no_blank_line (filled || not (is_blank c)) (d ∷ ds) ] ≡ true →
+        is_line_ending l.code ≡ false
     later l true true h = l.plain false h
     later l false true h = cc
     later l filled false h = l.plain (filled || not (is_blank c)) h
 
 -- a text content that has codes ends with the last of them
-pub content-ends : (bytes : List ℕ) (pieces : List Piece) → IsTextContent bytes pieces → content_of bytes pieces ≢ [] → content_end bytes pieces ≡ stop_of document_start (content_of bytes pieces)
+pub content-ends : (bytes : List ℕ) (pieces : List Piece) → IsTextContent bytes pieces → content_of bytes pieces ≢ [] →
+    content_end bytes pieces ≡ stop_of document_start (content_of bytes pieces)
 content-ends bytes pieces text some = by_codes (content_of bytes pieces) refl some text.is_filled
   where
-    by_codes : (cs : List Code) → content_of bytes pieces ≡ cs → cs ≢ [] → is_text_codes cs ≡ true → content_end bytes pieces ≡ stop_of document_start cs
+    by_codes : (cs : List Code) → content_of bytes pieces ≡ cs → cs ≢ [] → is_text_codes cs ≡ true →
+        content_end bytes pieces ≡ stop_of document_start cs
     by_codes [] e ne filled = absurd (ne refl)
     by_codes (c ∷ cs) e ne filled =
         let l : HasLast (c ∷ cs) = has-last c cs in

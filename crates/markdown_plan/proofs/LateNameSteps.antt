@@ -30,13 +30,15 @@ drop-front : {A : Type 0} (xs : List A) (x : A) → drop (length (xs ++ x ∷ []
 drop-front xs x = grind (arith, common_steps)
 
 last-named : (n : Name) (es : List Event) (e : Event) → last_named n (es ++ e ∷ []) ≡ es ++ named n e ∷ []
-last-named n es e = ap (λ xs. xs ++ map (named n) (drop (length (es ++ e ∷ []) - 1) (es ++ e ∷ []))) (take-front es e) ∙ ap (λ xs. es ++ map (named n) xs) (drop-front es e)
+last-named n es e =
+    ap (λ xs. xs ++ map (named n) (drop (length (es ++ e ∷ []) - 1) (es ++ e ∷ []))) (take-front es e) ∙ ap (λ xs. es ++ map (named n) xs) (drop-front es e)
 
 -- Right after the Enter.
 
 pub renamed-entered : (n m : Name) (T : Tokenizer) → renamed n (applied (Enter m) T) ≡ applied (Enter n) T
 unfolding renamed applied
-renamed-entered n m T = ap (λ es. record T { events = es; stack = n ∷ T.stack }) (last-named n T.events (enter_event m None T))
+renamed-entered n m T =
+    ap (λ es. record T { events = es; stack = n ∷ T.stack }) (last-named n T.events (enter_event m None T))
 
 pub unopened-entered : (m : Name) (T : Tokenizer) → unopened (applied (Enter m) T) ≡ T
 unfolding unopened applied
@@ -48,7 +50,8 @@ pub renamed-consumed : (n : Name) (T : Tokenizer) → renamed n (applied Consume
 unfolding renamed applied
 renamed-consumed n T = refl
 
-pub renamed-scratched : (n : Name) (s : TokenizeState) (T : Tokenizer) → renamed n (scratched s T) ≡ scratched s (renamed n T)
+pub renamed-scratched : (n : Name) (s : TokenizeState) (T : Tokenizer) →
+    renamed n (scratched s T) ≡ scratched s (renamed n T)
 unfolding renamed scratched
 renamed-scratched n s T = refl
 
@@ -64,13 +67,15 @@ ahead-entered : (m : Name) (T : Tokenizer) → ahead (applied (Enter m) T) ≡ a
 unfolding applied
 ahead-entered m T = refl
 
-scratched-over : (n : Name) (s r : TokenizeState) (T : Tokenizer) → scratched s (renamed n (scratched r (applied Consume T))) ≡ applied Consume (scratched s (renamed n T))
+scratched-over : (n : Name) (s r : TokenizeState) (T : Tokenizer) →
+    scratched s (renamed n (scratched r (applied Consume T))) ≡ applied Consume (scratched s (renamed n T))
 unfolding scratched renamed applied
 scratched-over n s r T = refl
 
 -- Growth from before the leaf.
 
-grown-over : (d : ℕ) (r : TokenizeState) (T U : Tokenizer) → Grown d (unopened (scratched r (applied Consume T))) U → Grown d (applied Consume (unopened T)) U
+grown-over : (d : ℕ) (r : TokenizeState) (T U : Tokenizer) → Grown d (unopened (scratched r (applied Consume T))) U →
+    Grown d (applied Consume (unopened T)) U
 unfolding scratched unopened applied unwound
 grown-over d r T U g = Grown-scratched d r (applied Consume (unopened T)) U g
 
@@ -104,7 +109,9 @@ Grown-unopened d s T =
 -- One step after another.
 
 -- past a code
-pub NamesAs-next : (d : ℕ) (p q : Naming) (s r : TokenizeState) (T : Tokenizer) → stays d (Consume ∷ []) ≡ true → p (ahead T) ≡ preceded_by (Consume ∷ []) (q (drop 1 (ahead T))) → (ok : Bool) (U : Tokenizer) → NamesAs d q s (scratched r (applied Consume T)) ok U → NamesAs d p s T ok U
+pub NamesAs-next : (d : ℕ) (p q : Naming) (s r : TokenizeState) (T : Tokenizer) → stays d (Consume ∷ []) ≡ true →
+    p (ahead T) ≡ preceded_by (Consume ∷ []) (q (drop 1 (ahead T))) → (ok : Bool) (U : Tokenizer) →
+    NamesAs d q s (scratched r (applied Consume T)) ok U → NamesAs d p s T ok U
 NamesAs-next d p q s r T st e true U k =
     record {
       name = k.name;
@@ -120,7 +127,9 @@ NamesAs-next d p q s r T st e false U k =
     }
 
 -- right after the Enter
-pub DoesAs-entered : (d : ℕ) (p : Plan) (q : Naming) (m : Name) (s : TokenizeState) (T : Tokenizer) → p (ahead T) ≡ opened (q (ahead T)) → (ok : Bool) (U : Tokenizer) → NamesAs d q s (applied (Enter m) T) ok U → DoesAs d p s T ok U
+pub DoesAs-entered : (d : ℕ) (p : Plan) (q : Naming) (m : Name) (s : TokenizeState) (T : Tokenizer) →
+    p (ahead T) ≡ opened (q (ahead T)) → (ok : Bool) (U : Tokenizer) → NamesAs d q s (applied (Enter m) T) ok U →
+    DoesAs d p s T ok U
 DoesAs-entered d p q m s T e true U k =
     record {
       ops = Enter k.name ∷ k.ops;
@@ -135,27 +144,33 @@ DoesAs-entered d p q m s T e false U k =
     }
 
 -- on with the name settled
-pub NamesAs-under : (d : ℕ) (p : Naming) (n : Name) (q : Plan) (s : TokenizeState) (T : Tokenizer) → p (ahead T) ≡ under n (q (ahead T)) → (ok : Bool) (U : Tokenizer) → DoesAs (suc d) q s (renamed n T) ok U → NamesAs d p s T ok U
+pub NamesAs-under : (d : ℕ) (p : Naming) (n : Name) (q : Plan) (s : TokenizeState) (T : Tokenizer) →
+    p (ahead T) ≡ under n (q (ahead T)) → (ok : Bool) (U : Tokenizer) → DoesAs (suc d) q s (renamed n T) ok U →
+    NamesAs d p s T ok U
 NamesAs-under d p n q s T e true U k =
     record { name = n; ops = k.ops; holds = e ∙ ap (under n) (ap q (sym (ahead-renamed n T)) ∙ k.holds); left = k.left }
 NamesAs-under d p n q s T e false U k =
     record { none = e ∙ ap (under n) (ap q (sym (ahead-renamed n T)) ∙ k.none); grown = Grown-renamed d n T U k.grown; scratch = k.scratch }
 
 -- at the same place
-pub NamesAs-same : (d : ℕ) (p q : Naming) (s : TokenizeState) (T : Tokenizer) → p (ahead T) ≡ q (ahead T) → (ok : Bool) (U : Tokenizer) → NamesAs d q s T ok U → NamesAs d p s T ok U
+pub NamesAs-same : (d : ℕ) (p q : Naming) (s : TokenizeState) (T : Tokenizer) → p (ahead T) ≡ q (ahead T) →
+    (ok : Bool) (U : Tokenizer) → NamesAs d q s T ok U → NamesAs d p s T ok U
 NamesAs-same d p q s T e true U k = record { name = k.name; ops = k.ops; holds = e ∙ k.holds; left = k.left }
 NamesAs-same d p q s T e false U k = record { none = e ∙ k.none; grown = k.grown; scratch = k.scratch }
 
 -- The steps of a state to Ok and to Nok.
 module _ (ready : StateName → Tokenizer → Type 0) (ends : StateName → Tokenizer → Bool → Tokenizer → Type 0) (weight : StateName → Tokenizer → ℕ) where
   -- the leaf and the construct end
-  pub Goes-named : (k d : ℕ) (p : Naming) (n : Name) (os : List Op) (s : TokenizeState) (T : Tokenizer) → T.attempts ≡ [] → p (ahead T) ≡ Some (n, os) → GoesOn ready ends weight (weight_at k T) (NamesAs d p s T) (stepped State.Ok (scratched s (done os (renamed n T))))
+  pub Goes-named : (k d : ℕ) (p : Naming) (n : Name) (os : List Op) (s : TokenizeState) (T : Tokenizer) →
+      T.attempts ≡ [] → p (ahead T) ≡ Some (n, os) →
+      GoesOn ready ends weight (weight_at k T) (NamesAs d p s T) (stepped State.Ok (scratched s (done os (renamed n T))))
   Goes-named k d p n os s T alone e =
       Goes-plain ready ends weight (weight_at k T) (NamesAs d p s T) State.Ok (scratched s (done os (renamed n T))) (attempts-scratched s (done os (renamed n T)) ∙ attempts-done os (renamed n T) ∙ attempts-renamed n T ∙ alone) tt (omega arith)
       (λ ok U x. subst (λ b. NamesAs d p s T b U) (sym x.0) (record { name = n; ops = os; holds = e; left = x.1 ∙ sym (done-scratched os s (renamed n T)) }))
 
   -- the construct does not hold
-  pub Goes-refused : (k d : ℕ) (p : Naming) (s : TokenizeState) (T : Tokenizer) → T.attempts ≡ [] → p (ahead T) ≡ None → GoesOn ready ends weight (weight_at k T) (NamesAs d p s T) (stepped State.Nok (scratched s T))
+  pub Goes-refused : (k d : ℕ) (p : Naming) (s : TokenizeState) (T : Tokenizer) → T.attempts ≡ [] → p (ahead T) ≡ None →
+      GoesOn ready ends weight (weight_at k T) (NamesAs d p s T) (stepped State.Nok (scratched s T))
   Goes-refused k d p s T alone e =
       Goes-plain ready ends weight (weight_at k T) (NamesAs d p s T) State.Nok (scratched s T) (attempts-scratched s T ∙ alone) tt (omega arith)
       (λ ok U x. subst (λ b. NamesAs d p s T b U) (sym x.0) (record { none = e; grown = subst (λ (V : Tokenizer). Grown d (unopened T) V) (sym x.1) (Grown-unopened d s T); scratch = scratch-same s T U x.1 }))

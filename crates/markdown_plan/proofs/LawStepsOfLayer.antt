@@ -29,131 +29,199 @@ FollowsIn W n E st U = LawSteps.Follows W.ready W.ends (weight_in W) n E st U
 module _ (W : Words) where
   -- What the layer says of a state, by its words.
 
-  pub said-ready : (st : State) (w : StateWords) → words_at W st ≡ w → (T : Tokenizer) → w.ready T → ready_state W.ready st T
+  pub said-ready : (st : State) (w : StateWords) → words_at W st ≡ w → (T : Tokenizer) → w.ready T →
+      ready_state W.ready st T
   said-ready (Next s) w e T k = subst (λ (x : StateWords). x.ready T) (sym e) k
   said-ready (Retry s) w e T k = subst (λ (x : StateWords). x.ready T) (sym e) k
   said-ready Ok w e T k = tt
   said-ready Nok w e T k = tt
 
-  pub said-ends : (st : State) (w : StateWords) → words_at W st ≡ w → (T : Tokenizer) (ok : Bool) (U : Tokenizer) → ends_state W.ends st T ok U → w.ends T ok U
+  pub said-ends : (st : State) (w : StateWords) → words_at W st ≡ w → (T : Tokenizer) (ok : Bool) (U : Tokenizer) →
+      ends_state W.ends st T ok U → w.ends T ok U
   said-ends (Next s) w e T ok U k = subst (λ (x : StateWords). x.ends T ok U) e k
   said-ends (Retry s) w e T ok U k = subst (λ (x : StateWords). x.ends T ok U) e k
   said-ends Ok w e T ok U k = subst (λ (x : StateWords). x.ends T ok U) e k
   said-ends Nok w e T ok U k = subst (λ (x : StateWords). x.ends T ok U) e k
 
-  pub said-weight : (st : State) (w : StateWords) → words_at W st ≡ w → (T : Tokenizer) → weight_state (weight_in W) st T ≤ weight_at w.rank T
-  said-weight (Next s) w e T = let same : (words_in W s).rank ≡ w.rank = ap (λ (x : StateWords). x.rank) e in omega (arith, same)
-  said-weight (Retry s) w e T = let same : (words_in W s).rank ≡ w.rank = ap (λ (x : StateWords). x.rank) e in omega (arith, same)
+  pub said-weight : (st : State) (w : StateWords) → words_at W st ≡ w → (T : Tokenizer) →
+      weight_state (weight_in W) st T ≤ weight_at w.rank T
+  said-weight (Next s) w e T =
+      let same : (words_in W s).rank ≡ w.rank = ap (λ (x : StateWords). x.rank) e in omega (arith, same)
+  said-weight (Retry s) w e T =
+      let same : (words_in W s).rank ≡ w.rank = ap (λ (x : StateWords). x.rank) e in omega (arith, same)
   said-weight Ok w e T = omega arith
   said-weight Nok w e T = omega arith
 
   -- Any step.
 
-  pub GoesOn-map : (n : ℕ) (E F : Bool → Tokenizer → Type 0) (r : Stepped) → ((ok : Bool) (U : Tokenizer) → E ok U → F ok U) → GoesIn W n E r → GoesIn W n F r
+  pub GoesOn-map : (n : ℕ) (E F : Bool → Tokenizer → Type 0) (r : Stepped) →
+      ((ok : Bool) (U : Tokenizer) → E ok U → F ok U) → GoesIn W n E r → GoesIn W n F r
   GoesOn-map = PlanSteps.GoesOn-map W.ready W.ends (weight_in W)
 
   -- a step that opens no attempt
-  pub Goes-plain : (n : ℕ) (E : Bool → Tokenizer → Type 0) (st : State) {w : StateWords} → words_at W st ≡ w → (T : Tokenizer) → T.attempts ≡ [] → w.ready T → weight_at w.rank T < n → ((ok : Bool) (U : Tokenizer) → w.ends T ok U → E ok U) → GoesIn W n E (stepped st T)
+  pub Goes-plain : (n : ℕ) (E : Bool → Tokenizer → Type 0) (st : State) {w : StateWords} → words_at W st ≡ w →
+      (T : Tokenizer) → T.attempts ≡ [] → w.ready T → weight_at w.rank T < n →
+      ((ok : Bool) (U : Tokenizer) → w.ends T ok U → E ok U) → GoesIn W n E (stepped st T)
   Goes-plain n E st {w} e T alone on falls closed =
       LawSteps.Goes-plain W.ready W.ends (weight_in W) n E st T alone (said-ready st w e T on) (omega (arith, falls, said-weight st w e T)) (λ ok U x. closed ok U (said-ends st w e T ok U x))
 
   -- a step that ends a run
-  pub Goes-end : (n : ℕ) (E : Bool → Tokenizer → Type 0) (ok : Bool) (T : Tokenizer) → T.attempts ≡ [] → 0 < n → ((b : Bool) (U : Tokenizer) → (b ≡ ok) × (U ≡ T) → E b U) → GoesIn W n E (stepped (if ok then Ok else Nok) T)
+  pub Goes-end : (n : ℕ) (E : Bool → Tokenizer → Type 0) (ok : Bool) (T : Tokenizer) → T.attempts ≡ [] → 0 < n →
+      ((b : Bool) (U : Tokenizer) → (b ≡ ok) × (U ≡ T) → E b U) → GoesIn W n E (stepped (if ok then Ok else Nok) T)
   Goes-end n E true T alone high closed = LawSteps.Goes-plain W.ready W.ends (weight_in W) n E Ok T alone tt high closed
-  Goes-end n E false T alone high closed = LawSteps.Goes-plain W.ready W.ends (weight_in W) n E Nok T alone tt high closed
+  Goes-end n E false T alone high closed =
+      LawSteps.Goes-plain W.ready W.ends (weight_in W) n E Nok T alone tt high closed
 
   -- after operations
-  pub Goes-ops : (n : ℕ) (E : Bool → Tokenizer → Type 0) (st : State) {w : StateWords} → words_at W st ≡ w → (os : List Op) (T : Tokenizer) → T.attempts ≡ [] → w.ready (done os T) → weight_at w.rank (done os T) < n → ((ok : Bool) (U : Tokenizer) → w.ends (done os T) ok U → E ok U) → GoesIn W n E (stepped st (done os T))
-  Goes-ops n E st {w} e os T alone on falls closed = Goes-plain n E st {w = w} e (done os T) (attempts-done os T ∙ alone) on falls closed
+  pub Goes-ops : (n : ℕ) (E : Bool → Tokenizer → Type 0) (st : State) {w : StateWords} → words_at W st ≡ w →
+      (os : List Op) (T : Tokenizer) → T.attempts ≡ [] → w.ready (done os T) → weight_at w.rank (done os T) < n →
+      ((ok : Bool) (U : Tokenizer) → w.ends (done os T) ok U → E ok U) → GoesIn W n E (stepped st (done os T))
+  Goes-ops n E st {w} e os T alone on falls closed =
+      Goes-plain n E st {w = w} e (done os T) (attempts-done os T ∙ alone) on falls closed
 
   -- after an attempt the run goes on with this state
-  pub follows : (n : ℕ) (E : Bool → Tokenizer → Type 0) (st : State) {w : StateWords} → words_at W st ≡ w → (U : Tokenizer) → w.ready U → weight_at w.rank U < n → ((ok : Bool) (V : Tokenizer) → w.ends U ok V → E ok V) → FollowsIn W n E st U
+  pub follows : (n : ℕ) (E : Bool → Tokenizer → Type 0) (st : State) {w : StateWords} → words_at W st ≡ w →
+      (U : Tokenizer) → w.ready U → weight_at w.rank U < n → ((ok : Bool) (V : Tokenizer) → w.ends U ok V → E ok V) →
+      FollowsIn W n E st U
   follows n E st {w} e U on falls closed =
       record { goes_on = said-ready st w e U on; falls = omega (arith, falls, said-weight st w e U); closed = λ ok V x. closed ok V (said-ends st w e U ok V x) }
 
   -- a step that opens one attempt
-  pub Goes-attempt : (n : ℕ) (E : Bool → Tokenizer → Type 0) (st : State) {w : StateWords} → words_at W st ≡ w → (ok nok : State) (T : Tokenizer) → T.attempts ≡ [] → w.ready T → weight_at w.rank T < n → ((U : Tokenizer) → U.attempts ≡ [] → w.ends T true U → FollowsIn W n E ok U) → ((U : Tokenizer) → U.attempts ≡ [] → w.ends T false U → FollowsIn W n E nok (restored (frame_of false ok nok T) U)) → GoesIn W n E (stepped st (attempted false ok nok T))
+  pub Goes-attempt : (n : ℕ) (E : Bool → Tokenizer → Type 0) (st : State) {w : StateWords} → words_at W st ≡ w →
+      (ok nok : State) (T : Tokenizer) → T.attempts ≡ [] → w.ready T → weight_at w.rank T < n →
+      ((U : Tokenizer) → U.attempts ≡ [] → w.ends T true U → FollowsIn W n E ok U) →
+      ((U : Tokenizer) → U.attempts ≡ [] → w.ends T false U → FollowsIn W n E nok (restored (frame_of false ok nok T) U)) →
+      GoesIn W n E (stepped st (attempted false ok nok T))
   Goes-attempt n E st {w} e ok nok T alone on falls if_ok if_nok =
       LawSteps.Goes-attempt W.ready W.ends (weight_in W) n E st ok nok T alone (said-ready st w e T on) (omega (arith, falls, said-weight st w e T)) (λ U now x. if_ok U now (said-ends st w e T true U x)) (λ U now x. if_nok U now (said-ends st w e T false U x))
 
   -- a step that opens one check: an Ok restores too
-  pub Goes-check : (n : ℕ) (E : Bool → Tokenizer → Type 0) (st : State) {w : StateWords} → words_at W st ≡ w → (ok nok : State) (T : Tokenizer) → T.attempts ≡ [] → w.ready T → weight_at w.rank T < n → ((U : Tokenizer) → U.attempts ≡ [] → w.ends T true U → FollowsIn W n E ok (restored (frame_of true ok nok T) U)) → ((U : Tokenizer) → U.attempts ≡ [] → w.ends T false U → FollowsIn W n E nok (restored (frame_of true ok nok T) U)) → GoesIn W n E (stepped st (attempted true ok nok T))
+  pub Goes-check : (n : ℕ) (E : Bool → Tokenizer → Type 0) (st : State) {w : StateWords} → words_at W st ≡ w →
+      (ok nok : State) (T : Tokenizer) → T.attempts ≡ [] → w.ready T → weight_at w.rank T < n →
+      ((U : Tokenizer) → U.attempts ≡ [] → w.ends T true U → FollowsIn W n E ok (restored (frame_of true ok nok T) U)) →
+      ((U : Tokenizer) → U.attempts ≡ [] → w.ends T false U → FollowsIn W n E nok (restored (frame_of true ok nok T) U)) →
+      GoesIn W n E (stepped st (attempted true ok nok T))
   Goes-check n E st {w} e ok nok T alone on falls if_ok if_nok =
       LawSteps.Goes-check W.ready W.ends (weight_in W) n E st ok nok T alone (said-ready st w e T on) (omega (arith, falls, said-weight st w e T)) (λ U now x. if_ok U now (said-ends st w e T true U x)) (λ U now x. if_nok U now (said-ends st w e T false U x))
 
   -- By plans.
 
   -- on with a state after operations, on a tokenizer that has as many codes left, with these scratch fields
-  pub Goes-to : (k : ℕ) (E : Bool → Tokenizer → Type 0) (os : List Op) (r : TokenizeState) (X T : Tokenizer) (st : State) {w : StateWords} → words_at W st ≡ w → X.attempts ≡ [] → codes_left X ≡ codes_left T → moves os ≤ length (ahead X) → w.rank < 256 * moves os + k → w.ready (scratched r (done os X)) → ((ok : Bool) (U : Tokenizer) → w.ends (scratched r (done os X)) ok U → E ok U) → GoesIn W (weight_at k T) E (stepped st (scratched r (done os X)))
+  pub Goes-to : (k : ℕ) (E : Bool → Tokenizer → Type 0) (os : List Op) (r : TokenizeState) (X T : Tokenizer) (st : State) {w : StateWords} →
+      words_at W st ≡ w → X.attempts ≡ [] → codes_left X ≡ codes_left T → moves os ≤ length (ahead X) →
+      w.rank < 256 * moves os + k → w.ready (scratched r (done os X)) →
+      ((ok : Bool) (U : Tokenizer) → w.ends (scratched r (done os X)) ok U → E ok U) →
+      GoesIn W (weight_at k T) E (stepped st (scratched r (done os X)))
   Goes-to k E os r X T st {w} e alone same within less on closed =
       Goes-plain (weight_at k T) E st {w = w} e (scratched r (done os X)) (attempts-scratched r (done os X) ∙ attempts-done os X ∙ alone) on (omega (arith, less, left-done os X within, left-scratched r (done os X), same)) closed
 
   -- on with a state, with these scratch fields
-  pub Goes-on : (k d : ℕ) (p q : Plan) (os : List Op) (s r : TokenizeState) (T : Tokenizer) (st : State) {w : StateWords} → words_at W st ≡ w → T.attempts ≡ [] → stays d os ≡ true → moves os ≤ length (ahead T) → w.rank < 256 * moves os + k → p (ahead T) ≡ preceded os (q (drop (moves os) (ahead T))) → w.ready (scratched r (done os T)) → ((ok : Bool) (U : Tokenizer) → w.ends (scratched r (done os T)) ok U → DoesAs (depth_after d os) q s (scratched r (done os T)) ok U) → GoesIn W (weight_at k T) (DoesAs d p s T) (stepped st (scratched r (done os T)))
+  pub Goes-on : (k d : ℕ) (p q : Plan) (os : List Op) (s r : TokenizeState) (T : Tokenizer) (st : State) {w : StateWords} →
+      words_at W st ≡ w → T.attempts ≡ [] → stays d os ≡ true → moves os ≤ length (ahead T) →
+      w.rank < 256 * moves os + k → p (ahead T) ≡ preceded os (q (drop (moves os) (ahead T))) →
+      w.ready (scratched r (done os T)) →
+      ((ok : Bool) (U : Tokenizer) → w.ends (scratched r (done os T)) ok U → DoesAs (depth_after d os) q s (scratched r (done os T)) ok U) →
+      GoesIn W (weight_at k T) (DoesAs d p s T) (stepped st (scratched r (done os T)))
   Goes-on k d p q os s r T st {w} say alone stay within less e on closed =
       Goes-to k (DoesAs d p s T) os r T T st {w = w} say alone refl within less on (λ ok U x. DoesAs-then d p q os s r T stay e ok U (closed ok U x))
 
   -- on with a state, the scratch fields left alone
-  pub Goes-kept : (k d : ℕ) (p q : Plan) (os : List Op) (s : TokenizeState) (T : Tokenizer) (st : State) {w : StateWords} → words_at W st ≡ w → T.attempts ≡ [] → stays d os ≡ true → moves os ≤ length (ahead T) → w.rank < 256 * moves os + k → p (ahead T) ≡ preceded os (q (drop (moves os) (ahead T))) → w.ready (done os T) → ((ok : Bool) (U : Tokenizer) → w.ends (done os T) ok U → DoesAs (depth_after d os) q s (done os T) ok U) → GoesIn W (weight_at k T) (DoesAs d p s T) (stepped st (done os T))
+  pub Goes-kept : (k d : ℕ) (p q : Plan) (os : List Op) (s : TokenizeState) (T : Tokenizer) (st : State) {w : StateWords} →
+      words_at W st ≡ w → T.attempts ≡ [] → stays d os ≡ true → moves os ≤ length (ahead T) →
+      w.rank < 256 * moves os + k → p (ahead T) ≡ preceded os (q (drop (moves os) (ahead T))) → w.ready (done os T) →
+      ((ok : Bool) (U : Tokenizer) → w.ends (done os T) ok U → DoesAs (depth_after d os) q s (done os T) ok U) →
+      GoesIn W (weight_at k T) (DoesAs d p s T) (stepped st (done os T))
   Goes-kept k d p q os s T st {w} say alone stay within less e =
       subst (λ (V : Tokenizer). w.ready V → ((ok : Bool) (U : Tokenizer) → w.ends V ok U → DoesAs (depth_after d os) q s V ok U) → GoesIn W (weight_at k T) (DoesAs d p s T) (stepped st V)) (kept os T) (Goes-on k d p q os s T.tokenize_state T st {w = w} say alone stay within less e)
 
   -- the same, where all states leave them alone
-  pub Goes-next : (k d : ℕ) (p q : Plan) (os : List Op) (T : Tokenizer) (st : State) {w : StateWords} → words_at W st ≡ w → T.attempts ≡ [] → stays d os ≡ true → moves os ≤ length (ahead T) → w.rank < 256 * moves os + k → p (ahead T) ≡ preceded os (q (drop (moves os) (ahead T))) → w.ready (done os T) → ((ok : Bool) (U : Tokenizer) → w.ends (done os T) ok U → KeepsAs (depth_after d os) q (done os T) ok U) → GoesIn W (weight_at k T) (KeepsAs d p T) (stepped st (done os T))
+  pub Goes-next : (k d : ℕ) (p q : Plan) (os : List Op) (T : Tokenizer) (st : State) {w : StateWords} →
+      words_at W st ≡ w → T.attempts ≡ [] → stays d os ≡ true → moves os ≤ length (ahead T) →
+      w.rank < 256 * moves os + k → p (ahead T) ≡ preceded os (q (drop (moves os) (ahead T))) → w.ready (done os T) →
+      ((ok : Bool) (U : Tokenizer) → w.ends (done os T) ok U → KeepsAs (depth_after d os) q (done os T) ok U) →
+      GoesIn W (weight_at k T) (KeepsAs d p T) (stepped st (done os T))
   Goes-next k d p q os T st {w} say alone stay within less e on closed =
       Goes-kept k d p q os T.tokenize_state T st {w = w} say alone stay within less e on (λ ok U x. subst (λ (s : TokenizeState). DoesAs (depth_after d os) q s (done os T) ok U) (scratch-done os T) (closed ok U x))
 
   -- all is done
-  pub Goes-ok : (k d : ℕ) (p : Plan) (os : List Op) (s : TokenizeState) (T : Tokenizer) → T.attempts ≡ [] → p (ahead T) ≡ Some os → GoesIn W (weight_at k T) (DoesAs d p s T) (stepped Ok (scratched s (done os T)))
+  pub Goes-ok : (k d : ℕ) (p : Plan) (os : List Op) (s : TokenizeState) (T : Tokenizer) → T.attempts ≡ [] →
+      p (ahead T) ≡ Some os → GoesIn W (weight_at k T) (DoesAs d p s T) (stepped Ok (scratched s (done os T)))
   Goes-ok = PlanSteps.Goes-ok W.ready W.ends (weight_in W)
 
-  pub Goes-yes : (k d : ℕ) (p : Plan) (os : List Op) (T : Tokenizer) → T.attempts ≡ [] → p (ahead T) ≡ Some os → GoesIn W (weight_at k T) (KeepsAs d p T) (stepped Ok (done os T))
+  pub Goes-yes : (k d : ℕ) (p : Plan) (os : List Op) (T : Tokenizer) → T.attempts ≡ [] → p (ahead T) ≡ Some os →
+      GoesIn W (weight_at k T) (KeepsAs d p T) (stepped Ok (done os T))
   Goes-yes = PlanSteps.Goes-yes W.ready W.ends (weight_in W)
 
   -- it does not hold
-  pub Goes-nok : (k d : ℕ) (p : Plan) (s : TokenizeState) (T : Tokenizer) → T.attempts ≡ [] → p (ahead T) ≡ None → GoesIn W (weight_at k T) (DoesAs d p s T) (stepped Nok (scratched s T))
+  pub Goes-nok : (k d : ℕ) (p : Plan) (s : TokenizeState) (T : Tokenizer) → T.attempts ≡ [] → p (ahead T) ≡ None →
+      GoesIn W (weight_at k T) (DoesAs d p s T) (stepped Nok (scratched s T))
   Goes-nok = PlanSteps.Goes-nok W.ready W.ends (weight_in W)
 
-  pub Goes-no : (k d : ℕ) (p : Plan) (T : Tokenizer) → T.attempts ≡ [] → p (ahead T) ≡ None → GoesIn W (weight_at k T) (KeepsAs d p T) (stepped Nok T)
+  pub Goes-no : (k d : ℕ) (p : Plan) (T : Tokenizer) → T.attempts ≡ [] → p (ahead T) ≡ None →
+      GoesIn W (weight_at k T) (KeepsAs d p T) (stepped Nok T)
   Goes-no = PlanSteps.Goes-no W.ready W.ends (weight_in W)
 
   -- In a leaf whose name is settled at its end.
 
   -- on with a state past the Enter of a leaf and its first code
-  pub Goes-entered : (k d : ℕ) (p : Plan) (q : Naming) (m : Name) (s r : TokenizeState) (T : Tokenizer) (st : State) {w : StateWords} → words_at W st ≡ w → T.attempts ≡ [] → stays d (Consume ∷ []) ≡ true → 1 ≤ length (ahead T) → w.rank < 256 + k → p (ahead T) ≡ opened (preceded_by (Consume ∷ []) (q (drop 1 (ahead T)))) → w.ready (scratched r (done (Enter m ∷ Consume ∷ []) T)) → ((ok : Bool) (U : Tokenizer) → w.ends (scratched r (done (Enter m ∷ Consume ∷ []) T)) ok U → NamesAs d q s (scratched r (done (Enter m ∷ Consume ∷ []) T)) ok U) → GoesIn W (weight_at k T) (DoesAs d p s T) (stepped st (scratched r (done (Enter m ∷ Consume ∷ []) T)))
+  pub Goes-entered : (k d : ℕ) (p : Plan) (q : Naming) (m : Name) (s r : TokenizeState) (T : Tokenizer) (st : State) {w : StateWords} →
+      words_at W st ≡ w → T.attempts ≡ [] → stays d (Consume ∷ []) ≡ true → 1 ≤ length (ahead T) → w.rank < 256 + k →
+      p (ahead T) ≡ opened (preceded_by (Consume ∷ []) (q (drop 1 (ahead T)))) →
+      w.ready (scratched r (done (Enter m ∷ Consume ∷ []) T)) →
+      ((ok : Bool) (U : Tokenizer) → w.ends (scratched r (done (Enter m ∷ Consume ∷ []) T)) ok U → NamesAs d q s (scratched r (done (Enter m ∷ Consume ∷ []) T)) ok U) →
+      GoesIn W (weight_at k T) (DoesAs d p s T) (stepped st (scratched r (done (Enter m ∷ Consume ∷ []) T)))
   Goes-entered k d p q m s r T st {w} say alone st_ok within less e on closed =
       let one : Naming = λ cs. preceded_by (Consume ∷ []) (q (drop 1 cs)) in
       Goes-to k (DoesAs d p s T) (Enter m ∷ Consume ∷ []) r T T st {w = w} say alone refl within (omega (arith, less)) on
       (λ ok U x. DoesAs-entered d p one m s T e ok U (NamesAs-next d one q s r (applied (Enter m) T) st_ok refl ok U (closed ok U x)))
 
   -- past a code of the leaf
-  pub Goes-inside : (k d : ℕ) (p q : Naming) (s r : TokenizeState) (T : Tokenizer) (st : State) {w : StateWords} → words_at W st ≡ w → T.attempts ≡ [] → stays d (Consume ∷ []) ≡ true → 1 ≤ length (ahead T) → w.rank < 256 + k → p (ahead T) ≡ preceded_by (Consume ∷ []) (q (drop 1 (ahead T))) → w.ready (scratched r (done (Consume ∷ []) T)) → ((ok : Bool) (U : Tokenizer) → w.ends (scratched r (done (Consume ∷ []) T)) ok U → NamesAs d q s (scratched r (done (Consume ∷ []) T)) ok U) → GoesIn W (weight_at k T) (NamesAs d p s T) (stepped st (scratched r (done (Consume ∷ []) T)))
+  pub Goes-inside : (k d : ℕ) (p q : Naming) (s r : TokenizeState) (T : Tokenizer) (st : State) {w : StateWords} →
+      words_at W st ≡ w → T.attempts ≡ [] → stays d (Consume ∷ []) ≡ true → 1 ≤ length (ahead T) → w.rank < 256 + k →
+      p (ahead T) ≡ preceded_by (Consume ∷ []) (q (drop 1 (ahead T))) → w.ready (scratched r (done (Consume ∷ []) T)) →
+      ((ok : Bool) (U : Tokenizer) → w.ends (scratched r (done (Consume ∷ []) T)) ok U → NamesAs d q s (scratched r (done (Consume ∷ []) T)) ok U) →
+      GoesIn W (weight_at k T) (NamesAs d p s T) (stepped st (scratched r (done (Consume ∷ []) T)))
   Goes-inside k d p q s r T st {w} say alone st_ok within less e on closed =
       Goes-to k (NamesAs d p s T) (Consume ∷ []) r T T st {w = w} say alone refl within (omega (arith, less)) on (λ ok U x. NamesAs-next d p q s r T st_ok e ok U (closed ok U x))
 
   -- the same, the scratch fields left alone
-  pub Goes-inside-kept : (k d : ℕ) (p q : Naming) (s : TokenizeState) (T : Tokenizer) (st : State) {w : StateWords} → words_at W st ≡ w → T.attempts ≡ [] → stays d (Consume ∷ []) ≡ true → 1 ≤ length (ahead T) → w.rank < 256 + k → p (ahead T) ≡ preceded_by (Consume ∷ []) (q (drop 1 (ahead T))) → w.ready (done (Consume ∷ []) T) → ((ok : Bool) (U : Tokenizer) → w.ends (done (Consume ∷ []) T) ok U → NamesAs d q s (done (Consume ∷ []) T) ok U) → GoesIn W (weight_at k T) (NamesAs d p s T) (stepped st (done (Consume ∷ []) T))
+  pub Goes-inside-kept : (k d : ℕ) (p q : Naming) (s : TokenizeState) (T : Tokenizer) (st : State) {w : StateWords} →
+      words_at W st ≡ w → T.attempts ≡ [] → stays d (Consume ∷ []) ≡ true → 1 ≤ length (ahead T) → w.rank < 256 + k →
+      p (ahead T) ≡ preceded_by (Consume ∷ []) (q (drop 1 (ahead T))) → w.ready (done (Consume ∷ []) T) →
+      ((ok : Bool) (U : Tokenizer) → w.ends (done (Consume ∷ []) T) ok U → NamesAs d q s (done (Consume ∷ []) T) ok U) →
+      GoesIn W (weight_at k T) (NamesAs d p s T) (stepped st (done (Consume ∷ []) T))
   Goes-inside-kept k d p q s T st {w} say alone st_ok within less e =
       subst (λ (V : Tokenizer). w.ready V → ((ok : Bool) (U : Tokenizer) → w.ends V ok U → NamesAs d q s V ok U) → GoesIn W (weight_at k T) (NamesAs d p s T) (stepped st V)) (kept (Consume ∷ []) T) (Goes-inside k d p q s T.tokenize_state T st {w = w} say alone st_ok within less e)
 
   -- on with a state at the same place
-  pub Goes-over : (k d : ℕ) (p q : Naming) (s : TokenizeState) (T : Tokenizer) (st : State) {w : StateWords} → words_at W st ≡ w → T.attempts ≡ [] → w.rank < k → p (ahead T) ≡ q (ahead T) → w.ready T → ((ok : Bool) (U : Tokenizer) → w.ends T ok U → NamesAs d q s T ok U) → GoesIn W (weight_at k T) (NamesAs d p s T) (stepped st T)
+  pub Goes-over : (k d : ℕ) (p q : Naming) (s : TokenizeState) (T : Tokenizer) (st : State) {w : StateWords} →
+      words_at W st ≡ w → T.attempts ≡ [] → w.rank < k → p (ahead T) ≡ q (ahead T) → w.ready T →
+      ((ok : Bool) (U : Tokenizer) → w.ends T ok U → NamesAs d q s T ok U) →
+      GoesIn W (weight_at k T) (NamesAs d p s T) (stepped st T)
   Goes-over k d p q s T st {w} say alone less e on closed =
       Goes-plain (weight_at k T) (NamesAs d p s T) st {w = w} say T alone on (omega (arith, less)) (λ ok U x. NamesAs-same d p q s T e ok U (closed ok U x))
 
   -- on with a state after the leaf, under this name
-  pub Goes-settled : (k d : ℕ) (p : Naming) (n : Name) (q : Plan) (os : List Op) (s r : TokenizeState) (T : Tokenizer) (st : State) {w : StateWords} → words_at W st ≡ w → T.attempts ≡ [] → stays (suc d) os ≡ true → moves os ≤ length (ahead T) → w.rank < 256 * moves os + k → p (ahead T) ≡ under n (preceded os (q (drop (moves os) (ahead T)))) → w.ready (scratched r (done os (renamed n T))) → ((ok : Bool) (U : Tokenizer) → w.ends (scratched r (done os (renamed n T))) ok U → DoesAs (depth_after (suc d) os) q s (scratched r (done os (renamed n T))) ok U) → GoesIn W (weight_at k T) (NamesAs d p s T) (stepped st (scratched r (done os (renamed n T))))
+  pub Goes-settled : (k d : ℕ) (p : Naming) (n : Name) (q : Plan) (os : List Op) (s r : TokenizeState) (T : Tokenizer) (st : State) {w : StateWords} →
+      words_at W st ≡ w → T.attempts ≡ [] → stays (suc d) os ≡ true → moves os ≤ length (ahead T) →
+      w.rank < 256 * moves os + k → p (ahead T) ≡ under n (preceded os (q (drop (moves os) (ahead T)))) →
+      w.ready (scratched r (done os (renamed n T))) →
+      ((ok : Bool) (U : Tokenizer) → w.ends (scratched r (done os (renamed n T))) ok U → DoesAs (depth_after (suc d) os) q s (scratched r (done os (renamed n T))) ok U) →
+      GoesIn W (weight_at k T) (NamesAs d p s T) (stepped st (scratched r (done os (renamed n T))))
   Goes-settled k d p n q os s r T st {w} say alone st_ok within less e on closed =
       let both : Plan = λ cs. preceded os (q (drop (moves os) cs)) in
       Goes-to k (NamesAs d p s T) os r (renamed n T) T st {w = w} say (attempts-renamed n T ∙ alone) (left-renamed n T) (subst (λ (cs : List Code). moves os ≤ length cs) (sym (ahead-renamed n T)) within) less on
       (λ ok U x. NamesAs-under d p n both s T e ok U (DoesAs-then (suc d) both q os s r (renamed n T) st_ok refl ok U (closed ok U x)))
 
   -- the leaf and the construct end
-  pub Goes-named : (k d : ℕ) (p : Naming) (n : Name) (os : List Op) (s : TokenizeState) (T : Tokenizer) → T.attempts ≡ [] → p (ahead T) ≡ Some (n, os) → GoesIn W (weight_at k T) (NamesAs d p s T) (stepped Ok (scratched s (done os (renamed n T))))
+  pub Goes-named : (k d : ℕ) (p : Naming) (n : Name) (os : List Op) (s : TokenizeState) (T : Tokenizer) →
+      T.attempts ≡ [] → p (ahead T) ≡ Some (n, os) →
+      GoesIn W (weight_at k T) (NamesAs d p s T) (stepped Ok (scratched s (done os (renamed n T))))
   Goes-named = LateNameSteps.Goes-named W.ready W.ends (weight_in W)
 
   -- the construct does not hold
-  pub Goes-refused : (k d : ℕ) (p : Naming) (s : TokenizeState) (T : Tokenizer) → T.attempts ≡ [] → p (ahead T) ≡ None → GoesIn W (weight_at k T) (NamesAs d p s T) (stepped Nok (scratched s T))
+  pub Goes-refused : (k d : ℕ) (p : Naming) (s : TokenizeState) (T : Tokenizer) → T.attempts ≡ [] → p (ahead T) ≡ None →
+      GoesIn W (weight_at k T) (NamesAs d p s T) (stepped Nok (scratched s T))
   Goes-refused = LateNameSteps.Goes-refused W.ready W.ends (weight_in W)
 
 -- the law where there are no states

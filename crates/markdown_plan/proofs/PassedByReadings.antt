@@ -17,7 +17,8 @@ pub record Read {A : Type 0} (Q : A → List Code → Type 0) (cs : List Code) (
   pub holds : Q x codes
 
 abbrev pub Gives : {A : Type 0} → (A → List Code → Type 0) → Reading A → Type 0
-Gives {A} Q r = (cs : List Code) (x : A) (rest : List Code) → ◌≡◌ {A = Option (A × List Code)} (r cs) (Some (x, rest)) → Read Q cs x rest
+Gives {A} Q r =
+    (cs : List Code) (x : A) (rest : List Code) → ◌≡◌ {A = Option (A × List Code)} (r cs) (Some (x, rest)) → Read Q cs x rest
 
 -- it gives the codes that it has passed, and there are some
 abbrev pub IsSome : List Code → List Code → Type 0
@@ -28,7 +29,8 @@ abbrev pub Covers : Forest → List Code → Type 0
 Covers t ws = IsSolid t × (leaf_codes t ≡ ws)
 
 -- two results are the same in each part
-pub both-parts : {A B : Type 0} (x y : A) (u v : B) → ◌≡◌ {A = Option (A × B)} (Some (x, u)) (Some (y, v)) → (x ≡ y) × (u ≡ v)
+pub both-parts : {A B : Type 0} (x y : A) (u v : B) → ◌≡◌ {A = Option (A × B)} (Some (x, u)) (Some (y, v)) →
+    (x ≡ y) × (u ≡ v)
 both-parts {A} {B} x y u v e =
     let l : A × B = (x, u) in
     let r : A × B = (y, v) in
@@ -37,7 +39,10 @@ both-parts {A} {B} x y u v e =
 
 -- Readings in a row.
 
-bind-by : {A B : Type 0} (a : Reading A) (next : A → Reading B) (cs : List Code) (Q : A → List Code → Type 0) (R : B → List Code → Type 0) → Gives Q a → ((x : A) (ws : List Code) → Q x ws → Gives (λ y vs. R y (ws ++ vs)) (next x)) → (o : Option (A × List Code)) (y : B) (rest : List Code) → a cs ≡ o → elim o as (λ _. Option (B × List Code)) [ None ↦ None | Some r ↦ next r.0 r.1 ] ≡ Some (y, rest) → Read R cs y rest
+bind-by : {A B : Type 0} (a : Reading A) (next : A → Reading B) (cs : List Code) (Q : A → List Code → Type 0) (R : B → List Code → Type 0) →
+    Gives Q a → ((x : A) (ws : List Code) → Q x ws → Gives (λ y vs. R y (ws ++ vs)) (next x)) →
+    (o : Option (A × List Code)) (y : B) (rest : List Code) → a cs ≡ o →
+    elim o as (λ _. Option (B × List Code)) [ None ↦ None | Some r ↦ next r.0 r.1 ] ≡ Some (y, rest) → Read R cs y rest
 bind-by a next cs Q R g h None y rest e k = cc
 bind-by a next cs Q R g h (Some r) y rest e k =
     let first = g cs r.0 r.1 e in
@@ -48,54 +53,73 @@ bind-by a next cs Q R g h (Some r) y rest e k =
       holds = second.holds;
     }
 
-pub Gives-bind : {A B : Type 0} (a : Reading A) (next : A → Reading B) (Q : A → List Code → Type 0) (R : B → List Code → Type 0) → Gives Q a → ((x : A) (ws : List Code) → Q x ws → Gives (λ y vs. R y (ws ++ vs)) (next x)) → Gives R (a >>= next)
+pub Gives-bind : {A B : Type 0} (a : Reading A) (next : A → Reading B) (Q : A → List Code → Type 0) (R : B → List Code → Type 0) →
+    Gives Q a → ((x : A) (ws : List Code) → Q x ws → Gives (λ y vs. R y (ws ++ vs)) (next x)) → Gives R (a >>= next)
 unfolding ◌>>=◌
 Gives-bind a next Q R g h cs y rest k = bind-by a next cs Q R g h (a cs) y rest refl k
 
-after-by : {A B : Type 0} (a : Reading A) (b : Reading B) (cs : List Code) (Q : A → List Code → Type 0) (R : B → List Code → Type 0) → Gives Q a → ((x : A) (ws : List Code) → Q x ws → Gives (λ y vs. R y (ws ++ vs)) b) → (o : Option (A × List Code)) (y : B) (rest : List Code) → a cs ≡ o → elim o as (λ _. Option (B × List Code)) [ None ↦ None | Some r ↦ b r.1 ] ≡ Some (y, rest) → Read R cs y rest
+after-by : {A B : Type 0} (a : Reading A) (b : Reading B) (cs : List Code) (Q : A → List Code → Type 0) (R : B → List Code → Type 0) →
+    Gives Q a → ((x : A) (ws : List Code) → Q x ws → Gives (λ y vs. R y (ws ++ vs)) b) →
+    (o : Option (A × List Code)) (y : B) (rest : List Code) → a cs ≡ o →
+    elim o as (λ _. Option (B × List Code)) [ None ↦ None | Some r ↦ b r.1 ] ≡ Some (y, rest) → Read R cs y rest
 after-by a b cs Q R g h o y rest e k = bind-by a (λ x. b) cs Q R g h o y rest e k
 
-pub Gives-after : {A B : Type 0} (a : Reading A) (b : Reading B) (Q : A → List Code → Type 0) (R : B → List Code → Type 0) → Gives Q a → ((x : A) (ws : List Code) → Q x ws → Gives (λ y vs. R y (ws ++ vs)) b) → Gives R (a >> b)
+pub Gives-after : {A B : Type 0} (a : Reading A) (b : Reading B) (Q : A → List Code → Type 0) (R : B → List Code → Type 0) →
+    Gives Q a → ((x : A) (ws : List Code) → Q x ws → Gives (λ y vs. R y (ws ++ vs)) b) → Gives R (a >> b)
 unfolding ◌>>◌
 Gives-after a b Q R g h cs y rest k = after-by a b cs Q R g h (a cs) y rest refl k
 
 pub Gives-gives : {A : Type 0} (x : A) (Q : A → List Code → Type 0) → Q x [] → Gives Q (gives x)
 unfolding gives
-Gives-gives x Q q cs y rest k = let same = both-parts x y cs rest k in record { codes = []; whole = same.1; holds = subst (λ z. Q z []) same.0 q }
+Gives-gives x Q q cs y rest k =
+    let same = both-parts x y cs rest k in record { codes = []; whole = same.1; holds = subst (λ z. Q z []) same.0 q }
 
 pub Gives-provided : (b : Bool) (Q : List Code → List Code → Type 0) → (b ≡ true → Q [] []) → Gives Q (provided b)
 unfolding provided
-Gives-provided true Q q cs x rest k = let same = both-parts [] x cs rest k in record { codes = []; whole = same.1; holds = subst (λ z. Q z []) same.0 (q refl) }
+Gives-provided true Q q cs x rest k =
+    let same = both-parts [] x cs rest k in record { codes = []; whole = same.1; holds = subst (λ z. Q z []) same.0 (q refl) }
 Gives-provided false Q q cs x rest k = cc
 
 -- behind a switch
-pub Gives-switched : {B : Type 0} (on : Bool) (b : Reading B) (R : B → List Code → Type 0) → Gives R b → Gives R (provided on >> b)
+pub Gives-switched : {B : Type 0} (on : Bool) (b : Reading B) (R : B → List Code → Type 0) → Gives R b →
+    Gives R (provided on >> b)
 Gives-switched on b R g =
     Gives-after (provided on) b (λ x ws. ws ≡ []) R (Gives-provided on (λ x ws. ws ≡ []) (λ _. refl)) (λ x ws e. subst (λ vs. Gives (λ y us. R y (vs ++ us)) b) (sym e) g)
 
-either-by : {A : Type 0} (a b : Reading A) (cs : List Code) (Q : A → List Code → Type 0) → Gives Q a → Gives Q b → (o : Option (A × List Code)) (x : A) (rest : List Code) → a cs ≡ o → elim o as (λ _. Option (A × List Code)) [ None ↦ b cs | Some r ↦ Some r ] ≡ Some (x, rest) → Read Q cs x rest
+either-by : {A : Type 0} (a b : Reading A) (cs : List Code) (Q : A → List Code → Type 0) → Gives Q a → Gives Q b →
+    (o : Option (A × List Code)) (x : A) (rest : List Code) → a cs ≡ o →
+    elim o as (λ _. Option (A × List Code)) [ None ↦ b cs | Some r ↦ Some r ] ≡ Some (x, rest) → Read Q cs x rest
 either-by a b cs Q g h None x rest e k = h cs x rest k
 either-by a b cs Q g h (Some r) x rest e k = g cs x rest (e ∙ k)
 
-pub Gives-either : {A : Type 0} (a b : Reading A) (Q : A → List Code → Type 0) → Gives Q a → Gives Q b → Gives Q (either a b)
+pub Gives-either : {A : Type 0} (a b : Reading A) (Q : A → List Code → Type 0) → Gives Q a → Gives Q b →
+    Gives Q (either a b)
 unfolding either
 Gives-either a b Q g h cs x rest k = either-by a b cs Q g h (a cs) x rest refl k
 
-before-test : {A : Type 0} (b : Bool) (r : A × List Code) (x : A) (rest : List Code) → ◌≡◌ {A = Option (A × List Code)} (elim b as (λ _. Option (A × List Code)) [ true ↦ Some r | false ↦ None ]) (Some (x, rest)) → ◌≡◌ {A = Option (A × List Code)} (Some r) (Some (x, rest))
+before-test : {A : Type 0} (b : Bool) (r : A × List Code) (x : A) (rest : List Code) →
+    ◌≡◌ {A = Option (A × List Code)} (elim b as (λ _. Option (A × List Code)) [ true ↦ Some r | false ↦ None ]) (Some (x, rest)) →
+    ◌≡◌ {A = Option (A × List Code)} (Some r) (Some (x, rest))
 before-test true r x rest k = k
 before-test false r x rest k = cc
 
-before-by : {A : Type 0} (a : Reading A) (p : List Code → Bool) (cs : List Code) (Q : A → List Code → Type 0) → Gives Q a → (o : Option (A × List Code)) (x : A) (rest : List Code) → a cs ≡ o → ◌≡◌ {A = Option (A × List Code)} (elim o as (λ _. Option (A × List Code)) [ None ↦ None | Some r ↦ elim (p r.1) as (λ _. Option (A × List Code)) [ true ↦ Some r | false ↦ None ] ]) (Some (x, rest)) → Read Q cs x rest
+before-by : {A : Type 0} (a : Reading A) (p : List Code → Bool) (cs : List Code) (Q : A → List Code → Type 0) →
+    Gives Q a → (o : Option (A × List Code)) (x : A) (rest : List Code) → a cs ≡ o →
+    ◌≡◌ {A = Option (A × List Code)} (elim o as (λ _. Option (A × List Code)) [ None ↦ None | Some r ↦ elim (p r.1) as (λ _. Option (A × List Code)) [ true ↦ Some r | false ↦ None ] ]) (Some (x, rest)) →
+    Read Q cs x rest
 before-by a p cs Q g None x rest e k = cc
 before-by a p cs Q g (Some r) x rest e k = g cs x rest (e ∙ before-test (p r.1) r x rest k)
 
-pub Gives-before : {A : Type 0} (a : Reading A) (p : List Code → Bool) (Q : A → List Code → Type 0) → Gives Q a → Gives Q (before a p)
+pub Gives-before : {A : Type 0} (a : Reading A) (p : List Code → Bool) (Q : A → List Code → Type 0) → Gives Q a →
+    Gives Q (before a p)
 unfolding before
 Gives-before a p Q g cs x rest k = before-by a p cs Q g (a cs) x rest refl k
 
 -- Codes.
 
-one-by : (b : Bool) (c : Code) (cs x rest : List Code) → elim b as (λ _. Option (List Code × List Code)) [ true ↦ Some (c ∷ [], cs) | false ↦ None ] ≡ Some (x, rest) → Read IsSome (c ∷ cs) x rest
+one-by : (b : Bool) (c : Code) (cs x rest : List Code) →
+    elim b as (λ _. Option (List Code × List Code)) [ true ↦ Some (c ∷ [], cs) | false ↦ None ] ≡ Some (x, rest) →
+    Read IsSome (c ∷ cs) x rest
 one-by true c cs x rest k =
     let same = both-parts (c ∷ []) x cs rest k in
     record { codes = c ∷ []; whole = ap (λ xs. c ∷ xs) same.1; holds = (sym same.0, λ e. let no : c ∷ [] ≡ [] = same.0 ∙ e in cc) }
@@ -112,7 +136,8 @@ pub Covers-leaf : (n : Name) (x ws : List Code) → x ≡ ws → Covers (leaf n 
 Covers-leaf n x ws e = (IsSolid-leaf n x, codes-leaf n x ∙ e)
 
 pub Covers-row : (t u : Forest) (xs ys : List Code) → Covers t xs → Covers u ys → Covers (t ⊕ u) (xs ++ ys)
-Covers-row t u xs ys p q = (IsSolid-row t u p.0 q.0, leaf_codes-row t u ∙ ap (λ z. z ++ leaf_codes u) p.1 ∙ ap (λ z. xs ++ z) q.1)
+Covers-row t u xs ys p q =
+    (IsSolid-row t u p.0 q.0, leaf_codes-row t u ∙ ap (λ z. z ++ leaf_codes u) p.1 ∙ ap (λ z. xs ++ z) q.1)
 
 -- the tree of a whole construct
 pub Covers-group : (n : Name) (t : Forest) (xs : List Code) → xs ≢ [] → Covers t xs → Covers (group n t) xs
@@ -124,7 +149,9 @@ some-first (x ∷ xs) ys h = λ e. cc
 
 -- Several codes.
 
-some-by : (cs : List Code) (s : List Code × List Code) (x rest : List Code) → cs ≡ s.0 ++ s.1 → ◌≡◌ {A = Option (List Code × List Code)} (elim (is_empty s.0) as (λ _. Option (List Code × List Code)) [ true ↦ None | false ↦ Some s ]) (Some (x, rest)) → Read IsSome cs x rest
+some-by : (cs : List Code) (s : List Code × List Code) (x rest : List Code) → cs ≡ s.0 ++ s.1 →
+    ◌≡◌ {A = Option (List Code × List Code)} (elim (is_empty s.0) as (λ _. Option (List Code × List Code)) [ true ↦ None | false ↦ Some s ]) (Some (x, rest)) →
+    Read IsSome cs x rest
 some-by cs ([], r) x rest e k = cc
 some-by cs (w ∷ ws, r) x rest e k =
     let same = both-parts (w ∷ ws) x r rest k in
@@ -149,11 +176,17 @@ Gives-test b = Gives-provided b IsNothing (λ _. refl)
 
 -- Codes and then codes.
 
-then-test : (x r : List Code) (o : Option (List Code × List Code)) (z rest : List Code) → ◌≡◌ {A = Option (List Code × List Code)} (elim o as (λ _. Option (List Code × List Code)) [ None ↦ None | Some s ↦ Some (x ++ s.0, s.1) ]) (Some (z, rest)) → (y : List Code) × ((o ≡ Some (y, rest)) × (z ≡ x ++ y))
+then-test : (x r : List Code) (o : Option (List Code × List Code)) (z rest : List Code) →
+    ◌≡◌ {A = Option (List Code × List Code)} (elim o as (λ _. Option (List Code × List Code)) [ None ↦ None | Some s ↦ Some (x ++ s.0, s.1) ]) (Some (z, rest)) →
+    (y : List Code) × ((o ≡ Some (y, rest)) × (z ≡ x ++ y))
 then-test x r None z rest k = cc
-then-test x r (Some s) z rest k = let same = both-parts (x ++ s.0) z s.1 rest k in (s.0, (ap (λ q. Some (s.0, q)) same.1, sym same.0))
+then-test x r (Some s) z rest k =
+    let same = both-parts (x ++ s.0) z s.1 rest k in (s.0, (ap (λ q. Some (s.0, q)) same.1, sym same.0))
 
-then-by : (a b : Reading (List Code)) (cs : List Code) (Q : List Code → List Code → Type 0) → Gives IsSome a → Gives (λ x ws. x ≡ ws) b → (o : Option (List Code × List Code)) (z rest : List Code) → a cs ≡ o → ◌≡◌ {A = Option (List Code × List Code)} (elim o as (λ _. Option (List Code × List Code)) [ None ↦ None | Some r ↦ elim (b r.1) as (λ _. Option (List Code × List Code)) [ None ↦ None | Some s ↦ Some (r.0 ++ s.0, s.1) ] ]) (Some (z, rest)) → Read IsSome cs z rest
+then-by : (a b : Reading (List Code)) (cs : List Code) (Q : List Code → List Code → Type 0) → Gives IsSome a →
+    Gives (λ x ws. x ≡ ws) b → (o : Option (List Code × List Code)) (z rest : List Code) → a cs ≡ o →
+    ◌≡◌ {A = Option (List Code × List Code)} (elim o as (λ _. Option (List Code × List Code)) [ None ↦ None | Some r ↦ elim (b r.1) as (λ _. Option (List Code × List Code)) [ None ↦ None | Some s ↦ Some (r.0 ++ s.0, s.1) ] ]) (Some (z, rest)) →
+    Read IsSome cs z rest
 then-by a b cs Q g h None z rest e k = cc
 then-by a b cs Q g h (Some r) z rest e k =
     let first = g cs r.0 r.1 e in

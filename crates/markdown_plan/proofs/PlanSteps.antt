@@ -33,7 +33,8 @@ applied-scratched (EnterLink n c) s T = refl
 applied-scratched (EnterConnected n c) s T = refl
 applied-scratched Consume s T = refl
 
-pub done-scratched : (os : List Op) (s : TokenizeState) (T : Tokenizer) → done os (scratched s T) ≡ scratched s (done os T)
+pub done-scratched : (os : List Op) (s : TokenizeState) (T : Tokenizer) →
+    done os (scratched s T) ≡ scratched s (done os T)
 done-scratched [] s T = refl
 done-scratched (o ∷ os) s T = ap (done os) (applied-scratched o s T) ∙ done-scratched os s (applied o T)
 
@@ -45,18 +46,23 @@ pub ahead-scratched : (r : TokenizeState) (T : Tokenizer) → ahead (scratched r
 unfolding scratched
 ahead-scratched r T = refl
 
-pub ahead-after : (os : List Op) (r : TokenizeState) (T : Tokenizer) → ahead (scratched r (done os T)) ≡ drop (moves os) (ahead T)
+pub ahead-after : (os : List Op) (r : TokenizeState) (T : Tokenizer) →
+    ahead (scratched r (done os T)) ≡ drop (moves os) (ahead T)
 ahead-after os r T = ahead-scratched r (done os T) ∙ ahead-done os T
 
 -- Growth through operations.
 
-pub Grown-after : (d : ℕ) (os : List Op) (T U : Tokenizer) → stays d os ≡ true → Grown (depth_after d os) (done os T) U → Grown d T U
+pub Grown-after : (d : ℕ) (os : List Op) (T U : Tokenizer) → stays d os ≡ true →
+    Grown (depth_after d os) (done os T) U → Grown d T U
 Grown-after d [] T U e g = g
-Grown-after d (o ∷ os) T U e g = Grown-applied d o T U (and-left (op_stays d o) _ e) (Grown-after (op_depth d o) os (applied o T) U (and-right (op_stays d o) _ e) g)
+Grown-after d (o ∷ os) T U e g =
+    Grown-applied d o T U (and-left (op_stays d o) _ e) (Grown-after (op_depth d o) os (applied o T) U (and-right (op_stays d o) _ e) g)
 
 -- One part of a plan, and then another.
 
-pub DoesAs-then : (d : ℕ) (p q : Plan) (os : List Op) (s r : TokenizeState) (T : Tokenizer) → stays d os ≡ true → p (ahead T) ≡ preceded os (q (drop (moves os) (ahead T))) → (ok : Bool) (U : Tokenizer) → DoesAs (depth_after d os) q s (scratched r (done os T)) ok U → DoesAs d p s T ok U
+pub DoesAs-then : (d : ℕ) (p q : Plan) (os : List Op) (s r : TokenizeState) (T : Tokenizer) → stays d os ≡ true →
+    p (ahead T) ≡ preceded os (q (drop (moves os) (ahead T))) → (ok : Bool) (U : Tokenizer) →
+    DoesAs (depth_after d os) q s (scratched r (done os T)) ok U → DoesAs d p s T ok U
 DoesAs-then d p q os s r T st e true U k =
     let there : q (drop (moves os) (ahead T)) ≡ Some k.ops = ap q (sym (ahead-after os r T)) ∙ k.holds in
     record {
@@ -87,7 +93,8 @@ consumes-append (x ∷ xs) ys = ap (λ os. Consume ∷ os) (consumes-append xs y
 -- The steps of a state to Ok and to Nok.
 
 pub Grown-same : (d : ℕ) (s : TokenizeState) (T U : Tokenizer) → U ≡ scratched s T → Grown d T U
-Grown-same d s T U e = subst (λ (x : Tokenizer). Grown d T x) (sym e) (Grown-scratched d s T (scratched s T) (Grown-refl d (scratched s T)))
+Grown-same d s T U e =
+    subst (λ (x : Tokenizer). Grown d T x) (sym e) (Grown-scratched d s T (scratched s T) (Grown-refl d (scratched s T)))
 
 pub scratch-same : (s : TokenizeState) (T U : Tokenizer) → U ≡ scratched s T → U.tokenize_state ≡ s
 unfolding scratched
@@ -99,35 +106,46 @@ kept os T = ap (λ (s : TokenizeState). scratched s (done os T)) (sym (scratch-d
 
 module _ (ready : StateName → Tokenizer → Type 0) (ends : StateName → Tokenizer → Bool → Tokenizer → Type 0) (weight : StateName → Tokenizer → ℕ) where
   -- a claim on how a run ends may be weakened
-  pub Goes-map : (n : ℕ) (E F : Bool → Tokenizer → Type 0) → ((ok : Bool) (U : Tokenizer) → E ok U → F ok U) → (fs : List Attempt) (st : State) (T : Tokenizer) → Goes ready ends weight n E fs st T → Goes ready ends weight n F fs st T
+  pub Goes-map : (n : ℕ) (E F : Bool → Tokenizer → Type 0) → ((ok : Bool) (U : Tokenizer) → E ok U → F ok U) →
+      (fs : List Attempt) (st : State) (T : Tokenizer) → Goes ready ends weight n E fs st T →
+      Goes ready ends weight n F fs st T
   Goes-map n E F f [] st T g = (g.0, λ ok U x. f ok U (g.1 ok U x))
   Goes-map n E F f (a ∷ fs) st T g = (g.0, λ ok U now x. Goes-map n E F f fs _ _ (g.1 ok U now x))
 
-  pub GoesOn-map : (n : ℕ) (E F : Bool → Tokenizer → Type 0) (r : Stepped) → ((ok : Bool) (U : Tokenizer) → E ok U → F ok U) → GoesOn ready ends weight n E r → GoesOn ready ends weight n F r
+  pub GoesOn-map : (n : ℕ) (E F : Bool → Tokenizer → Type 0) (r : Stepped) →
+      ((ok : Bool) (U : Tokenizer) → E ok U → F ok U) → GoesOn ready ends weight n E r → GoesOn ready ends weight n F r
   GoesOn-map n E F r f g = Goes-map n E F f r.left.attempts r.state (settled r.left) g
 
   -- all is done
-  pub Goes-ok : (k d : ℕ) (p : Plan) (os : List Op) (s : TokenizeState) (T : Tokenizer) → T.attempts ≡ [] → p (ahead T) ≡ Some os → GoesOn ready ends weight (weight_at k T) (DoesAs d p s T) (stepped State.Ok (scratched s (done os T)))
+  pub Goes-ok : (k d : ℕ) (p : Plan) (os : List Op) (s : TokenizeState) (T : Tokenizer) → T.attempts ≡ [] →
+      p (ahead T) ≡ Some os →
+      GoesOn ready ends weight (weight_at k T) (DoesAs d p s T) (stepped State.Ok (scratched s (done os T)))
   Goes-ok k d p os s T alone e =
       Goes-plain ready ends weight (weight_at k T) (DoesAs d p s T) State.Ok (scratched s (done os T)) (attempts-scratched s (done os T) ∙ attempts-done os T ∙ alone) tt (omega arith) (λ ok U x. subst (λ b. DoesAs d p s T b U) (sym x.0) (record { ops = os; holds = e; left = x.1 ∙ sym (done-scratched os s T) }))
 
-  pub Goes-yes : (k d : ℕ) (p : Plan) (os : List Op) (T : Tokenizer) → T.attempts ≡ [] → p (ahead T) ≡ Some os → GoesOn ready ends weight (weight_at k T) (KeepsAs d p T) (stepped State.Ok (done os T))
-  Goes-yes k d p os T alone e = subst (λ (V : Tokenizer). GoesOn ready ends weight (weight_at k T) (KeepsAs d p T) (stepped State.Ok V)) (kept os T) (Goes-ok k d p os T.tokenize_state T alone e)
+  pub Goes-yes : (k d : ℕ) (p : Plan) (os : List Op) (T : Tokenizer) → T.attempts ≡ [] → p (ahead T) ≡ Some os →
+      GoesOn ready ends weight (weight_at k T) (KeepsAs d p T) (stepped State.Ok (done os T))
+  Goes-yes k d p os T alone e =
+      subst (λ (V : Tokenizer). GoesOn ready ends weight (weight_at k T) (KeepsAs d p T) (stepped State.Ok V)) (kept os T) (Goes-ok k d p os T.tokenize_state T alone e)
 
   -- it does not hold
-  pub Goes-nok : (k d : ℕ) (p : Plan) (s : TokenizeState) (T : Tokenizer) → T.attempts ≡ [] → p (ahead T) ≡ None → GoesOn ready ends weight (weight_at k T) (DoesAs d p s T) (stepped Nok (scratched s T))
+  pub Goes-nok : (k d : ℕ) (p : Plan) (s : TokenizeState) (T : Tokenizer) → T.attempts ≡ [] → p (ahead T) ≡ None →
+      GoesOn ready ends weight (weight_at k T) (DoesAs d p s T) (stepped Nok (scratched s T))
   Goes-nok k d p s T alone e =
       Goes-plain ready ends weight (weight_at k T) (DoesAs d p s T) Nok (scratched s T) (attempts-scratched s T ∙ alone) tt (omega arith) (λ ok U x. subst (λ b. DoesAs d p s T b U) (sym x.0) (record { none = e; grown = Grown-same d s T U x.1; scratch = scratch-same s T U x.1 }))
 
-  pub Goes-no : (k d : ℕ) (p : Plan) (T : Tokenizer) → T.attempts ≡ [] → p (ahead T) ≡ None → GoesOn ready ends weight (weight_at k T) (KeepsAs d p T) (stepped Nok T)
-  Goes-no k d p T alone e = subst (λ (V : Tokenizer). GoesOn ready ends weight (weight_at k T) (KeepsAs d p T) (stepped Nok V)) (scratched-same T) (Goes-nok k d p T.tokenize_state T alone e)
+  pub Goes-no : (k d : ℕ) (p : Plan) (T : Tokenizer) → T.attempts ≡ [] → p (ahead T) ≡ None →
+      GoesOn ready ends weight (weight_at k T) (KeepsAs d p T) (stepped Nok T)
+  Goes-no k d p T alone e =
+      subst (λ (V : Tokenizer). GoesOn ready ends weight (weight_at k T) (KeepsAs d p T) (stepped Nok V)) (scratched-same T) (Goes-nok k d p T.tokenize_state T alone e)
 
 pub no-codes : (T : Tokenizer) → 0 ≤ length (ahead T)
 no-codes T = omega arith
 
 -- Whole constructs.
 
-pub ops-read : (o : Option (Forest × List Code)) (os : List Op) → tree_ops o ≡ Some os → (r : Forest × List Code) × ((o ≡ Some r) × (os ≡ ops_of r.0))
+pub ops-read : (o : Option (Forest × List Code)) (os : List Op) → tree_ops o ≡ Some os →
+    (r : Forest × List Code) × ((o ≡ Some r) × (os ≡ ops_of r.0))
 ops-read None os e = cc
 ops-read (Some r) os e = (r, (refl, cc))
 
@@ -136,7 +154,8 @@ none-read None e = refl
 none-read (Some r) e = cc
 
 -- a run that does what the tree of a reading asks for ends as the reading
-pub EndsAs-plan : (r : TreeReading) → Gives Covers r → (s : TokenizeState) (T : Tokenizer) (ok : Bool) (U : Tokenizer) → DoesAs 0 (plan_of r) s T ok U → EndsAs r None s T ok U
+pub EndsAs-plan : (r : TreeReading) → Gives Covers r → (s : TokenizeState) (T : Tokenizer) (ok : Bool) (U : Tokenizer) →
+    DoesAs 0 (plan_of r) s T ok U → EndsAs r None s T ok U
 EndsAs-plan r whole s T true U k =
     let x = ops-read (r (ahead T)) k.ops k.holds in
     let w = whole (ahead T) x.0.0 x.0.1 x.1.0 in
@@ -144,4 +163,5 @@ EndsAs-plan r whole s T true U k =
     let same : ahead (scratched s T) ≡ leaf_codes x.0.0 ++ x.0.1 = ahead-scratched s T ∙ codes in
     let left : U ≡ _ = k.left ∙ ap (λ os. done os (scratched s T)) x.1.1 ∙ ops-past x.0.0 x.0.1 (scratched s T) w.holds.0 same in
     record { tree = x.0.0; rest = x.0.1; holds = x.1.0; left = left; whole = codes; after = ap ahead left ∙ ahead-past None x.0.0 (scratched s T) x.0.1 same }
-EndsAs-plan r whole s T false U k = record { refused = none-read (r (ahead T)) k.none; fails = record { grown = k.grown; scratch = k.scratch } }
+EndsAs-plan r whole s T false U k =
+    record { refused = none-read (r (ahead T)) k.none; fails = record { grown = k.grown; scratch = k.scratch } }

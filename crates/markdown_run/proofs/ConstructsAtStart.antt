@@ -27,7 +27,8 @@ use Rattle.markdown_partial.specs.PartialSpaceOrTab as PartialSpaceOrTab
 use Rattle.markdown_partial.specs.PartialSpaceOrTab.{most}
 use Rattle.markdown_run_text.specs.TextContent.{EndsWithCodes}
 
-pub start-fits : (bytes : List ℕ) (pieces : List Piece) (T : Tokenizer) → IsContent bytes pieces → T.cursor ≡ start_of_content bytes pieces → codes_left T ≤ most
+pub start-fits : (bytes : List ℕ) (pieces : List Piece) (T : Tokenizer) → IsContent bytes pieces →
+    T.cursor ≡ start_of_content bytes pieces → codes_left T ≤ most
 start-fits bytes pieces T k e = omega (arith, codes-fit bytes pieces k, ap left_at e)
 
 -- nothing is known of the runs
@@ -35,17 +36,22 @@ pub unknown-runs : (s : TokenizeState) (cs : List Code) → s.runs ≡ no_runs �
 unknown-runs s cs e = e ∙ none-known cs ∙ ap (λ (x : LastRuns). last_runs x.asked cs) (sym e)
 
 pub start-spans : (T : Tokenizer) → T.tokenize_state ≡ at_rest → codes_left T ≤ most → RawText.StartReady T
-start-spans T e fits = record { rest = e ∙ ap RawText.rested (sym e); fits = omega (arith, fits); indexed = unknown-runs T.tokenize_state T.cursor.codes (ap (λ (s : TokenizeState). s.runs) e) }
+start-spans T e fits =
+    record { rest = e ∙ ap RawText.rested (sym e); fits = omega (arith, fits); indexed = unknown-runs T.tokenize_state T.cursor.codes (ap (λ (s : TokenizeState). s.runs) e) }
 
 -- Literals.
 
 -- the content is read as characters
-pub start-reads : (bytes : List ℕ) (pieces : List Piece) (T : Tokenizer) → IsContent bytes pieces → bytes_of T ≡ bytes → T.cursor ≡ start_of_content bytes pieces → ReadsText T
+pub start-reads : (bytes : List ℕ) (pieces : List Piece) (T : Tokenizer) → IsContent bytes pieces → bytes_of T ≡ bytes →
+    T.cursor ≡ start_of_content bytes pieces → ReadsText T
 unfolding start_of_content
 start-reads bytes pieces T content input place =
     subst (λ (bs : List ℕ). IsText bs T.cursor) (sym input) (subst (λ (p : Place). IsText bytes p) (sym place) (content-text bytes pieces 0 content))
 
-pub start-literals : (bytes : List ℕ) (pieces : List Piece) (T : Tokenizer) → IsContent bytes pieces → bytes_of T ≡ bytes → T.cursor ≡ start_of_content bytes pieces → GfmAutolinkLiteral.rested T.tokenize_state ≡ T.tokenize_state → T.tokenize_state.no_domains ≡ None → GfmAutolinkLiteral.StartReady T
+pub start-literals : (bytes : List ℕ) (pieces : List Piece) (T : Tokenizer) → IsContent bytes pieces →
+    bytes_of T ≡ bytes → T.cursor ≡ start_of_content bytes pieces →
+    GfmAutolinkLiteral.rested T.tokenize_state ≡ T.tokenize_state → T.tokenize_state.no_domains ≡ None →
+    GfmAutolinkLiteral.StartReady T
 start-literals bytes pieces T content input place resting unknown =
     record {
       text = start-reads bytes pieces T content input place;
@@ -55,19 +61,25 @@ start-literals bytes pieces T content input place resting unknown =
     }
 
 -- a text content that has codes ends with the last of them
-pub start-last : (bytes : List ℕ) (pieces : List Piece) (p : Place) → IsTextContent bytes pieces → p ≡ start_of_content bytes pieces → EndsWithCodes p
+pub start-last : (bytes : List ℕ) (pieces : List Piece) (p : Place) → IsTextContent bytes pieces →
+    p ≡ start_of_content bytes pieces → EndsWithCodes p
 unfolding start_of_content
-start-last bytes pieces p text place = subst EndsWithCodes (sym place) (λ some. ap (λ (q : Point). q.index) (content-ends bytes pieces text some))
+start-last bytes pieces p text place =
+    subst EndsWithCodes (sym place) (λ some. ap (λ (q : Point). q.index) (content-ends bytes pieces text some))
 
 -- Whitespace that is asked for, where nothing is.
 
-pub start-space : (min max : ℕ) (T : Tokenizer) → T.tokenize_state ≡ at_rest → PartialSpaceOrTab.StartReady (scratched (PartialSpaceOrTab.asked min max N.SpaceOrTab false None T.tokenize_state) T)
-start-space min max T e = asked-ready min max N.SpaceOrTab false None T (ap PartialSpaceOrTab.rested e ∙ sym e) (λ h. cc)
+pub start-space : (min max : ℕ) (T : Tokenizer) → T.tokenize_state ≡ at_rest →
+    PartialSpaceOrTab.StartReady (scratched (PartialSpaceOrTab.asked min max N.SpaceOrTab false None T.tokenize_state) T)
+start-space min max T e =
+    asked-ready min max N.SpaceOrTab false None T (ap PartialSpaceOrTab.rested e ∙ sym e) (λ h. cc)
 
-pub start-spacing : (T : Tokenizer) → T.tokenize_state ≡ at_rest → codes_left T ≤ most → PartialSpaceOrTabEol.StartReady (scratched (PartialSpaceOrTabEol.eol_asked false None T.tokenize_state) T)
+pub start-spacing : (T : Tokenizer) → T.tokenize_state ≡ at_rest → codes_left T ≤ most →
+    PartialSpaceOrTabEol.StartReady (scratched (PartialSpaceOrTabEol.eol_asked false None T.tokenize_state) T)
 start-spacing T e fits =
     eol-asked-ready false None T fits (record { space = ap PartialSpaceOrTab.rested e ∙ sym e; eol = ap PartialSpaceOrTabEol.eol_rested e ∙ sym e }) (λ h. cc) (λ h. cc) (λ h. refl)
 
-pub past-fits : (o : Option ℕ) (T : Tokenizer) → o ≡ current_of T → is_some o ≡ true → codes_left T ≤ most → codes_left (applied Consume T) ≤ most
+pub past-fits : (o : Option ℕ) (T : Tokenizer) → o ≡ current_of T → is_some o ≡ true → codes_left T ≤ most →
+    codes_left (applied Consume T) ≤ most
 past-fits None T e h fits = cc
 past-fits (Some v) T e h fits = omega (arith, left-consumed T v (sym e), fits)

@@ -24,7 +24,8 @@ data-makes N.Data e = refl
 data-makes _ e = cc
 
 module _ (bytes : List ℕ) (all : List Code) (part : (xs : List Code) → xs ≢ [] → list_any is_line_ending xs ≡ false → IsIn xs all → IsPart bytes xs) where
-  parts-row : (t : Forest) (before after : List Code) → all ≡ before ++ (leaf_codes t ++ after) → HasLines t → HasParts bytes t
+  parts-row : (t : Forest) (before after : List Code) → all ≡ before ++ (leaf_codes t ++ after) → HasLines t →
+      HasParts bytes t
   parts-row empty before after e h = tt
   parts-row (leaf_then name link cs rest) before after e h =
       let p = both-in all cs (leaf_codes rest) before after e in
@@ -34,13 +35,15 @@ module _ (bytes : List ℕ) (all : List Code) (part : (xs : List Code) → xs �
       (h.0, (parts-row inside before (leaf_codes rest ++ after) p.0 h.1.0, parts-row rest (before ++ leaf_codes inside) after p.1 h.1.1))
 
 -- the data of a tree over a content is part of the document
-pub parts-of : (bytes : List ℕ) (pieces : List Piece) (t : Forest) → IsContent bytes pieces → leaf_codes t ≡ content_of bytes pieces → HasLines t → HasParts bytes t
+pub parts-of : (bytes : List ℕ) (pieces : List Piece) (t : Forest) → IsContent bytes pieces →
+    leaf_codes t ≡ content_of bytes pieces → HasLines t → HasParts bytes t
 parts-of bytes pieces t content e h =
     parts-row bytes (content_of bytes pieces) (λ xs some none k. part-of-content bytes pieces xs content.in_order some (line-ends xs none) k) t [] [] (sym e ∙ sym (append-nil (leaf_codes t))) h
 
 -- Merging.
 
-lines-onto : (cs : List Code) (f : Forest) → cs ≢ [] → list_any is_line_ending cs ≡ false → HasLines f → HasLines (data_onto cs f)
+lines-onto : (cs : List Code) (f : Forest) → cs ≢ [] → list_any is_line_ending cs ≡ false → HasLines f →
+    HasLines (data_onto cs f)
 lines-onto cs (leaf_then N.Data None more rest) some none h =
     (λ e l. (some-first cs more some, line-join cs more none (h.0 refl refl).1), h.1)
 lines-onto cs rest some none h = (λ e l. (some, none), h)
@@ -48,16 +51,20 @@ lines-onto cs rest some none h = (λ e l. (some, none), h)
 pub HasLines-merged : (t : Forest) → HasLines t → HasLines (merged t)
 unfolding merged
 HasLines-merged empty h = tt
-HasLines-merged (leaf_then N.Data None cs rest) h = lines-onto cs (merged rest) (h.0 refl refl).0 (h.0 refl refl).1 (HasLines-merged rest h.1)
+HasLines-merged (leaf_then N.Data None cs rest) h =
+    lines-onto cs (merged rest) (h.0 refl refl).0 (h.0 refl refl).1 (HasLines-merged rest h.1)
 HasLines-merged (leaf_then name link cs rest) h = (h.0, HasLines-merged rest h.1)
-HasLines-merged (group_then name enter exit inside rest) h = (h.0, (HasLines-merged inside h.1.0, HasLines-merged rest h.1.1))
+HasLines-merged (group_then name enter exit inside rest) h =
+    (h.0, (HasLines-merged inside h.1.0, HasLines-merged rest h.1.1))
 
 pub HasLines-HasData : (t : Forest) → HasLines t → HasData t
 HasLines-HasData empty h = tt
 HasLines-HasData (leaf_then name link cs rest) h = (λ e l. (h.0 (data-makes name e) l).0, HasLines-HasData rest h.1)
-HasLines-HasData (group_then name enter exit inside rest) h = (h.0.0, (HasLines-HasData inside h.1.0, HasLines-HasData rest h.1.1))
+HasLines-HasData (group_then name enter exit inside rest) h =
+    (h.0.0, (HasLines-HasData inside h.1.0, HasLines-HasData rest h.1.1))
 
 pub HasLines-HasCodes : (t : Forest) → HasLines t → HasCodes t
 HasLines-HasCodes empty h = tt
 HasLines-HasCodes (leaf_then name link cs rest) h = (λ e l. (h.0 (data-makes name e) l).0, HasLines-HasCodes rest h.1)
-HasLines-HasCodes (group_then name enter exit inside rest) h = (HasLines-HasCodes inside h.1.0, HasLines-HasCodes rest h.1.1)
+HasLines-HasCodes (group_then name enter exit inside rest) h =
+    (HasLines-HasCodes inside h.1.0, HasLines-HasCodes rest h.1.1)

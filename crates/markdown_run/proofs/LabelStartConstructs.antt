@@ -17,8 +17,11 @@ use Rattle.markdown_run_row.proofs.LabelMarks.{PastStart, link-past, footnote-pa
 use Rattle.markdown_run.specs.RunConstruct.{BeginsOrStays, start_reading}
 use Rattle.markdown_run_text.proofs.TextLabelTries.{later-tests, right-test, on-some, on-none, footnote-some, footnote-none, link-some, link-none, image-some, image-none}
 
-begun : (reading : Reading Element) (kind : LabelKind) (marker rest : List Code) (T U : Tokenizer) → PastStart kind marker rest T U → reading (ahead T) ≡ Some (starts kind marker, rest) → BeginsOrStays reading T true U
-begun reading kind marker rest T U p e = (kind, (marker, (e ∙ ap (λ xs. Some (starts kind marker, xs)) (sym p.after), p.left)))
+begun : (reading : Reading Element) (kind : LabelKind) (marker rest : List Code) (T U : Tokenizer) →
+    PastStart kind marker rest T U → reading (ahead T) ≡ Some (starts kind marker, rest) →
+    BeginsOrStays reading T true U
+begun reading kind marker rest T U p e =
+    (kind, (marker, (e ∙ ap (λ xs. Some (starts kind marker, xs)) (sym p.after), p.left)))
 
 pub link-begins : (T U : Tokenizer) → link_ends T true U → BeginsOrStays (start_reading LabelStartLinkStart T) T true U
 link-begins T U k =
@@ -28,9 +31,11 @@ link-begins T U k =
     (ap (start_reading LabelStartLinkStart T) f.whole ∙ on-some (links_on T) label_start_link (f.code ∷ rest) (starts LabelKind.Link (f.code ∷ []), rest) (and-left _ _ k.holds) (link-some f.code rest f.value))
 
 pub link-not : (T : Tokenizer) → link_test T (ahead T) ≡ false → start_reading LabelStartLinkStart T (ahead T) ≡ None
-link-not T refused = on-none (links_on T) label_start_link (ahead T) (λ on. link-none (ahead T) (right-test (links_on T) _ on refused))
+link-not T refused =
+    on-none (links_on T) label_start_link (ahead T) (λ on. link-none (ahead T) (right-test (links_on T) _ on refused))
 
-pub footnote-begins : (T U : Tokenizer) → footnote_ends T true U → BeginsOrStays (start_reading GfmLabelStartFootnoteStart T) T true U
+pub footnote-begins : (T U : Tokenizer) → footnote_ends T true U →
+    BeginsOrStays (start_reading GfmLabelStartFootnoteStart T) T true U
 footnote-begins T U k =
     let f : Begins 91 (ahead T) = first-is 91 (ahead T) (and-right _ _ (and-left _ _ k.holds)) in
     let g : Begins 94 (rest_of (ahead T)) = first-is 94 (rest_of (ahead T)) (and-right _ _ k.holds) in
@@ -40,10 +45,13 @@ footnote-begins T U k =
     (ap (start_reading GfmLabelStartFootnoteStart T) whole
     ∙ on-some (footnotes_on T) gfm_label_start_footnote (f.code ∷ g.code ∷ rest) (starts LabelKind.GfmFootnote (f.code ∷ g.code ∷ []), rest) (and-left _ _ (and-left _ _ k.holds)) (footnote-some f.code g.code rest f.value g.value))
 
-pub footnote-not : (T : Tokenizer) → footnote_test T (ahead T) ≡ false → start_reading GfmLabelStartFootnoteStart T (ahead T) ≡ None
-footnote-not T refused = on-none (footnotes_on T) gfm_label_start_footnote (ahead T) (λ on. footnote-none (ahead T) (later-tests (footnotes_on T) _ _ on refused))
+pub footnote-not : (T : Tokenizer) → footnote_test T (ahead T) ≡ false →
+    start_reading GfmLabelStartFootnoteStart T (ahead T) ≡ None
+footnote-not T refused =
+    on-none (footnotes_on T) gfm_label_start_footnote (ahead T) (λ on. footnote-none (ahead T) (later-tests (footnotes_on T) _ _ on refused))
 
-pub image-begins : (T U : Tokenizer) → image_ends T true U → BeginsOrStays (start_reading LabelStartImageStart T) T true U
+pub image-begins : (T U : Tokenizer) → image_ends T true U →
+    BeginsOrStays (start_reading LabelStartImageStart T) T true U
 image-begins T U k =
     let f : Begins 33 (ahead T) = first-is 33 (ahead T) (and-right _ _ (and-left _ _ k.holds)) in
     let g : Begins 91 (rest_of (ahead T)) = first-is 91 (rest_of (ahead T)) (and-left _ _ (and-right _ _ k.holds)) in
@@ -55,4 +63,5 @@ image-begins T U k =
     (image-some (footnotes_on T) f.code g.code rest f.value g.value (and-right _ _ (and-right _ _ k.holds))))
 
 pub image-not : (T : Tokenizer) → image_test T (ahead T) ≡ false → start_reading LabelStartImageStart T (ahead T) ≡ None
-image-not T refused = on-none (images_on T) (label_start_image (footnotes_on T)) (ahead T) (λ on. image-none (footnotes_on T) (ahead T) (later-tests (images_on T) _ _ on refused))
+image-not T refused =
+    on-none (images_on T) (label_start_image (footnotes_on T)) (ahead T) (λ on. image-none (footnotes_on T) (ahead T) (later-tests (images_on T) _ _ on refused))

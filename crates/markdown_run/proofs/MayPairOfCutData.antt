@@ -19,7 +19,9 @@ run-each : (cs : List Code) (t : Forest) → has_run (each_code cs t) ≡ has_ru
 run-each [] t = refl
 run-each (c ∷ cs) t = run-each cs t
 
-run-leaf : (name : Name) (link : Option Content) (cs : List Code) (rest : Forest) → has_run (split rest) ≡ has_run rest → has_run (split (leaf_then name link cs rest)) ≡ has_run (leaf_then name link cs rest)
+run-leaf : (name : Name) (link : Option Content) (cs : List Code) (rest : Forest) →
+    has_run (split rest) ≡ has_run rest →
+    has_run (split (leaf_then name link cs rest)) ≡ has_run (leaf_then name link cs rest)
 run-leaf N.Data None cs rest e = run-each cs (split rest) ∙ e
 run-leaf N.Data (Some c) cs rest e = e
 run-leaf name link cs rest e = ap (λ b. is_run name || b) e
@@ -39,7 +41,8 @@ unlinked-rest : (cs : List Code) (t : Forest) → IsUnlinkedRow (each_code cs t)
 unlinked-rest [] t h = h
 unlinked-rest (c ∷ cs) t h = unlinked-rest cs t h.1
 
-unlinked-leaf : (name : Name) (link : Option Content) (cs : List Code) (rest : Forest) → link ≡ None → IsUnlinkedRow (split rest) → IsUnlinkedRow (split (leaf_then name link cs rest))
+unlinked-leaf : (name : Name) (link : Option Content) (cs : List Code) (rest : Forest) → link ≡ None →
+    IsUnlinkedRow (split rest) → IsUnlinkedRow (split (leaf_then name link cs rest))
 unlinked-leaf N.Data None cs rest e h = unlinked-each cs (split rest) h
 unlinked-leaf N.Data (Some c) cs rest e h = (e, h)
 unlinked-leaf name link cs rest e h = (e, h)
@@ -49,14 +52,16 @@ unlinked-cut empty h = tt
 unlinked-cut (leaf_then name link cs rest) h = unlinked-leaf name link cs rest h.0 (unlinked-cut rest h.1)
 unlinked-cut (group_then name a b inside rest) h = unlinked-cut rest h
 
-unlinked-whole-leaf : (name : Name) (link : Option Content) (cs : List Code) (rest : Forest) → IsUnlinkedRow (split (leaf_then name link cs rest)) → (link ≡ None) × IsUnlinkedRow (split rest)
+unlinked-whole-leaf : (name : Name) (link : Option Content) (cs : List Code) (rest : Forest) →
+    IsUnlinkedRow (split (leaf_then name link cs rest)) → (link ≡ None) × IsUnlinkedRow (split rest)
 unlinked-whole-leaf N.Data None cs rest h = (refl, unlinked-rest cs (split rest) h)
 unlinked-whole-leaf N.Data (Some c) cs rest h = h
 unlinked-whole-leaf name link cs rest h = h
 
 unlinked-whole : (t : Forest) → IsUnlinkedRow (split t) → IsUnlinkedRow t
 unlinked-whole empty h = tt
-unlinked-whole (leaf_then name link cs rest) h = let p = unlinked-whole-leaf name link cs rest h in (p.0, unlinked-whole rest p.1)
+unlinked-whole (leaf_then name link cs rest) h =
+    let p = unlinked-whole-leaf name link cs rest h in (p.0, unlinked-whole rest p.1)
 unlinked-whole (group_then name a b inside rest) h = unlinked-whole rest h
 
 -- Runs as leaves over markers.
@@ -69,7 +74,9 @@ stripes-rest : (cs : List Code) (t : Forest) → HasStripes (each_code cs t) →
 stripes-rest [] t h = h
 stripes-rest (c ∷ cs) t h = stripes-rest cs t h.1
 
-stripes-leaf : (name : Name) (link : Option Content) (cs : List Code) (rest : Forest) → HasStripes (leaf_then name link cs rest) → HasStripes (split rest) → HasStripes (split (leaf_then name link cs rest))
+stripes-leaf : (name : Name) (link : Option Content) (cs : List Code) (rest : Forest) →
+    HasStripes (leaf_then name link cs rest) → HasStripes (split rest) →
+    HasStripes (split (leaf_then name link cs rest))
 stripes-leaf N.Data None cs rest h k = stripes-each cs (split rest) k
 stripes-leaf N.Data (Some c) cs rest h k = (h.0, k)
 stripes-leaf name link cs rest h k = (h.0, k)
@@ -80,7 +87,9 @@ stripes-cut (leaf_then name link cs rest) h = stripes-leaf name link cs rest h (
 stripes-cut (group_then name a b inside rest) h =
     ((h.0.0, λ e. unlinked-cut inside (h.0.1 (sym (has_run-split inside) ∙ e))), (stripes-cut inside h.1.0, stripes-cut rest h.1.1))
 
-stripes-whole-leaf : (name : Name) (link : Option Content) (cs : List Code) (rest : Forest) → HasStripes (split (leaf_then name link cs rest)) → (HasStripes (split rest) → HasStripes rest) → HasStripes (leaf_then name link cs rest)
+stripes-whole-leaf : (name : Name) (link : Option Content) (cs : List Code) (rest : Forest) →
+    HasStripes (split (leaf_then name link cs rest)) → (HasStripes (split rest) → HasStripes rest) →
+    HasStripes (leaf_then name link cs rest)
 stripes-whole-leaf N.Data None cs rest h k = ((λ e. cc), k (stripes-rest cs (split rest) h))
 stripes-whole-leaf N.Data (Some c) cs rest h k = (h.0, k h.1)
 stripes-whole-leaf name link cs rest h k = (h.0, k h.1)
@@ -102,7 +111,9 @@ module _ (bytes : List ℕ) where
   runs-rest [] t h = h
   runs-rest (c ∷ cs) t h = runs-rest cs t h.1
 
-  runs-leaf : (name : Name) (link : Option Content) (cs : List Code) (rest : Forest) → HasRuns bytes (leaf_then name link cs rest) → HasRuns bytes (split rest) → HasRuns bytes (split (leaf_then name link cs rest))
+  runs-leaf : (name : Name) (link : Option Content) (cs : List Code) (rest : Forest) →
+      HasRuns bytes (leaf_then name link cs rest) → HasRuns bytes (split rest) →
+      HasRuns bytes (split (leaf_then name link cs rest))
   runs-leaf N.Data None cs rest h k = runs-each cs (split rest) k
   runs-leaf N.Data (Some c) cs rest h k = (h.0, k)
   runs-leaf name link cs rest h k = (h.0, k)
@@ -110,9 +121,12 @@ module _ (bytes : List ℕ) where
   runs-cut : (t : Forest) → HasRuns bytes t → HasRuns bytes (split t)
   runs-cut empty h = tt
   runs-cut (leaf_then name link cs rest) h = runs-leaf name link cs rest h (runs-cut rest h.1)
-  runs-cut (group_then name a b inside rest) h = ((h.0.0, λ e. has_run-split inside ∙ h.0.1 e), (runs-cut inside h.1.0, runs-cut rest h.1.1))
+  runs-cut (group_then name a b inside rest) h =
+      ((h.0.0, λ e. has_run-split inside ∙ h.0.1 e), (runs-cut inside h.1.0, runs-cut rest h.1.1))
 
-  runs-whole-leaf : (name : Name) (link : Option Content) (cs : List Code) (rest : Forest) → HasRuns bytes (split (leaf_then name link cs rest)) → (HasRuns bytes (split rest) → HasRuns bytes rest) → HasRuns bytes (leaf_then name link cs rest)
+  runs-whole-leaf : (name : Name) (link : Option Content) (cs : List Code) (rest : Forest) →
+      HasRuns bytes (split (leaf_then name link cs rest)) → (HasRuns bytes (split rest) → HasRuns bytes rest) →
+      HasRuns bytes (leaf_then name link cs rest)
   runs-whole-leaf N.Data None cs rest h k = ((refl, λ e. cc), k (runs-rest cs (split rest) h))
   runs-whole-leaf N.Data (Some c) cs rest h k = (h.0, k h.1)
   runs-whole-leaf name link cs rest h k = (h.0, k h.1)
@@ -120,7 +134,8 @@ module _ (bytes : List ℕ) where
   runs-whole : (t : Forest) → HasRuns bytes (split t) → HasRuns bytes t
   runs-whole empty h = tt
   runs-whole (leaf_then name link cs rest) h = runs-whole-leaf name link cs rest h (runs-whole rest)
-  runs-whole (group_then name a b inside rest) h = ((h.0.0, λ e. sym (has_run-split inside) ∙ h.0.1 e), (runs-whole inside h.1.0, runs-whole rest h.1.1))
+  runs-whole (group_then name a b inside rest) h =
+      ((h.0.0, λ e. sym (has_run-split inside) ∙ h.0.1 e), (runs-whole inside h.1.0, runs-whole rest h.1.1))
 
 -- What is said of each run.
 
@@ -133,7 +148,8 @@ module _ (P : List Code → Type 0) where
   each-rest [] t h = h
   each-rest (c ∷ cs) t h = each-rest cs t h.1
 
-  each-leaf : (name : Name) (link : Option Content) (cs : List Code) (rest : Forest) → EachRun P (leaf_then name link cs rest) → EachRun P (split rest) → EachRun P (split (leaf_then name link cs rest))
+  each-leaf : (name : Name) (link : Option Content) (cs : List Code) (rest : Forest) →
+      EachRun P (leaf_then name link cs rest) → EachRun P (split rest) → EachRun P (split (leaf_then name link cs rest))
   each-leaf N.Data None cs rest h k = each-each cs (split rest) k
   each-leaf N.Data (Some c) cs rest h k = (h.0, k)
   each-leaf name link cs rest h k = (h.0, k)
@@ -143,7 +159,9 @@ module _ (P : List Code → Type 0) where
   each-cut (leaf_then name link cs rest) h = each-leaf name link cs rest h (each-cut rest h.1)
   each-cut (group_then name a b inside rest) h = (each-cut inside h.0, each-cut rest h.1)
 
-  each-whole-leaf : (name : Name) (link : Option Content) (cs : List Code) (rest : Forest) → EachRun P (split (leaf_then name link cs rest)) → (EachRun P (split rest) → EachRun P rest) → EachRun P (leaf_then name link cs rest)
+  each-whole-leaf : (name : Name) (link : Option Content) (cs : List Code) (rest : Forest) →
+      EachRun P (split (leaf_then name link cs rest)) → (EachRun P (split rest) → EachRun P rest) →
+      EachRun P (leaf_then name link cs rest)
   each-whole-leaf N.Data None cs rest h k = ((λ e. cc), k (each-rest cs (split rest) h))
   each-whole-leaf N.Data (Some c) cs rest h k = (h.0, k h.1)
   each-whole-leaf name link cs rest h k = (h.0, k h.1)

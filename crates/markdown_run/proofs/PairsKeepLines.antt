@@ -36,7 +36,8 @@ abbrev IsGroupName : Name → Type 0
 IsGroupName n = (is_data n ≡ false) × (is_ending n ≡ false)
 
 group-names : (marker size : ℕ) → IsGroupName (pair_names marker size).0 × IsGroupName (pair_names marker size).2
-group-names = pair-named (λ names. IsGroupName names.0 × IsGroupName names.2) ((refl, refl), (refl, refl)) ((refl, refl), (refl, refl)) ((refl, refl), (refl, refl))
+group-names =
+    pair-named (λ names. IsGroupName names.0 × IsGroupName names.2) ((refl, refl), (refl, refl)) ((refl, refl), (refl, refl)) ((refl, refl), (refl, refl))
 
 assembled-lines : (w : List Token) → HasWord w → HasLines (assembled w)
 assembled-lines w h =
@@ -54,10 +55,12 @@ module _ (s : Setting) (pairs_of : List Run → List Pair) where
   tokens-has : (t : Forest) (ps : List Pair) (n : ℕ) → HasLines t → HasStripes t → HasWord (tokens_of s pairs_of t ps n)
   unfolding tokens_of
   tokens-has empty ps n h k = tt
-  tokens-has (leaf_then name link cs rest) ps n h k = leaf-has name link cs rest ps n h.0 (λ e. (k.0 e).0) (λ m. tokens-has rest ps m h.1 k.1)
+  tokens-has (leaf_then name link cs rest) ps n h k =
+      leaf-has name link cs rest ps n h.0 (λ e. (k.0 e).0) (λ m. tokens-has rest ps m h.1 k.1)
   tokens-has (group_then name a b inside rest) ps n h k =
       ((h.0, (assembled-lines (tokens_of s pairs_of inside (pairs_of (runs_of s inside)) 0) (tokens-has inside (pairs_of (runs_of s inside)) 0 h.1.0 k.1.0), tt)), tokens-has rest ps n h.1.1 k.1.1)
 
   pub HasLines-paired : (t : Forest) → HasLines t → HasStripes t → HasLines (paired s pairs_of t)
   unfolding paired
-  HasLines-paired t h k = assembled-lines (tokens_of s pairs_of t (pairs_of (runs_of s t)) 0) (tokens-has t (pairs_of (runs_of s t)) 0 h k)
+  HasLines-paired t h k =
+      assembled-lines (tokens_of s pairs_of t (pairs_of (runs_of s t)) 0) (tokens-has t (pairs_of (runs_of s t)) 0 h k)

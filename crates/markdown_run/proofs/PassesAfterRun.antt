@@ -50,8 +50,10 @@ labels_first false ns = ns
 pub record IsTrimming (last : ResolveName) (finish : ParseState → Forest → Forest) : Type 0 where
   pub may : (T : Tokenizer) → MayFinish T → may_resolve_of last T
   pub same : (T U : Tokenizer) → resolves_of last T U → U ≡ record T { events = U.events }
-  pub leaves : (T U : Tokenizer) (t : Forest) → resolves_of last T U → HasParts T.parse_state.now.bytes.now t → T.events ≡ appended_from 0 None t → U.events ≡ appended_from 0 None (finish T.parse_state.now t)
-  pub registers : (a b : Bool) (X : Tokenizer) → X.resolvers ≡ passes_of a b → registered last (registered R.Data X) ≡ record X { resolvers = labels_first a (passes_first b (R.Data ∷ last ∷ [])) }
+  pub leaves : (T U : Tokenizer) (t : Forest) → resolves_of last T U → HasParts T.parse_state.now.bytes.now t →
+      T.events ≡ appended_from 0 None t → U.events ≡ appended_from 0 None (finish T.parse_state.now t)
+  pub registers : (a b : Bool) (X : Tokenizer) → X.resolvers ≡ passes_of a b →
+      registered last (registered R.Data X) ≡ record X { resolvers = labels_first a (passes_first b (R.Data ∷ last ∷ [])) }
 
 -- a string is trimmed beside its line endings
 abbrev pub string_finish : ParseState → Forest → Forest
@@ -66,7 +68,8 @@ string-trims = record {
   registers = λ a b X e. subst (λ (rs : List ResolveName). registered R.String (registered R.Data (record X { resolvers = rs })) ≡ record X { resolvers = labels_first a (passes_first b (R.Data ∷ R.String ∷ [])) }) (sym e) (both a b X);
 }
   where
-    both : (a b : Bool) (X : Tokenizer) → registered R.String (registered R.Data (record X { resolvers = passes_of a b })) ≡ record X { resolvers = labels_first a (passes_first b (R.Data ∷ R.String ∷ [])) }
+    both : (a b : Bool) (X : Tokenizer) →
+        registered R.String (registered R.Data (record X { resolvers = passes_of a b })) ≡ record X { resolvers = labels_first a (passes_first b (R.Data ∷ R.String ∷ [])) }
     both true true X = refl
     both true false X = refl
     both false true X = refl
@@ -75,7 +78,8 @@ string-trims = record {
 -- a text is trimmed at the start and the end of the whole too, with hard breaks found, and then its email literals are set apart, both where
 -- they are looked for
 abbrev pub text_finish : ParseState → Forest → Forest
-text_finish p t = let on = p.options.now.constructs in mailed_where on.gfm_autolink_literal (trimmed on.hard_break_trailing true true t)
+text_finish p t =
+    let on = p.options.now.constructs in mailed_where on.gfm_autolink_literal (trimmed on.hard_break_trailing true true t)
 
 pub text-trims : IsTrimming R.Text text_finish
 unfolding registered
@@ -86,7 +90,8 @@ text-trims = record {
   registers = λ a b X e. subst (λ (rs : List ResolveName). registered R.Text (registered R.Data (record X { resolvers = rs })) ≡ record X { resolvers = labels_first a (passes_first b (R.Data ∷ R.Text ∷ [])) }) (sym e) (both a b X);
 }
   where
-    both : (a b : Bool) (X : Tokenizer) → registered R.Text (registered R.Data (record X { resolvers = passes_of a b })) ≡ record X { resolvers = labels_first a (passes_first b (R.Data ∷ R.Text ∷ [])) }
+    both : (a b : Bool) (X : Tokenizer) →
+        registered R.Text (registered R.Data (record X { resolvers = passes_of a b })) ≡ record X { resolvers = labels_first a (passes_first b (R.Data ∷ R.Text ∷ [])) }
     both true true X = refl
     both true false X = refl
     both false true X = refl
@@ -101,8 +106,10 @@ pub record IsRead (p : ParseState) (pieces : List Piece) (tree : Forest) (X : To
   pub events : X.events ≡ appended_from 0 None tree
   pub input : X.parse_state.now ≡ p
 
-merged-parts : (p : ParseState) (pieces : List Piece) (tree : Forest) (X : Tokenizer) → IsRead p pieces tree X → HasParts p.bytes.now (merged tree)
-merged-parts p pieces tree X h = parts-of p.bytes.now pieces (merged tree) h.content (codes-merged tree ∙ h.codes) (HasLines-merged tree h.has_lines)
+merged-parts : (p : ParseState) (pieces : List Piece) (tree : Forest) (X : Tokenizer) → IsRead p pieces tree X →
+    HasParts p.bytes.now (merged tree)
+merged-parts p pieces tree X h =
+    parts-of p.bytes.now pieces (merged tree) h.content (codes-merged tree ∙ h.codes) (HasLines-merged tree h.has_lines)
 
 -- what the first pass leaves
 record IsMerged (p : ParseState) (tree : Forest) (V : Tokenizer) : Type 0 where
@@ -110,17 +117,21 @@ record IsMerged (p : ParseState) (tree : Forest) (V : Tokenizer) : Type 0 where
   pub events : V.events ≡ appended_from 0 None (merged tree)
   pub input : V.parse_state.now ≡ p
 
-after-merging : (p : ParseState) (pieces : List Piece) (tree : Forest) (X V : Tokenizer) → IsRead p pieces tree X → MergesData X V → IsMerged p tree V
+after-merging : (p : ParseState) (pieces : List Piece) (tree : Forest) (X V : Tokenizer) → IsRead p pieces tree X →
+    MergesData X V → IsMerged p tree V
 after-merging p pieces tree X V h m = record {
   map = ap (λ (x : Tokenizer). x.map) m.same ∙ h.map;
   events = m.merges tree (HasLines-HasData tree h.has_lines) h.events;
   input = ap (λ (x : Tokenizer). x.parse_state.now) m.same ∙ h.input;
 }
 
-merged-there : (p : ParseState) (pieces : List Piece) (tree : Forest) (X V : Tokenizer) → IsRead p pieces tree X → V.parse_state.now ≡ p → HasParts V.parse_state.now.bytes.now (merged tree)
-merged-there p pieces tree X V h e = subst (λ (x : ParseState). HasParts x.bytes.now (merged tree)) (sym e) (merged-parts p pieces tree X h)
+merged-there : (p : ParseState) (pieces : List Piece) (tree : Forest) (X V : Tokenizer) → IsRead p pieces tree X →
+    V.parse_state.now ≡ p → HasParts V.parse_state.now.bytes.now (merged tree)
+merged-there p pieces tree X V h e =
+    subst (λ (x : ParseState). HasParts x.bytes.now (merged tree)) (sym e) (merged-parts p pieces tree X h)
 
-may-finish : (p : ParseState) (pieces : List Piece) (tree : Forest) (X V : Tokenizer) → IsRead p pieces tree X → MergesData X V → MayFinish V
+may-finish : (p : ParseState) (pieces : List Piece) (tree : Forest) (X V : Tokenizer) → IsRead p pieces tree X →
+    MergesData X V → MayFinish V
 may-finish p pieces tree X V h m =
     let k : IsMerged p tree V = after-merging p pieces tree X V h m in
     record {
@@ -130,12 +141,15 @@ may-finish p pieces tree X V h m =
     }
 
 -- the passes may be run
-pub passes-may : (p : ParseState) (pieces : List Piece) (tree : Forest) (last : ResolveName) (finish : ParseState → Forest → Forest) (X : Tokenizer) → IsTrimming last finish → IsRead p pieces tree X → MayResolve may_resolve_of resolves_of (R.Data ∷ last ∷ []) X
+pub passes-may : (p : ParseState) (pieces : List Piece) (tree : Forest) (last : ResolveName) (finish : ParseState → Forest → Forest) (X : Tokenizer) →
+    IsTrimming last finish → IsRead p pieces tree X → MayResolve may_resolve_of resolves_of (R.Data ∷ last ∷ []) X
 passes-may p pieces tree last finish X t h =
     (h.map, λ V m. (t.may V (may-finish p pieces tree X V h m), λ W l. tt))
 
 -- what they leave
-pub passes-leave : (p : ParseState) (pieces : List Piece) (tree : Forest) (last : ResolveName) (finish : ParseState → Forest → Forest) (X V : Tokenizer) → IsTrimming last finish → IsRead p pieces tree X → Resolves resolves_of (R.Data ∷ last ∷ []) X V → (V.events ≡ appended_from 0 None (finish p (merged tree))) × (V.tokenize_state ≡ X.tokenize_state)
+pub passes-leave : (p : ParseState) (pieces : List Piece) (tree : Forest) (last : ResolveName) (finish : ParseState → Forest → Forest) (X V : Tokenizer) →
+    IsTrimming last finish → IsRead p pieces tree X → Resolves resolves_of (R.Data ∷ last ∷ []) X V →
+    (V.events ≡ appended_from 0 None (finish p (merged tree))) × (V.tokenize_state ≡ X.tokenize_state)
 passes-leave p pieces tree last finish X V t h r =
     let W : Tokenizer = r.0 in
     let U : Tokenizer = r.1.1.0 in
@@ -154,9 +168,11 @@ pub record IsGiven (s : Setting) (p : ParseState) : Type 0 where
   pub options : s.options ≡ p.options.now
 
 given-of : (s : Setting) (p : ParseState) (X : Tokenizer) → IsGiven s p → X.parse_state.now ≡ p → IsOf s X
-given-of s p X g e = record { bytes = g.bytes ∙ ap (λ (x : ParseState). x.bytes.now) (sym e); options = g.options ∙ ap (λ (x : ParseState). x.options.now) (sym e) }
+given-of s p X g e =
+    record { bytes = g.bytes ∙ ap (λ (x : ParseState). x.bytes.now) (sym e); options = g.options ∙ ap (λ (x : ParseState). x.options.now) (sym e) }
 
-may-pair : (p : ParseState) (pieces : List Piece) (tree : Forest) (X : Tokenizer) → IsRead p pieces tree X → IsGood p.bytes.now tree → MayPair X
+may-pair : (p : ParseState) (pieces : List Piece) (tree : Forest) (X : Tokenizer) → IsRead p pieces tree X →
+    IsGood p.bytes.now tree → MayPair X
 may-pair p pieces tree X h good =
     let m : MeetsPass p.bytes.now tree = good-meets p.bytes.now tree h.content.is_text h.content.fits good in
     let codes : length (leaf_codes tree) ≡ length (content_of p.bytes.now pieces) = ap length h.codes in
@@ -198,7 +214,8 @@ pub record IsResolved (s : Setting) (finish : Forest → Forest) (tree : Forest)
 
 -- the passes behind that of labels: those of runs, if a run stands somewhere, of data and of the whole
 module _ (p : ParseState) (pieces : List Piece) (tree : Forest) (s : Setting) (given : IsGiven s p) (last : ResolveName) (finish : ParseState → Forest → Forest) (X : Tokenizer) (t : IsTrimming last finish) (read : IsRead p pieces tree X) where
-  pub first-may : (b : Bool) → (b ≡ true → IsGood p.bytes.now tree) → MayResolve may_resolve_of resolves_of (passes_first b (R.Data ∷ last ∷ [])) X
+  pub first-may : (b : Bool) → (b ≡ true → IsGood p.bytes.now tree) →
+      MayResolve may_resolve_of resolves_of (passes_first b (R.Data ∷ last ∷ [])) X
   first-may true good = (
     may-pair p pieces tree X read (good refl),
     λ V m. passes-may p pieces (paired s (pair_list s) tree) last finish V t (paired-read p pieces tree s given X V read (good refl) m),
@@ -233,6 +250,7 @@ pub record IsStart (p : ParseState) (pieces : List Piece) (S : Tokenizer) : Type
   pub resolvers : S.resolvers ≡ []
   pub probes : S.tokenize_state.probes ≡ 0
 
-pub codes-ahead : (p : ParseState) (pieces : List Piece) (S : Tokenizer) → S.cursor ≡ start_of_content p.bytes.now pieces → ahead S ≡ content_of p.bytes.now pieces
+pub codes-ahead : (p : ParseState) (pieces : List Piece) (S : Tokenizer) →
+    S.cursor ≡ start_of_content p.bytes.now pieces → ahead S ≡ content_of p.bytes.now pieces
 unfolding start_of_content ahead_at
 codes-ahead p pieces S e = ap ahead_at e

@@ -10,7 +10,8 @@ use Rattle.markdown_model.specs.Runs.{Run, containers_of}
 use Rattle.markdown_model.specs.Setting.{Setting}
 
 -- of trees that differ only in how data is cut
-pub probes-alike : (s : Setting) (t u : Forest) (probes : ℕ) → split t ≡ split u → IsProbed s t probes → IsProbed s u probes
+pub probes-alike : (s : Setting) (t u : Forest) (probes : ℕ) → split t ≡ split u → IsProbed s t probes →
+    IsProbed s u probes
 probes-alike s t u probes e k =
     let same : containers_of s t ≡ containers_of s u = containers-same s t u e in
     record {

@@ -60,7 +60,8 @@ module _ (p : ParseState) (pieces : List Piece) (s : Setting) (given : IsGiven s
   runless e = grouped-runless row at e
 
   -- with the events of the grouped tree
-  read-with : (Y : Tokenizer) → Y.map ≡ [] → Y.events ≡ appended_from 0 None tree → Y.parse_state.now ≡ p → IsRead p pieces tree Y
+  read-with : (Y : Tokenizer) → Y.map ≡ [] → Y.events ≡ appended_from 0 None tree → Y.parse_state.now ≡ p →
+      IsRead p pieces tree Y
   read-with Y map events input = record {
     content = start.content;
     has_lines = grouped-lines row at;
@@ -93,14 +94,16 @@ module _ (p : ParseState) (pieces : List Piece) (s : Setting) (given : IsGiven s
   -- what the pass of labels leaves
   read-grouped : (Y : Tokenizer) → GroupsLabels X Y → IsRead p pieces tree Y
   unfolding unregistered
-  read-grouped Y g = read-with Y (ap (λ (x : Tokenizer). x.map) g.same ∙ map-none) (g.grouped B has) (ap (λ (x : Tokenizer). x.parse_state.now) g.same ∙ input)
+  read-grouped Y g =
+      read-with Y (ap (λ (x : Tokenizer). x.map) g.same ∙ map-none) (g.grouped B has) (ap (λ (x : Tokenizer). x.parse_state.now) g.same ∙ input)
 
   grouped-probes : (Y : Tokenizer) → GroupsLabels X Y → Y.tokenize_state.probes ≡ 0
   unfolding unregistered
   grouped-probes Y g = ap (λ (x : Tokenizer). x.tokenize_state.probes) g.same ∙ probes
 
   labels-may : (a : Bool) → row_registers row ≡ a → MayResolve may_resolve_of resolves_of (labels_first a Others) X
-  labels-may true e = (may-group, λ Y g. first-may p pieces tree s given last finish Y t (read-grouped Y g) (row_has_run row) good)
+  labels-may true e =
+      (may-group, λ Y g. first-may p pieces tree s given last finish Y t (read-grouped Y g) (row_has_run row) good)
   labels-may false e = first-may p pieces tree s given last finish X t (read-plain e) (row_has_run row) good
 
   -- after the run the passes may be run
@@ -108,11 +111,15 @@ module _ (p : ParseState) (pieces : List Piece) (s : Setting) (given : IsGiven s
   unfolding unregistered
   row-may = subst (λ (x : Tokenizer). MayResolve may_resolve_of resolves_of x.resolvers (unregistered x)) (sym left-is) (labels-may (row_registers row) refl)
 
-  labels-leave : (a : Bool) → row_registers row ≡ a → (V : Tokenizer) → Resolves resolves_of (labels_first a Others) X V → IsResolved s (finish p) tree V
-  labels-leave true e V r = first-leaves p pieces tree s given last finish r.0 t (read-grouped r.0 r.1.0) (row_has_run row) good runless (grouped-probes r.0 r.1.0) V r.1.1
-  labels-leave false e V r = first-leaves p pieces tree s given last finish X t (read-plain e) (row_has_run row) good runless plain-probes V r
+  labels-leave : (a : Bool) → row_registers row ≡ a → (V : Tokenizer) →
+      Resolves resolves_of (labels_first a Others) X V → IsResolved s (finish p) tree V
+  labels-leave true e V r =
+      first-leaves p pieces tree s given last finish r.0 t (read-grouped r.0 r.1.0) (row_has_run row) good runless (grouped-probes r.0 r.1.0) V r.1.1
+  labels-leave false e V r =
+      first-leaves p pieces tree s given last finish X t (read-plain e) (row_has_run row) good runless plain-probes V r
 
   -- and what they leave
   pub row-left : (V : Tokenizer) → Resolves resolves_of U.resolvers (unregistered U) V → IsResolved s (finish p) tree V
   unfolding unregistered
-  row-left V r = labels-leave (row_registers row) refl V (subst (λ (x : Tokenizer). Resolves resolves_of x.resolvers (unregistered x) V) left-is r)
+  row-left V r =
+      labels-leave (row_registers row) refl V (subst (λ (x : Tokenizer). Resolves resolves_of x.resolvers (unregistered x) V) left-is r)

@@ -17,19 +17,22 @@ IsStill (ends marker outcome) = Unit {0}
 
 onto-still : (t : Forest) (r : Row) → has_run t ≡ false → row_has_run r ≡ false → row_has_run (tree_onto t r) ≡ false
 onto-still t (row_end u) h k = has_run-row t u ∙ (λ i. h i || k i)
-onto-still t (row_then u mark rest) h k = ap (λ b. b || row_has_run rest) (has_run-row t u ∙ ap (λ b. b || has_run u) h) ∙ k
+onto-still t (row_then u mark rest) h k =
+    ap (λ b. b || row_has_run rest) (has_run-row t u ∙ ap (λ b. b || has_run u) h) ∙ k
 
 -- such an element before such a row
 pub still-first : (e : Element) (r : Row) → IsStill e → row_has_run r ≡ false → row_has_run (element_onto e r) ≡ false
 still-first (plain tree) r h k = onto-still tree r (runless-no-run tree h) k
 still-first (starts kind marker) r h k = k
 still-first (ends marker (Some outcome)) r h k = k
-still-first (ends marker None) r h k = onto-still (leaf N.Data marker) r (runless-no-run (leaf N.Data marker) (leaf-runless N.Data marker refl)) k
+still-first (ends marker None) r h k =
+    onto-still (leaf N.Data marker) r (runless-no-run (leaf N.Data marker) (leaf-runless N.Data marker refl)) k
 
 -- how data is cut is no matter to runs
 split-runs : (r : Row) → row_has_run (split_row r) ≡ row_has_run r
 split-runs (row_end t) = has_run-split t
 split-runs (row_then t mark rest) = λ i. has_run-split t i || split-runs rest i
 
-pub row-still : (row : Row) (es : List Element) → split_row row ≡ split_row (row_of_elements es) → row_has_run (row_of_elements es) ≡ false → row_has_run row ≡ false
+pub row-still : (row : Row) (es : List Element) → split_row row ≡ split_row (row_of_elements es) →
+    row_has_run (row_of_elements es) ≡ false → row_has_run row ≡ false
 row-still row es e h = sym (split-runs row) ∙ ap row_has_run e ∙ split-runs (row_of_elements es) ∙ h

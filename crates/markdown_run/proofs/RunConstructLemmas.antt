@@ -7,7 +7,8 @@ use Rattle.markdown_engine.specs.PastTree.{TreeReading, Refuses}
 use Rattle.markdown_engine.specs.StateRuns.{restored}
 use Rattle.markdown_engine.specs.declared.state.State.TheVariants as State
 use Rattle.markdown_engine.specs.declared.state.StateName.{StateName}
-use Rattle.markdown_engine.specs.declared.state.StateName.TheVariants.{AttentionStart, AutolinkStart, CharacterEscapeStart, CharacterReferenceStart, DataStart, DestinationStart, LabelStart, TitleStart, GfmAutolinkLiteralProtocolStart, GfmAutolinkLiteralWwwStart, GfmLabelStartFootnoteStart, GfmTaskListItemCheckStart, HardBreakEscapeStart, HtmlTextStart, LabelEndStart, LabelStartImageStart, LabelStartLinkStart, RawTextStart, SpaceOrTabStart, SpaceOrTabEolStart}
+use Rattle.markdown_engine.specs.declared.state.StateName.TheVariants.{AttentionStart, AutolinkStart, CharacterEscapeStart, CharacterReferenceStart, DataStart, DestinationStart, LabelStart, TitleStart, GfmAutolinkLiteralProtocolStart, GfmAutolinkLiteralWwwStart}
+use Rattle.markdown_engine.specs.declared.state.StateName.TheVariants.{GfmLabelStartFootnoteStart, GfmTaskListItemCheckStart, HardBreakEscapeStart, HtmlTextStart, LabelEndStart, LabelStartImageStart, LabelStartLinkStart, RawTextStart, SpaceOrTabStart, SpaceOrTabEolStart}
 use Rattle.markdown_engine.specs.declared.tokenizer.TokenizeState.{TokenizeState}
 use Rattle.markdown_engine.specs.declared.tokenizer.Tokenizer.{Tokenizer}
 use Rattle.markdown_engine.proofs.ReadingSequences.{scratched-same}
@@ -24,15 +25,19 @@ use Rattle.markdown_run.specs.Layer.{ends_of}
 
 -- U with the events, the edits, the open names and the place of T
 abbrev pub put_back : Tokenizer → Tokenizer → Tokenizer
-put_back T U = record U { events = take (length T.events) U.events; map = take (length T.map) U.map; stack = drop (length U.stack - length T.stack) U.stack; cursor = T.cursor }
+put_back T U =
+    record U { events = take (length T.events) U.events; map = take (length T.map) U.map; stack = drop (length U.stack - length T.stack) U.stack; cursor = T.cursor }
 
-refuses-stays : (r : TreeReading) (previous : Option ℕ) (s : TokenizeState) (T U V : Tokenizer) → Refuses r s T U → V ≡ put_back T U → ReadsOrStays None r previous s T false V
+refuses-stays : (r : TreeReading) (previous : Option ℕ) (s : TokenizeState) (T U V : Tokenizer) → Refuses r s T U →
+    V ≡ put_back T U → ReadsOrStays None r previous s T false V
 unfolding restored frame_of
 refuses-stays r previous s T U V k e = (k.refused, e ∙ restored-fails false State.Ok State.Nok s T U k.fails)
 
 -- the start of a label that is not read
 
-begins-not : (reading : Reading Element) (d : ℕ) (test : List Code → Bool) (T U V : Tokenizer) → d ≡ 0 → (test (ahead T) ≡ false → reading (ahead T) ≡ None) → BeginsNot d test T U → V ≡ put_back T U → BeginsOrStays reading T false V
+begins-not : (reading : Reading Element) (d : ℕ) (test : List Code → Bool) (T U V : Tokenizer) → d ≡ 0 →
+    (test (ahead T) ≡ false → reading (ahead T) ≡ None) → BeginsNot d test T U → V ≡ put_back T U →
+    BeginsOrStays reading T false V
 unfolding restored frame_of
 begins-not reading d test T U V zero none k e =
     (none k.refused, e ∙ restored-fails false State.Ok State.Nok T.tokenize_state T U (record { grown = subst (λ n. Grown n T U) zero k.grown; scratch = k.scratch }) ∙ scratched-same T)
@@ -41,7 +46,8 @@ ends-not : (T U V : Tokenizer) → EndFails T U → V ≡ put_back T U → EndsO
 unfolding restored frame_of
 ends-not T U V k e = (k.refused, e ∙ restored-fails false State.Ok State.Nok (lost_fields T) T U k.fails)
 
-refused-stays : (name : StateName) (T U V : Tokenizer) → IsConstruct name T → ends_of name T false U → V ≡ put_back T U → ConstructEnds name T false V
+refused-stays : (name : StateName) (T U V : Tokenizer) → IsConstruct name T → ends_of name T false U →
+    V ≡ put_back T U → ConstructEnds name T false V
 refused-stays CharacterEscapeStart T U V c k e = refuses-stays _ None T.tokenize_state T U V k e
 refused-stays CharacterReferenceStart T U V c k e = refuses-stays _ None T.tokenize_state T U V k e
 refused-stays HardBreakEscapeStart T U V c k e = refuses-stays _ None T.tokenize_state T U V k e
@@ -56,25 +62,33 @@ refused-stays DataStart T U V c k e = refuses-stays _ None T.tokenize_state T U 
 refused-stays GfmTaskListItemCheckStart T U V c k e = refuses-stays _ None T.tokenize_state T U V k e
 refused-stays GfmAutolinkLiteralProtocolStart T U V c k e = refuses-stays _ None T.tokenize_state T U V k e
 refused-stays GfmAutolinkLiteralWwwStart T U V c k e = refuses-stays _ None T.tokenize_state T U V k e
-refused-stays SpaceOrTabStart T U V c k e = refuses-stays _ (chain_before SpaceOrTabStart T) (fields_after SpaceOrTabStart T.tokenize_state) T U V k e
-refused-stays SpaceOrTabEolStart T U V c k e = refuses-stays _ (chain_before SpaceOrTabEolStart T) (fields_after SpaceOrTabEolStart T.tokenize_state) T U V k e
-refused-stays LabelStartImageStart T U V c k e = begins-not (start_reading LabelStartImageStart T) 0 (image_test T) T U V refl (image-not T) k e
-refused-stays LabelStartLinkStart T U V c k e = begins-not (start_reading LabelStartLinkStart T) 0 (link_test T) T U V refl (link-not T) k e
-refused-stays GfmLabelStartFootnoteStart T U V c k e = begins-not (start_reading GfmLabelStartFootnoteStart T) 0 (footnote_test T) T U V refl (footnote-not T) k e
+refused-stays SpaceOrTabStart T U V c k e =
+    refuses-stays _ (chain_before SpaceOrTabStart T) (fields_after SpaceOrTabStart T.tokenize_state) T U V k e
+refused-stays SpaceOrTabEolStart T U V c k e =
+    refuses-stays _ (chain_before SpaceOrTabEolStart T) (fields_after SpaceOrTabEolStart T.tokenize_state) T U V k e
+refused-stays LabelStartImageStart T U V c k e =
+    begins-not (start_reading LabelStartImageStart T) 0 (image_test T) T U V refl (image-not T) k e
+refused-stays LabelStartLinkStart T U V c k e =
+    begins-not (start_reading LabelStartLinkStart T) 0 (link_test T) T U V refl (link-not T) k e
+refused-stays GfmLabelStartFootnoteStart T U V c k e =
+    begins-not (start_reading GfmLabelStartFootnoteStart T) 0 (footnote_test T) T U V refl (footnote-not T) k e
 refused-stays LabelEndStart T U V c k e = ends-not T U V k e
 refused-stays _ T U V c k e = absurd c
 
-pub construct-stays : (name : StateName) (T U V : Tokenizer) (ok : Bool) → IsConstruct name T → ok ≡ false → ends_of name T ok U → V ≡ put_back T U → ConstructEnds name T ok V
+pub construct-stays : (name : StateName) (T U V : Tokenizer) (ok : Bool) → IsConstruct name T → ok ≡ false →
+    ends_of name T ok U → V ≡ put_back T U → ConstructEnds name T ok V
 construct-stays name T U V true c h k e = cc
 construct-stays name T U V false c h k e = refused-stays name T U V c k e
 
 -- an end of a label that is read
 ends-made : (T U : Tokenizer) → Ends T U → EndsOrLoses T true U
 unfolding past_mark
-ends-made T U k = (k.back, (k.kind, (k.tail, (k.holds ∙ ap (λ xs. Some ((k.back, (k.kind, k.tail)), xs)) (sym k.after), k.left))))
+ends-made T U k =
+    (k.back, (k.kind, (k.tail, (k.holds ∙ ap (λ xs. Some ((k.back, (k.kind, k.tail)), xs)) (sym k.after), k.left))))
 
 -- a construct that holds
-read-so : (name : StateName) (T U : Tokenizer) → IsConstruct name T → ends_of name T true U → ConstructEnds name T true U
+read-so : (name : StateName) (T U : Tokenizer) → IsConstruct name T → ends_of name T true U →
+    ConstructEnds name T true U
 read-so AttentionStart T U c k = let r : ReadsRun T U = k in (r.there, (r.reads, r.left))
 read-so CharacterEscapeStart T U c k = k
 read-so CharacterReferenceStart T U c k = k
@@ -97,6 +111,7 @@ read-so GfmLabelStartFootnoteStart T U c k = footnote-begins T U k
 read-so LabelEndStart T U c k = ends-made T U k
 read-so _ T U c k = absurd c
 
-pub construct-reads : (name : StateName) (T U : Tokenizer) (ok : Bool) → IsConstruct name T → ok ≡ true → ends_of name T ok U → ConstructEnds name T ok U
+pub construct-reads : (name : StateName) (T U : Tokenizer) (ok : Bool) → IsConstruct name T → ok ≡ true →
+    ends_of name T ok U → ConstructEnds name T ok U
 construct-reads name T U true c h k = read-so name T U c k
 construct-reads name T U false c h k = cc

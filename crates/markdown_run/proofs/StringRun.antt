@@ -41,7 +41,8 @@ use Rattle.markdown_run_row.proofs.CutDataLemmas.{merged-same}
 use Rattle.markdown_model.proofs.StringTreeIsElements.{row_of}
 
 -- where data stops at the markers of a string
-marked-start : (p : ParseState) (pieces : List Piece) (T : Tokenizer) → Starts p pieces at_rest T → Starts p pieces (record at_rest { markers = string_markers }) (string_marked T)
+marked-start : (p : ParseState) (pieces : List Piece) (T : Tokenizer) → Starts p pieces at_rest T →
+    Starts p pieces (record at_rest { markers = string_markers }) (string_marked T)
 unfolding scratched
 marked-start p pieces T k =
     let m : Starts p pieces (record T.tokenize_state { markers = string_markers }) (string_marked T) = start-with p pieces at_rest (record T.tokenize_state { markers = string_markers }) T k in
@@ -101,7 +102,8 @@ module _ (p : ParseState) (pieces : List Piece) (content : IsContent p.bytes.now
     good e = absurd (both_ways (row_has_run E.row) none e)
 
     pub string-may : MayResolve may_resolve_of resolves_of U.resolvers (unregistered U)
-    string-may = finished-may R.String string_finish string-trims (string_here M) p pieces content (setting_of p) G _ F M U S E good
+    string-may =
+        finished-may R.String string_finish string-trims (string_here M) p pieces content (setting_of p) G _ F M U S E good
 
     module _ (V : Tokenizer) (r : Resolves resolves_of U.resolvers (unregistered U) V) where
       runless : IsRunless Tree

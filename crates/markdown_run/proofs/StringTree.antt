@@ -20,16 +20,19 @@ use Rattle.markdown_model.proofs.StringTreeIsElements.{labels_of-plain, row_of, 
 use Rattle.markdown_model.proofs.OneElementList.{same_string_elements, string_elements}
 
 -- the labels of a string are the row of its elements
-labels-of-string : (s : Setting) (cs : List Code) (es : List Element) → AreStringElements s cs es → labels_of (string_elements_of s cs) ≡ row_of es
+labels-of-string : (s : Setting) (cs : List Code) (es : List Element) → AreStringElements s cs es →
+    labels_of (string_elements_of s cs) ≡ row_of es
 labels-of-string s cs es h =
     ap labels_of (same_string_elements s cs (string_elements_of s cs) es (string_elements s cs) h)
     ∙ labels_of-plain es (string_are_plain s es [] None cs h)
 
-pub string-labels : (s : Setting) (cs : List Code) (es : List Element) → AreStringElements s cs es → labels_of es ≡ row_of es
+pub string-labels : (s : Setting) (cs : List Code) (es : List Element) → AreStringElements s cs es →
+    labels_of es ≡ row_of es
 string-labels s cs es h = labels_of-plain es (string_are_plain s es [] None cs h)
 
 -- the tree of a string with these elements
-pub string-finished : (s : Setting) (cs : List Code) (es : List Element) → AreStringElements s cs es → string_tree s cs ≡ trimmed false false false (merged (row_of es))
+pub string-finished : (s : Setting) (cs : List Code) (es : List Element) → AreStringElements s cs es →
+    string_tree s cs ≡ trimmed false false false (merged (row_of es))
 unfolding string_tree finished_string
 string-finished s cs es h = ap (λ t. trimmed false false false (merged t)) (labels-of-string s cs es h)
 
@@ -37,7 +40,8 @@ string-finished s cs es h = ap (λ t. trimmed false false false (merged t)) (lab
 
 still_plain : (bytes : List ℕ) (a : Reading Forest) → ReadsPlain bytes a → Yields IsStill (as_plain a)
 unfolding as_plain
-still_plain bytes a h = yields_bind (IsPlainTree bytes) _ _ _ h.plain λ tree own. yields_gives _ (plain tree) (quiet-runless tree (plain-node bytes tree own).quiet)
+still_plain bytes a h =
+    yields_bind (IsPlainTree bytes) _ _ _ h.plain λ tree own. yields_gives _ (plain tree) (quiet-runless tree (plain-node bytes tree own).quiet)
 
 string_passes : (s : Setting) (cs : List Code) → Passes IsStill (string_element s cs)
 unfolding line_ending data_code
@@ -46,7 +50,8 @@ string_passes s cs =
     ((yields_either _ _ _ (then_any _ _ _ λ c. yields_gives _ (plain (leaf N.LineEnding c)) (leaf-runless N.LineEnding c refl)) (then_any _ _ _ λ c. yields_gives _ (plain (leaf N.Data c)) (leaf-runless N.Data c refl))).at cs)
 
 -- no run stands in the row of the elements of a string
-pub string-still : (s : Setting) (es earlier : List Element) (previous : Option Code) (cs : List Code) → AreElementsFrom (string_choice s) earlier previous cs es → row_has_run (row_of_elements es) ≡ false
+pub string-still : (s : Setting) (es earlier : List Element) (previous : Option Code) (cs : List Code) →
+    AreElementsFrom (string_choice s) earlier previous cs es → row_has_run (row_of_elements es) ≡ false
 string-still s [] earlier previous cs h = refl
 string-still s (e ∷ es) earlier previous cs h =
     still-first e (row_of_elements es) (subst (λ o. Passes IsStill o) h.1 (string_passes s cs)) (string-still s es (e ∷ earlier) (code_before cs h.0) h.0 h.2)

@@ -58,12 +58,14 @@ abbrev pub text_start : ParseState → List Piece → Bool → Tokenizer → Typ
 text_start p pieces first T = Starts p pieces (text_fields first) T
 
 -- a new tokenizer that is told so
-pub started : (p : ParseState) (pieces : List Piece) (first : Bool) (B : Tokenizer) → Starts p pieces at_rest B → text_start p pieces first (record B { tokenize_state = record B.tokenize_state { document_at_first_paragraph_of_list_item = first } })
+pub started : (p : ParseState) (pieces : List Piece) (first : Bool) (B : Tokenizer) → Starts p pieces at_rest B →
+    text_start p pieces first (record B { tokenize_state = record B.tokenize_state { document_at_first_paragraph_of_list_item = first } })
 started p pieces first B k =
     let m : Starts p pieces (record B.tokenize_state { document_at_first_paragraph_of_list_item = first }) (record B { tokenize_state = record B.tokenize_state { document_at_first_paragraph_of_list_item = first } }) = start-with p pieces at_rest (record B.tokenize_state { document_at_first_paragraph_of_list_item = first }) B k in
     subst (λ (s : TokenizeState). Starts p pieces (record s { document_at_first_paragraph_of_list_item = first }) (record B { tokenize_state = record B.tokenize_state { document_at_first_paragraph_of_list_item = first } })) k.fields m
 
-pub text-ready : (p : ParseState) (pieces : List Piece) (first : Bool) (T : Tokenizer) → IsTextContent p.bytes.now pieces → text_start p pieces first T → StartReady T
+pub text-ready : (p : ParseState) (pieces : List Piece) (first : Bool) (T : Tokenizer) →
+    IsTextContent p.bytes.now pieces → text_start p pieces first T → StartReady T
 text-ready p pieces first T text k =
     let content : IsContent p.bytes.now pieces = text.is_content in
     let fits : codes_left T ≤ most = start-fits p.bytes.now pieces T content k.place in
@@ -83,7 +85,8 @@ text-ready p pieces first T text k =
     }
 
 -- where data stops where an element may begin, and where the runs of its spans stand
-marked-start : (p : ParseState) (pieces : List Piece) (first : Bool) (T : Tokenizer) → text_start p pieces first T → Starts p pieces (marked_fields T.cursor T.parse_state.now (text_fields first)) (text_marked T)
+marked-start : (p : ParseState) (pieces : List Piece) (first : Bool) (T : Tokenizer) → text_start p pieces first T →
+    Starts p pieces (marked_fields T.cursor T.parse_state.now (text_fields first)) (text_marked T)
 unfolding scratched
 marked-start p pieces first T k =
     let m : Starts p pieces (marked_fields T.cursor T.parse_state.now T.tokenize_state) (text_marked T) = start-with p pieces (text_fields first) (marked_fields T.cursor T.parse_state.now T.tokenize_state) T k in
@@ -158,7 +161,8 @@ module _ (p : ParseState) (pieces : List Piece) (first : Bool) (content : IsCont
           (finished-probes R.Text text_finish text-trims (text_choice_of M) p pieces content Given Is _ F M U S E good V (labels_of found.elements) found.trees r)
 
       -- where runs are not looked for none is taken
-      pub text-no-probes : Given.options.constructs.attention ≡ false → Given.options.constructs.gfm_strikethrough ≡ false → V.tokenize_state.probes ≡ 0
+      pub text-no-probes : Given.options.constructs.attention ≡ false →
+          Given.options.constructs.gfm_strikethrough ≡ false → V.tokenize_state.probes ≡ 0
       text-no-probes off none =
           let still : row_has_run E.row ≡ false = row-still E.row found.elements found.alike (text-still Given all_codes found.elements are off none) in
           probes-none Given Tree V.tokenize_state.probes (grouped-runless E.row found.is_row still) (finished-left R.Text text_finish text-trims (text_choice_of M) p pieces content Given Is _ F M U S E good V r).probed

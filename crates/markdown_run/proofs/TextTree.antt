@@ -43,7 +43,8 @@ pub record HoldsOfParts (P : Element → Type 0) (on : Constructs) : Type 0 wher
 module _ (P : Element → Type 0) (s : Setting) (h : HoldsOfParts P s.options.constructs) where
   plain_yields : (a : Reading Forest) → ReadsPlain s.bytes a → Yields P (as_plain a)
   unfolding as_plain
-  plain_yields a k = yields_bind (IsPlainTree s.bytes) _ _ _ k.plain λ tree own. yields_gives _ (plain tree) (h.nodes tree (plain-node s.bytes tree own))
+  plain_yields a k =
+      yields_bind (IsPlainTree s.bytes) _ _ _ k.plain λ tree own. yields_gives _ (plain tree) (h.nodes tree (plain-node s.bytes tree own))
 
   ending_yields : Yields P line_ending
   unfolding line_ending
@@ -55,9 +56,11 @@ module _ (P : Element → Type 0) (s : Setting) (h : HoldsOfParts P s.options.co
 
   end_yields : (earlier : List Element) → Yields P (label_end s earlier)
   unfolding label_end
-  end_yields earlier = then_any _ _ _ λ back. yields_either _ _ _ (then_any _ _ _ λ outcome. yields_gives _ _ (h.closes back (Some outcome))) (yields_gives _ _ (h.closes back None))
+  end_yields earlier =
+      then_any _ _ _ λ back. yields_either _ _ _ (then_any _ _ _ λ outcome. yields_gives _ _ (h.closes back (Some outcome))) (yields_gives _ _ (h.closes back None))
 
-  text_passes : (end : ℕ) (earlier : List Element) (previous : Option Code) (cs : List Code) → Passes P (text_element s end earlier previous cs)
+  text_passes : (end : ℕ) (earlier : List Element) (previous : Option Code) (cs : List Code) →
+      Passes P (text_element s end earlier previous cs)
   text_passes end earlier previous cs = text_has s end earlier previous (Passes P) cs each (data_yields.at cs)
     where
       each : EachConstruct s end earlier previous (Passes P) cs
@@ -90,12 +93,16 @@ still-row [] h = refl
 still-row (e ∷ es) h = still-first e (row_of_elements es) h.0 (still-row es h.1)
 
 -- where runs are not looked for none stands in the row of the elements
-pub text-still : (s : Setting) (cs : List Code) (es : List Element) → AreElements s cs es → s.options.constructs.attention ≡ false → s.options.constructs.gfm_strikethrough ≡ false → row_has_run (row_of_elements es) ≡ false
-text-still s cs es are off none = still-row es (all_are IsStill (text_choice s cs) (text_passes IsStill s (parts-still s.options.constructs off none) (stop_of document_start cs).index) es [] None cs are)
+pub text-still : (s : Setting) (cs : List Code) (es : List Element) → AreElements s cs es →
+    s.options.constructs.attention ≡ false → s.options.constructs.gfm_strikethrough ≡ false →
+    row_has_run (row_of_elements es) ≡ false
+text-still s cs es are off none =
+    still-row es (all_are IsStill (text_choice s cs) (text_passes IsStill s (parts-still s.options.constructs off none) (stop_of document_start cs).index) es [] None cs are)
 
 -- The tree of labels.
 
-pub text-labels : (s : Setting) (cs : List Code) (es : List Element) → AreElements s cs es → label_tree s cs ≡ labels_of es
+pub text-labels : (s : Setting) (cs : List Code) (es : List Element) → AreElements s cs es →
+    label_tree s cs ≡ labels_of es
 unfolding label_tree
 text-labels s cs es are = ap labels_of (same_text_elements s cs (elements_of s cs) es (text_elements s cs) are)
 
@@ -103,14 +110,16 @@ text-labels s cs es are = ap labels_of (same_text_elements s cs (elements_of s c
 
 -- a raw tree merged, trimmed and searched for emails, by the two switches
 finish : Bool → Bool → Forest → Forest
-finish hard literals t = let u = trimmed hard true true (merged t) in elim literals [ true ↦ with_emails_apart u | false ↦ u ]
+finish hard literals t =
+    let u = trimmed hard true true (merged t) in elim literals [ true ↦ with_emails_apart u | false ↦ u ]
 
 finished-is : (s : Setting) (pairs_of : List Run → List Pair) (es : List Element)
     → finished_text s pairs_of es ≡ finish s.options.constructs.hard_break_trailing s.options.constructs.gfm_autolink_literal (paired s pairs_of (labels_of es))
 unfolding finished_text raw_tree finish
 finished-is s pairs_of es = refl
 
-finish-where : (hard literals : Bool) (t : Forest) → finish hard literals t ≡ mailed_where literals (trimmed hard true true (merged t))
+finish-where : (hard literals : Bool) (t : Forest) →
+    finish hard literals t ≡ mailed_where literals (trimmed hard true true (merged t))
 unfolding finish
 finish-where hard true t = refl
 finish-where hard false t = refl

@@ -31,7 +31,8 @@ module _ (s : Setting) (pairs_of : List Run → List Pair) where
       let r = nest pair_group loose loose ts in
       ap (λ x. joined (r.0 ++ after_loose pair_group loose loose x)) h.1 ∙ ap joined (append-nil r.0) ∙ h.0
 
-  tokens-runless : (t : Forest) (pairs : List Pair) (n : ℕ) → IsRunless t → AreItemsOf (tokens_of s pairs_of t pairs n) t
+  tokens-runless : (t : Forest) (pairs : List Pair) (n : ℕ) → IsRunless t →
+      AreItemsOf (tokens_of s pairs_of t pairs n) t
   unfolding tokens_of
   tokens-runless empty pairs n h = (refl, refl)
   tokens-runless (leaf_then name link cs rest) pairs n h =
@@ -44,12 +45,14 @@ module _ (s : Setting) (pairs_of : List Run → List Pair) where
 
   pub paired-runless : (t : Forest) → IsRunless t → paired s pairs_of t ≡ t
   unfolding paired
-  paired-runless t h = assembled-items (tokens_of s pairs_of t (pairs_of (runs_of s t)) 0) t (tokens-runless t (pairs_of (runs_of s t)) 0 h)
+  paired-runless t h =
+      assembled-items (tokens_of s pairs_of t (pairs_of (runs_of s t)) 0) t (tokens-runless t (pairs_of (runs_of s t)) 0 h)
 
 -- Its containers have no runs, and so no pairs.
 
 module _ (s : Setting) where
-  leaf-runs : (name : Name) (link : Option Content) (cs : List Code) (rest : Forest) → is_run name ≡ false → runs_of s (leaf_then name link cs rest) ≡ runs_of s rest
+  leaf-runs : (name : Name) (link : Option Content) (cs : List Code) (rest : Forest) → is_run name ≡ false →
+      runs_of s (leaf_then name link cs rest) ≡ runs_of s rest
   unfolding runs_of
   leaf-runs N.AttentionSequence link cs rest e = cc
   leaf-runs name link cs rest e = refl
@@ -88,7 +91,8 @@ module _ (s : Setting) where
 
   -- no look is taken
   pub unprobed : (t : Forest) → IsRunless t → IsProbed s t 0
-  unprobed t h = record { at_least = omega (arith, none-in (λ runs. length (pair_list s runs)) no-pairs t h); at_most = omega arith; scan = omega arith }
+  unprobed t h =
+      record { at_least = omega (arith, none-in (λ runs. length (pair_list s runs)) no-pairs t h); at_most = omega arith; scan = omega arith }
 
   -- and none may be taken
   pub probes-none : (t : Forest) (probes : ℕ) → IsRunless t → IsProbed s t probes → probes ≡ 0

@@ -53,7 +53,8 @@ pub record Starts (p : ParseState) (pieces : List Piece) (s : TokenizeState) (T 
   pub resolvers : T.resolvers ≡ []
   pub fields : T.tokenize_state ≡ s
 
-pub begun-starts : (alloc : Global) (p : Bor ParseState) (pieces : List Piece) (T : Tokenizer) → T ≡ begun alloc p pieces → Starts p.now pieces at_rest T
+pub begun-starts : (alloc : Global) (p : Bor ParseState) (pieces : List Piece) (T : Tokenizer) →
+    T ≡ begun alloc p pieces → Starts p.now pieces at_rest T
 begun-starts alloc p pieces T e =
     record {
       input = ap (λ (x : Tokenizer). x.parse_state.now) e;
@@ -65,11 +66,14 @@ begun-starts alloc p pieces T e =
     }
 
 -- with other scratch fields
-pub start-with : (p : ParseState) (pieces : List Piece) (s r : TokenizeState) (T : Tokenizer) → Starts p pieces s T → Starts p pieces r (record T { tokenize_state = r })
-start-with p pieces s r T k = record { input = k.input; place = k.place; events = k.events; map = k.map; resolvers = k.resolvers; fields = refl }
+pub start-with : (p : ParseState) (pieces : List Piece) (s r : TokenizeState) (T : Tokenizer) → Starts p pieces s T →
+    Starts p pieces r (record T { tokenize_state = r })
+start-with p pieces s r T k =
+    record { input = k.input; place = k.place; events = k.events; map = k.map; resolvers = k.resolvers; fields = refl }
 
 -- nothing stands before the start
-pub start-stands : (p : ParseState) (pieces : List Piece) (s : TokenizeState) (T : Tokenizer) → s.label_starts ≡ [] → Starts p pieces s T → StandsAfter [] None T
+pub start-stands : (p : ParseState) (pieces : List Piece) (s : TokenizeState) (T : Tokenizer) → s.label_starts ≡ [] →
+    Starts p pieces s T → StandsAfter [] None T
 unfolding start_of_content
 start-stands p pieces s T none k =
     record {
@@ -78,7 +82,8 @@ start-stands p pieces s T none k =
       keeps = subst (λ ls. StandFor T.events [] ls) (sym (ap (λ (x : TokenizeState). x.label_starts) k.fields ∙ none)) tt;
     }
 
-pub start-ahead : (p : ParseState) (pieces : List Piece) (s : TokenizeState) (T : Tokenizer) → Starts p pieces s T → ahead T ≡ content_of p.bytes.now pieces
+pub start-ahead : (p : ParseState) (pieces : List Piece) (s : TokenizeState) (T : Tokenizer) → Starts p pieces s T →
+    ahead T ≡ content_of p.bytes.now pieces
 start-ahead p pieces s T k = codes-ahead p pieces T k.place
 
 -- scratch fields without labels and looks, those of ends at rest
@@ -90,7 +95,8 @@ pub record AreFresh (s : TokenizeState) : Type 0 where
   pub seen : s.seen ≡ false
   pub probes : s.probes ≡ 0
 
-fresh-start : (p : ParseState) (pieces : List Piece) (s : TokenizeState) (T : Tokenizer) → AreFresh s → Starts p pieces s T → IsFresh T
+fresh-start : (p : ParseState) (pieces : List Piece) (s : TokenizeState) (T : Tokenizer) → AreFresh s →
+    Starts p pieces s T → IsFresh T
 fresh-start p pieces s T h k = record {
   events = k.events;
   labels = ap (λ (x : TokenizeState). x.labels) k.fields ∙ h.labels;
@@ -135,10 +141,13 @@ module _ (last : ResolveName) (finish : ParseState → Forest → Forest) (trims
 
   module _ (good : row_has_run k.row ≡ true → IsGood p.bytes.now Grouped) where
     pub finished-may : MayResolve may_resolve_of resolves_of U.resolvers (unregistered U)
-    finished-may = row-may p pieces setting is_given k.row last finish T U trims begins (fresh-start p pieces s T fresh start) is_row k.whole good k.left
+    finished-may =
+        row-may p pieces setting is_given k.row last finish T U trims begins (fresh-start p pieces s T fresh start) is_row k.whole good k.left
 
-    pub finished-left : (V : Tokenizer) → Resolves resolves_of U.resolvers (unregistered U) V → IsResolved setting (finish p) Grouped V
-    finished-left V r = row-left p pieces setting is_given k.row last finish T U trims begins (fresh-start p pieces s T fresh start) is_row k.whole good k.left V r
+    pub finished-left : (V : Tokenizer) → Resolves resolves_of U.resolvers (unregistered U) V →
+        IsResolved setting (finish p) Grouped V
+    finished-left V r =
+        row-left p pieces setting is_given k.row last finish T U trims begins (fresh-start p pieces s T fresh start) is_row k.whole good k.left V r
 
     -- what the passes leave, of a tree that differs from it only in how data is cut
     pub finished-events : (V : Tokenizer) (labels : Forest) → HasCodes labels → split Grouped ≡ split labels → Resolves resolves_of U.resolvers (unregistered U) V
@@ -148,5 +157,7 @@ module _ (last : ResolveName) (finish : ParseState → Forest → Forest) (trims
         let same : merged t ≡ merged (paired setting (pair_list setting) labels) = merged-paired setting (pair_list setting) Grouped labels (HasLines-HasCodes Grouped (grouped-lines k.row is_row)) codes alike in
         ap chained (finished-left V r).events ∙ chained-whole (finish p (merged t)) ∙ ap (λ x. events_of (finish p x)) same
 
-    pub finished-probes : (V : Tokenizer) (labels : Forest) → split Grouped ≡ split labels → Resolves resolves_of U.resolvers (unregistered U) V → IsProbed setting labels V.tokenize_state.probes
-    finished-probes V labels alike r = probes-alike setting Grouped labels V.tokenize_state.probes alike (finished-left V r).probed
+    pub finished-probes : (V : Tokenizer) (labels : Forest) → split Grouped ≡ split labels →
+        Resolves resolves_of U.resolvers (unregistered U) V → IsProbed setting labels V.tokenize_state.probes
+    finished-probes V labels alike r =
+        probes-alike setting Grouped labels V.tokenize_state.probes alike (finished-left V r).probed

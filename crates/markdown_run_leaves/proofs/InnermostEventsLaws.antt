@@ -33,8 +33,10 @@ exit-first e [] h = refl
 exit-first e (x ∷ es) h = ap (λ k. at k x.kind (span_of e x) ++ innermost (x ∷ es)) h
 
 -- an Enter with another behind it
-enter-enter : (e x : Event) (es : List Event) → e.kind ≡ Kind.Enter → x.kind ≡ Kind.Enter → innermost (e ∷ x ∷ es) ≡ innermost (x ∷ es)
-enter-enter e x es h k = ap (λ a. at a x.kind (span_of e x) ++ innermost (x ∷ es)) h ∙ ap (λ a. at Kind.Enter a (span_of e x) ++ innermost (x ∷ es)) k
+enter-enter : (e x : Event) (es : List Event) → e.kind ≡ Kind.Enter → x.kind ≡ Kind.Enter →
+    innermost (e ∷ x ∷ es) ≡ innermost (x ∷ es)
+enter-enter e x es h k =
+    ap (λ a. at a x.kind (span_of e x) ++ innermost (x ∷ es)) h ∙ ap (λ a. at Kind.Enter a (span_of e x) ++ innermost (x ∷ es)) k
 
 -- they begin with an Enter
 abbrev FirstEnters : List Event → Type 0
@@ -46,7 +48,8 @@ enter-group e [] h k = absurd k
 enter-group e (x ∷ es) h k = enter-enter e x es h k
 
 -- an Enter with its Exit
-enter-exit : (e x : Event) (es : List Event) → e.kind ≡ Kind.Enter → x.kind ≡ Kind.Exit → innermost (e ∷ x ∷ es) ≡ span_of e x ∷ innermost es
+enter-exit : (e x : Event) (es : List Event) → e.kind ≡ Kind.Enter → x.kind ≡ Kind.Exit →
+    innermost (e ∷ x ∷ es) ≡ span_of e x ∷ innermost es
 enter-exit e x es h k =
     ap (λ a. at a x.kind (span_of e x) ++ innermost (x ∷ es)) h
     ∙ ap (λ a. at Kind.Enter a (span_of e x) ++ innermost (x ∷ es)) k
@@ -56,24 +59,31 @@ abbrev Law : Forest → Type 0
 Law t = (n : ℕ) (p : Option ℕ) (es : List Event) → innermost (events_from n p t ++ es) ≡ leaves_of t ++ innermost es
 
 -- a group around something
-around : (name : Name) (a b : Point) (inside rest : Forest) → Law inside → Law rest → (n : ℕ) (p : Option ℕ) (es : List Event) → innermost (events_from (n + 1) None inside ++ (event Kind.Exit name b ∷ (events_from (n + 2 + event_count inside) p rest ++ es))) ≡ (leaves_of inside ++ leaves_of rest) ++ innermost es
+around : (name : Name) (a b : Point) (inside rest : Forest) → Law inside → Law rest →
+    (n : ℕ) (p : Option ℕ) (es : List Event) →
+    innermost (events_from (n + 1) None inside ++ (event Kind.Exit name b ∷ (events_from (n + 2 + event_count inside) p rest ++ es))) ≡ (leaves_of inside ++ leaves_of rest) ++ innermost es
 around name a b inside rest in_law rest_law n p es =
     let more : List Event = events_from (n + 2 + event_count inside) p rest ++ es in
     in_law (n + 1) None (event Kind.Exit name b ∷ more)
     ∙ ap (λ ss. leaves_of inside ++ ss) (exit-first (event Kind.Exit name b) more refl ∙ rest_law (n + 2 + event_count inside) p es)
     ∙ sym (append_assoc (leaves_of inside) (leaves_of rest) (innermost es))
 
-split : (n : ℕ) (name : Name) (b : Point) (inside rest : Forest) (p : Option ℕ) (es : List Event) → (events_from (n + 1) None inside ++ event Kind.Exit name b ∷ events_from (n + 2 + event_count inside) p rest) ++ es ≡ events_from (n + 1) None inside ++ (event Kind.Exit name b ∷ (events_from (n + 2 + event_count inside) p rest ++ es))
-split n name b inside rest p es = append_assoc (events_from (n + 1) None inside) (event Kind.Exit name b ∷ events_from (n + 2 + event_count inside) p rest) es
+split : (n : ℕ) (name : Name) (b : Point) (inside rest : Forest) (p : Option ℕ) (es : List Event) →
+    (events_from (n + 1) None inside ++ event Kind.Exit name b ∷ events_from (n + 2 + event_count inside) p rest) ++ es ≡ events_from (n + 1) None inside ++ (event Kind.Exit name b ∷ (events_from (n + 2 + event_count inside) p rest ++ es))
+split n name b inside rest p es =
+    append_assoc (events_from (n + 1) None inside) (event Kind.Exit name b ∷ events_from (n + 2 + event_count inside) p rest) es
 
-leaf-first : (n : ℕ) (p : Option ℕ) (name : Name) (link : Option Content) (cs : List Code) (rest : Forest) (es : List Event) → Law rest → innermost (events_from n p (leaf_then name link cs rest) ++ es) ≡ leaf_span name cs ∷ (leaves_of rest ++ innermost es)
+leaf-first : (n : ℕ) (p : Option ℕ) (name : Name) (link : Option Content) (cs : List Code) (rest : Forest) (es : List Event) →
+    Law rest →
+    innermost (events_from n p (leaf_then name link cs rest) ++ es) ≡ leaf_span name cs ∷ (leaves_of rest ++ innermost es)
 leaf-first n p name None cs rest es law =
     enter-exit (event Kind.Enter name (start_of cs)) (event Kind.Exit name (stop_of document_start cs)) (events_from (n + 2) p rest ++ es) refl refl ∙ ap (λ ss. leaf_span name cs ∷ ss) (law (n + 2) p es)
 leaf-first n p name (Some c) cs rest es law =
     enter-exit (record { kind = Kind.Enter; name = name; point = start_of cs; link = Some (record { previous = p; next = next_linked (n + 2) rest; content = c }) }) (event Kind.Exit name (stop_of document_start cs)) (events_from (n + 2) (Some n) rest ++ es) refl refl
     ∙ ap (λ ss. leaf_span name cs ∷ ss) (law (n + 2) (Some n) es)
 
-group-law : (name : Name) (a b : Point) (inside rest : Forest) → Law inside → Law rest → Law (group_then name a b inside rest)
+group-law : (name : Name) (a b : Point) (inside rest : Forest) → Law inside → Law rest →
+    Law (group_then name a b inside rest)
 group-law name a b empty rest in_law rest_law n p es =
     enter-exit (event Kind.Enter name a) (event Kind.Exit name b) (events_from (n + 2 + 0) p rest ++ es) refl refl ∙ ap (λ ss. span name a b ∷ ss) (rest_law (n + 2 + 0) p es)
 group-law name a b (leaf_then m None cs more) rest in_law rest_law n p es =
@@ -108,17 +118,21 @@ record IsCovered (bytes : List ℕ) (s : Span) (cs : List Code) : Type 0 where
   stretch : IsInOrder bytes s
   codes : between bytes s.start s.end ≡ cs
 
-leaf-covered : (bytes : List ℕ) (name : Name) (cs : List Code) → IsPart bytes cs → IsCovered bytes (leaf_span name cs) cs
-leaf-covered bytes name cs h = let p : Part bytes cs = part-of bytes cs h in record { stretch = p.stretch; codes = p.codes }
+leaf-covered : (bytes : List ℕ) (name : Name) (cs : List Code) → IsPart bytes cs →
+    IsCovered bytes (leaf_span name cs) cs
+leaf-covered bytes name cs h =
+    let p : Part bytes cs = part-of bytes cs h in record { stretch = p.stretch; codes = p.codes }
 
-nothing-covered : (bytes : List ℕ) (name : Name) (a b : Point) → IsPoint bytes a → a ≡ b → IsCovered bytes (span name a b) []
+nothing-covered : (bytes : List ℕ) (name : Name) (a b : Point) → IsPoint bytes a → a ≡ b →
+    IsCovered bytes (span name a b) []
 nothing-covered bytes name a b h e =
     let self : IsStretch bytes a a = record { from_place = h; to_place = h; forward = forward-as a a (before-self (place_of a)) } in
     subst (λ (x : Point). IsCovered bytes (span name a x) []) e (record { stretch = self; codes = (ended-of bytes a a self (before-self (place_of a))).none })
 
 -- What they cover.
 
-lent-codes : (bytes : List ℕ) (s : Span) (ls : List Lent) → covered bytes (lent bytes s ∷ ls) ≡ between bytes s.start s.end ++ covered bytes ls
+lent-codes : (bytes : List ℕ) (s : Span) (ls : List Lent) →
+    covered bytes (lent bytes s ∷ ls) ≡ between bytes s.start s.end ++ covered bytes ls
 unfolding lent
 lent-codes bytes s ls = refl
 
@@ -138,13 +152,15 @@ record AreCovered (bytes : List ℕ) (ss : List Span) (cs : List Code) : Type 0 
   stretches : All (IsInOrder bytes) ss
   all : codes bytes ss ≡ cs
 
-one-more : (bytes : List ℕ) (s : Span) (cs : List Code) (ss : List Span) (ds : List Code) → IsCovered bytes s cs → AreCovered bytes ss ds → AreCovered bytes (s ∷ ss) (cs ++ ds)
+one-more : (bytes : List ℕ) (s : Span) (cs : List Code) (ss : List Span) (ds : List Code) → IsCovered bytes s cs →
+    AreCovered bytes ss ds → AreCovered bytes (s ∷ ss) (cs ++ ds)
 one-more bytes s cs ss ds h k = record {
   stretches = All-cons (IsInOrder bytes) s ss h.stretch k.stretches;
   all = lent-codes bytes s (map (lent bytes) ss) ∙ ap (λ x. x ++ codes bytes ss) h.codes ∙ ap (λ x. cs ++ x) k.all;
 }
 
-two-rows : (bytes : List ℕ) (ss ts : List Span) (cs ds : List Code) → AreCovered bytes ss cs → AreCovered bytes ts ds → AreCovered bytes (ss ++ ts) (cs ++ ds)
+two-rows : (bytes : List ℕ) (ss ts : List Span) (cs ds : List Code) → AreCovered bytes ss cs → AreCovered bytes ts ds →
+    AreCovered bytes (ss ++ ts) (cs ++ ds)
 two-rows bytes ss ts cs ds h k = record {
   stretches = All-append (IsInOrder bytes) ss ts h.stretches k.stretches;
   all = codes-append bytes ss ts ∙ ap (λ x. x ++ codes bytes ts) h.all ∙ ap (λ x. cs ++ x) k.all;
@@ -153,20 +169,26 @@ two-rows bytes ss ts cs ds h k = record {
 -- each code is covered once, in order
 leaves-covered : (bytes : List ℕ) (t : Forest) → HasLeaves bytes t → AreCovered bytes (leaves_of t) (leaf_codes t)
 leaves-covered bytes empty h = record { stretches = All-nil (IsInOrder bytes); all = refl }
-leaves-covered bytes (leaf_then name link cs rest) h = one-more bytes (leaf_span name cs) cs (leaves_of rest) (leaf_codes rest) (leaf-covered bytes name cs h.0) (leaves-covered bytes rest h.1)
-leaves-covered bytes (group_then name a b empty rest) h = one-more bytes (span name a b) [] (leaves_of rest) (leaf_codes rest) (nothing-covered bytes name a b h.0.0 h.0.1) (leaves-covered bytes rest h.1)
+leaves-covered bytes (leaf_then name link cs rest) h =
+    one-more bytes (leaf_span name cs) cs (leaves_of rest) (leaf_codes rest) (leaf-covered bytes name cs h.0) (leaves-covered bytes rest h.1)
+leaves-covered bytes (group_then name a b empty rest) h =
+    one-more bytes (span name a b) [] (leaves_of rest) (leaf_codes rest) (nothing-covered bytes name a b h.0.0 h.0.1) (leaves-covered bytes rest h.1)
 leaves-covered bytes (group_then name a b (leaf_then m l cs more) rest) h =
     two-rows bytes (leaves_of (leaf_then m l cs more)) (leaves_of rest) (leaf_codes (leaf_then m l cs more)) (leaf_codes rest) (leaves-covered bytes (leaf_then m l cs more) h.0) (leaves-covered bytes rest h.1)
 leaves-covered bytes (group_then name a b (group_then m c d inner more) rest) h =
     two-rows bytes (leaves_of (group_then m c d inner more)) (leaves_of rest) (leaf_codes (group_then m c d inner more)) (leaf_codes rest) (leaves-covered bytes (group_then m c d inner more) h.0) (leaves-covered bytes rest h.1)
 
 -- the innermost events of such a tree stand at places of the document
-pub leaves-in-order : (bytes : List ℕ) (t : Forest) (es : List Event) → HasLeaves bytes t → es ≡ events_of t → All (IsInOrder bytes) (innermost es)
-leaves-in-order bytes t es h e = subst (All (IsInOrder bytes)) (sym (ap innermost e ∙ innermost-leaves t)) (leaves-covered bytes t h).stretches
+pub leaves-in-order : (bytes : List ℕ) (t : Forest) (es : List Event) → HasLeaves bytes t → es ≡ events_of t →
+    All (IsInOrder bytes) (innermost es)
+leaves-in-order bytes t es h e =
+    subst (All (IsInOrder bytes)) (sym (ap innermost e ∙ innermost-leaves t)) (leaves-covered bytes t h).stretches
 
 -- what is lent for the events of a tree, and the codes of that
-pub lent-leaves : (bytes : List ℕ) (t : Forest) (es : List Event) → es ≡ events_of t → map (lent bytes) (innermost es) ≡ map (lent bytes) (leaves_of t)
+pub lent-leaves : (bytes : List ℕ) (t : Forest) (es : List Event) → es ≡ events_of t →
+    map (lent bytes) (innermost es) ≡ map (lent bytes) (leaves_of t)
 lent-leaves bytes t es e = ap (λ xs. map (lent bytes) (innermost xs)) e ∙ ap (map (lent bytes)) (innermost-leaves t)
 
-pub lent-covers : (bytes : List ℕ) (t : Forest) (es : List Event) → HasLeaves bytes t → es ≡ events_of t → covered bytes (map (lent bytes) (innermost es)) ≡ leaf_codes t
+pub lent-covers : (bytes : List ℕ) (t : Forest) (es : List Event) → HasLeaves bytes t → es ≡ events_of t →
+    covered bytes (map (lent bytes) (innermost es)) ≡ leaf_codes t
 lent-covers bytes t es h e = ap (covered bytes) (lent-leaves bytes t es e) ∙ (leaves-covered bytes t h).all

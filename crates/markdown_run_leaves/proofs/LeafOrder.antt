@@ -51,13 +51,16 @@ filter-passes : (p : Code → Bool) (cs : List Code) → Each (λ c. p c ≡ tru
 filter-passes p [] = tt
 filter-passes p (c ∷ cs) = by_test (p c) refl (filter-passes p cs)
   where
-    by_test : (b : Bool) → p c ≡ b → Each (λ d. p d ≡ true) (filter p cs) → Each (λ d. p d ≡ true) (cond b (c ∷ filter p cs) (filter p cs))
+    by_test : (b : Bool) → p c ≡ b → Each (λ d. p d ≡ true) (filter p cs) →
+        Each (λ d. p d ≡ true) (cond b (c ∷ filter p cs) (filter p cs))
     by_test true e k = (e, k)
     by_test false e k = k
 
-each-pieces : (P : Code → Type 0) (bytes : List ℕ) (pieces : List Piece) → Each P (codes_of bytes) → Each P (content_of bytes pieces)
+each-pieces : (P : Code → Type 0) (bytes : List ℕ) (pieces : List Piece) → Each P (codes_of bytes) →
+    Each P (content_of bytes pieces)
 each-pieces P bytes [] h = tt
-each-pieces P bytes (piece ∷ more) h = each-join P (piece_codes (codes_of bytes) piece) (content_of bytes more) (each-filter P (is_in_piece piece) (codes_of bytes) h) (each-pieces P bytes more h)
+each-pieces P bytes (piece ∷ more) h =
+    each-join P (piece_codes (codes_of bytes) piece) (content_of bytes more) (each-filter P (is_in_piece piece) (codes_of bytes) h) (each-pieces P bytes more h)
 
 -- Places.
 
@@ -89,7 +92,8 @@ chain-starts p (c ∷ cs) h = (
   each-map (NotBefore (place_of c.stop)) (NotBefore (place_of p)) (λ d k. not_before-trans (place_of d.start) (place_of c.stop) (place_of p) k (before-asym (place_of p) (place_of c.stop) h.1)) cs (chain-starts c.stop cs h.2),
 )
 
-ends-later : (p : Point) (c : Code) (cs : List Code) → IsChain p (c ∷ cs) → is_before (place_of c.start) (place_of c.stop) ≡ true
+ends-later : (p : Point) (c : Code) (cs : List Code) → IsChain p (c ∷ cs) →
+    is_before (place_of c.start) (place_of c.stop) ≡ true
 ends-later p c cs h = subst (λ (q : Point). is_before (place_of q) (place_of c.stop) ≡ true) (sym h.0) h.1
 
 chain-rise : (p : Point) (cs : List Code) → IsChain p cs → Rise cs
@@ -133,12 +137,15 @@ module _ (bytes : List ℕ) where
   codes-in piece = piece_codes (codes_of bytes) piece
 
   from-start : (piece : Piece) → Each (NotBefore piece.start) (codes-in piece)
-  from-start piece = each-map (λ c. is_in_piece piece c ≡ true) (NotBefore piece.start) (λ c h. not-true (is_code_before piece.start c) (and-left _ _ h)) (codes-in piece) (filter-passes (is_in_piece piece) (codes_of bytes))
+  from-start piece =
+      each-map (λ c. is_in_piece piece c ≡ true) (NotBefore piece.start) (λ c h. not-true (is_code_before piece.start c) (and-left _ _ h)) (codes-in piece) (filter-passes (is_in_piece piece) (codes_of bytes))
 
   to-end : (piece : Piece) → Each (λ c. is_before (place_of c.start) piece.end ≡ true) (codes-in piece)
-  to-end piece = each-map (λ c. is_in_piece piece c ≡ true) (λ c. is_before (place_of c.start) piece.end ≡ true) (λ c h. and-right _ _ h) (codes-in piece) (filter-passes (is_in_piece piece) (codes_of bytes))
+  to-end piece =
+      each-map (λ c. is_in_piece piece c ≡ true) (λ c. is_before (place_of c.start) piece.end ≡ true) (λ c h. and-right _ _ h) (codes-in piece) (filter-passes (is_in_piece piece) (codes_of bytes))
 
-  content-starts : (piece : Piece) (more : List Piece) → are_pieces bytes (piece ∷ more) ≡ true → Each (NotBefore piece.start) (content_of bytes (piece ∷ more))
+  content-starts : (piece : Piece) (more : List Piece) → are_pieces bytes (piece ∷ more) ≡ true →
+      Each (NotBefore piece.start) (content_of bytes (piece ∷ more))
   content-starts piece [] h = each-join (NotBefore piece.start) (codes-in piece) [] (from-start piece) tt
   content-starts piece (next ∷ more) h =
       let row : IsPieceRow bytes piece (next ∷ more) = piece_row bytes piece (next ∷ more) h in
@@ -147,7 +154,8 @@ module _ (bytes : List ℕ) where
 
   content-rise : (pieces : List Piece) → are_pieces bytes pieces ≡ true → Rise (content_of bytes pieces)
   content-rise [] h = tt
-  content-rise (piece ∷ []) h = subst Rise (sym (append-nil (codes-in piece))) (rise-filter (is_in_piece piece) (codes_of bytes) (chain-rise document_start (codes_of bytes) (chain-split bytes [] (codes_of bytes) refl)))
+  content-rise (piece ∷ []) h =
+      subst Rise (sym (append-nil (codes-in piece))) (rise-filter (is_in_piece piece) (codes_of bytes) (chain-rise document_start (codes_of bytes) (chain-split bytes [] (codes_of bytes) refl)))
   content-rise (piece ∷ next ∷ more) h =
       let row : IsPieceRow bytes piece (next ∷ more) = piece_row bytes piece (next ∷ more) h in
       rise-join (codes-in piece) (content_of bytes (next ∷ more)) (rise-filter (is_in_piece piece) (codes_of bytes) (chain-rise document_start (codes_of bytes) (chain-split bytes [] (codes_of bytes) refl))) (content-rise (next ∷ more) row.others)
@@ -186,14 +194,16 @@ module _ (bytes : List ℕ) where
 
   row-join : (ss ts : List Span) (cs ds : List Code) → IsRow ss cs → IsRow ts ds → IsRow (ss ++ ts) (cs ++ ds)
   row-join [] ts cs ds h k = subst (IsRow ts) (ap (λ x. x ++ ds) (sym h)) k
-  row-join (s ∷ ss) ts cs ds h k = (h.0, h.1 ++ ds, ap (λ x. x ++ ds) h.2 ∙ append_assoc h.0 h.1 ds, h.3, row-join ss ts h.1 ds h.4 k)
+  row-join (s ∷ ss) ts cs ds h k =
+      (h.0, h.1 ++ ds, ap (λ x. x ++ ds) h.2 ∙ append_assoc h.0 h.1 ds, h.3, row-join ss ts h.1 ds h.4 k)
 
   leaves-row : (t : Forest) → HasLeaves bytes t → IsRow (leaves_of t) (leaf_codes t)
   leaves-row empty h = refl
   leaves-row (leaf_then name link cs rest) h =
       let p : Part bytes cs = part-of bytes cs h.0 in
       (cs, leaf_codes rest, refl, record { codes = p.codes; places = inr (h.0.some, refl, refl) }, leaves-row rest h.1)
-  leaves-row (group_then name a b empty rest) h = ([], leaf_codes rest, refl, record { codes = nothing a b h.0.0 h.0.1; places = inl (refl, h.0.1) }, leaves-row rest h.1)
+  leaves-row (group_then name a b empty rest) h =
+      ([], leaf_codes rest, refl, record { codes = nothing a b h.0.0 h.0.1; places = inl (refl, h.0.1) }, leaves-row rest h.1)
   leaves-row (group_then name a b (leaf_then m l cs more) rest) h =
       row-join (leaves_of (leaf_then m l cs more)) (leaves_of rest) (leaf_codes (leaf_then m l cs more)) (leaf_codes rest) (leaves-row (leaf_then m l cs more) h.0) (leaves-row rest h.1)
   leaves-row (group_then name a b (group_then m c d inner more) rest) h =
@@ -201,10 +211,12 @@ module _ (bytes : List ℕ) where
 
   -- In order.
 
-  later-both : (xs ys : List Code) → Later (xs ++ ys) → Later ys × (xs ≢ [] → Each (NotBefore (place_of (stop_of document_start xs))) ys)
+  later-both : (xs ys : List Code) → Later (xs ++ ys) →
+      Later ys × (xs ≢ [] → Each (NotBefore (place_of (stop_of document_start xs))) ys)
   later-both [] ys h = (h, λ some. absurd (some refl))
   later-both (c ∷ []) ys h = (h.1, λ some. h.0)
-  later-both (c ∷ x ∷ xs) ys h = let rest : Later ys × (x ∷ xs ≢ [] → Each (NotBefore (place_of (stop_of document_start (x ∷ xs)))) ys) = later-both (x ∷ xs) ys h.1 in (rest.0, λ some. rest.1 (λ e. cc))
+  later-both (c ∷ x ∷ xs) ys h =
+      let rest : Later ys × (x ∷ xs ≢ [] → Each (NotBefore (place_of (stop_of document_start (x ∷ xs)))) ys) = later-both (x ∷ xs) ys h.1 in (rest.0, λ some. rest.1 (λ e. cc))
 
   each-first : (P : Code → Type 0) (xs ys : List Code) → Each P (xs ++ ys) → Each P ys
   each-first P [] ys h = h
@@ -216,18 +228,21 @@ module _ (bytes : List ℕ) where
   abbrev pub has_none : Span → Bool
   has_none s = is_empty (between bytes s.start s.end)
 
-  with-one : (Q : Span → Type 0) (s : Span) (ss : List Span) → (has_none s ≡ false → Q s) → All Q (filled bytes ss) → All Q (filled bytes (s ∷ ss))
+  with-one : (Q : Span → Type 0) (s : Span) (ss : List Span) → (has_none s ≡ false → Q s) → All Q (filled bytes ss) →
+      All Q (filled bytes (s ∷ ss))
   with-one Q s ss h k = by_test (has_none s) refl
     where
       by_test : (b : Bool) → has_none s ≡ b → All Q (cond (not b) (s ∷ filled bytes ss) (filled bytes ss))
       by_test true e = k
       by_test false e = All-cons Q s (filled bytes ss) (h e) k
 
-  first-after : (p : Point) (xs ys : List Code) → is_empty xs ≡ false → Each (NotBefore (place_of p)) (xs ++ ys) → is_before (place_of (start_of xs)) (place_of p) ≡ false
+  first-after : (p : Point) (xs ys : List Code) → is_empty xs ≡ false → Each (NotBefore (place_of p)) (xs ++ ys) →
+      is_before (place_of (start_of xs)) (place_of p) ≡ false
   first-after p [] ys h k = cc
   first-after p (c ∷ xs) ys h k = k.0
 
-  begins-after : (p : Point) (s : Span) (xs ys : List Code) → IsOne s xs → Each (NotBefore (place_of p)) (xs ++ ys) → has_none s ≡ false → BeginsAfter p s
+  begins-after : (p : Point) (s : Span) (xs ys : List Code) → IsOne s xs → Each (NotBefore (place_of p)) (xs ++ ys) →
+      has_none s ≡ false → BeginsAfter p s
   begins-after p s xs ys one h e =
       let some : is_empty xs ≡ false = sym (ap is_empty one.codes) ∙ e in
       elim one.places [
@@ -235,20 +250,23 @@ module _ (bytes : List ℕ) where
         | inr k ↦ forward-as p s.start (ap (λ (q : Point). is_before (place_of q) (place_of p)) k.1 ∙ first-after p xs ys some h)
       ]
 
-  starts-after : (p : Point) (ss : List Span) (cs : List Code) → IsRow ss cs → Each (NotBefore (place_of p)) cs → All (BeginsAfter p) (filled bytes ss)
+  starts-after : (p : Point) (ss : List Span) (cs : List Code) → IsRow ss cs → Each (NotBefore (place_of p)) cs →
+      All (BeginsAfter p) (filled bytes ss)
   starts-after p [] cs h k = All-nil (BeginsAfter p)
   starts-after p (s ∷ ss) cs h k =
       let all : Each (NotBefore (place_of p)) (h.0 ++ h.1) = subst (Each (NotBefore (place_of p))) h.2 k in
       with-one (BeginsAfter p) s ss (begins-after p s h.0 h.1 h.3 all) (starts-after p ss h.1 h.4 (each-first (NotBefore (place_of p)) h.0 h.1 all))
 
-  ends-before : (s : Span) (xs ys : List Code) → IsOne s xs → Later (xs ++ ys) → has_none s ≡ false → Each (NotBefore (place_of s.end)) ys
+  ends-before : (s : Span) (xs ys : List Code) → IsOne s xs → Later (xs ++ ys) → has_none s ≡ false →
+      Each (NotBefore (place_of s.end)) ys
   ends-before s xs ys one h e =
       elim one.places [
         | inl k ↦ absurd (let no : true ≡ false = sym (ap is_empty (one.codes ∙ k.0)) ∙ e in cc)
         | inr k ↦ subst (λ (q : Point). Each (NotBefore (place_of q)) ys) (sym k.2) ((later-both xs ys h).1 k.0)
       ]
 
-  follow-one : (s : Span) (ss : List Span) → (has_none s ≡ false → All (BeginsAfter s.end) (filled bytes ss)) → FollowOn (filled bytes ss) → FollowOn (filled bytes (s ∷ ss))
+  follow-one : (s : Span) (ss : List Span) → (has_none s ≡ false → All (BeginsAfter s.end) (filled bytes ss)) →
+      FollowOn (filled bytes ss) → FollowOn (filled bytes (s ∷ ss))
   follow-one s ss h k = by_test (has_none s) refl
     where
       by_test : (b : Bool) → has_none s ≡ b → FollowOn (cond (not b) (s ∷ filled bytes ss) (filled bytes ss))
@@ -282,7 +300,8 @@ module _ (bytes : List ℕ) where
   module _ (pieces : List Piece) (order : are_pieces bytes pieces ≡ true) (t : Forest) (leaves : HasLeaves bytes t) (codes : leaf_codes t ≡ content_of bytes pieces) where
     -- the leaves with a code stand one after another
     pub leaves-follow : FollowOn (filled bytes (leaves_of t))
-    leaves-follow = follow-on (leaves_of t) (leaf_codes t) (leaves-row t leaves) (subst Later (sym codes) (content-later pieces order))
+    leaves-follow =
+        follow-on (leaves_of t) (leaf_codes t) (leaves-row t leaves) (subst Later (sym codes) (content-later pieces order))
 
     -- and the others begin where they end
     pub leaves-still : All StandsStill (leaves_of t)

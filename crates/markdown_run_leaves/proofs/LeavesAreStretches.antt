@@ -37,7 +37,8 @@ use Rattle.markdown_run_leaves.proofs.OneLineTrees.{lined-weaker, lined-merged, 
 use Rattle.markdown_run_leaves.proofs.LineEndingsAreSpace.{spaced-content}
 
 -- a tree that is apart, by the codes that it covers
-stands-in : (B : Point → Point → Type 0) (t : Forest) (cs : List Code) → leaf_codes t ≡ cs → IsApart B t → IsLined (Stands B cs) t
+stands-in : (B : Point → Point → Type 0) (t : Forest) (cs : List Code) → leaf_codes t ≡ cs → IsApart B t →
+    IsLined (Stands B cs) t
 stands-in B t cs e h = subst (λ xs. IsLined (Stands B xs) t) e h
 
 module _ (s : Setting) (pieces : List Piece) (content : IsContent s.bytes pieces) where
@@ -60,7 +61,8 @@ module _ (s : Setting) (pieces : List Piece) (content : IsContent s.bytes pieces
   codes-labels = codes-labels_of Elements ∙ sym (codes-finished_text s (pair_list s) Elements) ∙ (leaves_cover s all).0
 
   lined-labels : IsLined (Stands AtStart all) Labels
-  lined-labels = stands-in AtStart Labels all codes-labels (apart-labels Elements (text-lined s all Elements (spaced-content s.bytes pieces content.is_text) (text_elements s all)))
+  lined-labels =
+      stands-in AtStart Labels all codes-labels (apart-labels Elements (text-lined s all Elements (spaced-content s.bytes pieces content.is_text) (text_elements s all)))
 
   good : IsGood s.bytes Labels
   unfolding label_tree
@@ -80,7 +82,8 @@ module _ (s : Setting) (pieces : List Piece) (content : IsContent s.bytes pieces
   Trimmed = trimmed s.options.constructs.hard_break_trailing true true (merged Pairs)
 
   lined-text-trimmed : IsLined E Trimmed
-  lined-text-trimmed = lined-trimmed E s.options.constructs.hard_break_trailing true true (merged Pairs) (lined-merged E Pairs lined-pairs)
+  lined-text-trimmed =
+      lined-trimmed E s.options.constructs.hard_break_trailing true true (merged Pairs) (lined-merged E Pairs lined-pairs)
 
   lined-text : IsLined E (text_tree s all)
   unfolding text_tree finished_text raw_tree
@@ -109,47 +112,59 @@ module _ (s : Setting) (pieces : List Piece) (content : IsContent s.bytes pieces
 
   lined-string : IsLined E (string_tree s all)
   unfolding string_tree finished_string
-  lined-string = lined-trimmed E false false false (merged (labels_of Plain)) (lined-merged E (labels_of Plain) lined-row-of)
+  lined-string =
+      lined-trimmed E false false false (merged (labels_of Plain)) (lined-merged E (labels_of Plain) lined-row-of)
 
   pub string-leaves : HasLeaves s.bytes (string_tree s all)
-  string-leaves = lined-leaves-of s.bytes pieces content.in_order (string_tree s all) (leaves_cover s all).1 lined-string
+  string-leaves =
+      lined-leaves-of s.bytes pieces content.in_order (string_tree s all) (leaves_cover s all).1 lined-string
 
 pub leaves-are-stretches : LeavesAreStretches
 leaves-are-stretches s pieces content = (text-leaves s pieces content, string-leaves s pieces content)
 
 -- Events.
 
-pub text-in-order : (s : Setting) (pieces : List Piece) (es : List Event) → IsContent s.bytes pieces → es ≡ text_events s pieces → All (IsInOrder s.bytes) (innermost es)
-text-in-order s pieces es content e = leaves-in-order s.bytes (text_tree s (content_of s.bytes pieces)) es (text-leaves s pieces content) e
+pub text-in-order : (s : Setting) (pieces : List Piece) (es : List Event) → IsContent s.bytes pieces →
+    es ≡ text_events s pieces → All (IsInOrder s.bytes) (innermost es)
+text-in-order s pieces es content e =
+    leaves-in-order s.bytes (text_tree s (content_of s.bytes pieces)) es (text-leaves s pieces content) e
 
-pub text-covers : (s : Setting) (pieces : List Piece) (es : List Event) → IsContent s.bytes pieces → es ≡ text_events s pieces → covered s.bytes (map (lent s.bytes) (innermost es)) ≡ content_of s.bytes pieces
+pub text-covers : (s : Setting) (pieces : List Piece) (es : List Event) → IsContent s.bytes pieces →
+    es ≡ text_events s pieces → covered s.bytes (map (lent s.bytes) (innermost es)) ≡ content_of s.bytes pieces
 text-covers s pieces es content e =
     lent-covers s.bytes (text_tree s (content_of s.bytes pieces)) es (text-leaves s pieces content) e ∙ (leaves_cover s (content_of s.bytes pieces)).0
 
-pub string-in-order : (s : Setting) (pieces : List Piece) (es : List Event) → IsContent s.bytes pieces → es ≡ string_events s pieces → All (IsInOrder s.bytes) (innermost es)
-string-in-order s pieces es content e = leaves-in-order s.bytes (string_tree s (content_of s.bytes pieces)) es (string-leaves s pieces content) e
+pub string-in-order : (s : Setting) (pieces : List Piece) (es : List Event) → IsContent s.bytes pieces →
+    es ≡ string_events s pieces → All (IsInOrder s.bytes) (innermost es)
+string-in-order s pieces es content e =
+    leaves-in-order s.bytes (string_tree s (content_of s.bytes pieces)) es (string-leaves s pieces content) e
 
-pub string-covers : (s : Setting) (pieces : List Piece) (es : List Event) → IsContent s.bytes pieces → es ≡ string_events s pieces → covered s.bytes (map (lent s.bytes) (innermost es)) ≡ content_of s.bytes pieces
+pub string-covers : (s : Setting) (pieces : List Piece) (es : List Event) → IsContent s.bytes pieces →
+    es ≡ string_events s pieces → covered s.bytes (map (lent s.bytes) (innermost es)) ≡ content_of s.bytes pieces
 string-covers s pieces es content e =
     lent-covers s.bytes (string_tree s (content_of s.bytes pieces)) es (string-leaves s pieces content) e ∙ (leaves_cover s (content_of s.bytes pieces)).1
 
 -- what is said of the leaves of a tree is said of the innermost of its events
-text-order : (s : Setting) (pieces : List Piece) → IsContent s.bytes pieces → FollowOn (filled s.bytes (innermost (text_events s pieces)))
+text-order : (s : Setting) (pieces : List Piece) → IsContent s.bytes pieces →
+    FollowOn (filled s.bytes (innermost (text_events s pieces)))
 text-order s pieces content =
     let t : Forest = text_tree s (content_of s.bytes pieces) in
     subst (λ ss. FollowOn (filled s.bytes ss)) (sym (innermost-leaves t)) (leaves-follow s.bytes pieces content.in_order t (text-leaves s pieces content) (leaves_cover s (content_of s.bytes pieces)).0)
 
-text-still : (s : Setting) (pieces : List Piece) → IsContent s.bytes pieces → All (StandsStill s.bytes) (innermost (text_events s pieces))
+text-still : (s : Setting) (pieces : List Piece) → IsContent s.bytes pieces →
+    All (StandsStill s.bytes) (innermost (text_events s pieces))
 text-still s pieces content =
     let t : Forest = text_tree s (content_of s.bytes pieces) in
     subst (All (StandsStill s.bytes)) (sym (innermost-leaves t)) (leaves-still s.bytes pieces content.in_order t (text-leaves s pieces content) (leaves_cover s (content_of s.bytes pieces)).0)
 
-string-order : (s : Setting) (pieces : List Piece) → IsContent s.bytes pieces → FollowOn (filled s.bytes (innermost (string_events s pieces)))
+string-order : (s : Setting) (pieces : List Piece) → IsContent s.bytes pieces →
+    FollowOn (filled s.bytes (innermost (string_events s pieces)))
 string-order s pieces content =
     let t : Forest = string_tree s (content_of s.bytes pieces) in
     subst (λ ss. FollowOn (filled s.bytes ss)) (sym (innermost-leaves t)) (leaves-follow s.bytes pieces content.in_order t (string-leaves s pieces content) (leaves_cover s (content_of s.bytes pieces)).1)
 
-string-still : (s : Setting) (pieces : List Piece) → IsContent s.bytes pieces → All (StandsStill s.bytes) (innermost (string_events s pieces))
+string-still : (s : Setting) (pieces : List Piece) → IsContent s.bytes pieces →
+    All (StandsStill s.bytes) (innermost (string_events s pieces))
 string-still s pieces content =
     let t : Forest = string_tree s (content_of s.bytes pieces) in
     subst (All (StandsStill s.bytes)) (sym (innermost-leaves t)) (leaves-still s.bytes pieces content.in_order t (string-leaves s pieces content) (leaves_cover s (content_of s.bytes pieces)).1)

@@ -44,14 +44,17 @@ pub line-leaf : (name : Name) (cs : List Code) → IsLine cs → Tree (leaf name
 line-leaf name cs h = lined-leaf AtStart name cs h
 
 -- a group that begins with a marker
-marked : (name n : Name) (cs : List Code) (more : Forest) → cs ≢ [] → Tree (leaf n cs) → Tree more → Tree (group name (leaf n cs ⊕ more))
+marked : (name n : Name) (cs : List Code) (more : Forest) → cs ≢ [] → Tree (leaf n cs) → Tree more →
+    Tree (group name (leaf n cs ⊕ more))
 marked name n cs more some h k = lined-group AtStart name _ _ n cs more some (row (leaf n cs) more h k)
 
-one-marked : (name n : Name) (cs : List Code) (more : Forest) → makes_data n ≡ false → IsOne cs → Tree more → Tree (group name (leaf n cs ⊕ more))
+one-marked : (name n : Name) (cs : List Code) (more : Forest) → makes_data n ≡ false → IsOne cs → Tree more →
+    Tree (group name (leaf n cs ⊕ more))
 one-marked name n cs more e h k = marked name n cs more (one-some cs h) (one-leaf n cs e h) k
 
 -- a group around nothing stands at the document's start
-around : (name : Name) (inside : Forest) → (leaf_codes inside ≡ [] → inside ≡ empty) → Tree inside → Tree (group name inside)
+around : (name : Name) (inside : Forest) → (leaf_codes inside ≡ [] → inside ≡ empty) → Tree inside →
+    Tree (group name inside)
 around name empty e h = ((λ k. (refl, refl)), (tt, tt))
 around name (leaf_then n l cs rest) e h = ((λ k. absurd (clash (e k))), (h, tt))
   where
@@ -78,12 +81,15 @@ own-data N.AttentionSequence e = cc
 own-data _ e = refl
 
 module _ (bytes : List ℕ) where
-  leaf-lined : (name : Name) (link : Option Content) (cs : List Code) → IsOwnLeaf bytes name link cs → AreSpaced bytes cs → IsOnLine cs × (makes_data name ≡ true → IsLine cs)
-  leaf-lined name link cs h k = (h.line k, λ e. absurd (both_ways (makes_data name) (own-data name (leaf-own name h.named)) e))
+  leaf-lined : (name : Name) (link : Option Content) (cs : List Code) → IsOwnLeaf bytes name link cs →
+      AreSpaced bytes cs → IsOnLine cs × (makes_data name ≡ true → IsLine cs)
+  leaf-lined name link cs h k =
+      (h.line k, λ e. absurd (both_ways (makes_data name) (own-data name (leaf-own name h.named)) e))
 
   leaves-lined : (t : Forest) → Leaves (IsOwnLeaf bytes) t → AreSpaced bytes (leaf_codes t) → Tree t
   leaves-lined empty h k = tt
-  leaves-lined (leaf_then name link cs rest) h k = let p = spaced-both bytes cs (leaf_codes rest) k in (leaf-lined name link cs h.0 p.0, leaves-lined rest h.1 p.1)
+  leaves-lined (leaf_then name link cs rest) h k =
+      let p = spaced-both bytes cs (leaf_codes rest) k in (leaf-lined name link cs h.0 p.0, leaves-lined rest h.1 p.1)
   leaves-lined (group_then name enter exit inside rest) h k = absurd h
 
   nothing-lined : (t : Forest) → t ≡ empty → Tree t
@@ -91,7 +97,8 @@ module _ (bytes : List ℕ) where
 
   pub plain-lined : (t : Forest) → IsPlainTree bytes t → AreSpaced bytes (leaf_codes t) → Tree t
   plain-lined empty h k = absurd h
-  plain-lined (leaf_then name link cs rest) h k = (leaf-lined name link cs h.0 (spaced-both bytes cs (leaf_codes rest) k).0, nothing-lined rest h.1)
+  plain-lined (leaf_then name link cs rest) h k =
+      (leaf-lined name link cs h.0 (spaced-both bytes cs (leaf_codes rest) k).0, nothing-lined rest h.1)
   plain-lined (group_then name enter exit inside rest) h k =
       ((λ e. absurd (no-codes (leaf_codes inside) (leaves-some bytes inside h.0.leaves h.0.some) e)), (leaves-lined inside h.0.leaves (spaced-both bytes (leaf_codes inside) (leaf_codes rest) k).0, nothing-lined rest h.1))
     where
@@ -123,7 +130,8 @@ string-tree name empty l h = tt
 string-tree name (leaf_then n k cs rest) l h = leaves-group name (leaf_then n k cs rest) l h
 string-tree name (group_then n a b i rest) l h = absurd l
 
-between-tree : (names : StringNames) (front text back : List Code) → makes_data names.marker ≡ false → IsOne front → IsOne back → Tree (between_markers names front text back)
+between-tree : (names : StringNames) (front text back : List Code) → makes_data names.marker ≡ false → IsOne front →
+    IsOne back → Tree (between_markers names front text back)
 between-tree names front text back e f b =
     let inside : Forest = lines N.Data (Some Content.String) text in
     one-marked names.whole names.marker front _ e f
@@ -143,14 +151,17 @@ title-between-tree opener closer =
 
 title-tree : Trees (title title_names)
 unfolding title
-title-tree = yields_either _ _ _ (title-between-tree _ _) (yields_either _ _ _ (title-between-tree _ _) (title-between-tree _ _))
+title-tree =
+    yields_either _ _ _ (title-between-tree _ _) (yields_either _ _ _ (title-between-tree _ _) (title-between-tree _ _))
 
 linked-tree : (text : List Code) → IsLine text → AreLeaves (linked N.Data text) × Tree (linked N.Data text)
 linked-tree [] h = (tt, tt)
-linked-tree (c ∷ cs) h = (full-linked N.Data (Some Content.String) (c ∷ cs), lined-linked AtStart N.Data (Some Content.String) (c ∷ cs) h)
+linked-tree (c ∷ cs) h =
+    (full-linked N.Data (Some Content.String) (c ∷ cs), lined-linked AtStart N.Data (Some Content.String) (c ∷ cs) h)
 
 -- a group around one that holds a code, or around one at the document's start
-wrapped : (outer name n : Name) (front : List Code) (more : Forest) → makes_data n ≡ false → IsOne front → Tree more → Tree (group outer (group name (leaf n front ⊕ more)))
+wrapped : (outer name n : Name) (front : List Code) (more : Forest) → makes_data n ≡ false → IsOne front → Tree more →
+    Tree (group outer (group name (leaf n front ⊕ more)))
 wrapped outer name n [] more e f h = absurd f
 wrapped outer name n (c ∷ []) more e f h = ((λ k. cc), (one-marked name n (c ∷ []) more e f h, tt))
 wrapped outer name n (c ∷ d ∷ cs) more e f h = absurd f
@@ -181,7 +192,8 @@ module _ (max : ℕ) (c : Code) (cs : List Code) (more : (s : Bool) (d : ℕ) �
   opened depth t = elim t [ true ↦ with_first c (on false (suc depth)) | false ↦ None ]
 
   abbrev others : ℕ → Bool → Option (List Code × List Code)
-  others depth t = elim t [ true ↦ with_first c (on false (depth - 1)) | false ↦ with_first c (on (is_value 92 c) depth) ]
+  others depth t =
+      elim t [ true ↦ with_first c (on false (depth - 1)) | false ↦ with_first c (on (is_value 92 c) depth) ]
 
   closes-line : (depth : ℕ) → Passes IsLine (closes depth)
   closes-line zero = refl
@@ -196,7 +208,8 @@ module _ (max : ℕ) (c : Code) (cs : List Code) (more : (s : Bool) (d : ℕ) �
   others-line depth false h = with-first-line c (on (is_value 92 c) depth) h (more (is_value 92 c) depth)
 
   abbrev passed : ℕ → Bool → Bool → Bool → Option (List Code × List Code)
-  passed depth control o k = elim control [ true ↦ None | false ↦ elim o [ true ↦ opened depth (nat_lt depth max) | false ↦ others depth k ] ]
+  passed depth control o k =
+      elim control [ true ↦ None | false ↦ elim o [ true ↦ opened depth (nat_lt depth max) | false ↦ others depth k ] ]
 
   passed-line : (depth : ℕ) (control o k : Bool) → is_line_ending c ≡ false → Passes IsLine (passed depth control o k)
   passed-line depth true o k h = tt
@@ -204,16 +217,20 @@ module _ (max : ℕ) (c : Code) (cs : List Code) (more : (s : Bool) (d : ℕ) �
   passed-line depth false false k h = others-line depth k h
 
   abbrev unescaped : ℕ → Bool → Option (List Code × List Code)
-  unescaped depth stops = elim stops [ true ↦ closes depth | false ↦ passed depth (is_control c) (is_value 40 c) (is_value 41 c) ]
+  unescaped depth stops =
+      elim stops [ true ↦ closes depth | false ↦ passed depth (is_control c) (is_value 40 c) (is_value 41 c) ]
 
-  unescaped-line : (depth : ℕ) (white last : Bool) → is_whitespace_code c ≡ white → Passes IsLine (unescaped depth (white || last))
+  unescaped-line : (depth : ℕ) (white last : Bool) → is_whitespace_code c ≡ white →
+      Passes IsLine (unescaped depth (white || last))
   unescaped-line depth true last h = closes-line depth
   unescaped-line depth false true h = closes-line depth
-  unescaped-line depth false false h = passed-line depth (is_control c) (is_value 40 c) (is_value 41 c) (or_parts (is_blank c) (is_line_ending c) h).1
+  unescaped-line depth false false h =
+      passed-line depth (is_control c) (is_value 40 c) (is_value 41 c) (or_parts (is_blank c) (is_line_ending c) h).1
 
   escaped-line : (depth : ℕ) (slash takes : Bool) → is_among (codes "()\\") c ≡ takes
       → Passes IsLine (elim (slash && takes) [ true ↦ with_first c (on false depth) | false ↦ unescaped depth (is_whitespace_code c || (is_value 41 c && depth == 0)) ])
-  escaped-line depth true true h = with-first-line c (on false depth) (not-ending (is_among (codes "()\\")) (λ d. refl) c h) (more false depth)
+  escaped-line depth true true h =
+      with-first-line c (on false depth) (not-ending (is_among (codes "()\\")) (λ d. refl) c h) (more false depth)
   escaped-line depth true false h = unescaped-line depth (is_whitespace_code c) (is_value 41 c && depth == 0) refl
   escaped-line depth false takes h = unescaped-line depth (is_whitespace_code c) (is_value 41 c && depth == 0) refl
 
@@ -221,15 +238,18 @@ raw-lines : (max : ℕ) (slash : Bool) (depth : ℕ) (cs : List Code) → Passes
 unfolding raw_from
 raw-lines max slash zero [] = refl
 raw-lines max slash (suc d) [] = tt
-raw-lines max slash depth (c ∷ cs) = escaped-line max c cs (λ s d. raw-lines max s d cs) depth slash (is_among (codes "()\\") c) refl
+raw-lines max slash depth (c ∷ cs) =
+    escaped-line max c cs (λ s d. raw-lines max s d cs) depth slash (is_among (codes "()\\") c) refl
 
 raw-tree : (max : ℕ) → Trees (raw_destination max resource_names)
 unfolding raw_destination
 raw-tree max = yields_bind IsLine _ _ _ (record { at = raw-lines max false 0 }) λ text t. yields_passed _ _ _ (yields_gives _ _ (by_text text t))
   where
-    by_text : (text : List Code) → IsLine text → Tree (group N.ResourceDestination (group N.ResourceDestinationRaw (group N.ResourceDestinationString (linked N.Data text))))
+    by_text : (text : List Code) → IsLine text →
+        Tree (group N.ResourceDestination (group N.ResourceDestinationRaw (group N.ResourceDestinationString (linked N.Data text))))
     by_text [] h = ((λ e. (refl, refl)), (((λ e. (refl, refl)), (((λ e. (refl, refl)), (tt, tt)), tt)), tt))
-    by_text (c ∷ cs) h = ((λ e. cc), (((λ e. cc), (leaves-group N.ResourceDestinationString (linked N.Data (c ∷ cs)) (linked-tree (c ∷ cs) h).0 (linked-tree (c ∷ cs) h).1, tt)), tt))
+    by_text (c ∷ cs) h =
+        ((λ e. cc), (((λ e. cc), (leaves-group N.ResourceDestinationString (linked N.Data (c ∷ cs)) (linked-tree (c ∷ cs) h).0 (linked-tree (c ∷ cs) h).1, tt)), tt))
 
 destination-tree : (max : ℕ) → Trees (destination max resource_names)
 unfolding destination

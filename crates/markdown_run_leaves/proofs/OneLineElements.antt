@@ -37,15 +37,18 @@ module _ (s : Setting) where
 
   there-plain : (a : Reading Forest) → ReadsPlain s.bytes a → There (as_plain a)
   unfolding as_plain
-  there-plain a h = yields_bind (IsPlainTree s.bytes) _ _ _ h.plain λ tree k. yields_gives _ (plain tree) (plain-lined s.bytes tree k)
+  there-plain a h =
+      yields_bind (IsPlainTree s.bytes) _ _ _ h.plain λ tree k. yields_gives _ (plain tree) (plain-lined s.bytes tree k)
 
   there-ending : There line_ending
   unfolding line_ending
-  there-ending = yields_bind IsOne _ _ _ (one-one _) λ c h. yields_gives _ (plain (leaf N.LineEnding c)) (λ _. one-leaf N.LineEnding c refl h)
+  there-ending =
+      yields_bind IsOne _ _ _ (one-one _) λ c h. yields_gives _ (plain (leaf N.LineEnding c)) (λ _. one-leaf N.LineEnding c refl h)
 
   there-run : (m : ℕ) → (10 == m) ≡ false → There (attention_run m)
   unfolding attention_run
-  there-run m e = yields_bind IsSomeLine _ _ _ (some-line (is_value m) (λ c. e)) λ markers h. yields_gives _ (plain (leaf N.AttentionSequence markers)) (λ _. line-leaf N.AttentionSequence markers h.1)
+  there-run m e =
+      yields_bind IsSomeLine _ _ _ (some-line (is_value m) (λ c. e)) λ markers h. yields_gives _ (plain (leaf N.AttentionSequence markers)) (λ _. line-leaf N.AttentionSequence markers h.1)
 
   abbrev LinedOutcome : LabelKind × Forest → Type 0
   LinedOutcome outcome = IsLined AtStart outcome.1
@@ -74,9 +77,11 @@ module _ (s : Setting) where
     here-either a b h k = either_has (Passes IsThere) tt (c ∷ cs) a b h k
 
     -- the first, where it holds
-    here-first : (a b : Reading Element) (e : Element) (rest : List Code) → a (c ∷ cs) ≡ Some (e, rest) → IsThere e → Here (either a b)
+    here-first : (a b : Reading Element) (e : Element) (rest : List Code) → a (c ∷ cs) ≡ Some (e, rest) → IsThere e →
+        Here (either a b)
     unfolding either
-    here-first a b e rest k h = subst (λ r. Passes IsThere (elim r as (λ _. Option (Element × List Code)) [ None ↦ b (c ∷ cs) | Some x ↦ Some x ])) (sym k) h
+    here-first a b e rest k h =
+        subst (λ r. Passes IsThere (elim r as (λ _. Option (Element × List Code)) [ None ↦ b (c ∷ cs) | Some x ↦ Some x ])) (sym k) h
 
     here-data : is_line_ending c ≡ false → Here data_code
     unfolding data_code one ◌>>=◌ gives
@@ -84,14 +89,17 @@ module _ (s : Setting) where
 
     ending-read : is_line_ending c ≡ true → line_ending (c ∷ cs) ≡ Some (plain (leaf N.LineEnding (c ∷ [])), cs)
     unfolding line_ending one ◌>>=◌ gives
-    ending-read h = ap (λ b. elim (elim b as (λ _. Option (List Code × List Code)) [ true ↦ Some (c ∷ [], cs) | false ↦ None ]) as (λ _. Option (Element × List Code)) [ None ↦ None | Some r ↦ Some (plain (leaf N.LineEnding r.0), r.1) ]) h
+    ending-read h =
+        ap (λ b. elim (elim b as (λ _. Option (List Code × List Code)) [ true ↦ Some (c ∷ [], cs) | false ↦ None ]) as (λ _. Option (Element × List Code)) [ None ↦ None | Some r ↦ Some (plain (leaf N.LineEnding r.0), r.1) ]) h
 
     ending-there : IsThere (plain (leaf N.LineEnding (c ∷ [])))
     ending-there = λ _. one-leaf N.LineEnding (c ∷ []) refl tt
 
-    first-tried : (row : List ℕ × Reading Element) (rows : Tries) (v : ℕ) → list_any (λ n. v == n) row.0 ≡ true → tried (row ∷ rows) v (c ∷ cs) ≡ row.1 (c ∷ cs)
+    first-tried : (row : List ℕ × Reading Element) (rows : Tries) (v : ℕ) → list_any (λ n. v == n) row.0 ≡ true →
+        tried (row ∷ rows) v (c ∷ cs) ≡ row.1 (c ∷ cs)
     unfolding tried
-    first-tried row rows v h = ap (λ b. (elim b as (λ _. Reading Element) [ true ↦ row.1 | false ↦ tried rows v ]) (c ∷ cs)) h
+    first-tried row rows v h =
+        ap (λ b. (elim b as (λ _. Reading Element) [ true ↦ row.1 | false ↦ tried rows v ]) (c ∷ cs)) h
 
     module _ (end : ℕ) (earlier : List Element) (previous : Option Code) where
       each-here : EachConstruct s end earlier previous (Passes IsThere) (c ∷ cs)
@@ -106,24 +114,30 @@ module _ (s : Setting) where
         ended = (there-end earlier).at (c ∷ cs);
       }
 
-      tried-ending : is_line_ending c ≡ true → tried (tries s end earlier previous) c.value (c ∷ cs) ≡ line_ending (c ∷ cs)
+      tried-ending : is_line_ending c ≡ true →
+          tried (tries s end earlier previous) c.value (c ∷ cs) ≡ line_ending (c ∷ cs)
       unfolding tries
       tried-ending h = first-tried _ _ c.value (ap (λ b. b || false) h)
 
-      here-row : (b : Bool) → is_line_ending c ≡ b → Here (either (tried (tries s end earlier previous) c.value) data_code)
-      here-row true h = here-first (tried (tries s end earlier previous) c.value) data_code (plain (leaf N.LineEnding (c ∷ []))) cs (tried-ending h ∙ ending-read h) ending-there
-      here-row false h = here-either (tried (tries s end earlier previous) c.value) data_code (row_has s end earlier previous (Passes IsThere) c.value (c ∷ cs) each-here (here-data h)) (here-data h)
+      here-row : (b : Bool) → is_line_ending c ≡ b →
+          Here (either (tried (tries s end earlier previous) c.value) data_code)
+      here-row true h =
+          here-first (tried (tries s end earlier previous) c.value) data_code (plain (leaf N.LineEnding (c ∷ []))) cs (tried-ending h ∙ ending-read h) ending-there
+      here-row false h =
+          here-either (tried (tries s end earlier previous) c.value) data_code (row_has s end earlier previous (Passes IsThere) c.value (c ∷ cs) each-here (here-data h)) (here-data h)
 
       here-text : Here (text_element s end earlier previous)
       unfolding text_element
       here-text = here-either (first_check s end earlier previous) (either (tried (tries s end earlier previous) c.value) data_code) (check_has s end earlier previous (Passes IsThere) (c ∷ cs) each-here) (here-row (is_line_ending c) refl)
 
     here-plain : (b : Bool) → is_line_ending c ≡ b → Here (either line_ending data_code)
-    here-plain true h = here-first line_ending data_code (plain (leaf N.LineEnding (c ∷ []))) cs (ending-read h) ending-there
+    here-plain true h =
+        here-first line_ending data_code (plain (leaf N.LineEnding (c ∷ []))) cs (ending-read h) ending-there
     here-plain false h = here-either line_ending data_code (there-ending.at (c ∷ cs)) (here-data h)
 
     here-string : Here (string_element s)
-    here-string = string_has (Passes IsThere) tt (c ∷ cs) s (λ a h. (there-plain a h).at (c ∷ cs)) (here-plain (is_line_ending c) refl)
+    here-string =
+        string_has (Passes IsThere) tt (c ∷ cs) s (λ a h. (there-plain a h).at (c ∷ cs)) (here-plain (is_line_ending c) refl)
 
   -- Lists of elements.
 
@@ -144,7 +158,8 @@ module _ (s : Setting) where
       let both = spaced-both s.bytes (element_codes d e) h.0 (subst (λ (x : List Code). AreSpaced s.bytes x) (sym whole) k) in
       (lined-there d e both.0 (subst (λ z. Passes IsThere z) h.1 (there earlier previous cs)), lined-elements choice covers there es (e ∷ earlier) (code_before cs h.0) h.0 both.1 h.2)
 
-  text-there : (end : ℕ) (earlier : List Element) (previous : Option Code) (cs : List Code) → Passes IsThere (text_element s end earlier previous cs)
+  text-there : (end : ℕ) (earlier : List Element) (previous : Option Code) (cs : List Code) →
+      Passes IsThere (text_element s end earlier previous cs)
   unfolding text_element
   text-there end earlier previous [] = tt
   text-there end earlier previous (c ∷ cs) = here-text c cs end earlier previous
@@ -153,12 +168,17 @@ module _ (s : Setting) where
   string-none =
       string_has (Passes IsThere) tt [] s (λ a h. (there-plain a h).at []) (either_has (Passes IsThere) tt [] line_ending data_code (there-ending.at []) no-data)
 
-  string-there : (earlier : List Element) (previous : Option Code) (cs : List Code) → Passes IsThere (string_choice s earlier previous cs)
+  string-there : (earlier : List Element) (previous : Option Code) (cs : List Code) →
+      Passes IsThere (string_choice s earlier previous cs)
   string-there earlier previous [] = string-none
   string-there earlier previous (c ∷ cs) = here-string c cs
 
-  pub text-lined : (cs : List Code) (es : List Element) → AreSpaced s.bytes cs → AreElements s cs es → AllAre IsLinedElement es
-  text-lined cs es k h = lined-elements (text_choice s cs) (λ earlier previous. covers_text_element s _ earlier previous) (λ earlier previous ds. text-there _ earlier previous ds) es [] None cs k h
+  pub text-lined : (cs : List Code) (es : List Element) → AreSpaced s.bytes cs → AreElements s cs es →
+      AllAre IsLinedElement es
+  text-lined cs es k h =
+      lined-elements (text_choice s cs) (λ earlier previous. covers_text_element s _ earlier previous) (λ earlier previous ds. text-there _ earlier previous ds) es [] None cs k h
 
-  pub string-lined : (cs : List Code) (es : List Element) → AreSpaced s.bytes cs → AreStringElements s cs es → AllAre IsLinedElement es
-  string-lined cs es k h = lined-elements (string_choice s) (λ earlier previous. covers_string_element s (unused earlier)) string-there es [] None cs k h
+  pub string-lined : (cs : List Code) (es : List Element) → AreSpaced s.bytes cs → AreStringElements s cs es →
+      AllAre IsLinedElement es
+  string-lined cs es k h =
+      lined-elements (string_choice s) (λ earlier previous. covers_string_element s (unused earlier)) string-there es [] None cs k h

@@ -26,16 +26,21 @@ pub in-more : (xs ys cs : List Code) (before after : List Code) → cs ≡ befor
 in-more xs ys cs before after e (a, b, k) =
     (before ++ a, b ++ after, e ∙ ap (λ x. before ++ (x ++ after)) k ∙ ap (λ x. before ++ x) (append_assoc a (xs ++ b) after ∙ ap (λ x. a ++ x) (append_assoc xs b after)) ∙ sym (append_assoc before a (xs ++ (b ++ after))))
 
-pub between-more : (ys cs : List Code) (before after : List Code) → cs ≡ before ++ (ys ++ after) → (a b : Point) → IsBetween ys a b → IsBetween cs a b
-between-more ys cs before after e a b h = record { front = h.front; next = h.next; line = h.line; stands = in-more (h.front ++ h.next ∷ []) ys cs before after e h.stands; from = h.from; to = h.to }
+pub between-more : (ys cs : List Code) (before after : List Code) → cs ≡ before ++ (ys ++ after) → (a b : Point) →
+    IsBetween ys a b → IsBetween cs a b
+between-more ys cs before after e a b h =
+    record { front = h.front; next = h.next; line = h.line; stands = in-more (h.front ++ h.next ∷ []) ys cs before after e h.stands; from = h.from; to = h.to }
 
-stands-more : (B : Point → Point → Type 0) (ys cs : List Code) (before after : List Code) → cs ≡ before ++ (ys ++ after) → (a b : Point) → Stands B ys a b → Stands B cs a b
+stands-more : (B : Point → Point → Type 0) (ys cs : List Code) (before after : List Code) →
+    cs ≡ before ++ (ys ++ after) → (a b : Point) → Stands B ys a b → Stands B cs a b
 stands-more B ys cs before after e a b (inl h) = inl h
 stands-more B ys cs before after e a b (inr h) = inr (between-more ys cs before after e a b h)
 
 -- a tree that is apart stands in a longer one as it is
-pub apart-in : (B : Point → Point → Type 0) (cs before after : List Code) (t : Forest) → cs ≡ before ++ (leaf_codes t ++ after) → IsApart B t → IsLined (Stands B cs) t
-apart-in B cs before after t e h = lined-weaker (Stands B (leaf_codes t)) (Stands B cs) (stands-more B (leaf_codes t) cs before after e) t h
+pub apart-in : (B : Point → Point → Type 0) (cs before after : List Code) (t : Forest) →
+    cs ≡ before ++ (leaf_codes t ++ after) → IsApart B t → IsLined (Stands B cs) t
+apart-in B cs before after t e h =
+    lined-weaker (Stands B (leaf_codes t)) (Stands B cs) (stands-more B (leaf_codes t) cs before after e) t h
 
 module _ (B : Point → Point → Type 0) where
   pub apart-row : (t u : Forest) → IsApart B t → IsApart B u → IsApart B (t ⊕ u)
@@ -50,7 +55,8 @@ module _ (B : Point → Point → Type 0) where
   apart-loose cs h = (lined-leaf (Stands B (leaf_codes (leaf N.Data cs))) N.Data cs h, tt)
 
   -- between some codes of a line and the codes behind them
-  pub stands-between : (cs before front back after : List Code) → cs ≡ before ++ (front ++ (back ++ after)) → IsSomeLine front → back ≢ [] → Stands B cs (stop_of document_start front) (start_of back)
+  pub stands-between : (cs before front back after : List Code) → cs ≡ before ++ (front ++ (back ++ after)) →
+      IsSomeLine front → back ≢ [] → Stands B cs (stop_of document_start front) (start_of back)
   stands-between cs before front [] after e l k = absurd (k refl)
   stands-between cs before front (c ∷ back) after e l k =
       inr (record { front = front; next = c; line = l; stands = (before, back ++ after, e ∙ ap (λ x. before ++ x) (sym (append_assoc front (c ∷ []) (back ++ after)))); from = refl; to = refl })
@@ -73,12 +79,15 @@ module _ (E : Point → Point → Type 0) where
   lined-start_tree LabelKind.GfmFootnote (c ∷ cs) h =
       let p = line-both (c ∷ []) cs h.1 in
       lined-group E N.GfmFootnoteCallLabel _ _ N.LabelMarker (c ∷ []) (leaf N.GfmFootnoteCallMarker cs) (λ e. cc) (lined-row E (leaf N.LabelMarker (c ∷ [])) (leaf N.GfmFootnoteCallMarker cs) (lined-leaf E N.LabelMarker (c ∷ []) p.0) (lined-leaf E N.GfmFootnoteCallMarker cs p.1))
-  lined-start_tree LabelKind.Link (c ∷ cs) h = lined-group E N.LabelLink _ _ N.LabelMarker (c ∷ cs) empty (λ e. cc) (lined-leaf E N.LabelMarker (c ∷ cs) h.1)
-  lined-start_tree LabelKind.GfmUndefinedFootnote (c ∷ cs) h = lined-group E N.LabelLink _ _ N.LabelMarker (c ∷ cs) empty (λ e. cc) (lined-leaf E N.LabelMarker (c ∷ cs) h.1)
+  lined-start_tree LabelKind.Link (c ∷ cs) h =
+      lined-group E N.LabelLink _ _ N.LabelMarker (c ∷ cs) empty (λ e. cc) (lined-leaf E N.LabelMarker (c ∷ cs) h.1)
+  lined-start_tree LabelKind.GfmUndefinedFootnote (c ∷ cs) h =
+      lined-group E N.LabelLink _ _ N.LabelMarker (c ∷ cs) empty (λ e. cc) (lined-leaf E N.LabelMarker (c ∷ cs) h.1)
 
   lined-back : (back : List Code) → IsSomeLine back → IsLined E (group N.LabelEnd (leaf N.LabelMarker back))
   lined-back [] h = absurd (h.0 refl)
-  lined-back (c ∷ cs) h = lined-group E N.LabelEnd _ _ N.LabelMarker (c ∷ cs) empty (λ e. cc) (lined-leaf E N.LabelMarker (c ∷ cs) h.1)
+  lined-back (c ∷ cs) h =
+      lined-group E N.LabelEnd _ _ N.LabelMarker (c ∷ cs) empty (λ e. cc) (lined-leaf E N.LabelMarker (c ∷ cs) h.1)
 
 module _ (kind : LabelKind) (marker : List Code) (inside : Forest) (back : List Code) (tail : Forest)
     (m : IsSomeLine marker) (i : IsApart AtStart inside) (b : IsSomeLine back) (t : IsLined AtStart tail) where
@@ -132,7 +141,8 @@ module _ (kind : LabelKind) (marker : List Code) (inside : Forest) (back : List 
   Behind = text_group N.LabelText (stop_of document_start front) (start_of back) (leaf N.Data caret ⊕ inside) ⊕ group N.LabelEnd (leaf N.LabelMarker back)
 
   label-some : leaf_codes Label ≡ [] → ⊥
-  label-some e = start-some kind marker m (none-left front (leaf_codes Behind) (sym (leaf_codes-row (start_tree kind front) Behind ∙ ap (λ x. x ++ leaf_codes Behind) (codes-start_tree kind front)) ∙ e)).0
+  label-some e =
+      start-some kind marker m (none-left front (leaf_codes Behind) (sym (leaf_codes-row (start_tree kind front) Behind ∙ ap (λ x. x ++ leaf_codes Behind) (codes-start_tree kind front)) ∙ e)).0
 
   pub apart-label : IsApart AtStart Whole
   apart-label = (
@@ -142,7 +152,8 @@ module _ (kind : LabelKind) (marker : List Code) (inside : Forest) (back : List 
 
 -- The tree of labels.
 
-end-line : (marker : List Code) (outcome : Option (LabelKind × Forest)) → IsLinedElement (ends marker outcome) → IsLine marker
+end-line : (marker : List Code) (outcome : Option (LabelKind × Forest)) → IsLinedElement (ends marker outcome) →
+    IsLine marker
 end-line marker None e = e.1
 end-line marker (Some outcome) e = e.0.1
 

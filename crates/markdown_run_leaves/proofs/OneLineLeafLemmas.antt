@@ -27,7 +27,8 @@ IsSame bytes a b = IsPoint bytes a × (a ≡ b)
 start-same : (bytes : List ℕ) (a b : Point) → AtStart a b → IsSame bytes a b
 start-same bytes a b h = (subst (λ (p : Point). IsPoint bytes p) (sym h.0) (point_start bytes), h.0 ∙ sym h.1)
 
-part-same : (bytes : List ℕ) (front : List Code) (c : Code) → front ≢ [] → IsPart bytes (front ++ c ∷ []) → IsSame bytes (stop_of document_start front) c.start
+part-same : (bytes : List ℕ) (front : List Code) (c : Code) → front ≢ [] → IsPart bytes (front ++ c ∷ []) →
+    IsSame bytes (stop_of document_start front) c.start
 part-same bytes front c some h =
     let before : List Code = h.before ++ front in
     let whole : codes_of bytes ≡ before ++ c ∷ h.after = h.whole ∙ ap (λ x. h.before ++ x) (append_assoc front (c ∷ []) h.after) ∙ sym (append_assoc h.before front (c ∷ h.after)) in
@@ -54,14 +55,17 @@ module _ (bytes : List ℕ) (pieces : List Piece) (order : are_pieces bytes piec
   stands-same a b (inr h) = between-same a b h
 
   leaf-part : (cs before after : List Code) → all ≡ before ++ (cs ++ after) → IsOnLine cs → IsPart bytes cs
-  leaf-part cs before after e h = part-of-content bytes pieces cs order (on-some cs h) (on-line-ends cs h) (before, after, e)
+  leaf-part cs before after e h =
+      part-of-content bytes pieces cs order (on-some cs h) (on-line-ends cs h) (before, after, e)
 
-  leaves-row : (t : Forest) (before after : List Code) → all ≡ before ++ (leaf_codes t ++ after) → IsLined E t → HasLeaves bytes t
+  leaves-row : (t : Forest) (before after : List Code) → all ≡ before ++ (leaf_codes t ++ after) → IsLined E t →
+      HasLeaves bytes t
   leaves-row empty before after e h = tt
   leaves-row (leaf_then name link cs rest) before after e h =
       let p = both-in all cs (leaf_codes rest) before after e in
       (leaf-part cs before (leaf_codes rest ++ after) p.0 h.0.0, leaves-row rest (before ++ cs) after p.1 h.1)
-  leaves-row (group_then name a b empty rest) before after e h = (stands-same a b (h.0 refl), leaves-row rest before after e h.1.1)
+  leaves-row (group_then name a b empty rest) before after e h =
+      (stands-same a b (h.0 refl), leaves-row rest before after e h.1.1)
   leaves-row (group_then name a b (leaf_then m l cs more) rest) before after e h =
       let p = both-in all (leaf_codes (leaf_then m l cs more)) (leaf_codes rest) before after e in
       (leaves-row (leaf_then m l cs more) before (leaf_codes rest ++ after) p.0 h.1.0, leaves-row rest (before ++ leaf_codes (leaf_then m l cs more)) after p.1 h.1.1)

@@ -38,31 +38,36 @@ module _ (B : Point → Point → Type 0) where
     F = Stands B (leaf_codes Whole)
 
     text-stands : leaf_codes (joined inside) ≡ [] → F (stop_of document_start front) (start_of back)
-    text-stands e = stands-between B (leaf_codes Whole) [] front back [] (codes ∙ ap (λ x. front ++ (x ++ back)) e ∙ ap (λ x. front ++ x) (sym (append-nil back))) f b.0
+    text-stands e =
+        stands-between B (leaf_codes Whole) [] front back [] (codes ∙ ap (λ x. front ++ (x ++ back)) e ∙ ap (λ x. front ++ x) (sym (append-nil back))) f b.0
 
     text : IsLined F Text
     text = (text-stands, (apart-in B (leaf_codes Whole) front back (joined inside) codes (apart-joined B inside h), tt))
 
     apart-pair : IsApart B Whole
-    apart-pair = lined-group F names.0 _ _ names.1 front (Text ⊕ leaf names.1 back) f.0 (lined-row F (leaf names.1 front) (Text ⊕ leaf names.1 back) (lined-leaf F names.1 front f.1) (lined-row F Text (leaf names.1 back) text (lined-leaf F names.1 back b.1)))
+    apart-pair =
+        lined-group F names.0 _ _ names.1 front (Text ⊕ leaf names.1 back) f.0 (lined-row F (leaf names.1 front) (Text ⊕ leaf names.1 back) (lined-leaf F names.1 front f.1) (lined-row F Text (leaf names.1 back) text (lined-leaf F names.1 back b.1)))
 
   -- Words.
 
   -- brackets of a flat word are not empty
-  matches-some : (keys : List (ℕ × ℕ)) (w : List Token) → Matches keys w → WordHas (IsApart B) IsLine IsLine w → WordHas (IsApart B) IsSomeLine IsSomeLine w
+  matches-some : (keys : List (ℕ × ℕ)) (w : List Token) → Matches keys w → WordHas (IsApart B) IsLine IsLine w →
+      WordHas (IsApart B) IsSomeLine IsSomeLine w
   matches-some keys [] m h = tt
   matches-some keys (item t ∷ w) m h = (h.0, matches-some keys w m.1 h.1)
   matches-some keys (opens o ∷ w) m h = ((m.0, h.0), matches-some _ w m.1 h.1)
   matches-some [] (closes c ∷ w) m h = absurd m
   matches-some (key ∷ keys) (closes c ∷ w) m h = ((m.0, h.0), matches-some keys w m.1.1 h.1)
 
-  items-some : (w : List Token) → AreItems w → WordHas (IsApart B) IsLine IsLine w → WordHas (IsApart B) IsSomeLine IsSomeLine w
+  items-some : (w : List Token) → AreItems w → WordHas (IsApart B) IsLine IsLine w →
+      WordHas (IsApart B) IsSomeLine IsSomeLine w
   items-some [] m h = tt
   items-some (item t ∷ w) m h = (h.0, items-some w m h.1)
   items-some (opens o ∷ w) m h = absurd m
   items-some (closes c ∷ w) m h = absurd m
 
-  flat-some : (w : List Token) → IsFlat w → WordHas (IsApart B) IsLine IsLine w → WordHas (IsApart B) IsSomeLine IsSomeLine w
+  flat-some : (w : List Token) → IsFlat w → WordHas (IsApart B) IsLine IsLine w →
+      WordHas (IsApart B) IsSomeLine IsSomeLine w
   flat-some w (inl m) h = matches-some [] w m h
   flat-some w (inr m) h = items-some w m h
 
@@ -77,7 +82,8 @@ module _ (B : Point → Point → Type 0) where
   data-has cs h = (apart-loose B cs h).0
 
   module _ (s : Setting) (pairs_of : List Run → List Pair) where
-    tokens-has : (t : Forest) (ps : List Pair) (n : ℕ) → IsReady s pairs_of t → IsLined B t → WordHas (IsApart B) IsLine IsLine (tokens_of s pairs_of t ps n)
+    tokens-has : (t : Forest) (ps : List Pair) (n : ℕ) → IsReady s pairs_of t → IsLined B t →
+        WordHas (IsApart B) IsLine IsLine (tokens_of s pairs_of t ps n)
     unfolding tokens_of
     tokens-has empty ps n r h = tt
     tokens-has (leaf_then N.AttentionSequence link cs rest) ps n r h =
@@ -90,6 +96,8 @@ module _ (B : Point → Point → Type 0) where
         let k : IsApart B (assembled w) = apart-assembled w r.0.1 (tokens-has inside (pairs_of (runs_of s inside)) 0 r.1.0 h.1.0) in
         (((λ e. inl (h.0 (sym same ∙ e))), (apart-in B (leaf_codes (assembled w) ++ []) [] [] (assembled w) refl k, tt)), tokens-has rest ps n r.1.1 h.1.1)
 
-    pub apart-paired : (t : Forest) → IsFlat (tokens_of s pairs_of t (pairs_of (runs_of s t)) 0) → IsReady s pairs_of t → IsLined B t → IsApart B (paired s pairs_of t)
+    pub apart-paired : (t : Forest) → IsFlat (tokens_of s pairs_of t (pairs_of (runs_of s t)) 0) →
+        IsReady s pairs_of t → IsLined B t → IsApart B (paired s pairs_of t)
     unfolding paired
-    apart-paired t m r h = apart-assembled (tokens_of s pairs_of t (pairs_of (runs_of s t)) 0) m (tokens-has t (pairs_of (runs_of s t)) 0 r h)
+    apart-paired t m r h =
+        apart-assembled (tokens_of s pairs_of t (pairs_of (runs_of s t)) 0) m (tokens-has t (pairs_of (runs_of s t)) 0 r h)

@@ -53,18 +53,22 @@ pub full-lines : (name : Name) (link : Option Content) (cs : List Code) → AreL
 full-lines name link cs = leaves-lines IsFull name link (λ s h. h.0) (λ s some h. some) (λ s h. h.0) cs
 
 pub leaves-trimmed_data : (front back hard : Bool) (cs : List Code) → AreLeaves (trimmed_data front back hard cs)
-leaves-trimmed_data front back hard cs = trimmed_data-has AreLeaves (leaves-row IsFull) (full-leaf N.Data) (full-leaf N.HardBreakTrailing) (full-leaf N.SpaceOrTab) front back hard cs
+leaves-trimmed_data front back hard cs =
+    trimmed_data-has AreLeaves (leaves-row IsFull) (full-leaf N.Data) (full-leaf N.HardBreakTrailing) (full-leaf N.SpaceOrTab) front back hard cs
 
 pub leaves-with_emails : (cs : List Code) → AreLeaves (with_emails cs)
-leaves-with_emails cs = with_emails-has AreLeaves (leaves-row IsFull) (full-leaf N.Data) (λ before ds. full-leaf _ ds) cs
+leaves-with_emails cs =
+    with_emails-has AreLeaves (leaves-row IsFull) (full-leaf N.Data) (λ before ds. full-leaf _ ds) cs
 
 -- Rows.
 
 -- what is said of groups without a code may be weakened
-pub lined-weaker : (E F : Point → Point → Type 0) → ((a b : Point) → E a b → F a b) → (t : Forest) → IsLined E t → IsLined F t
+pub lined-weaker : (E F : Point → Point → Type 0) → ((a b : Point) → E a b → F a b) → (t : Forest) → IsLined E t →
+    IsLined F t
 lined-weaker E F w empty h = tt
 lined-weaker E F w (leaf_then name link cs rest) h = (h.0, lined-weaker E F w rest h.1)
-lined-weaker E F w (group_then name a b inside rest) h = (λ e. w a b (h.0 e), (lined-weaker E F w inside h.1.0, lined-weaker E F w rest h.1.1))
+lined-weaker E F w (group_then name a b inside rest) h =
+    (λ e. w a b (h.0 e), (lined-weaker E F w inside h.1.0, lined-weaker E F w rest h.1.1))
 
 module _ (E : Point → Point → Type 0) where
   lined : Walks (IsLined E) (λ name link cs. IsOnLine cs × (makes_data name ≡ true → IsLine cs)) (λ name a b inside. leaf_codes inside ≡ [] → E a b)
@@ -100,8 +104,10 @@ module _ (E : Point → Point → Type 0) where
   lined-rows (leaf_then name link cs rest) h = (h.0, lined-rows rest h.1)
   lined-rows (group_then name a b inside rest) h = absurd h
 
-  pub lined-linked : (name : Name) (link : Option Content) (cs : List Code) → IsLine cs → IsLined E (linked_leaf name link cs)
-  lined-linked name link cs h = lined-rows (linked_leaf name link cs) (leaves-linked OnLine name link cs (λ some. (on-line cs (some, h), λ e. h)))
+  pub lined-linked : (name : Name) (link : Option Content) (cs : List Code) → IsLine cs →
+      IsLined E (linked_leaf name link cs)
+  lined-linked name link cs h =
+      lined-rows (linked_leaf name link cs) (leaves-linked OnLine name link cs (λ some. (on-line cs (some, h), λ e. h)))
 
   pub lined-lines : (name : Name) (link : Option Content) (cs : List Code) → IsLined E (lines name link cs)
   lined-lines name link cs =
@@ -112,17 +118,21 @@ module _ (E : Point → Point → Type 0) where
   lined-one name c h = ((tt, λ e. absurd (both_ways (makes_data name) h e)), tt)
 
   -- a group that begins with a leaf has a code
-  pub lined-group : (name : Name) (a b : Point) (n : Name) (cs : List Code) (more : Forest) → cs ≢ [] → IsLined E (leaf n cs ⊕ more) → IsLined E (group_then name a b (leaf n cs ⊕ more) empty)
+  pub lined-group : (name : Name) (a b : Point) (n : Name) (cs : List Code) (more : Forest) → cs ≢ [] →
+      IsLined E (leaf n cs ⊕ more) → IsLined E (group_then name a b (leaf n cs ⊕ more) empty)
   lined-group name a b n [] more some h = absurd (some refl)
   lined-group name a b n (c ∷ cs) more some h = (λ e. absurd (filled c (cs ++ leaf_codes more) e), (h, tt))
 
   -- The passes.
 
-  lined-both : (cs ds : List Code) → IsOnLine cs → IsLine cs → IsLine ds → IsOnLine (cs ++ ds) × (true ≡ true → IsLine (cs ++ ds))
-  lined-both cs ds some h k = let both : IsLine (cs ++ ds) = line-join cs ds h k in (on-line (cs ++ ds) ((λ e. on-some cs some (none-left cs ds e).0), both), λ e. both)
+  lined-both : (cs ds : List Code) → IsOnLine cs → IsLine cs → IsLine ds →
+      IsOnLine (cs ++ ds) × (true ≡ true → IsLine (cs ++ ds))
+  lined-both cs ds some h k =
+      let both : IsLine (cs ++ ds) = line-join cs ds h k in (on-line (cs ++ ds) ((λ e. on-some cs some (none-left cs ds e).0), both), λ e. both)
 
   pub lined-merged : (t : Forest) → IsLined E t → IsLined E (merged t)
-  lined-merged t h = walks-merged lined (λ cs ds k l. lined-both cs ds k.0 (k.1 refl) (l.1 refl)) (λ name a b inside _ g e. g (sym (codes-merged inside) ∙ e)) t h
+  lined-merged t h =
+      walks-merged lined (λ cs ds k l. lined-both cs ds k.0 (k.1 refl) (l.1 refl)) (λ name a b inside _ g e. g (sym (codes-merged inside) ∙ e)) t h
 
   pub lined-trimmed : (hard front whole : Bool) (t : Forest) → IsLined E t → IsLined E (trimmed hard front whole t)
   lined-trimmed hard front whole t h =

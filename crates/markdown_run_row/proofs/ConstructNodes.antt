@@ -32,7 +32,8 @@ quiet-lines-of (leaf_then name link cs rest) h = (λ e l. absurd (other name e h
     other N.Data e d r = cc
     other N.AttentionSequence e d r = cc
     other _ e d r = cc
-quiet-lines-of (group_then name enter exit inside rest) h = (h.0, (quiet-lines-of inside h.1.0, quiet-lines-of rest h.1.1))
+quiet-lines-of (group_then name enter exit inside rest) h =
+    (h.0, (quiet-lines-of inside h.1.0, quiet-lines-of rest h.1.1))
 
 pub quiet-node-unlinked : (t : Forest) → IsSingle t → (n : ℕ) → last_link n None t ≡ None
 quiet-node-unlinked empty h n = absurd h
@@ -60,7 +61,8 @@ group-no-ending _ e = refl
 
 leaves-quiet : (bytes : List ℕ) (t : Forest) → Leaves (IsOwnLeaf bytes) t → IsQuiet t
 leaves-quiet bytes empty h = tt
-leaves-quiet bytes (leaf_then name link cs rest) h = let q = own-quiet name (leaf-own name h.0.named) in (q.0, (q.1, leaves-quiet bytes rest h.1))
+leaves-quiet bytes (leaf_then name link cs rest) h =
+    let q = own-quiet name (leaf-own name h.0.named) in (q.0, (q.1, leaves-quiet bytes rest h.1))
 leaves-quiet bytes (group_then name enter exit inside rest) h = absurd h
 
 quiet-none : (t : Forest) → t ≡ empty → IsQuiet t
@@ -75,8 +77,10 @@ plain-node bytes (group_then name enter exit inside rest) h =
     record { single = h.1; quiet = (((own-quiet name (group-own name h.0.named)).0, group-no-ending name h.0.named), (leaves-quiet bytes inside h.0.leaves, quiet-none rest h.1)) }
 
 -- what is read by itself is one, and passes a code at least
-pub node-of : (bytes : List ℕ) (a : Reading Forest) → ReadsPlain bytes a → (cs : List Code) (t : Forest) (rest : List Code) → a cs ≡ Some (t, rest) → IsNode t × (1 + length rest ≤ length cs)
-node-of bytes a h cs t rest e = (plain-node bytes t (subst (λ o. Passes (IsPlainTree bytes) o) e (h.plain.at cs)), subst (λ o. Left 1 cs o) e ((plain-takes bytes a h).at cs))
+pub node-of : (bytes : List ℕ) (a : Reading Forest) → ReadsPlain bytes a →
+    (cs : List Code) (t : Forest) (rest : List Code) → a cs ≡ Some (t, rest) → IsNode t × (1 + length rest ≤ length cs)
+node-of bytes a h cs t rest e =
+    (plain-node bytes t (subst (λ o. Passes (IsPlainTree bytes) o) e (h.plain.at cs)), subst (λ o. Left 1 cs o) e ((plain-takes bytes a h).at cs))
 
 -- Runs of markers.
 
@@ -94,14 +98,16 @@ span-lines m (c ∷ cs) e = by_test (is_value m c) refl (span-lines m cs e)
   where
     by_test : (b : Bool) → is_value m c ≡ b → list_any is_line_ending (span (is_value m) cs).0 ≡ false
         → (let s : List Code × List Code = elim b [ true ↦ (c ∷ (span (is_value m) cs).0, (span (is_value m) cs).1) | false ↦ ([], c ∷ cs) ] in list_any is_line_ending s.0 ≡ false)
-    by_test true h k = or_from (is_line_ending c) (list_any is_line_ending (span (is_value m) cs).0) (other-ending m c e h) k
+    by_test true h k =
+        or_from (is_line_ending c) (list_any is_line_ending (span (is_value m) cs).0) (other-ending m c e h) k
     by_test false h k = refl
 
 some_yields : (m : ℕ) → (m == 10) ≡ false → Yields AreMarkers (some (is_value m))
 unfolding some
 some_yields m e = record { at = λ cs. by_codes (span (is_value m) cs).0 (span (is_value m) cs).1 (span-lines m cs e) }
   where
-    by_codes : (xs rest : List Code) → list_any is_line_ending xs ≡ false → Passes AreMarkers (elim (is_empty xs) as (λ _. Option (List Code × List Code)) [ true ↦ None | false ↦ Some (xs, rest) ])
+    by_codes : (xs rest : List Code) → list_any is_line_ending xs ≡ false →
+        Passes AreMarkers (elim (is_empty xs) as (λ _. Option (List Code × List Code)) [ true ↦ None | false ↦ Some (xs, rest) ])
     by_codes [] rest h = tt
     by_codes (c ∷ xs) rest h = ((λ k. cc), h)
 
@@ -126,11 +132,13 @@ run-leaf (c ∷ cs) h =
 
 attention_yields : (m : ℕ) → (m == 10) ≡ false → Yields IsRunElement (attention_run m)
 unfolding attention_run
-attention_yields m e = yields_bind AreMarkers _ _ _ (some_yields m e) λ markers h. yields_gives _ (plain (leaf N.AttentionSequence markers)) (run-leaf markers h)
+attention_yields m e =
+    yields_bind AreMarkers _ _ _ (some_yields m e) λ markers h. yields_gives _ (plain (leaf N.AttentionSequence markers)) (run-leaf markers h)
 
 switched_yields : (on : Bool) (m : ℕ) → (m == 10) ≡ false → Yields IsRunElement (switched on (attention_run m))
 unfolding switched
 switched_yields on m e = yields_passed _ _ _ (attention_yields m e)
 
-pub run-node : (m : ℕ) (on : Bool) (cs : List Code) (t : Forest) (rest : List Code) → (m == 10) ≡ false → switched on (attention_run m) cs ≡ Some (plain t, rest) → IsRunLeaf t
+pub run-node : (m : ℕ) (on : Bool) (cs : List Code) (t : Forest) (rest : List Code) → (m == 10) ≡ false →
+    switched on (attention_run m) cs ≡ Some (plain t, rest) → IsRunLeaf t
 run-node m on cs t rest e h = subst (λ o. Passes IsRunElement o) h ((switched_yields on m e).at cs)

@@ -46,16 +46,20 @@ use Rattle.markdown_run_row.proofs.LinesCutAlike.{lines-cut}
 
 -- Rows.
 
-pub elements-append : (es fs : List Element) → row_of_elements (es ++ fs) ≡ joined_rows (row_of_elements es) (row_of_elements fs)
+pub elements-append : (es fs : List Element) →
+    row_of_elements (es ++ fs) ≡ joined_rows (row_of_elements es) (row_of_elements fs)
 elements-append [] fs = onto-empty (row_of_elements fs)
   where
     onto-empty : (q : Row) → q ≡ tree_onto empty q
     onto-empty (row_end t) = refl
     onto-empty (row_then t mark rest) = refl
-elements-append (plain t ∷ es) fs = ap (tree_onto t) (elements-append es fs) ∙ sym (onto-joined t (row_of_elements es) (row_of_elements fs))
+elements-append (plain t ∷ es) fs =
+    ap (tree_onto t) (elements-append es fs) ∙ sym (onto-joined t (row_of_elements es) (row_of_elements fs))
 elements-append (starts kind marker ∷ es) fs = ap (element_onto (starts kind marker)) (elements-append es fs)
-elements-append (ends marker None ∷ es) fs = ap (element_onto (ends marker None)) (elements-append es fs) ∙ ap (row_then empty loses) (sym (onto-joined (leaf N.Data marker) (row_of_elements es) (row_of_elements fs)))
-elements-append (ends marker (Some outcome) ∷ es) fs = ap (element_onto (ends marker (Some outcome))) (elements-append es fs)
+elements-append (ends marker None ∷ es) fs =
+    ap (element_onto (ends marker None)) (elements-append es fs) ∙ ap (row_then empty loses) (sym (onto-joined (leaf N.Data marker) (row_of_elements es) (row_of_elements fs)))
+elements-append (ends marker (Some outcome) ∷ es) fs =
+    ap (element_onto (ends marker (Some outcome))) (elements-append es fs)
 
 have-append : (es fs : List Element) → HaveCodes es → HaveCodes fs → HaveCodes (es ++ fs)
 have-append [] fs h k = k
@@ -63,7 +67,9 @@ have-append (e ∷ es) fs h k = (h.0, have-append es fs h.1 k)
 
 -- After an advance.
 
-elements-all : (choice : Choice) (earlier : List Element) (previous : Option Code) (r q : Row) (T U : Tokenizer) → (k : Elements choice earlier previous r T U) → AllElements choice k.later k.last q (ahead U) → AllElements choice earlier previous (joined_rows r q) (ahead T)
+elements-all : (choice : Choice) (earlier : List Element) (previous : Option Code) (r q : Row) (T U : Tokenizer) →
+    (k : Elements choice earlier previous r T U) → AllElements choice k.later k.last q (ahead U) →
+    AllElements choice earlier previous (joined_rows r q) (ahead T)
 elements-all choice earlier previous r q T U k a =
     record {
       elements = k.elements ++ a.elements;
@@ -73,7 +79,8 @@ elements-all choice earlier previous r q T U k a =
     }
 
 -- what follows an advance, follows from before it
-pub advances-finishes : (choice : Choice) (passed : Tokenizer → Tokenizer) (T U V : Tokenizer) → Advances choice T U → Finishes choice passed U V → Finishes choice passed T V
+pub advances-finishes : (choice : Choice) (passed : Tokenizer → Tokenizer) (T U V : Tokenizer) → Advances choice T U →
+    Finishes choice passed U V → Finishes choice passed T V
 advances-finishes choice passed T U V p k =
     record {
       row = joined_rows p.row k.row;
@@ -86,7 +93,8 @@ advances-finishes choice passed T U V p k =
     }
 
 -- at the content's end
-pub finishes-end : (choice : Choice) (passed : Tokenizer → Tokenizer) (T U : Tokenizer) → current_of T ≡ None → U ≡ passed T → Finishes choice passed T U
+pub finishes-end : (choice : Choice) (passed : Tokenizer → Tokenizer) (T U : Tokenizer) → current_of T ≡ None →
+    U ≡ passed T → Finishes choice passed T U
 finishes-end choice passed T U e left =
     record {
       row = row_end empty;
@@ -98,22 +106,26 @@ finishes-end choice passed T U e left =
 
 -- Places past a tree.
 
-code-there : (p : Place) (c : Code) (rest : List Code) → ahead_at p ≡ c ∷ rest → last_of (moved p).codes (moved p).at ≡ Some c
+code-there : (p : Place) (c : Code) (rest : List Code) → ahead_at p ≡ c ∷ rest →
+    last_of (moved p).codes (moved p).at ≡ Some c
 unfolding ahead_at moved
 code-there p c rest e =
     let at : last_of p.codes (p.at + 1) ≡ slice_get p.codes p.at = rw add-one refl in
     at ∙ first-drop p.at p.codes ∙ ap first_of e
 
 -- past some codes, the last of them stands before
-last-moved : (c : Code) (cs rest : List Code) (p : Place) → ahead_at p ≡ (c ∷ cs) ++ rest → last_of (moved_by (c ∷ cs) p).codes (moved_by (c ∷ cs) p).at ≡ last_code (c ∷ cs)
+last-moved : (c : Code) (cs rest : List Code) (p : Place) → ahead_at p ≡ (c ∷ cs) ++ rest →
+    last_of (moved_by (c ∷ cs) p).codes (moved_by (c ∷ cs) p).at ≡ last_code (c ∷ cs)
 last-moved c [] rest p e = code-there p c rest e
 last-moved c (d ∷ cs) rest p e = last-moved d cs rest (moved p) (ahead-moved p ∙ ap rest_of e)
 
-pub last-some : (ws rest : List Code) (p : Place) → 1 ≤ length ws → ahead_at p ≡ ws ++ rest → last_of (moved_by ws p).codes (moved_by ws p).at ≡ last_code ws
+pub last-some : (ws rest : List Code) (p : Place) → 1 ≤ length ws → ahead_at p ≡ ws ++ rest →
+    last_of (moved_by ws p).codes (moved_by ws p).at ≡ last_code ws
 last-some [] rest p h e = absurd (omega arith)
 last-some (c ∷ cs) rest p h e = last-moved c cs rest p e
 
-pub before-past : (t : Forest) (rest : List Code) (T U : Tokenizer) → 1 ≤ length (leaf_codes t) → ahead T ≡ leaf_codes t ++ rest → U ≡ past_tree t T → code_just_before U ≡ last_code (leaf_codes t)
+pub before-past : (t : Forest) (rest : List Code) (T U : Tokenizer) → 1 ≤ length (leaf_codes t) →
+    ahead T ≡ leaf_codes t ++ rest → U ≡ past_tree t T → code_just_before U ≡ last_code (leaf_codes t)
 unfolding past past_tree
 before-past t rest T U h e left = ap code_just_before left ∙ last-some (leaf_codes t) rest T.cursor h e
 
@@ -125,7 +137,8 @@ follows-last (e ∷ f ∷ es) x = follows-last (f ∷ es) x
 pub follows-these : (es xs : List Event) (x : Event) → follows_escape (es ++ (xs ++ x ∷ [])) ≡ ends_escape x
 follows-these es xs x = ap follows_escape (sym (append_assoc es xs (x ∷ []))) ∙ follows-last (es ++ xs) x
 
-pub events-past : (t : Forest) (T U : Tokenizer) → U ≡ past_tree t T → U.events ≡ T.events ++ appended_from (length T.events) None t
+pub events-past : (t : Forest) (T U : Tokenizer) → U ≡ past_tree t T →
+    U.events ≡ T.events ++ appended_from (length T.events) None t
 unfolding past past_tree
 events-past t T U e = ap (λ (x : Tokenizer). x.events) e
 
@@ -144,15 +157,23 @@ past_code previous [] = previous
 past_code previous (c ∷ cs) = past_code (Some c) cs
 
 -- one more code
-data-next : (choice : Choice) (earlier : List Element) (previous : Option Code) (c : Code) (cs : List Code) (es : List Element) → choice earlier previous (c ∷ cs) ≡ Some (plain (code_leaf c), cs) → AreElementsFrom choice (plain (code_leaf c) ∷ earlier) (Some c) cs es → AreElementsFrom choice earlier previous (c ∷ cs) (plain (code_leaf c) ∷ es)
+data-next : (choice : Choice) (earlier : List Element) (previous : Option Code) (c : Code) (cs : List Code) (es : List Element) →
+    choice earlier previous (c ∷ cs) ≡ Some (plain (code_leaf c), cs) →
+    AreElementsFrom choice (plain (code_leaf c) ∷ earlier) (Some c) cs es →
+    AreElementsFrom choice earlier previous (c ∷ cs) (plain (code_leaf c) ∷ es)
 data-next choice earlier previous c cs es e h =
     (cs, e, subst (λ o. AreElementsFrom choice (plain (code_leaf c) ∷ earlier) o cs es) (sym (code_before-append (c ∷ []) cs)) h)
 
 -- what is said of each code, is said of those behind the first
-single-behind : (choice : Choice) (stops : List Code → Bool) (c : Code) (cs : List Code) → AreSingle choice stops (c ∷ cs) → AreSingle choice stops cs
-single-behind choice stops c cs others front earlier previous d ds e free = others (c ∷ front) earlier previous d ds (ap (λ xs. c ∷ xs) e) free
+single-behind : (choice : Choice) (stops : List Code → Bool) (c : Code) (cs : List Code) →
+    AreSingle choice stops (c ∷ cs) → AreSingle choice stops cs
+single-behind choice stops c cs others front earlier previous d ds e free =
+    others (c ∷ front) earlier previous d ds (ap (λ xs. c ∷ xs) e) free
 
-data-others : (choice : Choice) (stops : List Code → Bool) (earlier : List Element) (previous : Option Code) (cs : List Code) → AreSingle choice stops cs → (es : List Element) → AreElementsFrom choice (past_leaves earlier (until stops cs).0) (past_code previous (until stops cs).0) (until stops cs).1 es → AreElementsFrom choice earlier previous cs (leaf_elements (until stops cs).0 ++ es)
+data-others : (choice : Choice) (stops : List Code → Bool) (earlier : List Element) (previous : Option Code) (cs : List Code) →
+    AreSingle choice stops cs → (es : List Element) →
+    AreElementsFrom choice (past_leaves earlier (until stops cs).0) (past_code previous (until stops cs).0) (until stops cs).1 es →
+    AreElementsFrom choice earlier previous cs (leaf_elements (until stops cs).0 ++ es)
 unfolding leaf_elements past_leaves past_code
 data-others choice stops earlier previous [] others es h = h
 data-others choice stops earlier previous (c ∷ cs) others es h =
@@ -164,37 +185,47 @@ data-others choice stops earlier previous (c ∷ cs) others es h =
     ] refl h
 
 -- no escape stands before, past a code
-unescaped-leaf : (b : Bool) (c : Code) (earlier : List Element) → ends_escaped (plain (elim b as (λ _. Forest) [ true ↦ leaf N.LineEnding (c ∷ []) | false ↦ leaf N.Data (c ∷ []) ]) ∷ earlier) ≡ false
+unescaped-leaf : (b : Bool) (c : Code) (earlier : List Element) →
+    ends_escaped (plain (elim b as (λ _. Forest) [ true ↦ leaf N.LineEnding (c ∷ []) | false ↦ leaf N.Data (c ∷ []) ]) ∷ earlier) ≡ false
 unescaped-leaf true c earlier = refl
 unescaped-leaf false c earlier = refl
 
-unescaped-leaves : (earlier : List Element) (cs : List Code) → ends_escaped earlier ≡ false → ends_escaped (past_leaves earlier cs) ≡ false
+unescaped-leaves : (earlier : List Element) (cs : List Code) → ends_escaped earlier ≡ false →
+    ends_escaped (past_leaves earlier cs) ≡ false
 unfolding past_leaves
 unescaped-leaves earlier [] e = e
-unescaped-leaves earlier (c ∷ cs) e = unescaped-leaves (plain (code_leaf c) ∷ earlier) cs (unescaped-leaf (is_line_ending c) c earlier)
+unescaped-leaves earlier (c ∷ cs) e =
+    unescaped-leaves (plain (code_leaf c) ∷ earlier) cs (unescaped-leaf (is_line_ending c) c earlier)
 
 -- The leaf of a stretch, by what its first code is.
 
 leaf_by : Bool → List Code → Forest
 leaf_by b cs = elim b [ true ↦ linked_leaf N.LineEnding None cs | false ↦ linked_leaf N.Data None cs ]
 
-line-leaf : (b : Bool) (c : Code) (cs : List Code) → is_line_ending c ≡ b → line_leaf N.Data None (c ∷ cs) ≡ leaf_by b (c ∷ cs)
+line-leaf : (b : Bool) (c : Code) (cs : List Code) → is_line_ending c ≡ b →
+    line_leaf N.Data None (c ∷ cs) ≡ leaf_by b (c ∷ cs)
 unfolding leaf_by
 line-leaf b c cs e = ap (λ x. leaf_by x (c ∷ cs)) e
 
 -- The last event of data is not the end of an escape.
 
-unescaped-event : (b : Bool) (es : List Event) (n : ℕ) (c : Code) (cs : List Code) → follows_escape (es ++ appended_from n None (leaf_by b (c ∷ cs))) ≡ false
+unescaped-event : (b : Bool) (es : List Event) (n : ℕ) (c : Code) (cs : List Code) →
+    follows_escape (es ++ appended_from n None (leaf_by b (c ∷ cs))) ≡ false
 unfolding leaf_by
-unescaped-event true es n c cs = follows-these es (event Kind.Enter N.LineEnding (start_of (c ∷ cs)) ∷ []) (event Kind.Exit N.LineEnding (stop_of document_start (c ∷ cs)))
-unescaped-event false es n c cs = follows-these es (event Kind.Enter N.Data (start_of (c ∷ cs)) ∷ []) (event Kind.Exit N.Data (stop_of document_start (c ∷ cs)))
+unescaped-event true es n c cs =
+    follows-these es (event Kind.Enter N.LineEnding (start_of (c ∷ cs)) ∷ []) (event Kind.Exit N.LineEnding (stop_of document_start (c ∷ cs)))
+unescaped-event false es n c cs =
+    follows-these es (event Kind.Enter N.Data (start_of (c ∷ cs)) ∷ []) (event Kind.Exit N.Data (stop_of document_start (c ∷ cs)))
 
-leaf-row : (b : Bool) (n : ℕ) (c : Code) (cs : List Code) (rest : Forest) → appended_from n None (leaf_by b (c ∷ cs) ⊕ rest) ≡ appended_from n None (leaf_by b (c ∷ cs)) ++ appended_from (n + 2) None rest
+leaf-row : (b : Bool) (n : ℕ) (c : Code) (cs : List Code) (rest : Forest) →
+    appended_from n None (leaf_by b (c ∷ cs) ⊕ rest) ≡ appended_from n None (leaf_by b (c ∷ cs)) ++ appended_from (n + 2) None rest
 unfolding leaf_by
 leaf-row true n c cs rest = refl
 leaf-row false n c cs rest = refl
 
-first-unescaped : (es : List Event) (n : ℕ) (c : Code) (cs : List Code) (ss : List (List Code)) → ((fs : List Event) → follows_escape fs ≡ false → follows_escape (fs ++ appended_from (n + 2) None (line_leaves N.Data ss)) ≡ false) → follows_escape (es ++ appended_from n None (line_leaves N.Data ((c ∷ cs) ∷ ss))) ≡ false
+first-unescaped : (es : List Event) (n : ℕ) (c : Code) (cs : List Code) (ss : List (List Code)) →
+    ((fs : List Event) → follows_escape fs ≡ false → follows_escape (fs ++ appended_from (n + 2) None (line_leaves N.Data ss)) ≡ false) →
+    follows_escape (es ++ appended_from n None (line_leaves N.Data ((c ∷ cs) ∷ ss))) ≡ false
 first-unescaped es n c cs ss more =
     let b : Bool = is_line_ending c in
     let first : List Event = appended_from n None (leaf_by b (c ∷ cs)) in
@@ -204,12 +235,14 @@ first-unescaped es n c cs ss more =
     ∙ ap follows_escape (sym (append_assoc es first (appended_from (n + 2) None rest)))
     ∙ more (es ++ first) (unescaped-event b es n c cs)
 
-lines-unescaped : (es : List Event) (n : ℕ) (ss : List (List Code)) → follows_escape es ≡ false → follows_escape (es ++ appended_from n None (line_leaves N.Data ss)) ≡ false
+lines-unescaped : (es : List Event) (n : ℕ) (ss : List (List Code)) → follows_escape es ≡ false →
+    follows_escape (es ++ appended_from n None (line_leaves N.Data ss)) ≡ false
 lines-unescaped es n [] e = ap follows_escape (append-nil es) ∙ e
 lines-unescaped es n ([] ∷ ss) e = lines-unescaped es n ss e
 lines-unescaped es n ((c ∷ cs) ∷ ss) e = first-unescaped es n c cs ss (λ fs h. lines-unescaped fs (n + 2) ss h)
 
-data-unescaped : (es : List Event) (n : ℕ) (c : Code) (cs : List Code) → follows_escape (es ++ appended_from n None (line_leaves N.Data (lines_of (c ∷ cs)))) ≡ false
+data-unescaped : (es : List Event) (n : ℕ) (c : Code) (cs : List Code) →
+    follows_escape (es ++ appended_from n None (line_leaves N.Data (lines_of (c ∷ cs)))) ≡ false
 data-unescaped es n c cs =
     let b : BeginsWith c (lines_of (c ∷ cs)) = stretches-begin (λ x. true) c cs in
     ap (λ ss. follows_escape (es ++ appended_from n None (line_leaves N.Data ss))) b.whole
@@ -224,7 +257,9 @@ AreLines (s ∷ ss) = (next_is is_line_ending s ≡ false → list_any is_line_e
 any-one : (c : Code) → is_line_ending c ≡ false → list_any is_line_ending (c ∷ []) ≡ false
 any-one c e = ap (λ b. b || false) e
 
-lines-joined : (a b : Bool) (c d : Code) (ds : List Code) (more : List (List Code)) → is_line_ending c ≡ a → is_line_ending d ≡ b → AreLines ((d ∷ ds) ∷ more) → AreLines (elim (not (a || b) && ((true && true) || not (true || true))) [ true ↦ (c ∷ d ∷ ds) ∷ more | false ↦ (c ∷ []) ∷ (d ∷ ds) ∷ more ])
+lines-joined : (a b : Bool) (c d : Code) (ds : List Code) (more : List (List Code)) → is_line_ending c ≡ a →
+    is_line_ending d ≡ b → AreLines ((d ∷ ds) ∷ more) →
+    AreLines (elim (not (a || b) && ((true && true) || not (true || true))) [ true ↦ (c ∷ d ∷ ds) ∷ more | false ↦ (c ∷ []) ∷ (d ∷ ds) ∷ more ])
 lines-joined true b c d ds more e f h = (any-one c, h)
 lines-joined false true c d ds more e f h = (any-one c, h)
 lines-joined false false c d ds more e f h = (λ k. ap (λ x. x || list_any is_line_ending (d ∷ ds)) e ∙ h.0 f, h.1)
@@ -238,7 +273,8 @@ are-lines : (cs : List Code) → AreLines (lines_of cs)
 are-lines [] = tt
 are-lines (c ∷ cs) = lines-onto c (lines_of cs) (are-lines cs)
 
-HasLines-leaf : (b : Bool) (c : Code) (cs : List Code) → (b ≡ false → list_any is_line_ending (c ∷ cs) ≡ false) → HasLines (leaf_by b (c ∷ cs))
+HasLines-leaf : (b : Bool) (c : Code) (cs : List Code) → (b ≡ false → list_any is_line_ending (c ∷ cs) ≡ false) →
+    HasLines (leaf_by b (c ∷ cs))
 unfolding leaf_by
 HasLines-leaf true c cs h = (λ e l. cc, tt)
 HasLines-leaf false c cs h = (λ e l. (λ k. cc, h refl), tt)
@@ -252,7 +288,8 @@ HasLines-stretches ((c ∷ cs) ∷ ss) h =
 HasLines-lines : (cs : List Code) → HasLines (line_leaves N.Data (lines_of cs))
 HasLines-lines cs = HasLines-stretches (lines_of cs) (are-lines cs)
 
-unlinked-leaf : (b : Bool) (n : ℕ) (c : Code) (cs : List Code) (rest : Forest) → is_line_ending c ≡ b → last_link (n + 2) None rest ≡ None → last_link n None (line_leaf N.Data None (c ∷ cs) ⊕ rest) ≡ None
+unlinked-leaf : (b : Bool) (n : ℕ) (c : Code) (cs : List Code) (rest : Forest) → is_line_ending c ≡ b →
+    last_link (n + 2) None rest ≡ None → last_link n None (line_leaf N.Data None (c ∷ cs) ⊕ rest) ≡ None
 unfolding leaf_by
 unlinked-leaf true n c cs rest e h = ap (λ x. last_link n None (x ⊕ rest)) (line-leaf true c cs e) ∙ h
 unlinked-leaf false n c cs rest e h = ap (λ x. last_link n None (x ⊕ rest)) (line-leaf false c cs e) ∙ h
@@ -260,10 +297,12 @@ unlinked-leaf false n c cs rest e h = ap (λ x. last_link n None (x ⊕ rest)) (
 unlinked-lines : (n : ℕ) (ss : List (List Code)) → last_link n None (line_leaves N.Data ss) ≡ None
 unlinked-lines n [] = refl
 unlinked-lines n ([] ∷ ss) = unlinked-lines n ss
-unlinked-lines n ((c ∷ cs) ∷ ss) = unlinked-leaf (is_line_ending c) n c cs (line_leaves N.Data ss) refl (unlinked-lines (n + 2) ss)
+unlinked-lines n ((c ∷ cs) ∷ ss) =
+    unlinked-leaf (is_line_ending c) n c cs (line_leaves N.Data ss) refl (unlinked-lines (n + 2) ss)
 
 -- no run stands in data
-runless-leaf : (b : Bool) (c : Code) (cs : List Code) (rest : Forest) → is_line_ending c ≡ b → IsRunless rest → IsRunless (line_leaf N.Data None (c ∷ cs) ⊕ rest)
+runless-leaf : (b : Bool) (c : Code) (cs : List Code) (rest : Forest) → is_line_ending c ≡ b → IsRunless rest →
+    IsRunless (line_leaf N.Data None (c ∷ cs) ⊕ rest)
 unfolding leaf_by
 runless-leaf true c cs rest e h = subst (λ x. IsRunless (x ⊕ rest)) (sym (line-leaf true c cs e)) (refl, h)
 runless-leaf false c cs rest e h = subst (λ x. IsRunless (x ⊕ rest)) (sym (line-leaf false c cs e)) (refl, h)
@@ -278,15 +317,18 @@ unfolding leaf_elements
 leaves-row [] = refl
 leaves-row (c ∷ cs) = ap (tree_onto (code_leaf c)) (leaves-row cs)
 
-pub leaves-first : (c : Code) (cs : List Code) → row_of_elements (leaf_elements (c ∷ cs)) ≡ tree_onto (code_leaf c) (row_of_elements (leaf_elements cs))
+pub leaves-first : (c : Code) (cs : List Code) →
+    row_of_elements (leaf_elements (c ∷ cs)) ≡ tree_onto (code_leaf c) (row_of_elements (leaf_elements cs))
 unfolding leaf_elements
 leaves-first c cs = refl
 
 -- data in lines is the row of its codes but for how it is cut
-pub data-alike : (cs : List Code) → split_row (row_end (line_leaves N.Data (lines_of cs))) ≡ split_row (row_of_elements (leaf_elements cs))
+pub data-alike : (cs : List Code) →
+    split_row (row_end (line_leaves N.Data (lines_of cs))) ≡ split_row (row_of_elements (leaf_elements cs))
 data-alike cs = ap row_end (lines-cut cs) ∙ ap split_row (sym (leaves-row cs))
 
-code-has : (b : Bool) (c : Code) → HasCodes (elim b as (λ _. Forest) [ true ↦ leaf N.LineEnding (c ∷ []) | false ↦ leaf N.Data (c ∷ []) ])
+code-has : (b : Bool) (c : Code) →
+    HasCodes (elim b as (λ _. Forest) [ true ↦ leaf N.LineEnding (c ∷ []) | false ↦ leaf N.Data (c ∷ []) ])
 code-has true c = (λ e l k. cc, tt)
 code-has false c = (λ e l k. cc, tt)
 
@@ -296,15 +338,20 @@ have-leaves [] = tt
 have-leaves (c ∷ cs) = (code-has (is_line_ending c) c, have-leaves cs)
 
 -- what data reads, and the codes after it
-data-reads : (stops : List Code → Bool) (cs : List Code) (c : Code) (xs : List Code) (t : Forest) (rest : List Code) → cs ≡ c ∷ xs → data_up_to stops cs ≡ Some (t, rest) → (line_leaves N.Data (lines_of (c ∷ (until stops xs).0)) ≡ t) × ((until stops xs).1 ≡ rest)
+data-reads : (stops : List Code → Bool) (cs : List Code) (c : Code) (xs : List Code) (t : Forest) (rest : List Code) →
+    cs ≡ c ∷ xs → data_up_to stops cs ≡ Some (t, rest) →
+    (line_leaves N.Data (lines_of (c ∷ (until stops xs).0)) ≡ t) × ((until stops xs).1 ≡ rest)
 unfolding data_up_to
-data-reads stops cs c xs t rest e h = both-parts (line_leaves N.Data (lines_of (c ∷ (until stops xs).0))) t (until stops xs).1 rest (ap (data_up_to stops) (sym e) ∙ h)
+data-reads stops cs c xs t rest e h =
+    both-parts (line_leaves N.Data (lines_of (c ∷ (until stops xs).0))) t (until stops xs).1 rest (ap (data_up_to stops) (sym e) ∙ h)
 
-pub some-ahead : (T : Tokenizer) (cs : List Code) → ahead T ≡ cs → current_of T ≢ None → (c : Code) × ((xs : List Code) × (cs ≡ c ∷ xs))
+pub some-ahead : (T : Tokenizer) (cs : List Code) → ahead T ≡ cs → current_of T ≢ None →
+    (c : Code) × ((xs : List Code) × (cs ≡ c ∷ xs))
 some-ahead T [] e h = absurd (h (current-ahead T ∙ ap (λ xs. value_of (first_of xs)) e))
 some-ahead T (c ∷ xs) e h = (c, (xs, refl))
 
-pub fewer-left : (T U : Tokenizer) (ws : List Code) → 1 ≤ length ws → ahead T ≡ ws ++ ahead U → codes_left U < codes_left T
+pub fewer-left : (T U : Tokenizer) (ws : List Code) → 1 ≤ length ws → ahead T ≡ ws ++ ahead U →
+    codes_left U < codes_left T
 fewer-left T U ws h e = omega (arith, left-ahead T, left-ahead U, ap length e, length-append ws (ahead U))
 
 some-codes : (xs ws rest : List Code) → xs ≡ ws ++ rest → 1 + length rest ≤ length xs → 1 ≤ length ws
@@ -316,21 +363,26 @@ past-last c [] previous = refl
 past-last c (d ∷ ds) previous = past-last d ds (Some c)
 
 same-last : (xs ws vs rest : List Code) → xs ≡ ws ++ rest → xs ≡ vs ++ rest → last_code ws ≡ last_code vs
-same-last xs ws vs rest e f = sym (code_before-append ws rest) ∙ ap (λ ys. code_before ys rest) (sym e ∙ f) ∙ code_before-append vs rest
+same-last xs ws vs rest e f =
+    sym (code_before-append ws rest) ∙ ap (λ ys. code_before ys rest) (sym e ∙ f) ∙ code_before-append vs rest
 
 -- the starts are kept past a tree
-pub kept-tree : (t : Forest) (T U : Tokenizer) → U ≡ past_tree t T → (earlier : List Element) → KeepsStarts earlier T → KeepsStarts earlier U
+pub kept-tree : (t : Forest) (T U : Tokenizer) → U ≡ past_tree t T → (earlier : List Element) → KeepsStarts earlier T →
+    KeepsStarts earlier U
 unfolding past past_tree
 kept-tree t T U left earlier k =
     subst (λ (x : Tokenizer). StandFor x.events (unused_starts earlier) x.tokenize_state.label_starts) (sym left) (starts-plain earlier t T.events _ T.tokenize_state.label_starts k)
 
-leaves-starts : (earlier : List Element) (cs : List Code) → unused_starts (past_leaves earlier cs) ≡ unused_starts earlier
+leaves-starts : (earlier : List Element) (cs : List Code) →
+    unused_starts (past_leaves earlier cs) ≡ unused_starts earlier
 unfolding past_leaves
 leaves-starts earlier [] = refl
 leaves-starts earlier (c ∷ cs) = leaves-starts (plain (code_leaf c) ∷ earlier) cs
 
-kept-leaves : (earlier : List Element) (cs : List Code) (U : Tokenizer) → KeepsStarts earlier U → KeepsStarts (past_leaves earlier cs) U
-kept-leaves earlier cs U k = subst (λ us. StandFor U.events us U.tokenize_state.label_starts) (sym (leaves-starts earlier cs)) k
+kept-leaves : (earlier : List Element) (cs : List Code) (U : Tokenizer) → KeepsStarts earlier U →
+    KeepsStarts (past_leaves earlier cs) U
+kept-leaves earlier cs U k =
+    subst (λ us. StandFor U.events us U.tokenize_state.label_starts) (sym (leaves-starts earlier cs)) k
 
 -- Data that is read where a run stands: the code at hand, and those up to where data stops.
 pub record DataRead (stops : List Code → Bool) (T U : Tokenizer) (c : Code) (cs : List Code) : Type 0 where
@@ -344,7 +396,8 @@ pub record DataRead (stops : List Code → Bool) (T U : Tokenizer) (c : Code) (c
   pub alike : tree ≡ line_leaves N.Data (lines_of (c ∷ (until stops cs).0))
   pub rest : (until stops cs).1 ≡ ahead U
 
-pub data-read : (stops : List Code → Bool) (T U : Tokenizer) (c : Code) (cs : List Code) → ahead T ≡ c ∷ cs → Reads (data_up_to stops) None T.tokenize_state T U → DataRead stops T U c cs
+pub data-read : (stops : List Code → Bool) (T U : Tokenizer) (c : Code) (cs : List Code) → ahead T ≡ c ∷ cs →
+    Reads (data_up_to stops) None T.tokenize_state T U → DataRead stops T U c cs
 data-read stops T U c cs whole k =
     let d = data-reads stops (ahead T) c cs k.tree k.rest whole k.holds in
     let s : List Code × List Code = until stops cs in
@@ -365,7 +418,9 @@ data-read stops T U c cs whole k =
     }
 
 -- what stands before the place behind data that begins with this element
-pub stands-behind : (stops : List Code → Bool) (T U : Tokenizer) (c : Code) (cs : List Code) (d : DataRead stops T U c cs) (next : List Element) → ends_escaped next ≡ false → KeepsStarts next U → StandsAfter (past_leaves next (until stops cs).0) (past_code (Some c) (until stops cs).0) U
+pub stands-behind : (stops : List Code → Bool) (T U : Tokenizer) (c : Code) (cs : List Code) (d : DataRead stops T U c cs) (next : List Element) →
+    ends_escaped next ≡ false → KeepsStarts next U →
+    StandsAfter (past_leaves next (until stops cs).0) (past_code (Some c) (until stops cs).0) U
 unfolding past_leaves past_code
 stands-behind stops T U c cs d next plainly keeps =
     let s : List Code × List Code = until stops cs in
@@ -418,18 +473,24 @@ data-advances choice stops T U c cs whole k first others =
 -- A construct that stands by itself.
 
 -- an escape is a group of that name
-named-escape : (name : Name) (a b : _) (inside rest : Forest) (earlier : List Element) → is_escape name ≡ ends_escaped (plain (group_then name a b inside rest) ∷ earlier)
+named-escape : (name : Name) (a b : _) (inside rest : Forest) (earlier : List Element) →
+    is_escape name ≡ ends_escaped (plain (group_then name a b inside rest) ∷ earlier)
 named-escape N.CharacterEscape a b inside rest earlier = refl
 named-escape _ a b inside rest earlier = refl
 
-leaf-escaped : (es : List Event) (n : ℕ) (name : Name) (cs : List Code) → follows_escape (es ++ appended_from n None (leaf_then name None cs empty)) ≡ is_escape name
-leaf-escaped es n name cs = follows-these es (event Kind.Enter name (start_of cs) ∷ []) (event Kind.Exit name (stop_of document_start cs))
+leaf-escaped : (es : List Event) (n : ℕ) (name : Name) (cs : List Code) →
+    follows_escape (es ++ appended_from n None (leaf_then name None cs empty)) ≡ is_escape name
+leaf-escaped es n name cs =
+    follows-these es (event Kind.Enter name (start_of cs) ∷ []) (event Kind.Exit name (stop_of document_start cs))
 
-pub group-escaped : (es : List Event) (n : ℕ) (name : Name) (a b : _) (inside : Forest) → follows_escape (es ++ appended_from n None (group_then name a b inside empty)) ≡ is_escape name
-group-escaped es n name a b inside = follows-these es (event Kind.Enter name a ∷ appended_from (n + 1) None inside) (event Kind.Exit name b)
+pub group-escaped : (es : List Event) (n : ℕ) (name : Name) (a b : _) (inside : Forest) →
+    follows_escape (es ++ appended_from n None (group_then name a b inside empty)) ≡ is_escape name
+group-escaped es n name a b inside =
+    follows-these es (event Kind.Enter name a ∷ appended_from (n + 1) None inside) (event Kind.Exit name b)
 
 -- whether an escape stands before, past one tree
-single-escaped : (es : List Event) (n : ℕ) (t : Forest) (earlier : List Element) → IsSingle t → follows_escape (es ++ appended_from n None t) ≡ ends_escaped (plain t ∷ earlier)
+single-escaped : (es : List Event) (n : ℕ) (t : Forest) (earlier : List Element) → IsSingle t →
+    follows_escape (es ++ appended_from n None t) ≡ ends_escaped (plain t ∷ earlier)
 single-escaped es n empty earlier h = absurd h
 single-escaped es n (leaf_then name link cs rest) earlier h =
     ap (λ (x : Option _ × Forest). follows_escape (es ++ appended_from n None (leaf_then name x.0 cs x.1))) (λ i. (h.0 i, h.1.1 i))
@@ -484,13 +545,19 @@ single-advances choice T U t rest single lines outer some left covers after find
     }
 
 -- past a construct that stands by itself
-pub node-advances : (choice : Choice) (reading : TreeReading) (T U : Tokenizer) → (k : Reads reading None T.tokenize_state T U) → IsNode k.tree → 1 + length k.rest ≤ length (ahead T) → ((earlier : List Element) (previous : Option Code) → StandsAfter earlier previous T → choice earlier previous (ahead T) ≡ Some (plain k.tree, k.rest)) → Advances choice T U
+pub node-advances : (choice : Choice) (reading : TreeReading) (T U : Tokenizer) →
+    (k : Reads reading None T.tokenize_state T U) → IsNode k.tree → 1 + length k.rest ≤ length (ahead T) →
+    ((earlier : List Element) (previous : Option Code) → StandsAfter earlier previous T → choice earlier previous (ahead T) ≡ Some (plain k.tree, k.rest)) →
+    Advances choice T U
 node-advances choice reading T U k node more finds =
     single-advances choice T U k.tree k.rest node.single (quiet-lines-of k.tree node.quiet) (quiet-outer k.tree node.quiet) (some-codes (ahead T) (leaf_codes k.tree) k.rest k.whole more)
     (k.left ∙ ap (past None k.tree) (scratched-same T) ∙ past_tree-without k.tree T (quiet-no-run k.tree node.quiet)) k.whole k.after finds
 
 -- past a run of markers, whose pass is registered
-pub run-advances : (choice : Choice) (reading : TreeReading) (T U V : Tokenizer) → (k : Reads reading None T.tokenize_state T V) → U ≡ registered R.Attention V → IsRunLeaf k.tree → ((earlier : List Element) (previous : Option Code) → StandsAfter earlier previous T → choice earlier previous (ahead T) ≡ Some (plain k.tree, k.rest)) → Advances choice T U
+pub run-advances : (choice : Choice) (reading : TreeReading) (T U V : Tokenizer) →
+    (k : Reads reading None T.tokenize_state T V) → U ≡ registered R.Attention V → IsRunLeaf k.tree →
+    ((earlier : List Element) (previous : Option Code) → StandsAfter earlier previous T → choice earlier previous (ahead T) ≡ Some (plain k.tree, k.rest)) →
+    Advances choice T U
 run-advances choice reading T U V k e run finds =
     single-advances choice T U k.tree k.rest run.single run.has_lines run.outer run.some
     (e ∙ ap (registered R.Attention) (k.left ∙ ap (past None k.tree) (scratched-same T)) ∙ past_tree-with k.tree T run.runs) k.whole (ap ahead e ∙ ahead-registered R.Attention V ∙ k.after) finds

@@ -44,9 +44,11 @@ unfolding past_mark
 start-is kind marker ops size rest T solid is count whole =
     (λ i. kept_start kind (count i) (done (is i) T)) ∙ ap (kept_start kind (event_count (start_tree kind marker))) (ops-past (start_tree kind marker) rest T solid whole)
 
-start-ahead : (kind : LabelKind) (marker : List Code) (rest : List Code) (T : Tokenizer) → ahead T ≡ leaf_codes (start_tree kind marker) ++ rest → ahead (past_mark (begins kind marker) T) ≡ rest
+start-ahead : (kind : LabelKind) (marker : List Code) (rest : List Code) (T : Tokenizer) →
+    ahead T ≡ leaf_codes (start_tree kind marker) ++ rest → ahead (past_mark (begins kind marker) T) ≡ rest
 unfolding past_mark scratched
-start-ahead kind marker rest T whole = ap (λ p. ahead (record T { cursor = p })) (cursor-before R.Label _) ∙ ahead-past None (start_tree kind marker) T rest whole
+start-ahead kind marker rest T whole =
+    ap (λ p. ahead (record T { cursor = p })) (cursor-before R.Label _) ∙ ahead-past None (start_tree kind marker) T rest whole
 
 past-start : (kind : LabelKind) (marker rest : List Code) (ops : List Op) (size : ℕ) (T U : Tokenizer) → IsStart kind marker → IsSolid (start_tree kind marker) → ops ≡ ops_of (start_tree kind marker) → size ≡ event_count (start_tree kind marker)
     → ahead T ≡ leaf_codes (start_tree kind marker) ++ rest → ahead T ≡ marker ++ rest → U ≡ kept_start kind size (done ops T) → PastStart kind marker rest T U
@@ -62,16 +64,19 @@ no-endings true b e f = cc
 no-endings false true e f = cc
 no-endings false false e f = refl
 
-pub link-past : (c : Code) (rest : List Code) (T U : Tokenizer) → ahead T ≡ c ∷ rest → c.value ≡ 91 → link_ends T true U → PastStart LabelKind.Link (c ∷ []) rest T U
+pub link-past : (c : Code) (rest : List Code) (T U : Tokenizer) → ahead T ≡ c ∷ rest → c.value ≡ 91 →
+    link_ends T true U → PastStart LabelKind.Link (c ∷ []) rest T U
 link-past c rest T U whole v k =
     past-start LabelKind.Link (c ∷ []) rest link_ops 4 T U ((c, refl), ap (λ b. b || false) (one-line c 91 v refl)) (λ e. cc, (refl, (refl, ((refl, ((λ e. cc), tt)), tt)))) refl refl whole whole k.left
 
-pub footnote-past : (c d : Code) (rest : List Code) (T U : Tokenizer) → ahead T ≡ c ∷ d ∷ rest → c.value ≡ 91 → d.value ≡ 94 → footnote_ends T true U → PastStart LabelKind.GfmFootnote (c ∷ d ∷ []) rest T U
+pub footnote-past : (c d : Code) (rest : List Code) (T U : Tokenizer) → ahead T ≡ c ∷ d ∷ rest → c.value ≡ 91 →
+    d.value ≡ 94 → footnote_ends T true U → PastStart LabelKind.GfmFootnote (c ∷ d ∷ []) rest T U
 footnote-past c d rest T U whole v w k =
     past-start LabelKind.GfmFootnote (c ∷ d ∷ []) rest (footnote_front ++ footnote_back) 6 T U ((c, (d, refl)), no-endings _ _ (one-line c 91 v refl) (one-line d 94 w refl))
     (λ e. cc, (refl, (refl, ((refl, ((λ e. cc), (refl, ((λ e. cc), tt)))), tt)))) refl refl whole whole k.left
 
-pub image-past : (c d : Code) (rest : List Code) (T U : Tokenizer) → ahead T ≡ c ∷ d ∷ rest → c.value ≡ 33 → d.value ≡ 91 → image_ends T true U → PastStart LabelKind.Image (c ∷ d ∷ []) rest T U
+pub image-past : (c d : Code) (rest : List Code) (T U : Tokenizer) → ahead T ≡ c ∷ d ∷ rest → c.value ≡ 33 →
+    d.value ≡ 91 → image_ends T true U → PastStart LabelKind.Image (c ∷ d ∷ []) rest T U
 image-past c d rest T U whole v w k =
     past-start LabelKind.Image (c ∷ d ∷ []) rest (image_front ++ image_back) 6 T U ((c, (d, refl)), no-endings _ _ (one-line c 33 v refl) (one-line d 91 w refl))
     (λ e. cc, (refl, (refl, ((refl, ((λ e. cc), (refl, ((λ e. cc), tt)))), tt)))) refl refl whole whole k.left
@@ -104,7 +109,8 @@ outcome-is s start name =
     yields_either _ _ _ (call (is_footnote start && is_defined s.footnotes name) refl)
     (yields_bind (λ t. IsQuiet false t) _ _ _ (quiet_after_label s _) λ tail k. yields_gives _ _ (inr refl, runless-quiet tail k))
   where
-    call : (b : Bool) → is_footnote start && is_defined s.footnotes name ≡ b → Yields (IsOutcome start) (provided b >> gives (LabelKind.GfmFootnote, empty))
+    call : (b : Bool) → is_footnote start && is_defined s.footnotes name ≡ b →
+        Yields (IsOutcome start) (provided b >> gives (LabelKind.GfmFootnote, empty))
     call true e = yields_passed _ _ _ (yields_gives _ _ (inl (call-kind start (is_defined s.footnotes name) e), tt))
     call false e = record { at = λ cs. subst (λ o. Passes (IsOutcome start) o) (sym (switched-off _ false cs refl)) tt }
 
@@ -124,7 +130,8 @@ weaker {A} P Q a f h = record { at = λ cs. by_answer (a cs) (h.at cs) }
     by_answer None k = tt
     by_answer (Some r) k = f r.0 k
 
-by-start : (T : Tokenizer) (c : Code) (ls : List Kept.LabelStart) → Yields (λ o. IsOf ls (c ∷ [], o)) (outcome_by ls T (c ∷ []))
+by-start : (T : Tokenizer) (c : Code) (ls : List Kept.LabelStart) →
+    Yields (λ o. IsOf ls (c ∷ [], o)) (outcome_by ls T (c ∷ []))
 by-start T c [] = record { at = λ cs. tt }
 by-start T c (l ∷ ls) = record {
   at = λ cs. (yields_passed _ (not (bars l)) _ (weaker (IsOutcome l.kind) (λ o. IsOf (l ∷ ls) (c ∷ [], o)) (outcome (setting_in T) l.kind _) (λ o k. record { code = c; one = refl; start = l; before = ls; waits = refl; is = k }) (outcome-is (setting_in T) l.kind _))).at cs;
@@ -134,7 +141,8 @@ one_yields : (p : Code → Bool) → Yields (λ xs. (c : Code) × (xs ≡ c ∷ 
 unfolding one
 one_yields p = record { at = λ cs. by_codes cs }
   where
-    by_test : (b : Bool) (c : Code) (cs : List Code) → Passes (λ xs. (c : Code) × (xs ≡ c ∷ [])) (elim b as (λ _. Option (List Code × List Code)) [ true ↦ Some (c ∷ [], cs) | false ↦ None ])
+    by_test : (b : Bool) (c : Code) (cs : List Code) →
+        Passes (λ xs. (c : Code) × (xs ≡ c ∷ [])) (elim b as (λ _. Option (List Code × List Code)) [ true ↦ Some (c ∷ [], cs) | false ↦ None ])
     by_test true c cs = (c, refl)
     by_test false c cs = tt
 
@@ -149,7 +157,8 @@ end-is T =
     (yields_bind (λ o. IsOf T.tokenize_state.label_starts (k.0 ∷ [], o)) _ _ _ (by-start T k.0 T.tokenize_state.label_starts) λ o h. yields_gives _ _ h))
 
 -- an end that makes a label is made of the last start that waits
-pub end-made-of : (T : Tokenizer) (back : List Code) (kind : LabelKind) (tail : Forest) (rest : List Code) → end_reading T (ahead T) ≡ Some ((back, (kind, tail)), rest) → IsMade (kinds_of T) back kind tail
+pub end-made-of : (T : Tokenizer) (back : List Code) (kind : LabelKind) (tail : Forest) (rest : List Code) →
+    end_reading T (ahead T) ≡ Some ((back, (kind, tail)), rest) → IsMade (kinds_of T) back kind tail
 end-made-of T back kind tail rest e =
     let k : IsOf T.tokenize_state.label_starts (back, (kind, tail)) = subst (λ o. Passes (λ r. IsOf T.tokenize_state.label_starts r) o) e ((end-is T).at (ahead T)) in
     record {

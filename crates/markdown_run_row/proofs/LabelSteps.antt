@@ -47,7 +47,8 @@ empty-part = record { lines = tt; outer = tt; apart = λ n. refl }
 
 -- a mark by itself
 pub mark-alone : (mark : Mark) (T : Tokenizer) → past_mark mark T ≡ past_row (row_then empty mark (row_end empty)) T
-mark-alone mark T = past_tree-empty (past_mark mark T) ∙ ap (λ (x : Tokenizer). past_tree empty (past_mark mark x)) (past_tree-empty T)
+mark-alone mark T =
+    past_tree-empty (past_mark mark T) ∙ ap (λ (x : Tokenizer). past_tree empty (past_mark mark x)) (past_tree-empty T)
 
 -- past a mark that is an element
 mark-advances : (choice : Choice) (mark : Mark) (e : Element) (T U : Tokenizer) → U ≡ past_mark mark T → IsMarkAt (kinds_of T) mark → row_of_elements (e ∷ []) ≡ row_then empty mark (row_end empty) → 1 ≤ length (mark_codes mark) → ahead T ≡ mark_codes mark ++ ahead U → code_just_before U ≡ last_code (mark_codes mark) → HasElementCodes e
@@ -96,7 +97,8 @@ record LastPlace (all : List Event) (b : _) : Type 0 where
   within : length all - 1 < length all
   place : place_at all (length all - 1) ≡ b
 
-last-place : (es : List Event) (n : ℕ) (name : Name) (a b : _) (inside : Forest) → LastPlace (es ++ appended_from n None (group_then name a b inside empty)) b
+last-place : (es : List Event) (n : ℕ) (name : Name) (a b : _) (inside : Forest) →
+    LastPlace (es ++ appended_from n None (group_then name a b inside empty)) b
 last-place es n name a b inside =
     let A : List Event = appended_from (n + 1) None inside in
     let front : List Event = es ++ event Kind.Enter name a ∷ A in
@@ -107,7 +109,8 @@ last-place es n name a b inside =
     subst (λ all. LastPlace all b) (sym whole)
     (record { within = omega (arith, long); place = ap (place_at (front ++ close ∷ [])) number ∙ ap point_or (get-there front close) })
 
-start-events : (kind : LabelKind) (marker : List Code) (T : Tokenizer) → (past_mark (begins kind marker) T).events ≡ T.events ++ appended_from (length T.events) None (start_tree kind marker)
+start-events : (kind : LabelKind) (marker : List Code) (T : Tokenizer) →
+    (past_mark (begins kind marker) T).events ≡ T.events ++ appended_from (length T.events) None (start_tree kind marker)
 unfolding past_mark past scratched
 start-events kind marker T = events-before R.Label _
 
@@ -117,11 +120,14 @@ start-fields : (kind : LabelKind) (marker : List Code) (T : Tokenizer)
 unfolding past_mark past scratched
 start-fields kind marker T = scratch-before R.Label _
 
-start-cursor : (kind : LabelKind) (marker : List Code) (T : Tokenizer) → (past_mark (begins kind marker) T).cursor ≡ moved_by (leaf_codes (start_tree kind marker)) T.cursor
+start-cursor : (kind : LabelKind) (marker : List Code) (T : Tokenizer) →
+    (past_mark (begins kind marker) T).cursor ≡ moved_by (leaf_codes (start_tree kind marker)) T.cursor
 unfolding past_mark past scratched
 start-cursor kind marker T = cursor-before R.Label _
 
-start-keeps : (kind : LabelKind) (marker : List Code) (T : Tokenizer) (earlier : List Element) → StartShape kind marker → KeepsStarts earlier T → KeepsStarts (starts kind marker ∷ earlier) (past_mark (begins kind marker) T)
+start-keeps : (kind : LabelKind) (marker : List Code) (T : Tokenizer) (earlier : List Element) →
+    StartShape kind marker → KeepsStarts earlier T →
+    KeepsStarts (starts kind marker ∷ earlier) (past_mark (begins kind marker) T)
 start-keeps kind marker T earlier k keeps =
     let t : Forest = start_tree kind marker in
     let more : List Event = appended_from (length T.events) None t in
@@ -133,8 +139,10 @@ start-keeps kind marker T earlier k keeps =
     (starts-start earlier kind marker T.events more T.tokenize_state.label_starts (length all - event_count t) (length all - 1) keeps end.within end.place))
 
 -- the place behind it
-pub start-moves : (kind : LabelKind) (marker : List Code) (T : Tokenizer) → IsFront kind marker → (past_mark (begins kind marker) T).cursor ≡ moved_by marker T.cursor
-start-moves kind marker T h = start-cursor kind marker T ∙ ap (λ xs. moved_by xs T.cursor) (start-shape kind marker h).codes
+pub start-moves : (kind : LabelKind) (marker : List Code) (T : Tokenizer) → IsFront kind marker →
+    (past_mark (begins kind marker) T).cursor ≡ moved_by marker T.cursor
+start-moves kind marker T h =
+    start-cursor kind marker T ∙ ap (λ xs. moved_by xs T.cursor) (start-shape kind marker h).codes
 
 some-marker : (marker : List Code) → 1 ≤ length marker → marker ≢ []
 some-marker [] h = absurd (omega arith)
@@ -165,7 +173,8 @@ none-barred : (b : Bool) → ◌≡◌ {A = List Kept.LabelStart} [] (if b then 
 none-barred true = refl
 none-barred false = refl
 
-made-starts : (kind : LabelKind) (ls : List Kept.LabelStart) (n : ℕ) (s : TokenizeState) → s.label_starts ≡ with_kind kind ls → (labelled (with_kind kind ls) n s).label_starts ≡ barred_by kind (rest_of ls)
+made-starts : (kind : LabelKind) (ls : List Kept.LabelStart) (n : ℕ) (s : TokenizeState) →
+    s.label_starts ≡ with_kind kind ls → (labelled (with_kind kind ls) n s).label_starts ≡ barred_by kind (rest_of ls)
 made-starts kind [] n s e = e ∙ none-barred (is_image kind)
 made-starts kind (l ∷ ls) n s e = refl
 
@@ -174,23 +183,29 @@ pub end-events : (back : List Code) (kind : LabelKind) (tail : Forest) (T : Toke
 unfolding end_made made past scratched
 end-events back kind tail T = events-before R.Label _ ∙ append_assoc T.events _ _
 
-pub end-starts : (back : List Code) (kind : LabelKind) (tail : Forest) (T : Tokenizer) → (end_made back kind tail T).tokenize_state.label_starts ≡ barred_by kind (rest_of T.tokenize_state.label_starts)
+pub end-starts : (back : List Code) (kind : LabelKind) (tail : Forest) (T : Tokenizer) →
+    (end_made back kind tail T).tokenize_state.label_starts ≡ barred_by kind (rest_of T.tokenize_state.label_starts)
 unfolding end_made made past scratched
-end-starts back kind tail T = ap (λ (q : TokenizeState). q.label_starts) (scratch-before R.Label _) ∙ made-starts kind T.tokenize_state.label_starts _ _ refl
+end-starts back kind tail T =
+    ap (λ (q : TokenizeState). q.label_starts) (scratch-before R.Label _) ∙ made-starts kind T.tokenize_state.label_starts _ _ refl
 
-end-cursor : (back : List Code) (kind : LabelKind) (tail : Forest) (T : Tokenizer) → (end_made back kind tail T).cursor ≡ moved_by (leaf_codes tail) (moved_by (leaf_codes (end_tree back)) T.cursor)
+end-cursor : (back : List Code) (kind : LabelKind) (tail : Forest) (T : Tokenizer) →
+    (end_made back kind tail T).cursor ≡ moved_by (leaf_codes tail) (moved_by (leaf_codes (end_tree back)) T.cursor)
 unfolding end_made made past scratched
 end-cursor back kind tail T = cursor-before R.Label _
 
-end-keeps : (back : List Code) (kind : LabelKind) (tail : Forest) (T : Tokenizer) (earlier : List Element) → KeepsStarts earlier T → KeepsStarts (ends back (Some (kind, tail)) ∷ earlier) (end_made back kind tail T)
+end-keeps : (back : List Code) (kind : LabelKind) (tail : Forest) (T : Tokenizer) (earlier : List Element) →
+    KeepsStarts earlier T → KeepsStarts (ends back (Some (kind, tail)) ∷ earlier) (end_made back kind tail T)
 end-keeps back kind tail T earlier keeps =
     let e : Element = ends back (Some (kind, tail)) in
     subst (λ es. StandFor es (unused_starts (e ∷ earlier)) (end_made back kind tail T).tokenize_state.label_starts) (sym (end-events back kind tail T))
     (subst (λ ls. StandFor (T.events ++ (appended_from (length T.events) None (end_tree back) ++ appended_from (length (T.events ++ appended_from (length T.events) None (end_tree back))) None tail)) (unused_starts (e ∷ earlier)) ls) (sym (end-starts back kind tail T))
     (starts-made earlier back kind tail T.events _ T.tokenize_state.label_starts keeps))
 
-tail-escaped : (es : List Event) (n m : ℕ) (back : List Code) (tail : Forest) → IsTail tail → follows_escape (es ++ (appended_from n None (end_tree back) ++ appended_from m None tail)) ≡ false
-tail-escaped es n m back empty h = ap (λ xs. follows_escape (es ++ xs)) (append-nil (appended_from n None (end_tree back))) ∙ group-escaped es n N.LabelEnd _ _ (leaf N.LabelMarker back)
+tail-escaped : (es : List Event) (n m : ℕ) (back : List Code) (tail : Forest) → IsTail tail →
+    follows_escape (es ++ (appended_from n None (end_tree back) ++ appended_from m None tail)) ≡ false
+tail-escaped es n m back empty h =
+    ap (λ xs. follows_escape (es ++ xs)) (append-nil (appended_from n None (end_tree back))) ∙ group-escaped es n N.LabelEnd _ _ (leaf N.LabelMarker back)
 tail-escaped es n m back (leaf_then name link cs rest) h = absurd h
 tail-escaped es n m back (group_then name a b inside rest) h =
     ap follows_escape (sym (append_assoc es (appended_from n None (end_tree back)) (appended_from m None (group_then name a b inside rest))))
@@ -202,8 +217,10 @@ end-codes : (back : List Code) → leaf_codes (end_tree back) ≡ back
 end-codes back = append-nil (leaf_codes (leaf N.LabelMarker back)) ∙ codes-leaf N.LabelMarker back
 
 -- the place behind it
-pub end-moves : (back : List Code) (kind : LabelKind) (tail : Forest) (T : Tokenizer) → (end_made back kind tail T).cursor ≡ moved_by (back ++ leaf_codes tail) T.cursor
-end-moves back kind tail T = end-cursor back kind tail T ∙ sym (moved_by-append (leaf_codes (end_tree back)) (leaf_codes tail) T.cursor) ∙ ap (λ xs. moved_by (xs ++ leaf_codes tail) T.cursor) (end-codes back)
+pub end-moves : (back : List Code) (kind : LabelKind) (tail : Forest) (T : Tokenizer) →
+    (end_made back kind tail T).cursor ≡ moved_by (back ++ leaf_codes tail) T.cursor
+end-moves back kind tail T =
+    end-cursor back kind tail T ∙ sym (moved_by-append (leaf_codes (end_tree back)) (leaf_codes tail) T.cursor) ∙ ap (λ xs. moved_by (xs ++ leaf_codes tail) T.cursor) (end-codes back)
 
 has-tail : (t : Forest) → HasLines t → HasCodes t
 has-tail empty h = tt
@@ -231,11 +248,13 @@ end-advances choice T U k is finds =
 
 -- Ends that make none, with the data behind them.
 
-lost-fields : (ls : List Kept.LabelStart) (s : TokenizeState) → s.label_starts ≡ ls → (lost_by ls s).label_starts ≡ rest_of ls
+lost-fields : (ls : List Kept.LabelStart) (s : TokenizeState) → s.label_starts ≡ ls →
+    (lost_by ls s).label_starts ≡ rest_of ls
 lost-fields [] s e = e
 lost-fields (l ∷ ls) s e = rest-lost (l ∷ ls)
 
-pub lost-starts : (T : Tokenizer) → (past_mark loses T).tokenize_state.label_starts ≡ rest_of T.tokenize_state.label_starts
+pub lost-starts : (T : Tokenizer) →
+    (past_mark loses T).tokenize_state.label_starts ≡ rest_of T.tokenize_state.label_starts
 unfolding past_mark scratched
 lost-starts T = lost-fields T.tokenize_state.label_starts T.tokenize_state refl
 
@@ -243,14 +262,18 @@ lost-ahead : (T : Tokenizer) → ahead (past_mark loses T) ≡ ahead T
 unfolding past_mark scratched
 lost-ahead T = refl
 
-lost-keeps : (back : List Code) (T : Tokenizer) (earlier : List Element) → KeepsStarts earlier T → KeepsStarts (ends back None ∷ earlier) (past_mark loses T)
+lost-keeps : (back : List Code) (T : Tokenizer) (earlier : List Element) → KeepsStarts earlier T →
+    KeepsStarts (ends back None ∷ earlier) (past_mark loses T)
 unfolding past_mark scratched
 lost-keeps back T earlier keeps =
     subst (λ ls. StandFor T.events (unused_starts (ends back None ∷ earlier)) ls) (sym (lost-starts T))
     (subst (λ es. StandFor es (unused_starts (ends back None ∷ earlier)) (rest_of T.tokenize_state.label_starts)) (append-nil T.events) (starts-lost earlier back T.events [] T.tokenize_state.label_starts keeps))
 
-first-next : (choice : Choice) (earlier : List Element) (previous : Option Code) (e : Element) (c : Code) (cs : List Code) (es : List Element) → choice earlier previous (c ∷ cs) ≡ Some (e, cs) → AreElementsFrom choice (e ∷ earlier) (Some c) cs es → AreElementsFrom choice earlier previous (c ∷ cs) (e ∷ es)
-first-next choice earlier previous e c cs es h k = (cs, h, subst (λ o. AreElementsFrom choice (e ∷ earlier) o cs es) (sym (code_before-append (c ∷ []) cs)) k)
+first-next : (choice : Choice) (earlier : List Element) (previous : Option Code) (e : Element) (c : Code) (cs : List Code) (es : List Element) →
+    choice earlier previous (c ∷ cs) ≡ Some (e, cs) → AreElementsFrom choice (e ∷ earlier) (Some c) cs es →
+    AreElementsFrom choice earlier previous (c ∷ cs) (e ∷ es)
+first-next choice earlier previous e c cs es h k =
+    (cs, h, subst (λ o. AreElementsFrom choice (e ∷ earlier) o cs es) (sym (code_before-append (c ∷ []) cs)) k)
 
 lost-alike : (c : Code) (cs : List Code) (t : Forest) → is_line_ending c ≡ false → t ≡ line_leaves N.Data (lines_of (c ∷ cs))
     → split_row (row_then empty loses (row_end t)) ≡ split_row (row_of_elements (ends (c ∷ []) None ∷ leaf_elements cs))

@@ -24,7 +24,8 @@ alone c more = by_test (is_line_ending c)
     by_test false = refl
 
 -- one more code before the stretches
-onto-cut : (c : Code) (ss : List (List Code)) → split (line_leaves N.Data (onto_stretch (λ x. true) c ss)) ≡ split (code_leaf c ⊕ line_leaves N.Data ss)
+onto-cut : (c : Code) (ss : List (List Code)) →
+    split (line_leaves N.Data (onto_stretch (λ x. true) c ss)) ≡ split (code_leaf c ⊕ line_leaves N.Data ss)
 onto-cut c [] = alone c empty
 onto-cut c ([] ∷ more) = alone c (line_leaves N.Data more)
 onto-cut c ((d ∷ ds) ∷ more) = by_tests (is_line_ending c) (is_line_ending d) refl refl

@@ -45,9 +45,12 @@ pub record BeginsAs (kind : LabelKind) (marker : List Code) : Type 0 where
   pub opens : (o : Opened) → begun_with kind marker o ≡ waits o front nothing
 
 pub begins-as : (kind : LabelKind) (marker : List Code) → IsFront kind marker → BeginsAs kind marker
-begins-as LabelKind.Link marker h = subst (BeginsAs LabelKind.Link) (sym h.1) (record { front = link_front h.0; is_kind = refl; tree = refl; codes = refl; opens = λ o. refl })
-begins-as LabelKind.Image marker h = subst (BeginsAs LabelKind.Image) (sym h.1.1) (record { front = image_front h.0 h.1.0; is_kind = refl; tree = refl; codes = refl; opens = λ o. refl })
-begins-as LabelKind.GfmFootnote marker h = subst (BeginsAs LabelKind.GfmFootnote) (sym h.1.1) (record { front = call_front h.0 h.1.0; is_kind = refl; tree = refl; codes = refl; opens = λ o. refl })
+begins-as LabelKind.Link marker h =
+    subst (BeginsAs LabelKind.Link) (sym h.1) (record { front = link_front h.0; is_kind = refl; tree = refl; codes = refl; opens = λ o. refl })
+begins-as LabelKind.Image marker h =
+    subst (BeginsAs LabelKind.Image) (sym h.1.1) (record { front = image_front h.0 h.1.0; is_kind = refl; tree = refl; codes = refl; opens = λ o. refl })
+begins-as LabelKind.GfmFootnote marker h =
+    subst (BeginsAs LabelKind.GfmFootnote) (sym h.1.1) (record { front = call_front h.0 h.1.0; is_kind = refl; tree = refl; codes = refl; opens = λ o. refl })
 begins-as LabelKind.GfmUndefinedFootnote marker h = absurd h
 
 -- A label.
@@ -85,7 +88,8 @@ tried-kind (image_front c d) = refl
 tried-kind (call_front c d) = refl
 tried-kind (caret_front c d) = refl
 
-made-kind : (kind : LabelKind) (f : Front) → (kind ≡ kind_of f) ⊎ (kind ≡ link_kind (kind_of f)) → kind ≡ kind_of (made_front kind f)
+made-kind : (kind : LabelKind) (f : Front) → (kind ≡ kind_of f) ⊎ (kind ≡ link_kind (kind_of f)) →
+    kind ≡ kind_of (made_front kind f)
 made-kind kind f (inl e) = subst (λ k. k ≡ kind_of (made_front k f)) (sym e) (own-kind f)
 made-kind kind f (inr e) = subst (λ k. k ≡ kind_of (made_front k f)) (sym e) (tried-kind f)
 
@@ -115,7 +119,8 @@ no-kinds k ks e = cc
 first-kind : (k : LabelKind) (ks : List LabelKind) (l : LabelKind) (ls : List LabelKind) → k ∷ ks ≡ l ∷ ls → l ≡ k
 first-kind k ks l ls e = cc
 
-pub makes-as : (back : List Code) (kind : LabelKind) (tail : Forest) (o : Opened) → IsMade (kinds_in o) back kind tail → MakesAs back kind tail o
+pub makes-as : (back : List Code) (kind : LabelKind) (tail : Forest) (o : Opened) → IsMade (kinds_in o) back kind tail →
+    MakesAs back kind tail o
 makes-as back kind tail (none_waits b) h = absurd (no-kinds h.start h.before h.waits)
 makes-as back kind tail (waits o f inside) h =
     let same : h.start ≡ kind_of f = first-kind (kind_of f) (kinds_in o) h.start h.before h.waits in
@@ -136,14 +141,19 @@ makes-as back kind tail (waits o f inside) h =
 
 -- What a mark leaves.
 
-pub kinds-marked : (mark : Mark) (o : Opened) → IsMarkAt (kinds_in o) mark → kinds_in (marked_with mark o) ≡ kinds_past mark (kinds_in o)
-kinds-marked (begins kind marker) o h = let b = begins-as kind marker h.0 in ap kinds_in (b.opens o) ∙ ap (λ k. k ∷ kinds_in o) (sym b.is_kind)
-kinds-marked (makes back kind tail) o h = let m = makes-as back kind tail o h in ap kinds_in m.closes ∙ kinds-put _ m.before ∙ sym (ap (λ x. rest_of (kinds_in x)) m.waiting)
+pub kinds-marked : (mark : Mark) (o : Opened) → IsMarkAt (kinds_in o) mark →
+    kinds_in (marked_with mark o) ≡ kinds_past mark (kinds_in o)
+kinds-marked (begins kind marker) o h =
+    let b = begins-as kind marker h.0 in ap kinds_in (b.opens o) ∙ ap (λ k. k ∷ kinds_in o) (sym b.is_kind)
+kinds-marked (makes back kind tail) o h =
+    let m = makes-as back kind tail o h in ap kinds_in m.closes ∙ kinds-put _ m.before ∙ sym (ap (λ x. rest_of (kinds_in x)) m.waiting)
 kinds-marked loses (none_waits b) h = refl
 kinds-marked loses (waits o f inside) h = kinds-put (failed_then f inside nothing) o
 
-pub closed-marked : (mark : Mark) (o : Opened) → IsMarkAt (kinds_in o) mark → IsClosedIn o → IsClosedIn (marked_with mark o)
-closed-marked (begins kind marker) o h k = let b = begins-as kind marker h.0 in subst IsClosedIn (sym (b.opens o)) (k, tt)
+pub closed-marked : (mark : Mark) (o : Opened) → IsMarkAt (kinds_in o) mark → IsClosedIn o →
+    IsClosedIn (marked_with mark o)
+closed-marked (begins kind marker) o h k =
+    let b = begins-as kind marker h.0 in subst IsClosedIn (sym (b.opens o)) (k, tt)
 closed-marked (makes back kind tail) o h k =
     let m = makes-as back kind tail o h in
     let all = subst IsClosedIn m.waiting k in

@@ -69,7 +69,8 @@ for-put (k ∷ ks) t (within o m x) h = h
 pub not-made : (back : List Code) (kind : LabelKind) (tail : Forest) → IsMade [] back kind tail → ⊥
 not-made back kind tail h = no-kinds h.start h.before h.waits
 
-pub for-marked : (ks : List LabelKind) (mark : Mark) (o : Open) → IsMarkAt ks mark → IsFor ks o → IsFor (kinds_past mark ks) (marked_row mark o)
+pub for-marked : (ks : List LabelKind) (mark : Mark) (o : Open) → IsMarkAt ks mark → IsFor ks o →
+    IsFor (kinds_past mark ks) (marked_row mark o)
 for-marked ks (begins kind marker) o at h = h
 for-marked [] (makes back kind tail) o at h = absurd (not-made back kind tail at)
 for-marked (k ∷ ks) (makes back kind tail) (outside u) at h = absurd h
@@ -87,14 +88,18 @@ tree_of (waits o f inside) = within (tree_of o) (codes_of f) (grouped inside)
 
 pub whole-tree : (o : Opened) → grouped (assembled o) ≡ whole (tree_of o)
 whole-tree (none_waits b) = refl
-whole-tree (waits o f inside) = grouped-behind (assembled o) (unused_then f inside) ∙ ap (λ x. x ⊕ (leaf N.Data (codes_of f) ⊕ grouped inside)) (whole-tree o)
+whole-tree (waits o f inside) =
+    grouped-behind (assembled o) (unused_then f inside) ∙ ap (λ x. x ⊕ (leaf N.Data (codes_of f) ⊕ grouped inside)) (whole-tree o)
 
 tree-put : (c : Brackets) (t : Forest) (o : Opened) → grouped c ≡ t → tree_of (put c o) ≡ put_row t (tree_of o)
 tree-put c t (none_waits b) e = ap outside (grouped-behind b c ∙ ap (λ x. grouped b ⊕ x) e)
-tree-put c t (waits o f inside) e = ap (within (tree_of o) (codes_of f)) (grouped-behind inside c ∙ ap (λ x. grouped inside ⊕ x) e)
+tree-put c t (waits o f inside) e =
+    ap (within (tree_of o) (codes_of f)) (grouped-behind inside c ∙ ap (λ x. grouped inside ⊕ x) e)
 
-tree-marked : (mark : Mark) (o : Opened) → IsMarkAt (kinds_in o) mark → tree_of (marked_with mark o) ≡ marked_row mark (tree_of o)
-tree-marked (begins kind marker) o at = let b = begins-as kind marker at.0 in ap tree_of (b.opens o) ∙ ap (λ cs. within (tree_of o) cs empty) (sym b.codes)
+tree-marked : (mark : Mark) (o : Opened) → IsMarkAt (kinds_in o) mark →
+    tree_of (marked_with mark o) ≡ marked_row mark (tree_of o)
+tree-marked (begins kind marker) o at =
+    let b = begins-as kind marker at.0 in ap tree_of (b.opens o) ∙ ap (λ cs. within (tree_of o) cs empty) (sym b.codes)
 tree-marked (makes back kind tail) o at =
     let m = makes-as back kind tail o at in
     let g : Front = made_front kind m.start in
@@ -105,9 +110,11 @@ tree-marked (makes back kind tail) o at =
     ∙ tree-put (label_then g m.inside m.code (tail_of tail) nothing) (label_group kind (codes_of m.start) x back tail) m.before (row-empty _ ∙ same)
     ∙ ap (λ p. made_row back kind tail (tree_of p)) (sym m.waiting)
 tree-marked loses (none_waits b) at = refl
-tree-marked loses (waits o f inside) at = tree-put (failed_then f inside nothing) (leaf N.Data (codes_of f) ⊕ grouped inside) o (ap (λ x. leaf N.Data (codes_of f) ⊕ x) (row-empty (grouped inside)))
+tree-marked loses (waits o f inside) at =
+    tree-put (failed_then f inside nothing) (leaf N.Data (codes_of f) ⊕ grouped inside) o (ap (λ x. leaf N.Data (codes_of f) ⊕ x) (row-empty (grouped inside)))
 
-pub tree-opened : (row : Row) (o : Opened) → AreMarksAt (kinds_in o) row → tree_of (opened_by row o) ≡ filled row (tree_of o)
+pub tree-opened : (row : Row) (o : Opened) → AreMarksAt (kinds_in o) row →
+    tree_of (opened_by row o) ≡ filled row (tree_of o)
 tree-opened (row_end t) o at = tree-put (tree_then t nothing) t o (row-empty t)
 tree-opened (row_then t mark rest) o at =
     let p : Opened = put_tree t o in
@@ -122,4 +129,5 @@ abbrev pub filled_from_start : Row → Open
 filled_from_start row = filled row (outside empty)
 
 pub grouped-filled : (row : Row) → AreMarksAt [] row → grouped (brackets_of row) ≡ whole (filled_from_start row)
-grouped-filled row at = whole-tree (opened_by row (none_waits nothing)) ∙ ap whole (tree-opened row (none_waits nothing) at)
+grouped-filled row at =
+    whole-tree (opened_by row (none_waits nothing)) ∙ ap whole (tree-opened row (none_waits nothing) at)

@@ -52,24 +52,30 @@ word-append (item f ∷ a) b g h = (g.0, word-append a b g.1 h)
 word-append (opens o ∷ a) b g h = word-append a b g h
 word-append (closes c ∷ a) b g h = word-append a b g h
 
-pair-has : (front : List Code) (inside : List Forest) (back : List Code) → AllHave inside → AllHave (pair_group front inside back)
+pair-has : (front : List Code) (inside : List Forest) (back : List Code) → AllHave inside →
+    AllHave (pair_group front inside back)
 pair-has front inside back h =
     let names = pair_names (marker_of front) (length front) in
     ((has-join (leaf names.1 front) (group_then names.2 (stop_of document_start front) (start_of back) (joined inside) empty ⊕ leaf names.1 back) (has-leaf names.1 front) (has-join (group_then names.2 (stop_of document_start front) (start_of back) (joined inside) empty) (leaf names.1 back) (has-joined inside h, tt) (has-leaf names.1 back)), tt), tt)
 
-onto-has : (o : List Code) (inside : List Forest) (more : List (List Code × List Forest)) → AllHave inside → CutsHave more → AllHave (onto pair_group loose loose o inside more).0 × CutsHave (onto pair_group loose loose o inside more).1
+onto-has : (o : List Code) (inside : List Forest) (more : List (List Code × List Forest)) → AllHave inside →
+    CutsHave more →
+    AllHave (onto pair_group loose loose o inside more).0 × CutsHave (onto pair_group loose loose o inside more).1
 onto-has o inside [] g h = ((has-leaf Name.Data o, g), tt)
 onto-has o inside (c ∷ more) g h = (all-append (pair_group o inside c.0) c.1 (pair-has o inside c.0 g) h.0, h.1)
 
-nest-has : (w : List Token) → WordHas w → AllHave (nest pair_group loose loose w).0 × CutsHave (nest pair_group loose loose w).1
+nest-has : (w : List Token) → WordHas w →
+    AllHave (nest pair_group loose loose w).0 × CutsHave (nest pair_group loose loose w).1
 nest-has [] h = (tt, tt)
 nest-has (item f ∷ w) h = let r = nest-has w h.1 in ((h.0, r.0), r.1)
 nest-has (closes c ∷ w) h = let r = nest-has w h in (tt, (r.0, r.1))
-nest-has (opens o ∷ w) h = let r = nest-has w h in onto-has o (nest pair_group loose loose w).0 (nest pair_group loose loose w).1 r.0 r.1
+nest-has (opens o ∷ w) h =
+    let r = nest-has w h in onto-has o (nest pair_group loose loose w).0 (nest pair_group loose loose w).1 r.0 r.1
 
 after-has : (more : List (List Code × List Forest)) → CutsHave more → AllHave (after_loose pair_group loose loose more)
 after-has [] h = tt
-after-has (c ∷ more) h = ((has-leaf Name.Data c.0, all-append c.1 (after_loose pair_group loose loose more) h.0 (after-has more h.1)))
+after-has (c ∷ more) h =
+    ((has-leaf Name.Data c.0, all-append c.1 (after_loose pair_group loose loose more) h.0 (after-has more h.1)))
 
 assembled-has : (w : List Token) → WordHas w → HasCodes (assembled w)
 assembled-has w h =
@@ -94,9 +100,12 @@ run-has ps n r =
     closes-has front.0 (item (leaf Name.Data (take kept front.1)) ∷ map opens back.0) rest
 
 module _ (s : Setting) (pairs_of : List Run → List Pair) where
-  leaf-has : (name : Name) (link : Option Content) (cs : List Code) (rest : Forest) (ps : List Pair) (n : ℕ) → (is_data name ≡ true → link ≡ None → cs ≢ []) → ((m : ℕ) → WordHas (tokens_of s pairs_of rest ps m)) → WordHas (tokens_of s pairs_of (leaf_then name link cs rest) ps n)
+  leaf-has : (name : Name) (link : Option Content) (cs : List Code) (rest : Forest) (ps : List Pair) (n : ℕ) →
+      (is_data name ≡ true → link ≡ None → cs ≢ []) → ((m : ℕ) → WordHas (tokens_of s pairs_of rest ps m)) →
+      WordHas (tokens_of s pairs_of (leaf_then name link cs rest) ps n)
   unfolding tokens_of
-  leaf-has N.AttentionSequence link cs rest ps n g h = word-append (run_tokens ps n (run_of s cs)) (tokens_of s pairs_of rest ps (suc n)) (run-has ps n (run_of s cs)) (h (suc n))
+  leaf-has N.AttentionSequence link cs rest ps n g h =
+      word-append (run_tokens ps n (run_of s cs)) (tokens_of s pairs_of rest ps (suc n)) (run-has ps n (run_of s cs)) (h (suc n))
   leaf-has name link cs rest ps n g h = ((g, tt), h n)
 
   tokens-has : (t : Forest) (ps : List Pair) (n : ℕ) → HasCodes t → WordHas (tokens_of s pairs_of t ps n)
@@ -108,8 +117,11 @@ module _ (s : Setting) (pairs_of : List Run → List Pair) where
 
   pub paired-has : (t : Forest) → HasCodes t → HasCodes (paired s pairs_of t)
   unfolding paired
-  paired-has t h = assembled-has (tokens_of s pairs_of t (pairs_of (runs_of s t)) 0) (tokens-has t (pairs_of (runs_of s t)) 0 h)
+  paired-has t h =
+      assembled-has (tokens_of s pairs_of t (pairs_of (runs_of s t)) 0) (tokens-has t (pairs_of (runs_of s t)) 0 h)
 
   -- texts whose trees of labels differ only in how data is cut come to one merged tree
-  pub merged-paired : (t u : Forest) → HasCodes t → HasCodes u → split t ≡ split u → merged (paired s pairs_of t) ≡ merged (paired s pairs_of u)
-  merged-paired t u g h e = merged-same (paired s pairs_of t) (paired s pairs_of u) (paired-has t g) (paired-has u h) (paired-same s pairs_of t u e)
+  pub merged-paired : (t u : Forest) → HasCodes t → HasCodes u → split t ≡ split u →
+      merged (paired s pairs_of t) ≡ merged (paired s pairs_of u)
+  merged-paired t u g h e =
+      merged-same (paired s pairs_of t) (paired s pairs_of u) (paired-has t g) (paired-has u h) (paired-same s pairs_of t u e)

@@ -15,17 +15,20 @@ use Rattle.markdown_run_row.proofs.CutDataLemmas.{row-assoc, split-join, split-t
 
 -- A pair's group.
 
-pub enter-same : (a : Forest) (m : Name) (p q : Point) (x y b : Forest) → enter_of (a ⊕ (group_then m p q x empty ⊕ b)) ≡ enter_of (a ⊕ (group_then m p q y empty ⊕ b))
+pub enter-same : (a : Forest) (m : Name) (p q : Point) (x y b : Forest) →
+    enter_of (a ⊕ (group_then m p q x empty ⊕ b)) ≡ enter_of (a ⊕ (group_then m p q y empty ⊕ b))
 enter-same empty m p q x y b = refl
 enter-same (leaf_then name link cs rest) m p q x y b = refl
 enter-same (group_then name c d inside rest) m p q x y b = refl
 
-pub exit-same : (r : Point) (a : Forest) (m : Name) (p q : Point) (x y b : Forest) → exit_after r (a ⊕ (group_then m p q x empty ⊕ b)) ≡ exit_after r (a ⊕ (group_then m p q y empty ⊕ b))
+pub exit-same : (r : Point) (a : Forest) (m : Name) (p q : Point) (x y b : Forest) →
+    exit_after r (a ⊕ (group_then m p q x empty ⊕ b)) ≡ exit_after r (a ⊕ (group_then m p q y empty ⊕ b))
 exit-same r empty m p q x y b = refl
 exit-same r (leaf_then name link cs rest) m p q x y b = exit-same (stop_of r cs) rest m p q x y b
 exit-same r (group_then name c d inside rest) m p q x y b = exit-same d rest m p q x y b
 
-group-same : (n : Name) (a : Forest) (m : Name) (p q : Point) (x b : Forest) → split (group n (a ⊕ (group_then m p q x empty ⊕ b))) ≡ split (group n (a ⊕ (group_then m p q (split x) empty ⊕ b)))
+group-same : (n : Name) (a : Forest) (m : Name) (p q : Point) (x b : Forest) →
+    split (group n (a ⊕ (group_then m p q x empty ⊕ b))) ≡ split (group n (a ⊕ (group_then m p q (split x) empty ⊕ b)))
 group-same n a m p q x b =
     let one : Forest = a ⊕ (group_then m p q x empty ⊕ b) in
     let two : Forest = a ⊕ (group_then m p q (split x) empty ⊕ b) in
@@ -40,7 +43,8 @@ around front inside back =
     let names = pair_names (marker_of front) (length front) in
     group names.0 (leaf names.1 front ⊕ text_group names.2 (stop_of document_start front) (start_of back) inside ⊕ leaf names.1 back)
 
-around-same : (front : List Code) (x : Forest) (back : List Code) → split (around front x back) ≡ split (around front (split x) back)
+around-same : (front : List Code) (x : Forest) (back : List Code) →
+    split (around front x back) ≡ split (around front (split x) back)
 around-same front x back =
     let names = pair_names (marker_of front) (length front) in
     group-same names.0 (leaf names.1 front) names.2 (stop_of document_start front) (start_of back) x (leaf names.1 back)
@@ -72,14 +76,16 @@ joined-append : (a b : List Forest) → joined (a ++ b) ≡ joined a ⊕ joined 
 joined-append [] b = refl
 joined-append (t ∷ a) b = ap (λ x. t ⊕ x) (joined-append a b) ∙ sym (row-assoc t (joined a) (joined b))
 
-opened-is : (o : List Code) (inside : List Forest) (more : List (List Code × List Forest)) → opened o (split (joined inside)) (cuts more) ≡ (split (joined (onto pair_group loose loose o inside more).0), cuts (onto pair_group loose loose o inside more).1)
+opened-is : (o : List Code) (inside : List Forest) (more : List (List Code × List Forest)) →
+    opened o (split (joined inside)) (cuts more) ≡ (split (joined (onto pair_group loose loose o inside more).0), cuts (onto pair_group loose loose o inside more).1)
 opened-is o inside [] = ap (λ x. (x, [])) (sym (split-join (leaf Name.Data o) (joined inside)))
 opened-is o inside (c ∷ more) =
     ap (λ x. (x ⊕ split (joined c.1), cuts more)) (sym (around-same o (joined inside) c.0)) ∙ ap (λ x. (x, cuts more)) (sym (split-join (around o (joined inside) c.0) (joined c.1)))
 
 pub cut_nest-is : (w : List Token) → cut_nest w ≡ (split (joined (found w).0), cuts (found w).1)
 cut_nest-is [] = refl
-cut_nest-is (item f ∷ w) = ap (λ (r : Cuts). (split f ⊕ r.0, r.1)) (cut_nest-is w) ∙ ap (λ x. (x, cuts (found w).1)) (sym (split-join f (joined (found w).0)))
+cut_nest-is (item f ∷ w) =
+    ap (λ (r : Cuts). (split f ⊕ r.0, r.1)) (cut_nest-is w) ∙ ap (λ x. (x, cuts (found w).1)) (sym (split-join f (joined (found w).0)))
 cut_nest-is (closes c ∷ w) = ap (λ (r : Cuts). (empty, (c, r.0) ∷ r.1)) (cut_nest-is w)
 cut_nest-is (opens o ∷ w) = ap (λ (r : Cuts). opened o r.0 r.1) (cut_nest-is w) ∙ opened-is o (found w).0 (found w).1
 
@@ -87,7 +93,8 @@ abbrev finish : List (List Code × Forest) → Forest
 finish [] = empty
 finish (c ∷ more) = split (leaf Name.Data c.0) ⊕ (c.1 ⊕ finish more)
 
-finish-is : (more : List (List Code × List Forest)) → split (joined (after_loose pair_group loose loose more)) ≡ finish (cuts more)
+finish-is : (more : List (List Code × List Forest)) →
+    split (joined (after_loose pair_group loose loose more)) ≡ finish (cuts more)
 finish-is [] = refl
 finish-is (c ∷ more) =
     ap split (joined-append (loose c.0 ++ c.1) (after_loose pair_group loose loose more))
@@ -120,7 +127,9 @@ unfolding runs_of
 each-runs s [] t = refl
 each-runs s (c ∷ cs) t = each-runs s cs t
 
-leaf-runs : (s : Setting) (name : Name) (link : Option Content) (cs : List Code) (rest : Forest) → runs_of s (split rest) ≡ runs_of s rest → runs_of s (split (leaf_then name link cs rest)) ≡ runs_of s (leaf_then name link cs rest)
+leaf-runs : (s : Setting) (name : Name) (link : Option Content) (cs : List Code) (rest : Forest) →
+    runs_of s (split rest) ≡ runs_of s rest →
+    runs_of s (split (leaf_then name link cs rest)) ≡ runs_of s (leaf_then name link cs rest)
 unfolding runs_of
 leaf-runs s N.AttentionSequence link cs rest h = ap (λ rs. run_of s cs ∷ rs) h
 leaf-runs s N.Data None cs rest h = each-runs s cs (split rest) ∙ h
@@ -141,7 +150,8 @@ module _ (s : Setting) (pairs_of : List Run → List Pair) where
   abbrev T : Forest → List Pair → ℕ → List Token
   T t ps n = tokens_of s pairs_of t ps n
 
-  each-tokens : (cs : List Code) (t : Forest) (ps : List Pair) (n : ℕ) → cut_nest (T (each_code cs t) ps n) ≡ (each_code cs (cut_nest (T t ps n)).0, (cut_nest (T t ps n)).1)
+  each-tokens : (cs : List Code) (t : Forest) (ps : List Pair) (n : ℕ) →
+      cut_nest (T (each_code cs t) ps n) ≡ (each_code cs (cut_nest (T t ps n)).0, (cut_nest (T t ps n)).1)
   unfolding tokens_of
   each-tokens [] t ps n = refl
   each-tokens (c ∷ cs) t ps n = ap (λ (r : Cuts). (leaf_then N.Data None (c ∷ []) r.0, r.1)) (each-tokens cs t ps n)
@@ -149,9 +159,11 @@ module _ (s : Setting) (pairs_of : List Run → List Pair) where
   abbrev Same : Forest → Type 0
   Same t = (ps : List Pair) (n : ℕ) → cut_nest (T t ps n) ≡ cut_nest (T (split t) ps n)
 
-  leaf-same : (name : Name) (link : Option Content) (cs : List Code) (rest : Forest) → Same rest → Same (leaf_then name link cs rest)
+  leaf-same : (name : Name) (link : Option Content) (cs : List Code) (rest : Forest) → Same rest →
+      Same (leaf_then name link cs rest)
   unfolding tokens_of
-  leaf-same N.AttentionSequence link cs rest h ps n = behind-same (run_tokens ps n (run_of s cs)) (T rest ps (suc n)) (T (split rest) ps (suc n)) (h ps (suc n))
+  leaf-same N.AttentionSequence link cs rest h ps n =
+      behind-same (run_tokens ps n (run_of s cs)) (T rest ps (suc n)) (T (split rest) ps (suc n)) (h ps (suc n))
   leaf-same N.Data None cs rest h ps n =
       ap (λ x. (x, (cut_nest (T rest ps n)).1)) (each-empty cs (cut_nest (T rest ps n)).0)
       ∙ ap (λ (r : Cuts). (each_code cs r.0, r.1)) (h ps n)

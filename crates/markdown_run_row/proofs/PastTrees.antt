@@ -23,7 +23,8 @@ or-apart false b c = refl
 
 pub has_run-row : (t u : Forest) → has_run (t ⊕ u) ≡ (has_run t || has_run u)
 has_run-row empty u = refl
-has_run-row (leaf_then name link cs rest) u = ap (λ b. is_run name || b) (has_run-row rest u) ∙ or-apart (is_run name) (has_run rest) (has_run u)
+has_run-row (leaf_then name link cs rest) u =
+    ap (λ b. is_run name || b) (has_run-row rest u) ∙ or-apart (is_run name) (has_run rest) (has_run u)
 has_run-row (group_then name a b inside rest) u = has_run-row rest u
 
 pub quiet-runless : (t : Forest) → IsQuiet t → IsRunless t
@@ -59,16 +60,19 @@ outer-row (group_then name a b inside rest) u h k = (h.0, outer-row rest u h.1 k
 -- a row whose groups have no run has none where none stands in it
 pub outer-runless : (t : Forest) → HasOuterRuns t → has_run t ≡ false → IsRunless t
 outer-runless empty h e = tt
-outer-runless (leaf_then name link cs rest) h e = let p = or_parts (is_run name) (has_run rest) e in (p.0, outer-runless rest h p.1)
+outer-runless (leaf_then name link cs rest) h e =
+    let p = or_parts (is_run name) (has_run rest) e in (p.0, outer-runless rest h p.1)
 outer-runless (group_then name a b inside rest) h e = (h.0, outer-runless rest h.1 e)
 
 -- The passes registered.
 
 registered-last : (ns : List ResolveName) → is_registered R.Attention (ns ++ R.Attention ∷ []) ≡ true
 registered-last [] = refl
-registered-last (n ∷ ns) = or_right (resolver_number n == resolver_number R.Attention) (is_registered R.Attention (ns ++ R.Attention ∷ [])) (registered-last ns)
+registered-last (n ∷ ns) =
+    or_right (resolver_number n == resolver_number R.Attention) (is_registered R.Attention (ns ++ R.Attention ∷ [])) (registered-last ns)
 
-once : (b : Bool) (ns : List ResolveName) → is_registered R.Attention ns ≡ b → is_registered R.Attention (if b then ns else ns ++ R.Attention ∷ []) ≡ true
+once : (b : Bool) (ns : List ResolveName) → is_registered R.Attention ns ≡ b →
+    is_registered R.Attention (if b then ns else ns ++ R.Attention ∷ []) ≡ true
 once true ns e = e
 once false ns e = registered-last ns
 
@@ -83,7 +87,8 @@ passes-both false b ns = refl
 -- Past a tree.
 
 -- one tree and then another
-pub past-both : (t u : Forest) (T : Tokenizer) → last_link (length T.events) None t ≡ None → past_tree u (past_tree t T) ≡ past_tree (t ⊕ u) T
+pub past-both : (t u : Forest) (T : Tokenizer) → last_link (length T.events) None t ≡ None →
+    past_tree u (past_tree t T) ≡ past_tree (t ⊕ u) T
 unfolding past past_tree
 past-both t u T e =
     let events : past None u (past None t T) ≡ past None (t ⊕ u) T = ap (λ q. past q u (past None t T)) (sym e) ∙ past-past None t u T in
@@ -99,13 +104,16 @@ pub past_tree-empty : (T : Tokenizer) → T ≡ past_tree empty T
 past_tree-empty T = sym (past-empty None T) ∙ past_tree-without empty T refl
 
 -- the pass of runs is registered past a run
-registers : (b : Bool) (T : Tokenizer) (ns : List ResolveName) → (if b then T else record T { resolvers = T.resolvers ++ R.Attention ∷ [] }) ≡ record T { resolvers = if b then T.resolvers else T.resolvers ++ R.Attention ∷ [] }
+registers : (b : Bool) (T : Tokenizer) (ns : List ResolveName) →
+    (if b then T else record T { resolvers = T.resolvers ++ R.Attention ∷ [] }) ≡ record T { resolvers = if b then T.resolvers else T.resolvers ++ R.Attention ∷ [] }
 registers true T ns = refl
 registers false T ns = refl
 
-pub past_tree-with : (t : Forest) (T : Tokenizer) → has_run t ≡ true → registered R.Attention (past None t T) ≡ past_tree t T
+pub past_tree-with : (t : Forest) (T : Tokenizer) → has_run t ≡ true →
+    registered R.Attention (past None t T) ≡ past_tree t T
 unfolding past past_tree registered
-past_tree-with t T e = registers (is_registered R.Attention T.resolvers) (past None t T) [] ∙ (λ i. record (past None t T) { resolvers = passes_after (sym e i) T.resolvers })
+past_tree-with t T e =
+    registers (is_registered R.Attention T.resolvers) (past None t T) [] ∙ (λ i. record (past None t T) { resolvers = passes_after (sym e i) T.resolvers })
 
 registered-ahead : (b : Bool) (T U : Tokenizer) → ahead U ≡ ahead T → ahead (if b then T else U) ≡ ahead T
 registered-ahead true T U e = refl
@@ -113,4 +121,5 @@ registered-ahead false T U e = e
 
 pub ahead-registered : (n : ResolveName) (T : Tokenizer) → ahead (registered n T) ≡ ahead T
 unfolding registered
-ahead-registered n T = registered-ahead (is_registered n T.resolvers) T (record T { resolvers = T.resolvers ++ n ∷ [] }) refl
+ahead-registered n T =
+    registered-ahead (is_registered n T.resolvers) T (record T { resolvers = T.resolvers ++ n ∷ [] }) refl

@@ -20,7 +20,8 @@ use Rattle.markdown_model.specs.Passes.{start_tree}
 use Rattle.markdown_label_pass.specs.Brackets.{Front, kind_of, start_row, end_row, Tail, tail_row, Brackets, nothing, tree_then, label_then, unused_then, failed_then, flat, IsApart, last_of, count, numbers_of, labels_at, unused_at, failed_at}
 use Rattle.markdown_label_pass.specs.LabelsHandedOver.{starts_of, HasBrackets}
 use Rattle.markdown_label_pass.specs.BracketsJoined.{behind, IsClosed}
-use Rattle.markdown_label_pass.proofs.BracketJoinLemmas.{row-assoc, closed-unused, flat-behind, labels-behind, failed-behind, count-behind, apart-behind, waiting, labelled, failed, started, passed, labelled-flat, labelled-labels, labelled-unused, labelled-failed, waiting-unused, failed-flat, failed-labels, failed-unused, failed-failed, started-flat, started-labels, started-unused, started-failed, passed-flat, passed-labels, passed-unused, passed-failed}
+use Rattle.markdown_label_pass.proofs.BracketJoinLemmas.{row-assoc, closed-unused, flat-behind, labels-behind, failed-behind, count-behind, apart-behind, waiting, labelled, failed, started, passed, labelled-flat, labelled-labels, labelled-unused, labelled-failed}
+use Rattle.markdown_label_pass.proofs.BracketJoinLemmas.{waiting-unused, failed-flat, failed-labels, failed-unused, failed-failed, started-flat, started-labels, started-unused, started-failed, passed-flat, passed-labels, passed-unused, passed-failed}
 use Rattle.markdown_label_pass.proofs.EventsOfBrackets.{count-is, flat-last, start-count}
 use Rattle.markdown_run_row.specs.Row.{Mark, begins, makes, loses, Row, row_end, row_then, past_tree, past_mark, past_row, IsMarkAt, IsRowAt, kinds_past}
 use Rattle.markdown_run_row.specs.RowStart.{IsFresh}
@@ -30,7 +31,8 @@ use Rattle.markdown_run_row.proofs.OpenStartLemmas.{kinds_in, IsClosedIn, assemb
 -- Events.
 
 -- a tree behind the events of brackets
-events-then : (b : Brackets) (t : Forest) (es : List Event) → IsApart b → es ≡ appended_from 0 None (flat b) → es ++ appended_from (length es) None t ≡ appended_from 0 None (flat b ⊕ t)
+events-then : (b : Brackets) (t : Forest) (es : List Event) → IsApart b → es ≡ appended_from 0 None (flat b) →
+    es ++ appended_from (length es) None t ≡ appended_from 0 None (flat b ⊕ t)
 events-then b t es apart e =
     let long : length es ≡ 0 + event_count (flat b) = omega (arith, ap length e, length-appended_from 0 None (flat b)) in
     (λ i. e i ++ appended_from (long i) (sym (flat-last 0 b apart) i) t) ∙ sym (appended_from-row 0 None (flat b) t)
@@ -77,10 +79,12 @@ begun-step b f T h =
 
 -- as it leaves the events
 abbrev ended_events : List Event → Forest → Forest → List Event
-ended_events es t u = (es ++ appended_from (length es) None t) ++ appended_from (length (es ++ appended_from (length es) None t)) None u
+ended_events es t u =
+    (es ++ appended_from (length es) None t) ++ appended_from (length (es ++ appended_from (length es) None t)) None u
 
 -- two trees behind the events of brackets
-rows-then : (b : Brackets) (t u : Forest) (es : List Event) → IsApart b → ((n : ℕ) → last_link n None t ≡ None) → es ≡ appended_from 0 None (flat b) → ended_events es t u ≡ appended_from 0 None (flat b ⊕ (t ⊕ u))
+rows-then : (b : Brackets) (t u : Forest) (es : List Event) → IsApart b → ((n : ℕ) → last_link n None t ≡ None) →
+    es ≡ appended_from 0 None (flat b) → ended_events es t u ≡ appended_from 0 None (flat b ⊕ (t ⊕ u))
 rows-then b t u es apart last e =
     let one : es ++ appended_from (length es) None t ≡ appended_from 0 None (flat (passed b t)) = events-then b t es apart e ∙ ap (appended_from 0 None) (sym (passed-flat b t)) in
     events-then (passed b t) u _ (apart-behind b (tree_then t nothing) apart (last, tt)) one
@@ -92,14 +96,17 @@ long-ended es t u =
     let xs : List Event = es ++ appended_from (length es) None t in
     omega (arith, length-append xs (appended_from (length xs) None u), length-append es (appended_from (length es) None t), length-appended_from (length es) None t, length-appended_from (length xs) None u)
 
-made-events : (back : List Code) (kind : LabelKind) (tail : Forest) (T : Tokenizer) → (end_made back kind tail T).events ≡ ended_events T.events (end_tree back) tail
+made-events : (back : List Code) (kind : LabelKind) (tail : Forest) (T : Tokenizer) →
+    (end_made back kind tail T).events ≡ ended_events T.events (end_tree back) tail
 unfolding past scratched made end_made
 made-events back kind tail T = events-before R.Label _
 
 abbrev made_state : LabelKind → ℕ → ℕ → TokenizeState → TokenizeState
-made_state kind n last s = let starts = with_kind kind s.label_starts in with_label starts last (starts_set starts (ended_at n s))
+made_state kind n last s =
+    let starts = with_kind kind s.label_starts in with_label starts last (starts_set starts (ended_at n s))
 
-made-fields : (back : List Code) (kind : LabelKind) (tail : Forest) (T : Tokenizer) → (end_made back kind tail T).tokenize_state ≡ made_state kind (length T.events) (length (ended_events T.events (end_tree back) tail) - 1) T.tokenize_state
+made-fields : (back : List Code) (kind : LabelKind) (tail : Forest) (T : Tokenizer) →
+    (end_made back kind tail T).tokenize_state ≡ made_state kind (length T.events) (length (ended_events T.events (end_tree back) tail) - 1) T.tokenize_state
 unfolding past scratched made end_made
 made-fields back kind tail T = scratch-before R.Label _
 
@@ -109,13 +116,15 @@ record HasMade (kind : LabelKind) (x y : ℕ × ℕ) (ns : List (ℕ × ℕ)) (s
   unused : starts_of U.label_starts ≡ ns
   failed : U.label_starts_loose ≡ s.label_starts_loose
 
-starts-if : (b : Bool) (l m : LabelStart) (ls ms : List LabelStart) → l.start ≡ m.start → starts_of ls ≡ starts_of ms → starts_of (if b then l ∷ ls else m ∷ ms) ≡ l.start ∷ starts_of ls
+starts-if : (b : Bool) (l m : LabelStart) (ls ms : List LabelStart) → l.start ≡ m.start → starts_of ls ≡ starts_of ms →
+    starts_of (if b then l ∷ ls else m ∷ ms) ≡ l.start ∷ starts_of ls
 starts-if true l m ls ms e h = refl
 starts-if false l m ls ms e h = λ i. sym e i ∷ sym h i
 
 starts-marked : (ls : List LabelStart) → starts_of (marked ls) ≡ starts_of ls
 starts-marked [] = refl
-starts-marked (l ∷ ls) = starts-if l.inactive l (record l { inactive = true }) ls (marked ls) refl (sym (starts-marked ls))
+starts-marked (l ∷ ls) =
+    starts-if l.inactive l (record l { inactive = true }) ls (marked ls) refl (sym (starts-marked ls))
 
 starts-barred : (b : Bool) (ls : List LabelStart) → starts_of (if b then ls else marked ls) ≡ starts_of ls
 starts-barred true ls = refl
@@ -142,7 +151,8 @@ has-made kind x ns n last s (l ∷ ls) e = record {
 -- a start that waits as one with the same codes
 module _ (a : Brackets) (f g : Front) (inside : Brackets) (last : last_of g ≡ last_of f) where
   same-flat : start_row g ≡ start_row f → flat (waiting a g inside) ≡ flat (waiting a f inside)
-  same-flat tree = flat-behind a (unused_then g inside) ∙ ap (λ t. flat a ⊕ (t ⊕ flat inside)) tree ∙ sym (flat-behind a (unused_then f inside))
+  same-flat tree =
+      flat-behind a (unused_then g inside) ∙ ap (λ t. flat a ⊕ (t ⊕ flat inside)) tree ∙ sym (flat-behind a (unused_then f inside))
 
   same-labels : labels_at 0 (waiting a g inside) ≡ labels_at 0 (waiting a f inside)
   same-labels =
@@ -155,7 +165,8 @@ module _ (a : Brackets) (f g : Front) (inside : Brackets) (last : last_of g ≡ 
   same-number : numbers_of (count a) f ≡ numbers_of (count a) g
   same-number = ap (λ n. (count a, count a + n)) (sym last)
 
-count-waiting : (a : Brackets) (f : Front) (inside : Brackets) → count (waiting a f inside) ≡ count a + (suc (last_of f) + count inside)
+count-waiting : (a : Brackets) (f : Front) (inside : Brackets) →
+    count (waiting a f inside) ≡ count a + (suc (last_of f) + count inside)
 count-waiting a f inside = count-behind a (unused_then f inside)
 
 -- a label is made
@@ -204,7 +215,8 @@ has-lost-by false x ns s l ls e = record {
   failed = starts-more s.label_starts_loose (record l { kind = link_kind l.kind }) ∙ ap (λ p. starts_of s.label_starts_loose ++ p ∷ []) (first-of l.start x (starts_of ls) ns e);
 }
 
-has-lost : (x : ℕ × ℕ) (ns : List (ℕ × ℕ)) (s : TokenizeState) (ls : List LabelStart) → starts_of ls ≡ x ∷ ns → HasLost x ns s (lost_by ls s)
+has-lost : (x : ℕ × ℕ) (ns : List (ℕ × ℕ)) (s : TokenizeState) (ls : List LabelStart) → starts_of ls ≡ x ∷ ns →
+    HasLost x ns s (lost_by ls s)
 has-lost x ns s [] e = absurd (none-then x ns e)
 has-lost x ns s (l ∷ ls) e = has-lost-by (bars l) x ns s l ls e
 
@@ -241,7 +253,8 @@ apart-right (failed_then f inside rest) c h = apart-right rest c h.1
 abbrev Has : Opened → Tokenizer → Type 0
 Has o T = HasBrackets (assembled o) T.tokenize_state T.events
 
-put-step : (c : Brackets) (o : Opened) (U : Tokenizer) → HasBrackets (behind (assembled o) c) U.tokenize_state U.events → Has (put c o) U
+put-step : (c : Brackets) (o : Opened) (U : Tokenizer) →
+    HasBrackets (behind (assembled o) c) U.tokenize_state U.events → Has (put c o) U
 put-step c o U h = subst (λ b. HasBrackets b U.tokenize_state U.events) (sym (assembled-put c o)) h
 
 lost-nothing : (ls : List LabelStart) (s : TokenizeState) → starts_of ls ≡ [] → lost_by ls s ≡ s
@@ -253,7 +266,8 @@ unfolding scratched
 same-step b T h = h
 
 -- a mark
-mark-step : (mark : Mark) (o : Opened) (T : Tokenizer) → IsMarkAt (kinds_in o) mark → IsClosedIn o → Has o T → Has (marked_with mark o) (past_mark mark T)
+mark-step : (mark : Mark) (o : Opened) (T : Tokenizer) → IsMarkAt (kinds_in o) mark → IsClosedIn o → Has o T →
+    Has (marked_with mark o) (past_mark mark T)
 unfolding past_mark
 mark-step (begins kind marker) o T at closed h =
     let b = begins-as kind marker at.0 in
@@ -285,10 +299,12 @@ mark-step loses (waits o f inside) T at closed h =
 
 -- Rows.
 
-pub tree-put : (t : Forest) (o : Opened) (T : Tokenizer) → ((n : ℕ) → last_link n None t ≡ None) → Has o T → Has (put_tree t o) (past_tree t T)
+pub tree-put : (t : Forest) (o : Opened) (T : Tokenizer) → ((n : ℕ) → last_link n None t ≡ None) → Has o T →
+    Has (put_tree t o) (past_tree t T)
 tree-put t o T apart h = put-step (tree_then t nothing) o (past_tree t T) (tree-step (assembled o) t T apart h)
 
-pub row-step : (row : Row) (o : Opened) (T : Tokenizer) → IsRowAt (kinds_in o) row → IsClosedIn o → Has o T → Has (opened_by row o) (past_row row T)
+pub row-step : (row : Row) (o : Opened) (T : Tokenizer) → IsRowAt (kinds_in o) row → IsClosedIn o → Has o T →
+    Has (opened_by row o) (past_row row T)
 row-step (row_end t) o T at closed h = tree-put t o T at.apart h
 row-step (row_then t mark rest) o T at closed h =
     let p : Opened = put_tree t o in
@@ -300,7 +316,8 @@ row-step (row_then t mark rest) o T at closed h =
     (mark-step mark p (past_tree t T) here shut (tree-put t o T at.0.apart h))
 
 -- from a run's start on
-pub row-brackets : (row : Row) (T : Tokenizer) → IsRowAt [] row → IsFresh T → HasBrackets (brackets_of row) (past_row row T).tokenize_state (past_row row T).events
+pub row-brackets : (row : Row) (T : Tokenizer) → IsRowAt [] row → IsFresh T →
+    HasBrackets (brackets_of row) (past_row row T).tokenize_state (past_row row T).events
 row-brackets row T at h =
     row-step row (none_waits nothing) T at tt
     (record { apart = tt; events = h.events; labels = h.labels; unused = ap starts_of h.starts; failed = ap starts_of h.loose })

@@ -26,7 +26,8 @@ module _ (kind : LabelKind) (marker : List Code) (back : List Code) (tail : Fore
       ⊕ (text_group N.LabelText (stop_of document_start front) (start_of back) (caret ⊕ x)
       ⊕ group N.LabelEnd (leaf N.LabelMarker back))
 
-  label-same : (x y : Forest) → split x ≡ split y → split (label_group kind marker x back tail) ≡ split (label_group kind marker y back tail)
+  label-same : (x y : Forest) → split x ≡ split y →
+      split (label_group kind marker x back tail) ≡ split (label_group kind marker y back tail)
   label-same x y h =
       let a : Forest = start_tree kind front in
       let p : Point = stop_of document_start front in
@@ -68,9 +69,11 @@ cut_marked loses (outside u) = outside u
 marked-cut : (mark : Mark) (o : Open) → split_open (marked_row mark o) ≡ cut_marked mark (split_open o)
 marked-cut (begins kind marker) o = refl
 marked-cut (makes back kind tail) (outside u) = refl
-marked-cut (makes back kind tail) (within o m x) = put-cut (label_group kind m x back tail) o ∙ ap (λ t. put_row t (split_open o)) (label-same kind m back tail x (split x) (sym (split-twice x)))
+marked-cut (makes back kind tail) (within o m x) =
+    put-cut (label_group kind m x back tail) o ∙ ap (λ t. put_row t (split_open o)) (label-same kind m back tail x (split x) (sym (split-twice x)))
 marked-cut loses (outside u) = refl
-marked-cut loses (within o m x) = put-cut (leaf N.Data m ⊕ x) o ∙ ap (λ t. put_row t (split_open o)) (split-join (leaf N.Data m) x)
+marked-cut loses (within o m x) =
+    put-cut (leaf N.Data m ⊕ x) o ∙ ap (λ t. put_row t (split_open o)) (split-join (leaf N.Data m) x)
 
 abbrev cut_filled : Row → Open → Open
 cut_filled (row_end t) o = put_row t o
@@ -82,7 +85,8 @@ filled-cut (row_then t mark rest) o =
     filled-cut rest (marked_row mark (put_row t o)) ∙ ap (cut_filled (split_row rest)) (marked-cut mark (put_row t o) ∙ ap (cut_marked mark) (put-cut t o))
 
 -- rows that are cut alike have grouped trees that are
-pub filled-alike : (r q : Row) → split_row r ≡ split_row q → split (whole (filled_from_start r)) ≡ split (whole (filled_from_start q))
+pub filled-alike : (r q : Row) → split_row r ≡ split_row q →
+    split (whole (filled_from_start r)) ≡ split (whole (filled_from_start q))
 filled-alike r q e =
     whole-cut (filled_from_start r)
     ∙ ap cut_whole (filled-cut r (outside empty) ∙ ap (λ x. cut_filled x (outside empty)) e ∙ sym (filled-cut q (outside empty)))

@@ -20,7 +20,8 @@ use Rattle.markdown_run_row.proofs.RowDataCut.{filled-alike}
 
 pub whole-put : (t : Forest) (o : Open) → whole (put_row t o) ≡ whole o ⊕ t
 whole-put t (outside u) = refl
-whole-put t (within o m x) = ap (λ y. whole o ⊕ y) (sym (row-assoc (leaf N.Data m) x t)) ∙ sym (row-assoc (whole o) (leaf N.Data m ⊕ x) t)
+whole-put t (within o m x) =
+    ap (λ y. whole o ⊕ y) (sym (row-assoc (leaf N.Data m) x t)) ∙ sym (row-assoc (whole o) (leaf N.Data m ⊕ x) t)
 
 put-empty : (o : Open) → put_row empty o ≡ o
 put-empty (outside u) = ap outside (row-empty u)
@@ -40,7 +41,8 @@ abbrev pub Found : Type 0
 Found = Forest × List (End × Forest)
 
 abbrev pub wrapped : List Code → Forest → End → Forest
-wrapped m x end = elim (end.1) [ None ↦ leaf N.Data m ⊕ (x ⊕ leaf N.Data end.0) | Some outcome ↦ label_group outcome.0 m x end.0 outcome.1 ]
+wrapped m x end =
+    elim (end.1) [ None ↦ leaf N.Data m ⊕ (x ⊕ leaf N.Data end.0) | Some outcome ↦ label_group outcome.0 m x end.0 outcome.1 ]
 
 abbrev pub opened : List Code → Forest → List (End × Forest) → Found
 opened m x [] = (leaf N.Data m ⊕ x, [])
@@ -65,8 +67,10 @@ abbrev joins : List (End × List Forest) → List (End × Forest)
 joins [] = []
 joins (c ∷ more) = (c.0, joined c.1) ∷ joins more
 
-wrapped-is : (s : Start) (inside : List Forest) (end : End) → wrapped s.1 (joined inside) end ≡ joined (labelled s inside end)
-wrapped-is s inside (back, None) = ap (λ x. leaf N.Data s.1 ⊕ x) (ap (λ y. joined inside ⊕ y) (sym (row-empty (leaf N.Data back))) ∙ sym (joined-append inside (loose_end (back, None))))
+wrapped-is : (s : Start) (inside : List Forest) (end : End) →
+    wrapped s.1 (joined inside) end ≡ joined (labelled s inside end)
+wrapped-is s inside (back, None) =
+    ap (λ x. leaf N.Data s.1 ⊕ x) (ap (λ y. joined inside ⊕ y) (sym (row-empty (leaf N.Data back))) ∙ sym (joined-append inside (loose_end (back, None))))
 wrapped-is s inside (back, Some outcome) = sym (row-empty (label_group outcome.0 s.1 (joined inside) back outcome.1))
 
 opened-is : (s : Start) (inside : List Forest) (more : List (End × List Forest))
@@ -85,7 +89,8 @@ abbrev pub finish : List (End × Forest) → Forest
 finish [] = empty
 finish (c ∷ more) = leaf N.Data c.0.0 ⊕ (c.1 ⊕ finish more)
 
-finish-is : (more : List (End × List Forest)) → joined (after_loose labelled loose_start loose_end more) ≡ finish (joins more)
+finish-is : (more : List (End × List Forest)) →
+    joined (after_loose labelled loose_start loose_end more) ≡ finish (joins more)
 finish-is [] = refl
 finish-is (c ∷ more) =
     ap (λ x. leaf N.Data c.0.0 ⊕ x) (joined-append c.1 (after_loose labelled loose_start loose_end more) ∙ ap (λ x. joined c.1 ⊕ x) (finish-is more))
@@ -105,9 +110,11 @@ closed (within o m y) x more = let r = opened m (y ⊕ x) more in closed o r.0 r
 
 closed-end : (o : Open) (x : Forest) → closed o x [] ≡ whole o ⊕ x
 closed-end (outside u) x = ap (λ y. u ⊕ y) (row-empty x)
-closed-end (within o m y) x = closed-end o (leaf N.Data m ⊕ (y ⊕ x)) ∙ ap (λ z. whole o ⊕ z) (sym (row-assoc (leaf N.Data m) y x)) ∙ sym (row-assoc (whole o) (leaf N.Data m ⊕ y) x)
+closed-end (within o m y) x =
+    closed-end o (leaf N.Data m ⊕ (y ⊕ x)) ∙ ap (λ z. whole o ⊕ z) (sym (row-assoc (leaf N.Data m) y x)) ∙ sym (row-assoc (whole o) (leaf N.Data m ⊕ y) x)
 
-closed-put : (t : Forest) (o : Open) (x : Forest) (more : List (End × Forest)) → closed o (t ⊕ x) more ≡ closed (put_row t o) x more
+closed-put : (t : Forest) (o : Open) (x : Forest) (more : List (End × Forest)) →
+    closed o (t ⊕ x) more ≡ closed (put_row t o) x more
 closed-put t (outside u) x more = ap (λ y. u ⊕ y) (row-assoc t x (finish more)) ∙ sym (row-assoc u t (x ⊕ finish more))
 closed-put t (within o m y) x more = ap (λ z. (let r = opened m z more in closed o r.0 r.1)) (sym (row-assoc y t x))
 
@@ -116,7 +123,8 @@ closed-made : (m : List Code) (o : Open) (y : Forest) (back : List Code) (outcom
 closed-made m o y back outcome x more =
     ap (λ z. closed o (label_group outcome.0 m z back outcome.1 ⊕ x) more) (row-empty y) ∙ closed-put (label_group outcome.0 m y back outcome.1) o x more
 
-closed-lost : (o : Open) (back : List Code) (x : Forest) (more : List (End × Forest)) → closed o empty (((back, None), x) ∷ more) ≡ closed (put_row (leaf N.Data back) (lost_row o)) x more
+closed-lost : (o : Open) (back : List Code) (x : Forest) (more : List (End × Forest)) →
+    closed o empty (((back, None), x) ∷ more) ≡ closed (put_row (leaf N.Data back) (lost_row o)) x more
 closed-lost (outside u) back x more = sym (row-assoc u (leaf N.Data back) (x ⊕ finish more))
 closed-lost (within o m y) back x more =
     let d : Forest = leaf N.Data m in
@@ -132,7 +140,8 @@ marks-onto : (ks : List LabelKind) (t : Forest) (r : Row) → AreMarksAt ks (tre
 marks-onto ks t (row_end u) h = tt
 marks-onto ks t (row_then u mark rest) h = h
 
-element-read : (es : List Element) (ks : List LabelKind) (o : Open) → IsFor ks o → AreMarksAt ks (row_of_elements es) → closed o (read (word_of es)).0 (read (word_of es)).1 ≡ whole (filled (row_of_elements es) o)
+element-read : (es : List Element) (ks : List LabelKind) (o : Open) → IsFor ks o → AreMarksAt ks (row_of_elements es) →
+    closed o (read (word_of es)).0 (read (word_of es)).1 ≡ whole (filled (row_of_elements es) o)
 element-read [] ks o h at = closed-end o empty ∙ sym (whole-put empty o)
 element-read (plain t ∷ es) ks o h at =
     let r : Found = read (word_of es) in
@@ -168,7 +177,8 @@ marks-whole ks (row_end t) h = tt
 marks-whole ks (row_then t mark rest) h = (h.0, marks-whole (kinds_past mark ks) rest h.1)
 
 -- the grouped tree of a row is cut as the tree of labels
-pub grouped-alike : (row : Row) (es : List Element) → IsRowAt [] row → split_row row ≡ split_row (row_of_elements es) → split (grouped (brackets_of row)) ≡ split (labels_of es)
+pub grouped-alike : (row : Row) (es : List Element) → IsRowAt [] row → split_row row ≡ split_row (row_of_elements es) →
+    split (grouped (brackets_of row)) ≡ split (labels_of es)
 grouped-alike row es at e =
     let marks : AreMarksAt [] row = marks-of [] row at in
     let others : AreMarksAt [] (row_of_elements es) = marks-whole [] (row_of_elements es) (subst (AreMarksAt []) e (marks-split [] row marks)) in

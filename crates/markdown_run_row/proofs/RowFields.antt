@@ -28,14 +28,16 @@ tree-cursor : (t : Forest) (T : Tokenizer) → (past_tree t T).cursor ≡ moved_
 unfolding past_tree past
 tree-cursor t T = refl
 
-mark-cursor : (ks : List LabelKind) (mark : Mark) (T : Tokenizer) → IsMarkAt ks mark → (past_mark mark T).cursor ≡ moved_by (mark_codes mark) T.cursor
+mark-cursor : (ks : List LabelKind) (mark : Mark) (T : Tokenizer) → IsMarkAt ks mark →
+    (past_mark mark T).cursor ≡ moved_by (mark_codes mark) T.cursor
 unfolding past_mark scratched
 mark-cursor ks (begins kind marker) T h = start-moves kind marker T h.0
 mark-cursor ks (makes back kind tail) T h = end-moves back kind tail T
 mark-cursor ks loses T h = refl
 
 -- the place behind a row
-pub row-cursor : (ks : List LabelKind) (row : Row) (T : Tokenizer) → IsRowAt ks row → (past_row row T).cursor ≡ moved_by (row_codes row) T.cursor
+pub row-cursor : (ks : List LabelKind) (row : Row) (T : Tokenizer) → IsRowAt ks row →
+    (past_row row T).cursor ≡ moved_by (row_codes row) T.cursor
 row-cursor ks (row_end t) T h = tree-cursor t T
 row-cursor ks (row_then t mark rest) T h =
     row-cursor (kinds_past mark ks) rest (past_mark mark (past_tree t T)) h.1.1
@@ -57,10 +59,12 @@ tree-input t T = refl
 
 pub row-input : (row : Row) (T : Tokenizer) → (past_row row T).parse_state ≡ T.parse_state
 row-input (row_end t) T = tree-input t T
-row-input (row_then t mark rest) T = row-input rest (past_mark mark (past_tree t T)) ∙ mark-input mark (past_tree t T) ∙ tree-input t T
+row-input (row_then t mark rest) T =
+    row-input rest (past_mark mark (past_tree t T)) ∙ mark-input mark (past_tree t T) ∙ tree-input t T
 
 -- behind a row the content is as before
-pub row-text : (ks : List LabelKind) (row : Row) (T : Tokenizer) → IsRowAt ks row → ReadsText T → ReadsText (past_row row T)
+pub row-text : (ks : List LabelKind) (row : Row) (T : Tokenizer) → IsRowAt ks row → ReadsText T →
+    ReadsText (past_row row T)
 row-text ks row T is h =
     let same : bytes_of (past_row row T) ≡ bytes_of T = ap (λ p. p.now.bytes.now) (row-input row T) in
     subst (λ (bs : List ℕ). IsText bs (past_row row T).cursor) (sym same) (subst (λ (p : Place). IsText (bytes_of T) p) (sym (row-cursor ks row T is)) (text-moved_by (bytes_of T) (row_codes row) T.cursor h))
@@ -72,7 +76,8 @@ abbrev pub relisted : TokenizeState → TokenizeState → TokenizeState
 relisted u s = record s { labels = u.labels; label_starts = u.label_starts; label_starts_loose = u.label_starts_loose }
 
 rest-same : (u s : TokenizeState) → u ≡ relisted u s → EndsRest s → EndsRest u
-rest-same u s e k = record { end = ap (λ (x : TokenizeState). x.end) e ∙ k.end; seen = ap (λ (x : TokenizeState). x.seen) e ∙ k.seen }
+rest-same u s e k =
+    record { end = ap (λ (x : TokenizeState). x.end) e ∙ k.end; seen = ap (λ (x : TokenizeState). x.seen) e ∙ k.seen }
 
 tree-fields : (t : Forest) (T : Tokenizer) → (past_tree t T).tokenize_state ≡ T.tokenize_state
 unfolding past_tree past
@@ -89,9 +94,12 @@ lost-relisted : (ls : List Kept.LabelStart) (s : TokenizeState) → EndsRest s �
 lost-relisted [] s k = refl
 lost-relisted (l ∷ ls) s k = λ i. record (relisted (lost_by (l ∷ ls) s) s) { end = sym k.end i; seen = sym k.seen i }
 
-mark-fields : (ks : List LabelKind) (mark : Mark) (T : Tokenizer) → kinds_of T ≡ ks → IsMarkAt ks mark → EndsRest T.tokenize_state → (let U : Tokenizer = past_mark mark T in U.tokenize_state ≡ relisted U.tokenize_state T.tokenize_state)
+mark-fields : (ks : List LabelKind) (mark : Mark) (T : Tokenizer) → kinds_of T ≡ ks → IsMarkAt ks mark →
+    EndsRest T.tokenize_state →
+    (let U : Tokenizer = past_mark mark T in U.tokenize_state ≡ relisted U.tokenize_state T.tokenize_state)
 unfolding past_mark end_made made past scratched
-mark-fields ks (begins kind marker) T e h k = scratch-before R.Label _ ∙ ap (λ (u : TokenizeState). relisted u T.tokenize_state) (sym (scratch-before R.Label _))
+mark-fields ks (begins kind marker) T e h k =
+    scratch-before R.Label _ ∙ ap (λ (u : TokenizeState). relisted u T.tokenize_state) (sym (scratch-before R.Label _))
 mark-fields ks (makes back kind tail) T e h k =
     scratch-before R.Label _
     ∙ labelled-fields kind T.tokenize_state.label_starts h.start h.before _ _ T.tokenize_state (e ∙ h.waits) k
@@ -102,8 +110,11 @@ both-relisted : (w u s : TokenizeState) → w ≡ relisted w u → u ≡ reliste
 both-relisted w u s e f = e ∙ ap (relisted w) f
 
 -- behind a row only the lists of labels have changed
-pub row-fields : (ks : List LabelKind) (row : Row) (T : Tokenizer) → kinds_of T ≡ ks → IsRowAt ks row → EndsRest T.tokenize_state → (let U : Tokenizer = past_row row T in U.tokenize_state ≡ relisted U.tokenize_state T.tokenize_state)
-row-fields ks (row_end t) T e h k = tree-fields t T ∙ ap (λ (u : TokenizeState). relisted u T.tokenize_state) (sym (tree-fields t T))
+pub row-fields : (ks : List LabelKind) (row : Row) (T : Tokenizer) → kinds_of T ≡ ks → IsRowAt ks row →
+    EndsRest T.tokenize_state →
+    (let U : Tokenizer = past_row row T in U.tokenize_state ≡ relisted U.tokenize_state T.tokenize_state)
+row-fields ks (row_end t) T e h k =
+    tree-fields t T ∙ ap (λ (u : TokenizeState). relisted u T.tokenize_state) (sym (tree-fields t T))
 row-fields ks (row_then t mark rest) T e h k =
     let A : Tokenizer = past_tree t T in
     let B : Tokenizer = past_mark mark A in
@@ -116,12 +127,15 @@ row-fields ks (row_then t mark rest) T e h k =
 -- The kept starts go on ending between characters.
 
 -- past a tree
-pub tree-within : (t : Forest) (T : Tokenizer) → AreWithin T T.tokenize_state.label_starts → AreWithin (past_tree t T) (past_tree t T).tokenize_state.label_starts
+pub tree-within : (t : Forest) (T : Tokenizer) → AreWithin T T.tokenize_state.label_starts →
+    AreWithin (past_tree t T) (past_tree t T).tokenize_state.label_starts
 unfolding past_tree past
 tree-within t T k = within-grown T (past_tree t T) _ refl refl T.tokenize_state.label_starts k
 
 -- past an end that makes a label
-pub made-within : (back : List Code) (kind : LabelKind) (tail : Forest) (T : Tokenizer) → AreWithin T T.tokenize_state.label_starts → (let U : Tokenizer = past_mark (makes back kind tail) T in AreWithin U U.tokenize_state.label_starts)
+pub made-within : (back : List Code) (kind : LabelKind) (tail : Forest) (T : Tokenizer) →
+    AreWithin T T.tokenize_state.label_starts →
+    (let U : Tokenizer = past_mark (makes back kind tail) T in AreWithin U U.tokenize_state.label_starts)
 unfolding past_mark
 made-within back kind tail T k =
     let U : Tokenizer = end_made back kind tail T in
@@ -129,6 +143,8 @@ made-within back kind tail T k =
     (within-grown T U _ (ap (λ p. p.now.bytes.now) (mark-input (makes back kind tail) T)) (end-events back kind tail T) _ (within-barred T kind _ (within-rest T T.tokenize_state.label_starts k)))
 
 -- past one that makes none
-pub lost-within : (T : Tokenizer) → AreWithin T T.tokenize_state.label_starts → (let U : Tokenizer = past_mark loses T in AreWithin U U.tokenize_state.label_starts)
+pub lost-within : (T : Tokenizer) → AreWithin T T.tokenize_state.label_starts →
+    (let U : Tokenizer = past_mark loses T in AreWithin U U.tokenize_state.label_starts)
 unfolding past_mark scratched
-lost-within T k = subst (λ ls. AreWithin (past_mark loses T) ls) (sym (lost-starts T)) (within-grown T (past_mark loses T) [] refl (sym (append-nil T.events)) _ (within-rest T T.tokenize_state.label_starts k))
+lost-within T k =
+    subst (λ ls. AreWithin (past_mark loses T) ls) (sym (lost-starts T)) (within-grown T (past_mark loses T) [] refl (sym (append-nil T.events)) _ (within-rest T T.tokenize_state.label_starts k))

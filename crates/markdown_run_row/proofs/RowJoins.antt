@@ -21,20 +21,24 @@ HasLines-row (group_then n a b inside rest) u h k = (h.0, (h.1.0, HasLines-row r
 
 -- Past a tree and then a row.
 
-pub past-onto : (t : Forest) (q : Row) (T : Tokenizer) → last_link (length T.events) None t ≡ None → past_row q (past_tree t T) ≡ past_row (tree_onto t q) T
+pub past-onto : (t : Forest) (q : Row) (T : Tokenizer) → last_link (length T.events) None t ≡ None →
+    past_row q (past_tree t T) ≡ past_row (tree_onto t q) T
 past-onto t (row_end u) T e = past-both t u T e
 past-onto t (row_then u mark rest) T e = ap (λ (x : Tokenizer). past_row rest (past_mark mark x)) (past-both t u T e)
 
 -- one row and then another
-pub past-joined : (ks : List LabelKind) (r q : Row) (T : Tokenizer) → IsRowAt ks r → past_row q (past_row r T) ≡ past_row (joined_rows r q) T
+pub past-joined : (ks : List LabelKind) (r q : Row) (T : Tokenizer) → IsRowAt ks r →
+    past_row q (past_row r T) ≡ past_row (joined_rows r q) T
 past-joined ks (row_end t) q T h = past-onto t q T (h.apart (length T.events))
-past-joined ks (row_then t mark rest) q T h = past-joined (kinds_past mark ks) rest q (past_mark mark (past_tree t T)) h.1.1
+past-joined ks (row_then t mark rest) q T h =
+    past-joined (kinds_past mark ks) rest q (past_mark mark (past_tree t T)) h.1.1
 
 -- The codes of rows.
 
 pub codes-onto : (t : Forest) (q : Row) → row_codes (tree_onto t q) ≡ leaf_codes t ++ row_codes q
 codes-onto t (row_end u) = leaf_codes-row t u
-codes-onto t (row_then u mark rest) = ap (λ xs. xs ++ (mark_codes mark ++ row_codes rest)) (leaf_codes-row t u) ∙ append_assoc (leaf_codes t) (leaf_codes u) (mark_codes mark ++ row_codes rest)
+codes-onto t (row_then u mark rest) =
+    ap (λ xs. xs ++ (mark_codes mark ++ row_codes rest)) (leaf_codes-row t u) ∙ append_assoc (leaf_codes t) (leaf_codes u) (mark_codes mark ++ row_codes rest)
 
 pub codes-joined : (r q : Row) → row_codes (joined_rows r q) ≡ row_codes r ++ row_codes q
 codes-joined (row_end t) q = codes-onto t q
@@ -63,16 +67,19 @@ onto-joined t (row_then u mark rest) q = refl
 
 -- Which rows runs leave.
 
-row-apart : (t u : Forest) (n : ℕ) → ((n : ℕ) → last_link n None t ≡ None) → ((n : ℕ) → last_link n None u ≡ None) → last_link n None (t ⊕ u) ≡ None
+row-apart : (t u : Forest) (n : ℕ) → ((n : ℕ) → last_link n None t ≡ None) → ((n : ℕ) → last_link n None u ≡ None) →
+    last_link n None (t ⊕ u) ≡ None
 row-apart t u n h k = last-join n None t u ∙ ap (λ q. last_link (n + event_count t) q u) (h n) ∙ k (n + event_count t)
 
 pub part-row : (t u : Forest) → IsPart t → IsPart u → IsPart (t ⊕ u)
-part-row t u h k = record { lines = HasLines-row t u h.lines k.lines; outer = outer-row t u h.outer k.outer; apart = λ n. row-apart t u n h.apart k.apart }
+part-row t u h k =
+    record { lines = HasLines-row t u h.lines k.lines; outer = outer-row t u h.outer k.outer; apart = λ n. row-apart t u n h.apart k.apart }
 
 pub row-onto : (ks : List LabelKind) (t : Forest) (q : Row) → IsPart t → IsRowAt ks q → IsRowAt ks (tree_onto t q)
 row-onto ks t (row_end u) h k = part-row t u h k
 row-onto ks t (row_then u mark rest) h k = (part-row t u h k.0, k.1)
 
-pub row-joined : (ks : List LabelKind) (r q : Row) → IsRowAt ks r → IsRowAt (kinds_after r ks) q → IsRowAt ks (joined_rows r q)
+pub row-joined : (ks : List LabelKind) (r q : Row) → IsRowAt ks r → IsRowAt (kinds_after r ks) q →
+    IsRowAt ks (joined_rows r q)
 row-joined ks (row_end t) q h k = row-onto ks t q h k
 row-joined ks (row_then t mark rest) q h k = (h.0, (h.1.0, row-joined (kinds_past mark ks) rest q h.1.1 k))

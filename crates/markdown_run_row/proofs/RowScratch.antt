@@ -51,7 +51,8 @@ passes-labels true false = refl
 passes-labels false true = refl
 passes-labels false false = refl
 
-by-before : (b : Bool) (T : Tokenizer) → (if b then T else record T { resolvers = R.Label ∷ T.resolvers }) ≡ record T { resolvers = if b then T.resolvers else R.Label ∷ T.resolvers }
+by-before : (b : Bool) (T : Tokenizer) →
+    (if b then T else record T { resolvers = R.Label ∷ T.resolvers }) ≡ record T { resolvers = if b then T.resolvers else R.Label ∷ T.resolvers }
 by-before true T = refl
 by-before false T = refl
 
@@ -90,7 +91,8 @@ module _ (a b : Bool) (cs : List Code) (T U : Tokenizer) (h : IsPast a b cs T U)
       record { same = λ i. record (h.same i) { events = es; cursor = (place ∙ past-cursor ds) i; resolvers = passes i; tokenize_state = s }; fields = fields ∙ h.fields; end = end; seen = seen } in
       subst (IsPast (a || true) b (cs ++ ds) T) (sym (before-is V)) is
 
-  rest-lost : (s : TokenizeState) → unlabelled s ≡ unlabelled U.tokenize_state → s.end ≡ 0 → s.seen ≡ false → IsPast (a || false) b (cs ++ []) T (scratched s U)
+  rest-lost : (s : TokenizeState) → unlabelled s ≡ unlabelled U.tokenize_state → s.end ≡ 0 → s.seen ≡ false →
+      IsPast (a || false) b (cs ++ []) T (scratched s U)
   unfolding scratched
   rest-lost s fields end seen = record {
     same = λ i. record (h.same i) { cursor = past-cursor [] i; resolvers = (ap (λ (W : Tokenizer). W.resolvers) h.same ∙ ap (λ x. passes_of x b) (or-nothing a)) i; tokenize_state = s };
@@ -104,7 +106,8 @@ module _ (a b : Bool) (cs : List Code) (T U : Tokenizer) (h : IsPast a b cs T U)
 abbrev kinds : List LabelStart → List LabelKind
 kinds ls = map (λ (l : LabelStart). l.kind) ls
 
-kinds-if : (b : Bool) (l m : LabelStart) (ls ms : List LabelStart) → m.kind ≡ l.kind → kinds ms ≡ kinds ls → kinds (if b then l ∷ ls else m ∷ ms) ≡ kinds (l ∷ ls)
+kinds-if : (b : Bool) (l m : LabelStart) (ls ms : List LabelStart) → m.kind ≡ l.kind → kinds ms ≡ kinds ls →
+    kinds (if b then l ∷ ls else m ∷ ms) ≡ kinds (l ∷ ls)
 kinds-if true l m ls ms e h = refl
 kinds-if false l m ls ms e h = λ i. e i ∷ h i
 
@@ -116,22 +119,26 @@ kinds-barred : (b : Bool) (ls : List LabelStart) → kinds (if b then ls else ma
 kinds-barred true ls = refl
 kinds-barred false ls = kinds-marked ls
 
-kinds-made : (kind : LabelKind) (ls : List LabelStart) (last n : ℕ) (s : TokenizeState) → kinds (labelled (with_kind kind ls) last (starts_set (with_kind kind ls) (ended_at n s))).label_starts ≡ rest_of (kinds ls)
+kinds-made : (kind : LabelKind) (ls : List LabelStart) (last n : ℕ) (s : TokenizeState) →
+    kinds (labelled (with_kind kind ls) last (starts_set (with_kind kind ls) (ended_at n s))).label_starts ≡ rest_of (kinds ls)
 kinds-made kind [] last n s = refl
 kinds-made kind (l ∷ ls) last n s = kinds-barred (is_image kind) ls
 
-kinds-lost-by : (b : Bool) (l : LabelStart) (ls : List LabelStart) (s : TokenizeState) → kinds (loosened (if b then l ∷ ls else as_link (l ∷ ls)) s).label_starts ≡ kinds ls
+kinds-lost-by : (b : Bool) (l : LabelStart) (ls : List LabelStart) (s : TokenizeState) →
+    kinds (loosened (if b then l ∷ ls else as_link (l ∷ ls)) s).label_starts ≡ kinds ls
 kinds-lost-by true l ls s = refl
 kinds-lost-by false l ls s = refl
 
-kinds-lost : (s : TokenizeState) (ls : List LabelStart) → s.label_starts ≡ ls → kinds (lost_by ls s).label_starts ≡ rest_of (kinds ls)
+kinds-lost : (s : TokenizeState) (ls : List LabelStart) → s.label_starts ≡ ls →
+    kinds (lost_by ls s).label_starts ≡ rest_of (kinds ls)
 kinds-lost s [] e = ap kinds e
 kinds-lost s (l ∷ ls) e = kinds-lost-by (bars l) l ls s
 
 pub kinds-mark : (mark : Mark) (T : Tokenizer) → kinds_of (past_mark mark T) ≡ kinds_past mark (kinds_of T)
 unfolding past past_mark scratched made end_made
 kinds-mark (begins kind marker) T = ap (λ s. kinds s.label_starts) (scratch-before R.Label _)
-kinds-mark (makes back kind tail) T = ap (λ s. kinds s.label_starts) (scratch-before R.Label _) ∙ kinds-made kind T.tokenize_state.label_starts _ _ T.tokenize_state
+kinds-mark (makes back kind tail) T =
+    ap (λ s. kinds s.label_starts) (scratch-before R.Label _) ∙ kinds-made kind T.tokenize_state.label_starts _ _ T.tokenize_state
 kinds-mark loses T = kinds-lost T.tokenize_state T.tokenize_state.label_starts refl
 
 pub kinds-tree : (t : Forest) (T : Tokenizer) → kinds_of (past_tree t T) ≡ kinds_of T
@@ -140,7 +147,8 @@ kinds-tree t T = refl
 
 pub kinds-row : (row : Row) (T : Tokenizer) → kinds_of (past_row row T) ≡ kinds_after row (kinds_of T)
 kinds-row (row_end t) T = kinds-tree t T
-kinds-row (row_then t mark rest) T = kinds-row rest (past_mark mark (past_tree t T)) ∙ ap (kinds_after rest) (kinds-mark mark (past_tree t T) ∙ ap (kinds_past mark) (kinds-tree t T))
+kinds-row (row_then t mark rest) T =
+    kinds-row rest (past_mark mark (past_tree t T)) ∙ ap (kinds_after rest) (kinds-mark mark (past_tree t T) ∙ ap (kinds_past mark) (kinds-tree t T))
 
 -- A mark.
 
@@ -149,16 +157,21 @@ record IsRested (s V : TokenizeState) : Type 0 where
   end : V.end ≡ 0
   seen : V.seen ≡ false
 
-made-rests : (kind : LabelKind) (ls : List LabelStart) (k : LabelKind) (ks : List LabelKind) (last n : ℕ) (s : TokenizeState) → kinds ls ≡ k ∷ ks → s.end ≡ 0 → s.seen ≡ false → IsRested s (labelled (with_kind kind ls) last (starts_set (with_kind kind ls) (ended_at n s)))
+made-rests : (kind : LabelKind) (ls : List LabelStart) (k : LabelKind) (ks : List LabelKind) (last n : ℕ) (s : TokenizeState) →
+    kinds ls ≡ k ∷ ks → s.end ≡ 0 → s.seen ≡ false →
+    IsRested s (labelled (with_kind kind ls) last (starts_set (with_kind kind ls) (ended_at n s)))
 made-rests kind [] k ks last n s e end seen = absurd (no-kinds k ks e)
-made-rests kind (l ∷ ls) k ks last n s e end seen = record { fields = λ i. record (unlabelled s) { end = sym end i }; end = refl; seen = seen }
+made-rests kind (l ∷ ls) k ks last n s e end seen =
+    record { fields = λ i. record (unlabelled s) { end = sym end i }; end = refl; seen = seen }
 
 lost-rests : (ls : List LabelStart) (s : TokenizeState) → s.end ≡ 0 → s.seen ≡ false → IsRested s (lost_by ls s)
 lost-rests [] s end seen = record { fields = refl; end = end; seen = seen }
-lost-rests (l ∷ ls) s end seen = record { fields = λ i. record (unlabelled s) { end = sym end i; seen = sym seen i }; end = refl; seen = refl }
+lost-rests (l ∷ ls) s end seen =
+    record { fields = λ i. record (unlabelled s) { end = sym end i; seen = sym seen i }; end = refl; seen = refl }
 
 module _ (a b : Bool) (cs : List Code) (T U : Tokenizer) (h : IsPast a b cs T U) where
-  rest-mark : (mark : Mark) → IsMarkAt (kinds_of U) mark → IsPast (a || registers mark) b (cs ++ mark_codes mark) T (past_mark mark U)
+  rest-mark : (mark : Mark) → IsMarkAt (kinds_of U) mark →
+      IsPast (a || registers mark) b (cs ++ mark_codes mark) T (past_mark mark U)
   unfolding past past_mark scratched made end_made
   rest-mark (begins kind marker) at =
       let t : Forest = start_tree kind marker in
@@ -169,12 +182,16 @@ module _ (a b : Bool) (cs : List Code) (T U : Tokenizer) (h : IsPast a b cs T U)
       ap (λ ds. moved_by (leaf_codes tail) (moved_by ds U.cursor)) codes ∙ sym (moved_by-append back (leaf_codes tail) U.cursor) in
       let r = made-rests kind U.tokenize_state.label_starts at.start at.before _ _ U.tokenize_state at.waits h.end h.seen in
       rest-labels a b cs T U h (back ++ leaf_codes tail) _ _ _ place r.fields r.end r.seen
-  rest-mark loses at = let r = lost-rests U.tokenize_state.label_starts U.tokenize_state h.end h.seen in rest-lost a b cs T U h (lost_by U.tokenize_state.label_starts U.tokenize_state) r.fields r.end r.seen
+  rest-mark loses at =
+      let r = lost-rests U.tokenize_state.label_starts U.tokenize_state h.end h.seen in rest-lost a b cs T U h (lost_by U.tokenize_state.label_starts U.tokenize_state) r.fields r.end r.seen
 
 -- A row.
 
-pub row-rest : (row : Row) (a b : Bool) (cs : List Code) (T U : Tokenizer) → IsPast a b cs T U → IsRowAt (kinds_of U) row → IsPast (a || row_registers row) (b || row_has_run row) (cs ++ row_codes row) T (past_row row U)
-row-rest (row_end t) a b cs T U h at = subst (λ x. IsPast x (b || has_run t) (cs ++ leaf_codes t) T (past_tree t U)) (or-nothing a) (rest-tree a b cs T U h t)
+pub row-rest : (row : Row) (a b : Bool) (cs : List Code) (T U : Tokenizer) → IsPast a b cs T U →
+    IsRowAt (kinds_of U) row →
+    IsPast (a || row_registers row) (b || row_has_run row) (cs ++ row_codes row) T (past_row row U)
+row-rest (row_end t) a b cs T U h at =
+    subst (λ x. IsPast x (b || has_run t) (cs ++ leaf_codes t) T (past_tree t U)) (or-nothing a) (rest-tree a b cs T U h t)
 row-rest (row_then t mark rest) a b cs T U h at =
     let V : Tokenizer = past_tree t U in
     let W : Tokenizer = past_mark mark V in
@@ -189,7 +206,8 @@ row-rest (row_then t mark rest) a b cs T U h at =
     (subst (λ ds. IsPast ((a || registers mark) || row_registers rest) ((b || has_run t) || row_has_run rest) ds T (past_row rest W)) codes three))
 
 -- from a run's start on
-pub past-rest : (row : Row) (T : Tokenizer) → IsRowAt [] row → IsFresh T → T.resolvers ≡ [] → IsPast (row_registers row) (row_has_run row) (row_codes row) T (past_row row T)
+pub past-rest : (row : Row) (T : Tokenizer) → IsRowAt [] row → IsFresh T → T.resolvers ≡ [] →
+    IsPast (row_registers row) (row_has_run row) (row_codes row) T (past_row row T)
 past-rest row T at h none =
     let start : IsPast false false [] T T = record { same = λ i. record T { resolvers = none i }; fields = refl; end = h.end; seen = h.seen } in
     row-rest row false false [] T T start (subst (λ ks. IsRowAt ks row) (sym (ap kinds h.starts)) at)

@@ -50,8 +50,10 @@ module _ (P : Forest → Type 0) (Fit : List Code → Type 0) (k : IsKept P Fit)
   grouped-kept n x e h = k.one_group n (enter_of x) (exit_after (enter_of x) x) x e h
 
   start-kept : (kind : LabelKind) (cs : List Code) → P (start_tree kind cs)
-  start-kept LabelKind.Image cs = grouped-kept N.LabelImage _ refl (k.row _ _ (k.one_leaf N.LabelImageMarker (take 1 cs) refl) (k.one_leaf N.LabelMarker (drop 1 cs) refl))
-  start-kept LabelKind.GfmFootnote cs = grouped-kept N.GfmFootnoteCallLabel _ refl (k.row _ _ (k.one_leaf N.LabelMarker (take 1 cs) refl) (k.one_leaf N.GfmFootnoteCallMarker (drop 1 cs) refl))
+  start-kept LabelKind.Image cs =
+      grouped-kept N.LabelImage _ refl (k.row _ _ (k.one_leaf N.LabelImageMarker (take 1 cs) refl) (k.one_leaf N.LabelMarker (drop 1 cs) refl))
+  start-kept LabelKind.GfmFootnote cs =
+      grouped-kept N.GfmFootnoteCallLabel _ refl (k.row _ _ (k.one_leaf N.LabelMarker (take 1 cs) refl) (k.one_leaf N.GfmFootnoteCallMarker (drop 1 cs) refl))
   start-kept LabelKind.Link cs = grouped-kept N.LabelLink _ refl (k.one_leaf N.LabelMarker cs refl)
   start-kept LabelKind.GfmUndefinedFootnote cs = grouped-kept N.LabelLink _ refl (k.one_leaf N.LabelMarker cs refl)
 
@@ -61,7 +63,8 @@ module _ (P : Forest → Type 0) (Fit : List Code → Type 0) (k : IsKept P Fit)
   name-plain LabelKind.Link = refl
   name-plain LabelKind.GfmUndefinedFootnote = refl
 
-  pub label-kept : (kind : LabelKind) (marker : List Code) (inside : Forest) (back : List Code) (tail : Forest) → Fit marker → P inside → P tail → P (label_group kind marker inside back tail)
+  pub label-kept : (kind : LabelKind) (marker : List Code) (inside : Forest) (back : List Code) (tail : Forest) →
+      Fit marker → P inside → P tail → P (label_group kind marker inside back tail)
   label-kept kind marker inside back tail fit h t =
       let front : List Code = start_marker kind marker in
       let caret : Forest = leaf N.Data (drop (length front) marker) in
@@ -80,7 +83,8 @@ module _ (P : Forest → Type 0) (Fit : List Code → Type 0) (k : IsKept P Fit)
 
   whole-kept : (o : Open) → IsKeptIn o → P (whole o)
   whole-kept (outside u) h = h
-  whole-kept (within o m x) h = k.row (whole o) (leaf N.Data m ⊕ x) (whole-kept o h.0) (k.row (leaf N.Data m) x (k.some_data m h.1.0) h.1.1)
+  whole-kept (within o m x) h =
+      k.row (whole o) (leaf N.Data m ⊕ x) (whole-kept o h.0) (k.row (leaf N.Data m) x (k.some_data m h.1.0) h.1.1)
 
   put-kept : (t : Forest) (o : Open) → P t → IsKeptIn o → IsKeptIn (put_row t o)
   put-kept t (outside u) h i = k.row u t i h
@@ -98,16 +102,20 @@ module _ (P : Forest → Type 0) (Fit : List Code → Type 0) (k : IsKept P Fit)
   marked-kept : (mark : Mark) (o : Open) → IsMarkKept mark → IsKeptIn o → IsKeptIn (marked_row mark o)
   marked-kept (begins kind marker) o h i = (i, (h, k.nil))
   marked-kept (makes back kind tail) (outside u) h i = i
-  marked-kept (makes back kind tail) (within o m x) h i = put-kept (label_group kind m x back tail) o (label-kept kind m x back tail i.1.0 i.1.1 h) i.0
+  marked-kept (makes back kind tail) (within o m x) h i =
+      put-kept (label_group kind m x back tail) o (label-kept kind m x back tail i.1.0 i.1.1 h) i.0
   marked-kept loses (outside u) h i = i
-  marked-kept loses (within o m x) h i = put-kept (leaf N.Data m ⊕ x) o (k.row (leaf N.Data m) x (k.some_data m i.1.0) i.1.1) i.0
+  marked-kept loses (within o m x) h i =
+      put-kept (leaf N.Data m ⊕ x) o (k.row (leaf N.Data m) x (k.some_data m i.1.0) i.1.1) i.0
 
   filled-kept : (row : Row) (o : Open) → IsRowKept row → IsKeptIn o → IsKeptIn (filled row o)
   filled-kept (row_end t) o h i = put-kept t o h i
-  filled-kept (row_then t mark rest) o h i = filled-kept rest (marked_row mark (put_row t o)) h.1.1 (marked-kept mark (put_row t o) h.1.0 (put-kept t o h.0 i))
+  filled-kept (row_then t mark rest) o h i =
+      filled-kept rest (marked_row mark (put_row t o)) h.1.1 (marked-kept mark (put_row t o) h.1.0 (put-kept t o h.0 i))
 
   pub row-kept : (row : Row) → AreMarksAt [] row → IsRowKept row → P (grouped (brackets_of row))
-  row-kept row at h = subst P (sym (grouped-filled row at)) (whole-kept (filled_from_start row) (filled-kept row (outside empty) h k.nil))
+  row-kept row at h =
+      subst P (sym (grouped-filled row at)) (whole-kept (filled_from_start row) (filled-kept row (outside empty) h k.nil))
 
 -- Data on single lines.
 
@@ -197,7 +205,8 @@ runless-kept = record {
   one_group = λ n p q x e h. (h, tt);
 }
 
-row-runless : (ks : List LabelKind) (row : Row) → IsRowAt ks row → row_has_run row ≡ false → IsRowKept IsRunless IsAny runless-kept row
+row-runless : (ks : List LabelKind) (row : Row) → IsRowAt ks row → row_has_run row ≡ false →
+    IsRowKept IsRunless IsAny runless-kept row
 row-runless ks (row_end t) h e = outer-runless t h.outer e
 row-runless ks (row_then t mark rest) h e =
     let p = or_parts (has_run t) (row_has_run rest) e in
@@ -235,14 +244,17 @@ codes-lost : (o : Open) → codes_in (lost_row o) ≡ codes_in o
 codes-lost (outside u) = refl
 codes-lost (within o m x) = ap leaf_codes (whole-put (leaf N.Data m ⊕ x) o)
 
-codes-marked : (ks : List LabelKind) (mark : Mark) (o : Open) → IsMarkAt ks mark → IsFor ks o → codes_in (marked_row mark o) ≡ codes_in o ++ mark_codes mark
-codes-marked ks (begins kind marker) o at h = codes-within o marker empty ∙ ap (λ cs. codes_in o ++ cs) (append-nil marker)
+codes-marked : (ks : List LabelKind) (mark : Mark) (o : Open) → IsMarkAt ks mark → IsFor ks o →
+    codes_in (marked_row mark o) ≡ codes_in o ++ mark_codes mark
+codes-marked ks (begins kind marker) o at h =
+    codes-within o marker empty ∙ ap (λ cs. codes_in o ++ cs) (append-nil marker)
 codes-marked [] (makes back kind tail) o at h = absurd (not-made back kind tail at)
 codes-marked (k ∷ ks) (makes back kind tail) (outside u) at h = absurd h
 codes-marked (k ∷ ks) (makes back kind tail) (within o m x) at h = codes-made back kind tail o m x
 codes-marked ks loses o at h = codes-lost o ∙ sym (append-nil (codes_in o))
 
-codes-filled : (ks : List LabelKind) (row : Row) (o : Open) → AreMarksAt ks row → IsFor ks o → codes_in (filled row o) ≡ codes_in o ++ row_codes row
+codes-filled : (ks : List LabelKind) (row : Row) (o : Open) → AreMarksAt ks row → IsFor ks o →
+    codes_in (filled row o) ≡ codes_in o ++ row_codes row
 codes-filled ks (row_end t) o at h = codes-put t o
 codes-filled ks (row_then t mark rest) o at h =
     let p : Open = put_row t o in
@@ -252,7 +264,8 @@ codes-filled ks (row_then t mark rest) o at h =
     ∙ append_assoc (codes_in o) (leaf_codes t) (mark_codes mark ++ row_codes rest)
 
 pub grouped-codes : (row : Row) → IsRowAt [] row → leaf_codes (grouped (brackets_of row)) ≡ row_codes row
-grouped-codes row at = let marks : AreMarksAt [] row = marks-of [] row at in ap leaf_codes (grouped-filled row marks) ∙ codes-filled [] row (outside empty) marks tt
+grouped-codes row at =
+    let marks : AreMarksAt [] row = marks-of [] row at in ap leaf_codes (grouped-filled row marks) ∙ codes-filled [] row (outside empty) marks tt
 
 -- No data without codes.
 
@@ -278,23 +291,27 @@ abbrev HasFoundCodes : Found → Type 0
 HasFoundCodes r = HasCodes r.0 × HaveEndCodes r.1
 
 wrapped-codes : (m : List Code) (x : Forest) (end : End) → HasCodes x → HasEndCodes end → HasCodes (wrapped m x end)
-wrapped-codes m x (back, None) h k = has-join (leaf N.Data m) (x ⊕ leaf N.Data back) (has-leaf N.Data m) (has-join x (leaf N.Data back) h (has-leaf N.Data back))
+wrapped-codes m x (back, None) h k =
+    has-join (leaf N.Data m) (x ⊕ leaf N.Data back) (has-leaf N.Data m) (has-join x (leaf N.Data back) h (has-leaf N.Data back))
 wrapped-codes m x (back, Some outcome) h k = label-kept HasCodes IsAny codes-kept outcome.0 m x back outcome.1 tt h k
 
-opened-codes : (m : List Code) (x : Forest) (more : List (End × Forest)) → HasCodes x → HaveEndCodes more → HasFoundCodes (opened m x more)
+opened-codes : (m : List Code) (x : Forest) (more : List (End × Forest)) → HasCodes x → HaveEndCodes more →
+    HasFoundCodes (opened m x more)
 opened-codes m x [] h k = (has-join (leaf N.Data m) x (has-leaf N.Data m) h, tt)
 opened-codes m x (c ∷ more) h k = (has-join (wrapped m x c.0) c.1 (wrapped-codes m x c.0 h k.0) k.1.0, k.1.1)
 
 read-codes : (es : List Element) → HaveCodes es → HasFoundCodes (read (word_of es))
 read-codes [] h = (tt, tt)
 read-codes (plain t ∷ es) h = let r = read-codes es h.1 in (has-join t (read (word_of es)).0 h.0 r.0, r.1)
-read-codes (starts kind marker ∷ es) h = let r = read-codes es h.1 in opened-codes marker (read (word_of es)).0 (read (word_of es)).1 r.0 r.1
+read-codes (starts kind marker ∷ es) h =
+    let r = read-codes es h.1 in opened-codes marker (read (word_of es)).0 (read (word_of es)).1 r.0 r.1
 read-codes (ends back None ∷ es) h = let r = read-codes es h.1 in (tt, (tt, (r.0, r.1)))
 read-codes (ends back (Some outcome) ∷ es) h = let r = read-codes es h.1 in (tt, (h.0, (r.0, r.1)))
 
 finish-codes : (more : List (End × Forest)) → HaveEndCodes more → HasCodes (finish more)
 finish-codes [] h = tt
-finish-codes (c ∷ more) h = has-join (leaf N.Data c.0.0) (c.1 ⊕ finish more) (has-leaf N.Data c.0.0) (has-join c.1 (finish more) h.1.0 (finish-codes more h.1.1))
+finish-codes (c ∷ more) h =
+    has-join (leaf N.Data c.0.0) (c.1 ⊕ finish more) (has-leaf N.Data c.0.0) (has-join c.1 (finish more) h.1.0 (finish-codes more h.1.1))
 
 -- no data of the tree of labels is empty where none of the elements is
 pub codes-labels : (es : List Element) → HaveCodes es → HasCodes (labels_of es)

@@ -8,10 +8,13 @@ use Rattle.markdown_run_row.specs.RowStart.{row_registers}
 use Rattle.markdown_run_row.specs.OpenStarts.{none_waits, assembled, opened_by, brackets_of}
 use Rattle.markdown_run_row.specs.Row.{begins, makes, loses, Row, row_end, row_then}
 
-flat-put : (b : Brackets) (t : Forest) → flat b ≡ grouped b → flat (behind b (tree_then t nothing)) ≡ grouped (behind b (tree_then t nothing))
-flat-put b t e = flat-behind b (tree_then t nothing) ∙ ap (λ x. x ⊕ (t ⊕ empty)) e ∙ sym (grouped-behind b (tree_then t nothing))
+flat-put : (b : Brackets) (t : Forest) → flat b ≡ grouped b →
+    flat (behind b (tree_then t nothing)) ≡ grouped (behind b (tree_then t nothing))
+flat-put b t e =
+    flat-behind b (tree_then t nothing) ∙ ap (λ x. x ⊕ (t ⊕ empty)) e ∙ sym (grouped-behind b (tree_then t nothing))
 
-flat-opened : (row : Row) (b : Brackets) → row_registers row ≡ false → flat b ≡ grouped b → flat (assembled (opened_by row (none_waits b))) ≡ grouped (assembled (opened_by row (none_waits b)))
+flat-opened : (row : Row) (b : Brackets) → row_registers row ≡ false → flat b ≡ grouped b →
+    flat (assembled (opened_by row (none_waits b))) ≡ grouped (assembled (opened_by row (none_waits b)))
 flat-opened (row_end t) b none e = flat-put b t e
 flat-opened (row_then t (begins kind marker) rest) b none e = cc
 flat-opened (row_then t (makes back kind tail) rest) b none e = cc

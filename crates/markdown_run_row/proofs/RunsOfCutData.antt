@@ -15,7 +15,9 @@ unfolding rows_inside
 each-rows s [] t = refl
 each-rows s (c ∷ cs) t = each-rows s cs t
 
-leaf-rows : (s : Setting) (name : Name) (link : Option Content) (cs : List Code) (rest : Forest) → rows_inside s (split rest) ≡ rows_inside s rest → rows_inside s (split (leaf_then name link cs rest)) ≡ rows_inside s rest
+leaf-rows : (s : Setting) (name : Name) (link : Option Content) (cs : List Code) (rest : Forest) →
+    rows_inside s (split rest) ≡ rows_inside s rest →
+    rows_inside s (split (leaf_then name link cs rest)) ≡ rows_inside s rest
 unfolding rows_inside
 leaf-rows s N.Data None cs rest h = each-rows s cs (split rest) ∙ h
 leaf-rows s N.Data (Some c) cs rest h = h
@@ -25,7 +27,8 @@ rows-split : (s : Setting) (t : Forest) → rows_inside s (split t) ≡ rows_ins
 unfolding rows_inside
 rows-split s empty = refl
 rows-split s (leaf_then name link cs rest) = leaf-rows s name link cs rest (rows-split s rest)
-rows-split s (group_then name a b inside rest) = λ i. (runs-split s inside i ∷ rows-split s inside i) ++ rows-split s rest i
+rows-split s (group_then name a b inside rest) =
+    λ i. (runs-split s inside i ∷ rows-split s inside i) ++ rows-split s rest i
 
 containers-split : (s : Setting) (t : Forest) → containers_of s (split t) ≡ containers_of s t
 unfolding containers_of

@@ -16,12 +16,15 @@ neither true b h = h
 neither false true h = h
 neither false false h = refl
 
-spans-absent : (cs : List Code) → last_where marks_span cs ≡ None → list_any (λ (c : Code). is_asked span_markers c.value) cs ≡ false
+spans-absent : (cs : List Code) → last_where marks_span cs ≡ None →
+    list_any (λ (c : Code). is_asked span_markers c.value) cs ≡ false
 spans-absent [] h = refl
 spans-absent (c ∷ cs) h =
     let k = later-none (last_where marks_span cs) (marks_span (c ∷ cs)) h in
     or_from (is_asked span_markers c.value) (list_any (λ (d : Code). is_asked span_markers d.value) cs) (neither (c.value == 96) (c.value == 36) k.1) (spans-absent cs k.0)
 
 -- where an index that is made of the codes rules marks of spans out
-pub no-spans : (index : Option LastBegins) (cs : List Code) → index ≡ Some (last_begins cs) → rules_out index SpanMark 0 ≡ true → without_runs span_markers ≡ last_runs span_markers cs
-no-spans index cs e h = without-known span_markers cs (spans-absent cs (ruled-out index cs SpanMark 0 (right-made cs index e) h))
+pub no-spans : (index : Option LastBegins) (cs : List Code) → index ≡ Some (last_begins cs) →
+    rules_out index SpanMark 0 ≡ true → without_runs span_markers ≡ last_runs span_markers cs
+no-spans index cs e h =
+    without-known span_markers cs (spans-absent cs (ruled-out index cs SpanMark 0 (right-made cs index e) h))

@@ -44,7 +44,8 @@ called other s = other s
 abbrev pub states_and_called : (StateName → StateWords) → StateName → StateWords
 states_and_called other s = states (called other) s
 
-at-end : (T : Tokenizer) → current_of T ≡ None → (ok : Bool) (U : Tokenizer) → (ok ≡ true) × (U ≡ string_passed T) → before_ends T ok U
+at-end : (T : Tokenizer) → current_of T ≡ None → (ok : Bool) (U : Tokenizer) → (ok ≡ true) × (U ≡ string_passed T) →
+    before_ends T ok U
 at-end T e true U k = finishes-end (string_here T) string_passed T U e k.1
 at-end T e false U k = cc
 
@@ -53,7 +54,8 @@ no-escape T v e h =
     let b : Begins v (ahead T) = ahead-some T v e in
     ap (escape_here T) b.whole ∙ no-backslash (is_on T).character_escape b.code (rest_of (ahead T)) (ap (λ x. x == byte "\\") b.value ∙ h)
 
-no-reference : (T : Tokenizer) (v : ℕ) → current_of T ≡ Some v → v == byte "&" ≡ false → reference_here T (ahead T) ≡ None
+no-reference : (T : Tokenizer) (v : ℕ) → current_of T ≡ Some v → v == byte "&" ≡ false →
+    reference_here T (ahead T) ≡ None
 no-reference T v e h =
     let b : Begins v (ahead T) = ahead-some T v e in
     ap (reference_here T) b.whole ∙ no-ampersand (is_on T).character_reference b.code (rest_of (ahead T)) (ap (λ x. x == byte "&") b.value ∙ h)
@@ -63,11 +65,13 @@ passed-attempts T alone = attempts-registered R.String (registered R.Data T) ∙
 
 marked-ready : (T : Tokenizer) → StartReady T → BeforeReady (string_marked T)
 unfolding scratched
-marked-ready T r = record { marked = refl; rest = record { marker = r.rest.marker; size = r.rest.size }; ends = record { end = r.ends.end; seen = r.ends.seen } }
+marked-ready T r =
+    record { marked = refl; rest = record { marker = r.rest.marker; size = r.rest.size }; ends = record { end = r.ends.end; seen = r.ends.seen } }
 
 module _ (W : Words) (within : Within states_and_called W) where
   -- past an element the run goes on before the next
-  on-before : (n : ℕ) (T U : Tokenizer) → codes_left T * 256 < n → BeforeReady T → Passes T U → FollowsIn W n (before_ends T) (Next StringBefore) U
+  on-before : (n : ℕ) (T U : Tokenizer) → codes_left T * 256 < n → BeforeReady T → Passes T U →
+      FollowsIn W n (before_ends T) (Next StringBefore) U
   on-before n T U room marked p =
       let less : codes_left U < codes_left T = p.less in
       follows W n (before_ends T) (Next StringBefore) (within StringBefore) U (passes-ready T U p marked) (omega (arith, less)) (λ ok V h. passes-ends T U p ok V h)
@@ -76,7 +80,8 @@ module _ (W : Words) (within : Within states_and_called W) where
     abbrev Before : Stepped → Type 0
     Before r = GoesIn W (weight_at 6 T) (before_ends T) r
 
-    to-data : (v : ℕ) → current_of T ≡ Some v → escape_here T (ahead T) ≡ None → reference_here T (ahead T) ≡ None → FollowsIn W (weight_at 6 T) (before_ends T) (Next StringBeforeData) T
+    to-data : (v : ℕ) → current_of T ≡ Some v → escape_here T (ahead T) ≡ None → reference_here T (ahead T) ≡ None →
+        FollowsIn W (weight_at 6 T) (before_ends T) (Next StringBeforeData) T
     to-data v e none plain_code =
         follows W (weight_at 6 T) (before_ends T) (Next StringBeforeData) (within StringBeforeData) T
         (record { before = marked; some_code = some-none (current_of T) v e; no_escape = none; no_reference = plain_code })
@@ -96,7 +101,8 @@ module _ (W : Words) (within : Within states_and_called W) where
         (λ U now k. let r : CharacterReference.start_ends T false U = k in
         rw (restored-fails false (Next StringBefore) (Next StringBeforeData) T.tokenize_state T U r.fails, scratched-same T) (to-data (byte "&") e (no-escape T (byte "&") e refl) r.refused))
 
-    tries-none : (v : ℕ) → current_of T ≡ Some v → list_any (λ n. v == n) string_markers ≡ false → Before (tries_at None T)
+    tries-none : (v : ℕ) → current_of T ≡ Some v → list_any (λ n. v == n) string_markers ≡ false →
+        Before (tries_at None T)
     tries-none v e h =
         Goes-plain W (weight_at 6 T) (before_ends T) (Retry StringBeforeData) (within StringBeforeData) T alone
         (record { before = marked; some_code = some-none (current_of T) v e; no_escape = no-escape T v e (none-of string_markers v (byte "\\") h refl); no_reference = no-reference T v e (none-of string_markers v (byte "&") h refl) })
@@ -124,7 +130,8 @@ module _ (W : Words) (within : Within states_and_called W) where
       (omega (arith, left-scratched (record T.tokenize_state { markers = string_markers }) T)) (λ ok U k. k)
 
 -- of these states, and of any other as it is given
-pub laws : (W : Words) → Within states_and_called W → (t : StateName → StateWords) → AreLawful W t → AreLawful W (states t)
+pub laws : (W : Words) → Within states_and_called W → (t : StateName → StateWords) → AreLawful W t →
+    AreLawful W (states t)
 laws W within t other H.StringStart = start-law W within
 laws W within t other H.StringBefore = before-law W within
 laws W within t other H.StringBeforeData = before_data-law W within

@@ -20,7 +20,8 @@ use Rattle.markdown_run_text.specs.RunSetting.{setting_of}
 use Rattle.markdown_run_text.specs.StringContent.{string_markers}
 use Rattle.markdown_run_text.proofs.TextElements.{plain_of, plain-switched, data-alone, ending-alone}
 
-first-choice : (a b : Reading Element) (cs : List Code) (r : Option (Element × List Code)) → a cs ≡ r → either a b cs ≡ elim r [ None ↦ b cs | Some x ↦ Some x ]
+first-choice : (a b : Reading Element) (cs : List Code) (r : Option (Element × List Code)) → a cs ≡ r →
+    either a b cs ≡ elim r [ None ↦ b cs | Some x ↦ Some x ]
 unfolding either
 first-choice a b cs r e = ap (λ (o : Option (Element × List Code)). elim o [ None ↦ b cs | Some x ↦ Some x ]) e
 
@@ -31,35 +32,47 @@ abbrev references : Setting → Reading Element
 references s = switched s.options.constructs.character_reference (as_plain (character_reference s.references))
 
 -- an escape
-pub escaped-element : (s : Setting) (cs : List Code) (t : Forest) (rest : List Code) → (provided s.options.constructs.character_escape >> character_escape) cs ≡ Some (t, rest) → string_element s cs ≡ Some (plain t, rest)
+pub escaped-element : (s : Setting) (cs : List Code) (t : Forest) (rest : List Code) →
+    (provided s.options.constructs.character_escape >> character_escape) cs ≡ Some (t, rest) →
+    string_element s cs ≡ Some (plain t, rest)
 unfolding string_element plain_of
 escaped-element s cs t rest e =
     first-choice (escapes s) (either (references s) (either line_ending data_code)) cs (Some (plain t, rest)) (plain-switched s.options.constructs.character_escape character_escape cs ∙ ap plain_of e)
 
 -- where no escape is
-unescaped : (s : Setting) (cs : List Code) → (provided s.options.constructs.character_escape >> character_escape) cs ≡ None → string_element s cs ≡ either (references s) (either line_ending data_code) cs
+unescaped : (s : Setting) (cs : List Code) →
+    (provided s.options.constructs.character_escape >> character_escape) cs ≡ None →
+    string_element s cs ≡ either (references s) (either line_ending data_code) cs
 unfolding string_element plain_of
 unescaped s cs e =
     first-choice (escapes s) (either (references s) (either line_ending data_code)) cs None (plain-switched s.options.constructs.character_escape character_escape cs ∙ ap plain_of e)
 
 -- a reference
-pub referenced-element : (s : Setting) (cs : List Code) (t : Forest) (rest : List Code) → (provided s.options.constructs.character_escape >> character_escape) cs ≡ None → (provided s.options.constructs.character_reference >> character_reference s.references) cs ≡ Some (t, rest) → string_element s cs ≡ Some (plain t, rest)
+pub referenced-element : (s : Setting) (cs : List Code) (t : Forest) (rest : List Code) →
+    (provided s.options.constructs.character_escape >> character_escape) cs ≡ None →
+    (provided s.options.constructs.character_reference >> character_reference s.references) cs ≡ Some (t, rest) →
+    string_element s cs ≡ Some (plain t, rest)
 unfolding plain_of
 referenced-element s cs t rest none e =
     unescaped s cs none
     ∙ first-choice (references s) (either line_ending data_code) cs (Some (plain t, rest)) (plain-switched s.options.constructs.character_reference (character_reference s.references) cs ∙ ap plain_of e)
 
-by-itself : (b : Bool) (c : Code) (cs : List Code) → is_line_ending c ≡ b → either line_ending data_code (c ∷ cs) ≡ Some (plain (code_leaf c), cs)
+by-itself : (b : Bool) (c : Code) (cs : List Code) → is_line_ending c ≡ b →
+    either line_ending data_code (c ∷ cs) ≡ Some (plain (code_leaf c), cs)
 unfolding line_ending
 by-itself true c cs e = either-some line_ending data_code (c ∷ cs) (plain (code_leaf c), cs) (ending-alone c cs e)
-by-itself false c cs e = either-second line_ending data_code (c ∷ cs) (bind-none (one is_line_ending) _ (c ∷ cs) (one-other is_line_ending c cs e)) ∙ data-alone c cs e
+by-itself false c cs e =
+    either-second line_ending data_code (c ∷ cs) (bind-none (one is_line_ending) _ (c ∷ cs) (one-other is_line_ending c cs e)) ∙ data-alone c cs e
 
 -- a code by itself: a line ending, or data
 pub code-element : (c : Code) (cs : List Code) → either line_ending data_code (c ∷ cs) ≡ Some (plain (code_leaf c), cs)
 code-element c cs = by-itself (is_line_ending c) c cs refl
 
 -- where neither an escape nor a reference is
-pub single-element : (s : Setting) (c : Code) (cs : List Code) → (provided s.options.constructs.character_escape >> character_escape) (c ∷ cs) ≡ None → (provided s.options.constructs.character_reference >> character_reference s.references) (c ∷ cs) ≡ None → string_element s (c ∷ cs) ≡ Some (plain (code_leaf c), cs)
+pub single-element : (s : Setting) (c : Code) (cs : List Code) →
+    (provided s.options.constructs.character_escape >> character_escape) (c ∷ cs) ≡ None →
+    (provided s.options.constructs.character_reference >> character_reference s.references) (c ∷ cs) ≡ None →
+    string_element s (c ∷ cs) ≡ Some (plain (code_leaf c), cs)
 unfolding plain_of
 single-element s c cs none e =
     unescaped s (c ∷ cs) none
@@ -67,18 +80,22 @@ single-element s c cs none e =
     ∙ code-element c cs
 
 -- no escape begins at another code than the backslash
-pub no-backslash : (on : Bool) (c : Code) (cs : List Code) → is_value (byte "\\") c ≡ false → (provided on >> character_escape) (c ∷ cs) ≡ None
+pub no-backslash : (on : Bool) (c : Code) (cs : List Code) → is_value (byte "\\") c ≡ false →
+    (provided on >> character_escape) (c ∷ cs) ≡ None
 unfolding character_escape
 no-backslash false c cs e = switched-off character_escape false (c ∷ cs) refl
-no-backslash true c cs e = switched-on character_escape true (c ∷ cs) refl ∙ bind-none (one (is_value (byte "\\"))) _ (c ∷ cs) (one-other (is_value (byte "\\")) c cs e)
+no-backslash true c cs e =
+    switched-on character_escape true (c ∷ cs) refl ∙ bind-none (one (is_value (byte "\\"))) _ (c ∷ cs) (one-other (is_value (byte "\\")) c cs e)
 
 unread : (o : Option (Forest × List Code)) → tree_ops o ≡ None → o ≡ None
 unread None e = refl
 unread (Some r) e = cc
 
 -- no reference begins at another code than `&`
-pub no-ampersand : (on : Bool) (c : Code) (cs : List Code) → is_value (byte "&") c ≡ false → (provided on >> character_reference html_5_rows) (c ∷ cs) ≡ None
-no-ampersand on c cs e = unread ((provided on >> character_reference html_5_rows) (c ∷ cs)) (no-reference on (c ∷ cs) (ap (λ b. on && b) e ∙ and-false on))
+pub no-ampersand : (on : Bool) (c : Code) (cs : List Code) → is_value (byte "&") c ≡ false →
+    (provided on >> character_reference html_5_rows) (c ∷ cs) ≡ None
+no-ampersand on c cs e =
+    unread ((provided on >> character_reference html_5_rows) (c ∷ cs)) (no-reference on (c ∷ cs) (ap (λ b. on && b) e ∙ and-false on))
 
 neither : (a b : Bool) → (a || (b || false)) ≡ false → (a ≡ false) × (b ≡ false)
 neither true b e = cc
@@ -86,7 +103,8 @@ neither false true e = cc
 neither false false e = (refl, refl)
 
 -- a code at which data does not stop
-pub unmarked-element : (p : ParseState) (c : Code) (cs : List Code) → is_among string_markers c ≡ false → string_element (setting_of p) (c ∷ cs) ≡ Some (plain (code_leaf c), cs)
+pub unmarked-element : (p : ParseState) (c : Code) (cs : List Code) → is_among string_markers c ≡ false →
+    string_element (setting_of p) (c ∷ cs) ≡ Some (plain (code_leaf c), cs)
 unmarked-element p c cs e =
     let k = neither (is_value (byte "&") c) (is_value (byte "\\") c) e in
     single-element (setting_of p) c cs (no-backslash p.options.now.constructs.character_escape c cs k.1) (no-ampersand p.options.now.constructs.character_reference c cs k.0)

@@ -28,13 +28,17 @@ abbrev pub Passes : Tokenizer → Tokenizer → Type 0
 Passes T U = Advances (string_here T) T U
 
 same-string : (T U : Tokenizer) → Passes T U → string_here U ≡ string_here T
-same-string T U p = ap (λ (b : _). string_choice (setting_of b.now)) (ap (λ (x : Tokenizer). x.parse_state) p.left ∙ row-input p.row T)
+same-string T U p =
+    ap (λ (b : _). string_choice (setting_of b.now)) (ap (λ (x : Tokenizer). x.parse_state) p.left ∙ row-input p.row T)
 
 -- the scratch fields past them
-same-fields : (T U : Tokenizer) → Passes T U → BeforeReady T → U.tokenize_state ≡ relisted U.tokenize_state T.tokenize_state
-same-fields T U p r = subst (λ (x : Tokenizer). x.tokenize_state ≡ relisted x.tokenize_state T.tokenize_state) (sym p.left) (row-fields (kinds_of T) p.row T refl p.is_row r.ends)
+same-fields : (T U : Tokenizer) → Passes T U → BeforeReady T →
+    U.tokenize_state ≡ relisted U.tokenize_state T.tokenize_state
+same-fields T U p r =
+    subst (λ (x : Tokenizer). x.tokenize_state ≡ relisted x.tokenize_state T.tokenize_state) (sym p.left) (row-fields (kinds_of T) p.row T refl p.is_row r.ends)
 
-ready-past : (T U : Tokenizer) → U.tokenize_state ≡ relisted U.tokenize_state T.tokenize_state → BeforeReady T → BeforeReady U
+ready-past : (T U : Tokenizer) → U.tokenize_state ≡ relisted U.tokenize_state T.tokenize_state → BeforeReady T →
+    BeforeReady U
 ready-past T U e r =
     record {
       marked = ap (λ (s : TokenizeState). s.markers) e ∙ r.marked;
@@ -56,13 +60,15 @@ escape-past T U k =
     let node = node-of (bytes_of T) (escape_here T) (search plain_constructs) (ahead T) k.tree k.rest k.holds in
     node-advances (string_here T) (escape_here T) T U k node.0 node.1 (λ earlier previous stands. escaped-element (setting_of T.parse_state.now) (ahead T) k.tree k.rest k.holds)
 
-pub reference-past : (T U : Tokenizer) → escape_here T (ahead T) ≡ None → Reads (reference_here T) None T.tokenize_state T U → Passes T U
+pub reference-past : (T U : Tokenizer) → escape_here T (ahead T) ≡ None →
+    Reads (reference_here T) None T.tokenize_state T U → Passes T U
 reference-past T U none k =
     let node = node-of (bytes_of T) (reference_here T) (search plain_constructs) (ahead T) k.tree k.rest k.holds in
     node-advances (string_here T) (reference_here T) T U k node.0 node.1 (λ earlier previous stands. referenced-element (setting_of T.parse_state.now) (ahead T) k.tree k.rest none k.holds)
 
 -- no marker of strings is a letter of literals, so data stops at each of them
-marker-stops : (passes : Bool) (v : ℕ) (next : Option ℕ) → stops_at passes string_markers v next ≡ false → marks string_markers v ≡ false
+marker-stops : (passes : Bool) (v : ℕ) (next : Option ℕ) → stops_at passes string_markers v next ≡ false →
+    marks string_markers v ≡ false
 marker-stops passes v next h = by_mark (marks string_markers v) refl h
   where
     stops : (b : Bool) → not (b && false) ≡ false → true ≡ false
@@ -75,7 +81,9 @@ marker-stops passes v next h = by_mark (marks string_markers v) refl h
         let none : begins_none v next ≡ false = one-of (λ n. begins_none n next ≡ false) string_markers v (refl, (refl, tt)) e in
         stops passes (ap (λ b. not (passes && b)) (sym none) ∙ k)
 
-pub data-past : (T U : Tokenizer) → T.tokenize_state.markers ≡ string_markers → current_of T ≢ None → escape_here T (ahead T) ≡ None → reference_here T (ahead T) ≡ None → Reads (data_up_to (stops_of T.tokenize_state)) None T.tokenize_state T U → Passes T U
+pub data-past : (T U : Tokenizer) → T.tokenize_state.markers ≡ string_markers → current_of T ≢ None →
+    escape_here T (ahead T) ≡ None → reference_here T (ahead T) ≡ None →
+    Reads (data_up_to (stops_of T.tokenize_state)) None T.tokenize_state T U → Passes T U
 data-past T U marked some none plain_code k =
     let a = some-ahead T (ahead T) refl some in
     data-advances (string_here T) (stops_of T.tokenize_state) T U a.0 a.1.0 a.1.1 k

@@ -13,7 +13,8 @@ use Rattle.markdown_engine.specs.Weights.{codes_left, weight_at}
 use Rattle.markdown_engine.specs.declared.state.State.TheVariants.{Next, Retry, Nok}
 use Rattle.markdown_engine.specs.declared.state.StateName.{StateName}
 use Rattle.markdown_engine.specs.declared.state.StateName.TheVariants as H
-use Rattle.markdown_engine.specs.declared.state.StateName.TheVariants.{AttentionStart, AutolinkStart, CharacterEscapeStart, CharacterReferenceStart, DataStart, GfmAutolinkLiteralProtocolStart, GfmAutolinkLiteralWwwStart, GfmLabelStartFootnoteStart, GfmTaskListItemCheckStart, HardBreakEscapeStart, HtmlTextStart, LabelEndStart, LabelStartImageStart, LabelStartLinkStart, RawTextStart, TextBefore, TextBeforeData, TextBeforeHardBreakEscape, TextBeforeHtml, TextBeforeLabelStartLink}
+use Rattle.markdown_engine.specs.declared.state.StateName.TheVariants.{AttentionStart, AutolinkStart, CharacterEscapeStart, CharacterReferenceStart, DataStart, GfmAutolinkLiteralProtocolStart, GfmAutolinkLiteralWwwStart, GfmLabelStartFootnoteStart, GfmTaskListItemCheckStart}
+use Rattle.markdown_engine.specs.declared.state.StateName.TheVariants.{HardBreakEscapeStart, HtmlTextStart, LabelEndStart, LabelStartImageStart, LabelStartLinkStart, RawTextStart, TextBefore, TextBeforeData, TextBeforeHardBreakEscape, TextBeforeHtml, TextBeforeLabelStartLink}
 use Rattle.markdown_engine.specs.declared.tokenizer.TokenizeState.{TokenizeState}
 use Rattle.markdown_engine.specs.declared.tokenizer.Tokenizer.{Tokenizer}
 use Rattle.markdown_engine.proofs.ReadingSequences.{scratched-same}
@@ -94,13 +95,16 @@ angle-row : (T : Tokenizer) → AreTriedAt T (byte "<") (is_on T).autolink (is_o
 unfolding tries tried
 angle-row T earlier previous = (refl, (refl, refl))
 
-slash-row : (T : Tokenizer) → AreTriedAt T (byte "\\") (is_on T).character_escape (is_on T).hard_break_escape character_escape hard_break_escape
+slash-row : (T : Tokenizer) →
+    AreTriedAt T (byte "\\") (is_on T).character_escape (is_on T).hard_break_escape character_escape hard_break_escape
 unfolding tries tried
 slash-row T earlier previous = (refl, (refl, refl))
 
 module _ (W : Words) (within : Within states_and_called W) where
   -- past an element the run goes on before the next
-  on-before : (n : ℕ) (T U : Tokenizer) → codes_left T * 256 < n → IsMarked T → AreWithin U U.tokenize_state.label_starts → Advances (text_choice_of T) T U → FollowsIn W n (before_ends T) (Next TextBefore) U
+  on-before : (n : ℕ) (T U : Tokenizer) → codes_left T * 256 < n → IsMarked T →
+      AreWithin U U.tokenize_state.label_starts → Advances (text_choice_of T) T U →
+      FollowsIn W n (before_ends T) (Next TextBefore) U
   on-before n T U room r kept a =
       let e : IsSame T U = same-row a.row T U a.left a.is_row r.ends in
       let less : codes_left U < codes_left T = a.less in
@@ -111,7 +115,11 @@ module _ (W : Words) (within : Within states_and_called W) where
 
   -- A construct is tried: it holds and is an element, or the run goes on with another state at the same place.
 
-  try-law : (rank : ℕ) (T : Tokenizer) (construct otherwise : StateName) {w : StateWords} → words_in W construct ≡ w → (reading : TreeReading) → T.attempts ≡ [] → w.ready T → weight_at w.rank T < weight_at rank T → IsMarked T → EndsOf w reading T → ReadsPlain (bytes_of T) reading → ReadsElements reading T → (reading (ahead T) ≡ None → FollowsIn W (weight_at rank T) (before_ends T) (Next otherwise) T) → GoesIn W (weight_at rank T) (before_ends T) (attempt_step construct otherwise T)
+  try-law : (rank : ℕ) (T : Tokenizer) (construct otherwise : StateName) {w : StateWords} → words_in W construct ≡ w →
+      (reading : TreeReading) → T.attempts ≡ [] → w.ready T → weight_at w.rank T < weight_at rank T → IsMarked T →
+      EndsOf w reading T → ReadsPlain (bytes_of T) reading → ReadsElements reading T →
+      (reading (ahead T) ≡ None → FollowsIn W (weight_at rank T) (before_ends T) (Next otherwise) T) →
+      GoesIn W (weight_at rank T) (before_ends T) (attempt_step construct otherwise T)
   try-law rank T construct otherwise {w} say reading alone on falls ready ends own elements fails =
       Goes-attempt W (weight_at rank T) (before_ends T) (Retry construct) {w = w} say (Next TextBefore) (Next otherwise) T alone on falls
       (λ U now h.
@@ -123,7 +131,8 @@ module _ (W : Words) (within : Within states_and_called W) where
       let k : Refuses reading T.tokenize_state T U = ends false U h in
       rw (restored-fails false (Next TextBefore) (Next otherwise) T.tokenize_state T U k.fails, scratched-same T) (fails k.refused))
 
-  to-data : (rank : ℕ) (T : Tokenizer) (v : ℕ) → 5 < rank → BeforeReady T → current_of T ≡ Some v → StandsAlone T → FollowsIn W (weight_at rank T) (before_ends T) (Next TextBeforeData) T
+  to-data : (rank : ℕ) (T : Tokenizer) (v : ℕ) → 5 < rank → BeforeReady T → current_of T ≡ Some v → StandsAlone T →
+      FollowsIn W (weight_at rank T) (before_ends T) (Next TextBeforeData) T
   to-data rank T v l ready e alone =
       let some : current_of T ≢ None = some-none (current_of T) v e in
       follows W (weight_at rank T) (before_ends T) (Next TextBeforeData) (within TextBeforeData) T (record { marked = ready.marked; some_code = some }) (omega (arith, l)) (λ ok V h. alone-ends T ready.marked.stops some alone ok V h)
@@ -132,7 +141,8 @@ module _ (W : Words) (within : Within states_and_called W) where
     abbrev Before : Stepped → Type 0
     Before r = GoesIn W (weight_at 8 T) (before_ends T) r
 
-    tries-span : (v : ℕ) → current_of T ≡ Some v → (v == byte "$" || v == byte "`") ≡ true → Before (attempt_step RawTextStart TextBeforeData T)
+    tries-span : (v : ℕ) → current_of T ≡ Some v → (v == byte "$" || v == byte "`") ≡ true →
+        Before (attempt_step RawTextStart TextBeforeData T)
     tries-span v e h =
         try-law 8 T RawTextStart TextBeforeData (within RawTextStart) (RawText.span_at T) alone ready.marked.spans (omega arith) ready.marked (λ ok U g. g) (search plain_constructs) (span-reads T v e h) (λ none. to-data 8 T v (omega arith) ready e (span-alone T v e h none))
 
@@ -145,13 +155,15 @@ module _ (W : Words) (within : Within states_and_called W) where
         try-law 8 T AutolinkStart TextBeforeHtml (within AutolinkStart) (link_here T) alone (at-rest-reference T ready.marked).size (omega arith) ready.marked (λ ok U g. g) (search plain_constructs) (first-reads T (byte "<") _ _ _ _ (angle-row T) d)
         (λ none. follows W (weight_at 8 T) (before_ends T) (Next TextBeforeHtml) (within TextBeforeHtml) T (record { before = ready; angle = d; no_autolink = none }) (omega arith) (λ ok V h. h))
 
-    tries-escape : current_of T ≡ Some (byte "\\") → Before (attempt_step CharacterEscapeStart TextBeforeHardBreakEscape T)
+    tries-escape : current_of T ≡ Some (byte "\\") →
+        Before (attempt_step CharacterEscapeStart TextBeforeHardBreakEscape T)
     tries-escape d =
         try-law 8 T CharacterEscapeStart TextBeforeHardBreakEscape (within CharacterEscapeStart) (escape_here T) alone tt (omega arith) ready.marked (λ ok U g. g) (search plain_constructs) (first-reads T (byte "\\") _ _ _ _ (slash-row T) d)
         (λ none. follows W (weight_at 8 T) (before_ends T) (Next TextBeforeHardBreakEscape) (within TextBeforeHardBreakEscape) T (record { before = ready; slash = d; no_escape = none }) (omega arith) (λ ok V h. h))
 
     -- a run of markers, past which its pass is registered
-    tries-run : (v : ℕ) → current_of T ≡ Some v → is_marker v ≡ true → Before (attempt_step AttentionStart TextBeforeData T)
+    tries-run : (v : ℕ) → current_of T ≡ Some v → is_marker v ≡ true →
+        Before (attempt_step AttentionStart TextBeforeData T)
     tries-run v e h =
         Goes-attempt W (weight_at 8 T) (before_ends T) (Retry AttentionStart) (within AttentionStart) (Next TextBefore) (Next TextBeforeData) T alone (run-ready T ready.marked) (omega arith)
         (λ U now k. let r : ReadsRun T U = k in
@@ -161,13 +173,15 @@ module _ (W : Words) (within : Within states_and_called W) where
         (λ U now k. let r : Refuses (run_tree T) T.tokenize_state T U = k in
         rw (restored-fails false (Next TextBefore) (Next TextBeforeData) T.tokenize_state T U r.fails, scratched-same T) (to-data 8 T v (omega arith) ready e (run-alone T v e h r.refused)))
 
-    tries-protocol : (v : ℕ) → current_of T ≡ Some v → list_any (λ n. v == n) (first_letters schemes) ≡ true → Before (attempt_step GfmAutolinkLiteralProtocolStart TextBeforeData T)
+    tries-protocol : (v : ℕ) → current_of T ≡ Some v → list_any (λ n. v == n) (first_letters schemes) ≡ true →
+        Before (attempt_step GfmAutolinkLiteralProtocolStart TextBeforeData T)
     tries-protocol v e h =
         try-law 8 T GfmAutolinkLiteralProtocolStart TextBeforeData (within GfmAutolinkLiteralProtocolStart) (GfmAutolinkLiteral.protocol_here T) alone ready.marked.literals (omega arith) ready.marked (λ ok U g. g)
         (search plain_constructs) (protocol-reads T v ready.marked.last e h)
         (λ none. to-data 8 T v (omega arith) ready e (protocol-alone T v ready.marked.last e h none))
 
-    tries-www : (v : ℕ) → current_of T ≡ Some v → list_any (λ n. v == n) (first_letters (www ∷ [])) ≡ true → Before (attempt_step GfmAutolinkLiteralWwwStart TextBeforeData T)
+    tries-www : (v : ℕ) → current_of T ≡ Some v → list_any (λ n. v == n) (first_letters (www ∷ [])) ≡ true →
+        Before (attempt_step GfmAutolinkLiteralWwwStart TextBeforeData T)
     tries-www v e h =
         try-law 8 T GfmAutolinkLiteralWwwStart TextBeforeData (within GfmAutolinkLiteralWwwStart) (GfmAutolinkLiteral.www_here T) alone ready.marked.literals (omega arith) ready.marked (λ ok U g. g)
         (search plain_constructs) (www-reads T v ready.marked.last e h)
@@ -182,7 +196,8 @@ module _ (W : Words) (within : Within states_and_called W) where
         (λ U now k. let r : image_ends T false U = k in
         rw (restored-fails false (Next TextBefore) (Next TextBeforeData) T.tokenize_state T U (record { grown = r.grown; scratch = r.scratch }), scratched-same T) (to-data 8 T (byte "!") (omega arith) ready d (image-alone T d r.refused)))
 
-    tries-footnote : current_of T ≡ Some (byte "[") → Before (attempt_step GfmLabelStartFootnoteStart TextBeforeLabelStartLink T)
+    tries-footnote : current_of T ≡ Some (byte "[") →
+        Before (attempt_step GfmLabelStartFootnoteStart TextBeforeLabelStartLink T)
     tries-footnote d =
         Goes-attempt W (weight_at 8 T) (before_ends T) (Retry GfmLabelStartFootnoteStart) (within GfmLabelStartFootnoteStart) (Next TextBefore) (Next TextBeforeLabelStartLink) T alone tt (omega arith)
         (λ U now k. let r : footnote_ends T true U = k in
@@ -193,7 +208,8 @@ module _ (W : Words) (within : Within states_and_called W) where
         (follows W (weight_at 8 T) (before_ends T) (Next TextBeforeLabelStartLink) (within TextBeforeLabelStartLink) T (record { before = ready; bracket = d; no_footnote = r.refused }) (omega arith) (λ ok V h. h)))
 
     -- an end that makes no label uses up its start, and its `]` begins data
-    to-lost : current_of T ≡ Some (byte "]") → LabelEnd.is_on T ≡ true → LabelEnd.end_reading T (ahead T) ≡ None → (let F : Tokenizer = past_mark loses T in FollowsIn W (weight_at 8 T) (before_ends T) (Next TextBeforeData) F)
+    to-lost : current_of T ≡ Some (byte "]") → LabelEnd.is_on T ≡ true → LabelEnd.end_reading T (ahead T) ≡ None →
+        (let F : Tokenizer = past_mark loses T in FollowsIn W (weight_at 8 T) (before_ends T) (Next TextBeforeData) F)
     to-lost d on none =
         let F : Tokenizer = past_mark loses T in
         let e : IsSame T F = same-lost T ready.marked.ends in
@@ -220,12 +236,15 @@ module _ (W : Words) (within : Within states_and_called W) where
         subst (λ (x : Tokenizer). FollowsIn W (weight_at 8 T) (before_ends T) (Next TextBeforeData) x) (sym (restored-fails false (Next TextBefore) (Next TextBeforeData) (LabelEnd.lost_fields T) T U r.fails))
         (by_switch (LabelEnd.is_on T) refl r.refused))
       where
-        by_switch : (b : Bool) → LabelEnd.is_on T ≡ b → LabelEnd.end_reading T (ahead T) ≡ None → FollowsIn W (weight_at 8 T) (before_ends T) (Next TextBeforeData) (scratched (LabelEnd.lost_fields T) T)
-        by_switch true on none = subst (λ (x : Tokenizer). FollowsIn W (weight_at 8 T) (before_ends T) (Next TextBeforeData) x) (sym (lost-there T d on)) (to-lost d on none)
+        by_switch : (b : Bool) → LabelEnd.is_on T ≡ b → LabelEnd.end_reading T (ahead T) ≡ None →
+            FollowsIn W (weight_at 8 T) (before_ends T) (Next TextBeforeData) (scratched (LabelEnd.lost_fields T) T)
+        by_switch true on none =
+            subst (λ (x : Tokenizer). FollowsIn W (weight_at 8 T) (before_ends T) (Next TextBeforeData) x) (sym (lost-there T d on)) (to-lost d on none)
         by_switch false off none =
             subst (λ (x : Tokenizer). FollowsIn W (weight_at 8 T) (before_ends T) (Next TextBeforeData) x) (sym (not-lost T off)) (to-data 8 T (byte "]") (omega arith) ready d (end-alone T d off))
 
-    tries-none : (v : ℕ) → current_of T ≡ Some v → list_any (λ n. v == n) text_markers ≡ false → Before (stepped (Retry TextBeforeData) T)
+    tries-none : (v : ℕ) → current_of T ≡ Some v → list_any (λ n. v == n) text_markers ≡ false →
+        Before (stepped (Retry TextBeforeData) T)
     tries-none v e h =
         let f = to-data 8 T v (omega arith) ready e (other-alone T v e h) in
         Goes-plain W (weight_at 8 T) (before_ends T) (Retry TextBeforeData) {w = words_in W TextBeforeData} refl T alone f.goes_on f.falls f.closed
@@ -242,7 +261,8 @@ module _ (W : Words) (within : Within states_and_called W) where
     at-runs = (λ e. tries-run (byte "*") e refl, (λ e. tries-run (byte "_") e refl, (λ e. tries-run (byte "~") e refl, tt)))
 
     at-protocols : EachOf (IsTried GfmAutolinkLiteralProtocolStart TextBeforeData) (first_letters schemes)
-    at-protocols = each-among (IsTried GfmAutolinkLiteralProtocolStart TextBeforeData) (first_letters schemes) (λ v h e. tries-protocol v e h)
+    at-protocols =
+        each-among (IsTried GfmAutolinkLiteralProtocolStart TextBeforeData) (first_letters schemes) (λ v h e. tries-protocol v e h)
 
     at-www : EachOf (IsTried GfmAutolinkLiteralWwwStart TextBeforeData) (first_letters (www ∷ []))
     at-www = each-among (IsTried GfmAutolinkLiteralWwwStart TextBeforeData) (first_letters (www ∷ [])) (λ v h e. tries-www v e h)
@@ -302,8 +322,11 @@ module _ (W : Words) (within : Within states_and_called W) where
       (λ ok V h. data-then T U e read ok V h))
       (λ U now k. absurd (data-holds (stops_of T.tokenize_state) (ahead T) k.refused))
     where
-      data-then : (T U : Tokenizer) → IsSame T U → Reads (data_up_to (stops_of T.tokenize_state)) None T.tokenize_state T U → (ok : Bool) (V : Tokenizer) → before_ends U ok V → data_ends T ok V
-      data-then T U e read true V h = record { behind = U; data_read = read; finishes = subst (λ c. Finishes c text_passed U V) (choice-same T U e) h }
+      data-then : (T U : Tokenizer) → IsSame T U →
+          Reads (data_up_to (stops_of T.tokenize_state)) None T.tokenize_state T U → (ok : Bool) (V : Tokenizer) →
+          before_ends U ok V → data_ends T ok V
+      data-then T U e read true V h =
+          record { behind = U; data_read = read; finishes = subst (λ c. Finishes c text_passed U V) (choice-same T U e) h }
       data-then T U e read false V h = h
 
   pub start-law : Law W start_words
@@ -317,7 +340,8 @@ module _ (W : Words) (within : Within states_and_called W) where
       (λ none. follows W (weight_at 9 M) (before_ends M) (Next TextBefore) (within TextBefore) M (record { marked = marked; unchecked = none }) (omega arith) (λ ok V h. h)))
 
 -- of these states, and of any other as it is given
-pub laws : (W : Words) → Within states_and_called W → (t : StateName → StateWords) → AreLawful W t → AreLawful W (states t)
+pub laws : (W : Words) → Within states_and_called W → (t : StateName → StateWords) → AreLawful W t →
+    AreLawful W (states t)
 laws W within t other H.TextStart = start-law W within
 laws W within t other H.TextBefore = before-law W within
 laws W within t other H.TextBeforeHtml = before_html-law W within

@@ -38,7 +38,8 @@ abbrev NoSigns : List Code → Type 0
 NoSigns cs = (last_where (stand_next (codes ":/")) cs ≡ None) × (last_where dots_behind_w cs ≡ None)
 
 -- none begins with the first of them, and none behind it
-no-more : (t : List Code → Bool) (c : Code) (cs : List Code) → last_where t (c ∷ cs) ≡ None → (last_where t cs ≡ None) × (t (c ∷ cs) ≡ false)
+no-more : (t : List Code → Bool) (c : Code) (cs : List Code) → last_where t (c ∷ cs) ≡ None →
+    (last_where t cs ≡ None) × (t (c ∷ cs) ≡ false)
 no-more t c cs h = later-none (last_where t cs) (t (c ∷ cs)) h
 
 behind : (c : Code) (cs : List Code) → NoSigns (c ∷ cs) → NoSigns cs
@@ -58,7 +59,9 @@ clash : {A : Type 0} → (b : Bool) → b ≡ true → b ≡ false → A
 clash true h k = cc
 clash false h k = cc
 
-letters-after : (n : ℕ) (ns : List ℕ) (cs : List Code) → ((c : Code) (ds : List Code) → cs ≡ c ∷ ds → letter_test n c ≡ true → letters ns ds ≡ None) → letters (n ∷ ns) cs ≡ None
+letters-after : (n : ℕ) (ns : List ℕ) (cs : List Code) →
+    ((c : Code) (ds : List Code) → cs ≡ c ∷ ds → letter_test n c ≡ true → letters ns ds ≡ None) →
+    letters (n ∷ ns) cs ≡ None
 letters-after n ns [] next = letters-none n ns [] refl
 letters-after n ns (c ∷ cs) next = by_test (letter_test n c) refl
   where
@@ -67,16 +70,21 @@ letters-after n ns (c ∷ cs) next = by_test (letter_test n c) refl
     by_test false e = letters-none n ns (c ∷ cs) e
 
 -- the first letter may stand, where the others do not stand behind it
-letters-behind : (n : ℕ) (ns : List ℕ) (c : Code) (cs : List Code) → letters ns cs ≡ None → letters (n ∷ ns) (c ∷ cs) ≡ None
-letters-behind n ns c cs h = letters-after n ns (c ∷ cs) (λ d ds e t. subst (λ xs. letters ns xs ≡ None) (ap rest_of e) h)
+letters-behind : (n : ℕ) (ns : List ℕ) (c : Code) (cs : List Code) → letters ns cs ≡ None →
+    letters (n ∷ ns) (c ∷ cs) ≡ None
+letters-behind n ns c cs h =
+    letters-after n ns (c ∷ cs) (λ d ds e t. subst (λ xs. letters ns xs ≡ None) (ap rest_of e) h)
 
 -- no letter comes, by the value that comes
-no-next : (n : ℕ) (ns : List ℕ) (cs : List Code) → nat_lt n 129 ≡ true → is_some_mark (in_both_cases n) (value_of (first_of cs)) ≡ false → letters (n ∷ ns) cs ≡ None
+no-next : (n : ℕ) (ns : List ℕ) (cs : List Code) → nat_lt n 129 ≡ true →
+    is_some_mark (in_both_cases n) (value_of (first_of cs)) ≡ false → letters (n ∷ ns) cs ≡ None
 no-next n ns [] low h = letters-none n ns [] refl
 no-next n ns (c ∷ cs) low h = letters-none n ns (c ∷ cs) (sym (both-stand n c.value low) ∙ h)
 
 -- two letters that are a sign
-pair-none : (n m : ℕ) (ns : List ℕ) (cs : List Code) → ((c d : Code) (ds : List Code) → letter_test n c ≡ true → letter_test m d ≡ true → NoSigns (c ∷ d ∷ ds) → ⊥) → NoSigns cs → letters (n ∷ m ∷ ns) cs ≡ None
+pair-none : (n m : ℕ) (ns : List ℕ) (cs : List Code) →
+    ((c d : Code) (ds : List Code) → letter_test n c ≡ true → letter_test m d ≡ true → NoSigns (c ∷ d ∷ ds) → ⊥) →
+    NoSigns cs → letters (n ∷ m ∷ ns) cs ≡ None
 pair-none n m ns cs never k =
     letters-after n (m ∷ ns) cs (λ c ds e t.
     letters-after m ns ds (λ d es f u.
@@ -94,7 +102,8 @@ letter-46 c h = grind (arith, nat_tests)
 letter-119 : (c : Code) → letter_test 119 c ≡ true → is_w c.value ≡ true
 letter-119 c h = grind (arith, nat_tests)
 
-colon-slash : (c d : Code) (ds : List Code) → letter_test 58 c ≡ true → letter_test 47 d ≡ true → NoSigns (c ∷ d ∷ ds) → ⊥
+colon-slash : (c d : Code) (ds : List Code) → letter_test 58 c ≡ true → letter_test 47 d ≡ true → NoSigns (c ∷ d ∷ ds) →
+    ⊥
 colon-slash c d ds h k none =
     clash (stand_next (codes ":/") (c ∷ d ∷ ds))
     (and_from (c.value == 58) (d.value == 47 && true) (letter-58 c h) (and_from (d.value == 47) true (letter-47 d k) refl))
@@ -114,14 +123,19 @@ holds_pair a b [] = false
 holds_pair a b (n ∷ []) = false
 holds_pair a b (n ∷ m ∷ ns) = ((n == a) && (m == b)) || holds_pair a b (m ∷ ns)
 
-sign-none : (a b : ℕ) → ((c d : Code) (ds : List Code) → letter_test a c ≡ true → letter_test b d ≡ true → NoSigns (c ∷ d ∷ ds) → ⊥) → (word : List ℕ) (cs : List Code) → holds_pair a b word ≡ true → NoSigns cs → letters word cs ≡ None
+sign-none : (a b : ℕ) →
+    ((c d : Code) (ds : List Code) → letter_test a c ≡ true → letter_test b d ≡ true → NoSigns (c ∷ d ∷ ds) → ⊥) →
+    (word : List ℕ) (cs : List Code) → holds_pair a b word ≡ true → NoSigns cs → letters word cs ≡ None
 unfolding holds_pair
 sign-none a b never [] cs h k = cc
 sign-none a b never (n ∷ []) cs h k = cc
 sign-none a b never (n ∷ m ∷ ns) cs h k = by_test ((n == a) && (m == b)) refl h (λ f ds j. sign-none a b never (m ∷ ns) ds f j)
   where
-    by_test : (t : Bool) → (n == a) && (m == b) ≡ t → (t || holds_pair a b (m ∷ ns)) ≡ true → (holds_pair a b (m ∷ ns) ≡ true → (ds : List Code) → NoSigns ds → letters (m ∷ ns) ds ≡ None) → letters (n ∷ m ∷ ns) cs ≡ None
-    by_test true e f more = (λ i. letters (eqb-true n a (and-left (n == a) (m == b) e) i ∷ eqb-true m b (and-right (n == a) (m == b) e) i ∷ ns) cs) ∙ pair-none a b ns cs never k
+    by_test : (t : Bool) → (n == a) && (m == b) ≡ t → (t || holds_pair a b (m ∷ ns)) ≡ true →
+        (holds_pair a b (m ∷ ns) ≡ true → (ds : List Code) → NoSigns ds → letters (m ∷ ns) ds ≡ None) →
+        letters (n ∷ m ∷ ns) cs ≡ None
+    by_test true e f more =
+        (λ i. letters (eqb-true n a (and-left (n == a) (m == b) e) i ∷ eqb-true m b (and-right (n == a) (m == b) e) i ∷ ns) cs) ∙ pair-none a b ns cs never k
     by_test false e f more = letters-after n (m ∷ ns) cs (λ c ds g t. more f ds (behind c ds (subst NoSigns g k)))
 
 -- none of these words is read
@@ -138,19 +152,25 @@ each_hold_pair : ℕ → ℕ → List (List ℕ) → Bool
 each_hold_pair a b [] = true
 each_hold_pair a b (word ∷ words) = holds_pair a b word && each_hold_pair a b words
 
-signs-none : (a b : ℕ) → ((c d : Code) (ds : List Code) → letter_test a c ≡ true → letter_test b d ≡ true → NoSigns (c ∷ d ∷ ds) → ⊥) → (words : List (List ℕ)) (cs : List Code) → each_hold_pair a b words ≡ true → NoSigns cs → EachNone words cs
+signs-none : (a b : ℕ) →
+    ((c d : Code) (ds : List Code) → letter_test a c ≡ true → letter_test b d ≡ true → NoSigns (c ∷ d ∷ ds) → ⊥) →
+    (words : List (List ℕ)) (cs : List Code) → each_hold_pair a b words ≡ true → NoSigns cs → EachNone words cs
 unfolding EachNone each_hold_pair
 signs-none a b never [] cs h k = tt
 signs-none a b never (word ∷ words) cs h k =
     (sign-none a b never word cs (and-left (holds_pair a b word) (each_hold_pair a b words) h) k, signs-none a b never words cs (and-right (holds_pair a b word) (each_hold_pair a b words) h) k)
 
-no-scheme : (bytes : List ℕ) (end : ℕ) (previous : Option Code) (cs : List Code) → one_word_of schemes cs ≡ None → gfm_autolink_literal_protocol bytes end previous cs ≡ None
+no-scheme : (bytes : List ℕ) (end : ℕ) (previous : Option Code) (cs : List Code) → one_word_of schemes cs ≡ None →
+    gfm_autolink_literal_protocol bytes end previous cs ≡ None
 unfolding gfm_autolink_literal_protocol
-no-scheme bytes end previous cs e = off-or-none (not (is_some_code is_letter previous)) _ cs (bind-none (one_word_of schemes) _ cs e)
+no-scheme bytes end previous cs e =
+    off-or-none (not (is_some_code is_letter previous)) _ cs (bind-none (one_word_of schemes) _ cs e)
 
-no-protocol : (bytes : List ℕ) (end : ℕ) (previous : Option Code) (cs : List Code) → NoSigns cs → gfm_autolink_literal_protocol bytes end previous cs ≡ None
+no-protocol : (bytes : List ℕ) (end : ℕ) (previous : Option Code) (cs : List Code) → NoSigns cs →
+    gfm_autolink_literal_protocol bytes end previous cs ≡ None
 unfolding each_hold_pair holds_pair
-no-protocol bytes end previous cs k = no-scheme bytes end previous cs (no-word schemes cs (signs-none 58 47 colon-slash schemes cs refl k))
+no-protocol bytes end previous cs k =
+    no-scheme bytes end previous cs (no-word schemes cs (signs-none 58 47 colon-slash schemes cs refl k))
 
 no-www-letters : (cs : List Code) → NoSigns cs → letters www cs ≡ None
 unfolding holds_pair
@@ -163,14 +183,18 @@ are_words ([] ∷ words) = false
 are_words ((n ∷ []) ∷ words) = false
 are_words ((n ∷ m ∷ ns) ∷ words) = (nat_lt n 129 && nat_lt m 129) && are_words words
 
-word-none : (n m : ℕ) (ns : List ℕ) (c : Code) (cs : List Code) → nat_lt n 129 && nat_lt m 129 ≡ true → begins_with (n ∷ m ∷ ns) c.value (value_of (first_of cs)) ≡ false → letters (n ∷ m ∷ ns) (c ∷ cs) ≡ None
+word-none : (n m : ℕ) (ns : List ℕ) (c : Code) (cs : List Code) → nat_lt n 129 && nat_lt m 129 ≡ true →
+    begins_with (n ∷ m ∷ ns) c.value (value_of (first_of cs)) ≡ false → letters (n ∷ m ∷ ns) (c ∷ cs) ≡ None
 word-none n m ns c cs low h = by_first (marks (in_both_cases n) c.value) refl h
   where
-    by_first : (b : Bool) → marks (in_both_cases n) c.value ≡ b → (b && is_some_mark (in_both_cases m) (value_of (first_of cs))) ≡ false → letters (n ∷ m ∷ ns) (c ∷ cs) ≡ None
+    by_first : (b : Bool) → marks (in_both_cases n) c.value ≡ b →
+        (b && is_some_mark (in_both_cases m) (value_of (first_of cs))) ≡ false → letters (n ∷ m ∷ ns) (c ∷ cs) ≡ None
     by_first true e f = letters-behind n (m ∷ ns) c cs (no-next m ns cs (and-right (nat_lt n 129) (nat_lt m 129) low) f)
-    by_first false e f = letters-none n (m ∷ ns) (c ∷ cs) (sym (both-stand n c.value (and-left (nat_lt n 129) (nat_lt m 129) low)) ∙ e)
+    by_first false e f =
+        letters-none n (m ∷ ns) (c ∷ cs) (sym (both-stand n c.value (and-left (nat_lt n 129) (nat_lt m 129) low)) ∙ e)
 
-words-none : (words : List (List ℕ)) (c : Code) (cs : List Code) → are_words words ≡ true → list_any (λ word. begins_with word c.value (value_of (first_of cs))) words ≡ false → EachNone words (c ∷ cs)
+words-none : (words : List (List ℕ)) (c : Code) (cs : List Code) → are_words words ≡ true →
+    list_any (λ word. begins_with word c.value (value_of (first_of cs))) words ≡ false → EachNone words (c ∷ cs)
 unfolding EachNone are_words
 words-none [] c cs low h = tt
 words-none ([] ∷ words) c cs low h = cc
@@ -183,13 +207,15 @@ and-none : (b : Bool) → (b && false) ≡ false
 and-none true = refl
 and-none false = refl
 
-no-www : (bytes : List ℕ) (end : ℕ) (previous : Option Code) (cs : List Code) → letters www cs ≡ None → gfm_autolink_literal_www bytes end previous cs ≡ None
+no-www : (bytes : List ℕ) (end : ℕ) (previous : Option Code) (cs : List Code) → letters www cs ≡ None →
+    gfm_autolink_literal_www bytes end previous cs ≡ None
 unfolding gfm_autolink_literal_www
 no-www bytes end previous cs k =
     let none : begins_with_www cs ≡ false = by_letters (letters www cs) k in
     switched-off (www_from_here bytes end) (may_precede_www previous && begins_with_www cs) cs (ap (λ b. may_precede_www previous && b) none ∙ and-none (may_precede_www previous))
   where
-    by_letters : (o : Option (List Code × List Code)) → o ≡ None → (elim o as (λ _. Bool) [ None ↦ false | Some r ↦ not (is_empty r.1) ]) ≡ false
+    by_letters : (o : Option (List Code × List Code)) → o ≡ None →
+        (elim o as (λ _. Bool) [ None ↦ false | Some r ↦ not (is_empty r.1) ]) ≡ false
     by_letters None e = refl
     by_letters (Some r) e = cc
 
@@ -197,13 +223,16 @@ no-www bytes end previous cs k =
 
 module _ (s : Setting) (end : ℕ) (whole : List Code) (p : ParseState) (same : s.options ≡ p.options.now) where
   abbrev IsSingle : Code → List Code → Type 0
-  IsSingle c cs = (earlier : List Element) (previous : Option Code) → text_element s end earlier previous (c ∷ cs) ≡ Some (plain (code_leaf c), cs)
+  IsSingle c cs =
+      (earlier : List Element) (previous : Option Code) → text_element s end earlier previous (c ∷ cs) ≡ Some (plain (code_leaf c), cs)
 
   -- where no literal may begin, none is read
-  off : (a : Reading Forest) (cs : List Code) → may_hold_literals whole p ≡ false → (NoSigns whole → a cs ≡ None) → (provided s.options.constructs.gfm_autolink_literal >> a) cs ≡ None
+  off : (a : Reading Forest) (cs : List Code) → may_hold_literals whole p ≡ false → (NoSigns whole → a cs ≡ None) →
+      (provided s.options.constructs.gfm_autolink_literal >> a) cs ≡ None
   off a cs none reads = by_switch s.options.constructs.gfm_autolink_literal refl
     where
-      by_switch : (b : Bool) → s.options.constructs.gfm_autolink_literal ≡ b → (provided s.options.constructs.gfm_autolink_literal >> a) cs ≡ None
+      by_switch : (b : Bool) → s.options.constructs.gfm_autolink_literal ≡ b →
+          (provided s.options.constructs.gfm_autolink_literal >> a) cs ≡ None
       by_switch false e = switched-off a s.options.constructs.gfm_autolink_literal cs e
       by_switch true e =
           let on : p.options.now.constructs.gfm_autolink_literal ≡ true = ap (λ (o : ParseOptions). o.constructs.gfm_autolink_literal) (sym same) ∙ e in
@@ -223,7 +252,8 @@ module _ (s : Setting) (end : ℕ) (whole : List Code) (p : ParseState) (same : 
           (none-passes (λ n. not (list_any (λ m. n == m) (first_letters schemes) || list_any (λ m. n == m) (first_letters (www ∷ [])))) literal_letters refl c.value h)
 
   -- one that is no code of another row, where no literal may begin
-  other-letter : (c : Code) (cs : List Code) → is_among text_markers c ≡ true → is_among plain_markers c ≡ false → may_hold_literals whole p ≡ false → (NoSigns whole → NoSigns (c ∷ cs)) → IsSingle c cs
+  other-letter : (c : Code) (cs : List Code) → is_among text_markers c ≡ true → is_among plain_markers c ≡ false →
+      may_hold_literals whole p ≡ false → (NoSigns whole → NoSigns (c ∷ cs)) → IsSingle c cs
   other-letter c cs e h none part =
       at-letter c cs letter
       (λ previous. off (gfm_autolink_literal_protocol s.bytes end previous) (c ∷ cs) none (λ k. no-protocol s.bytes end previous (c ∷ cs) (part k)))
@@ -252,14 +282,22 @@ module _ (s : Setting) (end : ℕ) (whole : List Code) (p : ParseState) (same : 
   pub stops-where : AreSingle (text_element s end) (stops_by true (markers_for whole p)) whole
   stops-where front earlier previous c cs w free = by_marker (is_among (markers_for whole p) c) refl free
     where
-      by_letter : (b : Bool) → is_among text_markers c ≡ b → may_hold_literals whole p ≡ false → is_among plain_markers c ≡ false → text_element s end earlier previous (c ∷ cs) ≡ Some (plain (code_leaf c), cs)
+      by_letter : (b : Bool) → is_among text_markers c ≡ b → may_hold_literals whole p ≡ false →
+          is_among plain_markers c ≡ false →
+          text_element s end earlier previous (c ∷ cs) ≡ Some (plain (code_leaf c), cs)
       by_letter false e none h = other-element s end earlier previous c cs e
-      by_letter true e none h = other-letter c cs e h none (λ k. behind-all front (c ∷ cs) (subst NoSigns w k)) earlier previous
+      by_letter true e none h =
+          other-letter c cs e h none (λ k. behind-all front (c ∷ cs) (subst NoSigns w k)) earlier previous
 
-      by_signs : (b : Bool) → may_hold_literals whole p ≡ b → is_among (if b then text_markers else plain_markers) c ≡ false → text_element s end earlier previous (c ∷ cs) ≡ Some (plain (code_leaf c), cs)
+      by_signs : (b : Bool) → may_hold_literals whole p ≡ b →
+          is_among (if b then text_markers else plain_markers) c ≡ false →
+          text_element s end earlier previous (c ∷ cs) ≡ Some (plain (code_leaf c), cs)
       by_signs true e h = other-element s end earlier previous c cs h
       by_signs false e h = by_letter (is_among text_markers c) refl e h
 
-      by_marker : (b : Bool) → is_among (markers_for whole p) c ≡ b → (b && not (begins_none c.value (value_of (first_of cs)))) ≡ false → text_element s end earlier previous (c ∷ cs) ≡ Some (plain (code_leaf c), cs)
+      by_marker : (b : Bool) → is_among (markers_for whole p) c ≡ b →
+          (b && not (begins_none c.value (value_of (first_of cs)))) ≡ false →
+          text_element s end earlier previous (c ∷ cs) ≡ Some (plain (code_leaf c), cs)
       by_marker false e h = by_signs (may_hold_literals whole p) refl e
-      by_marker true e h = passed-letter c cs (not-false (begins_none c.value (value_of (first_of cs))) h) earlier previous
+      by_marker true e h =
+          passed-letter c cs (not-false (begins_none c.value (value_of (first_of cs))) h) earlier previous

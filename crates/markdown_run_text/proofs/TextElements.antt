@@ -36,7 +36,8 @@ element_here c cs (Some r) = Some (plain r.0, r.1)
 unfoldable pub plain_of : Option (Forest × List Code) → Option (Element × List Code)
 plain_of o = elim o [ None ↦ None | Some r ↦ Some (plain r.0, r.1) ]
 
-pub plain-switched : (on : Bool) (a : Reading Forest) (cs : List Code) → switched on (as_plain a) cs ≡ plain_of ((provided on >> a) cs)
+pub plain-switched : (on : Bool) (a : Reading Forest) (cs : List Code) →
+    switched on (as_plain a) cs ≡ plain_of ((provided on >> a) cs)
 unfolding switched as_plain ◌>>◌ ◌>>=◌ provided gives plain_of
 plain-switched true a cs = refl
 plain-switched false a cs = refl
@@ -47,14 +48,17 @@ off-or-none false a cs e = switched-off a false cs refl
 
 -- a code by itself
 
-leaf-by : (b : Bool) (c : Code) → is_line_ending c ≡ b → code_leaf c ≡ elim b as (λ _. Forest) [ true ↦ leaf N.LineEnding (c ∷ []) | false ↦ leaf N.Data (c ∷ []) ]
+leaf-by : (b : Bool) (c : Code) → is_line_ending c ≡ b →
+    code_leaf c ≡ elim b as (λ _. Forest) [ true ↦ leaf N.LineEnding (c ∷ []) | false ↦ leaf N.Data (c ∷ []) ]
 leaf-by b c e = ap (λ x. elim x as (λ _. Forest) [ true ↦ leaf N.LineEnding (c ∷ []) | false ↦ leaf N.Data (c ∷ []) ]) e
 
-pub data-alone : (c : Code) (cs : List Code) → is_line_ending c ≡ false → data_code (c ∷ cs) ≡ Some (plain (code_leaf c), cs)
+pub data-alone : (c : Code) (cs : List Code) → is_line_ending c ≡ false →
+    data_code (c ∷ cs) ≡ Some (plain (code_leaf c), cs)
 unfolding data_code ◌>>=◌ one gives
 data-alone c cs e = ap (λ t. Some (plain t, cs)) (sym (leaf-by false c e))
 
-pub ending-alone : (c : Code) (cs : List Code) → is_line_ending c ≡ true → line_ending (c ∷ cs) ≡ Some (plain (code_leaf c), cs)
+pub ending-alone : (c : Code) (cs : List Code) → is_line_ending c ≡ true →
+    line_ending (c ∷ cs) ≡ Some (plain (code_leaf c), cs)
 unfolding line_ending gives
 ending-alone c cs e =
     bind-some (one is_line_ending) _ (c ∷ cs) (c ∷ []) cs (Some (plain (leaf N.LineEnding (c ∷ [])), cs)) (one-here is_line_ending c cs e) refl
@@ -67,7 +71,8 @@ data-holds stops [] e = cc
 data-holds stops (c ∷ cs) e = cc
 
 -- a row and data behind it
-plain-or-data : (row : Reading Element) (c : Code) (cs : List Code) (o : Option (Forest × List Code)) → is_line_ending c ≡ false → row (c ∷ cs) ≡ plain_of o → either row data_code (c ∷ cs) ≡ element_here c cs o
+plain-or-data : (row : Reading Element) (c : Code) (cs : List Code) (o : Option (Forest × List Code)) →
+    is_line_ending c ≡ false → row (c ∷ cs) ≡ plain_of o → either row data_code (c ∷ cs) ≡ element_here c cs o
 unfolding plain_of
 plain-or-data row c cs None e k = either-second row data_code (c ∷ cs) k ∙ data-alone c cs e
 plain-or-data row c cs (Some r) e k = either-some row data_code (c ∷ cs) (plain r.0, r.1) k
@@ -79,10 +84,13 @@ tried-data [] v h = refl
 tried-data (row ∷ rows) v h = let k = not-in-row row rows v h in rw (k.0, tried) (tried-data rows v k.1)
 
 -- a code of a row, and of none before it
-tried-at : (front : Tries) (row : List ℕ × Reading Element) (behind : Tries) (v : ℕ) → list_any (λ n. v == n) (codes_in front) ≡ false → list_any (λ n. v == n) row.0 ≡ true → tried (front ++ row ∷ behind) v ≡ row.1
+tried-at : (front : Tries) (row : List ℕ × Reading Element) (behind : Tries) (v : ℕ) →
+    list_any (λ n. v == n) (codes_in front) ≡ false → list_any (λ n. v == n) row.0 ≡ true →
+    tried (front ++ row ∷ behind) v ≡ row.1
 unfolding tried
 tried-at [] row behind v none h = rw (h, tried) refl
-tried-at (other ∷ front) row behind v none h = let k = not-in-row other front v none in rw (k.0, tried) (tried-at front row behind v k.1 h)
+tried-at (other ∷ front) row behind v none h =
+    let k = not-in-row other front v none in rw (k.0, tried) (tried-at front row behind v k.1 h)
 
 -- The markers of runs.
 
@@ -116,7 +124,8 @@ only-math p escaped previous c cs e =
 
 module _ (s : Setting) (end : ℕ) (earlier : List Element) (previous : Option Code) where
   -- a check begins with a bracket
-  no-check : (c : Code) (cs : List Code) → (c.value == byte "[") ≡ false → first_check s end earlier previous (c ∷ cs) ≡ None
+  no-check : (c : Code) (cs : List Code) → (c.value == byte "[") ≡ false →
+      first_check s end earlier previous (c ∷ cs) ≡ None
   unfolding first_check plain_of gfm_task_list_item_check
   no-check c cs e =
       let begins : Bool = (is_none previous && s.first_of_item) && s.options.constructs.gfm_task_list_item in
@@ -131,15 +140,20 @@ module _ (s : Setting) (end : ℕ) (earlier : List Element) (previous : Option C
       (plain-switched ((is_none previous && s.first_of_item) && s.options.constructs.gfm_task_list_item) gfm_task_list_item_check (c ∷ cs) ∙ ap plain_of h)
 
   -- the row of the code, and data behind it
-  pub text-at : (row : Reading Element) (c : Code) (cs : List Code) → first_check s end earlier previous (c ∷ cs) ≡ None → tried (tries s end earlier previous) c.value ≡ row → text_element s end earlier previous (c ∷ cs) ≡ either row data_code (c ∷ cs)
+  pub text-at : (row : Reading Element) (c : Code) (cs : List Code) →
+      first_check s end earlier previous (c ∷ cs) ≡ None → tried (tries s end earlier previous) c.value ≡ row →
+      text_element s end earlier previous (c ∷ cs) ≡ either row data_code (c ∷ cs)
   unfolding text_element
   text-at row c cs none e =
       either-second (first_check s end earlier previous) (either (tried (tries s end earlier previous) c.value) data_code) (c ∷ cs) none
       ∙ ap (λ r. either r data_code (c ∷ cs)) e
 
   -- the same, of a code with this value, which is no bracket
-  text-row : (v : ℕ) (row : Reading Element) (c : Code) (cs : List Code) → c.value ≡ v → (v == byte "[") ≡ false → tried (tries s end earlier previous) v ≡ row → text_element s end earlier previous (c ∷ cs) ≡ either row data_code (c ∷ cs)
-  text-row v row c cs e n k = text-at row c cs (no-check c cs (ap (λ x. x == byte "[") e ∙ n)) (ap (tried (tries s end earlier previous)) e ∙ k)
+  text-row : (v : ℕ) (row : Reading Element) (c : Code) (cs : List Code) → c.value ≡ v → (v == byte "[") ≡ false →
+      tried (tries s end earlier previous) v ≡ row →
+      text_element s end earlier previous (c ∷ cs) ≡ either row data_code (c ∷ cs)
+  text-row v row c cs e n k =
+      text-at row c cs (no-check c cs (ap (λ x. x == byte "[") e ∙ n)) (ap (tried (tries s end earlier previous)) e ∙ k)
 
   value-other : (v : ℕ) (c : Code) → c.value ≡ v → (v == byte "\n") ≡ false → is_line_ending c ≡ false
   value-other v c e k = ap (λ n. n == byte "\n") e ∙ k
@@ -156,7 +170,8 @@ module _ (s : Setting) (end : ℕ) (earlier : List Element) (previous : Option C
   pub code-element : (c : Code) (cs : List Code) (o : Option (Forest × List Code)) → c.value ≡ byte "`"
       → (provided s.options.constructs.code_text >> span_here (byte "`") code_names (λ n. true) (ends_escaped earlier) previous) (c ∷ cs) ≡ o → text_element s end earlier previous (c ∷ cs) ≡ element_here c cs o
   unfolding tries tried code_text
-  code-element c cs o e h = one-row (byte "`") s.options.constructs.code_text (span_here (byte "`") code_names (λ n. true) (ends_escaped earlier) previous) c cs o e refl refl refl h
+  code-element c cs o e h =
+      one-row (byte "`") s.options.constructs.code_text (span_here (byte "`") code_names (λ n. true) (ends_escaped earlier) previous) c cs o e refl refl refl h
 
   pub math-element : (c : Code) (cs : List Code) (o : Option (Forest × List Code)) → c.value ≡ byte "$"
       → (provided s.options.constructs.math_text >> span_here (byte "$") math_names (λ n. s.options.math_text_single_dollar || nat_lt 1 n) (ends_escaped earlier) previous) (c ∷ cs) ≡ o
@@ -173,31 +188,38 @@ module _ (s : Setting) (end : ℕ) (earlier : List Element) (previous : Option C
       given : spans_by s.options (ends_escaped earlier) previous (c ∷ cs) ≡ o
       given = (λ i. same i (sym stands.escaped i) (sym stands.before i) (c ∷ cs)) ∙ h
 
-      by_test : (b : Bool) → (c.value == byte "$") ≡ b → (b || c.value == byte "`") ≡ true → text_element s end earlier previous (c ∷ cs) ≡ element_here c cs o
-      by_test true k f = let v = eqb-true c.value (byte "$") k in math-element c cs o v (sym (only-math s.options (ends_escaped earlier) previous c cs v) ∙ given)
-      by_test false k f = let v = eqb-true c.value (byte "`") f in code-element c cs o v (sym (only-code s.options (ends_escaped earlier) previous c cs v) ∙ given)
+      by_test : (b : Bool) → (c.value == byte "$") ≡ b → (b || c.value == byte "`") ≡ true →
+          text_element s end earlier previous (c ∷ cs) ≡ element_here c cs o
+      by_test true k f =
+          let v = eqb-true c.value (byte "$") k in math-element c cs o v (sym (only-math s.options (ends_escaped earlier) previous c cs v) ∙ given)
+      by_test false k f =
+          let v = eqb-true c.value (byte "`") f in code-element c cs o v (sym (only-code s.options (ends_escaped earlier) previous c cs v) ∙ given)
 
   -- References.
 
   pub reference-element : (c : Code) (cs : List Code) (o : Option (Forest × List Code)) → c.value ≡ byte "&"
       → (provided s.options.constructs.character_reference >> character_reference s.references) (c ∷ cs) ≡ o → text_element s end earlier previous (c ∷ cs) ≡ element_here c cs o
   unfolding tries tried
-  reference-element c cs o e h = one-row (byte "&") s.options.constructs.character_reference (character_reference s.references) c cs o e refl refl refl h
+  reference-element c cs o e h =
+      one-row (byte "&") s.options.constructs.character_reference (character_reference s.references) c cs o e refl refl refl h
 
   -- A row of two constructs: the first, and the second where that does not hold.
 
   abbrev pub IsRowOfTwo : ℕ → Bool → Bool → Reading Forest → Reading Forest → Type 0
-  IsRowOfTwo v on other a b = ((v == byte "\n") ≡ false) × (((v == byte "[") ≡ false) × (tried (tries s end earlier previous) v ≡ either (switched on (as_plain a)) (switched other (as_plain b))))
+  IsRowOfTwo v on other a b =
+      ((v == byte "\n") ≡ false) × (((v == byte "[") ≡ false) × (tried (tries s end earlier previous) v ≡ either (switched on (as_plain a)) (switched other (as_plain b))))
 
   module _ (v : ℕ) (on other : Bool) (a b : Reading Forest) (row : IsRowOfTwo v on other a b) (c : Code) (cs : List Code) (e : c.value ≡ v) where
-    pub first-element : (t : Forest) (rest : List Code) → (provided on >> a) (c ∷ cs) ≡ Some (t, rest) → text_element s end earlier previous (c ∷ cs) ≡ Some (plain t, rest)
+    pub first-element : (t : Forest) (rest : List Code) → (provided on >> a) (c ∷ cs) ≡ Some (t, rest) →
+        text_element s end earlier previous (c ∷ cs) ≡ Some (plain t, rest)
     unfolding plain_of
     first-element t rest h =
         text-row v _ c cs e row.1.0 row.1.1
         ∙ plain-or-data (either (switched on (as_plain a)) (switched other (as_plain b))) c cs (Some (t, rest)) (value-other v c e row.0)
         (either-some (switched on (as_plain a)) _ (c ∷ cs) (plain t, rest) (plain-switched on a (c ∷ cs) ∙ ap plain_of h))
 
-    pub second-element : (o : Option (Forest × List Code)) → (provided on >> a) (c ∷ cs) ≡ None → (provided other >> b) (c ∷ cs) ≡ o → text_element s end earlier previous (c ∷ cs) ≡ element_here c cs o
+    pub second-element : (o : Option (Forest × List Code)) → (provided on >> a) (c ∷ cs) ≡ None →
+        (provided other >> b) (c ∷ cs) ≡ o → text_element s end earlier previous (c ∷ cs) ≡ element_here c cs o
     unfolding plain_of
     second-element o none h =
         text-row v _ c cs e row.1.0 row.1.1
@@ -208,11 +230,13 @@ module _ (s : Setting) (end : ℕ) (earlier : List Element) (previous : Option C
 
   -- the row of a marker: its run, where that is read
   abbrev IsRunRow : ℕ → Type 0
-  IsRunRow v = ((v == byte "\n") ≡ false) × (((v == byte "[") ≡ false) × (tried (tries s end earlier previous) v ≡ switched (begins_run s.options.constructs v) (attention_run v)))
+  IsRunRow v =
+      ((v == byte "\n") ≡ false) × (((v == byte "[") ≡ false) × (tried (tries s end earlier previous) v ≡ switched (begins_run s.options.constructs v) (attention_run v)))
 
   run-row : (v : ℕ) → is_marker v ≡ true → IsRunRow v
   unfolding tries tried
-  run-row v h = one-of IsRunRow run_markers v ((refl, (refl, refl)), ((refl, (refl, refl)), ((refl, (refl, refl)), tt))) h
+  run-row v h =
+      one-of IsRunRow run_markers v ((refl, (refl, refl)), ((refl, (refl, refl)), ((refl, (refl, refl)), tt))) h
 
   pub run-element : (v : ℕ) (c : Code) (cs : List Code) (t : Forest) (rest : List Code) → is_marker v ≡ true → c.value ≡ v → switched (begins_run s.options.constructs v) (attention_run v) (c ∷ cs) ≡ Some (plain t, rest)
       → text_element s end earlier previous (c ∷ cs) ≡ Some (plain t, rest)
@@ -223,7 +247,8 @@ module _ (s : Setting) (end : ℕ) (earlier : List Element) (previous : Option C
   -- a row that does not hold
   row-none : (v : ℕ) (row : Reading Element) (c : Code) (cs : List Code) → c.value ≡ v → (v == byte "\n") ≡ false → (v == byte "[") ≡ false → tried (tries s end earlier previous) v ≡ row → row (c ∷ cs) ≡ None
       → text_element s end earlier previous (c ∷ cs) ≡ Some (plain (code_leaf c), cs)
-  row-none v row c cs e k n r h = text-row v row c cs e n r ∙ either-second row data_code (c ∷ cs) h ∙ data-alone c cs (value-other v c e k)
+  row-none v row c cs e k n r h =
+      text-row v row c cs e n r ∙ either-second row data_code (c ∷ cs) h ∙ data-alone c cs (value-other v c e k)
 
   -- a marker that begins no run
   pub run-off : (v : ℕ) (c : Code) (cs : List Code) → is_marker v ≡ true → c.value ≡ v → switched (begins_run s.options.constructs v) (attention_run v) (c ∷ cs) ≡ None
@@ -247,55 +272,70 @@ module _ (s : Setting) (end : ℕ) (earlier : List Element) (previous : Option C
   pub protocol-element : (v : ℕ) (c : Code) (cs : List Code) (o : Option (Forest × List Code)) → c.value ≡ v → list_any (λ n. v == n) (first_letters schemes) ≡ true
       → (provided s.options.constructs.gfm_autolink_literal >> gfm_autolink_literal_protocol s.bytes end previous) (c ∷ cs) ≡ o → text_element s end earlier previous (c ∷ cs) ≡ element_here c cs o
   unfolding tries
-  protocol-element = letter-row (take 9 (tries s end earlier previous)) (drop 10 (tries s end earlier previous)) (first_letters schemes) s.options.constructs.gfm_autolink_literal (gfm_autolink_literal_protocol s.bytes end previous) refl refl
+  protocol-element =
+      letter-row (take 9 (tries s end earlier previous)) (drop 10 (tries s end earlier previous)) (first_letters schemes) s.options.constructs.gfm_autolink_literal (gfm_autolink_literal_protocol s.bytes end previous) refl refl
 
   pub www-element : (v : ℕ) (c : Code) (cs : List Code) (o : Option (Forest × List Code)) → c.value ≡ v → list_any (λ n. v == n) (first_letters (www ∷ [])) ≡ true
       → (provided s.options.constructs.gfm_autolink_literal >> gfm_autolink_literal_www s.bytes end previous) (c ∷ cs) ≡ o → text_element s end earlier previous (c ∷ cs) ≡ element_here c cs o
   unfolding tries
-  www-element = letter-row (take 10 (tries s end earlier previous)) (drop 11 (tries s end earlier previous)) (first_letters (www ∷ [])) s.options.constructs.gfm_autolink_literal (gfm_autolink_literal_www s.bytes end previous) refl refl
+  www-element =
+      letter-row (take 10 (tries s end earlier previous)) (drop 11 (tries s end earlier previous)) (first_letters (www ∷ [])) s.options.constructs.gfm_autolink_literal (gfm_autolink_literal_www s.bytes end previous) refl refl
 
   -- Starts and ends of labels.
 
   -- what the row of a code gives
   row-some : (v : ℕ) (row : Reading Element) (c : Code) (cs : List Code) (r : Element × List Code) → c.value ≡ v → first_check s end earlier previous (c ∷ cs) ≡ None → tried (tries s end earlier previous) v ≡ row → row (c ∷ cs) ≡ Some r
       → text_element s end earlier previous (c ∷ cs) ≡ Some r
-  row-some v row c cs r e none is h = text-at row c cs none (ap (tried (tries s end earlier previous)) e ∙ is) ∙ either-some row data_code (c ∷ cs) r h
+  row-some v row c cs r e none is h =
+      text-at row c cs none (ap (tried (tries s end earlier previous)) e ∙ is) ∙ either-some row data_code (c ∷ cs) r h
 
   row-data : (v : ℕ) (row : Reading Element) (c : Code) (cs : List Code) → c.value ≡ v → (v == byte "\n") ≡ false → first_check s end earlier previous (c ∷ cs) ≡ None → tried (tries s end earlier previous) v ≡ row → row (c ∷ cs) ≡ None
       → text_element s end earlier previous (c ∷ cs) ≡ Some (plain (code_leaf c), cs)
-  row-data v row c cs e k none is h = text-at row c cs none (ap (tried (tries s end earlier previous)) e ∙ is) ∙ either-second row data_code (c ∷ cs) h ∙ data-alone c cs (value-other v c e k)
+  row-data v row c cs e k none is h =
+      text-at row c cs none (ap (tried (tries s end earlier previous)) e ∙ is) ∙ either-second row data_code (c ∷ cs) h ∙ data-alone c cs (value-other v c e k)
 
   -- a `!`
   abbrev pub bang_row : Reading Element
   bang_row = switched s.options.constructs.label_start_image (label_start_image s.options.constructs.gfm_label_start_footnote)
 
-  pub image-element : (c : Code) (cs : List Code) (r : Element × List Code) → c.value ≡ byte "!" → bang_row (c ∷ cs) ≡ Some r → text_element s end earlier previous (c ∷ cs) ≡ Some r
+  pub image-element : (c : Code) (cs : List Code) (r : Element × List Code) → c.value ≡ byte "!" →
+      bang_row (c ∷ cs) ≡ Some r → text_element s end earlier previous (c ∷ cs) ≡ Some r
   unfolding tries tried
   image-element c cs r e h = row-some (byte "!") bang_row c cs r e (no-check c cs (ap (λ x. x == byte "[") e)) refl h
 
-  pub no-image-element : (c : Code) (cs : List Code) → c.value ≡ byte "!" → bang_row (c ∷ cs) ≡ None → text_element s end earlier previous (c ∷ cs) ≡ Some (plain (code_leaf c), cs)
+  pub no-image-element : (c : Code) (cs : List Code) → c.value ≡ byte "!" → bang_row (c ∷ cs) ≡ None →
+      text_element s end earlier previous (c ∷ cs) ≡ Some (plain (code_leaf c), cs)
   unfolding tries tried
-  no-image-element c cs e h = row-data (byte "!") bang_row c cs e refl (no-check c cs (ap (λ x. x == byte "[") e)) refl h
+  no-image-element c cs e h =
+      row-data (byte "!") bang_row c cs e refl (no-check c cs (ap (λ x. x == byte "[") e)) refl h
 
   -- a `[`
   abbrev pub bracket_row : Reading Element
-  bracket_row = either (switched s.options.constructs.gfm_label_start_footnote gfm_label_start_footnote) (switched s.options.constructs.label_start_link label_start_link)
+  bracket_row =
+      either (switched s.options.constructs.gfm_label_start_footnote gfm_label_start_footnote) (switched s.options.constructs.label_start_link label_start_link)
 
-  pub bracket-element : (c : Code) (cs : List Code) (r : Element × List Code) → first_check s end earlier previous (c ∷ cs) ≡ None → c.value ≡ byte "[" → bracket_row (c ∷ cs) ≡ Some r → text_element s end earlier previous (c ∷ cs) ≡ Some r
+  pub bracket-element : (c : Code) (cs : List Code) (r : Element × List Code) →
+      first_check s end earlier previous (c ∷ cs) ≡ None → c.value ≡ byte "[" → bracket_row (c ∷ cs) ≡ Some r →
+      text_element s end earlier previous (c ∷ cs) ≡ Some r
   unfolding tries tried
   bracket-element c cs r none e h = row-some (byte "[") bracket_row c cs r e none refl h
 
-  pub no-bracket-element : (c : Code) (cs : List Code) → first_check s end earlier previous (c ∷ cs) ≡ None → c.value ≡ byte "[" → bracket_row (c ∷ cs) ≡ None → text_element s end earlier previous (c ∷ cs) ≡ Some (plain (code_leaf c), cs)
+  pub no-bracket-element : (c : Code) (cs : List Code) → first_check s end earlier previous (c ∷ cs) ≡ None →
+      c.value ≡ byte "[" → bracket_row (c ∷ cs) ≡ None →
+      text_element s end earlier previous (c ∷ cs) ≡ Some (plain (code_leaf c), cs)
   unfolding tries tried
   no-bracket-element c cs none e h = row-data (byte "[") bracket_row c cs e refl none refl h
 
   -- a `]`
-  pub end-element : (c : Code) (cs : List Code) (r : Element × List Code) → c.value ≡ byte "]" → s.options.constructs.label_end ≡ true → label_end s earlier (c ∷ cs) ≡ Some r → text_element s end earlier previous (c ∷ cs) ≡ Some r
+  pub end-element : (c : Code) (cs : List Code) (r : Element × List Code) → c.value ≡ byte "]" →
+      s.options.constructs.label_end ≡ true → label_end s earlier (c ∷ cs) ≡ Some r →
+      text_element s end earlier previous (c ∷ cs) ≡ Some r
   unfolding tries tried switched
   end-element c cs r e on h =
       row-some (byte "]") (provided s.options.constructs.label_end >> label_end s earlier) c cs r e (no-check c cs (ap (λ x. x == byte "[") e)) refl (switched-on (label_end s earlier) s.options.constructs.label_end (c ∷ cs) on ∙ h)
 
-  pub no-end-element : (c : Code) (cs : List Code) → c.value ≡ byte "]" → s.options.constructs.label_end ≡ false → text_element s end earlier previous (c ∷ cs) ≡ Some (plain (code_leaf c), cs)
+  pub no-end-element : (c : Code) (cs : List Code) → c.value ≡ byte "]" → s.options.constructs.label_end ≡ false →
+      text_element s end earlier previous (c ∷ cs) ≡ Some (plain (code_leaf c), cs)
   unfolding tries tried switched
   no-end-element c cs e off =
       row-data (byte "]") (provided s.options.constructs.label_end >> label_end s earlier) c cs e refl (no-check c cs (ap (λ x. x == byte "[") e)) refl (switched-off (label_end s earlier) s.options.constructs.label_end (c ∷ cs) off)
@@ -303,21 +343,28 @@ module _ (s : Setting) (end : ℕ) (earlier : List Element) (previous : Option C
   -- Codes that begin no construct.
 
   -- the codes of the definition's rows are line endings, and those at which something is tried
-  plain-tried : (v : ℕ) → (v == byte "\n") ≡ false → list_any (λ n. v == n) text_markers ≡ false → tried (tries s end earlier previous) v ≡ data_code
+  plain-tried : (v : ℕ) → (v == byte "\n") ≡ false → list_any (λ n. v == n) text_markers ≡ false →
+      tried (tries s end earlier previous) v ≡ data_code
   unfolding tries
-  plain-tried v e h = tried-data (tries s end earlier previous) v (or_from (v == byte "\n") (list_any (λ n. v == n) text_markers) e h)
+  plain-tried v e h =
+      tried-data (tries s end earlier previous) v (or_from (v == byte "\n") (list_any (λ n. v == n) text_markers) e h)
 
-  ending-at : (c : Code) (cs : List Code) → is_line_ending c ≡ true → text_element s end earlier previous (c ∷ cs) ≡ Some (plain (code_leaf c), cs)
+  ending-at : (c : Code) (cs : List Code) → is_line_ending c ≡ true →
+      text_element s end earlier previous (c ∷ cs) ≡ Some (plain (code_leaf c), cs)
   unfolding tries tried
-  ending-at c cs e = text-row (byte "\n") line_ending c cs (eqb-true c.value (byte "\n") e) refl refl ∙ either-some line_ending data_code (c ∷ cs) (plain (code_leaf c), cs) (ending-alone c cs e)
+  ending-at c cs e =
+      text-row (byte "\n") line_ending c cs (eqb-true c.value (byte "\n") e) refl refl ∙ either-some line_ending data_code (c ∷ cs) (plain (code_leaf c), cs) (ending-alone c cs e)
 
-  data-at : (c : Code) (cs : List Code) → is_line_ending c ≡ false → is_among text_markers c ≡ false → text_element s end earlier previous (c ∷ cs) ≡ Some (plain (code_leaf c), cs)
+  data-at : (c : Code) (cs : List Code) → is_line_ending c ≡ false → is_among text_markers c ≡ false →
+      text_element s end earlier previous (c ∷ cs) ≡ Some (plain (code_leaf c), cs)
   data-at c cs e h =
       text-at data_code c cs (no-check c cs (none-of text_markers c.value (byte "[") h refl)) (plain-tried c.value e h) ∙ either-some data_code data_code (c ∷ cs) (plain (code_leaf c), cs) (data-alone c cs e)
 
-  pub other-element : (c : Code) (cs : List Code) → is_among text_markers c ≡ false → text_element s end earlier previous (c ∷ cs) ≡ Some (plain (code_leaf c), cs)
+  pub other-element : (c : Code) (cs : List Code) → is_among text_markers c ≡ false →
+      text_element s end earlier previous (c ∷ cs) ≡ Some (plain (code_leaf c), cs)
   other-element c cs h = by_ending (is_line_ending c) refl
     where
-      by_ending : (b : Bool) → is_line_ending c ≡ b → text_element s end earlier previous (c ∷ cs) ≡ Some (plain (code_leaf c), cs)
+      by_ending : (b : Bool) → is_line_ending c ≡ b →
+          text_element s end earlier previous (c ∷ cs) ≡ Some (plain (code_leaf c), cs)
       by_ending true e = ending-at c cs e
       by_ending false e = data-at c cs e h

@@ -47,38 +47,45 @@ is-the : (v : ℕ) (c : Code) → c.value ≡ v → (c.value == v) ≡ (v == v)
 is-the v c e = ap (λ x. x == v) e
 
 -- a word of two codes
-pair-some : (v w : ℕ) (c d : Code) (cs : List Code) → (c.value == v) ≡ true → (d.value == w) ≡ true → word_of (v ∷ w ∷ []) (c ∷ d ∷ cs) ≡ Some (c ∷ d ∷ [], cs)
+pair-some : (v w : ℕ) (c d : Code) (cs : List Code) → (c.value == v) ≡ true → (d.value == w) ≡ true →
+    word_of (v ∷ w ∷ []) (c ∷ d ∷ cs) ≡ Some (c ∷ d ∷ [], cs)
 unfolding word_of
 pair-some v w c d cs e f =
     let inner : word_of (w ∷ []) (d ∷ cs) ≡ Some (d ∷ [], cs) = by_test (d.value == w) f in
     by_first (c.value == v) e inner
   where
-    by_test : (b : Bool) → b ≡ true → elim b as (λ _. Option (List Code × List Code)) [ true ↦ with_first d (word_of [] cs) | false ↦ None ] ≡ Some (d ∷ [], cs)
+    by_test : (b : Bool) → b ≡ true →
+        elim b as (λ _. Option (List Code × List Code)) [ true ↦ with_first d (word_of [] cs) | false ↦ None ] ≡ Some (d ∷ [], cs)
     by_test true h = refl
     by_test false h = cc
 
-    by_first : (b : Bool) → b ≡ true → word_of (w ∷ []) (d ∷ cs) ≡ Some (d ∷ [], cs) → elim b as (λ _. Option (List Code × List Code)) [ true ↦ with_first c (word_of (w ∷ []) (d ∷ cs)) | false ↦ None ] ≡ Some (c ∷ d ∷ [], cs)
+    by_first : (b : Bool) → b ≡ true → word_of (w ∷ []) (d ∷ cs) ≡ Some (d ∷ [], cs) →
+        elim b as (λ _. Option (List Code × List Code)) [ true ↦ with_first c (word_of (w ∷ []) (d ∷ cs)) | false ↦ None ] ≡ Some (c ∷ d ∷ [], cs)
     by_first true h k = ap (with_first c) k
     by_first false h k = cc
 
-pair-none : (v w : ℕ) (cs : List Code) → next_is (is_value v) cs && next_is (is_value w) (rest_of cs) ≡ false → word_of (v ∷ w ∷ []) cs ≡ None
+pair-none : (v w : ℕ) (cs : List Code) → next_is (is_value v) cs && next_is (is_value w) (rest_of cs) ≡ false →
+    word_of (v ∷ w ∷ []) cs ≡ None
 unfolding word_of
 pair-none v w [] e = refl
 pair-none v w (c ∷ []) e = by_test (c.value == v)
   where
-    by_test : (b : Bool) → elim b as (λ _. Option (List Code × List Code)) [ true ↦ with_first c (word_of (w ∷ []) []) | false ↦ None ] ≡ None
+    by_test : (b : Bool) →
+        elim b as (λ _. Option (List Code × List Code)) [ true ↦ with_first c (word_of (w ∷ []) []) | false ↦ None ] ≡ None
     by_test true = refl
     by_test false = refl
 pair-none v w (c ∷ d ∷ cs) e = by_tests (c.value == v) (d.value == w) e
   where
-    by_tests : (a b : Bool) → a && b ≡ false → elim a as (λ _. Option (List Code × List Code)) [ true ↦ with_first c (elim b as (λ _. Option (List Code × List Code)) [ true ↦ with_first d (word_of [] cs) | false ↦ None ]) | false ↦ None ] ≡ None
+    by_tests : (a b : Bool) → a && b ≡ false →
+        elim a as (λ _. Option (List Code × List Code)) [ true ↦ with_first c (elim b as (λ _. Option (List Code × List Code)) [ true ↦ with_first d (word_of [] cs) | false ↦ None ]) | false ↦ None ] ≡ None
     by_tests true true h = cc
     by_tests true false h = refl
     by_tests false b h = refl
 
 -- Switches.
 
-pub on-some : (on : Bool) (a : Reading Element) (cs : List Code) (r : Element × List Code) → on ≡ true → a cs ≡ Some r → switched on a cs ≡ Some r
+pub on-some : (on : Bool) (a : Reading Element) (cs : List Code) (r : Element × List Code) → on ≡ true → a cs ≡ Some r →
+    switched on a cs ≡ Some r
 unfolding switched
 on-some on a cs r e h = switched-on a on cs e ∙ h
 
@@ -90,30 +97,40 @@ on-none false a cs h = switched-off a false cs refl
 
 -- Starts.
 
-pub footnote-some : (c d : Code) (cs : List Code) → c.value ≡ byte "[" → d.value ≡ byte "^" → gfm_label_start_footnote (c ∷ d ∷ cs) ≡ Some (starts LabelKind.GfmFootnote (c ∷ d ∷ []), cs)
+pub footnote-some : (c d : Code) (cs : List Code) → c.value ≡ byte "[" → d.value ≡ byte "^" →
+    gfm_label_start_footnote (c ∷ d ∷ cs) ≡ Some (starts LabelKind.GfmFootnote (c ∷ d ∷ []), cs)
 unfolding gfm_label_start_footnote word gives
-footnote-some c d cs e f = bind-some (word "[^") _ (c ∷ d ∷ cs) (c ∷ d ∷ []) cs _ (pair-some (byte "[") (byte "^") c d cs (is-the (byte "[") c e) (is-the (byte "^") d f)) refl
+footnote-some c d cs e f =
+    bind-some (word "[^") _ (c ∷ d ∷ cs) (c ∷ d ∷ []) cs _ (pair-some (byte "[") (byte "^") c d cs (is-the (byte "[") c e) (is-the (byte "^") d f)) refl
 
-pub footnote-none : (cs : List Code) → next_is (is_value (byte "[")) cs && next_is (is_value (byte "^")) (rest_of cs) ≡ false → gfm_label_start_footnote cs ≡ None
+pub footnote-none : (cs : List Code) →
+    next_is (is_value (byte "[")) cs && next_is (is_value (byte "^")) (rest_of cs) ≡ false →
+    gfm_label_start_footnote cs ≡ None
 unfolding gfm_label_start_footnote word
 footnote-none cs e = bind-none (word "[^") _ cs (pair-none (byte "[") (byte "^") cs e)
 
-pub link-some : (c : Code) (cs : List Code) → c.value ≡ byte "[" → label_start_link (c ∷ cs) ≡ Some (starts LabelKind.Link (c ∷ []), cs)
+pub link-some : (c : Code) (cs : List Code) → c.value ≡ byte "[" →
+    label_start_link (c ∷ cs) ≡ Some (starts LabelKind.Link (c ∷ []), cs)
 unfolding label_start_link gives
-link-some c cs e = bind-some (one (is_value (byte "["))) _ (c ∷ cs) (c ∷ []) cs _ (one-here (is_value (byte "[")) c cs (is-the (byte "[") c e)) refl
+link-some c cs e =
+    bind-some (one (is_value (byte "["))) _ (c ∷ cs) (c ∷ []) cs _ (one-here (is_value (byte "[")) c cs (is-the (byte "[") c e)) refl
 
 pub link-none : (cs : List Code) → next_is (is_value (byte "[")) cs ≡ false → label_start_link cs ≡ None
 unfolding label_start_link
 link-none cs e = bind-none (one (is_value (byte "["))) _ cs (one-not (is_value (byte "[")) cs e)
 
-pub image-some : (footnotes : Bool) (c d : Code) (cs : List Code) → c.value ≡ byte "!" → d.value ≡ byte "[" → not (footnotes && next_is (is_value (byte "^")) cs) ≡ true → label_start_image footnotes (c ∷ d ∷ cs) ≡ Some (starts LabelKind.Image (c ∷ d ∷ []), cs)
+pub image-some : (footnotes : Bool) (c d : Code) (cs : List Code) → c.value ≡ byte "!" → d.value ≡ byte "[" →
+    not (footnotes && next_is (is_value (byte "^")) cs) ≡ true →
+    label_start_image footnotes (c ∷ d ∷ cs) ≡ Some (starts LabelKind.Image (c ∷ d ∷ []), cs)
 unfolding label_start_image word gives
 image-some footnotes c d cs e f h =
     bind-some (before (word "![") (λ xs. not (footnotes && next_is (is_value (byte "^")) xs))) _ (c ∷ d ∷ cs) (c ∷ d ∷ []) cs _
     (before-some (word "![") (λ xs. not (footnotes && next_is (is_value (byte "^")) xs)) (c ∷ d ∷ cs) (c ∷ d ∷ []) cs (pair-some (byte "!") (byte "[") c d cs (is-the (byte "!") c e) (is-the (byte "[") d f)) h) refl
 
 -- where one of the tests fails
-pub image-none : (footnotes : Bool) (cs : List Code) → next_is (is_value (byte "!")) cs && (next_is (is_value (byte "[")) (rest_of cs) && not (footnotes && next_is (is_value (byte "^")) (rest_of (rest_of cs)))) ≡ false → label_start_image footnotes cs ≡ None
+pub image-none : (footnotes : Bool) (cs : List Code) →
+    next_is (is_value (byte "!")) cs && (next_is (is_value (byte "[")) (rest_of cs) && not (footnotes && next_is (is_value (byte "^")) (rest_of (rest_of cs)))) ≡ false →
+    label_start_image footnotes cs ≡ None
 unfolding label_start_image word
 image-none footnotes cs e = bind-none (before (word "![") (λ xs. not (footnotes && next_is (is_value (byte "^")) xs))) _ cs (by_first (next_is (is_value (byte "!")) cs && next_is (is_value (byte "[")) (rest_of cs)) refl)
   where
@@ -122,11 +139,13 @@ image-none footnotes cs e = bind-none (before (word "![") (λ xs. not (footnotes
     and-apart true false c h k = cc
     and-apart false b c h k = cc
 
-    there : (f : Begins (byte "!") cs) (g : Begins (byte "[") (rest_of cs)) → word "![" cs ≡ Some (f.code ∷ g.code ∷ [], rest_of (rest_of cs))
+    there : (f : Begins (byte "!") cs) (g : Begins (byte "[") (rest_of cs)) →
+        word "![" cs ≡ Some (f.code ∷ g.code ∷ [], rest_of (rest_of cs))
     there f g =
         ap (word "![") (f.whole ∙ ap (λ xs. f.code ∷ xs) g.whole) ∙ pair-some (byte "!") (byte "[") f.code g.code (rest_of (rest_of cs)) (is-the (byte "!") f.code f.value) (is-the (byte "[") g.code g.value)
 
-    by_first : (b : Bool) → next_is (is_value (byte "!")) cs && next_is (is_value (byte "[")) (rest_of cs) ≡ b → before (word "![") (λ xs. not (footnotes && next_is (is_value (byte "^")) xs)) cs ≡ None
+    by_first : (b : Bool) → next_is (is_value (byte "!")) cs && next_is (is_value (byte "[")) (rest_of cs) ≡ b →
+        before (word "![") (λ xs. not (footnotes && next_is (is_value (byte "^")) xs)) cs ≡ None
     by_first true h =
         before-other (word "![") (λ xs. not (footnotes && next_is (is_value (byte "^")) xs)) cs _ (rest_of (rest_of cs))
         (there (first-is (byte "!") cs (and-left _ _ h)) (first-is (byte "[") (rest_of cs) (and-right _ _ h)))
@@ -137,9 +156,11 @@ image-none footnotes cs e = bind-none (before (word "![") (λ xs. not (footnotes
 
 -- the elements of these codes are those of the codes at hand
 abbrev FindsStart : LabelKind → List Code → List Code → Tokenizer → Type 0
-FindsStart kind marker rest T = (earlier : List Element) (previous : Option Code) → StandsAfter earlier previous T → text_choice_of T earlier previous (ahead T) ≡ Some (starts kind marker, rest)
+FindsStart kind marker rest T =
+    (earlier : List Element) (previous : Option Code) → StandsAfter earlier previous T → text_choice_of T earlier previous (ahead T) ≡ Some (starts kind marker, rest)
 
-started : (kind : LabelKind) (marker rest : List Code) (T U : Tokenizer) → PastStart kind marker rest T U → FindsStart kind marker rest T → Advances (text_choice_of T) T U
+started : (kind : LabelKind) (marker rest : List Code) (T U : Tokenizer) → PastStart kind marker rest T U →
+    FindsStart kind marker rest T → Advances (text_choice_of T) T U
 started kind marker rest T U p finds =
     start-advances (text_choice_of T) kind marker T U p.is p.left (p.whole ∙ ap (λ xs. marker ++ xs) (sym p.after)) (λ earlier previous stands. finds earlier previous stands ∙ ap (λ xs. Some (starts kind marker, xs)) (sym p.after))
 
@@ -162,7 +183,8 @@ image-alone T e refused earlier previous c cs stands w =
     (on-none T.parse_state.now.options.now.constructs.label_start_image _ (c ∷ cs) (λ on.
     image-none (footnotes_on T) (c ∷ cs) (ap (λ xs. next_is (is_value (byte "!")) xs && (next_is (is_value (byte "[")) (rest_of xs) && not (footnotes_on T && next_is (is_value (byte "^")) (rest_of (rest_of xs))))) (sym w) ∙ later-tests T.parse_state.now.options.now.constructs.label_start_image _ _ on refused)))
 
-pub footnote-advances : (T U : Tokenizer) → check_here T (ahead T) ≡ None → footnote_ends T true U → Advances (text_choice_of T) T U
+pub footnote-advances : (T U : Tokenizer) → check_here T (ahead T) ≡ None → footnote_ends T true U →
+    Advances (text_choice_of T) T U
 footnote-advances T U none k =
     let f : Begins (byte "[") (ahead T) = first-is (byte "[") (ahead T) (and-right _ _ (and-left _ _ k.holds)) in
     let g : Begins (byte "^") (rest_of (ahead T)) = first-is (byte "^") (rest_of (ahead T)) (and-right _ _ k.holds) in
@@ -176,11 +198,13 @@ footnote-advances T U none k =
     (either-some _ _ (f.code ∷ g.code ∷ rest) found (on-some (footnotes_on T) gfm_label_start_footnote (f.code ∷ g.code ∷ rest) found (and-left _ _ (and-left _ _ k.holds)) (footnote-some f.code g.code rest f.value g.value))))
 
 -- no footnote call begins here
-no-footnote : (T : Tokenizer) (cs : List Code) → ahead T ≡ cs → footnote_test T (ahead T) ≡ false → switched (footnotes_on T) gfm_label_start_footnote cs ≡ None
+no-footnote : (T : Tokenizer) (cs : List Code) → ahead T ≡ cs → footnote_test T (ahead T) ≡ false →
+    switched (footnotes_on T) gfm_label_start_footnote cs ≡ None
 no-footnote T cs w refused =
     on-none (footnotes_on T) gfm_label_start_footnote cs (λ on. footnote-none cs (ap (λ xs. next_is (is_value (byte "[")) xs && next_is (is_value (byte "^")) (rest_of xs)) (sym w) ∙ later-tests (footnotes_on T) _ _ on refused))
 
-pub link-advances : (T U : Tokenizer) → check_here T (ahead T) ≡ None → footnote_test T (ahead T) ≡ false → link_ends T true U → Advances (text_choice_of T) T U
+pub link-advances : (T U : Tokenizer) → check_here T (ahead T) ≡ None → footnote_test T (ahead T) ≡ false →
+    link_ends T true U → Advances (text_choice_of T) T U
 link-advances T U none refused k =
     let f : Begins (byte "[") (ahead T) = first-is (byte "[") (ahead T) (and-right _ _ k.holds) in
     let rest : List Code = rest_of (ahead T) in
@@ -191,7 +215,8 @@ link-advances T U none refused k =
     ∙ bracket-element (text_setting T) (end_in T) earlier previous f.code rest found (first-none T earlier previous f.code rest none stands f.whole) f.value
     (either-second _ _ (f.code ∷ rest) (no-footnote T (f.code ∷ rest) f.whole refused) ∙ on-some T.parse_state.now.options.now.constructs.label_start_link label_start_link (f.code ∷ rest) found (and-left _ _ k.holds) (link-some f.code rest f.value)))
 
-pub bracket-alone : (T : Tokenizer) → check_here T (ahead T) ≡ None → current_of T ≡ Some (byte "[") → footnote_test T (ahead T) ≡ false → link_test T (ahead T) ≡ false → StandsAlone T
+pub bracket-alone : (T : Tokenizer) → check_here T (ahead T) ≡ None → current_of T ≡ Some (byte "[") →
+    footnote_test T (ahead T) ≡ false → link_test T (ahead T) ≡ false → StandsAlone T
 bracket-alone T none e no_footnote refused earlier previous c cs stands w =
     no-bracket-element (text_setting T) (end_in T) earlier previous c cs (first-none T earlier previous c cs none stands w) (value-here T (byte "[") c cs e w)
     (either-second _ _ (c ∷ cs) (no-footnote T (c ∷ cs) w no_footnote)
@@ -200,7 +225,8 @@ bracket-alone T none e no_footnote refused earlier previous c cs stands w =
 -- Ends.
 
 -- the end of a label does not depend on switches, nor on whether the content is the first of a list item
-same-end : (T : Tokenizer) (earlier : List Element) (cs : List Code) → label_end (text_setting T) earlier cs ≡ label_end (setting_in T) earlier cs
+same-end : (T : Tokenizer) (earlier : List Element) (cs : List Code) →
+    label_end (text_setting T) earlier cs ≡ label_end (setting_in T) earlier cs
 unfolding label_end outcome_of footnote_call link_or_image label_identifier after_label reference_after_label shortcut_before_bracket full_reference reference_identifier
 same-end T earlier cs = refl
 
@@ -217,7 +243,9 @@ some-back x (Some r) back kind tail rest e = (ap back-of e, ap outcome-of e)
     outcome-of None = None
     outcome-of (Some y) = Some (y.0.1, y.1)
 
-none-back : (x : List Code) (o : Option ((LabelKind × Forest) × List Code)) → elim o as (λ _. Option ((List Code × (LabelKind × Forest)) × List Code)) [ None ↦ None | Some r ↦ Some ((x, r.0), r.1) ] ≡ None → o ≡ None
+none-back : (x : List Code) (o : Option ((LabelKind × Forest) × List Code)) →
+    elim o as (λ _. Option ((List Code × (LabelKind × Forest)) × List Code)) [ None ↦ None | Some r ↦ Some ((x, r.0), r.1) ] ≡ None →
+    o ≡ None
 none-back x None e = refl
 none-back x (Some r) e = cc
 
@@ -247,7 +275,9 @@ module _ (T : Tokenizer) (here : current_of T ≡ Some (byte "]")) (on : is_on T
       ∙ ap (λ ws. Some (ends ws (Some (k.kind, k.tail)), k.rest)) parts.0)
 
   -- where it makes none, its `]` is the first code of the data behind it
-  pub failed-advances : (V : Tokenizer) → StopsAtElements T → end_reading T (ahead T) ≡ None → (let F : Tokenizer = past_mark loses T in Reads (data_up_to (stops_of T.tokenize_state)) None F.tokenize_state F V) → Advances (text_choice_of T) T V
+  pub failed-advances : (V : Tokenizer) → StopsAtElements T → end_reading T (ahead T) ≡ None →
+      (let F : Tokenizer = past_mark loses T in Reads (data_up_to (stops_of T.tokenize_state)) None F.tokenize_state F V) →
+      Advances (text_choice_of T) T V
   failed-advances V stops none k =
       lost-advances (text_choice_of T) (stops_of T.tokenize_state) T V B.code behind B.whole (ap (λ v. v == byte "\n") B.value) k
       (λ earlier previous stands.
@@ -259,4 +289,5 @@ module _ (T : Tokenizer) (here : current_of T ≡ Some (byte "]")) (on : is_on T
 
 -- where ends are off
 pub end-alone : (T : Tokenizer) → current_of T ≡ Some (byte "]") → is_on T ≡ false → StandsAlone T
-end-alone T e off earlier previous c cs stands w = no-end-element (text_setting T) (end_in T) earlier previous c cs (value-here T (byte "]") c cs e w) off
+end-alone T e off earlier previous c cs stands w =
+    no-end-element (text_setting T) (end_in T) earlier previous c cs (value-here T (byte "]") c cs e w) off

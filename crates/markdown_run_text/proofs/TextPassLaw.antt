@@ -19,15 +19,21 @@ on_in T = T.parse_state.now.options.now.constructs
 -- W is T trimmed
 module _ (T W : Tokenizer) (same : W ≡ record T { events = W.events })
     (trims : (t : Forest) → HasParts (bytes_in T) t → T.events ≡ appended_from 0 None t → W.events ≡ appended_from 0 None (trimmed (on_in T).hard_break_trailing true true t)) where
-  parts-there : (t : Forest) → HasParts (bytes_in T) t → HasParts (bytes_in W) (trimmed (on_in T).hard_break_trailing true true t)
-  parts-there t h = subst (λ bs. HasParts bs (trimmed (on_in T).hard_break_trailing true true t)) (sym (ap bytes_in same)) (parts-kept (bytes_in T) (on_in T).hard_break_trailing t true true h)
+  parts-there : (t : Forest) → HasParts (bytes_in T) t →
+      HasParts (bytes_in W) (trimmed (on_in T).hard_break_trailing true true t)
+  parts-there t h =
+      subst (λ bs. HasParts bs (trimmed (on_in T).hard_break_trailing true true t)) (sym (ap bytes_in same)) (parts-kept (bytes_in T) (on_in T).hard_break_trailing t true true h)
 
   -- its data stands at places of the document
-  pub places-there : (t : Forest) → HasParts (bytes_in T) t → T.events ≡ appended_from 0 None t → HasPlaces (bytes_in W) W.events
-  places-there t h e = places-of (bytes_in W) (trimmed (on_in T).hard_break_trailing true true t) W.events (parts-there t h) (trims t h e)
+  pub places-there : (t : Forest) → HasParts (bytes_in T) t → T.events ≡ appended_from 0 None t →
+      HasPlaces (bytes_in W) W.events
+  places-there t h e =
+      places-of (bytes_in W) (trimmed (on_in T).hard_break_trailing true true t) W.events (parts-there t h) (trims t h e)
 
   -- and V is W with its emails set apart
-  pub finishes-with : (V : Tokenizer) → V ≡ record W { events = V.events } → ((t : Forest) → HasParts (bytes_in W) t → W.events ≡ appended_from 0 None t → V.events ≡ appended_from 0 None (with_emails_apart t)) → (on_in W).gfm_autolink_literal ≡ true → FinishesText T V
+  pub finishes-with : (V : Tokenizer) → V ≡ record W { events = V.events } →
+      ((t : Forest) → HasParts (bytes_in W) t → W.events ≡ appended_from 0 None t → V.events ≡ appended_from 0 None (with_emails_apart t)) →
+      (on_in W).gfm_autolink_literal ≡ true → FinishesText T V
   finishes-with V last mails on = record {
     same = last ∙ ap (λ (x : Tokenizer). record x { events = V.events }) same;
     trims = λ t h e.

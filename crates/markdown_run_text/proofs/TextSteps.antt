@@ -74,7 +74,8 @@ pub record IsSame (T U : Tokenizer) : Type 0 where
 pub ends-rest : (T : Tokenizer) → LabelEnd.StartReady T → EndsRest T.tokenize_state
 ends-rest T r = record { end = r.resting; seen = sym (ap (λ (s : TokenizeState). s.seen) r.part.rest) }
 
-pub same-row : (row : Row) (T U : Tokenizer) → U ≡ past_row row T → IsRowAt (kinds_of T) row → LabelEnd.StartReady T → IsSame T U
+pub same-row : (row : Row) (T U : Tokenizer) → U ≡ past_row row T → IsRowAt (kinds_of T) row → LabelEnd.StartReady T →
+    IsSame T U
 same-row row T U left is r =
     subst (λ (x : Tokenizer). IsSame T x) (sym left)
     (record {
@@ -101,10 +102,13 @@ pub sequences-past : (T U : Tokenizer) → IsSame T U → HtmlText.IsIndexed T �
 sequences-past T U e k = indexed-same T U e.codes (ap (λ (s : TokenizeState). s.sequences) e.fields) k
 
 pub listed-past : (T U : Tokenizer) → IsSame T U → IsListed T → IsListed U
-listed-past T U e k names known = subst (λ (p : ParseState). AreListed (setting_of p) names) (λ i. (sym e.input i).now) (k names (ap (λ (s : TokenizeState). s.names) (sym e.fields) ∙ known))
+listed-past T U e k names known =
+    subst (λ (p : ParseState). AreListed (setting_of p) names) (λ i. (sym e.input i).now) (k names (ap (λ (s : TokenizeState). s.names) (sym e.fields) ∙ known))
 
-pub domains-past : (T U : Tokenizer) → IsSame T U → GfmAutolinkLiteral.KnowsDomains T → GfmAutolinkLiteral.KnowsDomains U
-domains-past T U e k places known = k places (ap (λ (s : TokenizeState). s.no_domains) (sym e.fields) ∙ known) ∙ (λ i. no_domains (sym e.input i).now.bytes.now (sym e.end i).index (sym e.codes i))
+pub domains-past : (T U : Tokenizer) → IsSame T U → GfmAutolinkLiteral.KnowsDomains T →
+    GfmAutolinkLiteral.KnowsDomains U
+domains-past T U e k places known =
+    k places (ap (λ (s : TokenizeState). s.no_domains) (sym e.fields) ∙ known) ∙ (λ i. no_domains (sym e.input i).now.bytes.now (sym e.end i).index (sym e.codes i))
 
 pub part-past : (T U : Tokenizer) → IsSame T U → codes_left U ≤ codes_left T → PartReady T → PartReady U
 part-past T U e l k =
@@ -130,7 +134,8 @@ pub stops-past : (T U : Tokenizer) → IsSame T U → StopsAtElements T → Stop
 stops-past T U e stops front earlier previous c cs w free =
     (λ i. choice-same T U e i earlier previous (c ∷ cs)) ∙ stops front earlier previous c cs (sym e.codes ∙ w) (ap (λ (stop : List Code → Bool). stop (c ∷ cs)) (sym (stops-same T U e)) ∙ free)
 
-pub marked-past : (T U : Tokenizer) → IsSame T U → codes_left U ≤ codes_left T → AreWithin U U.tokenize_state.label_starts → IsMarked T → IsMarked U
+pub marked-past : (T U : Tokenizer) → IsSame T U → codes_left U ≤ codes_left T →
+    AreWithin U U.tokenize_state.label_starts → IsMarked T → IsMarked U
 marked-past T U e l within r =
     let u : TokenizeState = U.tokenize_state in
     record {
@@ -154,24 +159,30 @@ and-none true true o e = e
 and-none true false o e = refl
 and-none false b o e = refl
 
-pub no-check-behind : (cs : List Code) (T U : Tokenizer) → U.cursor ≡ moved_by cs T.cursor → ahead T ≡ cs ++ ahead U → codes_left U < codes_left T → GfmTaskListItemCheck.check_here U (ahead U) ≡ None
+pub no-check-behind : (cs : List Code) (T U : Tokenizer) → U.cursor ≡ moved_by cs T.cursor → ahead T ≡ cs ++ ahead U →
+    codes_left U < codes_left T → GfmTaskListItemCheck.check_here U (ahead U) ≡ None
 unfolding code_before
 no-check-behind cs T U place whole less =
     let size : 1 ≤ length cs = omega (arith, less, left-ahead T, left-ahead U, ap length whole, length-append cs (ahead U)) in
     let before : is_none (previous_of U) ≡ false = ap (λ o. is_none (value_of o)) (ap (λ (p : Place). last_of p.codes p.at) place ∙ last-some cs (ahead U) T.cursor size whole) ∙ none-valued (last_code cs) ∙ some-last cs size in
     switched-off gfm_task_list_item_check (GfmTaskListItemCheck.may_begin U) (ahead U) (and-none U.parse_state.now.options.now.constructs.gfm_task_list_item U.tokenize_state.document_at_first_paragraph_of_list_item (previous_of U) before)
 
-pub no-check-past : (T U : Tokenizer) (a : Advances (text_choice_of T) T U) → GfmTaskListItemCheck.check_here U (ahead U) ≡ None
-no-check-past T U a = no-check-behind (row_codes a.row) T U (ap (λ (x : Tokenizer). x.cursor) a.left ∙ row-cursor (kinds_of T) a.row T a.is_row) a.whole a.less
+pub no-check-past : (T U : Tokenizer) (a : Advances (text_choice_of T) T U) →
+    GfmTaskListItemCheck.check_here U (ahead U) ≡ None
+no-check-past T U a =
+    no-check-behind (row_codes a.row) T U (ap (λ (x : Tokenizer). x.cursor) a.left ∙ row-cursor (kinds_of T) a.row T a.is_row) a.whole a.less
 
 -- what follows an element, follows from before it
-pub advances-ends : (T U : Tokenizer) → IsSame T U → Advances (text_choice_of T) T U → (ok : Bool) (V : Tokenizer) → before_ends U ok V → before_ends T ok V
-advances-ends T U e a true V k = advances-finishes (text_choice_of T) text_passed T U V a (subst (λ c. Finishes c text_passed U V) (choice-same T U e) k)
+pub advances-ends : (T U : Tokenizer) → IsSame T U → Advances (text_choice_of T) T U → (ok : Bool) (V : Tokenizer) →
+    before_ends U ok V → before_ends T ok V
+advances-ends T U e a true V k =
+    advances-finishes (text_choice_of T) text_passed T U V a (subst (λ c. Finishes c text_passed U V) (choice-same T U e) k)
 advances-ends T U e a false V k = k
 
 -- Data, where the code at hand is an element by itself.
 
-pub alone-ends : (T : Tokenizer) → StopsAtElements T → current_of T ≢ None → StandsAlone T → (ok : Bool) (V : Tokenizer) → data_ends T ok V → before_ends T ok V
+pub alone-ends : (T : Tokenizer) → StopsAtElements T → current_of T ≢ None → StandsAlone T →
+    (ok : Bool) (V : Tokenizer) → data_ends T ok V → before_ends T ok V
 alone-ends T stops some alone true V k =
     let a = some-ahead T (ahead T) refl some in
     advances-finishes (text_choice_of T) text_passed T k.behind V
@@ -182,23 +193,31 @@ alone-ends T stops some alone false V k = k
 
 -- The starts that are kept, past what holds.
 
-pub tree-kept : (T U : Tokenizer) (t : Forest) → U ≡ past None t T → AreWithin T T.tokenize_state.label_starts → AreWithin U U.tokenize_state.label_starts
+pub tree-kept : (T U : Tokenizer) (t : Forest) → U ≡ past None t T → AreWithin T T.tokenize_state.label_starts →
+    AreWithin U U.tokenize_state.label_starts
 unfolding past
-tree-kept T U t left k = subst (λ (x : Tokenizer). AreWithin x x.tokenize_state.label_starts) (sym left) (within-grown T (past None t T) _ refl refl T.tokenize_state.label_starts k)
+tree-kept T U t left k =
+    subst (λ (x : Tokenizer). AreWithin x x.tokenize_state.label_starts) (sym left) (within-grown T (past None t T) _ refl refl T.tokenize_state.label_starts k)
 
-pub registered-within : (b : Bool) (V W : Tokenizer) → W ≡ record V { resolvers = W.resolvers } → AreWithin V V.tokenize_state.label_starts → AreWithin (if b then V else W) (if b then V else W).tokenize_state.label_starts
+pub registered-within : (b : Bool) (V W : Tokenizer) → W ≡ record V { resolvers = W.resolvers } →
+    AreWithin V V.tokenize_state.label_starts →
+    AreWithin (if b then V else W) (if b then V else W).tokenize_state.label_starts
 registered-within true V W e k = k
-registered-within false V W e k = subst (λ (x : Tokenizer). AreWithin x x.tokenize_state.label_starts) (sym e) (within-grown V (record V { resolvers = W.resolvers }) [] refl (sym (append-nil V.events)) V.tokenize_state.label_starts k)
+registered-within false V W e k =
+    subst (λ (x : Tokenizer). AreWithin x x.tokenize_state.label_starts) (sym e) (within-grown V (record V { resolvers = W.resolvers }) [] refl (sym (append-nil V.events)) V.tokenize_state.label_starts k)
 
-pub registered-kept : (T U V : Tokenizer) (t : Forest) → V ≡ past None t T → U ≡ registered R.Attention V → AreWithin T T.tokenize_state.label_starts → AreWithin U U.tokenize_state.label_starts
+pub registered-kept : (T U V : Tokenizer) (t : Forest) → V ≡ past None t T → U ≡ registered R.Attention V →
+    AreWithin T T.tokenize_state.label_starts → AreWithin U U.tokenize_state.label_starts
 unfolding registered
 registered-kept T U V t left e k =
     subst (λ (x : Tokenizer). AreWithin x x.tokenize_state.label_starts) (sym e)
     (registered-within (is_registered R.Attention V.resolvers) V (record V { resolvers = V.resolvers ++ R.Attention ∷ [] }) refl (tree-kept T V t left k))
 
-pub made-kept : (T U : Tokenizer) → LabelEnd.Ends T U → AreWithin T T.tokenize_state.label_starts → AreWithin U U.tokenize_state.label_starts
+pub made-kept : (T U : Tokenizer) → LabelEnd.Ends T U → AreWithin T T.tokenize_state.label_starts →
+    AreWithin U U.tokenize_state.label_starts
 unfolding past_mark
-made-kept T U r k = subst (λ (x : Tokenizer). AreWithin x x.tokenize_state.label_starts) (sym r.left) (made-within r.back r.kind r.tail T k)
+made-kept T U r k =
+    subst (λ (x : Tokenizer). AreWithin x x.tokenize_state.label_starts) (sym r.left) (made-within r.back r.kind r.tail T k)
 
 -- Going on where a construct does not hold.
 
@@ -208,10 +227,12 @@ some-none o v e = λ h. cc
 -- The laws.
 
 pub weight-marked : (T : Tokenizer) → weight_at 9 (text_marked T) ≡ weight_at 9 T
-weight-marked T = ap (λ n. 256 * n + 9 + 1) (left-scratched (marked_fields T.cursor T.parse_state.now T.tokenize_state) T)
+weight-marked T =
+    ap (λ n. 256 * n + 9 + 1) (left-scratched (marked_fields T.cursor T.parse_state.now T.tokenize_state) T)
 
 pub at-rest-reference : (T : Tokenizer) → IsMarked T → IsAtRest T
-at-rest-reference T r = record { marker = ap (λ (s : TokenizeState). s.marker) r.spans.rest; size = ap (λ (s : TokenizeState). s.size) r.spans.rest }
+at-rest-reference T r =
+    record { marker = ap (λ (s : TokenizeState). s.marker) r.spans.rest; size = ap (λ (s : TokenizeState). s.size) r.spans.rest }
 
 pub run-ready : (T : Tokenizer) → IsMarked T → Attention.StartReady T
 run-ready T r = r.spans.rest ∙ ap (Attention.with_marker 0) (sym r.spans.rest)
@@ -219,7 +240,8 @@ run-ready T r = r.spans.rest ∙ ap (Attention.with_marker 0) (sym r.spans.rest)
 pub passed-attempts : (T : Tokenizer) → T.attempts ≡ [] → (text_passed T).attempts ≡ []
 passed-attempts T alone = attempts-registered R.Text (registered R.Data T) ∙ attempts-registered R.Data T ∙ alone
 
-pub at-end : (T : Tokenizer) → current_of T ≡ None → (ok : Bool) (U : Tokenizer) → (ok ≡ true) × (U ≡ text_passed T) → before_ends T ok U
+pub at-end : (T : Tokenizer) → current_of T ≡ None → (ok : Bool) (U : Tokenizer) → (ok ≡ true) × (U ≡ text_passed T) →
+    before_ends T ok U
 at-end T e true U k = finishes-end (text_choice_of T) text_passed T U e k.1
 at-end T e false U k = cc
 
@@ -238,7 +260,8 @@ ends-on T U r = by_switch (LabelEnd.is_on T) refl
         no-reading (Some y) h k = cc
 
 -- where one makes none, its start is used up
-pub lost-there : (T : Tokenizer) → current_of T ≡ Some (byte "]") → LabelEnd.is_on T ≡ true → scratched (LabelEnd.lost_fields T) T ≡ past_mark loses T
+pub lost-there : (T : Tokenizer) → current_of T ≡ Some (byte "]") → LabelEnd.is_on T ≡ true →
+    scratched (LabelEnd.lost_fields T) T ≡ past_mark loses T
 unfolding past_mark
 lost-there T d on = ap (λ s. scratched s T) (if-true _ _ _ (ap (λ b. b && next_is (is_value (byte "]")) (ahead T)) on ∙ there))
   where
@@ -246,7 +269,8 @@ lost-there T d on = ap (λ s. scratched s T) (if-true _ _ _ (ap (λ b. b && next
     there = let b : Begins (byte "]") (ahead T) = ahead-some T (byte "]") d in ap (next_is (is_value (byte "]"))) b.whole ∙ ap (λ v. v == byte "]") b.value
 
 pub not-lost : (T : Tokenizer) → LabelEnd.is_on T ≡ false → scratched (LabelEnd.lost_fields T) T ≡ T
-not-lost T off = ap (λ s. scratched s T) (if-false _ _ _ (ap (λ b. b && next_is (is_value (byte "]")) (ahead T)) off)) ∙ scratched-same T
+not-lost T off =
+    ap (λ s. scratched s T) (if-false _ _ _ (ap (λ b. b && next_is (is_value (byte "]")) (ahead T)) off)) ∙ scratched-same T
 
 pub lost-left : (T : Tokenizer) → codes_left (past_mark loses T) ≤ codes_left T
 unfolding past_mark
@@ -269,14 +293,17 @@ html-ready T r = record { spaces = record { resting = r.look.resting; short = r.
 
 pub spans-marked : (T : Tokenizer) → RawText.StartReady T → RawText.StartReady (text_marked T)
 unfolding scratched
-spans-marked T r = record { rest = ap {A = TokenizeState} (λ s. marked_fields T.cursor T.parse_state.now s) r.rest; fits = r.fits; indexed = refl }
+spans-marked T r =
+    record { rest = ap {A = TokenizeState} (λ s. marked_fields T.cursor T.parse_state.now s) r.rest; fits = r.fits; indexed = refl }
 
 pub look-marked : (T : Tokenizer) → GfmTaskListItemCheck.MayLook T → GfmTaskListItemCheck.MayLook (text_marked T)
 unfolding scratched
-look-marked T r = record { resting = ap {A = TokenizeState} (λ s. marked_fields T.cursor T.parse_state.now s) r.resting; short = r.short }
+look-marked T r =
+    record { resting = ap {A = TokenizeState} (λ s. marked_fields T.cursor T.parse_state.now s) r.resting; short = r.short }
 
 -- what is known is what was made, where that pays
-pub made-known : {A : Type 0} (pays : Bool) (made known : A) → (if pays then Some made else None) ≡ Some known → known ≡ made
+pub made-known : {A : Type 0} (pays : Bool) (made known : A) → (if pays then Some made else None) ≡ Some known →
+    known ≡ made
 made-known true made known e = cc
 made-known false made known e = cc
 
@@ -287,7 +314,8 @@ literals-marked T r =
     record { text = text-scratched (s T.tokenize_state) T r.text; resting = ap s r.resting; short = r.short; knows = λ places. made-known (domains_pay T.cursor.codes T.parse_state.now) (no_domains (bytes_of T) (GfmAutolinkLiteral.end_of T) T.cursor.codes) places }
 
 -- and of the names, whichever part of the document the brackets are of
-pub listed-made : (s : Setting) (start end : ℕ) (names : Names) → names ≡ names_in_order s.definitions s.footnotes (brackets_between s.bytes start end) → AreListed s names
+pub listed-made : (s : Setting) (start end : ℕ) (names : Names) →
+    names ≡ names_in_order s.definitions s.footnotes (brackets_between s.bytes start end) → AreListed s names
 listed-made s start end names e =
     e ∙ ap (λ (b : BracketPlaces). names_in_order s.definitions s.footnotes (brackets_between s.bytes b.start b.end)) (sym (ap (λ (x : Names). x.brackets) e))
 
@@ -320,6 +348,7 @@ marked-start T r =
       last = r.last;
     }
 
-pub check-elements : (T : Tokenizer) (o : Option ℕ) → current_of T ≡ o → ReadsElements (GfmTaskListItemCheck.check_here T) T
+pub check-elements : (T : Tokenizer) (o : Option ℕ) → current_of T ≡ o →
+    ReadsElements (GfmTaskListItemCheck.check_here T) T
 check-elements T None e = no-check-at-end T e
 check-elements T (Some v) e = check-reads T v e

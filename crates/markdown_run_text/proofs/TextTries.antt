@@ -50,7 +50,8 @@ OrStandsAlone reading T = reading (ahead T) ≡ None → StandsAlone T
 abbrev pub end_in : Tokenizer → ℕ
 end_in T = (stop_of document_start T.cursor.codes).index
 
-pub value-here : (T : Tokenizer) (v : ℕ) (c : Code) (cs : List Code) → current_of T ≡ Some v → ahead T ≡ c ∷ cs → c.value ≡ v
+pub value-here : (T : Tokenizer) (v : ℕ) (c : Code) (cs : List Code) → current_of T ≡ Some v → ahead T ≡ c ∷ cs →
+    c.value ≡ v
 value-here T v c cs e w = same_Some c.value v (sym (current-ahead T ∙ ap (λ xs. value_of (first_of xs)) w) ∙ e)
 
 -- from the codes ahead as they begin, to those codes
@@ -81,7 +82,8 @@ reference-alone T e =
 
 -- the first of them, and the second where that does not hold
 abbrev pub AreTriedAt : Tokenizer → ℕ → Bool → Bool → Reading Forest → Reading Forest → Type 0
-AreTriedAt T v on other a b = (earlier : List Element) (previous : Option Code) → IsRowOfTwo (text_setting T) (end_in T) earlier previous v on other a b
+AreTriedAt T v on other a b =
+    (earlier : List Element) (previous : Option Code) → IsRowOfTwo (text_setting T) (end_in T) earlier previous v on other a b
 
 module _ (T : Tokenizer) (v : ℕ) (on other : Bool) (a b : Reading Forest) (row : AreTriedAt T v on other a b) (e : current_of T ≡ Some v) where
   pub first-reads : ReadsElements (provided on >> a) T
@@ -107,12 +109,14 @@ module _ (T : Tokenizer) (v : ℕ) (on other : Bool) (a b : Reading Forest) (row
 is-span : (v n : ℕ) → v ≡ n → (n == byte "$" || n == byte "`") ≡ true → (v == byte "$" || v == byte "`") ≡ true
 is-span v n e h = ap (λ x. x == byte "$" || x == byte "`") e ∙ h
 
-pub span-reads : (T : Tokenizer) (v : ℕ) → current_of T ≡ Some v → (v == byte "$" || v == byte "`") ≡ true → ReadsElements (span_at T) T
+pub span-reads : (T : Tokenizer) (v : ℕ) → current_of T ≡ Some v → (v == byte "$" || v == byte "`") ≡ true →
+    ReadsElements (span_at T) T
 span-reads T v e h =
     at-hand (span_at T) T v e (λ c cs t rest k holds earlier previous stands.
     span-element (text_setting T) (end_in T) earlier previous T c cs (Some (t, rest)) refl stands (is-span c.value v k h) holds)
 
-pub span-alone : (T : Tokenizer) (v : ℕ) → current_of T ≡ Some v → (v == byte "$" || v == byte "`") ≡ true → OrStandsAlone (span_at T) T
+pub span-alone : (T : Tokenizer) (v : ℕ) → current_of T ≡ Some v → (v == byte "$" || v == byte "`") ≡ true →
+    OrStandsAlone (span_at T) T
 span-alone T v e h =
     alone-at (span_at T) T v e (λ c cs k none earlier previous stands.
     span-element (text_setting T) (end_in T) earlier previous T c cs None refl stands (is-span c.value v k h) none)
@@ -132,28 +136,34 @@ end-here T v last e = last (λ none. no-code T.cursor.at T.cursor.codes none (ah
 -- what is read of a literal, as the definition reads it
 protocol-so : (T : Tokenizer) (v : ℕ) (earlier : List Element) (previous : Option Code) (cs : List Code) → EndsWithCodes T.cursor → current_of T ≡ Some v → StandsAfter earlier previous T
     → (provided (is_on T) >> gfm_autolink_literal_protocol (bytes_of T) (end_in T) previous) cs ≡ protocol_here T cs
-protocol-so T v earlier previous cs last e k = λ i. (provided (is_on T) >> gfm_autolink_literal_protocol (bytes_of T) (sym (end-here T v last e) i) (sym k.before i)) cs
+protocol-so T v earlier previous cs last e k =
+    λ i. (provided (is_on T) >> gfm_autolink_literal_protocol (bytes_of T) (sym (end-here T v last e) i) (sym k.before i)) cs
 
-pub protocol-reads : (T : Tokenizer) (v : ℕ) → EndsWithCodes T.cursor → current_of T ≡ Some v → list_any (λ n. v == n) (first_letters schemes) ≡ true → ReadsElements (protocol_here T) T
+pub protocol-reads : (T : Tokenizer) (v : ℕ) → EndsWithCodes T.cursor → current_of T ≡ Some v →
+    list_any (λ n. v == n) (first_letters schemes) ≡ true → ReadsElements (protocol_here T) T
 protocol-reads T v last e h =
     at-hand (protocol_here T) T v e (λ c cs t rest k holds earlier previous stands.
     protocol-element (text_setting T) (end_in T) earlier previous v c cs (Some (t, rest)) k h (protocol-so T v earlier previous (c ∷ cs) last e stands ∙ holds))
 
-pub protocol-alone : (T : Tokenizer) (v : ℕ) → EndsWithCodes T.cursor → current_of T ≡ Some v → list_any (λ n. v == n) (first_letters schemes) ≡ true → OrStandsAlone (protocol_here T) T
+pub protocol-alone : (T : Tokenizer) (v : ℕ) → EndsWithCodes T.cursor → current_of T ≡ Some v →
+    list_any (λ n. v == n) (first_letters schemes) ≡ true → OrStandsAlone (protocol_here T) T
 protocol-alone T v last e h =
     alone-at (protocol_here T) T v e (λ c cs k none earlier previous stands.
     protocol-element (text_setting T) (end_in T) earlier previous v c cs None k h (protocol-so T v earlier previous (c ∷ cs) last e stands ∙ none))
 
 www-so : (T : Tokenizer) (v : ℕ) (earlier : List Element) (previous : Option Code) (cs : List Code) → EndsWithCodes T.cursor → current_of T ≡ Some v → StandsAfter earlier previous T
     → (provided (is_on T) >> gfm_autolink_literal_www (bytes_of T) (end_in T) previous) cs ≡ www_here T cs
-www-so T v earlier previous cs last e k = λ i. (provided (is_on T) >> gfm_autolink_literal_www (bytes_of T) (sym (end-here T v last e) i) (sym k.before i)) cs
+www-so T v earlier previous cs last e k =
+    λ i. (provided (is_on T) >> gfm_autolink_literal_www (bytes_of T) (sym (end-here T v last e) i) (sym k.before i)) cs
 
-pub www-reads : (T : Tokenizer) (v : ℕ) → EndsWithCodes T.cursor → current_of T ≡ Some v → list_any (λ n. v == n) (first_letters (www ∷ [])) ≡ true → ReadsElements (www_here T) T
+pub www-reads : (T : Tokenizer) (v : ℕ) → EndsWithCodes T.cursor → current_of T ≡ Some v →
+    list_any (λ n. v == n) (first_letters (www ∷ [])) ≡ true → ReadsElements (www_here T) T
 www-reads T v last e h =
     at-hand (www_here T) T v e (λ c cs t rest k holds earlier previous stands.
     www-element (text_setting T) (end_in T) earlier previous v c cs (Some (t, rest)) k h (www-so T v earlier previous (c ∷ cs) last e stands ∙ holds))
 
-pub www-alone : (T : Tokenizer) (v : ℕ) → EndsWithCodes T.cursor → current_of T ≡ Some v → list_any (λ n. v == n) (first_letters (www ∷ [])) ≡ true → OrStandsAlone (www_here T) T
+pub www-alone : (T : Tokenizer) (v : ℕ) → EndsWithCodes T.cursor → current_of T ≡ Some v →
+    list_any (λ n. v == n) (first_letters (www ∷ [])) ≡ true → OrStandsAlone (www_here T) T
 www-alone T v last e h =
     alone-at (www_here T) T v e (λ c cs k none earlier previous stands.
     www-element (text_setting T) (end_in T) earlier previous v c cs None k h (www-so T v earlier previous (c ∷ cs) last e stands ∙ none))
@@ -171,7 +181,8 @@ run-alone T v e m =
     run-off (text_setting T) (end_in T) earlier previous v c cs m k (run-none v (begins_run (switches_of T) v) (c ∷ cs) (sym (run-at T v c cs k) ∙ none)))
 
 -- and it is a leaf that stands by itself
-pub run-leaf : (T : Tokenizer) (v : ℕ) (t : Forest) (rest : List Code) → current_of T ≡ Some v → is_marker v ≡ true → run_tree T (ahead T) ≡ Some (t, rest) → IsRunLeaf t
+pub run-leaf : (T : Tokenizer) (v : ℕ) (t : Forest) (rest : List Code) → current_of T ≡ Some v → is_marker v ≡ true →
+    run_tree T (ahead T) ≡ Some (t, rest) → IsRunLeaf t
 run-leaf T v t rest e m holds =
     run-node v (begins_run (switches_of T) v) (ahead T) t rest (no-ending v m) (run-some t rest v (begins_run (switches_of T) v) (ahead T) (sym (run-ahead T v e) ∙ holds))
   where
@@ -195,7 +206,8 @@ none-valued None = refl
 none-valued (Some c) = refl
 
 -- where a check may begin
-check-is : (T : Tokenizer) (earlier : List Element) (previous : Option Code) → StandsAfter earlier previous T → (is_none previous && (text_setting T).first_of_item) && (text_setting T).options.constructs.gfm_task_list_item ≡ may_begin T
+check-is : (T : Tokenizer) (earlier : List Element) (previous : Option Code) → StandsAfter earlier previous T →
+    (is_none previous && (text_setting T).first_of_item) && (text_setting T).options.constructs.gfm_task_list_item ≡ may_begin T
 unfolding code_before
 check-is T earlier previous k =
     let s : Setting = text_setting T in
@@ -203,8 +215,11 @@ check-is T earlier previous k =
     ∙ ap (λ o. s.options.constructs.gfm_task_list_item && (s.first_of_item && is_none o)) (sym k.before)
     ∙ ap (λ b. s.options.constructs.gfm_task_list_item && (s.first_of_item && b)) (sym (none-valued (code_just_before T)))
 
-checks-so : (T : Tokenizer) (earlier : List Element) (previous : Option Code) (cs : List Code) → StandsAfter earlier previous T → (provided ((is_none previous && (text_setting T).first_of_item) && (text_setting T).options.constructs.gfm_task_list_item) >> gfm_task_list_item_check) cs ≡ check_here T cs
-checks-so T earlier previous cs k = ap (λ b. (provided b >> gfm_task_list_item_check) cs) (check-is T earlier previous k)
+checks-so : (T : Tokenizer) (earlier : List Element) (previous : Option Code) (cs : List Code) →
+    StandsAfter earlier previous T →
+    (provided ((is_none previous && (text_setting T).first_of_item) && (text_setting T).options.constructs.gfm_task_list_item) >> gfm_task_list_item_check) cs ≡ check_here T cs
+checks-so T earlier previous cs k =
+    ap (λ b. (provided b >> gfm_task_list_item_check) cs) (check-is T earlier previous k)
 
 pub check-reads : (T : Tokenizer) (v : ℕ) → current_of T ≡ Some v → ReadsElements (check_here T) T
 check-reads T v e =
@@ -221,19 +236,23 @@ no-check-at-end T e t rest holds earlier previous stands = absurd (no-end (check
     no-end (Some r) h k = cc
 
 -- no check stands here
-pub first-none : (T : Tokenizer) (earlier : List Element) (previous : Option Code) (c : Code) (cs : List Code) → check_here T (ahead T) ≡ None → StandsAfter earlier previous T → ahead T ≡ c ∷ cs → first_check (text_setting T) (end_in T) earlier previous (c ∷ cs) ≡ None
+pub first-none : (T : Tokenizer) (earlier : List Element) (previous : Option Code) (c : Code) (cs : List Code) →
+    check_here T (ahead T) ≡ None → StandsAfter earlier previous T → ahead T ≡ c ∷ cs →
+    first_check (text_setting T) (end_in T) earlier previous (c ∷ cs) ≡ None
 unfolding first_check plain_of
 first-none T earlier previous c cs none k w =
     plain-switched _ gfm_task_list_item_check (c ∷ cs) ∙ ap plain_of (checks-so T earlier previous (c ∷ cs) k ∙ ap (check_here T) (sym w) ∙ none)
 
 -- Codes at which nothing is tried.
 
-pub other-alone : (T : Tokenizer) (v : ℕ) → current_of T ≡ Some v → list_any (λ n. v == n) text_markers ≡ false → StandsAlone T
+pub other-alone : (T : Tokenizer) (v : ℕ) → current_of T ≡ Some v → list_any (λ n. v == n) text_markers ≡ false →
+    StandsAlone T
 other-alone T v e h earlier previous c cs stands w =
     other-element (text_setting T) (end_in T) earlier previous c cs (ap (λ x. list_any (λ n. x == n) text_markers) (value-here T v c cs e w) ∙ h)
 
 -- each other code of data
-pub other-data : (T : Tokenizer) → StopsAtElements T → AreSingle (text_choice_of T) (stops_of T.tokenize_state) (ahead T)
+pub other-data : (T : Tokenizer) → StopsAtElements T →
+    AreSingle (text_choice_of T) (stops_of T.tokenize_state) (ahead T)
 unfolding ahead_at
 other-data T stops front earlier previous c cs w free =
     stops (take T.cursor.at T.cursor.codes ++ front) earlier previous c cs

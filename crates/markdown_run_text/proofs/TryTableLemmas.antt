@@ -16,7 +16,8 @@ pub one-of : (P : ℕ → Type 0) (ns : List ℕ) (v : ℕ) → EachOf P ns → 
 one-of P [] v h e = cc
 one-of P (n ∷ ns) v h e = by_test (v == n) refl e (one-of P ns v h.1)
   where
-    by_test : (b : Bool) → (v == n) ≡ b → (b || list_any (λ m. v == m) ns) ≡ true → (list_any (λ m. v == m) ns ≡ true → P v) → P v
+    by_test : (b : Bool) → (v == n) ≡ b → (b || list_any (λ m. v == m) ns) ≡ true →
+        (list_any (λ m. v == m) ns ≡ true → P v) → P v
     by_test true k f more = subst P (sym (eqb-true v n k)) h.0
     by_test false k f more = more f
 
@@ -33,7 +34,8 @@ each-among P (n ∷ ns) h = (h n (ap (λ b. b || list_any (λ m. n == m) ns) (sa
     or-right false y e = e
 
 -- a test that none of these passes
-pub none-passes : (p : ℕ → Bool) (ns : List ℕ) → list_any p ns ≡ false → (v : ℕ) → list_any (λ n. v == n) ns ≡ true → p v ≡ false
+pub none-passes : (p : ℕ → Bool) (ns : List ℕ) → list_any p ns ≡ false → (v : ℕ) → list_any (λ n. v == n) ns ≡ true →
+    p v ≡ false
 none-passes p ns h v e = one-of (λ n. p n ≡ false) ns v (each ns h) e
   where
     each : (ms : List ℕ) → list_any p ms ≡ false → EachOf (λ n. p n ≡ false) ms
@@ -41,7 +43,8 @@ none-passes p ns h v e = one-of (λ n. p n ≡ false) ns v (each ns h) e
     each (m ∷ ms) k = let r = or_parts (p m) (list_any p ms) k in (r.0, each ms r.1)
 
 -- a code that is not among these is none of them
-pub none-of : (ns : List ℕ) (v n : ℕ) → list_any (λ m. v == m) ns ≡ false → list_any (λ m. n == m) ns ≡ true → (v == n) ≡ false
+pub none-of : (ns : List ℕ) (v n : ℕ) → list_any (λ m. v == m) ns ≡ false → list_any (λ m. n == m) ns ≡ true →
+    (v == n) ≡ false
 none-of ns v n e k = by_test (v == n) refl
   where
     both : list_any (λ m. n == m) ns ≡ true → list_any (λ m. n == m) ns ≡ false → ⊥
@@ -52,7 +55,9 @@ none-of ns v n e k = by_test (v == n) refl
     by_test true h = absurd (both k (subst (λ (x : ℕ). list_any (λ m. x == m) ns ≡ false) (eqb-true v n h) e))
 
 -- a code that is not among the codes of a table is among those of no row
-pub not-in-row : {A : Type 0} (row : List ℕ × A) (rows : Table A) (v : ℕ) → list_any (λ n. v == n) (codes_in (row ∷ rows)) ≡ false → (list_any (λ n. v == n) row.0 ≡ false) × (list_any (λ n. v == n) (codes_in rows) ≡ false)
+pub not-in-row : {A : Type 0} (row : List ℕ × A) (rows : Table A) (v : ℕ) →
+    list_any (λ n. v == n) (codes_in (row ∷ rows)) ≡ false →
+    (list_any (λ n. v == n) row.0 ≡ false) × (list_any (λ n. v == n) (codes_in rows) ≡ false)
 not-in-row row rows v e =
     or_parts (list_any (λ n. v == n) row.0) (list_any (λ n. v == n) (codes_in rows)) (sym (list_any-append (λ n. v == n) row.0 (codes_in rows)) ∙ e)
 
@@ -61,12 +66,14 @@ module _ {A : Type 0} (P : ℕ → Option A → Type 0) where
   EachRow [] = Unit {0}
   EachRow (row ∷ rows) = EachOf (λ v. P v (Some row.1)) row.0 × EachRow rows
 
-  pub by-row : (rows : Table A) (v : ℕ) → EachRow rows → (list_any (λ n. v == n) (codes_in rows) ≡ false → P v None) → P v (said_at rows v)
+  pub by-row : (rows : Table A) (v : ℕ) → EachRow rows → (list_any (λ n. v == n) (codes_in rows) ≡ false → P v None) →
+      P v (said_at rows v)
   by-row [] v each none = none refl
   by-row (row ∷ rows) v each none =
       by_test (list_any (λ n. v == n) row.0) refl
       (λ e. by-row rows v each.1 (λ h. none (list_any-append (λ n. v == n) row.0 (codes_in rows) ∙ or_from (list_any (λ n. v == n) row.0) (list_any (λ n. v == n) (codes_in rows)) e h)))
     where
-      by_test : (b : Bool) → list_any (λ n. v == n) row.0 ≡ b → (list_any (λ n. v == n) row.0 ≡ false → P v (said_at rows v)) → P v (if b then Some row.1 else said_at rows v)
+      by_test : (b : Bool) → list_any (λ n. v == n) row.0 ≡ b →
+          (list_any (λ n. v == n) row.0 ≡ false → P v (said_at rows v)) → P v (if b then Some row.1 else said_at rows v)
       by_test true e other = one-of (λ n. P n (Some row.1)) row.0 v each.0 e
       by_test false e other = other e

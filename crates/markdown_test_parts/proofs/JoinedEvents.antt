@@ -14,7 +14,8 @@ use Rattle.markdown_test_parts.specs.Fixtures.{HaveRuns}
 use Rattle.markdown_attention.specs.RunEvents.{shifted}
 use Rattle.markdown_attention.specs.RunEdits.{HaveRunEnds, HaveRunRoom}
 
-places-join : (bytes : List ℕ) (es fs : List Event) → HaveRunPlaces bytes es → HaveRunPlaces bytes fs → HaveRunPlaces bytes (es ++ fs)
+places-join : (bytes : List ℕ) (es fs : List Event) → HaveRunPlaces bytes es → HaveRunPlaces bytes fs →
+    HaveRunPlaces bytes (es ++ fs)
 places-join bytes [] fs h k = k
 places-join bytes (e ∷ []) fs h k = (λ o. absurd (h.0 o), k)
 places-join bytes (e ∷ x ∷ es) fs h k = (h.0, places-join bytes (x ∷ es) fs h.1 k)
@@ -29,8 +30,10 @@ room-join [] fs h k = k
 room-join (e ∷ []) fs h k = (λ o. absurd (h.0 o), k)
 room-join (e ∷ x ∷ es) fs h k = (h.0, room-join (x ∷ es) fs h.1 k)
 
-pub runs-join : (bytes : List ℕ) (es fs : List Event) → HaveRuns bytes es → HaveRuns bytes fs → HaveRuns bytes (es ++ fs)
-runs-join bytes es fs h k = record { places = places-join bytes es fs h.places k.places; ends = ends-join es fs h.ends k.ends; room = room-join es fs h.room k.room }
+pub runs-join : (bytes : List ℕ) (es fs : List Event) → HaveRuns bytes es → HaveRuns bytes fs →
+    HaveRuns bytes (es ++ fs)
+runs-join bytes es fs h k =
+    record { places = places-join bytes es fs h.places k.places; ends = ends-join es fs h.ends k.ends; room = room-join es fs h.room k.room }
 
 -- the place before a byte of a text of one line
 abbrev pub at : ℕ → Point

@@ -8,7 +8,8 @@ use Rattle.caseless.specs.Caseless.{default_case_fold}
 use Rattle.caseless.proofs.CaselessLemmas.{default_case_fold-ascii}
 
 -- characters whose bytes are ASCII are folded by these bytes alone
-pub folded-ascii : (cs bs : List ℕ) → bs ≡ encode_utf8_all cs → IsAscii bs → encode_utf8_all (default_case_fold cs) ≡ map to_ascii_lowercase bs
+pub folded-ascii : (cs bs : List ℕ) → bs ≡ encode_utf8_all cs → IsAscii bs →
+    encode_utf8_all (default_case_fold cs) ≡ map to_ascii_lowercase bs
 folded-ascii cs bs e ascii =
     let same : cs ≡ bs = chars_from_encodes cs bs (IsUtf8-from_ascii bs ascii) (sym e) ∙ chars-IsAscii bs ascii in
     ap (λ text. encode_utf8_all (default_case_fold text)) same ∙ ap encode_utf8_all (default_case_fold-ascii bs (All-from_ascii bs ascii))

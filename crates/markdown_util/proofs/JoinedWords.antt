@@ -60,22 +60,26 @@ behind-word c cs h = ap (λ ps. more_words (filter is_nonempty ps)) (slice_split
     go (p ∷ ps) = ap (λ cs. 32 ∷ cs) (join-cons (c ∷ p) (filter is_nonempty ps))
 
 -- a space adds nothing yet
-to_come-space : (fresh pending : Bool) (c : ℕ) (cs : List ℕ) → separates_words c ≡ true → to_come fresh pending (c ∷ cs) ≡ to_come fresh true cs
+to_come-space : (fresh pending : Bool) (c : ℕ) (cs : List ℕ) → separates_words c ≡ true →
+    to_come fresh pending (c ∷ cs) ≡ to_come fresh true cs
 unfolding to_come
 to_come-space true pending c cs h = ap (join_with_byte 32) (words-space c cs h)
 to_come-space false true c cs h = ap more_words (words-space c cs h)
 to_come-space false false c cs h = ap from_part (slice_split-cons_yes separates_words c cs h)
 
 -- any other character adds itself, after a space where one is due
-to_come-next : (c : ℕ) (cs : List ℕ) → separates_words c ≡ false → to_come false true (c ∷ cs) ≡ 32 ∷ c ∷ to_come false false cs
+to_come-next : (c : ℕ) (cs : List ℕ) → separates_words c ≡ false →
+    to_come false true (c ∷ cs) ≡ 32 ∷ c ∷ to_come false false cs
 unfolding to_come
 to_come-next c cs h = behind-word c cs h
 
-to_come-fresh : (pending : Bool) (c : ℕ) (cs : List ℕ) → separates_words c ≡ false → to_come true pending (c ∷ cs) ≡ c ∷ to_come false false cs
+to_come-fresh : (pending : Bool) (c : ℕ) (cs : List ℕ) → separates_words c ≡ false →
+    to_come true pending (c ∷ cs) ≡ c ∷ to_come false false cs
 unfolding to_come
 to_come-fresh pending c cs h = joined-word c cs h
 
-to_come-within : (c : ℕ) (cs : List ℕ) → separates_words c ≡ false → to_come false false (c ∷ cs) ≡ c ∷ to_come false false cs
+to_come-within : (c : ℕ) (cs : List ℕ) → separates_words c ≡ false →
+    to_come false false (c ∷ cs) ≡ c ∷ to_come false false cs
 unfolding to_come
 to_come-within c cs h = within-word c cs h
 
@@ -94,15 +98,18 @@ pub record IsTurn (fresh pending : Bool) (bs total cs : List ℕ) (i c : ℕ) : 
 here : (cs : List ℕ) (i c : ℕ) → i < length cs → c ≡ get_or cs i c → drop i cs ≡ c ∷ drop (i + 1) cs
 here cs i c h e = at_drop_more (λ xs. xs) cs i c h ∙ ap (λ x. x ∷ drop (i + 1) cs) (sym e)
 
-come : (fresh pending : Bool) (bs total cs next : List ℕ) (i c : ℕ) → IsTurn fresh pending bs total cs i c → to_come fresh pending (c ∷ drop (i + 1) cs) ≡ next → bs ++ encode_utf8_all next ≡ total
+come : (fresh pending : Bool) (bs total cs next : List ℕ) (i c : ℕ) → IsTurn fresh pending bs total cs i c →
+    to_come fresh pending (c ∷ drop (i + 1) cs) ≡ next → bs ++ encode_utf8_all next ≡ total
 come fresh pending bs total cs next i c t e =
     ap (λ xs. bs ++ encode_utf8_all xs) (sym (ap (to_come fresh pending) (here cs i c t.inside t.read) ∙ e)) ∙ t.whole
 
-pub turn-start : (total cs bs : List ℕ) (fresh pending : Bool) → fresh ≡ true → bs ≡ [] → total ≡ encode_utf8_all (joined_words cs) → bs ++ encode_utf8_all (to_come fresh pending (drop 0 cs)) ≡ total
+pub turn-start : (total cs bs : List ℕ) (fresh pending : Bool) → fresh ≡ true → bs ≡ [] →
+    total ≡ encode_utf8_all (joined_words cs) → bs ++ encode_utf8_all (to_come fresh pending (drop 0 cs)) ≡ total
 unfolding to_come
 turn-start total cs bs fresh pending f e t = rw (f, e, t) refl
 
-pub turn-end : (fresh pending : Bool) (bs total cs : List ℕ) (i : ℕ) → length cs ≤ i → bs ++ encode_utf8_all (to_come fresh pending (drop i cs)) ≡ total → bs ≡ total
+pub turn-end : (fresh pending : Bool) (bs total cs : List ℕ) (i : ℕ) → length cs ≤ i →
+    bs ++ encode_utf8_all (to_come fresh pending (drop i cs)) ≡ total → bs ≡ total
 turn-end fresh pending bs total cs i past h =
     sym (append-nil bs)
     ∙ ap (λ xs. bs ++ encode_utf8_all xs) (sym (at_drop_all (to_come fresh pending) cs i past ∙ to_come-end fresh pending)) ∙ h
@@ -110,7 +117,8 @@ turn-end fresh pending bs total cs i past h =
 -- a space
 pub turn-space : (fresh pending : Bool) (bs total cs : List ℕ) (i c : ℕ) → IsTurn fresh pending bs total cs i c → separates_words c ≡ true
     → bs ++ encode_utf8_all (to_come fresh true (drop (i + 1) cs)) ≡ total
-turn-space fresh pending bs total cs i c t h = come fresh pending bs total cs _ i c t (to_come-space fresh pending c (drop (i + 1) cs) h)
+turn-space fresh pending bs total cs i c t h =
+    come fresh pending bs total cs _ i c t (to_come-space fresh pending c (drop (i + 1) cs) h)
 
 -- the first character of a further word, before which a space is pushed
 pub turn-next : (fresh pending : Bool) (bs total cs : List ℕ) (i c : ℕ) → IsTurn fresh pending bs total cs i c → separates_words c ≡ false → fresh ≡ false → pending ≡ true
@@ -125,13 +133,16 @@ turn-next false true bs total cs i c t h f p =
 pub turn-first : (fresh pending : Bool) (bs total cs : List ℕ) (i c : ℕ) → IsTurn fresh pending bs total cs i c → separates_words c ≡ false → fresh ≡ true
     → bs ++ encode_utf8_all (c ∷ to_come false false (drop (i + 1) cs)) ≡ total
 turn-first false pending bs total cs i c t h f = cc
-turn-first true pending bs total cs i c t h f = come true pending bs total cs _ i c t (to_come-fresh pending c (drop (i + 1) cs) h)
+turn-first true pending bs total cs i c t h f =
+    come true pending bs total cs _ i c t (to_come-fresh pending c (drop (i + 1) cs) h)
 
 pub turn-within : (fresh pending : Bool) (bs total cs : List ℕ) (i c : ℕ) → IsTurn fresh pending bs total cs i c → separates_words c ≡ false → pending ≡ false
     → bs ++ encode_utf8_all (c ∷ to_come false false (drop (i + 1) cs)) ≡ total
 turn-within fresh true bs total cs i c t h p = cc
-turn-within true false bs total cs i c t h p = come true false bs total cs _ i c t (to_come-fresh false c (drop (i + 1) cs) h)
-turn-within false false bs total cs i c t h p = come false false bs total cs _ i c t (to_come-within c (drop (i + 1) cs) h)
+turn-within true false bs total cs i c t h p =
+    come true false bs total cs _ i c t (to_come-fresh false c (drop (i + 1) cs) h)
+turn-within false false bs total cs i c t h p =
+    come false false bs total cs _ i c t (to_come-within c (drop (i + 1) cs) h)
 
 -- and then it is pushed
 pub turn-push : (fresh : Bool) (bs new total cs : List ℕ) (i c : ℕ) → bs ++ encode_utf8_all (c ∷ to_come false false (drop (i + 1) cs)) ≡ total → new ≡ bs ++ encode_utf8 c → fresh ≡ false

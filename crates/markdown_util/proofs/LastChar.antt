@@ -13,7 +13,8 @@ last_of_push : (xs : List ℕ) (x : ℕ) → slice_get (xs ++ x ∷ []) (length 
 last_of_push xs x = grind (arith, common_steps, gets)
 
 -- a text that ends with the bytes of a character has that character last
-pub last_char : (bs rest : List ℕ) (c : ℕ) → IsUtf8 bs → IsScalar c → bs ≡ rest ++ encode_utf8 c → slice_get (chars bs) (length (chars bs) - 1) ≡ Some c
+pub last_char : (bs rest : List ℕ) (c : ℕ) → IsUtf8 bs → IsScalar c → bs ≡ rest ++ encode_utf8 c →
+    slice_get (chars bs) (length (chars bs) - 1) ≡ Some c
 last_char bs rest c u s e =
     let alone = IsUtf8-encode c s in
     let front : IsUtf8 rest =

@@ -11,7 +11,8 @@ no_plus radix [] low h = absurd (omega (arith, h.0))
 no_plus radix (c ∷ cs) low h = λ e. absurd (omega (arith, subst (λ (d : ℕ). digit_value d < radix) e h.1.0))
 
 -- a number is read as its value
-pub number_read : (radix : ℕ) (bs : List ℕ) {E : Type 0} (r : Result ℕ E) (n : ℕ) → radix ≤ 36 → IsNumber radix bs → ParsesUnsigned 32 radix bs r → r ≡ Ok n → n ≡ digits_value radix bs
+pub number_read : (radix : ℕ) (bs : List ℕ) {E : Type 0} (r : Result ℕ E) (n : ℕ) → radix ≤ 36 → IsNumber radix bs →
+    ParsesUnsigned 32 radix bs r → r ≡ Ok n → n ≡ digits_value radix bs
 number_read radix bs (Err e) n low h p is = cc
 number_read radix bs (Ok m) n low h p is =
     let same = without_leading_plus_none bs (no_plus radix bs low h.numeral) in

@@ -12,7 +12,8 @@ eqb_off a b h = go (eqb_tells a b)
     go (inl p) = absurd (h p.1)
     go (inr p) = p.0
 
-pub parsed-plain : (table : Table) (xs ys : List ℕ) → All (λ b. b ≢ 38) xs → parsed_after table 0 (xs ++ ys) ≡ xs ++ parsed_after table 0 ys
+pub parsed-plain : (table : Table) (xs ys : List ℕ) → All (λ b. b ≢ 38) xs →
+    parsed_after table 0 (xs ++ ys) ≡ xs ++ parsed_after table 0 ys
 parsed-plain table [] ys h = refl
 parsed-plain table (x ∷ xs) ys h =
     let off : eqb x 38 ≡ false = eqb_off x 38 (All-head (λ b. b ≢ 38) x xs h) in
@@ -29,12 +30,14 @@ parsed-skip table zero (b ∷ bs) = refl
 parsed-skip table (suc n) (b ∷ bs) = parsed-skip table n bs
 
 -- an `&` that begins a whole reference gives its text, and the rest follows the `;`
-pub parsed-reference : (table : Table) (after text : List ℕ) → reference_text table after ≡ Some text → parsed_after table 0 (38 ∷ after) ≡ text ++ parsed_after table 0 (after_first is_semicolon after)
+pub parsed-reference : (table : Table) (after text : List ℕ) → reference_text table after ≡ Some text →
+    parsed_after table 0 (38 ∷ after) ≡ text ++ parsed_after table 0 (after_first is_semicolon after)
 parsed-reference table after text e =
     rw (e, parsed_after) (ap (λ bs. text ++ bs) (parsed-skip table (position_or_len is_semicolon after + 1) after))
 
 -- any other `&` stays
-pub parsed-lone : (table : Table) (after : List ℕ) → reference_text table after ≡ None → parsed_after table 0 (38 ∷ after) ≡ 38 ∷ parsed_after table 0 after
+pub parsed-lone : (table : Table) (after : List ℕ) → reference_text table after ≡ None →
+    parsed_after table 0 (38 ∷ after) ≡ 38 ∷ parsed_after table 0 after
 parsed-lone table after e = rw (e, parsed_after) refl
 
 -- The text so far, and what is still to be parsed.
@@ -57,5 +60,6 @@ turn-lone table done after total h e =
     append_assoc done (38 ∷ []) (parsed_after table 0 after)
     ∙ ap (λ bs. done ++ bs) (sym (parsed-lone table after e)) ∙ h
 
-pub turn-end : (table : Table) (done rest total : List ℕ) → done ++ parsed_after table 0 rest ≡ total → All (λ b. b ≢ 38) rest → done ++ rest ≡ total
+pub turn-end : (table : Table) (done rest total : List ℕ) → done ++ parsed_after table 0 rest ≡ total →
+    All (λ b. b ≢ 38) rest → done ++ rest ≡ total
 turn-end table done rest total h plain = ap (λ bs. done ++ bs) (sym (parsed-unchanged table rest plain)) ∙ h

@@ -68,32 +68,50 @@ module _ {capitals a_to_d e_to_l m_to_r s_to_z : Table} (parts : IsParted capita
   from_start = order-join _ _ _ capitals (a_to_d ++ (e_to_l ++ (m_to_r ++ s_to_z))) refl parts.first from_a
 
   module _ (rows : Table) (name : List ℕ) where
-    after_a : is_below name (codes "a") ≡ false → IsPart (a_to_d ++ (e_to_l ++ (m_to_r ++ s_to_z))) rows name → IsPart (capitals ++ (a_to_d ++ (e_to_l ++ (m_to_r ++ s_to_z)))) rows name
+    after_a : is_below name (codes "a") ≡ false → IsPart (a_to_d ++ (e_to_l ++ (m_to_r ++ s_to_z))) rows name →
+        IsPart (capitals ++ (a_to_d ++ (e_to_l ++ (m_to_r ++ s_to_z)))) rows name
     after_a a part = part-after capitals (a_to_d ++ (e_to_l ++ (m_to_r ++ s_to_z))) rows name _ _ parts.first a part
 
-    after_e : is_below name (codes "a") ≡ false → is_below name (codes "e") ≡ false → IsPart (e_to_l ++ (m_to_r ++ s_to_z)) rows name → IsPart (capitals ++ (a_to_d ++ (e_to_l ++ (m_to_r ++ s_to_z)))) rows name
+    after_e : is_below name (codes "a") ≡ false → is_below name (codes "e") ≡ false →
+        IsPart (e_to_l ++ (m_to_r ++ s_to_z)) rows name →
+        IsPart (capitals ++ (a_to_d ++ (e_to_l ++ (m_to_r ++ s_to_z)))) rows name
     after_e a e part = after_a a (part-after a_to_d (e_to_l ++ (m_to_r ++ s_to_z)) rows name _ _ parts.second e part)
 
-    after_m : is_below name (codes "a") ≡ false → is_below name (codes "e") ≡ false → is_below name (codes "m") ≡ false → IsPart (m_to_r ++ s_to_z) rows name → IsPart (capitals ++ (a_to_d ++ (e_to_l ++ (m_to_r ++ s_to_z)))) rows name
+    after_m : is_below name (codes "a") ≡ false → is_below name (codes "e") ≡ false →
+        is_below name (codes "m") ≡ false → IsPart (m_to_r ++ s_to_z) rows name →
+        IsPart (capitals ++ (a_to_d ++ (e_to_l ++ (m_to_r ++ s_to_z)))) rows name
     after_m a e m part = after_e a e (part-after e_to_l (m_to_r ++ s_to_z) rows name _ _ parts.third m part)
 
-    pub in_capitals : rows ≡ capitals → is_below name (codes "a") ≡ true → IsPart (capitals ++ (a_to_d ++ (e_to_l ++ (m_to_r ++ s_to_z)))) rows name
-    in_capitals is a = part-before capitals (a_to_d ++ (e_to_l ++ (m_to_r ++ s_to_z))) rows name _ _ from_a a (whole _ rows name _ _ parts.first is)
+    pub in_capitals : rows ≡ capitals → is_below name (codes "a") ≡ true →
+        IsPart (capitals ++ (a_to_d ++ (e_to_l ++ (m_to_r ++ s_to_z)))) rows name
+    in_capitals is a =
+        part-before capitals (a_to_d ++ (e_to_l ++ (m_to_r ++ s_to_z))) rows name _ _ from_a a (whole _ rows name _ _ parts.first is)
 
-    pub in_a_to_d : rows ≡ a_to_d → is_below name (codes "a") ≡ false → is_below name (codes "e") ≡ true → IsPart (capitals ++ (a_to_d ++ (e_to_l ++ (m_to_r ++ s_to_z)))) rows name
-    in_a_to_d is a e = after_a a (part-before a_to_d (e_to_l ++ (m_to_r ++ s_to_z)) rows name _ _ from_e e (whole _ rows name _ _ parts.second is))
+    pub in_a_to_d : rows ≡ a_to_d → is_below name (codes "a") ≡ false → is_below name (codes "e") ≡ true →
+        IsPart (capitals ++ (a_to_d ++ (e_to_l ++ (m_to_r ++ s_to_z)))) rows name
+    in_a_to_d is a e =
+        after_a a (part-before a_to_d (e_to_l ++ (m_to_r ++ s_to_z)) rows name _ _ from_e e (whole _ rows name _ _ parts.second is))
 
-    pub in_e_to_l : rows ≡ e_to_l → is_below name (codes "a") ≡ false → is_below name (codes "e") ≡ false → is_below name (codes "m") ≡ true → IsPart (capitals ++ (a_to_d ++ (e_to_l ++ (m_to_r ++ s_to_z)))) rows name
-    in_e_to_l is a e m = after_e a e (part-before e_to_l (m_to_r ++ s_to_z) rows name _ _ from_m m (whole _ rows name _ _ parts.third is))
+    pub in_e_to_l : rows ≡ e_to_l → is_below name (codes "a") ≡ false → is_below name (codes "e") ≡ false →
+        is_below name (codes "m") ≡ true → IsPart (capitals ++ (a_to_d ++ (e_to_l ++ (m_to_r ++ s_to_z)))) rows name
+    in_e_to_l is a e m =
+        after_e a e (part-before e_to_l (m_to_r ++ s_to_z) rows name _ _ from_m m (whole _ rows name _ _ parts.third is))
 
-    pub in_m_to_r : rows ≡ m_to_r → is_below name (codes "a") ≡ false → is_below name (codes "e") ≡ false → is_below name (codes "m") ≡ false → is_below name (codes "s") ≡ true → IsPart (capitals ++ (a_to_d ++ (e_to_l ++ (m_to_r ++ s_to_z)))) rows name
-    in_m_to_r is a e m s = after_m a e m (part-before m_to_r s_to_z rows name _ _ parts.fifth s (whole _ rows name _ _ parts.fourth is))
+    pub in_m_to_r : rows ≡ m_to_r → is_below name (codes "a") ≡ false → is_below name (codes "e") ≡ false →
+        is_below name (codes "m") ≡ false → is_below name (codes "s") ≡ true →
+        IsPart (capitals ++ (a_to_d ++ (e_to_l ++ (m_to_r ++ s_to_z)))) rows name
+    in_m_to_r is a e m s =
+        after_m a e m (part-before m_to_r s_to_z rows name _ _ parts.fifth s (whole _ rows name _ _ parts.fourth is))
 
-    pub in_s_to_z : rows ≡ s_to_z → is_below name (codes "a") ≡ false → is_below name (codes "e") ≡ false → is_below name (codes "m") ≡ false → is_below name (codes "s") ≡ false → IsPart (capitals ++ (a_to_d ++ (e_to_l ++ (m_to_r ++ s_to_z)))) rows name
-    in_s_to_z is a e m s = after_m a e m (part-after m_to_r s_to_z rows name _ _ parts.fourth s (whole _ rows name _ _ parts.fifth is))
+    pub in_s_to_z : rows ≡ s_to_z → is_below name (codes "a") ≡ false → is_below name (codes "e") ≡ false →
+        is_below name (codes "m") ≡ false → is_below name (codes "s") ≡ false →
+        IsPart (capitals ++ (a_to_d ++ (e_to_l ++ (m_to_r ++ s_to_z)))) rows name
+    in_s_to_z is a e m s =
+        after_m a e m (part-after m_to_r s_to_z rows name _ _ parts.fourth s (whole _ rows name _ _ parts.fifth is))
 
 pub html_4_parted : IsParted html_4_capitals html_4_a_to_d html_4_e_to_l html_4_m_to_r html_4_s_to_z
-html_4_parted = record { first = html_4_capitals_order; second = html_4_a_to_d_order; third = html_4_e_to_l_order; fourth = html_4_m_to_r_order; fifth = html_4_s_to_z_order }
+html_4_parted =
+    record { first = html_4_capitals_order; second = html_4_a_to_d_order; third = html_4_e_to_l_order; fourth = html_4_m_to_r_order; fifth = html_4_s_to_z_order }
 
 html_4_order : IsInOrder html_4_rows [] (codes "{")
 unfolding html_4_rows
@@ -106,7 +124,8 @@ pub html_4_sound : IsTable html_4_rows
 html_4_sound = record { names = html_4_order.names; distinct = distinct html_4_rows html_4_order.sorted }
 
 pub html_5_parted : IsParted html_5_capitals html_5_a_to_d html_5_e_to_l html_5_m_to_r html_5_s_to_z
-html_5_parted = record { first = html_5_capitals_order; second = html_5_a_to_d_order; third = html_5_e_to_l_order; fourth = html_5_m_to_r_order; fifth = html_5_s_to_z_order }
+html_5_parted =
+    record { first = html_5_capitals_order; second = html_5_a_to_d_order; third = html_5_e_to_l_order; fourth = html_5_m_to_r_order; fifth = html_5_s_to_z_order }
 
 html_5_order : IsInOrder html_5_rows [] (codes "{")
 unfolding html_5_rows

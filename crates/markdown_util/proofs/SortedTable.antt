@@ -44,7 +44,8 @@ apart p x y h k = go (bytes_eq x y) refl
     go false e = refl
     go true e = absurd (false≢true (sym k ∙ ap p (sym (same_text x y (sym e))) ∙ h))
 
-none-passes : (p : List ℕ → Bool) (rows : Table) (name : List ℕ) → list_all (λ row. p row.0) rows ≡ true → p name ≡ false → named_value rows name ≡ None
+none-passes : (p : List ℕ → Bool) (rows : Table) (name : List ℕ) → list_all (λ row. p row.0) rows ≡ true →
+    p name ≡ false → named_value rows name ≡ None
 none-passes p [] name h k = refl
 none-passes p (row ∷ rows) name h k =
     let parts = and_parts (p row.0) (list_all (λ r. p r.0) rows) h in
@@ -54,23 +55,28 @@ no-name : (rows : Table) (name : List ℕ) → named_value rows name ≡ None �
 no-name [] name h = refl
 no-name (row ∷ rows) name h = go (no-name rows name) (bytes_eq row.0 name) h
   where
-    go : (named_value rows name ≡ None → has_name rows name ≡ false) → (b : Bool) → (elim b as (λ _. Option (List ℕ)) [ true ↦ Some row.1 | false ↦ named_value rows name ]) ≡ None → (b || has_name rows name) ≡ false
+    go : (named_value rows name ≡ None → has_name rows name ≡ false) → (b : Bool) →
+        (elim b as (λ _. Option (List ℕ)) [ true ↦ Some row.1 | false ↦ named_value rows name ]) ≡ None →
+        (b || has_name rows name) ≡ false
     go later true e = cc
     go later false e = later e
 
 -- What is below the first name of a sorted table is below each.
 
-further : (name x : List ℕ) (rows : Table) → is_below name x ≡ true → is_below_first x rows ≡ true → is_below_first name rows ≡ true
+further : (name x : List ℕ) (rows : Table) → is_below name x ≡ true → is_below_first x rows ≡ true →
+    is_below_first name rows ≡ true
 further name x [] h k = refl
 further name x (row ∷ rows) h k = below-trans name x row.0 h k
 
-above : (rows : Table) (name : List ℕ) → is_sorted rows ≡ true → is_below_first name rows ≡ true → list_all (λ row. is_below name row.0) rows ≡ true
+above : (rows : Table) (name : List ℕ) → is_sorted rows ≡ true → is_below_first name rows ≡ true →
+    list_all (λ row. is_below name row.0) rows ≡ true
 above [] name s h = refl
 above (row ∷ rows) name s h =
     let parts = and_parts (is_below_first row.0 rows) (is_sorted rows) s in
     and_from _ _ h (above rows name parts.1 (further name row.0 rows h parts.0))
 
-none-above : (rows : Table) (name : List ℕ) → is_sorted rows ≡ true → is_below_first name rows ≡ true → named_value rows name ≡ None
+none-above : (rows : Table) (name : List ℕ) → is_sorted rows ≡ true → is_below_first name rows ≡ true →
+    named_value rows name ≡ None
 none-above rows name s h = none-passes (is_below name) rows name (above rows name s h) (not-itself name)
 
 pub distinct : (rows : Table) → is_sorted rows ≡ true → has_distinct_names rows ≡ true
@@ -81,7 +87,8 @@ distinct (row ∷ rows) s =
 
 -- A table in two parts.
 
-named-back : (low high : Table) (name : List ℕ) → named_value low name ≡ None → named_value high name ≡ named_value (low ++ high) name
+named-back : (low high : Table) (name : List ℕ) → named_value low name ≡ None →
+    named_value high name ≡ named_value (low ++ high) name
 named-back [] high name h = refl
 named-back (row ∷ low) high name h = go (named-back low high name) (bytes_eq row.0 name) h
   where
@@ -90,7 +97,8 @@ named-back (row ∷ low) high name h = go (named-back low high name) (bytes_eq r
     go later true e = cc
     go later false e = later e
 
-named-front : (low high : Table) (name : List ℕ) → named_value high name ≡ None → named_value low name ≡ named_value (low ++ high) name
+named-front : (low high : Table) (name : List ℕ) → named_value high name ≡ None →
+    named_value low name ≡ named_value (low ++ high) name
 named-front [] high name h = sym h
 named-front (row ∷ low) high name h = go (named-front low high name h) (bytes_eq row.0 name)
   where
@@ -112,18 +120,23 @@ pub record IsInOrder (part : Table) (from next : List ℕ) : Type 0 where
   pub first : is_below_first from part ≡ true
   pub before : list_all (λ row. is_below row.0 next) part ≡ true
 
-sorted-join : (cut : List ℕ) (low high : Table) → is_sorted low ≡ true → list_all (λ row. is_below row.0 cut) low ≡ true → is_below_first cut high ≡ true → is_sorted high ≡ true → is_sorted (low ++ high) ≡ true
+sorted-join : (cut : List ℕ) (low high : Table) → is_sorted low ≡ true →
+    list_all (λ row. is_below row.0 cut) low ≡ true → is_below_first cut high ≡ true → is_sorted high ≡ true →
+    is_sorted (low ++ high) ≡ true
 sorted-join cut [] high s all first t = t
-sorted-join cut (row ∷ []) high s all first t = and_from _ _ (further row.0 cut high (and_parts (is_below row.0 cut) true all).0 first) t
+sorted-join cut (row ∷ []) high s all first t =
+    and_from _ _ (further row.0 cut high (and_parts (is_below row.0 cut) true all).0 first) t
 sorted-join cut (row ∷ next ∷ low) high s all first t =
     let parts = and_parts (is_below row.0 next.0) (is_sorted (next ∷ low)) s in
     let rest = and_parts (is_below row.0 cut) (list_all (λ r. is_below r.0 cut) (next ∷ low)) all in
     and_from _ _ parts.0 (sorted-join cut (next ∷ low) high parts.1 rest.1 first t)
 
-all-join : (p : List ℕ × List ℕ → Bool) (low high : Table) → list_all p low ≡ true → list_all p high ≡ true → list_all p (low ++ high) ≡ true
+all-join : (p : List ℕ × List ℕ → Bool) (low high : Table) → list_all p low ≡ true → list_all p high ≡ true →
+    list_all p (low ++ high) ≡ true
 all-join p low high h k = rw (list_all-append p low high, h) k
 
-all-below : (cut next : List ℕ) (rows : Table) → is_below cut next ≡ true → list_all (λ row. is_below row.0 cut) rows ≡ true → list_all (λ row. is_below row.0 next) rows ≡ true
+all-below : (cut next : List ℕ) (rows : Table) → is_below cut next ≡ true →
+    list_all (λ row. is_below row.0 cut) rows ≡ true → list_all (λ row. is_below row.0 next) rows ≡ true
 all-below cut next [] h k = refl
 all-below cut next (row ∷ rows) h k =
     let parts = and_parts (is_below row.0 cut) (list_all (λ r. is_below r.0 cut) rows) k in
@@ -133,12 +146,14 @@ filled-join : (low high : Table) → has_rows low ≡ true → has_rows (low ++ 
 filled-join [] high h = absurd (false≢true h)
 filled-join (row ∷ low) high h = refl
 
-first-join : (cut : List ℕ) (low high : Table) → has_rows low ≡ true → is_below_first cut low ≡ true → is_below_first cut (low ++ high) ≡ true
+first-join : (cut : List ℕ) (low high : Table) → has_rows low ≡ true → is_below_first cut low ≡ true →
+    is_below_first cut (low ++ high) ≡ true
 first-join cut [] high h k = absurd (false≢true h)
 first-join cut (row ∷ low) high h k = k
 
 -- one part, and the next from where it ends
-pub order-join : (from cut next : List ℕ) (low high : Table) → is_below cut next ≡ true → IsInOrder low from cut → IsInOrder high cut next → IsInOrder (low ++ high) from next
+pub order-join : (from cut next : List ℕ) (low high : Table) → is_below cut next ≡ true → IsInOrder low from cut →
+    IsInOrder high cut next → IsInOrder (low ++ high) from next
 order-join from cut next low high h l r = record {
   sorted = sorted-join cut low high l.sorted l.before r.first r.sorted;
   names = all-join _ low high l.names r.names;
@@ -147,18 +162,22 @@ order-join from cut next low high h l r = record {
   before = all-join _ low high (all-below cut next low h l.before) r.before;
 }
 
-pub whole : (table rows : Table) (name from next : List ℕ) → IsInOrder table from next → rows ≡ table → IsPart table rows name
-whole table rows name from next order e = record { held = ap (λ t. named_value t name) e; sorted = subst (λ (t : Table). is_sorted t ≡ true) (sym e) order.sorted }
+pub whole : (table rows : Table) (name from next : List ℕ) → IsInOrder table from next → rows ≡ table →
+    IsPart table rows name
+whole table rows name from next order e =
+    record { held = ap (λ t. named_value t name) e; sorted = subst (λ (t : Table). is_sorted t ≡ true) (sym e) order.sorted }
 
 -- a name before a cut stands among the rows before it
-pub part-before : (low high rows : Table) (name cut next : List ℕ) → IsInOrder high cut next → is_below name cut ≡ true → IsPart low rows name → IsPart (low ++ high) rows name
+pub part-before : (low high rows : Table) (name cut next : List ℕ) → IsInOrder high cut next →
+    is_below name cut ≡ true → IsPart low rows name → IsPart (low ++ high) rows name
 part-before low high rows name cut next order h part = record {
   held = part.held ∙ named-front low high name (none-above high name order.sorted (further name cut high h order.first));
   sorted = part.sorted;
 }
 
 -- and any other name among the rest
-pub part-after : (low high rows : Table) (name from cut : List ℕ) → IsInOrder low from cut → is_below name cut ≡ false → IsPart high rows name → IsPart (low ++ high) rows name
+pub part-after : (low high rows : Table) (name from cut : List ℕ) → IsInOrder low from cut → is_below name cut ≡ false →
+    IsPart high rows name → IsPart (low ++ high) rows name
 part-after low high rows name from cut order h part = record {
   held = part.held ∙ named-back low high name (none-passes (λ x. is_below x cut) low name order.before h);
   sorted = part.sorted;
@@ -179,7 +198,8 @@ neighbours (row ∷ next ∷ rows) s zero d within =
 neighbours (row ∷ next ∷ rows) s (suc k) d within =
     neighbours (next ∷ rows) (and_parts (is_below row.0.now next.0.now) (is_sorted (rows_of (next ∷ rows))) s).1 k d (omega arith)
 
-steps_rise : (rows : Rows) → is_sorted (rows_of rows) ≡ true → IsSortedBy (λ a b. is_lt (slice_cmp nat_cmp a.0.now b.0.now)) rows
+steps_rise : (rows : Rows) → is_sorted (rows_of rows) ≡ true →
+    IsSortedBy (λ a b. is_lt (slice_cmp nat_cmp a.0.now b.0.now)) rows
 steps_rise rows s k d low high = rw (add-one k) (neighbours rows s k d (omega arith))
 
 -- how the name of a row compares with a name
@@ -201,9 +221,12 @@ found_at (row ∷ rows) name (suc i) d s within e =
     go : (b : Bool) → bytes_eq row.0.now name ≡ b → named_value (rows_of rows) name ≡ Some (get_or rows i d).1.now → named_value (rows_of rows) row.0.now ≡ None
         → (elim b as (λ _. Option (List ℕ)) [ true ↦ Some row.1.now | false ↦ named_value (rows_of rows) name ]) ≡ Some (get_or rows i d).1.now
     go false f later none = later
-    go true f later none = let clash : None ≡ Some (get_or rows i d).1.now = sym none ∙ ap (named_value (rows_of rows)) (same_text row.0.now name (sym f)) ∙ later in cc
+    go true f later none =
+        let clash : None ≡ Some (get_or rows i d).1.now = sym none ∙ ap (named_value (rows_of rows)) (same_text row.0.now name (sym f)) ∙ later in cc
 
-found_nowhere : (rows : Rows) (name : List ℕ) → ((k : ℕ) (d : Bor (List ℕ) × Bor (List ℕ)) → k < length rows → bytes_eq (get_or rows k d).0.now name ≡ false) → named_value (rows_of rows) name ≡ None
+found_nowhere : (rows : Rows) (name : List ℕ) →
+    ((k : ℕ) (d : Bor (List ℕ) × Bor (List ℕ)) → k < length rows → bytes_eq (get_or rows k d).0.now name ≡ false) →
+    named_value (rows_of rows) name ≡ None
 found_nowhere [] name h = refl
 found_nowhere (row ∷ rows) name h =
     rw (h zero row (omega arith), named_value) (found_nowhere rows name (λ k d within. h (suc k) d (omega arith)))
@@ -217,7 +240,8 @@ searched rows name d (Err i) s within parted = sym (found_nowhere rows name diff
     at : IsPartitionPoint (λ row. compared name row ≡ Less) (λ row. compared name row ≡ Greater) rows i
     at = parted (searchable_from_sorted nat_list_cmp_total (λ row. row.0.now) rows name (steps_rise rows s))
 
-    differs : (k : ℕ) (d : Bor (List ℕ) × Bor (List ℕ)) → k < length rows → bytes_eq (get_or rows k d).0.now name ≡ false
+    differs : (k : ℕ) (d : Bor (List ℕ) × Bor (List ℕ)) → k < length rows →
+        bytes_eq (get_or rows k d).0.now name ≡ false
     differs k d inside = elim (cases_lt k i) [
       | inl low ↦ sym (is_eq-slice_cmp _ name) ∙ ap is_eq (at.0 k d (omega arith) low)
       | inr high ↦ sym (is_eq-slice_cmp _ name) ∙ ap is_eq (at.1 k d high inside)

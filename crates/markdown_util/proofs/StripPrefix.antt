@@ -11,19 +11,24 @@ use Rattle.markdown_util.specs.ReferenceParts.{LacksFirst}
 
 -- the clause of the call
 abbrev pub Stripped : ℕ → List ℕ → Option (Bor (List ℕ)) → Type 0
-Stripped b bs r = MatchOption r (FindsCharPrefix b bs None) (λ x. (n : ℕ) × FindsCharPrefix b bs (Some n) × (x.now ≡ drop n bs) × (length x.now + n ≡ length bs))
+Stripped b bs r =
+    MatchOption r (FindsCharPrefix b bs None) (λ x. (n : ℕ) × FindsCharPrefix b bs (Some n) × (x.now ≡ drop n bs) × (length x.now + n ≡ length bs))
 
-pub strip_prefix-none : (b : ℕ) (bs : List ℕ) (r : Option (Bor (List ℕ))) → b < 128 → Stripped b bs r → r ≡ None → LacksFirst b bs
+pub strip_prefix-none : (b : ℕ) (bs : List ℕ) (r : Option (Bor (List ℕ))) → b < 128 → Stripped b bs r → r ≡ None →
+    LacksFirst b bs
 strip_prefix-none b bs r low h e = go r (strip_prefix_char b bs r h low) e
   where
-    go : (r : Option (Bor (List ℕ))) → MatchOption r ((rest : List ℕ) → bs ≢ b ∷ rest) (λ x. bs ≡ b ∷ x.now) → r ≡ None → LacksFirst b bs
+    go : (r : Option (Bor (List ℕ))) → MatchOption r ((rest : List ℕ) → bs ≢ b ∷ rest) (λ x. bs ≡ b ∷ x.now) →
+        r ≡ None → LacksFirst b bs
     go None h e = h
     go (Some x) h e = cc
 
-pub strip_prefix-some : (b : ℕ) (bs : List ℕ) (r : Option (Bor (List ℕ))) (x : Bor (List ℕ)) → b < 128 → Stripped b bs r → r ≡ Some x → bs ≡ b ∷ x.now
+pub strip_prefix-some : (b : ℕ) (bs : List ℕ) (r : Option (Bor (List ℕ))) (x : Bor (List ℕ)) → b < 128 →
+    Stripped b bs r → r ≡ Some x → bs ≡ b ∷ x.now
 strip_prefix-some b bs r x low h e = go r (strip_prefix_char b bs r h low) e
   where
-    go : (r : Option (Bor (List ℕ))) → MatchOption r ((rest : List ℕ) → bs ≢ b ∷ rest) (λ y. bs ≡ b ∷ y.now) → r ≡ Some x → bs ≡ b ∷ x.now
+    go : (r : Option (Bor (List ℕ))) → MatchOption r ((rest : List ℕ) → bs ≢ b ∷ rest) (λ y. bs ≡ b ∷ y.now) →
+        r ≡ Some x → bs ≡ b ∷ x.now
     go None h e = cc
     go (Some y) h e = cc
 
@@ -35,7 +40,8 @@ pub record IsFirstAmpersand (bs before after : List ℕ) : Type 0 where
 apart : (bs : List ℕ) → ((i : ℕ) → i < length bs → get_or bs i 0 ≢ 38) → All (λ b. b ≢ 38) bs
 apart bs h k d lt = λ e. h k lt (get_or_default bs k 0 d lt ∙ e)
 
-pub split_once-none : (bs : List ℕ) (r : Option (Bor (List ℕ) × Bor (List ℕ))) → IsSplitOnceResult 38 bs r → r ≡ None → All (λ b. b ≢ 38) bs
+pub split_once-none : (bs : List ℕ) (r : Option (Bor (List ℕ) × Bor (List ℕ))) → IsSplitOnceResult 38 bs r → r ≡ None →
+    All (λ b. b ≢ 38) bs
 split_once-none bs r h e = go r (split_parts 38 bs r h (lit< tt)) e
   where
     go : (r : Option (Bor (List ℕ) × Bor (List ℕ))) → MatchOption r ((i : ℕ) → i < length bs → get_or bs i 0 ≢ 38) (λ x. (bs ≡ x.0.now ++ 38 ∷ x.1.now) × ((i : ℕ) → i < length x.0.now → get_or x.0.now i 0 ≢ 38)) → r ≡ None
@@ -43,7 +49,8 @@ split_once-none bs r h e = go r (split_parts 38 bs r h (lit< tt)) e
     go None h e = apart bs h
     go (Some x) h e = cc
 
-pub split_once-some : (bs : List ℕ) (r : Option (Bor (List ℕ) × Bor (List ℕ))) (before after : Bor (List ℕ)) → IsSplitOnceResult 38 bs r → r ≡ Some (before, after) → IsFirstAmpersand bs before.now after.now
+pub split_once-some : (bs : List ℕ) (r : Option (Bor (List ℕ) × Bor (List ℕ))) (before after : Bor (List ℕ)) →
+    IsSplitOnceResult 38 bs r → r ≡ Some (before, after) → IsFirstAmpersand bs before.now after.now
 split_once-some bs r before after h e =
     let parts = subst (λ (o : Option (Bor (List ℕ) × Bor (List ℕ))). MatchOption o ((i : ℕ) → i < length bs → get_or bs i 0 ≢ 38) (λ x. (bs ≡ x.0.now ++ 38 ∷ x.1.now) × ((i : ℕ) → i < length x.0.now → get_or x.0.now i 0 ≢ 38))) e (split_parts 38 bs r h (lit< tt)) in
     record { is = parts.0; plain = apart before.now parts.1 }

@@ -34,7 +34,8 @@ pub before-semicolon : (xs rest : List ℕ) → NoSemicolon xs → before_first 
 before-semicolon xs rest h = ap (λ n. take n (xs ++ 59 ∷ rest)) (place xs rest h) ∙ take-append_seam xs (59 ∷ rest)
 
 pub after-semicolon : (xs rest : List ℕ) → NoSemicolon xs → after_first is_semicolon (xs ++ 59 ∷ rest) ≡ rest
-after-semicolon xs rest h = ap (λ n. drop (n + 1) (xs ++ 59 ∷ rest)) (place xs rest h) ∙ drop-append-add xs (59 ∷ rest) 1
+after-semicolon xs rest h =
+    ap (λ n. drop (n + 1) (xs ++ 59 ∷ rest)) (place xs rest h) ∙ drop-append-add xs (59 ∷ rest) 1
 
 pub any-semicolon : (xs rest : List ℕ) → list_any is_semicolon (xs ++ 59 ∷ rest) ≡ true
 any-semicolon [] rest = refl
@@ -51,7 +52,8 @@ pub parted : (bs : List ℕ) → list_any is_semicolon bs ≡ true → Parted bs
 parted [] h = absurd (false≢true h)
 parted (b ∷ bs) h = go (parted bs) (eqb b 59) refl h
   where
-    go : (list_any is_semicolon bs ≡ true → Parted bs) → (x : Bool) → eqb b 59 ≡ x → (x || list_any is_semicolon bs) ≡ true → Parted (b ∷ bs)
+    go : (list_any is_semicolon bs ≡ true → Parted bs) → (x : Bool) → eqb b 59 ≡ x →
+        (x || list_any is_semicolon bs) ≡ true → Parted (b ∷ bs)
     go rest true e h = record { front = []; back = bs; is = ap (λ c. c ∷ bs) (eqb-true b 59 e); none = refl }
     go rest false e h =
         let p = rest h in
@@ -67,7 +69,8 @@ module _ (p : ℕ → Bool) (stops : p 59 ≡ false) where
       rw off (passing_none xs parts.1)
 
   -- they are as many as there are, where that is no more than n
-  pub passing_len : (n : ℕ) (xs rest : List ℕ) → list_all p xs ≡ true → length xs ≤ n → prefix_len p (take n (xs ++ 59 ∷ rest)) ≡ length xs
+  pub passing_len : (n : ℕ) (xs rest : List ℕ) → list_all p xs ≡ true → length xs ≤ n →
+      prefix_len p (take n (xs ++ 59 ∷ rest)) ≡ length xs
   passing_len zero [] rest h le = refl
   passing_len (suc n) [] rest h le = rw stops refl
   passing_len zero (x ∷ xs) rest h le = absurd (omega arith)
@@ -82,7 +85,8 @@ passing_front p (suc n) [] = refl
 passing_front p zero (b ∷ bs) = refl
 passing_front p (suc n) (b ∷ bs) = go (passing_front p n bs) (p b) refl
   where
-    go : list_all p (take (prefix_len p (take n bs)) bs) ≡ true → (x : Bool) → p b ≡ x → list_all p (take (cond (p b) (1 + prefix_len p (take n bs)) 0) (b ∷ bs)) ≡ true
+    go : list_all p (take (prefix_len p (take n bs)) bs) ≡ true → (x : Bool) → p b ≡ x →
+        list_all p (take (cond (p b) (1 + prefix_len p (take n bs)) 0) (b ∷ bs)) ≡ true
     go rest true e = rw (e, one_more (prefix_len p (take n bs)), e) rest
     go rest false e = rw e refl
 

@@ -35,7 +35,8 @@ semicolon_stops marker = go (eqb marker 38) (eqb marker 35)
     go false false = refl
 
 -- Only what may be a name is one.
-named_is_value : (table : Table) → list_all (λ row. is_value 38 row.0) table ≡ true → (name text : List ℕ) → named_value table name ≡ Some text → is_value 38 name ≡ true
+named_is_value : (table : Table) → list_all (λ row. is_value 38 row.0) table ≡ true → (name text : List ℕ) →
+    named_value table name ≡ Some text → is_value 38 name ≡ true
 named_is_value [] h name text e = cc
 named_is_value (row ∷ rows) h name text e =
     let parts = and_parts (is_value 38 row.0) (list_all (λ r. is_value 38 r.0) rows) h in
@@ -49,12 +50,14 @@ named_is_value (row ∷ rows) h name text e =
 named-guarded : (table : Table) → IsTable table → (name : List ℕ) → named_value table name ≡ guarded table 38 name
 named-guarded table sound name = go (named_value table name) refl (is_value 38 name) refl
   where
-    go : (r : Option (List ℕ)) → named_value table name ≡ r → (b : Bool) → is_value 38 name ≡ b → r ≡ (elim b as (λ _. Option (List ℕ)) [ true ↦ r | false ↦ None ])
+    go : (r : Option (List ℕ)) → named_value table name ≡ r → (b : Bool) → is_value 38 name ≡ b →
+        r ≡ (elim b as (λ _. Option (List ℕ)) [ true ↦ r | false ↦ None ])
     go r e true f = refl
     go None e false f = refl
     go (Some t) e false f = absurd (false≢true (sym f ∙ named_is_value table sound.names name t e))
 
-text-at : (table : Table) (front back : List ℕ) → NoSemicolon front → reference_text table (front ++ 59 ∷ back) ≡ inner_text table front
+text-at : (table : Table) (front back : List ℕ) → NoSemicolon front →
+    reference_text table (front ++ 59 ∷ back) ≡ inner_text table front
 text-at table front back none =
     let text = front ++ 59 ∷ back in
     ap (λ b. pick b (inner_text table (before_first is_semicolon text)) None) (any-semicolon front back) ∙ ap (inner_text table) (before-semicolon front back none)
@@ -65,12 +68,14 @@ text-none table after e = ap (λ b. pick b (inner_text table (before_first is_se
 head_off : (c b : ℕ) (bs : List ℕ) → LacksFirst c (b ∷ bs) → b ≢ c
 head_off c b bs h e = h bs (ap (λ x. x ∷ bs) e)
 
-inner-name : (table : Table) → IsTable table → (front back : List ℕ) → LacksFirst 35 (front ++ 59 ∷ back) → inner_text table front ≡ guarded table 38 front
+inner-name : (table : Table) → IsTable table → (front back : List ℕ) → LacksFirst 35 (front ++ 59 ∷ back) →
+    inner_text table front ≡ guarded table 38 front
 inner-name table sound [] back h = refl
 inner-name table sound (b ∷ bs) back h =
     ap (λ t. pick t (numbered_text bs) (named_value table (b ∷ bs))) (eqb_off b 35 (head_off 35 b (bs ++ 59 ∷ back) h)) ∙ named-guarded table sound (b ∷ bs)
 
-numbered-decimal : (table : Table) (front back : List ℕ) → LacksFirst 120 (front ++ 59 ∷ back) → LacksFirst 88 (front ++ 59 ∷ back) → numbered_text front ≡ guarded table 35 front
+numbered-decimal : (table : Table) (front back : List ℕ) → LacksFirst 120 (front ++ 59 ∷ back) →
+    LacksFirst 88 (front ++ 59 ∷ back) → numbered_text front ≡ guarded table 35 front
 numbered-decimal table [] back x X = refl
 numbered-decimal table (b ∷ bs) back x X =
     ap (λ t. pick (t || eqb b 88) (number_text 120 bs) (number_text 35 (b ∷ bs))) (eqb_off b 120 (head_off 120 b (bs ++ 59 ∷ back) x))
@@ -81,7 +86,8 @@ pub record IsRead (table : Table) (marker : ℕ) (after front back : List ℕ) :
   pub text : reference_text table after ≡ guarded table marker front
   pub behind : after_first is_semicolon after ≡ back
 
-pub found : (table : Table) → IsTable table → (after body front back : List ℕ) (marker : ℕ) → IsMarked after marker body → body ≡ front ++ 59 ∷ back → NoSemicolon front → IsRead table marker after front back
+pub found : (table : Table) → IsTable table → (after body front back : List ℕ) (marker : ℕ) →
+    IsMarked after marker body → body ≡ front ++ 59 ∷ back → NoSemicolon front → IsRead table marker after front back
 found table sound after body front back marker (inl (m, same, lacks)) e none =
     let seam : after ≡ front ++ 59 ∷ back = same ∙ e in
     rw (m, seam) (record {
@@ -101,11 +107,16 @@ found table sound after body front back marker (inr (inr (m, inr same))) e none 
     let seam : after ≡ 35 ∷ 88 ∷ (front ++ 59 ∷ back) = same ∙ ap (λ bs. 35 ∷ 88 ∷ bs) e in
     rw (m, seam) (record { text = text-at table (35 ∷ 88 ∷ front) back none; behind = after-semicolon (35 ∷ 88 ∷ front) back none })
 
-pub missing : (table : Table) (after body : List ℕ) (marker : ℕ) → IsMarked after marker body → NoSemicolon body → reference_text table after ≡ None
-missing table after body marker (inl (m, same, lacks)) none = text-none table after (ap (list_any is_semicolon) same ∙ none)
-missing table after body marker (inr (inl (m, same, x, X))) none = text-none table after (ap (list_any is_semicolon) same ∙ none)
-missing table after body marker (inr (inr (m, inl same))) none = text-none table after (ap (list_any is_semicolon) same ∙ none)
-missing table after body marker (inr (inr (m, inr same))) none = text-none table after (ap (list_any is_semicolon) same ∙ none)
+pub missing : (table : Table) (after body : List ℕ) (marker : ℕ) → IsMarked after marker body → NoSemicolon body →
+    reference_text table after ≡ None
+missing table after body marker (inl (m, same, lacks)) none =
+    text-none table after (ap (list_any is_semicolon) same ∙ none)
+missing table after body marker (inr (inl (m, same, x, X))) none =
+    text-none table after (ap (list_any is_semicolon) same ∙ none)
+missing table after body marker (inr (inr (m, inl same))) none =
+    text-none table after (ap (list_any is_semicolon) same ∙ none)
+missing table after body marker (inr (inr (m, inr same))) none =
+    text-none table after (ap (list_any is_semicolon) same ∙ none)
 
 -- as many bytes at the front as may belong to a value
 abbrev pub value_len : ℕ → List ℕ → ℕ
@@ -150,11 +161,14 @@ pub read_none : (table : Table) → IsTable table → (after body : List ℕ) (m
     → LacksFirst 59 (drop n body) ⊎ (n ≡ 0) → reference_text table after ≡ None
 read_none table sound after body marker n m len off = go (list_any is_semicolon body) refl
   where
-    clash : (front back : List ℕ) → body ≡ front ++ 59 ∷ back → n ≡ length front → 0 < length front → LacksFirst 59 (drop n body) ⊎ (n ≡ 0) → ⊥
-    clash front back e k some (inl lacks) = lacks back (ap (λ j. drop j body) k ∙ ap (drop (length front)) e ∙ drop-append_seam front (59 ∷ back))
+    clash : (front back : List ℕ) → body ≡ front ++ 59 ∷ back → n ≡ length front → 0 < length front →
+        LacksFirst 59 (drop n body) ⊎ (n ≡ 0) → ⊥
+    clash front back e k some (inl lacks) =
+        lacks back (ap (λ j. drop j body) k ∙ ap (drop (length front)) e ∙ drop-append_seam front (59 ∷ back))
     clash front back e k some (inr none) = omega arith
 
-    guard : (front back : List ℕ) → body ≡ front ++ 59 ∷ back → (b : Bool) → is_value marker front ≡ b → guarded table marker front ≡ None
+    guard : (front back : List ℕ) → body ≡ front ++ 59 ∷ back → (b : Bool) → is_value marker front ≡ b →
+        guarded table marker front ≡ None
     guard front back e false f = ap (λ t. pick t (decoded table front marker) None) f
     guard front back e true f =
         let parts = value_parts marker front f in
@@ -171,7 +185,8 @@ read_none table sound after body marker n m len off = go (list_any is_semicolon 
 
 -- The value of a number fits.
 
-all_digits : (radix : ℕ) (p : ℕ → Bool) → ((b : ℕ) → p b ≡ true → digit_value b < radix) → (bs : List ℕ) → list_all p bs ≡ true → AllDigits radix bs
+all_digits : (radix : ℕ) (p : ℕ → Bool) → ((b : ℕ) → p b ≡ true → digit_value b < radix) → (bs : List ℕ) →
+    list_all p bs ≡ true → AllDigits radix bs
 all_digits radix p digit [] h = tt
 all_digits radix p digit (b ∷ bs) h =
     let parts = and_parts (p b) (list_all p bs) h in
@@ -186,7 +201,8 @@ hexadecimal_digit b h = grind (arith, nat_tests)
 value_byte_ascii : (marker b : ℕ) → is_value_byte marker b ≡ true → b < 128
 value_byte_ascii marker b h = go (eqb marker 38) (eqb marker 35) h
   where
-    go : (x y : Bool) → cond x (is_ascii_alphanumeric b) (cond y (is_ascii_digit b) (is_ascii_hexdigit b)) ≡ true → b < 128
+    go : (x y : Bool) → cond x (is_ascii_alphanumeric b) (cond y (is_ascii_digit b) (is_ascii_hexdigit b)) ≡ true →
+        b < 128
     go true y h = grind (arith, nat_tests)
     go false true h = grind (arith, nat_tests)
     go false false h = grind (arith, nat_tests)
@@ -203,7 +219,8 @@ hexadecimal_number value h =
     let power : 16 ^ length value ≤ 16 ^ 6 = pow-le-pow_right (lit< tt) h.few in
     record { numeral = (h.some, digits); small = omega (arith, digits_value-lt 16 value digits) }
 
-pub number_from_value : (marker : ℕ) (value : List ℕ) → IsMarker marker → is_value marker value ≡ true → marker ≢ 38 → IsNumber (radix_of marker) value
+pub number_from_value : (marker : ℕ) (value : List ℕ) → IsMarker marker → is_value marker value ≡ true → marker ≢ 38 →
+    IsNumber (radix_of marker) value
 number_from_value marker value (inl e) h off = absurd (off e)
 number_from_value marker value (inr (inl e)) h off =
     subst (λ (m : ℕ). IsNumber (radix_of m) value) (sym e) (decimal_number value (value_parts 35 value (ap (λ m. is_value m value) (sym e) ∙ h)))
@@ -218,8 +235,10 @@ past_ascii b bs rest low u e = IsUtf8-past_char bs rest b u (e ∙ ap (λ xs. xs
 pub body_utf8 : (after body : List ℕ) (marker : ℕ) → IsMarked after marker body → IsUtf8 after → IsUtf8 body
 body_utf8 after body marker (inl (m, same, lacks)) u = subst IsUtf8 same u
 body_utf8 after body marker (inr (inl (m, same, x, X))) u = past_ascii 35 after body (lit< tt) u same
-body_utf8 after body marker (inr (inr (m, inl same))) u = past_ascii 120 (120 ∷ body) body (lit< tt) (past_ascii 35 after (120 ∷ body) (lit< tt) u same) refl
-body_utf8 after body marker (inr (inr (m, inr same))) u = past_ascii 88 (88 ∷ body) body (lit< tt) (past_ascii 35 after (88 ∷ body) (lit< tt) u same) refl
+body_utf8 after body marker (inr (inr (m, inl same))) u =
+    past_ascii 120 (120 ∷ body) body (lit< tt) (past_ascii 35 after (120 ∷ body) (lit< tt) u same) refl
+body_utf8 after body marker (inr (inr (m, inr same))) u =
+    past_ascii 88 (88 ∷ body) body (lit< tt) (past_ascii 35 after (88 ∷ body) (lit< tt) u same) refl
 
 pub value_boundary : (body : List ℕ) (marker n : ℕ) → n ≡ value_len marker body → IsUtf8 body → IsCharBoundary body n
 value_boundary body marker zero e u = IsCharBoundary-start body u
@@ -240,7 +259,8 @@ marked after body marker (inr (inl h)) = inr (inl h.0)
 marked after body marker (inr (inr h)) = inr (inr h.0)
 
 -- What stands behind a whole reference of a text is a text.
-pub behind_utf8 : (table : Table) (after text : List ℕ) → reference_text table after ≡ Some text → IsUtf8 after → IsUtf8 (after_first is_semicolon after)
+pub behind_utf8 : (table : Table) (after text : List ℕ) → reference_text table after ≡ Some text → IsUtf8 after →
+    IsUtf8 (after_first is_semicolon after)
 behind_utf8 table after text e u = go (list_any is_semicolon after) refl
   where
     go : (b : Bool) → list_any is_semicolon after ≡ b → IsUtf8 (after_first is_semicolon after)

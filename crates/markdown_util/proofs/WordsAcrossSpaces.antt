@@ -12,7 +12,8 @@ use Rattle.markdown_util.specs.IdentifierLaws.{AreSpaces, Gap, AreRuns, left_tex
 first_spaces : (x : ℕ) (xs : List ℕ) → AreSpaces (x ∷ xs) → (separates_words x ≡ true) × AreSpaces xs
 first_spaces x xs h = go (separates_words x) refl h
   where
-    go : (b : Bool) → separates_words x ≡ b → (b && list_all separates_words xs) ≡ true → (separates_words x ≡ true) × AreSpaces xs
+    go : (b : Bool) → separates_words x ≡ b → (b && list_all separates_words xs) ≡ true →
+        (separates_words x ≡ true) × AreSpaces xs
     go true e h = (e, h)
     go false e h = absurd (false≢true h)
 
@@ -31,7 +32,8 @@ split_nonempty : (xs : List ℕ) → slice_split separates_words xs ≢ []
 split_nonempty xs e = absurd (omega (arith, length-slice_split separates_words xs, ap length e))
 
 -- a space parts a text
-split-at_space : (xs : List ℕ) (s : ℕ) (ys : List ℕ) → separates_words s ≡ true → slice_split separates_words (xs ++ s ∷ ys) ≡ slice_split separates_words xs ++ slice_split separates_words ys
+split-at_space : (xs : List ℕ) (s : ℕ) (ys : List ℕ) → separates_words s ≡ true →
+    slice_split separates_words (xs ++ s ∷ ys) ≡ slice_split separates_words xs ++ slice_split separates_words ys
 split-at_space [] s ys h = slice_split-cons_yes separates_words s ys h
 split-at_space (x ∷ xs) s ys h = go (split-at_space xs s ys h) (separates_words x) refl
   where
@@ -63,7 +65,8 @@ words-between : (text whole : List ℕ) → IsBetweenSpaces text whole → words
 words-between text whole h =
     ap words h.is ∙ words-spaces h.front (text ++ h.back) h.front_spaces ∙ words-back text h.back h.back_spaces
 
-words-gaps : (gaps : List Gap) (end : List ℕ) → All AreRuns gaps → words (left_text gaps end) ≡ words (right_text gaps end)
+words-gaps : (gaps : List Gap) (end : List ℕ) → All AreRuns gaps →
+    words (left_text gaps end) ≡ words (right_text gaps end)
 words-gaps [] end h = refl
 words-gaps (gap ∷ gaps) end h =
     let runs = All-head AreRuns gap gaps h in

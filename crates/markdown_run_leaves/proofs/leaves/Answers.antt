@@ -7,4 +7,5 @@ pub returns-clause-leaves : goal.returns-clause-leaves
 returns-clause-leaves c t e = c.new.ensures ∙ lent-leaves c.args.bytes.now t c.args.events.now e
 
 pub returns-clause-covers : goal.returns-clause-covers
-returns-clause-covers c t h e = ap (covered c.args.bytes.now) c.new.ensures ∙ lent-covers c.args.bytes.now t c.args.events.now h e
+returns-clause-covers c t h e =
+    ap (covered c.args.bytes.now) c.new.ensures ∙ lent-covers c.args.bytes.now t c.args.events.now h e

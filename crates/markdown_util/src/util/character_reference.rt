@@ -6,7 +6,8 @@ ghost use Rattle.markdown_util.specs.ReferenceParts.{IsMarked};
 ghost use Rattle.std.specs.Option.{option_copied};
 ghost use Rattle.std.specs.Str.{byte};
 ghost use Rattle.std.specs.Str.Parse.{digits_value};
-ghost use Rattle.markdown_util.specs.Reference.{html_5_capitals, html_5_a_to_d, html_5_e_to_l, html_5_m_to_r, html_5_s_to_z, html_4_capitals, html_4_a_to_d, html_4_e_to_l, html_4_m_to_r, html_4_s_to_z, named_value, rows_of, rows_for, html_4_rows, html_5_rows, is_sorted, character_of, is_replaced, IsNumber, IsMarker, radix_of, value_size_max, is_value_byte, decoded, reference_text, is_semicolon, parsed};
+ghost use Rattle.markdown_util.specs.Reference.{html_5_capitals, html_5_a_to_d, html_5_e_to_l, html_5_m_to_r, html_5_s_to_z, html_4_capitals, html_4_a_to_d, html_4_e_to_l, html_4_m_to_r, html_4_s_to_z, named_value, rows_of, rows_for};
+ghost use Rattle.markdown_util.specs.Reference.{html_4_rows, html_5_rows, is_sorted, character_of, is_replaced, IsNumber, IsMarker, radix_of, value_size_max, is_value_byte, decoded, reference_text, is_semicolon, parsed};
 ghost use Rattle.markdown_util.specs.TableParts.{IsPart};
 
 use crate::util::constant::{

@@ -14,7 +14,8 @@ pass_stretch-requires-clause-ready g c =
     ready-next law.ready c.loop-state.state c.in-Next.name c.loop-state.tokenizer c.in-Next.is now.goes_on
 
 -- the turn that calls a state
-turned : (g : Over) (c : goal.In_ok-hand_over-in-Next g) → Turned g.L.Layer.ready g.L.Layer.step g.L.Layer.ends g.L.Layer.weight (suc (weight_state g.L.Layer.weight c.args.start c.args.tokenizer.now)) (ends_state g.L.Layer.ends c.args.start c.args.tokenizer.now) c.loop-state.waiting c.loop-state.state c.loop-state.tokenizer c.hand_over.new.waiting c.in_ok-state-in-Next.state c.hand_over.new.tokenizer
+turned : (g : Over) (c : goal.In_ok-hand_over-in-Next g) →
+    Turned g.L.Layer.ready g.L.Layer.step g.L.Layer.ends g.L.Layer.weight (suc (weight_state g.L.Layer.weight c.args.start c.args.tokenizer.now)) (ends_state g.L.Layer.ends c.args.start c.args.tokenizer.now) c.loop-state.waiting c.loop-state.state c.loop-state.tokenizer c.hand_over.new.waiting c.in_ok-state-in-Next.state c.hand_over.new.tokenizer
 turned g c =
     let law = g.L.Layer in
     let end = c.in_ok-hand_over-in-Next.ensures in

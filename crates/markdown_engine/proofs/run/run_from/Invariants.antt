@@ -9,8 +9,10 @@ abbrev pub invariant-loop-state : goal.invariant-loop-state
 invariant-loop-state g l = record {
   alone : l.tokenizer.attempts ≡ [];
   goes : Goes g.L.Layer.ready g.L.Layer.ends g.L.Layer.weight (suc (weight_state g.L.Layer.weight l.fn.start l.fn.tokenizer)) (ends_state g.L.Layer.ends l.fn.start l.fn.tokenizer) l.waiting l.state l.tokenizer;
-  calls : (ok : Bool) (U : Tokenizer) → Reaches g.L.Layer.ready g.L.Layer.step l.waiting l.state l.tokenizer ok U → Reaches g.L.Layer.ready g.L.Layer.step [] l.fn.start l.fn.tokenizer ok U;
+  calls : (ok : Bool) (U : Tokenizer) → Reaches g.L.Layer.ready g.L.Layer.step l.waiting l.state l.tokenizer ok U →
+      Reaches g.L.Layer.ready g.L.Layer.step [] l.fn.start l.fn.tokenizer ok U;
 }
 
 abbrev pub decreases-loop-state : goal.decreases-loop-state
-decreases-loop-state g l = (runs_out (ran g.L.Layer.step (suc (weight_state g.L.Layer.weight l.fn.start l.fn.tokenizer))) l.waiting l.state l.tokenizer).turns
+decreases-loop-state g l =
+    (runs_out (ran g.L.Layer.step (suc (weight_state g.L.Layer.weight l.fn.start l.fn.tokenizer))) l.waiting l.state l.tokenizer).turns

@@ -8,7 +8,8 @@ pub pass_piece-requires-clause-is_point : goal.pass_piece-requires-clause-is_poi
 pass_piece-requires-clause-is_point c = point_start c.args.bytes.now
 
 pub pass_next-requires-clause-is_point : goal.pass_next-requires-clause-is_point
-pass_next-requires-clause-is_point c = passing-point c.args.bytes.now c.args.pieces.now _ c.loop-piece.last c.loop-piece.invariant
+pass_next-requires-clause-is_point c =
+    passing-point c.args.bytes.now c.args.pieces.now _ c.loop-piece.last c.loop-piece.invariant
 
 pub returns-in_default-pass_next : goal.returns-in_default-pass_next
 returns-in_default-pass_next c =

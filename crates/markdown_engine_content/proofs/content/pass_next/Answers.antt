@@ -4,10 +4,12 @@ use Rattle.markdown_engine_content.proofs.PieceTests.{at_start, start-here, next
 use Rattle.markdown_engine_content.proofs.content.pass_next.Goals as goal
 
 pub returns-then-gap : goal.returns-then-gap
-returns-then-gap c = next-lines c.args.bytes.now c.args.before.ends_line c.args.before.point c.args.piece.now c.in_ok-gap.gap c.in_ok-gap.ensures c.if-gap.true
+returns-then-gap c =
+    next-lines c.args.bytes.now c.args.before.ends_line c.args.before.point c.args.piece.now c.in_ok-gap.gap c.in_ok-gap.ensures c.if-gap.true
 
 pub pass_piece-requires-clause-is_point : goal.pass_piece-requires-clause-is_point
-pass_piece-requires-clause-is_point c = (at_start c.args.bytes.now c.args.before.point c.args.piece.now c.in_ok-gap.gap c.in_ok-gap.ensures).point
+pass_piece-requires-clause-is_point c =
+    (at_start c.args.bytes.now c.args.before.point c.args.piece.now c.in_ok-gap.gap c.in_ok-gap.ensures).point
 
 pub pass_piece-requires-clause-forward : goal.pass_piece-requires-clause-forward
 pass_piece-requires-clause-forward c =

@@ -3,7 +3,8 @@ use Rattle.markdown_engine_content.proofs.PieceTests.{at_start, start-forward, p
 use Rattle.markdown_engine_content.proofs.content.pass_piece.Goals as goal
 
 pub reach-requires-2-clause-is_point : goal.reach-requires-2-clause-is_point
-reach-requires-2-clause-is_point c = (at_start c.args.bytes.now c.args.point c.args.piece.now c.in_ok-start.start c.in_ok-start.ensures).point
+reach-requires-2-clause-is_point c =
+    (at_start c.args.bytes.now c.args.point c.args.piece.now c.in_ok-start.start c.in_ok-start.ensures).point
 
 pub reach-requires-2-clause-forward : goal.reach-requires-2-clause-forward
 reach-requires-2-clause-forward c =

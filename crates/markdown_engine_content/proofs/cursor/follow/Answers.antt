@@ -15,4 +15,5 @@ returns-then-piece-pieces c =
     rw c.walk_to.ensures.point ((going c.args.bytes.now c.args.pieces.now c.args.piece c.args.point (record { start = (0, 0); end = (0, 0) }) c.if-piece-pieces.true c.requires.content.in_order (sym c.stands_before_end.ensures ∙ c.if-stands_before_end.false)).result)
 
 pub returns-else-piece-pieces : goal.returns-else-piece-pieces
-returns-else-piece-pieces c = followed-last c.args.bytes.now c.args.pieces.now c.args.piece c.args.point c.if-piece-pieces.false
+returns-else-piece-pieces c =
+    followed-last c.args.bytes.now c.args.pieces.now c.args.piece c.args.point c.if-piece-pieces.false

@@ -5,7 +5,8 @@ use Rattle.std.proofs.Math.Nat.{two-pow-succ}
 use Rattle.markdown_engine_content.proofs.lanes.without.Goals as goal
 
 pub returns-clause-others : goal.returns-clause-others
-returns-clause-others c i l apart = bit_at_clear_other w64 c.args.mask c.args.bit (omega (arith, c.requires.within)) i (omega (arith, l)) apart
+returns-clause-others c i l apart =
+    bit_at_clear_other w64 c.args.mask c.args.bit (omega (arith, c.requires.within)) i (omega (arith, l)) apart
 
 pub returns-clause-less : goal.returns-clause-less
 returns-clause-less c =

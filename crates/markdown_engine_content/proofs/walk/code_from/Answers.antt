@@ -9,7 +9,8 @@ returns-then-byte-eq13 c =
     value_ending c.args.bytes.now c.args.point c.requires.is_point c.requires.begins (ending_byte (get_or c.args.bytes.now c.args.point.index 0) c.if-byte-eq13.either)
 
 pub returns-then-point-gt0 : goal.returns-then-point-gt0
-returns-then-point-gt0 c = value_space c.args.bytes.now c.args.point c.requires.is_point c.requires.begins c.if-byte-eq9.true c.if-point-gt0.true
+returns-then-point-gt0 c =
+    value_space c.args.bytes.now c.args.point c.requires.is_point c.requires.begins c.if-byte-eq9.true c.if-point-gt0.true
 
 pub returns-else-byte-eq9 : goal.returns-else-byte-eq9
 returns-else-byte-eq9 c =

@@ -30,13 +30,16 @@ returns-then-byte-eq13-clause-next c =
     rw c.line_ending_len.ensures (next_ending c.args.bytes.now c.args.point c.requires.is_point c.requires.begins (ending_byte b c.if-byte-eq13.either))
 
 pub returns-then-byte-eq13-clause-is_point : goal.returns-then-byte-eq13-clause-is_point
-returns-then-byte-eq13-clause-is_point c = next_is_point c.args.bytes.now c.args.point _ c.requires.is_point c.requires.begins (returns-then-byte-eq13-clause-next c)
+returns-then-byte-eq13-clause-is_point c =
+    next_is_point c.args.bytes.now c.args.point _ c.requires.is_point c.requires.begins (returns-then-byte-eq13-clause-next c)
 
 pub returns-then-point-ne0-clause-next : goal.returns-then-point-ne0-clause-next
-returns-then-point-ne0-clause-next c = next_inside c.args.bytes.now c.args.point c.requires.is_point c.requires.begins c.if-byte-eq9.true c.if-point-ne0.true
+returns-then-point-ne0-clause-next c =
+    next_inside c.args.bytes.now c.args.point c.requires.is_point c.requires.begins c.if-byte-eq9.true c.if-point-ne0.true
 
 pub returns-then-point-ne0-clause-is_point : goal.returns-then-point-ne0-clause-is_point
-returns-then-point-ne0-clause-is_point c = next_is_point c.args.bytes.now c.args.point _ c.requires.is_point c.requires.begins (returns-then-point-ne0-clause-next c)
+returns-then-point-ne0-clause-is_point c =
+    next_is_point c.args.bytes.now c.args.point _ c.requires.is_point c.requires.begins (returns-then-point-ne0-clause-next c)
 
 pub returns-else-byte-eq9-clause-next : goal.returns-else-byte-eq9-clause-next
 returns-else-byte-eq9-clause-next c =
@@ -48,4 +51,5 @@ returns-else-byte-eq9-clause-next c =
     ]
 
 pub returns-else-byte-eq9-clause-is_point : goal.returns-else-byte-eq9-clause-is_point
-returns-else-byte-eq9-clause-is_point c = next_is_point c.args.bytes.now c.args.point _ c.requires.is_point c.requires.begins (returns-else-byte-eq9-clause-next c)
+returns-else-byte-eq9-clause-is_point c =
+    next_is_point c.args.bytes.now c.args.point _ c.requires.is_point c.requires.begins (returns-else-byte-eq9-clause-next c)

@@ -7,7 +7,8 @@ use Rattle.markdown_engine_index.specs.BracketIndex.{brackets_of}
 use Rattle.markdown_engine_index.proofs.name_index.counts_of.Goals as goal
 
 pub returns-clause-sorted : goal.returns-clause-sorted
-returns-clause-sorted c = IsNonDecreasingBy-from_sort (λ x. x) c.sort_unstable.new.self.items c.sort_unstable.ensures.sorted
+returns-clause-sorted c =
+    IsNonDecreasingBy-from_sort (λ x. x) c.sort_unstable.new.self.items c.sort_unstable.ensures.sorted
 
 pub returns-clause-permutation : goal.returns-clause-permutation
 returns-clause-permutation c =

@@ -23,7 +23,8 @@ loop-cursor-smaller c =
     subst (λ (p : Place). length (ahead_at p) < length (ahead_at c.loop-cursor.cursor)) (sym c.consume.ensures) (omega arith)
 
 pub loop-cursor-preserved : goal.loop-cursor-preserved
-loop-cursor-preserved c = ap (λ (p : Place). past_run c.args.value p) c.consume.ensures ∙ past-one c.args.value c.loop-cursor.cursor (here c.current.result c.args.value c.loop-cursor.cursor (sym c.eq.ensures ∙ c.loop-cursor-test.true) c.current.ensures) ∙ c.loop-cursor.invariant
+loop-cursor-preserved c =
+    ap (λ (p : Place). past_run c.args.value p) c.consume.ensures ∙ past-one c.args.value c.loop-cursor.cursor (here c.current.result c.args.value c.loop-cursor.cursor (sym c.eq.ensures ∙ c.loop-cursor-test.true) c.current.ensures) ∙ c.loop-cursor.invariant
 
 pub returns : goal.returns
 returns c = sym (past-none c.args.value c.loop-cursor.cursor (λ e. other c.current.result c.args.value (sym c.eq.ensures ∙ c.loop-cursor-test.false) (c.current.ensures ∙ e))) ∙ c.loop-cursor.invariant

@@ -6,7 +6,8 @@ use Rattle.markdown_engine_index.proofs.SequenceIndexLemmas.{spaced-end, spaced-
 use Rattle.markdown_engine_index.proofs.sequence_index.closes_past_spacing.Goals as goal
 
 pub returns-then-not-is_spacing : goal.returns-then-not-is_spacing
-returns-then-not-is_spacing c = spaced-other c.args.cursor.now c.loop-code.place c.in-Some.code c.loop-code.invariant (sym c.current.ensures ∙ c.in-Some.is) (sym c.is_spacing.ensures ∙ c.if-not-is_spacing.true)
+returns-then-not-is_spacing c =
+    spaced-other c.args.cursor.now c.loop-code.place c.in-Some.code c.loop-code.invariant (sym c.current.ensures ∙ c.in-Some.is) (sym c.is_spacing.ensures ∙ c.if-not-is_spacing.true)
 
 pub loop-code-smaller : goal.loop-code-smaller
 loop-code-smaller c =

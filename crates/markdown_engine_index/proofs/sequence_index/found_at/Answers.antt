@@ -19,7 +19,8 @@ returns-in-63 c InstructionEnd = cc
 returns-in-63 c s = unmoved s c.args.place.now 63 c.args.last (c.requires ∙ ap (λ n. Some n) c.in-63.is) refl
 
 pub returns-in-62 : goal.returns-in-62
-returns-in-62 c DeclarationEnd = ap (λ n. Some n) c.passed-at.ensures ∙ ap (λ b. cond b (Some c.args.place.now.at) c.args.last.declaration_end) (sym (next-is 62 c.args.place.now (c.requires ∙ ap (λ n. Some n) c.in-62.is)))
+returns-in-62 c DeclarationEnd =
+    ap (λ n. Some n) c.passed-at.ensures ∙ ap (λ b. cond b (Some c.args.place.now.at) c.args.last.declaration_end) (sym (next-is 62 c.args.place.now (c.requires ∙ ap (λ n. Some n) c.in-62.is)))
 returns-in-62 c s = unmoved s c.args.place.now 62 c.args.last (c.requires ∙ ap (λ n. Some n) c.in-62.is) refl
 
 pub returns-in-41 : goal.returns-in-41
@@ -35,7 +36,8 @@ returns-in-46 c WwwDot = cc
 returns-in-46 c s = unmoved s c.args.place.now 46 c.args.last (c.requires ∙ ap (λ n. Some n) c.in-46.is) refl
 
 pub returns-in-96 : goal.returns-in-96
-returns-in-96 c SpanMark = ap (λ n. Some n) c.passed-at.ensures ∙ ap (λ b. cond b (Some c.args.place.now.at) c.args.last.span_mark) (sym (span-here c.args.place.now c.args.code c.requires c.in-96.is))
+returns-in-96 c SpanMark =
+    ap (λ n. Some n) c.passed-at.ensures ∙ ap (λ b. cond b (Some c.args.place.now.at) c.args.last.span_mark) (sym (span-here c.args.place.now c.args.code c.requires c.in-96.is))
 returns-in-96 c s = elim c.in-96.is [
   | inl e ↦ unmoved s c.args.place.now 36 c.args.last (c.requires ∙ ap (λ n. Some n) e) refl
   | inr e ↦ unmoved s c.args.place.now 96 c.args.last (c.requires ∙ ap (λ n. Some n) e) refl
@@ -45,11 +47,18 @@ not-span : (c : goal.In_default) → (c.args.code == 96 || c.args.code == 36) �
 not-span c = grind (arith, nat_tests)
 
 pub returns-in_default : goal.returns-in_default
-returns-in_default c CommentEnd = unmoved CommentEnd c.args.place.now c.args.code c.args.last c.requires (ne_eqb c.args.code 45 (λ e. omega arith))
-returns-in_default c SectionEnd = unmoved SectionEnd c.args.place.now c.args.code c.args.last c.requires (ne_eqb c.args.code 93 (λ e. omega arith))
-returns-in_default c InstructionEnd = unmoved InstructionEnd c.args.place.now c.args.code c.args.last c.requires (ne_eqb c.args.code 63 (λ e. omega arith))
-returns-in_default c DeclarationEnd = unmoved DeclarationEnd c.args.place.now c.args.code c.args.last c.requires (ne_eqb c.args.code 62 (λ e. omega arith))
-returns-in_default c ResourceEnd = unmoved ResourceEnd c.args.place.now c.args.code c.args.last c.requires (ne_eqb c.args.code 41 (λ e. omega arith))
-returns-in_default c ProtocolSlash = unmoved ProtocolSlash c.args.place.now c.args.code c.args.last c.requires (ne_eqb c.args.code 58 (λ e. omega arith))
-returns-in_default c WwwDot = unmoved WwwDot c.args.place.now c.args.code c.args.last c.requires (ne_eqb c.args.code 46 (λ e. omega arith))
+returns-in_default c CommentEnd =
+    unmoved CommentEnd c.args.place.now c.args.code c.args.last c.requires (ne_eqb c.args.code 45 (λ e. omega arith))
+returns-in_default c SectionEnd =
+    unmoved SectionEnd c.args.place.now c.args.code c.args.last c.requires (ne_eqb c.args.code 93 (λ e. omega arith))
+returns-in_default c InstructionEnd =
+    unmoved InstructionEnd c.args.place.now c.args.code c.args.last c.requires (ne_eqb c.args.code 63 (λ e. omega arith))
+returns-in_default c DeclarationEnd =
+    unmoved DeclarationEnd c.args.place.now c.args.code c.args.last c.requires (ne_eqb c.args.code 62 (λ e. omega arith))
+returns-in_default c ResourceEnd =
+    unmoved ResourceEnd c.args.place.now c.args.code c.args.last c.requires (ne_eqb c.args.code 41 (λ e. omega arith))
+returns-in_default c ProtocolSlash =
+    unmoved ProtocolSlash c.args.place.now c.args.code c.args.last c.requires (ne_eqb c.args.code 58 (λ e. omega arith))
+returns-in_default c WwwDot =
+    unmoved WwwDot c.args.place.now c.args.code c.args.last c.requires (ne_eqb c.args.code 46 (λ e. omega arith))
 returns-in_default c SpanMark = unmoved SpanMark c.args.place.now c.args.code c.args.last c.requires (not-span c)

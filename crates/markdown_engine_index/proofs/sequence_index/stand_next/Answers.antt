@@ -3,7 +3,8 @@ use Rattle.markdown_engine_index.proofs.SequenceIndexLemmas.{passing-end, passin
 use Rattle.markdown_engine_index.proofs.sequence_index.stand_next.Goals as goal
 
 pub returns-in_default : goal.returns-in_default
-returns-in_default c = passing-end c.args.bytes.now c.loop-byte.byte-index c.args.cursor.now c.loop-byte.place c.loop-byte-test.true c.loop-byte.invariant (sym c.current.ensures ∙ c.in_default.is)
+returns-in_default c =
+    passing-end c.args.bytes.now c.loop-byte.byte-index c.args.cursor.now c.loop-byte.place c.loop-byte-test.true c.loop-byte.invariant (sym c.current.ensures ∙ c.in_default.is)
 
 pub returns-then-code-byte : goal.returns-then-code-byte
 returns-then-code-byte c =

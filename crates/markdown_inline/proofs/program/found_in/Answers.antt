@@ -11,4 +11,5 @@ returns-then-not-is_text-clause-blank_line c = λ e. (
 )
 
 pub returns-clause-text : goal.returns-clause-text
-returns-clause-text c = λ e. subst (λ (x : Piece). IsTextContent c.args.bytes.now (x ∷ [])) c.whole_document.ensures.whole (c.is_text.ensures.0 c.if-not-is_text.false)
+returns-clause-text c =
+    λ e. subst (λ (x : Piece). IsTextContent c.args.bytes.now (x ∷ [])) c.whole_document.ensures.whole (c.is_text.ensures.0 c.if-not-is_text.false)

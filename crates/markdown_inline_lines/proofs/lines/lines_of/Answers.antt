@@ -5,7 +5,8 @@ use Rattle.markdown_engine_content.specs.declared.event.Event.{Event}
 use Rattle.markdown_inline_lines.specs.PrintedLines.{line_of, lines_of}
 use Rattle.markdown_inline_lines.proofs.lines.lines_of.Goals as goal
 
-one-more : (es : List Event) (i : ℕ) (d : Event) (old : List ℕ) → i < length es → old ≡ lines_of (take i es) → old ++ line_of (get_or es i d) ≡ lines_of (take (i + 1) es)
+one-more : (es : List Event) (i : ℕ) (d : Event) (old : List ℕ) → i < length es → old ≡ lines_of (take i es) →
+    old ++ line_of (get_or es i d) ≡ lines_of (take (i + 1) es)
 unfolding lines_of
 one-more es i d old h so_far =
     ap (λ bs. bs ++ line_of (get_or es i d)) so_far ∙ sym (
@@ -16,7 +17,8 @@ one-more es i d old h so_far =
 
 pub loop-event-init : goal.loop-event-init
 unfolding lines_of
-loop-event-init c = record { fits = omega arith; so_far = append-nil c.in_ok-text.text.items ∙ c.in_ok-text.ensures.items }
+loop-event-init c =
+    record { fits = omega arith; so_far = append-nil c.in_ok-text.text.items ∙ c.in_ok-text.ensures.items }
 
 pub loop-event-preserved : goal.loop-event-preserved
 loop-event-preserved c =

@@ -6,7 +6,8 @@ use Rattle.markdown_inline_lines.proofs.PrintedNumbers.{last-of}
 use Rattle.markdown_inline_lines.proofs.lines.turn_codes.Goals as goal
 
 -- where there are no such codes, these are the last two bytes
-none-last : (p : Point) (rest : List ℕ) → rest ≡ rest_text p → p.vs ≡ 0 → drop (length rest - 2) rest ≡ codes " " ++ decimal 0
+none-last : (p : Point) (rest : List ℕ) → rest ≡ rest_text p → p.vs ≡ 0 →
+    drop (length rest - 2) rest ≡ codes " " ++ decimal 0
 none-last p rest e none =
     let before : List ℕ = codes " " ++ decimal p.column ++ codes " " ++ decimal p.index in
     ap (λ bs. drop (length bs - 2) bs) (e ∙ ap (λ n. before ++ codes " " ++ decimal n) none ∙ append_assoc before (codes " ") (decimal 0))

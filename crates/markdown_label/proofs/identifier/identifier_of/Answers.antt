@@ -6,4 +6,5 @@ use Rattle.markdown_label.proofs.IdentifierFrontLemmas.{cuts-text}
 use Rattle.markdown_label.proofs.identifier.identifier_of.Goals as goal
 
 pub as_str-requires : goal.as_str-requires
-as_str-requires c = subst IsUtf8 (sym c.from_indices-between.ensures.bytes) (cuts-text (bytes_of c.args.tokenizer.now) c.args.start c.args.end c.requires)
+as_str-requires c =
+    subst IsUtf8 (sym c.from_indices-between.ensures.bytes) (cuts-text (bytes_of c.args.tokenizer.now) c.args.start c.args.end c.requires)

@@ -6,10 +6,12 @@ use Rattle.markdown_label.proofs.IdentifierFrontLemmas.{front-cuts, unknown-from
 use Rattle.markdown_label.proofs.lookup.is_ruled_out.Goals as goal
 
 pub identifier_of-requires : goal.identifier_of-requires
-identifier_of-requires c = front-cuts _ c.args.start c.boundary-middle.result c.args.end _ c.requires.cuts c.boundary-middle.ensures.after c.boundary-middle.ensures.boundary
+identifier_of-requires c =
+    front-cuts _ c.args.start c.boundary-middle.result c.args.end _ c.requires.cuts c.boundary-middle.ensures.after c.boundary-middle.ensures.boundary
 
 pub returns-then-defines_nothing : goal.returns-then-defines_nothing
-returns-then-defines_nothing c = λ _. unknown-nothing (setting_in c.args.tokenizer.now) c.args.kind _ (c.defines_nothing.ensures.definitions c.if-defines_nothing.true) (c.defines_nothing.ensures.footnotes c.if-defines_nothing.true)
+returns-then-defines_nothing c =
+    λ _. unknown-nothing (setting_in c.args.tokenizer.now) c.args.kind _ (c.defines_nothing.ensures.definitions c.if-defines_nothing.true) (c.defines_nothing.ensures.footnotes c.if-defines_nothing.true)
 
 pub returns-then-brackets_rule_out : goal.returns-then-brackets_rule_out
 returns-then-brackets_rule_out c = λ _. c.brackets_rule_out.ensures c.if-brackets_rule_out.true

@@ -10,7 +10,8 @@ pub returns-then-not-is_ascii_lowercase-clause-cuts : goal.returns-then-not-is_a
 returns-then-not-is_ascii_lowercase-clause-cuts c = c.loop-at.invariant.cuts
 
 pub returns-then-not-is_ascii_lowercase-clause-identifier : goal.returns-then-not-is_ascii_lowercase-clause-identifier
-returns-then-not-is_ascii_lowercase-clause-identifier c = word-kept c.args.bytes.now c.args.start c.loop-at.at c.loop-at.invariant
+returns-then-not-is_ascii_lowercase-clause-identifier c =
+    word-kept c.args.bytes.now c.args.start c.loop-at.at c.loop-at.invariant
 
 pub loop-at-preserved : goal.loop-at-preserved
 loop-at-preserved c =

@@ -8,7 +8,8 @@ use Rattle.markdown_label.proofs.IdentifierFrontLemmas.{cuts-text, unknown-from}
 use Rattle.markdown_label.proofs.lookup.letters_rule_out.Goals as goal
 
 pub as_str-requires : goal.as_str-requires
-as_str-requires c = subst IsUtf8 (sym c.from_indices-front.ensures.bytes) (cuts-text (bytes_of c.args.tokenizer.now) c.args.start c.letters_end-middle.result c.letters_end-middle.ensures.cuts)
+as_str-requires c =
+    subst IsUtf8 (sym c.from_indices-front.ensures.bytes) (cuts-text (bytes_of c.args.tokenizer.now) c.args.start c.letters_end-middle.result c.letters_end-middle.ensures.cuts)
 
 pub returns : goal.returns
 returns c = λ out.

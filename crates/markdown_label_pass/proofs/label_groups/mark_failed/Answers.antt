@@ -4,7 +4,8 @@ use Rattle.markdown_label_pass.proofs.LabelsHandedOverLemmas.{start-within, star
 use Rattle.markdown_label_pass.proofs.label_groups.mark_failed.Goals as goal
 
 pub mark_loose-requires : goal.mark_loose-requires
-mark_loose-requires c = start-within (length c.args.events.now) c.args.starts.now c.loop-start.start-index _ c.requires (omega (arith, c.loop-start-test.true))
+mark_loose-requires c =
+    start-within (length c.args.events.now) c.args.starts.now c.loop-start.start-index _ c.requires (omega (arith, c.loop-start-test.true))
 
 pub loop-start-preserved : goal.loop-start-preserved
 loop-start-preserved c =

@@ -3,4 +3,5 @@ use Rattle.markdown_plan.proofs.RenameLemmas.{room}
 use Rattle.markdown_leaf.proofs.raw_text.sequence_close.Goals as goal
 
 pub overflow_add-passed : goal.overflow_add-passed
-overflow_add-passed c = omega (arith, room c.args.tokenizer.now.tokenize_state.size_b c.args.tokenizer.now c.in-Some.code (sym c.current.ensures ∙ c.in-Some.is) c.requires.fits)
+overflow_add-passed c =
+    omega (arith, room c.args.tokenizer.now.tokenize_state.size_b c.args.tokenizer.now c.in-Some.code (sym c.current.ensures ∙ c.in-Some.is) c.requires.fits)

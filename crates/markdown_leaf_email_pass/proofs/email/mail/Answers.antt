@@ -7,7 +7,8 @@ use Rattle.markdown_leaf_email_pass.proofs.EmailEditLemmas.{can-mail}
 use Rattle.markdown_leaf_email_pass.proofs.email.mail.Goals as goal
 
 pub consume-requires : goal.consume-requires
-consume-requires c = subst (λ (log : List Edit). CanEdit log c.args.events.now) (sym c.in_ok-mail_each.ensures) (can-mail c.args.bytes.now c.args.events.now c.requires.places)
+consume-requires c =
+    subst (λ (log : List Edit). CanEdit log c.args.events.now) (sym c.in_ok-mail_each.ensures) (can-mail c.args.bytes.now c.args.events.now c.requires.places)
 
 pub returns-clause-mailed : goal.returns-clause-mailed
 returns-clause-mailed c t h e =

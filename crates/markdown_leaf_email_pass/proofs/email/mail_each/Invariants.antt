@@ -5,4 +5,5 @@ use Rattle.markdown_leaf_email_pass.proofs.email.mail_each.Given as goal
 
 -- the edits so far, and those that are still to come
 abbrev pub invariant-loop-index : goal.invariant-loop-index
-invariant-loop-index l = HasPlaces l.bytes (drop l.index l.events) × (l.links ≤ l.index) × (l.map ++ mails l.bytes l.index l.links (drop l.index l.events) ≡ mails l.bytes 0 0 l.events)
+invariant-loop-index l =
+    HasPlaces l.bytes (drop l.index l.events) × (l.links ≤ l.index) × (l.map ++ mails l.bytes l.index l.links (drop l.index l.events) ≡ mails l.bytes 0 0 l.events)

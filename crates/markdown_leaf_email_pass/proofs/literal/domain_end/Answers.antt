@@ -6,7 +6,8 @@ use Rattle.markdown_leaf_email_pass.proofs.literal.domain_end.Goals as goal
 use Rattle.markdown_leaf_email_pass.proofs.literal.domain_end.Goals.{then-dot, else-dot}
 
 pub loop-letter-init : goal.loop-letter-init
-loop-letter-init c = (c.requires.stretch, domain-whole c.args.slashes c.args.from (between c.args.bytes.now c.args.from c.args.to))
+loop-letter-init c =
+    (c.requires.stretch, domain-whole c.args.slashes c.args.from (between c.args.bytes.now c.args.from c.args.to))
 
 pub code_from-code-requires-clause-begins : goal.code_from-code-requires-clause-begins
 code_from-code-requires-clause-begins c =

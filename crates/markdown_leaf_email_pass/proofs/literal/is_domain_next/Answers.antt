@@ -5,17 +5,20 @@ use Rattle.markdown_leaf_email_pass.proofs.EmailDomains.{domain-next, no-domain_
 use Rattle.markdown_leaf_email_pass.proofs.literal.is_domain_next.Goals as goal
 
 pub returns-then-is_same_place : goal.returns-then-is_same_place
-returns-then-is_same_place c = sym (no-domain_next c.args.bytes.now c.args.point c.args.to c.requires.stretch c.args.slashes (sym c.is_same_place.ensures ∙ c.if-is_same_place.true))
+returns-then-is_same_place c =
+    sym (no-domain_next c.args.bytes.now c.args.point c.args.to c.requires.stretch c.args.slashes (sym c.is_same_place.ensures ∙ c.if-is_same_place.true))
 
 pub past_code-requires-clause-begins : goal.past_code-requires-clause-begins
-past_code-requires-clause-begins c = (begun-where c.args.bytes.now c.args.point c.args.to c.requires.stretch (sym c.is_same_place.ensures ∙ c.if-is_same_place.false)).in_bytes
+past_code-requires-clause-begins c =
+    (begun-where c.args.bytes.now c.args.point c.args.to c.requires.stretch (sym c.is_same_place.ensures ∙ c.if-is_same_place.false)).in_bytes
 
 pub is_word_next-follows-requires-clause-stretch : goal.is_word_next-follows-requires-clause-stretch
 is_word_next-follows-requires-clause-stretch c =
     stretch-next c.args.bytes.now c.args.point c.args.to c.past_code.result (begun-where c.args.bytes.now c.args.point c.args.to c.requires.stretch (sym c.is_same_place.ensures ∙ c.if-is_same_place.false)) c.past_code.ensures.next
 
 pub code_from-requires-clause-begins : goal.code_from-requires-clause-begins
-code_from-requires-clause-begins c = (begun-where c.args.bytes.now c.args.point c.args.to c.requires.stretch (sym c.is_same_place.ensures ∙ c.if-is_same_place.false)).in_bytes
+code_from-requires-clause-begins c =
+    (begun-where c.args.bytes.now c.args.point c.args.to c.requires.stretch (sym c.is_same_place.ensures ∙ c.if-is_same_place.false)).in_bytes
 
 pub returns : goal.returns
 returns c =

@@ -5,4 +5,5 @@ use Rattle.markdown_leaf_email_pass.proofs.literal.is_word.Given as goal
 
 -- the codes that are left are the letters that are left where all codes are the word
 abbrev pub invariant-loop-letter : goal.invariant-loop-letter
-invariant-loop-letter l = IsStretch l.bytes l.point l.to × (is_word_of (drop l.letter-index l.word) (between l.bytes l.point l.to) ≡ is_word_of l.word (between l.bytes l.fn.from l.to))
+invariant-loop-letter l =
+    IsStretch l.bytes l.point l.to × (is_word_of (drop l.letter-index l.word) (between l.bytes l.point l.to) ≡ is_word_of l.word (between l.bytes l.fn.from l.to))

@@ -4,7 +4,8 @@ use Rattle.markdown_leaf_email_pass.proofs.EmailDomains.{word-next, no-word_next
 use Rattle.markdown_leaf_email_pass.proofs.literal.is_word_next.Goals as goal
 
 pub code_from-requires-clause-begins : goal.code_from-requires-clause-begins
-code_from-requires-clause-begins c = (begun-where c.args.bytes.now c.args.point c.args.to c.requires.stretch (sym c.is_same_place.ensures ∙ c.if-not-is_same_place.true)).in_bytes
+code_from-requires-clause-begins c =
+    (begun-where c.args.bytes.now c.args.point c.args.to c.requires.stretch (sym c.is_same_place.ensures ∙ c.if-not-is_same_place.true)).in_bytes
 
 pub returns-then-not-is_same_place : goal.returns-then-not-is_same_place
 returns-then-not-is_same_place c =

@@ -6,7 +6,8 @@ use Rattle.markdown_leaf_email_pass.proofs.EmailAtSign.{no-literal, literal-by}
 use Rattle.markdown_leaf_email_pass.proofs.literal.literal_here.Goals as goal
 
 pub code_from-requires-clause-begins : goal.code_from-requires-clause-begins
-code_from-requires-clause-begins c = (begun-where c.args.bytes.now c.args.scan.now.point c.args.to c.requires.stretch c.requires.begins).in_bytes
+code_from-requires-clause-begins c =
+    (begun-where c.args.bytes.now c.args.scan.now.point c.args.to c.requires.stretch c.requires.begins).in_bytes
 
 pub returns-then-not-is_sign : goal.returns-then-not-is_sign
 returns-then-not-is_sign c =
@@ -14,7 +15,8 @@ returns-then-not-is_sign c =
     no-literal c.args.bytes.now c.args.scan.now.point c.args.to c.args.scan.now c.code_from.result c.is_sign.result b c.code_from.ensures c.is_sign.ensures c.if-not-is_sign.true
 
 pub past_code-requires-clause-begins : goal.past_code-requires-clause-begins
-past_code-requires-clause-begins c = (begun-where c.args.bytes.now c.args.scan.now.point c.args.to c.requires.stretch c.requires.begins).in_bytes
+past_code-requires-clause-begins c =
+    (begun-where c.args.bytes.now c.args.scan.now.point c.args.to c.requires.stretch c.requires.begins).in_bytes
 
 pub domain_end-requires-clause-stretch : goal.domain_end-requires-clause-stretch
 domain_end-requires-clause-stretch c =

@@ -5,7 +5,8 @@ use Rattle.markdown_leaf_email_pass.proofs.EmailAtSign.{under-first, end-place, 
 use Rattle.markdown_leaf_email_pass.proofs.literal.mailed_data.Goals as goal
 
 pub loop-scan-init : goal.loop-scan-init
-loop-scan-init c = under-first c.args.bytes.now c.args.from c.args.to c.scan_from-scan.result c.new-events.result.items c.requires.stretch (c.scan_from-scan.ensures c.args.bytes.now c.requires.stretch.from_place) c.new-events.ensures.items
+loop-scan-init c =
+    under-first c.args.bytes.now c.args.from c.args.to c.scan_from-scan.result c.new-events.result.items c.requires.stretch (c.scan_from-scan.ensures c.args.bytes.now c.requires.stretch.from_place) c.new-events.ensures.items
 
 pub loop-scan-smaller-in-Some : goal.loop-scan-smaller-in-Some
 loop-scan-smaller-in-Some c =

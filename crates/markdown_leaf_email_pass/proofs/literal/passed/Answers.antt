@@ -15,7 +15,8 @@ returns-then-is_local c =
     passed-local c.args.bytes.now c.args.scan.from c.args.scan.point c.past_code-point.result c.args.scan c.code_from-code.result c.requires.stretch c.requires.begins c.requires.read c.code_from-code.ensures c.past_code-point.ensures.next c.is_local.result c.if-is_alphanumeric.word c.is_local.ensures c.if-is_local.true word
 
 pub name_behind-name-requires-clause-stretch : goal.name_behind-name-requires-clause-stretch
-name_behind-name-requires-clause-stretch c = (word-stretch c.args.bytes.now c.args.scan.from c.args.scan.point c.args.scan c.requires.stretch c.requires.read).0
+name_behind-name-requires-clause-stretch c =
+    (word-stretch c.args.bytes.now c.args.scan.from c.args.scan.point c.args.scan c.requires.stretch c.requires.read).0
 
 pub returns : goal.returns
 returns c =

@@ -5,7 +5,8 @@ use Rattle.markdown_leaf_email_pass.proofs.WordsInEitherCase.{name-mailto, name-
 use Rattle.markdown_leaf_email_pass.proofs.literal.word_name.Goals as goal
 
 pub returns-then-is_word : goal.returns-then-is_word
-returns-then-is_word c = name-mailto c.is_word.result (between c.args.bytes.now c.args.from c.args.to) c.is_word.ensures c.if-is_word.true
+returns-then-is_word c =
+    name-mailto c.is_word.result (between c.args.bytes.now c.args.from c.args.to) c.is_word.ensures c.if-is_word.true
 
 pub returns-then-is_word-2 : goal.returns-then-is_word-2
 returns-then-is_word-2 c =

@@ -9,7 +9,8 @@ use Rattle.markdown_leaf_gfm.proofs.DomainScanLemmas.{go-mark, go-plain}
 use Rattle.markdown_leaf_gfm.proofs.domain_outlook.goes_on.Goals as goal
 
 pub returns-then-is_domain_mark : goal.returns-then-is_domain_mark
-returns-then-is_domain_mark c = c.mark_goes_on.ensures ∙ sym (go-mark c.args.bytes.now c.args.place.now c.args.code c.requires.code (sym c.is_domain_mark.ensures ∙ c.if-is_domain_mark.true))
+returns-then-is_domain_mark c =
+    c.mark_goes_on.ensures ∙ sym (go-mark c.args.bytes.now c.args.place.now c.args.code c.requires.code (sym c.is_domain_mark.ensures ∙ c.if-is_domain_mark.true))
 
 pub returns-then-is_plain : goal.returns-then-is_plain
 returns-then-is_plain c =
@@ -23,4 +24,5 @@ returns-else-is_plain c =
     ∙ ap (λ b. b || is_other (class_of (after_index c.args.bytes.now (point_of c.args.place.now).index))) (sym c.is_plain.ensures ∙ c.if-is_plain.false))
 
 pub is_at_other-requires-clause-begins : goal.is_at_other-requires-clause-begins
-is_at_other-requires-clause-begins c = ap at_later c.requires.code ∙ (or_parts _ _ (sym c.is_plain.ensures ∙ c.if-is_plain.false)).1
+is_at_other-requires-clause-begins c =
+    ap at_later c.requires.code ∙ (or_parts _ _ (sym c.is_plain.ensures ∙ c.if-is_plain.false)).1

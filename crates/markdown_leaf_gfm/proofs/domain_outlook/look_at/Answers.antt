@@ -6,7 +6,8 @@ use Rattle.markdown_leaf_gfm.proofs.TrailScans.{look-name}
 use Rattle.markdown_leaf_gfm.proofs.domain_outlook.look_at.Goals as goal
 
 pub returns-in-None : goal.returns-in-None
-returns-in-None c = subst (λ (n : Option Bool). IsLook c.args.bytes.now n c.args.place.now c.args.code c.look_at_mark.result) (sym c.in-None.is) c.look_at_mark.ensures
+returns-in-None c =
+    subst (λ (n : Option Bool). IsLook c.args.bytes.now n c.args.place.now c.args.code c.look_at_mark.result) (sym c.in-None.is) c.look_at_mark.ensures
 
 pub returns-in-Some : goal.returns-in-Some
 returns-in-Some c =

@@ -5,10 +5,12 @@ use Rattle.markdown_leaf_gfm.proofs.TrailScans.{look-mark, look-and, look-angle,
 use Rattle.markdown_leaf_gfm.proofs.domain_outlook.look_at_mark.Goals as goal
 
 pub returns-then-is_trail : goal.returns-then-is_trail
-returns-then-is_trail c = look-mark c.args.bytes.now c.args.place.now c.args.code c.requires.code (sym c.is_trail.ensures ∙ c.if-is_trail.true)
+returns-then-is_trail c =
+    look-mark c.args.bytes.now c.args.place.now c.args.code c.requires.code (sym c.is_trail.ensures ∙ c.if-is_trail.true)
 
 pub returns-then-code-eq38 : goal.returns-then-code-eq38
-returns-then-code-eq38 c = look-and c.args.bytes.now c.args.place.now c.args.code c.requires.code (sym c.is_trail.ensures ∙ c.if-is_trail.false) (eq-eqb c.args.code 38 c.if-code-eq38.true)
+returns-then-code-eq38 c =
+    look-and c.args.bytes.now c.args.place.now c.args.code c.requires.code (sym c.is_trail.ensures ∙ c.if-is_trail.false) (eq-eqb c.args.code 38 c.if-code-eq38.true)
 
 pub returns-then-code-eq60 : goal.returns-then-code-eq60
 returns-then-code-eq60 c =

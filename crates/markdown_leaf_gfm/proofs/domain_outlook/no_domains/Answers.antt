@@ -12,7 +12,8 @@ use Rattle.markdown_leaf_gfm.proofs.DomainOutlookLemmas.{Finding, finding-start,
 use Rattle.markdown_leaf_gfm.proofs.domain_outlook.no_domains.Goals as goal
 
 pub loop-code-init : goal.loop-code-init
-loop-code-init c = finding-start c.args.bytes.now c.args.cursor.now c.restart-place.result c.new-places.result.items (record { end = 0; barred = 0 }) c.restart-place.ensures c.new-places.ensures.items refl c.requires
+loop-code-init c =
+    finding-start c.args.bytes.now c.args.cursor.now c.restart-place.result c.new-places.result.items (record { end = 0; barred = 0 }) c.restart-place.ensures c.new-places.ensures.items refl c.requires
 
 pub over-outlook-requires-clause-text : goal.over-outlook-requires-clause-text
 over-outlook-requires-clause-text c =

@@ -8,7 +8,8 @@ use Rattle.markdown_leaf_gfm.proofs.TrailScans.{Looking, looking-start, looking-
 use Rattle.markdown_leaf_gfm.proofs.domain_outlook.trails.Goals as goal
 
 pub loop-code-init : goal.loop-code-init
-loop-code-init c = looking-start c.args.bytes.now c.args.cursor.now c.save-place.result c.save-place.ensures c.requires.text c.requires.begins
+loop-code-init c =
+    looking-start c.args.bytes.now c.args.cursor.now c.save-place.result c.save-place.ensures c.requires.text c.requires.begins
 
 pub returns-in-Ends : goal.returns-in-Ends
 returns-in-Ends c =

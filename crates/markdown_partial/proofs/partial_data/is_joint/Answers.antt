@@ -3,7 +3,8 @@ use Rattle.markdown_partial.proofs.MergeEdits.{joint-none, joint-two}
 use Rattle.markdown_partial.proofs.partial_data.is_joint.Goals as goal
 
 pub returns-then-not-opens_data : goal.returns-then-not-opens_data
-returns-then-not-opens_data c = joint-none _ _ _ _ (omega (arith, c.requires.from_two)) c.requires.within c.bare_at-third.ensures.event (sym c.opens_data.ensures ∙ c.if-not-opens_data.true)
+returns-then-not-opens_data c =
+    joint-none _ _ _ _ (omega (arith, c.requires.from_two)) c.requires.within c.bare_at-third.ensures.event (sym c.opens_data.ensures ∙ c.if-not-opens_data.true)
 
 pub returns : goal.returns
 returns c =

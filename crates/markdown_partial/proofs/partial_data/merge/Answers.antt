@@ -7,7 +7,8 @@ use Rattle.markdown_partial.proofs.MergeEdits.{can-merge}
 use Rattle.markdown_partial.proofs.partial_data.merge.Goals as goal
 
 pub consume-requires : goal.consume-requires
-consume-requires c = subst (λ (log : List Edit). CanEdit log c.args.events.now) (sym c.in_ok-mark_joints.ensures) (can-merge c.args.events.now)
+consume-requires c =
+    subst (λ (log : List Edit). CanEdit log c.args.events.now) (sym c.in_ok-mark_joints.ensures) (can-merge c.args.events.now)
 
 pub returns-clause-merged : goal.returns-clause-merged
 returns-clause-merged c t h e =

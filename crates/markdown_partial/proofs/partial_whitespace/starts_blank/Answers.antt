@@ -4,7 +4,8 @@ use Rattle.markdown_partial.proofs.TrimWalks.{begun-where}
 use Rattle.markdown_partial.proofs.partial_whitespace.starts_blank.Goals as goal
 
 pub is_blank-requires-clause-begins : goal.is_blank-requires-clause-begins
-is_blank-requires-clause-begins c = (begun-where c.args.bytes.now c.args.from c.args.to c.requires.stretch (sym c.is_same_place.ensures ∙ c.if-not-is_same_place.true)).in_bytes
+is_blank-requires-clause-begins c =
+    (begun-where c.args.bytes.now c.args.from c.args.to c.requires.stretch (sym c.is_same_place.ensures ∙ c.if-not-is_same_place.true)).in_bytes
 
 pub returns-then-not-is_same_place : goal.returns-then-not-is_same_place
 returns-then-not-is_same_place c =

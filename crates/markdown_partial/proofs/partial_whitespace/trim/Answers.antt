@@ -7,7 +7,8 @@ use Rattle.markdown_partial.proofs.TrimEdits.{can-trim}
 use Rattle.markdown_partial.proofs.partial_whitespace.trim.Goals as goal
 
 pub consume-requires : goal.consume-requires
-consume-requires c = subst (λ (log : List Edit). CanEdit log c.args.events.now) (sym c.in_ok-trim_each.ensures) (can-trim c.args.bytes.now c.args.trimming.hard_break c.args.trimming.whole c.args.events.now c.requires.places)
+consume-requires c =
+    subst (λ (log : List Edit). CanEdit log c.args.events.now) (sym c.in_ok-trim_each.ensures) (can-trim c.args.bytes.now c.args.trimming.hard_break c.args.trimming.whole c.args.events.now c.requires.places)
 
 pub returns-clause-trimmed : goal.returns-clause-trimmed
 returns-clause-trimmed c t h e =

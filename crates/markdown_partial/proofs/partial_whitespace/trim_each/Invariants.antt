@@ -4,4 +4,5 @@ use Rattle.markdown_partial.proofs.partial_whitespace.trim_each.Given as goal
 
 -- the edits so far, and those that are still to come
 abbrev pub invariant-loop-index : goal.invariant-loop-index
-invariant-loop-index l = HasPlaces l.bytes (drop l.index l.events) × (l.map ++ trims l.bytes l.trimming.hard_break l.trimming.whole l.index (flag l.index l.trimming.whole l.events) (drop l.index l.events) ≡ trims l.bytes l.trimming.hard_break l.trimming.whole 0 l.trimming.whole l.events)
+invariant-loop-index l =
+    HasPlaces l.bytes (drop l.index l.events) × (l.map ++ trims l.bytes l.trimming.hard_break l.trimming.whole l.index (flag l.index l.trimming.whole l.events) (drop l.index l.events) ≡ trims l.bytes l.trimming.hard_break l.trimming.whole 0 l.trimming.whole l.events)

@@ -10,7 +10,8 @@ use Rattle.markdown_test_parts.proofs.events.edit_one_place.Goals as goal
 more : {A : Type 0} → (xs ys zs : List A) (x y : A) → xs ≡ ys → x ≡ y → zs ≡ xs ++ x ∷ [] → zs ≡ ys ++ y ∷ []
 more xs ys zs x y h k g = g ∙ ap (λ v. v ++ x ∷ []) h ∙ ap (λ v. ys ++ v ∷ []) k
 
-tested : (log log' : List Edit) (es es' : List Event) → log ≡ log' → es ≡ es' → can_edit log' es' ≡ true → CanEdit log es
+tested : (log log' : List Edit) (es es' : List Event) → log ≡ log' → es ≡ es' → can_edit log' es' ≡ true →
+    CanEdit log es
 tested log log' es es' h k t = CanEdit-from_test log es (ap (λ v. can_edit v es) h ∙ ap (can_edit log') k ∙ t)
 
 pub consume-requires : goal.consume-requires

@@ -6,7 +6,8 @@ use Rattle.markdown_engine_content.specs.Nesting.{IsNamedBack}
 use Rattle.markdown_test_parts.proofs.events.find_names.Goals as goal
 
 -- a name at a place of the list of names, and the event that has it
-found : (names : List Name) (es : List Event) (i k n : ℕ) (e : Event) (m : Name) → k ≤ i → slice_get es k ≡ Some e → e.name ≡ m → n < length names → ((d : Name) → get_or names n d ≡ m) → IsNamedBack names es i
+found : (names : List Name) (es : List Event) (i k n : ℕ) (e : Event) (m : Name) → k ≤ i → slice_get es k ≡ Some e →
+    e.name ≡ m → n < length names → ((d : Name) → get_or names n d ≡ m) → IsNamedBack names es i
 found names es i k n e m l at is w h = (k, (l, (e, (at, (n, w, h e.name ∙ sym is)))))
 
 pub to_back-nearest-requires-clause-some : goal.to_back-nearest-requires-clause-some

@@ -28,7 +28,9 @@ loop-size-preserved c =
     record { place = p.place; events = p.events }
 
 pub returns-clause-end : goal.returns-clause-end
-returns-clause-end c = c.loop-size.invariant.place ∙ ap (λ xs. shifted c.args.from (total xs)) (take_all c.loop-size.size-index c.args.sizes.now c.loop-size-test.false)
+returns-clause-end c =
+    c.loop-size.invariant.place ∙ ap (λ xs. shifted c.args.from (total xs)) (take_all c.loop-size.size-index c.args.sizes.now c.loop-size-test.false)
 
 pub returns-clause-events : goal.returns-clause-events
-returns-clause-events c = c.loop-size.invariant.events ∙ ap (λ xs. c.args.events.now.items ++ closings_from c.args.marker c.args.from xs) (take_all c.loop-size.size-index c.args.sizes.now c.loop-size-test.false)
+returns-clause-events c =
+    c.loop-size.invariant.events ∙ ap (λ xs. c.args.events.now.items ++ closings_from c.args.marker c.args.from xs) (take_all c.loop-size.size-index c.args.sizes.now c.loop-size-test.false)

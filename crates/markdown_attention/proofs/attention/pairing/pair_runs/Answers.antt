@@ -28,11 +28,13 @@ here c =
     let w = c.in-Some.ensures.within.0 refl in
     omega (arith, e, w)
 
-keys : (c : After-row_known-1) → (r : ℕ) → r < length c.args.runs.now.list → list_of c.args.runs.now.list r < length c.loop-closer.heads.items
+keys : (c : After-row_known-1) → (r : ℕ) → r < length c.args.runs.now.list →
+    list_of c.args.runs.now.list r < length c.loop-closer.heads.items
 keys c = some_key c.args.runs.now.list c.in_ok-rows.rows c.loop-closer.heads.items c.loop-closer.invariant.heads_length c.in_ok-rows.ensures.within
 
 marks_six : (c : After-row_known-1) → length c.loop-closer.marks.items ≡ length c.loop-closer.heads.items * 6
-marks_six c = let a = c.loop-closer.invariant.heads_length in let b = c.loop-closer.invariant.marks_length in omega arith
+marks_six c =
+    let a = c.loop-closer.invariant.heads_length in let b = c.loop-closer.invariant.marks_length in omega arith
 
 list_is : (c : After-row_known-1) → c.list_of-list.result ≡ list_of c.args.runs.now.list c.loop-closer.runs.turn
 list_is c =
@@ -45,7 +47,8 @@ class_is : (c : After-row_known-1) → c.class_number-class.result
     ≡ class_of c.args.options (run_at c.loop-closer.runs.list c.loop-closer.runs.turn) (run_at c.loop-closer.runs.list c.loop-closer.runs.turn).remaining
 class_is c = c.class_number-class.ensures.is ∙ ap (λ r. class_of c.args.options r r.remaining) c.in-Some.ensures.run
 
-head_is : (c : After-row_known-1) → c.index-head.result.now ≡ get_or c.loop-closer.heads.items (list_of c.args.runs.now.list c.loop-closer.runs.turn) 0
+head_is : (c : After-row_known-1) →
+    c.index-head.result.now ≡ get_or c.loop-closer.heads.items (list_of c.args.runs.now.list c.loop-closer.runs.turn) 0
 head_is c =
     let inside : c.list_of-list.result < length c.loop-closer.heads.items = rw (list_is c) (keys c c.loop-closer.runs.turn (here c)) in
     get_or_read c.loop-closer.heads.items c.list_of-list.result c.index-head.result.now inside c.index-head.ensures 0
@@ -105,8 +108,10 @@ loop-closer-preserved-in-None c =
     (head_is b) heads' marks' c.in-None.ensures.idle walked c.in-None.ensures.at_least c.in-None.ensures.at_most in
     record {
       inv = rw (c.advance.ensures, c.in-None.ensures.list, c.in-None.ensures.turn, c.in_ok-push-in-None.ensures.items) inv';
-      heads_length = ap length heads' ∙ length_if _ c.loop-closer.heads.items k (c.loop-closer.runs.turn + 1) ∙ c.loop-closer.invariant.heads_length;
-      marks_length = ap length marks' ∙ length_if _ c.loop-closer.marks.items (k * 6 + class) c.loop-closer.runs.turn ∙ c.loop-closer.invariant.marks_length;
+      heads_length =
+          ap length heads' ∙ length_if _ c.loop-closer.heads.items k (c.loop-closer.runs.turn + 1) ∙ c.loop-closer.invariant.heads_length;
+      marks_length =
+          ap length marks' ∙ length_if _ c.loop-closer.marks.items (k * 6 + class) c.loop-closer.runs.turn ∙ c.loop-closer.invariant.marks_length;
     }
 
 pub take-requires-clause-opener_has : goal.take-requires-clause-opener_has

@@ -3,7 +3,8 @@ use Rattle.markdown_attention.proofs.RunsReadLemmas.{reading-start, reading-more
 use Rattle.markdown_attention.proofs.attention.reading.read.Goals as goal
 
 pub loop-index-init : goal.loop-index-init
-loop-index-init c = rw (c.new-list.ensures.items, c.new.ensures) (reading-start c.args.tildes c.args.bytes.now c.args.events.now c.requires.places)
+loop-index-init c =
+    rw (c.new-list.ensures.items, c.new.ensures) (reading-start c.args.tildes c.args.bytes.now c.args.events.now c.requires.places)
 
 pub read_event-requires-clause-places : goal.read_event-requires-clause-places
 read_event-requires-clause-places c = reading-first c.args.bytes.now _ c.loop-index.invariant.places

@@ -6,7 +6,8 @@ use Rattle.markdown_engine_content.proofs.CursorSteps.{at_some, cursor_next, mov
 use Rattle.markdown_engine_content.proofs.cursor.Cursor.consume_any.Goals as goal
 
 pub code_from-previous-requires-clause-begins : goal.code_from-previous-requires-clause-begins
-code_from-previous-requires-clause-begins c = (at_some c.args.self.now c.self.invariant c.self.view_is c.requires).in_bytes
+code_from-previous-requires-clause-begins c =
+    (at_some c.args.self.now c.self.invariant c.self.view_is c.requires).in_bytes
 
 pub past_code-exit-requires-clause-begins : goal.past_code-exit-requires-clause-begins
 past_code-exit-requires-clause-begins c = (at_some c.args.self.now c.self.invariant c.self.view_is c.requires).in_bytes

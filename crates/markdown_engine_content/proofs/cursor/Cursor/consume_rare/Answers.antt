@@ -9,7 +9,8 @@ pub bounds-self-inside-at : goal.bounds-self-inside-at
 bounds-self-inside-at c = (at_some c.args.self.now c.self.invariant c.self.view_is c.requires).in_bytes
 
 pub offset_bounds-self-inside-self-inside : goal.offset_bounds-self-inside-self-inside
-offset_bounds-self-inside-self-inside c = search (rules, (at_some c.args.self.now c.self.invariant c.self.view_is c.requires).in_pieces)
+offset_bounds-self-inside-self-inside c =
+    search (rules, (at_some c.args.self.now c.self.invariant c.self.view_is c.requires).in_pieces)
 
 pub bounds-self-inside-self-inside : goal.bounds-self-inside-self-inside
 bounds-self-inside-self-inside c = (at_some c.args.self.now c.self.invariant c.self.view_is c.requires).in_pieces
@@ -27,4 +28,5 @@ invariant_of-self c =
     feed_next c.self.invariant (record { start = (0, 0); end = (0, 0) }) (at_some c.args.self.now c.self.invariant c.self.view_is c.requires).in_pieces c.if-at-self.true c.in-10.is
 
 pub returns-in-10 : goal.returns-in-10
-returns-in-10 c = sym (ap moved (sym c.self.view_is) ∙ moved_is c.self.inside.bytes.now c.self.inside.pieces.now c.self.inside.passed)
+returns-in-10 c =
+    sym (ap moved (sym c.self.view_is) ∙ moved_is c.self.inside.bytes.now c.self.inside.pieces.now c.self.inside.passed)

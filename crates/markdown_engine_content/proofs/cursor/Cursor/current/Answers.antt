@@ -4,7 +4,8 @@ use Rattle.markdown_engine_content.proofs.CursorSteps.{at_code, cursor_end}
 use Rattle.markdown_engine_content.proofs.cursor.Cursor.current.Goals as goal
 
 pub code_from-requires-clause-begins : goal.code_from-requires-clause-begins
-code_from-requires-clause-begins c = (at_code c.self.invariant (sym c.stands_before_end.ensures ∙ c.if-stands_before_end.true)).in_bytes
+code_from-requires-clause-begins c =
+    (at_code c.self.invariant (sym c.stands_before_end.ensures ∙ c.if-stands_before_end.true)).in_bytes
 
 pub returns-then-stands_before_end : goal.returns-then-stands_before_end
 returns-then-stands_before_end c =

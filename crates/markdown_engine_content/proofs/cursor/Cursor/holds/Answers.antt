@@ -8,7 +8,8 @@ use Rattle.markdown_engine_content.proofs.cursor.Cursor.holds.Goals.{then-contai
 use Rattle.markdown_engine_content.proofs.cursor.Cursor.holds.Goals as goal
 
 pub loop-left-init : goal.loop-left-init
-loop-left-init c = left-start c.args.bytes.now c.args.times c.args.self.now c.restart-place.result c.restart-place.ensures
+loop-left-init c =
+    left-start c.args.bytes.now c.args.times c.args.self.now c.restart-place.result c.restart-place.ensures
 
 pub returns-in_default : goal.returns-in_default
 returns-in_default c =

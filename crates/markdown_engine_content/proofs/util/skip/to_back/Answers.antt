@@ -7,7 +7,8 @@ use Rattle.markdown_engine_content.proofs.NestingLemmas.{named-at, named-from, n
 use Rattle.markdown_engine_content.proofs.util.skip.to_back.Goals as goal
 
 -- the test failed, so the event has none of the names
-unnamed : (names : List Name) (es : List Event) (i : ℕ) (x : Event) (b : Bool) → i < length es → IsTrue b ↔ Contains names (get_or es i x).name → b ≡ false → IsNamed names es i → ⊥
+unnamed : (names : List Name) (es : List Event) (i : ℕ) (x : Event) (b : Bool) → i < length es →
+    IsTrue b ↔ Contains names (get_or es i x).name → b ≡ false → IsNamed names es i → ⊥
 unnamed names es i x b l t f h = false≢true (sym f ∙ t.1 (named-at names es i x l h))
 
 some-before : (c : goal.In-loop-at) → 0 < c.loop-at.at

@@ -9,10 +9,13 @@ pub slice_bounds-items-end : goal.slice_bounds-items-end
 slice_bounds-items-end c = let size = view-length _ _ c.self.view_is in omega (arith, ap length c.as_slice.ensures)
 
 pub returns-clause-here : goal.returns-clause-here
-returns-clause-here c = part-seen c.self.inside.items _ _ c.args.from (c.args.to - c.args.from) c.alone_count.result c.self.view_is c.as_slice.ensures c.alone_count.ensures.within c.alone_count.ensures.next
+returns-clause-here c =
+    part-seen c.self.inside.items _ _ c.args.from (c.args.to - c.args.from) c.alone_count.result c.self.view_is c.as_slice.ensures c.alone_count.ensures.within c.alone_count.ensures.next
 
 pub returns-clause-fresh : goal.returns-clause-fresh
-returns-clause-fresh c = part-fresh c.self.inside.items _ _ c.args.from (c.args.to - c.args.from) c.alone_count.result c.self.view_is c.as_slice.ensures c.alone_count.ensures.within c.alone_count.ensures.next c.self.invariant c.alone_count.ensures.previous
+returns-clause-fresh c =
+    part-fresh c.self.inside.items _ _ c.args.from (c.args.to - c.args.from) c.alone_count.result c.self.view_is c.as_slice.ensures c.alone_count.ensures.within c.alone_count.ensures.next c.self.invariant c.alone_count.ensures.previous
 
 pub returns-clause-ends : goal.returns-clause-ends
-returns-clause-ends c = part-ends c.self.inside.items _ _ c.args.from (c.args.to - c.args.from) c.alone_count.result c.self.view_is c.as_slice.ensures c.alone_count.ensures.within c.alone_count.ensures.next c.self.invariant
+returns-clause-ends c =
+    part-ends c.self.inside.items _ _ c.args.from (c.args.to - c.args.from) c.alone_count.result c.self.view_is c.as_slice.ensures c.alone_count.ensures.within c.alone_count.ensures.next c.self.invariant

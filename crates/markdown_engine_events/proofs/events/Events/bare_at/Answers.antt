@@ -15,4 +15,5 @@ pub returns-clause-bare : goal.returns-clause-bare
 returns-clause-bare c = ap bare c.linked_on.ensures ∙ with_next-with_next _ _ _ ∙ sym c.linked_on.ensures
 
 pub returns-clause-chains : goal.returns-clause-chains
-returns-clause-chains c = let P : List Event → Type 0 = λ es. IsLinked es in subst P c.self.view_is c.self.invariant.linked
+returns-clause-chains c =
+    let P : List Event → Type 0 = λ es. IsLinked es in subst P c.self.view_is c.self.invariant.linked

@@ -5,10 +5,12 @@ pub set_next-requires : goal.set_next-requires
 set_next-requires c = linked-within c.self.inside.items _ _ c.self.view_is c.requires.from
 
 pub set_previous-requires : goal.set_previous-requires
-set_previous-requires c = linked-within-changed c.self.inside.items _ _ _ _ _ c.self.view_is c.requires.to c.set_next.ensures
+set_previous-requires c =
+    linked-within-changed c.self.inside.items _ _ _ _ _ c.self.view_is c.requires.to c.set_next.ensures
 
 pub invariant_of-self : goal.invariant_of-self
-invariant_of-self c = kept-linked c.self.inside.items _ _ _ _ _ c.self.view_is c.self.invariant c.requires.order c.requires.from c.requires.to c.requires.first c.requires.last c.set_next.ensures c.set_previous.ensures
+invariant_of-self c =
+    kept-linked c.self.inside.items _ _ _ _ _ c.self.view_is c.self.invariant c.requires.order c.requires.from c.requires.to c.requires.first c.requires.last c.set_next.ensures c.set_previous.ensures
 
 pub returns : goal.returns
 returns c = view-linked c.self.inside.items _ _ _ _ _ c.self.view_is c.set_next.ensures c.set_previous.ensures

@@ -10,13 +10,17 @@ set_next-requires c =
     omega (arith, view-length _ _ c.self.view_is, ap length c.in_ok-push.ensures.ok, length_push c.self.inside.items c.args.linked)
 
 pub invariant_of-self-in-Some : goal.invariant_of-self-in-Some
-invariant_of-self-in-Some c = kept-named c.self.inside.items _ _ _ c.args.linked _ _ c.self.view_is c.self.invariant c.requires.bare (sym c.previous_of.ensures ∙ c.in-Some.is) c.requires.chains (c.len-number.ensures ∙ sym (view-length _ _ c.self.view_is)) c.in_ok-push.ensures.ok c.set_next.ensures
+invariant_of-self-in-Some c =
+    kept-named c.self.inside.items _ _ _ c.args.linked _ _ c.self.view_is c.self.invariant c.requires.bare (sym c.previous_of.ensures ∙ c.in-Some.is) c.requires.chains (c.len-number.ensures ∙ sym (view-length _ _ c.self.view_is)) c.in_ok-push.ensures.ok c.set_next.ensures
 
 pub invariant_of-self-in_default : goal.invariant_of-self-in_default
-invariant_of-self-in_default c = kept-plain c.self.inside.items _ _ c.args.linked c.self.view_is c.self.invariant c.requires.bare (sym c.previous_of.ensures ∙ c.in_default.is) c.requires.chains c.in_ok-push.ensures.ok
+invariant_of-self-in_default c =
+    kept-plain c.self.inside.items _ _ c.args.linked c.self.view_is c.self.invariant c.requires.bare (sym c.previous_of.ensures ∙ c.in_default.is) c.requires.chains c.in_ok-push.ensures.ok
 
 pub returns-in-Some-clause-ok : goal.returns-in-Some-clause-ok
-returns-in-Some-clause-ok c = view-named c.self.inside.items _ _ _ c.args.linked _ _ c.self.view_is c.requires.bare c.in_ok-push.ensures.ok c.set_next.ensures
+returns-in-Some-clause-ok c =
+    view-named c.self.inside.items _ _ _ c.args.linked _ _ c.self.view_is c.requires.bare c.in_ok-push.ensures.ok c.set_next.ensures
 
 pub returns-in_default-clause-ok : goal.returns-in_default-clause-ok
-returns-in_default-clause-ok c = view-one c.self.inside.items _ _ c.args.linked c.self.view_is c.requires.bare c.in_ok-push.ensures.ok
+returns-in_default-clause-ok c =
+    view-one c.self.inside.items _ _ c.args.linked c.self.view_is c.requires.bare c.in_ok-push.ensures.ok

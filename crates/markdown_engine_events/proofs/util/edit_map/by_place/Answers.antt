@@ -6,7 +6,8 @@ use Rattle.markdown_engine_events.proofs.EditOrder.{adds-unlinked, brought-sorte
 use Rattle.markdown_engine_events.proofs.util.edit_map.by_place.Goals as goal
 
 pub returns-then-is_in_order-clause-rest : goal.returns-then-is_in_order-clause-rest
-returns-then-is_in_order-clause-rest c = λ comes b. rest-added comes c.args.log.now (adds-unlinked comes c.args.log.now b.unlinked) (c.is_in_order.ensures c.if-is_in_order.true)
+returns-then-is_in_order-clause-rest c =
+    λ comes b. rest-added comes c.args.log.now (adds-unlinked comes c.args.log.now b.unlinked) (c.is_in_order.ensures c.if-is_in_order.true)
 
 pub returns-clause-rest : goal.returns-clause-rest
 returns-clause-rest c = λ comes b.

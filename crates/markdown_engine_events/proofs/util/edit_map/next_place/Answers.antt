@@ -8,4 +8,5 @@ returns-then-passed-edits-clause-from c = λ n l h.
     omega (arith, c.min.ensures)
 
 pub returns-then-passed-edits-clause-rest : goal.returns-then-passed-edits-clause-rest
-returns-then-passed-edits-clause-rest c = next-rest c.args.edits.now.comes.now c.args.edits.now.entries.now c.args.passed c.min.result c.if-passed-edits.true (omega (arith, c.min.ensures))
+returns-then-passed-edits-clause-rest c =
+    next-rest c.args.edits.now.comes.now c.args.edits.now.entries.now c.args.passed c.min.result c.if-passed-edits.true (omega (arith, c.min.ensures))

@@ -3,7 +3,8 @@ use Rattle.markdown_engine_events.proofs.EditOrder.{brought-here, passing}
 use Rattle.markdown_engine_events.proofs.util.edit_map.pass_edits.Goals as goal
 
 pub push_here-requires-clause-brought : goal.push_here-requires-clause-brought
-push_here-requires-clause-brought c = brought-here c.args.edits.now.comes.now c.args.edits.now.entries.now c.args.passed.edits c.count_at-count.result c.requires.brought
+push_here-requires-clause-brought c =
+    brought-here c.args.edits.now.comes.now c.args.edits.now.entries.now c.args.passed.edits c.count_at-count.result c.requires.brought
 
 pub returns-clause-done : goal.returns-clause-done
 returns-clause-done c =

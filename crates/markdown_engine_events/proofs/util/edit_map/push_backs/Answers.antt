@@ -5,7 +5,8 @@ use Rattle.markdown_engine_events.proofs.util.edit_map.push_backs.Goals as goal
 use Rattle.markdown_engine_events.proofs.util.edit_map.push_backs.Goals.{then-edit-at+then-not-edit+in_ok-extend_fresh, else-edit-at, else-edit-at-via-then-edit-at+else-not-edit, else-edit-at-via-else-edit-at}
 
 pub extend_fresh-requires : goal.extend_fresh-requires
-extend_fresh-requires c = fresh-read c.args.edits.now.comes.now (entry c.args.edits.now.entries.now c.loop-edit.edit-index) _ c.requires.unlinked c.brought.ensures
+extend_fresh-requires c =
+    fresh-read c.args.edits.now.comes.now (entry c.args.edits.now.entries.now c.loop-edit.edit-index) _ c.requires.unlinked c.brought.ensures
 
 pub loop-edit-preserved : goal.loop-edit-preserved
 loop-edit-preserved c =

@@ -7,7 +7,8 @@ joined : (xs fronts backs ys zs : List Event) → ys ≡ xs ++ fronts → zs ≡
 joined xs fronts backs ys zs h g = g ∙ ap (λ x. x ++ backs) h ∙ append_assoc xs fronts backs
 
 pub extend_fresh-requires : goal.extend_fresh-requires
-extend_fresh-requires c = fresh-read c.args.edits.now.comes.now (entry c.args.edits.now.entries.now 0) _ c.requires.brought.unlinked c.brought.ensures
+extend_fresh-requires c =
+    fresh-read c.args.edits.now.comes.now (entry c.args.edits.now.entries.now 0) _ c.requires.brought.unlinked c.brought.ensures
 
 pub returns-then-edits-eq1-clause-done : goal.returns-then-edits-eq1-clause-done
 returns-then-edits-eq1-clause-done c =

@@ -8,7 +8,8 @@ use Rattle.markdown_engine_index.proofs.bracket_index.BracketIndex.over.Goals.{t
 use Rattle.markdown_engine_index.proofs.bracket_index.BracketIndex.over.Goals as goal
 
 pub loop-at-init : goal.loop-at-init
-loop-at-init c = places-start c.args.bytes.now c.args.start c.min-first.result c.new-places.result.items (omega (arith, c.min-first.ensures)) c.new-places.ensures.items
+loop-at-init c =
+    places-start c.args.bytes.now c.args.start c.min-first.result c.new-places.result.items (omega (arith, c.min-first.ensures)) c.new-places.ensures.items
 
 pub loop-at-preserved : goal.loop-at-preserved
 loop-at-preserved c =

@@ -11,7 +11,8 @@ added (Ok x) e k = k
 added (Err x) e k = cc
 
 pub loop-code-init : goal.loop-code-init
-loop-code-init c = start-entries c.args.asked c.args.cursor.now c.restart-place.result c.new-last.result.entries c.restart-place.ensures c.new-last.ensures.empty
+loop-code-init c =
+    start-entries c.args.asked c.args.cursor.now c.restart-place.result c.new-last.result.entries c.restart-place.ensures c.new-last.ensures.empty
 
 pub loop-code-smaller-else-is_err : goal.loop-code-smaller-else-is_err
 loop-code-smaller-else-is_err c =

@@ -10,7 +10,8 @@ use Rattle.markdown_engine_index.proofs.title_index.TitleIndex.over.Goals.{then-
 use Rattle.markdown_engine_index.proofs.title_index.TitleIndex.over.Goals as goal
 
 pub loop-code-init : goal.loop-code-init
-loop-code-init c = found-start c.args.cursor.now c.restart-place.result c.new-closers.result.items c.restart-place.ensures c.new-closers.ensures.items
+loop-code-init c =
+    found-start c.args.cursor.now c.restart-place.result c.new-closers.result.items c.restart-place.ensures c.new-closers.ensures.items
 
 pub loop-code-smaller : goal.loop-code-smaller
 loop-code-smaller c =
@@ -35,7 +36,8 @@ loop-code-preserved c =
     ]
 
 pub invariant_of-result : goal.invariant_of-result
-invariant_of-result c = found-rises c.args.cursor.now.codes c.loop-code.closers.items (found-all c.args.cursor.now.codes c.loop-code.place c.loop-code.slash c.loop-code.closers.items (sym c.current.ensures ∙ c.in_default.is) c.loop-code.invariant)
+invariant_of-result c =
+    found-rises c.args.cursor.now.codes c.loop-code.closers.items (found-all c.args.cursor.now.codes c.loop-code.place c.loop-code.slash c.loop-code.closers.items (sym c.current.ensures ∙ c.in_default.is) c.loop-code.invariant)
 
 pub returns : goal.returns
 returns c = found-all c.args.cursor.now.codes c.loop-code.place c.loop-code.slash c.loop-code.closers.items (sym c.current.ensures ∙ c.in_default.is) c.loop-code.invariant

@@ -8,7 +8,8 @@ use Rattle.markdown_engine_index.proofs.TitleIndexLemmas.{first-found, none-foun
 use Rattle.markdown_engine_index.proofs.title_index.TitleIndex.rules_out.Goals as goal
 
 pub first_from-first-requires : goal.first_from-first-requires
-first_from-first-requires c = subst (λ xs. IsNonDecreasingBy (λ (x : Closer). x.at) xs) (sym c.as_slice.ensures.value) c.self.invariant
+first_from-first-requires c =
+    subst (λ xs. IsNonDecreasingBy (λ (x : Closer). x.at) xs) (sym c.as_slice.ensures.value) c.self.invariant
 
 pub returns-then-first-len : goal.returns-then-first-len
 returns-then-first-len c =

@@ -18,7 +18,8 @@ less n m e = grind (arith, e)
 more : (n m : ℕ) → m < n → (n == m) ≡ false
 more n m e = grind (arith, e)
 
-found : (xs : List ℕ) (at : ℕ) (r : Result ℕ ℕ) → IsBinarySearchResult (λ y. nat_cmp y at) xs r → IsNonDecreasing xs → is_ok r ≡ is_kept at xs
+found : (xs : List ℕ) (at : ℕ) (r : Result ℕ ℕ) → IsBinarySearchResult (λ y. nat_cmp y at) xs r → IsNonDecreasing xs →
+    is_ok r ≡ is_kept at xs
 found xs at (Ok i) k up =
     let here = searched xs at (Ok i) k (λ a b le lt. up a b 0 le lt) in
     sym (list_any_at (λ n. n == at) xs i 0 here.0 (alike (get_or xs i 0) at here.1))

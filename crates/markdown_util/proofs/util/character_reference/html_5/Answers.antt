@@ -5,20 +5,25 @@ use Rattle.markdown_util.proofs.util.character_reference.html_5.Goals as goal
 
 pub returns-then-lt : goal.returns-then-lt
 unfolding html_5_rows
-returns-then-lt c = in_capitals html_5_parted _ c.args.name.now c.html_5_capitals.ensures (sym c.lt.ensures ∙ c.if-lt.true)
+returns-then-lt c =
+    in_capitals html_5_parted _ c.args.name.now c.html_5_capitals.ensures (sym c.lt.ensures ∙ c.if-lt.true)
 
 pub returns-then-lt-2 : goal.returns-then-lt-2
 unfolding html_5_rows
-returns-then-lt-2 c = in_a_to_d html_5_parted _ c.args.name.now c.html_5_a_to_d.ensures (sym c.lt.ensures ∙ c.if-lt.false) (sym c.lt-else-lt.ensures ∙ c.if-lt-2.true)
+returns-then-lt-2 c =
+    in_a_to_d html_5_parted _ c.args.name.now c.html_5_a_to_d.ensures (sym c.lt.ensures ∙ c.if-lt.false) (sym c.lt-else-lt.ensures ∙ c.if-lt-2.true)
 
 pub returns-then-lt-3 : goal.returns-then-lt-3
 unfolding html_5_rows
-returns-then-lt-3 c = in_e_to_l html_5_parted _ c.args.name.now c.html_5_e_to_l.ensures (sym c.lt.ensures ∙ c.if-lt.false) (sym c.lt-else-lt.ensures ∙ c.if-lt-2.false) (sym c.lt-else-lt-2.ensures ∙ c.if-lt-3.true)
+returns-then-lt-3 c =
+    in_e_to_l html_5_parted _ c.args.name.now c.html_5_e_to_l.ensures (sym c.lt.ensures ∙ c.if-lt.false) (sym c.lt-else-lt.ensures ∙ c.if-lt-2.false) (sym c.lt-else-lt-2.ensures ∙ c.if-lt-3.true)
 
 pub returns-then-lt-4 : goal.returns-then-lt-4
 unfolding html_5_rows
-returns-then-lt-4 c = in_m_to_r html_5_parted _ c.args.name.now c.html_5_m_to_r.ensures (sym c.lt.ensures ∙ c.if-lt.false) (sym c.lt-else-lt.ensures ∙ c.if-lt-2.false) (sym c.lt-else-lt-2.ensures ∙ c.if-lt-3.false) (sym c.lt-else-lt-3.ensures ∙ c.if-lt-4.true)
+returns-then-lt-4 c =
+    in_m_to_r html_5_parted _ c.args.name.now c.html_5_m_to_r.ensures (sym c.lt.ensures ∙ c.if-lt.false) (sym c.lt-else-lt.ensures ∙ c.if-lt-2.false) (sym c.lt-else-lt-2.ensures ∙ c.if-lt-3.false) (sym c.lt-else-lt-3.ensures ∙ c.if-lt-4.true)
 
 pub returns-else-lt-4 : goal.returns-else-lt-4
 unfolding html_5_rows
-returns-else-lt-4 c = in_s_to_z html_5_parted _ c.args.name.now c.html_5_s_to_z.ensures (sym c.lt.ensures ∙ c.if-lt.false) (sym c.lt-else-lt.ensures ∙ c.if-lt-2.false) (sym c.lt-else-lt-2.ensures ∙ c.if-lt-3.false) (sym c.lt-else-lt-3.ensures ∙ c.if-lt-4.false)
+returns-else-lt-4 c =
+    in_s_to_z html_5_parted _ c.args.name.now c.html_5_s_to_z.ensures (sym c.lt.ensures ∙ c.if-lt.false) (sym c.lt-else-lt.ensures ∙ c.if-lt-2.false) (sym c.lt-else-lt-2.ensures ∙ c.if-lt-3.false) (sym c.lt-else-lt-3.ensures ∙ c.if-lt-4.false)

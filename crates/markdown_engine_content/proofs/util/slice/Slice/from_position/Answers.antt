@@ -16,10 +16,13 @@ slice_bounds-result-end c =
     search rules
 
 pub columns_before-requires-clause-from_one : goal.columns_before-requires-clause-from_one
-columns_before-requires-clause-from_one c = (stands-point c.args.bytes.now c.args.position.now.start c.requires.start).from_one
+columns_before-requires-clause-from_one c =
+    (stands-point c.args.bytes.now c.args.position.now.start c.requires.start).from_one
 
 pub returns-clause-before : goal.returns-clause-before
-returns-clause-before c = c.columns_before.ensures ∙ before-is c.args.bytes.now c.args.position.now.start c.args.position.now.end c.requires.start c.requires.end c.requires.in_order
+returns-clause-before c =
+    c.columns_before.ensures ∙ before-is c.args.bytes.now c.args.position.now.start c.args.position.now.end c.requires.start c.requires.end c.requires.in_order
 
 pub returns-clause-after : goal.returns-clause-after
-returns-clause-after c = c.columns_after.ensures ∙ after-is c.args.bytes.now c.args.position.now.start c.args.position.now.end c.requires.start c.requires.end c.requires.in_order
+returns-clause-after c =
+    c.columns_after.ensures ∙ after-is c.args.bytes.now c.args.position.now.start c.args.position.now.end c.requires.start c.requires.end c.requires.in_order

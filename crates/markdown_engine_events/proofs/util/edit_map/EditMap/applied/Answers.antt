@@ -7,7 +7,8 @@ use Rattle.markdown_engine_events.proofs.EditStretches.{fresh-first, none-more, 
 use Rattle.markdown_engine_events.proofs.util.edit_map.EditMap.applied.Goals as goal
 
 pub pass_alone-requires-clause-rest : goal.pass_alone-requires-clause-rest
-pass_alone-requires-clause-rest c = rest-self (c.loop-index.index + 1) c.loop-index.index _ _ (omega arith) c.in_ok-passed.ensures.rest
+pass_alone-requires-clause-rest c =
+    rest-self (c.loop-index.index + 1) c.loop-index.index _ _ (omega arith) c.in_ok-passed.ensures.rest
 
 pub keep-requires-clause-chains : goal.keep-requires-clause-chains
 keep-requires-clause-chains c =
