@@ -6,7 +6,7 @@ ghost use Rattle.markdown_engine.specs.Operations.{applied, Enter, Exit, EnterLi
 ghost use Rattle.markdown_engine_content.specs.Content.{IsContent};
 ghost use Rattle.markdown_engine_content.specs.Place.{point_of};
 ghost use Rattle.markdown_engine_events.specs.EventChains.{IsFresh};
-ghost use Rattle.markdown_engine.specs.RunStart.{begun};
+ghost use Rattle.markdown_engine.specs.RunStart.{begun, begun_at};
 ghost use Rattle.markdown_engine.specs.RestingFields.{at_rest};
 
 use crate::resolve::ResolveName;
@@ -83,7 +83,7 @@ pub struct Label {
 /// | | destinations | of the whole, the one in brackets, its markers, the one without, and the text |
 /// | | titles, labels of references | of the whole, its markers and the text |
 #[derive(Drop)]
-pub struct TokenizeState {
+pub struct TokenizeState<'a> {
     /// A byte; 0 at rest.
     pub marker: u8,
     /// A second byte; 0 at rest.
@@ -150,14 +150,14 @@ pub struct TokenizeState {
     /// The places behind a `_` in the content at which no literal from `www.` on begins, since no domain does; none at rest.
     pub no_domains: Option<PlaceIndex>,
     /// The names of what is defined, each found by a search; none at rest.
-    pub names: Option<Names>,
+    pub names: Option<Names<'a>>,
     /// Whether the content is the first paragraph of a list item.
     pub document_at_first_paragraph_of_list_item: bool,
 }
 
-impl TokenizeState {
+impl<'a> TokenizeState<'a> {
     /// All at rest: no labels, no markers, no probes, no known runs, sequences, titles and domains, no names.
-    pub fn new(alloc: Global) -> TokenizeState
+    pub fn new(alloc: Global) -> TokenizeState<'a>
         ensures { result ≡ at_rest }
     {
         TokenizeState {
@@ -234,7 +234,7 @@ pub struct Tokenizer<'a> {
     /// The place in the content.
     pub cursor: Cursor<'a>,
     /// The scratch fields.
-    pub tokenize_state: TokenizeState,
+    pub tokenize_state: TokenizeState<'a>,
     /// The passes that are to follow, in order.
     pub resolvers: Seq<ResolveName>,
     /// The attempts that wait, the innermost on top.
@@ -249,13 +249,24 @@ impl<'a> Tokenizer<'a> {
         requires { IsContent parse_state.now.bytes.now pieces.now }
         ensures { result ≡ begun alloc parse_state.entry pieces.entry.now }
     {
+        Tokenizer::starting_at(alloc, parse_state, Cursor::new(parse_state.bytes, pieces))
+    }
+
+    /// A run at the start of a content, by a cursor that stands there: no events, all scratch fields at rest. Takes no memory.
+    pub fn starting_at(
+        alloc: Global,
+        parse_state: &'a ParseState<'a>,
+        cursor: Cursor<'a>,
+    ) -> Tokenizer<'a>
+        ensures { result ≡ begun_at alloc parse_state.entry cursor.entry }
+    {
         Tokenizer {
             alloc,
             parse_state,
             events: Events::new(alloc),
             map: EditMap::new(alloc),
             stack: Stack::new(alloc),
-            cursor: Cursor::new(parse_state.bytes, pieces),
+            cursor,
             tokenize_state: TokenizeState::new(alloc),
             resolvers: Seq::new(alloc),
             attempts: Stack::new(alloc),

@@ -15,6 +15,7 @@ pub mod ContentCodes
 pub mod CursorInvariant
 pub mod ContentEnd
 pub mod LaterPieces
+pub mod KnownPlacesLemmas
 pub mod CursorSteps
 pub mod NestingLemmas
 pub mod ByteCounts

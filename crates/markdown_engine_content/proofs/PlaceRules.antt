@@ -1,11 +1,9 @@
 -- What each word on a place says of the others.
 use Rattle.std.proofs.Common.{ℕ, zero, suc, drop, ◌+◌, ◌≡◌, arith, List, [], ◌∷◌, length, slice_get, refl, sym, ap, ◌∙◌, Option, Some, None, add-one}
 use Rattle.std.proofs.lemmas.Option.{same_Some}
-use Rattle.markdown_engine_content.specs.declared.parser.Piece.{Piece}
 use Rattle.markdown_engine_content.specs.Codes.{Code}
 use Rattle.markdown_engine_content.specs.ListFunctions.{rest_of}
-use Rattle.markdown_engine_content.specs.Content.{content_of}
-use Rattle.markdown_engine_content.specs.Place.{Place, start_of_content, moved, ahead_at, value_of, start_or, stop_or, code_at, point_of, exit_point}
+use Rattle.markdown_engine_content.specs.Place.{Place, moved, ahead_at, value_of, start_or, stop_or, code_at, point_of, exit_point}
 use Rattle.markdown_engine_content.proofs.CursorInvariant.{drop-some, drop-none, drop-past}
 
 -- Past a code.
@@ -24,10 +22,9 @@ end_moved p = refl
 
 -- At the start.
 
-pub ahead_start : (bytes : List ℕ) (pieces : List Piece) →
-    ahead_at (start_of_content bytes pieces) ≡ content_of bytes pieces
-unfolding start_of_content ahead_at
-ahead_start bytes pieces = refl
+pub ahead_restarted : (p : Place) → ahead_at (record p { at = 0 }) ≡ p.codes
+unfolding ahead_at
+ahead_restarted p = refl
 
 -- By the codes ahead_at.
 

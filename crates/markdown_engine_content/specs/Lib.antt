@@ -4,6 +4,7 @@ pub mod DefaultOptions
 pub mod Codes
 pub mod Content
 pub mod DocumentWalk
+pub mod KnownPlaces
 pub mod Tree
 pub mod Place
 pub mod Slices

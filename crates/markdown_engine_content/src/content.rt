@@ -2,8 +2,9 @@
 ghost use Rattle.std.specs.Prelude.{◌≡◌, ◌≤◌, ◌^◌, ◌&&◌, ◌||◌, ◌==◌, ◌↔◌, nat_lt, not, false, if◌then◌else◌, ◌-◌, ◌<◌, [], length, All, IsTrue, IsCharBoundary};
 ghost use Rattle.std.specs.Str.{byte};
 ghost use Rattle.markdown_engine_content.specs.Codes.{place_of, is_at_or_after};
-ghost use Rattle.markdown_engine_content.specs.Content.{document_limit, content_of, has_no_blank_line, is_text_codes, IsContent, IsTextContent, IsBetweenCharacters, are_pieces};
+ghost use Rattle.markdown_engine_content.specs.Content.{document_limit, has_no_blank_line, is_text_codes, IsContent, IsTextContent, IsBetweenCharacters, are_pieces};
 ghost use Rattle.markdown_engine_content.specs.ContentTest.{Reaches, longer_by, PassesPiece, PassesNext};
+ghost use Rattle.markdown_engine_content.specs.KnownPlaces.{first_place};
 ghost use Rattle.markdown_engine_content.specs.Place.{ahead_at};
 ghost use Rattle.markdown_engine_content.specs.PlainBytes.{ArePlain};
 ghost use Rattle.markdown_engine_content.specs.DocumentWalk.{IsPoint};
@@ -19,9 +20,9 @@ pub const DOCUMENT_LIMIT: usize = usize::MAX / 8;
 
 // A stretch of codes.
 #[derive(Clone, Copy)]
-struct Stretch {
+pub(crate) struct Stretch {
     // Where it ends.
-    point: Point,
+    pub(crate) point: Point,
     // Whether a code of it is a line ending.
     has_line_ending: bool,
     // Whether the last code of it is a line ending.
@@ -66,7 +67,7 @@ fn pass_ordinary(bytes: &[u8], stretch: Stretch, to: usize) -> Stretch
 }
 
 // Walks forward to a place, if it is one of the document.
-fn reach(bytes: &[u8], point: Point, place: (usize, usize)) -> Option<Stretch>
+pub(crate) fn reach(bytes: &[u8], point: Point, place: (usize, usize)) -> Option<Stretch>
     requires fits { length bytes.now ≤ document_limit }
     requires is_point { IsPoint bytes.now point }
     requires forward { IsTrue (is_at_or_after (place_of point) place) }
@@ -133,10 +134,20 @@ fn are_pieces(bytes: &[u8], pieces: &[Piece]) -> bool
     requires { length bytes.now ≤ document_limit }
     ensures { result ≡ are_pieces bytes.now pieces.now }
 {
+    are_pieces_from(bytes, DOCUMENT_START, pieces)
+}
+
+// Whether the pieces, which do not start before a point, are in order, each a piece of the document.
+pub(crate) fn are_pieces_from(bytes: &[u8], point: Point, pieces: &[Piece]) -> bool
+    requires fits { length bytes.now ≤ document_limit }
+    requires is_point { IsPoint bytes.now point }
+    requires forward { IsTrue (is_at_or_after (place_of point) (first_place (place_of point) pieces.now)) }
+    ensures { result ≡ are_pieces bytes.now pieces.now }
+{
     let [first, rest @ ..] = pieces else {
         return true;
     };
-    let Some(mut last) = pass_piece(bytes, DOCUMENT_START, first) else {
+    let Some(mut last) = pass_piece(bytes, point, first) else {
         return false;
     };
     for piece in rest {
@@ -160,7 +171,7 @@ fn is_char_boundary(bytes: &[u8], index: usize) -> bool
 }
 
 // Whether both ends of each piece stand between characters.
-fn are_between_characters(bytes: &[u8], pieces: &[Piece]) -> bool
+pub(crate) fn are_between_characters(bytes: &[u8], pieces: &[Piece]) -> bool
     ensures { IsTrue result ↔ All (IsBetweenCharacters bytes.now) pieces.now }
 {
     pieces.iter().all(|piece| {
@@ -203,12 +214,11 @@ fn pass_filled(cursor: &mut Cursor, filled: bool)
     }
 }
 
-// Whether no line of a content is blank, and the last one has no line ending.
-fn has_text_lines(bytes: &[u8], pieces: &[Piece]) -> bool
-    requires { IsContent bytes.now pieces.now }
-    ensures { result ≡ is_text_codes (content_of bytes.now pieces.now) }
+/// Whether no line of a content is blank, and the last one has no line ending.
+pub fn has_text_lines(content: &Cursor) -> bool
+    ensures { result ≡ is_text_codes content.now.codes }
 {
-    let mut cursor = Cursor::new(bytes, pieces);
+    let mut cursor = content.restart();
     let mut filled = cursor.current().is_none();
     while let Some(code) = cursor.current() {
         if code == b'\n' && !filled {
@@ -227,5 +237,5 @@ fn has_text_lines(bytes: &[u8], pieces: &[Piece]) -> bool
 pub fn is_text(bytes: &[u8], pieces: &[Piece]) -> bool
     ensures { IsTrue result ↔ IsTextContent bytes.now pieces.now }
 {
-    is_content(bytes, pieces) && has_text_lines(bytes, pieces)
+    is_content(bytes, pieces) && has_text_lines(&Cursor::new(bytes, pieces))
 }

@@ -62,7 +62,15 @@ impl<'a> Cursor<'a> {
         requires { IsContent bytes.now pieces.now }
         ensures { result ≡ start_of_content bytes.entry.now pieces.entry.now }
     {
-        let point = start_of_pieces(bytes, pieces);
+        Cursor::starting_at(bytes, pieces, start_of_pieces(bytes, pieces))
+    }
+
+    /// Makes a cursor at the start of a content whose first code begins at a known point.
+    pub fn starting_at(bytes: &'a [u8], pieces: &'a [Piece], point: Point) -> Cursor<'a>
+        requires content { IsContent bytes.now pieces.now }
+        requires first { point ≡ first_point bytes.now pieces.now }
+        ensures { result ≡ start_of_content bytes.entry.now pieces.entry.now }
+    {
         Cursor {
             bytes,
             pieces,
@@ -93,6 +101,9 @@ impl<'a> Cursor<'a> {
     pub fn restart(&self) -> Cursor<'a>
         ensures { result ≡ record self.now { at = 0 } }
     {
+        if self.passed == 0 {
+            return self.save();
+        }
         Cursor::new(self.bytes, self.pieces)
     }
 

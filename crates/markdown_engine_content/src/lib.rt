@@ -6,6 +6,7 @@ pub mod bytes;
 pub mod configuration;
 pub mod content;
 pub mod cursor;
+pub mod document;
 pub mod event;
 pub mod label_kind;
 mod lanes;

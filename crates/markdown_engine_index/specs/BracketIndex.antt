@@ -25,6 +25,10 @@ pub record BracketPlaces : Type 0 where
 abbrev pub brackets_between : List ℕ → ℕ → ℕ → BracketPlaces
 brackets_between bytes start end = record { start = start; end = end; places = places_from start (slice_range bytes start end) }
 
+-- where they stand in no part of a document
+abbrev pub no_brackets : BracketPlaces
+no_brackets = record { start = 0; end = 0; places = [] }
+
 -- how many stand from an index up to another, where all that stands between is known
 abbrev pub counted : BracketPlaces → ℕ → ℕ → Option ℕ
 counted b from to =

@@ -5,3 +5,4 @@ pub mod SequenceIndex
 pub mod TitleIndex
 pub mod BracketIndex
 pub mod NameIndex
+pub mod KeptNames

@@ -1,7 +1,7 @@
 // Where opening brackets stand in a part of a document.
 ghost use Rattle.std.specs.Prelude.{◌≡◌, ◌≤◌, IfOk, length, nat_lt, true, false};
 ghost use Rattle.std.specs.List.Sorted.{IsNonDecreasingBy, IsPartitionPoint};
-ghost use Rattle.markdown_engine_index.specs.BracketIndex.{brackets_between, brackets_of, counted};
+ghost use Rattle.markdown_engine_index.specs.BracketIndex.{brackets_between, brackets_of, counted, no_brackets};
 
 use std::alloc::{AllocError, Global};
 use std::marker::Model;
@@ -30,6 +30,17 @@ impl Model for BracketIndex {
 }
 
 impl BracketIndex {
+    /// Knows of no part. Takes no memory.
+    pub fn new(alloc: Global) -> BracketIndex
+        ensures { result ≡ no_brackets }
+    {
+        BracketIndex {
+            start: 0,
+            end: 0,
+            places: Vec::new(alloc),
+        }
+    }
+
     /// The opening brackets of a document from an index up to another, by one walk.
     ///
     /// The only error is that memory was refused.

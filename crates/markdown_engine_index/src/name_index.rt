@@ -4,7 +4,7 @@ ghost use Rattle.std.specs.List.{list_any, starts_with, AllWithin};
 ghost use Rattle.std.specs.Str.{bytes_eq};
 ghost use Rattle.std.specs.List.Sorted.{IsNonDecreasing, IsPermutation, IsSorted};
 ghost use Rattle.std.specs.String.{string_cmp};
-ghost use Rattle.markdown_engine_index.specs.BracketIndex.{brackets_of, has_brackets};
+ghost use Rattle.markdown_engine_index.specs.BracketIndex.{brackets_of, has_brackets, no_brackets};
 ghost use Rattle.markdown_engine_index.specs.NameIndex.{in_order, comes_before, names_in_order};
 
 use crate::bracket_index::{BracketIndex, brackets_of};
@@ -99,18 +99,93 @@ fn first_from(names: &[String], text: &str) -> usize
     names.partition_point(|name| name.as_str() < text)
 }
 
+// Names in order.
+#[derive(Drop)]
+enum Kept<'a> {
+    // Made for a run.
+    Own(NameIndex),
+    // Made once for all runs over a document.
+    Lent(&'a NameIndex),
+}
+
+/// Names in order, of a run's own or lent to it. Contracts see the names.
+#[derive(Drop)]
+pub struct Listed<'a> {
+    kept: Kept<'a>,
+}
+
+impl<'a> Model for Listed<'a> {
+    ghost use Rattle.std.specs.Prelude.{List, ℕ};
+    ghost use Rattle.markdown_engine_index.specs.KeptNames.{kept_names};
+
+    ghost Value = { List (List ℕ) };
+
+    ghost view = { λ l. kept_names l.kept };
+}
+
+impl<'a> Listed<'a> {
+    // Names of a run's own.
+    fn own(index: NameIndex) -> Listed<'a>
+        ensures { result ≡ index }
+    {
+        Listed {
+            kept: Kept::Own(index),
+        }
+    }
+
+    // Names that are lent.
+    fn lent(index: &'a NameIndex) -> Listed<'a>
+        ensures { result ≡ index.now }
+    {
+        Listed {
+            kept: Kept::Lent(index),
+        }
+    }
+
+    // The index of the names.
+    fn index(&self) -> &NameIndex
+        ensures { result.now ≡ self.now }
+    {
+        match &self.kept {
+            Kept::Own(index) => index,
+            Kept::Lent(index) => index,
+        }
+    }
+
+    /// Whether it is one of the names.
+    pub fn has(&self, name: &str) -> bool
+        ensures { result ≡ list_any (bytes_eq name.now) self.now }
+    {
+        self.index().has(name)
+    }
+
+    /// Whether one of the names begins so.
+    pub fn begins(&self, front: &str) -> bool
+        ensures { result ≡ list_any (λ name. starts_with (◌==◌) name front.now) self.now }
+    {
+        self.index().begins(front)
+    }
+
+    /// Whether one of the names has so many opening brackets.
+    pub fn has_brackets(&self, count: usize) -> bool
+        ensures { result ≡ has_brackets count self.now }
+    {
+        self.index().has_brackets(count)
+    }
+}
+
 /// The names of what is defined, and where opening brackets stand in the document.
 #[derive(Drop)]
-pub struct Names {
+pub struct Names<'a> {
     /// Of the definitions.
-    pub definitions: NameIndex,
+    pub definitions: Listed<'a>,
     /// Of the footnotes.
-    pub footnotes: NameIndex,
+    pub footnotes: Listed<'a>,
     /// Where opening brackets stand: a label with another number of them than each name has is none of them.
     pub brackets: BracketIndex,
 }
 
-impl Names {
+impl<'a> Names<'a> {
     /// These names, with these brackets.
     ///
     /// The only error is that memory was refused.
@@ -119,13 +194,24 @@ impl Names {
         definitions: &[String],
         footnotes: &[String],
         brackets: BracketIndex,
-    ) -> Result<Names, AllocError>
+    ) -> Result<Names<'a>, AllocError>
         ensures { IfOk result (λ names. names ≡ names_in_order (map string_bytes definitions.now) (map string_bytes footnotes.now) brackets) }
     {
         Ok(Names {
-            definitions: NameIndex::over(alloc, definitions)?,
-            footnotes: NameIndex::over(alloc, footnotes)?,
+            definitions: Listed::own(NameIndex::over(alloc, definitions)?),
+            footnotes: Listed::own(NameIndex::over(alloc, footnotes)?),
             brackets,
         })
+    }
+
+    /// Names that are lent, with no bracket known. Takes no memory.
+    pub fn lent(alloc: Global, definitions: &'a NameIndex, footnotes: &'a NameIndex) -> Names<'a>
+        ensures { result ≡ record { definitions = definitions.entry.now; footnotes = footnotes.entry.now; brackets = no_brackets } }
+    {
+        Names {
+            definitions: Listed::lent(definitions),
+            footnotes: Listed::lent(footnotes),
+            brackets: BracketIndex::new(alloc),
+        }
     }
 }

@@ -1,7 +1,7 @@
 -- A whole run over a text.
 use Rattle.markdown_partial.specs.PartialSpaceOrTab.{most}
 use Rattle.markdown_engine.specs.Weights.{codes_left}
-use Rattle.std.proofs.Common.{◌≡◌, Bool, true, false, List, [], None, refl, sym, ap, subst, ◌∙◌, arith, ◌≤◌}
+use Rattle.std.proofs.Common.{◌≡◌, ℕ, Bool, true, false, List, [], Option, Some, None, map, string_bytes, refl, sym, ap, subst, ◌∙◌, arith, ◌≤◌}
 use Rattle.markdown_engine_events.specs.EventChains.{chained}
 use Rattle.markdown_engine_content.specs.Content.{IsContent, IsTextContent, content_of}
 use Rattle.markdown_engine.specs.Operations.{scratched}
@@ -16,7 +16,10 @@ use Rattle.markdown_engine.specs.declared.tokenizer.TokenizeState.{TokenizeState
 use Rattle.markdown_engine.specs.declared.tokenizer.Tokenizer.{Tokenizer}
 use Rattle.markdown_engine_index.proofs.SequenceIndexLemmas.{right-unknown}
 use Rattle.markdown_engine_index.proofs.TitleIndexLemmas as TitleIndexLemmas
-use Rattle.markdown_label.proofs.NameIndexSearch.{listed-unknown}
+use Rattle.markdown_label.specs.LabelSetting.{setting_of, AreListed, IsListed}
+use Rattle.markdown_engine_index.specs.BracketIndex.{no_brackets}
+use Rattle.markdown_engine_index.specs.NameIndex.{in_order, names_in_order}
+use Rattle.markdown_engine_index.specs.declared.name_index.Names.{Names}
 use Rattle.markdown_leaf_gfm.specs.GfmAutolinkLiteral as GfmAutolinkLiteral
 use Rattle.markdown_leaf.specs.RawText as RawText
 use Rattle.markdown_partial.specs.PartialSpaceOrTab as PartialSpaceOrTab
@@ -50,23 +53,64 @@ use Rattle.markdown_run.proofs.RowsWithoutRuns.{row-still}
 
 -- Runs.
 
--- the scratch fields at the start of a text, which may be the first of a list item
-abbrev pub text_fields : Bool → TokenizeState
-text_fields first = record at_rest { document_at_first_paragraph_of_list_item = first }
+-- the scratch fields at the start of a text, to which names may be lent, and which may be the first of a list item
+abbrev pub text_fields : Option Names → Bool → TokenizeState
+text_fields lent first = record at_rest { names = lent; document_at_first_paragraph_of_list_item = first }
 
-abbrev pub text_start : ParseState → List Piece → Bool → Tokenizer → Type 0
-text_start p pieces first T = Starts p pieces (text_fields first) T
+abbrev pub text_start : ParseState → List Piece → Option Names → Bool → Tokenizer → Type 0
+text_start p pieces lent first T = Starts p pieces (text_fields lent first) T
+
+-- names that are lent are right
+abbrev pub AreLent : ParseState → Option Names → Type 0
+AreLent p lent = (names : Names) → lent ≡ Some names → AreListed (setting_of p) names
+
+absent : (names : Names) → None ≡ Some names → ⊥
+absent names e = cc
+
+pub none-lent : (p : ParseState) → AreLent p None
+none-lent p names e = absurd (absent names e)
+
+-- the names of a document, in order
+abbrev pub document_names : ParseState → Names
+document_names p = names_in_order (map string_bytes p.definitions.items) (map string_bytes p.gfm_footnote_definitions.items) no_brackets
+
+-- names that are put in order are those
+pub names-of-document : (p : ParseState) (definitions footnotes : List (List ℕ)) → definitions ≡ in_order (map string_bytes p.definitions.items) →
+    footnotes ≡ in_order (map string_bytes p.gfm_footnote_definitions.items) →
+    record { definitions = definitions; footnotes = footnotes; brackets = no_brackets } ≡ document_names p
+names-of-document p definitions footnotes h k = rw (h, k) refl
+
+some-same : (a b : Names) → Some a ≡ Some b → a ≡ b
+some-same a b e = cc
+
+pub document-lent : (p : ParseState) (lent : Names) → lent ≡ document_names p → AreLent p (Some lent)
+document-lent p lent h names e =
+    let right : AreListed (setting_of p) lent = subst (λ (n : Names). AreListed (setting_of p) n) (sym h) refl in
+    subst (λ (n : Names). AreListed (setting_of p) n) (some-same lent names e) right
 
 -- a new tokenizer that is told so
 pub started : (p : ParseState) (pieces : List Piece) (first : Bool) (B : Tokenizer) → Starts p pieces at_rest B →
-    text_start p pieces first (record B { tokenize_state = record B.tokenize_state { document_at_first_paragraph_of_list_item = first } })
+    text_start p pieces None first (record B { tokenize_state = record B.tokenize_state { document_at_first_paragraph_of_list_item = first } })
 started p pieces first B k =
     let m : Starts p pieces (record B.tokenize_state { document_at_first_paragraph_of_list_item = first }) (record B { tokenize_state = record B.tokenize_state { document_at_first_paragraph_of_list_item = first } }) = start-with p pieces at_rest (record B.tokenize_state { document_at_first_paragraph_of_list_item = first }) B k in
     subst (λ (s : TokenizeState). Starts p pieces (record s { document_at_first_paragraph_of_list_item = first }) (record B { tokenize_state = record B.tokenize_state { document_at_first_paragraph_of_list_item = first } })) k.fields m
 
-pub text-ready : (p : ParseState) (pieces : List Piece) (first : Bool) (T : Tokenizer) →
-    IsTextContent p.bytes.now pieces → text_start p pieces first T → StartReady T
-text-ready p pieces first T text k =
+-- and to which names are lent
+pub started-lent : (p : ParseState) (pieces : List Piece) (lent : Option Names) (first : Bool) (B : Tokenizer) → Starts p pieces at_rest B →
+    text_start p pieces lent first (record B { tokenize_state = record B.tokenize_state { names = lent; document_at_first_paragraph_of_list_item = first } })
+started-lent p pieces lent first B k =
+    let given : TokenizeState → TokenizeState = λ s. record s { names = lent; document_at_first_paragraph_of_list_item = first } in
+    subst (λ (s : TokenizeState). Starts p pieces (given s) (record B { tokenize_state = given B.tokenize_state })) k.fields
+    (start-with p pieces at_rest (given B.tokenize_state) B k)
+
+listed-lent : (p : ParseState) (pieces : List Piece) (lent : Option Names) (first : Bool) (T : Tokenizer) → AreLent p lent →
+    text_start p pieces lent first T → IsListed T
+listed-lent p pieces lent first T right k names known =
+    subst (λ (x : ParseState). AreListed (setting_of x) names) (sym k.input) (right names (ap (λ (s : TokenizeState). s.names) (sym k.fields) ∙ known))
+
+pub text-ready : (p : ParseState) (pieces : List Piece) (lent : Option Names) (first : Bool) (T : Tokenizer) →
+    IsTextContent p.bytes.now pieces → AreLent p lent → text_start p pieces lent first T → StartReady T
+text-ready p pieces lent first T text right k =
     let content : IsContent p.bytes.now pieces = text.is_content in
     let fits : codes_left T ≤ most = start-fits p.bytes.now pieces T content k.place in
     let input : T.parse_state.now.bytes.now ≡ p.bytes.now = ap (λ (x : ParseState). x.bytes.now) k.input in
@@ -77,7 +121,7 @@ text-ready p pieces first T text k =
       last = start-last p.bytes.now pieces T.cursor text k.place;
       ends = record {
         part = record { short = fits; indexed = right-unknown T.cursor.codes T.tokenize_state.sequences (ap (λ (s : TokenizeState). s.sequences) k.fields); titled = TitleIndexLemmas.right-unknown T.cursor.codes T.tokenize_state.titles (ap (λ (s : TokenizeState). s.titles) k.fields); spaces = record { space = ap PartialSpaceOrTab.rested k.fields ∙ sym k.fields; eol = ap PartialSpaceOrTabEol.eol_rested k.fields ∙ sym k.fields }; rest = ap AfterLabelParts.rested k.fields ∙ sym k.fields };
-        listed = listed-unknown T (ap (λ (s : TokenizeState). s.names) k.fields);
+        listed = listed-lent p pieces lent first T right k;
         text = start-reads p.bytes.now pieces T content input k.place;
         within = subst (λ (s : TokenizeState). AreWithin T s.label_starts) (sym k.fields) tt;
         resting = ap (λ (s : TokenizeState). s.end) k.fields;
@@ -85,17 +129,17 @@ text-ready p pieces first T text k =
     }
 
 -- where data stops where an element may begin, and where the runs of its spans stand
-marked-start : (p : ParseState) (pieces : List Piece) (first : Bool) (T : Tokenizer) → text_start p pieces first T →
-    Starts p pieces (marked_fields T.cursor T.parse_state.now (text_fields first)) (text_marked T)
+marked-start : (p : ParseState) (pieces : List Piece) (lent : Option Names) (first : Bool) (T : Tokenizer) → text_start p pieces lent first T →
+    Starts p pieces (marked_fields T.cursor T.parse_state.now (text_fields lent first)) (text_marked T)
 unfolding scratched
-marked-start p pieces first T k =
-    let m : Starts p pieces (marked_fields T.cursor T.parse_state.now T.tokenize_state) (text_marked T) = start-with p pieces (text_fields first) (marked_fields T.cursor T.parse_state.now T.tokenize_state) T k in
+marked-start p pieces lent first T k =
+    let m : Starts p pieces (marked_fields T.cursor T.parse_state.now T.tokenize_state) (text_marked T) = start-with p pieces (text_fields lent first) (marked_fields T.cursor T.parse_state.now T.tokenize_state) T k in
     subst (λ (s : TokenizeState). Starts p pieces (marked_fields T.cursor T.parse_state.now s) (text_marked T)) k.fields m
 
-fresh-fields : (first : Bool) (c : Place) (p : ParseState) → AreFresh (marked_fields c p (text_fields first))
-fresh-fields first c p = record { labels = refl; starts = refl; loose = refl; end = refl; seen = refl; probes = refl }
+fresh-fields : (lent : Option Names) (first : Bool) (c : Place) (p : ParseState) → AreFresh (marked_fields c p (text_fields lent first))
+fresh-fields lent first c p = record { labels = refl; starts = refl; loose = refl; end = refl; seen = refl; probes = refl }
 
-module _ (p : ParseState) (pieces : List Piece) (first : Bool) (content : IsContent p.bytes.now pieces) (T U : Tokenizer) (start : text_start p pieces first T) where
+module _ (p : ParseState) (pieces : List Piece) (lent : Option Names) (first : Bool) (content : IsContent p.bytes.now pieces) (T U : Tokenizer) (start : text_start p pieces lent first T) where
   abbrev M : Tokenizer
   M = text_marked T
 
@@ -123,11 +167,11 @@ module _ (p : ParseState) (pieces : List Piece) (first : Bool) (content : IsCont
     abbrev E : Finishes (text_choice_of M) text_passed M U
     E = ended ok k
 
-    abbrev S : Starts p pieces (marked_fields T.cursor T.parse_state.now (text_fields first)) M
-    S = marked-start p pieces first T start
+    abbrev S : Starts p pieces (marked_fields T.cursor T.parse_state.now (text_fields lent first)) M
+    S = marked-start p pieces lent first T start
 
-    abbrev F : AreFresh (marked_fields T.cursor T.parse_state.now (text_fields first))
-    F = fresh-fields first T.cursor T.parse_state.now
+    abbrev F : AreFresh (marked_fields T.cursor T.parse_state.now (text_fields lent first))
+    F = fresh-fields lent first T.cursor T.parse_state.now
 
     -- the row with its labels grouped
     abbrev Tree : Forest

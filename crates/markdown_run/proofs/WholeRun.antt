@@ -2,7 +2,7 @@
 use Rattle.std.proofs.Common.{◌≡◌, true, false, List, [], map, None, refl, sym, ap, subst, ◌∙◌}
 use Rattle.std.specs.Borrow.{Bor}
 use Rattle.std.specs.declared.alloc.Global.{Global}
-use Rattle.markdown_engine.specs.RunStart.{begun}
+use Rattle.markdown_engine.specs.RunStart.{begun, begun_at}
 use Rattle.markdown_engine_events.specs.EventChains.{chained}
 use Rattle.markdown_engine_content.specs.Codes.{Code}
 use Rattle.markdown_engine_content.specs.Content.{IsContent, content_of}
@@ -59,6 +59,19 @@ begun-starts alloc p pieces T e =
     record {
       input = ap (λ (x : Tokenizer). x.parse_state.now) e;
       place = ap (λ (x : Tokenizer). x.cursor) e;
+      events = ap (λ (x : Tokenizer). x.events) e;
+      map = ap (λ (x : Tokenizer). x.map) e;
+      resolvers = ap (λ (x : Tokenizer). x.resolvers) e;
+      fields = ap (λ (x : Tokenizer). x.tokenize_state) e;
+    }
+
+-- and so does one that a cursor begins at that start
+pub content-starts : (alloc : Global) (input : Bor ParseState) (p : ParseState) (pieces : List Piece) (cursor : Place) (T : Tokenizer) →
+    T ≡ begun_at alloc input cursor → input.now ≡ p → cursor ≡ start_of_content p.bytes.now pieces → Starts p pieces at_rest T
+content-starts alloc input p pieces cursor T e i k =
+    record {
+      input = ap (λ (x : Tokenizer). x.parse_state.now) e ∙ i;
+      place = ap (λ (x : Tokenizer). x.cursor) e ∙ k;
       events = ap (λ (x : Tokenizer). x.events) e;
       map = ap (λ (x : Tokenizer). x.map) e;
       resolvers = ap (λ (x : Tokenizer). x.resolvers) e;

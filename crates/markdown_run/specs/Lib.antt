@@ -2,6 +2,7 @@
 -- What has to be believed: what public contracts and the theorem cite.
 pub mod Layer
 pub mod RunConstruct
+pub mod ContentOfDocument
 -- What serves proofs: what functions and proofs promise each other.
 pub mod LayerLaws
 pub mod RunWithPasses

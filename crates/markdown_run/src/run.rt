@@ -34,7 +34,7 @@ pub struct Run {
 }
 
 // Runs the states from this one and then the passes that they registered, and takes what is found out of the tokenizer.
-fn run_through(name: StateName, tokenizer: &mut Tokenizer) -> Result<Run, AllocError>
+pub(crate) fn run_through(name: StateName, tokenizer: &mut Tokenizer) -> Result<Run, AllocError>
     requires ready { ready_of name tokenizer.old }
     requires alone { tokenizer.old.attempts ≡ [] }
     requires passes { MayPass name tokenizer.old }

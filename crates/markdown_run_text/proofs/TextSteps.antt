@@ -49,7 +49,7 @@ use Rattle.markdown_run_row.specs.RunOverElements.{AreSingle, Advances, Finishes
 use Rattle.markdown_run_row.specs.Row.{EndsRest, Row, loses, row_end, row_then, past_mark, past_row, row_codes, kinds_of, IsRowAt}
 use Rattle.markdown_run_row.proofs.LabelSteps.{empty-part, mark-alone}
 use Rattle.markdown_run_row.proofs.RowFields.{relisted, row-cursor, row-input, row-text, row-fields, made-within}
-use Rattle.markdown_run_text.specs.TextContent.{order_pays, titles_pay, marked_fields, text_marked, text_passed, text_choice_of, EndsWithCodes, StartReady, IsMarked, StandsAlone, before_ends, data_ends, text_setting, StopsAtElements, domains_pay, names_in}
+use Rattle.markdown_run_text.specs.TextContent.{order_pays, names_for, brackets_pay, titles_pay, marked_fields, text_marked, text_passed, text_choice_of, EndsWithCodes, StartReady, IsMarked, StandsAlone, before_ends, data_ends, text_setting, StopsAtElements, domains_pay, names_in}
 use Rattle.markdown_run_text.proofs.TextDataStops.{stops-where}
 use Rattle.markdown_run_text.proofs.TextTries.{end_in, ReadsElements, none-valued, check-reads, no-check-at-end, other-data}
 use Rattle.markdown_run_row.proofs.ElementSteps.{last-some, some-ahead, advances-finishes, finishes-end, data-advances}
@@ -319,6 +319,21 @@ pub listed-made : (s : Setting) (start end : ℕ) (names : Names) →
 listed-made s start end names e =
     e ∙ ap (λ (b : BracketPlaces). names_in_order s.definitions s.footnotes (brackets_between s.bytes b.start b.end)) (sym (ap (λ (x : Names). x.brackets) e))
 
+-- what is lent is right with the brackets of a part too
+lent-known : (s : Setting) (start end : ℕ) (lent known : Names) (pays : Bool) → AreListed s lent →
+    Some (record lent { brackets = if pays then brackets_between s.bytes start end else lent.brackets }) ≡ Some known → AreListed s known
+lent-known s start end lent known true h e =
+    listed-made s start end known (made-known true (record lent { brackets = brackets_between s.bytes start end }) known e ∙ ap (λ (n : Names). record n { brackets = brackets_between s.bytes start end }) h)
+lent-known s start end lent known false h e = subst (λ (n : Names). AreListed s n) (sym (made-known true lent known e)) h
+
+-- and so are the names that a text is read with
+names-known : (c : Place) (p : ParseState) (lent : Option Names) (known : Names) →
+    ((names : Names) → lent ≡ Some names → AreListed (setting_of p) names) → names_for lent c p ≡ Some known → AreListed (setting_of p) known
+names-known c p None known h e =
+    listed-made (setting_of p) (point_of (record c { at = 0 })).index c.end.index known (made-known (order_pays c.codes p) (names_in c p) known e)
+names-known c p (Some lent) known h e =
+    lent-known (setting_of p) (point_of (record c { at = 0 })).index c.end.index lent known (brackets_pay c.codes p) (h lent refl) e
+
 pub ends-marked : (T : Tokenizer) → LabelEnd.StartReady T → LabelEnd.StartReady (text_marked T)
 unfolding scratched
 ends-marked T r =
@@ -326,7 +341,7 @@ ends-marked T r =
     let s : TokenizeState → TokenizeState = marked_fields T.cursor T.parse_state.now in
     record {
       part = record { short = r.part.short; indexed = right-made T.cursor.codes (Some (last_begins T.cursor.codes)) refl; titled = λ closers. made-known (titles_pay T.cursor.codes) (closers_of T.cursor.codes) closers; spaces = record { space = ap s r.part.spaces.space; eol = ap s r.part.spaces.eol }; rest = ap s r.part.rest };
-      listed = λ names known. listed-made (setting_in T) (point_of (record T.cursor { at = 0 })).index T.cursor.end.index names (made-known (order_pays T.cursor.codes T.parse_state.now) (names_in T.cursor T.parse_state.now) names known);
+      listed = λ names known. names-known T.cursor T.parse_state.now T.tokenize_state.names names r.listed known;
       text = text-scratched (s T.tokenize_state) T r.text;
       within = within-grown T M [] refl (sym (append-nil T.events)) T.tokenize_state.label_starts r.within;
       resting = r.resting;

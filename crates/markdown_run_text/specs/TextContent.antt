@@ -6,7 +6,7 @@ use Rattle.markdown_engine_index.specs.NameIndex.{names_in_order}
 use Rattle.markdown_engine.specs.Operations.{attempted, scratched, registered, current_of, ahead}
 use Rattle.markdown_engine_content.specs.Place.{Place, point_of}
 use Rattle.std.specs.List.{list_any}
-use Rattle.markdown_engine_index.specs.BracketIndex.{brackets_between}
+use Rattle.markdown_engine_index.specs.BracketIndex.{BracketPlaces, brackets_between}
 use Rattle.markdown_engine_index.specs.RunIndex.{last_runs}
 use Rattle.markdown_engine.specs.StateRuns.{Stepped, stepped}
 use Rattle.markdown_engine.specs.StateWords.{StateWords}
@@ -94,15 +94,23 @@ names_pay names = nat_le 16 (length names) || list_any (λ name. nat_le 64 (leng
 abbrev pub order_pays : List Code → ParseState → Bool
 order_pays cs p = (names_pay p.definitions.items || names_pay p.gfm_footnote_definitions.items) && nat_le 16 (count_among (codes "]") cs)
 
--- the names of what is defined, in order, and the brackets of the document from where the content begins to where it ends
-abbrev pub names_in : Place → ParseState → Names
-names_in c p =
-    names_in_order (map string_bytes p.definitions.items) (map string_bytes p.gfm_footnote_definitions.items)
-    (brackets_between p.bytes.now (point_of (record c { at = 0 })).index c.end.index)
+-- the brackets of the document from where the content begins to where it ends
+abbrev pub brackets_in : Place → ParseState → BracketPlaces
+brackets_in c p = brackets_between p.bytes.now (point_of (record c { at = 0 })).index c.end.index
 
--- these, if that pays
-abbrev pub names_for : Place → ParseState → Option Names
-names_for c p = if order_pays c.codes p then Some (names_in c p) else None
+-- the names of what is defined, in order, and these brackets
+abbrev pub names_in : Place → ParseState → Names
+names_in c p = names_in_order (map string_bytes p.definitions.items) (map string_bytes p.gfm_footnote_definitions.items) (brackets_in c p)
+
+-- anything is defined, and so many labels may end in these codes, that to note where opening brackets stand pays
+abbrev pub brackets_pay : List Code → ParseState → Bool
+brackets_pay cs p =
+    not (length p.definitions.items == 0 && length p.gfm_footnote_definitions.items == 0) && nat_le 16 (count_among (codes "]") cs)
+
+-- names that are lent, with the brackets where those pay; else those of what is defined, where their order pays
+abbrev pub names_for : Option Names → Place → ParseState → Option Names
+names_for None c p = if order_pays c.codes p then Some (names_in c p) else None
+names_for (Some names) c p = Some (record names { brackets = if brackets_pay c.codes p then brackets_in c p else names.brackets })
 
 -- so many titles in parentheses may begin in these codes, behind some of which a resource may end, that to note where each may end pays
 abbrev pub titles_pay : List Code → Bool
@@ -132,7 +140,7 @@ marked_fields c p s =
       sequences = Some (last_begins c.codes);
       titles = titles_for c.codes;
       no_domains = domains_for c.codes c.end.index p;
-      names = names_for c p;
+      names = names_for s.names c p;
     }
 
 abbrev pub text_marked : Tokenizer → Tokenizer

@@ -23,7 +23,7 @@ ghost use Rattle.markdown_engine_index.specs.RunIndex.{last_runs};
 ghost use Rattle.markdown_engine_index.specs.SequenceIndex.{last_begins};
 ghost use Rattle.markdown_plan.specs.Characters.{ReadsText};
 ghost use Rattle.markdown_run_text.specs.ContentPasses.{MayFinish, FinishesText};
-ghost use Rattle.markdown_run_text.specs.TextContent.{names_for, names_in, names_pay, order_pays, titles_for, titles_pay, domains_for, domains_pay, span_markers, may_hold_literals, markers_for, first_try, attempt_step, start_step, before_step, before_html_step, before_hard_break_escape_step, before_label_start_link_step, before_data_step};
+ghost use Rattle.markdown_run_text.specs.TextContent.{names_for, names_in, names_pay, order_pays, brackets_in, brackets_pay, titles_for, titles_pay, domains_for, domains_pay, span_markers, may_hold_literals, markers_for, first_try, attempt_step, start_step, before_step, before_html_step, before_hard_break_escape_step, before_label_start_link_step, before_data_step};
 
 use markdown_engine::resolve::ResolveName;
 use markdown_engine::state::{State, StateName};
@@ -203,33 +203,65 @@ fn order_pays(tokenizer: &Tokenizer) -> bool
         && tokenizer.cursor.holds(&byte_set!(b']'), MANY)
 }
 
-// The names of what is defined, in order, and the brackets of the document from where the content begins to where it ends.
-fn names_in(tokenizer: &Tokenizer) -> Result<Names, AllocError>
-    ensures { IfOk result (λ names. names ≡ names_in tokenizer.now.cursor tokenizer.now.parse_state.now) }
+// Whether anything is defined, and so many labels may end, that to note where opening brackets stand pays.
+fn brackets_pay(tokenizer: &Tokenizer) -> bool
+    ensures { result ≡ brackets_pay tokenizer.now.cursor.codes tokenizer.now.parse_state.now }
 {
     let state = tokenizer.parse_state;
+    !(state.definitions.is_empty() && state.gfm_footnote_definitions.is_empty())
+        && tokenizer.cursor.holds(&byte_set!(b']'), MANY)
+}
+
+// The brackets of the document from where the content begins to where it ends.
+fn brackets_in(tokenizer: &Tokenizer) -> Result<BracketIndex, AllocError>
+    ensures { IfOk result (λ brackets. brackets ≡ brackets_in tokenizer.now.cursor tokenizer.now.parse_state.now) }
+{
     let first = tokenizer.cursor.restart();
     let start = first.point().index;
     let end = tokenizer.cursor.end_index();
-    let brackets = BracketIndex::over(tokenizer.alloc, state.bytes, start, end)?;
+    BracketIndex::over(tokenizer.alloc, tokenizer.parse_state.bytes, start, end)
+}
+
+// The names of what is defined, in order, and the brackets of the content.
+fn names_in<'a>(tokenizer: &Tokenizer<'a>) -> Result<Names<'a>, AllocError>
+    ensures { IfOk result (λ names. names ≡ names_in tokenizer.now.cursor tokenizer.now.parse_state.now) }
+{
+    let state = tokenizer.parse_state;
+    let brackets = brackets_in(tokenizer)?;
     let definitions = state.definitions.as_slice();
     let footnotes = state.gfm_footnote_definitions.as_slice();
     Names::over(tokenizer.alloc, definitions, footnotes, brackets)
 }
 
-// Makes known the names of what is defined, where their order pays.
+// The names that a text is read with: those that are lent, else those of what is defined where their order pays.
+fn names_for<'a>(
+    tokenizer: &Tokenizer<'a>,
+    lent: Option<Names<'a>>,
+) -> Result<Option<Names<'a>>, AllocError>
+    ensures { IfOk result (λ names. names ≡ names_for lent.entry tokenizer.now.cursor tokenizer.now.parse_state.now) }
+{
+    let Some(mut names) = lent else {
+        if !order_pays(tokenizer) {
+            return Ok(None);
+        }
+        return Ok(Some(names_in(tokenizer)?));
+    };
+    if brackets_pay(tokenizer) {
+        names.brackets = brackets_in(tokenizer)?;
+    }
+    Ok(Some(names))
+}
+
+// Makes known the names of what is defined, where they are lent or their order pays.
 #[tactic(auto, unfolding(markdown_engine::specs::Operations::scratched))]
 fn index_names(tokenizer: &mut Tokenizer) -> Result<(), AllocError>
-    ensures ok { OnOk result (tokenizer.new ≡ scratched (record tokenizer.old.tokenize_state { names = names_for tokenizer.old.cursor tokenizer.old.parse_state.now }) tokenizer.old) }
+    ensures ok { OnOk result (tokenizer.new ≡ scratched (record tokenizer.old.tokenize_state { names = names_for tokenizer.old.tokenize_state.names tokenizer.old.cursor tokenizer.old.parse_state.now }) tokenizer.old) }
     ensures err { OnErr result (IsTrue tokenizer.new.failed) }
 {
-    if !order_pays(tokenizer) {
-        tokenizer.tokenize_state.names = None;
-        return Ok(());
-    }
-    match names_in(tokenizer) {
+    let lent = tokenizer.tokenize_state.names.take();
+    match names_for(tokenizer, lent) {
         Ok(names) => {
-            tokenizer.tokenize_state.names = Some(names);
+            tokenizer.tokenize_state.names = names;
             Ok(())
         }
         Err(refused) => {
@@ -317,7 +349,7 @@ fn index_domains(tokenizer: &mut Tokenizer) -> Result<(), AllocError>
 /// for. Where a mark of a span stands, one finds the runs at which spans may close. Where many titles in parentheses may begin, and a
 /// resource may end behind one, one finds where each may end. Where many literals from `www.` on may begin behind a `_`, one finds at which
 /// of these places no domain begins. Where many names are defined and many labels may end, the names are put in order, so that each is
-/// found by a search.
+/// found by a search; names that are lent, as those of a `document::Document`, are in order already.
 ///
 ///     > | [ ] do *it*
 ///         ^

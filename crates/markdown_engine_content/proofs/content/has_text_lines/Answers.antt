@@ -1,16 +1,16 @@
 use Rattle.std.proofs.Common.{◌≡◌, ◌∙◌, ◌+◌, ◌<◌, ℕ, true, List, length, sym, ap, subst, arith, Option, Some, is_some}
 use Rattle.markdown_engine_content.specs.Codes.{Code}
-use Rattle.markdown_engine_content.specs.Content.{content_of, has_no_blank_line, is_text_codes}
+use Rattle.markdown_engine_content.specs.Content.{has_no_blank_line, is_text_codes}
 use Rattle.markdown_engine_content.specs.Place.{Place, ahead_at, moved, code_at}
-use Rattle.markdown_engine_content.proofs.PlaceRules.{ahead_start, left_moved}
+use Rattle.markdown_engine_content.proofs.PlaceRules.{ahead_restarted, left_moved}
 use Rattle.markdown_engine_content.proofs.ContentLines.{not-swap, text-start, text-next, text-blank, text-end}
 use Rattle.markdown_engine_content.proofs.content.has_text_lines.Goals as goal
 use Rattle.markdown_engine_content.proofs.content.has_text_lines.Goals.{else-code-eq10-via-then-code-eq10+else-not-filled, else-code-eq10-via-else-code-eq10}
 
 pub loop-code-init : goal.loop-code-init
 loop-code-init c =
-    let start : ahead_at c.new-cursor.result ≡ content_of c.args.bytes.now c.args.pieces.now = ap (λ (p : Place). ahead_at p) c.new-cursor.ensures ∙ ahead_start c.args.bytes.now c.args.pieces.now in
-    ap (λ (cs : List Code). is_text_codes cs) (sym start) ∙ text-start c.new-cursor.result c.is_none-filled.result (not-swap (is_some (code_at c.new-cursor.result)) c.is_none-filled.result (ap (λ (o : Option ℕ). is_some o) (sym c.current.ensures) ∙ c.is_none-filled.ensures))
+    let start : ahead_at c.restart-cursor.result ≡ c.args.content.now.codes = ap (λ (p : Place). ahead_at p) c.restart-cursor.ensures ∙ ahead_restarted c.args.content.now in
+    ap (λ (cs : List Code). is_text_codes cs) (sym start) ∙ text-start c.restart-cursor.result c.is_none-filled.result (not-swap (is_some (code_at c.restart-cursor.result)) c.is_none-filled.result (ap (λ (o : Option ℕ). is_some o) (sym c.current.ensures) ∙ c.is_none-filled.ensures))
 
 pub returns-then-not-filled : goal.returns-then-not-filled
 returns-then-not-filled c =

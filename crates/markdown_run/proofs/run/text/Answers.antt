@@ -1,4 +1,4 @@
-use Rattle.std.proofs.Common.{ℕ, sym, subst, ◌∙◌}
+use Rattle.std.proofs.Common.{ℕ, None, sym, subst, ◌∙◌}
 use Rattle.std.proofs.lemmas.Result.{IfOk-weaker}
 use Rattle.markdown_engine_content.specs.Content.{content_of}
 use Rattle.markdown_attention.specs.AttentionPass.{IsProbed}
@@ -6,19 +6,19 @@ use Rattle.markdown_model.specs.InlineTree.{label_tree}
 use Rattle.markdown_model.specs.Setting.{Setting}
 use Rattle.markdown_run_text.specs.RunSetting.{text_setting_of}
 use Rattle.markdown_run.proofs.WholeRun.{begun-starts}
-use Rattle.markdown_run.proofs.TextRun.{started, text-ready, text-may, text-probes, text-no-probes, text-run}
+use Rattle.markdown_run.proofs.TextRun.{none-lent, started, text-ready, text-may, text-probes, text-no-probes, text-run}
 use Rattle.markdown_run_leaves.proofs.LeavesAreStretches.{text-in-order, text-covers}
 use Rattle.markdown_run.proofs.run.text.Goals as goal
 
 pub run_through-requires-clause-ready : goal.run_through-requires-clause-ready
 run_through-requires-clause-ready c =
     let start = begun-starts c.args.alloc c.args.parse_state c.args.pieces.now c.new-tokenizer.result c.new-tokenizer.ensures in
-    text-ready c.args.parse_state.now c.args.pieces.now c.args.first_of_item _ c.requires (started c.args.parse_state.now c.args.pieces.now c.args.first_of_item c.new-tokenizer.result start)
+    text-ready c.args.parse_state.now c.args.pieces.now None c.args.first_of_item _ c.requires (none-lent c.args.parse_state.now) (started c.args.parse_state.now c.args.pieces.now c.args.first_of_item c.new-tokenizer.result start)
 
 pub run_through-requires-clause-passes : goal.run_through-requires-clause-passes
 run_through-requires-clause-passes c = λ held left ends.
     let start = begun-starts c.args.alloc c.args.parse_state c.args.pieces.now c.new-tokenizer.result c.new-tokenizer.ensures in
-    text-may c.args.parse_state.now c.args.pieces.now c.args.first_of_item c.requires.is_content _ left (started c.args.parse_state.now c.args.pieces.now c.args.first_of_item c.new-tokenizer.result start) held ends
+    text-may c.args.parse_state.now c.args.pieces.now None c.args.first_of_item c.requires.is_content _ left (started c.args.parse_state.now c.args.pieces.now c.args.first_of_item c.new-tokenizer.result start) held ends
 
 pub returns-clause-events : goal.returns-clause-events
 returns-clause-events c =
@@ -26,7 +26,7 @@ returns-clause-events c =
     IfOk-weaker c.run_through.result _ _
     (λ run k.
     k.events
-    ∙ text-run c.args.parse_state.now c.args.pieces.now c.args.first_of_item c.requires.is_content _ k.left (started c.args.parse_state.now c.args.pieces.now c.args.first_of_item c.new-tokenizer.result start) k.held k.ends k.passed k.resolves)
+    ∙ text-run c.args.parse_state.now c.args.pieces.now None c.args.first_of_item c.requires.is_content _ k.left (started c.args.parse_state.now c.args.pieces.now c.args.first_of_item c.new-tokenizer.result start) k.held k.ends k.passed k.resolves)
     c.run_through.ensures
 
 pub returns-clause-places : goal.returns-clause-places
@@ -44,7 +44,7 @@ returns-clause-probes c =
     IfOk-weaker c.run_through.result _ _
     (λ run k.
     subst (λ (n : ℕ). IsProbed s (label_tree s (content_of s.bytes c.args.pieces.now)) n) (sym k.probes)
-    (text-probes c.args.parse_state.now c.args.pieces.now c.args.first_of_item c.requires.is_content _ k.left (started c.args.parse_state.now c.args.pieces.now c.args.first_of_item c.new-tokenizer.result start) k.held k.ends k.passed k.resolves))
+    (text-probes c.args.parse_state.now c.args.pieces.now None c.args.first_of_item c.requires.is_content _ k.left (started c.args.parse_state.now c.args.pieces.now c.args.first_of_item c.new-tokenizer.result start) k.held k.ends k.passed k.resolves))
     c.run_through.ensures
 
 pub returns-clause-no_probes : goal.returns-clause-no_probes
@@ -53,5 +53,5 @@ returns-clause-no_probes c = λ off none.
     IfOk-weaker c.run_through.result _ _
     (λ run k.
     k.probes
-    ∙ text-no-probes c.args.parse_state.now c.args.pieces.now c.args.first_of_item c.requires.is_content _ k.left (started c.args.parse_state.now c.args.pieces.now c.args.first_of_item c.new-tokenizer.result start) k.held k.ends k.passed k.resolves off none)
+    ∙ text-no-probes c.args.parse_state.now c.args.pieces.now None c.args.first_of_item c.requires.is_content _ k.left (started c.args.parse_state.now c.args.pieces.now c.args.first_of_item c.new-tokenizer.result start) k.held k.ends k.passed k.resolves off none)
     c.run_through.ensures

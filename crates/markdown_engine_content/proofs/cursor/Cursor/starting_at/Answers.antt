@@ -1,9 +1,9 @@
 use Rattle.markdown_engine_content.proofs.CursorSteps.{cursor_start, start_is}
-use Rattle.markdown_engine_content.proofs.cursor.Cursor.new.Goals as goal
+use Rattle.markdown_engine_content.proofs.cursor.Cursor.starting_at.Goals as goal
 
 pub invariant_of-result : goal.invariant_of-result
 invariant_of-result c =
-    cursor_start c.args.bytes.now c.args.pieces.now c.start_of_pieces-point.result c.requires c.start_of_pieces-point.ensures
+    cursor_start c.args.bytes.now c.args.pieces.now c.args.point c.requires.content c.requires.first
 
 pub returns : goal.returns
 returns c = start_is c.args.bytes.now c.args.pieces.now

@@ -1,0 +1,165 @@
+//! Counts the events of many contents of a text that it reads from standard input, to measure what each costs: runs alone, without the printing
+//! of their events.
+//!
+//! A content is a paragraph: what stands between blank lines. The first word says how they are read: `run`, as pieces of one document by
+//! `run::is_text` and `run::text`; `documents`, each as a document by itself; `document`, as contents of one `Document`; `prepare`, where a
+//! `Document` is made and no content is read. A second word is the number of definitions that are made: `definition 0` and so on.
+#![tactic(auto)]
+
+use markdown_engine_content::parser::ParseState;
+use markdown_inline::document::Document;
+use markdown_inline::options::ALL_CONSTRUCTS;
+use markdown_inline::run::{self, Piece};
+use std::alloc::{AllocError, Global};
+use std::env;
+use std::io::Read;
+use std::process::ExitCode;
+
+// So many made definitions.
+fn definitions(alloc: Global, count: usize) -> Result<Vec<String>, AllocError> {
+    let mut found = Vec::new(alloc);
+    for number in 0..count {
+        found.push(format!(in alloc; "definition {number}")?)?;
+    }
+    Ok(found)
+}
+
+// The paragraphs of a text, each as its first index and the one past its last.
+fn paragraphs(alloc: Global, bytes: &[u8]) -> Result<Vec<(usize, usize)>, AllocError> {
+    let mut found = Vec::new(alloc);
+    let mut from = 0;
+    for at in 0..bytes.len() {
+        let ends = bytes[at] == b'\n' && (at + 1 == bytes.len() || bytes[at + 1] == b'\n');
+        if ends {
+            if from < at {
+                found.push((from, at))?;
+            }
+            from = at.saturating_add(2);
+        }
+    }
+    Ok(found)
+}
+
+// The pieces of a content from an index to another.
+fn pieces(from: usize, to: usize) -> [Piece; 1] {
+    [Piece {
+        start: (from, 0),
+        end: (to, 0),
+    }]
+}
+
+// The number of events of a piece of a document, read by itself.
+fn count_run(
+    alloc: Global,
+    parse_state: &ParseState,
+    from: usize,
+    to: usize,
+) -> Result<usize, AllocError> {
+    let pieces = pieces(from, to);
+    if !run::is_text(parse_state.bytes, &pieces) {
+        return Ok(0);
+    }
+    Ok(run::text(alloc, parse_state, &pieces, false)?.events.len())
+}
+
+// The number of events of a content of a prepared document.
+fn count_content(
+    alloc: Global,
+    document: &Document,
+    from: usize,
+    to: usize,
+) -> Result<usize, AllocError> {
+    let pieces = pieces(from, to);
+    match document.content(&pieces) {
+        Some(content) if content.is_text() => Ok(content.text(alloc, false)?.events.len()),
+        _ => Ok(0),
+    }
+}
+
+// The number of events of these paragraphs, each a document by itself or all pieces of one. It is no part of its caller when it runs, nor is
+// the next function, so that their work can be told.
+#[inline(never)]
+fn count_runs(
+    alloc: Global,
+    parse_state: ParseState,
+    paragraphs: &[(usize, usize)],
+    apart: bool,
+) -> Result<usize, AllocError> {
+    let bytes = parse_state.bytes;
+    let mut parse_state = parse_state;
+    let mut total = 0usize;
+    for paragraph in paragraphs {
+        let (mut from, mut to) = *paragraph;
+        if apart {
+            parse_state.bytes = bytes.get(from..to).unwrap_or(b"");
+            (from, to) = (0, parse_state.bytes.len());
+        }
+        total = total.saturating_add(count_run(alloc, &parse_state, from, to)?);
+    }
+    Ok(total)
+}
+
+// The number of events of these paragraphs as contents of one document.
+#[inline(never)]
+fn count_contents(
+    alloc: Global,
+    parse_state: ParseState,
+    paragraphs: &[(usize, usize)],
+) -> Result<usize, AllocError> {
+    let Some(document) = Document::new(alloc, parse_state)? else {
+        return Ok(0);
+    };
+    let mut total = 0usize;
+    for paragraph in paragraphs {
+        let (from, to) = *paragraph;
+        total = total.saturating_add(count_content(alloc, &document, from, to)?);
+    }
+    Ok(total)
+}
+
+// The number of events of all paragraphs, read in this way, with so many definitions.
+fn count(alloc: Global, bytes: &[u8], way: &str, defined: usize) -> Result<usize, AllocError> {
+    let paragraphs = paragraphs(alloc, bytes)?;
+    let parse_state = ParseState {
+        bytes,
+        options: &ALL_CONSTRUCTS,
+        definitions: definitions(alloc, defined)?,
+        gfm_footnote_definitions: Vec::new(alloc),
+    };
+    let read = paragraphs.as_slice();
+    match way {
+        "run" => count_runs(alloc, parse_state, read, false),
+        "documents" => count_runs(alloc, parse_state, read, true),
+        "prepare" => count_contents(alloc, parse_state, &[]),
+        _ => count_contents(alloc, parse_state, read),
+    }
+}
+
+// The words after the program's name, or none if they cannot be read.
+fn words(rt: &HostRuntime, alloc: Global) -> Vec<String> {
+    match env::args(rt) {
+        Ok(args) => args.skip(1).collect(alloc).unwrap_or(Vec::new(alloc)),
+        Err(_) => Vec::new(alloc),
+    }
+}
+
+fn main(rt: HostRuntime) -> ExitCode {
+    let alloc = rt.alloc();
+    let words = words(&rt, alloc);
+    let mut bytes = Vec::new(alloc);
+    if rt.stdin().read_to_end(&mut bytes).is_err() {
+        return ExitCode::FAILURE;
+    }
+    let way = match words.first() {
+        Some(word) => word.as_str(),
+        None => "document",
+    };
+    let defined = match words.get(1) {
+        Some(word) => word.as_str().parse().unwrap_or(0),
+        None => 0,
+    };
+    match count(alloc, bytes.as_slice(), way, defined) {
+        Ok(events) if println!(rt; "{events}").is_ok() => ExitCode::SUCCESS,
+        _ => ExitCode::FAILURE,
+    }
+}
