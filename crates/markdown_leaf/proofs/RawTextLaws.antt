@@ -40,6 +40,11 @@ use Rattle.markdown_plan.specs.LayerEquation.{Within, AreLawful}
 
 -- Tests.
 
+-- past two events, and then past a marker
+marker-then : (a b : Op) (x : Option (List Op)) → preceded (a ∷ b ∷ Consume ∷ []) x ≡ preceded (a ∷ b ∷ []) (preceded (Consume ∷ []) x)
+marker-then a b None = refl
+marker-then a b (Some os) = refl
+
 neither : (a b : Bool) → a ≡ false → b ≡ false → not (a || b) ≡ true
 neither false false e f = refl
 neither true b e f = cc
@@ -214,14 +219,19 @@ module _ (W : Words) (within : Within states W) where
 
   -- The start.
 
-  -- past the first marker of a span
+  -- at the first marker of a span
   span-opened : (m : ℕ) (names : SpanNames) (T : Tokenizer) → T.attempts ≡ [] → StartReady T → (m == 10) ≡ false →
-      1 ≤ length (ahead T) →
-      plan_of (span_at T) (ahead T) ≡ preceded (Enter names.whole ∷ Enter names.sequence ∷ Consume ∷ []) (opening_plan (single_dollar T) m names 1 (drop 1 (ahead T))) →
+      {c : ℕ} (b : Begins c (ahead T)) → is_value m b.code ≡ true →
+      plan_of (span_at T) (ahead T) ≡ preceded (Enter names.whole ∷ Enter names.sequence ∷ Consume ∷ []) (opening_plan (single_dollar T) m names 1 (rest_of (ahead T))) →
       GoesIn W (weight_at 4 T) (KeepsAs 0 (plan_of (span_at T)) T) (opened m names T)
-  span-opened m names T alone k other more e =
-      Goes-on W 4 0 (plan_of (span_at T)) (opening_plan (single_dollar T) m names 1) (Enter names.whole ∷ Enter names.sequence ∷ Consume ∷ []) T.tokenize_state (begun m names T.tokenize_state) T (Next RawTextSequenceOpen) (within RawTextSequenceOpen) alone refl more (omega arith) e
-      (start-opened m names T other more k)
+  span-opened m names T alone k other b here e =
+      let fronts : List Op = Enter names.whole ∷ Enter names.sequence ∷ [] in
+      Goes-on W 4 0 (plan_of (span_at T)) (opening_plan (single_dollar T) m names 0) fronts T.tokenize_state (begun m names T.tokenize_state) T (Retry RawTextSequenceOpen) (within RawTextSequenceOpen) alone refl (omega arith) (omega arith)
+      (e
+      ∙ marker-then (Enter names.whole) (Enter names.sequence) (opening_plan (single_dollar T) m names 1 (rest_of (ahead T)))
+      ∙ ap (preceded fronts) (sym (open-more (single_dollar T) m names 0 b.code (rest_of (ahead T)) here))
+      ∙ ap (λ cs. preceded fronts (opening_plan (single_dollar T) m names 0 cs)) (sym b.whole))
+      (start-opened m names T other k)
       (λ ok U x. opening-says m names T ok U k.rest x)
 
   pub start-law : Law W start_words
@@ -241,12 +251,11 @@ module _ (W : Words) (within : Within states W) where
       (λ e. Goes-no W 4 0 p T alone (ap p (ahead-none T e) ∙ no-span on math single escaped previous [] refl refl))
       (λ c e.
       let b : Begins c (ahead T) = ahead-some T c e in
-      let more : 1 ≤ length (ahead T) = some-codes T c e in
       if-step P (c == 96 && (on && not (is_barred 96 T))) _ _
-      (λ h. span-opened 96 code_names T alone k refl more
+      (λ h. span-opened 96 code_names T alone k refl b (ap (λ v. v == 96) b.value ∙ and-left _ _ h)
       (ap p b.whole ∙ code-opens on math single escaped previous b.code (rest_of (ahead T)) (ap (λ v. v == 96) b.value ∙ and-left _ _ h) (and-left _ _ (and-right (c == 96) _ h)) (sym code_free ∙ and-right on _ (and-right (c == 96) _ h))))
       (λ h. if-step P (c == 36 && (math && not (is_barred 36 T))) _ _
-      (λ g. span-opened 36 math_names T alone k refl more
+      (λ g. span-opened 36 math_names T alone k refl b (ap (λ v. v == 36) b.value ∙ and-left _ _ g)
       (ap p b.whole ∙ math-opens-here on math single escaped previous b.code (rest_of (ahead T)) (ap (λ v. v == 36) b.value ∙ and-left _ _ g) (and-left _ _ (and-right (c == 36) _ g)) (sym math_free ∙ and-right math _ (and-right (c == 36) _ g))))
       (λ g. Goes-no W 4 0 p T alone
       (ap p b.whole ∙ no-span on math single escaped previous (b.code ∷ rest_of (ahead T)) (ap (λ v. (v == 96) && (on && (escaped || not (is_some_code (is_value 96) previous)))) b.value ∙ ap (λ f. (c == 96) && (on && f)) (sym code_free) ∙ h) (ap (λ v. (v == 36) && (math && (escaped || not (is_some_code (is_value 36) previous)))) b.value ∙ ap (λ f. (c == 36) && (math && f)) (sym math_free) ∙ g))))))

@@ -35,12 +35,11 @@ unfolding scratched
 indexed-after os r T same k =
     same ∙ k ∙ ap (λ (x : LastRuns). last_runs x.asked T.cursor.codes) (sym same) ∙ ap (λ cs. last_runs r.runs.asked cs) (sym (codes-done os T))
 
-pub start-opened : (m : ℕ) (names : SpanNames) (T : Tokenizer) → (m == 10) ≡ false → 1 ≤ length (ahead T) →
-    StartReady T →
-    SequenceOpenReady (scratched (begun m names T.tokenize_state) (done (Enter names.whole ∷ Enter names.sequence ∷ Consume ∷ []) T))
+pub start-opened : (m : ℕ) (names : SpanNames) (T : Tokenizer) → (m == 10) ≡ false → StartReady T →
+    SequenceOpenReady (scratched (begun m names T.tokenize_state) (done (Enter names.whole ∷ Enter names.sequence ∷ []) T))
 unfolding scratched applied
-start-opened m names T h within k =
-    record { marker = h; stand_open = refl; fits = fits-after 1 0 (Enter names.whole ∷ Enter names.sequence ∷ Consume ∷ []) (begun m names T.tokenize_state) T T refl within (omega arith) k.fits; indexed = indexed-after (Enter names.whole ∷ Enter names.sequence ∷ Consume ∷ []) (begun m names T.tokenize_state) T refl k.indexed }
+start-opened m names T h k =
+    record { marker = h; stand_open = refl; fits = fits-after T.tokenize_state.size 0 (Enter names.whole ∷ Enter names.sequence ∷ []) (begun m names T.tokenize_state) T T refl (omega arith) (omega (arith, ap (λ (s : TokenizeState). s.size) k.rest)) k.fits; indexed = indexed-after (Enter names.whole ∷ Enter names.sequence ∷ []) (begun m names T.tokenize_state) T refl k.indexed }
 
 pub opened-more : (T : Tokenizer) → 1 ≤ length (ahead T) → SequenceOpenReady T →
     SequenceOpenReady (scratched (with_size (T.tokenize_state.size + 1) T.tokenize_state) (done (Consume ∷ []) T))
@@ -109,11 +108,13 @@ unfolding scratched applied renamed
 run-between T k =
     record { marker = k.marker; stand_open = second-open T.stack T.tokenize_state.token_2 T.tokenize_state.token_1 k.stand_open; fits = omega (arith, k.fits) }
 
--- what the opening run's end says, right after its first marker
+-- what the opening run's end says, before its first marker
 pub opening-says : (m : ℕ) (names : SpanNames) (T : Tokenizer) (ok : Bool) (U : Tokenizer) →
     T.tokenize_state ≡ rested T.tokenize_state →
-    sequence_open_ends (scratched (begun m names T.tokenize_state) (done (Enter names.whole ∷ Enter names.sequence ∷ Consume ∷ []) T)) ok U →
-    DoesAs 2 (opening_plan (single_dollar T) m names 1) T.tokenize_state (scratched (begun m names T.tokenize_state) (done (Enter names.whole ∷ Enter names.sequence ∷ Consume ∷ []) T)) ok U
+    sequence_open_ends (scratched (begun m names T.tokenize_state) (done (Enter names.whole ∷ Enter names.sequence ∷ []) T)) ok U →
+    DoesAs 2 (opening_plan (single_dollar T) m names 0) T.tokenize_state (scratched (begun m names T.tokenize_state) (done (Enter names.whole ∷ Enter names.sequence ∷ []) T)) ok U
 unfolding scratched applied
 opening-says m names T ok U e x =
-    subst (λ (s : TokenizeState). DoesAs 2 (opening_plan (single_dollar T) m names 1) s (scratched (begun m names T.tokenize_state) (done (Enter names.whole ∷ Enter names.sequence ∷ Consume ∷ []) T)) ok U) (sym e) x
+    let V : Tokenizer = scratched (begun m names T.tokenize_state) (done (Enter names.whole ∷ Enter names.sequence ∷ []) T) in
+    subst (λ (s : TokenizeState). DoesAs 2 (opening_plan (single_dollar T) m names 0) s V ok U) (sym e)
+    (subst (λ n. DoesAs 2 (opening_plan (single_dollar T) m names n) (rested T.tokenize_state) V ok U) (ap (λ (s : TokenizeState). s.size) e) x)

@@ -1,7 +1,7 @@
 -- What the states of an autolink do, and how runs from them end.
 use Rattle.std.specs.Prelude.{◌≡◌, ℕ, ◌+◌, ◌≤◌, Bool, true, false, ◌&&◌, ◌||◌, not, codes, nat_le, nat_lt, ◌==◌, if◌then◌else◌, Option, Some, None, List, [], ◌∷◌, ◌++◌, length}
 use Rattle.markdown_engine_content.specs.Codes.{Code}
-use Rattle.markdown_engine.specs.Operations.{Op, Enter, Exit, Consume, done, current_of, scratched}
+use Rattle.markdown_engine.specs.Operations.{Op, Enter, Exit, Consume, ahead, done, current_of, scratched}
 use Rattle.markdown_engine.specs.PastTree.{EndsAs, TreeReading}
 use Rattle.markdown_engine.specs.StateRuns.{Stepped, stepped}
 use Rattle.markdown_engine.specs.TreeOps.{consumes}
@@ -64,10 +64,10 @@ abbrev pub start_step : Tokenizer → Stepped
 start_step T = start_at (current_of T) T
 
 abbrev pub open_at : Option ℕ → Tokenizer → Stepped
-open_at None T = refused T
+open_at None T = stepped (Retry AutolinkEmailAtext) T
 open_at (Some c) T =
     if letter_value c then stepped (Next AutolinkSchemeOrEmailAtext) (done (Consume ∷ []) T)
-    else (if local_value c then stepped (Next AutolinkEmailAtext) (done (Consume ∷ []) T) else refused T)
+    else (if c == byte "@" then refused T else stepped (Retry AutolinkEmailAtext) T)
 
 abbrev pub open_step : Tokenizer → Stepped
 open_step T = open_at (current_of T) T
@@ -75,19 +75,23 @@ open_step T = open_at (current_of T) T
 abbrev pub scheme_or_at : Option ℕ → Tokenizer → Stepped
 scheme_or_at None T = stepped (Retry AutolinkEmailAtext) T
 scheme_or_at (Some c) T =
-    if scheme_value c then stepped (Next AutolinkSchemeInsideOrEmailAtext) (scratched (with_size 2 T.tokenize_state) (done (Consume ∷ []) T))
+    if scheme_value c then stepped (Retry AutolinkSchemeInsideOrEmailAtext) (scratched (with_size 1 T.tokenize_state) T)
     else stepped (Retry AutolinkEmailAtext) T
 
 abbrev pub scheme_or_step : Tokenizer → Stepped
 scheme_or_step T = scheme_or_at (current_of T) T
 
+-- no scheme, but it may be an address
+abbrev pub no_scheme : Tokenizer → Stepped
+no_scheme T = stepped (Retry AutolinkEmailAtext) (scratched (with_size 0 T.tokenize_state) T)
+
 abbrev pub scheme_inside_at : Option ℕ → Tokenizer → Stepped
-scheme_inside_at None T = stepped (Retry AutolinkEmailAtext) T
+scheme_inside_at None T = no_scheme T
 scheme_inside_at (Some c) T =
-    if c == byte ":" then stepped (Next AutolinkUrlInside) (done (Consume ∷ []) T)
+    if c == byte ":" then stepped (Next AutolinkUrlInside) (scratched (with_size 0 T.tokenize_state) (done (Consume ∷ []) T))
     else (if scheme_value c && nat_lt T.tokenize_state.size 32
     then stepped (Next AutolinkSchemeInsideOrEmailAtext) (scratched (with_size (T.tokenize_state.size + 1) T.tokenize_state) (done (Consume ∷ []) T))
-    else stepped (Retry AutolinkEmailAtext) T)
+    else no_scheme T)
 
 abbrev pub scheme_inside_step : Tokenizer → Stepped
 scheme_inside_step T = scheme_inside_at (current_of T) T
@@ -113,7 +117,7 @@ email_atext_step T = email_atext_at (current_of T) T
 abbrev pub email_at_sign_or_dot_at : Option ℕ → Tokenizer → Stepped
 email_at_sign_or_dot_at None T = refused T
 email_at_sign_or_dot_at (Some c) T =
-    if alphanumeric_value c then stepped (Next AutolinkEmailLabel) (scratched (with_size 1 T.tokenize_state) (done (Consume ∷ []) T)) else refused T
+    if alphanumeric_value c then stepped (Retry AutolinkEmailValue) T else refused T
 
 abbrev pub email_at_sign_or_dot_step : Tokenizer → Stepped
 email_at_sign_or_dot_step T = email_at_sign_or_dot_at (current_of T) T
@@ -132,11 +136,11 @@ abbrev pub email_value_step : Tokenizer → Stepped
 email_value_step T = in_label_at (current_of T) T
 
 abbrev pub email_label_at : Option ℕ → Tokenizer → Stepped
-email_label_at None T = refused T
+email_label_at None T = stepped (Retry AutolinkEmailValue) T
 email_label_at (Some c) T =
-    if c == byte "." then stepped (Next AutolinkEmailAtSignOrDot) (done (Consume ∷ []) T)
+    if c == byte "." then stepped (Next AutolinkEmailAtSignOrDot) (scratched (with_size 0 T.tokenize_state) (done (Consume ∷ []) T))
     else (if c == byte ">" then finished N.AutolinkEmail (renamed N.AutolinkEmail T)
-    else in_label_at (Some c) T)
+    else stepped (Retry AutolinkEmailValue) T)
 
 abbrev pub email_label_step : Tokenizer → Stepped
 email_label_step T = email_label_at (current_of T) T
@@ -149,9 +153,16 @@ pub record InsideReady (T : Tokenizer) : Type 0 where
   pub some : HasEvent T
   pub entered : renamed N.AutolinkProtocol T ≡ T
 
+-- with no code counted
+pub record FreshReady (T : Tokenizer) : Type 0 where
+  pub inside : InsideReady T
+  pub none_yet : T.tokenize_state.size ≡ 0
+
+-- after one code of a scheme another one is at hand
 pub record SchemeReady (T : Tokenizer) : Type 0 where
   pub inside : InsideReady T
-  pub least : 2 ≤ T.tokenize_state.size
+  pub some : 1 ≤ T.tokenize_state.size
+  pub least : nat_le 2 T.tokenize_state.size || next_is is_scheme_code (ahead T) ≡ true
   pub most : T.tokenize_state.size ≤ 32
 
 pub record LabelReady (T : Tokenizer) : Type 0 where
@@ -246,10 +257,10 @@ abbrev pub start_words : StateWords
 start_words = record { ready = λ T. T.tokenize_state.size ≡ 0; step = start_step; ends = start_ends; rank = 3 }
 
 abbrev pub open_words : StateWords
-open_words = record { ready = InsideReady; step = open_step; ends = open_ends; rank = 2 }
+open_words = record { ready = FreshReady; step = open_step; ends = open_ends; rank = 2 }
 
 abbrev pub scheme_or_words : StateWords
-scheme_or_words = record { ready = InsideReady; step = scheme_or_step; ends = scheme_or_ends; rank = 2 }
+scheme_or_words = record { ready = FreshReady; step = scheme_or_step; ends = scheme_or_ends; rank = 3 }
 
 abbrev pub scheme_inside_words : StateWords
 scheme_inside_words = record { ready = SchemeReady; step = scheme_inside_step; ends = scheme_inside_ends; rank = 2 }
@@ -258,13 +269,13 @@ abbrev pub url_inside_words : StateWords
 url_inside_words = record { ready = InsideReady; step = url_inside_step; ends = url_inside_ends; rank = 1 }
 
 abbrev pub email_atext_words : StateWords
-email_atext_words = record { ready = InsideReady; step = email_atext_step; ends = email_atext_ends; rank = 1 }
+email_atext_words = record { ready = FreshReady; step = email_atext_step; ends = email_atext_ends; rank = 1 }
 
 abbrev pub email_at_sign_or_dot_words : StateWords
-email_at_sign_or_dot_words = record { ready = InsideReady; step = email_at_sign_or_dot_step; ends = email_at_sign_or_dot_ends; rank = 1 }
+email_at_sign_or_dot_words = record { ready = FreshReady; step = email_at_sign_or_dot_step; ends = email_at_sign_or_dot_ends; rank = 2 }
 
 abbrev pub email_label_words : StateWords
-email_label_words = record { ready = LabelReady; step = email_label_step; ends = email_label_ends; rank = 1 }
+email_label_words = record { ready = LabelReady; step = email_label_step; ends = email_label_ends; rank = 2 }
 
 abbrev pub email_value_words : StateWords
 email_value_words = record { ready = LabelReady; step = email_value_step; ends = email_value_ends; rank = 1 }

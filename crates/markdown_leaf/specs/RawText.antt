@@ -34,7 +34,7 @@ names_in s = record { whole = s.token_1; sequence = s.token_2; text = s.token_3 
 
 -- for a span of this marker and these names, past its first marker
 abbrev pub begun : ℕ → SpanNames → TokenizeState → TokenizeState
-begun marker names s = record s { marker = marker; size = 1; token_1 = names.whole; token_2 = names.sequence; token_3 = names.text }
+begun marker names s = record s { marker = marker; token_1 = names.whole; token_2 = names.sequence; token_3 = names.text }
 
 -- at rest
 abbrev pub rested : TokenizeState → TokenizeState
@@ -63,7 +63,7 @@ single_dollar T = T.parse_state.now.options.now.math_text_single_dollar
 
 abbrev pub opened : ℕ → SpanNames → Tokenizer → Stepped
 opened marker names T =
-    stepped (Next RawTextSequenceOpen) (scratched (begun marker names T.tokenize_state) (done (Enter names.whole ∷ Enter names.sequence ∷ Consume ∷ []) T))
+    stepped (Retry RawTextSequenceOpen) (scratched (begun marker names T.tokenize_state) (done (Enter names.whole ∷ Enter names.sequence ∷ []) T))
 
 -- by the current code
 abbrev pub start_at : Option ℕ → Tokenizer → Stepped

@@ -26,7 +26,7 @@ ghost use Rattle.std.specs.Prelude.{◌≡◌};
 ghost use Rattle.markdown_engine.specs.Operations.{HasCode, current_of};
 ghost use Rattle.markdown_engine_content.specs.declared.event.Name.TheVariants.{Autolink};
 ghost use Rattle.markdown_plan.specs.ScratchFields.{AreOpen};
-ghost use Rattle.markdown_leaf.specs.Autolink.{scheme_value, local_value, uri_stops, uri_value, refused, finished, start_step, open_step, scheme_or_step, scheme_inside_step, url_inside_step, email_atext_step, email_at_sign_or_dot_step, in_label_at, email_value_step, email_label_step, InsideReady, SchemeReady, LabelReady};
+ghost use Rattle.markdown_leaf.specs.Autolink.{scheme_value, local_value, uri_stops, uri_value, refused, finished, start_step, open_step, scheme_or_step, scheme_inside_step, url_inside_step, email_atext_step, email_at_sign_or_dot_step, in_label_at, email_value_step, email_label_step, InsideReady, FreshReady, SchemeReady, LabelReady};
 ghost use Rattle.markdown_plan.specs.StateCalls.{Steps};
 
 use crate::renaming::rename_entered;
@@ -86,7 +86,7 @@ pub fn start(tokenizer: &mut Tokenizer) -> Result<State, AllocError>
 ///     > | <ftp:x> or <me@b.c>
 ///          ^          ^
 pub fn open(tokenizer: &mut Tokenizer) -> Result<State, AllocError>
-    requires { InsideReady tokenizer.old }
+    requires { FreshReady tokenizer.old }
     ensures { Steps open_step tokenizer.old result tokenizer.new }
 {
     match tokenizer.current() {
@@ -94,11 +94,8 @@ pub fn open(tokenizer: &mut Tokenizer) -> Result<State, AllocError>
             tokenizer.consume();
             Ok(State::Next(StateName::AutolinkSchemeOrEmailAtext))
         }
-        Some(code) if is_local(code) => {
-            tokenizer.consume();
-            Ok(State::Next(StateName::AutolinkEmailAtext))
-        }
-        _ => Ok(refuse(tokenizer)),
+        Some(b'@') => Ok(refuse(tokenizer)),
+        _ => Ok(State::Retry(StateName::AutolinkEmailAtext)),
     }
 }
 
@@ -107,14 +104,13 @@ pub fn open(tokenizer: &mut Tokenizer) -> Result<State, AllocError>
 ///     > | <ftp:x> or <me@b.c>
 ///           ^          ^
 pub fn scheme_or_email_atext(tokenizer: &mut Tokenizer) -> Result<State, AllocError>
-    requires { InsideReady tokenizer.old }
+    requires { FreshReady tokenizer.old }
     ensures { Steps scheme_or_step tokenizer.old result tokenizer.new }
 {
     match tokenizer.current() {
         Some(code) if is_scheme(code) => {
-            tokenizer.consume();
-            tokenizer.tokenize_state.size = 2;
-            Ok(State::Next(StateName::AutolinkSchemeInsideOrEmailAtext))
+            tokenizer.tokenize_state.size = 1;
+            Ok(State::Retry(StateName::AutolinkSchemeInsideOrEmailAtext))
         }
         _ => Ok(State::Retry(StateName::AutolinkEmailAtext)),
     }
@@ -123,7 +119,7 @@ pub fn scheme_or_email_atext(tokenizer: &mut Tokenizer) -> Result<State, AllocEr
 /// In a scheme, which may be the front of an address.
 ///
 ///     > | <ftp:x> or <me@b.c>
-///            ^^         ^
+///           ^^^        ^^
 pub fn scheme_inside_or_email_atext(tokenizer: &mut Tokenizer) -> Result<State, AllocError>
     requires { SchemeReady tokenizer.old }
     ensures { Steps scheme_inside_step tokenizer.old result tokenizer.new }
@@ -132,6 +128,7 @@ pub fn scheme_inside_or_email_atext(tokenizer: &mut Tokenizer) -> Result<State, 
     match tokenizer.current() {
         Some(b':') => {
             tokenizer.consume();
+            tokenizer.tokenize_state.size = 0;
             Ok(State::Next(StateName::AutolinkUrlInside))
         }
         Some(code) if is_scheme(code) && passed < AUTOLINK_SCHEME_SIZE_MAX => {
@@ -139,7 +136,10 @@ pub fn scheme_inside_or_email_atext(tokenizer: &mut Tokenizer) -> Result<State, 
             tokenizer.tokenize_state.size = passed + 1;
             Ok(State::Next(StateName::AutolinkSchemeInsideOrEmailAtext))
         }
-        _ => Ok(State::Retry(StateName::AutolinkEmailAtext)),
+        _ => {
+            tokenizer.tokenize_state.size = 0;
+            Ok(State::Retry(StateName::AutolinkEmailAtext))
+        }
     }
 }
 
@@ -173,7 +173,7 @@ pub fn uri_stops() -> ByteSet
 ///     > | <o_k@x-1.org>
 ///           ^^^
 pub fn email_atext(tokenizer: &mut Tokenizer) -> Result<State, AllocError>
-    requires { InsideReady tokenizer.old }
+    requires { FreshReady tokenizer.old }
     ensures { Steps email_atext_step tokenizer.old result tokenizer.new }
 {
     match tokenizer.current() {
@@ -194,15 +194,11 @@ pub fn email_atext(tokenizer: &mut Tokenizer) -> Result<State, AllocError>
 ///     > | <o_k@x-1.org>
 ///              ^   ^
 pub fn email_at_sign_or_dot(tokenizer: &mut Tokenizer) -> Result<State, AllocError>
-    requires { InsideReady tokenizer.old }
+    requires { FreshReady tokenizer.old }
     ensures { Steps email_at_sign_or_dot_step tokenizer.old result tokenizer.new }
 {
     match tokenizer.current() {
-        Some(code) if is_alphanumeric(code) => {
-            tokenizer.consume();
-            tokenizer.tokenize_state.size = 1;
-            Ok(State::Next(StateName::AutolinkEmailLabel))
-        }
+        Some(code) if is_alphanumeric(code) => Ok(State::Retry(StateName::AutolinkEmailValue)),
         _ => Ok(refuse(tokenizer)),
     }
 }
@@ -240,20 +236,21 @@ pub fn email_label(tokenizer: &mut Tokenizer) -> Result<State, AllocError>
     match tokenizer.current() {
         Some(b'.') => {
             tokenizer.consume();
+            tokenizer.tokenize_state.size = 0;
             Ok(State::Next(StateName::AutolinkEmailAtSignOrDot))
         }
         Some(b'>') => {
             rename_entered(tokenizer, Name::AutolinkEmail)?;
             finish(tokenizer, Name::AutolinkEmail)
         }
-        _ => Ok(in_label(tokenizer)),
+        _ => Ok(State::Retry(StateName::AutolinkEmailValue)),
     }
 }
 
-/// In a label, after a hyphen: the label goes on.
+/// In a label: a letter or a digit, behind which it may end, or a hyphen, behind which it goes on.
 ///
 ///     > | <o_k@x-1.org>
-///                ^
+///              ^^^ ^^^
 pub fn email_value(tokenizer: &mut Tokenizer) -> Result<State, AllocError>
     requires { LabelReady tokenizer.old }
     ensures { Steps email_value_step tokenizer.old result tokenizer.new }

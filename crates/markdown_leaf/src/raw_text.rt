@@ -23,7 +23,7 @@
 #![tactic(auto, using(markdown_engine::proofs::OperationFields::law_rules), unfolding(markdown_engine::specs::Operations::scratched))]
 
 ghost use Rattle.std.specs.Prelude.{◌≡◌};
-ghost use Rattle.markdown_engine.specs.Operations.{HasCode, scratched};
+ghost use Rattle.markdown_engine.specs.Operations.{scratched};
 ghost use Rattle.markdown_leaf.specs.RawText.{start_step, sequence_open_step, between_step, data_step, data_stops, sequence_close_step, after_opening, after_run, opened, is_barred, is_hopeless, rested, names_in, SequenceOpenReady, BetweenReady, DataReady, SequenceCloseReady};
 ghost use Rattle.markdown_model.specs.SingleConstructs.{ends_escape, follows_escape};
 ghost use Rattle.markdown_plan.specs.StateCalls.{Steps};
@@ -61,7 +61,7 @@ fn is_barred(tokenizer: &Tokenizer, marker: u8) -> bool
     tokenizer.previous() == Some(marker) && !follows_escape(tokenizer)
 }
 
-// Enters a span of this marker, and passes the first one.
+// Enters a span of this marker.
 fn open(
     tokenizer: &mut Tokenizer,
     marker: u8,
@@ -69,18 +69,15 @@ fn open(
     sequence: Name,
     text: Name,
 ) -> Result<State, AllocError>
-    requires { HasCode tokenizer.old }
     ensures { Steps (opened marker (record { whole = whole; sequence = sequence; text = text })) tokenizer.old result tokenizer.new }
 {
     tokenizer.enter(whole)?;
     tokenizer.enter(sequence)?;
-    tokenizer.consume();
     tokenizer.tokenize_state.marker = marker;
-    tokenizer.tokenize_state.size = 1;
     tokenizer.tokenize_state.token_1 = whole;
     tokenizer.tokenize_state.token_2 = sequence;
     tokenizer.tokenize_state.token_3 = text;
-    Ok(State::Next(StateName::RawTextSequenceOpen))
+    Ok(State::Retry(StateName::RawTextSequenceOpen))
 }
 
 // Puts the scratch fields to rest.
@@ -155,7 +152,7 @@ fn after_opening(tokenizer: &mut Tokenizer) -> Result<State, AllocError>
 /// In the opening run.
 ///
 ///     > | ``xy`z``
-///          ^^
+///         ^^^
 pub fn sequence_open(tokenizer: &mut Tokenizer) -> Result<State, AllocError>
     requires { SequenceOpenReady tokenizer.old }
     ensures { Steps sequence_open_step tokenizer.old result tokenizer.new }

@@ -13,10 +13,6 @@ pub entered-cursor : (n : Name) (link : Option Content) (connect : Bool) (T : To
     (entered_leaf n link connect T).cursor ≡ T.cursor
 entered-cursor n link connect T = ap (λ (x : Tokenizer). x.cursor) (entered_leaf-is n link connect T)
 
-pub entered-scratch : (n : Name) (link : Option Content) (connect : Bool) (T : Tokenizer) →
-    (entered_leaf n link connect T).tokenize_state ≡ T.tokenize_state
-entered-scratch n link connect T = ap (λ (x : Tokenizer). x.tokenize_state) (entered_leaf-is n link connect T)
-
 pub entered-attempts : (n : Name) (link : Option Content) (connect : Bool) (T : Tokenizer) →
     (entered_leaf n link connect T).attempts ≡ T.attempts
 entered-attempts n link connect T = ap (λ (x : Tokenizer). x.attempts) (entered_leaf-is n link connect T)

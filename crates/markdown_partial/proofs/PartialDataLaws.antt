@@ -30,7 +30,7 @@ use Rattle.markdown_partial.proofs.LineCuts.{up_to_break, data-then, ending-then
 use Rattle.markdown_model.proofs.LeafCodes.{until-append}
 use Rattle.markdown_engine.specs.StateWords.{StateWords, Words, Law, GoesIn}
 use Rattle.markdown_plan.proofs.PassedCodes.{passed-none, passed-one}
-use Rattle.markdown_plan.proofs.LawStepsOfLayer.{GoesOn-map, Goes-end, Goes-ops}
+use Rattle.markdown_plan.proofs.LawStepsOfLayer.{GoesOn-map, Goes-plain, Goes-end, Goes-ops}
 use Rattle.markdown_plan.specs.LayerEquation.{Within, AreLawful}
 
 -- the value behind the code at hand
@@ -111,16 +111,16 @@ opening-closes T v e h ok U k =
     closes (leaf N.Data (b.code ∷ w.0)) w.1 T V refl is (whole ∙ ap (λ xs. xs ++ w.1) (sym (append-nil (b.code ∷ w.0))))
     (ap (data_up_to (stops_of T.tokenize_state)) b.whole ∙ data-then (stops_of T.tokenize_state) b.code cs (ap (λ x. x == 10) b.value ∙ h)) ok U k
 
-passing-law : (W : Words) → Within states W → (T : Tokenizer) → T.attempts ≡ [] → (v : ℕ) → current_of T ≡ Some v →
-    GoesIn W (weight_at 1 T) (start_ends T) (passing v T)
-passing-law W within T alone v e =
-    let P : Stepped → Type 0 = GoesIn W (weight_at 1 T) (start_ends T) in
+passing-law : (W : Words) → Within states W → (k : ℕ) (T : Tokenizer) → T.attempts ≡ [] → (v : ℕ) → current_of T ≡ Some v →
+    GoesIn W (weight_at k T) (start_ends T) (passing v T)
+passing-law W within k T alone v e =
+    let P : Stepped → Type 0 = GoesIn W (weight_at k T) (start_ends T) in
     let one : 1 ≤ length (ahead T) = some-codes T v e in
     if-step P (v == 10) (stepped (Next DataAtBreak) (done ending T)) (stepped (Next DataInside) (done opening T))
     (λ h. let less : codes_left (done ending T) + 1 ≡ codes_left T = left-done ending T one in
-    Goes-ops W (weight_at 1 T) (start_ends T) (Next DataAtBreak) (within DataAtBreak) ending T alone tt (omega (arith, less)) (λ ok U k. ending-closes T v e h ok U k))
+    Goes-ops W (weight_at k T) (start_ends T) (Next DataAtBreak) (within DataAtBreak) ending T alone tt (omega (arith, less)) (λ ok U k. ending-closes T v e h ok U k))
     (λ h. let less : codes_left (done opening T) + 1 ≡ codes_left T = left-done opening T one in
-    Goes-ops W (weight_at 1 T) (start_ends T) (Next DataInside) (within DataInside) opening T alone (opened T) (omega (arith, less)) (λ ok U k. opening-closes T v e h ok U k))
+    Goes-ops W (weight_at k T) (start_ends T) (Next DataInside) (within DataInside) opening T alone (opened T) (omega (arith, less)) (λ ok U k. opening-closes T v e h ok U k))
 
 nothing-read : (T : Tokenizer) → ahead T ≡ [] → data_up_to (stops_of T.tokenize_state) (ahead T) ≡ Some (empty, ahead T)
 unfolding data_up_to
@@ -129,22 +129,34 @@ nothing-read T e = subst (λ cs. data_up_to (stops_of T.tokenize_state) cs ≡ S
 nothing-more : (T : Tokenizer) → ahead T ≡ [] → more_data (stops_of T.tokenize_state) (ahead T) ≡ Some (empty, ahead T)
 nothing-more T e = subst (λ cs. more_data (stops_of T.tokenize_state) cs ≡ Some (empty, cs)) (sym e) refl
 
-pub start-law : (W : Words) → Within states W → Law W start_words
-start-law W within T alone _ =
-    let P : Stepped → Type 0 = GoesIn W (weight_at 1 T) (start_ends T) in
-    code-step P (current_of T) (λ o. start_at o T)
-    (λ e. Goes-end W (weight_at 1 T) (start_ends T) true T alone (omega arith) (EndsAs-here (data_up_to (stops_of T.tokenize_state)) T (nothing-read T (ahead-none T e))))
-    (λ v e. passing-law W within T alone v e)
+-- where data does not stop, what comes is data and more of it
+reads-more : (T : Tokenizer) (v : ℕ) → current_of T ≡ Some v → stops_here T v ≡ false →
+    more_data (stops_of T.tokenize_state) (ahead T) ≡ data_up_to (stops_of T.tokenize_state) (ahead T)
+reads-more T v e h =
+    let b : Begins v (ahead T) = ahead-some T v e in
+    let cs : List Code = rest_of (ahead T) in
+    ap (more_data (stops_of T.tokenize_state)) b.whole ∙ more-goes (stops_of T.tokenize_state) b.code cs (stops-is T v e ∙ h) ∙ ap (data_up_to (stops_of T.tokenize_state)) (sym b.whole)
 
--- the same where data does not stop
 more-here : (T : Tokenizer) (v : ℕ) → current_of T ≡ Some v → stops_here T v ≡ false → (ok : Bool) (U : Tokenizer) →
     start_ends T ok U → at_break_ends T ok U
 more-here T v e h ok U k =
-    let b : Begins v (ahead T) = ahead-some T v e in
-    let cs : List Code = rest_of (ahead T) in
-    let reads : more_data (stops_of T.tokenize_state) (ahead T) ≡ data_up_to (stops_of T.tokenize_state) (ahead T) =
-    ap (more_data (stops_of T.tokenize_state)) b.whole ∙ more-goes (stops_of T.tokenize_state) b.code cs (stops-is T v e ∙ h) ∙ ap (data_up_to (stops_of T.tokenize_state)) (sym b.whole) in
-    EndsAs-same (more_data (stops_of T.tokenize_state)) (data_up_to (stops_of T.tokenize_state)) None T.tokenize_state T reads ok U k
+    EndsAs-same (more_data (stops_of T.tokenize_state)) (data_up_to (stops_of T.tokenize_state)) None T.tokenize_state T (reads-more T v e h) ok U k
+
+no-marker : (T : Tokenizer) (v : ℕ) → marks T.tokenize_state.markers v ≡ false → stops_here T v ≡ false
+no-marker T v h = ap (λ x. x && not (T.tokenize_state.passes_letters && begins_none v (next_of T))) h
+
+pub start-law : (W : Words) → Within states W → Law W start_words
+start-law W within T alone _ =
+    let n : ℕ = weight_at 2 T in
+    let P : Stepped → Type 0 = GoesIn W n (start_ends T) in
+    let on : more_data (stops_of T.tokenize_state) (ahead T) ≡ data_up_to (stops_of T.tokenize_state) (ahead T) → P (stepped (Retry DataAtBreak) T) = λ same.
+    Goes-plain W n (start_ends T) (Retry DataAtBreak) (within DataAtBreak) T alone tt (omega arith)
+    (EndsAs-same (data_up_to (stops_of T.tokenize_state)) (more_data (stops_of T.tokenize_state)) None T.tokenize_state T (sym same)) in
+    code-step P (current_of T) (λ o. start_at o T)
+    (λ e. on (nothing-more T (ahead-none T e) ∙ sym (nothing-read T (ahead-none T e))))
+    (λ v e. if-step P (marks T.tokenize_state.markers v) (passing v T) (stepped (Retry DataAtBreak) T)
+    (λ h. passing-law W within 2 T alone v e)
+    (λ h. on (reads-more T v e (no-marker T v h))))
 
 stop-here : (T : Tokenizer) (v : ℕ) → current_of T ≡ Some v → stops_here T v ≡ true →
     more_data (stops_of T.tokenize_state) (ahead T) ≡ Some (empty, ahead T)
@@ -160,7 +172,7 @@ at_break-law W within T alone _ =
     (λ e. Goes-end W n (at_break_ends T) true T alone (omega arith) (EndsAs-here (more_data (stops_of T.tokenize_state)) T (nothing-more T (ahead-none T e))))
     (λ v e. if-step P (stops_here T v) (stepped State.Ok T) (passing v T)
     (λ h. Goes-end W n (at_break_ends T) true T alone (omega arith) (EndsAs-here (more_data (stops_of T.tokenize_state)) T (stop-here T v e h)))
-    (λ h. GoesOn-map W n (start_ends T) (at_break_ends T) (passing v T) (λ ok U k. more-here T v e h ok U k) (passing-law W within T alone v e)))
+    (λ h. GoesOn-map W n (start_ends T) (at_break_ends T) (passing v T) (λ ok U k. more-here T v e h ok U k) (passing-law W within 1 T alone v e)))
 
 -- In a stretch.
 

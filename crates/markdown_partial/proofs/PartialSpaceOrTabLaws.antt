@@ -23,8 +23,8 @@ use Rattle.markdown_engine.proofs.TreeEvents.{leaf-past, ahead-past, past-empty,
 use Rattle.markdown_model.specs.Grammar.{span}
 use Rattle.markdown_model.specs.TextLines.{linked_leaf}
 use Rattle.markdown_model.specs.Whitespace.{space_or_tab}
-use Rattle.markdown_partial.specs.PartialSpaceOrTab.{at_blank, sized, rested, start_ends, taken, inside_ends, after_ends, states, after_words, inside_words, start_words}
-use Rattle.markdown_partial.proofs.LinkedLeafLemmas.{entered-cursor, entered-scratch, entered-attempts, entered-open, entered-left}
+use Rattle.markdown_partial.specs.PartialSpaceOrTab.{at_blank, connected, sized, rested, start_ends, taken, inside_ends, after_ends, states, after_words, inside_words, start_words}
+use Rattle.markdown_partial.proofs.LinkedLeafLemmas.{entered-cursor, entered-attempts, entered-open, entered-left}
 use Rattle.markdown_partial.proofs.BlankCodes.{Here, here, blank-ahead, taken-parts, taken-first, taken-none}
 use Rattle.markdown_partial.proofs.WhitespaceReadings.{space-holds, space-refused}
 use Rattle.markdown_model.proofs.ReadingsCover.{codes-linked_leaf}
@@ -118,8 +118,12 @@ taken-some (suc n) T h b =
 abbrev entered_space : TokenizeState → Tokenizer → Tokenizer
 entered_space s T = entered_leaf s.space_or_tab_token s.space_or_tab_content s.space_or_tab_connect T
 
+-- and what follows linked to it
+abbrev connected_space : Tokenizer → Tokenizer
+connected_space T = scratched (connected T.tokenize_state) (entered_space T.tokenize_state T)
+
 start-inside : (T : Tokenizer) → 0 < T.tokenize_state.space_or_tab_max → T.tokenize_state.space_or_tab_size ≡ 0 →
-    Here is_blank T → (ok : Bool) (U : Tokenizer) → inside_ends (entered_space T.tokenize_state T) ok U →
+    Here is_blank T → (ok : Bool) (U : Tokenizer) → inside_ends (connected_space T) ok U →
     start_ends T ok U
 unfolding scratched applied passed past
 start-inside T l z b ok U k =
@@ -130,7 +134,7 @@ start-inside T l z b ok U k =
     let E : Tokenizer = entered_space s T in
     let ws : List Code = take s.space_or_tab_max (span is_blank (ahead T)).0 in
     let P : TokenizeState → Type 0 = λ q. (ok ≡ nat_le q.space_or_tab_min (q.space_or_tab_size + length (taken q (ahead E)))) × (U ≡ scratched (rested q) (exited q.space_or_tab_token (passed (taken q (ahead E)) E))) in
-    let now : P s = subst P (entered-scratch name link s.space_or_tab_connect T) k in
+    let now : P s = k in
     let gap : s.space_or_tab_max - s.space_or_tab_size ≡ s.space_or_tab_max = omega arith in
     let all : taken s (ahead E) ≡ ws = ap (λ p. taken s (ahead_at p)) (entered-cursor name link s.space_or_tab_connect T) ∙ ap (λ n. take n (span is_blank (ahead T)).0) gap in
     let count : s.space_or_tab_size + length (taken s (ahead E)) ≡ length ws = omega (arith, ap length all) in
@@ -154,13 +158,11 @@ start-after T z e ok U k =
     (k.0 ∙ ap (nat_le s.space_or_tab_min) count)
     (k.1 ∙ sym (past-empty previous (scratched (rested s) T)) ∙ ap (λ xs. past previous (linked_leaf s.space_or_tab_token s.space_or_tab_content xs) (scratched (rested s) T)) (sym e))
 
-open-entered : (T : Tokenizer) →
-    IsOpen (entered_space T.tokenize_state T).tokenize_state.space_or_tab_token (entered_space T.tokenize_state T)
+open-entered : (T : Tokenizer) → IsOpen (connected_space T).tokenize_state.space_or_tab_token (connected_space T)
+unfolding scratched
 open-entered T =
     let s : TokenizeState = T.tokenize_state in
-    let E : Tokenizer = entered_space s T in
-    let P : TokenizeState → Type 0 = λ q. IsOpen q.space_or_tab_token E in
-    subst P (sym (entered-scratch s.space_or_tab_token s.space_or_tab_content s.space_or_tab_connect T)) (entered-open s.space_or_tab_token s.space_or_tab_content s.space_or_tab_connect T)
+    entered-open s.space_or_tab_token s.space_or_tab_content s.space_or_tab_connect T
 
 pub start-law : (W : Words) → Within states W → Law W start_words
 start-law W within T alone on =
@@ -168,10 +170,11 @@ start-law W within T alone on =
     let n : ℕ = weight_at 3 T in
     let P : Stepped → Type 0 = GoesIn W n (start_ends T) in
     let E : Tokenizer = entered_space s T in
-    let same : codes_left E ≡ codes_left T = entered-left s.space_or_tab_token s.space_or_tab_content s.space_or_tab_connect T in
+    let V : Tokenizer = connected_space T in
+    let same : codes_left V ≡ codes_left T = left-scratched (connected s) E ∙ entered-left s.space_or_tab_token s.space_or_tab_content s.space_or_tab_connect T in
     if-step P (at_blank (current_of T) && nat_lt 0 s.space_or_tab_max) _ _
     (λ h. let b : Here is_blank T = here is_blank T (sym (blank-ahead T) ∙ and-left _ _ h) in
-    Goes-plain W n (start_ends T) (Retry SpaceOrTabInside) (within SpaceOrTabInside) E (entered-attempts s.space_or_tab_token s.space_or_tab_content s.space_or_tab_connect T ∙ alone) (open-entered T)
+    Goes-plain W n (start_ends T) (Retry SpaceOrTabInside) (within SpaceOrTabInside) V (attempts-scratched (connected s) E ∙ entered-attempts s.space_or_tab_token s.space_or_tab_content s.space_or_tab_connect T ∙ alone) (open-entered T)
     (omega (arith, same))
     (λ ok U k. start-inside T (ltb-true _ _ (and-right _ _ h)) on.none_yet b ok U k))
     (λ h. let none : take s.space_or_tab_max (span is_blank (ahead T)).0 ≡ [] = taken-none s.space_or_tab_max is_blank (ahead T) (ap (λ b. b && nat_lt 0 s.space_or_tab_max) (sym (blank-ahead T)) ∙ h) in

@@ -73,8 +73,8 @@ passing v T = if v == byte "\n" then stepped (Next DataAtBreak) (done ending T) 
 
 -- by the current code
 abbrev pub start_at : Option ℕ → Tokenizer → Stepped
-start_at None T = stepped State.Ok T
-start_at (Some v) T = passing v T
+start_at None T = stepped (Retry DataAtBreak) T
+start_at (Some v) T = if marks T.tokenize_state.markers v then passing v T else stepped (Retry DataAtBreak) T
 
 abbrev pub start_step : Tokenizer → Stepped
 start_step T = start_at (current_of T) T
@@ -133,7 +133,7 @@ inside_ends T ok U = at_break_ends (past_stretch T) ok U
 -- The states.
 
 abbrev pub start_words : StateWords
-start_words = record { ready = λ T. Unit {0}; step = start_step; ends = start_ends; rank = 1 }
+start_words = record { ready = λ T. Unit {0}; step = start_step; ends = start_ends; rank = 2 }
 
 abbrev pub at_break_words : StateWords
 at_break_words = record { ready = λ T. Unit {0}; step = at_break_step; ends = at_break_ends; rank = 1 }

@@ -34,6 +34,10 @@ rested s =
 abbrev pub sized : ℕ → TokenizeState → TokenizeState
 sized n s = record s { space_or_tab_size = n }
 
+-- what follows is linked to it
+abbrev pub connected : TokenizeState → TokenizeState
+connected s = record s { space_or_tab_connect = true }
+
 -- a blank code is at hand
 abbrev pub at_blank : Option ℕ → Bool
 at_blank None = false
@@ -42,7 +46,7 @@ at_blank (Some v) = v == space_value || v == tab_value
 abbrev pub start_at : TokenizeState → Option ℕ → Tokenizer → Stepped
 start_at s o T =
     if at_blank o && nat_lt 0 s.space_or_tab_max
-    then stepped (Retry SpaceOrTabInside) (entered_leaf s.space_or_tab_token s.space_or_tab_content s.space_or_tab_connect T)
+    then stepped (Retry SpaceOrTabInside) (scratched (connected s) (entered_leaf s.space_or_tab_token s.space_or_tab_content s.space_or_tab_connect T))
     else stepped (Retry SpaceOrTabAfter) T
 
 abbrev pub start_step : Tokenizer → Stepped

@@ -90,8 +90,8 @@ pub fn start(tokenizer: &mut Tokenizer) -> Result<State, AllocError>
     ensures { Steps start_step tokenizer.old result tokenizer.new }
 {
     match tokenizer.current() {
-        None => Ok(State::Ok),
-        Some(byte) => pass(tokenizer, byte),
+        Some(byte) if tokenizer.tokenize_state.markers.contains(byte) => pass(tokenizer, byte),
+        _ => Ok(State::Retry(StateName::DataAtBreak)),
     }
 }
 

@@ -101,6 +101,7 @@ pub fn start(tokenizer: &mut Tokenizer) -> Result<State, AllocError>
             let content = tokenizer.tokenize_state.space_or_tab_content;
             let connect = tokenizer.tokenize_state.space_or_tab_connect;
             enter_leaf(tokenizer, name, content, connect)?;
+            tokenizer.tokenize_state.space_or_tab_connect = true;
             Ok(State::Retry(StateName::SpaceOrTabInside))
         }
         _ => Ok(State::Retry(StateName::SpaceOrTabAfter)),

@@ -28,12 +28,26 @@ use Rattle.markdown_partial_link.proofs.LinkedTreeLemmas.{EndsAs-linked}
 use Rattle.markdown_partial_link.proofs.LinkedTextLineEnding.{Passed, DoesAs-ending, ending-law}
 use Rattle.markdown_partial_link.proofs.LinkedTextReadings.{filled-data, filled-ending, filled-none, breaks-end, breaks-stop, breaks-data, breaks-ending, breaks-blank, insides-end, insides-next, insides-taken, insides-bare, leave-end, leave-stop, leave-ending}
 use Rattle.markdown_partial_link.proofs.LinkedTextSteps.{open-append, open-closed, open-rest, text-after, text-same, text-kept, rest-joined, DoesAs-fails, state-by, stays-data, moves-data, depth-data}
-use Rattle.markdown_partial_link.proofs.PartialTitleReadings.{title-plain, closer-line, title-none, title-double, title-single, title-paren, title-covers}
+use Rattle.markdown_partial_link.proofs.PartialTitleReadings.{title-plain, of-closer, title-none, title-double, title-single, title-paren, title-covers}
 use Rattle.markdown_partial_link.proofs.BoolLemmas.{or-by}
 use Rattle.markdown_model.proofs.GrammarSteps.{if-true, if-false}
 use Rattle.markdown_engine.specs.StateWords.{StateWords, Words, Law, GoesIn}
 use Rattle.markdown_plan.proofs.LawStepsOfLayer.{GoesOn-map, Goes-plain, Goes-end, Goes-on, Goes-kept, Goes-ok, Goes-no, FollowsIn, follows}
 use Rattle.markdown_plan.specs.LayerEquation.{Within, AreLawful}
+
+-- Tests.
+
+-- what may be escaped is no line ending
+escapes-line : (v : ℕ) → escapes v ≡ true → (v == 10) ≡ false
+escapes-line v h =
+    or-by (v == 92) (is_closer v) h (λ g. ap (λ n. n == 10) (eqb-true v 92 g)) (λ g. of-closer v (λ n. (n == 10) ≡ false) g refl refl refl)
+
+-- what may not be escaped is neither a backslash nor the marker
+bare-code : (m v : ℕ) → is_closer m ≡ true → escapes v ≡ false → (b : Bool) → (v == m) ≡ b →
+    (v == 92) || ((v == m) || false) ≡ false
+bare-code m v k h true e =
+    let no : false ≡ true = sym (or_parts (v == 92) (is_closer v) h).1 ∙ ap is_closer (eqb-true v m e) ∙ k in cc
+bare-code m v k h false e = rw ((or_parts (v == 92) (is_closer v) h).0, e) refl
 
 -- The conditions.
 
@@ -204,21 +218,19 @@ module _ (W : Words) (within : Within states_and_called W) where
       (λ c e.
       let b : Begins c (ahead T) = ahead-some T c e in
       let cs : List Code = rest_of (ahead T) in
-      if-step P (escapes m c) _ _
-      (λ h.
-      let taken : takes b.code ≡ true = ap (escapes m) b.value ∙ h in
-      let line : is_line_ending b.code ≡ false = taken-line m k.closer b.code taken in
-      Goes-kept W 11 3 (q true) (q false) (Consume ∷ []) (rested s) T (Next TitleInside) (within TitleInside) alone refl (some-codes T c e) (omega arith)
-      (ap (q true) b.whole ∙ insides-taken (is_value m) takes (λ x. false) (title-plain m k.closer) (ending names) (ends_filled true) (ends_filled true) b.code cs taken line (λ text. filled-data b.code text line))
+      let line : escapes c ≡ true → is_line_ending b.code ≡ false = λ h. escapes-line b.code.value (ap escapes b.value ∙ h) in
+      if-step P (escapes c) _ _
+      (λ h. Goes-kept W 11 3 (q true) (q false) (Consume ∷ []) (rested s) T (Next TitleInside) (within TitleInside) alone refl (some-codes T c e) (omega arith)
+      (ap (q true) b.whole ∙ (elim (takes b.code) as (λ z. takes b.code ≡ z → q true (b.code ∷ cs) ≡ preceded (Consume ∷ []) (q false cs)) [
+        | true ↦ λ t. insides-taken (is_value m) takes (λ x. false) (title-plain m k.closer) (ending names) (ends_filled true) (ends_filled true) b.code cs t (line h) (λ text. filled-data b.code text (line h))
+        | false ↦ λ t.
+            let slash = or_parts (b.code.value == 92) _ t in
+            insides-bare (is_value m) takes (λ x. false) (title-plain m k.closer) (ending names) (ends_filled true) b.code cs t
+            ∙ insides-next (is_value m) takes (λ x. false) (title-plain m k.closer) (ending names) (ends_filled true) (ends_filled true) false b.code cs (or_parts (is_value m b.code) _ slash.1).0 refl (line h) slash.0 (λ text. filled-data b.code text (line h))
+      ]) refl)
       (passed-ready T (some-codes T c e) k)
       (λ ok U x. x))
-      (λ h. escape-goes T alone k (subst same (sym b.whole) (insides-bare (is_value m) takes (λ x. false) (title-plain m k.closer) (ending names) (ends_filled true) b.code cs (ap (escapes m) b.value ∙ h))))) where
-        taken-line : (m : ℕ) → is_closer m ≡ true → (c : Code) → is_among (92 ∷ m ∷ []) c ≡ true →
-            is_line_ending c ≡ false
-        taken-line m k c h =
-            or-by (c.value == 92) (is_value m c || false) h
-            (λ g. ap (λ v. v == 10) (eqb-true c.value 92 g))
-            (λ g. or-by (is_value m c) false g (λ f. closer-line m k c f) (λ f. let no : false ≡ true = f in cc))
+      (λ h. escape-goes T alone k (subst same (sym b.whole) (insides-bare (is_value m) takes (λ x. false) (title-plain m k.closer) (ending names) (ends_filled true) b.code cs (bare-code m b.code.value k.closer (ap escapes b.value ∙ h) (b.code.value == m) refl)))))
 
   -- Between two stretches.
 

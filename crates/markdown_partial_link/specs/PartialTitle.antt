@@ -96,14 +96,18 @@ inside_at (Some c) T = if c == byte "\n" || c == T.tokenize_state.marker then le
 abbrev pub inside_step : Tokenizer → Stepped
 inside_step T = inside_at (current_of T) T
 
+-- the marker is one that ends titles
+abbrev pub is_closer : ℕ → Bool
+is_closer m = m == byte "\"" || (m == byte "'" || m == byte ")")
+
 -- these may be escaped
-abbrev pub escapes : ℕ → ℕ → Bool
-escapes marker v = v == byte "\\" || (v == marker || false)
+abbrev pub escapes : ℕ → Bool
+escapes v = v == byte "\\" || is_closer v
 
 abbrev pub escape_at : Option ℕ → Tokenizer → Stepped
 escape_at None T = stepped (Retry TitleInside) T
 escape_at (Some c) T =
-    if escapes T.tokenize_state.marker c then stepped (Next TitleInside) (done (Consume ∷ []) T) else stepped (Retry TitleInside) T
+    if escapes c then stepped (Next TitleInside) (done (Consume ∷ []) T) else stepped (Retry TitleInside) T
 
 abbrev pub escape_step : Tokenizer → Stepped
 escape_step T = escape_at (current_of T) T
@@ -117,10 +121,6 @@ inside_stops s =
     else None))
 
 -- When they may be called.
-
--- the marker is one that ends titles
-abbrev pub is_closer : ℕ → Bool
-is_closer m = m == byte "\"" || (m == byte "'" || m == byte ")")
 
 pub record StartReady (T : Tokenizer) : Type 0 where
   pub text : TextReady T

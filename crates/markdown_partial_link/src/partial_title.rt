@@ -209,7 +209,7 @@ pub fn escape(tokenizer: &mut Tokenizer) -> Result<State, AllocError>
     ensures err { OnErr result (IsTrue tokenizer.new.failed) }
 {
     match tokenizer.current() {
-        Some(code) if code == b'\\' || code == tokenizer.tokenize_state.marker => {
+        Some(b'\\' | b'"' | b'\'' | b')') => {
             tokenizer.consume();
             Ok(State::Next(StateName::TitleInside))
         }
