@@ -111,3 +111,15 @@ pub(crate) fn whole(bytes: &[u8]) -> [Piece; 1] {
         end: (bytes.len(), 0),
     }]
 }
+
+// A request for room for these bytes, whose refusal is no fault.
+pub(crate) fn ask_in_vain(alloc: Global, bytes: &[u8]) -> Vec<u8> {
+    let mut held = Vec::new(alloc);
+    let _ = held.extend_from_slice(bytes);
+    held
+}
+
+// Whether these bytes are held, or none where they were refused.
+pub(crate) fn is_held(held: &[u8], bytes: &[u8]) -> bool {
+    held.is_empty() || held == bytes
+}

@@ -1,11 +1,12 @@
 // The pass over small texts: each run of markers a leaf, all else data. Strikethrough is on.
 //
-//     pass LENGTHS PAIRS BOUND | TEXT   what the pass leaves of the text, called by itself and then by its name, and whether its looks at
-//                                       earlier runs are as many as the pairs at least and as many as the bound at most. LENGTHS is `first`
-//                                       where the rule of three reads whole lengths, or `last`. An event is printed as `(Data 0 1)`, with
-//                                       the indices where it begins and ends
-//     none LENGTHS PAIRS BOUND | TEXT   whether the pass leaves no emphasis and no strikethrough, and the same of its looks
-//     take | TEXT                       whether the first two runs, of three markers each, lose one each where one is taken of both
+//     pass LENGTHS PAIRS BOUND | TEXT   what the pass leaves of the text, called by itself and then by its name, how many runs there are, and
+//                                       whether its looks at earlier runs are as many as the pairs at least and as many as the bound at most.
+//                                       LENGTHS is `first` where the rule of three reads whole lengths, or `last`. An event is printed as
+//                                       `(Data 0 1)`, with the indices where it begins and ends
+//     none LENGTHS PAIRS BOUND | TEXT   whether the pass leaves no pair, and the same of its runs and looks
+//     steady | TEXT                     whether the first two runs, of three markers each, lose one each where one is taken of both, behind a
+//                                       request for memory that may be refused
 //     run | TEXT                        the state that follows the start and each of three steps, each of which finds a run open; the
 //                                       registered passes, and the events
 ghost use Rattle.std.specs.Prelude.{◌≡◌, ◌<◌, ◌≤◌, ◌+◌, ◌^◌, length, slice_index_or, IsTrue, IsUtf8, OnOk, true, []};
@@ -18,8 +19,8 @@ ghost use Rattle.markdown_engine_content.specs.declared.event.Name.TheVariants.{
 ghost use Rattle.markdown_attention.specs.AttentionPass.{IsSmall};
 ghost use Rattle.markdown_test_parts.specs.Fixtures.{HaveRuns};
 
-use crate::case::{Case, whole};
-use crate::document::{self, document, options, push_flag, push_state};
+use crate::case::{Case, ask_in_vain, is_held, whole};
+use crate::document::{self, document, options, push_count, push_flag, push_state};
 use markdown_attention::attention::runs::{Runs, Sequence};
 use markdown_attention::attention::{inside, resolve, resolve_counted, start};
 use markdown_engine::tokenizer::Tokenizer;
@@ -45,7 +46,7 @@ pub(crate) fn answer(alloc: Global, case: &Case, out: &mut String) -> Result<(),
             pass(alloc, case, How::Counted, out)?;
             pass(alloc, case, How::ByName, out)
         }
-        "take" => take(alloc, case, out),
+        "steady" => take(alloc, case, out),
         "none" => find_none(alloc, case, out),
         "run" => document::answer(alloc, "emphasis", case, out),
         _ => out.push_str(" no such call"),
@@ -177,7 +178,7 @@ fn are_taken(mut runs: Runs) -> bool
     requires first { runs.turn ≡ 0 }
     requires unseen { runs.probes ≡ 0 }
 {
-    if runs.closer().is_none() {
+    if runs.closer().is_none() || runs.texts() != 0 {
         return false;
     }
     runs.advance();
@@ -193,8 +194,16 @@ fn are_taken(mut runs: Runs) -> bool
     is_counted && list.len() == 2 && list.iter().all(|run| run.size == 3 && run.remaining == 2)
 }
 
-// Appends the leaves of the text, calls the pass, and prints what it leaves. Answers the number of looks, and none where there are too many runs.
-fn pair(tokenizer: &mut Tokenizer, how: How, out: &mut String) -> Result<Option<u128>, AllocError>
+// How many runs there are, and how many looks at them.
+#[derive(Clone, Copy)]
+struct Count {
+    runs: usize,
+    probes: u128,
+}
+
+// Appends the leaves of the text, calls the pass, and prints what it leaves. Answers the numbers of runs and looks, and none where there are too
+// many runs.
+fn pair(tokenizer: &mut Tokenizer, how: How, out: &mut String) -> Result<Option<Count>, AllocError>
     requires ascii { IsAscii tokenizer.old.parse_state.now.bytes.now }
     requires utf8 { IsUtf8 tokenizer.old.parse_state.now.bytes.now }
     requires fits { length tokenizer.old.parse_state.now.bytes.now + 1 < 2 ^ 64 }
@@ -205,10 +214,13 @@ fn pair(tokenizer: &mut Tokenizer, how: How, out: &mut String) -> Result<Option<
     push_leaves(&mut tokenizer.events, bytes)?;
     let runs = Runs::new(tokenizer)?;
     if matches!(how, How::Taken) {
-        push_flag(out, are_taken(runs))?;
+        let held = ask_in_vain(tokenizer.alloc, bytes);
+        let are_taken = are_taken(runs);
+        push_flag(out, are_taken && is_held(held.as_slice(), bytes))?;
         return Ok(None);
     }
-    if !are_small(&runs.finish()) {
+    let runs = runs.finish();
+    if !are_small(&runs) {
         return Ok(None);
     }
     let mut probes = 0;
@@ -219,7 +231,10 @@ fn pair(tokenizer: &mut Tokenizer, how: How, out: &mut String) -> Result<Option<
         probes = tokenizer.tokenize_state.probes;
     }
     push_events(out, tokenizer.events.as_slice())?;
-    Ok(Some(probes))
+    Ok(Some(Count {
+        runs: runs.len(),
+        probes,
+    }))
 }
 
 // Makes the tokenizer, and calls the pass.
@@ -229,7 +244,7 @@ fn group_at(
     pieces: &[Piece],
     how: How,
     out: &mut String,
-) -> Result<Option<u128>, AllocError>
+) -> Result<Option<Count>, AllocError>
     requires content { IsContent parse_state.now.bytes.now pieces.now }
     requires ascii { IsAscii parse_state.now.bytes.now }
     requires fits { length parse_state.now.bytes.now + 1 < 2 ^ 64 }
@@ -238,13 +253,13 @@ fn group_at(
     pair(&mut tokenizer, how, out)
 }
 
-// Appends what the pass leaves of a text. Answers the number of looks, and none where the text is not in ASCII, or has too many runs.
+// Appends what the pass leaves of a text. Answers the numbers of runs and looks, and none where the text is not in ASCII, or has too many runs.
 fn group(
     alloc: Global,
     case: &Case,
     how: How,
     out: &mut String,
-) -> Result<Option<u128>, AllocError> {
+) -> Result<Option<Count>, AllocError> {
     let bytes = case.text.as_slice();
     let pieces = whole(bytes);
     if !is_content(bytes, &pieces) || !bytes.is_ascii() {
@@ -255,17 +270,21 @@ fn group(
     group_at(alloc, &parse_state, &pieces, how, out)
 }
 
-// Whether there are as many looks as pairs at least, and no more than the bound.
-fn is_within(probes: Option<u128>, case: &Case) -> bool {
+// Appends how many runs there are, and whether there are as many looks as pairs at least, and no more than the bound.
+fn push_found(out: &mut String, found: Option<Count>, case: &Case) -> Result<(), AllocError> {
+    let Some(count) = found else {
+        return out.push_str(" too many");
+    };
     let (pairs, bound) = (case.number(1) as u128, case.number(2) as u128);
-    probes.is_some_and(|probes| pairs <= probes && probes <= bound)
+    push_count(out, count.runs)?;
+    push_flag(out, pairs <= count.probes && count.probes <= bound)
 }
 
 // What the pass leaves of a text, by itself or by its name, on a line of its own.
 fn pass(alloc: Global, case: &Case, how: How, out: &mut String) -> Result<(), AllocError> {
     out.push_str("\n    ")?;
-    let probes = group(alloc, case, how, out)?;
-    push_flag(out, is_within(probes, case))
+    let found = group(alloc, case, how, out)?;
+    push_found(out, found, case)
 }
 
 // Whether one pair is taken.
@@ -274,13 +293,12 @@ fn take(alloc: Global, case: &Case, out: &mut String) -> Result<(), AllocError> 
     Ok(())
 }
 
-// Whether the pass leaves no group in a text.
+// Whether the pass leaves no pair in a text: each has a text between its markers.
 fn find_none(alloc: Global, case: &Case, out: &mut String) -> Result<(), AllocError> {
     let mut events = String::new(alloc);
-    let probes = group(alloc, case, How::Counted, &mut events)?;
-    let has_group = events.contains("Emphasis") || events.contains("Strikethrough");
-    push_flag(out, !has_group)?;
-    push_flag(out, is_within(probes, case))
+    let found = group(alloc, case, How::Counted, &mut events)?;
+    push_flag(out, !events.contains("Text"))?;
+    push_found(out, found, case)
 }
 
 // Whether the innermost open event is a run.

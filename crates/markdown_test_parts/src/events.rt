@@ -2,7 +2,7 @@
 //
 //     to_back     the nearest event of a label or a resource, from two places
 //     own_enter   the columns where two emphases begin and end, one in the other
-//     truncate    a chain of three events, and what is left of it twice
+//     steady      a chain of three events, linked behind a request for memory that may be refused, and what is left of it twice
 //     linked      an event that comes with its link back, where an event of another chain stands between
 //     edits       edits at one place between two linked events, applied at once, and whether none is left
 //
@@ -11,7 +11,7 @@
 ghost use Rattle.std.specs.Prelude.{◌≡◌, [], Some, None};
 ghost use Rattle.markdown_engine_content.specs.declared.event.Kind.TheVariants as Kind;
 
-use crate::case::Case;
+use crate::case::{Case, ask_in_vain, is_held};
 use crate::content::{DOCUMENT_START, push_place};
 use crate::document::{push_count, push_flag};
 use markdown_engine_content::event::{Content, Event, Kind, Link, Name, Point};
@@ -27,7 +27,7 @@ pub(crate) fn answer(alloc: Global, case: &Case, out: &mut String) -> Result<(),
     match case.call {
         "to_back" => find_names(out),
         "own_enter" => find_enters(out),
-        "truncate" => truncate(alloc, out),
+        "steady" => truncate(alloc, case, out),
         "linked" => push_linked(alloc, out),
         "edits" => edit(alloc, out),
         _ => out.push_str(" no such call"),
@@ -142,8 +142,8 @@ fn find_enters(out: &mut String) -> Result<(), AllocError> {
     push_count(out, second.end.column)
 }
 
-// A chain of three events.
-fn chain(events: &mut Events) -> Result<(), AllocError>
+// A chain of three events, which are linked behind a request for room for these bytes.
+fn chain(alloc: Global, events: &mut Events, bytes: &[u8]) -> Result<Vec<u8>, AllocError>
     requires { events.old ≡ [] }
 {
     events.push(linked(Name::Data, None, Content::Text))?;
@@ -151,9 +151,10 @@ fn chain(events: &mut Events) -> Result<(), AllocError>
     events.push(linked(Name::Data, None, Content::Text))?;
     events.push(plain(Kind::Exit, Name::Data))?;
     events.push(linked(Name::Data, None, Content::Text))?;
+    let held = ask_in_vain(alloc, bytes);
     link(events, 2);
     link(events, 4);
-    Ok(())
+    Ok(held)
 }
 
 // What is left of so many events.
@@ -164,9 +165,11 @@ fn push_first(out: &mut String, events: &mut Events, count: usize) -> Result<(),
 }
 
 // The link on to an event goes with it.
-fn truncate(alloc: Global, out: &mut String) -> Result<(), AllocError> {
+fn truncate(alloc: Global, case: &Case, out: &mut String) -> Result<(), AllocError> {
     let mut events = Events::new(alloc);
-    chain(&mut events)?;
+    let bytes = case.text.as_slice();
+    let held = chain(alloc, &mut events, bytes)?;
+    push_flag(out, is_held(held.as_slice(), bytes))?;
     push_events(out, events.as_slice())?;
     push_first(out, &mut events, 4)?;
     push_first(out, &mut events, 1)

@@ -18,7 +18,7 @@ use markdown_engine_content::byte_set;
 use markdown_engine_content::content::is_content;
 use markdown_engine_content::cursor::Cursor;
 use markdown_engine_index::bracket_index::BracketIndex;
-use markdown_engine_index::name_index::{NameIndex, Names};
+use markdown_engine_index::name_index::{Listed, NameIndex, Names};
 use markdown_engine_index::run_index::RunIndex;
 use markdown_engine_index::sequence_index::{Sequence, SequenceIndex};
 use markdown_engine_index::title_index::TitleIndex;
@@ -159,7 +159,7 @@ fn only(alloc: Global, word: &str) -> Result<Vec<String>, AllocError> {
 }
 
 // The first word as the only definition, the second as the only footnote, and the brackets of a text.
-fn names_in(alloc: Global, case: &Case) -> Result<Names, AllocError> {
+fn names_in<'a>(alloc: Global, case: &Case) -> Result<Names<'a>, AllocError> {
     let definitions = only(alloc, case.word(0))?;
     let notes = only(alloc, case.word(1))?;
     let brackets = BracketIndex::over(alloc, &case.text, 0, case.text.len())?;
@@ -167,7 +167,7 @@ fn names_in(alloc: Global, case: &Case) -> Result<Names, AllocError> {
 }
 
 // Appends which of the first two words are names.
-fn push_names(out: &mut String, names: &NameIndex, case: &Case) -> Result<(), AllocError> {
+fn push_names(out: &mut String, names: &Listed, case: &Case) -> Result<(), AllocError> {
     let has = (names.has(case.word(0)), names.has(case.word(1)));
     write!(out, " {has:?}")
 }

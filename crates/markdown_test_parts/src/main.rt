@@ -65,8 +65,9 @@ fn answer_all(alloc: Global, input: &str, out: &mut String) -> Result<(), AllocE
     Ok(())
 }
 
-// Reads the cases, and prints their answers.
+// Reads the cases, and prints their answers. There is room for some from the start, so that these take no memory.
 fn print_all(rt: &(impl Input + AllocGlobal), out: &mut String) -> io::Result<()> {
+    out.reserve(1 << 16)?;
     let input = io::read_to_string(rt.alloc(), rt.reader())?;
     answer_all(rt.alloc(), input.as_str(), out)?;
     Ok(())

@@ -20,6 +20,7 @@ use markdown_engine_content::event::{Content, Name};
 use markdown_engine_content::parser::{ParseState, Piece};
 use markdown_engine_index::sequence_index::SequenceIndex;
 use markdown_inline::run::construct;
+use markdown_inline::state::Inline;
 use markdown_inline::{partial_space_or_tab, partial_space_or_tab_eol, resolve, state};
 use std::alloc::{AllocError, Global};
 
@@ -110,6 +111,16 @@ fn ask_for_linked_spacing(tokenizer: &mut Tokenizer) -> StateName
         content,
     };
     partial_space_or_tab_eol::space_or_tab_eol_with_options(tokenizer, options)
+}
+
+// Runs the states of blank codes with a line ending. Where these do not hold, their events are left.
+fn run_spacing(tokenizer: &mut Tokenizer) -> Result<bool, AllocError>
+    requires alone { tokenizer.old.attempts ≡ [] }
+    requires rest { tokenizer.old.tokenize_state ≡ at_rest }
+    requires fits { codes_left tokenizer.old ≤ most }
+{
+    let name = ask_for_spacing(tokenizer);
+    tokenizer.run_state::<Inline>(name)
 }
 
 // Reads blank codes: on one line; or with a line ending behind the first code; or linked, with a line ending.
@@ -267,6 +278,7 @@ fn read_one(tokenizer: &mut Tokenizer, reading: &str, asked: Asked) -> Result<bo
     match reading {
         "data" | "letters" => read_data(tokenizer, reading),
         "space" | "spacing" | "linked" => read_blank(tokenizer, reading, asked),
+        "state" => run_spacing(tokenizer),
         "destination" | "title" | "label" => read_part(tokenizer, reading),
         "task" | "protocol" | "www" | "footnote" => read_gfm(tokenizer, reading),
         "end" => read_end(tokenizer),

@@ -12,16 +12,16 @@ pub(crate) fn error_kind(fault: &str) -> Option<ErrorKind> {
     }
 }
 
-// Reads `a` a byte at a time: a read is interrupted before each byte, and after the last one comes an error or the end.
+// Reads bytes one at a time: a read is interrupted before each, and behind the last one comes an error or the end.
 #[derive(Drop)]
-pub(crate) struct Slow {
-    pub(crate) left: usize,
+pub(crate) struct Slow<'a> {
+    pub(crate) left: &'a [u8],
     pub(crate) reads: usize,
     fails: Option<ErrorKind>,
 }
 
-impl Slow {
-    pub(crate) fn new(left: usize, fails: Option<ErrorKind>) -> Slow {
+impl<'a> Slow<'a> {
+    pub(crate) fn new(left: &'a [u8], fails: Option<ErrorKind>) -> Slow<'a> {
         Slow {
             left,
             reads: 0,
@@ -30,23 +30,23 @@ impl Slow {
     }
 }
 
-impl Read for Slow {
+impl<'a> Read for Slow<'a> {
     fn read(&mut self, buf: &mut [u8]) -> io::Result<usize> {
         self.reads = self.reads.wrapping_add(1);
         if self.reads % 2 == 1 {
             return Err(io::Error::from(ErrorKind::Interrupted));
         }
-        let Some(first) = buf.first_mut() else {
+        let Some(place) = buf.first_mut() else {
             return Ok(0);
         };
-        if self.left == 0 {
+        let Some((byte, rest)) = self.left.split_first() else {
             return match self.fails {
                 Some(kind) => Err(io::Error::from(kind)),
                 None => Ok(0),
             };
-        }
-        self.left -= 1;
-        *first = b'a';
+        };
+        *place = *byte;
+        self.left = rest;
         Ok(1)
     }
 }

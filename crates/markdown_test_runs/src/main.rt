@@ -2,17 +2,21 @@
 //!
 //! A case is one line of fields with tabs between them. The first field says how it is read:
 //!
-//! - `text` and `string`: a whole run.
+//! - `text` and `string`: a whole run. It is to find the same, moved, in a content of a prepared document with text before and behind it.
 //! - `equal` and `count`: a text, of which the run, its passes by name, and a pass that is as simple as can be are to leave the same events; and
 //!   how many they are. `passes`: the same of a string, without the simple pass.
+//! - `steady`: a text, behind whose run memory is asked for once more in vain; then the calls that take none are to answer as ever.
 //! - A single construct at the start of the content: `escape`, `reference`, `break`, `autolink`, `html`, `span` (of code, or of math), `attention`,
 //!   `task`, `protocol`, `www`, `link`, `image`, `footnote`, `end` (of the label of a link that starts before the content), `destination`, `title`,
 //!   `label`; `data`, which stops at `*` and `h`; `letters`, the same data with `H`, `W` and `w`, which goes on past letters with which no literal
 //!   begins; `space`, at least and at most so many blank codes on one line; `spacing`, blank codes with a line ending behind the first code;
-//!   `linked`, the same at the start, linked where they begin with the line ending.
-//! - A run of the program: `program`, of which the document is the input; `broken`, with a byte behind it that is not UTF-8; `slow`, with a reader that
-//!   gives `a` so many times at most, one at a time, and has a fault behind; `narrow`, with a writer that takes so many bytes at most; `mute`, with
-//!   such a writer for what goes wrong, where the input is `a`; `wordless`, where the words cannot be read.
+//!   `linked`, the same at the start, linked where they begin with the line ending; `state`, the same by their first state, which puts no event back.
+//! - A single call of a state, in the run of a text or a string: `text-call`, `string-call`. The call is the first of the state named `state=NAME`
+//!   at the byte `at=INDEX`, given as in a piece, where the scratch fields that are not at rest are those of `fields=FIELDS`. Indexes, the markers
+//!   of data, and whether a text is the first of an item are left out there.
+//! - A run of the program: `program`, of which the document is the input; `slow`, with a reader that gives it a byte at a time, and may have a fault
+//!   behind; `broken`, with such a reader and a byte behind the document that is not UTF-8; `narrow`, with a writer that takes so many bytes at
+//!   most; `mute`, with such a writer for what goes wrong, where the input is `a`; `wordless`, where the words cannot be read.
 //!
 //! The others are these, in any order but that pieces, definitions and parts of the document are taken as they come:
 //!
@@ -31,22 +35,27 @@
 //! A line of answer is the first field, and for each event `+NAME` or `-NAME`, line, column, byte and codes of the tab before the place. The
 //! beginning of linked content goes on with its content, and with the numbers of the previous and the next event of its chain. Of a single
 //! construct it also says whether it holds, how many starts of labels are open then, at which byte the tokenizer stands, and whether whitespace
-//! is still asked for. A line of answer of the program is its status, how many bytes it writes to each of its writers, and what it writes, with `;`
+//! is still asked for. Of a single call it says what the state answers, at which
+//! place it stands behind the call, which events the call adds, then the scratch fields that are not at rest, and the attempts that it opens, the
+//! innermost first. A line of answer of the program is its status, how many bytes it writes to each of its writers, and what it writes, with `;`
 //! for each line ending.
 //!
 //! Where memory is refused, the answers end there, and the status is 3.
 #![tactic(auto)]
 
+mod calls;
 mod constructs;
 mod ends;
 mod fakes;
 mod lines;
+mod moved;
 mod pairing;
 mod pairs;
 mod passes;
 mod program;
 mod row;
 mod run;
+mod steady;
 
 use crate::row::Row;
 use std::alloc::{AllocError, Global};

@@ -308,7 +308,7 @@ fn grouped(
 }
 
 // The event where it is linked to no other.
-pub(crate) fn unchained(event: Event) -> Event
+fn unchained(event: Event) -> Event
     ensures { IsFresh result }
 {
     let link = match (event.kind, event.link) {

@@ -9,12 +9,12 @@ ghost use Rattle.markdown_partial.specs.TrimmedData.{IsStretch};
 ghost use Rattle.markdown_partial.specs.TrimmedEvents.{FirstHasPlaces, HasPlaces};
 
 use crate::constructs::answer_again;
-use crate::pairing::{self, unchained};
+use crate::pairing;
 use markdown_engine::resolve::ResolveName;
 use markdown_engine::state::StateName;
 use markdown_engine::tokenizer::Tokenizer;
 use markdown_engine_content::content::is_content;
-use markdown_engine_content::event::{Event, Kind, Name, Point};
+use markdown_engine_content::event::{Event, Kind, Link, Name, Point};
 use markdown_engine_content::parser::{ParseState, Piece};
 use markdown_engine_content::walk::walk_to;
 use markdown_engine_events::events::Events;
@@ -148,52 +148,64 @@ fn resolve_all(tokenizer: &mut Tokenizer, how: Pairing) -> Result<bool, AllocErr
     Ok(true)
 }
 
-// How events are like those that passes leave. The simple pass cannot keep links from event to event.
-#[derive(Clone, Copy)]
-pub(crate) enum Likeness {
-    Equal,
-    EqualButForChains,
-    Different,
+// Whether this event is linked content.
+fn is_linked(events: &[Event], at: usize) -> bool {
+    events.get(at).is_some_and(|event| event.link.is_some())
 }
 
-// Whether the events are the same but for the links from one to another, which the others have not.
-fn are_equal_unchained(events: &[Event], others: &[Event]) -> bool {
+// An event of this list, where linked leaves that follow one another are one chain.
+fn chained_at(events: &[Event], at: usize) -> Option<Event> {
+    let event = *events.get(at)?;
+    let (before, behind) = (at.checked_sub(2), at.checked_add(2));
+    let link = event.link.map(|link| Link {
+        previous: before.filter(|at| is_linked(events, *at)),
+        next: behind.filter(|at| is_linked(events, *at)),
+        content: link.content,
+    });
+    Some(Event { link, ..event })
+}
+
+// Whether these events are the others, where linked leaves of those that follow one another are one chain.
+fn are_equal_chained(events: &[Event], others: &[Event]) -> bool {
+    for (at, event) in events.iter().enumerate() {
+        if chained_at(others, at) != Some(*event) {
+            return false;
+        }
+    }
     events.len() == others.len()
-        && events
-            .iter()
-            .zip(others)
-            .all(|(event, other)| unchained(*event) == *other)
 }
 
-// How these events are like those that are left, if each pass had what it asks for, and no call after a refusal goes on.
-fn compared(
+// Whether these events are those that are left, if each pass had what it asks for, and no call after a refusal goes on. The simple pass cannot keep
+// links from event to event.
+fn are_left(
     tokenizer: &mut Tokenizer,
     outcome: Result<bool, AllocError>,
+    how: Pairing,
     events: &[Event],
-) -> Result<Likeness, AllocError> {
+) -> Result<bool, AllocError> {
     let is_whole = match outcome {
         Ok(is_whole) => is_whole,
         Err(AllocError) => answer_again(tokenizer)?,
     };
     let others = tokenizer.events.as_slice();
-    Ok(if is_whole && events == others {
-        Likeness::Equal
-    } else if is_whole && are_equal_unchained(events, others) {
-        Likeness::EqualButForChains
-    } else {
-        Likeness::Different
-    })
+    Ok(
+        is_whole
+            && match how {
+                Pairing::ByLists => events == others,
+                Pairing::BySimpleWalk => are_equal_chained(events, others),
+            },
+    )
 }
 
-// How these events are like those of a text after its states and its passes, the runs being paired in this way.
-pub(crate) fn text_likeness(
+// Whether these events are those of a text after its states and its passes, the runs being paired in this way.
+pub(crate) fn are_of_text(
     alloc: Global,
     parse_state: &ParseState,
     pieces: &[Piece],
     first_of_item: bool,
     how: Pairing,
     events: &[Event],
-) -> Result<Likeness, AllocError>
+) -> Result<bool, AllocError>
     requires { IsTextContent parse_state.now.bytes.now pieces.now }
 {
     let mut tokenizer = Tokenizer::new(alloc, parse_state, pieces);
@@ -204,16 +216,16 @@ pub(crate) fn text_likeness(
         Ok(_) => resolve_all(&mut tokenizer, how),
         Err(AllocError) => Err(AllocError),
     };
-    compared(&mut tokenizer, outcome, events)
+    are_left(&mut tokenizer, outcome, how, events)
 }
 
-// How these events are like those of a string after its states and its passes.
-pub(crate) fn string_likeness(
+// Whether these events are those of a string after its states and its passes.
+pub(crate) fn are_of_string(
     alloc: Global,
     parse_state: &ParseState,
     pieces: &[Piece],
     events: &[Event],
-) -> Result<Likeness, AllocError>
+) -> Result<bool, AllocError>
     requires { IsContent parse_state.now.bytes.now pieces.now }
 {
     let mut tokenizer = Tokenizer::new(alloc, parse_state, pieces);
@@ -221,5 +233,5 @@ pub(crate) fn string_likeness(
         Ok(_) => resolve_all(&mut tokenizer, Pairing::ByLists),
         Err(AllocError) => Err(AllocError),
     };
-    compared(&mut tokenizer, outcome, events)
+    are_left(&mut tokenizer, outcome, Pairing::ByLists, events)
 }

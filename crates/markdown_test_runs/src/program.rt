@@ -15,7 +15,7 @@ pub(crate) fn print_program(
     match reading {
         "program" => read(alloc, row, &mut row.document.as_bytes(), out),
         "broken" => broken(alloc, row, out),
-        "slow" => slow(alloc, row, out),
+        "slow" => slow(alloc, row, row.document.as_bytes(), out),
         "narrow" => narrow(alloc, row, out),
         "mute" => mute(alloc, row, out),
         _ => wordless(alloc, row, out),
@@ -46,7 +46,7 @@ fn tell(status: u8, written: &[u8], told: &[u8], out: &mut String) -> Result<(),
     print_text(told, out)
 }
 
-// Runs the program with a reader.
+// Runs the program with a reader. There is room for its line from the start.
 fn read<R: Read>(
     alloc: Global,
     row: &Row,
@@ -54,27 +54,28 @@ fn read<R: Read>(
     out: &mut String,
 ) -> Result<(), AllocError> {
     let (mut written, mut told) = (Vec::new(alloc), Vec::new(alloc));
+    told.reserve(128)?;
     let status = run(alloc, row.words.as_slice(), reader, &mut written, &mut told);
     tell(status, written.as_slice(), told.as_slice(), out)
 }
 
-// Runs it with a document, and behind it a byte that is not UTF-8.
-fn broken(alloc: Global, row: &Row, out: &mut String) -> Result<(), AllocError> {
-    let mut bytes = row.document.as_bytes().to_vec(alloc)?;
-    bytes.push(0xFF)?;
-    read(alloc, row, &mut bytes.as_slice(), out)
-}
-
-// Runs it with a slow reader. Prints also how many bytes that has left, and whether it was read.
-fn slow(alloc: Global, row: &Row, out: &mut String) -> Result<(), AllocError> {
-    let mut reader = Slow::new(row.asked.most.unwrap_or(0), row.fault);
+// Runs it with a slow reader of these bytes. Prints also how many it has left, and whether it was read.
+fn slow(alloc: Global, row: &Row, bytes: &[u8], out: &mut String) -> Result<(), AllocError> {
+    let mut reader = Slow::new(bytes, row.fault);
     read(alloc, row, &mut reader, out)?;
-    print_count(" left", reader.left, out)?;
+    print_count(" left", reader.left.len(), out)?;
     out.push_str(if reader.reads > 0 {
         " read"
     } else {
         " not read"
     })
+}
+
+// Runs it with a slow reader of a document, and behind it a byte that is not UTF-8.
+fn broken(alloc: Global, row: &Row, out: &mut String) -> Result<(), AllocError> {
+    let mut bytes = row.document.as_bytes().to_vec(alloc)?;
+    bytes.push(0xFF)?;
+    slow(alloc, row, bytes.as_slice(), out)
 }
 
 // A narrow writer.

@@ -1,4 +1,5 @@
 // Cases: a content, and what it is read with.
+use crate::calls::Sought;
 use crate::fakes::error_kind;
 use markdown_engine_content::configuration::{Constructs, ParseOptions};
 use markdown_inline::run::Piece;
@@ -18,6 +19,8 @@ pub(crate) struct Row {
     /// The kind of error that a fake answers.
     pub(crate) fault: Option<ErrorKind>,
     pub(crate) asked: Asked,
+    /// The call of a state that is asked for.
+    pub(crate) sought: Sought,
     times: usize,
 }
 
@@ -56,6 +59,7 @@ impl Row {
                 least: 0,
                 most: None,
             },
+            sought: Sought::new(alloc),
             times: 1,
         }
     }
@@ -78,20 +82,21 @@ impl Row {
             "footnote" => push(&mut self.footnotes, text),
             "word" => push(&mut self.words, text),
             "piece" => self.add_piece(value),
+            "state" | "fields" | "at" => Ok(self.seek(name, text)),
             _ => Ok(self.set_number(name, value)),
         }
     }
 
-    // Turns a construct or an option on or off.
+    // Turns a switch of the options on or off, or something that is asked.
     fn switch(&mut self, name: &str, on: bool) -> bool {
         if switch_construct(&mut self.options.constructs, name, on) {
             return true;
         }
         match name {
-            "single_tilde" => self.options.gfm_strikethrough_single_tilde = on,
-            "single_dollar" => self.options.math_text_single_dollar = on,
-            "lengths" => self.options.attention_first_lengths = on,
-            "shortcut" => self.options.label_shortcut_before_bracket = on,
+            "gfm_strikethrough_single_tilde" => self.options.gfm_strikethrough_single_tilde = on,
+            "math_text_single_dollar" => self.options.math_text_single_dollar = on,
+            "attention_first_lengths" => self.options.attention_first_lengths = on,
+            "label_shortcut_before_bracket" => self.options.label_shortcut_before_bracket = on,
             "first_of_item" => self.asked.first_of_item = on,
             "leaves" => self.asked.leaves = on,
             "flushes" => self.asked.flushes = on,
@@ -115,6 +120,21 @@ impl Row {
             "least" => self.asked.least = number,
             "most" => self.asked.most = Some(number),
             _ => return false,
+        }
+        true
+    }
+
+    // Says of the call that is asked for its state, its place or its scratch fields.
+    fn seek(&mut self, name: &str, text: String) -> bool {
+        match name {
+            "state" => self.sought.state = text,
+            "fields" => self.sought.fields = text,
+            _ => {
+                let Some(place) = place(text.as_str()) else {
+                    return false;
+                };
+                self.sought.place = place;
+            }
         }
         true
     }

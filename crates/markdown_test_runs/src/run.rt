@@ -1,11 +1,14 @@
 // What is found in a case.
+use crate::calls::{Sought, print_string_call, print_text_call};
 use crate::constructs::print_construct;
 use crate::lines::{print_events, print_leaf, print_probes};
+use crate::moved::is_found_again;
 use crate::pairs::{print_likeness, print_string_likeness};
 use crate::program::print_program;
 use crate::row::{Asked, Row};
+use crate::steady::print_steady;
 use markdown_engine_content::parser::{ParseState, Piece};
-use markdown_inline::run::{Leaves, is_content, is_text, leaves, string, text};
+use markdown_inline::run::{Leaves, Run, is_content, is_text, leaves, string, text};
 use std::alloc::{AllocError, Global};
 
 /// Prints what is found in a case that is read so.
@@ -28,6 +31,7 @@ pub(crate) fn print_found(
         document,
         pieces,
         asked,
+        sought,
         ..
     } = row;
     let parse_state = ParseState {
@@ -36,7 +40,33 @@ pub(crate) fn print_found(
         definitions,
         gfm_footnote_definitions: footnotes,
     };
-    print_read(alloc, reading, &parse_state, pieces.as_slice(), asked, out)
+    let pieces = pieces.as_slice();
+    match reading {
+        "text-call" | "string-call" => {
+            print_call(alloc, reading, &parse_state, pieces, asked, &sought, out)
+        }
+        _ => print_read(alloc, reading, &parse_state, pieces, asked, out),
+    }
+}
+
+// Prints a single call of a state, in the run of a text or a string.
+fn print_call(
+    alloc: Global,
+    reading: &str,
+    parse_state: &ParseState,
+    pieces: &[Piece],
+    asked: Asked,
+    sought: &Sought,
+    out: &mut String,
+) -> Result<(), AllocError> {
+    let bytes = parse_state.bytes;
+    if reading == "text-call" && is_text(bytes, pieces) {
+        print_text_call(alloc, parse_state, pieces, asked.first_of_item, sought, out)
+    } else if reading == "string-call" && is_content(bytes, pieces) {
+        print_string_call(alloc, parse_state, pieces, sought, out)
+    } else {
+        out.push_str(" no content")
+    }
 }
 
 // Prints what is found in a content.
@@ -52,6 +82,7 @@ fn print_read(
         "text" => print_text(alloc, parse_state, pieces, asked, out),
         "string" => print_string(alloc, parse_state, pieces, asked, out),
         "equal" | "count" => print_pairs(alloc, reading, parse_state, pieces, asked, out),
+        "steady" => print_steady(alloc, parse_state, pieces, out),
         _ if !is_content(parse_state.bytes, pieces) => out.push_str(" no content"),
         "passes" => print_string_likeness(alloc, parse_state, pieces, out),
         _ => print_construct(alloc, reading, parse_state, pieces, asked, out),
@@ -66,10 +97,16 @@ fn print_text(
     asked: Asked,
     out: &mut String,
 ) -> Result<(), AllocError> {
-    if !is_text(parse_state.bytes, pieces) {
+    let first = asked.first_of_item;
+    let found = if is_text(parse_state.bytes, pieces) {
+        Some(text(alloc, parse_state, pieces, first)?)
+    } else {
+        None
+    };
+    print_again(alloc, parse_state, pieces, Some(first), &found, out)?;
+    let Some(run) = found else {
         return out.push_str(" no text");
-    }
-    let run = text(alloc, parse_state, pieces, asked.first_of_item)?;
+    };
     if asked.leaves {
         return print_leaves(leaves(parse_state.bytes, &run.events), out);
     }
@@ -85,14 +122,34 @@ fn print_string(
     asked: Asked,
     out: &mut String,
 ) -> Result<(), AllocError> {
-    if !is_content(parse_state.bytes, pieces) {
+    let found = if is_content(parse_state.bytes, pieces) {
+        Some(string(alloc, parse_state, pieces)?)
+    } else {
+        None
+    };
+    print_again(alloc, parse_state, pieces, None, &found, out)?;
+    let Some(run) = found else {
         return out.push_str(" no content");
-    }
-    let run = string(alloc, parse_state, pieces)?;
+    };
     if asked.leaves {
         return print_leaves(leaves(parse_state.bytes, &run.events), out);
     }
     print_events(run.events.as_slice(), asked.depth, out)
+}
+
+// Says where a content of a prepared document has something else.
+fn print_again(
+    alloc: Global,
+    parse_state: &ParseState,
+    pieces: &[Piece],
+    first_of_item: Option<bool>,
+    found: &Option<Run>,
+    out: &mut String,
+) -> Result<(), AllocError> {
+    if is_found_again(alloc, parse_state, pieces, first_of_item, found)? {
+        return Ok(());
+    }
+    out.push_str(" another in a document:")
 }
 
 // Prints leaves, one after another.

@@ -1,10 +1,8 @@
 #!/usr/bin/env python3
 """Writes stdin and stdout: the cases of this crate and the worked examples, and what has to be found in each.
 
-usage: tools/data.py            writes both, in the crate's folder
-       tools/data.py FOLDER     writes those cases alone that are read where memory is refused, into this folder
-
-What it reads are tools/cases.txt and markdown_model_examples/tools/examples.txt; src/main.rt says what it writes."""
+Run it in the crate's folder. What it reads are tools/cases.txt, tools/calls.txt and markdown_model_examples/tools/examples.txt; src/main.rt says what
+it writes."""
 import os, re, sys
 
 HERE = os.path.dirname(os.path.dirname(os.path.abspath(__file__)))
@@ -14,7 +12,7 @@ sys.dont_write_bytecode = True
 import examples
 
 CONSTRUCTS = ['escape', 'reference', 'break', 'autolink', 'html', 'span', 'attention', 'task', 'protocol', 'www', 'link', 'image', 'footnote', 'end',
-              'destination', 'title', 'label', 'data', 'letters', 'space', 'spacing', 'linked']
+              'destination', 'title', 'label', 'data', 'letters', 'space', 'spacing', 'linked', 'state']
 PROGRAMS = ['program', 'broken', 'slow', 'narrow', 'mute', 'wordless']
 OWN = {'unlabelled': ['no-attention', 'no-label_end', 'no-label_start_image', 'no-label_start_link'],
        'notes': ['gfm_label_start_footnote', 'gfm_strikethrough']}
@@ -55,7 +53,7 @@ def word_fields(words):
     """What the words turn on and off, what they define, and whether the outermost events are asked for."""
     own = [more for word in words for more in OWN.get(word, [word])]
     switched, definitions, footnotes, outer = examples.settings(own)
-    fields = [('+' if f.endswith(' = true') else '-') + f.split(' = ')[0] for f in switched]
+    fields = [('+' if value == 'true' else '-') + examples.OPTIONS.get(name, name) for name, value in (f.split(' = ') for f in switched)]
     fields += ['definition=' + escaped(name.decode()) for name in definitions]
     fields += ['footnote=' + escaped(name.decode()) for name in footnotes]
     return fields + ['depth=1'] * outer
@@ -139,23 +137,18 @@ def construct_case(kind, words, document, pieces, answer):
     fields = word_fields([word for word in words if word not in bounds]) + bounds
     fields += piece_fields(pieces, data.encode()) + list(document_fields(document))
     events, _, rest = answer.partition(';')
-    trees = [] if events == ' no' else examples.parsed(events)
+    trees = examples.parsed(events)
     passed = len(data[:1].encode()) if kind == 'spacing' else 0
     rest = rest or ' starts 0 at %d' % (trees[-1][2][0] if trees else passed)
     opened = ' +LabelLink 1:1:0:0' if kind == 'end' else ''
     linked = kind == 'linked' and data[:1] == '\n'
-    found = ' no' if events == ' no' else ' holds' + opened + printed_events(events, examples.points(data.encode()), linked)
-    return [kind] + fields, found + ';' + rest
+    held = ' no' if events.startswith(' no') else ' holds' + opened
+    return [kind] + fields, held + printed_events(events, examples.points(data.encode()), linked) + ';' + rest
 
 
-def sizes(trees):
-    """How many trees there are, and whether some leaves are linked to each other."""
-    count, chained = 0, False
-    for name, _, _, inside in trees:
-        below, linked = sizes(inside or [])
-        count += 1 + below
-        chained = chained or linked or name in examples.CHAINED and len(inside or []) > 1
-    return count, chained
+def size(trees):
+    """How many trees there are."""
+    return sum(1 + size(inside or []) for _, _, _, inside in trees)
 
 
 def pair_cases(words, document, pieces):
@@ -166,28 +159,34 @@ def pair_cases(words, document, pieces):
         yield ['equal'] + fields + piece_fields(pieces, examples.plain(document).encode()) + list(document_fields(document)), ' equal'
 
 
-def worked_pair_cases(kind, words, document, pieces, answer):
-    """The same of a worked example: with its own words, but for those that turn a construct off, and with others. Where its answer shows all
-    events, their number is expected too."""
+def likeness_case(kind, words, document, pieces, answer):
+    """The same of a text that has an answer: with its own words, but for those that turn a construct off. Where the answer shows all events, their
+    number is expected too."""
     data = examples.plain(document).encode()
-    count, chained = sizes(examples.parsed(answer)) if kind == 'text' else (0, False)
-    said = ' equal but for chains' if chained and re.search('[*_~]', document) else ' equal'
+    count = size(examples.parsed(answer)) if kind == 'text' else 0
+    said = ' equal'
     if has_blank_line(data, pieces):
         said, count = REFUSED[0], 0
-    off = [word for word in words if examples.turns_off(word)]
-    own = [word for word in words if word not in off + ['outer']]
+    words = [word for word in words if not word.startswith('probes=')]
+    own = [word for word in words if not examples.turns_off(word) and word != 'outer']
     rest = piece_fields(pieces, data) + list(document_fields(document))
     if kind == 'text' and own == words:
-        yield ['count'] + word_fields(own) + rest, '%s, %d events' % (said, 2 * count)
-    else:
-        yield ['equal'] + word_fields(own) + rest, said
-    yield ['equal'] + word_fields(RUNS + ['lengths'] + DEFINED) + rest, said
+        return ['count'] + word_fields(own) + rest, '%s, %d events' % (said, 2 * count)
+    return ['equal'] + word_fields(own) + rest, said
+
+
+def passes_cases(kind, words, document, pieces, answer):
+    """A text or a string whose passes are called one by one. Of a string all events are to be shown."""
+    if kind != 'string':
+        yield likeness_case(kind, words, document, pieces, answer)
+    elif 'outer' not in words:
+        yield passes_case(words, document, pieces, answer)
 
 
 def passes_case(words, document, pieces, answer):
     """A string whose passes are called one by one."""
     fields = word_fields(words) + piece_fields(pieces, examples.plain(document).encode()) + list(document_fields(document))
-    return ['passes'] + fields, ' equal, %d events' % (2 * sizes(examples.parsed(answer))[0])
+    return ['passes'] + fields, ' equal, %d events' % (2 * size(examples.parsed(answer)))
 
 
 def lines_of_data(data):
@@ -207,9 +206,8 @@ def program_case(kind, words, document, answer):
         status, _, line = said[8:].partition(' ')
         written, told = '', line + ';' * (line != '')
     else:
-        text = 'a' * int(own[0][5:]) if kind == 'slow' else data.decode()
         trees = lines_of_data(data) if said == ' lines' else said
-        written = ''.join(map(printed_line, examples.events(examples.parsed(trees), examples.points(text.encode()))))
+        written = ''.join(map(printed_line, examples.events(examples.parsed(trees), examples.points(data))))
         told = ''
     found = ' status %s bytes %d errors %d %s' % (status, len(written.encode()), len(told), written + told)
     return [kind] + fields + list(document_fields(document)), found + (' left ' + left if left else '')
@@ -224,10 +222,14 @@ def own_cases(line):
         yield from pair_cases(words, document, pieces)
     elif kind == 'passes':
         yield passes_case(words, document, pieces, answer)
+    elif kind == 'steady':
+        yield [kind] + piece_fields(pieces, examples.plain(document).encode()) + list(document_fields(document)), answer
     elif kind in PROGRAMS:
         yield program_case(kind, words, document, answer)
     else:
         yield run_case(kind, words, document, pieces, answer)
+        if 'leaves' not in words and answer not in REFUSED:
+            yield from passes_cases(kind, words, document, pieces, answer)
 
 
 def worked_cases(line):
@@ -240,25 +242,34 @@ def worked_cases(line):
         yield construct_case(kind, words, document, pieces, answer)
     elif kind not in examples.READINGS:
         yield run_case(kind, words, document, pieces, answer)
+        yield from passes_cases(kind, words, document, pieces, answer)
         if kind != 'string':
-            yield from worked_pair_cases(kind, words, document, pieces, answer)
+            fields, found = likeness_case(kind, RUNS + ['lengths'] + DEFINED, document, pieces, answer)
+            yield ['equal'] + fields[1:], found.partition(',')[0]
 
 
-def write(folder, cases):
+def call_case(state, line):
+    """A single call, and what is answered here."""
+    kind, *fields = line.split('\t')
+    found = [field.split('=', 1)[1] for field in fields if field.startswith(('crate=', 'here='))]
+    return [kind, 'state=' + state] + fields[:-len(found)], found[-1]
+
+
+def write(cases):
     """Each case once."""
     cases = dict(('\t'.join(fields), fields[0] + found) for fields, found in cases)
     for name, lines in (('stdin', cases.keys()), ('stdout', cases.values())):
-        with open(os.path.join(folder, name), 'w', encoding='utf-8', newline='') as file:
+        with open(os.path.join(HERE, name), 'w', encoding='utf-8', newline='') as file:
             file.write(''.join(line + '\n' for line in lines))
 
 
 def main():
     own = examples.groups_of(os.path.join(HERE, 'tools', 'cases.txt'))
-    if len(sys.argv) > 1:
-        return write(sys.argv[1], [case for line in own['Memory'] for case in own_cases(line)])
     worked = examples.groups_of(os.path.join(WORKED, 'examples.txt'))
     cases = [case for group in worked.values() for line in group for case in worked_cases(line)]
-    write(HERE, cases + [case for group in own.values() for line in group for case in own_cases(line)])
+    states = examples.groups_of(os.path.join(HERE, 'tools', 'calls.txt'))
+    calls = [call_case(state, line) for state, lines in states.items() for line in lines]
+    write(cases + [case for group in own.values() for line in group for case in own_cases(line)] + calls)
 
 
 if __name__ == '__main__':

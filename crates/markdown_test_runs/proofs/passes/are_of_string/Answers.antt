@@ -1,6 +1,6 @@
 use Rattle.markdown_run.proofs.WholeRun.{begun-starts}
 use Rattle.markdown_run.proofs.StringRun.{string-may}
-use Rattle.markdown_test_runs.proofs.passes.string_likeness.Goals as goal
+use Rattle.markdown_test_runs.proofs.passes.are_of_string.Goals as goal
 
 pub resolve_all-outcome-requires : goal.resolve_all-outcome-requires
 resolve_all-outcome-requires c =

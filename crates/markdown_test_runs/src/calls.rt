@@ -1,0 +1,230 @@
+// Single calls of states: a run goes on call by call up to one that is sought, and what that call answers and leaves is printed.
+ghost use Rattle.std.specs.Prelude.{◌≡◌, ◌++◌, [], OnOk};
+ghost use Rattle.markdown_engine_content.specs.Content.{IsContent, IsTextContent};
+ghost use Rattle.markdown_engine.specs.StateRuns.{settled};
+ghost use Rattle.markdown_run.specs.Layer.{ready_of};
+
+use markdown_engine::run::resume;
+use markdown_engine::state::{State, StateName};
+use markdown_engine::tokenizer::{Attempt, TokenizeState, Tokenizer};
+use markdown_engine_content::event::{Event, Kind, Name};
+use markdown_engine_content::parser::{ParseState, Piece};
+use markdown_inline::state;
+use markdown_lists::seq::Stack;
+use std::alloc::{AllocError, Global};
+
+/// A call that is sought: the first of this state at this place with these scratch fields.
+#[derive(Drop)]
+pub(crate) struct Sought {
+    pub(crate) state: String,
+    /// A byte, and the codes of its tab before the place.
+    pub(crate) place: (usize, usize),
+    /// The scratch fields that are not at rest, as they are printed.
+    pub(crate) fields: String,
+}
+
+impl Sought {
+    /// No call.
+    pub(crate) fn new(alloc: Global) -> Sought {
+        Sought {
+            state: String::new(alloc),
+            place: (0, 0),
+            fields: String::new(alloc),
+        }
+    }
+
+    // Whether this state, where the tokenizer stands, is the call that is sought.
+    fn is_met(&self, name: StateName, tokenizer: &Tokenizer) -> Result<bool, AllocError> {
+        let point = tokenizer.point();
+        if point.index != self.place.0 || point.vs != self.place.1 {
+            return Ok(false);
+        }
+        let mut here = String::new(tokenizer.alloc);
+        write!(here, "{name:?}")?;
+        print_fields(&tokenizer.tokenize_state, &mut here)?;
+        let Some(rest) = here.as_str().strip_prefix(self.state.as_str()) else {
+            return Ok(false);
+        };
+        Ok(rest.strip_prefix(" ").unwrap_or(rest) == self.fields.as_str())
+    }
+}
+
+// Prints the numbers among the scratch fields that are not 0.
+fn print_numbers(fields: &TokenizeState, out: &mut String) -> Result<(), AllocError> {
+    let numbers = [
+        ("marker", fields.marker as usize),
+        ("marker_b", fields.marker_b as usize),
+        ("size", fields.size),
+        ("size_b", fields.size_b),
+        ("start", fields.start),
+        ("end", fields.end),
+        ("seen", fields.seen as usize),
+        ("connect", fields.connect as usize),
+        ("space_or_tab_connect", fields.space_or_tab_connect as usize),
+        ("space_or_tab_min", fields.space_or_tab_min),
+        ("space_or_tab_max", fields.space_or_tab_max),
+        ("space_or_tab_size", fields.space_or_tab_size),
+        (
+            "space_or_tab_eol_connect",
+            fields.space_or_tab_eol_connect as usize,
+        ),
+        ("space_or_tab_eol_ok", fields.space_or_tab_eol_ok as usize),
+        ("label_starts", fields.label_starts.len()),
+        ("label_starts_loose", fields.label_starts_loose.len()),
+        ("labels", fields.labels.len()),
+    ];
+    for (name, number) in numbers {
+        if number != 0 {
+            write!(out, " {name}={number}")?;
+        }
+    }
+    Ok(())
+}
+
+// Prints the names and contents among the scratch fields that are not at rest.
+fn print_names(fields: &TokenizeState, out: &mut String) -> Result<(), AllocError> {
+    let names = [
+        ("token_1", fields.token_1),
+        ("token_2", fields.token_2),
+        ("token_3", fields.token_3),
+        ("token_4", fields.token_4),
+        ("token_5", fields.token_5),
+    ];
+    for (field, name) in names {
+        if name != Name::Data {
+            write!(out, " {field}={name:?}")?;
+        }
+    }
+    if fields.space_or_tab_token != Name::SpaceOrTab {
+        write!(out, " space_or_tab_token={:?}", fields.space_or_tab_token)?;
+    }
+    if let Some(content) = fields.space_or_tab_content {
+        write!(out, " space_or_tab_content={content:?}")?;
+    }
+    if let Some(content) = fields.space_or_tab_eol_content {
+        write!(out, " space_or_tab_eol_content={content:?}")?;
+    }
+    Ok(())
+}
+
+// Prints the scratch fields that are not at rest, but those for indexes, the markers of data, and whether a text is the first of an item.
+fn print_fields(fields: &TokenizeState, out: &mut String) -> Result<(), AllocError> {
+    print_numbers(fields, out)?;
+    print_names(fields, out)
+}
+
+// Prints the events from this one on, each by its name.
+fn print_entered(events: &[Event], from: usize, out: &mut String) -> Result<(), AllocError> {
+    for event in events.iter().skip(from) {
+        let sign = if event.kind == Kind::Enter { '+' } else { '-' };
+        write!(out, " {sign}{:?}", event.name)?;
+    }
+    Ok(())
+}
+
+// Prints an attempt: how it goes on, and whether it is a check, which is undone in any case.
+fn print_attempt(attempt: &Attempt, out: &mut String) -> Result<(), AllocError> {
+    let kind = if attempt.restores { "check" } else { "attempt" };
+    write!(out, " {kind} {:?} {:?}", attempt.ok, attempt.nok)
+}
+
+// Prints what a call answers, where it stands behind it, the events that it adds, the scratch fields, and the attempts that it opens, the
+// innermost first.
+fn print_call(
+    answer: State,
+    tokenizer: &mut Tokenizer,
+    from: usize,
+    out: &mut String,
+) -> Result<(), AllocError> {
+    let point = tokenizer.point();
+    write!(out, " {answer:?} at {}.{}", point.index, point.vs)?;
+    print_entered(tokenizer.events.as_slice(), from, out)?;
+    out.push(';')?;
+    print_fields(&tokenizer.tokenize_state, out)?;
+    out.push(';')?;
+    for _ in 0..tokenizer.attempts.len() {
+        if let Some(attempt) = tokenizer.attempts.pop() {
+            print_attempt(&attempt, out)?;
+        }
+    }
+    Ok(())
+}
+
+// Puts the attempts that a call opened on top of those that wait.
+#[tactic(auto, unfolding(markdown_engine::specs::StateRuns::settled))]
+fn hand_over<'a>(
+    waiting: &mut Stack<Attempt<'a>>,
+    tokenizer: &mut Tokenizer<'a>,
+) -> Result<(), AllocError>
+    ensures waits { OnOk result (waiting.new ≡ tokenizer.old.attempts ++ waiting.old) }
+    ensures left { OnOk result (tokenizer.new ≡ settled tokenizer.old) }
+{
+    waiting.append(&mut tokenizer.attempts)
+}
+
+// Calls state after state from this one, as a run does, up to the call that is sought, and prints that.
+fn print_from(
+    start: StateName,
+    tokenizer: &mut Tokenizer,
+    sought: &Sought,
+    out: &mut String,
+) -> Result<(), AllocError>
+    requires ready { ready_of start tokenizer.old }
+    requires alone { tokenizer.old.attempts ≡ [] }
+{
+    let mut waiting = Stack::new(tokenizer.alloc);
+    let mut state = State::Retry(start);
+    loop {
+        let ok = match state {
+            State::Next(name) | State::Retry(name) => {
+                let from = tokenizer.events.len();
+                let found = sought.is_met(name, tokenizer)?;
+                state = state::call(name, tokenizer)?;
+                if found {
+                    return print_call(state, tokenizer, from, out);
+                }
+                hand_over(&mut waiting, tokenizer)?;
+                continue;
+            }
+            State::Ok => true,
+            State::Nok => false,
+        };
+        let Some(attempt) = waiting.top() else {
+            return out.push_str(" not reached");
+        };
+        state = resume(tokenizer, attempt, ok);
+        let _ = waiting.pop();
+    }
+}
+
+/// Prints the call that is sought in the run of a text.
+pub(crate) fn print_text_call(
+    alloc: Global,
+    parse_state: &ParseState,
+    pieces: &[Piece],
+    first_of_item: bool,
+    sought: &Sought,
+    out: &mut String,
+) -> Result<(), AllocError>
+    requires { IsTextContent parse_state.now.bytes.now pieces.now }
+{
+    let mut tokenizer = Tokenizer::new(alloc, parse_state, pieces);
+    tokenizer
+        .tokenize_state
+        .document_at_first_paragraph_of_list_item = first_of_item;
+    print_from(StateName::TextStart, &mut tokenizer, sought, out)
+}
+
+/// Prints the call that is sought in the run of a string.
+pub(crate) fn print_string_call(
+    alloc: Global,
+    parse_state: &ParseState,
+    pieces: &[Piece],
+    sought: &Sought,
+    out: &mut String,
+) -> Result<(), AllocError>
+    requires { IsContent parse_state.now.bytes.now pieces.now }
+{
+    let mut tokenizer = Tokenizer::new(alloc, parse_state, pieces);
+    print_from(StateName::StringStart, &mut tokenizer, sought, out)
+}

@@ -1,0 +1,277 @@
+// The calls that take no memory: they answer as ever where it is refused.
+ghost use Rattle.std.specs.Prelude.{◌≡◌, None};
+
+use markdown_engine::state::StateName;
+use markdown_engine::tokenizer::Tokenizer;
+use markdown_engine_content::event::{Content, Event, Kind, Name, Point};
+use markdown_engine_content::parser::ParseState;
+use markdown_engine_content::util::skip::to_back;
+use markdown_engine_content::util::slice::{Position, Slice};
+use markdown_engine_content::walk::walk_to;
+use markdown_inline::options::ALL_CONSTRUCTS;
+use markdown_inline::run::{Leaves, Piece, is_content, is_text, leaves, text};
+use markdown_inline::util::char::{
+    Kind as Class, after_index, before_index, classify_opt, kind_after_index,
+};
+use markdown_inline::util::character_reference::{
+    decode_named, decode_numeric, value_max, value_test,
+};
+use markdown_inline::{laws, partial_space_or_tab, partial_space_or_tab_eol};
+use std::alloc::{AllocError, Global};
+
+// A piece between two bytes.
+fn piece(start: usize, end: usize) -> Piece {
+    Piece {
+        start: (start, 0),
+        end: (end, 0),
+    }
+}
+
+// The place before all codes.
+const DOCUMENT_START: Point = Point {
+    line: 1,
+    column: 1,
+    index: 0,
+    vs: 0,
+};
+
+// Whether references have their values.
+fn are_decoded() -> bool {
+    let named = decode_named("ngE", true) == Some("\u{2267}\u{338}")
+        && decode_named("lang", false) == Some("\u{2329}")
+        && decode_named("nosuch", true).is_none();
+    let numeric = decode_numeric("123", 10) == '{' && decode_numeric("FFFE", 16) == '\u{FFFD}';
+    let bounds = value_max(b'&') == 31 && value_max(b'#') == 7 && value_max(b'x') == 6;
+    let tests = value_test(b'&', b'z') && value_test(b'x', b'F') && !value_test(b'#', b'a');
+    named && numeric && bounds && tests
+}
+
+// Whether characters have their neighbours and classes.
+fn are_classified() -> bool {
+    let bytes = "é*".as_bytes();
+    let neighbours = before_index(bytes, 2) == Some('é') && after_index(bytes, 2) == Some('*');
+    let ends = before_index(bytes, 0).is_none() && after_index(bytes, 3).is_none();
+    let classes = kind_after_index(bytes, 0) == Class::Other
+        && kind_after_index(bytes, 2) == Class::Punctuation
+        && classify_opt(Some('\u{A0}')) == Class::Whitespace
+        && classify_opt(None) == Class::Whitespace;
+    neighbours && ends && classes
+}
+
+// Whether contents and texts are told from what is none.
+fn are_contents() -> bool {
+    let lines = [piece(2, 5), piece(7, 11)];
+    let halves = [piece(0, 1)];
+    let blank = [piece(0, 4)];
+    is_content(b"> [a\n> ](b)", &lines)
+        && is_text(b"> [a\n> ](b)", &lines)
+        && !is_content("é".as_bytes(), &halves)
+        && is_content(b"a\n\nb", &blank)
+        && !is_text(b"a\n\nb", &blank)
+}
+
+// An event of this name at the start.
+fn event(kind: Kind, name: Name) -> Event
+    ensures { result ≡ record { kind = kind; name = name; point = DOCUMENT_START; link = None } }
+{
+    Event {
+        kind,
+        name,
+        point: DOCUMENT_START,
+        link: None,
+    }
+}
+
+// Whether events are found by their names, and where they begin.
+fn are_found() -> bool {
+    let events = [
+        event(Kind::Enter, Name::Label),
+        event(Kind::Enter, Name::Data),
+        event(Kind::Exit, Name::Data),
+        event(Kind::Exit, Name::Label),
+    ];
+    let whole = Position::from_exit_event(events.as_slice(), 3);
+    let label = to_back(events.as_slice(), 1, [Name::Label].as_slice());
+    whole.start == DOCUMENT_START && whole.end == DOCUMENT_START && label == 0
+}
+
+// Whether texts are lent.
+fn are_lent() -> bool {
+    let text = "aéb".as_bytes();
+    let slice = Slice::from_indices(text, 0, 4);
+    slice.as_str() == "aéb" && Slice::from_indices(text, 1, 3).bytes.len() == 2
+}
+
+// Whether part of a tab is lent.
+#[tactic(auto, using(markdown_engine_content::proofs::DocumentPlaces::point_start))]
+fn is_tab_lent() -> bool {
+    let bytes = b"a\tb";
+    let pieces = [Piece {
+        start: (0, 0),
+        end: (1, 2),
+    }];
+    if !is_content(bytes, &pieces) {
+        return false;
+    }
+    let start = walk_to(bytes, DOCUMENT_START, (0, 0));
+    let end = walk_to(bytes, start, (1, 2));
+    let slice = Slice::from_position(bytes, &Position { start, end });
+    slice.bytes.len() == 2 && slice.before == 0 && slice.after == 1
+}
+
+// Whether whitespace is asked for.
+fn is_space_asked(tokenizer: &mut Tokenizer) -> bool {
+    let one = partial_space_or_tab::space_or_tab(tokenizer) == StateName::SpaceOrTabStart
+        && tokenizer.tokenize_state.space_or_tab_min == 1;
+    let some = partial_space_or_tab::space_or_tab_min_max(tokenizer, 2, 3);
+    let bounds = tokenizer.tokenize_state.space_or_tab_min == 2
+        && tokenizer.tokenize_state.space_or_tab_max == 3;
+    let options = partial_space_or_tab::Options {
+        min: 4,
+        max: 5,
+        kind: Name::Data,
+        connect: false,
+        content: None,
+    };
+    let other = partial_space_or_tab::space_or_tab_with_options(tokenizer, options);
+    let name = tokenizer.tokenize_state.space_or_tab_token == Name::Data;
+    one && bounds && name && some == other
+}
+
+// Whether whitespace with a line ending is asked for.
+fn is_spacing_asked(tokenizer: &mut Tokenizer) -> bool {
+    let plain = partial_space_or_tab_eol::space_or_tab_eol(tokenizer);
+    let unlinked = tokenizer.tokenize_state.space_or_tab_eol_content.is_none();
+    let options = partial_space_or_tab_eol::Options {
+        connect: false,
+        content: Some(Content::String),
+    };
+    let linked = partial_space_or_tab_eol::space_or_tab_eol_with_options(tokenizer, options);
+    let content = tokenizer.tokenize_state.space_or_tab_eol_content == Some(Content::String);
+    plain == StateName::SpaceOrTabEolStart && unlinked && linked == plain && content
+}
+
+// Whether a tokenizer passes its first code, and keeps in mind that it has failed.
+fn is_passed(tokenizer: &mut Tokenizer) -> bool {
+    if tokenizer.current() != Some(b'a') || tokenizer.previous().is_some() {
+        return false;
+    }
+    tokenizer.consume();
+    let place = tokenizer.point();
+    let is_behind = tokenizer.previous() == Some(b'a') && place.index == 1 && place.column == 2;
+    let was_well = !tokenizer.failed();
+    tokenizer.fail();
+    is_behind && was_well && tokenizer.failed()
+}
+
+// Whether a new tokenizer stands at its first code.
+fn is_begun(alloc: Global) -> bool {
+    let parse_state = ParseState {
+        bytes: b"a b",
+        options: &ALL_CONSTRUCTS,
+        definitions: Vec::new(alloc),
+        gfm_footnote_definitions: Vec::new(alloc),
+    };
+    let pieces = [piece(0, 3)];
+    if !is_content(parse_state.bytes, &pieces) {
+        return false;
+    }
+    let mut tokenizer = Tokenizer::new(alloc, &parse_state, &pieces);
+    is_space_asked(&mut tokenizer) && is_spacing_asked(&mut tokenizer) && is_passed(&mut tokenizer)
+}
+
+// Calls each law.
+fn cite_laws() {
+    laws::counts_suffice();
+    laws::data_is_tight();
+    laws::destinations_are_found();
+    laws::each_marker_is_held();
+    laws::each_pair_is_a_group();
+    laws::emails_stand_in_data();
+    laws::ends_take_the_nearest();
+    laws::escapes();
+    laws::events_give_content();
+    laws::events_nest();
+    laws::events_never_go_back();
+    laws::identifier();
+    laws::labels_are_found();
+    laws::labels_match();
+    laws::leaves_are_stretches();
+    laws::leaves_cover();
+    laws::links_are_not_mailed();
+    laws::links_do_not_nest();
+    laws::links_hold_no_email();
+    laws::merged_data_is_apart();
+    laws::no_run_is_left();
+    laws::one_element_list();
+    laws::one_end();
+    laws::one_pair_list();
+    laws::one_tree();
+    laws::pairs_are_even();
+    laws::pairs_are_local();
+    laws::pairs_are_sound();
+    laws::pairs_take_their_markers();
+    laws::probes_are_few();
+    laws::resources_are_found();
+    laws::runs_in_order_may_pair();
+    laws::tables();
+    laws::titles_are_found();
+    laws::trees_are_filled();
+    laws::unchanged();
+    laws::what_follows_is_found();
+}
+
+// A request for memory, whose refusal is no fault.
+fn ask_in_vain(alloc: Global, bytes: &[u8]) -> Vec<u8> {
+    let mut held = Vec::new(alloc);
+    let _ = held.extend_from_slice(bytes);
+    held
+}
+
+// Whether what is lent for innermost events is so many bytes.
+fn are_leaves(leaves: Leaves, size: usize) -> bool {
+    let mut lent = 0usize;
+    for leaf in leaves {
+        lent = lent.saturating_add(leaf.slice.bytes.len());
+    }
+    lent == size
+}
+
+// Prints the name of what answers as it should.
+fn print_if(holds: bool, name: &str, out: &mut String) -> Result<(), AllocError> {
+    if holds {
+        out.push(' ')?;
+        out.push_str(name)?;
+    }
+    Ok(())
+}
+
+// Prints which calls answer as they should that ask for nothing.
+fn print_steady_calls(alloc: Global, out: &mut String) -> Result<(), AllocError> {
+    cite_laws();
+    print_if(are_decoded(), "references", out)?;
+    print_if(are_classified(), "characters", out)?;
+    print_if(are_contents(), "contents", out)?;
+    print_if(are_found(), "events", out)?;
+    print_if(are_lent() && is_tab_lent(), "slices", out)?;
+    print_if(is_begun(alloc), "tokenizer", out)
+}
+
+/// Prints which calls answer as they should, also those that lend what stands in a text, behind a request for memory that may be refused.
+pub(crate) fn print_steady(
+    alloc: Global,
+    parse_state: &ParseState,
+    pieces: &[Piece],
+    out: &mut String,
+) -> Result<(), AllocError> {
+    let bytes = parse_state.bytes;
+    if !is_text(bytes, pieces) {
+        return out.push_str(" no text");
+    }
+    let run = text(alloc, parse_state, pieces, false)?;
+    let held = ask_in_vain(alloc, bytes);
+    let are_lent = are_leaves(leaves(bytes, &run.events), bytes.len());
+    print_if(are_lent, "leaves", out)?;
+    print_steady_calls(alloc, out)?;
+    print_if(held.is_empty() || held.as_slice() == bytes, "held", out)
+}
