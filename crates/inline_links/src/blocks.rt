@@ -1,0 +1,240 @@
+// Finds the texts of a document: paragraphs and headings, each as pieces of it.
+//
+// This is no block parser of CommonMark, but what serves to find links. It knows block quotes, list items, ATX headings, headings that are
+// underlined, thematic breaks, fenced and indented code, and definitions that stand on one line. A table is read as a paragraph, and so is a
+// block of HTML. A line ends with LF, or with CR LF.
+
+use crate::definition::{Definition, definition_at};
+use crate::rest::{Container, Fence, Rest};
+use markdown_inline::parser::Piece;
+use std::alloc::{AllocError, Global};
+
+/// The texts of a document, and its definitions.
+#[derive(Drop)]
+pub struct Blocks {
+    /// The pieces of each text.
+    pub texts: Vec<Vec<Piece>>,
+    /// The definitions, in order.
+    pub definitions: Vec<Definition>,
+}
+
+// What is known between two lines.
+#[derive(Drop)]
+struct Splitter<'a> {
+    alloc: Global,
+    bytes: &'a [u8],
+    found: Blocks,
+    // What the last line stands in, the outermost first.
+    containers: Vec<Container>,
+    // The fence of the code that is open.
+    fence: Option<Fence>,
+    // The lines of the paragraph that is open, each without and with its line ending.
+    text: Vec<(Piece, usize)>,
+}
+
+// Where a line of the document begins and ends, without its line ending and with it.
+#[derive(Clone, Copy)]
+struct Line {
+    start: usize,
+    end: usize,
+    next: usize,
+}
+
+impl<'a> Splitter<'a> {
+    // The index at which the rest of a line begins.
+    fn index_of(&self, line: Line, rest: Rest) -> usize {
+        line.end.saturating_sub(rest.bytes.len())
+    }
+
+    // Ends the paragraph that is open: takes the definitions at its front, and keeps what is left as a text.
+    fn finish(&mut self) -> Result<(), AllocError> {
+        let mut pieces = Vec::new(self.alloc);
+        let mut end = 0;
+        for line in &self.text {
+            let (piece, next) = *line;
+            if pieces.is_empty() {
+                if let Some(definition) = definition_at(self.alloc, self.bytes, piece)? {
+                    self.found.definitions.push(definition)?;
+                    continue;
+                }
+            }
+            end = piece.end.0;
+            pieces.push(Piece {
+                start: piece.start,
+                end: (next, 0),
+            })?;
+        }
+        self.text.clear();
+        if let Some(last) = pieces.last_mut() {
+            last.end = (end, 0);
+            self.found.texts.push(pieces)?;
+        }
+        Ok(())
+    }
+
+    // Keeps a text of one line.
+    fn push_heading(&mut self, start: usize, len: usize) -> Result<(), AllocError> {
+        if len == 0 {
+            return Ok(());
+        }
+        let mut pieces = Vec::new(self.alloc);
+        pieces.push(Piece {
+            start: (start, 0),
+            end: (start.saturating_add(len), 0),
+        })?;
+        self.found.texts.push(pieces)?;
+        Ok(())
+    }
+
+    // Adds a line to the paragraph that is open, or opens one.
+    fn push_text(&mut self, line: Line, rest: Rest) -> Result<(), AllocError> {
+        let start = self.index_of(line, rest.trimmed());
+        let piece = Piece {
+            start: (start, 0),
+            end: (line.end, 0),
+        };
+        self.text.push((piece, line.next))?;
+        Ok(())
+    }
+
+    // Reads the rest of a line inside its containers.
+    fn read_leaf(&mut self, line: Line, rest: Rest) -> Result<(), AllocError> {
+        if rest.is_blank() {
+            return self.finish();
+        }
+        if self.text.is_empty() && rest.indent() >= 4 {
+            return Ok(());
+        }
+        if let Some(fence) = rest.fence() {
+            self.fence = Some(fence);
+            return self.finish();
+        }
+        if let Some(inside) = rest.heading() {
+            self.finish()?;
+            let start = self.index_of(line, heading_start(rest));
+            return self.push_heading(start, inside.bytes.len());
+        }
+        if rest.is_break() || !self.text.is_empty() && rest.is_underline() {
+            return self.finish();
+        }
+        self.push_text(line, rest)
+    }
+
+    // Passes what a line begins with of the containers that are open, and counts them.
+    fn enter(&self, line: Line) -> (usize, Rest<'a>) {
+        let mut rest = Rest {
+            bytes: line_bytes(self.bytes, line),
+            column: 0,
+        };
+        let mut entered = 0usize;
+        for container in &self.containers {
+            let Some(inner) = rest.enter(*container) else {
+                break;
+            };
+            rest = inner;
+            entered = entered.saturating_add(1);
+        }
+        (entered, rest)
+    }
+
+    // Opens the containers that begin here.
+    fn open(&mut self, rest: Rest<'a>) -> Result<Rest<'a>, AllocError> {
+        let mut rest = rest;
+        for _ in 0..rest.bytes.len() {
+            let Some((container, inner)) = rest.container(!self.text.is_empty()) else {
+                break;
+            };
+            self.finish()?;
+            self.containers.push(container)?;
+            rest = inner;
+        }
+        Ok(rest)
+    }
+
+    // Whether a line goes on the paragraph that is open, though it does not begin with all containers.
+    fn is_lazy(&self, rest: Rest) -> bool {
+        !self.text.is_empty()
+            && !rest.is_blank()
+            && !rest.is_break()
+            && rest.container(true).is_none()
+            && rest.heading().is_none()
+            && rest.fence().is_none()
+    }
+
+    // Reads a line.
+    fn read(&mut self, line: Line) -> Result<(), AllocError> {
+        let (entered, rest) = self.enter(line);
+        let is_inside = entered == self.containers.len();
+        if let Some(fence) = self.fence {
+            if is_inside {
+                if rest.ends(fence) {
+                    self.fence = None;
+                }
+                return Ok(());
+            }
+            self.fence = None;
+        }
+        if !is_inside {
+            if self.is_lazy(rest) {
+                return self.push_text(line, rest);
+            }
+            self.finish()?;
+            self.containers.truncate(entered);
+        }
+        let rest = self.open(rest)?;
+        self.read_leaf(line, rest)
+    }
+}
+
+// Where the inside of a heading begins.
+fn heading_start(rest: Rest) -> Rest {
+    let marker = rest.trimmed();
+    marker
+        .past(crate::rest::count_first(marker.bytes, b'#'))
+        .trimmed()
+}
+
+// The bytes of a line, without its line ending.
+fn line_bytes(bytes: &[u8], line: Line) -> &[u8] {
+    if line.start <= line.end && line.end <= bytes.len() {
+        &bytes[line.start..line.end]
+    } else {
+        b""
+    }
+}
+
+// The line from a start up to a line feed, or to the end of the document.
+fn line_at(bytes: &[u8], start: usize, feed: usize) -> Line {
+    let has_return = start < feed && feed <= bytes.len() && bytes[feed - 1] == b'\r';
+    Line {
+        start,
+        end: if has_return { feed - 1 } else { feed },
+        next: feed.saturating_add(1),
+    }
+}
+
+/// The texts and the definitions of a document.
+pub fn of(alloc: Global, bytes: &[u8]) -> Result<Blocks, AllocError> {
+    let mut splitter = Splitter {
+        alloc,
+        bytes,
+        found: Blocks {
+            texts: Vec::new(alloc),
+            definitions: Vec::new(alloc),
+        },
+        containers: Vec::new(alloc),
+        fence: None,
+        text: Vec::new(alloc),
+    };
+    let mut start = 0;
+    for index in 0..bytes.len() {
+        if bytes[index] == b'\n' {
+            splitter.read(line_at(bytes, start, index))?;
+            start = index + 1;
+        }
+    }
+    splitter.read(line_at(bytes, start, bytes.len()))?;
+    splitter.finish()?;
+    let Splitter { found, .. } = splitter;
+    Ok(found)
+}

@@ -1,0 +1,46 @@
+//! Lists where the links, images, autolinks and literals of a Markdown file lead.
+//!
+//! Reads the file from standard input. Writes a line for each: line, column, kind, destination, title, with a tab between two of them. The
+//! status is 0; 3 where the file is not UTF-8; 5 where memory is refused; 6 where reading or writing fails.
+#![tactic(auto)]
+
+mod blocks;
+mod definition;
+mod links;
+mod rest;
+mod strings;
+
+use markdown_inline::document::Document;
+use std::alloc::{AllocError, Global};
+use std::io::Read;
+use std::process::ExitCode;
+
+// The lines of all texts of a document; none where it is not UTF-8.
+fn listed(alloc: Global, bytes: &[u8]) -> Result<Option<String>, AllocError> {
+    let blocks = blocks::of(alloc, bytes)?;
+    let targets = definition::targets(alloc, blocks.definitions.as_slice())?;
+    let parse_state = links::parse_state(alloc, bytes, blocks.definitions.as_slice())?;
+    let Some(document) = Document::new(alloc, parse_state)? else {
+        return Ok(None);
+    };
+    let mut lines = String::new(alloc);
+    for text in &blocks.texts {
+        let events = links::events_of(alloc, &document, text.as_slice())?;
+        links::push_lines(alloc, &mut lines, bytes, events.as_slice(), &targets)?;
+    }
+    Ok(Some(lines))
+}
+
+fn main(rt: HostRuntime) -> ExitCode {
+    let alloc = rt.alloc();
+    let mut bytes = Vec::new(alloc);
+    if rt.stdin().read_to_end(&mut bytes).is_err() {
+        return ExitCode::from(6);
+    }
+    match listed(alloc, bytes.as_slice()) {
+        Ok(Some(lines)) if print!(rt; "{lines}").is_ok() => ExitCode::SUCCESS,
+        Ok(Some(_)) => ExitCode::from(6),
+        Ok(None) => ExitCode::from(3),
+        Err(_) => ExitCode::from(5),
+    }
+}

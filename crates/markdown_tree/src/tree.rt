@@ -1,0 +1,148 @@
+// The tree that a list of events is.
+ghost use Rattle.std.specs.Prelude.{◌≡◌, ◌+◌, ◌<◌, IfOk, IfSome, length, slice_get};
+ghost use Rattle.markdown_tree.specs.Nodes.{enter_at, exit_at, node_at, first_child_at, next_sibling_at, parent_at, events_at};
+
+use crate::index::{exits, parents};
+use crate::node::Node;
+use markdown_engine_content::event::{Event, Kind};
+use std::alloc::{AllocError, Global};
+use std::marker::Model;
+
+/// The tree that a list of events is, over the events themselves. It holds four words for each of them.
+///
+/// A node is the number of an Enter in the list, from 0. Contracts see the tree as the list of its events.
+#[derive(Drop)]
+pub struct Tree<'a> {
+    events: &'a [Event],
+    // For each event the number of the innermost Enter that is open before it.
+    parents: Vec<Option<usize>>,
+    // For each event the number of the first Exit behind it that ends no Enter behind it.
+    exits: Vec<Option<usize>>,
+}
+
+impl<'a> Model for Tree<'a> {
+    ghost use Rattle.std.specs.Prelude.{◌≡◌, List};
+    ghost use Rattle.markdown_engine_content.specs.declared.event.Event.{Event};
+    ghost use Rattle.markdown_tree.specs.TreeIndex.{parents_of, exits_of};
+
+    ghost Value = { List Event };
+
+    ghost view = { λ t. t.events.now };
+
+    ghost invariant = { λ t. (t.parents.items ≡ parents_of t.events.now) × (t.exits.items ≡ exits_of t.events.now) };
+}
+
+impl<'a> Tree<'a> {
+    /// The tree of these events. Takes memory for four words an event, and at first for one more where nodes stand in one another.
+    ///
+    /// The error comes only where memory is refused.
+    pub fn new(alloc: Global, events: &'a [Event]) -> Result<Tree<'a>, AllocError>
+        ensures { IfOk result (λ tree. tree ≡ events.entry.now) }
+    {
+        let parents = parents(alloc, events)?;
+        let exits = exits(alloc, events)?;
+        Ok(Tree {
+            events,
+            parents,
+            exits,
+        })
+    }
+
+    // The event of this number.
+    fn event(&self, number: usize) -> Option<Event>
+        ensures { result ≡ slice_get self.now number }
+    {
+        if number < self.events.len() {
+            Some(self.events[number])
+        } else {
+            None
+        }
+    }
+
+    // The number itself, where it is that of an Enter.
+    fn enter(&self, number: usize) -> Option<usize>
+        ensures { result ≡ enter_at self.now number }
+    {
+        match self.event(number)?.kind {
+            Kind::Enter => Some(number),
+            Kind::Exit => None,
+        }
+    }
+
+    // The number behind this one, where it is that of an Enter.
+    fn enter_behind(&self, number: usize) -> Option<usize>
+        ensures { result ≡ enter_at self.now (number + 1) }
+    {
+        if number < self.events.len() {
+            self.enter(number + 1)
+        } else {
+            None
+        }
+    }
+
+    // The number of a node's Exit.
+    fn exit(&self, node: usize) -> Option<usize>
+        ensures exit { result ≡ exit_at self.now node }
+        ensures within { IfSome result (λ exit. (node < exit) × (exit < length self.now)) }
+    {
+        let enter = self.enter(node)?;
+        self.exits[enter]
+    }
+
+    /// The first node of all.
+    pub fn first(&self) -> Option<usize>
+        ensures { result ≡ enter_at self.now 0 }
+    {
+        self.enter(0)
+    }
+
+    /// What a node is, and where; `None` where the number is not that of an Enter with an Exit.
+    pub fn node(&self, node: usize) -> Option<Node>
+        ensures { result ≡ node_at self.now node }
+    {
+        let exit = self.exit(node)?;
+        let first = self.event(node)?;
+        let last = self.event(exit)?;
+        Some(Node {
+            enter: node,
+            exit,
+            name: first.name,
+            start: first.point,
+            end: last.point,
+        })
+    }
+
+    /// The events of a node, from its Enter to its Exit; none where the number is not that of an Enter with an Exit.
+    pub fn events(&self, node: usize) -> &'a [Event]
+        ensures { result.now ≡ events_at self.now node }
+    {
+        match self.exit(node) {
+            Some(exit) => &self.events[node..exit + 1],
+            None => &[],
+        }
+    }
+
+    /// The node that a node stands in.
+    pub fn parent(&self, node: usize) -> Option<usize>
+        ensures { result ≡ parent_at self.now node }
+    {
+        let enter = self.enter(node)?;
+        self.parents[enter]
+    }
+
+    /// The first node inside a node.
+    pub fn first_child(&self, node: usize) -> Option<usize>
+        ensures { result ≡ first_child_at self.now node }
+    {
+        let enter = self.enter(node)?;
+        self.enter_behind(enter)
+    }
+
+    /// The node behind a node, with the same parent.
+    pub fn next_sibling(&self, node: usize) -> Option<usize>
+        ensures { result ≡ next_sibling_at self.now node }
+    {
+        let exit = self.exit(node)?;
+        self.enter_behind(exit)
+    }
+}
