@@ -1,0 +1,167 @@
+//! Writes the HTML of a paragraph that it reads from standard input.
+//!
+//! The first word is `text`. The others are those of `mdinline` but `label=`: `gfm`, `math`, `task`, `cm-lengths`, `cm-shortcut`, `note=TEXT`; and
+//! `raw`, which writes raw HTML as it stands; `any-link`, by which links lead wherever they say; `define=LABEL`, which defines a label, followed
+//! by `to=DESTINATION` and perhaps `title=TEXT`. One final line ending is dropped.
+//!
+//! The status is 0; 2 where a word is not known; 3 where the input is not UTF-8; 4 where a line is blank; 5 where memory is refused; 6 where
+//! reading or writing fails.
+#![tactic(auto)]
+
+ghost use Rattle.std.specs.Prelude.{◌≡◌, IfOk, IfSome};
+ghost use Rattle.markdown_engine_content.specs.Content.{content_of};
+ghost use Rattle.markdown_html.specs.View.{page_from};
+ghost use Rattle.markdown_html_model.specs.Html.{html};
+ghost use Rattle.markdown_model.specs.InlineTree.{text_tree};
+ghost use Rattle.markdown_run_text.specs.RunSetting.{text_setting_of};
+
+mod words;
+
+use markdown_html::to_html;
+use markdown_html_model::options::{Definition, HtmlOptions};
+use markdown_inline::parser::{ParseState, Piece};
+use markdown_inline::run;
+use std::alloc::{AllocError, Global};
+use std::env;
+use std::io::{self, ErrorKind, Read, Write};
+use std::process::ExitCode;
+use words::Asked;
+
+/// Why the program ends without its output.
+#[derive(Clone, Copy)]
+enum Fault {
+    /// A word is not known.
+    Usage,
+    /// The input is not UTF-8.
+    NotText,
+    /// A line of the input is blank.
+    BlankLine,
+    /// Memory was refused.
+    OutOfMemory,
+    /// Reading or writing failed.
+    Io,
+}
+
+impl Fault {
+    // The status that the program ends with.
+    fn status(self) -> u8 {
+        match self {
+            Fault::Usage => 2,
+            Fault::NotText => 3,
+            Fault::BlankLine => 4,
+            Fault::OutOfMemory => 5,
+            Fault::Io => 6,
+        }
+    }
+}
+
+impl From<AllocError> for Fault {
+    fn from(_error: AllocError) -> Fault {
+        Fault::OutOfMemory
+    }
+}
+
+// Refused memory is that wherever it comes.
+fn fault_of(error: io::Error) -> Fault {
+    match error.kind() {
+        ErrorKind::OutOfMemory => Fault::OutOfMemory,
+        _ => Fault::Io,
+    }
+}
+
+// The HTML of pieces of a document; none where they are no paragraph.
+fn html_of(
+    alloc: Global,
+    parse_state: &ParseState,
+    pieces: &[Piece],
+    first_of_item: bool,
+    definitions: &[Definition],
+    options: HtmlOptions,
+) -> Result<Option<Vec<u8>>, AllocError>
+    ensures { let s = text_setting_of parse_state.now first_of_item in let tree = text_tree s (content_of s.bytes pieces.now) in IfOk result (λ found. IfSome found (λ written. written.items ≡ html (page_from s.bytes definitions.now options) tree)) }
+{
+    if !run::is_text(parse_state.bytes, pieces) {
+        return Ok(None);
+    }
+    let found = run::text(alloc, parse_state, pieces, first_of_item)?;
+    let html = to_html(
+        alloc,
+        parse_state.bytes,
+        found.events.as_slice(),
+        definitions,
+        options,
+    )?;
+    Ok(Some(html))
+}
+
+// The HTML of a paragraph with what the words ask.
+fn html(alloc: Global, bytes: &[u8], asked: Asked) -> Result<Vec<u8>, Fault> {
+    let Asked {
+        options,
+        html,
+        definitions,
+        footnotes,
+        first_of_item,
+    } = asked;
+    let parse_state = ParseState {
+        bytes,
+        options: &options,
+        definitions: words::identifiers_of(alloc, definitions.as_slice())?,
+        gfm_footnote_definitions: footnotes,
+    };
+    let pieces = [Piece {
+        start: (0, 0),
+        end: (bytes.len(), 0),
+    }];
+    let definitions = definitions.as_slice();
+    let found = html_of(
+        alloc,
+        &parse_state,
+        &pieces,
+        first_of_item,
+        definitions,
+        html,
+    )?;
+    found.ok_or(Fault::BlankLine)
+}
+
+// The bytes without one final line ending.
+fn without_line_ending(bytes: &[u8]) -> &[u8] {
+    let bytes = bytes.strip_suffix(b"\n").unwrap_or(bytes);
+    bytes.strip_suffix(b"\r").unwrap_or(bytes)
+}
+
+// Reads the words and the input, and writes the HTML.
+fn run<R: Read, W: Write>(
+    alloc: Global,
+    words: &[String],
+    reader: &mut R,
+    out: &mut W,
+) -> Result<(), Fault> {
+    let Some(asked) = words::read(alloc, words)? else {
+        return Err(Fault::Usage);
+    };
+    let mut bytes = Vec::new(alloc);
+    reader.read_to_end(&mut bytes).map_err(fault_of)?;
+    if str::from_utf8(bytes.as_slice()).is_err() {
+        return Err(Fault::NotText);
+    }
+    let html = html(alloc, without_line_ending(bytes.as_slice()), asked)?;
+    out.write_all(html.as_slice()).map_err(fault_of)?;
+    out.write_all(b"\n").map_err(fault_of)?;
+    out.flush().map_err(fault_of)
+}
+
+// The words after the program's name.
+fn words_of(rt: &HostRuntime, alloc: Global) -> io::Result<Vec<String>> {
+    Ok(env::args(rt)?.skip(1).collect(alloc)?)
+}
+
+fn main(rt: HostRuntime) -> ExitCode {
+    let alloc = rt.alloc();
+    let ended = match words_of(&rt, alloc) {
+        Ok(words) => run(alloc, words.as_slice(), &mut rt.stdin(), &mut rt.stdout()),
+        Err(error) => Err(fault_of(error)),
+    };
+    ExitCode::from(ended.map_or_else(Fault::status, |()| 0))
+}

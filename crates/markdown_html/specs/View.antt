@@ -1,0 +1,35 @@
+-- What the types of the writer are, as the definitions see them.
+use Rattle.std.specs.Prelude.{List, ℕ, map, reverse, string_bytes, Option}
+use Rattle.std.specs.Option.{option_map}
+use Rattle.markdown_html_model.specs.Html.{Defined, Page, Parts, Target}
+use Rattle.markdown_html_model.specs.declared.options.Definition.{Definition}
+use Rattle.markdown_html_model.specs.declared.options.HtmlOptions.{HtmlOptions}
+use Rattle.markdown_html.specs.EventWalk.{Open, State}
+use Rattle.markdown_html.specs.declared.addresses.Given.{Given}
+use Rattle.markdown_html.specs.declared.found.Found.{Found}
+use Rattle.markdown_html.specs.declared.targets.Goal.{Goal}
+use Rattle.markdown_html.specs.declared.writer.Entry.{Entry}
+use Rattle.markdown_html.specs.declared.writer.Writer.{Writer}
+
+abbrev pub defined_of : Definition → Defined
+defined_of d = record { identifier = string_bytes d.identifier; destination = string_bytes d.destination; title = option_map string_bytes d.title }
+
+-- what a run of the writer is given
+abbrev pub page_from : List ℕ → List Definition → HtmlOptions → Page
+page_from bytes definitions options = record { bytes = bytes; definitions = map defined_of definitions; options = options }
+
+abbrev pub page_of : Given → Page
+page_of g = page_from g.bytes.now g.definitions.now g.options
+
+abbrev pub parts_of : Found → Parts
+parts_of f = record { destination = option_map (λ v. v.items) f.destination; title = option_map (λ v. v.items) f.title; label = f.label }
+
+abbrev pub target_view : Goal → Target
+target_view g = record { destination = g.destination.now; title = option_map (λ t. t.now) g.title }
+
+abbrev pub open_view : Entry → Open
+open_view e = record { start = e.start; point = e.point; within = e.within; parts = parts_of e.found }
+
+-- of what is open the innermost comes first
+abbrev pub state_of : Writer → State
+state_of w = record { out = w.out.items; within = w.within; parts = parts_of w.found; opened = reverse (map open_view w.entries.items) }

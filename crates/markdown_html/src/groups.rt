@@ -1,0 +1,212 @@
+// What holds others: what is written around its inside, or in place of it.
+#![tactic(auto)]
+
+ghost use Rattle.std.specs.Prelude.{◌≡◌, ◌++◌, ◌==◌, if◌then◌else◌, not, IfOk, OnOk, map};
+ghost use Rattle.std.specs.List.{list_any};
+ghost use Rattle.markdown_html_text.specs.Resolved.{resolved};
+ghost use Rattle.markdown_html_model.specs.Html.{begins_with_space, closing, ends_with_space, group_html, image_html, link_html, opening, span_html, span_text, text_html, without_padding};
+ghost use Rattle.markdown_html.specs.View.{page_of, parts_of, target_view};
+
+use crate::addresses::{
+    Given, push_image_address, push_link_address, push_tag, push_text, push_title,
+};
+use crate::found::Found;
+use crate::stretch::{bytes_before, bytes_between};
+use crate::targets::{Goal, target};
+use markdown_engine_content::event::Point;
+use markdown_html_model::role::{Role, Within};
+use markdown_html_text::escape::push_escaped;
+use markdown_html_text::resolve::{bytes_from, push_resolved};
+use std::alloc::{AllocError, Global};
+
+// What is written before the inside.
+pub(crate) fn push_opening(out: &mut Vec<u8>, within: Within, role: Role) -> Result<(), AllocError>
+    ensures { OnOk result (out.new.items ≡ out.old.items ++ opening within role) }
+{
+    match role {
+        Role::Emphasis => push_tag(out, within, b"<em>"),
+        Role::Strong => push_tag(out, within, b"<strong>"),
+        Role::Strikethrough => push_tag(out, within, b"<del>"),
+        Role::Check => push_tag(out, within, b"<input type=\"checkbox\" disabled=\"\" "),
+        _ => Ok(()),
+    }
+}
+
+// What is written after the inside.
+pub(crate) fn push_closing(out: &mut Vec<u8>, within: Within, role: Role) -> Result<(), AllocError>
+    ensures { OnOk result (out.new.items ≡ out.old.items ++ closing within role) }
+{
+    match role {
+        Role::Emphasis => push_tag(out, within, b"</em>"),
+        Role::Strong => push_tag(out, within, b"</strong>"),
+        Role::Strikethrough => push_tag(out, within, b"</del>"),
+        Role::Check => push_tag(out, within, b"/>"),
+        _ => Ok(()),
+    }
+}
+
+fn begins_with_space(text: &[u8]) -> bool
+    ensures { result ≡ begins_with_space text.now }
+{
+    matches!(text, [b' ', ..])
+}
+
+fn ends_with_space(text: &[u8]) -> bool
+    ensures { result ≡ ends_with_space text.now }
+{
+    begins_with_space(bytes_from(text, text.len().saturating_sub(1)))
+}
+
+fn is_filled(text: &[u8]) -> bool
+    ensures { result ≡ list_any (λ b. not (b == 32)) text.now }
+{
+    text.iter().any(|byte| !(*byte == b' '))
+}
+
+// Without one space at each end, where both are there and not all are spaces.
+fn without_padding(text: &[u8]) -> &[u8]
+    ensures { result.now ≡ without_padding text.now }
+{
+    if begins_with_space(text) && ends_with_space(text) && is_filled(text) {
+        bytes_before(bytes_from(text, 1), text.len().saturating_sub(2))
+    } else {
+        text
+    }
+}
+
+fn spaced(byte: u8) -> u8
+    ensures { result ≡ (if byte == 10 then 32 else byte) }
+{
+    if byte == b'\n' { b' ' } else { byte }
+}
+
+// The text of a span with spaces in place of line endings.
+fn on_one_line(alloc: Global, inside: &[u8]) -> Result<Vec<u8>, AllocError>
+    ensures { IfOk result (λ text. text.items ≡ map (λ b. if b == 10 then 32 else b) inside.now) }
+{
+    let mut text = Vec::new(alloc);
+    for byte in inside {
+        text.push(spaced(*byte))?;
+    }
+    Ok(text)
+}
+
+fn push_span(
+    alloc: Global,
+    out: &mut Vec<u8>,
+    within: Within,
+    front: &[u8],
+    inside: &[u8],
+) -> Result<(), AllocError>
+    ensures { OnOk result (out.new.items ≡ out.old.items ++ span_html within front.now (span_text inside.now)) }
+{
+    let line = on_one_line(alloc, inside)?;
+    let text = without_padding(line.as_slice());
+    if matches!(within, Within::InText) {
+        return out.extend_from_slice(text);
+    }
+    out.extend_from_slice(front)?;
+    push_escaped(out, text)?;
+    out.extend_from_slice(b"</code>")
+}
+
+fn push_link(
+    given: &Given,
+    out: &mut Vec<u8>,
+    within: Within,
+    to: Goal,
+    inside: &[u8],
+) -> Result<(), AllocError>
+    ensures { OnOk result (out.new.items ≡ out.old.items ++ link_html (page_of given.now) within (target_view to.entry) inside.now) }
+{
+    if matches!(within, Within::InText) {
+        return out.extend_from_slice(inside);
+    }
+    out.extend_from_slice(b"<a href=\"")?;
+    push_link_address(given, out, to.destination)?;
+    out.extend_from_slice(b"\"")?;
+    push_title(out, to.title)?;
+    out.extend_from_slice(b">")?;
+    out.extend_from_slice(inside)?;
+    out.extend_from_slice(b"</a>")
+}
+
+fn push_image(
+    given: &Given,
+    out: &mut Vec<u8>,
+    within: Within,
+    to: Goal,
+    inside: &[u8],
+) -> Result<(), AllocError>
+    ensures { OnOk result (out.new.items ≡ out.old.items ++ image_html (page_of given.now) within (target_view to.entry) inside.now) }
+{
+    if matches!(within, Within::InText) {
+        return out.extend_from_slice(inside);
+    }
+    out.extend_from_slice(b"<img src=\"")?;
+    push_image_address(given, out, to.destination)?;
+    out.extend_from_slice(b"\" alt=\"")?;
+    push_escaped(out, inside)?;
+    out.extend_from_slice(b"\"")?;
+    push_title(out, to.title)?;
+    out.extend_from_slice(b" />")
+}
+
+// The text of the reference that stands from a place to a place.
+fn push_reference(
+    alloc: Global,
+    out: &mut Vec<u8>,
+    within: Within,
+    reference: &[u8],
+) -> Result<(), AllocError>
+    ensures { OnOk result (out.new.items ≡ out.old.items ++ text_html within (resolved reference.now)) }
+{
+    let mut text = Vec::new(alloc);
+    push_resolved(alloc, &mut text, reference)?;
+    push_text(out, within, text.as_slice())
+}
+
+// What is written of something from one place to another, by what is inside it.
+pub(crate) fn push_group(
+    alloc: Global,
+    given: &Given,
+    out: &mut Vec<u8>,
+    within: Within,
+    role: Role,
+    from: Point,
+    to: Point,
+    inside: &[u8],
+    found: &Found,
+) -> Result<(), AllocError>
+    ensures { OnOk result (out.new.items ≡ out.old.items ++ group_html (page_of given.now) within role from to inside.now (parts_of found.now)) }
+{
+    match role {
+        Role::Code => push_span(alloc, out, within, b"<code>", inside),
+        Role::Math => push_span(
+            alloc,
+            out,
+            within,
+            b"<code class=\"language-math math-inline\">",
+            inside,
+        ),
+        Role::Reference => push_reference(
+            alloc,
+            out,
+            within,
+            bytes_between(given.bytes, from.index, to.index),
+        ),
+        Role::Footnote => push_text(
+            out,
+            within,
+            bytes_between(given.bytes, from.index, to.index),
+        ),
+        Role::Link => push_link(given, out, within, target(alloc, given, found)?, inside),
+        Role::Image => push_image(given, out, within, target(alloc, given, found)?, inside),
+        Role::Destination | Role::TitleText | Role::Resource | Role::Tail => Ok(()),
+        _ => {
+            push_opening(out, within, role)?;
+            out.extend_from_slice(inside)?;
+            push_closing(out, within, role)
+        }
+    }
+}

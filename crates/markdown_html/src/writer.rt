@@ -1,0 +1,278 @@
+// The walk over events.
+#![tactic(auto)]
+
+ghost use Rattle.std.specs.Prelude.{◌≡◌, ◌≤◌, ◌++◌, ◌∷◌, IfOk, OnOk, drop, length, take};
+ghost use Rattle.std.specs.List.{All};
+ghost use Rattle.markdown_engine_content.specs.Content.{document_limit};
+ghost use Rattle.markdown_engine_content.specs.Tree.{Forest, events_of};
+ghost use Rattle.markdown_partial.specs.TrimmedData.{IsStretch};
+ghost use Rattle.markdown_run_leaves.specs.InnermostEvents.{innermost, IsInOrder};
+ghost use Rattle.markdown_html_model.specs.Html.{group_html, html, within_of};
+ghost use Rattle.markdown_html_model.specs.Roles.{role_of};
+ghost use Rattle.markdown_html.specs.View.{open_view, page_from, page_of, parts_of, state_of};
+ghost use Rattle.markdown_html.specs.EventWalk.{closed, closed_out, entered, exit_first, exited, filled, is_text_alone, keeps_inside, stepped};
+
+use crate::addresses::Given;
+use crate::found::{Found, string_of};
+use crate::groups::{push_closing, push_group, push_opening};
+use crate::leaves::push_leaf;
+use crate::stretch::text_between;
+use markdown_engine_content::event::{Event, Kind, Point};
+use markdown_html_model::options::{Definition, HtmlOptions};
+use markdown_html_model::role::{Role, Within, role_of};
+use markdown_html_text::resolve::bytes_from;
+use std::alloc::{AllocError, Global};
+use std::mem;
+
+// What is kept of something that is open.
+#[derive(Drop)]
+struct Entry {
+    // Where its inside begins in what is written.
+    start: usize,
+    // Where it begins in the document.
+    point: Point,
+    // Where it stands.
+    within: Within,
+    // What was found before it.
+    found: Found,
+}
+
+#[derive(Drop)]
+struct Writer {
+    out: Vec<u8>,
+    // Where what comes next stands.
+    within: Within,
+    // What has been found in the innermost that is open.
+    found: Found,
+    entries: Vec<Entry>,
+}
+
+// Where the inside of something stands.
+fn within_of(within: Within, role: Role) -> Within
+    ensures { result ≡ within_of within role }
+{
+    match role {
+        Role::Code | Role::Math | Role::Image | Role::Destination | Role::TitleText => {
+            Within::InText
+        }
+        Role::Link => match within {
+            Within::Outside => Within::InLink,
+            other => other,
+        },
+        _ => within,
+    }
+}
+
+// Whether the inside stays as it is written.
+fn keeps_inside(role: Role) -> bool
+    ensures { result ≡ keeps_inside role }
+{
+    !matches!(
+        role,
+        Role::Code
+            | Role::Math
+            | Role::Reference
+            | Role::Footnote
+            | Role::Link
+            | Role::Image
+            | Role::Destination
+            | Role::TitleText
+            | Role::Resource
+            | Role::Tail
+    )
+}
+
+// Writes something anew that is around what stands from `entry.start` on.
+fn replace(
+    alloc: Global,
+    given: &Given,
+    out: &mut Vec<u8>,
+    entry: &Entry,
+    role: Role,
+    to: Point,
+    found: &Found,
+) -> Result<(), AllocError>
+    ensures { OnOk result (out.new.items ≡ take entry.now.start out.old.items ++ group_html (page_of given.now) entry.now.within role entry.now.point to (drop entry.now.start out.old.items) (parts_of found.now)) }
+{
+    let inside = Vec::from_slice(alloc, bytes_from(out.as_slice(), entry.start))?;
+    out.truncate(entry.start);
+    push_group(
+        alloc,
+        given,
+        out,
+        entry.within,
+        role,
+        entry.point,
+        to,
+        inside.as_slice(),
+        found,
+    )
+}
+
+// Whether a link or an image is its inside alone, as in the description of an image.
+fn is_text_alone(within: Within, role: Role) -> bool
+    ensures { result ≡ is_text_alone within role }
+{
+    matches!((within, role), (Within::InText, Role::Link | Role::Image))
+}
+
+// Writes the end of something.
+#[tactic(auto, unfolding(crate::specs::EventWalk::closed_out))]
+fn close(
+    alloc: Global,
+    given: &Given,
+    out: &mut Vec<u8>,
+    entry: &Entry,
+    role: Role,
+    to: Point,
+    found: &Found,
+) -> Result<(), AllocError>
+    ensures { OnOk result (out.new.items ≡ closed_out (page_of given.now) (open_view entry.now) role to out.old.items (parts_of found.now)) }
+{
+    if keeps_inside(role) {
+        return push_closing(out, entry.within, role);
+    }
+    if is_text_alone(entry.within, role) {
+        return Ok(());
+    }
+    replace(alloc, given, out, entry, role, to, found)
+}
+
+impl Writer {
+    #[tactic(auto, unfolding(crate::specs::EventWalk::entered))]
+    fn enter(&mut self, role: Role, point: Point) -> Result<(), AllocError>
+        ensures { OnOk result (state_of self.new ≡ entered (state_of self.old) role point) }
+    {
+        push_opening(&mut self.out, self.within, role)?;
+        let entry = Entry {
+            start: self.out.len(),
+            point,
+            within: self.within,
+            found: mem::replace(&mut self.found, Found::nothing()),
+        };
+        self.within = within_of(self.within, role);
+        self.entries.push(entry)?;
+        Ok(())
+    }
+
+    #[tactic(auto, unfolding(crate::specs::EventWalk::filled))]
+    fn fill(
+        &mut self,
+        alloc: Global,
+        given: &Given,
+        role: Role,
+        from: Point,
+        to: Point,
+    ) -> Result<(), AllocError>
+        requires fits { length given.now.bytes.now ≤ document_limit }
+        requires in_order { IsStretch given.now.bytes.now from to }
+        ensures { OnOk result (state_of self.new ≡ filled (page_of given.now) (state_of self.old) role from to) }
+    {
+        let text = text_between(alloc, given.bytes, from, to)?;
+        push_leaf(
+            alloc,
+            given,
+            &mut self.out,
+            self.within,
+            role,
+            text.as_slice(),
+        )
+    }
+
+    #[tactic(auto, unfolding(crate::specs::EventWalk::closed))]
+    fn exit(
+        &mut self,
+        alloc: Global,
+        given: &Given,
+        role: Role,
+        to: Point,
+    ) -> Result<(), AllocError>
+        ensures { let s = state_of self.old in OnOk result (state_of self.new ≡ exited (page_of given.now) s s.opened role to) }
+    {
+        let Some(entry) = self.entries.pop() else {
+            return Ok(());
+        };
+        let string = string_of(alloc, role, bytes_from(self.out.as_slice(), entry.start))?;
+        close(alloc, given, &mut self.out, &entry, role, to, &self.found)?;
+        let inside = mem::replace(&mut self.found, Found::nothing());
+        self.within = entry.within;
+        self.found = entry
+            .found
+            .joined(inside.own(alloc, role, entry.point, to, string));
+        Ok(())
+    }
+}
+
+// Where the Exit stands with which events begin; none where they begin with no Exit.
+fn exit_first(events: &[Event]) -> Option<Point>
+    ensures { result ≡ exit_first events.now }
+{
+    match events {
+        [first, ..] => match first.kind {
+            Kind::Enter => None,
+            Kind::Exit => Some(first.point),
+        },
+        [] => None,
+    }
+}
+
+// Writes the HTML of one event, before the events that follow it.
+fn step(
+    writer: &mut Writer,
+    alloc: Global,
+    given: &Given,
+    event: Event,
+    rest: &[Event],
+) -> Result<(), AllocError>
+    requires fits { length given.now.bytes.now ≤ document_limit }
+    requires places { All (IsInOrder given.now.bytes.now) (innermost (event ∷ rest.now)) }
+    ensures { OnOk result (state_of writer.new ≡ stepped (page_of given.now) (state_of writer.old) event rest.now) }
+{
+    let role = role_of(event.name);
+    match event.kind {
+        Kind::Exit => writer.exit(alloc, given, role, event.point),
+        Kind::Enter => {
+            writer.enter(role, event.point)?;
+            match exit_first(rest) {
+                Some(to) => writer.fill(alloc, given, role, event.point, to),
+                None => Ok(()),
+            }
+        }
+    }
+}
+
+/// The HTML of the tree whose events these are, over the bytes of a document.
+///
+/// The events are those of a run over these bytes. A reference leads to the first definition with its identifier, and to an empty address where there is none. A
+/// look goes over the definitions for each reference; all else takes time and memory in proportion to the events, their text, and what is written.
+///
+/// The error comes only where memory is refused.
+pub fn to_html(
+    alloc: Global,
+    bytes: &[u8],
+    events: &[Event],
+    definitions: &[Definition],
+    options: HtmlOptions,
+) -> Result<Vec<u8>, AllocError>
+    requires fits { length bytes.now ≤ document_limit }
+    requires places { All (IsInOrder bytes.now) (innermost events.now) }
+    ensures { (t : Forest) → events.now ≡ events_of t → IfOk result (λ written. written.items ≡ html (page_from bytes.now definitions.now options) t) }
+{
+    let given = Given {
+        bytes,
+        definitions,
+        options,
+    };
+    let mut writer = Writer {
+        out: Vec::new(alloc),
+        within: Within::Outside,
+        found: Found::nothing(),
+        entries: Vec::new(alloc),
+    };
+    let mut left = events;
+    while let Some((event, rest)) = left.split_first() {
+        step(&mut writer, alloc, &given, *event, rest)?;
+        left = rest;
+    }
+    Ok(writer.out)
+}

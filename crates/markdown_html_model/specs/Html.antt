@@ -1,0 +1,266 @@
+-- The HTML of an inline tree (CommonMark 0.31, chapter 6; GFM's strikethrough, literals, task checks and footnote calls; math spans).
+use Rattle.std.specs.Prelude.{ℕ, ◌+◌, ◌-◌, Bool, true, false, not, ◌&&◌, ◌||◌, ◌==◌, if◌then◌else◌, List, [], ◌∷◌, ◌++◌, length, map, take, drop, replicate, codes, Option, None, Some}
+use Rattle.std.specs.List.{list_any}
+use Rattle.std.specs.Str.{byte, bytes_eq, is_utf8}
+use Rattle.markdown_engine_content.specs.Codes.{Code, stop_of, document_start}
+use Rattle.markdown_engine_content.specs.Slices.{position_bytes, spaces_before, spaces_after}
+use Rattle.markdown_engine_content.specs.Tree.{Forest, empty, leaf_then, group_then, start_of}
+use Rattle.markdown_engine_content.specs.declared.event.Name.{Name}
+use Rattle.markdown_engine_content.specs.declared.event.Point.{Point}
+use Rattle.markdown_util.specs.Identifier.{identifier_of}
+use Rattle.markdown_html_text.specs.Escaped.{escaped, addressed}
+use Rattle.markdown_html_text.specs.Resolved.{resolved}
+use Rattle.markdown_html_text.specs.Schemes.{is_safe, link_schemes, image_schemes}
+use Rattle.markdown_html_model.specs.Roles.{role_of}
+use Rattle.markdown_html_model.specs.declared.options.HtmlOptions.{HtmlOptions}
+use Rattle.markdown_html_model.specs.declared.role.Role.{Role}
+use Rattle.markdown_html_model.specs.declared.role.Within.{Within}
+
+-- what a label is defined to be
+pub record Defined : Type 0 where
+  pub identifier : List ℕ
+  pub destination : List ℕ
+  pub title : Option (List ℕ)
+
+-- what stands beside the tree: the document, what labels are defined to be, and what may be written
+pub record Page : Type 0 where
+  pub bytes : List ℕ
+  pub definitions : List Defined
+  pub options : HtmlOptions
+
+-- Texts of the document.
+
+-- from a place to a place, with the columns of a tab of which the first lie outside as spaces
+unfoldable pub text_between : List ℕ → Point → Point → List ℕ
+text_between bytes a b = replicate (spaces_before bytes a b) (byte " ") ++ position_bytes bytes a b ++ replicate (spaces_after bytes a b) (byte " ")
+
+-- all bytes from an index to an index
+abbrev pub bytes_from : List ℕ → ℕ → ℕ → List ℕ
+bytes_from bytes from to = take (to - from) (drop from bytes)
+
+-- Where a link or an image leads.
+
+-- what has been read of a link or an image so far: its destination and title, and where the text of its label stands
+pub record Parts : Type 0 where
+  pub destination : Option (List ℕ)
+  pub title : Option (List ℕ)
+  pub label : Option (ℕ × ℕ)
+
+abbrev pub no_parts : Parts
+no_parts = record { destination = None; title = None; label = None }
+
+abbrev pub or_else : {A : Type 0} → Option A → Option A → Option A
+or_else None y = y
+or_else (Some x) y = Some x
+
+-- the parts of siblings: what comes later counts, so that the text of a full reference goes before that of the label
+abbrev pub joined_parts : Parts → Parts → Parts
+joined_parts x y = record {
+  destination = or_else y.destination x.destination;
+  title = or_else y.title x.title;
+  label = or_else y.label x.label;
+}
+
+abbrev pub or_empty : Option (List ℕ) → List ℕ
+or_empty None = []
+or_empty (Some xs) = xs
+
+-- the string that a destination or a title is, of the text inside it (CommonMark 2.4 and 2.5)
+abbrev pub string_of : Role → List ℕ → List ℕ
+string_of Role.Destination inside = resolved inside
+string_of Role.TitleText inside = resolved inside
+string_of role inside = []
+
+-- the parts that something from one place to another gives, by its string and the parts inside it; a link and an image use theirs up
+abbrev pub own_parts : Role → Point → Point → List ℕ → Parts → Parts
+own_parts Role.Destination a b string inside = record no_parts { destination = Some string }
+own_parts Role.TitleText a b string inside = record no_parts { title = Some string }
+own_parts Role.Title a b string inside = record inside { title = Some (or_empty inside.title) }
+own_parts Role.Resource a b string inside = record inside { destination = Some (or_empty inside.destination) }
+own_parts Role.Label a b string inside = record no_parts { label = Some (a.index, b.index) }
+own_parts Role.Link a b string inside = no_parts
+own_parts Role.Image a b string inside = no_parts
+own_parts Role.Footnote a b string inside = no_parts
+own_parts role a b string inside = inside
+
+pub record Target : Type 0 where
+  pub destination : List ℕ
+  pub title : Option (List ℕ)
+
+abbrev pub nowhere : Target
+nowhere = record { destination = []; title = None }
+
+-- the first definition with this identifier (CommonMark 4.7)
+abbrev pub defined : List ℕ → List Defined → Target
+defined identifier [] = nowhere
+defined identifier (d ∷ ds) = if bytes_eq d.identifier identifier then record { destination = d.destination; title = d.title } else defined identifier ds
+
+-- the bytes of a label, which are UTF-8 as the document is
+abbrev pub label_text : List ℕ → ℕ × ℕ → List ℕ
+label_text bytes place = let text = bytes_from bytes place.0 place.1 in if is_utf8 text then text else []
+
+-- the target in a resource, or else that of the definition that the label names
+abbrev pub target_of : Page → Parts → Target
+target_of p parts =
+    elim (parts.destination) [
+      | Some destination ↦ record { destination = destination; title = parts.title }
+      | None ↦ elim (parts.label) [
+        | None ↦ nowhere
+        | Some place ↦ defined (identifier_of (label_text p.bytes place)) p.definitions
+      ]
+    ]
+
+-- Tags and text.
+
+-- what is written of a text: escaped, or as it is where it is escaped later
+abbrev pub text_html : Within → List ℕ → List ℕ
+text_html Within.InText text = text
+text_html within text = escaped text
+
+-- a tag, where tags are written
+abbrev pub tag : Within → List ℕ → List ℕ
+tag Within.InText written = []
+tag within written = written
+
+-- an address as an attribute has it, nothing where it may not be
+abbrev pub address : Page → List (List ℕ) → List ℕ → List ℕ
+address p schemes a = if p.options.any_link || is_safe schemes a then addressed a else []
+
+abbrev pub title_attribute : Option (List ℕ) → List ℕ
+title_attribute None = []
+title_attribute (Some title) = codes " title=\"" ++ escaped title ++ codes "\""
+
+-- a link whose text is its address, with this before it
+abbrev pub own_link : Page → Within → List ℕ → List ℕ → List ℕ
+own_link p Within.InText before text = text
+own_link p within before text = codes "<a href=\"" ++ address p link_schemes (before ++ text) ++ codes "\">" ++ escaped text ++ codes "</a>"
+
+-- links do not stand in links
+abbrev pub own_link_outside : Page → Within → List ℕ → List ℕ → List ℕ
+own_link_outside p Within.Outside before text = own_link p Within.Outside before text
+own_link_outside p within before text = text_html within text
+
+-- raw HTML (CommonMark 6.6)
+abbrev pub raw_html : Page → Within → List ℕ → List ℕ
+raw_html p Within.InText text = text
+raw_html p within text = if p.options.raw_html then text else escaped text
+
+-- Innermost things, by the text of the document that they cover.
+abbrev pub leaf_html : Page → Within → Role → List ℕ → List ℕ
+leaf_html p within Role.Plain text = text_html within text
+leaf_html p within Role.LineEnd text = byte "\n" ∷ []
+leaf_html p within Role.Break text = tag within (codes "<br />")
+leaf_html p within Role.Raw text = raw_html p within text
+leaf_html p within Role.Uri text = own_link p within [] text
+leaf_html p within Role.Email text = own_link p within (codes "mailto:") text
+leaf_html p within Role.UriLiteral text = own_link_outside p within [] text
+leaf_html p within Role.WwwLiteral text = own_link_outside p within (codes "http://") text
+leaf_html p within Role.EmailLiteral text = own_link_outside p within (codes "mailto:") text
+leaf_html p within Role.Checked text = tag within (codes "checked=\"\" ")
+leaf_html p within role text = []
+
+-- What holds others.
+
+-- where that stands which is inside
+abbrev pub within_of : Within → Role → Within
+within_of within Role.Code = Within.InText
+within_of within Role.Math = Within.InText
+within_of within Role.Image = Within.InText
+within_of within Role.Destination = Within.InText
+within_of within Role.TitleText = Within.InText
+within_of Within.Outside Role.Link = Within.InLink
+within_of within role = within
+
+-- what is written before and after the inside
+abbrev pub opening : Within → Role → List ℕ
+opening within Role.Emphasis = tag within (codes "<em>")
+opening within Role.Strong = tag within (codes "<strong>")
+opening within Role.Strikethrough = tag within (codes "<del>")
+opening within Role.Check = tag within (codes "<input type=\"checkbox\" disabled=\"\" ")
+opening within role = []
+
+abbrev pub closing : Within → Role → List ℕ
+closing within Role.Emphasis = tag within (codes "</em>")
+closing within Role.Strong = tag within (codes "</strong>")
+closing within Role.Strikethrough = tag within (codes "</del>")
+closing within Role.Check = tag within (codes "/>")
+closing within role = []
+
+abbrev pub begins_with_space : List ℕ → Bool
+begins_with_space [] = false
+begins_with_space (b ∷ bs) = b == byte " "
+
+abbrev pub ends_with_space : List ℕ → Bool
+ends_with_space bs = begins_with_space (drop (length bs - 1) bs)
+
+-- without one space at each end, where both are there and not all are spaces
+abbrev pub without_padding : List ℕ → List ℕ
+without_padding bs =
+    if begins_with_space bs && ends_with_space bs && list_any (λ b. not (b == byte " ")) bs then take (length bs - 2) (drop 1 bs)
+    else bs
+
+-- the text of a span (CommonMark 6.1): line endings are spaces, and padding goes
+abbrev pub span_text : List ℕ → List ℕ
+span_text inside = without_padding (map (λ b. if b == byte "\n" then byte " " else b) inside)
+
+abbrev pub span_html : Within → List ℕ → List ℕ → List ℕ
+span_html Within.InText front text = text
+span_html within front text = front ++ escaped text ++ codes "</code>"
+
+abbrev pub link_html : Page → Within → Target → List ℕ → List ℕ
+link_html p Within.InText to inside = inside
+link_html p within to inside = codes "<a href=\"" ++ address p link_schemes to.destination ++ codes "\"" ++ title_attribute to.title ++ codes ">" ++ inside ++ codes "</a>"
+
+-- the text of the label describes the image
+abbrev pub image_html : Page → Within → Target → List ℕ → List ℕ
+image_html p Within.InText to inside = inside
+image_html p within to inside = codes "<img src=\"" ++ address p image_schemes to.destination ++ codes "\" alt=\"" ++ escaped inside ++ codes "\"" ++ title_attribute to.title ++ codes " />"
+
+-- what is from one place to another, by what is inside. A footnote call is its own text, since its number is known to the document alone.
+abbrev pub group_html : Page → Within → Role → Point → Point → List ℕ → Parts → List ℕ
+group_html p within Role.Code a b inside parts = span_html within (codes "<code>") (span_text inside)
+group_html p within Role.Math a b inside parts = span_html within (codes "<code class=\"language-math math-inline\">") (span_text inside)
+group_html p within Role.Reference a b inside parts = text_html within (resolved (bytes_from p.bytes a.index b.index))
+group_html p within Role.Footnote a b inside parts = text_html within (bytes_from p.bytes a.index b.index)
+group_html p within Role.Link a b inside parts = link_html p within (target_of p parts) inside
+group_html p within Role.Image a b inside parts = image_html p within (target_of p parts) inside
+group_html p within Role.Destination a b inside parts = []
+group_html p within Role.TitleText a b inside parts = []
+group_html p within Role.Resource a b inside parts = []
+group_html p within Role.Tail a b inside parts = []
+group_html p within role a b inside parts = opening within role ++ inside ++ closing within role
+
+-- Trees.
+
+-- what is written of trees, and what they give of a link or an image around them
+pub record Written : Type 0 where
+  pub html : List ℕ
+  pub parts : Parts
+
+abbrev pub nothing : Written
+nothing = record { html = []; parts = no_parts }
+
+abbrev pub beside : Written → Written → Written
+beside x y = record { html = x.html ++ y.html; parts = joined_parts x.parts y.parts }
+
+-- something from one place to another, around this
+abbrev pub around : Page → Within → Role → Point → Point → Written → Written
+around p within role a b inside = record {
+  html = group_html p within role a b inside.html inside.parts;
+  parts = own_parts role a b (string_of role inside.html) inside.parts;
+}
+
+-- something innermost: its inside is what the text of the document gives
+abbrev pub innermost : Page → Within → Role → Point → Point → Written
+innermost p within role a b = around p within role a b (record { html = leaf_html p (within_of within role) role (text_between p.bytes a b); parts = no_parts })
+
+-- sibling trees; a leaf and a group around nothing are alike
+abbrev pub written : Page → Within → Forest → Written
+written p within empty = nothing
+written p within (leaf_then name link cs rest) = beside (innermost p within (role_of name) (start_of cs) (stop_of document_start cs)) (written p within rest)
+written p within (group_then name a b empty rest) = beside (innermost p within (role_of name) a b) (written p within rest)
+written p within (group_then name a b inside rest) = beside (around p within (role_of name) a b (written p (within_of within (role_of name)) inside)) (written p within rest)
+
+-- the HTML of a tree
+unfoldable pub html : Page → Forest → List ℕ
+html p tree = let w = written p Within.Outside tree in w.html

@@ -1,0 +1,34 @@
+// What is handed in beside a tree, and what may be written.
+ghost use Rattle.std.specs.Prelude.{◌≡◌, false};
+
+/// What may be written.
+#[derive(Clone, Copy, Debug, PartialEq, Eq)]
+pub struct HtmlOptions {
+    /// Whether raw HTML is written as it stands, and not as text.
+    pub raw_html: bool,
+    /// Whether links and images lead wherever they say, and not only to addresses that run nothing.
+    pub any_link: bool,
+}
+
+impl HtmlOptions {
+    /// The options with which nothing runs that the text brings: raw HTML is written as text, and links lead to listed schemes alone.
+    pub fn safe() -> HtmlOptions
+        ensures { result ≡ record { raw_html = false; any_link = false } }
+    {
+        HtmlOptions {
+            raw_html: false,
+            any_link: false,
+        }
+    }
+}
+
+/// What a label is defined to be.
+#[derive(Debug, Drop)]
+pub struct Definition {
+    /// The identifier of the label, normalized by `normalize_identifier`.
+    pub identifier: String,
+    /// Where it leads, with escapes and character references resolved.
+    pub destination: String,
+    /// The title, if it has one, resolved alike.
+    pub title: Option<String>,
+}

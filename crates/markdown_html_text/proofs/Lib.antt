@@ -1,0 +1,4 @@
+mod NoMarkup
+mod Pieces
+mod ResolvedText
+mod ReferenceValues
