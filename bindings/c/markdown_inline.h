@@ -1,0 +1,272 @@
+/* The inline layer of Markdown, for callers in C99 and C++.
+ *
+ * A block parser hands over a document and the pieces of it that make up a paragraph, and gets the events of the paragraph's inline tree: what
+ * begins or ends, and where. What each call promises is proved; the contracts stand in crates/markdown_inline_c.
+ *
+ * The interface, version 1:
+ *
+ * - It is that of the C calling convention of 64-bit machines: size_t has 64 bits, and structs are laid out as C lays them out. The sizes are
+ *   checked below, at compile time. Numbers of names, bits of options and statuses do not change within a version.
+ * - An array is a pointer and a length in elements. Where the length is 0 the pointer may be null. Pointers to single values are never null.
+ * - Text is UTF-8. Indexes and ranges count bytes, from 0; lines and columns count from 1.
+ * - Every input has an answer: nothing is required of it but that pointers and lengths are those of arrays, and that what a call writes to
+ *   overlaps nothing else that the call is given.
+ * - No pointer is kept after a call, and nothing has to be freed. There is no state: calls on several threads do not meet.
+ * - Memory comes from malloc, and is given back before the call ends. Where it is refused, a call answers MARKDOWN_INLINE_NO_MEMORY.
+ * - The stack that a call takes does not grow with its input.
+ */
+#ifndef MARKDOWN_INLINE_H
+#define MARKDOWN_INLINE_H
+
+#include <stddef.h>
+#include <stdint.h>
+
+#ifdef __cplusplus
+extern "C" {
+#endif
+
+/* The version that this header describes; the library's is that of markdown_inline_version(). */
+#define MARKDOWN_INLINE_VERSION 1
+
+/* Statuses, with what each says. A status is that of the first thing that is wrong, in the order 2, 9, 3, 7, 4, 8; memory may be refused at any
+ * time. But for DONE and TOO_SMALL nothing is written. */
+#define MARKDOWN_INLINE_EACH_STATUS(X) \
+    X(DONE, 0, "done") \
+    X(UNKNOWN_OPTION, 2, "unknown option") \
+    X(NOT_UTF8, 3, "document is not UTF-8") \
+    X(BLANK_LINE, 4, "blank line in text, or line ending at its end") \
+    X(NO_MEMORY, 5, "out of memory") \
+    X(TOO_SMALL, 6, "array too small") \
+    X(NO_CONTENT, 7, "pieces are no content of the document") \
+    X(DEFINITION, 8, "range of a definition is no text of the labels") \
+    X(TOO_LONG, 9, "document too long")
+
+/* Options, each by a bit: the constructs, the four settings, and whether the text is the first of a list item. */
+#define MARKDOWN_INLINE_EACH_OPTION(X) \
+    X(ATTENTION, "attention", 0x1) \
+    X(AUTOLINK, "autolink", 0x2) \
+    X(CHARACTER_ESCAPE, "character_escape", 0x4) \
+    X(CHARACTER_REFERENCE, "character_reference", 0x8) \
+    X(CODE_TEXT, "code_text", 0x10) \
+    X(GFM_AUTOLINK_LITERAL, "gfm_autolink_literal", 0x20) \
+    X(GFM_LABEL_START_FOOTNOTE, "gfm_label_start_footnote", 0x40) \
+    X(GFM_STRIKETHROUGH, "gfm_strikethrough", 0x80) \
+    X(GFM_TASK_LIST_ITEM, "gfm_task_list_item", 0x100) \
+    X(HARD_BREAK_ESCAPE, "hard_break_escape", 0x200) \
+    X(HARD_BREAK_TRAILING, "hard_break_trailing", 0x400) \
+    X(HTML_TEXT, "html_text", 0x800) \
+    X(LABEL_START_IMAGE, "label_start_image", 0x1000) \
+    X(LABEL_START_LINK, "label_start_link", 0x2000) \
+    X(LABEL_END, "label_end", 0x4000) \
+    X(MATH_TEXT, "math_text", 0x8000) \
+    X(GFM_STRIKETHROUGH_SINGLE_TILDE, "gfm_strikethrough_single_tilde", 0x10000) \
+    X(MATH_TEXT_SINGLE_DOLLAR, "math_text_single_dollar", 0x20000) \
+    X(ATTENTION_FIRST_LENGTHS, "attention_first_lengths", 0x40000) \
+    X(LABEL_SHORTCUT_BEFORE_BRACKET, "label_shortcut_before_bracket", 0x80000) \
+    X(FIRST_OF_ITEM, "first_of_item", 0x100000)
+
+/* Names of events, by their numbers from 0. */
+#define MARKDOWN_INLINE_EACH_NAME(X) \
+    X(ATTENTION_SEQUENCE, "AttentionSequence") \
+    X(AUTOLINK, "Autolink") \
+    X(AUTOLINK_EMAIL, "AutolinkEmail") \
+    X(AUTOLINK_MARKER, "AutolinkMarker") \
+    X(AUTOLINK_PROTOCOL, "AutolinkProtocol") \
+    X(CHARACTER_ESCAPE, "CharacterEscape") \
+    X(CHARACTER_ESCAPE_MARKER, "CharacterEscapeMarker") \
+    X(CHARACTER_ESCAPE_VALUE, "CharacterEscapeValue") \
+    X(CHARACTER_REFERENCE, "CharacterReference") \
+    X(CHARACTER_REFERENCE_MARKER, "CharacterReferenceMarker") \
+    X(CHARACTER_REFERENCE_MARKER_HEXADECIMAL, "CharacterReferenceMarkerHexadecimal") \
+    X(CHARACTER_REFERENCE_MARKER_NUMERIC, "CharacterReferenceMarkerNumeric") \
+    X(CHARACTER_REFERENCE_MARKER_SEMI, "CharacterReferenceMarkerSemi") \
+    X(CHARACTER_REFERENCE_VALUE, "CharacterReferenceValue") \
+    X(CODE_TEXT, "CodeText") \
+    X(CODE_TEXT_DATA, "CodeTextData") \
+    X(CODE_TEXT_SEQUENCE, "CodeTextSequence") \
+    X(DATA, "Data") \
+    X(EMPHASIS, "Emphasis") \
+    X(EMPHASIS_SEQUENCE, "EmphasisSequence") \
+    X(EMPHASIS_TEXT, "EmphasisText") \
+    X(GFM_AUTOLINK_LITERAL_EMAIL, "GfmAutolinkLiteralEmail") \
+    X(GFM_AUTOLINK_LITERAL_MAILTO, "GfmAutolinkLiteralMailto") \
+    X(GFM_AUTOLINK_LITERAL_PROTOCOL, "GfmAutolinkLiteralProtocol") \
+    X(GFM_AUTOLINK_LITERAL_WWW, "GfmAutolinkLiteralWww") \
+    X(GFM_AUTOLINK_LITERAL_XMPP, "GfmAutolinkLiteralXmpp") \
+    X(GFM_FOOTNOTE_CALL, "GfmFootnoteCall") \
+    X(GFM_FOOTNOTE_CALL_LABEL, "GfmFootnoteCallLabel") \
+    X(GFM_FOOTNOTE_CALL_MARKER, "GfmFootnoteCallMarker") \
+    X(GFM_STRIKETHROUGH, "GfmStrikethrough") \
+    X(GFM_STRIKETHROUGH_SEQUENCE, "GfmStrikethroughSequence") \
+    X(GFM_STRIKETHROUGH_TEXT, "GfmStrikethroughText") \
+    X(GFM_TASK_LIST_ITEM_CHECK, "GfmTaskListItemCheck") \
+    X(GFM_TASK_LIST_ITEM_MARKER, "GfmTaskListItemMarker") \
+    X(GFM_TASK_LIST_ITEM_VALUE_CHECKED, "GfmTaskListItemValueChecked") \
+    X(GFM_TASK_LIST_ITEM_VALUE_UNCHECKED, "GfmTaskListItemValueUnchecked") \
+    X(HARD_BREAK_ESCAPE, "HardBreakEscape") \
+    X(HARD_BREAK_TRAILING, "HardBreakTrailing") \
+    X(HTML_TEXT, "HtmlText") \
+    X(HTML_TEXT_DATA, "HtmlTextData") \
+    X(IMAGE, "Image") \
+    X(LABEL, "Label") \
+    X(LABEL_END, "LabelEnd") \
+    X(LABEL_IMAGE, "LabelImage") \
+    X(LABEL_IMAGE_MARKER, "LabelImageMarker") \
+    X(LABEL_LINK, "LabelLink") \
+    X(LABEL_MARKER, "LabelMarker") \
+    X(LABEL_TEXT, "LabelText") \
+    X(LINE_ENDING, "LineEnding") \
+    X(LINK, "Link") \
+    X(MATH_TEXT, "MathText") \
+    X(MATH_TEXT_DATA, "MathTextData") \
+    X(MATH_TEXT_SEQUENCE, "MathTextSequence") \
+    X(REFERENCE, "Reference") \
+    X(REFERENCE_MARKER, "ReferenceMarker") \
+    X(REFERENCE_STRING, "ReferenceString") \
+    X(RESOURCE, "Resource") \
+    X(RESOURCE_DESTINATION, "ResourceDestination") \
+    X(RESOURCE_DESTINATION_LITERAL, "ResourceDestinationLiteral") \
+    X(RESOURCE_DESTINATION_LITERAL_MARKER, "ResourceDestinationLiteralMarker") \
+    X(RESOURCE_DESTINATION_RAW, "ResourceDestinationRaw") \
+    X(RESOURCE_DESTINATION_STRING, "ResourceDestinationString") \
+    X(RESOURCE_MARKER, "ResourceMarker") \
+    X(RESOURCE_TITLE, "ResourceTitle") \
+    X(RESOURCE_TITLE_MARKER, "ResourceTitleMarker") \
+    X(RESOURCE_TITLE_STRING, "ResourceTitleString") \
+    X(SPACE_OR_TAB, "SpaceOrTab") \
+    X(STRONG, "Strong") \
+    X(STRONG_SEQUENCE, "StrongSequence") \
+    X(STRONG_TEXT, "StrongText")
+
+enum {
+#define MARKDOWN_INLINE_STATUS(name, number, words) MARKDOWN_INLINE_##name = number,
+    MARKDOWN_INLINE_EACH_STATUS(MARKDOWN_INLINE_STATUS)
+#undef MARKDOWN_INLINE_STATUS
+#define MARKDOWN_INLINE_OPTION(name, words, bit) MARKDOWN_INLINE_OPTION_##name = bit,
+    MARKDOWN_INLINE_EACH_OPTION(MARKDOWN_INLINE_OPTION)
+#undef MARKDOWN_INLINE_OPTION
+    /* CommonMark's constructs, and each setting by default. */
+    MARKDOWN_INLINE_COMMONMARK = 0x37e1f,
+    /* What GitHub adds to them: autolink literals, footnote calls, strikethrough, task list checks. */
+    MARKDOWN_INLINE_GFM = 0x1e0,
+    /* Math spans. */
+    MARKDOWN_INLINE_MATH = 0x8000
+};
+
+enum {
+#define MARKDOWN_INLINE_NAME(name, words) MARKDOWN_INLINE_NAME_##name,
+    MARKDOWN_INLINE_EACH_NAME(MARKDOWN_INLINE_NAME)
+#undef MARKDOWN_INLINE_NAME
+    MARKDOWN_INLINE_NAME_COUNT
+};
+
+/* Whether something begins or ends. */
+enum { MARKDOWN_INLINE_ENTER = 0, MARKDOWN_INLINE_EXIT = 1 };
+
+/* How what an event names is to be read again: not at all, as a string, or as a text. */
+enum { MARKDOWN_INLINE_UNLINKED = 0, MARKDOWN_INLINE_LINKED_STRING = 1, MARKDOWN_INLINE_LINKED_TEXT = 2 };
+
+/* The number of no event. */
+#define MARKDOWN_INLINE_NONE SIZE_MAX
+
+/* A piece of a document, from a place to a place. A place is a byte, and the columns of the tab there that come before; 0 outside of tabs. Each
+ * piece but the last one ends just after a line ending, and the next one starts on the line after it. */
+typedef struct markdown_inline_piece {
+    size_t start, start_vs;
+    size_t end, end_vs;
+} markdown_inline_piece;
+
+/* The bytes from one index to another. */
+typedef struct markdown_inline_range {
+    size_t start, end;
+} markdown_inline_range;
+
+/* What a call reads. The ranges say where among `labels`, which may be `bytes`, the labels of definitions and of footnote definitions stand, as
+ * they are written. */
+typedef struct markdown_inline_input {
+    const uint8_t *bytes;
+    size_t bytes_len;
+    const markdown_inline_piece *pieces;
+    size_t pieces_len;
+    const uint8_t *labels;
+    size_t labels_len;
+    const markdown_inline_range *definitions;
+    size_t definitions_len;
+    const markdown_inline_range *footnotes;
+    size_t footnotes_len;
+    uint32_t options;
+} markdown_inline_input;
+
+/* The beginning or the end of something. `vs` is how many columns of the tab at `index` come before the place. `previous` and `next` are the
+ * numbers of the events before and after on a chain of what is read again, or MARKDOWN_INLINE_NONE. */
+typedef struct markdown_inline_event {
+    uint8_t kind, name, link;
+    size_t line, column, index, vs;
+    size_t previous, next;
+} markdown_inline_event;
+
+/* A leaf: an event with no other inside it, from where it begins to where it ends, and what stands there. Its bytes begin at `start`, or at the byte
+ * behind where `start_vs` is above 0; `before` and `after` count virtual spaces of tabs on either side of them. */
+typedef struct markdown_inline_leaf {
+    uint8_t name;
+    size_t start_line, start_column, start, start_vs;
+    size_t end_line, end_column, end, end_vs;
+    size_t before, bytes_len, after;
+} markdown_inline_leaf;
+
+/* Sizes and alignment, in bytes. */
+typedef char markdown_inline_checks_sizes[sizeof(size_t) == 8 && sizeof(void *) == 8 && sizeof(markdown_inline_piece) == 32
+    && sizeof(markdown_inline_range) == 16 && sizeof(markdown_inline_input) == 88 && sizeof(markdown_inline_event) == 56 && sizeof(markdown_inline_leaf) == 96
+    && offsetof(markdown_inline_input, options) == 80 && offsetof(markdown_inline_event, line) == 8 ? 1 : -1];
+
+/* The version of the library. */
+uint32_t markdown_inline_version(void);
+
+/* Whether the pieces are a content of the document: DONE, or TOO_LONG, NOT_UTF8, NO_CONTENT or NO_MEMORY. */
+uint32_t markdown_inline_is_content(const uint8_t *bytes, size_t bytes_len, const markdown_inline_piece *pieces, size_t pieces_len);
+
+/* Whether the pieces are a text of the document, so a content without a blank line: DONE, or the statuses above, or BLANK_LINE. */
+uint32_t markdown_inline_is_text(const uint8_t *bytes, size_t bytes_len, const markdown_inline_piece *pieces, size_t pieces_len);
+
+/* Finds the events of the input's pieces as a string: of escapes, character references and data. Labels and definitions are not looked at.
+ * DONE: the events stand at the front of the array, and `*count` is how many they are. TOO_SMALL: `*count` is how many they are, and the array is
+ * as before; call again with room for them. Else nothing is written. */
+uint32_t markdown_inline_string(const markdown_inline_input *input, markdown_inline_event *events, size_t events_len, size_t *count);
+
+/* Finds the events of the input's pieces as a text: of the inside of a paragraph, a heading or a table's cell. The rest is as above. */
+uint32_t markdown_inline_text(const markdown_inline_input *input, markdown_inline_event *events, size_t events_len, size_t *count);
+
+/* Finds the leaves of the input's pieces as a text, in order: together they cover the pieces, each code once. The rest is as of events. */
+uint32_t markdown_inline_leaves(const markdown_inline_input *input, markdown_inline_leaf *leaves, size_t leaves_len, size_t *count);
+
+/* Finds the identifier of a label, as labels are compared: its words joined by one space and case folded, in UTF-8. DONE: it stands at the front of
+ * the array, and `*count` is how many bytes it has. TOO_SMALL, NOT_UTF8 and NO_MEMORY are as above. */
+uint32_t markdown_inline_identifier(const uint8_t *label, size_t label_len, uint8_t *identifier, size_t identifier_len, size_t *count);
+
+/* What a status says, or a null pointer for a number that is none. */
+static inline const char *markdown_inline_status_text(uint32_t status) {
+    switch (status) {
+#define MARKDOWN_INLINE_STATUS(name, number, words) \
+    case number: \
+        return words;
+        MARKDOWN_INLINE_EACH_STATUS(MARKDOWN_INLINE_STATUS)
+#undef MARKDOWN_INLINE_STATUS
+    default:
+        return NULL;
+    }
+}
+
+/* The name of an event by its number, or a null pointer for a number that is none. */
+static inline const char *markdown_inline_name_text(uint8_t name) {
+    static const char *const texts[] = {
+#define MARKDOWN_INLINE_NAME(name, words) words,
+        MARKDOWN_INLINE_EACH_NAME(MARKDOWN_INLINE_NAME)
+#undef MARKDOWN_INLINE_NAME
+    };
+    return name < MARKDOWN_INLINE_NAME_COUNT ? texts[name] : NULL;
+}
+
+#ifdef __cplusplus
+}
+#endif
+#endif

@@ -1,0 +1,54 @@
+//! Why a call answers no events.
+
+use std::error;
+use std::fmt;
+
+/// Why a call answers no events: the first thing that is wrong.
+#[derive(Clone, Copy, Debug, PartialEq, Eq, Hash)]
+#[non_exhaustive]
+pub enum Error {
+    /// A bit of the options is none of an option.
+    UnknownOption,
+    /// The document is not UTF-8.
+    NotUtf8,
+    /// A line of the text is blank, or it ends with a line ending.
+    BlankLine,
+    /// Memory was refused.
+    NoMemory,
+    /// The pieces are no content of the document.
+    NoContent,
+    /// A label of a definition is not UTF-8.
+    Definition,
+    /// The document is longer than an eighth of `usize::MAX`.
+    TooLong,
+}
+
+impl Error {
+    pub(crate) fn of(status: u32) -> Error {
+        match status {
+            2 => Error::UnknownOption,
+            3 => Error::NotUtf8,
+            4 => Error::BlankLine,
+            7 => Error::NoContent,
+            8 => Error::Definition,
+            9 => Error::TooLong,
+            _ => Error::NoMemory,
+        }
+    }
+}
+
+impl fmt::Display for Error {
+    fn fmt(&self, f: &mut fmt::Formatter<'_>) -> fmt::Result {
+        f.write_str(match self {
+            Error::UnknownOption => "unknown option",
+            Error::NotUtf8 => "document is not UTF-8",
+            Error::BlankLine => "blank line in text, or line ending at its end",
+            Error::NoMemory => "out of memory",
+            Error::NoContent => "pieces are no content of the document",
+            Error::Definition => "range of a definition is no text of the labels",
+            Error::TooLong => "document too long",
+        })
+    }
+}
+
+impl error::Error for Error {}

@@ -1,0 +1,193 @@
+//! Events, and lists of them.
+
+use crate::raw::RawEvent;
+use crate::Name;
+use std::fmt;
+use std::slice;
+
+/// Whether an event begins or ends what it names.
+#[derive(Clone, Copy, Debug, PartialEq, Eq, Hash)]
+pub enum Kind {
+    /// It begins.
+    Enter,
+    /// It ends.
+    Exit,
+}
+
+/// How linked content is to be read.
+#[derive(Clone, Copy, Debug, PartialEq, Eq, Hash)]
+pub enum Content {
+    /// As a string: escapes and references count, nothing else.
+    String,
+    /// As text: every inline construct counts.
+    Text,
+}
+
+/// A place between two codes of a document.
+#[derive(Clone, Copy, Debug, PartialEq, Eq, Hash)]
+pub struct Point {
+    /// The line, from 1.
+    pub line: usize,
+    /// The column, from 1: one more than the bytes, tabs' columns counted, before the place on its line.
+    pub column: usize,
+    /// The byte, from 0.
+    pub index: usize,
+    /// How many columns of the tab at `index` come before the place; 0 outside of tabs.
+    pub vs: usize,
+}
+
+/// The chain on which an Enter event stands. The numbers are those of Enter events in the list.
+#[derive(Clone, Copy, Debug, PartialEq, Eq, Hash)]
+pub struct Link {
+    /// How the linked content is to be read.
+    pub content: Content,
+    /// The event before on the chain.
+    pub previous: Option<usize>,
+    /// The event after on the chain.
+    pub next: Option<usize>,
+}
+
+/// The beginning or the end of something in a document.
+#[derive(Clone, Copy, Debug, PartialEq, Eq, Hash)]
+pub struct Event {
+    /// Whether it begins or ends.
+    pub kind: Kind,
+    /// What begins or ends.
+    pub name: Name,
+    /// Where: the place of the first code at an Enter, the place after the last one at an Exit.
+    pub point: Point,
+    /// The chain it stands on. Only an Enter carries one.
+    pub link: Option<Link>,
+}
+
+fn number_of(number: usize) -> Option<usize> {
+    (number != usize::MAX).then_some(number)
+}
+
+impl Event {
+    fn of(raw: &RawEvent) -> Event {
+        let content = match raw.link {
+            0 => None,
+            1 => Some(Content::String),
+            _ => Some(Content::Text),
+        };
+        Event {
+            kind: if raw.kind == 0 {
+                Kind::Enter
+            } else {
+                Kind::Exit
+            },
+            name: Name::ALL[usize::from(raw.name)],
+            point: Point {
+                line: raw.line,
+                column: raw.column,
+                index: raw.index,
+                vs: raw.vs,
+            },
+            link: content.map(|content| Link {
+                content,
+                previous: number_of(raw.previous),
+                next: number_of(raw.next),
+            }),
+        }
+    }
+}
+
+/// The events of a content's inline tree, in order.
+#[derive(Clone, Default)]
+pub struct Events {
+    pub(crate) raw: Vec<RawEvent>,
+}
+
+/// The events one after another.
+#[derive(Clone)]
+pub struct Iter<'a>(slice::Iter<'a, RawEvent>);
+
+impl Iterator for Iter<'_> {
+    type Item = Event;
+
+    fn next(&mut self) -> Option<Event> {
+        self.0.next().map(Event::of)
+    }
+
+    fn size_hint(&self) -> (usize, Option<usize>) {
+        self.0.size_hint()
+    }
+}
+
+impl DoubleEndedIterator for Iter<'_> {
+    fn next_back(&mut self) -> Option<Event> {
+        self.0.next_back().map(Event::of)
+    }
+}
+
+impl ExactSizeIterator for Iter<'_> {}
+
+impl Events {
+    /// No events, and no memory for any.
+    pub fn new() -> Events {
+        Events::default()
+    }
+
+    /// How many they are.
+    pub fn len(&self) -> usize {
+        self.raw.len()
+    }
+
+    /// Whether there are none.
+    pub fn is_empty(&self) -> bool {
+        self.raw.is_empty()
+    }
+
+    /// The event with this number, as links name it.
+    pub fn get(&self, number: usize) -> Option<Event> {
+        self.raw.get(number).map(Event::of)
+    }
+
+    /// The events one after another.
+    pub fn iter(&self) -> Iter<'_> {
+        Iter(self.raw.iter())
+    }
+}
+
+impl<'a> IntoIterator for &'a Events {
+    type Item = Event;
+    type IntoIter = Iter<'a>;
+
+    fn into_iter(self) -> Iter<'a> {
+        self.iter()
+    }
+}
+
+impl fmt::Debug for Events {
+    fn fmt(&self, f: &mut fmt::Formatter<'_>) -> fmt::Result {
+        f.debug_list().entries(self).finish()
+    }
+}
+
+/// The line that the program `mdinline` prints for the event.
+impl fmt::Display for Event {
+    fn fmt(&self, f: &mut fmt::Formatter<'_>) -> fmt::Result {
+        let Point {
+            line,
+            column,
+            index,
+            vs,
+        } = self.point;
+        write!(
+            f,
+            "{:?} {} {line} {column} {index} {vs}",
+            self.kind, self.name
+        )?;
+        if let Some(link) = self.link {
+            write!(f, " link {:?}", link.content)?;
+            for number in [link.previous, link.next] {
+                match number {
+                    Some(number) => write!(f, " {number}")?,
+                    None => f.write_str(" -")?,
+                }
+            }
+        }
+        Ok(())
+    }
+}

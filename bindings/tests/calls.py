@@ -1,0 +1,75 @@
+"""Statuses, indexes in characters, memory that is used again, and calls on several threads."""
+import doctest
+import threading
+import unittest
+
+import markdown_inline
+from markdown_inline import BlankLine, DefinitionError, Error, NoContent, NotUtf8, Piece, UnknownOption, identifier, is_content, is_text, string, text
+
+
+class Calls(unittest.TestCase):
+    def test_each_error_comes(self):
+        for error, status, call in (
+            (UnknownOption, 2, lambda: text('a', options=1 << 31)), (UnknownOption, 2, lambda: string('a', options=1 << 31)),
+            (NotUtf8, 3, lambda: text(b'\xff')), (NotUtf8, 3, lambda: text('\ud800')), (NotUtf8, 3, lambda: string(b'\xff')),
+            (BlankLine, 4, lambda: text('a\n\nb')), (BlankLine, 4, lambda: text('a\n')), (NoContent, 7, lambda: text('a', [(0, 9)])),
+            (NoContent, 7, lambda: string('a', [(1, 0)])), (DefinitionError, 8, lambda: text('a', definitions=[b'\xff'])),
+            (DefinitionError, 8, lambda: text('a', footnotes=[b'\xff'])),
+        ):
+            with self.assertRaises(error) as caught:
+                call()
+            self.assertIsInstance(caught.exception, Error)
+            self.assertEqual(caught.exception.status, status)
+            self.assertTrue(str(caught.exception))
+
+    def test_tests(self):
+        self.assertTrue(is_text('a\nb') and is_content('a\n\nb'))
+        self.assertFalse(is_text('a\n\nb') or is_content(b'\xff') or is_content('a', [(0, 2)]))
+
+    def test_nothing(self):
+        self.assertEqual(text(''), [])
+        self.assertEqual(text('a', []), [])
+
+    def test_characters(self):
+        events = text('é *漢*')
+        self.assertEqual([(it.index, it.character) for it in events if it.name == 'Emphasis'], [(3, 2), (8, 5)])
+        self.assertIsNone(text('é'.encode())[0].character)
+
+    def test_pieces(self):
+        pieces = [Piece(2, 7), Piece(9, 15)]
+        self.assertEqual(str(text('> a *b\n> c* `d`', pieces)[3]), 'Enter EmphasisSequence 1 5 4 0')
+
+    def test_memory_is_used_again(self):
+        long = '*a* ' * 2000 + 'b'
+        count = len(text(long))
+        self.assertEqual(len(text('a')), 2)
+        self.assertEqual(len(text(long)), count)
+
+    def test_labels_are_normalized(self):
+        self.assertIn('Link', [it.name for it in text('[a  B]', definitions=['A b'])])
+        self.assertNotIn('Link', [it.name for it in text('[a  B]')])
+        self.assertEqual([identifier(it) for it in (' A\n B ', b'', '\u1e9e')], ['a b', '', 'ss'])
+        with self.assertRaises(NotUtf8):
+            identifier(b'\xff')
+
+    def test_threads_do_not_meet(self):
+        wanted, wrong = text('a *b* [c](d)'), []
+
+        def run():
+            for _ in range(300):
+                if text('a *b* [c](d)') != wanted:
+                    wrong.append(1)
+
+        threads = [threading.Thread(target=run) for _ in range(8)]
+        for it in threads:
+            it.start()
+        for it in threads:
+            it.join()
+        self.assertEqual(wrong, [])
+
+    def test_documented_example(self):
+        self.assertEqual(doctest.testmod(markdown_inline).failed, 0)
+
+
+if __name__ == '__main__':
+    unittest.main()

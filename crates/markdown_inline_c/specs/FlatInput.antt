@@ -1,0 +1,105 @@
+-- What a caller in C hands in.
+use Rattle.std.specs.Prelude.{ℕ, ◌<◌, ◌≤◌, Bool, false, not, ◌==◌, List, [], map, length, slice_range, bit_and, IsUtf8}
+use Rattle.std.specs.List.{All}
+use Rattle.markdown_engine_content.specs.Content.{IsContent, IsTextContent}
+use Rattle.markdown_engine_content.specs.declared.configuration.ParseOptions.{ParseOptions}
+use Rattle.markdown_engine_content.specs.declared.parser.Piece.{Piece}
+use Rattle.markdown_model.specs.Setting.{Setting}
+use Rattle.markdown_util.specs.Identifier.{identifier_of}
+use Rattle.markdown_util.specs.Reference.{html_5_rows}
+use Rattle.markdown_inline_c.specs.declared.check.Pieces.{Pieces}
+use Rattle.markdown_inline_c.specs.declared.flat.FlatPiece.{FlatPiece}
+use Rattle.markdown_inline_c.specs.declared.flat.Input.{Input}
+use Rattle.markdown_inline_c.specs.declared.flat.Range.{Range}
+
+abbrev pub piece_of : FlatPiece → Piece
+piece_of p = record { start = (p.start, p.start_vs); end = (p.end, p.end_vs) }
+
+abbrev pub pieces_of : List FlatPiece → List Piece
+pieces_of pieces = map piece_of pieces
+
+abbrev pub pieces_listed : Pieces → List Piece
+pieces_listed (Pieces.One pieces) = pieces
+pieces_listed (Pieces.Many pieces) = pieces.items
+
+-- Options, each by a bit.
+
+abbrev pub has_option : ℕ → ℕ → Bool
+has_option options bit = not (bit_and options bit == 0)
+
+-- each bit is one of an option
+abbrev pub AreKnown : ℕ → Type 0
+AreKnown options = options < 0x20_0000
+
+abbrev pub options_of : ℕ → ParseOptions
+options_of o = record {
+  constructs = record {
+    attention = has_option o 0x1;
+    autolink = has_option o 0x2;
+    character_escape = has_option o 0x4;
+    character_reference = has_option o 0x8;
+    code_text = has_option o 0x10;
+    gfm_autolink_literal = has_option o 0x20;
+    gfm_label_start_footnote = has_option o 0x40;
+    gfm_strikethrough = has_option o 0x80;
+    gfm_task_list_item = has_option o 0x100;
+    hard_break_escape = has_option o 0x200;
+    hard_break_trailing = has_option o 0x400;
+    html_text = has_option o 0x800;
+    label_start_image = has_option o 0x1000;
+    label_start_link = has_option o 0x2000;
+    label_end = has_option o 0x4000;
+    math_text = has_option o 0x8000;
+  };
+  gfm_strikethrough_single_tilde = has_option o 0x1_0000;
+  math_text_single_dollar = has_option o 0x2_0000;
+  attention_first_lengths = has_option o 0x4_0000;
+  label_shortcut_before_bracket = has_option o 0x8_0000;
+}
+
+-- Labels of definitions, each by where it stands among bytes.
+
+abbrev pub range_bytes : List ℕ → Range → List ℕ
+range_bytes labels r = slice_range labels r.start r.end
+
+-- the range stands among the bytes, and holds UTF-8
+pub record IsLabel (labels : List ℕ) (r : Range) : Type 0 where
+  pub in_order : r.start ≤ r.end
+  pub within : r.end ≤ length labels
+  pub is_utf_8 : IsUtf8 (range_bytes labels r)
+
+abbrev pub identifiers : List ℕ → List Range → List (List ℕ)
+identifiers labels ranges = map (λ r. identifier_of (range_bytes labels r)) ranges
+
+abbrev pub AreLabels : Input → Type 0
+AreLabels i = All (IsLabel i.labels.now) i.definitions.now × All (IsLabel i.labels.now) i.footnotes.now
+
+-- What a run is given.
+
+abbrev pub string_setting : Input → Setting
+string_setting i = record {
+  bytes = i.bytes.now;
+  options = options_of i.options;
+  references = html_5_rows;
+  definitions = [];
+  footnotes = [];
+  first_of_item = false;
+}
+
+abbrev pub text_setting : Input → Setting
+text_setting i = record (string_setting i) {
+  definitions = identifiers i.labels.now i.definitions.now;
+  footnotes = identifiers i.labels.now i.footnotes.now;
+  first_of_item = has_option i.options 0x10_0000;
+}
+
+-- an input that can be read as a string
+pub record IsStringInput (i : Input) : Type 0 where
+  pub options : AreKnown i.options
+  pub pieces : IsContent i.bytes.now (pieces_of i.pieces.now)
+
+-- an input that can be read as a text
+pub record IsTextInput (i : Input) : Type 0 where
+  pub options : AreKnown i.options
+  pub pieces : IsTextContent i.bytes.now (pieces_of i.pieces.now)
+  pub labels : AreLabels i

@@ -1,0 +1,7 @@
+-- What crosses to C.
+-- What has to be believed: what public contracts cite.
+pub mod FlatInput
+pub mod FlatEvents
+pub mod FlatLeaves
+pub mod Statuses
+pub mod Answers

@@ -1,0 +1,50 @@
+-- What is wrong with an input that is refused, and the status that says so. Each fault is the first one, in the order of their numbers below.
+use Rattle.std.specs.Prelude.{ℕ, ◌<◌, ◌≤◌, List, length, IsUtf8}
+use Rattle.markdown_engine_content.specs.Content.{document_limit, IsContent, IsTextContent}
+use Rattle.markdown_engine_content.specs.declared.parser.Piece.{Piece}
+use Rattle.markdown_inline_c.specs.FlatInput.{AreKnown, AreLabels, pieces_of}
+use Rattle.markdown_inline_c.specs.declared.fault.Fault.{Fault}
+use Rattle.markdown_inline_c.specs.declared.flat.Input.{Input}
+
+abbrev pub fault_status : Fault → ℕ
+fault_status Fault.UnknownOption = 2
+fault_status Fault.NotUtf8 = 3
+fault_status Fault.BlankLine = 4
+fault_status Fault.Memory = 5
+fault_status Fault.NoContent = 7
+fault_status Fault.Definition = 8
+fault_status Fault.TooLong = 9
+
+-- of a document
+abbrev pub IsDocumentFault : List ℕ → Fault → Type 0
+IsDocumentFault bytes Fault.TooLong = document_limit < length bytes
+IsDocumentFault bytes Fault.NotUtf8 = (length bytes ≤ document_limit) × (IsUtf8 bytes → ⊥)
+IsDocumentFault bytes _ = ⊥
+
+-- of pieces that are to be a content; memory may be refused at any time
+abbrev pub IsContentFault : List ℕ → List Piece → Fault → Type 0
+IsContentFault bytes pieces Fault.Memory = Unit {0}
+IsContentFault bytes pieces Fault.NoContent = (IsUtf8 bytes × (length bytes ≤ document_limit)) × (IsContent bytes pieces → ⊥)
+IsContentFault bytes pieces fault = IsDocumentFault bytes fault
+
+-- of pieces that are to be a text
+abbrev pub IsPiecesFault : List ℕ → List Piece → Fault → Type 0
+IsPiecesFault bytes pieces Fault.BlankLine = IsContent bytes pieces × (IsTextContent bytes pieces → ⊥)
+IsPiecesFault bytes pieces fault = IsContentFault bytes pieces fault
+
+-- of an input that is to be read as a string
+abbrev pub IsStringFault : Input → Fault → Type 0
+IsStringFault i Fault.UnknownOption = AreKnown i.options → ⊥
+IsStringFault i fault = AreKnown i.options × IsContentFault i.bytes.now (pieces_of i.pieces.now) fault
+
+-- of an input that is to be read as a text
+abbrev pub IsTextFault : Input → Fault → Type 0
+IsTextFault i Fault.UnknownOption = AreKnown i.options → ⊥
+IsTextFault i Fault.Definition = AreKnown i.options × (IsTextContent i.bytes.now (pieces_of i.pieces.now) × (AreLabels i → ⊥))
+IsTextFault i fault = AreKnown i.options × IsPiecesFault i.bytes.now (pieces_of i.pieces.now) fault
+
+-- of a label
+abbrev pub IsLabelFault : List ℕ → Fault → Type 0
+IsLabelFault label Fault.NotUtf8 = IsUtf8 label → ⊥
+IsLabelFault label Fault.Memory = Unit {0}
+IsLabelFault label _ = ⊥

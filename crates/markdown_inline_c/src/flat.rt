@@ -1,0 +1,168 @@
+// What crosses to C: structs of numbers and of arrays.
+
+ghost use Rattle.std.specs.Prelude.{◌≡◌};
+ghost use Rattle.markdown_inline_c.specs.FlatEvents.{flat_event, kind_number, link_number, name_number, number_or_max};
+ghost use Rattle.markdown_inline_c.specs.FlatInput.{piece_of};
+
+use markdown_engine_content::event::{Content, Event, Kind, Name};
+use markdown_engine_content::parser::Piece;
+
+/// A piece of a document, from a place to a place.
+#[repr(C)]
+#[derive(Clone, Copy, Debug, PartialEq, Eq)]
+pub struct FlatPiece {
+    /// The byte at which it starts.
+    pub start: usize,
+    /// How many columns of the tab at `start` come before the piece; 0 outside of tabs.
+    pub start_vs: usize,
+    /// The byte before which it ends.
+    pub end: usize,
+    /// How many columns of the tab at `end` the piece still has; 0 outside of tabs.
+    pub end_vs: usize,
+}
+
+/// The bytes from one index to another.
+#[repr(C)]
+#[derive(Clone, Copy, Debug, PartialEq, Eq)]
+pub struct Range {
+    /// The first byte.
+    pub start: usize,
+    /// The byte after the last one.
+    pub end: usize,
+}
+
+/// What a call reads.
+#[repr(C)]
+#[derive(Clone, Copy, Debug)]
+pub struct Input<'a> {
+    /// The document.
+    pub bytes: &'a [u8],
+    /// The pieces of the document that are read.
+    pub pieces: &'a [FlatPiece],
+    /// Bytes in which the labels of definitions stand; they may be those of the document.
+    pub labels: &'a [u8],
+    /// Where among `labels` the label of each definition stands, as it is written.
+    pub definitions: &'a [Range],
+    /// Where among `labels` the label of each footnote definition stands.
+    pub footnotes: &'a [Range],
+    /// What is looked for, each option by a bit: from the lowest the constructs in the order of `Constructs`, the four settings in that of
+    /// `ParseOptions`, and whether the text is the first of a list item.
+    pub options: u32,
+}
+
+/// The beginning or the end of something in a document.
+#[repr(C)]
+#[derive(Clone, Copy, Debug, PartialEq, Eq)]
+pub struct FlatEvent {
+    /// 0 where it begins, 1 where it ends.
+    pub kind: u8,
+    /// The number of its name, in the order of `Name`.
+    pub name: u8,
+    /// How what stands there is to be read again: 0 not at all, 1 as a string, 2 as a text.
+    pub link: u8,
+    /// The line, from 1.
+    pub line: usize,
+    /// The column, from 1.
+    pub column: usize,
+    /// The byte, from 0.
+    pub index: usize,
+    /// How many columns of the tab at `index` come before the place; 0 outside of tabs.
+    pub vs: usize,
+    /// The number of the event before on the chain of what is read again, or `usize::MAX`.
+    pub previous: usize,
+    /// The number of the event after on that chain, or `usize::MAX`.
+    pub next: usize,
+}
+
+/// A leaf: an event with no other inside it, from where it begins to where it ends, and what stands there.
+///
+/// Its bytes begin at `start`, or at the byte behind where `start_vs` is above 0.
+#[repr(C)]
+#[derive(Clone, Copy, Debug, PartialEq, Eq)]
+pub struct FlatLeaf {
+    /// The number of its name, in the order of `Name`.
+    pub name: u8,
+    /// The line on which it begins, from 1.
+    pub start_line: usize,
+    /// The column at which it begins, from 1.
+    pub start_column: usize,
+    /// The byte at which it begins, from 0.
+    pub start: usize,
+    /// How many columns of the tab at `start` come before it; 0 outside of tabs.
+    pub start_vs: usize,
+    /// The line on which it ends.
+    pub end_line: usize,
+    /// The column before which it ends.
+    pub end_column: usize,
+    /// The byte before which it ends, or at which, where `end_vs` is above 0.
+    pub end: usize,
+    /// How many columns of the tab at `end` it still has.
+    pub end_vs: usize,
+    /// How many virtual spaces stand before its bytes, of a tab that is not among them.
+    pub before: usize,
+    /// How many bytes it has.
+    pub bytes_len: usize,
+    /// How many virtual spaces of the tab that ends its bytes it has.
+    pub after: usize,
+}
+
+pub(crate) fn piece_of(piece: FlatPiece) -> Piece
+    ensures { result ≡ piece_of piece }
+{
+    Piece {
+        start: (piece.start, piece.start_vs),
+        end: (piece.end, piece.end_vs),
+    }
+}
+
+fn kind_number(kind: Kind) -> u8
+    ensures { result ≡ kind_number kind }
+{
+    kind as u8
+}
+
+pub(crate) fn name_number(name: Name) -> u8
+    ensures { result ≡ name_number name }
+{
+    name as u8
+}
+
+fn link_number(content: Content) -> u8
+    ensures { result ≡ link_number content }
+{
+    match content {
+        Content::String => 1,
+        Content::Text => 2,
+    }
+}
+
+fn number_or_max(number: Option<usize>) -> usize
+    ensures { result ≡ number_or_max number }
+{
+    number.unwrap_or(usize::MAX)
+}
+
+pub(crate) fn flat_event(event: &Event) -> FlatEvent
+    ensures { result ≡ flat_event event.now }
+{
+    let unlinked = FlatEvent {
+        kind: kind_number(event.kind),
+        name: name_number(event.name),
+        link: 0,
+        line: event.point.line,
+        column: event.point.column,
+        index: event.point.index,
+        vs: event.point.vs,
+        previous: usize::MAX,
+        next: usize::MAX,
+    };
+    match event.link {
+        None => unlinked,
+        Some(link) => FlatEvent {
+            link: link_number(link.content),
+            previous: number_or_max(link.previous),
+            next: number_or_max(link.next),
+            ..unlinked
+        },
+    }
+}

@@ -1,0 +1,146 @@
+// Runs over an input.
+
+ghost use Rattle.std.specs.Prelude.{◌≡◌, ◌⊎◌, ◌<◌, ◌∷◌, ◌++◌, [], IfErr, IfNone, IfOk, IfSome, OnOk, map, string_bytes};
+ghost use Rattle.std.specs.List.{All};
+ghost use Rattle.markdown_model.specs.InlineTree.{string_events, text_events};
+ghost use Rattle.markdown_run_leaves.specs.InnermostEvents.{innermost, IsInOrder};
+ghost use Rattle.markdown_util.specs.Identifier.{identifier_of};
+ghost use Rattle.markdown_inline_c.specs.FlatInput.{has_option, identifiers, IsLabel, options_of, pieces_of, range_bytes, string_setting, text_setting, IsStringInput, IsTextInput, AreKnown};
+ghost use Rattle.markdown_inline_c.specs.Statuses.{IsStringFault, IsTextFault};
+ghost use Rattle.markdown_inline_c.specs.declared.fault.Fault.TheVariants.{Definition, Memory, UnknownOption};
+
+use crate::check::{Pieces, check_content, check_text};
+use crate::fault::Fault;
+use crate::flat::{Input, Range};
+use markdown_engine_content::configuration::{Constructs, ParseOptions};
+use markdown_engine_content::parser::ParseState;
+use markdown_run::run::{self, Run};
+use markdown_util::util::normalize_identifier::normalize_identifier;
+use std::alloc::{AllocError, Global};
+
+// The lowest number with a bit that is none of an option.
+const UNKNOWN_OPTION: u32 = 0x20_0000;
+
+// The bit that says that the text is the first of a list item.
+const FIRST_OF_ITEM: u32 = 0x10_0000;
+
+fn has_option(options: u32, bit: u32) -> bool
+    ensures { result ≡ has_option options bit }
+{
+    options & bit != 0
+}
+
+// What the bits ask for.
+fn options_of(options: u32) -> ParseOptions
+    ensures { result ≡ options_of options }
+{
+    ParseOptions {
+        constructs: Constructs {
+            attention: has_option(options, 0x1),
+            autolink: has_option(options, 0x2),
+            character_escape: has_option(options, 0x4),
+            character_reference: has_option(options, 0x8),
+            code_text: has_option(options, 0x10),
+            gfm_autolink_literal: has_option(options, 0x20),
+            gfm_label_start_footnote: has_option(options, 0x40),
+            gfm_strikethrough: has_option(options, 0x80),
+            gfm_task_list_item: has_option(options, 0x100),
+            hard_break_escape: has_option(options, 0x200),
+            hard_break_trailing: has_option(options, 0x400),
+            html_text: has_option(options, 0x800),
+            label_start_image: has_option(options, 0x1000),
+            label_start_link: has_option(options, 0x2000),
+            label_end: has_option(options, 0x4000),
+            math_text: has_option(options, 0x8000),
+        },
+        gfm_strikethrough_single_tilde: has_option(options, 0x1_0000),
+        math_text_single_dollar: has_option(options, 0x2_0000),
+        attention_first_lengths: has_option(options, 0x4_0000),
+        label_shortcut_before_bracket: has_option(options, 0x8_0000),
+    }
+}
+
+// What is asked for, if each bit is one of an option.
+fn known_options(options: u32) -> Result<ParseOptions, Fault>
+    ensures ok { IfOk result (λ found. AreKnown options × (found ≡ options_of options)) }
+    ensures err { IfErr result (λ fault. (fault ≡ UnknownOption) × (AreKnown options → ⊥)) }
+{
+    if options >= UNKNOWN_OPTION {
+        return Err(Fault::UnknownOption);
+    }
+    Ok(options_of(options))
+}
+
+// The text of a range, if it is one.
+fn text_of(labels: &[u8], range: Range) -> Option<&str>
+    ensures some { IfSome result (λ text. (text.now ≡ range_bytes labels.now range) × IsLabel labels.now range) }
+    ensures none { IfNone result (IsLabel labels.now range → ⊥) }
+{
+    if range.start > range.end || range.end > labels.len() {
+        return None;
+    }
+    str::from_utf8(&labels[range.start..range.end]).ok()
+}
+
+// Adds the identifier of one more label.
+fn push_identifier(alloc: Global, found: &mut Vec<String>, text: &str) -> Result<(), AllocError>
+    ensures { OnOk result (map string_bytes found.new.items ≡ map string_bytes found.old.items ++ identifier_of text.now ∷ []) }
+{
+    found.push(normalize_identifier(alloc, text)?)?;
+    Ok(())
+}
+
+// The identifiers of the labels at these ranges.
+#[tactic(auto, using(crate::proofs::Labels::all_read))]
+fn identifiers_of(alloc: Global, labels: &[u8], ranges: &[Range]) -> Result<Vec<String>, Fault>
+    ensures found { IfOk result (λ found. map string_bytes found.items ≡ identifiers labels.now ranges.now) }
+    ensures labels { IfOk result (λ _. All (IsLabel labels.now) ranges.now) }
+    ensures err { IfErr result (λ fault. (fault ≡ Memory) ⊎ ((fault ≡ Definition) × (All (IsLabel labels.now) ranges.now → ⊥))) }
+{
+    let mut found = Vec::new(alloc);
+    for range in ranges {
+        let Some(text) = text_of(labels, *range) else {
+            return Err(Fault::Definition);
+        };
+        push_identifier(alloc, &mut found, text)?;
+    }
+    Ok(found)
+}
+
+/// What is found in the input as a string, or why it is refused.
+pub fn string(alloc: Global, input: &Input) -> Result<Run, Fault>
+    ensures events { IfOk result (λ run. run.events.items ≡ string_events (string_setting input.now) (pieces_of input.now.pieces.now)) }
+    ensures input { IfOk result (λ _. IsStringInput input.now) }
+    ensures err { IfErr result (IsStringFault input.now) }
+{
+    let options = known_options(input.options)?;
+    let pieces = Pieces::new(alloc, input.pieces)?;
+    check_content(input.bytes, pieces.as_slice())?;
+    let parse_state = ParseState {
+        bytes: input.bytes,
+        options: &options,
+        definitions: Vec::new(alloc),
+        gfm_footnote_definitions: Vec::new(alloc),
+    };
+    Ok(run::string(alloc, &parse_state, pieces.as_slice())?)
+}
+
+/// What is found in the input as a text, or why it is refused.
+pub fn text(alloc: Global, input: &Input) -> Result<Run, Fault>
+    ensures events { IfOk result (λ run. run.events.items ≡ text_events (text_setting input.now) (pieces_of input.now.pieces.now)) }
+    ensures input { IfOk result (λ _. IsTextInput input.now) }
+    ensures places { IfOk result (λ run. All (IsInOrder input.now.bytes.now) (innermost run.events.items)) }
+    ensures err { IfErr result (IsTextFault input.now) }
+{
+    let options = known_options(input.options)?;
+    let pieces = Pieces::new(alloc, input.pieces)?;
+    check_text(input.bytes, pieces.as_slice())?;
+    let parse_state = ParseState {
+        bytes: input.bytes,
+        options: &options,
+        definitions: identifiers_of(alloc, input.labels, input.definitions)?,
+        gfm_footnote_definitions: identifiers_of(alloc, input.labels, input.footnotes)?,
+    };
+    let first_of_item = has_option(input.options, FIRST_OF_ITEM);
+    Ok(run::text(alloc, &parse_state, pieces.as_slice(), first_of_item)?)
+}

@@ -1,0 +1,122 @@
+//! The inline layer for callers in C: each call takes an input, and fills an array that the caller lends. Nothing is kept after a call.
+//!
+//! A call answers a status: 0 where it is done, 2 for an unknown option, 3 for a document that is not UTF-8, 4 for a text with a blank line or a
+//! line ending at its end, 5 where memory was refused, 6 for an array that is too small, 7 for pieces that are no content, 8 for the range of a
+//! definition that is no text of the labels, 9 for a document longer than an eighth of `usize::MAX`. It is that of the first thing that is wrong,
+//! in the order 2, 9, 3, 7, 4, 8.
+#![tactic(auto)]
+
+ghost use Rattle.std.specs.Prelude.{◌≡◌, IsUtf8, map};
+ghost use Rattle.markdown_model.specs.InlineTree.{string_events, text_events};
+ghost use Rattle.markdown_inline_c.specs.FlatInput.{pieces_of, string_setting, text_setting, IsStringInput, IsTextInput};
+ghost use Rattle.markdown_inline_c.specs.FlatEvents.{flat_event};
+ghost use Rattle.markdown_inline_c.specs.FlatLeaves.{leaves_of};
+ghost use Rattle.markdown_inline_c.specs.Answers.{IsAnswer, IsTested};
+ghost use Rattle.markdown_inline_c.specs.Statuses.{IsContentFault, IsPiecesFault, IsLabelFault, IsStringFault, IsTextFault};
+ghost use Rattle.markdown_util.specs.Identifier.{identifier_of};
+ghost use Rattle.markdown_engine_content.specs.Content.{IsContent, IsTextContent};
+
+pub mod answer;
+pub mod check;
+pub mod fault;
+pub mod flat;
+pub mod input;
+pub mod label;
+pub mod leaf;
+
+use answer::{answer, answer_with};
+use flat::{FlatEvent, FlatLeaf, FlatPiece, Input};
+use std::alloc::Global;
+
+/// The version of the functions that this library exports, and of the types that they take.
+#[unsafe(no_mangle)]
+pub extern "C" fn markdown_inline_version() -> u32
+    ensures { result ≡ 1 }
+{
+    1
+}
+
+/// Whether the pieces are a content of the document: status 0. Else the status is 9, 3 or 7, or 5.
+#[unsafe(no_mangle)]
+pub extern "C" fn markdown_inline_is_content(
+    alloc: Global,
+    bytes: &[u8],
+    pieces: &[FlatPiece],
+) -> u32
+    ensures { IsTested (IsContent bytes.now (pieces_of pieces.now)) (IsContentFault bytes.now (pieces_of pieces.now)) result }
+{
+    fault::status_of(check::is_content(alloc, bytes, pieces))
+}
+
+/// Whether the pieces are a text of the document: status 0. Else the status is 9, 3, 7 or 4, or 5.
+#[unsafe(no_mangle)]
+pub extern "C" fn markdown_inline_is_text(alloc: Global, bytes: &[u8], pieces: &[FlatPiece]) -> u32
+    ensures { IsTested (IsTextContent bytes.now (pieces_of pieces.now)) (IsPiecesFault bytes.now (pieces_of pieces.now)) result }
+{
+    fault::status_of(check::is_text(alloc, bytes, pieces))
+}
+
+/// The events of the inline tree of the input's pieces as a string: of escapes, character references and data. The labels and definitions are not
+/// looked at, nor whether the text is the first of an item.
+///
+/// With status 0 they stand at the front of `events`, and `count` is how many they are. With status 6 `count` is that too, and they are more than
+/// `events` has room for. Nothing else is written.
+#[unsafe(no_mangle)]
+pub extern "C" fn markdown_inline_string(
+    alloc: Global,
+    input: &Input,
+    events: &mut [FlatEvent],
+    count: &mut usize,
+) -> u32
+    ensures { IsAnswer (map flat_event (string_events (string_setting input.now) (pieces_of input.now.pieces.now))) (IsStringInput input.now) (IsStringFault input.now) events.old events.new count.old count.new result }
+{
+    answer(input::string(alloc, input), events, count)
+}
+
+/// The events of the inline tree of the input's pieces as a text: of the inside of a paragraph, a heading or a table's cell.
+///
+/// With status 0 they stand at the front of `events`, and `count` is how many they are. With status 6 `count` is that too, and they are more than
+/// `events` has room for. Nothing else is written.
+#[unsafe(no_mangle)]
+pub extern "C" fn markdown_inline_text(
+    alloc: Global,
+    input: &Input,
+    events: &mut [FlatEvent],
+    count: &mut usize,
+) -> u32
+    ensures { IsAnswer (map flat_event (text_events (text_setting input.now) (pieces_of input.now.pieces.now))) (IsTextInput input.now) (IsTextFault input.now) events.old events.new count.old count.new result }
+{
+    answer(input::text(alloc, input), events, count)
+}
+
+/// The leaves of the inline tree of the input's pieces as a text, in order, each with where it begins and ends and what stands there.
+///
+/// With status 0 they stand at the front of `leaves`, and `count` is how many they are. With status 6 `count` is that too, and they are more than
+/// `leaves` has room for. Nothing else is written.
+#[unsafe(no_mangle)]
+pub extern "C" fn markdown_inline_leaves(
+    alloc: Global,
+    input: &Input,
+    leaves: &mut [FlatLeaf],
+    count: &mut usize,
+) -> u32
+    ensures { IsAnswer (leaves_of input.now) (IsTextInput input.now) (IsTextFault input.now) leaves.old leaves.new count.old count.new result }
+{
+    answer_with(leaf::leaves(alloc, input), leaves, count)
+}
+
+/// The identifier of a label, as labels are compared: its words joined by one space and case folded.
+///
+/// With status 0 its UTF-8 stands at the front of `identifier`, and `count` is how many bytes it has. With status 6 `count` is that too, and they
+/// are more than there is room for. The status is 3 for a label that is not UTF-8, and 5. Nothing else is written.
+#[unsafe(no_mangle)]
+pub extern "C" fn markdown_inline_identifier(
+    alloc: Global,
+    label: &[u8],
+    identifier: &mut [u8],
+    count: &mut usize,
+) -> u32
+    ensures { IsAnswer (identifier_of label.now) (IsUtf8 label.now) (IsLabelFault label.now) identifier.old identifier.new count.old count.new result }
+{
+    answer_with(label::identifier(alloc, label), identifier, count)
+}
