@@ -198,6 +198,19 @@ def tag_of_lines(size):
 
 ONE = [('a', '/b')]
 
+
+def code(part):
+    """A part as it is written in a page."""
+    return '`` %s ``' % part if '`' in part else '`%s`' % part
+
+
+# An opening that stands again and again, and the one end behind all of them.
+ONE_END = [
+    ('[', ']'), ('[a', '](b)'), ('![', ']'), ('![a', '](b)'), ('[^', ']'), ('[a](', ')'), ('[a](<', '>)'), ('[a](b "', '")'), ('[a][', ']'),
+    ('*a ', '*'), ('a **b ', '**'), ('_a ', '_'), ('~a ', '~'), ('` ``a ', '`'), ('$ $$a ', '$'),
+    ('<', '>'), ('<a', '>'), ('</a ', '>'), ('<a b="', '">'), ('<ab:', '>'), ('<a@', '>'), ('&', ';'), ('&#', ';'), ('&a', ';'), ('www.', ')'),
+]
+
 # Patterns by their group: what stands again and again, or how it is made.
 PATTERNS = [
     ('text', [
@@ -319,5 +332,28 @@ PATTERNS = [
         ('`xmpp:a@b.c/`, then `.` again and again, then `d`', around('xmpp:a@b.c/', '.', 'd')),
         ('`a@b`, then `.b-` again and again', around('a@b', '.b-', '')),
         ('`_www.`', again('_www.')),
+    ]),
+    ('one long line of openings, and at most one end behind', [
+        *[('%s, and one %s behind' % tuple(map(code, pair)), around('', *pair)) for pair in ONE_END],
+        ('`:`', again(':')),
+        ('`.`', again('.')),
+        ('`a:`', again('a:')),
+        ('`a.`', again('a.')),
+        ('`://`', again('://')),
+        ('`@.`', again('@.')),
+        ('`http:`', again('http:')),
+        ('`&#x`', again('&#x')),
+        ('`&a`', again('&a')),
+        ('`<a b`', again('<a b')),
+        ("`<a b='`", again("<a b='")),
+        ('`<a b=c `', again('<a b=c ')),
+        ('`</a`', again('</a')),
+        ('`<a/`', again('<a/')),
+        ('`[a](b` and a space', again('[a](b ')),
+        ("`[a](b '`", again("[a](b '")),
+        ('`[a](<b\\>`', again('[a](<b\\>')),
+        ('`[a](b(`', again('[a](b(')),
+        ('openings of all kinds', again('*[`<&_![<a b="$:~~[^www.&#\\http://a@[a](<!--')),
+        ('openings of all kinds, and `]` behind', around('', '*[<&_![<a b:~~[^www.&#http://a@', ']')),
     ]),
 ]

@@ -30,12 +30,12 @@ def drawing(width, height, parts):
 
 
 def bars(title, names, rows, left=210, width=820):
-    """A bar for each figure of each row, on a scale of powers of ten. A row is its name and a figure (or none) for each of the names."""
+    """A bar with its number for each figure of each row, on a scale of powers of ten. A row is its name and a figure (or none) for each of the names."""
     figures = [figure for _, row in rows for figure in row if figure]
     low = math.floor(math.log10(min(figures)))
     high = math.ceil(math.log10(max(figures)))
     scale = (width - left - 60) / max(high - low, 1)
-    step, top = 9, 56
+    step, top = 11, 56
     row_height = step * len(names) + 8
     bottom = top + row_height * len(rows)
     parts = [text(10, 18, title)] + legend(names, 10, 38)
@@ -49,6 +49,7 @@ def bars(title, names, rows, left=210, width=820):
             if figure:
                 length = max((math.log10(figure) - low) * scale, 1)
                 parts.append('<rect x="%d" y="%.1f" width="%.1f" height="%d" fill="%s"/>' % (left, y + i * step, length, step - 1, COLOURS[i % len(COLOURS)]))
+                parts.append(text(left + length + 4, y + i * step + step - 1, '{:,.0f}'.format(figure)))
     return drawing(width, bottom + 24, parts)
 
 
