@@ -1,6 +1,7 @@
 -- The lines of a text, code by code.
-use Rattle.std.proofs.Common.{ℕ, Bool, true, false, not, ◌||◌, ◌==◌, ◌≡◌, List, [], ◌∷◌, refl, sym, ap, ◌∙◌, Option, Some, None, is_some, if◌then◌else◌}
+use Rattle.std.proofs.Common.{ℕ, Bool, true, false, not, ◌||◌, ◌==◌, ◌<◌, ◌≡◌, arith, List, [], ◌∷◌, refl, sym, ap, ◌∙◌, Option, Some, None, is_some, if◌then◌else◌}
 use Rattle.std.proofs.lemmas.Bool.{eqb-true}
+use Rattle.std.proofs.lemmas.Bool.Decides.{nat_tests}
 use Rattle.markdown_engine_content.specs.Codes.{Code, is_line_ending, is_blank}
 use Rattle.markdown_engine_content.specs.Content.{has_no_blank_line, is_text_codes}
 use Rattle.markdown_engine_content.specs.Place.{Place, ahead_at, moved, code_at}
@@ -44,14 +45,47 @@ text-next p v b r h k e =
     ap (λ (cs : List Code). has_no_blank_line b cs) a.codes ∙ filled-by b a.code (ahead_at (moved p)) (v == 10) ending (λ t. k (eqb-true v 10 t)) in
     whole ∙ ap (λ (x : Bool). has_no_blank_line (if v == 10 then false else (b || not x)) (ahead_at (moved p))) blank ∙ ap (λ (x : Bool). has_no_blank_line x (ahead_at (moved p))) (sym e)
 
+pub text-end : (p : Place) (b : Bool) → code_at p ≡ None → has_no_blank_line b (ahead_at p) ≡ b
+text-end p b h = ap (λ (cs : List Code). has_no_blank_line b cs) (ahead_none p h)
+
 -- past the rest of a line that is filled
-pub text-stretch : (ms : List ℕ) (p q : Place) (b : Bool) → b ≡ true → q ≡ past_stretch ms p →
-    has_no_blank_line b (ahead_at q) ≡ has_no_blank_line b (ahead_at p)
-text-stretch ms p q b f e =
-    ap (λ (x : Bool). has_no_blank_line x (ahead_at q)) f
-    ∙ ap (λ (x : Place). has_no_blank_line true (ahead_at x)) e
-    ∙ kept ms (λ x. has_no_blank_line true (ahead_at x) ≡ has_no_blank_line true (ahead_at p)) (λ x v h ending free k. sym (text-next x v true true h (λ t. refl) (ap (λ (y : Bool). if y then false else true) (sym ending))) ∙ k) p refl
-    ∙ ap (λ (x : Bool). has_no_blank_line x (ahead_at p)) (sym f)
+text-stretch : (ms : List ℕ) (p : Place) →
+    has_no_blank_line true (ahead_at (past_stretch ms p)) ≡ has_no_blank_line true (ahead_at p)
+text-stretch ms p =
+    kept ms (λ x. has_no_blank_line true (ahead_at x) ≡ has_no_blank_line true (ahead_at p)) (λ x v h ending free k. sym (text-next x v true true h (λ t. refl) (ap (λ (y : Bool). if y then false else true) (sym ending))) ∙ k) p refl
+
+-- between places from which it is as far to the end of the line
+pub text-within : (ms : List ℕ) (p q : Place) → past_stretch ms q ≡ past_stretch ms p →
+    has_no_blank_line true (ahead_at q) ≡ has_no_blank_line true (ahead_at p)
+text-within ms p q e =
+    sym (text-stretch ms q) ∙ ap (λ (x : Place). has_no_blank_line true (ahead_at x)) e ∙ text-stretch ms p
+
+-- past the line ending of a line that is filled
+pub text-ended : (p q : Place) → code_at p ≡ Some 10 → q ≡ moved p →
+    has_no_blank_line false (ahead_at q) ≡ has_no_blank_line true (ahead_at p)
+text-ended p q h e =
+    ap (λ (x : Place). has_no_blank_line false (ahead_at x)) e ∙ sym (text-next p 10 true false h (λ _. refl) refl)
+
+ink-fills : (v : ℕ) (b : Bool) → 32 < v → true ≡ (if v == 10 then false else (b || not (v == 32 || v == 9)))
+ink-fills v b h = grind (arith, nat_tests)
+
+not-ending : (v : ℕ) → 32 < v → v ≡ 10 → ⊥
+not-ending v h e = omega (arith, h, e)
+
+-- a line that goes on with a code that is neither a line ending nor blank
+pub text-ink : (p : Place) (v : ℕ) → code_at p ≡ Some v → 32 < v →
+    has_no_blank_line false (ahead_at p) ≡ has_no_blank_line true (ahead_at p)
+text-ink p v h above =
+    text-next p v false true h (λ e. absurd (not-ending v above e)) (ink-fills v false above) ∙ sym (text-next p v true true h (λ _. refl) (ink-fills v true above))
+
+plain-keeps : (v : ℕ) → 13 < v → true ≡ (if v == 10 then false else (true || not (v == 32 || v == 9)))
+plain-keeps v h = grind (arith, nat_tests)
+
+-- a line that is filled, before its last code
+pub text-last : (p : Place) (v : ℕ) → code_at p ≡ Some v → 13 < v → code_at (moved p) ≡ None →
+    has_no_blank_line true (ahead_at p) ≡ true
+text-last p v h above none =
+    text-next p v true true h (λ _. refl) (plain-keeps v above) ∙ text-end (moved p) true none
 
 -- a blank line
 pub text-blank : (p : Place) (v : ℕ) (b : Bool) → code_at p ≡ Some v → v ≡ 10 → b ≡ false →
@@ -60,6 +94,3 @@ text-blank p v b h k e =
     let a : IsAhead p v = ahead_some p v h in
     let ending : is_line_ending a.code ≡ true = ap (λ (n : ℕ). n == 10) (a.value ∙ k) in
     ap (λ (cs : List Code). has_no_blank_line b cs) a.codes ∙ blank-by b a.code (ahead_at (moved p)) ending e
-
-pub text-end : (p : Place) (b : Bool) → code_at p ≡ None → has_no_blank_line b (ahead_at p) ≡ b
-text-end p b h = ap (λ (cs : List Code). has_no_blank_line b cs) (ahead_none p h)

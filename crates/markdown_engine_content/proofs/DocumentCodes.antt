@@ -68,10 +68,10 @@ from-crlf b p c cs h =
     let feed : c ≡ line_feed = eqb-true c line_feed (and_parts (b == carriage_return) (c == line_feed) h).1 in
     rw (h, codes_from) (subst (λ (x : ℕ). codes_from x p cs ≡ codes_from 0 p cs) (sym feed) (from-any line_feed p cs refl))
 
-len-two : (b c : ℕ) (cs : List ℕ) → (b == carriage_return && c == line_feed) ≡ true → line_ending_len b (c ∷ cs) ≡ 2
+pub len-two : (b c : ℕ) (cs : List ℕ) → (b == carriage_return && c == line_feed) ≡ true → line_ending_len b (c ∷ cs) ≡ 2
 len-two b c cs h = rw h refl
 
-len-one : (b c : ℕ) (cs : List ℕ) → (b == carriage_return && c == line_feed) ≡ false → line_ending_len b (c ∷ cs) ≡ 1
+pub len-one : (b c : ℕ) (cs : List ℕ) → (b == carriage_return && c == line_feed) ≡ false → line_ending_len b (c ∷ cs) ≡ 1
 len-one b c cs h = rw h refl
 
 ending-cases : (b : ℕ) (p : Point) (c : ℕ) (cs : List ℕ) (t : Bool) → (b == carriage_return && c == line_feed) ≡ t →

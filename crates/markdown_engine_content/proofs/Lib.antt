@@ -25,3 +25,4 @@ pub mod PlainByteLemmas
 pub mod StretchLemmas
 pub mod AndParts
 pub mod TreeCodes
+pub mod BytePlaces

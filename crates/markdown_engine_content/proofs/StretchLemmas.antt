@@ -1,7 +1,7 @@
 -- Past codes that mean themselves.
-use Rattle.std.proofs.Common.{ℕ, zero, suc, ◌+◌, ◌-◌, ◌<◌, ◌≤◌, true, false, ◌==◌, ◌≡◌, arith, List, [], ◌∷◌, length, get_or, refl, sym, ap, subst, ◌∙◌, Option, Some, None, inl, inr}
+use Rattle.std.proofs.Common.{ℕ, zero, suc, ◌+◌, ◌-◌, ◌<◌, ◌≤◌, true, false, ◌==◌, ◌≡◌, arith, List, [], ◌∷◌, length, drop, get_or, refl, sym, ap, subst, ◌∙◌, Option, Some, None, inl, inr}
 use Rattle.std.specs.List.{list_any}
-use Rattle.std.proofs.lemmas.List.{drop_all}
+use Rattle.std.proofs.lemmas.List.{drop_all, length-drop}
 use Rattle.std.proofs.lemmas.Bool.{both_ways, cases_lt, not-true, not-false, or_parts}
 use Rattle.std.proofs.lemmas.Bool.Decides.{nat_tests}
 use Rattle.markdown_engine_content.specs.declared.event.Point.{Point}
@@ -92,7 +92,7 @@ unfolding past_stretch
 kept ms P next p k = kept-from ms P next (ahead_at p) p refl k
 
 -- no more codes are left
-pub left-stretch : (ms : List ℕ) (p : Place) → length (ahead_at (past_stretch ms p)) ≤ length (ahead_at p)
+left-stretch : (ms : List ℕ) (p : Place) → length (ahead_at (past_stretch ms p)) ≤ length (ahead_at p)
 left-stretch ms p =
     kept ms (λ q. length (ahead_at q) ≤ length (ahead_at p)) (λ q v h ending free k. let one : length (ahead_at (moved q)) + 1 ≡ length (ahead_at q) = left_moved q v h in omega (arith, one, k)) p (omega arith)
 
@@ -102,6 +102,21 @@ pub left-behind : (ms : List ℕ) (p q r : Place) (v : ℕ) → q ≡ past_stret
 left-behind ms p q r v e h less =
     let left : length (ahead_at q) ≤ length (ahead_at p) = subst (λ (x : Place). length (ahead_at x) ≤ length (ahead_at p)) (sym e) (left-stretch ms p) in
     omega (arith, left, less)
+
+-- as few are left, or fewer, where a place in the same codes is not before another
+pub left-forward : (p q : Place) → q.codes ≡ p.codes → p.at ≤ q.at → length (ahead_at q) ≤ length (ahead_at p)
+unfolding ahead_at
+left-forward p q e h =
+    let one : length (drop q.at q.codes) ≡ length q.codes - q.at = length-drop q.at q.codes in
+    let other : length (drop p.at p.codes) ≡ length p.codes - p.at = length-drop p.at p.codes in
+    let same : length q.codes ≡ length p.codes = ap (λ (cs : List Code). length cs) e in
+    omega (arith, one, other, same, h)
+
+-- fewer are left past a code
+pub left-past : (p q : Place) (v : ℕ) → code_at p ≡ Some v → q ≡ moved p → length (ahead_at q) < length (ahead_at p)
+left-past p q v h e =
+    let less : length (ahead_at (moved p)) + 1 ≡ length (ahead_at p) = left_moved p v h in
+    subst (λ (x : Place). length (ahead_at x) < length (ahead_at p)) (sym e) (omega (arith, less))
 
 -- Ordinary bytes.
 

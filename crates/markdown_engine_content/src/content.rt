@@ -2,7 +2,7 @@
 ghost use Rattle.std.specs.Prelude.{◌≡◌, ◌≤◌, ◌^◌, ◌&&◌, ◌||◌, ◌==◌, ◌↔◌, nat_lt, not, false, if◌then◌else◌, ◌-◌, ◌<◌, [], length, All, IsTrue, IsCharBoundary};
 ghost use Rattle.std.specs.Str.{byte};
 ghost use Rattle.markdown_engine_content.specs.Codes.{place_of, is_at_or_after};
-ghost use Rattle.markdown_engine_content.specs.Content.{document_limit, has_no_blank_line, is_text_codes, IsContent, IsTextContent, IsBetweenCharacters, are_pieces};
+ghost use Rattle.markdown_engine_content.specs.Content.{document_limit, has_no_blank_line, is_text_codes, is_place, is_piece, IsContent, IsTextContent, IsBetweenCharacters, are_pieces};
 ghost use Rattle.markdown_engine_content.specs.ContentTest.{Reaches, longer_by, PassesPiece, PassesNext};
 ghost use Rattle.markdown_engine_content.specs.KnownPlaces.{first_place};
 ghost use Rattle.markdown_engine_content.specs.Place.{ahead_at};
@@ -96,6 +96,49 @@ pub(crate) fn reach(bytes: &[u8], point: Point, place: (usize, usize)) -> Option
     }
 }
 
+// Whether a byte's index, or that of the end, is a place of the document: none is between the bytes of a CR LF.
+fn is_place_of_byte(bytes: &[u8], index: usize) -> bool
+    ensures { result ≡ is_place bytes.now (index, 0) }
+{
+    if index >= bytes.len() {
+        return index == bytes.len();
+    }
+    if index == 0 {
+        return true;
+    }
+    if bytes[index] != b'\n' {
+        return true;
+    }
+    bytes[index - 1] != b'\r'
+}
+
+// Whether a place that is not before a point is one of the document.
+fn is_place(bytes: &[u8], point: Point, place: (usize, usize)) -> bool
+    requires fits { length bytes.now ≤ document_limit }
+    requires is_point { IsPoint bytes.now point }
+    requires forward { IsTrue (is_at_or_after (place_of point) place) }
+    ensures { result ≡ is_place bytes.now place }
+{
+    if place.1 == 0 {
+        is_place_of_byte(bytes, place.0)
+    } else {
+        reach(bytes, point, place).is_some()
+    }
+}
+
+// Whether a piece that does not start before a point is one of the document.
+fn is_piece(bytes: &[u8], point: Point, piece: &Piece) -> bool
+    requires fits { length bytes.now ≤ document_limit }
+    requires is_point { IsPoint bytes.now point }
+    requires forward { IsTrue (is_at_or_after (place_of point) piece.now.start) }
+    ensures { result ≡ is_piece bytes.now piece.now }
+{
+    let Some(start) = reach(bytes, point, piece.start) else {
+        return false;
+    };
+    !is_before(piece.end, piece.start) && is_place(bytes, start.point, piece.end)
+}
+
 // Walks forward over a piece, if it is one.
 fn pass_piece(bytes: &[u8], point: Point, piece: &Piece) -> Option<Stretch>
     requires fits { length bytes.now ≤ document_limit }
@@ -147,6 +190,9 @@ pub(crate) fn are_pieces_from(bytes: &[u8], point: Point, pieces: &[Piece]) -> b
     let [first, rest @ ..] = pieces else {
         return true;
     };
+    if rest.is_empty() {
+        return is_piece(bytes, point, first);
+    }
     let Some(mut last) = pass_piece(bytes, point, first) else {
         return false;
     };
@@ -204,14 +250,12 @@ fn is_filled_by(filled: bool, code: u8) -> bool
     }
 }
 
-// Where a line is filled, moves past the rest of it, up to its line ending.
-fn pass_filled(cursor: &mut Cursor, filled: bool)
-    ensures lines { has_no_blank_line filled (ahead_at cursor.new) ≡ has_no_blank_line filled (ahead_at cursor.old) }
+// Moves past filled lines, the one at the place if `filled` says that it has a code that is not blank, and answers that of the line there.
+fn pass_filled(cursor: &mut Cursor, filled: bool) -> bool
+    ensures lines { has_no_blank_line result (ahead_at cursor.new) ≡ has_no_blank_line filled (ahead_at cursor.old) }
     ensures left { length (ahead_at cursor.new) ≤ length (ahead_at cursor.old) }
 {
-    if filled {
-        cursor.consume_stretch(&byte_set!());
-    }
+    (filled || cursor.stands_at_ink()) && cursor.pass_filled_lines()
 }
 
 /// Whether no line of a content is blank, and the last one has no line ending.
@@ -219,16 +263,20 @@ pub fn has_text_lines(content: &Cursor) -> bool
     ensures { result ≡ is_text_codes content.now.codes }
 {
     let mut cursor = content.restart();
-    let mut filled = cursor.current().is_none();
-    while let Some(code) = cursor.current() {
+    let is_empty = cursor.current().is_none();
+    let mut filled = pass_filled(&mut cursor, is_empty);
+    while !(filled && cursor.stands_at_last_byte()) {
+        let Some(code) = cursor.current() else {
+            return filled;
+        };
         if code == b'\n' && !filled {
             return false;
         }
         filled = is_filled_by(filled, code);
         cursor.consume();
-        pass_filled(&mut cursor, filled);
+        filled = pass_filled(&mut cursor, filled);
     }
-    filled
+    true
 }
 
 /// Whether the pieces are a content of the document that is text.

@@ -1,13 +1,14 @@
 // A place in a content, which hides the pieces, the tabs and what is left out of the lines.
-ghost use Rattle.std.specs.Prelude.{◌≡◌, ◌∷◌, [], ℕ, List, drop, length, nat_le, ◌<◌, ◌≤◌, false, IsSome, IsTrue};
+ghost use Rattle.std.specs.Prelude.{◌≡◌, ◌∷◌, [], ℕ, List, drop, length, nat_le, ◌<◌, ◌≤◌, true, false, IsSome, IsTrue};
 ghost use Rattle.markdown_engine_content.specs.Codes.{count_among, line_feed, place_of};
-ghost use Rattle.markdown_engine_content.specs.Content.{IsContent};
-ghost use Rattle.markdown_engine_content.specs.Place.{start_of_content, code_at, code_before, point_of, exit_point, moved};
+ghost use Rattle.markdown_engine_content.specs.Content.{IsContent, has_no_blank_line};
+ghost use Rattle.markdown_engine_content.specs.Place.{start_of_content, ahead_at, code_at, code_before, point_of, exit_point, moved};
 ghost use Rattle.markdown_engine_content.specs.PlaceInDocument.{is_open, first_point, followed};
 ghost use Rattle.markdown_engine_content.specs.PlainBytes.{ArePlain, spares_words};
 ghost use Rattle.markdown_engine_content.specs.Stretch.{is_free, past_stretch};
 ghost use Rattle.markdown_engine_content.specs.DocumentWalk.{IsPoint};
 
+use crate::byte_set;
 use crate::bytes::ByteSet;
 use crate::event::Point;
 use crate::lanes::{EIGHT, LANES, ordinary_among, others_among, plain_among, plain_among_eight};
@@ -316,9 +317,20 @@ impl<'a> Cursor<'a> {
         requires { IsSome (code_at self.old) }
         ensures { self.new ≡ moved self.old }
     {
-        let at = self.point;
-        match self.bytes[at.index] {
-            b'\n' if at.index + 1 < self.pieces[self.piece].end.0 => {
+        if !self.pass_line_feed() {
+            self.consume_any();
+        }
+    }
+
+    // Moves past a line feed at the place that is not the last byte of its piece, and answers whether there is one.
+    #[inline(always)]
+    fn pass_line_feed(&mut self) -> bool
+        ensures passed { IsTrue result → (code_at self.old ≡ Some line_feed) × (self.new ≡ moved self.old) }
+        ensures stays { result ≡ false → self.new ≡ self.old }
+    {
+        if self.piece < self.pieces.len() {
+            let at = self.point;
+            if at.index + 1 < self.pieces[self.piece].end.0 && self.bytes[at.index] == b'\n' {
                 let point = Point {
                     line: at.line + 1,
                     column: 1,
@@ -329,9 +341,53 @@ impl<'a> Cursor<'a> {
                 self.exit = point;
                 self.previous = Some(b'\n');
                 self.passed += 1;
+                return true;
             }
-            _ => self.consume_any(),
         }
+        false
+    }
+
+    // Whether the piece goes on with a byte that is neither a control nor the space: so the line at the place is filled.
+    #[inline(always)]
+    pub(crate) fn stands_at_ink(&self) -> bool
+        ensures { IsTrue result → has_no_blank_line false (ahead_at self.now) ≡ has_no_blank_line true (ahead_at self.now) }
+    {
+        if self.pieces.len() <= self.piece || self.point.index >= self.pieces[self.piece].end.0 {
+            return false;
+        }
+        self.bytes[self.point.index] > b' '
+    }
+
+    // Whether the place is that of the last code, and that is a byte above 13.
+    #[inline(always)]
+    pub(crate) fn stands_at_last_byte(&self) -> bool
+        ensures { IsTrue result → IsTrue (has_no_blank_line true (ahead_at self.now)) }
+    {
+        if self.pieces.len() <= self.piece || self.piece + 1 < self.pieces.len() {
+            return false;
+        }
+        let end = self.pieces[self.piece].end;
+        if end.1 != 0 || self.point.index + 1 != end.0 {
+            return false;
+        }
+        self.bytes[self.point.index] > b'\r'
+    }
+
+    // Moves past the rest of a line that is filled and past such lines behind it, as far as they are told by a look at few bytes, and
+    // answers whether the line there is filled.
+    #[inline(always)]
+    pub(crate) fn pass_filled_lines(&mut self) -> bool
+        ensures lines { has_no_blank_line result (ahead_at self.new) ≡ has_no_blank_line true (ahead_at self.old) }
+        ensures left { length (ahead_at self.new) ≤ length (ahead_at self.old) }
+    {
+        self.pass_plain(&byte_set!());
+        while self.pass_line_feed() {
+            if !self.stands_at_ink() {
+                return false;
+            }
+            self.pass_plain(&byte_set!());
+        }
+        true
     }
 
     // Moves past the code at the place, whatever it is, and wherever in its piece.

@@ -3,8 +3,8 @@ use Rattle.markdown_engine_content.specs.Content.{has_no_blank_line, is_text_cod
 use Rattle.markdown_engine_content.specs.Place.{ahead_at}
 use Rattle.markdown_engine_content.proofs.content.has_text_lines.Given as goal
 
-abbrev pub invariant-loop-code : goal.invariant-loop-code
-invariant-loop-code l = is_text_codes l.content.codes ≡ has_no_blank_line l.filled (ahead_at l.cursor)
+abbrev pub invariant-loop-filled : goal.invariant-loop-filled
+invariant-loop-filled l = is_text_codes l.content.codes ≡ has_no_blank_line l.filled (ahead_at l.cursor)
 
-abbrev pub decreases-loop-code : goal.decreases-loop-code
-decreases-loop-code l = length (ahead_at l.cursor)
+abbrev pub decreases-loop-filled : goal.decreases-loop-filled
+decreases-loop-filled l = length (ahead_at l.cursor)
