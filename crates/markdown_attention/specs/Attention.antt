@@ -88,10 +88,10 @@ inside_ends T false U = ⊥
 -- The states.
 
 abbrev pub start_words : StateWords
-start_words = record { ready = StartReady; step = start_step; ends = start_ends; rank = 2 }
+start_words = record { ready = StartReady; step = start_step; ends = start_ends; rank = λ T. 2 }
 
 abbrev pub inside_words : StateWords
-inside_words = record { ready = InsideReady; step = inside_step; ends = inside_ends; rank = 1 }
+inside_words = record { ready = InsideReady; step = inside_step; ends = inside_ends; rank = λ T. 1 }
 
 -- a part of what is said of these states, and of any other as it is given
 abbrev pub said {ℓ} : {A : Type ℓ} → (StateWords → A) → (StateName → A) → StateName → A

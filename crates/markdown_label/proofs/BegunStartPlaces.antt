@@ -45,7 +45,8 @@ within-kept : (kind : LabelKind) (size : ℕ) (V : Tokenizer) → 1 ≤ length V
 unfolding scratched
 within-kept kind size V some b k =
     let S : Tokenizer = scratched (begun kind (length V.events - size) (length V.events - 1) V.tokenize_state) V in
-    let all : AreWithin S S.tokenize_state.label_starts = (record { within = omega (arith, some); between = b }, within-same V S refl refl V.tokenize_state.label_starts k) in
+    let all : AreWithin S S.tokenize_state.label_starts =
+    (let before = within-same V S refl refl V.tokenize_state.label_starts k in ((record { within = omega (arith, some); between = b }, before.0), (λ e. cc, before.1))) in
     subst (λ (s : TokenizeState). AreWithin (kept_start kind size V) s.label_starts) (sym (scratch-before R.Label S))
     (within-same S (kept_start kind size V) (ap (λ p. p.now.bytes.now) (input-before R.Label S)) (events-before R.Label S) S.tokenize_state.label_starts all)
 

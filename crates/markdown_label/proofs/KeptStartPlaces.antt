@@ -1,5 +1,5 @@
 -- The kept starts go on ending between characters.
-use Rattle.std.proofs.Common.{◌≡◌, true, false, if◌then◌else◌, List, [], ◌∷◌, ◌++◌, length, sym, ap, subst, ◌∙◌, arith, length-append}
+use Rattle.std.proofs.Common.{◌≡◌, true, false, if◌then◌else◌, List, [], ◌∷◌, ◌++◌, length, refl, sym, ap, subst, ◌∙◌, arith, length-append}
 use Rattle.std.specs.Str.{IsCharBoundary}
 use Rattle.markdown_engine_content.specs.ListFunctions.{rest_of}
 use Rattle.markdown_engine_content.specs.declared.event.Event.{Event}
@@ -9,8 +9,8 @@ use Rattle.markdown_engine.specs.declared.tokenizer.LabelStart as Kept
 use Rattle.markdown_engine.specs.declared.tokenizer.Tokenizer.{Tokenizer}
 use Rattle.markdown_model.specs.LabelEnd.{is_image}
 use Rattle.markdown_plan.specs.Characters.{bytes_of}
-use Rattle.markdown_label.specs.LabelFields.{marked, barred_by}
-use Rattle.markdown_label.specs.LabelEnd.{place_at, EndsBetween, AreWithin}
+use Rattle.markdown_label.specs.LabelFields.{AreMarked, AreOrdered, marked, barred_by}
+use Rattle.markdown_label.specs.LabelEnd.{place_at, EndsBetween, AllEndBetween, AreWithin}
 use Rattle.markdown_label.proofs.KeptStartStack.{place-front}
 
 -- where events are appended
@@ -23,27 +23,38 @@ ends-grown T U more same events l k =
       between = subst (λ bs. IsCharBoundary bs (place_at U.events l.start.1).index) (sym same) (subst (λ (p : Point). IsCharBoundary (bytes_of T) p.index) (sym place) k.between);
     }
 
+all-grown : (T U : Tokenizer) (more : List Event) → bytes_of U ≡ bytes_of T → U.events ≡ T.events ++ more →
+    (ls : List Kept.LabelStart) → AllEndBetween T ls → AllEndBetween U ls
+all-grown T U more same events [] k = tt
+all-grown T U more same events (l ∷ ls) k =
+    (ends-grown T U more same events l k.0, all-grown T U more same events ls k.1)
+
 pub within-grown : (T U : Tokenizer) (more : List Event) → bytes_of U ≡ bytes_of T → U.events ≡ T.events ++ more →
     (ls : List Kept.LabelStart) → AreWithin T ls → AreWithin U ls
-within-grown T U more same events [] k = tt
-within-grown T U more same events (l ∷ ls) k =
-    (ends-grown T U more same events l k.0, within-grown T U more same events ls k.1)
+within-grown T U more same events ls k = (all-grown T U more same events ls k.0, k.1)
 
 -- where the last one is used up
 pub within-rest : (T : Tokenizer) (ls : List Kept.LabelStart) → AreWithin T ls → AreWithin T (rest_of ls)
-within-rest T [] k = tt
-within-rest T (l ∷ ls) k = k.1
+within-rest T [] k = k
+within-rest T (l ∷ ls) k = (k.0.1, k.1.1)
 
--- where some are marked
-within-marked : (T : Tokenizer) (ls : List Kept.LabelStart) → AreWithin T ls → AreWithin T (marked ls)
-within-marked T [] k = tt
-within-marked T (l ∷ ls) k =
-    elim l.inactive as (λ b. AreWithin T (if b then l ∷ ls else (record l { inactive = true }) ∷ marked ls)) [
-      | true ↦ k
-      | false ↦ (record { within = k.0.within; between = k.0.between }, within-marked T ls k.1)
-    ]
+-- where all are marked
+all-marked : (T : Tokenizer) (ls : List Kept.LabelStart) → AllEndBetween T ls → AllEndBetween T (marked ls)
+all-marked T [] k = tt
+all-marked T (l ∷ ls) k = (record { within = k.0.within; between = k.0.between }, all-marked T ls k.1)
+
+are-marked : (ls : List Kept.LabelStart) → AreMarked (marked ls)
+are-marked [] = tt
+are-marked (l ∷ ls) = (refl, are-marked ls)
+
+ordered-marked : (ls : List Kept.LabelStart) → AreOrdered (marked ls)
+ordered-marked [] = tt
+ordered-marked (l ∷ ls) = (λ e. are-marked ls, ordered-marked ls)
 
 pub within-barred : (T : Tokenizer) (kind : LabelKind) (ls : List Kept.LabelStart) → AreWithin T ls →
     AreWithin T (barred_by kind ls)
 within-barred T kind ls k =
-    elim (is_image kind) as (λ b. AreWithin T (if b then ls else marked ls)) [ true ↦ k | false ↦ within-marked T ls k ]
+    elim (is_image kind) as (λ b. AreWithin T (if b then ls else marked ls)) [
+      | true ↦ k
+      | false ↦ (all-marked T ls k.0, ordered-marked ls)
+    ]

@@ -1,5 +1,5 @@
 -- The starts that a tokenizer keeps go on standing for the unused ones.
-use Rattle.std.proofs.Common.{◌≡◌, ℕ, zero, suc, ◌<◌, Bool, true, false, ◌&&◌, not, if◌then◌else◌, List, [], ◌∷◌, ◌++◌, map, length, slice_get, drop, Option, Some, None, refl, sym, ap, subst, ◌∙◌, arith, length-append}
+use Rattle.std.proofs.Common.{◌≡◌, ℕ, zero, suc, ◌<◌, true, false, ◌&&◌, not, if◌then◌else◌, List, [], ◌∷◌, ◌++◌, map, length, slice_get, drop, Option, Some, None, refl, sym, ap, subst, ◌∙◌, arith, length-append}
 use Rattle.std.proofs.Math.Bool.{or-true, or-false}
 use Rattle.markdown_engine_content.specs.Codes.{Code, stop_of, document_start}
 use Rattle.markdown_engine_content.specs.ListFunctions.{rest_of}
@@ -9,7 +9,7 @@ use Rattle.markdown_engine_content.specs.declared.label_kind.LabelKind.{LabelKin
 use Rattle.markdown_engine.specs.declared.tokenizer.LabelStart.{LabelStart}
 use Rattle.markdown_model.specs.Grammar.{Reading, ◌>>◌, gives, provided, one}
 use Rattle.markdown_model.specs.CodeTests.{is_value}
-use Rattle.markdown_model.specs.LabelEnd.{Element, plain, starts, ends, Label, label_before, is_image, makes_link, is_barred, label_identifier, footnote_call, link_or_image, outcome_of, bytes_between, label_end}
+use Rattle.markdown_model.specs.LabelEnd.{Element, plain, starts, ends, Label, label_before, is_image, is_barred, label_identifier, footnote_call, link_or_image, outcome_of, bytes_between, label_end}
 use Rattle.markdown_model.specs.Laws.{UnusedStart, with_link, unused_starts, IsLabelOf}
 use Rattle.markdown_model.specs.Setting.{Setting}
 use Rattle.markdown_model.proofs.GrammarSteps.{bind-some, bind-none, one-here, either-some, either-second}
@@ -67,68 +67,27 @@ link-none : (us : List UnusedStart) → map (with_link false) us ≡ us
 link-none [] = refl
 link-none (u ∷ us) = λ i. (record u { before_link = or-false u.before_link i }) ∷ link-none us i
 
--- all of them stand before a link or a call
-abbrev AreBefore : List UnusedStart → Type 0
-AreBefore [] = Unit {0}
-AreBefore (u ∷ us) = (u.before_link ≡ true) × AreBefore us
-
--- those before one that stands before a link or a call do so too
-abbrev AreOrdered : List UnusedStart → Type 0
-AreOrdered [] = Unit {0}
-AreOrdered (u ∷ us) = (u.before_link ≡ true → AreBefore us) × AreOrdered us
-
-before-linked : (us : List UnusedStart) → AreBefore (map (with_link true) us)
-before-linked [] = tt
-before-linked (u ∷ us) = (or-true u.before_link, before-linked us)
-
-ordered-linked : (us : List UnusedStart) → AreOrdered (map (with_link true) us)
-ordered-linked [] = tt
-ordered-linked (u ∷ us) = (λ e. before-linked us, ordered-linked us)
-
-ordered-with : (b : Bool) (us : List UnusedStart) → AreOrdered us → AreOrdered (map (with_link b) us)
-ordered-with true us k = ordered-linked us
-ordered-with false us k = subst AreOrdered (sym (link-none us)) k
-
-ordered-rest : (us : List UnusedStart) → AreOrdered us → AreOrdered (drop 1 us)
-ordered-rest [] k = tt
-ordered-rest (u ∷ us) k = k.1
-
-pub unused-ordered : (earlier : List Element) → AreOrdered (unused_starts earlier)
-unused-ordered [] = tt
-unused-ordered (plain tree ∷ earlier) = unused-ordered earlier
-unused-ordered (starts kind marker ∷ earlier) = (λ e. cc, unused-ordered earlier)
-unused-ordered (ends back outcome ∷ earlier) =
-    ordered-with (makes_link (ends back outcome)) (drop 1 (unused_starts earlier)) (ordered-rest (unused_starts earlier) (unused-ordered earlier))
-
-link-again : (us : List UnusedStart) → AreBefore us → map (with_link true) us ≡ us
-link-again [] k = refl
-link-again (u ∷ us) k = λ i. (record u { before_link = (or-true u.before_link ∙ sym k.0) i }) ∷ link-again us k.1 i
-
--- where all before a marked start are marked, it is enough to mark up to the first that is
-mark-all : (es : List Event) (us : List UnusedStart) (ls : List LabelStart) → AreOrdered us → StandFor es us ls →
+mark-all : (es : List Event) (us : List UnusedStart) (ls : List LabelStart) → StandFor es us ls →
     StandFor es (map (with_link true) us) (marked ls)
-mark-all es [] [] o k = tt
-mark-all es [] (l ∷ ls) o k = absurd k
-mark-all es (u ∷ us) [] o k = absurd k
-mark-all es (u ∷ us) (l ∷ ls) o k =
-    elim l.inactive as (λ b. l.inactive ≡ b → StandFor es (map (with_link true) (u ∷ us)) (if b then l ∷ ls else (record l { inactive = true }) ∷ marked ls)) [
-      | true ↦ λ e. let on : u.before_link ≡ true = sym k.0.marked ∙ e in subst (λ x. StandFor es x (l ∷ ls)) (sym (link-again (u ∷ us) (on, o.0 on))) k
-      | false ↦ λ e. (record { kind = k.0.kind; marked = sym (or-true u.before_link); within = k.0.within; place = k.0.place }, mark-all es us ls o.1 k.1)
-    ] refl
+mark-all es [] [] k = tt
+mark-all es [] (l ∷ ls) k = absurd k
+mark-all es (u ∷ us) [] k = absurd k
+mark-all es (u ∷ us) (l ∷ ls) k =
+    (record { kind = k.0.kind; marked = sym (or-true u.before_link); within = k.0.within; place = k.0.place }, mark-all es us ls k.1)
 
-bar-all : (es : List Event) (kind : LabelKind) (us : List UnusedStart) (ls : List LabelStart) → AreOrdered us →
+bar-all : (es : List Event) (kind : LabelKind) (us : List UnusedStart) (ls : List LabelStart) →
     StandFor es us ls → StandFor es (map (with_link (not (is_image kind))) us) (barred_by kind ls)
-bar-all es kind us ls o k =
+bar-all es kind us ls k =
     elim (is_image kind) as (λ b. StandFor es (map (with_link (not b)) us) (if b then ls else marked ls)) [
       | true ↦ subst (λ x. StandFor es x ls) (sym (link-none us)) k
-      | false ↦ mark-all es us ls o k
+      | false ↦ mark-all es us ls k
     ]
 
 -- an end that makes a label of this kind takes the last start, and marks those before it where it is a link's or a call's
 pub starts-made : (earlier : List Element) (back : List Code) (kind : LabelKind) (tail : Forest) (es more : List Event) (ls : List LabelStart) → StandFor es (unused_starts earlier) ls
     → StandFor (es ++ more) (unused_starts (ends back (Some (kind, tail)) ∷ earlier)) (barred_by kind (rest_of ls))
 starts-made earlier back kind tail es more ls k =
-    bar-all (es ++ more) kind (drop 1 (unused_starts earlier)) (rest_of ls) (ordered-rest (unused_starts earlier) (unused-ordered earlier)) (starts-rest (es ++ more) (unused_starts earlier) ls (starts-grown es more (unused_starts earlier) ls k))
+    bar-all (es ++ more) kind (drop 1 (unused_starts earlier)) (rest_of ls) (starts-rest (es ++ more) (unused_starts earlier) ls (starts-grown es more (unused_starts earlier) ls k))
 
 -- an end that fails takes the last start
 pub starts-lost : (earlier : List Element) (back : List Code) (es more : List Event) (ls : List LabelStart) →

@@ -31,7 +31,7 @@ use Rattle.markdown_model.specs.Setting.{Setting, is_defined}
 use Rattle.markdown_model.proofs.GrammarSteps.{either-some, either-second, if-true, if-false}
 use Rattle.markdown_label.specs.AfterLabelParts.{rested}
 use Rattle.markdown_label.proofs.NextCodeTests.{at-value, at-none}
-use Rattle.markdown_label.specs.LabelFields.{with_kind, as_link}
+use Rattle.markdown_label.specs.LabelFields.{AreOrdered, with_kind, as_link}
 use Rattle.markdown_label.specs.LabelEnd.{identifier_between, by_definition, not_full, tail_at, link_tried, after_by, made_here, lost_here, label_seen, may_be_shortcut, collapsed_front, collapsed_back, collapsed_at, reference_collapsed_step, collapsed_open_at, AfterReady, FullReady, tail_ends, kind_set, made, after_reading_of}
 use Rattle.markdown_label.specs.LabelEnd.{after_reading, after_ends, ok_ends, nok_ends, not_full_reading, reference_collapsed_ends, collapsed_open_plan, reference_collapsed_open_ends, starts_set, states_and_called, ok_words, nok_words, after_words, reference_collapsed_words, reference_collapsed_open_words, reference_not_full_words}
 use Rattle.markdown_model.specs.SingleConstructs.{outcome}
@@ -57,6 +57,15 @@ lost-seen b T = refl
 
 module _ (W : Words) (within : Within states_and_called W) where
   -- Where all ends meet.
+
+  seen-ordered : (b : Bool) (T : Tokenizer) → AreOrdered T.tokenize_state.label_starts →
+      AreOrdered (scratched (label_seen b T.tokenize_state) T).tokenize_state.label_starts
+  unfolding scratched
+  seen-ordered b T k = k
+
+  tried-ordered : (ls : List Kept.LabelStart) → AreOrdered ls → AreOrdered (as_link ls)
+  tried-ordered [] k = k
+  tried-ordered (l ∷ ls) k = k
 
   pub ok-law : Law W ok_words
   ok-law T alone _ =
@@ -95,12 +104,13 @@ module _ (W : Words) (within : Within states_and_called W) where
       (λ h. Goes-no W 1 1 collapsed_open_plan T alone (if-false _ _ _ (at-value T c 93 false e h))))
 
   pub reference_not_full-law : Law W reference_not_full_words
-  reference_not_full-law T alone _ =
+  reference_not_full-law T alone ordered =
       let M : Tokenizer = scratched (label_seen false T.tokenize_state) T in
       let n : ℕ = weight_at 3 T in
       let may : Bool = may_be_shortcut T in
       let same : codes_left M ≡ codes_left T = left-scratched _ T in
       goes-tried W within n (not_full_reading T) LabelEndReferenceCollapsed (within LabelEndReferenceCollapsed) (by_definition may) collapsed_reference M.tokenize_state M (attempts-scratched _ T ∙ alone)
+      (seen-ordered false T ordered)
       tt
       (omega (arith, same))
       (omega (arith, same))
@@ -108,39 +118,40 @@ module _ (W : Words) (within : Within states_and_called W) where
       (λ U h. (h.refused, h.fails))
       (λ tree rest h. either-some collapsed_reference (shortcut may) (ahead M) (tree, rest) h)
       (λ h. subst (λ (x : Tokenizer). FollowsIn W n (tail_ends (not_full_reading T) M) (Next (by_definition may)) x) (sym (scratched-same M))
-      (on-definition W within n (not_full_reading T) may M (omega (arith, same)) (either-second collapsed_reference (shortcut may) (ahead M) h)))
+      (on-definition W within n (not_full_reading T) may M (seen-ordered false T ordered) (omega (arith, same)) (either-second collapsed_reference (shortcut may) (ahead M) h)))
 
   -- Behind the `]`.
 
   -- where a `[` follows that begins no full reference
-  not-full-goes : (n : ℕ) (defined : Bool) (M : Tokenizer) → weight_at 3 M < n → M.tokenize_state.seen ≡ false → after_label (setting_in M) defined (ahead M) ≡ reference_after_label (setting_in M) defined (ahead M) → full_reference (setting_in M) (ahead M) ≡ None
+  not-full-goes : (n : ℕ) (defined : Bool) (M : Tokenizer) → AreOrdered M.tokenize_state.label_starts → weight_at 3 M < n → M.tokenize_state.seen ≡ false → after_label (setting_in M) defined (ahead M) ≡ reference_after_label (setting_in M) defined (ahead M) → full_reference (setting_in M) (ahead M) ≡ None
       → FollowsIn W n (tail_ends (after_label (setting_in M) defined) M) (Next (not_full defined)) (scratched (label_seen (is_some (label reference_names (ahead M))) M.tokenize_state) M)
   unfolding scratched
-  not-full-goes n true M room rest is none =
+  not-full-goes n true M ordered room rest is none =
       let b : Bool = is_some (label reference_names (ahead M)) in
       let V : Tokenizer = scratched (label_seen b M.tokenize_state) M in
-      follows W n (tail_ends (after_label (setting_in M) true) M) (Next LabelEndReferenceNotFull) (within LabelEndReferenceNotFull) V tt room
+      follows W n (tail_ends (after_label (setting_in M) true) M) (Next LabelEndReferenceNotFull) (within LabelEndReferenceNotFull) V ordered room
       (λ ok U h.
       let back : tail_ends (not_full_reading V) M ok U = subst (λ (x : Tokenizer). tail_ends (not_full_reading V) x ok U) (seen-back b M rest) h in
       tail-same (not_full_reading V) (after_label (setting_in M) true) M (sym (is ∙ defined-either (setting_in M) (ahead M) none)) ok U back)
-  not-full-goes n false M room rest is none =
+  not-full-goes n false M ordered room rest is none =
       let b : Bool = is_some (label reference_names (ahead M)) in
       let V : Tokenizer = scratched (label_seen b M.tokenize_state) M in
       follows W n (tail_ends (after_label (setting_in M) false) M) (Next LabelEndNok) (within LabelEndNok) V tt (omega (arith, room))
       (λ ok U k. loses-here (after_label (setting_in M) false) M (is ∙ undefined-none (setting_in M) (ahead M) none) ok U (k.0, k.1 ∙ lost-seen b M))
 
-  pub tail-law : (n : ℕ) (defined : Bool) (M : Tokenizer) → M.attempts ≡ [] → FullReady M → weight_at 12 M < n →
+  pub tail-law : (n : ℕ) (defined : Bool) (M : Tokenizer) → M.attempts ≡ [] → AreOrdered M.tokenize_state.label_starts → FullReady M → weight_at 12 M < n →
       GoesIn W n (tail_ends (after_label (setting_in M) defined) M) (tail_at defined (current_of M) M)
-  tail-law n defined M alone k room =
+  tail-law n defined M alone ordered k room =
       let s : Setting = setting_in M in
       let big : TreeReading = after_label s defined in
       let P : Stepped → Type 0 = GoesIn W n (tail_ends big M) in
       code-step P (current_of M) (λ o. tail_at defined o M)
-      (λ e. goes-definition W within n big defined M alone (omega (arith, room)) (after-other s defined (ahead M) (at-none M 40 e) (at-none M 91 e)))
+      (λ e. goes-definition W within n big defined M alone ordered (omega (arith, room)) (after-other s defined (ahead M) (at-none M 40 e) (at-none M 91 e)))
       (λ c e. if-step P (c == 40) _ _
       (λ h.
       let is : big (ahead M) ≡ either resource (shortcut defined) (ahead M) = after-paren s defined (ahead M) (at-value M c 40 true e h) in
       goes-tried W within n big LabelEndResourceStart (within LabelEndResourceStart) (by_definition defined) resource M.tokenize_state M alone
+      ordered
       k.part
       room
       (omega (arith, room))
@@ -148,19 +159,20 @@ module _ (W : Words) (within : Within states_and_called W) where
       (λ U x. (x.refused, x.fails))
       (λ tree rest x. is ∙ either-some resource (shortcut defined) (ahead M) (tree, rest) x)
       (λ x. subst (λ (y : Tokenizer). FollowsIn W n (tail_ends big M) (Next (by_definition defined)) y) (sym (scratched-same M))
-      (on-definition W within n big defined M (omega (arith, room)) (is ∙ either-second resource (shortcut defined) (ahead M) x))))
+      (on-definition W within n big defined M ordered (omega (arith, room)) (is ∙ either-second resource (shortcut defined) (ahead M) x))))
       (λ g. if-step P (c == 91) _ _
       (λ h.
       let is : big (ahead M) ≡ reference_after_label s defined (ahead M) = after-bracket s defined (ahead M) (at-value M c 40 false e g) (at-value M c 91 true e h) in
       goes-tried W within n big LabelEndReferenceFull (within LabelEndReferenceFull) (not_full defined) (full_reference s) (label_seen (is_some (label reference_names (ahead M))) M.tokenize_state) M alone
+      ordered
       k
       room
       (omega (arith, room))
       (λ U x. x)
       (λ U x. (x.refused, x.fails))
       (λ tree rest x. is ∙ full-first s defined (ahead M) (tree, rest) x)
-      (λ x. not-full-goes n defined M (omega (arith, room)) (seen-rested M.tokenize_state k.part.rest) is x))
-      (λ h. goes-definition W within n big defined M alone (omega (arith, room)) (after-other s defined (ahead M) (at-value M c 40 false e g) (at-value M c 91 false e h)))))
+      (λ x. not-full-goes n defined M ordered (omega (arith, room)) (seen-rested M.tokenize_state k.part.rest) is x))
+      (λ h. goes-definition W within n big defined M alone ordered (omega (arith, room)) (after-other s defined (ahead M) (at-value M c 40 false e g) (at-value M c 91 false e h)))))
 
   -- with the start tried as a link's
   tried-ready : (T : Tokenizer) → AfterReady T → FullReady (link_tried T)
@@ -238,11 +250,11 @@ module _ (W : Words) (within : Within states_and_called W) where
       }
   call-after l ls T e called false U k = cc
 
-  tail-there : (n : ℕ) (defined : Bool) (T : Tokenizer) → T.attempts ≡ [] → FullReady (link_tried T) →
+  tail-there : (n : ℕ) (defined : Bool) (T : Tokenizer) → T.attempts ≡ [] → AreOrdered T.tokenize_state.label_starts → FullReady (link_tried T) →
       weight_at 12 T < n →
       GoesIn W n (tail_ends (after_label (setting_in T) defined) (link_tried T)) (tail_at defined (current_of T) (link_tried T))
   unfolding scratched
-  tail-there n defined T alone k room = tail-law n defined (link_tried T) alone k room
+  tail-there n defined T alone ordered k room = tail-law n defined (link_tried T) alone (tried-ordered T.tokenize_state.label_starts ordered) k room
 
   after-goes : (l : Kept.LabelStart) (ls : List Kept.LabelStart) (T : Tokenizer) → T.attempts ≡ [] → AfterReady T →
       T.tokenize_state.label_starts ≡ l ∷ ls → GoesIn W (weight_at 13 T) (after_ends T) (after_by (l ∷ ls) T)
@@ -253,9 +265,9 @@ module _ (W : Words) (within : Within states_and_called W) where
       let defined : Bool = is_defined s.definitions (link_identifier l.kind name) in
       let P : Stepped → Type 0 = GoesIn W n (after_ends T) in
       if-step P (is_footnote l.kind && is_defined s.footnotes name) _ _
-      (λ h. Goes-plain W n (after_ends T) (Retry LabelEndOk) (within LabelEndOk) T alone tt (omega arith) (call-after l ls T e h))
+      (λ h. Goes-plain W n (after_ends T) (Retry LabelEndOk) (within LabelEndOk) T alone k.ordered (omega arith) (call-after l ls T e h))
       (λ h. GoesOn-map W n (tail_ends (after_label s defined) (link_tried T)) (after_ends T) (tail_at defined (current_of T) (link_tried T)) (λ ok U x. tail-after l ls T e name refl h ok U x)
-      (tail-there n defined T alone (tried-ready T k) (omega arith)))
+      (tail-there n defined T alone k.ordered (tried-ready T k) (omega arith)))
 
   pub after-law : Law W after_words
   after-law T alone k = by-starts T.tokenize_state.label_starts refl

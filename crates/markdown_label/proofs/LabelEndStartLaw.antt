@@ -40,7 +40,7 @@ use Rattle.markdown_label.specs.LabelFields.{bars, as_link, loosened}
 use Rattle.std.specs.Str.{IsCharBoundary}
 use Rattle.std.proofs.lemmas.Bool.{eqb-true}
 use Rattle.markdown_engine_content.specs.declared.event.Point.{Point}
-use Rattle.markdown_label.specs.LabelEnd.{AreAround, EndsBetween, point_or, place_at, identifier_between, end_ops, ended_at, ended, start_by, is_on, start_at, AreWithin, StartReady, AfterReady, after_reading_of, after_reading, after_ends, nok_ends, lost_here, end_tree, outcome_by, end_reading, lost_starts, lost_by, lost_fields, end_made, start_ends, start_words, states_and_called}
+use Rattle.markdown_label.specs.LabelEnd.{AreAround, EndsBetween, point_or, place_at, identifier_between, end_ops, ended_at, ended, start_by, is_on, start_at, AllEndBetween, StartReady, AfterReady, after_reading_of, after_reading, after_ends, nok_ends, lost_here, end_tree, outcome_by, end_reading, lost_starts, lost_by, lost_fields, end_made, start_ends, start_words, states_and_called}
 use Rattle.markdown_model.specs.SingleConstructs.{outcome}
 use Rattle.markdown_label.specs.LabelSetting.{setting_in}
 use Rattle.markdown_label.proofs.LabelEndLemmas.{Fails-lost}
@@ -116,16 +116,16 @@ module _ (T : Tokenizer) (x : Code) (cs : List Code) (whole : ahead T ≡ x ∷ 
       ∙ ap (outcome s l.kind (identifier_of (bytes_between s (place_at T.events l.start.1) x.start))) ahead-there
       ∙ sym (ap (λ y. outcome_by y T (x ∷ []) cs) e ∙ switched-on (outcome s l.kind (identifier_of (bytes_between s (place_at T.events l.start.1) x.start))) (not (bars l)) cs (ap not active))
 
-  first-within : (ls : List Kept.LabelStart) → AreWithin T ls → (m : Kept.LabelStart) (ms : List Kept.LabelStart) →
+  first-within : (ls : List Kept.LabelStart) → AllEndBetween T ls → (m : Kept.LabelStart) (ms : List Kept.LabelStart) →
       ls ≡ m ∷ ms → EndsBetween T m
-  first-within ls w m ms e = (subst (AreWithin T) e w).0
+  first-within ls w m ms e = (subst (AllEndBetween T) e w).0
 
   -- what stands between the start and the end is whole characters
   around-there : (m : Kept.LabelStart) (ms : List Kept.LabelStart) → P.tokenize_state.label_starts ≡ m ∷ ms →
       StartReady T → is_value 93 x ≡ true → AreAround P m.start.1 P.tokenize_state.end
   unfolding past scratched
   around-there m ms e k here =
-      let w : EndsBetween T m = first-within T.tokenize_state.label_starts k.within m ms e in
+      let w : EndsBetween T m = first-within T.tokenize_state.label_starts k.within.0 m ms e in
       let more : List Event = appended_from (length T.events) None (end_tree (x ∷ [])) in
       let front : place_at P.events m.start.1 ≡ place_at T.events m.start.1 = place-front T.events more m.start.1 w.within in
       let back : place_at P.events (length T.events) ≡ x.start = place-there T.events _ _ in
@@ -154,6 +154,7 @@ module _ (T : Tokenizer) (x : Code) (cs : List Code) (whole : ahead T ≡ x ∷ 
         };
         listed = k.listed;
         some = λ h. none-some l ls (sym e ∙ h);
+        ordered = k.within.1;
         text = text-past None (end_tree (x ∷ [])) (ended_at (length T.events) T.tokenize_state) T k.text;
         around = λ m ms h. around-there m ms h k here;
         end = length-append T.events (appended_from (length T.events) None (end_tree (x ∷ [])));
@@ -245,7 +246,7 @@ module _ (W : Words) (within : Within states_and_called W) where
 
   takes-start : (T : Tokenizer) → T.attempts ≡ [] → StartReady T → is_on T ≡ true → (x : Code) (cs : List Code) →
       ahead T ≡ x ∷ cs → is_value 93 x ≡ true → (ls : List Kept.LabelStart) → T.tokenize_state.label_starts ≡ ls →
-      AreWithin T ls → GoesIn W (weight_at 3 T) (start_ends T) (start_by ls T)
+      AllEndBetween T ls → GoesIn W (weight_at 3 T) (start_ends T) (start_by ls T)
   unfolding scratched
   takes-start T alone k on x cs whole here [] e w =
       nok-here T alone (reading-at T x cs on whole here ∙ bind-none (outcome_by T.tokenize_state.label_starts T (x ∷ [])) _ cs (ap (λ y. outcome_by y T (x ∷ []) cs) e))
@@ -264,5 +265,5 @@ module _ (W : Words) (within : Within states_and_called W) where
       (λ c e.
       let b : Begins c (ahead T) = ahead-some T c e in
       if-step P (is_on T && (c == 93)) _ _
-      (λ h. takes-start T alone k (and-left _ _ h) b.code (rest_of (ahead T)) b.whole (ap (λ v. v == 93) b.value ∙ and-right _ _ h) T.tokenize_state.label_starts refl k.within)
+      (λ h. takes-start T alone k (and-left _ _ h) b.code (rest_of (ahead T)) b.whole (ap (λ v. v == 93) b.value ∙ and-right _ _ h) T.tokenize_state.label_starts refl k.within.0)
       (λ h. let g : is_on T && next_is (is_value 93) (ahead T) ≡ false = ap (λ y. is_on T && y) (at-value T c 93 (c == 93) e refl) ∙ h in other-here T alone g (by-switch T (is_on T) refl g)))

@@ -65,7 +65,7 @@ module _ (W : Words) where
       holds false U h = cc
 
   -- on with a state
-  goes-next : (k d : ℕ) (kind : LabelKind) (size : ℕ) (os ps : List Op) (p q : List Code → Bool) (T : Tokenizer) (st : StateName) {w : StateWords} → words_in W st ≡ w → T.attempts ≡ [] → stays d os ≡ true → moves os ≡ 1 → 1 ≤ length (ahead T) → w.rank < 256 + k → w.ready (done os T) → p (ahead T) ≡ q (ahead (done os T)) → ((ok : Bool) (U : Tokenizer) → w.ends (done os T) ok U → begins_as (depth_after d os) kind size ps q (done os T) ok U)
+  goes-next : (k d : ℕ) (kind : LabelKind) (size : ℕ) (os ps : List Op) (p q : List Code → Bool) (T : Tokenizer) (st : StateName) {w : StateWords} → words_in W st ≡ w → T.attempts ≡ [] → stays d os ≡ true → moves os ≡ 1 → 1 ≤ length (ahead T) → w.rank (done os T) < 256 + k → w.ready (done os T) → p (ahead T) ≡ q (ahead (done os T)) → ((ok : Bool) (U : Tokenizer) → w.ends (done os T) ok U → begins_as (depth_after d os) kind size ps q (done os T) ok U)
       → GoesIn W (weight_at k T) (begins_as d kind size (os ++ ps) p T) (stepped (Next st) (done os T))
   goes-next k d kind size os ps p q T st {w} say alone stay one some less on e closed =
       Goes-ops W (weight_at k T) (begins_as d kind size (os ++ ps) p T) (Next st) {w = w} say os T alone on (omega (arith, left-done os T (omega (arith, one, some)), one, less)) (λ ok U x. begins-then d kind size os ps p q T stay e ok U (closed ok U x))

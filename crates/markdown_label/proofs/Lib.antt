@@ -8,6 +8,7 @@ pub mod IdentifierBrackets
 pub mod LabelEndSteps
 pub mod KeptStartStack
 pub mod KeptStartPlaces
+pub mod MarkedStarts
 pub mod LabelStartOps
 pub mod LabelEndLemmas
 pub mod LabelEndReadings

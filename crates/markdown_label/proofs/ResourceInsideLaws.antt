@@ -235,7 +235,7 @@ module _ (W : Words) (within : Within states_and_called W) where
   -- whitespace that may stand there, and what follows it
   space-then : (n : ℕ) (r next : TreeReading) (st : StateName) {w : StateWords} → words_in W st ≡ w →
       (T U : Tokenizer) → (k : Reads (space_or_tab_eol None) None T.tokenize_state T U) →
-      r (ahead T) ≡ behind k.tree (next (ahead U)) → w.ready U → weight_at w.rank U < n →
+      r (ahead T) ≡ behind k.tree (next (ahead U)) → w.ready U → weight_at (w.rank U) U < n →
       ((ok : Bool) (V : Tokenizer) → w.ends U ok V → RowEnds next U.tokenize_state U ok V) →
       FollowsIn W n (RowEnds r T.tokenize_state T) (Next st) U
   space-then n r next st {w} say T U k e on falls closed =

@@ -31,7 +31,7 @@ use Rattle.markdown_label.specs.AfterLabelParts.{names_rested, PartReady}
 use Rattle.markdown_label.specs.Resource as Resource
 use Rattle.markdown_partial_link.specs.PartialLabel as PartialLabel
 use Rattle.markdown_util.specs.Identifier.{identifier_of}
-use Rattle.markdown_label.specs.LabelFields.{bars, with_kind, as_link, labelled, loosened}
+use Rattle.markdown_label.specs.LabelFields.{AreOrdered, bars, with_kind, as_link, labelled, loosened}
 use Rattle.markdown_label.specs.LabelSetting.{setting_in, IsListed}
 
 -- Identifiers.
@@ -200,9 +200,13 @@ pub record EndsBetween (T : Tokenizer) (l : Kept.LabelStart) : Type 0 where
   pub within : l.start.1 < length T.events
   pub between : IsCharBoundary (bytes_of T) (place_at T.events l.start.1).index
 
+abbrev pub AllEndBetween : Tokenizer → List Kept.LabelStart → Type 0
+AllEndBetween T [] = Unit {0}
+AllEndBetween T (l ∷ ls) = EndsBetween T l × AllEndBetween T ls
+
+-- so of all starts, last one first; and a link or a call that was made behind one was made behind those before it too
 abbrev pub AreWithin : Tokenizer → List Kept.LabelStart → Type 0
-AreWithin T [] = Unit {0}
-AreWithin T (l ∷ ls) = EndsBetween T l × AreWithin T ls
+AreWithin T ls = AllEndBetween T ls × AreOrdered ls
 
 pub record StartReady (T : Tokenizer) : Type 0 where
   pub part : PartReady T
@@ -216,6 +220,7 @@ pub record AfterReady (T : Tokenizer) : Type 0 where
   pub part : PartReady T
   pub listed : IsListed T
   pub some : T.tokenize_state.label_starts ≢ []
+  pub ordered : AreOrdered T.tokenize_state.label_starts
   pub text : ReadsText T
   pub around : LabelIsAround T
   pub end : length T.events ≡ T.tokenize_state.end + 4
@@ -376,34 +381,34 @@ reference_collapsed_open_ends T ok U = KeepsAs 1 collapsed_open_plan T ok U
 -- The states.
 
 abbrev pub start_words : StateWords
-start_words = record { ready = StartReady; step = start_step; ends = start_ends; rank = 3 }
+start_words = record { ready = StartReady; step = start_step; ends = start_ends; rank = λ T. 3 }
 
 abbrev pub after_words : StateWords
-after_words = record { ready = AfterReady; step = after_step; ends = after_ends; rank = 13 }
+after_words = record { ready = AfterReady; step = after_step; ends = after_ends; rank = λ T. 13 }
 
 abbrev pub ok_words : StateWords
-ok_words = record { ready = λ T. Unit {0}; step = ok_step; ends = ok_ends; rank = 1 }
+ok_words = record { ready = λ T. AreOrdered T.tokenize_state.label_starts; step = ok_step; ends = ok_ends; rank = λ T. 1 }
 
 abbrev pub nok_words : StateWords
-nok_words = record { ready = λ T. Unit {0}; step = nok_step; ends = nok_ends; rank = 1 }
+nok_words = record { ready = λ T. Unit {0}; step = nok_step; ends = nok_ends; rank = λ T. 1 }
 
 abbrev pub reference_full_words : StateWords
-reference_full_words = record { ready = FullReady; step = reference_full_step; ends = reference_full_ends; rank = 12 }
+reference_full_words = record { ready = FullReady; step = reference_full_step; ends = reference_full_ends; rank = λ T. 12 }
 
 abbrev pub reference_full_after_words : StateWords
-reference_full_after_words = record { ready = ReferenceIsAround; step = reference_full_after_step; ends = reference_full_after_ends; rank = 1 }
+reference_full_after_words = record { ready = ReferenceIsAround; step = reference_full_after_step; ends = reference_full_after_ends; rank = λ T. 1 }
 
 abbrev pub reference_full_missing_words : StateWords
-reference_full_missing_words = record { ready = λ T. Unit {0}; step = reference_full_missing_step; ends = reference_full_missing_ends; rank = 1 }
+reference_full_missing_words = record { ready = λ T. Unit {0}; step = reference_full_missing_step; ends = reference_full_missing_ends; rank = λ T. 1 }
 
 abbrev pub reference_not_full_words : StateWords
-reference_not_full_words = record { ready = λ T. Unit {0}; step = reference_not_full_step; ends = reference_not_full_ends; rank = 3 }
+reference_not_full_words = record { ready = λ T. AreOrdered T.tokenize_state.label_starts; step = reference_not_full_step; ends = reference_not_full_ends; rank = λ T. 3 }
 
 abbrev pub reference_collapsed_words : StateWords
-reference_collapsed_words = record { ready = λ T. Unit {0}; step = reference_collapsed_step; ends = reference_collapsed_ends; rank = 2 }
+reference_collapsed_words = record { ready = λ T. Unit {0}; step = reference_collapsed_step; ends = reference_collapsed_ends; rank = λ T. 2 }
 
 abbrev pub reference_collapsed_open_words : StateWords
-reference_collapsed_open_words = record { ready = IsOpen N.Reference; step = reference_collapsed_open_step; ends = reference_collapsed_open_ends; rank = 1 }
+reference_collapsed_open_words = record { ready = IsOpen N.Reference; step = reference_collapsed_open_step; ends = reference_collapsed_open_ends; rank = λ T. 1 }
 
 -- a part of what is said of these states, and of any other as it is given
 abbrev pub said {ℓ} : {A : Type ℓ} → (StateWords → A) → (StateName → A) → StateName → A

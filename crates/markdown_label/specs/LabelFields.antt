@@ -1,5 +1,5 @@
 -- What starts and ends of labels do to the scratch fields.
-use Rattle.std.specs.Prelude.{ℕ, Bool, true, false, ◌&&◌, not, if◌then◌else◌, List, [], ◌∷◌, ◌++◌, take}
+use Rattle.std.specs.Prelude.{◌≡◌, ℕ, Bool, true, false, map, ◌&&◌, not, if◌then◌else◌, List, [], ◌∷◌, ◌++◌, take}
 use Rattle.markdown_engine_content.specs.ListFunctions.{rest_of}
 use Rattle.markdown_engine_content.specs.declared.label_kind.LabelKind.{LabelKind}
 use Rattle.markdown_engine.specs.declared.tokenizer.LabelStart.{LabelStart}
@@ -24,11 +24,19 @@ as_link (l ∷ ls) = record l { kind = link_kind l.kind } ∷ ls
 abbrev pub bars : LabelStart → Bool
 bars l = not (is_image l.kind) && l.inactive
 
--- these starts, last one first, once a link or a call was made behind them: marked up to the first that is marked already, since all
--- before a marked one are marked
+-- these starts, once a link or a call was made behind them
 abbrev pub marked : List LabelStart → List LabelStart
-marked [] = []
-marked (l ∷ ls) = if l.inactive then l ∷ ls else (record l { inactive = true }) ∷ marked ls
+marked ls = map (λ (l : LabelStart). record l { inactive = true }) ls
+
+-- a link or a call was made behind each of these starts
+abbrev pub AreMarked : List LabelStart → Type 0
+AreMarked [] = Unit {0}
+AreMarked (l ∷ ls) = (l.inactive ≡ true) × AreMarked ls
+
+-- of these starts, last one first: what was made behind one was made behind all before it
+abbrev pub AreOrdered : List LabelStart → Type 0
+AreOrdered [] = Unit {0}
+AreOrdered (l ∷ ls) = (l.inactive ≡ true → AreMarked ls) × AreOrdered ls
 
 -- the starts before a label of this kind
 abbrev pub barred_by : LabelKind → List LabelStart → List LabelStart

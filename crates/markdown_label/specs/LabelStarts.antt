@@ -165,22 +165,22 @@ image_ends T ok U = begins_as 0 LabelKind.Image 6 (image_front ++ image_back) (i
 -- The states.
 
 abbrev pub link_words : StateWords
-link_words = record { ready = λ T. Unit {0}; step = link_step; ends = link_ends; rank = 1 }
+link_words = record { ready = λ T. Unit {0}; step = link_step; ends = link_ends; rank = λ T. 1 }
 
 abbrev pub footnote_words : StateWords
-footnote_words = record { ready = λ T. Unit {0}; step = footnote_step; ends = footnote_ends; rank = 2 }
+footnote_words = record { ready = λ T. Unit {0}; step = footnote_step; ends = footnote_ends; rank = λ T. 2 }
 
 abbrev pub footnote_open_words : StateWords
-footnote_open_words = record { ready = FootnoteOpenReady; step = footnote_open_step; ends = footnote_open_ends; rank = 1 }
+footnote_open_words = record { ready = FootnoteOpenReady; step = footnote_open_step; ends = footnote_open_ends; rank = λ T. 1 }
 
 abbrev pub image_words : StateWords
-image_words = record { ready = λ T. Unit {0}; step = image_step; ends = image_ends; rank = 2 }
+image_words = record { ready = λ T. Unit {0}; step = image_step; ends = image_ends; rank = λ T. 2 }
 
 abbrev pub image_open_words : StateWords
-image_open_words = record { ready = ImageOpenReady; step = image_open_step; ends = image_open_ends; rank = 1 }
+image_open_words = record { ready = ImageOpenReady; step = image_open_step; ends = image_open_ends; rank = λ T. 1 }
 
 abbrev pub image_after_words : StateWords
-image_after_words = record { ready = ImageAfterReady; step = image_after_step; ends = image_after_ends; rank = 1 }
+image_after_words = record { ready = ImageAfterReady; step = image_after_step; ends = image_after_ends; rank = λ T. 1 }
 
 -- a part of what is said of these states, and of any other as it is given
 abbrev pub said {ℓ} : {A : Type ℓ} → (StateWords → A) → (StateName → A) → StateName → A

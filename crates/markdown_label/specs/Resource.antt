@@ -206,28 +206,28 @@ resource_ends T ok U = EndsAs resource None T.tokenize_state T ok U
 -- The states.
 
 abbrev pub start_words : StateWords
-start_words = record { ready = PartReady; step = start_step; ends = resource_ends; rank = 12 }
+start_words = record { ready = PartReady; step = start_step; ends = resource_ends; rank = λ T. 12 }
 
 abbrev pub before_words : StateWords
-before_words = record { ready = InReady; step = before_step; ends = before_ends; rank = 15 }
+before_words = record { ready = InReady; step = before_step; ends = before_ends; rank = λ T. 15 }
 
 abbrev pub open_words : StateWords
-open_words = record { ready = InReady; step = open_step; ends = open_ends; rank = 14 }
+open_words = record { ready = InReady; step = open_step; ends = open_ends; rank = λ T. 14 }
 
 abbrev pub destination_after_words : StateWords
-destination_after_words = record { ready = BehindReady destination_put; step = destination_after_step; ends = destination_after_ends; rank = 13 }
+destination_after_words = record { ready = BehindReady destination_put; step = destination_after_step; ends = destination_after_ends; rank = λ T. 13 }
 
 abbrev pub missing_words : StateWords
-missing_words = record { ready = λ T. Unit {0}; step = missing_step; ends = missing_ends; rank = 1 }
+missing_words = record { ready = λ T. Unit {0}; step = missing_step; ends = missing_ends; rank = λ T. 1 }
 
 abbrev pub between_words : StateWords
-between_words = record { ready = InReady; step = between_step; ends = between_ends; rank = 12 }
+between_words = record { ready = InReady; step = between_step; ends = between_ends; rank = λ T. 12 }
 
 abbrev pub title_after_words : StateWords
-title_after_words = record { ready = BehindReady title_put; step = title_after_step; ends = title_after_ends; rank = 9 }
+title_after_words = record { ready = BehindReady title_put; step = title_after_step; ends = title_after_ends; rank = λ T. 9 }
 
 abbrev pub end_words : StateWords
-end_words = record { ready = InReady; step = end_step; ends = end_ends; rank = 1 }
+end_words = record { ready = InReady; step = end_step; ends = end_ends; rank = λ T. 1 }
 
 -- a part of what is said of these states, and of any other as it is given
 abbrev pub said {ℓ} : {A : Type ℓ} → (StateWords → A) → (StateName → A) → StateName → A

@@ -31,7 +31,7 @@ ghost use Rattle.markdown_engine.specs.Operations.{IsOpen, current_of};
 ghost use Rattle.markdown_engine_content.specs.declared.event.Name.TheVariants.{Reference};
 ghost use Rattle.markdown_model.specs.LabelEnd.{is_image, link_kind};
 ghost use Rattle.markdown_label.specs.AfterLabelParts.{names_rested};
-ghost use Rattle.markdown_label.specs.LabelFields.{bars, as_link, marked};
+ghost use Rattle.markdown_label.specs.LabelFields.{bars, as_link, marked, AreOrdered};
 ghost use Rattle.markdown_label.specs.LabelEnd.{LabelIsAround, ReferenceIsAround, start_step, tail_at, after_step, ok_step, nok_step, names_set, reference_full_step, reference_full_after_step, reference_full_missing_step, reference_not_full_step, reference_collapsed_step, reference_collapsed_open_step};
 
 use crate::identifier::{is_call, is_defined_between, is_link, name_between};
@@ -81,8 +81,9 @@ fn try_last(starts: &mut Stack<LabelStart>)
     }
 }
 
-// Marks the starts behind which a link or a call was made: up to the first that is marked already.
+// Marks the starts: a link or a call was made behind them. Those before a marked one are marked already.
 fn mark(starts: &mut Stack<LabelStart>)
+    requires { AreOrdered starts.old }
     ensures { starts.new ≡ marked starts.old }
 {
     for depth in 0..starts.len() {
@@ -209,6 +210,7 @@ pub fn after(tokenizer: &mut Tokenizer) -> Result<State, AllocError>
 ///     > | x[y](z)!
 ///                ^
 pub fn ok(tokenizer: &mut Tokenizer) -> Result<State, AllocError>
+    requires { AreOrdered tokenizer.old.tokenize_state.label_starts }
     ensures ok { IfOk result (λ s. ok_step tokenizer.old ≡ record { state = s; left = tokenizer.new }) }
     ensures err { OnErr result (IsTrue tokenizer.new.failed) }
 {

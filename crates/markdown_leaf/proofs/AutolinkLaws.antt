@@ -168,7 +168,7 @@ open-says T ok U k x =
 module _ (W : Words) (within : Within states W) where
   -- on with a state at the same place, with these scratch fields
   goes-over : (k : ℕ) (p q : Naming) (s r : TokenizeState) (T : Tokenizer) (st : StateName) {w : StateWords} → words_in W st ≡ w →
-      T.attempts ≡ [] → w.rank < k → p (ahead T) ≡ q (ahead T) → w.ready (scratched r T) →
+      T.attempts ≡ [] → w.rank (scratched r T) < k → p (ahead T) ≡ q (ahead T) → w.ready (scratched r T) →
       ((ok : Bool) (U : Tokenizer) → w.ends (scratched r T) ok U → NamesAs 1 q s (scratched r T) ok U) →
       GoesIn W (weight_at k T) (NamesAs 1 p s T) (stepped (Retry st) (scratched r T))
   goes-over k p q s r T st {w} say alone less e on closed =

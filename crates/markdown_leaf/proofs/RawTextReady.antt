@@ -39,54 +39,51 @@ pub start-opened : (m : ℕ) (names : SpanNames) (T : Tokenizer) → (m == 10) �
     SequenceOpenReady (scratched (begun m names T.tokenize_state) (done (Enter names.whole ∷ Enter names.sequence ∷ []) T))
 unfolding scratched applied
 start-opened m names T h k =
-    record { marker = h; stand_open = refl; fits = fits-after T.tokenize_state.size 0 (Enter names.whole ∷ Enter names.sequence ∷ []) (begun m names T.tokenize_state) T T refl (omega arith) (omega (arith, ap (λ (s : TokenizeState). s.size) k.rest)) k.fits; indexed = indexed-after (Enter names.whole ∷ Enter names.sequence ∷ []) (begun m names T.tokenize_state) T refl k.indexed }
+    record { marker = h; stand_open = refl; uncounted = ap (λ (s : TokenizeState). s.size_b) k.rest; fits = fits-after T.tokenize_state.size 0 (Enter names.whole ∷ Enter names.sequence ∷ []) (begun m names T.tokenize_state) T T refl (omega arith) (omega (arith, ap (λ (s : TokenizeState). s.size) k.rest)) k.fits; indexed = indexed-after (Enter names.whole ∷ Enter names.sequence ∷ []) (begun m names T.tokenize_state) T refl k.indexed }
 
 pub opened-more : (T : Tokenizer) → 1 ≤ length (ahead T) → SequenceOpenReady T →
     SequenceOpenReady (scratched (with_size (T.tokenize_state.size + 1) T.tokenize_state) (done (Consume ∷ []) T))
 unfolding scratched applied
 opened-more T within k =
-    record { marker = k.marker; stand_open = k.stand_open; fits = fits-after (T.tokenize_state.size + 1) T.tokenize_state.size (Consume ∷ []) (with_size (T.tokenize_state.size + 1) T.tokenize_state) T T refl within (omega arith) k.fits; indexed = indexed-after (Consume ∷ []) (with_size (T.tokenize_state.size + 1) T.tokenize_state) T refl k.indexed }
+    record { marker = k.marker; stand_open = k.stand_open; uncounted = k.uncounted; fits = fits-after (T.tokenize_state.size + 1) T.tokenize_state.size (Consume ∷ []) (with_size (T.tokenize_state.size + 1) T.tokenize_state) T T refl within (omega arith) k.fits; indexed = indexed-after (Consume ∷ []) (with_size (T.tokenize_state.size + 1) T.tokenize_state) T refl k.indexed }
 
 pub opened-between : (T : Tokenizer) → SequenceOpenReady T → BetweenReady (done (Exit T.tokenize_state.token_2 ∷ []) T)
 unfolding applied
 opened-between T k =
-    record { marker = k.marker; stand_open = second-open T.stack T.tokenize_state.token_2 T.tokenize_state.token_1 k.stand_open; fits = omega (arith, k.fits) }
+    record { marker = k.marker; stand_open = second-open T.stack T.tokenize_state.token_2 T.tokenize_state.token_1 k.stand_open; uncounted = k.uncounted; fits = omega (arith, k.fits) }
 
 pub between-ending : (T : Tokenizer) → 1 ≤ length (ahead T) → BetweenReady T →
     BetweenReady (done (Enter N.LineEnding ∷ Consume ∷ Exit N.LineEnding ∷ []) T)
 unfolding applied
 between-ending T within k =
-    record { marker = k.marker; stand_open = k.stand_open; fits = omega (arith, left-done (Enter N.LineEnding ∷ Consume ∷ Exit N.LineEnding ∷ []) T within, k.fits) }
+    record { marker = k.marker; stand_open = k.stand_open; uncounted = k.uncounted; fits = omega (arith, left-done (Enter N.LineEnding ∷ Consume ∷ Exit N.LineEnding ∷ []) T within, k.fits) }
 
-pub between-data : (T : Tokenizer) → 1 ≤ length (ahead T) → BetweenReady T →
-    DataReady (done (Enter T.tokenize_state.token_3 ∷ Consume ∷ []) T)
+pub between-data : (T : Tokenizer) → BetweenReady T → DataReady (done (Enter T.tokenize_state.token_3 ∷ []) T)
 unfolding applied
-between-data T within k =
-    record { marker = k.marker; stand_open = ap (λ ns. T.tokenize_state.token_3 ∷ ns) k.stand_open; fits = omega (arith, left-done (Enter T.tokenize_state.token_3 ∷ Consume ∷ []) T within, k.fits) }
+between-data T k =
+    record { marker = k.marker; stand_open = ap (λ ns. T.tokenize_state.token_3 ∷ ns) k.stand_open; uncounted = k.uncounted; fits = k.fits }
 
-pub between-run : (T : Tokenizer) → 1 ≤ length (ahead T) → BetweenReady T →
-    SequenceCloseReady (scratched (with_size_b 1 T.tokenize_state) (done (Enter T.tokenize_state.token_2 ∷ Consume ∷ []) T))
-unfolding scratched applied
-between-run T within k =
+pub between-run : (T : Tokenizer) → BetweenReady T → SequenceCloseReady (done (Enter T.tokenize_state.token_2 ∷ []) T)
+unfolding applied
+between-run T k =
     let n : Name = T.tokenize_state.token_2 in
-    let r : TokenizeState = with_size_b 1 T.tokenize_state in
     record {
       marker = k.marker;
       stand_open = ap (λ ns. n ∷ ns) k.stand_open;
       some = some-event T n;
-      entered = renamed-scratched n r (applied Consume (applied (Enter n) T)) ∙ ap (λ (x : Tokenizer). scratched r x) (renamed-consumed n (applied (Enter n) T) ∙ ap (λ (x : Tokenizer). applied Consume x) (renamed-entered n n T));
-      fits = fits-after 1 0 (Enter n ∷ Consume ∷ []) r T T refl within (omega arith) k.fits;
+      entered = renamed-entered n n T;
+      fits = omega (arith, k.fits, k.uncounted);
     }
 
 pub data-next : (T : Tokenizer) → 1 ≤ length (ahead T) → DataReady T → DataReady (done (Consume ∷ []) T)
 unfolding applied
 data-next T within k =
-    record { marker = k.marker; stand_open = k.stand_open; fits = omega (arith, left-done (Consume ∷ []) T within, k.fits) }
+    record { marker = k.marker; stand_open = k.stand_open; uncounted = k.uncounted; fits = omega (arith, left-done (Consume ∷ []) T within, k.fits) }
 
 pub data-between : (T : Tokenizer) → DataReady T → BetweenReady (done (Exit T.tokenize_state.token_3 ∷ []) T)
 unfolding applied
 data-between T k =
-    record { marker = k.marker; stand_open = second-open T.stack T.tokenize_state.token_3 T.tokenize_state.token_1 k.stand_open; fits = k.fits }
+    record { marker = k.marker; stand_open = second-open T.stack T.tokenize_state.token_3 T.tokenize_state.token_1 k.stand_open; uncounted = k.uncounted; fits = k.fits }
 
 pub run-next : (T : Tokenizer) → 1 ≤ length (ahead T) → SequenceCloseReady T →
     SequenceCloseReady (scratched (with_size_b (T.tokenize_state.size_b + 1) T.tokenize_state) (done (Consume ∷ []) T))
@@ -106,7 +103,7 @@ pub run-between : (T : Tokenizer) → SequenceCloseReady T →
     BetweenReady (scratched (with_size_b 0 T.tokenize_state) (done (Exit T.tokenize_state.token_3 ∷ []) (renamed T.tokenize_state.token_3 T)))
 unfolding scratched applied renamed
 run-between T k =
-    record { marker = k.marker; stand_open = second-open T.stack T.tokenize_state.token_2 T.tokenize_state.token_1 k.stand_open; fits = omega (arith, k.fits) }
+    record { marker = k.marker; stand_open = second-open T.stack T.tokenize_state.token_2 T.tokenize_state.token_1 k.stand_open; uncounted = refl; fits = omega (arith, k.fits) }
 
 -- what the opening run's end says, before its first marker
 pub opening-says : (m : ℕ) (names : SpanNames) (T : Tokenizer) (ok : Bool) (U : Tokenizer) →

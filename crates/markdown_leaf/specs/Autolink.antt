@@ -254,31 +254,31 @@ email_value_ends T ok U = NamesAs 1 (up_to_bracket N.AutolinkEmail (label_rest T
 -- The states.
 
 abbrev pub start_words : StateWords
-start_words = record { ready = λ T. T.tokenize_state.size ≡ 0; step = start_step; ends = start_ends; rank = 3 }
+start_words = record { ready = λ T. T.tokenize_state.size ≡ 0; step = start_step; ends = start_ends; rank = λ T. 3 }
 
 abbrev pub open_words : StateWords
-open_words = record { ready = FreshReady; step = open_step; ends = open_ends; rank = 2 }
+open_words = record { ready = FreshReady; step = open_step; ends = open_ends; rank = λ T. 2 }
 
 abbrev pub scheme_or_words : StateWords
-scheme_or_words = record { ready = FreshReady; step = scheme_or_step; ends = scheme_or_ends; rank = 3 }
+scheme_or_words = record { ready = FreshReady; step = scheme_or_step; ends = scheme_or_ends; rank = λ T. 3 }
 
 abbrev pub scheme_inside_words : StateWords
-scheme_inside_words = record { ready = SchemeReady; step = scheme_inside_step; ends = scheme_inside_ends; rank = 2 }
+scheme_inside_words = record { ready = SchemeReady; step = scheme_inside_step; ends = scheme_inside_ends; rank = λ T. 2 }
 
 abbrev pub url_inside_words : StateWords
-url_inside_words = record { ready = InsideReady; step = url_inside_step; ends = url_inside_ends; rank = 1 }
+url_inside_words = record { ready = InsideReady; step = url_inside_step; ends = url_inside_ends; rank = λ T. 1 }
 
 abbrev pub email_atext_words : StateWords
-email_atext_words = record { ready = FreshReady; step = email_atext_step; ends = email_atext_ends; rank = 1 }
+email_atext_words = record { ready = FreshReady; step = email_atext_step; ends = email_atext_ends; rank = λ T. 1 }
 
 abbrev pub email_at_sign_or_dot_words : StateWords
-email_at_sign_or_dot_words = record { ready = FreshReady; step = email_at_sign_or_dot_step; ends = email_at_sign_or_dot_ends; rank = 2 }
+email_at_sign_or_dot_words = record { ready = FreshReady; step = email_at_sign_or_dot_step; ends = email_at_sign_or_dot_ends; rank = λ T. 2 }
 
 abbrev pub email_label_words : StateWords
-email_label_words = record { ready = LabelReady; step = email_label_step; ends = email_label_ends; rank = 2 }
+email_label_words = record { ready = LabelReady; step = email_label_step; ends = email_label_ends; rank = λ T. 2 }
 
 abbrev pub email_value_words : StateWords
-email_value_words = record { ready = LabelReady; step = email_value_step; ends = email_value_ends; rank = 1 }
+email_value_words = record { ready = LabelReady; step = email_value_step; ends = email_value_ends; rank = λ T. 1 }
 
 -- a part of what is said of these states, and of any other as it is given
 abbrev pub said {ℓ} : {A : Type ℓ} → (StateWords → A) → (StateName → A) → StateName → A

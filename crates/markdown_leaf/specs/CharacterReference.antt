@@ -197,16 +197,16 @@ open_ends T ok U = DoesAs 1 open_plan (rested T.tokenize_state) T ok U
 -- The states.
 
 abbrev pub start_words : StateWords
-start_words = record { ready = IsAtRest; step = start_step; ends = start_ends; rank = 4 }
+start_words = record { ready = IsAtRest; step = start_step; ends = start_ends; rank = λ T. 4 }
 
 abbrev pub open_words : StateWords
-open_words = record { ready = IsOpened; step = open_step; ends = open_ends; rank = 3 }
+open_words = record { ready = IsOpened; step = open_step; ends = open_ends; rank = λ T. 3 }
 
 abbrev pub numeric_words : StateWords
-numeric_words = record { ready = IsOpened; step = numeric_step; ends = numeric_ends; rank = 2 }
+numeric_words = record { ready = IsOpened; step = numeric_step; ends = numeric_ends; rank = λ T. 2 }
 
 abbrev pub value_words : StateWords
-value_words = record { ready = IsValue; step = value_step; ends = value_ends; rank = 1 }
+value_words = record { ready = IsValue; step = value_step; ends = value_ends; rank = λ T. 1 }
 
 -- a part of what is said of these states, and of any other as it is given
 abbrev pub said {ℓ} : {A : Type ℓ} → (StateWords → A) → (StateName → A) → StateName → A

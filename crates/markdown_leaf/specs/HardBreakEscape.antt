@@ -59,10 +59,10 @@ after_ends T ok U = KeepsAs 1 after_plan T ok U
 -- The states.
 
 abbrev pub start_words : StateWords
-start_words = record { ready = λ T. Unit {0}; step = start_step; ends = start_ends; rank = 2 }
+start_words = record { ready = λ T. Unit {0}; step = start_step; ends = start_ends; rank = λ T. 2 }
 
 abbrev pub after_words : StateWords
-after_words = record { ready = IsOpen N.HardBreakEscape; step = after_step; ends = after_ends; rank = 1 }
+after_words = record { ready = IsOpen N.HardBreakEscape; step = after_step; ends = after_ends; rank = λ T. 1 }
 
 -- a part of what is said of these states, and of any other as it is given
 abbrev pub said {ℓ} : {A : Type ℓ} → (StateWords → A) → (StateName → A) → StateName → A

@@ -104,8 +104,8 @@ between_at None T = stepped Nok (scratched (rested T.tokenize_state) T)
 between_at (Some c) T =
     if c == byte "\n" then stepped (Next RawTextBetween) (done (Enter N.LineEnding ∷ Consume ∷ Exit N.LineEnding ∷ []) T)
     else (if c == T.tokenize_state.marker
-    then stepped (Next RawTextSequenceClose) (scratched (with_size_b 1 T.tokenize_state) (done (Enter T.tokenize_state.token_2 ∷ Consume ∷ []) T))
-    else stepped (Next RawTextData) (done (Enter T.tokenize_state.token_3 ∷ Consume ∷ []) T))
+    then stepped (Retry RawTextSequenceClose) (done (Enter T.tokenize_state.token_2 ∷ []) T)
+    else stepped (Retry RawTextData) (done (Enter T.tokenize_state.token_3 ∷ []) T))
 
 abbrev pub between_step : Tokenizer → Stepped
 between_step T = between_at (current_of T) T
@@ -142,7 +142,7 @@ sequence_close_at (Some c) T =
 abbrev pub sequence_close_step : Tokenizer → Stepped
 sequence_close_step T = sequence_close_at (current_of T) T
 
--- When they may be called.
+-- When they may be called; outside a run of markers none is counted.
 
 -- what is known of the runs is right; nothing is known where no byte was asked for
 abbrev pub IsIndexed : Tokenizer → Type 0
@@ -160,17 +160,20 @@ HasMarker T = (T.tokenize_state.marker == byte "\n") ≡ false
 pub record SequenceOpenReady (T : Tokenizer) : Type 0 where
   pub marker : HasMarker T
   pub stand_open : AreOpen T.tokenize_state.token_2 T.tokenize_state.token_1 T
+  pub uncounted : T.tokenize_state.size_b ≡ 0
   pub fits : Fits T.tokenize_state.size T
   pub indexed : IsIndexed T
 
 pub record BetweenReady (T : Tokenizer) : Type 0 where
   pub marker : HasMarker T
   pub stand_open : IsOpen T.tokenize_state.token_1 T
+  pub uncounted : T.tokenize_state.size_b ≡ 0
   pub fits : Fits 0 T
 
 pub record DataReady (T : Tokenizer) : Type 0 where
   pub marker : HasMarker T
   pub stand_open : AreOpen T.tokenize_state.token_3 T.tokenize_state.token_1 T
+  pub uncounted : T.tokenize_state.size_b ≡ 0
   pub fits : Fits 0 T
 
 pub record SequenceCloseReady (T : Tokenizer) : Type 0 where
@@ -253,20 +256,30 @@ sequence_close_ends T ok U =
 
 -- The states.
 
+-- at a marker a run is behind what stands between, and before other codes data is; a run that has ended comes before both
+abbrev pub between_rank : Option ℕ → Tokenizer → ℕ
+between_rank None T = 3
+between_rank (Some c) T = if c == byte "\n" || c == T.tokenize_state.marker then 3 else 5
+
+abbrev pub close_rank : Option ℕ → Tokenizer → ℕ
+close_rank None T = 6
+close_rank (Some c) T = if c == T.tokenize_state.marker then 2 else 6
+
 abbrev pub start_words : StateWords
-start_words = record { ready = StartReady; step = start_step; ends = start_ends; rank = 4 }
+start_words = record { ready = StartReady; step = start_step; ends = start_ends; rank = λ T. 7 }
 
 abbrev pub sequence_open_words : StateWords
-sequence_open_words = record { ready = SequenceOpenReady; step = sequence_open_step; ends = sequence_open_ends; rank = 3 }
+sequence_open_words = record { ready = SequenceOpenReady; step = sequence_open_step; ends = sequence_open_ends; rank = λ T. 6 }
 
 abbrev pub between_words : StateWords
-between_words = record { ready = BetweenReady; step = between_step; ends = between_ends; rank = 2 }
+between_words = record { ready = BetweenReady; step = between_step; ends = between_ends; rank = λ T. between_rank (current_of T) T }
 
 abbrev pub data_words : StateWords
-data_words = record { ready = DataReady; step = data_step; ends = data_ends; rank = 3 }
+data_words = record { ready = DataReady; step = data_step; ends = data_ends; rank = λ T. 4 }
 
 abbrev pub sequence_close_words : StateWords
-sequence_close_words = record { ready = SequenceCloseReady; step = sequence_close_step; ends = sequence_close_ends; rank = 3 }
+sequence_close_words =
+    record { ready = SequenceCloseReady; step = sequence_close_step; ends = sequence_close_ends; rank = λ T. close_rank (current_of T) T }
 
 -- a part of what is said of these states, and of any other as it is given
 abbrev pub said {ℓ} : {A : Type ℓ} → (StateWords → A) → (StateName → A) → StateName → A

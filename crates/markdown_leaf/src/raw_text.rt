@@ -189,14 +189,11 @@ pub fn between(tokenizer: &mut Tokenizer) -> Result<State, AllocError>
         }
         Some(code) if code == tokenizer.tokenize_state.marker => {
             tokenizer.enter(tokenizer.tokenize_state.token_2)?;
-            tokenizer.consume();
-            tokenizer.tokenize_state.size_b = 1;
-            Ok(State::Next(StateName::RawTextSequenceClose))
+            Ok(State::Retry(StateName::RawTextSequenceClose))
         }
         Some(_) => {
             tokenizer.enter(tokenizer.tokenize_state.token_3)?;
-            tokenizer.consume();
-            Ok(State::Next(StateName::RawTextData))
+            Ok(State::Retry(StateName::RawTextData))
         }
     }
 }
@@ -204,7 +201,7 @@ pub fn between(tokenizer: &mut Tokenizer) -> Result<State, AllocError>
 /// In data.
 ///
 ///     > | ``xy`z``
-///            ^^ ^
+///           ^^^^^
 pub fn data(tokenizer: &mut Tokenizer) -> Result<State, AllocError>
     requires { DataReady tokenizer.old }
     ensures { Steps data_step tokenizer.old result tokenizer.new }
@@ -254,7 +251,7 @@ fn after_run(tokenizer: &mut Tokenizer) -> Result<State, AllocError>
 /// In a run of markers after the opening one.
 ///
 ///     > | ``xy`z``
-///              ^ ^^
+///             ^^^^^
 pub fn sequence_close(tokenizer: &mut Tokenizer) -> Result<State, AllocError>
     requires { SequenceCloseReady tokenizer.old }
     ensures { Steps sequence_close_step tokenizer.old result tokenizer.new }

@@ -23,7 +23,7 @@ attempts-both then1 else1 then2 else2 T e = ap (λ x. frame_of false then1 else1
 module _ (W : Words) where
   -- what the run after the attempt has to meet: it goes on in the check
   pub Goes-looked : (n : ℕ) (E : Bool → Tokenizer → Type 0) (st : State) {w : StateWords} → words_at W st ≡ w →
-      (then1 else1 then2 else2 : State) (T : Tokenizer) → T.attempts ≡ [] → w.ready T → weight_at w.rank T < n →
+      (then1 else1 then2 else2 : State) (T : Tokenizer) → T.attempts ≡ [] → w.ready T → weight_at (w.rank T) T < n →
       ((U : Tokenizer) → U.attempts ≡ [] → w.ends T true U → Goes W.ready W.ends (weight_in W) n E (frame_of true then2 else2 T ∷ []) then1 U) →
       ((U : Tokenizer) → U.attempts ≡ [] → w.ends T false U → Goes W.ready W.ends (weight_in W) n E (frame_of true then2 else2 T ∷ []) else1 (going_in (frame_of false then1 else1 T) false U)) →
       GoesIn W n E (stepped st (attempted false then1 else1 (attempted true then2 else2 T)))
@@ -39,7 +39,7 @@ module _ (W : Words) where
 
   -- with this attempt open, the run goes on with this state
   pub goes-then : (n : ℕ) (E : Bool → Tokenizer → Type 0) (f : Attempt) (fs : List Attempt) (st : State) {w : StateWords} →
-      words_at W st ≡ w → (U : Tokenizer) → w.ready U → weight_at w.rank U < n →
+      words_at W st ≡ w → (U : Tokenizer) → w.ready U → weight_at (w.rank U) U < n →
       ((ok : Bool) (V : Tokenizer) → V.attempts ≡ [] → w.ends U ok V → Goes W.ready W.ends (weight_in W) n E fs (going_state f ok) (going_in f ok V)) →
       Goes W.ready W.ends (weight_in W) n E (f ∷ fs) st U
   goes-then n E f fs st {w} say U on falls closed =

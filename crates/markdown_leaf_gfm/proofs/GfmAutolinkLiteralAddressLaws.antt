@@ -102,14 +102,14 @@ does-same p q s T false U e k = record { none = e ∙ k.none; grown = k.grown; s
 module _ (W : Words) where
   -- another state takes over here
   over : (k : ℕ) (p q : Plan) (s : TokenizeState) (T : Tokenizer) (st : StateName) {w : StateWords} →
-      words_in W st ≡ w → T.attempts ≡ [] → w.rank < k → p (ahead T) ≡ q (ahead T) → w.ready T →
+      words_in W st ≡ w → T.attempts ≡ [] → w.rank T < k → p (ahead T) ≡ q (ahead T) → w.ready T →
       ((ok : Bool) (U : Tokenizer) → w.ends T ok U → DoesAs 0 q s T ok U) →
       GoesIn W (weight_at k T) (DoesAs 0 p s T) (stepped (Retry st) T)
   over k p q s T st {w} say alone less e on closed =
       Goes-plain W (weight_at k T) (DoesAs 0 p s T) (Retry st) {w = w} say T alone on (omega (arith, less)) (λ ok U x. does-same p q s T ok U e (closed ok U x))
 
   pub follows-here : (k : ℕ) (p q : Plan) (s : TokenizeState) (T U : Tokenizer) (st : StateName) {w : StateWords} →
-      words_in W st ≡ w → U ≡ T → w.rank < k → p (ahead T) ≡ q (ahead T) → w.ready T →
+      words_in W st ≡ w → U ≡ T → w.rank T < k → p (ahead T) ≡ q (ahead T) → w.ready T →
       ((ok : Bool) (V : Tokenizer) → w.ends T ok V → DoesAs 0 q s T ok V) →
       FollowsIn W (weight_at k T) (DoesAs 0 p s T) (Next st) U
   follows-here k p q s T U st {w} say same less e on closed =
@@ -120,7 +120,7 @@ module _ (W : Words) where
   over-look : Within states W →
       (k : ℕ) (p q1 q2 : Plan) (s : TokenizeState) (T : Tokenizer) (held : StateName) {v : StateWords} →
       words_in W held ≡ v → (failed : StateName) {w : StateWords} → words_in W failed ≡ w → T.attempts ≡ [] →
-      LookReady T → 1 < k → v.rank < k → w.rank < k →
+      LookReady T → 1 < k → v.rank T < k → w.rank T < k →
       (trails_in (bytes_of T) (end_of T) None (ahead T) ≡ true → p (ahead T) ≡ q1 (ahead T)) →
       (trails_in (bytes_of T) (end_of T) None (ahead T) ≡ false → p (ahead T) ≡ q2 (ahead T)) → v.ready T →
       ((ok : Bool) (U : Tokenizer) → v.ends T ok U → DoesAs 0 q1 s T ok U) →

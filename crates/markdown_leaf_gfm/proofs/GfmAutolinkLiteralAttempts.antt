@@ -114,7 +114,7 @@ module _ (W : Words) (name : Name) (st last : StateName) (reading : Reading (Lis
       }
 
   pub literal-law : (k : ℕ) {v w : StateWords} → words_in W st ≡ v → words_in W last ≡ w → T.attempts ≡ [] →
-      v.rank < k → w.rank < k → Begins (inside (ahead T)) → v.ready (entered_literal name T) →
+      v.rank (entered_literal name T) < k → ((U : Tokenizer) → w.rank U < k) → Begins (inside (ahead T)) → v.ready (entered_literal name T) →
       ((ok : Bool) (U : Tokenizer) → v.ends (entered_literal name T) ok U → DoesAs 0 inside (rested T.tokenize_state) (entered_literal name T) ok U) →
       ((U : Tokenizer) → IsOpen name U → w.ready U) →
       ((U : Tokenizer) (ok : Bool) (V : Tokenizer) → w.ends U ok V → (ok ≡ true) × (V ≡ done (Exit name ∷ []) U)) →
@@ -126,7 +126,7 @@ module _ (W : Words) (name : Name) (st last : StateName) (reading : Reading (Lis
       Goes-attempt W n E (Retry st) {w = v} say_first (Next last) Nok A (attempts-applied (Enter name) T ∙ alone) on
       (omega (arith, less, left-applied (Enter name) T refl))
       (λ U now x. let y = closed true U x in
-      follows W n E (Next last) {w = w} say_last U (last_ready U (opens-still U y)) (omega (arith, one, left-literal U y))
+      follows W n E (Next last) {w = w} say_last U (last_ready U (opens-still U y)) (omega (arith, one U, left-literal U y))
       (λ ok V z. (let e = last_end U ok V z in subst (λ b. E b V) (sym e.0) (passed-literal U V some y e.1))))
       (λ U now x. let y = closed false U x in
       record {

@@ -219,7 +219,7 @@ protocol_start-law W within T alone on =
     let first : begins_scheme b.code.value ≡ true = ap begins_scheme b.value ∙ and-right (may_begin T) (begins_scheme c) h in
     literal-law W N.GfmAutolinkLiteralProtocol GfmAutolinkLiteralProtocolPrefixInside GfmAutolinkLiteralProtocolAfter reading p T on.resting
     (here-is T (ahead T) ∙ if-true (may_begin T) _ None may)
-    2 (within GfmAutolinkLiteralProtocolPrefixInside) (within GfmAutolinkLiteralProtocolAfter) alone (omega arith) (omega arith)
+    2 (within GfmAutolinkLiteralProtocolPrefixInside) (within GfmAutolinkLiteralProtocolAfter) alone (omega arith) (λ U. omega arith)
     (subst Begins (ap (λ cs. pass_ops (reading cs)) (sym b.whole)) (first-passed T b.code more first))
     (scheme-ready T on)
     (λ ok U k. prefix-entered T on.resting ok U k)

@@ -146,7 +146,7 @@ module _ (W : Words) (within : Within states W) where
   www_prefix_after-law T alone on =
       literal-law W N.GfmAutolinkLiteralWww GfmAutolinkLiteralDomainInside GfmAutolinkLiteralWwwAfter (address (bytes_of T) (end_of T)) (plan_of (www_from_here (bytes_of T) (end_of T))) T on.resting
       (from-here-is (bytes_of T) (end_of T) (ahead T))
-      6 (within GfmAutolinkLiteralDomainInside) (within GfmAutolinkLiteralWwwAfter) alone (omega arith) (omega arith)
+      6 (within GfmAutolinkLiteralDomainInside) (within GfmAutolinkLiteralWwwAfter) alone (omega arith) (λ U. omega arith)
       (begins-address (bytes_of T) (end_of T) T.tokenize_state (ahead T) on.resting)
       (address-ready T on)
       (λ ok U k. address-entered T on.resting ok U k)

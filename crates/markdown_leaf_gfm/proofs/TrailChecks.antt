@@ -180,7 +180,7 @@ module _ (W : Words) where
       Goes-end W (weight_at k T) (Looks test T) false T alone (omega arith) (λ ok U x. looks-here test T ok U (x.0 ∙ e) x.1)
 
   pub look-next : (k : ℕ) (test then1 : Bool) (st : StateName) {w : StateWords} → words_in W st ≡ w →
-      (T : Tokenizer) (c : ℕ) → T.attempts ≡ [] → current_of T ≡ Some c → w.rank ≤ 9 → then1 ≡ test →
+      (T : Tokenizer) (c : ℕ) → T.attempts ≡ [] → current_of T ≡ Some c → w.rank (done (Consume ∷ []) T) ≤ 9 → then1 ≡ test →
       w.ready (done (Consume ∷ []) T) →
       ((ok : Bool) (U : Tokenizer) → w.ends (done (Consume ∷ []) T) ok U → Looks then1 (done (Consume ∷ []) T) ok U) →
       GoesIn W (weight_at k T) (Looks test T) (stepped (Next st) (done (Consume ∷ []) T))
@@ -190,7 +190,7 @@ module _ (W : Words) where
       (λ ok U x. looks-past test then1 T ok U same (closed ok U x))
 
   pub look-retry : (k : ℕ) (test then1 : Bool) (st : StateName) {w : StateWords} → words_in W st ≡ w → (T : Tokenizer) →
-      T.attempts ≡ [] → w.rank < k → then1 ≡ test → w.ready T →
+      T.attempts ≡ [] → w.rank T < k → then1 ≡ test → w.ready T →
       ((ok : Bool) (U : Tokenizer) → w.ends T ok U → Looks then1 T ok U) →
       GoesIn W (weight_at k T) (Looks test T) (stepped (Retry st) T)
   look-retry k test then1 st {w} say T alone less same on closed =

@@ -603,58 +603,58 @@ www_start_ends T ok U = EndsAs (www_here T) None T.tokenize_state T ok U
 -- The states.
 
 abbrev pub protocol_start_words : StateWords
-protocol_start_words = record { ready = StartReady; step = protocol_start_step; ends = protocol_start_ends; rank = 2 }
+protocol_start_words = record { ready = StartReady; step = protocol_start_step; ends = protocol_start_ends; rank = λ T. 2 }
 
 abbrev pub prefix_words : StateWords
-prefix_words = record { ready = SchemeReady; step = prefix_step; ends = prefix_ends; rank = 1 }
+prefix_words = record { ready = SchemeReady; step = prefix_step; ends = prefix_ends; rank = λ T. 1 }
 
 abbrev pub slashes_words : StateWords
-slashes_words = record { ready = WordReady; step = slashes_step; ends = slashes_ends; rank = 1 }
+slashes_words = record { ready = WordReady; step = slashes_step; ends = slashes_ends; rank = λ T. 1 }
 
 abbrev pub protocol_after_words : StateWords
-protocol_after_words = record { ready = IsOpen N.GfmAutolinkLiteralProtocol; step = protocol_after_step; ends = protocol_after_ends; rank = 1 }
+protocol_after_words = record { ready = IsOpen N.GfmAutolinkLiteralProtocol; step = protocol_after_step; ends = protocol_after_ends; rank = λ T. 1 }
 
 abbrev pub www_start_words : StateWords
-www_start_words = record { ready = StartReady; step = www_start_step; ends = www_start_ends; rank = 7 }
+www_start_words = record { ready = StartReady; step = www_start_step; ends = www_start_ends; rank = λ T. 7 }
 
 abbrev pub www_prefix_words : StateWords
-www_prefix_words = record { ready = WwwReady; step = www_prefix_step; ends = www_prefix_ends; rank = 1 }
+www_prefix_words = record { ready = WwwReady; step = www_prefix_step; ends = www_prefix_ends; rank = λ T. 1 }
 
 abbrev pub www_prefix_after_words : StateWords
-www_prefix_after_words = record { ready = StartReady; step = www_prefix_after_step; ends = www_prefix_after_ends; rank = 6 }
+www_prefix_after_words = record { ready = StartReady; step = www_prefix_after_step; ends = www_prefix_after_ends; rank = λ T. 6 }
 
 abbrev pub www_after_words : StateWords
-www_after_words = record { ready = IsOpen N.GfmAutolinkLiteralWww; step = www_after_step; ends = www_after_ends; rank = 1 }
+www_after_words = record { ready = IsOpen N.GfmAutolinkLiteralWww; step = www_after_step; ends = www_after_ends; rank = λ T. 1 }
 
 abbrev pub domain_words : StateWords
-domain_words = record { ready = LiteralReady; step = domain_step; ends = domain_ends; rank = 5 }
+domain_words = record { ready = LiteralReady; step = domain_step; ends = domain_ends; rank = λ T. 5 }
 
 abbrev pub domain_punctuation_words : StateWords
-domain_punctuation_words = record { ready = MarkReady; step = domain_punctuation_step; ends = domain_ends; rank = 1 }
+domain_punctuation_words = record { ready = MarkReady; step = domain_punctuation_step; ends = domain_ends; rank = λ T. 1 }
 
 abbrev pub domain_after_words : StateWords
-domain_after_words = record { ready = LiteralReady; step = domain_after_step; ends = domain_after_ends; rank = 4 }
+domain_after_words = record { ready = LiteralReady; step = domain_after_step; ends = domain_after_ends; rank = λ T. 4 }
 
 abbrev pub path_words : StateWords
-path_words = record { ready = PathReady; step = path_step; ends = path_ends; rank = 3 }
+path_words = record { ready = PathReady; step = path_step; ends = path_ends; rank = λ T. 3 }
 
 abbrev pub path_punctuation_words : StateWords
-path_punctuation_words = record { ready = CodeReady; step = path_punctuation_step; ends = path_punctuation_ends; rank = 1 }
+path_punctuation_words = record { ready = CodeReady; step = path_punctuation_step; ends = path_punctuation_ends; rank = λ T. 1 }
 
 abbrev pub path_after_words : StateWords
-path_after_words = record { ready = λ T. Unit {0}; step = path_after_step; ends = path_after_ends; rank = 1 }
+path_after_words = record { ready = λ T. Unit {0}; step = path_after_step; ends = path_after_ends; rank = λ T. 1 }
 
 abbrev pub trail_words : StateWords
-trail_words = record { ready = LookReady; step = trail_step; ends = trail_ends; rank = 1 }
+trail_words = record { ready = LookReady; step = trail_step; ends = trail_ends; rank = λ T. 1 }
 
 abbrev pub bracket_after_words : StateWords
-bracket_after_words = record { ready = LookReady; step = bracket_after_step; ends = bracket_after_ends; rank = 2 }
+bracket_after_words = record { ready = LookReady; step = bracket_after_step; ends = bracket_after_ends; rank = λ T. 2 }
 
 abbrev pub reference_start_words : StateWords
-reference_start_words = record { ready = ReadsText; step = reference_start_step; ends = reference_start_ends; rank = 2 }
+reference_start_words = record { ready = ReadsText; step = reference_start_step; ends = reference_start_ends; rank = λ T. 2 }
 
 abbrev pub reference_words : StateWords
-reference_words = record { ready = ReadsText; step = reference_step; ends = reference_ends; rank = 1 }
+reference_words = record { ready = ReadsText; step = reference_step; ends = reference_ends; rank = λ T. 1 }
 
 -- a part of what is said of these states, and of any other as it is given
 abbrev pub said {ℓ} : {A : Type ℓ} → (StateWords → A) → (StateName → A) → StateName → A

@@ -144,19 +144,19 @@ after_space_or_tab_ends T ok U = (ok ≡ not (is_empty (ahead T))) × (U ≡ T)
 -- The states.
 
 abbrev pub start_words : StateWords
-start_words = record { ready = MayLook; step = start_step; ends = start_ends; rank = 2 }
+start_words = record { ready = MayLook; step = start_step; ends = start_ends; rank = λ T. 2 }
 
 abbrev pub inside_words : StateWords
-inside_words = record { ready = IsOpened; step = inside_step; ends = inside_ends; rank = 1 }
+inside_words = record { ready = IsOpened; step = inside_step; ends = inside_ends; rank = λ T. 1 }
 
 abbrev pub close_words : StateWords
-close_words = record { ready = IsOpened; step = close_step; ends = close_ends; rank = 1 }
+close_words = record { ready = IsOpened; step = close_step; ends = close_ends; rank = λ T. 1 }
 
 abbrev pub after_words : StateWords
-after_words = record { ready = MayLook; step = after_step; ends = after_ends; rank = 4 }
+after_words = record { ready = MayLook; step = after_step; ends = after_ends; rank = λ T. 4 }
 
 abbrev pub after_space_or_tab_words : StateWords
-after_space_or_tab_words = record { ready = λ T. Unit {0}; step = after_space_or_tab_step; ends = after_space_or_tab_ends; rank = 1 }
+after_space_or_tab_words = record { ready = λ T. Unit {0}; step = after_space_or_tab_step; ends = after_space_or_tab_ends; rank = λ T. 1 }
 
 -- a part of what is said of these states, and of any other as it is given
 abbrev pub said {ℓ} : {A : Type ℓ} → (StateWords → A) → (StateName → A) → StateName → A

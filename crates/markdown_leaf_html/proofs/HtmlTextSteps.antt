@@ -105,7 +105,7 @@ module _ (W : Words) (within : Within W) where
 
   -- past a line ending and the whitespace after it
   pub text-broken : (k : ℕ) (r : Reading (List Code)) (s : TokenizeState) (st : StateName) {w : StateWords} →
-      words_in W st ≡ w → (T : Tokenizer) → 1 < k → k < 5 → w.rank ≡ k → Goes r → T.attempts ≡ [] → InsideReady T →
+      words_in W st ≡ w → (T : Tokenizer) → 1 < k → k < 5 → w.rank (done (break_from InLine (ahead T)) T) ≡ k → Goes r → T.attempts ≡ [] → InsideReady T →
       current_of T ≡ Some 10 → w.ready (done (break_from InLine (ahead T)) T) →
       ((ok : Bool) (U : Tokenizer) → w.ends (done (break_from InLine (ahead T)) T) ok U → DoesAs 2 (text_of r) s (done (break_from InLine (ahead T)) T) ok U) →
       GoesIn W (weight_at k T) (DoesAs 2 (text_of r) s T) (broken st T)

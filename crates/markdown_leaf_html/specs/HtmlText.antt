@@ -471,25 +471,25 @@ part_step ValueUnquoted = tag_open_attribute_value_unquoted_step
 part_step End = end_step
 
 abbrev pub part_words : Part → StateWords
-part_words k = record { ready = PartReady; step = part_step k; ends = part_ends k; rank = rank_of k }
+part_words k = record { ready = PartReady; step = part_step k; ends = part_ends k; rank = λ T. rank_of k }
 
 abbrev pub start_words : StateWords
-start_words = record { ready = StartReady; step = start_step; ends = start_ends; rank = 3 }
+start_words = record { ready = StartReady; step = start_step; ends = start_ends; rank = λ T. 3 }
 
 abbrev pub cdata_open_inside_words : StateWords
-cdata_open_inside_words = record { ready = CdataReady; step = cdata_open_inside_step; ends = cdata_open_inside_ends; rank = 2 }
+cdata_open_inside_words = record { ready = CdataReady; step = cdata_open_inside_step; ends = cdata_open_inside_ends; rank = λ T. 2 }
 
 abbrev pub tag_open_attribute_value_quoted_words : StateWords
-tag_open_attribute_value_quoted_words = record { ready = QuotedReady; step = tag_open_attribute_value_quoted_step; ends = quoted_ends; rank = 2 }
+tag_open_attribute_value_quoted_words = record { ready = QuotedReady; step = tag_open_attribute_value_quoted_step; ends = quoted_ends; rank = λ T. 2 }
 
 abbrev pub line_ending_before_words : StateWords
-line_ending_before_words = record { ready = BeforeReady; step = line_ending_before_step; ends = line_ending_before_ends; rank = 1 }
+line_ending_before_words = record { ready = BeforeReady; step = line_ending_before_step; ends = line_ending_before_ends; rank = λ T. 1 }
 
 abbrev pub line_ending_after_words : StateWords
-line_ending_after_words = record { ready = AfterReady; step = line_ending_after_step; ends = line_ending_after_ends; rank = 4 }
+line_ending_after_words = record { ready = AfterReady; step = line_ending_after_step; ends = line_ending_after_ends; rank = λ T. 4 }
 
 abbrev pub line_ending_after_prefix_words : StateWords
-line_ending_after_prefix_words = record { ready = AfterReady; step = line_ending_after_prefix_step; ends = line_ending_after_prefix_ends; rank = 1 }
+line_ending_after_prefix_words = record { ready = AfterReady; step = line_ending_after_prefix_step; ends = line_ending_after_prefix_ends; rank = λ T. 1 }
 
 -- a part of what is said of these states, and of any other as it is given
 abbrev pub said {ℓ} : {A : Type ℓ} → (StateWords → A) → (StateName → A) → StateName → A

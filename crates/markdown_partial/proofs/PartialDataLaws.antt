@@ -1,8 +1,8 @@
 -- the laws of the states of data
-use Rattle.std.proofs.Common.{◌≡◌, ℕ, ◌+◌, ◌≤◌, ◌==◌, ◌||◌, Bool, true, false, not, ◌&&◌, Some, None, List, [], ◌∷◌, ◌++◌, length, refl, sym, ap, subst, ◌∙◌, arith, append-nil}
+use Rattle.std.proofs.Common.{◌≡◌, ℕ, ◌+◌, ◌≤◌, ◌==◌, ◌||◌, if◌then◌else◌, Bool, true, false, not, ◌&&◌, Option, Some, None, List, [], ◌∷◌, ◌++◌, length, refl, sym, ap, subst, ◌∙◌, arith, append-nil}
 use Rattle.markdown_engine_content.specs.Codes.{Code, is_line_ending}
 use Rattle.markdown_engine_content.specs.ListFunctions.{first_of, rest_of}
-use Rattle.markdown_engine.specs.Operations.{current_of, ahead, exited, consumed, applied, IsOpen, done, Exit, Consume}
+use Rattle.markdown_engine.specs.Operations.{current_of, ahead, exited, consumed, applied, IsOpen, done, Enter, Exit, Consume}
 use Rattle.markdown_engine_content.specs.Place.{value_of}
 use Rattle.markdown_engine_content.specs.Stretch.{is_free}
 use Rattle.markdown_engine.specs.PastTree.{EndsAs, past, passed, behind, last_link}
@@ -24,13 +24,13 @@ use Rattle.markdown_engine.proofs.OperationFields.{Begins, ahead-consumed, ahead
 use Rattle.markdown_engine.proofs.OperationLemmas.{ahead-done, left-done, scratch-done}
 use Rattle.markdown_engine.proofs.TreeEvents.{done-leaf, leaf-past, ahead-past}
 use Rattle.markdown_model.specs.TextLines.{data_up_to}
-use Rattle.markdown_partial.specs.PartialData.{inside_step, inside_stops, marks, begins_none, stops_at, stops_of, next_of, stops_here, ending, opening, passing, start_at, at_break_at, leaving, inside_at, more_data, ends_stretch, stretch_of, past_stretch, start_ends, at_break_ends, inside_ends, states, at_break_words, inside_words, start_words}
+use Rattle.markdown_partial.specs.PartialData.{inside_step, inside_stops, marks, begins_none, stops_at, stops_of, next_of, stops_here, ending, opening, entering, passing, rank_at, start_at, at_break_at, leaving, inside_at, more_data, ends_stretch, stretch_of, past_stretch, start_ends, at_break_ends, inside_ends, states, at_break_words, inside_words, start_words}
 use Rattle.markdown_partial.proofs.EndLemmas.{EndsAs-same, EndsAs-here}
 use Rattle.markdown_partial.proofs.LineCuts.{up_to_break, data-then, ending-then, more-goes, more-stops, break-stops, break-goes}
 use Rattle.markdown_model.proofs.LeafCodes.{until-append}
 use Rattle.markdown_engine.specs.StateWords.{StateWords, Words, Law, GoesIn}
 use Rattle.markdown_plan.proofs.PassedCodes.{passed-none, passed-one}
-use Rattle.markdown_plan.proofs.LawStepsOfLayer.{GoesOn-map, Goes-plain, Goes-end, Goes-ops}
+use Rattle.markdown_plan.proofs.LawStepsOfLayer.{Goes-plain, Goes-end, Goes-ops}
 use Rattle.markdown_plan.specs.LayerEquation.{Within, AreLawful}
 
 -- the value behind the code at hand
@@ -111,6 +111,12 @@ opening-closes T v e h ok U k =
     closes (leaf N.Data (b.code ∷ w.0)) w.1 T V refl is (whole ∙ ap (λ xs. xs ++ w.1) (sym (append-nil (b.code ∷ w.0))))
     (ap (data_up_to (stops_of T.tokenize_state)) b.whole ∙ data-then (stops_of T.tokenize_state) b.code cs (ap (λ x. x == 10) b.value ∙ h)) ok U k
 
+-- at one place, between stretches comes behind the start
+rank-low : (o : Option ℕ) (T : Tokenizer) → rank_at o T ≤ 3
+rank-low None T = omega arith
+rank-low (Some v) T =
+    elim ((v == 10) || stops_here T v) as (λ b. (if b then 1 else 3) ≤ 3) [ true ↦ omega arith | false ↦ omega arith ]
+
 passing-law : (W : Words) → Within states W → (k : ℕ) (T : Tokenizer) → T.attempts ≡ [] → (v : ℕ) → current_of T ≡ Some v →
     GoesIn W (weight_at k T) (start_ends T) (passing v T)
 passing-law W within k T alone v e =
@@ -118,7 +124,7 @@ passing-law W within k T alone v e =
     let one : 1 ≤ length (ahead T) = some-codes T v e in
     if-step P (v == 10) (stepped (Next DataAtBreak) (done ending T)) (stepped (Next DataInside) (done opening T))
     (λ h. let less : codes_left (done ending T) + 1 ≡ codes_left T = left-done ending T one in
-    Goes-ops W (weight_at k T) (start_ends T) (Next DataAtBreak) (within DataAtBreak) ending T alone tt (omega (arith, less)) (λ ok U k. ending-closes T v e h ok U k))
+    Goes-ops W (weight_at k T) (start_ends T) (Next DataAtBreak) (within DataAtBreak) ending T alone tt (omega (arith, less, rank-low (current_of (done ending T)) (done ending T))) (λ ok U k. ending-closes T v e h ok U k))
     (λ h. let less : codes_left (done opening T) + 1 ≡ codes_left T = left-done opening T one in
     Goes-ops W (weight_at k T) (start_ends T) (Next DataInside) (within DataInside) opening T alone (opened T) (omega (arith, less)) (λ ok U k. opening-closes T v e h ok U k))
 
@@ -147,15 +153,15 @@ no-marker T v h = ap (λ x. x && not (T.tokenize_state.passes_letters && begins_
 
 pub start-law : (W : Words) → Within states W → Law W start_words
 start-law W within T alone _ =
-    let n : ℕ = weight_at 2 T in
+    let n : ℕ = weight_at 4 T in
     let P : Stepped → Type 0 = GoesIn W n (start_ends T) in
     let on : more_data (stops_of T.tokenize_state) (ahead T) ≡ data_up_to (stops_of T.tokenize_state) (ahead T) → P (stepped (Retry DataAtBreak) T) = λ same.
-    Goes-plain W n (start_ends T) (Retry DataAtBreak) (within DataAtBreak) T alone tt (omega arith)
+    Goes-plain W n (start_ends T) (Retry DataAtBreak) (within DataAtBreak) T alone tt (omega (arith, rank-low (current_of T) T))
     (EndsAs-same (data_up_to (stops_of T.tokenize_state)) (more_data (stops_of T.tokenize_state)) None T.tokenize_state T (sym same)) in
     code-step P (current_of T) (λ o. start_at o T)
     (λ e. on (nothing-more T (ahead-none T e) ∙ sym (nothing-read T (ahead-none T e))))
     (λ v e. if-step P (marks T.tokenize_state.markers v) (passing v T) (stepped (Retry DataAtBreak) T)
-    (λ h. passing-law W within 2 T alone v e)
+    (λ h. passing-law W within 4 T alone v e)
     (λ h. on (reads-more T v e (no-marker T v h))))
 
 stop-here : (T : Tokenizer) (v : ℕ) → current_of T ≡ Some v → stops_here T v ≡ true →
@@ -163,16 +169,6 @@ stop-here : (T : Tokenizer) (v : ℕ) → current_of T ≡ Some v → stops_here
 stop-here T v e h =
     let b : Begins v (ahead T) = ahead-some T v e in
     ap (more_data (stops_of T.tokenize_state)) b.whole ∙ more-stops (stops_of T.tokenize_state) b.code (rest_of (ahead T)) (stops-is T v e ∙ h) ∙ ap (λ cs. Some (empty, cs)) (sym b.whole)
-
-pub at_break-law : (W : Words) → Within states W → Law W at_break_words
-at_break-law W within T alone _ =
-    let n : ℕ = weight_at 1 T in
-    let P : Stepped → Type 0 = GoesIn W n (at_break_ends T) in
-    code-step P (current_of T) (λ o. at_break_at o T)
-    (λ e. Goes-end W n (at_break_ends T) true T alone (omega arith) (EndsAs-here (more_data (stops_of T.tokenize_state)) T (nothing-more T (ahead-none T e))))
-    (λ v e. if-step P (stops_here T v) (stepped State.Ok T) (passing v T)
-    (λ h. Goes-end W n (at_break_ends T) true T alone (omega arith) (EndsAs-here (more_data (stops_of T.tokenize_state)) T (stop-here T v e h)))
-    (λ h. GoesOn-map W n (start_ends T) (at_break_ends T) (passing v T) (λ ok U k. more-here T v e h ok U k) (passing-law W within 1 T alone v e)))
 
 -- In a stretch.
 
@@ -186,9 +182,10 @@ stretch-ends T e ok U k =
     let same : exited N.Data T ≡ past_stretch T = ap (exited N.Data) (sym (passed-none T) ∙ ap (λ cs. passed cs T) (sym e)) in
     subst (λ (V : Tokenizer). at_break_ends V ok U) same k
 
-stretch-goes : (T : Tokenizer) (v : ℕ) → current_of T ≡ Some v → (v == 10) || stops_here T v ≡ false →
-    (ok : Bool) (U : Tokenizer) → inside_ends (done (Consume ∷ []) T) ok U → inside_ends T ok U
-stretch-goes T v e h ok U k =
+-- past the rest of a stretch comes the same, one code further
+stretch-same : (T : Tokenizer) (v : ℕ) → current_of T ≡ Some v → (v == 10) || stops_here T v ≡ false →
+    past_stretch (done (Consume ∷ []) T) ≡ past_stretch T
+stretch-same T v e h =
     let b : Begins v (ahead T) = ahead-some T v e in
     let stops : List Code → Bool = stops_of T.tokenize_state in
     let X : Tokenizer = done (Consume ∷ []) T in
@@ -198,8 +195,11 @@ stretch-goes T v e h ok U k =
     ap (λ cs. (up_to_break stops cs).0) b.whole
     ∙ ap (λ (s : List Code × List Code). s.0) (break-goes stops b.code (rest_of (ahead T)) (breaks-is T v e ∙ h))
     ∙ ap (λ cs. b.code ∷ cs) (sym next) in
-    let same : past_stretch X ≡ past_stretch T = ap (exited N.Data) (sym (passed-one b.code (stretch_of X) T) ∙ ap (λ cs. passed cs T) (sym here)) in
-    subst (λ (V : Tokenizer). at_break_ends V ok U) same k
+    ap (exited N.Data) (sym (passed-one b.code (stretch_of X) T) ∙ ap (λ cs. passed cs T) (sym here))
+
+stretch-goes : (T : Tokenizer) (v : ℕ) → current_of T ≡ Some v → (v == 10) || stops_here T v ≡ false →
+    (ok : Bool) (U : Tokenizer) → inside_ends (done (Consume ∷ []) T) ok U → inside_ends T ok U
+stretch-goes T v e h ok U k = subst (λ (V : Tokenizer). at_break_ends V ok U) (stretch-same T v e h) k
 
 stretch-stops : (T : Tokenizer) (v : ℕ) → current_of T ≡ Some v → (v == 10) || stops_here T v ≡ true → stretch_of T ≡ []
 stretch-stops T v e h =
@@ -207,17 +207,90 @@ stretch-stops T v e h =
     let stops : List Code → Bool = stops_of T.tokenize_state in
     ap (λ cs. (up_to_break stops cs).0) b.whole ∙ ap (λ (s : List Code × List Code). s.0) (break-stops stops b.code (rest_of (ahead T)) (breaks-is T v e ∙ h))
 
+-- Between stretches.
+
+-- the Enter of a stretch leaves the place and the fields
+here-entered : (T : Tokenizer) → current_of (done (Enter N.Data ∷ []) T) ≡ current_of T
+unfolding applied
+here-entered T = refl
+
+stops-entered : (T : Tokenizer) (v : ℕ) → stops_here (done (Enter N.Data ∷ []) T) v ≡ stops_here T v
+unfolding applied
+stops-entered T v = refl
+
+open-entered : (T : Tokenizer) → IsOpen N.Data (done (Enter N.Data ∷ []) T)
+unfolding applied
+open-entered T = refl
+
+entered-closes : (T : Tokenizer) (v : ℕ) → current_of T ≡ Some v → stops_here T v ≡ false → (v == 10) ≡ false → (ok : Bool) (U : Tokenizer) →
+    inside_ends (done (Enter N.Data ∷ []) T) ok U → at_break_ends T ok U
+entered-closes T v e g h ok U k =
+    let X : Tokenizer = done (Enter N.Data ∷ []) T in
+    let goes : (v == 10) || stops_here X v ≡ false = ap (λ b. b || stops_here X v) h ∙ stops-entered T v ∙ g in
+    more-here T v e g ok U
+    (opening-closes T v e h ok U (subst (λ (V : Tokenizer). at_break_ends V ok U) (sym (stretch-same X v (here-entered T ∙ e) goes)) k))
+
+rank-where : (T : Tokenizer) (v : ℕ) → current_of T ≡ Some v → stops_here T v ≡ false → (v == 10) ≡ false →
+    rank_at (current_of T) T ≡ 3
+rank-where T v e g h =
+    ap (λ o. rank_at o T) e ∙ ap (λ b. if b || stops_here T v then 1 else 3) h ∙ ap (λ b. if b then 1 else 3) g
+
+entering-law : (W : Words) → Within states W → (T : Tokenizer) → T.attempts ≡ [] → (v : ℕ) → current_of T ≡ Some v → stops_here T v ≡ false →
+    GoesIn W (weight_at (rank_at (current_of T) T) T) (at_break_ends T) (entering v T)
+entering-law W within T alone v e g =
+    let n : ℕ = weight_at (rank_at (current_of T) T) T in
+    let P : Stepped → Type 0 = GoesIn W n (at_break_ends T) in
+    let X : Tokenizer = done (Enter N.Data ∷ []) T in
+    if-step P (v == 10) (stepped (Next DataAtBreak) (done ending T)) (stepped (Retry DataInside) X)
+    (λ h. let less : codes_left (done ending T) + 1 ≡ codes_left T = left-done ending T (some-codes T v e) in
+    Goes-ops W n (at_break_ends T) (Next DataAtBreak) (within DataAtBreak) ending T alone tt (omega (arith, less, rank-low (current_of (done ending T)) (done ending T)))
+    (λ ok U k. more-here T v e g ok U (ending-closes T v e h ok U k)))
+    (λ h. Goes-ops W n (at_break_ends T) (Retry DataInside) (within DataInside) (Enter N.Data ∷ []) T alone (open-entered T)
+    (omega (arith, rank-where T v e g h, left-done (Enter N.Data ∷ []) T (omega arith)))
+    (λ ok U k. entered-closes T v e g h ok U k))
+
+pub at_break-law : (W : Words) → Within states W → Law W at_break_words
+at_break-law W within T alone _ =
+    let n : ℕ = weight_at (rank_at (current_of T) T) T in
+    let P : Stepped → Type 0 = GoesIn W n (at_break_ends T) in
+    code-step P (current_of T) (λ o. at_break_at o T)
+    (λ e. Goes-end W n (at_break_ends T) true T alone (omega arith) (EndsAs-here (more_data (stops_of T.tokenize_state)) T (nothing-more T (ahead-none T e))))
+    (λ v e. if-step P (stops_here T v) (stepped State.Ok T) (entering v T)
+    (λ h. Goes-end W n (at_break_ends T) true T alone (omega arith) (EndsAs-here (more_data (stops_of T.tokenize_state)) T (stop-here T v e h)))
+    (λ h. entering-law W within T alone v e h))
+
+-- Out of a stretch.
+
+here-left : (T : Tokenizer) → current_of (done (Exit N.Data ∷ []) T) ≡ current_of T
+unfolding applied
+here-left T = refl
+
+stops-left : (T : Tokenizer) (v : ℕ) → stops_here (done (Exit N.Data ∷ []) T) v ≡ stops_here T v
+unfolding applied
+stops-left T v = refl
+
+-- where the code at hand begins no stretch
+rank-stops : (T : Tokenizer) (v : ℕ) → current_of T ≡ Some v → (v == 10) || stops_here T v ≡ true →
+    rank_at (current_of (done (Exit N.Data ∷ []) T)) (done (Exit N.Data ∷ []) T) ≡ 1
+rank-stops T v e h =
+    let X : Tokenizer = done (Exit N.Data ∷ []) T in
+    ap (λ o. rank_at o X) (here-left T ∙ e) ∙ ap (λ b. if (v == 10) || b then 1 else 3) (stops-left T v) ∙ ap (λ b. if b then 1 else 3) h
+
+rank-none : (T : Tokenizer) → current_of T ≡ None →
+    rank_at (current_of (done (Exit N.Data ∷ []) T)) (done (Exit N.Data ∷ []) T) ≡ 1
+rank-none T e = ap (λ o. rank_at o (done (Exit N.Data ∷ []) T)) (here-left T ∙ e)
+
 pub inside-law : (W : Words) → Within states W → Law W inside_words
 inside-law W within T alone token =
     let n : ℕ = weight_at 2 T in
     let P : Stepped → Type 0 = GoesIn W n (inside_ends T) in
     let X : Tokenizer = done (Exit N.Data ∷ []) T in
-    let leave : stretch_of T ≡ [] → P (leaving T) = λ h.
-    Goes-ops W n (inside_ends T) (Retry DataAtBreak) (within DataAtBreak) (Exit N.Data ∷ []) T alone tt (omega (arith, left-done (Exit N.Data ∷ []) T (omega arith))) (λ ok U k. stretch-ends T h ok U k) in
+    let leave : rank_at (current_of X) X ≡ 1 → stretch_of T ≡ [] → P (leaving T) = λ low h.
+    Goes-ops W n (inside_ends T) (Retry DataAtBreak) (within DataAtBreak) (Exit N.Data ∷ []) T alone tt (omega (arith, low, left-done (Exit N.Data ∷ []) T (omega arith))) (λ ok U k. stretch-ends T h ok U k) in
     code-step P (current_of T) (λ o. inside_at o T)
-    (λ e. leave (ap (λ cs. (up_to_break (stops_of T.tokenize_state) cs).0) (ahead-none T e)))
+    (λ e. leave (rank-none T e) (ap (λ cs. (up_to_break (stops_of T.tokenize_state) cs).0) (ahead-none T e)))
     (λ v e. if-step P ((v == 10) || stops_here T v) (leaving T) (stepped (Next DataInside) (done (Consume ∷ []) T))
-    (λ h. leave (stretch-stops T v e h))
+    (λ h. leave (rank-stops T v e h) (stretch-stops T v e h))
     (λ h. let Y : Tokenizer = done (Consume ∷ []) T in
     let less : codes_left Y + 1 ≡ codes_left T = left-done (Consume ∷ []) T (some-codes T v e) in
     Goes-ops W n (inside_ends T) (Next DataInside) (within DataInside) (Consume ∷ []) T alone (stack-consumed T token) (omega (arith, less)) (λ ok U k. stretch-goes T v e h ok U k)))

@@ -79,9 +79,14 @@ start_at (Some v) T = if marks T.tokenize_state.markers v then passing v T else 
 abbrev pub start_step : Tokenizer → Stepped
 start_step T = start_at (current_of T) T
 
+-- past a line ending, or into a stretch at the code at hand
+abbrev pub entering : ℕ → Tokenizer → Stepped
+entering v T =
+    if v == byte "\n" then stepped (Next DataAtBreak) (done ending T) else stepped (Retry DataInside) (done (Enter N.Data ∷ []) T)
+
 abbrev pub at_break_at : Option ℕ → Tokenizer → Stepped
 at_break_at None T = stepped State.Ok T
-at_break_at (Some v) T = if stops_here T v then stepped State.Ok T else passing v T
+at_break_at (Some v) T = if stops_here T v then stepped State.Ok T else entering v T
 
 abbrev pub at_break_step : Tokenizer → Stepped
 at_break_step T = at_break_at (current_of T) T
@@ -133,13 +138,18 @@ inside_ends T ok U = at_break_ends (past_stretch T) ok U
 -- The states.
 
 abbrev pub start_words : StateWords
-start_words = record { ready = λ T. Unit {0}; step = start_step; ends = start_ends; rank = 2 }
+start_words = record { ready = λ T. Unit {0}; step = start_step; ends = start_ends; rank = λ T. 4 }
+
+-- between stretches, before that in a stretch where one begins here, else behind it
+abbrev pub rank_at : Option ℕ → Tokenizer → ℕ
+rank_at None T = 1
+rank_at (Some v) T = if (v == byte "\n") || stops_here T v then 1 else 3
 
 abbrev pub at_break_words : StateWords
-at_break_words = record { ready = λ T. Unit {0}; step = at_break_step; ends = at_break_ends; rank = 1 }
+at_break_words = record { ready = λ T. Unit {0}; step = at_break_step; ends = at_break_ends; rank = λ T. rank_at (current_of T) T }
 
 abbrev pub inside_words : StateWords
-inside_words = record { ready = IsOpen N.Data; step = inside_step; ends = inside_ends; rank = 2 }
+inside_words = record { ready = IsOpen N.Data; step = inside_step; ends = inside_ends; rank = λ T. 2 }
 
 -- a part of what is said of these states, and of any other as it is given
 abbrev pub said {ℓ} : {A : Type ℓ} → (StateWords → A) → (StateName → A) → StateName → A

@@ -98,13 +98,13 @@ after_ends T ok U =
 -- The states.
 
 abbrev pub start_words : StateWords
-start_words = record { ready = StartReady; step = start_step; ends = start_ends; rank = 3 }
+start_words = record { ready = StartReady; step = start_step; ends = start_ends; rank = λ T. 3 }
 
 abbrev pub inside_words : StateWords
-inside_words = record { ready = λ T. IsOpen T.tokenize_state.space_or_tab_token T; step = inside_step; ends = inside_ends; rank = 2 }
+inside_words = record { ready = λ T. IsOpen T.tokenize_state.space_or_tab_token T; step = inside_step; ends = inside_ends; rank = λ T. 2 }
 
 abbrev pub after_words : StateWords
-after_words = record { ready = λ T. Unit {0}; step = after_step; ends = after_ends; rank = 1 }
+after_words = record { ready = λ T. Unit {0}; step = after_step; ends = after_ends; rank = λ T. 1 }
 
 -- a part of what is said of these states, and of any other as it is given
 abbrev pub said {ℓ} : {A : Type ℓ} → (StateWords → A) → (StateName → A) → StateName → A

@@ -159,19 +159,19 @@ after_more_ends T ok U = (ok ≡ begins_filled_line (ahead T)) × (U ≡ scratch
 -- The states.
 
 abbrev pub start_words : StateWords
-start_words = record { ready = StartReady; step = start_step; ends = start_ends; rank = 8 }
+start_words = record { ready = StartReady; step = start_step; ends = start_ends; rank = λ T. 8 }
 
 abbrev pub after_first_words : StateWords
-after_first_words = record { ready = AfterFirstReady; step = after_first_step; ends = after_first_ends; rank = 7 }
+after_first_words = record { ready = AfterFirstReady; step = after_first_step; ends = after_first_ends; rank = λ T. 7 }
 
 abbrev pub at_eol_words : StateWords
-at_eol_words = record { ready = EolReady; step = at_eol_step; ends = at_eol_ends; rank = 6 }
+at_eol_words = record { ready = EolReady; step = at_eol_step; ends = at_eol_ends; rank = λ T. 6 }
 
 abbrev pub after_eol_words : StateWords
-after_eol_words = record { ready = EolReady; step = after_eol_step; ends = after_eol_ends; rank = 5 }
+after_eol_words = record { ready = EolReady; step = after_eol_step; ends = after_eol_ends; rank = λ T. 5 }
 
 abbrev pub after_more_words : StateWords
-after_more_words = record { ready = λ T. Unit {0}; step = after_more_step; ends = after_more_ends; rank = 4 }
+after_more_words = record { ready = λ T. Unit {0}; step = after_more_step; ends = after_more_ends; rank = λ T. 4 }
 
 -- a part of what is said of these states, and of any other as it is given
 abbrev pub said {ℓ} : {A : Type ℓ} → (StateWords → A) → (StateName → A) → StateName → A

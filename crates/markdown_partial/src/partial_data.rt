@@ -26,7 +26,7 @@ ghost use Rattle.markdown_engine_events.specs.Edits.{edited};
 ghost use Rattle.markdown_engine.specs.PastTree.{appended_from};
 ghost use Rattle.markdown_engine_content.specs.Tree.{Forest};
 ghost use Rattle.markdown_model.specs.Passes.{merged};
-ghost use Rattle.markdown_partial.specs.PartialData.{begins_none, next_of, stops_here, passing, start_step, at_break_step, inside_step, inside_stops};
+ghost use Rattle.markdown_partial.specs.PartialData.{begins_none, next_of, stops_here, passing, entering, start_step, at_break_step, inside_step, inside_stops};
 ghost use Rattle.markdown_partial.specs.MergedEvents.{opens_data, closes_data, joint, marked, joints, HasData};
 ghost use Rattle.markdown_plan.specs.StateCalls.{Steps};
 
@@ -63,6 +63,22 @@ fn stops(tokenizer: &Tokenizer, byte: u8) -> bool
 {
     let fields = &tokenizer.tokenize_state;
     fields.markers.contains(byte) && !(fields.passes_letters && begins_none(tokenizer, byte))
+}
+
+// Passes a line ending, or enters a stretch at the code at hand.
+fn enter(tokenizer: &mut Tokenizer, byte: u8) -> Result<State, AllocError>
+    requires { current_of tokenizer.old ≡ Some byte }
+    ensures { Steps (entering byte) tokenizer.old result tokenizer.new }
+{
+    if byte == b'\n' {
+        tokenizer.enter(Name::LineEnding)?;
+        tokenizer.consume();
+        tokenizer.exit(Name::LineEnding)?;
+        Ok(State::Next(StateName::DataAtBreak))
+    } else {
+        tokenizer.enter(Name::Data)?;
+        Ok(State::Retry(StateName::DataInside))
+    }
 }
 
 // Passes the code at hand, a line ending or the first code of a stretch.
@@ -105,7 +121,7 @@ pub fn at_break(tokenizer: &mut Tokenizer) -> Result<State, AllocError>
     ensures { Steps at_break_step tokenizer.old result tokenizer.new }
 {
     match tokenizer.current() {
-        Some(byte) if !stops(tokenizer, byte) => pass(tokenizer, byte),
+        Some(byte) if !stops(tokenizer, byte) => enter(tokenizer, byte),
         _ => Ok(State::Ok),
     }
 }
@@ -116,7 +132,7 @@ pub fn at_break(tokenizer: &mut Tokenizer) -> Result<State, AllocError>
 /// These are such as an `h` before no `t`: no literal begins there.
 ///
 ///     > | plain *
-///          ^^^^^^
+///         ^^^^^^^
 pub fn inside(tokenizer: &mut Tokenizer) -> Result<State, AllocError>
     requires { IsOpen Data tokenizer.old }
     ensures { Steps inside_step tokenizer.old result tokenizer.new }

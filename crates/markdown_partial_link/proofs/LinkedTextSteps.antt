@@ -3,7 +3,7 @@ use Rattle.std.proofs.Common.{◌≡◌, ℕ, ◌+◌, ◌≤◌, ◌&&◌, not,
 use Rattle.markdown_plan.proofs.PlanSteps.{Grown-same, scratch-same}
 use Rattle.markdown_engine_events.specs.EventChains.{has_link}
 use Rattle.markdown_engine_content.specs.ListFunctions.{rest_of}
-use Rattle.markdown_engine.specs.Operations.{Op, Consume, ahead, done, scratched, moves, stays, ends_linked}
+use Rattle.markdown_engine.specs.Operations.{Op, ahead, done, scratched, moves, stays, ends_linked}
 use Rattle.markdown_engine.specs.Weights.{codes_left}
 use Rattle.markdown_engine_content.specs.declared.event.Event.{Event}
 use Rattle.markdown_engine_content.specs.declared.event.Name.{Name}
@@ -41,6 +41,10 @@ drop-rest : (n : List Name) → drop 3 n ≡ drop 2 (rest_of n)
 drop-rest [] = refl
 drop-rest (x ∷ n) = refl
 
+-- without the innermost of two
+pub open-second : (a b : Name) (ns : List Name) → ns ≡ a ∷ b ∷ drop 2 ns → rest_of ns ≡ b ∷ rest_of (rest_of ns)
+open-second a b ns h = ap rest_of h ∙ ap (λ xs. b ∷ xs) (sym (ap (λ xs. rest_of (rest_of xs)) h))
+
 -- without the innermost one
 pub open-rest : (a b c : Name) (ns : List Name) → ns ≡ a ∷ b ∷ c ∷ drop 3 ns → rest_of ns ≡ b ∷ c ∷ drop 2 (rest_of ns)
 open-rest a b c ns h = ap rest_of h ∙ ap (λ xs. b ∷ c ∷ xs) (drop-rest ns)
@@ -70,17 +74,17 @@ text-kept os T h e k =
     let after : TextReady (scratched T.tokenize_state (done os T)) = text-after os T.tokenize_state T h k k.resting in
     record { short = after.short; resting = subst (λ (s : TokenizeState). WhitespaceAtRest s) (sym e) k.resting }
 
--- The Enter of data and its first code.
+-- The Enter of data.
 
-pub stays-data : (b : Bool) → stays 2 (enter_text b ∷ Consume ∷ []) ≡ true
+pub stays-data : (b : Bool) → stays 2 (enter_text b ∷ []) ≡ true
 stays-data true = refl
 stays-data false = refl
 
-pub moves-data : (b : Bool) (P : ℕ → Type 0) → P 1 → P (moves (enter_text b ∷ Consume ∷ []))
-moves-data true P h = h
-moves-data false P h = h
+pub moves-data : (b : Bool) → moves (enter_text b ∷ []) ≡ 0
+moves-data true = refl
+moves-data false = refl
 
-pub depth-data : (b : Bool) (P : ℕ → Type 0) → P 3 → P (depth_after 2 (enter_text b ∷ Consume ∷ []))
+pub depth-data : (b : Bool) (P : ℕ → Type 0) → P 3 → P (depth_after 2 (enter_text b ∷ []))
 depth-data true P h = h
 depth-data false P h = h
 

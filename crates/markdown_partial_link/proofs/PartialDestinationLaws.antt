@@ -22,8 +22,8 @@ use Rattle.markdown_model.specs.Resource.{DestinationNames, destination, raw_fro
 use Rattle.markdown_plan.specs.Plan.{Plan, preceded, DoesAs, KeepsAs}
 use Rattle.markdown_plan.specs.ScratchFields.{with_size}
 use Rattle.markdown_plan.proofs.PlanSteps.{preceded-nil, no-codes}
-use Rattle.markdown_partial_link.specs.PartialDestination.{refused, raw_on, raw_plain, raw_opens, nested, finished, names_in, control_value, bars_value, stops_value, opening, raw_opening, text_opening, closing, ending, raw_ending, start_at, start_step, entering, enclosed_before_at, enclosed_at, escapes_enclosed, enclosed_escape_at, raw_at, escapes_raw, raw_escape_at}
-use Rattle.markdown_partial_link.specs.PartialDestination.{StartReady, BeforeReady, EnclosedReady, RawReady, start_ends, text_then, enclosed_plan, before_plan, raw_plan, enclosed_before_ends, enclosed_ends, enclosed_escape_ends, raw_ends, raw_escape_ends, states, enclosed_before_words, enclosed_escape_words, enclosed_words, raw_escape_words, raw_words, start_words}
+use Rattle.markdown_partial_link.specs.PartialDestination.{refused, raw_on, raw_plain, raw_opens, nested, finished, names_in, control_value, bars_value, stops_value, opening, raw_opening, text_opening, closing, leaving, raw_ending, start_at, start_step, entering, enclosed_before_at, enclosed_at, escapes_enclosed, enclosed_escape_at, raw_at, escapes_raw, raw_escape_at}
+use Rattle.markdown_partial_link.specs.PartialDestination.{before_rank, StartReady, BeforeReady, EnclosedReady, RawReady, start_ends, text_then, enclosed_plan, before_plan, raw_plan, enclosed_before_ends, enclosed_ends, enclosed_escape_ends, raw_ends, raw_escape_ends, states, enclosed_before_words, enclosed_escape_words, enclosed_words, raw_escape_words, raw_words, start_words}
 use Rattle.markdown_partial_link.specs.LinkedTreeOps.{plan_of}
 use Rattle.markdown_partial_link.proofs.PartialDestinationReadings.{enclosed-none, enclosed-close, enclosed-refused, enclosed-next, enclosed-taken, enclosed-bare, text-first, destination-bracket, raw-end, raw-open-end, raw-taken, raw-bare, stops}
 use Rattle.markdown_partial_link.proofs.PartialDestinationReadings.{raw-stop, raw-space, raw-control, raw-open, raw-deep, raw-close, raw-next, destination-raw, destination-end, destination-stops, destination-control, destination-covers}
@@ -51,6 +51,22 @@ opened-raw T = refl
 enclosed-past : (T : Tokenizer) → EnclosedReady T → EnclosedReady (done (Consume ∷ []) T)
 unfolding applied
 enclosed-past T h = h
+
+left-text : (T : Tokenizer) → EnclosedReady T → BeforeReady (done (leaving (names_in T.tokenize_state)) T)
+unfolding applied
+left-text T h =
+    let s : TokenizeState = T.tokenize_state in
+    ap (λ ns. rest_of (rest_of ns)) h ∙ ap (λ ns. s.token_2 ∷ s.token_1 ∷ ns) (sym (ap (λ ns. drop 2 (rest_of (rest_of ns))) h))
+
+before-low : (o : Option ℕ) → before_rank o ≤ 3
+before-low None = omega arith
+before-low (Some c) = elim (c == 62) as (λ b. (if b then 1 else 3) ≤ 3) [ true ↦ omega arith | false ↦ omega arith ]
+
+-- at the closing bracket
+rank-closes : (T : Tokenizer) (c : ℕ) → current_of T ≡ Some c → (c == 62) ≡ true →
+    before_rank (current_of (done (leaving (names_in T.tokenize_state)) T)) ≡ 1
+unfolding applied
+rank-closes T c e h = ap before_rank e ∙ ap (λ b. if b then 1 else 3) h
 
 raw-past : (T : Tokenizer) → RawReady T → RawReady (done (Consume ∷ []) T)
 unfolding applied
@@ -128,23 +144,27 @@ module _ (W : Words) (within : Within states W) where
   enclosed-law T alone k =
       let names : DestinationNames = names_in T.tokenize_state in
       let p : Plan = enclosed_plan names false in
-      let P : Stepped → Type 0 = GoesIn W (weight_at 1 T) (enclosed_ends T) in
+      let P : Stepped → Type 0 = GoesIn W (weight_at 2 T) (enclosed_ends T) in
       code-step P (current_of T) (λ o. enclosed_at o T)
-      (λ e. Goes-no W 1 4 p T alone (ap p (ahead-none T e) ∙ enclosed-none names false))
+      (λ e. Goes-no W 2 4 p T alone (ap p (ahead-none T e) ∙ enclosed-none names false))
       (λ c e.
       let b : Begins c (ahead T) = ahead-some T c e in
       let cs : List Code = rest_of (ahead T) in
       let more : 1 ≤ length (ahead T) = some-codes T c e in
       if-step P (c == 62) _ _
-      (λ h. Goes-yes W 1 4 p (ending names) T alone (ap p b.whole ∙ enclosed-close names b.code cs (ap (λ v. v == 62) b.value ∙ h)))
+      (λ h. Goes-next W 2 4 p (before_plan names) (leaving names) T (Retry DestinationEnclosedBefore) (within DestinationEnclosedBefore) alone refl (no-codes T) (omega (arith, rank-closes T c e h))
+      (ap p b.whole ∙ enclosed-close names b.code cs (ap (λ v. v == 62) b.value ∙ h)
+      ∙ ap (preceded (leaving names)) (sym (if-true (next_is (is_value 62) (ahead T)) (Some (closing names)) _ (ap (next_is (is_value 62)) b.whole ∙ ap (λ v. v == 62) b.value ∙ h))))
+      (left-text T k)
+      (λ ok U x. x))
       (λ h. if-step P (c == 60 || c == 10) _ _
-      (λ g. Goes-no W 1 4 p T alone (ap p b.whole ∙ enclosed-refused names b.code cs (ap (λ v. v == 62) b.value ∙ h) (ap (λ v. v == 60 || v == 10) b.value ∙ g)))
+      (λ g. Goes-no W 2 4 p T alone (ap p b.whole ∙ enclosed-refused names b.code cs (ap (λ v. v == 62) b.value ∙ h) (ap (λ v. v == 60 || v == 10) b.value ∙ g)))
       (λ g. if-step P (c == 92) _ _
-      (λ f. Goes-next W 1 4 p (enclosed_plan names true) (Consume ∷ []) T (Next DestinationEnclosedEscape) (within DestinationEnclosedEscape) alone refl more (omega arith)
+      (λ f. Goes-next W 2 4 p (enclosed_plan names true) (Consume ∷ []) T (Next DestinationEnclosedEscape) (within DestinationEnclosedEscape) alone refl more (omega arith)
       (ap p b.whole ∙ enclosed-next names true b.code cs (ap (λ v. v == 62) b.value ∙ h) (ap (λ v. v == 60 || v == 10) b.value ∙ g) (ap (λ v. v == 92) b.value ∙ f))
       (enclosed-past T k)
       (λ ok U x. x))
-      (λ f. Goes-next W 1 4 p p (Consume ∷ []) T (Next DestinationEnclosed) (within DestinationEnclosed) alone refl more (omega arith)
+      (λ f. Goes-next W 2 4 p p (Consume ∷ []) T (Next DestinationEnclosed) (within DestinationEnclosed) alone refl more (omega arith)
       (ap p b.whole ∙ enclosed-next names false b.code cs (ap (λ v. v == 62) b.value ∙ h) (ap (λ v. v == 60 || v == 10) b.value ∙ g) (ap (λ v. v == 92) b.value ∙ f))
       (enclosed-past T k)
       (λ ok U x. x)))))
@@ -152,10 +172,10 @@ module _ (W : Words) (within : Within states W) where
   -- the backslash means itself
   enclosed-goes : (T : Tokenizer) → T.attempts ≡ [] → EnclosedReady T →
       enclosed_plan (names_in T.tokenize_state) true (ahead T) ≡ enclosed_plan (names_in T.tokenize_state) false (ahead T) →
-      GoesIn W (weight_at 2 T) (enclosed_escape_ends T) (stepped (Retry DestinationEnclosed) T)
+      GoesIn W (weight_at 3 T) (enclosed_escape_ends T) (stepped (Retry DestinationEnclosed) T)
   enclosed-goes T alone k e =
       let names : DestinationNames = names_in T.tokenize_state in
-      Goes-next W 2 4 (enclosed_plan names true) (enclosed_plan names false) [] T (Retry DestinationEnclosed) (within DestinationEnclosed) alone refl (no-codes T) (omega arith)
+      Goes-next W 3 4 (enclosed_plan names true) (enclosed_plan names false) [] T (Retry DestinationEnclosed) (within DestinationEnclosed) alone refl (no-codes T) (omega arith)
       (e ∙ preceded-nil (enclosed_plan names false (ahead T)))
       k
       (λ ok U x. x)
@@ -165,25 +185,25 @@ module _ (W : Words) (within : Within states W) where
   enclosed_escape-law T alone k =
       let names : DestinationNames = names_in T.tokenize_state in
       let p : Plan = enclosed_plan names true in
-      let P : Stepped → Type 0 = GoesIn W (weight_at 2 T) (enclosed_escape_ends T) in
+      let P : Stepped → Type 0 = GoesIn W (weight_at 3 T) (enclosed_escape_ends T) in
       code-step P (current_of T) (λ o. enclosed_escape_at o T)
       (λ e. enclosed-goes T alone k (ap p (ahead-none T e) ∙ enclosed-none names true ∙ sym (enclosed-none names false) ∙ ap (enclosed_plan names false) (sym (ahead-none T e))))
       (λ c e.
       let b : Begins c (ahead T) = ahead-some T c e in
       let cs : List Code = rest_of (ahead T) in
       if-step P (escapes_enclosed c) _ _
-      (λ h. Goes-next W 2 4 p (enclosed_plan names false) (Consume ∷ []) T (Next DestinationEnclosed) (within DestinationEnclosed) alone refl (some-codes T c e) (omega arith)
+      (λ h. Goes-next W 3 4 p (enclosed_plan names false) (Consume ∷ []) T (Next DestinationEnclosed) (within DestinationEnclosed) alone refl (some-codes T c e) (omega arith)
       (ap p b.whole ∙ enclosed-taken names b.code cs (ap escapes_enclosed b.value ∙ h))
       (enclosed-past T k)
       (λ ok U x. x))
       (λ h. enclosed-goes T alone k (ap p b.whole ∙ enclosed-bare names b.code cs (ap escapes_enclosed b.value ∙ h) ∙ ap (enclosed_plan names false) (sym b.whole))))
 
-  before-enters : (T : Tokenizer) → T.attempts ≡ [] → BeforeReady T → next_is (is_value 62) (ahead T) ≡ false →
-      GoesIn W (weight_at 3 T) (enclosed_before_ends T) (entering T)
+  before-enters : (n : ℕ) → n ≡ 3 → (T : Tokenizer) → T.attempts ≡ [] → BeforeReady T → next_is (is_value 62) (ahead T) ≡ false →
+      GoesIn W (weight_at n T) (enclosed_before_ends T) (entering T)
   unfolding applied
-  before-enters T alone k h =
+  before-enters n high T alone k h =
       let names : DestinationNames = names_in T.tokenize_state in
-      Goes-next W 3 2 (before_plan names) (enclosed_plan names false) (text_opening names) T (Retry DestinationEnclosed) (within DestinationEnclosed) alone refl (no-codes T) (omega arith)
+      Goes-next W n 2 (before_plan names) (enclosed_plan names false) (text_opening names) T (Retry DestinationEnclosed) (within DestinationEnclosed) alone refl (no-codes T) (omega (arith, high))
       (if-false _ _ _ h)
       (entered-text T k)
       (λ ok U x. x)
@@ -191,15 +211,16 @@ module _ (W : Words) (within : Within states W) where
   pub enclosed_before-law : Law W enclosed_before_words
   enclosed_before-law T alone k =
       let names : DestinationNames = names_in T.tokenize_state in
-      let P : Stepped → Type 0 = GoesIn W (weight_at 3 T) (enclosed_before_ends T) in
+      let n : ℕ = before_rank (current_of T) in
+      let P : Stepped → Type 0 = GoesIn W (weight_at n T) (enclosed_before_ends T) in
       code-step P (current_of T) (λ o. enclosed_before_at o T)
-      (λ e. before-enters T alone k (ap (next_is (is_value 62)) (ahead-none T e)))
+      (λ e. before-enters n (ap before_rank e) T alone k (ap (next_is (is_value 62)) (ahead-none T e)))
       (λ c e.
       let b : Begins c (ahead T) = ahead-some T c e in
       let here : next_is (is_value 62) (ahead T) ≡ (c == 62) = ap (next_is (is_value 62)) b.whole ∙ ap (λ v. v == 62) b.value in
       if-step P (c == 62) _ _
-      (λ h. Goes-yes W 3 2 (before_plan names) (closing names) T alone (if-true _ _ _ (here ∙ h)))
-      (λ h. before-enters T alone k (here ∙ h)))
+      (λ h. Goes-yes W n 2 (before_plan names) (closing names) T alone (if-true _ _ _ (here ∙ h)))
+      (λ h. before-enters n (ap before_rank e ∙ ap (λ b. if b then 1 else 3) h) T alone k (here ∙ h)))
 
   -- Without brackets.
 
@@ -382,7 +403,7 @@ module _ (W : Words) (within : Within states W) where
       let b : Begins c (ahead T) = ahead-some T c e in
       let cs : List Code = rest_of (ahead T) in
       if-step P (c == 60) _ _
-      (λ h. Goes-next W 4 0 p (before_plan names) (opening names) T (Next DestinationEnclosedBefore) (within DestinationEnclosedBefore) alone refl (some-codes T c e) (omega arith)
+      (λ h. Goes-next W 4 0 p (before_plan names) (opening names) T (Next DestinationEnclosedBefore) (within DestinationEnclosedBefore) alone refl (some-codes T c e) (omega (arith, before-low (current_of (done (opening names) T))))
       (ap p b.whole ∙ destination-bracket max names b.code cs (ap (λ v. v == 60) b.value ∙ h))
       (opened-before T)
       (λ ok U x. x))

@@ -1,12 +1,12 @@
 -- The laws of the states of a label.
-use Rattle.std.proofs.Common.{◌≡◌, ℕ, ◌+◌, ◌*◌, ◌≤◌, ◌<◌, ◌==◌, ◌&&◌, ◌||◌, not, nat_le, codes, Bool, true, false, if◌then◌else◌, Some, None, List, [], ◌∷◌, length, drop, refl, sym, ap, subst, ◌∙◌, arith}
+use Rattle.std.proofs.Common.{◌≡◌, ℕ, ◌+◌, ◌≤◌, ◌==◌, ◌&&◌, ◌||◌, not, nat_le, codes, Bool, true, false, if◌then◌else◌, Option, Some, None, List, [], ◌∷◌, length, drop, refl, sym, ap, subst, ◌∙◌, arith}
 use Rattle.std.proofs.Math.Bool.{or-true}
 use Rattle.std.proofs.lemmas.Bool.{eqb-true, not-false, not-true, or_parts}
 use Rattle.std.proofs.lemmas.Bool.Decides.{nat_tests}
 use Rattle.std.proofs.lemmas.Grind.{common_steps}
 use Rattle.markdown_engine_content.specs.Codes.{Code, is_line_ending, is_blank}
 use Rattle.markdown_engine_content.specs.ListFunctions.{rest_of}
-use Rattle.markdown_engine.specs.Operations.{Op, Exit, Consume, current_of, ahead, applied, done, scratched}
+use Rattle.markdown_engine.specs.Operations.{Op, Exit, Consume, current_of, ahead, applied, done, moves, scratched}
 use Rattle.markdown_engine.specs.StateRuns.{Stepped, stepped}
 use Rattle.markdown_engine.specs.Weights.{weight_at}
 use Rattle.markdown_engine_content.specs.declared.event.Name.TheVariants as N
@@ -22,11 +22,11 @@ use Rattle.markdown_model.specs.CodeTests.{is_value, is_among}
 use Rattle.markdown_model.specs.Resource.{StringNames, label}
 use Rattle.markdown_plan.specs.Plan.{Plan, preceded, DoesAs, KeepsAs}
 use Rattle.markdown_plan.specs.ScratchFields.{with_size}
-use Rattle.markdown_plan.proofs.PlanSteps.{preceded-nil, done-scratched, no-codes}
+use Rattle.markdown_plan.proofs.PlanSteps.{preceded-nil, preceded-twice, no-codes}
 use Rattle.markdown_partial.specs.PartialSpaceOrTabEol.{WhitespaceAtRest}
 use Rattle.markdown_partial_link.specs.LinkedTreeOps.{plan_of}
 use Rattle.markdown_partial_link.specs.LinkedText.{ending, names_in, joined, enter_text, text_entered, TextReady, break_ops, inside_ops}
-use Rattle.markdown_partial_link.specs.PartialLabel.{rested, sized, opening, start_at, start_step, closed, refused, next_state, passing, is_short, at_break_at, leaving, inside_at, escapes, escape_at, StartReady, BreakReady, EolAfterReady, InsideReady, EscapeReady, start_ends}
+use Rattle.markdown_partial_link.specs.PartialLabel.{rested, sized, opening, start_at, start_step, closed, refused, passing, is_short, at_break_at, leaving, inside_at, escapes, escape_at, StartReady, BreakReady, EolAfterReady, InsideReady, EscapeReady, break_rank, start_ends}
 use Rattle.markdown_partial_link.specs.PartialLabel.{text_from, fits, inside_plan, break_plan, at_break_ends, nok_ends, inside_ends, escape_ends, states_and_called, at_break_words, eol_after_words, escape_words, inside_words, nok_words, start_words, states}
 use Rattle.markdown_partial_link.proofs.LinkedTreeLemmas.{EndsAs-linked}
 use Rattle.markdown_partial_link.proofs.PartialLabelReadings.{label-plain, fits-data, fits-ending, fits-none, fits-long, fits-seen, fits-unseen, label-here, label-none, label-covers}
@@ -101,24 +101,17 @@ unfolding scratched
 slash-ready c T more h e k =
     record { inside = passed-ready c T more h k; fits = h; seen = slash-seen c T.tokenize_state.seen e }
 
-data-ready : (b : Bool) (c : ℕ) (T : Tokenizer) → 1 ≤ length (ahead T) → T.tokenize_state.size + 1 ≤ 1000 →
-    BreakReady T → InsideReady (scratched (sized c (joined T.tokenize_state)) (done (enter_text b ∷ Consume ∷ []) T))
+data-ready : (b : Bool) (T : Tokenizer) → BreakReady T →
+    InsideReady (scratched (joined T.tokenize_state) (done (enter_text b ∷ []) T))
 unfolding scratched applied
-data-ready true c T more h k =
-    let r : TokenizeState = sized c (joined T.tokenize_state) in
-    let after : TextReady (scratched r (done (enter_text true ∷ Consume ∷ []) T)) = text-after (enter_text true ∷ Consume ∷ []) r T more k.text (rest-sized c (joined T.tokenize_state) (rest-joined T.tokenize_state k.text.resting)) in
-    record { text = record { short = after.short; resting = after.resting }; stand_open = ap (λ ns. N.Data ∷ ns) k.stand_open; small = omega (arith, h); connect = refl; linked = open-append T.events _ refl }
-data-ready false c T more h k =
-    let r : TokenizeState = sized c (joined T.tokenize_state) in
-    let after : TextReady (scratched r (done (enter_text false ∷ Consume ∷ []) T)) = text-after (enter_text false ∷ Consume ∷ []) r T more k.text (rest-sized c (joined T.tokenize_state) (rest-joined T.tokenize_state k.text.resting)) in
-    record { text = record { short = after.short; resting = after.resting }; stand_open = ap (λ ns. N.Data ∷ ns) k.stand_open; small = omega (arith, h); connect = refl; linked = open-append T.events _ refl }
-
-data-slash : (b : Bool) (c : ℕ) (T : Tokenizer) → 1 ≤ length (ahead T) → T.tokenize_state.size + 1 ≤ 1000 →
-    (c == 92) ≡ true → BreakReady T →
-    EscapeReady (scratched (sized c (joined T.tokenize_state)) (done (enter_text b ∷ Consume ∷ []) T))
-unfolding scratched
-data-slash b c T more h e k =
-    record { inside = data-ready b c T more h k; fits = h; seen = slash-seen c T.tokenize_state.seen e }
+data-ready true T k =
+    let r : TokenizeState = joined T.tokenize_state in
+    let after : TextReady (scratched r (done (enter_text true ∷ []) T)) = text-after (enter_text true ∷ []) r T (no-codes T) k.text (rest-joined T.tokenize_state k.text.resting) in
+    record { text = record { short = after.short; resting = after.resting }; stand_open = ap (λ ns. N.Data ∷ ns) k.stand_open; small = k.small; connect = refl; linked = open-append T.events _ refl }
+data-ready false T k =
+    let r : TokenizeState = joined T.tokenize_state in
+    let after : TextReady (scratched r (done (enter_text false ∷ []) T)) = text-after (enter_text false ∷ []) r T (no-codes T) k.text (rest-joined T.tokenize_state k.text.resting) in
+    record { text = record { short = after.short; resting = after.resting }; stand_open = ap (λ ns. N.Data ∷ ns) k.stand_open; small = k.small; connect = refl; linked = open-append T.events _ refl }
 
 eol-ready : (c : Code) (cs : List Code) (T U : Tokenizer) → BreakReady T → Passed T.tokenize_state.connect c cs T U →
     EolAfterReady U
@@ -179,6 +172,41 @@ taken-line c h =
     or-by (c.value == 92) _ g (λ f. ap (λ v. v == 10) (eqb-true c.value 92 f)) (λ f.
     or-by (c.value == 93) false f (λ e. ap (λ v. v == 10) (eqb-true c.value 93 e)) (λ e. let no : false ≡ true = e in cc)))
 
+-- The ranks.
+
+break-low : (o : Option ℕ) (T : Tokenizer) → break_rank o T ≤ 11
+break-low None T = omega arith
+break-low (Some c) T =
+    elim (not (c == 10 || (c == 91 || c == 93)) && is_short T) as (λ b. (if b then 11 else 9) ≤ 11) [ true ↦ omega arith | false ↦ omega arith ]
+
+break-high : (o : Option ℕ) (T : Tokenizer) → 9 ≤ break_rank o T
+break-high None T = omega arith
+break-high (Some c) T =
+    elim (not (c == 10 || (c == 91 || c == 93)) && is_short T) as (λ b. 9 ≤ (if b then 11 else 9)) [ true ↦ omega arith | false ↦ omega arith ]
+
+-- behind a stretch
+rank-end : (T : Tokenizer) → current_of T ≡ None →
+    break_rank (current_of (done (Exit N.Data ∷ []) T)) (done (Exit N.Data ∷ []) T) ≡ 9
+unfolding applied
+rank-end T e = ap (λ o. break_rank o (done (Exit N.Data ∷ []) T)) e
+
+rank-stop : (T : Tokenizer) (c : ℕ) → current_of T ≡ Some c → not (c == 10 || (c == 91 || c == 93)) && is_short T ≡ false →
+    break_rank (current_of (done (Exit N.Data ∷ []) T)) (done (Exit N.Data ∷ []) T) ≡ 9
+unfolding applied
+rank-stop T c e h = ap (λ o. break_rank o (done (Exit N.Data ∷ []) T)) e ∙ ap (λ b. if b then 11 else 9) h
+
+-- before one
+rank-goes : (T : Tokenizer) (c : ℕ) → current_of T ≡ Some c → (c == 91) ≡ false → (c == 93) ≡ false → (c == 10) ≡ false → is_short T ≡ true →
+    break_rank (current_of T) T ≡ 11
+rank-goes T c e h g f short =
+    ap (λ o. break_rank o T) e
+    ∙ ap (λ b. if not (b || (c == 91 || c == 93)) && is_short T then 11 else 9) f
+    ∙ ap (λ b. if not (b || c == 93) && is_short T then 11 else 9) h
+    ∙ ap (λ b. if not b && is_short T then 11 else 9) g
+    ∙ ap (λ b. if b then 11 else 9) short
+
+-- The laws.
+
 module _ (W : Words) (within : Within states_and_called W) where
   pub nok-law : Law W nok_words
   nok-law T alone _ =
@@ -193,7 +221,8 @@ module _ (W : Words) (within : Within states_and_called W) where
   eol_after-law T alone k =
       let s : TokenizeState = T.tokenize_state in
       let q : Plan = break_plan (names_in s) s.size s.seen true in
-      Goes-on W 10 2 q q [] (rested s) (joined s) T (Retry LabelAtBreak) (within LabelAtBreak) alone refl (no-codes T) (omega arith)
+      let V : Tokenizer = scratched (joined s) T in
+      Goes-on W 12 2 q q [] (rested s) (joined s) T (Retry LabelAtBreak) (within LabelAtBreak) alone refl (no-codes T) (omega (arith, break-low (current_of V) V))
       (preceded-nil (q (ahead T)))
       (joined-ready T k)
       (λ ok U x. eol-says T ok U x)
@@ -234,13 +263,14 @@ module _ (W : Words) (within : Within states_and_called W) where
       (λ ok U x. sized-inside c T ok U x))
 
   goes-leave : (T : Tokenizer) → T.attempts ≡ [] → InsideReady T →
+      break_rank (current_of (done (Exit N.Data ∷ []) T)) (done (Exit N.Data ∷ []) T) ≡ 9 →
       inside_plan (names_in T.tokenize_state) T.tokenize_state.size T.tokenize_state.seen false (ahead T) ≡ preceded (Exit N.Data ∷ []) (break_plan (names_in T.tokenize_state) T.tokenize_state.size T.tokenize_state.seen true (ahead T)) →
       GoesIn W (weight_at 10 T) (inside_ends T) (leaving T)
   unfolding applied
-  goes-leave T alone k same =
+  goes-leave T alone k low same =
       let s : TokenizeState = T.tokenize_state in
       let q : Plan = break_plan (names_in s) s.size s.seen s.connect in
-      Goes-kept W 10 3 (inside_plan (names_in s) s.size s.seen false) q (Exit N.Data ∷ []) (rested s) T (Retry LabelAtBreak) (within LabelAtBreak) alone refl (no-codes T) (omega arith)
+      Goes-kept W 10 3 (inside_plan (names_in s) s.size s.seen false) q (Exit N.Data ∷ []) (rested s) T (Retry LabelAtBreak) (within LabelAtBreak) alone refl (no-codes T) (omega (arith, low))
       (same ∙ ap (λ b. preceded (Exit N.Data ∷ []) (break_plan (names_in s) s.size s.seen b (ahead T))) (sym k.connect))
       (left-ready T k)
       (λ ok U x. x)
@@ -253,7 +283,7 @@ module _ (W : Words) (within : Within states_and_called W) where
       let P : Stepped → Type 0 = GoesIn W (weight_at 10 T) (inside_ends T) in
       let here : List Code → Type 0 = λ xs. p xs ≡ preceded (Exit N.Data ∷ []) (break_plan names s.size s.seen true xs) in
       code-step P (current_of T) (λ o. inside_at o T)
-      (λ e. goes-leave T alone k (subst here (sym (ahead-none T e)) (leave-end (is_value 93) takes (is_value 91) label-plain (ending names) (fits s.size s.seen))))
+      (λ e. goes-leave T alone k (rank-end T e) (subst here (sym (ahead-none T e)) (leave-end (is_value 93) takes (is_value 91) label-plain (ending names) (fits s.size s.seen))))
       (λ c e.
       let b : Begins c (ahead T) = ahead-some T c e in
       let cs : List Code = rest_of (ahead T) in
@@ -266,8 +296,8 @@ module _ (W : Words) (within : Within states_and_called W) where
       ∙ insides-next (is_value 93) takes (is_value 91) label-plain (ending names) (fits s.size s.seen) (fits (s.size + 1) (s.seen || not (is_blank b.code))) (c == 92) b.code cs (ap (λ v. v == 93) b.value ∙ (or_parts _ _ (or_parts _ _ goes).1).1) (ap (λ v. v == 91) b.value ∙ (or_parts _ _ (or_parts _ _ goes).1).0) line (ap (λ v. v == 92) b.value) (λ text. fits-data s.size s.seen b.code text line)
       ∙ ap (λ v. preceded (Consume ∷ []) (inside_plan names (s.size + 1) (s.seen || not (v == 32 || v == 9)) (c == 92) cs)) b.value))
       (λ h. and-by (not (c == 10 || (c == 91 || c == 93))) (is_short T) h
-      (λ g. goes-leave T alone k (subst here (sym b.whole) (leaves-here names s.size s.seen b.code cs (ap (λ v. v == 10 || (v == 91 || v == 93)) b.value ∙ not-false _ g))))
-      (λ g. goes-leave T alone k (leaves-long names s.size s.seen (ahead T) g))))
+      (λ g. goes-leave T alone k (rank-stop T c e h) (subst here (sym b.whole) (leaves-here names s.size s.seen b.code cs (ap (λ v. v == 10 || (v == 91 || v == 93)) b.value ∙ not-false _ g))))
+      (λ g. goes-leave T alone k (rank-stop T c e h) (leaves-long names s.size s.seen (ahead T) g))))
 
   escape-goes : (T : Tokenizer) → T.attempts ≡ [] → EscapeReady T →
       inside_plan (names_in T.tokenize_state) T.tokenize_state.size T.tokenize_state.seen true (ahead T) ≡ inside_plan (names_in T.tokenize_state) T.tokenize_state.size T.tokenize_state.seen false (ahead T) →
@@ -318,65 +348,45 @@ module _ (W : Words) (within : Within states_and_called W) where
   nok-says T e ok U x =
       DoesAs-fails 2 (break_plan (names_in T.tokenize_state) T.tokenize_state.size T.tokenize_state.seen T.tokenize_state.connect) (rested T.tokenize_state) T e ok U x
 
-  nok-goes : (T : Tokenizer) →
+  nok-goes : (n : ℕ) → 9 ≤ n → (T : Tokenizer) →
       break_plan (names_in T.tokenize_state) T.tokenize_state.size T.tokenize_state.seen T.tokenize_state.connect (ahead T) ≡ None →
-      FollowsIn W (weight_at 9 T) (at_break_ends T) (Next LabelNok) T
-  nok-goes T e = follows W _ _ (Next LabelNok) (within LabelNok) T tt (omega arith) (nok-says T e)
+      FollowsIn W (weight_at n T) (at_break_ends T) (Next LabelNok) T
+  nok-goes n high T e = follows W _ _ (Next LabelNok) (within LabelNok) T tt (omega (arith, high)) (nok-says T e)
 
-  refuses-here : (T : Tokenizer) → T.attempts ≡ [] →
+  refuses-here : (n : ℕ) → 9 ≤ n → (T : Tokenizer) → T.attempts ≡ [] →
       break_plan (names_in T.tokenize_state) T.tokenize_state.size T.tokenize_state.seen T.tokenize_state.connect (ahead T) ≡ None →
-      GoesIn W (weight_at 9 T) (at_break_ends T) (refused T)
-  refuses-here T alone e =
-      Goes-plain W (weight_at 9 T) (at_break_ends T) (Retry LabelNok) (within LabelNok) T alone tt (omega arith) (nok-says T e)
+      GoesIn W (weight_at n T) (at_break_ends T) (refused T)
+  refuses-here n high T alone e =
+      Goes-plain W (weight_at n T) (at_break_ends T) (Retry LabelNok) (within LabelNok) T alone tt (omega (arith, high)) (nok-says T e)
 
-  inside-says : (b : Bool) (c : ℕ) (T : Tokenizer) (ok : Bool) (U : Tokenizer) →
-      inside_ends (scratched (sized c (joined T.tokenize_state)) (done (enter_text b ∷ Consume ∷ []) T)) ok U →
-      DoesAs 3 (inside_plan (names_in T.tokenize_state) (T.tokenize_state.size + 1) (sized c T.tokenize_state).seen false) (rested T.tokenize_state) (scratched (sized c (joined T.tokenize_state)) (done (enter_text b ∷ Consume ∷ []) T)) ok U
+  inside-says : (b : Bool) (T : Tokenizer) (ok : Bool) (U : Tokenizer) →
+      inside_ends (scratched (joined T.tokenize_state) (done (enter_text b ∷ []) T)) ok U →
+      DoesAs 3 (inside_plan (names_in T.tokenize_state) T.tokenize_state.size T.tokenize_state.seen false) (rested T.tokenize_state) (scratched (joined T.tokenize_state) (done (enter_text b ∷ []) T)) ok U
   unfolding scratched
-  inside-says b c T ok U k = k
-
-  escape-says : (b : Bool) (c : ℕ) (T : Tokenizer) (ok : Bool) (U : Tokenizer) →
-      escape_ends (scratched (sized c (joined T.tokenize_state)) (done (enter_text b ∷ Consume ∷ []) T)) ok U →
-      DoesAs 3 (inside_plan (names_in T.tokenize_state) (T.tokenize_state.size + 1) (sized c T.tokenize_state).seen true) (rested T.tokenize_state) (scratched (sized c (joined T.tokenize_state)) (done (enter_text b ∷ Consume ∷ []) T)) ok U
-  unfolding scratched
-  escape-says b c T ok U k = k
-
-  entered-sized : (c : ℕ) (T : Tokenizer) →
-      scratched (sized c (joined T.tokenize_state)) (done (enter_text T.tokenize_state.connect ∷ Consume ∷ []) T) ≡ scratched (sized c (text_entered T).tokenize_state) (done (Consume ∷ []) (text_entered T))
-  unfolding scratched
-  entered-sized c T =
-      ap (λ (x : Tokenizer). scratched (sized c (joined T.tokenize_state)) x) (sym (done-scratched (Consume ∷ []) (joined T.tokenize_state) (done (enter_text T.tokenize_state.connect ∷ []) T)))
+  inside-says b T ok U k = k
 
   -- data begins
-  data-goes : (T : Tokenizer) → T.attempts ≡ [] → BreakReady T → T.tokenize_state.size + 1 ≤ 1000 → (c : ℕ) →
-      current_of T ≡ Some c →
-      break_plan (names_in T.tokenize_state) T.tokenize_state.size T.tokenize_state.seen T.tokenize_state.connect (ahead T) ≡ preceded (enter_text T.tokenize_state.connect ∷ Consume ∷ []) (inside_plan (names_in T.tokenize_state) (T.tokenize_state.size + 1) (sized c T.tokenize_state).seen (c == 92) (drop 1 (ahead T))) →
-      GoesIn W (weight_at 9 T) (at_break_ends T) (passing c (text_entered T))
-  data-goes T alone k small c e same =
+  data-goes : (n : ℕ) → n ≡ 11 → (T : Tokenizer) → T.attempts ≡ [] → BreakReady T →
+      break_plan (names_in T.tokenize_state) T.tokenize_state.size T.tokenize_state.seen T.tokenize_state.connect (ahead T) ≡ preceded (enter_text T.tokenize_state.connect ∷ []) (inside_plan (names_in T.tokenize_state) T.tokenize_state.size T.tokenize_state.seen false (ahead T)) →
+      GoesIn W (weight_at n T) (at_break_ends T) (stepped (Retry LabelInside) (text_entered T))
+  data-goes n high T alone k same =
       let s : TokenizeState = T.tokenize_state in
       let connect : Bool = s.connect in
-      let os : List Op = enter_text connect ∷ Consume ∷ [] in
+      let os : List Op = enter_text connect ∷ [] in
       let p : Plan = break_plan (names_in s) s.size s.seen connect in
-      let q : Bool → Plan = inside_plan (names_in s) (s.size + 1) (sized c s).seen in
-      let more : 1 ≤ length (ahead T) = some-codes T c e in
-      let r : TokenizeState = sized c (joined s) in
-      let V : Tokenizer = scratched r (done os T) in
-      subst (λ (x : Tokenizer). GoesIn W (weight_at 9 T) (at_break_ends T) (stepped (next_state c) x)) (entered-sized c T)
-      (state-by (λ st. GoesIn W (weight_at 9 T) (at_break_ends T) (stepped st V)) (c == 92) (Next LabelEscape) (Next LabelInside)
-      (λ f. Goes-on W 9 2 p (q true) os (rested s) r T (Next LabelEscape) (within LabelEscape) alone (stays-data connect) (moves-data connect (λ n. n ≤ length (ahead T)) more) (moves-data connect (λ n. 11 < 256 * n + 9) (omega arith))
-      (same ∙ ap (λ b. preceded os (q b (drop 1 (ahead T)))) f ∙ moves-data connect (λ n. preceded os (q true (drop 1 (ahead T))) ≡ preceded os (q true (drop n (ahead T)))) refl)
-      (data-slash connect c T more small f k)
-      (λ ok U x. depth-data connect (λ d. DoesAs d (q true) (rested s) V ok U) (escape-says connect c T ok U x)))
-      (λ f. Goes-on W 9 2 p (q false) os (rested s) r T (Next LabelInside) (within LabelInside) alone (stays-data connect) (moves-data connect (λ n. n ≤ length (ahead T)) more) (moves-data connect (λ n. 10 < 256 * n + 9) (omega arith))
-      (same ∙ ap (λ b. preceded os (q b (drop 1 (ahead T)))) f ∙ moves-data connect (λ n. preceded os (q false (drop 1 (ahead T))) ≡ preceded os (q false (drop n (ahead T)))) refl)
-      (data-ready connect c T more small k)
-      (λ ok U x. depth-data connect (λ d. DoesAs d (q false) (rested s) V ok U) (inside-says connect c T ok U x))))
+      let q : Plan = inside_plan (names_in s) s.size s.seen false in
+      let V : Tokenizer = text_entered T in
+      let none : moves os ≡ 0 = moves-data connect in
+      Goes-on W n 2 p q os (rested s) (joined s) T (Retry LabelInside) (within LabelInside) alone (stays-data connect) (omega (arith, none)) (omega (arith, none, high))
+      (same ∙ ap (λ m. preceded os (q (drop m (ahead T)))) (sym none))
+      (data-ready connect T k)
+      (λ ok U x. depth-data connect (λ d. DoesAs d q (rested s) V ok U) (inside-says connect T ok U x))
 
   -- behind a line ending and blank codes
-  eol-goes : (T : Tokenizer) → BreakReady T → (c : Code) (cs : List Code) → ahead T ≡ c ∷ cs → is_line_ending c ≡ true →
+  eol-goes : (n : ℕ) (T : Tokenizer) → BreakReady T → (c : Code) (cs : List Code) → ahead T ≡ c ∷ cs → is_line_ending c ≡ true →
       (U : Tokenizer) → Passed T.tokenize_state.connect c cs T U →
-      FollowsIn W (weight_at 9 T) (at_break_ends T) (Next LabelEolAfter) U
-  eol-goes T k c cs whole line U j =
+      FollowsIn W (weight_at n T) (at_break_ends T) (Next LabelEolAfter) U
+  eol-goes n T k c cs whole line U j =
       let s : TokenizeState = T.tokenize_state in
       let names : StringNames = names_in s in
       let p : Plan = break_plan names s.size s.seen s.connect in
@@ -387,17 +397,17 @@ module _ (W : Words) (within : Within states_and_called W) where
       (λ ok V x. DoesAs-ending p q s.connect c cs (rested s) T U j reads ok V (subst (λ (r : TokenizeState). DoesAs 2 (break_plan (names_in r) r.size r.seen true) (rested r) U ok V) j.scratch x))
 
   -- at the closing bracket
-  closes-by : (seen : Bool) (T : Tokenizer) → T.attempts ≡ [] → T.tokenize_state.seen ≡ seen →
+  closes-by : (n : ℕ) → 9 ≤ n → (seen : Bool) (T : Tokenizer) → T.attempts ≡ [] → T.tokenize_state.seen ≡ seen →
       nat_le T.tokenize_state.size 999 ≡ true → (c : Code) (cs : List Code) → ahead T ≡ c ∷ cs → is_value 93 c ≡ true →
-      GoesIn W (weight_at 9 T) (at_break_ends T) (if seen then closed T else refused T)
-  closes-by true T alone e short c cs whole h =
+      GoesIn W (weight_at n T) (at_break_ends T) (if seen then closed T else refused T)
+  closes-by n high true T alone e short c cs whole h =
       let s : TokenizeState = T.tokenize_state in
       let p : Plan = break_plan (names_in s) s.size s.seen s.connect in
-      Goes-ok W 9 2 p (ending (names_in s)) (rested s) T alone
+      Goes-ok W n 2 p (ending (names_in s)) (rested s) T alone
       (ap p whole ∙ breaks-stop (is_value 93) takes (is_value 91) label-plain (ending (names_in s)) (fits s.size s.seen) s.connect c cs h (ap (λ x. fits s.size x []) e ∙ fits-seen s.size short))
-  closes-by false T alone e short c cs whole h =
+  closes-by n high false T alone e short c cs whole h =
       let s : TokenizeState = T.tokenize_state in
-      refuses-here T alone (ap (break_plan (names_in s) s.size s.seen s.connect) whole
+      refuses-here n high T alone (ap (break_plan (names_in s) s.size s.seen s.connect) whole
       ∙ breaks-unfit (is_value 93) takes (is_value 91) label-plain (ending (names_in s)) (fits s.size s.seen) s.connect c cs h (ap (λ x. fits s.size x []) e ∙ fits-unseen s.size))
 
   pub at_break-law : Law W at_break_words
@@ -406,9 +416,11 @@ module _ (W : Words) (within : Within states_and_called W) where
       let names : StringNames = names_in s in
       let connect : Bool = s.connect in
       let p : Plan = break_plan names s.size s.seen connect in
-      let P : Stepped → Type 0 = GoesIn W (weight_at 9 T) (at_break_ends T) in
+      let n : ℕ = break_rank (current_of T) T in
+      let high : 9 ≤ n = break-high (current_of T) T in
+      let P : Stepped → Type 0 = GoesIn W (weight_at n T) (at_break_ends T) in
       code-step P (current_of T) (λ o. at_break_at o T)
-      (λ e. refuses-here T alone (ap p (ahead-none T e) ∙ breaks-end (is_value 93) takes (is_value 91) label-plain (ending names) (fits s.size s.seen) connect))
+      (λ e. refuses-here n high T alone (ap p (ahead-none T e) ∙ breaks-end (is_value 93) takes (is_value 91) label-plain (ending names) (fits s.size s.seen) connect))
       (λ c e.
       let b : Begins c (ahead T) = ahead-some T c e in
       let cs : List Code = rest_of (ahead T) in
@@ -417,21 +429,24 @@ module _ (W : Words) (within : Within states_and_called W) where
       let bare : is_value 91 b.code ≡ false = ap (λ v. v == 91) b.value ∙ not-true (c == 91) (and-left (not (c == 91)) (is_short T) h) in
       let short : nat_le s.size 999 ≡ true = and-right (not (c == 91)) (is_short T) h in
       if-step P (c == 93) _ _
-      (λ g. closes-by s.seen T alone refl short b.code cs b.whole (ap (λ v. v == 93) b.value ∙ g))
+      (λ g. closes-by n high s.seen T alone refl short b.code cs b.whole (ap (λ v. v == 93) b.value ∙ g))
       (λ g. if-step P (c == 10) _ _
       (λ f.
       let line : is_line_ending b.code ≡ true = ap (λ v. v == 10) b.value ∙ f in
-      ending-law W (within SpaceOrTabEolStart) (weight_at 9 T) (at_break_ends T) LabelEolAfter LabelNok T c b alone k.text k.linked line (omega arith) (
-        λ U now j. eol-goes T k b.code cs b.whole line U j,
-        λ u. nok-goes T (ap p b.whole ∙ breaks-blank (is_value 93) takes (is_value 91) label-plain (ending names) (fits s.size s.seen) connect b.code cs line u (λ ws d text w l. fits-none s.size s.seen b.code ws d text line w l)),
+      ending-law W (within SpaceOrTabEolStart) (weight_at n T) (at_break_ends T) LabelEolAfter LabelNok T c b alone k.text k.linked line (omega (arith, high)) (
+        λ U now j. eol-goes n T k b.code cs b.whole line U j,
+        λ u. nok-goes n high T (ap p b.whole ∙ breaks-blank (is_value 93) takes (is_value 91) label-plain (ending names) (fits s.size s.seen) connect b.code cs line u (λ ws d text w l. fits-none s.size s.seen b.code ws d text line w l)),
       ))
       (λ f.
       let line : is_line_ending b.code ≡ false = ap (λ v. v == 10) b.value ∙ f in
-      data-goes T alone k (below s.size short) c e
+      let stop : is_value 93 b.code ≡ false = ap (λ v. v == 93) b.value ∙ g in
+      let seen : Bool = s.seen || not (is_blank b.code) in
+      data-goes n (rank-goes T c e (not-true (c == 91) (and-left (not (c == 91)) (is_short T) h)) g f short) T alone k
       (ap p b.whole
-      ∙ breaks-data (is_value 93) takes (is_value 91) label-plain (ending names) (fits s.size s.seen) (fits (s.size + 1) (s.seen || not (is_blank b.code))) connect (c == 92) b.code cs (ap (λ v. v == 93) b.value ∙ g) bare line (ap (λ v. v == 92) b.value) (λ text. fits-data s.size s.seen b.code text line)
-      ∙ ap (λ v. preceded (enter_text connect ∷ Consume ∷ []) (inside_plan names (s.size + 1) (s.seen || not (v == 32 || v == 9)) (c == 92) cs)) b.value))))
-      (λ h. refuses-here T alone (and-by (not (c == 91)) (is_short T) h
+      ∙ breaks-data (is_value 93) takes (is_value 91) label-plain (ending names) (fits s.size s.seen) (fits (s.size + 1) seen) connect (c == 92) b.code cs stop bare line (ap (λ v. v == 92) b.value) (λ text. fits-data s.size s.seen b.code text line)
+      ∙ preceded-twice (enter_text connect ∷ []) (Consume ∷ []) (inside_plan names (s.size + 1) seen (c == 92) cs)
+      ∙ ap (preceded (enter_text connect ∷ [])) (sym (ap (inside_plan names s.size s.seen false) b.whole ∙ insides-next (is_value 93) takes (is_value 91) label-plain (ending names) (fits s.size s.seen) (fits (s.size + 1) seen) (c == 92) b.code cs stop bare line (ap (λ v. v == 92) b.value) (λ text. fits-data s.size s.seen b.code text line)))))))
+      (λ h. refuses-here n high T alone (and-by (not (c == 91)) (is_short T) h
       (λ g.
       let bare : is_value 91 b.code ≡ true = ap (λ v. v == 91) b.value ∙ not-false _ g in
       ap p b.whole ∙ breaks-refused (is_value 93) takes (is_value 91) label-plain (ending names) (fits s.size s.seen) connect b.code cs (ap (λ v. v == 93) (eqb-true b.code.value 91 bare)) bare)
@@ -465,7 +480,7 @@ module _ (W : Words) (within : Within states_and_called W) where
       let cs : List Code = rest_of (ahead T) in
       let more : 1 ≤ length (ahead T) = some-codes T c e in
       if-step P (c == 91) _ _
-      (λ h. Goes-kept W 11 0 p (break_plan names 0 false false) (opening names) s T (Next LabelAtBreak) (within LabelAtBreak) alone refl more (omega arith)
+      (λ h. Goes-kept W 11 0 p (break_plan names 0 false false) (opening names) s T (Next LabelAtBreak) (within LabelAtBreak) alone refl more (omega (arith, break-low (current_of (done (opening names) T)) (done (opening names) T)))
       (ap p b.whole ∙ label-here names b.code cs (ap (λ v. v == 91) b.value ∙ h))
       (opened-ready T more k)
       (λ ok U x. start-says T k ok U x))

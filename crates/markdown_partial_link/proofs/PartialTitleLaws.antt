@@ -1,9 +1,9 @@
 -- The laws of the states of a title.
-use Rattle.std.proofs.Common.{◌≡◌, ℕ, ◌+◌, ◌*◌, ◌≤◌, ◌<◌, ◌==◌, ◌||◌, Bool, true, false, Some, None, List, [], ◌∷◌, length, drop, refl, sym, ap, subst, ◌∙◌, arith}
+use Rattle.std.proofs.Common.{◌≡◌, ℕ, ◌≤◌, ◌==◌, ◌||◌, if◌then◌else◌, Bool, true, false, Option, Some, None, List, [], ◌∷◌, length, drop, refl, sym, ap, subst, ◌∙◌, arith}
 use Rattle.std.proofs.lemmas.Bool.{eqb-true, or_parts}
 use Rattle.markdown_engine_content.specs.Codes.{Code, is_line_ending}
 use Rattle.markdown_engine_content.specs.ListFunctions.{rest_of}
-use Rattle.markdown_engine.specs.Operations.{Op, Enter, Exit, Consume, current_of, ahead, applied, done, scratched}
+use Rattle.markdown_engine.specs.Operations.{Op, Enter, Exit, Consume, current_of, ahead, applied, done, moves, scratched}
 use Rattle.markdown_engine.specs.StateRuns.{Stepped, stepped}
 use Rattle.markdown_engine.specs.Weights.{weight_at}
 use Rattle.markdown_engine_content.specs.declared.event.Name.TheVariants as N
@@ -18,16 +18,16 @@ use Rattle.markdown_engine.proofs.OperationFields.{ahead-none, ahead-some, Begin
 use Rattle.markdown_model.specs.CodeTests.{is_value, is_among, next_is}
 use Rattle.markdown_model.specs.Resource.{StringNames, title}
 use Rattle.markdown_plan.specs.Plan.{Plan, preceded, DoesAs, KeepsAs}
-use Rattle.markdown_plan.proofs.PlanSteps.{preceded-nil, done-scratched, no-codes}
+use Rattle.markdown_plan.proofs.PlanSteps.{preceded-nil, preceded-twice, no-codes}
 use Rattle.markdown_partial.specs.PartialSpaceOrTabEol.{WhitespaceAtRest}
 use Rattle.markdown_partial_link.specs.LinkedTreeOps.{plan_of}
 use Rattle.markdown_partial_link.specs.LinkedText.{closing, ending, names_in, joined, enter_text, text_entered, TextReady, ends_filled}
-use Rattle.markdown_partial_link.specs.PartialTitle.{begun, rested, opening, opened, start_at, start_step, beginning, begin_at, next_state, passing, at_break_at, leaving, inside_at, escapes, escape_at, is_closer, StartReady, BeginReady, BreakReady, AfterEolReady, InsideReady, start_ends}
+use Rattle.markdown_partial_link.specs.PartialTitle.{begun, rested, opening, opened, start_at, start_step, beginning, begin_at, passing, at_break_at, leaving, inside_at, escapes, escape_at, is_closer, begin_rank, break_rank, StartReady, BeginReady, BreakReady, AfterEolReady, InsideReady, start_ends}
 use Rattle.markdown_partial_link.specs.PartialTitle.{inside_plan, break_plan, begin_plan, begin_ends, at_break_ends, nok_ends, inside_ends, escape_ends, states_and_called, after_eol_words, at_break_words, begin_words, escape_words, inside_words, nok_words, start_words, states}
 use Rattle.markdown_partial_link.proofs.LinkedTreeLemmas.{EndsAs-linked}
 use Rattle.markdown_partial_link.proofs.LinkedTextLineEnding.{Passed, DoesAs-ending, ending-law}
 use Rattle.markdown_partial_link.proofs.LinkedTextReadings.{filled-data, filled-ending, filled-none, breaks-end, breaks-stop, breaks-data, breaks-ending, breaks-blank, insides-end, insides-next, insides-taken, insides-bare, leave-end, leave-stop, leave-ending}
-use Rattle.markdown_partial_link.proofs.LinkedTextSteps.{open-append, open-closed, open-rest, text-after, text-same, text-kept, rest-joined, DoesAs-fails, state-by, stays-data, moves-data, depth-data}
+use Rattle.markdown_partial_link.proofs.LinkedTextSteps.{open-append, open-closed, open-rest, open-second, text-after, text-same, text-kept, rest-joined, DoesAs-fails, state-by, stays-data, moves-data, depth-data}
 use Rattle.markdown_partial_link.proofs.PartialTitleReadings.{title-plain, of-closer, title-none, title-double, title-single, title-paren, title-covers}
 use Rattle.markdown_partial_link.proofs.BoolLemmas.{or-by}
 use Rattle.markdown_model.proofs.GrammarSteps.{if-true, if-false}
@@ -59,17 +59,18 @@ begun-ready : (m : ℕ) (T : Tokenizer) → 1 ≤ length (ahead T) → is_closer
 unfolding scratched applied
 begun-ready m T more h k =
     let after : TextReady (scratched (begun m T.tokenize_state) (done (opening (names_in T.tokenize_state)) T)) = text-after (opening (names_in T.tokenize_state)) (begun m T.tokenize_state) T more k.text (rest-begun m T.tokenize_state k.text.resting) in
-    record { text = record { short = after.short; resting = after.resting }; closer = h; stand_open = refl; first = ap (λ (s : TokenizeState). s.connect) (sym k.rest) }
+    record { text = record { short = after.short; resting = after.resting }; closer = h; stand_open = refl; first = λ _. ap (λ (s : TokenizeState). s.connect) (sym k.rest) }
 
-entered-ready : (T : Tokenizer) → BeginReady T → BreakReady (done (Enter T.tokenize_state.token_3 ∷ []) T)
+entered-ready : (T : Tokenizer) → BeginReady T → next_is (is_value T.tokenize_state.marker) (ahead T) ≡ false →
+    BreakReady (done (Enter T.tokenize_state.token_3 ∷ []) T)
 unfolding applied
-entered-ready T k =
+entered-ready T k none =
     let after : TextReady (done (Enter T.tokenize_state.token_3 ∷ []) T) = text-kept (Enter T.tokenize_state.token_3 ∷ []) T (no-codes T) refl k.text in
     record {
       text = record { short = after.short; resting = after.resting };
       closer = k.closer;
       stand_open = ap (λ ns. T.tokenize_state.token_3 ∷ ns) k.stand_open;
-      linked = λ h. let no : false ≡ true = sym k.first ∙ h in cc;
+      linked = λ h. let no : false ≡ true = sym (k.first none) ∙ h in cc;
     }
 
 left-ready : (T : Tokenizer) → InsideReady T → BreakReady (done (Exit N.Data ∷ []) T)
@@ -89,15 +90,27 @@ passed-ready T more k =
     let after : TextReady (done (Consume ∷ []) T) = text-kept (Consume ∷ []) T more refl k.text in
     record { text = record { short = after.short; resting = after.resting }; closer = k.closer; stand_open = k.stand_open; connect = k.connect; linked = k.linked }
 
-data-ready : (b : Bool) (T : Tokenizer) → 1 ≤ length (ahead T) → BreakReady T →
-    InsideReady (scratched (joined T.tokenize_state) (done (enter_text b ∷ Consume ∷ []) T))
+data-ready : (b : Bool) (T : Tokenizer) → BreakReady T →
+    InsideReady (scratched (joined T.tokenize_state) (done (enter_text b ∷ []) T))
 unfolding scratched applied
-data-ready true T more k =
-    let after : TextReady (scratched (joined T.tokenize_state) (done (enter_text true ∷ Consume ∷ []) T)) = text-after (enter_text true ∷ Consume ∷ []) (joined T.tokenize_state) T more k.text (rest-joined T.tokenize_state k.text.resting) in
+data-ready true T k =
+    let after : TextReady (scratched (joined T.tokenize_state) (done (enter_text true ∷ []) T)) = text-after (enter_text true ∷ []) (joined T.tokenize_state) T (no-codes T) k.text (rest-joined T.tokenize_state k.text.resting) in
     record { text = record { short = after.short; resting = after.resting }; closer = k.closer; stand_open = ap (λ ns. N.Data ∷ ns) k.stand_open; connect = refl; linked = open-append T.events _ refl }
-data-ready false T more k =
-    let after : TextReady (scratched (joined T.tokenize_state) (done (enter_text false ∷ Consume ∷ []) T)) = text-after (enter_text false ∷ Consume ∷ []) (joined T.tokenize_state) T more k.text (rest-joined T.tokenize_state k.text.resting) in
+data-ready false T k =
+    let after : TextReady (scratched (joined T.tokenize_state) (done (enter_text false ∷ []) T)) = text-after (enter_text false ∷ []) (joined T.tokenize_state) T (no-codes T) k.text (rest-joined T.tokenize_state k.text.resting) in
     record { text = record { short = after.short; resting = after.resting }; closer = k.closer; stand_open = ap (λ ns. N.Data ∷ ns) k.stand_open; connect = refl; linked = open-append T.events _ refl }
+
+ended-ready : (T : Tokenizer) → next_is (is_value T.tokenize_state.marker) (ahead T) ≡ true → BreakReady T →
+    BeginReady (done (Exit T.tokenize_state.token_3 ∷ []) T)
+unfolding applied
+ended-ready T here k =
+    let after : TextReady (done (Exit T.tokenize_state.token_3 ∷ []) T) = text-kept (Exit T.tokenize_state.token_3 ∷ []) T (no-codes T) refl k.text in
+    record {
+      text = record { short = after.short; resting = after.resting };
+      closer = k.closer;
+      stand_open = open-second T.tokenize_state.token_3 T.tokenize_state.token_1 T.stack k.stand_open;
+      first = λ h. let no : true ≡ false = sym here ∙ h in cc;
+    }
 
 eol-ready : (c : Code) (cs : List Code) (T U : Tokenizer) → BreakReady T → Passed T.tokenize_state.connect c cs T U →
     AfterEolReady U
@@ -115,7 +128,47 @@ unfolding scratched
 joined-ready T k =
     record { text = record { short = k.text.short; resting = rest-joined T.tokenize_state k.text.resting }; closer = k.closer; stand_open = k.stand_open; linked = λ h. k.linked }
 
--- Tests.
+-- The ranks.
+
+begin-low : (o : Option ℕ) (T : Tokenizer) → begin_rank o T ≤ 13
+begin-low None T = omega arith
+begin-low (Some c) T =
+    elim (c == T.tokenize_state.marker) as (λ b. (if b then 9 else 13) ≤ 13) [ true ↦ omega arith | false ↦ omega arith ]
+
+break-low : (o : Option ℕ) (T : Tokenizer) → break_rank o T ≤ 12
+break-low None T = omega arith
+break-low (Some c) T =
+    elim (c == 10 || c == T.tokenize_state.marker) as (λ b. (if b then 10 else 12) ≤ 12) [ true ↦ omega arith | false ↦ omega arith ]
+
+break-high : (o : Option ℕ) (T : Tokenizer) → 10 ≤ break_rank o T
+break-high None T = omega arith
+break-high (Some c) T =
+    elim (c == 10 || c == T.tokenize_state.marker) as (λ b. 10 ≤ (if b then 10 else 12)) [ true ↦ omega arith | false ↦ omega arith ]
+
+-- behind a stretch
+rank-end : (T : Tokenizer) → current_of T ≡ None →
+    break_rank (current_of (done (Exit N.Data ∷ []) T)) (done (Exit N.Data ∷ []) T) ≡ 10
+unfolding applied
+rank-end T e = ap (λ o. break_rank o (done (Exit N.Data ∷ []) T)) e
+
+rank-stop : (T : Tokenizer) (c : ℕ) → current_of T ≡ Some c → c == 10 || c == T.tokenize_state.marker ≡ true →
+    break_rank (current_of (done (Exit N.Data ∷ []) T)) (done (Exit N.Data ∷ []) T) ≡ 10
+unfolding applied
+rank-stop T c e h = ap (λ o. break_rank o (done (Exit N.Data ∷ []) T)) e ∙ ap (λ b. if b then 10 else 12) h
+
+-- before one
+rank-goes : (T : Tokenizer) (c : ℕ) → current_of T ≡ Some c → (c == T.tokenize_state.marker) ≡ false → (c == 10) ≡ false →
+    break_rank (current_of T) T ≡ 12
+rank-goes T c e h g =
+    ap (λ o. break_rank o T) e ∙ ap (λ b. if b || c == T.tokenize_state.marker then 10 else 12) g ∙ ap (λ b. if b then 10 else 12) h
+
+-- at the closing marker
+rank-closes : (T : Tokenizer) (c : ℕ) → current_of T ≡ Some c → (c == T.tokenize_state.marker) ≡ true →
+    begin_rank (current_of (done (Exit T.tokenize_state.token_3 ∷ []) T)) (done (Exit T.tokenize_state.token_3 ∷ []) T) ≡ 9
+unfolding applied
+rank-closes T c e h = ap (λ o. begin_rank o (done (Exit T.tokenize_state.token_3 ∷ []) T)) e ∙ ap (λ b. if b then 9 else 13) h
+
+-- The laws.
 
 module _ (W : Words) (within : Within states_and_called W) where
   pub nok-law : Law W nok_words
@@ -131,7 +184,8 @@ module _ (W : Words) (within : Within states_and_called W) where
   after_eol-law T alone k =
       let s : TokenizeState = T.tokenize_state in
       let q : Plan = break_plan s.marker (names_in s) true in
-      Goes-on W 10 2 q q [] (rested s) (joined s) T (Retry TitleAtBreak) (within TitleAtBreak) alone refl (no-codes T) (omega arith)
+      let V : Tokenizer = scratched (joined s) T in
+      Goes-on W 13 2 q q [] (rested s) (joined s) T (Retry TitleAtBreak) (within TitleAtBreak) alone refl (no-codes T) (omega (arith, break-low (current_of V) V))
       (preceded-nil (q (ahead T)))
       (joined-ready T k)
       (λ ok U x. eol-says T ok U x)
@@ -141,30 +195,31 @@ module _ (W : Words) (within : Within states_and_called W) where
   -- on past a code that passes
   goes-inside : (T : Tokenizer) → T.attempts ≡ [] → InsideReady T → (c : ℕ) → current_of T ≡ Some c →
       inside_plan T.tokenize_state.marker (names_in T.tokenize_state) false (ahead T) ≡ preceded (Consume ∷ []) (inside_plan T.tokenize_state.marker (names_in T.tokenize_state) (c == 92) (drop 1 (ahead T))) →
-      GoesIn W (weight_at 10 T) (inside_ends T) (passing c T)
+      GoesIn W (weight_at 11 T) (inside_ends T) (passing c T)
   unfolding applied
   goes-inside T alone k c h same =
       let s : TokenizeState = T.tokenize_state in
       let q : Bool → Plan = inside_plan s.marker (names_in s) in
       let V : Tokenizer = done (Consume ∷ []) T in
-      state-by (λ st. GoesIn W (weight_at 10 T) (inside_ends T) (stepped st V)) (c == 92) (Next TitleEscape) (Next TitleInside)
-      (λ f. Goes-kept W 10 3 (q false) (q true) (Consume ∷ []) (rested s) T (Next TitleEscape) (within TitleEscape) alone refl (some-codes T c h) (omega arith)
+      state-by (λ st. GoesIn W (weight_at 11 T) (inside_ends T) (stepped st V)) (c == 92) (Next TitleEscape) (Next TitleInside)
+      (λ f. Goes-kept W 11 3 (q false) (q true) (Consume ∷ []) (rested s) T (Next TitleEscape) (within TitleEscape) alone refl (some-codes T c h) (omega arith)
       (same ∙ ap (λ b. preceded (Consume ∷ []) (q b (drop 1 (ahead T)))) f)
       (passed-ready T (some-codes T c h) k)
       (λ ok U x. x))
-      (λ f. Goes-kept W 10 3 (q false) (q false) (Consume ∷ []) (rested s) T (Next TitleInside) (within TitleInside) alone refl (some-codes T c h) (omega arith)
+      (λ f. Goes-kept W 11 3 (q false) (q false) (Consume ∷ []) (rested s) T (Next TitleInside) (within TitleInside) alone refl (some-codes T c h) (omega arith)
       (same ∙ ap (λ b. preceded (Consume ∷ []) (q b (drop 1 (ahead T)))) f)
       (passed-ready T (some-codes T c h) k)
       (λ ok U x. x))
 
   goes-leave : (T : Tokenizer) → T.attempts ≡ [] → InsideReady T →
+      break_rank (current_of (done (Exit N.Data ∷ []) T)) (done (Exit N.Data ∷ []) T) ≡ 10 →
       inside_plan T.tokenize_state.marker (names_in T.tokenize_state) false (ahead T) ≡ preceded (Exit N.Data ∷ []) (break_plan T.tokenize_state.marker (names_in T.tokenize_state) true (ahead T)) →
-      GoesIn W (weight_at 10 T) (inside_ends T) (leaving T)
+      GoesIn W (weight_at 11 T) (inside_ends T) (leaving T)
   unfolding applied
-  goes-leave T alone k same =
+  goes-leave T alone k low same =
       let s : TokenizeState = T.tokenize_state in
       let q : Plan = break_plan s.marker (names_in s) s.connect in
-      Goes-kept W 10 3 (inside_plan s.marker (names_in s) false) q (Exit N.Data ∷ []) (rested s) T (Retry TitleAtBreak) (within TitleAtBreak) alone refl (no-codes T) (omega arith)
+      Goes-kept W 11 3 (inside_plan s.marker (names_in s) false) q (Exit N.Data ∷ []) (rested s) T (Retry TitleAtBreak) (within TitleAtBreak) alone refl (no-codes T) (omega (arith, low))
       (same ∙ ap (λ b. preceded (Exit N.Data ∷ []) (break_plan s.marker (names_in s) b (ahead T))) (sym k.connect))
       (left-ready T k)
       (λ ok U x. x)
@@ -176,15 +231,15 @@ module _ (W : Words) (within : Within states_and_called W) where
       let names : StringNames = names_in s in
       let takes : Code → Bool = is_among (92 ∷ m ∷ []) in
       let p : Plan = inside_plan m names false in
-      let P : Stepped → Type 0 = GoesIn W (weight_at 10 T) (inside_ends T) in
+      let P : Stepped → Type 0 = GoesIn W (weight_at 11 T) (inside_ends T) in
       let here : List Code → Type 0 = λ xs. p xs ≡ preceded (Exit N.Data ∷ []) (break_plan m names true xs) in
       code-step P (current_of T) (λ o. inside_at o T)
-      (λ e. goes-leave T alone k (subst here (sym (ahead-none T e)) (leave-end (is_value m) takes (λ x. false) (title-plain m k.closer) (ending names) (ends_filled true))))
+      (λ e. goes-leave T alone k (rank-end T e) (subst here (sym (ahead-none T e)) (leave-end (is_value m) takes (λ x. false) (title-plain m k.closer) (ending names) (ends_filled true))))
       (λ c e.
       let b : Begins c (ahead T) = ahead-some T c e in
       let cs : List Code = rest_of (ahead T) in
       if-step P (c == 10 || c == m) _ _
-      (λ h. goes-leave T alone k (subst here (sym b.whole) (or-by (c == 10) (c == m) h
+      (λ h. goes-leave T alone k (rank-stop T c e h) (subst here (sym b.whole) (or-by (c == 10) (c == m) h
       (λ g. leave-ending (is_value m) takes (λ x. false) (title-plain m k.closer) (ending names) (ends_filled true) b.code cs (ap (λ v. v == 10) b.value ∙ g))
       (λ g. leave-stop (is_value m) takes (λ x. false) (title-plain m k.closer) (ending names) (ends_filled true) b.code cs (ap (λ v. v == m) b.value ∙ g)))))
       (λ h.
@@ -194,11 +249,11 @@ module _ (W : Words) (within : Within states_and_called W) where
 
   escape-goes : (T : Tokenizer) → T.attempts ≡ [] → InsideReady T →
       inside_plan T.tokenize_state.marker (names_in T.tokenize_state) true (ahead T) ≡ inside_plan T.tokenize_state.marker (names_in T.tokenize_state) false (ahead T) →
-      GoesIn W (weight_at 11 T) (escape_ends T) (stepped (Retry TitleInside) T)
+      GoesIn W (weight_at 12 T) (escape_ends T) (stepped (Retry TitleInside) T)
   escape-goes T alone k same =
       let s : TokenizeState = T.tokenize_state in
       let q : Bool → Plan = inside_plan s.marker (names_in s) in
-      Goes-kept W 11 3 (q true) (q false) [] (rested s) T (Retry TitleInside) (within TitleInside) alone refl (no-codes T) (omega arith)
+      Goes-kept W 12 3 (q true) (q false) [] (rested s) T (Retry TitleInside) (within TitleInside) alone refl (no-codes T) (omega arith)
       (same ∙ preceded-nil (q false (ahead T)))
       k
       (λ ok U x. x)
@@ -211,7 +266,7 @@ module _ (W : Words) (within : Within states_and_called W) where
       let names : StringNames = names_in s in
       let takes : Code → Bool = is_among (92 ∷ m ∷ []) in
       let q : Bool → Plan = inside_plan m names in
-      let P : Stepped → Type 0 = GoesIn W (weight_at 11 T) (escape_ends T) in
+      let P : Stepped → Type 0 = GoesIn W (weight_at 12 T) (escape_ends T) in
       let same : List Code → Type 0 = λ xs. q true xs ≡ q false xs in
       code-step P (current_of T) (λ o. escape_at o T)
       (λ e. escape-goes T alone k (subst same (sym (ahead-none T e)) (insides-end (is_value m) takes (λ x. false) (title-plain m k.closer) (ending names) (ends_filled true) true ∙ sym (insides-end (is_value m) takes (λ x. false) (title-plain m k.closer) (ending names) (ends_filled true) false))))
@@ -220,7 +275,7 @@ module _ (W : Words) (within : Within states_and_called W) where
       let cs : List Code = rest_of (ahead T) in
       let line : escapes c ≡ true → is_line_ending b.code ≡ false = λ h. escapes-line b.code.value (ap escapes b.value ∙ h) in
       if-step P (escapes c) _ _
-      (λ h. Goes-kept W 11 3 (q true) (q false) (Consume ∷ []) (rested s) T (Next TitleInside) (within TitleInside) alone refl (some-codes T c e) (omega arith)
+      (λ h. Goes-kept W 12 3 (q true) (q false) (Consume ∷ []) (rested s) T (Next TitleInside) (within TitleInside) alone refl (some-codes T c e) (omega arith)
       (ap (q true) b.whole ∙ (elim (takes b.code) as (λ z. takes b.code ≡ z → q true (b.code ∷ cs) ≡ preceded (Consume ∷ []) (q false cs)) [
         | true ↦ λ t. insides-taken (is_value m) takes (λ x. false) (title-plain m k.closer) (ending names) (ends_filled true) (ends_filled true) b.code cs t (line h) (λ text. filled-data b.code text (line h))
         | false ↦ λ t.
@@ -240,52 +295,54 @@ module _ (W : Words) (within : Within states_and_called W) where
   nok-says T e ok U x =
       DoesAs-fails 2 (break_plan T.tokenize_state.marker (names_in T.tokenize_state) T.tokenize_state.connect) (rested T.tokenize_state) T e ok U x
 
-  nok-goes : (T : Tokenizer) →
+  nok-goes : (n : ℕ) → 10 ≤ n → (T : Tokenizer) →
       break_plan T.tokenize_state.marker (names_in T.tokenize_state) T.tokenize_state.connect (ahead T) ≡ None →
-      FollowsIn W (weight_at 9 T) (at_break_ends T) (Next TitleNok) T
-  nok-goes T e = follows W _ _ (Next TitleNok) (within TitleNok) T tt (omega arith) (nok-says T e)
+      FollowsIn W (weight_at n T) (at_break_ends T) (Next TitleNok) T
+  nok-goes n high T e = follows W _ _ (Next TitleNok) (within TitleNok) T tt (omega (arith, high)) (nok-says T e)
 
   inside-says : (b : Bool) (T : Tokenizer) (ok : Bool) (U : Tokenizer) →
-      inside_ends (scratched (joined T.tokenize_state) (done (enter_text b ∷ Consume ∷ []) T)) ok U →
-      DoesAs 3 (inside_plan T.tokenize_state.marker (names_in T.tokenize_state) false) (rested T.tokenize_state) (scratched (joined T.tokenize_state) (done (enter_text b ∷ Consume ∷ []) T)) ok U
+      inside_ends (scratched (joined T.tokenize_state) (done (enter_text b ∷ []) T)) ok U →
+      DoesAs 3 (inside_plan T.tokenize_state.marker (names_in T.tokenize_state) false) (rested T.tokenize_state) (scratched (joined T.tokenize_state) (done (enter_text b ∷ []) T)) ok U
   unfolding scratched
   inside-says b T ok U k = k
 
-  escape-says : (b : Bool) (T : Tokenizer) (ok : Bool) (U : Tokenizer) →
-      escape_ends (scratched (joined T.tokenize_state) (done (enter_text b ∷ Consume ∷ []) T)) ok U →
-      DoesAs 3 (inside_plan T.tokenize_state.marker (names_in T.tokenize_state) true) (rested T.tokenize_state) (scratched (joined T.tokenize_state) (done (enter_text b ∷ Consume ∷ []) T)) ok U
-  unfolding scratched
-  escape-says b T ok U k = k
-
   -- data begins
-  data-goes : (T : Tokenizer) → T.attempts ≡ [] → BreakReady T → (c : ℕ) → current_of T ≡ Some c →
-      break_plan T.tokenize_state.marker (names_in T.tokenize_state) T.tokenize_state.connect (ahead T) ≡ preceded (enter_text T.tokenize_state.connect ∷ Consume ∷ []) (inside_plan T.tokenize_state.marker (names_in T.tokenize_state) (c == 92) (drop 1 (ahead T))) →
-      GoesIn W (weight_at 9 T) (at_break_ends T) (passing c (text_entered T))
-  data-goes T alone k c e same =
+  data-goes : (n : ℕ) → n ≡ 12 → (T : Tokenizer) → T.attempts ≡ [] → BreakReady T →
+      break_plan T.tokenize_state.marker (names_in T.tokenize_state) T.tokenize_state.connect (ahead T) ≡ preceded (enter_text T.tokenize_state.connect ∷ []) (inside_plan T.tokenize_state.marker (names_in T.tokenize_state) false (ahead T)) →
+      GoesIn W (weight_at n T) (at_break_ends T) (stepped (Retry TitleInside) (text_entered T))
+  data-goes n high T alone k same =
       let s : TokenizeState = T.tokenize_state in
       let connect : Bool = s.connect in
-      let os : List Op = enter_text connect ∷ Consume ∷ [] in
+      let os : List Op = enter_text connect ∷ [] in
       let p : Plan = break_plan s.marker (names_in s) connect in
-      let q : Bool → Plan = inside_plan s.marker (names_in s) in
-      let more : 1 ≤ length (ahead T) = some-codes T c e in
-      let V : Tokenizer = scratched (joined s) (done os T) in
-      let there : V ≡ done (Consume ∷ []) (text_entered T) = sym (done-scratched (Consume ∷ []) (joined s) (done (enter_text connect ∷ []) T)) in
-      subst (λ (x : Tokenizer). GoesIn W (weight_at 9 T) (at_break_ends T) (stepped (next_state c) x)) there
-      (state-by (λ st. GoesIn W (weight_at 9 T) (at_break_ends T) (stepped st V)) (c == 92) (Next TitleEscape) (Next TitleInside)
-      (λ f. Goes-on W 9 2 p (q true) os (rested s) (joined s) T (Next TitleEscape) (within TitleEscape) alone (stays-data connect) (moves-data connect (λ n. n ≤ length (ahead T)) more) (moves-data connect (λ n. 11 < 256 * n + 9) (omega arith))
-      (same ∙ ap (λ b. preceded os (q b (drop 1 (ahead T)))) f ∙ moves-data connect (λ n. preceded os (q true (drop 1 (ahead T))) ≡ preceded os (q true (drop n (ahead T)))) refl)
-      (data-ready connect T more k)
-      (λ ok U x. depth-data connect (λ d. DoesAs d (q true) (rested s) V ok U) (escape-says connect T ok U x)))
-      (λ f. Goes-on W 9 2 p (q false) os (rested s) (joined s) T (Next TitleInside) (within TitleInside) alone (stays-data connect) (moves-data connect (λ n. n ≤ length (ahead T)) more) (moves-data connect (λ n. 10 < 256 * n + 9) (omega arith))
-      (same ∙ ap (λ b. preceded os (q b (drop 1 (ahead T)))) f ∙ moves-data connect (λ n. preceded os (q false (drop 1 (ahead T))) ≡ preceded os (q false (drop n (ahead T)))) refl)
-      (data-ready connect T more k)
-      (λ ok U x. depth-data connect (λ d. DoesAs d (q false) (rested s) V ok U) (inside-says connect T ok U x))))
+      let q : Plan = inside_plan s.marker (names_in s) false in
+      let V : Tokenizer = text_entered T in
+      let none : moves os ≡ 0 = moves-data connect in
+      Goes-on W n 2 p q os (rested s) (joined s) T (Retry TitleInside) (within TitleInside) alone (stays-data connect) (omega (arith, none)) (omega (arith, none, high))
+      (same ∙ ap (λ m. preceded os (q (drop m (ahead T)))) (sym none))
+      (data-ready connect T k)
+      (λ ok U x. depth-data connect (λ d. DoesAs d q (rested s) V ok U) (inside-says connect T ok U x))
+
+  -- the text ends
+  ends-goes : (n : ℕ) → 10 ≤ n → (T : Tokenizer) → T.attempts ≡ [] → BreakReady T → (c : ℕ) → current_of T ≡ Some c →
+      (c == T.tokenize_state.marker) ≡ true → next_is (is_value T.tokenize_state.marker) (ahead T) ≡ true →
+      break_plan T.tokenize_state.marker (names_in T.tokenize_state) T.tokenize_state.connect (ahead T) ≡ Some (ending (names_in T.tokenize_state)) →
+      GoesIn W (weight_at n T) (at_break_ends T) (stepped (Retry TitleBegin) (done (Exit T.tokenize_state.token_3 ∷ []) T))
+  unfolding applied
+  ends-goes n high T alone k c e h here same =
+      let s : TokenizeState = T.tokenize_state in
+      let names : StringNames = names_in s in
+      let os : List Op = Exit s.token_3 ∷ [] in
+      Goes-kept W n 2 (break_plan s.marker names s.connect) (begin_plan s.marker names) os (rested s) T (Retry TitleBegin) (within TitleBegin) alone refl (no-codes T) (omega (arith, high, rank-closes T c e h))
+      (same ∙ ap (preceded os) (sym (if-true (next_is (is_value s.marker) (ahead T)) (Some (closing names)) (preceded (Enter names.text ∷ []) (break_plan s.marker names false (ahead T))) here)))
+      (ended-ready T here k)
+      (λ ok U x. x)
 
   -- behind a line ending and blank codes
-  eol-goes : (T : Tokenizer) → BreakReady T → (c : Code) (cs : List Code) → ahead T ≡ c ∷ cs → is_line_ending c ≡ true →
+  eol-goes : (n : ℕ) (T : Tokenizer) → BreakReady T → (c : Code) (cs : List Code) → ahead T ≡ c ∷ cs → is_line_ending c ≡ true →
       (U : Tokenizer) → Passed T.tokenize_state.connect c cs T U →
-      FollowsIn W (weight_at 9 T) (at_break_ends T) (Next TitleAfterEol) U
-  eol-goes T k c cs whole line U j =
+      FollowsIn W (weight_at n T) (at_break_ends T) (Next TitleAfterEol) U
+  eol-goes n T k c cs whole line U j =
       let s : TokenizeState = T.tokenize_state in
       let m : ℕ = s.marker in
       let names : StringNames = names_in s in
@@ -304,40 +361,47 @@ module _ (W : Words) (within : Within states_and_called W) where
       let connect : Bool = s.connect in
       let takes : Code → Bool = is_among (92 ∷ m ∷ []) in
       let p : Plan = break_plan m names connect in
-      let P : Stepped → Type 0 = GoesIn W (weight_at 9 T) (at_break_ends T) in
+      let n : ℕ = break_rank (current_of T) T in
+      let high : 10 ≤ n = break-high (current_of T) T in
+      let P : Stepped → Type 0 = GoesIn W (weight_at n T) (at_break_ends T) in
       code-step P (current_of T) (λ o. at_break_at o T)
-      (λ e. Goes-plain W (weight_at 9 T) (at_break_ends T) (Retry TitleNok) (within TitleNok) T alone tt (omega arith)
+      (λ e. Goes-plain W (weight_at n T) (at_break_ends T) (Retry TitleNok) (within TitleNok) T alone tt (omega (arith, high))
       (nok-says T (ap p (ahead-none T e) ∙ breaks-end (is_value m) takes (λ x. false) (title-plain m k.closer) (ending names) (ends_filled true) connect)))
       (λ c e.
       let b : Begins c (ahead T) = ahead-some T c e in
       let cs : List Code = rest_of (ahead T) in
       if-step P (c == m) _ _
-      (λ h. Goes-ok W 9 2 p (ending names) (rested s) T alone
+      (λ h. ends-goes n high T alone k c e h (ap (next_is (is_value m)) b.whole ∙ ap (λ v. v == m) b.value ∙ h)
       (ap p b.whole ∙ breaks-stop (is_value m) takes (λ x. false) (title-plain m k.closer) (ending names) (ends_filled true) connect b.code cs (ap (λ v. v == m) b.value ∙ h) refl))
       (λ h. if-step P (c == 10) _ _
       (λ g.
       let line : is_line_ending b.code ≡ true = ap (λ v. v == 10) b.value ∙ g in
-      ending-law W (within SpaceOrTabEolStart) (weight_at 9 T) (at_break_ends T) TitleAfterEol TitleNok T c b alone k.text k.linked line (omega arith) (
-        λ U now j. eol-goes T k b.code cs b.whole line U j,
-        λ u. nok-goes T (ap p b.whole ∙ breaks-blank (is_value m) takes (λ x. false) (title-plain m k.closer) (ending names) (ends_filled true) connect b.code cs line u (λ ws d text w l. filled-none b.code ws d text line w l)),
+      ending-law W (within SpaceOrTabEolStart) (weight_at n T) (at_break_ends T) TitleAfterEol TitleNok T c b alone k.text k.linked line (omega (arith, high)) (
+        λ U now j. eol-goes n T k b.code cs b.whole line U j,
+        λ u. nok-goes n high T (ap p b.whole ∙ breaks-blank (is_value m) takes (λ x. false) (title-plain m k.closer) (ending names) (ends_filled true) connect b.code cs line u (λ ws d text w l. filled-none b.code ws d text line w l)),
       ))
       (λ g.
       let line : is_line_ending b.code ≡ false = ap (λ v. v == 10) b.value ∙ g in
-      data-goes T alone k c e
-      (ap p b.whole ∙ breaks-data (is_value m) takes (λ x. false) (title-plain m k.closer) (ending names) (ends_filled true) (ends_filled true) connect (c == 92) b.code cs (ap (λ v. v == m) b.value ∙ h) refl line (ap (λ v. v == 92) b.value) (λ text. filled-data b.code text line)))))
+      let stop : (b.code.value == m) ≡ false = ap (λ v. v == m) b.value ∙ h in
+      let q : Bool → Plan = inside_plan m names in
+      data-goes n (rank-goes T c e h g) T alone k
+      (ap p b.whole ∙ breaks-data (is_value m) takes (λ x. false) (title-plain m k.closer) (ending names) (ends_filled true) (ends_filled true) connect (c == 92) b.code cs stop refl line (ap (λ v. v == 92) b.value) (λ text. filled-data b.code text line)
+      ∙ preceded-twice (enter_text connect ∷ []) (Consume ∷ []) (q (c == 92) cs)
+      ∙ ap (preceded (enter_text connect ∷ [])) (sym (ap (q false) b.whole ∙ insides-next (is_value m) takes (λ x. false) (title-plain m k.closer) (ending names) (ends_filled true) (ends_filled true) (c == 92) b.code cs stop refl line (ap (λ v. v == 92) b.value) (λ text. filled-data b.code text line)))))))
 
   -- From the start.
 
-  begin-goes : (T : Tokenizer) → T.attempts ≡ [] → BeginReady T →
+  begin-goes : (n : ℕ) → n ≡ 13 → (T : Tokenizer) → T.attempts ≡ [] → BeginReady T →
       next_is (is_value T.tokenize_state.marker) (ahead T) ≡ false →
-      GoesIn W (weight_at 10 T) (begin_ends T) (beginning T)
+      GoesIn W (weight_at n T) (begin_ends T) (beginning T)
   unfolding applied
-  begin-goes T alone k h =
+  begin-goes n high T alone k h =
       let s : TokenizeState = T.tokenize_state in
       let names : StringNames = names_in s in
-      Goes-kept W 10 1 (begin_plan s.marker names) (break_plan s.marker names s.connect) (Enter names.text ∷ []) (rested s) T (Retry TitleAtBreak) (within TitleAtBreak) alone refl (no-codes T) (omega arith)
-      (if-false _ _ _ h ∙ ap (λ b. preceded (Enter names.text ∷ []) (break_plan s.marker names b (ahead T))) (sym k.first))
-      (entered-ready T k)
+      let V : Tokenizer = done (Enter names.text ∷ []) T in
+      Goes-kept W n 1 (begin_plan s.marker names) (break_plan s.marker names s.connect) (Enter names.text ∷ []) (rested s) T (Retry TitleAtBreak) (within TitleAtBreak) alone refl (no-codes T) (omega (arith, high, break-low (current_of V) V))
+      (if-false _ _ _ h ∙ ap (λ b. preceded (Enter names.text ∷ []) (break_plan s.marker names b (ahead T))) (sym (k.first h)))
+      (entered-ready T k h)
       (λ ok U x. x)
 
   pub begin-law : Law W begin_words
@@ -345,15 +409,16 @@ module _ (W : Words) (within : Within states_and_called W) where
       let s : TokenizeState = T.tokenize_state in
       let m : ℕ = s.marker in
       let names : StringNames = names_in s in
-      let P : Stepped → Type 0 = GoesIn W (weight_at 10 T) (begin_ends T) in
+      let n : ℕ = begin_rank (current_of T) T in
+      let P : Stepped → Type 0 = GoesIn W (weight_at n T) (begin_ends T) in
       code-step P (current_of T) (λ o. begin_at o T)
-      (λ e. begin-goes T alone k (ap (next_is (is_value m)) (ahead-none T e)))
+      (λ e. begin-goes n (ap (λ o. begin_rank o T) e) T alone k (ap (next_is (is_value m)) (ahead-none T e)))
       (λ c e.
       let b : Begins c (ahead T) = ahead-some T c e in
       let here : next_is (is_value m) (ahead T) ≡ (c == m) = ap (next_is (is_value m)) b.whole ∙ ap (λ v. v == m) b.value in
       if-step P (c == m) _ _
-      (λ h. Goes-ok W 10 1 (begin_plan m names) (closing names) (rested s) T alone (if-true _ _ _ (here ∙ h)))
-      (λ h. begin-goes T alone k (here ∙ h)))
+      (λ h. Goes-ok W n 1 (begin_plan m names) (closing names) (rested s) T alone (if-true _ _ _ (here ∙ h)))
+      (λ h. begin-goes n (ap (λ o. begin_rank o T) e ∙ ap (λ b. if b then 9 else 13) h) T alone k (here ∙ h)))
 
   begin-says : (m : ℕ) (T : Tokenizer) → rested T.tokenize_state ≡ T.tokenize_state → (ok : Bool) (U : Tokenizer) →
       begin_ends (scratched (begun m T.tokenize_state) (done (opening (names_in T.tokenize_state)) T)) ok U →
@@ -368,7 +433,8 @@ module _ (W : Words) (within : Within states_and_called W) where
   opens m T alone k more h same =
       let s : TokenizeState = T.tokenize_state in
       let names : StringNames = names_in s in
-      Goes-on W 11 0 (plan_of (title names)) (begin_plan m names) (opening names) s (begun m s) T (Next TitleBegin) (within TitleBegin) alone refl more (omega arith)
+      let V : Tokenizer = scratched (begun m s) (done (opening names) T) in
+      Goes-on W 11 0 (plan_of (title names)) (begin_plan m names) (opening names) s (begun m s) T (Next TitleBegin) (within TitleBegin) alone refl more (omega (arith, begin-low (current_of V) V))
       same
       (begun-ready m T more h k)
       (λ ok U x. begin-says m T k.rest ok U x)

@@ -53,9 +53,12 @@ text_opening names = Enter names.text ∷ EnterLink N.Data Content.String ∷ []
 abbrev pub closing : DestinationNames → List Op
 closing names = Enter names.marker ∷ Consume ∷ Exit names.marker ∷ Exit names.literal ∷ Exit names.whole ∷ []
 
+abbrev pub leaving : DestinationNames → List Op
+leaving names = Exit N.Data ∷ Exit names.text ∷ []
+
 -- after the text between the brackets
 abbrev pub ending : DestinationNames → List Op
-ending names = Exit N.Data ∷ Exit names.text ∷ closing names
+ending names = leaving names ++ closing names
 
 abbrev pub raw_ending : DestinationNames → List Op
 raw_ending names = Exit N.Data ∷ Exit names.text ∷ Exit names.raw ∷ Exit names.whole ∷ []
@@ -86,7 +89,7 @@ enclosed_before_step T = enclosed_before_at (current_of T) T
 abbrev pub enclosed_at : Option ℕ → Tokenizer → Stepped
 enclosed_at None T = stepped Nok T
 enclosed_at (Some c) T =
-    if c == byte ">" then stepped State.Ok (done (ending (names_in T.tokenize_state)) T)
+    if c == byte ">" then stepped (Retry DestinationEnclosedBefore) (done (leaving (names_in T.tokenize_state)) T)
     else (if c == byte "<" || c == byte "\n" then stepped Nok T
     else (if c == byte "\\" then stepped (Next DestinationEnclosedEscape) (done (Consume ∷ []) T)
     else stepped (Next DestinationEnclosed) (done (Consume ∷ []) T)))
@@ -230,23 +233,29 @@ raw_escape_ends T ok U =
 
 -- The states.
 
+-- at the closing bracket the text ends, and elsewhere it goes on
+abbrev pub before_rank : Option ℕ → ℕ
+before_rank None = 3
+before_rank (Some c) = if c == byte ">" then 1 else 3
+
 abbrev pub start_words : StateWords
-start_words = record { ready = StartReady; step = start_step; ends = start_ends; rank = 4 }
+start_words = record { ready = StartReady; step = start_step; ends = start_ends; rank = λ T. 4 }
 
 abbrev pub enclosed_before_words : StateWords
-enclosed_before_words = record { ready = BeforeReady; step = enclosed_before_step; ends = enclosed_before_ends; rank = 3 }
+enclosed_before_words =
+    record { ready = BeforeReady; step = enclosed_before_step; ends = enclosed_before_ends; rank = λ T. before_rank (current_of T) }
 
 abbrev pub enclosed_words : StateWords
-enclosed_words = record { ready = EnclosedReady; step = enclosed_step; ends = enclosed_ends; rank = 1 }
+enclosed_words = record { ready = EnclosedReady; step = enclosed_step; ends = enclosed_ends; rank = λ T. 2 }
 
 abbrev pub enclosed_escape_words : StateWords
-enclosed_escape_words = record { ready = EnclosedReady; step = enclosed_escape_step; ends = enclosed_escape_ends; rank = 2 }
+enclosed_escape_words = record { ready = EnclosedReady; step = enclosed_escape_step; ends = enclosed_escape_ends; rank = λ T. 3 }
 
 abbrev pub raw_words : StateWords
-raw_words = record { ready = RawReady; step = raw_step; ends = raw_ends; rank = 1 }
+raw_words = record { ready = RawReady; step = raw_step; ends = raw_ends; rank = λ T. 1 }
 
 abbrev pub raw_escape_words : StateWords
-raw_escape_words = record { ready = RawReady; step = raw_escape_step; ends = raw_escape_ends; rank = 2 }
+raw_escape_words = record { ready = RawReady; step = raw_escape_step; ends = raw_escape_ends; rank = λ T. 2 }
 
 -- a part of what is said of these states, and of any other as it is given
 abbrev pub said {ℓ} : {A : Type ℓ} → (StateWords → A) → (StateName → A) → StateName → A

@@ -67,7 +67,7 @@ at_break_at (Some c) T =
     if not (c == byte "[") && is_short T
     then (if c == byte "]" then (if T.tokenize_state.seen then closed T else refused T)
     else (if c == byte "\n" then stepped (Retry SpaceOrTabEolStart) (attempted false (Next LabelEolAfter) (Next LabelNok) (scratched (eol_asked_for T.tokenize_state) T))
-    else passing c (text_entered T)))
+    else stepped (Retry LabelInside) (text_entered T)))
     else refused T
 
 abbrev pub at_break_step : Tokenizer → Stepped
@@ -181,23 +181,28 @@ escape_ends T ok U =
 
 -- The states.
 
+-- before the text goes on, and behind it
+abbrev pub break_rank : Option ℕ → Tokenizer → ℕ
+break_rank None T = 9
+break_rank (Some c) T = if not (c == byte "\n" || (c == byte "[" || c == byte "]")) && is_short T then 11 else 9
+
 abbrev pub start_words : StateWords
-start_words = record { ready = StartReady; step = start_step; ends = start_ends; rank = 11 }
+start_words = record { ready = StartReady; step = start_step; ends = start_ends; rank = λ T. 11 }
 
 abbrev pub at_break_words : StateWords
-at_break_words = record { ready = BreakReady; step = at_break_step; ends = at_break_ends; rank = 9 }
+at_break_words = record { ready = BreakReady; step = at_break_step; ends = at_break_ends; rank = λ T. break_rank (current_of T) T }
 
 abbrev pub eol_after_words : StateWords
-eol_after_words = record { ready = EolAfterReady; step = eol_after_step; ends = eol_after_ends; rank = 10 }
+eol_after_words = record { ready = EolAfterReady; step = eol_after_step; ends = eol_after_ends; rank = λ T. 12 }
 
 abbrev pub inside_words : StateWords
-inside_words = record { ready = InsideReady; step = inside_step; ends = inside_ends; rank = 10 }
+inside_words = record { ready = InsideReady; step = inside_step; ends = inside_ends; rank = λ T. 10 }
 
 abbrev pub escape_words : StateWords
-escape_words = record { ready = EscapeReady; step = escape_step; ends = escape_ends; rank = 11 }
+escape_words = record { ready = EscapeReady; step = escape_step; ends = escape_ends; rank = λ T. 11 }
 
 abbrev pub nok_words : StateWords
-nok_words = record { ready = λ T. Unit {0}; step = nok_step; ends = nok_ends; rank = 1 }
+nok_words = record { ready = λ T. Unit {0}; step = nok_step; ends = nok_ends; rank = λ T. 1 }
 
 -- a part of what is said of these states, and of any other as it is given
 abbrev pub said {ℓ} : {A : Type ℓ} → (StateWords → A) → (StateName → A) → StateName → A

@@ -1,7 +1,7 @@
 -- What the states of a title do, and how runs from them end.
 use Rattle.std.specs.Prelude.{◌≡◌, ℕ, Bool, true, false, ◌||◌, ◌==◌, if◌then◌else◌, codes, Option, Some, None, List, [], ◌∷◌, drop}
 use Rattle.markdown_engine_content.specs.Codes.{Code}
-use Rattle.markdown_engine.specs.Operations.{Op, Enter, Exit, Consume, IsOpen, LinkedBefore, attempted, done, current_of, scratched}
+use Rattle.markdown_engine.specs.Operations.{Op, Enter, Exit, Consume, IsOpen, LinkedBefore, ahead, attempted, done, current_of, scratched}
 use Rattle.markdown_engine.specs.PastTree.{EndsAs}
 use Rattle.markdown_engine.specs.StateRuns.{Stepped, stepped}
 use Rattle.markdown_engine_content.specs.declared.event.Name.TheVariants as N
@@ -73,9 +73,9 @@ passing c T = stepped (next_state c) (done (Consume ∷ []) T)
 abbrev pub at_break_at : Option ℕ → Tokenizer → Stepped
 at_break_at None T = stepped (Retry TitleNok) T
 at_break_at (Some c) T =
-    if c == T.tokenize_state.marker then stepped Ok (scratched (rested T.tokenize_state) (done (ending (names_in T.tokenize_state)) T))
+    if c == T.tokenize_state.marker then stepped (Retry TitleBegin) (done (Exit T.tokenize_state.token_3 ∷ []) T)
     else (if c == byte "\n" then stepped (Retry SpaceOrTabEolStart) (attempted false (Next TitleAfterEol) (Next TitleNok) (scratched (eol_asked_for T.tokenize_state) T))
-    else passing c (text_entered T))
+    else stepped (Retry TitleInside) (text_entered T))
 
 abbrev pub at_break_step : Tokenizer → Stepped
 at_break_step T = at_break_at (current_of T) T
@@ -126,11 +126,12 @@ pub record StartReady (T : Tokenizer) : Type 0 where
   pub text : TextReady T
   pub rest : rested T.tokenize_state ≡ T.tokenize_state
 
+-- at a closing marker, or where no stretch of the text comes before
 pub record BeginReady (T : Tokenizer) : Type 0 where
   pub text : TextReady T
   pub closer : is_closer T.tokenize_state.marker ≡ true
   pub stand_open : IsOpen T.tokenize_state.token_1 T
-  pub first : T.tokenize_state.connect ≡ false
+  pub first : next_is (is_value T.tokenize_state.marker) (ahead T) ≡ false → T.tokenize_state.connect ≡ false
 
 pub record BreakReady (T : Tokenizer) : Type 0 where
   pub text : TextReady T
@@ -204,26 +205,35 @@ escape_ends T ok U =
 
 -- The states.
 
+-- at the closing marker the text ends, and elsewhere it goes on
+abbrev pub begin_rank : Option ℕ → Tokenizer → ℕ
+begin_rank None T = 13
+begin_rank (Some c) T = if c == T.tokenize_state.marker then 9 else 13
+
+abbrev pub break_rank : Option ℕ → Tokenizer → ℕ
+break_rank None T = 10
+break_rank (Some c) T = if c == byte "\n" || c == T.tokenize_state.marker then 10 else 12
+
 abbrev pub start_words : StateWords
-start_words = record { ready = StartReady; step = start_step; ends = start_ends; rank = 11 }
+start_words = record { ready = StartReady; step = start_step; ends = start_ends; rank = λ T. 11 }
 
 abbrev pub begin_words : StateWords
-begin_words = record { ready = BeginReady; step = begin_step; ends = begin_ends; rank = 10 }
+begin_words = record { ready = BeginReady; step = begin_step; ends = begin_ends; rank = λ T. begin_rank (current_of T) T }
 
 abbrev pub at_break_words : StateWords
-at_break_words = record { ready = BreakReady; step = at_break_step; ends = at_break_ends; rank = 9 }
+at_break_words = record { ready = BreakReady; step = at_break_step; ends = at_break_ends; rank = λ T. break_rank (current_of T) T }
 
 abbrev pub after_eol_words : StateWords
-after_eol_words = record { ready = AfterEolReady; step = after_eol_step; ends = after_eol_ends; rank = 10 }
+after_eol_words = record { ready = AfterEolReady; step = after_eol_step; ends = after_eol_ends; rank = λ T. 13 }
 
 abbrev pub inside_words : StateWords
-inside_words = record { ready = InsideReady; step = inside_step; ends = inside_ends; rank = 10 }
+inside_words = record { ready = InsideReady; step = inside_step; ends = inside_ends; rank = λ T. 11 }
 
 abbrev pub escape_words : StateWords
-escape_words = record { ready = InsideReady; step = escape_step; ends = escape_ends; rank = 11 }
+escape_words = record { ready = InsideReady; step = escape_step; ends = escape_ends; rank = λ T. 12 }
 
 abbrev pub nok_words : StateWords
-nok_words = record { ready = λ T. Unit {0}; step = nok_step; ends = nok_ends; rank = 1 }
+nok_words = record { ready = λ T. Unit {0}; step = nok_step; ends = nok_ends; rank = λ T. 1 }
 
 -- a part of what is said of these states, and of any other as it is given
 abbrev pub said {ℓ} : {A : Type ℓ} → (StateWords → A) → (StateName → A) → StateName → A

@@ -96,10 +96,10 @@ fn close(tokenizer: &mut Tokenizer) -> Result<State, AllocError>
     Ok(State::Ok)
 }
 
-/// After the opening bracket: the text, or the closing bracket.
+/// After the opening bracket: the text, or the closing bracket. Also at the closing bracket behind the text.
 ///
 ///     > | [x](<a\>b>)
-///              ^
+///              ^   ^
 pub fn enclosed_before(tokenizer: &mut Tokenizer) -> Result<State, AllocError>
     requires { BeforeReady tokenizer.old }
     ensures ok { IfOk result (λ s. enclosed_before_step tokenizer.old ≡ record { state = s; left = tokenizer.new }) }
@@ -129,7 +129,7 @@ pub fn enclosed(tokenizer: &mut Tokenizer) -> Result<State, AllocError>
         Some(b'>') => {
             tokenizer.exit(Name::Data)?;
             tokenizer.exit(tokenizer.tokenize_state.token_5)?;
-            close(tokenizer)
+            Ok(State::Retry(StateName::DestinationEnclosedBefore))
         }
         Some(b'\\') => {
             tokenizer.consume();

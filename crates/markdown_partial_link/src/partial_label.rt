@@ -113,7 +113,7 @@ pub fn at_break(tokenizer: &mut Tokenizer) -> Result<State, AllocError>
                 }
                 _ => {
                     enter_text(tokenizer)?;
-                    Ok(pass(tokenizer, code))
+                    Ok(State::Retry(StateName::LabelInside))
                 }
             },
         _ => Ok(State::Retry(StateName::LabelNok)),
@@ -150,7 +150,7 @@ pub fn nok(tokenizer: &mut Tokenizer) -> Result<State, AllocError>
 /// In a stretch of the text, which ends before a bracket, a line ending or the end, or where there are too many codes.
 ///
 ///     > | [x][y\]z]
-///              ^ ^^
+///             ^^ ^^
 pub fn inside(tokenizer: &mut Tokenizer) -> Result<State, AllocError>
     requires { InsideReady tokenizer.old }
     ensures ok { IfOk result (λ s. inside_step tokenizer.old ≡ record { state = s; left = tokenizer.new }) }

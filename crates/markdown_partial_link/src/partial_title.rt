@@ -78,10 +78,10 @@ fn close(tokenizer: &mut Tokenizer) -> Result<State, AllocError>
     Ok(State::Ok)
 }
 
-/// After the opening marker: the text, or the closing marker.
+/// After the opening marker: the text, or the closing marker. Also at the closing marker behind the text.
 ///
 ///     > | [x](y "z")
-///                ^
+///                ^^
 pub fn begin(tokenizer: &mut Tokenizer) -> Result<State, AllocError>
     requires { IsOpen tokenizer.old.tokenize_state.token_1 tokenizer.old }
     ensures ok { IfOk result (λ s. begin_step tokenizer.old ≡ record { state = s; left = tokenizer.new }) }
@@ -124,7 +124,7 @@ pub fn at_break(tokenizer: &mut Tokenizer) -> Result<State, AllocError>
         None => Ok(State::Retry(StateName::TitleNok)),
         Some(code) if code == tokenizer.tokenize_state.marker => {
             tokenizer.exit(tokenizer.tokenize_state.token_3)?;
-            close(tokenizer)
+            Ok(State::Retry(StateName::TitleBegin))
         }
         Some(b'\n') => {
             let ending = ask_for_ending(tokenizer);
@@ -134,9 +134,9 @@ pub fn at_break(tokenizer: &mut Tokenizer) -> Result<State, AllocError>
             )?;
             Ok(State::Retry(ending))
         }
-        Some(code) => {
+        Some(_) => {
             enter_text(tokenizer)?;
-            Ok(pass(tokenizer, code))
+            Ok(State::Retry(StateName::TitleInside))
         }
     }
 }
@@ -182,7 +182,7 @@ pub fn inside_stops(fields: &TokenizeState) -> Option<ByteSet>
 /// In a stretch of the text, which ends before the closing marker, a line ending or the end.
 ///
 ///     > | [x](y "z\"w")
-///                 ^ ^^
+///                ^^ ^^
 pub fn inside(tokenizer: &mut Tokenizer) -> Result<State, AllocError>
     requires { InsideReady tokenizer.old }
     ensures ok { IfOk result (λ s. inside_step tokenizer.old ≡ record { state = s; left = tokenizer.new }) }

@@ -44,11 +44,11 @@ module _ (W : Words) where
   said-ends Nok w e T ok U k = subst (λ (x : StateWords). x.ends T ok U) e k
 
   pub said-weight : (st : State) (w : StateWords) → words_at W st ≡ w → (T : Tokenizer) →
-      weight_state (weight_in W) st T ≤ weight_at w.rank T
+      weight_state (weight_in W) st T ≤ weight_at (w.rank T) T
   said-weight (Next s) w e T =
-      let same : (words_in W s).rank ≡ w.rank = ap (λ (x : StateWords). x.rank) e in omega (arith, same)
+      let same : (words_in W s).rank T ≡ w.rank T = ap (λ (x : StateWords). x.rank T) e in omega (arith, same)
   said-weight (Retry s) w e T =
-      let same : (words_in W s).rank ≡ w.rank = ap (λ (x : StateWords). x.rank) e in omega (arith, same)
+      let same : (words_in W s).rank T ≡ w.rank T = ap (λ (x : StateWords). x.rank T) e in omega (arith, same)
   said-weight Ok w e T = omega arith
   said-weight Nok w e T = omega arith
 
@@ -60,7 +60,7 @@ module _ (W : Words) where
 
   -- a step that opens no attempt
   pub Goes-plain : (n : ℕ) (E : Bool → Tokenizer → Type 0) (st : State) {w : StateWords} → words_at W st ≡ w →
-      (T : Tokenizer) → T.attempts ≡ [] → w.ready T → weight_at w.rank T < n →
+      (T : Tokenizer) → T.attempts ≡ [] → w.ready T → weight_at (w.rank T) T < n →
       ((ok : Bool) (U : Tokenizer) → w.ends T ok U → E ok U) → GoesIn W n E (stepped st T)
   Goes-plain n E st {w} e T alone on falls closed =
       LawSteps.Goes-plain W.ready W.ends (weight_in W) n E st T alone (said-ready st w e T on) (omega (arith, falls, said-weight st w e T)) (λ ok U x. closed ok U (said-ends st w e T ok U x))
@@ -74,21 +74,21 @@ module _ (W : Words) where
 
   -- after operations
   pub Goes-ops : (n : ℕ) (E : Bool → Tokenizer → Type 0) (st : State) {w : StateWords} → words_at W st ≡ w →
-      (os : List Op) (T : Tokenizer) → T.attempts ≡ [] → w.ready (done os T) → weight_at w.rank (done os T) < n →
+      (os : List Op) (T : Tokenizer) → T.attempts ≡ [] → w.ready (done os T) → weight_at (w.rank (done os T)) (done os T) < n →
       ((ok : Bool) (U : Tokenizer) → w.ends (done os T) ok U → E ok U) → GoesIn W n E (stepped st (done os T))
   Goes-ops n E st {w} e os T alone on falls closed =
       Goes-plain n E st {w = w} e (done os T) (attempts-done os T ∙ alone) on falls closed
 
   -- after an attempt the run goes on with this state
   pub follows : (n : ℕ) (E : Bool → Tokenizer → Type 0) (st : State) {w : StateWords} → words_at W st ≡ w →
-      (U : Tokenizer) → w.ready U → weight_at w.rank U < n → ((ok : Bool) (V : Tokenizer) → w.ends U ok V → E ok V) →
+      (U : Tokenizer) → w.ready U → weight_at (w.rank U) U < n → ((ok : Bool) (V : Tokenizer) → w.ends U ok V → E ok V) →
       FollowsIn W n E st U
   follows n E st {w} e U on falls closed =
       record { goes_on = said-ready st w e U on; falls = omega (arith, falls, said-weight st w e U); closed = λ ok V x. closed ok V (said-ends st w e U ok V x) }
 
   -- a step that opens one attempt
   pub Goes-attempt : (n : ℕ) (E : Bool → Tokenizer → Type 0) (st : State) {w : StateWords} → words_at W st ≡ w →
-      (ok nok : State) (T : Tokenizer) → T.attempts ≡ [] → w.ready T → weight_at w.rank T < n →
+      (ok nok : State) (T : Tokenizer) → T.attempts ≡ [] → w.ready T → weight_at (w.rank T) T < n →
       ((U : Tokenizer) → U.attempts ≡ [] → w.ends T true U → FollowsIn W n E ok U) →
       ((U : Tokenizer) → U.attempts ≡ [] → w.ends T false U → FollowsIn W n E nok (restored (frame_of false ok nok T) U)) →
       GoesIn W n E (stepped st (attempted false ok nok T))
@@ -97,7 +97,7 @@ module _ (W : Words) where
 
   -- a step that opens one check: an Ok restores too
   pub Goes-check : (n : ℕ) (E : Bool → Tokenizer → Type 0) (st : State) {w : StateWords} → words_at W st ≡ w →
-      (ok nok : State) (T : Tokenizer) → T.attempts ≡ [] → w.ready T → weight_at w.rank T < n →
+      (ok nok : State) (T : Tokenizer) → T.attempts ≡ [] → w.ready T → weight_at (w.rank T) T < n →
       ((U : Tokenizer) → U.attempts ≡ [] → w.ends T true U → FollowsIn W n E ok (restored (frame_of true ok nok T) U)) →
       ((U : Tokenizer) → U.attempts ≡ [] → w.ends T false U → FollowsIn W n E nok (restored (frame_of true ok nok T) U)) →
       GoesIn W n E (stepped st (attempted true ok nok T))
@@ -109,7 +109,7 @@ module _ (W : Words) where
   -- on with a state after operations, on a tokenizer that has as many codes left, with these scratch fields
   pub Goes-to : (k : ℕ) (E : Bool → Tokenizer → Type 0) (os : List Op) (r : TokenizeState) (X T : Tokenizer) (st : State) {w : StateWords} →
       words_at W st ≡ w → X.attempts ≡ [] → codes_left X ≡ codes_left T → moves os ≤ length (ahead X) →
-      w.rank < 256 * moves os + k → w.ready (scratched r (done os X)) →
+      w.rank (scratched r (done os X)) < 256 * moves os + k → w.ready (scratched r (done os X)) →
       ((ok : Bool) (U : Tokenizer) → w.ends (scratched r (done os X)) ok U → E ok U) →
       GoesIn W (weight_at k T) E (stepped st (scratched r (done os X)))
   Goes-to k E os r X T st {w} e alone same within less on closed =
@@ -118,7 +118,7 @@ module _ (W : Words) where
   -- on with a state, with these scratch fields
   pub Goes-on : (k d : ℕ) (p q : Plan) (os : List Op) (s r : TokenizeState) (T : Tokenizer) (st : State) {w : StateWords} →
       words_at W st ≡ w → T.attempts ≡ [] → stays d os ≡ true → moves os ≤ length (ahead T) →
-      w.rank < 256 * moves os + k → p (ahead T) ≡ preceded os (q (drop (moves os) (ahead T))) →
+      w.rank (scratched r (done os T)) < 256 * moves os + k → p (ahead T) ≡ preceded os (q (drop (moves os) (ahead T))) →
       w.ready (scratched r (done os T)) →
       ((ok : Bool) (U : Tokenizer) → w.ends (scratched r (done os T)) ok U → DoesAs (depth_after d os) q s (scratched r (done os T)) ok U) →
       GoesIn W (weight_at k T) (DoesAs d p s T) (stepped st (scratched r (done os T)))
@@ -128,16 +128,16 @@ module _ (W : Words) where
   -- on with a state, the scratch fields left alone
   pub Goes-kept : (k d : ℕ) (p q : Plan) (os : List Op) (s : TokenizeState) (T : Tokenizer) (st : State) {w : StateWords} →
       words_at W st ≡ w → T.attempts ≡ [] → stays d os ≡ true → moves os ≤ length (ahead T) →
-      w.rank < 256 * moves os + k → p (ahead T) ≡ preceded os (q (drop (moves os) (ahead T))) → w.ready (done os T) →
+      w.rank (done os T) < 256 * moves os + k → p (ahead T) ≡ preceded os (q (drop (moves os) (ahead T))) → w.ready (done os T) →
       ((ok : Bool) (U : Tokenizer) → w.ends (done os T) ok U → DoesAs (depth_after d os) q s (done os T) ok U) →
       GoesIn W (weight_at k T) (DoesAs d p s T) (stepped st (done os T))
   Goes-kept k d p q os s T st {w} say alone stay within less e =
-      subst (λ (V : Tokenizer). w.ready V → ((ok : Bool) (U : Tokenizer) → w.ends V ok U → DoesAs (depth_after d os) q s V ok U) → GoesIn W (weight_at k T) (DoesAs d p s T) (stepped st V)) (kept os T) (Goes-on k d p q os s T.tokenize_state T st {w = w} say alone stay within less e)
+      subst (λ (V : Tokenizer). w.rank V < 256 * moves os + k → w.ready V → ((ok : Bool) (U : Tokenizer) → w.ends V ok U → DoesAs (depth_after d os) q s V ok U) → GoesIn W (weight_at k T) (DoesAs d p s T) (stepped st V)) (kept os T) (λ low. Goes-on k d p q os s T.tokenize_state T st {w = w} say alone stay within low e) less
 
   -- the same, where all states leave them alone
   pub Goes-next : (k d : ℕ) (p q : Plan) (os : List Op) (T : Tokenizer) (st : State) {w : StateWords} →
       words_at W st ≡ w → T.attempts ≡ [] → stays d os ≡ true → moves os ≤ length (ahead T) →
-      w.rank < 256 * moves os + k → p (ahead T) ≡ preceded os (q (drop (moves os) (ahead T))) → w.ready (done os T) →
+      w.rank (done os T) < 256 * moves os + k → p (ahead T) ≡ preceded os (q (drop (moves os) (ahead T))) → w.ready (done os T) →
       ((ok : Bool) (U : Tokenizer) → w.ends (done os T) ok U → KeepsAs (depth_after d os) q (done os T) ok U) →
       GoesIn W (weight_at k T) (KeepsAs d p T) (stepped st (done os T))
   Goes-next k d p q os T st {w} say alone stay within less e on closed =
@@ -165,7 +165,7 @@ module _ (W : Words) where
 
   -- on with a state past the Enter of a leaf and its first code
   pub Goes-entered : (k d : ℕ) (p : Plan) (q : Naming) (m : Name) (s r : TokenizeState) (T : Tokenizer) (st : State) {w : StateWords} →
-      words_at W st ≡ w → T.attempts ≡ [] → stays d (Consume ∷ []) ≡ true → 1 ≤ length (ahead T) → w.rank < 256 + k →
+      words_at W st ≡ w → T.attempts ≡ [] → stays d (Consume ∷ []) ≡ true → 1 ≤ length (ahead T) → w.rank (scratched r (done (Enter m ∷ Consume ∷ []) T)) < 256 + k →
       p (ahead T) ≡ opened (preceded_by (Consume ∷ []) (q (drop 1 (ahead T)))) →
       w.ready (scratched r (done (Enter m ∷ Consume ∷ []) T)) →
       ((ok : Bool) (U : Tokenizer) → w.ends (scratched r (done (Enter m ∷ Consume ∷ []) T)) ok U → NamesAs d q s (scratched r (done (Enter m ∷ Consume ∷ []) T)) ok U) →
@@ -177,7 +177,7 @@ module _ (W : Words) where
 
   -- past a code of the leaf
   pub Goes-inside : (k d : ℕ) (p q : Naming) (s r : TokenizeState) (T : Tokenizer) (st : State) {w : StateWords} →
-      words_at W st ≡ w → T.attempts ≡ [] → stays d (Consume ∷ []) ≡ true → 1 ≤ length (ahead T) → w.rank < 256 + k →
+      words_at W st ≡ w → T.attempts ≡ [] → stays d (Consume ∷ []) ≡ true → 1 ≤ length (ahead T) → w.rank (scratched r (done (Consume ∷ []) T)) < 256 + k →
       p (ahead T) ≡ preceded_by (Consume ∷ []) (q (drop 1 (ahead T))) → w.ready (scratched r (done (Consume ∷ []) T)) →
       ((ok : Bool) (U : Tokenizer) → w.ends (scratched r (done (Consume ∷ []) T)) ok U → NamesAs d q s (scratched r (done (Consume ∷ []) T)) ok U) →
       GoesIn W (weight_at k T) (NamesAs d p s T) (stepped st (scratched r (done (Consume ∷ []) T)))
@@ -186,16 +186,16 @@ module _ (W : Words) where
 
   -- the same, the scratch fields left alone
   pub Goes-inside-kept : (k d : ℕ) (p q : Naming) (s : TokenizeState) (T : Tokenizer) (st : State) {w : StateWords} →
-      words_at W st ≡ w → T.attempts ≡ [] → stays d (Consume ∷ []) ≡ true → 1 ≤ length (ahead T) → w.rank < 256 + k →
+      words_at W st ≡ w → T.attempts ≡ [] → stays d (Consume ∷ []) ≡ true → 1 ≤ length (ahead T) → w.rank (done (Consume ∷ []) T) < 256 + k →
       p (ahead T) ≡ preceded_by (Consume ∷ []) (q (drop 1 (ahead T))) → w.ready (done (Consume ∷ []) T) →
       ((ok : Bool) (U : Tokenizer) → w.ends (done (Consume ∷ []) T) ok U → NamesAs d q s (done (Consume ∷ []) T) ok U) →
       GoesIn W (weight_at k T) (NamesAs d p s T) (stepped st (done (Consume ∷ []) T))
   Goes-inside-kept k d p q s T st {w} say alone st_ok within less e =
-      subst (λ (V : Tokenizer). w.ready V → ((ok : Bool) (U : Tokenizer) → w.ends V ok U → NamesAs d q s V ok U) → GoesIn W (weight_at k T) (NamesAs d p s T) (stepped st V)) (kept (Consume ∷ []) T) (Goes-inside k d p q s T.tokenize_state T st {w = w} say alone st_ok within less e)
+      subst (λ (V : Tokenizer). w.rank V < 256 + k → w.ready V → ((ok : Bool) (U : Tokenizer) → w.ends V ok U → NamesAs d q s V ok U) → GoesIn W (weight_at k T) (NamesAs d p s T) (stepped st V)) (kept (Consume ∷ []) T) (λ low. Goes-inside k d p q s T.tokenize_state T st {w = w} say alone st_ok within low e) less
 
   -- on with a state at the same place
   pub Goes-over : (k d : ℕ) (p q : Naming) (s : TokenizeState) (T : Tokenizer) (st : State) {w : StateWords} →
-      words_at W st ≡ w → T.attempts ≡ [] → w.rank < k → p (ahead T) ≡ q (ahead T) → w.ready T →
+      words_at W st ≡ w → T.attempts ≡ [] → w.rank T < k → p (ahead T) ≡ q (ahead T) → w.ready T →
       ((ok : Bool) (U : Tokenizer) → w.ends T ok U → NamesAs d q s T ok U) →
       GoesIn W (weight_at k T) (NamesAs d p s T) (stepped st T)
   Goes-over k d p q s T st {w} say alone less e on closed =
@@ -204,7 +204,7 @@ module _ (W : Words) where
   -- on with a state after the leaf, under this name
   pub Goes-settled : (k d : ℕ) (p : Naming) (n : Name) (q : Plan) (os : List Op) (s r : TokenizeState) (T : Tokenizer) (st : State) {w : StateWords} →
       words_at W st ≡ w → T.attempts ≡ [] → stays (suc d) os ≡ true → moves os ≤ length (ahead T) →
-      w.rank < 256 * moves os + k → p (ahead T) ≡ under n (preceded os (q (drop (moves os) (ahead T)))) →
+      w.rank (scratched r (done os (renamed n T))) < 256 * moves os + k → p (ahead T) ≡ under n (preceded os (q (drop (moves os) (ahead T)))) →
       w.ready (scratched r (done os (renamed n T))) →
       ((ok : Bool) (U : Tokenizer) → w.ends (scratched r (done os (renamed n T))) ok U → DoesAs (depth_after (suc d) os) q s (scratched r (done os (renamed n T))) ok U) →
       GoesIn W (weight_at k T) (NamesAs d p s T) (stepped st (scratched r (done os (renamed n T))))

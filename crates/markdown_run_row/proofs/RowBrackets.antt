@@ -116,15 +116,9 @@ record HasMade (kind : LabelKind) (x y : ℕ × ℕ) (ns : List (ℕ × ℕ)) (s
   unused : starts_of U.label_starts ≡ ns
   failed : U.label_starts_loose ≡ s.label_starts_loose
 
-starts-if : (b : Bool) (l m : LabelStart) (ls ms : List LabelStart) → l.start ≡ m.start → starts_of ls ≡ starts_of ms →
-    starts_of (if b then l ∷ ls else m ∷ ms) ≡ l.start ∷ starts_of ls
-starts-if true l m ls ms e h = refl
-starts-if false l m ls ms e h = λ i. sym e i ∷ sym h i
-
 starts-marked : (ls : List LabelStart) → starts_of (marked ls) ≡ starts_of ls
 starts-marked [] = refl
-starts-marked (l ∷ ls) =
-    starts-if l.inactive l (record l { inactive = true }) ls (marked ls) refl (sym (starts-marked ls))
+starts-marked (l ∷ ls) = ap (λ ns. l.start ∷ ns) (starts-marked ls)
 
 starts-barred : (b : Bool) (ls : List LabelStart) → starts_of (if b then ls else marked ls) ≡ starts_of ls
 starts-barred true ls = refl

@@ -106,14 +106,9 @@ module _ (a b : Bool) (cs : List Code) (T U : Tokenizer) (h : IsPast a b cs T U)
 abbrev kinds : List LabelStart → List LabelKind
 kinds ls = map (λ (l : LabelStart). l.kind) ls
 
-kinds-if : (b : Bool) (l m : LabelStart) (ls ms : List LabelStart) → m.kind ≡ l.kind → kinds ms ≡ kinds ls →
-    kinds (if b then l ∷ ls else m ∷ ms) ≡ kinds (l ∷ ls)
-kinds-if true l m ls ms e h = refl
-kinds-if false l m ls ms e h = λ i. e i ∷ h i
-
 kinds-marked : (ls : List LabelStart) → kinds (marked ls) ≡ kinds ls
 kinds-marked [] = refl
-kinds-marked (l ∷ ls) = kinds-if l.inactive l (record l { inactive = true }) ls (marked ls) refl (kinds-marked ls)
+kinds-marked (l ∷ ls) = ap (λ ks. l.kind ∷ ks) (kinds-marked ls)
 
 kinds-barred : (b : Bool) (ls : List LabelStart) → kinds (if b then ls else marked ls) ≡ kinds ls
 kinds-barred true ls = refl
