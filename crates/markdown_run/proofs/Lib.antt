@@ -11,6 +11,10 @@ pub mod PassesAfterRun
 pub mod TextTree
 pub mod WholeRun
 pub mod TextRun
-pub mod LabelStartConstructs
 pub mod RowPasses
 pub mod RowsWithoutRuns
+pub mod IndexedRows
+pub mod StartsAndEnds
+pub mod ReadyTexts
+pub mod ElementsRead
+pub mod TextEnds

@@ -29,7 +29,8 @@ use Rattle.markdown_model.specs.Setting.{Setting}
 use Rattle.markdown_run_row.specs.RunOverElements.{Finishes}
 use Rattle.markdown_run_text.specs.ContentPasses.{may_resolve_of, resolves_of}
 use Rattle.markdown_run_text.specs.RunSetting.{text_setting_of}
-use Rattle.markdown_run_text.specs.TextContent.{StartReady, marked_fields, text_marked, text_passed, text_choice_of, start_ends}
+use Rattle.markdown_run_text.specs.TextContent.{StartReady, named_fields, text_passed, text_choice_of}
+use Rattle.markdown_run.specs.ElementsOfText.{KnowsNothing, text_named, with_indexes}
 use Rattle.markdown_run.proofs.PassesAfterRun.{text_finish, text-trims, IsGiven}
 use Rattle.markdown_engine_content.specs.Codes.{Code}
 use Rattle.markdown_label.specs.LabelEnd.{AreWithin}
@@ -123,29 +124,30 @@ text-ready p pieces lent first T text right k =
         part = record { short = fits; indexed = right-unknown T.cursor.codes T.tokenize_state.sequences (ap (λ (s : TokenizeState). s.sequences) k.fields); titled = TitleIndexLemmas.right-unknown T.cursor.codes T.tokenize_state.titles (ap (λ (s : TokenizeState). s.titles) k.fields); spaces = record { space = ap PartialSpaceOrTab.rested k.fields ∙ sym k.fields; eol = ap PartialSpaceOrTabEol.eol_rested k.fields ∙ sym k.fields }; rest = ap AfterLabelParts.rested k.fields ∙ sym k.fields };
         listed = listed-lent p pieces lent first T right k;
         text = start-reads p.bytes.now pieces T content input k.place;
-        within = subst (λ (s : TokenizeState). AreWithin T s.label_starts) (sym k.fields) tt;
+        within = subst (λ (s : TokenizeState). AreWithin T s.label_starts) (sym k.fields) (tt, tt);
         resting = ap (λ (s : TokenizeState). s.end) k.fields;
       };
     }
 
--- where data stops where an element may begin, and where the runs of its spans stand
-marked-start : (p : ParseState) (pieces : List Piece) (lent : Option Names) (first : Bool) (T : Tokenizer) → text_start p pieces lent first T →
-    Starts p pieces (marked_fields T.cursor T.parse_state.now (text_fields lent first)) (text_marked T)
+-- and where the names of what is defined are made known
+named-start : (p : ParseState) (pieces : List Piece) (lent : Option Names) (first : Bool) (T : Tokenizer) → text_start p pieces lent first T →
+    Starts p pieces (named_fields T.cursor T.parse_state.now (text_fields lent first)) (text_named T)
 unfolding scratched
-marked-start p pieces lent first T k =
-    let m : Starts p pieces (marked_fields T.cursor T.parse_state.now T.tokenize_state) (text_marked T) = start-with p pieces (text_fields lent first) (marked_fields T.cursor T.parse_state.now T.tokenize_state) T k in
-    subst (λ (s : TokenizeState). Starts p pieces (marked_fields T.cursor T.parse_state.now s) (text_marked T)) k.fields m
+named-start p pieces lent first T k =
+    let m : Starts p pieces (named_fields T.cursor T.parse_state.now T.tokenize_state) (text_named T) = start-with p pieces (text_fields lent first) (named_fields T.cursor T.parse_state.now T.tokenize_state) T k in
+    subst (λ (s : TokenizeState). Starts p pieces (named_fields T.cursor T.parse_state.now s) (text_named T)) k.fields m
 
-fresh-fields : (lent : Option Names) (first : Bool) (c : Place) (p : ParseState) → AreFresh (marked_fields c p (text_fields lent first))
+fresh-fields : (lent : Option Names) (first : Bool) (c : Place) (p : ParseState) → AreFresh (named_fields c p (text_fields lent first))
 fresh-fields lent first c p = record { labels = refl; starts = refl; loose = refl; end = refl; seen = refl; probes = refl }
+
+-- nothing is known of the content
+pub text-unknown : (p : ParseState) (pieces : List Piece) (lent : Option Names) (first : Bool) (T : Tokenizer) → text_start p pieces lent first T →
+    KnowsNothing T
+text-unknown p pieces lent first T k = k.fields ∙ ap (with_indexes at_rest) (sym k.fields)
 
 module _ (p : ParseState) (pieces : List Piece) (lent : Option Names) (first : Bool) (content : IsContent p.bytes.now pieces) (T U : Tokenizer) (start : text_start p pieces lent first T) where
   abbrev M : Tokenizer
-  M = text_marked T
-
-  ended : (ok : Bool) → start_ends T ok U → Finishes (text_choice_of M) text_passed M U
-  ended true k = k
-  ended false k = absurd k
+  M = text_named T
 
   -- what is read
   choice-is : text_choice_of M ≡ text_choice (text_setting_of p first) (content_of p.bytes.now pieces)
@@ -163,14 +165,11 @@ module _ (p : ParseState) (pieces : List Piece) (lent : Option Names) (first : B
   abbrev Is : IsGiven Given p
   Is = record { bytes = refl; options = refl }
 
-  module _ (ok : Bool) (k : start_ends T ok U) where
-    abbrev E : Finishes (text_choice_of M) text_passed M U
-    E = ended ok k
+  module _ (E : Finishes (text_choice_of M) text_passed M U) where
+    abbrev S : Starts p pieces (named_fields T.cursor T.parse_state.now (text_fields lent first)) M
+    S = named-start p pieces lent first T start
 
-    abbrev S : Starts p pieces (marked_fields T.cursor T.parse_state.now (text_fields lent first)) M
-    S = marked-start p pieces lent first T start
-
-    abbrev F : AreFresh (marked_fields T.cursor T.parse_state.now (text_fields lent first))
+    abbrev F : AreFresh (named_fields T.cursor T.parse_state.now (text_fields lent first))
     F = fresh-fields lent first T.cursor T.parse_state.now
 
     -- the row with its labels grouped

@@ -184,7 +184,7 @@ abbrev pub ends_of : StateName → Tokenizer → Bool → Tokenizer → Type 0
 ends_of s T ok U = (words_of s).ends T ok U
 
 abbrev pub weight_of : StateName → Tokenizer → ℕ
-weight_of s T = weight_at (words_of s).rank T
+weight_of s T = weight_at ((words_of s).rank T) T
 
 -- all of it, as the one argument of the laws
 abbrev pub inline : Words

@@ -6,3 +6,4 @@ pub mod ContentOfDocument
 -- What serves proofs: what functions and proofs promise each other.
 pub mod LayerLaws
 pub mod RunWithPasses
+pub mod ElementsOfText

@@ -1,11 +1,10 @@
 -- Single constructs: what is read at a tokenizer's place, by the name of the state that starts it.
 use Rattle.std.specs.Prelude.{◌≡◌, ℕ, Bool, true, false, List, Option, Some, None, is_none}
 use Rattle.markdown_engine_content.specs.Codes.{Code}
-use Rattle.markdown_engine.specs.Operations.{ahead, previous_of, registered, scratched}
-use Rattle.markdown_engine.specs.PastTree.{TreeReading, Reads, link_before}
+use Rattle.markdown_engine.specs.Operations.{ahead, previous_of, scratched}
+use Rattle.markdown_engine.specs.PastTree.{TreeReading, link_before}
 use Rattle.markdown_engine_content.specs.Place.{last_of}
 use Rattle.markdown_engine_content.specs.Tree.{Forest}
-use Rattle.markdown_engine_content.specs.declared.configuration.ParseOptions.{ParseOptions}
 use Rattle.markdown_engine.specs.declared.resolve.ResolveName.{ResolveName}
 use Rattle.markdown_engine.specs.declared.resolve.ResolveName.TheVariants as R
 use Rattle.markdown_engine.specs.declared.state.StateName.{StateName}
@@ -23,8 +22,9 @@ use Rattle.markdown_leaf.specs.CharacterReference as CharacterReference
 use Rattle.markdown_leaf.specs.RawText as RawText
 use Rattle.markdown_model.specs.Grammar.{Reading}
 use Rattle.markdown_label.specs.LabelEnd.{last_start, lost_fields}
+use Rattle.markdown_run_readers.specs.ReaderEnds.{options_here, ReadsOrStays, BeginsOrStays}
 use Rattle.markdown_run_text.specs.RunSetting.{setting_of}
-use Rattle.markdown_model.specs.LabelEnd.{Element, starts}
+use Rattle.markdown_model.specs.LabelEnd.{Element}
 use Rattle.markdown_model.specs.TextLines.{data_up_to}
 use Rattle.markdown_partial.specs.PartialData.{stops_of}
 use Rattle.markdown_model.specs.Resource.{DestinationNames, StringNames, destination, title, label}
@@ -33,7 +33,7 @@ use Rattle.markdown_model.specs.SingleConstructs as SingleConstructs
 use Rattle.markdown_model.specs.Whitespace.{space_or_tab, space_or_tab_eol}
 use Rattle.markdown_partial.specs.PartialSpaceOrTabEol as PartialSpaceOrTabEol
 use Rattle.markdown_partial.specs.PartialSpaceOrTab as PartialSpaceOrTab
-use Rattle.markdown_run_row.specs.Row.{begins, makes, past_mark}
+use Rattle.markdown_run_row.specs.Row.{makes, past_mark}
 use Rattle.markdown_partial_link.specs.PartialDestination as PartialDestination
 use Rattle.markdown_partial_link.specs.PartialTitle as PartialTitle
 use Rattle.markdown_partial_link.specs.PartialLabel as PartialLabel
@@ -69,11 +69,8 @@ IsConstruct SpaceOrTabStart T = PartialSpaceOrTab.StartReady T
 IsConstruct SpaceOrTabEolStart T = PartialSpaceOrTabEol.StartReady T
 IsConstruct _ T = ⊥
 
--- What a reading takes of a tokenizer: the options, whether an escape ends right before the place, the code before it, whether that is the content's
--- first place, the document, and where the content ends.
-
-abbrev pub options_here : Tokenizer → ParseOptions
-options_here T = T.parse_state.now.options.now
+-- What a reading takes of a tokenizer beside the options: whether an escape ends right before the place, the code before it, whether that is the
+-- content's first place, the document, and where the content ends.
 
 abbrev pub escaped_here : Tokenizer → Bool
 escaped_here T = follows_escape T.events
@@ -147,21 +144,6 @@ start_reading _ T = λ cs. None
 -- the end of a label that is read, by the last start kept
 abbrev pub end_reading : Tokenizer → Reading (List Code × (LabelKind × Forest))
 end_reading T = SingleConstructs.label_end_here (setting_of T.parse_state.now) (last_start T.events T.tokenize_state.label_starts)
-
--- the codes at the place are read so, and U is T past the tree, with these scratch fields and this pass registered
-abbrev pub ReadsWith : Option ResolveName → TreeReading → Option ℕ → TokenizeState → Tokenizer → Tokenizer → Type 0
-ReadsWith None reading previous s T U = Reads reading previous s T U
-ReadsWith (Some pass) reading previous s T U = (there : Tokenizer) × (Reads reading previous s T there × (U ≡ registered pass there))
-
--- either they are read so, or they are not, and U is T with these scratch fields
-abbrev pub ReadsOrStays : Option ResolveName → TreeReading → Option ℕ → TokenizeState → Tokenizer → Bool → Tokenizer → Type 0
-ReadsOrStays pass reading previous s T true U = ReadsWith pass reading previous s T U
-ReadsOrStays pass reading previous s T false U = (reading (ahead T) ≡ None) × (U ≡ scratched s T)
-
--- either a start of a label is read so, and U is T past it, which is kept; or none is, and U is T
-abbrev pub BeginsOrStays : Reading Element → Tokenizer → Bool → Tokenizer → Type 0
-BeginsOrStays reading T true U = (kind : LabelKind) × ((marker : List Code) × ((reading (ahead T) ≡ Some (starts kind marker, ahead U)) × (U ≡ past_mark (begins kind marker) T)))
-BeginsOrStays reading T false U = (reading (ahead T) ≡ None) × (U ≡ T)
 
 -- either an end of a label is read, with what follows it, and U is T past the label that it makes of the last start kept; or none is, and U is
 -- T but for the scratch fields: where a `]` stands here and ends are on, the last start is used up

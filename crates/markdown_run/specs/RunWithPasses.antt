@@ -5,6 +5,7 @@ use Rattle.markdown_engine.specs.PassesInOrder.{MayResolve, Resolves, unregister
 use Rattle.markdown_engine.specs.declared.state.StateName.{StateName}
 use Rattle.markdown_engine.specs.declared.tokenizer.Tokenizer.{Tokenizer}
 use Rattle.markdown_run_text.specs.ContentPasses.{may_resolve_of, resolves_of}
+use Rattle.markdown_run.specs.ElementsOfText.{EndsAt, text_named}
 use Rattle.markdown_run.specs.Layer.{ends_of}
 use Rattle.markdown_run.specs.declared.run.Run.{Run}
 
@@ -12,12 +13,26 @@ use Rattle.markdown_run.specs.declared.run.Run.{Run}
 abbrev pub MayPass : StateName → Tokenizer → Type 0
 MayPass name T = (held : Bool) (left : Tokenizer) → ends_of name T held left → MayResolve may_resolve_of resolves_of left.resolvers (unregistered left)
 
--- what is found is what a run from this state leaves after its passes: the events, and the looks of pairing
-pub record IsFoundFrom (name : StateName) (T : Tokenizer) (run : Run) : Type 0 where
-  pub held : Bool
-  pub left : Tokenizer
+-- what is found is what the passes leave that are registered: the events, and the looks of pairing
+pub record IsFoundBehind (left : Tokenizer) (run : Run) : Type 0 where
   pub passed : Tokenizer
-  pub ends : ends_of name T held left
   pub resolves : Resolves resolves_of left.resolvers (unregistered left) passed
   pub events : run.events.items ≡ chained passed.events
   pub probes : run.probes ≡ passed.tokenize_state.probes
+
+-- what is found is what a run from this state leaves after its passes
+pub record IsFoundFrom (name : StateName) (T : Tokenizer) (run : Run) : Type 0 where
+  pub held : Bool
+  pub left : Tokenizer
+  pub ends : ends_of name T held left
+  pub found : IsFoundBehind left run
+
+-- the same of a text whose elements are read from T on
+
+abbrev pub MayPassText : Tokenizer → Type 0
+MayPassText T = (left : Tokenizer) → EndsAt (text_named T) left → MayResolve may_resolve_of resolves_of left.resolvers (unregistered left)
+
+pub record IsFoundInText (T : Tokenizer) (run : Run) : Type 0 where
+  pub left : Tokenizer
+  pub ends : EndsAt (text_named T) left
+  pub found : IsFoundBehind left run

@@ -1,7 +1,8 @@
 //! Documents that are prepared once, and of which many contents are read, each at the cost of itself.
-ghost use Rattle.std.specs.Prelude.{◌≡◌, ◌↔◌, false, map, Some, IfOk, IsTrue, MatchOption};
+ghost use Rattle.std.specs.Prelude.{◌≡◌, ◌↔◌, false, map, Some, IfOk, OnOk, OnErr, IsTrue, MatchOption};
 ghost use Rattle.std.specs.List.{All};
 ghost use Rattle.markdown_run.specs.ContentOfDocument.{ContentOf};
+ghost use Rattle.markdown_engine.specs.RunStart.{begun};
 ghost use Rattle.markdown_engine_content.specs.Content.{IsContent, IsTextContent, content_of};
 ghost use Rattle.markdown_engine_content.specs.KnownPlaces.{IsDocument};
 ghost use Rattle.markdown_run_text.specs.RunSetting.{setting_of, text_setting_of};
@@ -9,7 +10,7 @@ ghost use Rattle.markdown_attention.specs.AttentionPass.{IsProbed};
 ghost use Rattle.markdown_run_leaves.specs.InnermostEvents.{IsInOrder, covered, innermost, lent};
 ghost use Rattle.markdown_model.specs.InlineTree.{label_tree, string_events, text_events};
 
-use crate::run::{Run, run_through};
+use crate::run::{Run, run_through, text_through};
 use markdown_engine::state::StateName;
 use markdown_engine::tokenizer::Tokenizer;
 use markdown_engine_content::content::has_text_lines;
@@ -148,6 +149,29 @@ impl<'a> Document<'a> {
     {
         self.known_content(pieces).text(alloc, first_of_item)
     }
+
+    /// Puts these identifiers of definitions and of footnotes in place of those that it has. What is known of its places stays.
+    ///
+    /// A block parser reads the strings of definitions before it knows all of them. Takes time for the names alone.
+    ///
+    /// The error comes only where memory is refused; the document is then as it was.
+    pub fn redefine(
+        &mut self,
+        alloc: Global,
+        definitions: Vec<String>,
+        footnotes: Vec<String>,
+    ) -> Result<(), AllocError>
+        ensures ok { OnOk result (self.new ≡ record self.old { definitions = definitions; gfm_footnote_definitions = footnotes }) }
+        ensures err { OnErr result (self.new ≡ self.old) }
+    {
+        let definition_index = NameIndex::over(alloc, definitions.as_slice())?;
+        let footnote_index = NameIndex::over(alloc, footnotes.as_slice())?;
+        self.parse_state.definitions = definitions;
+        self.parse_state.gfm_footnote_definitions = footnotes;
+        self.definitions = definition_index;
+        self.footnotes = footnote_index;
+        Ok(())
+    }
 }
 
 /// A content of a document, tested once and found once. Contracts see the document's `ParseState` and the pieces.
@@ -229,6 +253,17 @@ impl<'b> Content<'b> {
             self.cursor.save(),
         );
         tell(&mut tokenizer, names, first_of_item);
-        run_through(StateName::TextStart, &mut tokenizer)
+        text_through(&mut tokenizer)
+    }
+
+    /// A new tokenizer at the start of it, by which single constructs are read: the one that `Tokenizer::new` makes, found at once.
+    ///
+    /// Takes no memory. `run::construct` and `state::call` read with it.
+    pub fn tokenizer(&self, alloc: Global) -> Tokenizer<'b>
+        ensures parse_state { result.parse_state.now ≡ self.now.parse_state }
+        ensures begun { result ≡ begun alloc result.parse_state self.now.pieces }
+    {
+        let document = self.document;
+        Tokenizer::starting_at(alloc, &document.parse_state, self.cursor.save())
     }
 }

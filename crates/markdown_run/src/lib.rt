@@ -2,6 +2,7 @@
 #![tactic(auto)]
 
 pub mod document;
+mod elements;
 pub mod gfm_autolink_literal;
 pub mod label_end;
 pub mod resolve;

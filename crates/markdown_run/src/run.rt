@@ -3,13 +3,18 @@ ghost use Rattle.std.specs.Prelude.{◌≡◌, ◌-◌, false, [], take, drop, m
 ghost use Rattle.std.specs.List.{All};
 ghost use Rattle.markdown_run.specs.RunConstruct.{IsConstruct, ConstructEnds};
 ghost use Rattle.markdown_run.specs.Layer.{ready_of};
-ghost use Rattle.markdown_run.specs.RunWithPasses.{MayPass, IsFoundFrom};
+ghost use Rattle.markdown_run.specs.RunWithPasses.{MayPass, IsFoundFrom, MayPassText, IsFoundInText, IsFoundBehind};
+ghost use Rattle.markdown_run.specs.ElementsOfText.{KnowsNothing};
+ghost use Rattle.markdown_engine.specs.PassesInOrder.{MayResolve, unregistered};
+ghost use Rattle.markdown_run_text.specs.ContentPasses.{may_resolve_of, resolves_of};
+ghost use Rattle.markdown_run_text.specs.TextContent.{StartReady};
 ghost use Rattle.markdown_engine_content.specs.Content.{IsContent, IsTextContent, content_of};
 ghost use Rattle.markdown_run_text.specs.RunSetting.{setting_of, text_setting_of};
 ghost use Rattle.markdown_attention.specs.AttentionPass.{IsProbed};
 ghost use Rattle.markdown_run_leaves.specs.InnermostEvents.{IsInOrder, covered, innermost, lent};
 ghost use Rattle.markdown_model.specs.InlineTree.{label_tree, string_events, text_events};
 
+use crate::elements::read_text;
 use crate::state::Inline;
 use markdown_engine::state::StateName;
 use markdown_engine::tokenizer::Tokenizer;
@@ -33,6 +38,19 @@ pub struct Run {
     pub probes: u128,
 }
 
+// Runs the passes that are registered, and takes what is found out of the tokenizer.
+fn finish(tokenizer: &mut Tokenizer) -> Result<Run, AllocError>
+    requires { MayResolve may_resolve_of resolves_of tokenizer.old.resolvers (unregistered tokenizer.old) }
+    ensures { IfOk result (λ run. IsFoundBehind tokenizer.old run) }
+{
+    tokenizer.resolve_all::<Inline>()?;
+    let events = mem::replace(&mut tokenizer.events, Events::new(tokenizer.alloc));
+    Ok(Run {
+        events: events.into_vec(),
+        probes: tokenizer.tokenize_state.probes,
+    })
+}
+
 // Runs the states from this one and then the passes that they registered, and takes what is found out of the tokenizer.
 pub(crate) fn run_through(name: StateName, tokenizer: &mut Tokenizer) -> Result<Run, AllocError>
     requires ready { ready_of name tokenizer.old }
@@ -41,12 +59,19 @@ pub(crate) fn run_through(name: StateName, tokenizer: &mut Tokenizer) -> Result<
     ensures { IfOk result (λ run. IsFoundFrom name tokenizer.old run) }
 {
     let _ = tokenizer.run_state::<Inline>(name)?;
-    tokenizer.resolve_all::<Inline>()?;
-    let events = mem::replace(&mut tokenizer.events, Events::new(tokenizer.alloc));
-    Ok(Run {
-        events: events.into_vec(),
-        probes: tokenizer.tokenize_state.probes,
-    })
+    finish(tokenizer)
+}
+
+// Reads the elements of a text and then runs the passes that it registers, and takes what is found out of the tokenizer.
+pub(crate) fn text_through(tokenizer: &mut Tokenizer) -> Result<Run, AllocError>
+    requires ready { StartReady tokenizer.old }
+    requires alone { tokenizer.old.attempts ≡ [] }
+    requires unknown { KnowsNothing tokenizer.old }
+    requires passes { MayPassText tokenizer.old }
+    ensures { IfOk result (λ run. IsFoundInText tokenizer.old run) }
+{
+    read_text(tokenizer)?;
+    finish(tokenizer)
 }
 
 /// The events of the inline tree of a content that is read as a string: of its escapes, character references and data.
@@ -95,7 +120,7 @@ pub fn text(
     tokenizer
         .tokenize_state
         .document_at_first_paragraph_of_list_item = first_of_item;
-    run_through(StateName::TextStart, &mut tokenizer)
+    text_through(&mut tokenizer)
 }
 
 // Puts back events, edits, open names and place.

@@ -60,7 +60,8 @@ use Rattle.markdown_run_text.proofs.TextElements.{is_marker, data-holds}
 use Rattle.markdown_run_text.proofs.TextTries.{ReadsElements, AreTriedAt, first-reads, second-reads, second-alone, reference-reads, reference-alone, span-reads, span-alone, run-reads, run-alone, run-leaf, protocol-reads, protocol-alone, www-reads, www-alone, other-alone}
 use Rattle.markdown_run_row.proofs.ElementSteps.{DataRead, data-read, some-ahead, advances-finishes, node-advances, run-advances}
 use Rattle.markdown_run_text.proofs.TextLabelTries.{image-advances, image-alone, footnote-advances, link-advances, bracket-alone, made-advances, failed-advances, end-alone}
-use Rattle.markdown_run_text.proofs.TextSteps.{IsSame, same-row, choice-same, stops-same, marked-past, no-check-behind, no-check-past, advances-ends, alone-ends, tree-kept, registered-kept, made-kept, some-none, weight-marked, at-rest-reference, run-ready, passed-attempts, at-end, ends-on, lost-there, not-lost, lost-left, lost-current, same-lost, html-ready, marked-start, check-elements}
+use Rattle.markdown_run_text.proofs.TextSteps.{IsSame, same-row, choice-same, stops-same, marked-past, no-check-behind, no-check-past, advances-ends, alone-ends, tree-kept, registered-kept, made-kept}
+use Rattle.markdown_run_text.proofs.TextSteps.{some-none, weight-marked, at-rest-reference, run-ready, passed-attempts, at-end, ends-on, lost-there, not-lost, lost-left, lost-current, same-lost, html-ready, marked-ready, marked-start, check-elements}
 
 -- the starts of what is tried, as they are said, and any other as it is given
 abbrev pub called : (StateName → StateWords) → StateName → StateWords
@@ -91,11 +92,11 @@ EndsOf w reading T = (ok : Bool) (U : Tokenizer) → w.ends T ok U → EndsAs re
 
 -- An autolink or HTML, and an escape or a hard break.
 
-angle-row : (T : Tokenizer) → AreTriedAt T (byte "<") (is_on T).autolink (is_on T).html_text autolink html_text
+pub angle-row : (T : Tokenizer) → AreTriedAt T (byte "<") (is_on T).autolink (is_on T).html_text autolink html_text
 unfolding tries tried
 angle-row T earlier previous = (refl, (refl, refl))
 
-slash-row : (T : Tokenizer) →
+pub slash-row : (T : Tokenizer) →
     AreTriedAt T (byte "\\") (is_on T).character_escape (is_on T).hard_break_escape character_escape hard_break_escape
 unfolding tries tried
 slash-row T earlier previous = (refl, (refl, refl))
@@ -116,7 +117,7 @@ module _ (W : Words) (within : Within states_and_called W) where
   -- A construct is tried: it holds and is an element, or the run goes on with another state at the same place.
 
   try-law : (rank : ℕ) (T : Tokenizer) (construct otherwise : StateName) {w : StateWords} → words_in W construct ≡ w →
-      (reading : TreeReading) → T.attempts ≡ [] → w.ready T → weight_at w.rank T < weight_at rank T → IsMarked T →
+      (reading : TreeReading) → T.attempts ≡ [] → w.ready T → weight_at (w.rank T) T < weight_at rank T → IsMarked T →
       EndsOf w reading T → ReadsPlain (bytes_of T) reading → ReadsElements reading T →
       (reading (ahead T) ≡ None → FollowsIn W (weight_at rank T) (before_ends T) (Next otherwise) T) →
       GoesIn W (weight_at rank T) (before_ends T) (attempt_step construct otherwise T)
@@ -148,11 +149,11 @@ module _ (W : Words) (within : Within states_and_called W) where
 
     tries-reference : current_of T ≡ Some (byte "&") → Before (attempt_step CharacterReferenceStart TextBeforeData T)
     tries-reference d =
-        try-law 8 T CharacterReferenceStart TextBeforeData (within CharacterReferenceStart) (reference_here T) alone (at-rest-reference T ready.marked) (omega arith) ready.marked (λ ok U g. g) (search plain_constructs) (reference-reads T d) (λ none. to-data 8 T (byte "&") (omega arith) ready d (reference-alone T d none))
+        try-law 8 T CharacterReferenceStart TextBeforeData (within CharacterReferenceStart) (reference_here T) alone (at-rest-reference T ready.marked.spans) (omega arith) ready.marked (λ ok U g. g) (search plain_constructs) (reference-reads T d) (λ none. to-data 8 T (byte "&") (omega arith) ready d (reference-alone T d none))
 
     tries-autolink : current_of T ≡ Some (byte "<") → Before (attempt_step AutolinkStart TextBeforeHtml T)
     tries-autolink d =
-        try-law 8 T AutolinkStart TextBeforeHtml (within AutolinkStart) (link_here T) alone (at-rest-reference T ready.marked).size (omega arith) ready.marked (λ ok U g. g) (search plain_constructs) (first-reads T (byte "<") _ _ _ _ (angle-row T) d)
+        try-law 8 T AutolinkStart TextBeforeHtml (within AutolinkStart) (link_here T) alone (at-rest-reference T ready.marked.spans).size (omega arith) ready.marked (λ ok U g. g) (search plain_constructs) (first-reads T (byte "<") _ _ _ _ (angle-row T) d)
         (λ none. follows W (weight_at 8 T) (before_ends T) (Next TextBeforeHtml) (within TextBeforeHtml) T (record { before = ready; angle = d; no_autolink = none }) (omega arith) (λ ok V h. h))
 
     tries-escape : current_of T ≡ Some (byte "\\") →
@@ -165,7 +166,7 @@ module _ (W : Words) (within : Within states_and_called W) where
     tries-run : (v : ℕ) → current_of T ≡ Some v → is_marker v ≡ true →
         Before (attempt_step AttentionStart TextBeforeData T)
     tries-run v e h =
-        Goes-attempt W (weight_at 8 T) (before_ends T) (Retry AttentionStart) (within AttentionStart) (Next TextBefore) (Next TextBeforeData) T alone (run-ready T ready.marked) (omega arith)
+        Goes-attempt W (weight_at 8 T) (before_ends T) (Retry AttentionStart) (within AttentionStart) (Next TextBefore) (Next TextBeforeData) T alone (run-ready T ready.marked.spans) (omega arith)
         (λ U now k. let r : ReadsRun T U = k in
         on-before (weight_at 8 T) T U (omega arith) ready.marked
         (registered-kept T U r.there r.reads.tree (r.reads.left ∙ ap (past None r.reads.tree) (scratched-same T)) r.left ready.marked.ends.within)
@@ -224,7 +225,7 @@ module _ (W : Words) (within : Within states_and_called W) where
             let stops : List Code → Bool = stops_of T.tokenize_state in
             let there : DataFinishes (text_choice_of T) (data_up_to stops) text_passed F V =
             subst (λ c. DataFinishes c (data_up_to stops) text_passed F V) (choice-same T F e) (subst (λ stop. DataFinishes (text_choice_of F) (data_up_to stop) text_passed F V) (stops-same T F e) k) in
-            advances-finishes (text_choice_of T) text_passed T there.behind V (failed-advances T d on there.behind ready.marked.stops none there.data_read) there.finishes
+            advances-finishes (text_choice_of T) text_passed T there.behind V (failed-advances T d on stops there.behind ready.marked.stops none there.data_read) there.finishes
         lost-ends e false V k = k
 
     tries-end : current_of T ≡ Some (byte "]") → Before (attempt_step LabelEndStart TextBeforeData T)
@@ -284,7 +285,7 @@ module _ (W : Words) (within : Within states_and_called W) where
 
   pub before_html-law : Law W before_html_words
   before_html-law T alone r =
-      try-law 6 T HtmlTextStart TextBeforeData (within HtmlTextStart) (HtmlText.html_here T) alone (html-ready T r.before.marked) (omega arith) r.before.marked (λ ok U g. g) (search plain_constructs) (second-reads T (byte "<") _ _ _ _ (angle-row T) r.angle r.no_autolink)
+      try-law 6 T HtmlTextStart TextBeforeData (within HtmlTextStart) (HtmlText.html_here T) alone (html-ready T (marked-ready T r.before.marked)) (omega arith) r.before.marked (λ ok U g. g) (search plain_constructs) (second-reads T (byte "<") _ _ _ _ (angle-row T) r.angle r.no_autolink)
       (λ none. to-data 6 T (byte "<") (omega arith) r.before r.angle (second-alone T (byte "<") _ _ _ _ (angle-row T) r.angle r.no_autolink none))
 
   pub before_label_start_link-law : Law W before_label_start_link_words

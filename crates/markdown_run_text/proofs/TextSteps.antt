@@ -134,18 +134,30 @@ pub stops-past : (T U : Tokenizer) → IsSame T U → StopsAtElements T → Stop
 stops-past T U e stops front earlier previous c cs w free =
     (λ i. choice-same T U e i earlier previous (c ∷ cs)) ∙ stops front earlier previous c cs (sym e.codes ∙ w) (ap (λ (stop : List Code → Bool). stop (c ∷ cs)) (sym (stops-same T U e)) ∙ free)
 
-pub marked-past : (T U : Tokenizer) → IsSame T U → codes_left U ≤ codes_left T →
-    AreWithin U U.tokenize_state.label_starts → IsMarked T → IsMarked U
-marked-past T U e l within r =
+pub ready-past : (T U : Tokenizer) → IsSame T U → codes_left U ≤ codes_left T →
+    AreWithin U U.tokenize_state.label_starts → StartReady T → StartReady U
+ready-past T U e l within r =
     let u : TokenizeState = U.tokenize_state in
     record {
-      stops = stops-past T U e r.stops;
       spans = record { rest = e.fields ∙ ap (relisted u) r.spans.rest ∙ ap RawText.rested (sym e.fields); fits = omega (arith, l, r.spans.fits); indexed = indexed-past T U e r.spans.indexed };
       look = record { resting = ap PartialSpaceOrTab.rested e.fields ∙ ap (relisted u) r.look.resting ∙ sym e.fields; short = omega (arith, l, r.look.short) };
       literals = record { text = e.text; resting = ap GfmAutolinkLiteral.rested e.fields ∙ ap (relisted u) r.literals.resting ∙ sym e.fields; short = omega (arith, l, r.literals.short); knows = domains-past T U e r.literals.knows };
       ends = record { part = part-past T U e l r.ends.part; listed = listed-past T U e r.ends.listed; text = e.text; within = within; resting = ap (λ (s : TokenizeState). s.end) e.fields ∙ r.ends.resting };
       last = last-past T U e r.last;
     }
+
+-- where data stops at elements, all but that is what is asked at the start
+pub marked-ready : (T : Tokenizer) → IsMarked T → StartReady T
+marked-ready T r = record { spans = r.spans; look = r.look; literals = r.literals; ends = r.ends; last = r.last }
+
+pub ready-marked : (T : Tokenizer) → StopsAtElements T → StartReady T → IsMarked T
+ready-marked T stops r =
+    record { stops = stops; spans = r.spans; look = r.look; literals = r.literals; ends = r.ends; last = r.last }
+
+pub marked-past : (T U : Tokenizer) → IsSame T U → codes_left U ≤ codes_left T →
+    AreWithin U U.tokenize_state.label_starts → IsMarked T → IsMarked U
+marked-past T U e l within r =
+    ready-marked U (stops-past T U e r.stops) (ready-past T U e l within (marked-ready T r))
 
 -- past an element no check may begin
 
@@ -230,12 +242,12 @@ pub weight-marked : (T : Tokenizer) → weight_at 9 (text_marked T) ≡ weight_a
 weight-marked T =
     ap (λ n. 256 * n + 9 + 1) (left-scratched (marked_fields T.cursor T.parse_state.now T.tokenize_state) T)
 
-pub at-rest-reference : (T : Tokenizer) → IsMarked T → IsAtRest T
+pub at-rest-reference : (T : Tokenizer) → RawText.StartReady T → IsAtRest T
 at-rest-reference T r =
-    record { marker = ap (λ (s : TokenizeState). s.marker) r.spans.rest; size = ap (λ (s : TokenizeState). s.size) r.spans.rest }
+    record { marker = ap (λ (s : TokenizeState). s.marker) r.rest; size = ap (λ (s : TokenizeState). s.size) r.rest }
 
-pub run-ready : (T : Tokenizer) → IsMarked T → Attention.StartReady T
-run-ready T r = r.spans.rest ∙ ap (Attention.with_marker 0) (sym r.spans.rest)
+pub run-ready : (T : Tokenizer) → RawText.StartReady T → Attention.StartReady T
+run-ready T r = r.rest ∙ ap (Attention.with_marker 0) (sym r.rest)
 
 pub passed-attempts : (T : Tokenizer) → T.attempts ≡ [] → (text_passed T).attempts ≡ []
 passed-attempts T alone = attempts-registered R.Text (registered R.Data T) ∙ attempts-registered R.Data T ∙ alone
@@ -285,11 +297,12 @@ same-lost T r =
     let row : Row = row_then empty loses (row_end empty) in
     same-row row T (past_mark loses T) (mark-alone loses T) (empty-part, (tt, empty-part)) r
 
-pub html-ready : (T : Tokenizer) → IsMarked T → HtmlText.StartReady T
-html-ready T r = record { spaces = record { resting = r.look.resting; short = r.look.short }; indexed = r.ends.part.indexed; rest = sym (html-rest T r) }
+pub html-ready : (T : Tokenizer) → StartReady T → HtmlText.StartReady T
+html-ready T r =
+    record { spaces = record { resting = r.look.resting; short = r.look.short }; indexed = r.ends.part.indexed; rest = sym (html-rest T r.spans) }
   where
-    html-rest : (T : Tokenizer) → IsMarked T → T.tokenize_state ≡ HtmlText.rested T.tokenize_state
-    html-rest T r = r.spans.rest ∙ ap HtmlText.rested (sym r.spans.rest)
+    html-rest : (T : Tokenizer) → RawText.StartReady T → T.tokenize_state ≡ HtmlText.rested T.tokenize_state
+    html-rest T k = k.rest ∙ ap HtmlText.rested (sym k.rest)
 
 pub spans-marked : (T : Tokenizer) → RawText.StartReady T → RawText.StartReady (text_marked T)
 unfolding scratched
@@ -327,7 +340,7 @@ lent-known s start end lent known true h e =
 lent-known s start end lent known false h e = subst (λ (n : Names). AreListed s n) (sym (made-known true lent known e)) h
 
 -- and so are the names that a text is read with
-names-known : (c : Place) (p : ParseState) (lent : Option Names) (known : Names) →
+pub names-known : (c : Place) (p : ParseState) (lent : Option Names) (known : Names) →
     ((names : Names) → lent ≡ Some names → AreListed (setting_of p) names) → names_for lent c p ≡ Some known → AreListed (setting_of p) known
 names-known c p None known h e =
     listed-made (setting_of p) (point_of (record c { at = 0 })).index c.end.index known (made-known (order_pays c.codes p) (names_in c p) known e)

@@ -1,5 +1,5 @@
 -- What is tried at a code of a text: where it holds, it is the element at hand, and where nothing holds, the code is one by itself.
-use Rattle.markdown_model.specs.Elements.{first_check}
+use Rattle.markdown_model.specs.Elements.{Choice, first_check}
 use Rattle.markdown_model.specs.Grammar.{Reading, ◌>>◌, provided, one}
 use Rattle.std.proofs.Common.{◌≡◌, ℕ, zero, suc, drop, ◌==◌, ◌||◌, true, false, Option, Some, None, List, ◌∷◌, refl, sym, ap, ◌∙◌, Bool, ◌&&◌, is_none, [], take, ◌++◌, append_assoc}
 use Rattle.std.proofs.lemmas.Option.{same_Some}
@@ -251,9 +251,13 @@ other-alone T v e h earlier previous c cs stands w =
     other-element (text_setting T) (end_in T) earlier previous c cs (ap (λ x. list_any (λ n. x == n) text_markers) (value-here T v c cs e w) ∙ h)
 
 -- each other code of data
+pub single-ahead : (choice : Choice) (stops : List Code → Bool) (T : Tokenizer) → AreSingle choice stops T.cursor.codes →
+    AreSingle choice stops (ahead T)
+unfolding ahead_at
+single-ahead choice stops T single front earlier previous c cs w free =
+    single (take T.cursor.at T.cursor.codes ++ front) earlier previous c cs
+    (sym (take-append-drop T.cursor.at T.cursor.codes) ∙ ap (λ xs. take T.cursor.at T.cursor.codes ++ xs) w ∙ sym (append_assoc (take T.cursor.at T.cursor.codes) front (c ∷ cs))) free
+
 pub other-data : (T : Tokenizer) → StopsAtElements T →
     AreSingle (text_choice_of T) (stops_of T.tokenize_state) (ahead T)
-unfolding ahead_at
-other-data T stops front earlier previous c cs w free =
-    stops (take T.cursor.at T.cursor.codes ++ front) earlier previous c cs
-    (sym (take-append-drop T.cursor.at T.cursor.codes) ∙ ap (λ xs. take T.cursor.at T.cursor.codes ++ xs) w ∙ sym (append_assoc (take T.cursor.at T.cursor.codes) front (c ∷ cs))) free
+other-data T stops = single-ahead (text_choice_of T) (stops_of T.tokenize_state) T stops

@@ -94,13 +94,13 @@ start_ends T ok U = before_ends (string_marked T) ok U
 -- The states.
 
 abbrev pub start_words : StateWords
-start_words = record { ready = StartReady; step = start_step; ends = start_ends; rank = 7 }
+start_words = record { ready = StartReady; step = start_step; ends = start_ends; rank = λ T. 7 }
 
 abbrev pub before_words : StateWords
-before_words = record { ready = BeforeReady; step = before_step; ends = before_ends; rank = 6 }
+before_words = record { ready = BeforeReady; step = before_step; ends = before_ends; rank = λ T. 6 }
 
 abbrev pub before_data_words : StateWords
-before_data_words = record { ready = BeforeDataReady; step = before_data_step; ends = before_ends; rank = 5 }
+before_data_words = record { ready = BeforeDataReady; step = before_data_step; ends = before_ends; rank = λ T. 5 }
 
 -- a part of what is said of these states, and of any other as it is given
 abbrev pub said {ℓ} : {A : Type ℓ} → (StateWords → A) → (StateName → A) → StateName → A

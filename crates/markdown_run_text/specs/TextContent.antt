@@ -128,20 +128,25 @@ domains_pay cs p = (p.options.now.constructs.gfm_autolink_literal && holds WwwDo
 abbrev pub domains_for : List Code → ℕ → ParseState → Option (List ℕ)
 domains_for cs end p = if domains_pay cs p then Some (no_domains p.bytes.now end cs) else None
 
--- The scratch fields of a text of this content: where data stops, and that it passes letters with which no literal begins. They say where the
--- last runs begin at which spans may close, and where the sequences last begin that end HTML and resources. They say where titles may end, where
--- no domain begins, and the names of what is defined.
-abbrev pub marked_fields : Place → ParseState → TokenizeState → TokenizeState
-marked_fields c p s =
+-- These scratch fields, which know of the content what rules constructs out: where the last runs begin at which spans may close, and where the
+-- sequences last begin that end HTML and resources; where titles may end, and where no domain begins.
+abbrev pub indexed_fields : Place → ParseState → TokenizeState → TokenizeState
+indexed_fields c p s =
     record s {
-      markers = markers_for c.codes p;
-      passes_letters = true;
       runs = last_runs span_markers c.codes;
       sequences = Some (last_begins c.codes);
       titles = titles_for c.codes;
       no_domains = domains_for c.codes c.end.index p;
-      names = names_for s.names c p;
     }
+
+-- and these, with the names of what is defined
+abbrev pub named_fields : Place → ParseState → TokenizeState → TokenizeState
+named_fields c p s = record s { names = names_for s.names c p }
+
+-- The scratch fields of a text of this content: where data stops, and that it passes letters with which no literal begins, with all that is
+-- known of the content.
+abbrev pub marked_fields : Place → ParseState → TokenizeState → TokenizeState
+marked_fields c p s = record (named_fields c p (indexed_fields c p s)) { markers = markers_for c.codes p; passes_letters = true }
 
 abbrev pub text_marked : Tokenizer → Tokenizer
 text_marked T = scratched (marked_fields T.cursor T.parse_state.now T.tokenize_state) T
@@ -270,22 +275,22 @@ start_ends T ok U = before_ends (text_marked T) ok U
 -- The states.
 
 abbrev pub start_words : StateWords
-start_words = record { ready = StartReady; step = start_step; ends = start_ends; rank = 9 }
+start_words = record { ready = StartReady; step = start_step; ends = start_ends; rank = λ T. 9 }
 
 abbrev pub before_words : StateWords
-before_words = record { ready = BeforeReady; step = before_step; ends = before_ends; rank = 8 }
+before_words = record { ready = BeforeReady; step = before_step; ends = before_ends; rank = λ T. 8 }
 
 abbrev pub before_html_words : StateWords
-before_html_words = record { ready = BeforeHtmlReady; step = before_html_step; ends = before_ends; rank = 6 }
+before_html_words = record { ready = BeforeHtmlReady; step = before_html_step; ends = before_ends; rank = λ T. 6 }
 
 abbrev pub before_hard_break_escape_words : StateWords
-before_hard_break_escape_words = record { ready = BeforeBreakReady; step = before_hard_break_escape_step; ends = before_ends; rank = 6 }
+before_hard_break_escape_words = record { ready = BeforeBreakReady; step = before_hard_break_escape_step; ends = before_ends; rank = λ T. 6 }
 
 abbrev pub before_label_start_link_words : StateWords
-before_label_start_link_words = record { ready = BeforeLinkReady; step = before_label_start_link_step; ends = before_ends; rank = 6 }
+before_label_start_link_words = record { ready = BeforeLinkReady; step = before_label_start_link_step; ends = before_ends; rank = λ T. 6 }
 
 abbrev pub before_data_words : StateWords
-before_data_words = record { ready = BeforeDataReady; step = before_data_step; ends = data_ends; rank = 5 }
+before_data_words = record { ready = BeforeDataReady; step = before_data_step; ends = data_ends; rank = λ T. 5 }
 
 -- a part of what is said of these states, and of any other as it is given
 abbrev pub said {ℓ} : {A : Type ℓ} → (StateWords → A) → (StateName → A) → StateName → A

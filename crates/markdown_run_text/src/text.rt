@@ -23,7 +23,7 @@ ghost use Rattle.markdown_engine_index.specs.RunIndex.{last_runs};
 ghost use Rattle.markdown_engine_index.specs.SequenceIndex.{last_begins};
 ghost use Rattle.markdown_plan.specs.Characters.{ReadsText};
 ghost use Rattle.markdown_run_text.specs.ContentPasses.{MayFinish, FinishesText};
-ghost use Rattle.markdown_run_text.specs.TextContent.{names_for, names_in, names_pay, order_pays, brackets_in, brackets_pay, titles_for, titles_pay, domains_for, domains_pay, span_markers, may_hold_literals, markers_for, first_try, attempt_step, start_step, before_step, before_html_step, before_hard_break_escape_step, before_label_start_link_step, before_data_step};
+ghost use Rattle.markdown_run_text.specs.TextContent.{indexed_fields, named_fields, names_for, names_in, names_pay, order_pays, brackets_in, brackets_pay, titles_for, titles_pay, domains_for, domains_pay, span_markers, may_hold_literals, markers_for, first_try, attempt_step, start_step, before_step, before_html_step, before_hard_break_escape_step, before_label_start_link_step, before_data_step};
 
 use markdown_engine::resolve::ResolveName;
 use markdown_engine::state::{State, StateName};
@@ -121,7 +121,7 @@ fn may_hold_literals(tokenizer: &Tokenizer) -> bool
 }
 
 // The bytes at which data of a text may stop: those at which something is tried, but for the letters of literals where none may begin. The
-// sequences are those of the content.
+// sequences have to be those of the content.
 fn markers(tokenizer: &Tokenizer) -> ByteSet
     requires { tokenizer.now.tokenize_state.sequences ≡ Some (last_begins tokenizer.now.cursor.codes) }
     ensures { result ≡ markers_for tokenizer.now.cursor.codes tokenizer.now.parse_state.now }
@@ -252,12 +252,17 @@ fn names_for<'a>(
     Ok(Some(names))
 }
 
-// Makes known the names of what is defined, where they are lent or their order pays.
+/// Makes known the names of what is defined, where they are lent or their order pays.
+///
+/// The error comes where memory is refused; then `failed` is true.
 #[tactic(auto, unfolding(markdown_engine::specs::Operations::scratched))]
-fn index_names(tokenizer: &mut Tokenizer) -> Result<(), AllocError>
-    ensures ok { OnOk result (tokenizer.new ≡ scratched (record tokenizer.old.tokenize_state { names = names_for tokenizer.old.tokenize_state.names tokenizer.old.cursor tokenizer.old.parse_state.now }) tokenizer.old) }
+pub fn index_names(tokenizer: &mut Tokenizer) -> Result<(), AllocError>
+    ensures ok { OnOk result (tokenizer.new ≡ scratched (named_fields tokenizer.old.cursor tokenizer.old.parse_state.now tokenizer.old.tokenize_state) tokenizer.old) }
     ensures err { OnErr result (IsTrue tokenizer.new.failed) }
 {
+    if tokenizer.tokenize_state.names.is_none() && !order_pays(tokenizer) {
+        return Ok(());
+    }
     let lent = tokenizer.tokenize_state.names.take();
     match names_for(tokenizer, lent) {
         Ok(names) => {
@@ -342,14 +347,31 @@ fn index_domains(tokenizer: &mut Tokenizer) -> Result<(), AllocError>
     }
 }
 
+/// Makes known what rules constructs out in the content.
+///
+/// One walk over it finds the sequences that end HTML and resources, so that none is looked for in vain, and whether literals and spans may
+/// begin. The others are made only where that walk has seen what they look for. Where a mark of a span stands, one finds the runs at which
+/// spans may close. Where many titles in parentheses may begin, and a resource may end behind one, one finds where each may end. Where many
+/// literals from `www.` on may begin behind a `_`, one finds at which of these places no domain begins.
+///
+/// The error comes where memory is refused; then `failed` is true.
+#[tactic(auto, unfolding(markdown_engine::specs::Operations::scratched))]
+pub fn index(tokenizer: &mut Tokenizer) -> Result<(), AllocError>
+    requires { ReadsText tokenizer.old }
+    ensures ok { OnOk result (tokenizer.new ≡ scratched (indexed_fields tokenizer.old.cursor tokenizer.old.parse_state.now tokenizer.old.tokenize_state) tokenizer.old) }
+    ensures err { OnErr result (IsTrue tokenizer.new.failed) }
+{
+    tokenizer.tokenize_state.sequences = SequenceIndex::over(&tokenizer.cursor);
+    index_titles(tokenizer)?;
+    index_runs(tokenizer)?;
+    index_domains(tokenizer)
+}
+
 /// At the start of a text, where the check of a task may stand.
 ///
-/// One walk over the content finds the sequences that end HTML and resources, so that none is looked for in vain; and whether literals may
-/// begin, so that data need not look behind each of their letters, and spans. The others are made only where that walk has seen what they look
-/// for. Where a mark of a span stands, one finds the runs at which spans may close. Where many titles in parentheses may begin, and a
-/// resource may end behind one, one finds where each may end. Where many literals from `www.` on may begin behind a `_`, one finds at which
-/// of these places no domain begins. Where many names are defined and many labels may end, the names are put in order, so that each is
-/// found by a search; names that are lent, as those of a `document::Document`, are in order already.
+/// What rules constructs out is made known, by `index`. Where no literal may begin, data need not look behind each of their letters. Where
+/// many names are defined and many labels may end, the names are put in order, so that each is found by a search; names that are lent, as
+/// those of a `document::Document`, are in order already.
 ///
 ///     > | [ ] do *it*
 ///         ^
@@ -359,12 +381,9 @@ pub fn start(tokenizer: &mut Tokenizer) -> Result<State, AllocError>
     ensures ok { IfOk result (λ s. start_step tokenizer.old ≡ record { state = s; left = tokenizer.new }) }
     ensures err { OnErr result (IsTrue tokenizer.new.failed) }
 {
-    tokenizer.tokenize_state.sequences = SequenceIndex::over(&tokenizer.cursor);
+    index(tokenizer)?;
     tokenizer.tokenize_state.markers = markers(tokenizer);
     tokenizer.tokenize_state.passes_letters = true;
-    index_titles(tokenizer)?;
-    index_runs(tokenizer)?;
-    index_domains(tokenizer)?;
     index_names(tokenizer)?;
     attempt(
         tokenizer,

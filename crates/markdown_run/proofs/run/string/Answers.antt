@@ -19,7 +19,7 @@ pub returns-clause-events : goal.returns-clause-events
 returns-clause-events c =
     let start = begun-starts c.args.alloc c.args.parse_state c.args.pieces.now c.new-tokenizer.result c.new-tokenizer.ensures in
     IfOk-weaker c.run_through.result _ _
-    (λ run k. k.events ∙ string-run c.args.parse_state.now c.args.pieces.now c.requires c.new-tokenizer.result k.left start k.held k.ends k.passed k.resolves)
+    (λ run k. k.found.events ∙ string-run c.args.parse_state.now c.args.pieces.now c.requires c.new-tokenizer.result k.left start k.held k.ends k.found.passed k.found.resolves)
     c.run_through.ensures
 
 pub returns-clause-places : goal.returns-clause-places
@@ -34,5 +34,5 @@ pub returns-clause-probes : goal.returns-clause-probes
 returns-clause-probes c =
     let start = begun-starts c.args.alloc c.args.parse_state c.args.pieces.now c.new-tokenizer.result c.new-tokenizer.ensures in
     IfOk-weaker c.run_through.result _ _
-    (λ run k. k.probes ∙ string-probes c.args.parse_state.now c.args.pieces.now c.requires c.new-tokenizer.result k.left start k.held k.ends k.passed k.resolves)
+    (λ run k. k.found.probes ∙ string-probes c.args.parse_state.now c.args.pieces.now c.requires c.new-tokenizer.result k.left start k.held k.ends k.found.passed k.found.resolves)
     c.run_through.ensures

@@ -23,7 +23,7 @@ returns-clause-events c =
     let content : IsContent v.parse_state.bytes.now v.pieces = subst (λ (x : ContentOf). IsContent x.parse_state.bytes.now x.pieces) c.self.view_is c.self.invariant.0 in
     let start : Starts v.parse_state v.pieces at_rest c.starting_at-tokenizer.result = content-starts _ _ v.parse_state v.pieces _ c.starting_at-tokenizer.result c.starting_at-tokenizer.ensures (c.document.view_is ∙ ap (λ (x : ContentOf). x.parse_state) c.self.view_is) (c.save.ensures ∙ c.self.invariant.1 ∙ ap (λ (x : ContentOf). start_of_content x.parse_state.bytes.now x.pieces) c.self.view_is) in
     IfOk-weaker c.run_through.result _ _
-    (λ run k. k.events ∙ string-run v.parse_state v.pieces content c.starting_at-tokenizer.result k.left start k.held k.ends k.passed k.resolves)
+    (λ run k. k.found.events ∙ string-run v.parse_state v.pieces content c.starting_at-tokenizer.result k.left start k.held k.ends k.found.passed k.found.resolves)
     c.run_through.ensures
 
 pub returns-clause-places : goal.returns-clause-places
@@ -44,5 +44,5 @@ returns-clause-probes c =
     let content : IsContent v.parse_state.bytes.now v.pieces = subst (λ (x : ContentOf). IsContent x.parse_state.bytes.now x.pieces) c.self.view_is c.self.invariant.0 in
     let start : Starts v.parse_state v.pieces at_rest c.starting_at-tokenizer.result = content-starts _ _ v.parse_state v.pieces _ c.starting_at-tokenizer.result c.starting_at-tokenizer.ensures (c.document.view_is ∙ ap (λ (x : ContentOf). x.parse_state) c.self.view_is) (c.save.ensures ∙ c.self.invariant.1 ∙ ap (λ (x : ContentOf). start_of_content x.parse_state.bytes.now x.pieces) c.self.view_is) in
     IfOk-weaker c.run_through.result _ _
-    (λ run k. k.probes ∙ string-probes v.parse_state v.pieces content c.starting_at-tokenizer.result k.left start k.held k.ends k.passed k.resolves)
+    (λ run k. k.found.probes ∙ string-probes v.parse_state v.pieces content c.starting_at-tokenizer.result k.left start k.held k.ends k.found.passed k.found.resolves)
     c.run_through.ensures

@@ -1,0 +1,313 @@
+-- What a construct that is tried in a text leads to, and data.
+use Rattle.std.proofs.Common.{◌≡◌, ◌≢◌, ℕ, ◌<◌, ◌≤◌, ◌==◌, ◌||◌, Bool, true, false, Some, None, List, [], ◌∷◌, refl, sym, ap, subst, ◌∙◌, arith}
+use Rattle.std.specs.List.{list_any}
+use Rattle.std.proofs.lemmas.Bool.{ne_eqb}
+use Rattle.std.specs.Prelude.{is_some, ◌&&◌}
+use Rattle.std.specs.Str.{byte}
+use Rattle.markdown_engine_content.specs.Codes.{Code}
+use Rattle.markdown_engine_content.specs.ListFunctions.{rest_of}
+use Rattle.markdown_engine_content.specs.Place.{code_at, moved}
+use Rattle.markdown_engine_content.proofs.PlaceRules.{ahead-moved}
+use Rattle.markdown_engine.specs.Operations.{HasCode, ahead, current_of, scratched}
+use Rattle.markdown_engine.specs.PastTree.{past, Reads, TreeReading}
+use Rattle.markdown_engine.specs.Weights.{codes_left}
+use Rattle.markdown_engine.specs.declared.state.StateName.TheVariants.{AttentionStart, AutolinkStart, CharacterEscapeStart, CharacterReferenceStart, GfmAutolinkLiteralProtocolStart, GfmAutolinkLiteralWwwStart, GfmLabelStartFootnoteStart}
+use Rattle.markdown_engine.specs.declared.state.StateName.TheVariants.{HardBreakEscapeStart, HtmlTextStart, LabelEndStart, LabelStartImageStart, LabelStartLinkStart, RawTextStart}
+use Rattle.markdown_engine.specs.declared.tokenizer.TokenizeState.{TokenizeState}
+use Rattle.markdown_engine.specs.declared.tokenizer.Tokenizer.{Tokenizer}
+use Rattle.markdown_engine.proofs.ReadingSequences.{scratched-same}
+use Rattle.markdown_attention.specs.Attention.{run_tree}
+use Rattle.markdown_label.specs.LabelEnd.{AreWithin}
+use Rattle.markdown_label.specs.LabelEnd as LabelEnd
+use Rattle.markdown_label.specs.LabelStarts.{footnotes_on, footnote_test, image_after_test, images_on, image_ends, link_ends, footnote_ends}
+use Rattle.markdown_label.proofs.NextCodeTests.{at-none, at-value}
+use Rattle.markdown_label.proofs.BegunStartPlaces.{link-within, footnote-within, image-within}
+use Rattle.markdown_leaf.specs.Autolink.{link_here}
+use Rattle.markdown_leaf.specs.CharacterEscape.{escape_here}
+use Rattle.markdown_leaf.specs.CharacterReference.{reference_here}
+use Rattle.markdown_leaf.specs.HardBreakEscape.{break_here}
+use Rattle.markdown_leaf.specs.RawText as RawText
+use Rattle.markdown_leaf_gfm.specs.GfmAutolinkLiteral as GfmAutolinkLiteral
+use Rattle.markdown_leaf_gfm.specs.GfmTaskListItemCheck as GfmTaskListItemCheck
+use Rattle.markdown_leaf_html.specs.HtmlText as HtmlText
+use Rattle.markdown_model.specs.CodeTests.{is_value, next_is}
+use Rattle.markdown_model.specs.GfmAutolinkLiteral.{schemes, www, first_letters}
+use Rattle.markdown_model.specs.TextLines.{data_up_to}
+use Rattle.markdown_model.proofs.PlainConstructs.{ReadsPlain, plain_constructs}
+use Rattle.markdown_plan.specs.Characters.{bytes_of}
+use Rattle.markdown_run_row.specs.Row.{loses, past_mark}
+use Rattle.markdown_run_row.specs.RunOverElements.{AreSingle, Advances, DataFinishes, Finishes}
+use Rattle.markdown_run_row.proofs.ConstructNodes.{node-of}
+use Rattle.markdown_run_row.proofs.ElementSteps.{some-ahead, advances-finishes, data-advances, node-advances, run-advances}
+use Rattle.markdown_run_row.proofs.RowFields.{lost-within}
+use Rattle.markdown_run_text.specs.TextContent.{StandsAlone, text_choice_of, text_markers, text_passed}
+use Rattle.markdown_run_text.proofs.TextContentLaws.{angle-row, slash-row}
+use Rattle.markdown_run_text.proofs.TextElements.{is_marker}
+use Rattle.markdown_run_text.proofs.TextLabelTries.{image-advances, image-alone, footnote-advances, link-advances, bracket-alone, made-advances, failed-advances, end-alone}
+use Rattle.markdown_run_text.proofs.TextSteps.{IsSame, same-row, choice-same, ready-past, no-check-past, tree-kept, registered-kept, made-kept, some-none, ends-on, lost-there, not-lost, lost-left, lost-current, same-lost}
+use Rattle.markdown_run_text.proofs.TextTries.{ReadsElements, single-ahead, first-reads, second-reads, second-alone, reference-reads, reference-alone, span-reads, span-alone, run-reads, run-alone, run-leaf, protocol-reads, protocol-alone, www-reads, www-alone, other-alone}
+use Rattle.markdown_run_readers.specs.TextStops.{text_stops}
+use Rattle.markdown_run.specs.ElementsOfText.{indexed, data_stops, MayTry, IsReady, EndsAt, EndsByData, LeadsTo, Passes, Stays, ReadsElement}
+use Rattle.markdown_run.specs.RunConstruct.{ConstructEnds}
+use Rattle.markdown_run_readers.specs.ReaderEnds.{ReadsOrStays}
+use Rattle.markdown_run.proofs.IndexedRows.{advances-indexed, mark-indexed, row-alone}
+use Rattle.markdown_run.proofs.StartsAndEnds.{image-begun, link-begun, footnote-begun, image-fails, link-fails, footnote-fails, end-made}
+
+-- An element is read.
+
+data-stops-same : (T U : Tokenizer) → IsSame T U → data_stops U ≡ data_stops T
+data-stops-same T U e i = text_stops (e.input i).now.options.now.constructs.gfm_autolink_literal
+
+single-past : (T U : Tokenizer) → IsSame T U → AreSingle (text_choice_of T) (data_stops T) T.cursor.codes →
+    AreSingle (text_choice_of U) (data_stops U) U.cursor.codes
+single-past T U e single front earlier previous c cs w free =
+    (λ i. choice-same T U e i earlier previous (c ∷ cs)) ∙ single front earlier previous c cs (sym e.codes ∙ w) (ap (λ (stop : List Code → Bool). stop (c ∷ cs)) (sym (data-stops-same T U e)) ∙ free)
+
+pub may-past : (T U : Tokenizer) → IsSame T U → codes_left U ≤ codes_left T → AreWithin U U.tokenize_state.label_starts →
+    U.attempts ≡ [] → MayTry T → MayTry U
+may-past T U e l within alone r =
+    record { start = ready-past T U e l within r.start; single = single-past T U e r.single; alone = alone }
+
+pub element-passes : (T U : Tokenizer) → MayTry T → AreWithin U U.tokenize_state.label_starts →
+    Advances (text_choice_of T) T U → Passes T U
+unfolding scratched
+element-passes T U r within a =
+    let e : IsSame T U = same-row a.row T U a.left a.is_row r.start.ends in
+    let less : codes_left U < codes_left T = a.less in
+    record {
+      ready = record { may_try = may-past T U e (omega (arith, less)) within (ap (λ (x : Tokenizer). x.attempts) a.left ∙ row-alone a.row T ∙ r.alone) r; unchecked = no-check-past T U a };
+      less = less;
+      leads = leads e;
+    }
+  where
+    leads : IsSame T U → LeadsTo T U
+    leads e s V h =
+        advances-finishes (text_choice_of T) text_passed (indexed s T) (indexed s U) V (advances-indexed s (text_choice_of T) T U a) (subst (λ c. Finishes c text_passed (indexed s U) V) (choice-same T U e) h)
+
+-- None is, and the code at hand is data.
+
+alone-ends : (T : Tokenizer) → AreSingle (text_choice_of T) (data_stops T) T.cursor.codes → current_of T ≢ None → StandsAlone T →
+    (V : Tokenizer) → EndsByData T V → EndsAt T V
+alone-ends T single some alone V k =
+    let a = some-ahead T (ahead T) refl some in
+    advances-finishes (text_choice_of T) text_passed T k.behind V
+    (data-advances (text_choice_of T) (data_stops T) T k.behind a.0 a.1.0 a.1.1 k.data_read (λ earlier previous stands. alone earlier previous a.0 a.1.0 stands a.1.1)
+    (subst (λ xs. AreSingle (text_choice_of T) (data_stops T) xs) a.1.1 (single-ahead (text_choice_of T) (data_stops T) T single)))
+    k.finishes
+
+has-code : (T : Tokenizer) (v : ℕ) → current_of T ≡ Some v → HasCode T
+has-code T v e = ap is_some e
+
+pub alone-stays : (T U : Tokenizer) (v : ℕ) → IsReady T → current_of T ≡ Some v → U ≡ T → StandsAlone T → Stays T U
+unfolding scratched
+alone-stays T U v r here same alone = subst (λ (x : Tokenizer). Stays T x) (sym same) there
+  where
+    leads : (s : TokenizeState) (V : Tokenizer) → EndsByData (indexed s T) V → EndsAt (indexed s T) V
+    leads s V k =
+        alone-ends (indexed s T) r.may_try.single (some-none (current_of T) v here) (λ earlier previous c cs stands w. alone earlier previous c cs (record { escaped = stands.escaped; before = stands.before; keeps = stands.keeps }) w) V k
+
+    there : Stays T T
+    there = record { ready = r; some_code = has-code T v here; left = omega arith; leads = leads }
+
+-- A construct is tried.
+
+plain-ends : (T U : Tokenizer) (ok : Bool) (v : ℕ) (reading : TreeReading) → IsReady T → current_of T ≡ Some v →
+    ReadsOrStays None reading None T.tokenize_state T ok U → ReadsPlain (bytes_of T) reading → ReadsElements reading T →
+    (reading (ahead T) ≡ None → StandsAlone T) → ReadsElement T ok U
+plain-ends T U true v reading r here k own elements alone =
+    let node = node-of (bytes_of T) reading own (ahead T) k.tree k.rest k.holds in
+    element-passes T U r.may_try (tree-kept T U k.tree (k.left ∙ ap (past None k.tree) (scratched-same T)) r.may_try.start.ends.within)
+    (node-advances (text_choice_of T) reading T U k node.0 node.1 (elements k.tree k.rest k.holds))
+plain-ends T U false v reading r here k own elements alone =
+    alone-stays T U v r here (k.1 ∙ scratched-same T) (alone k.0)
+
+pub span-ends : (T U : Tokenizer) (ok : Bool) (v : ℕ) → IsReady T → current_of T ≡ Some v →
+    (v == byte "$" || v == byte "`") ≡ true → ConstructEnds RawTextStart T ok U → ReadsElement T ok U
+span-ends T U ok v r here h k =
+    plain-ends T U ok v (RawText.span_at T) r here k (search plain_constructs) (span-reads T v here h) (span-alone T v here h)
+
+pub reference-ends : (T U : Tokenizer) (ok : Bool) → IsReady T → current_of T ≡ Some (byte "&") →
+    ConstructEnds CharacterReferenceStart T ok U → ReadsElement T ok U
+reference-ends T U ok r here k =
+    plain-ends T U ok (byte "&") (reference_here T) r here k (search plain_constructs) (reference-reads T here) (reference-alone T here)
+
+pub protocol-ends : (T U : Tokenizer) (ok : Bool) (v : ℕ) → IsReady T → current_of T ≡ Some v →
+    list_any (λ n. v == n) (first_letters schemes) ≡ true → ConstructEnds GfmAutolinkLiteralProtocolStart T ok U → ReadsElement T ok U
+protocol-ends T U ok v r here h k =
+    plain-ends T U ok v (GfmAutolinkLiteral.protocol_here T) r here k (search plain_constructs) (protocol-reads T v r.may_try.start.last here h) (protocol-alone T v r.may_try.start.last here h)
+
+pub www-ends : (T U : Tokenizer) (ok : Bool) (v : ℕ) → IsReady T → current_of T ≡ Some v →
+    list_any (λ n. v == n) (first_letters (www ∷ [])) ≡ true → ConstructEnds GfmAutolinkLiteralWwwStart T ok U → ReadsElement T ok U
+www-ends T U ok v r here h k =
+    plain-ends T U ok v (GfmAutolinkLiteral.www_here T) r here k (search plain_constructs) (www-reads T v r.may_try.start.last here h) (www-alone T v r.may_try.start.last here h)
+
+-- Two constructs are tried, one behind the other.
+
+plain-holds : (T U : Tokenizer) (reading : TreeReading) → IsReady T → Reads reading None T.tokenize_state T U → ReadsPlain (bytes_of T) reading →
+    ReadsElements reading T → Passes T U
+plain-holds T U reading r k own elements =
+    let node = node-of (bytes_of T) reading own (ahead T) k.tree k.rest k.holds in
+    element-passes T U r.may_try (tree-kept T U k.tree (k.left ∙ ap (past None k.tree) (scratched-same T)) r.may_try.start.ends.within)
+    (node-advances (text_choice_of T) reading T U k node.0 node.1 (elements k.tree k.rest k.holds))
+
+pub autolink-holds : (T U : Tokenizer) → IsReady T → current_of T ≡ Some (byte "<") → ConstructEnds AutolinkStart T true U → Passes T U
+autolink-holds T U r here k = plain-holds T U (link_here T) r k (search plain_constructs) (first-reads T (byte "<") _ _ _ _ (angle-row T) here)
+
+pub html-ends : (T U V : Tokenizer) (ok : Bool) → IsReady T → current_of T ≡ Some (byte "<") → ConstructEnds AutolinkStart T false U →
+    ConstructEnds HtmlTextStart U ok V → ReadsElement T ok V
+html-ends T U V ok r here k h =
+    let same : U ≡ T = k.1 ∙ scratched-same T in
+    let there : ConstructEnds HtmlTextStart T ok V = subst (λ (x : Tokenizer). ConstructEnds HtmlTextStart x ok V) same h in
+    plain-ends T V ok (byte "<") (HtmlText.html_here T) r here there (search plain_constructs) (second-reads T (byte "<") _ _ _ _ (angle-row T) here k.0) (second-alone T (byte "<") _ _ _ _ (angle-row T) here k.0)
+
+pub escape-holds : (T U : Tokenizer) → IsReady T → current_of T ≡ Some (byte "\\") → ConstructEnds CharacterEscapeStart T true U → Passes T U
+escape-holds T U r here k = plain-holds T U (escape_here T) r k (search plain_constructs) (first-reads T (byte "\\") _ _ _ _ (slash-row T) here)
+
+pub break-ends : (T U V : Tokenizer) (ok : Bool) → IsReady T → current_of T ≡ Some (byte "\\") → ConstructEnds CharacterEscapeStart T false U →
+    ConstructEnds HardBreakEscapeStart U ok V → ReadsElement T ok V
+break-ends T U V ok r here k h =
+    let same : U ≡ T = k.1 ∙ scratched-same T in
+    let there : ConstructEnds HardBreakEscapeStart T ok V = subst (λ (x : Tokenizer). ConstructEnds HardBreakEscapeStart x ok V) same h in
+    plain-ends T V ok (byte "\\") (break_here T) r here there (search plain_constructs) (second-reads T (byte "\\") _ _ _ _ (slash-row T) here k.0) (second-alone T (byte "\\") _ _ _ _ (slash-row T) here k.0)
+
+-- Runs of markers.
+
+pub run-ends : (T U : Tokenizer) (ok : Bool) (v : ℕ) → IsReady T → current_of T ≡ Some v → is_marker v ≡ true →
+    ConstructEnds AttentionStart T ok U → ReadsElement T ok U
+run-ends T U true v r here h k =
+    let reads : Reads (run_tree T) None T.tokenize_state T k.0 = k.1.0 in
+    element-passes T U r.may_try
+    (registered-kept T U k.0 reads.tree (reads.left ∙ ap (past None reads.tree) (scratched-same T)) k.1.1 r.may_try.start.ends.within)
+    (run-advances (text_choice_of T) (run_tree T) T U k.0 reads k.1.1 (run-leaf T v reads.tree reads.rest here h reads.holds) (run-reads T v here h reads.tree reads.rest reads.holds))
+run-ends T U false v r here h k = alone-stays T U v r here (k.1 ∙ scratched-same T) (run-alone T v here h k.0)
+
+-- Starts of labels.
+
+-- a later test that fails
+later-fails : (a b c : Bool) → b ≡ false → a && (b && c) ≡ false
+later-fails true true c e = cc
+later-fails true false c e = refl
+later-fails false b c e = refl
+
+last-fails : (a b : Bool) → b ≡ false → a && b ≡ false
+last-fails true b e = e
+last-fails false b e = refl
+
+-- the code behind the one at hand
+pub next-some : (T : Tokenizer) (v n : ℕ) → code_at (moved T.cursor) ≡ Some n →
+    (n == v) ≡ next_is (is_value v) (rest_of (ahead T))
+next-some T v n e =
+    sym (at-value (record T { cursor = moved T.cursor }) n v (n == v) e refl) ∙ ap (next_is (is_value v)) (ahead-moved T.cursor)
+
+pub next-none : (T : Tokenizer) (v : ℕ) → code_at (moved T.cursor) ≡ None → false ≡ next_is (is_value v) (rest_of (ahead T))
+next-none T v e =
+    sym (at-none (record T { cursor = moved T.cursor }) v e) ∙ ap (next_is (is_value v)) (ahead-moved T.cursor)
+
+-- where no `[` comes next, no image begins
+pub image-not-next : (T : Tokenizer) → IsReady T → current_of T ≡ Some (byte "!") →
+    next_is (is_value (byte "[")) (rest_of (ahead T)) ≡ false → Stays T T
+image-not-next T r here none =
+    alone-stays T T (byte "!") r here refl (image-alone T here (later-fails (images_on T && next_is (is_value (byte "!")) (ahead T)) (next_is (is_value (byte "[")) (rest_of (ahead T))) (image_after_test T (rest_of (rest_of (ahead T)))) none))
+
+-- where no `^` comes next, no footnote call does
+no-caret : (T : Tokenizer) → next_is (is_value (byte "^")) (rest_of (ahead T)) ≡ false → footnote_test T (ahead T) ≡ false
+no-caret T none =
+    last-fails (footnotes_on T && next_is (is_value (byte "[")) (ahead T)) (next_is (is_value (byte "^")) (rest_of (ahead T))) none
+
+pub image-tried : (T U : Tokenizer) (ok : Bool) → IsReady T → current_of T ≡ Some (byte "!") → ConstructEnds LabelStartImageStart T ok U →
+    ReadsElement T ok U
+image-tried T U true r here k =
+    let h : image_ends T true U = image-begun T U k in
+    element-passes T U r.may_try
+    (subst (λ (x : Tokenizer). AreWithin x x.tokenize_state.label_starts) (sym h.left) (image-within T r.may_try.start.ends.text r.may_try.start.ends.within h.holds)) (image-advances T U h)
+image-tried T U false r here k = alone-stays T U (byte "!") r here k.1 (image-alone T here (image-fails T k.0))
+
+pub footnote-holds : (T U : Tokenizer) → IsReady T → ConstructEnds GfmLabelStartFootnoteStart T true U → Passes T U
+footnote-holds T U r k =
+    let h : footnote_ends T true U = footnote-begun T U k in
+    element-passes T U r.may_try
+    (subst (λ (x : Tokenizer). AreWithin x x.tokenize_state.label_starts) (sym h.left) (footnote-within T r.may_try.start.ends.text r.may_try.start.ends.within h.holds)) (footnote-advances T U r.unchecked h)
+
+pub link-tried : (T U : Tokenizer) (ok : Bool) → IsReady T → current_of T ≡ Some (byte "[") → footnote_test T (ahead T) ≡ false →
+    ConstructEnds LabelStartLinkStart T ok U → ReadsElement T ok U
+link-tried T U true r here none k =
+    let h : link_ends T true U = link-begun T U k in
+    element-passes T U r.may_try
+    (subst (λ (x : Tokenizer). AreWithin x x.tokenize_state.label_starts) (sym h.left) (link-within T r.may_try.start.ends.text r.may_try.start.ends.within h.holds)) (link-advances T U r.unchecked none h)
+link-tried T U false r here none k =
+    alone-stays T U (byte "[") r here k.1 (bracket-alone T r.unchecked here none (link-fails T k.0))
+
+pub link-next : (T U : Tokenizer) (ok : Bool) → IsReady T → current_of T ≡ Some (byte "[") → next_is (is_value (byte "^")) (rest_of (ahead T)) ≡ false →
+    ConstructEnds LabelStartLinkStart T ok U → ReadsElement T ok U
+link-next T U ok r here none k = link-tried T U ok r here (no-caret T none) k
+
+pub link-behind : (T U V : Tokenizer) (ok : Bool) → IsReady T → current_of T ≡ Some (byte "[") → ConstructEnds GfmLabelStartFootnoteStart T false U →
+    ConstructEnds LabelStartLinkStart U ok V → ReadsElement T ok V
+link-behind T U V ok r here k h =
+    link-tried T V ok r here (footnote-fails T k.0) (subst (λ (x : Tokenizer). ConstructEnds LabelStartLinkStart x ok V) k.1 h)
+
+-- Ends of labels.
+
+lost-ends : (T : Tokenizer) → current_of T ≡ Some (byte "]") → LabelEnd.is_on T ≡ true → LabelEnd.end_reading T (ahead T) ≡ None →
+    AreSingle (text_choice_of T) (data_stops T) T.cursor.codes → (F : Tokenizer) → F ≡ past_mark loses T → text_choice_of F ≡ text_choice_of T →
+    data_stops F ≡ data_stops T → (V : Tokenizer) → EndsByData F V → EndsAt T V
+lost-ends T here on none single F left choice stops V k =
+    let there : DataFinishes (text_choice_of T) (data_up_to (data_stops T)) text_passed F V =
+    subst (λ c. DataFinishes c (data_up_to (data_stops T)) text_passed F V) choice (subst (λ stop. DataFinishes (text_choice_of F) (data_up_to stop) text_passed F V) stops k) in
+    advances-finishes (text_choice_of T) text_passed T there.behind V
+    (failed-advances T here on (data_stops T) there.behind single none (subst (λ (x : Tokenizer). Reads (data_up_to (data_stops T)) None x.tokenize_state x there.behind) left there.data_read)) there.finishes
+
+lost-stays : (T : Tokenizer) → IsReady T → current_of T ≡ Some (byte "]") → LabelEnd.is_on T ≡ true → LabelEnd.end_reading T (ahead T) ≡ None →
+    Stays T (past_mark loses T)
+unfolding past_mark scratched
+lost-stays T r here on none =
+    let F : Tokenizer = past_mark loses T in
+    let e : IsSame T F = same-lost T r.may_try.start.ends in
+    record {
+      ready = record { may_try = may-past T F e (lost-left T) (lost-within T r.may_try.start.ends.within) (lost-alone ∙ r.may_try.alone) r.may_try; unchecked = lost-unchecked };
+      some_code = has-code F (byte "]") (lost-current T ∙ here);
+      left = lost-left T;
+      leads = leads e;
+    }
+  where
+    lost-alone : (past_mark loses T).attempts ≡ T.attempts
+    lost-alone = refl
+
+    lost-unchecked : (let F : Tokenizer = past_mark loses T in GfmTaskListItemCheck.check_here F (ahead F) ≡ None)
+    lost-unchecked =
+        ap (λ (s : TokenizeState). GfmTaskListItemCheck.check_here (record T { tokenize_state = record T.tokenize_state { document_at_first_paragraph_of_list_item = s.document_at_first_paragraph_of_list_item } }) (ahead T)) (same-lost T r.may_try.start.ends).fields
+        ∙ r.unchecked
+
+    leads : IsSame T (past_mark loses T) → (s : TokenizeState) (V : Tokenizer) → EndsByData (indexed s (past_mark loses T)) V → EndsAt (indexed s T) V
+    leads e s V k =
+        lost-ends (indexed s T) here on none r.may_try.single (indexed s (past_mark loses T)) (sym (mark-indexed s loses T)) (choice-same T (past_mark loses T) e) (data-stops-same T (past_mark loses T) e) V k
+
+pub end-ends : (T U : Tokenizer) (ok : Bool) → IsReady T → current_of T ≡ Some (byte "]") → ConstructEnds LabelEndStart T ok U →
+    ReadsElement T ok U
+end-ends T U true r here k =
+    let h : LabelEnd.Ends T U = end-made T U k in
+    element-passes T U r.may_try (made-kept T U h r.may_try.start.ends.within) (made-advances T here (ends-on T U h) U h)
+end-ends T U false r here k = by_switch (LabelEnd.is_on T) refl
+  where
+    by_switch : (b : Bool) → LabelEnd.is_on T ≡ b → Stays T U
+    by_switch true on = subst (λ (x : Tokenizer). Stays T x) (sym (k.1 ∙ lost-there T here on)) (lost-stays T r here on k.0)
+    by_switch false off = alone-stays T U (byte "]") r here (k.1 ∙ not-lost T off) (end-alone T here off)
+
+-- Other codes.
+
+abbrev IsNone : ℕ → List ℕ → Type 0
+IsNone v [] = Unit {0}
+IsNone v (n ∷ ns) = (v ≢ n) × IsNone v ns
+
+or-none : (a b : Bool) → a ≡ false → b ≡ false → (a || b) ≡ false
+or-none true b e h = cc
+or-none false b e h = h
+
+-- a code that is none of these
+pub none-among : (v : ℕ) (ns : List ℕ) → IsNone v ns → list_any (λ n. v == n) ns ≡ false
+none-among v [] h = refl
+none-among v (n ∷ ns) h = or-none (v == n) (list_any (λ m. v == m) ns) (ne_eqb v n h.0) (none-among v ns h.1)
+
+-- nothing is tried here
+pub nothing-tried : (T : Tokenizer) (v : ℕ) → IsReady T → current_of T ≡ Some v → list_any (λ n. v == n) text_markers ≡ false → Stays T T
+nothing-tried T v r here h = alone-stays T T v r here refl (other-alone T v here h)

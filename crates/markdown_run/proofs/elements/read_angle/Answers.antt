@@ -1,0 +1,37 @@
+use Rattle.std.proofs.Common.{Bool, false, sym, ap, subst, ◌∙◌}
+use Rattle.std.proofs.lemmas.Result.{IfOk-weaker}
+use Rattle.markdown_engine.specs.declared.state.StateName.TheVariants.{AutolinkStart}
+use Rattle.markdown_engine.specs.declared.tokenizer.Tokenizer.{Tokenizer}
+use Rattle.markdown_engine.proofs.ReadingSequences.{scratched-same}
+use Rattle.markdown_leaf_html.specs.HtmlText as HtmlText
+use Rattle.markdown_run_text.proofs.TextSteps.{html-ready}
+use Rattle.markdown_run.specs.RunConstruct.{ConstructEnds}
+use Rattle.markdown_run.proofs.ElementsRead.{autolink-holds, html-ends}
+use Rattle.markdown_run.proofs.elements.read_angle.Goals as goal
+
+pub returns-then-held-clause-reads : goal.returns-then-held-clause-reads
+returns-then-held-clause-reads c =
+    let T : Tokenizer = c.args.tokenizer.now in
+    let U : Tokenizer = c.construct.new.tokenizer in
+    autolink-holds T U c.requires.ready c.requires.here (subst (λ (b : Bool). ConstructEnds AutolinkStart T b U) c.if-held.true c.in_ok-held.ensures.reads)
+
+pub construct-requires-2-clause-construct : goal.construct-requires-2-clause-construct
+construct-requires-2-clause-construct c = λ _.
+    let T : Tokenizer = c.args.tokenizer.now in
+    let U : Tokenizer = c.construct.new.tokenizer in
+    let first : ConstructEnds AutolinkStart T false U = subst (λ (b : Bool). ConstructEnds AutolinkStart T b U) c.if-held.false c.in_ok-held.ensures.reads in
+    subst (λ (x : Tokenizer). HtmlText.StartReady x) (sym (first.1 ∙ scratched-same T)) (html-ready T c.requires.ready.may_try.start)
+
+pub construct-requires-2-clause-alone : goal.construct-requires-2-clause-alone
+construct-requires-2-clause-alone c = λ _.
+    let T : Tokenizer = c.args.tokenizer.now in
+    let U : Tokenizer = c.construct.new.tokenizer in
+    let first : ConstructEnds AutolinkStart T false U = subst (λ (b : Bool). ConstructEnds AutolinkStart T b U) c.if-held.false c.in_ok-held.ensures.reads in
+    ap (λ (x : Tokenizer). x.attempts) (first.1 ∙ scratched-same T) ∙ c.requires.ready.may_try.alone
+
+pub returns-clause-reads : goal.returns-clause-reads
+returns-clause-reads c =
+    let T : Tokenizer = c.args.tokenizer.now in
+    let U : Tokenizer = c.construct.new.tokenizer in
+    let first : ConstructEnds AutolinkStart T false U = subst (λ (b : Bool). ConstructEnds AutolinkStart T b U) c.if-held.false c.in_ok-held.ensures.reads in
+    IfOk-weaker c.construct-2.result _ _ (λ ok k. html-ends T U c.construct-2.new.tokenizer ok c.requires.ready c.requires.here first k) c.construct-2.ensures.reads

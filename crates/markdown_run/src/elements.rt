@@ -1,0 +1,233 @@
+//! The elements of a text, read in one loop (CommonMark 6): at each code what may begin there is tried, and where nothing holds data is read.
+//!
+//! What is tried at which code is as in the states of a text, in `markdown_run_text`. What rules constructs out in the content is made known
+//! only once one has failed that it may rule out.
+//!
+//! Each function answers the error where a growth is refused; then `failed` is true.
+#![tactic(auto)]
+
+ghost use Rattle.std.specs.Prelude.{◌≡◌, [], None, Some, IfOk, OnOk, OnErr, IsTrue};
+ghost use Rattle.std.specs.Str.{byte};
+ghost use Rattle.markdown_engine.specs.Operations.{HasCode, ahead, current_of};
+ghost use Rattle.markdown_engine_content.specs.ListFunctions.{rest_of};
+ghost use Rattle.markdown_model.specs.CodeTests.{is_value, next_is};
+ghost use Rattle.markdown_engine.specs.RestingFields.{at_rest};
+ghost use Rattle.markdown_run_text.specs.TextContent.{StartReady};
+ghost use Rattle.markdown_run.specs.ElementsOfText.{EndsAt, GoesOn, IsReady, KnowsNothing, Learns, MayTry, PassesData, ReadsElement, Passes, indexed, text_named};
+
+use crate::run::construct;
+use markdown_engine::resolve::ResolveName;
+use markdown_engine::state::StateName;
+use markdown_engine::tokenizer::Tokenizer;
+use markdown_engine_index::run_index::RunIndex;
+use markdown_engine_index::sequence_index::SequenceIndex;
+use markdown_run_readers::{attention, character_escape, label_start_link, partial_data};
+use markdown_run_text::text;
+use std::alloc::AllocError;
+
+// Tries the check of a task, where the content may begin with one.
+fn read_check(tokenizer: &mut Tokenizer) -> Result<(), AllocError>
+    requires { MayTry tokenizer.old }
+    ensures ok { OnOk result (GoesOn tokenizer.old tokenizer.new) }
+    ensures err { OnErr result (IsTrue tokenizer.new.failed) }
+{
+    if tokenizer
+        .tokenize_state
+        .document_at_first_paragraph_of_list_item
+    {
+        let _held = construct(StateName::GfmTaskListItemCheckStart, tokenizer)?;
+    }
+    Ok(())
+}
+
+// Whether this byte comes behind the code at hand.
+fn comes_next(tokenizer: &Tokenizer, byte: u8) -> bool
+    ensures { result ≡ next_is (is_value byte) (rest_of (ahead tokenizer.now)) }
+{
+    match tokenizer.cursor.next() {
+        Some(next) => next == byte,
+        None => false,
+    }
+}
+
+// Tries an autolink, and then HTML.
+fn read_angle(tokenizer: &mut Tokenizer) -> Result<bool, AllocError>
+    requires ready { IsReady tokenizer.old }
+    requires here { current_of tokenizer.old ≡ Some (byte "<") }
+    ensures reads { IfOk result (λ ok. ReadsElement tokenizer.old ok tokenizer.new) }
+    ensures err { OnErr result (IsTrue tokenizer.new.failed) }
+{
+    let held = construct(StateName::AutolinkStart, tokenizer)?;
+    if held {
+        return Ok(true);
+    }
+    construct(StateName::HtmlTextStart, tokenizer)
+}
+
+// Tries an escape, and then a hard break.
+fn read_backslash(tokenizer: &mut Tokenizer) -> Result<bool, AllocError>
+    requires ready { IsReady tokenizer.old }
+    requires here { current_of tokenizer.old ≡ Some (byte "\\") }
+    ensures reads { IfOk result (λ ok. ReadsElement tokenizer.old ok tokenizer.new) }
+    ensures err { OnErr result (IsTrue tokenizer.new.failed) }
+{
+    let held = character_escape::read(tokenizer)?;
+    if held {
+        return Ok(true);
+    }
+    construct(StateName::HardBreakEscapeStart, tokenizer)
+}
+
+// Tries the start of an image, where a `[` comes next.
+fn read_bang(tokenizer: &mut Tokenizer) -> Result<bool, AllocError>
+    requires ready { IsReady tokenizer.old }
+    requires here { current_of tokenizer.old ≡ Some (byte "!") }
+    ensures reads { IfOk result (λ ok. ReadsElement tokenizer.old ok tokenizer.new) }
+    ensures err { OnErr result (IsTrue tokenizer.new.failed) }
+{
+    if !comes_next(tokenizer, b'[') {
+        return Ok(false);
+    }
+    construct(StateName::LabelStartImageStart, tokenizer)
+}
+
+// Tries the start of a footnote call, where a `^` comes next, and then that of a link.
+fn read_bracket(tokenizer: &mut Tokenizer) -> Result<bool, AllocError>
+    requires ready { IsReady tokenizer.old }
+    requires here { current_of tokenizer.old ≡ Some (byte "[") }
+    ensures reads { IfOk result (λ ok. ReadsElement tokenizer.old ok tokenizer.new) }
+    ensures err { OnErr result (IsTrue tokenizer.new.failed) }
+{
+    if !comes_next(tokenizer, b'^') {
+        return label_start_link::read(tokenizer);
+    }
+    let held = construct(StateName::GfmLabelStartFootnoteStart, tokenizer)?;
+    if held {
+        return Ok(true);
+    }
+    label_start_link::read(tokenizer)
+}
+
+// Tries what may begin with the byte at hand, which is given, and answers whether it does.
+fn read_construct(tokenizer: &mut Tokenizer, byte: u8) -> Result<bool, AllocError>
+    requires ready { IsReady tokenizer.old }
+    requires here { current_of tokenizer.old ≡ Some byte }
+    ensures reads { IfOk result (λ ok. ReadsElement tokenizer.old ok tokenizer.new) }
+    ensures err { OnErr result (IsTrue tokenizer.new.failed) }
+{
+    match byte {
+        b'`' | b'$' => construct(StateName::RawTextStart, tokenizer),
+        b'*' | b'_' | b'~' => attention::read(tokenizer, byte),
+        b'[' => read_bracket(tokenizer),
+        b'!' => read_bang(tokenizer),
+        b'\\' => read_backslash(tokenizer),
+        b'&' => construct(StateName::CharacterReferenceStart, tokenizer),
+        b'<' => read_angle(tokenizer),
+        b']' => construct(StateName::LabelEndStart, tokenizer),
+        b'H' | b'h' => construct(StateName::GfmAutolinkLiteralProtocolStart, tokenizer),
+        b'W' | b'w' => construct(StateName::GfmAutolinkLiteralWwwStart, tokenizer),
+        _ => Ok(false),
+    }
+}
+
+// Whether a construct that begins with the byte at hand, which is given, and has failed, may be ruled out the next time: a span, HTML that begins
+// with `<!` or `<?`, an end of a label before a `(`, and a literal from `www.` on.
+fn may_be_ruled_out(tokenizer: &Tokenizer, byte: u8) -> bool {
+    match byte {
+        b'`' | b'$' => true,
+        b'<' => matches!(tokenizer.cursor.next(), Some(b'!' | b'?')),
+        b']' => matches!(tokenizer.cursor.next(), Some(b'(')),
+        b'W' | b'w' => matches!(tokenizer.cursor.next(), Some(b'W' | b'w')),
+        _ => false,
+    }
+}
+
+// Makes known what rules constructs out in the content, where it is not yet, and what begins with this byte, which is at hand, has failed and may
+// be ruled out the next time. `is_indexed` says whether it is known.
+fn learn(tokenizer: &mut Tokenizer, byte: u8, is_indexed: &mut bool) -> Result<(), AllocError>
+    requires { IsReady tokenizer.old }
+    ensures ok { OnOk result (Learns tokenizer.old tokenizer.new) }
+    ensures err { OnErr result (IsTrue tokenizer.new.failed) }
+{
+    let asks = !*is_indexed && may_be_ruled_out(tokenizer, byte);
+    if !asks {
+        return Ok(());
+    }
+    *is_indexed = true;
+    text::index(tokenizer)
+}
+
+// Forgets what rules constructs out in the content.
+#[tactic(auto, unfolding(markdown_engine::specs::Operations::scratched))]
+fn forget(tokenizer: &mut Tokenizer)
+    ensures { tokenizer.new ≡ indexed at_rest tokenizer.old }
+{
+    tokenizer.tokenize_state.runs = RunIndex::new(tokenizer.alloc);
+    tokenizer.tokenize_state.sequences = SequenceIndex::new();
+    tokenizer.tokenize_state.titles = None;
+    tokenizer.tokenize_state.no_domains = None;
+}
+
+// Reads data from the code at hand on, up to where another element may begin.
+fn read_data(tokenizer: &mut Tokenizer) -> Result<(), AllocError>
+    requires ready { IsReady tokenizer.old }
+    requires some_code { HasCode tokenizer.old }
+    ensures ok { OnOk result (PassesData tokenizer.old tokenizer.new) }
+    ensures err { OnErr result (IsTrue tokenizer.new.failed) }
+{
+    let literals = tokenizer
+        .parse_state
+        .options
+        .constructs
+        .gfm_autolink_literal;
+    partial_data::read(tokenizer, literals)
+}
+
+// Reads an element, or the data from the byte at hand on, which is given. `is_indexed` says whether what rules constructs out is known.
+fn read_element(
+    tokenizer: &mut Tokenizer,
+    byte: u8,
+    is_indexed: &mut bool,
+) -> Result<(), AllocError>
+    requires ready { IsReady tokenizer.old }
+    requires here { current_of tokenizer.old ≡ Some byte }
+    ensures ok { OnOk result (Passes tokenizer.old tokenizer.new) }
+    ensures err { OnErr result (IsTrue tokenizer.new.failed) }
+{
+    let held = read_construct(tokenizer, byte)?;
+    if held {
+        return Ok(());
+    }
+    learn(tokenizer, byte, is_indexed)?;
+    read_data(tokenizer)
+}
+
+// Reads all elements from the place on.
+fn read_elements(tokenizer: &mut Tokenizer) -> Result<(), AllocError>
+    requires { IsReady tokenizer.old }
+    ensures ok { OnOk result (GoesOn tokenizer.old tokenizer.new) }
+    ensures end { OnOk result (current_of tokenizer.new ≡ None) }
+    ensures err { OnErr result (IsTrue tokenizer.new.failed) }
+{
+    let mut is_indexed = false;
+    while let Some(byte) = tokenizer.current() {
+        read_element(tokenizer, byte, &mut is_indexed)?;
+    }
+    Ok(())
+}
+
+// Reads the elements of a text, from its start to its end, and registers its passes. Nothing is known of the content before, nor behind.
+pub(crate) fn read_text(tokenizer: &mut Tokenizer) -> Result<(), AllocError>
+    requires ready { StartReady tokenizer.old }
+    requires alone { tokenizer.old.attempts ≡ [] }
+    requires unknown { KnowsNothing tokenizer.old }
+    ensures ok { OnOk result (EndsAt (text_named tokenizer.old) tokenizer.new) }
+    ensures err { OnErr result (IsTrue tokenizer.new.failed) }
+{
+    text::index_names(tokenizer)?;
+    read_check(tokenizer)?;
+    read_elements(tokenizer)?;
+    forget(tokenizer);
+    tokenizer.register_resolver(ResolveName::Data)?;
+    tokenizer.register_resolver(ResolveName::Text)
+}

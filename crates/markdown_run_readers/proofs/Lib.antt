@@ -1,0 +1,9 @@
+pub mod WordsAndSigns
+pub mod PassedData
+pub mod DataReads
+pub mod TextDataElements
+pub mod EscapeReads
+pub mod AttentionReads
+pub mod LabelStartConstructs
+pub mod LinkStarts
+pub mod WordLetters

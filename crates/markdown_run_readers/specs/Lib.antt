@@ -1,0 +1,6 @@
+-- The definitions of this crate.
+-- What has to be believed: what public contracts cite.
+pub mod ReaderEnds
+pub mod TextStops
+-- What serves proofs: what functions and proofs promise each other.
+pub mod PlacesPassed

@@ -1,0 +1,98 @@
+-- What readers pass, and how they see where it ends.
+use Rattle.std.specs.Prelude.{ℕ, ◌+◌, Bool, true, false, ◌&&◌, ◌||◌, not, ◌==◌, if◌then◌else◌, List, [], ◌∷◌, ◌++◌, Option, Some, None, codes, is_none}
+use Rattle.std.specs.Str.{byte}
+use Rattle.markdown_engine_content.specs.Codes.{Code}
+use Rattle.markdown_engine_content.specs.Place.{Place, ahead_at, code_at, code_before, moved}
+use Rattle.markdown_engine_content.specs.declared.event.Kind.TheVariants as Kind
+use Rattle.markdown_engine_content.specs.declared.event.Name.{Name}
+use Rattle.markdown_engine_content.specs.declared.event.Name.TheVariants as N
+use Rattle.markdown_engine_content.specs.declared.event.Point.{Point}
+use Rattle.markdown_engine.specs.Operations.{current_of, done, exit_event, exited}
+use Rattle.markdown_engine.specs.PastTree.{moved_by}
+use Rattle.markdown_engine.specs.declared.tokenizer.Tokenizer.{Tokenizer}
+use Rattle.markdown_leaf.specs.CharacterEscape.{is_on, is_punctuation}
+use Rattle.markdown_model.specs.CodeTests.{is_between, is_value}
+use Rattle.markdown_model.specs.GfmAutolinkLiteral.{letters}
+use Rattle.markdown_model.specs.Grammar.{span, until}
+use Rattle.markdown_partial.specs.PartialData.{ending, opening, ends_stretch, is_some_mark}
+use Rattle.markdown_run_readers.specs.TextStops.{text_stops}
+use Rattle.markdown_run_text.specs.TextContent.{plain_markers}
+
+-- Runs and escapes.
+
+abbrev pub is_some_value : ℕ → Option ℕ → Bool
+is_some_value n None = false
+is_some_value n (Some v) = v == n
+
+-- past the codes at the place with this value
+abbrev pub past_run : ℕ → Place → Place
+past_run marker p = moved_by (span (is_value marker) (ahead_at p)).0 p
+
+abbrev pub is_some_punctuation : Option ℕ → Bool
+is_some_punctuation None = false
+is_some_punctuation (Some c) = is_punctuation c
+
+-- a backslash is at the place, and behind it punctuation
+abbrev pub begins_escape : Place → Bool
+begins_escape p = is_some_mark (codes "\\") (code_at p) && is_some_punctuation (code_at (moved p))
+
+-- escapes are on, and one is at the place
+abbrev pub escapes_here : Tokenizer → Bool
+escapes_here T = is_on T && begins_escape T.cursor
+
+-- Data.
+
+-- past data of the line at hand
+abbrev pub past_data : Bool → Place → Place
+past_data literals p = moved_by (until (ends_stretch (text_stops literals)) (ahead_at p)).0 p
+
+-- a code is at hand, and data does not stop there
+abbrev pub goes_on : Bool → List Code → Bool
+goes_on literals [] = false
+goes_on literals (c ∷ cs) = not (text_stops literals (c ∷ cs))
+
+-- a code is at the place that is no line ending, and data does not stop there
+abbrev pub goes_in_line : Place → Bool
+goes_in_line p = not (is_some_mark (codes "\n") (code_at p)) && goes_on true (ahead_at p)
+
+-- a code of a word of literals: the letter that is given in lower case, in either case, or the other byte that is given
+abbrev pub letter_is : ℕ → ℕ → Bool
+letter_is letter v = v == letter || ((is_between (byte "A") (byte "Z") v || is_between (byte "a") (byte "z") v) && v + 32 == letter)
+
+abbrev pub is_some_letter : ℕ → Option ℕ → Bool
+is_some_letter letter None = false
+is_some_letter letter (Some v) = letter_is letter v
+
+-- the word stands at the place, its letters in either case
+abbrev pub is_word : List ℕ → Place → Bool
+is_word word p = not (is_none (letters word (ahead_at p)))
+
+-- the signs that words of literals hold behind their letters
+abbrev pub signs : List ℕ
+signs = codes ".:"
+
+-- where data may stop, and signs
+abbrev pub markers_and_signs : List ℕ
+markers_and_signs = plain_markers ++ signs
+
+-- a sign that a word of literals may hold: a `.` behind a `w`, or a `:` before a `/`
+abbrev pub holds_sign : Option ℕ → Option ℕ → Option ℕ → Bool
+holds_sign before None next = false
+holds_sign before (Some v) next =
+    if v == byte "." then is_some_mark (codes "Ww") before else (v == byte ":" && is_some_mark (codes "/") next)
+
+abbrev pub sign_at : Place → Bool
+sign_at p = holds_sign (code_before p) (code_at p) (code_at (moved p))
+
+-- with the events of a leaf from this point to where the code before the place ends
+abbrev pub with_leaf : Name → Point → Tokenizer → Tokenizer
+with_leaf n from T =
+    record T { events = (T.events ++ record { kind = Kind.Enter; name = n; point = from; link = None } ∷ []) ++ exit_event n T ∷ [] }
+
+-- past data of one line from the code at hand on, with its events
+abbrev pub data_read : Bool → Tokenizer → Tokenizer
+data_read literals T = let U : Tokenizer = done opening T in exited N.Data (record U { cursor = past_data literals U.cursor })
+
+-- past the line ending at hand, or data of one line
+abbrev pub line_read : Bool → Tokenizer → Tokenizer
+line_read literals T = if is_some_mark (codes "\n") (current_of T) then done ending T else data_read literals T

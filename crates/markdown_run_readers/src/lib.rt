@@ -1,0 +1,7 @@
+//! Readers of the elements of a text: each reads one construct whole, where it stands, without the states.
+#![tactic(auto)]
+
+pub mod attention;
+pub mod character_escape;
+pub mod label_start_link;
+pub mod partial_data;

@@ -1,0 +1,302 @@
+//! Data of a text (CommonMark 6.9), read whole.
+//!
+//! Data goes on past letters with which literals begin (GFM 6.9), but where a whole word of theirs stands. Such a word is letters and then a
+//! sign: a `.` behind a `w`, or a `:` before a `/`. So letters are looked at only in a stretch that ends at such a sign.
+#![tactic(auto, using(markdown_engine::proofs::OperationFields::op_rules))]
+
+ghost use Rattle.std.specs.Prelude.{◌≡◌, ◌++◌, ◌∷◌, [], ◌<◌, ◌==◌, ◌||◌, ◌&&◌, length, true, false, OnOk, OnErr, IsTrue, None};
+ghost use Rattle.std.specs.List.{list_any};
+ghost use Rattle.markdown_engine.specs.Operations.{HasCode, done};
+ghost use Rattle.markdown_engine.specs.PastTree.{Reads};
+ghost use Rattle.markdown_engine_events.specs.EventChains.{IsFresh};
+ghost use Rattle.markdown_engine_content.specs.Place.{ahead_at, code_at, moved};
+ghost use Rattle.markdown_model.specs.TextLines.{data_up_to};
+ghost use Rattle.markdown_partial.specs.PartialData.{ending, is_some_mark};
+ghost use Rattle.markdown_run_readers.specs.PlacesPassed.{past_data, goes_on, goes_in_line, is_some_letter, is_word, signs, markers_and_signs, sign_at, data_read, line_read, with_leaf};
+ghost use Rattle.markdown_run_readers.specs.TextStops.{begins_word, text_stops};
+ghost use Rattle.markdown_run_text.specs.TextContent.{literal_letters, plain_markers};
+
+use markdown_engine::tokenizer::Tokenizer;
+use markdown_engine_content::byte_set;
+use markdown_engine_content::bytes::ByteSet;
+use markdown_engine_content::cursor::Cursor;
+use markdown_engine_content::event::{Event, Kind, Name, Point};
+use markdown_plan::bytes::is_letter;
+use std::alloc::AllocError;
+
+// The bytes at which data stops, but for the letters of literals.
+#[inline(always)]
+fn markers() -> ByteSet
+    ensures { result ≡ plain_markers }
+{
+    byte_set!(
+        b'!', b'$', b'`', b'&', b'*', b'_', b'~', b'<', b'[', b'\\', b']'
+    )
+}
+
+// These, and the signs in words of literals.
+#[inline(always)]
+fn markers_and_signs() -> ByteSet
+    ensures { result ≡ markers_and_signs }
+{
+    byte_set!(
+        b'!', b'$', b'`', b'&', b'*', b'_', b'~', b'<', b'[', b'\\', b']', b'.', b':'
+    )
+}
+
+// Whether the code is this letter, in either case, or this other byte. The letter is given in lower case.
+fn is_same(code: Option<u8>, letter: u8) -> bool
+    ensures { result ≡ is_some_letter letter code }
+{
+    match code {
+        Some(byte) => byte == letter || (is_letter(byte) && byte + 32 == letter),
+        None => false,
+    }
+}
+
+// Whether the word stands at the place, its letters in either case. It is given in lower case.
+fn stands(cursor: &Cursor, word: &[u8]) -> bool
+    ensures { result ≡ is_word word.now cursor.now }
+{
+    let mut place = cursor.save();
+    for letter in word {
+        if !is_same(place.current(), *letter) {
+            return false;
+        }
+        place.consume();
+    }
+    true
+}
+
+// Whether one of the words stands at the place with which literals begin.
+#[inline(never)]
+fn one_stands(cursor: &Cursor) -> bool
+    ensures { result ≡ begins_word (ahead_at cursor.now) }
+{
+    if stands(cursor, b"https://") {
+        return true;
+    }
+    if stands(cursor, b"http://") {
+        return true;
+    }
+    stands(cursor, b"www.")
+}
+
+// Whether the code is a first letter of these words.
+fn is_first_letter(code: Option<u8>) -> bool
+    ensures { result ≡ is_some_mark literal_letters code }
+{
+    matches!(code, Some(b'H' | b'h' | b'W' | b'w'))
+}
+
+// Whether a word stands at the place with which literals begin. Only at a first letter the words are looked for.
+#[inline(always)]
+fn begins_word(cursor: &Cursor) -> bool
+    ensures { result ≡ begins_word (ahead_at cursor.now) }
+{
+    if !is_first_letter(cursor.current()) {
+        return false;
+    }
+    one_stands(cursor)
+}
+
+// Whether data stops at the code at the place, line endings aside.
+#[inline(always)]
+fn stops(cursor: &Cursor, byte: u8, literals: bool) -> bool
+    ensures { result ≡ list_any (λ n. byte == n) plain_markers || (literals && begins_word (ahead_at cursor.now)) }
+{
+    markers().contains(byte) || (literals && begins_word(cursor))
+}
+
+// Whether a code is at the place at which data does not stop.
+#[inline(always)]
+fn goes_on(cursor: &Cursor, literals: bool) -> bool
+    ensures { result ≡ goes_on literals (ahead_at cursor.now) }
+{
+    match cursor.current() {
+        Some(byte) => !stops(cursor, byte, literals),
+        None => false,
+    }
+}
+
+// The same, of a code that is no line ending, where literals are on.
+fn goes_in_line(cursor: &Cursor) -> bool
+    ensures { result ≡ goes_in_line cursor.now }
+{
+    match cursor.current() {
+        Some(b'\n') => false,
+        _ => goes_on(cursor, true),
+    }
+}
+
+// Whether a sign is at the place that a word of literals may hold.
+#[inline(always)]
+fn is_at_sign(cursor: &Cursor) -> bool
+    ensures { result ≡ sign_at cursor.now }
+{
+    match cursor.current() {
+        Some(b'.') => matches!(cursor.previous(), Some(b'W' | b'w')),
+        Some(b':') => matches!(cursor.next(), Some(b'/')),
+        _ => false,
+    }
+}
+
+// Moves past the sign at the place. Answers whether one is there.
+#[inline(always)]
+fn pass_sign(cursor: &mut Cursor) -> bool
+    ensures is { result ≡ is_some_mark signs (code_at cursor.old) }
+    ensures past { result ≡ true → cursor.new ≡ moved cursor.old }
+    ensures stays { result ≡ false → cursor.new ≡ cursor.old }
+{
+    let found = matches!(cursor.current(), Some(b'.' | b':'));
+    if found {
+        cursor.consume();
+    }
+    found
+}
+
+// Moves past data code by code, up to where it stops, or to a sign and past it. Answers whether it may go on.
+#[inline(never)]
+fn pass_codes(cursor: &mut Cursor) -> bool
+    ensures past { past_data true cursor.new ≡ past_data true cursor.old }
+    ensures stops { result ≡ false → past_data true cursor.new ≡ cursor.new }
+    ensures on { result ≡ true → length (ahead_at cursor.new) < length (ahead_at cursor.old) }
+{
+    while goes_in_line(cursor) {
+        if pass_sign(cursor) {
+            return true;
+        }
+        cursor.consume();
+    }
+    false
+}
+
+// Moves past data up to where it stops, or to a sign and past it. Answers whether it may go on. Where the sign is in no word of literals, none
+// begins before it.
+#[inline(always)]
+fn pass_part(cursor: &mut Cursor) -> bool
+    ensures past { past_data true cursor.new ≡ past_data true cursor.old }
+    ensures stops { result ≡ false → past_data true cursor.new ≡ cursor.new }
+    ensures on { result ≡ true → length (ahead_at cursor.new) < length (ahead_at cursor.old) }
+{
+    let start = cursor.save();
+    cursor.consume_stretch(&markers_and_signs());
+    if is_at_sign(cursor) {
+        *cursor = start;
+        return pass_codes(cursor);
+    }
+    pass_sign(cursor)
+}
+
+// Moves past data of the line at hand, where literals are on.
+fn pass_parts(cursor: &mut Cursor)
+    ensures { cursor.new ≡ past_data true cursor.old }
+{
+    while pass_part(cursor) {}
+}
+
+// Moves past data of the line at hand.
+#[inline(always)]
+fn pass_data(cursor: &mut Cursor, literals: bool)
+    ensures { cursor.new ≡ past_data literals cursor.old }
+{
+    if literals {
+        pass_parts(cursor);
+    } else {
+        cursor.consume_stretch(&markers());
+    }
+}
+
+// Appends an event; a refused growth is kept in mind.
+#[inline(always)]
+fn append(tokenizer: &mut Tokenizer, event: Event) -> Result<(), AllocError>
+    requires { IsFresh event }
+    ensures ok { OnOk result (tokenizer.new ≡ record tokenizer.old { events = tokenizer.old.events ++ event ∷ [] }) }
+    ensures err { OnErr result (IsTrue tokenizer.new.failed) }
+{
+    let appended = tokenizer.events.push(event);
+    if appended.is_err() {
+        tokenizer.fail();
+    }
+    appended
+}
+
+// Appends the events of a leaf from this point to where the code before the place ends. It is never among the open events.
+#[inline(always)]
+fn append_leaf(tokenizer: &mut Tokenizer, name: Name, from: Point) -> Result<(), AllocError>
+    ensures ok { OnOk result (tokenizer.new ≡ with_leaf name from tokenizer.old) }
+    ensures err { OnErr result (IsTrue tokenizer.new.failed) }
+{
+    let enter = Event {
+        kind: Kind::Enter,
+        name,
+        point: from,
+        link: None,
+    };
+    append(tokenizer, enter)?;
+    let exit = Event {
+        kind: Kind::Exit,
+        name,
+        point: tokenizer.cursor.exit_point(),
+        link: None,
+    };
+    append(tokenizer, exit)
+}
+
+// Reads the line ending at hand.
+#[tactic(auto, unfolding(markdown_engine::specs::Operations::applied))]
+fn read_ending(tokenizer: &mut Tokenizer) -> Result<(), AllocError>
+    requires { HasCode tokenizer.old }
+    ensures ok { OnOk result (tokenizer.new ≡ done ending tokenizer.old) }
+    ensures err { OnErr result (IsTrue tokenizer.new.failed) }
+{
+    let from = tokenizer.point();
+    tokenizer.consume();
+    append_leaf(tokenizer, Name::LineEnding, from)
+}
+
+// Reads data of one line from the code at hand on.
+#[inline(always)]
+#[tactic(auto, unfolding(markdown_engine::specs::Operations::applied))]
+fn read_stretch(tokenizer: &mut Tokenizer, literals: bool) -> Result<(), AllocError>
+    requires { HasCode tokenizer.old }
+    ensures ok { OnOk result (tokenizer.new ≡ data_read literals tokenizer.old) }
+    ensures err { OnErr result (IsTrue tokenizer.new.failed) }
+{
+    let from = tokenizer.point();
+    tokenizer.consume();
+    pass_data(&mut tokenizer.cursor, literals);
+    append_leaf(tokenizer, Name::Data, from)
+}
+
+// Reads the line ending at hand, or data of one line.
+#[inline(always)]
+fn read_line(tokenizer: &mut Tokenizer, literals: bool) -> Result<(), AllocError>
+    requires { HasCode tokenizer.old }
+    ensures ok { OnOk result (tokenizer.new ≡ line_read literals tokenizer.old) }
+    ensures err { OnErr result (IsTrue tokenizer.new.failed) }
+{
+    match tokenizer.current() {
+        Some(b'\n') => read_ending(tokenizer),
+        _ => read_stretch(tokenizer, literals),
+    }
+}
+
+/// Reads data from the code at hand on: that code, whatever it is, and all up to the next at which another element of a text may begin.
+///
+/// Data stops at the codes at which something is tried, but at letters only where a word stands with which a literal begins, and where
+/// `literals` says that these are on. It goes on past line endings. Its events are a `Data` for each line and a `LineEnding` for each line ending.
+///
+/// The error comes where a growth is refused; then `failed` is true.
+pub fn read(tokenizer: &mut Tokenizer, literals: bool) -> Result<(), AllocError>
+    requires { HasCode tokenizer.old }
+    ensures ok { OnOk result (Reads (data_up_to (text_stops literals)) None tokenizer.old.tokenize_state tokenizer.old tokenizer.new) }
+    ensures err { OnErr result (IsTrue tokenizer.new.failed) }
+{
+    loop {
+        read_line(tokenizer, literals)?;
+        if !goes_on(&tokenizer.cursor, literals) {
+            return Ok(());
+        }
+    }
+}
