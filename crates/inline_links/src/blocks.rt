@@ -4,8 +4,9 @@
 // underlined, thematic breaks, fenced and indented code, and definitions that stand on one line. A table is read as a paragraph, and so is a
 // block of HTML. A line ends with LF, or with CR LF.
 
-use crate::definition::{Definition, definition_at};
+use crate::definition::{Definition, Target, definition_at};
 use crate::rest::{Container, Fence, Rest};
+use markdown_inline::definitions::{Added, Definitions};
 use markdown_inline::parser::Piece;
 use std::alloc::{AllocError, Global};
 
@@ -14,8 +15,10 @@ use std::alloc::{AllocError, Global};
 pub struct Blocks {
     /// The pieces of each text.
     pub texts: Vec<Vec<Piece>>,
-    /// The definitions, in order.
-    pub definitions: Vec<Definition>,
+    /// The definitions.
+    pub definitions: Definitions,
+    /// Where each definition leads, by its number.
+    pub targets: Vec<Target>,
 }
 
 // What is known between two lines.
@@ -53,8 +56,12 @@ impl<'a> Splitter<'a> {
         for line in &self.text {
             let (piece, next) = *line;
             if pieces.is_empty() {
-                if let Some(definition) = definition_at(self.alloc, self.bytes, piece)? {
-                    self.found.definitions.push(definition)?;
+                if let Some(Definition { label, target }) = definition_at(
+                    self.alloc, self.bytes, piece,
+                )? {
+                    if matches!(self.found.definitions.add(label.as_str())?, Added::First(_)) {
+                        self.found.targets.push(target)?;
+                    }
                     continue;
                 }
             }
@@ -220,7 +227,8 @@ pub fn of(alloc: Global, bytes: &[u8]) -> Result<Blocks, AllocError> {
         bytes,
         found: Blocks {
             texts: Vec::new(alloc),
-            definitions: Vec::new(alloc),
+            definitions: Definitions::new(alloc),
+            targets: Vec::new(alloc),
         },
         containers: Vec::new(alloc),
         fence: None,

@@ -3,9 +3,7 @@
 use crate::rest::from_index;
 use crate::strings::text_between;
 use markdown_inline::parser::Piece;
-use markdown_inline::util::normalize_identifier::normalize_identifier;
 use std::alloc::{AllocError, Global};
-use std::collections::BTreeMap;
 
 /// Where a link leads, and its title.
 #[derive(Debug, Drop)]
@@ -19,8 +17,8 @@ pub struct Target {
 /// A definition of a label.
 #[derive(Debug, Drop)]
 pub struct Definition {
-    /// The identifier of its label.
-    pub identifier: String,
+    /// The text of its label.
+    pub label: String,
     /// Where it leads.
     pub target: Target,
 }
@@ -119,28 +117,14 @@ pub fn definition_at(
     let Some((label, destination, title)) = parts(line) else {
         return Ok(None);
     };
-    let name = String::from_utf8_lossy(alloc, crate::strings::between(line, 1, label))?;
-    let identifier = normalize_identifier(alloc, name.as_str())?;
-    if identifier.is_empty() {
+    let label = crate::strings::between(line, 1, label);
+    if past_blanks(label, 0) == label.len() {
         return Ok(None);
     }
     let target = Target {
         destination: text_between(alloc, line, destination.0, destination.1)?,
         title: text_between(alloc, line, title.0, title.1)?,
     };
-    Ok(Some(Definition { identifier, target }))
-}
-
-/// Where each identifier leads: as its first definition says.
-pub fn targets(
-    alloc: Global,
-    definitions: &[Definition],
-) -> Result<BTreeMap<String, &Target>, AllocError> {
-    let mut found = BTreeMap::new(alloc);
-    for definition in definitions {
-        if !found.contains_key(definition.identifier.as_str()) {
-            found.insert(definition.identifier.clone()?, &definition.target)?;
-        }
-    }
-    Ok(found)
+    let label = String::from_utf8_lossy(alloc, label)?;
+    Ok(Some(Definition { label, target }))
 }

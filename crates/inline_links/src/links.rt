@@ -1,19 +1,19 @@
 // The links, images, autolinks and literals of a text.
 
-use crate::definition::{Definition, Target};
+use crate::definition::Target;
 use crate::strings::{one_line, raw_text, text_of_linked};
 use markdown_inline::configuration::{Constructs, ParseOptions};
+use markdown_inline::definitions::Definitions;
 use markdown_inline::document::Document;
 use markdown_inline::event::{Event, Name, Point};
+use markdown_inline::labels::Labels;
+use markdown_inline::node::Node;
 use markdown_inline::parser::{ParseState, Piece};
-use markdown_inline::util::normalize_identifier::normalize_identifier;
-use markdown_tree::node::Node;
-use markdown_tree::tree::Tree;
+use markdown_inline::tree::Tree;
 use std::alloc::{AllocError, Global};
-use std::collections::BTreeMap;
 
-// The constructs of CommonMark, and autolink literals.
-const OPTIONS: ParseOptions = ParseOptions {
+/// The constructs of CommonMark, and autolink literals.
+pub const OPTIONS: ParseOptions = ParseOptions {
     constructs: Constructs {
         attention: true,
         autolink: true,
@@ -42,16 +42,12 @@ const OPTIONS: ParseOptions = ParseOptions {
 pub fn parse_state<'a>(
     alloc: Global,
     bytes: &'a [u8],
-    definitions: &[Definition],
+    definitions: &Definitions,
 ) -> Result<ParseState<'a>, AllocError> {
-    let mut identifiers = Vec::new(alloc);
-    for definition in definitions {
-        identifiers.push(definition.identifier.clone()?)?;
-    }
     Ok(ParseState {
         bytes,
         options: &OPTIONS,
-        definitions: identifiers,
+        definitions: definitions.identifiers()?,
         gfm_footnote_definitions: Vec::new(alloc),
     })
 }
@@ -91,11 +87,13 @@ impl Kind {
 
 // What is read of a document for its lines.
 #[derive(Drop)]
-struct Reader<'a, 't> {
+struct Reader<'a> {
     alloc: Global,
     bytes: &'a [u8],
     tree: Tree<'a>,
-    targets: &'a BTreeMap<String, &'t Target>,
+    labels: &'a Labels<'a>,
+    // Where each definition leads, by its number.
+    targets: &'a [Target],
 }
 
 // The first node of this name inside a node.
@@ -124,7 +122,7 @@ fn child(tree: &Tree, node: usize, name: Name) -> Option<Node> {
     None
 }
 
-impl<'a, 't> Reader<'a, 't> {
+impl<'a> Reader<'a> {
     // The linked string in the first node of this name inside a node.
     fn string(&self, node: usize, name: Name) -> Result<String, AllocError> {
         match find(&self.tree, node, name) {
@@ -133,33 +131,18 @@ impl<'a, 't> Reader<'a, 't> {
         }
     }
 
-    // What stands in the first node of this name inside a node, as it is written.
-    fn raw(&self, node: usize, name: Name) -> Result<String, AllocError> {
-        match find(&self.tree, node, name) {
-            Some(inner) => raw_text(self.alloc, self.bytes, self.tree.events(inner.enter)),
-            None => Ok(String::new(self.alloc)),
-        }
-    }
-
-    // Where the definition leads that a reference names: by its own label, or else by its text.
+    // Where the definition leads that a link or an image refers to.
     fn referred(&self, node: usize) -> Result<Target, AllocError> {
         let alloc = self.alloc;
-        let label = match child(&self.tree, node, Name::Reference) {
-            Some(reference) => self.raw(reference.enter, Name::ReferenceString)?,
-            None => String::new(alloc),
-        };
-        let label = if label.is_empty() {
-            self.raw(node, Name::LabelText)?
-        } else {
-            label
-        };
-        let identifier = normalize_identifier(alloc, label.as_str())?;
-        match self.targets.get(identifier.as_str()) {
-            Some(target) => Ok(Target {
-                destination: target.destination.clone()?,
-                title: target.title.clone()?,
-            }),
-            None => Ok(Target {
+        match self.labels.met(&self.tree, node)? {
+            Some(number) if number < self.targets.len() => {
+                let target = &self.targets[number];
+                Ok(Target {
+                    destination: target.destination.clone()?,
+                    title: target.title.clone()?,
+                })
+            }
+            _ => Ok(Target {
                 destination: String::new(alloc),
                 title: String::new(alloc),
             }),
@@ -212,17 +195,18 @@ impl<'a, 't> Reader<'a, 't> {
 }
 
 /// Adds a line for each link of a text: line, column, kind, destination, title.
-pub fn push_lines<'a, 't>(
+pub fn push_lines<'a>(
     alloc: Global,
     lines: &mut String,
-    bytes: &'a [u8],
+    labels: &'a Labels<'a>,
     events: &'a [Event],
-    targets: &'a BTreeMap<String, &'t Target>,
+    targets: &'a [Target],
 ) -> Result<(), AllocError> {
     let reader = Reader {
         alloc,
-        bytes,
+        bytes: labels.bytes,
         tree: Tree::new(alloc, events)?,
+        labels,
         targets,
     };
     for number in 0..events.len() {

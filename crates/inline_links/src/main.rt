@@ -10,7 +10,9 @@ mod links;
 mod rest;
 mod strings;
 
+use markdown_inline::definitions::Definitions;
 use markdown_inline::document::Document;
+use markdown_inline::labels::Labels;
 use std::alloc::{AllocError, Global};
 use std::io::Read;
 use std::process::ExitCode;
@@ -18,15 +20,27 @@ use std::process::ExitCode;
 // The lines of all texts of a document; none where it is not UTF-8.
 fn listed(alloc: Global, bytes: &[u8]) -> Result<Option<String>, AllocError> {
     let blocks = blocks::of(alloc, bytes)?;
-    let targets = definition::targets(alloc, blocks.definitions.as_slice())?;
-    let parse_state = links::parse_state(alloc, bytes, blocks.definitions.as_slice())?;
+    let footnotes = Definitions::new(alloc);
+    let labels = Labels {
+        bytes,
+        options: &links::OPTIONS,
+        definitions: &blocks.definitions,
+        footnotes: &footnotes,
+    };
+    let parse_state = links::parse_state(alloc, bytes, &blocks.definitions)?;
     let Some(document) = Document::new(alloc, parse_state)? else {
         return Ok(None);
     };
     let mut lines = String::new(alloc);
     for text in &blocks.texts {
         let events = links::events_of(alloc, &document, text.as_slice())?;
-        links::push_lines(alloc, &mut lines, bytes, events.as_slice(), &targets)?;
+        links::push_lines(
+            alloc,
+            &mut lines,
+            &labels,
+            events.as_slice(),
+            blocks.targets.as_slice(),
+        )?;
     }
     Ok(Some(lines))
 }

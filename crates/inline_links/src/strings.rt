@@ -4,7 +4,7 @@ use markdown_inline::configuration::ParseOptions;
 use markdown_inline::event::{Event, Kind, Name};
 use markdown_inline::parser::{ParseState, Piece};
 use markdown_inline::run;
-use markdown_util::util::character_reference::{decode_named, parse};
+use markdown_inline::util::character_reference::{decode_named, parse};
 use std::alloc::{AllocError, Global};
 
 /// The bytes from a start to an end; none where they are not in order.

@@ -7,6 +7,7 @@ pub mod options;
 pub mod program;
 pub mod util;
 
+pub use markdown_definitions::{definitions, labels};
 pub use markdown_engine::{events, subtokenize, tokenizer};
 pub use markdown_engine_content::{configuration, content, event, parser};
 pub use markdown_inline_lines::lines;
@@ -22,3 +23,4 @@ pub use markdown_partial::{
 pub use markdown_partial_link::{partial_destination, partial_label, partial_title};
 pub use markdown_run::{attention, document, gfm_autolink_literal, label_end, resolve, run, state};
 pub use markdown_run_text::{string, text};
+pub use markdown_tree::{node, tree};

@@ -62,7 +62,7 @@ module _ (T : Tokenizer) (es : List Event) (ls : List Kept.LabelStart) (none : T
         part = record { short = fits; indexed = right-unknown T.cursor.codes T.tokenize_state.sequences (ap (λ (s : TokenizeState). s.sequences) e); titled = TitleIndexLemmas.right-unknown T.cursor.codes T.tokenize_state.titles (ap (λ (s : TokenizeState). s.titles) e); spaces = record { space = ap PartialSpaceOrTab.rested fields ∙ sym fields; eol = ap PartialSpaceOrTabEol.eol_rested fields ∙ sym fields }; rest = ap AfterLabelParts.rested fields ∙ sym fields };
         listed = listed-unknown U (ap (λ (s : TokenizeState). s.names) fields);
         text = text;
-        within = subst (λ (xs : List Kept.LabelStart). AreWithin U xs) (sym only) (record { within = some; between = between }, tt);
+        within = subst (λ (xs : List Kept.LabelStart). AreWithin U xs) (sym only) ((record { within = some; between = between }, tt), (λ e. tt, tt));
         resting = ap (λ (s : TokenizeState). s.end) fields;
       }
 

@@ -1,1 +1,2 @@
 pub mod LabelEndReady
+pub mod TextByStates

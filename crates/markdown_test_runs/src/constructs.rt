@@ -22,6 +22,7 @@ use markdown_engine_index::sequence_index::SequenceIndex;
 use markdown_inline::run::construct;
 use markdown_inline::state::Inline;
 use markdown_inline::{partial_space_or_tab, partial_space_or_tab_eol, resolve, state};
+use markdown_run_readers::{attention, character_escape, label_start_link, partial_data};
 use std::alloc::{AllocError, Global};
 
 // A tokenizer at the start of a content, where constructs may be read.
@@ -267,6 +268,27 @@ fn read_plain(tokenizer: &mut Tokenizer, reading: &str) -> Result<bool, AllocErr
     }
 }
 
+// Reads an element of a text by its reader, which does what the construct's states do.
+fn read_whole(tokenizer: &mut Tokenizer, reading: &str) -> Result<bool, AllocError> {
+    let Some(code) = tokenizer.current() else {
+        return Ok(false);
+    };
+    match reading {
+        "wholeescape" => character_escape::read(tokenizer),
+        "wholelink" => label_start_link::read(tokenizer),
+        "wholeattention" => attention::read(tokenizer, code),
+        _ => {
+            let literals = tokenizer
+                .parse_state
+                .options
+                .constructs
+                .gfm_autolink_literal;
+            partial_data::read(tokenizer, literals)?;
+            Ok(true)
+        }
+    }
+}
+
 // Reads one construct.
 fn read_one(tokenizer: &mut Tokenizer, reading: &str, asked: Asked) -> Result<bool, AllocError>
     requires alone { tokenizer.old.attempts ≡ [] }
@@ -282,6 +304,9 @@ fn read_one(tokenizer: &mut Tokenizer, reading: &str, asked: Asked) -> Result<bo
         "destination" | "title" | "label" => read_part(tokenizer, reading),
         "task" | "protocol" | "www" | "footnote" => read_gfm(tokenizer, reading),
         "end" => read_end(tokenizer),
+        "wholeescape" | "wholelink" | "wholeattention" | "wholedata" => {
+            read_whole(tokenizer, reading)
+        }
         _ => read_plain(tokenizer, reading),
     }
 }

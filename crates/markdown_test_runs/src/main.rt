@@ -14,6 +14,7 @@
 //! - A single call of a state, in the run of a text or a string: `text-call`, `string-call`. The call is the first of the state named `state=NAME`
 //!   at the byte `at=INDEX`, given as in a piece, where the scratch fields that are not at rest are those of `fields=FIELDS`. Indexes, the markers
 //!   of data, and whether a text is the first of an item are left out there.
+//! - `met`: a text, of which each link, image and footnote call is to name the definition that it refers to. Here the row defines labels.
 //! - A run of the program: `program`, of which the document is the input; `slow`, with a reader that gives it a byte at a time, and may have a fault
 //!   behind; `broken`, with such a reader and a byte behind the document that is not UTF-8; `narrow`, with a writer that takes so many bytes at
 //!   most; `mute`, with such a writer for what goes wrong, where the input is `a`; `wordless`, where the words cannot be read.
@@ -32,7 +33,7 @@
 //!
 //! In a text a backslash stands before `n` for LF, `r` for CR, `t` for TAB, `0` for NUL, and before a backslash for itself.
 //!
-//! A line of answer is the first field, and for each event `+NAME` or `-NAME`, line, column, byte and codes of the tab before the place. The
+//! A line of answer is the first field, and, of what may refer, its name, the byte where it begins, and a number or `-`; else for each event `+NAME` or `-NAME`, line, column, byte and codes of the tab before the place. The
 //! beginning of linked content goes on with its content, and with the numbers of the previous and the next event of its chain. Of a single
 //! construct it also says whether it holds, how many starts of labels are open then, at which byte the tokenizer stands, and whether whitespace
 //! is still asked for. Of a single call it says what the state answers, at which
@@ -48,6 +49,7 @@ mod constructs;
 mod ends;
 mod fakes;
 mod lines;
+mod met;
 mod moved;
 mod pairing;
 mod pairs;

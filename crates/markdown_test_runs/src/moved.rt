@@ -72,7 +72,7 @@ fn read(
     }
 }
 
-/// Whether what is found in a content is also found in it as one of a prepared document, with text before and behind it. Where nothing is found,
+/// Whether what is found in a content is also found in it as one of a prepared document, with text before and behind it, which learns its definitions later. Where nothing is found,
 /// none stands there.
 pub(crate) fn is_found_again(
     alloc: Global,
@@ -93,12 +93,17 @@ pub(crate) fn is_found_again(
     let given = ParseState {
         bytes: text.as_bytes(),
         options: parse_state.options,
-        definitions: copied(alloc, parse_state.definitions.as_slice())?,
-        gfm_footnote_definitions: copied(alloc, parse_state.gfm_footnote_definitions.as_slice())?,
+        definitions: Vec::new(alloc),
+        gfm_footnote_definitions: Vec::new(alloc),
     };
-    let Some(document) = Document::new(alloc, given)? else {
+    let Some(mut document) = Document::new(alloc, given)? else {
         return Ok(false);
     };
+    document.redefine(
+        alloc,
+        copied(alloc, parse_state.definitions.as_slice())?,
+        copied(alloc, parse_state.gfm_footnote_definitions.as_slice())?,
+    )?;
     let again = read(alloc, &document, pieces.as_slice(), first_of_item)?;
     Ok(match (found, &again) {
         (Some(run), Some(again)) => is_moved(run, again, before.len(), lines),

@@ -2,6 +2,7 @@
 use crate::calls::{Sought, print_string_call, print_text_call};
 use crate::constructs::print_construct;
 use crate::lines::{print_events, print_leaf, print_probes};
+use crate::met::print_met;
 use crate::moved::is_found_again;
 use crate::pairs::{print_likeness, print_string_likeness};
 use crate::program::print_program;
@@ -23,6 +24,9 @@ pub(crate) fn print_found(
         "program" | "broken" | "slow" | "narrow" | "mute" | "wordless"
     ) {
         return print_program(alloc, reading, &row, out);
+    }
+    if reading == "met" {
+        return print_met(alloc, &row, out);
     }
     let Row {
         options,

@@ -12,7 +12,9 @@ sys.dont_write_bytecode = True
 import examples
 
 CONSTRUCTS = ['escape', 'reference', 'break', 'autolink', 'html', 'span', 'attention', 'task', 'protocol', 'www', 'link', 'image', 'footnote', 'end',
-              'destination', 'title', 'label', 'data', 'letters', 'space', 'spacing', 'linked', 'state']
+              'destination', 'title', 'label', 'data', 'letters', 'space', 'spacing', 'linked', 'state', 'wholedata']
+# What a reader reads too.
+READ_WHOLE = ['escape', 'attention', 'link']
 PROGRAMS = ['program', 'broken', 'slow', 'narrow', 'mute', 'wordless']
 OWN = {'unlabelled': ['no-attention', 'no-label_end', 'no-label_start_image', 'no-label_start_link'],
        'notes': ['gfm_label_start_footnote', 'gfm_strikethrough']}
@@ -218,10 +220,15 @@ def own_cases(line):
     kind, words, document, pieces, answer = examples.divided(line)
     if kind in CONSTRUCTS:
         yield construct_case(kind, words, document, pieces, answer)
+        if kind in READ_WHOLE:
+            yield construct_case('whole' + kind, words, document, pieces, answer)
     elif kind == 'pairs':
         yield from pair_cases(words, document, pieces)
     elif kind == 'passes':
         yield passes_case(words, document, pieces, answer)
+    elif kind == 'met':
+        fields = word_fields(words) + piece_fields(pieces, examples.plain(document).encode()) + list(document_fields(document))
+        yield [kind] + fields, answer.replace(',', '')
     elif kind == 'steady':
         yield [kind] + piece_fields(pieces, examples.plain(document).encode()) + list(document_fields(document)), answer
     elif kind in PROGRAMS:

@@ -1,6 +1,7 @@
 use Rattle.std.proofs.Common.{None}
 use Rattle.markdown_run.proofs.WholeRun.{begun-starts}
-use Rattle.markdown_run.proofs.TextRun.{none-lent, started, text-ready, text-may}
+use Rattle.markdown_run.proofs.TextRun.{none-lent, started, text-ready}
+use Rattle.markdown_test_runs.proofs.TextByStates.{states-may}
 use Rattle.markdown_test_runs.proofs.passes.are_of_text.Goals as goal
 
 pub run_state-requires-clause-ready : goal.run_state-requires-clause-ready
@@ -11,4 +12,4 @@ run_state-requires-clause-ready c =
 pub resolve_all-outcome-requires : goal.resolve_all-outcome-requires
 resolve_all-outcome-requires c =
     let start = begun-starts c.args.alloc c.args.parse_state c.args.pieces.now c.new-tokenizer.result c.new-tokenizer.ensures in
-    text-may c.args.parse_state.now c.args.pieces.now None c.args.first_of_item c.requires.is_content _ c.run_state.new.self (started c.args.parse_state.now c.args.pieces.now c.args.first_of_item c.new-tokenizer.result start) c.in-Ok.field-0 c.in-Ok.ensures.ends
+    states-may c.args.parse_state.now c.args.pieces.now c.args.first_of_item c.requires.is_content _ c.run_state.new.self (started c.args.parse_state.now c.args.pieces.now c.args.first_of_item c.new-tokenizer.result start) c.in-Ok.field-0 c.in-Ok.ensures.ends

@@ -1,0 +1,4 @@
+-- The definitions of this crate.
+pub mod Numbers
+pub mod Referred
+pub mod LabelsView
