@@ -12,7 +12,7 @@ use Rattle.markdown_html_model.specs.Html.{Page, Parts, Written, no_parts, joine
 use Rattle.markdown_html_model.specs.Roles.{role_of}
 use Rattle.markdown_html_model.specs.declared.role.Role.{Role}
 use Rattle.markdown_html_model.specs.declared.role.Within.{Within}
-use Rattle.markdown_html.specs.EventWalk.{State, Open, entered, filled, closed, closed_out, exited, stepped, walked, beginning, keeps_inside}
+use Rattle.markdown_html.specs.EventWalk.{State, Open, entered, filled, closed, closed_out, stepped, walked, beginning, keeps_inside}
 
 -- the state after this is written
 abbrev pub after : State → Written → State
@@ -71,8 +71,7 @@ kept p within Role.Email a b inside parts e = refl
 kept p within Role.UriLiteral a b inside parts e = refl
 kept p within Role.WwwLiteral a b inside parts e = refl
 kept p within Role.EmailLiteral a b inside parts e = refl
-kept p within Role.Checked a b inside parts e = refl
-kept p within Role.Check a b inside parts e = refl
+kept p within Role.Check a b inside parts e = cc
 kept p within Role.Emphasis a b inside parts e = refl
 kept p within Role.Strong a b inside parts e = refl
 kept p within Role.Strikethrough a b inside parts e = refl
@@ -100,8 +99,7 @@ replaced within Role.Email e = cc
 replaced within Role.UriLiteral e = cc
 replaced within Role.WwwLiteral e = cc
 replaced within Role.EmailLiteral e = cc
-replaced within Role.Checked e = cc
-replaced within Role.Check e = cc
+replaced within Role.Check e = refl
 replaced within Role.Emphasis e = cc
 replaced within Role.Strong e = cc
 replaced within Role.Strikethrough e = cc

@@ -1,9 +1,7 @@
 -- What the writer does at each event, on lists.
-use Rattle.std.specs.Prelude.{ℕ, Bool, true, false, if◌then◌else◌, List, [], ◌∷◌, ◌++◌, length, take, drop, Option, None, Some}
+use Rattle.std.specs.Prelude.{ℕ, Bool, true, false, List, [], ◌∷◌, ◌++◌, length, take, drop, Option, None, Some}
 use Rattle.markdown_engine_content.specs.declared.event.Event.{Event}
-use Rattle.markdown_engine_content.specs.declared.event.Kind.{Kind}
 use Rattle.markdown_engine_content.specs.declared.event.Kind.TheVariants.{Enter, Exit}
-use Rattle.markdown_engine_content.specs.declared.event.Name.{Name}
 use Rattle.markdown_engine_content.specs.declared.event.Point.{Point}
 use Rattle.markdown_html_model.specs.Html.{Page, Parts, no_parts, joined_parts, own_parts, string_of, text_between, leaf_html, within_of, opening, closing, group_html}
 use Rattle.markdown_html_model.specs.Roles.{role_of}
@@ -32,6 +30,7 @@ keeps_inside Role.Reference = false
 keeps_inside Role.Footnote = false
 keeps_inside Role.Link = false
 keeps_inside Role.Image = false
+keeps_inside Role.Check = false
 keeps_inside Role.Destination = false
 keeps_inside Role.TitleText = false
 keeps_inside Role.Resource = false

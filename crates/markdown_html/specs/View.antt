@@ -1,5 +1,5 @@
 -- What the types of the writer are, as the definitions see them.
-use Rattle.std.specs.Prelude.{List, ℕ, map, reverse, string_bytes, Option}
+use Rattle.std.specs.Prelude.{List, ℕ, map, reverse, string_bytes}
 use Rattle.std.specs.Option.{option_map}
 use Rattle.markdown_html_model.specs.Html.{Defined, Page, Parts, Target}
 use Rattle.markdown_html_model.specs.declared.options.Definition.{Definition}

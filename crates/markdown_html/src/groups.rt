@@ -4,7 +4,7 @@
 ghost use Rattle.std.specs.Prelude.{◌≡◌, ◌++◌, ◌==◌, if◌then◌else◌, not, IfOk, OnOk, map};
 ghost use Rattle.std.specs.List.{list_any};
 ghost use Rattle.markdown_html_text.specs.Resolved.{resolved};
-ghost use Rattle.markdown_html_model.specs.Html.{begins_with_space, closing, ends_with_space, group_html, image_html, link_html, opening, span_html, span_text, text_html, without_padding};
+ghost use Rattle.markdown_html_model.specs.Html.{begins_with_space, check_html, closing, ends_with_space, group_html, image_html, link_html, opening, span_html, span_text, text_html, without_padding};
 ghost use Rattle.markdown_html.specs.View.{page_of, parts_of, target_view};
 
 use crate::addresses::{
@@ -27,7 +27,6 @@ pub(crate) fn push_opening(out: &mut Vec<u8>, within: Within, role: Role) -> Res
         Role::Emphasis => push_tag(out, within, b"<em>"),
         Role::Strong => push_tag(out, within, b"<strong>"),
         Role::Strikethrough => push_tag(out, within, b"<del>"),
-        Role::Check => push_tag(out, within, b"<input type=\"checkbox\" disabled=\"\" "),
         _ => Ok(()),
     }
 }
@@ -40,7 +39,6 @@ pub(crate) fn push_closing(out: &mut Vec<u8>, within: Within, role: Role) -> Res
         Role::Emphasis => push_tag(out, within, b"</em>"),
         Role::Strong => push_tag(out, within, b"</strong>"),
         Role::Strikethrough => push_tag(out, within, b"</del>"),
-        Role::Check => push_tag(out, within, b"/>"),
         _ => Ok(()),
     }
 }
@@ -166,6 +164,21 @@ fn push_reference(
     push_text(out, within, text.as_slice())
 }
 
+// The check of a task, which is done where a text stands between its brackets.
+fn push_check(out: &mut Vec<u8>, within: Within, inside: &[u8]) -> Result<(), AllocError>
+    ensures { OnOk result (out.new.items ≡ out.old.items ++ check_html within inside.now) }
+{
+    if inside.is_empty() {
+        push_tag(out, within, b"<input type=\"checkbox\" disabled=\"\" />")
+    } else {
+        push_tag(
+            out,
+            within,
+            b"<input type=\"checkbox\" disabled=\"\" checked=\"\" />",
+        )
+    }
+}
+
 // What is written of something from one place to another, by what is inside it.
 pub(crate) fn push_group(
     alloc: Global,
@@ -202,6 +215,7 @@ pub(crate) fn push_group(
         ),
         Role::Link => push_link(given, out, within, target(alloc, given, found)?, inside),
         Role::Image => push_image(given, out, within, target(alloc, given, found)?, inside),
+        Role::Check => push_check(out, within, inside),
         Role::Destination | Role::TitleText | Role::Resource | Role::Tail => Ok(()),
         _ => {
             push_opening(out, within, role)?;

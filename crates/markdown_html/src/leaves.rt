@@ -81,7 +81,6 @@ pub(crate) fn push_leaf(
         Role::UriLiteral => push_own_link_outside(alloc, given, out, within, b"", text),
         Role::WwwLiteral => push_own_link_outside(alloc, given, out, within, b"http://", text),
         Role::EmailLiteral => push_own_link_outside(alloc, given, out, within, b"mailto:", text),
-        Role::Checked => push_tag(out, within, b"checked=\"\" "),
         _ => Ok(()),
     }
 }

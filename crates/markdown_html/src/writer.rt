@@ -1,7 +1,7 @@
 // The walk over events.
 #![tactic(auto)]
 
-ghost use Rattle.std.specs.Prelude.{◌≡◌, ◌≤◌, ◌++◌, ◌∷◌, IfOk, OnOk, drop, length, take};
+ghost use Rattle.std.specs.Prelude.{◌≡◌, ◌≤◌, ◌++◌, ◌∷◌, IfOk, OnOk, drop, false, length, take, true};
 ghost use Rattle.std.specs.List.{All};
 ghost use Rattle.markdown_engine_content.specs.Content.{document_limit};
 ghost use Rattle.markdown_engine_content.specs.Tree.{Forest, events_of};
@@ -9,6 +9,7 @@ ghost use Rattle.markdown_partial.specs.TrimmedData.{IsStretch};
 ghost use Rattle.markdown_run_leaves.specs.InnermostEvents.{innermost, IsInOrder};
 ghost use Rattle.markdown_html_model.specs.Html.{group_html, html, within_of};
 ghost use Rattle.markdown_html_model.specs.Roles.{role_of};
+ghost use Rattle.markdown_html_laws.specs.OwnMarkup.{IsOwnMarkup};
 ghost use Rattle.markdown_html.specs.View.{open_view, page_from, page_of, parts_of, state_of};
 ghost use Rattle.markdown_html.specs.EventWalk.{closed, closed_out, entered, exit_first, exited, filled, is_text_alone, keeps_inside, stepped};
 
@@ -52,9 +53,8 @@ fn within_of(within: Within, role: Role) -> Within
     ensures { result ≡ within_of within role }
 {
     match role {
-        Role::Code | Role::Math | Role::Image | Role::Destination | Role::TitleText => {
-            Within::InText
-        }
+        Role::Code | Role::Math | Role::Image | Role::Check | Role::Destination | Role::TitleText =>
+            Within::InText,
         Role::Link => match within {
             Within::Outside => Within::InLink,
             other => other,
@@ -67,19 +67,12 @@ fn within_of(within: Within, role: Role) -> Within
 fn keeps_inside(role: Role) -> bool
     ensures { result ≡ keeps_inside role }
 {
-    !matches!(
-        role,
-        Role::Code
-            | Role::Math
-            | Role::Reference
-            | Role::Footnote
-            | Role::Link
-            | Role::Image
-            | Role::Destination
-            | Role::TitleText
-            | Role::Resource
-            | Role::Tail
-    )
+    match role {
+        Role::Code | Role::Math | Role::Reference | Role::Footnote => false,
+        Role::Link | Role::Image | Role::Check => false,
+        Role::Destination | Role::TitleText | Role::Resource | Role::Tail => false,
+        _ => true,
+    }
 }
 
 // Writes something anew that is around what stands from `entry.start` on.
@@ -246,6 +239,9 @@ fn step(
 /// The events are those of a run over these bytes. A reference leads to the first definition with its identifier, and to an empty address where there is none. A
 /// look goes over the definitions for each reference; all else takes time and memory in proportion to the events, their text, and what is written.
 ///
+/// With raw HTML off no text becomes markup: what is written is text without `<`, `>` and `"`, and elements of a list, balanced and nested. Where `any_link`
+/// is off too, each `href` and `src` in it is empty, relative, or of a listed scheme, as a browser reads it.
+///
 /// The error comes only where memory is refused.
 pub fn to_html(
     alloc: Global,
@@ -256,7 +252,9 @@ pub fn to_html(
 ) -> Result<Vec<u8>, AllocError>
     requires fits { length bytes.now ≤ document_limit }
     requires places { All (IsInOrder bytes.now) (innermost events.now) }
-    ensures { (t : Forest) → events.now ≡ events_of t → IfOk result (λ written. written.items ≡ html (page_from bytes.now definitions.now options) t) }
+    ensures exact { (t : Forest) → events.now ≡ events_of t → IfOk result (λ written. written.items ≡ html (page_from bytes.now definitions.now options) t) }
+    ensures own { (t : Forest) → events.now ≡ events_of t → options.raw_html ≡ false → IfOk result (λ written. IsOwnMarkup true written.items) }
+    ensures safe { (t : Forest) → events.now ≡ events_of t → options.raw_html ≡ false → options.any_link ≡ false → IfOk result (λ written. IsOwnMarkup false written.items) }
 {
     let given = Given {
         bytes,

@@ -156,7 +156,6 @@ leaf_html p within Role.Email text = own_link p within (codes "mailto:") text
 leaf_html p within Role.UriLiteral text = own_link_outside p within [] text
 leaf_html p within Role.WwwLiteral text = own_link_outside p within (codes "http://") text
 leaf_html p within Role.EmailLiteral text = own_link_outside p within (codes "mailto:") text
-leaf_html p within Role.Checked text = tag within (codes "checked=\"\" ")
 leaf_html p within role text = []
 
 -- What holds others.
@@ -166,6 +165,7 @@ abbrev pub within_of : Within → Role → Within
 within_of within Role.Code = Within.InText
 within_of within Role.Math = Within.InText
 within_of within Role.Image = Within.InText
+within_of within Role.Check = Within.InText
 within_of within Role.Destination = Within.InText
 within_of within Role.TitleText = Within.InText
 within_of Within.Outside Role.Link = Within.InLink
@@ -176,14 +176,12 @@ abbrev pub opening : Within → Role → List ℕ
 opening within Role.Emphasis = tag within (codes "<em>")
 opening within Role.Strong = tag within (codes "<strong>")
 opening within Role.Strikethrough = tag within (codes "<del>")
-opening within Role.Check = tag within (codes "<input type=\"checkbox\" disabled=\"\" ")
 opening within role = []
 
 abbrev pub closing : Within → Role → List ℕ
 closing within Role.Emphasis = tag within (codes "</em>")
 closing within Role.Strong = tag within (codes "</strong>")
 closing within Role.Strikethrough = tag within (codes "</del>")
-closing within Role.Check = tag within (codes "/>")
 closing within role = []
 
 abbrev pub begins_with_space : List ℕ → Bool
@@ -216,6 +214,11 @@ abbrev pub image_html : Page → Within → Target → List ℕ → List ℕ
 image_html p Within.InText to inside = inside
 image_html p within to inside = codes "<img src=\"" ++ address p image_schemes to.destination ++ codes "\" alt=\"" ++ escaped inside ++ codes "\"" ++ title_attribute to.title ++ codes " />"
 
+-- the check of a task (GFM 5.3), which is done where a text stands between its brackets
+abbrev pub check_html : Within → List ℕ → List ℕ
+check_html within [] = tag within (codes "<input type=\"checkbox\" disabled=\"\" />")
+check_html within (b ∷ bs) = tag within (codes "<input type=\"checkbox\" disabled=\"\" checked=\"\" />")
+
 -- what is from one place to another, by what is inside. A footnote call is its own text, since its number is known to the document alone.
 abbrev pub group_html : Page → Within → Role → Point → Point → List ℕ → Parts → List ℕ
 group_html p within Role.Code a b inside parts = span_html within (codes "<code>") (span_text inside)
@@ -224,6 +227,7 @@ group_html p within Role.Reference a b inside parts = text_html within (resolved
 group_html p within Role.Footnote a b inside parts = text_html within (bytes_from p.bytes a.index b.index)
 group_html p within Role.Link a b inside parts = link_html p within (target_of p parts) inside
 group_html p within Role.Image a b inside parts = image_html p within (target_of p parts) inside
+group_html p within Role.Check a b inside parts = check_html within inside
 group_html p within Role.Destination a b inside parts = []
 group_html p within Role.TitleText a b inside parts = []
 group_html p within Role.Resource a b inside parts = []

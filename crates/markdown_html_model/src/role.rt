@@ -13,7 +13,7 @@ pub enum Within {
     Outside,
     /// In the text of a link: tags are written, but no literal makes a link.
     InLink,
-    /// In a description of an image, a span or a string: text alone is written, and escaped later as a whole.
+    /// In a description of an image, a span, a string or the check of a task: text alone is written, and escaped later as a whole.
     InText,
 }
 
@@ -38,9 +38,7 @@ pub enum Role {
     WwwLiteral,
     /// The address of an email that stands by itself.
     EmailLiteral,
-    /// That a task is done.
-    Checked,
-    /// The check of a task whole.
+    /// The check of a task, done where it holds text.
     Check,
     /// Emphasis.
     Emphasis,
@@ -81,9 +79,11 @@ pub fn role_of(name: Name) -> Role
     ensures { result ≡ role_of name }
 {
     match name {
-        Name::Data | Name::CharacterEscapeValue | Name::CodeTextData | Name::MathTextData => {
-            Role::Plain
-        }
+        Name::Data
+        | Name::CharacterEscapeValue
+        | Name::CodeTextData
+        | Name::MathTextData
+        | Name::GfmTaskListItemValueChecked => Role::Plain,
         Name::LineEnding => Role::LineEnd,
         Name::HardBreakEscape | Name::HardBreakTrailing => Role::Break,
         Name::HtmlTextData => Role::Raw,
@@ -94,7 +94,6 @@ pub fn role_of(name: Name) -> Role
         | Name::GfmAutolinkLiteralXmpp => Role::UriLiteral,
         Name::GfmAutolinkLiteralWww => Role::WwwLiteral,
         Name::GfmAutolinkLiteralEmail => Role::EmailLiteral,
-        Name::GfmTaskListItemValueChecked => Role::Checked,
         Name::GfmTaskListItemCheck => Role::Check,
         Name::Emphasis => Role::Emphasis,
         Name::Strong => Role::Strong,

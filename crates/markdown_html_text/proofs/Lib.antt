@@ -1,4 +1,4 @@
-mod NoMarkup
+pub mod NoMarkup
 mod Pieces
 mod ResolvedText
 mod ReferenceValues

@@ -1,7 +1,6 @@
 -- No markup stands in what is escaped, nor in an address as it is written.
-use Rattle.std.proofs.Common.{◌≡◌, ◌∙◌, sym, ap, refl, ℕ, ◌+◌, List, [], ◌∷◌, ◌++◌, true, false, Bool, not, ◌&&◌, ◌||◌, ◌==◌, nat_lt, ◌/◌, ◌%◌, if◌then◌else◌, arith}
-use Rattle.std.specs.List.{flat_map, list_all}
-use Rattle.std.specs.Char.{is_ascii_alphanumeric}
+use Rattle.std.proofs.Common.{◌≡◌, ◌∙◌, ap, refl, ℕ, List, [], ◌∷◌, true, false, Bool, not, ◌&&◌, ◌||◌, ◌==◌, ◌/◌, ◌%◌, if◌then◌else◌, arith}
+use Rattle.std.specs.List.{flat_map}
 use Rattle.std.proofs.lemmas.Bool.Decides.{nat_tests}
 use Rattle.std.proofs.lemmas.List.Folds.{list_all-append}
 use Rattle.markdown_html_text.specs.Escaped.{escaped, escaped_byte, addressed, address_byte, is_address_byte, begins_encoded, is_no_markup, has_no_markup, hexadecimal}
@@ -31,3 +30,28 @@ all_quiet f each (b ∷ text) =
 pub escaped_quiet : (text : List ℕ) → has_no_markup (escaped text) ≡ true
 unfolding escaped
 escaped_quiet text = all_quiet escaped_byte escaped_byte_quiet text
+
+digit_quiet : (d : ℕ) → is_no_markup (hexadecimal d) ≡ true
+digit_quiet d = grind (arith, nat_tests)
+
+encoded_quiet : (b : ℕ) → has_no_markup (37 ∷ hexadecimal (b / 16) ∷ hexadecimal (b % 16) ∷ []) ≡ true
+encoded_quiet b =
+    ap (λ w. w && (is_no_markup (hexadecimal (b % 16)) && true)) (digit_quiet (b / 16))
+    ∙ ap (λ w. w && true) (digit_quiet (b % 16))
+
+kept_quiet : (b : ℕ) (rest : List ℕ) → ((b == 37 && begins_encoded rest) || is_address_byte b) ≡ true → has_no_markup (b ∷ []) ≡ true
+kept_quiet b rest h = grind (arith, nat_tests)
+
+address_byte_quiet : (b : ℕ) (rest : List ℕ) → has_no_markup (address_byte b rest) ≡ true
+address_byte_quiet b rest =
+    either (b == 38) _ _ (λ _. refl) (λ _.
+    either (b == 0) _ _ (λ _. refl) (λ _.
+    either ((b == 37 && begins_encoded rest) || is_address_byte b) _ _ (kept_quiet b rest) (λ _. encoded_quiet b)))
+
+pub addressed_quiet : (address : List ℕ) → has_no_markup (addressed address) ≡ true
+unfolding addressed
+addressed_quiet [] = refl
+addressed_quiet (b ∷ rest) =
+    list_all-append is_no_markup (address_byte b rest) (addressed rest)
+    ∙ ap (λ w. w && has_no_markup (addressed rest)) (address_byte_quiet b rest)
+    ∙ addressed_quiet rest

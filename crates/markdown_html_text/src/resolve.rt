@@ -92,9 +92,12 @@ fn value_ahead(
     }
 }
 
-// The text of the whole reference that an `&` begins in front of these bytes, and how many of them it takes.
+/// The text of the whole reference that an `&` begins in front of these bytes, and how many of them it takes; none where no whole reference
+/// begins. The names are HTML's.
+///
+/// The error comes only where memory is refused.
 #[tactic(auto, unfolding(crate::specs::Resolved::reference_ahead))]
-fn reference_ahead(alloc: Global, after: &[u8]) -> Result<Option<(String, usize)>, AllocError>
+pub fn reference_ahead(alloc: Global, after: &[u8]) -> Result<Option<(String, usize)>, AllocError>
     ensures { IfOk result (λ r. option_map text_of r ≡ reference_ahead after.now) }
 {
     let (marker, before) = marker_ahead(after);

@@ -1,4 +1,3 @@
-use Rattle.markdown_html_model.specs.Html.{label_text}
 use Rattle.markdown_html.proofs.EventLoop.{label_read, label_unread}
 use Rattle.markdown_html.proofs.targets.label_text.Goals as goal
 

@@ -1,0 +1,3 @@
+pub mod HtmlNotation
+pub mod RuleRows
+pub mod SpecificationRows

@@ -1,0 +1,18 @@
+//! Worked examples of HTML, from the bytes of a text to those of its HTML, by the definitions of `markdown_model` and `markdown_html_model`.
+//!
+//! Nothing here is run. A function of this crate has no parameters and an empty body: its contract says that examples hold, and the check proves it.
+#![tactic(auto)]
+
+ghost use Rattle.markdown_html_examples.specs.RuleRows.{RuleRows};
+ghost use Rattle.markdown_html_examples.specs.SpecificationRows.{SpecificationRows};
+
+/// Examples of CommonMark's specification have its HTML.
+pub fn specification_rows()
+    ensures { SpecificationRows }
+{}
+
+/// What the specification has no example for: strikethrough, math spans, task checks, literals, footnote calls, raw HTML as text, and addresses that are
+/// not safe.
+pub fn rule_rows()
+    ensures { RuleRows }
+{}

@@ -1,0 +1,5 @@
+mod Addresses
+pub mod HtmlIsOwn
+mod Markups
+mod SchemesRead
+mod ValuesRead

@@ -1,0 +1,3 @@
+pub mod BrowserScheme
+pub mod OwnMarkup
+pub mod HtmlLaws
