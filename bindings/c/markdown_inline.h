@@ -6,7 +6,7 @@
  * The interface, version 1:
  *
  * - It is that of the C calling convention of 64-bit machines: size_t has 64 bits, and structs are laid out as C lays them out. The sizes are
- *   checked below, at compile time. Numbers of names, bits of options and statuses do not change within a version.
+ *   checked below, at compile time. Numbers of names, bits of options and statuses do not change within a version; new ones come at the end.
  * - An array is a pointer and a length in elements. Where the length is 0 the pointer may be null. Pointers to single values are never null.
  * - Text is UTF-8. Indexes and ranges count bytes, from 0; lines and columns count from 1.
  * - Every input has an answer: nothing is required of it but that pointers and lengths are those of arrays, and that what a call writes to
@@ -28,8 +28,8 @@ extern "C" {
 /* The version that this header describes; the library's is that of markdown_inline_version(). */
 #define MARKDOWN_INLINE_VERSION 1
 
-/* Statuses, with what each says. A status is that of the first thing that is wrong, in the order 2, 9, 3, 7, 4, 8; memory may be refused at any
- * time. But for DONE and TOO_SMALL nothing is written. */
+/* Statuses, with what each says. A status is that of the first thing that is wrong, in the order 2, 9, 3, 7, 4, 8, but where a call says another;
+ * memory may be refused at any time. But for DONE and TOO_SMALL nothing is written. */
 #define MARKDOWN_INLINE_EACH_STATUS(X) \
     X(DONE, 0, "done") \
     X(UNKNOWN_OPTION, 2, "unknown option") \
@@ -39,7 +39,8 @@ extern "C" {
     X(TOO_SMALL, 6, "array too small") \
     X(NO_CONTENT, 7, "pieces are no content of the document") \
     X(DEFINITION, 8, "range of a definition is no text of the labels") \
-    X(TOO_LONG, 9, "document too long")
+    X(TOO_LONG, 9, "document too long") \
+    X(NO_REFERENCE, 10, "no character reference")
 
 /* Options, each by a bit: the constructs, the four settings, and whether the text is the first of a list item. */
 #define MARKDOWN_INLINE_EACH_OPTION(X) \
@@ -166,6 +167,9 @@ enum { MARKDOWN_INLINE_ENTER = 0, MARKDOWN_INLINE_EXIT = 1 };
 /* How what an event names is to be read again: not at all, as a string, or as a text. */
 enum { MARKDOWN_INLINE_UNLINKED = 0, MARKDOWN_INLINE_LINKED_STRING = 1, MARKDOWN_INLINE_LINKED_TEXT = 2 };
 
+/* What HTML may hold, each by a bit: raw HTML as it stands, and not as text; links that lead wherever they say, and not to listed schemes alone. */
+enum { MARKDOWN_INLINE_HTML_RAW = 0x1, MARKDOWN_INLINE_HTML_ANY_LINK = 0x2 };
+
 /* The number of no event. */
 #define MARKDOWN_INLINE_NONE SIZE_MAX
 
@@ -214,9 +218,24 @@ typedef struct markdown_inline_leaf {
     size_t before, bytes_len, after;
 } markdown_inline_leaf;
 
+/* Where a definition leads: the ranges say where among the labels its destination and its title stand, with escapes and character references
+ * resolved. `has_title` is 0 where it has no title; then `title` is not looked at. */
+typedef struct markdown_inline_target {
+    markdown_inline_range destination, title;
+    uint32_t has_title;
+} markdown_inline_target;
+
+/* One of many contents of a document: the numbers of its pieces among those of the input. `first_of_item` is 0 where it is not the first of a list
+ * item. */
+typedef struct markdown_inline_content {
+    markdown_inline_range pieces;
+    uint32_t first_of_item;
+} markdown_inline_content;
+
 /* Sizes and alignment, in bytes. */
 typedef char markdown_inline_checks_sizes[sizeof(size_t) == 8 && sizeof(void *) == 8 && sizeof(markdown_inline_piece) == 32
     && sizeof(markdown_inline_range) == 16 && sizeof(markdown_inline_input) == 88 && sizeof(markdown_inline_event) == 56 && sizeof(markdown_inline_leaf) == 96
+    && sizeof(markdown_inline_target) == 40 && sizeof(markdown_inline_content) == 24
     && offsetof(markdown_inline_input, options) == 80 && offsetof(markdown_inline_event, line) == 8 ? 1 : -1];
 
 /* The version of the library. */
@@ -242,6 +261,26 @@ uint32_t markdown_inline_leaves(const markdown_inline_input *input, markdown_inl
 /* Finds the identifier of a label, as labels are compared: its words joined by one space and case folded, in UTF-8. DONE: it stands at the front of
  * the array, and `*count` is how many bytes it has. TOO_SMALL, NOT_UTF8 and NO_MEMORY are as above. */
 uint32_t markdown_inline_identifier(const uint8_t *label, size_t label_len, uint8_t *identifier, size_t identifier_len, size_t *count);
+
+/* Finds the text that a character reference stands for, in UTF-8. The bytes are the whole reference, with its `&` and its `;`. DONE: the text stands
+ * at the front of the array, and `*count` is how many bytes it has. NO_REFERENCE: they are none, or its name is not known. TOO_SMALL and NO_MEMORY
+ * are as above. */
+uint32_t markdown_inline_reference(const uint8_t *reference, size_t reference_len, uint8_t *text, size_t text_len, size_t *count);
+
+/* Finds the events of many contents of a document as texts, which is prepared once: each content costs what it costs by itself, wherever it stands.
+ * The input has the pieces of all contents; whether a text is the first of a list item is said of each content, and not by the options. DONE: the
+ * events stand at the front of the first array, one content after another, and `*count` is how many they are; at the front of `ends` stands for each
+ * content how many events end with it. Numbers of events count within a content. TOO_SMALL: `*count` is how many events there are, and there is not
+ * room for them, or not for one end a content. Of what is wrong the order is 2, 9, 3, 8; then 7 or 4 for the first content that is no text. */
+uint32_t markdown_inline_texts(const markdown_inline_input *input, const markdown_inline_content *contents, size_t contents_len,
+    markdown_inline_event *events, size_t events_len, size_t *ends, size_t ends_len, size_t *count);
+
+/* Writes the HTML of the input's pieces as a text, in UTF-8. The target of each number says where the definition of that number leads. `options` has
+ * bits MARKDOWN_INLINE_HTML_RAW and MARKDOWN_INLINE_HTML_ANY_LINK; without them nothing runs that the text brings. DONE: the HTML stands at the front
+ * of the array, and `*count` is how many bytes it has. DEFINITION: a label or a target is no text of the labels, or there is not one target for each
+ * definition. The rest is as of events. */
+uint32_t markdown_inline_html(const markdown_inline_input *input, const markdown_inline_target *targets, size_t targets_len, uint32_t options,
+    uint8_t *html, size_t html_len, size_t *count);
 
 /* What a status says, or a null pointer for a number that is none. */
 static inline const char *markdown_inline_status_text(uint32_t status) {

@@ -1,5 +1,5 @@
-/* Each status, arrays that are too small, empty inputs with null pointers, and calls on several threads. With a word, it only reads a text, and
- * ends with its status: for memory that is refused. */
+/* Each status, arrays that are too small, empty inputs with null pointers, and calls on several threads. With the word for a call it only makes
+ * that, and ends with its status: for memory that is refused. */
 #include "markdown_inline.h"
 
 #include <pthread.h>
@@ -77,7 +77,8 @@ static void test_statuses(void) {
         input.definitions_len = 0;
         want_status("a range of a footnote", &input, 1, MARKDOWN_INLINE_DEFINITION);
     }
-    for (uint32_t status = 0; status < 10; status++) want("words of a status", (markdown_inline_status_text(status) != NULL) == (status != 1));
+    for (uint32_t status = 0; status < 12; status++)
+        want("words of a status", (markdown_inline_status_text(status) != NULL) == (status != 1 && status != 11));
 }
 
 static void test_tests(void) {
@@ -142,6 +143,145 @@ static void test_identifiers(void) {
     want("no label", markdown_inline_identifier(NULL, 0, NULL, 0, &count) == MARKDOWN_INLINE_DONE && count == 0);
 }
 
+/* Whether a reference is decoded to a text, and not at all without room for it. */
+static void want_reference(const char *reference, const char *text) {
+    uint8_t found[16], before[16];
+    size_t count = 77, len = strlen(text);
+    memset(found, 1, sizeof found);
+    memset(before, 1, sizeof before);
+    uint32_t status = markdown_inline_reference((const uint8_t *)reference, strlen(reference), found, len - 1, &count);
+    want(reference, status == MARKDOWN_INLINE_TOO_SMALL && count == len && !memcmp(found, before, 16));
+    status = markdown_inline_reference((const uint8_t *)reference, strlen(reference), found, 16, &count);
+    want(reference, status == MARKDOWN_INLINE_DONE && count == len && !memcmp(found, text, len) && !memcmp(found + len, before, 16 - len));
+}
+
+static void test_references(void) {
+    static const char *const none[] = {"", "&", "&;", "a", "&amp", "amp;", "&amp;a", "&nothing;", "&#;", "&#x;", "&#12345678;", "&#x1234567;", "&#xg;", "&am\xff;"};
+    want_reference("&amp;", "&");
+    want_reference("&copy;", "\xc2\xa9");
+    want_reference("&#65;", "A");
+    want_reference("&#x1F600;", "\xf0\x9f\x98\x80");
+    want_reference("&#X41;", "A");
+    want_reference("&#0;", "\xef\xbf\xbd");
+    want_reference("&#xD800;", "\xef\xbf\xbd");
+    for (size_t at = 0; at < sizeof none / sizeof *none; at++) {
+        uint8_t found = 1;
+        size_t count = 77;
+        uint32_t status = markdown_inline_reference((const uint8_t *)none[at], strlen(none[at]), &found, 1, &count);
+        want(none[at], status == MARKDOWN_INLINE_NO_REFERENCE && count == 77 && found == 1);
+    }
+    size_t count = 77;
+    want("no bytes are no reference", markdown_inline_reference(NULL, 0, NULL, 0, &count) == MARKDOWN_INLINE_NO_REFERENCE && count == 77);
+}
+
+/* Many contents have the events that each has by itself. */
+static void test_texts(void) {
+    const char *text = "[x] *a*\n\n> b\n> `c` [d]\n\n";
+    markdown_inline_piece pieces[] = {{0, 0, 7, 0}, {11, 0, 13, 0}, {15, 0, 22, 0}, {0, 0, 9, 0}, {0, 0, 99, 0}};
+    markdown_inline_content contents[] = {{{0, 1}, 1}, {{0, 1}, 0}, {{1, 3}, 0}, {{3, 3}, 0}};
+    markdown_inline_range label = {0, 1}, past = {0, 2};
+    markdown_inline_input input = input_of(text, pieces);
+    markdown_inline_event events[128], before[128], one[64];
+    size_t ends[6], at = 0, count = 77, needed = 0;
+    memset(events, 1, sizeof events);
+    memset(before, 1, sizeof before);
+    memset(ends, 1, sizeof ends);
+    input.pieces_len = 5;
+    input.options |= MARKDOWN_INLINE_GFM;
+    input.labels = (const uint8_t *)"D";
+    input.labels_len = 1;
+    input.definitions = &label;
+    input.definitions_len = 1;
+    want("no room for texts", markdown_inline_texts(&input, contents, 4, events, 3, ends, 6, &needed) == MARKDOWN_INLINE_TOO_SMALL && needed > 3);
+    want("no room for ends", markdown_inline_texts(&input, contents, 4, events, 128, ends, 3, &count) == MARKDOWN_INLINE_TOO_SMALL && count == needed);
+    want("texts without room", !memcmp(events, before, sizeof events) && !memcmp(ends, before, sizeof ends));
+    want("texts", markdown_inline_texts(&input, contents, 4, events, 128, ends, 6, &count) == MARKDOWN_INLINE_DONE && count == needed && ends[3] == count);
+    want("what stands past texts", !memcmp(events + count, before, (128 - count) * sizeof *events) && !memcmp(ends + 4, before, 2 * sizeof *ends));
+    for (size_t number = 0; number < 4; number++) {
+        markdown_inline_input alone = input;
+        alone.pieces = pieces + contents[number].pieces.start;
+        alone.pieces_len = contents[number].pieces.end - contents[number].pieces.start;
+        if (contents[number].first_of_item) alone.options |= MARKDOWN_INLINE_OPTION_FIRST_OF_ITEM;
+        memset(one, 0, sizeof one);
+        want("one of the texts", markdown_inline_text(&alone, one, 64, &count) == MARKDOWN_INLINE_DONE && at + count == ends[number]);
+        for (size_t event = 0; event < count && at < 128; event++, at++)
+            want("an event of many", one[event].name == events[at].name && one[event].index == events[at].index && one[event].next == events[at].next);
+    }
+    static const struct {
+        markdown_inline_content content;
+        uint32_t status;
+    } wrong[] = {{{{4, 5}, 0}, MARKDOWN_INLINE_NO_CONTENT}, {{{5, 6}, 0}, MARKDOWN_INLINE_NO_CONTENT}, {{{1, 0}, 0}, MARKDOWN_INLINE_NO_CONTENT},
+        {{{SIZE_MAX, SIZE_MAX}, 0}, MARKDOWN_INLINE_NO_CONTENT}, {{{3, 4}, 0}, MARKDOWN_INLINE_BLANK_LINE}};
+    for (size_t number = 0; number < sizeof wrong / sizeof *wrong; number++) {
+        contents[3] = wrong[number].content;
+        count = 77;
+        want("one of many that is no text", markdown_inline_texts(&input, contents, 4, events, 128, ends, 6, &count) == wrong[number].status && count == 77);
+    }
+    input.definitions = &past;
+    want("definitions before texts", markdown_inline_texts(&input, contents, 4, events, 128, ends, 6, &count) == MARKDOWN_INLINE_DEFINITION);
+    input.bytes = (const uint8_t *)"\xff";
+    input.bytes_len = 1;
+    want("no UTF-8 before definitions", markdown_inline_texts(&input, contents, 4, events, 128, ends, 6, &count) == MARKDOWN_INLINE_NOT_UTF8);
+    input.bytes_len = (SIZE_MAX >> 3) + 1;
+    want("too long for texts", markdown_inline_texts(&input, NULL, 0, events, 128, ends, 6, &count) == MARKDOWN_INLINE_TOO_LONG);
+    input.options |= 1u << 21;
+    want("an unknown option of texts", markdown_inline_texts(&input, NULL, 0, events, 128, ends, 6, &count) == MARKDOWN_INLINE_UNKNOWN_OPTION && count == 77);
+    memset(&input, 0, sizeof input);
+    want("no texts", markdown_inline_texts(&input, NULL, 0, NULL, 0, NULL, 0, &count) == MARKDOWN_INLINE_DONE && count == 0);
+}
+
+/* Whether a text has this HTML, and nothing is written without room for it. */
+static void want_html(const char *text, uint32_t options, const char *html) {
+    /* The label `d` leads to `/e` with the title `f`, `g` to `h`. */
+    static const markdown_inline_range labels[] = {{0, 1}, {4, 5}};
+    static const markdown_inline_target targets[] = {{{1, 3}, {3, 4}, 1}, {{5, 6}, {SIZE_MAX, 0}, 0}};
+    markdown_inline_piece piece = whole(text);
+    markdown_inline_input input = input_of(text, &piece);
+    uint8_t found[256], before[256];
+    size_t count = 77, len = strlen(html);
+    memset(found, 1, sizeof found);
+    memset(before, 1, sizeof before);
+    input.labels = (const uint8_t *)"d/efgh";
+    input.labels_len = 6;
+    input.definitions = labels;
+    input.definitions_len = 2;
+    uint32_t status = markdown_inline_html(&input, targets, 2, options, found, len - 1, &count);
+    want(text, status == MARKDOWN_INLINE_TOO_SMALL && count == len && !memcmp(found, before, 256));
+    status = markdown_inline_html(&input, targets, 2, options, found, 256, &count);
+    want(text, status == MARKDOWN_INLINE_DONE && count == len && !memcmp(found, html, len) && !memcmp(found + len, before, 256 - len));
+}
+
+static void test_html(void) {
+    want_html("a *b* `c` &lt;", 0, "a <em>b</em> <code>c</code> &lt;");
+    want_html("[i][d] [G] [i][no]", 0, "<a href=\"/e\" title=\"f\">i</a> <a href=\"h\">G</a> [i][no]");
+    want_html("<b>a", 0, "&lt;b&gt;a");
+    want_html("<b>a", MARKDOWN_INLINE_HTML_RAW, "<b>a");
+    want_html("[a](javascript:b)", 0, "<a href=\"\">a</a>");
+    want_html("[a](javascript:b)", MARKDOWN_INLINE_HTML_ANY_LINK, "<a href=\"javascript:b\">a</a>");
+    markdown_inline_piece piece = whole("[a]"), past = {0, 0, 9, 0};
+    markdown_inline_range label = {1, 2}, bad = {0, 9};
+    markdown_inline_target targets[] = {{{1, 2}, {0, 9}, 1}, {{0, 9}, {0, 0}, 0}, {{1, 0}, {0, 0}, 0}, {{1, 2}, {0, 9}, 0}};
+    markdown_inline_input input = input_of("[a]", &piece);
+    uint8_t found[64];
+    size_t count = 77;
+    input.labels = input.bytes;
+    input.labels_len = input.bytes_len;
+    input.definitions = &label;
+    input.definitions_len = 1;
+    for (size_t at = 0; at < 3; at++)
+        want("a target past the labels", markdown_inline_html(&input, targets + at, 1, 0, found, 64, &count) == MARKDOWN_INLINE_DEFINITION && count == 77);
+    want("a definition without a target", markdown_inline_html(&input, targets + 3, 0, 0, found, 64, &count) == MARKDOWN_INLINE_DEFINITION);
+    want("an unknown option of HTML", markdown_inline_html(&input, targets + 3, 1, 4, found, 64, &count) == MARKDOWN_INLINE_UNKNOWN_OPTION);
+    input.pieces = &past;
+    want("HTML of no content", markdown_inline_html(&input, targets, 1, 0, found, 64, &count) == MARKDOWN_INLINE_NO_CONTENT && count == 77);
+    input.pieces = &piece;
+    want("HTML", markdown_inline_html(&input, targets + 3, 1, 0, found, 64, &count) == MARKDOWN_INLINE_DONE && count == 17 && !memcmp(found, "<a href=\"a\">a</a>", 17));
+    input.definitions = &bad;
+    want("a label past the labels", markdown_inline_html(&input, targets + 3, 1, 0, found, 64, &count) == MARKDOWN_INLINE_DEFINITION);
+    memset(&input, 0, sizeof input);
+    want("HTML of nothing", markdown_inline_html(&input, NULL, 0, 0, NULL, 0, &count) == MARKDOWN_INLINE_DONE && count == 0);
+}
+
 static void test_empty(void) {
     markdown_inline_input input;
     size_t count = 77;
@@ -184,14 +324,18 @@ static void test_threads(void) {
     }
 }
 
-/* Reads a text with definitions, of two pieces, and ends with the status. */
-static int read_once(void) {
+/* Makes one call over a text with definitions, of two pieces, and ends with its status. */
+static int call_once(const char *call) {
     static markdown_inline_event events[256];
+    static markdown_inline_leaf leaves[256];
+    static uint8_t bytes[512];
     const char *text = "> a *b* [c] `d` <e f='g'>\n> &amp; https://h.i [j](k)";
     markdown_inline_piece pieces[] = {{2, 0, 26, 0}, {28, 0, 0, 0}};
     markdown_inline_range label = {0, 1};
+    markdown_inline_target target = {{0, 1}, {0, 1}, 1};
+    markdown_inline_content contents[] = {{{0, 2}, 0}, {{1, 2}, 1}};
     markdown_inline_input input = input_of(text, pieces);
-    size_t count = 0;
+    size_t count = 0, ends[2];
     pieces[1].end = input.bytes_len;
     input.pieces_len = 2;
     input.labels = (const uint8_t *)"c";
@@ -199,18 +343,26 @@ static int read_once(void) {
     input.definitions = input.footnotes = &label;
     input.definitions_len = input.footnotes_len = 1;
     input.options |= MARKDOWN_INLINE_GFM;
+    if (!strcmp(call, "string")) return (int)markdown_inline_string(&input, events, 256, &count);
+    if (!strcmp(call, "leaves")) return (int)markdown_inline_leaves(&input, leaves, 256, &count);
+    if (!strcmp(call, "texts")) return (int)markdown_inline_texts(&input, contents, 2, events, 256, ends, 2, &count);
+    if (!strcmp(call, "html")) return (int)markdown_inline_html(&input, &target, 1, 0, bytes, 512, &count);
+    if (!strcmp(call, "identifier")) return (int)markdown_inline_identifier((const uint8_t *)" A  B ", 6, bytes, 512, &count);
+    if (!strcmp(call, "reference")) return (int)markdown_inline_reference((const uint8_t *)"&amp;", 5, bytes, 512, &count);
     return (int)markdown_inline_text(&input, events, 256, &count);
 }
 
 int main(int argc, char **argv) {
-    (void)argv;
-    if (argc > 1) return read_once();
+    if (argc > 1) return call_once(argv[1]);
     want("the version", markdown_inline_version() == MARKDOWN_INLINE_VERSION);
     test_statuses();
     test_tests();
     test_room();
     test_leaves();
     test_identifiers();
+    test_references();
+    test_texts();
+    test_html();
     test_empty();
     test_threads();
     return faults != 0;

@@ -4,7 +4,9 @@ import threading
 import unittest
 
 import markdown_inline
-from markdown_inline import BlankLine, DefinitionError, Error, NoContent, NotUtf8, Piece, UnknownOption, identifier, is_content, is_text, string, text
+from markdown_inline import (
+    BlankLine, Content, DefinitionError, Error, NoContent, NoReference, NotUtf8, Piece, TooLong, UnknownOption, _library, html, identifier, is_content, is_text,
+    leaves, reference, string, text, texts)
 
 
 class Calls(unittest.TestCase):
@@ -14,13 +16,23 @@ class Calls(unittest.TestCase):
             (NotUtf8, 3, lambda: text(b'\xff')), (NotUtf8, 3, lambda: text('\ud800')), (NotUtf8, 3, lambda: string(b'\xff')),
             (BlankLine, 4, lambda: text('a\n\nb')), (BlankLine, 4, lambda: text('a\n')), (NoContent, 7, lambda: text('a', [(0, 9)])),
             (NoContent, 7, lambda: string('a', [(1, 0)])), (DefinitionError, 8, lambda: text('a', definitions=[b'\xff'])),
-            (DefinitionError, 8, lambda: text('a', footnotes=[b'\xff'])),
+            (DefinitionError, 8, lambda: text('a', footnotes=[b'\xff'])), (DefinitionError, 8, lambda: html('a', definitions={'b': b'\xff'})),
+            (DefinitionError, 8, lambda: html('a', definitions={'b': ('c', b'\xff')})), (BlankLine, 4, lambda: leaves('a\n')),
+            (NoContent, 7, lambda: texts('a', [Content([(0, 1)]), Content([(0, 2)])])), (BlankLine, 4, lambda: texts('a\n', [Content([(0, 2)])])),
+            (NoReference, 10, lambda: reference('&nothing;')), (NoReference, 10, lambda: reference(b'')),
         ):
             with self.assertRaises(error) as caught:
                 call()
             self.assertIsInstance(caught.exception, Error)
             self.assertEqual(caught.exception.status, status)
             self.assertTrue(str(caught.exception))
+
+    def test_a_document_that_is_too_long(self):
+        # No object is so long. The library looks at the length before the bytes, so it may be lent fewer.
+        given = _library.Input(b'a', (2 ** 64 >> 3) + 1, None, 0, None, 0, None, 0, None, 0, 0)
+        status, found = _library.fill('markdown_inline_text', given)
+        self.assertEqual((status, bytes(found)), (TooLong.status, b''))
+        self.assertIsInstance(markdown_inline._raised(status), TooLong)
 
     def test_tests(self):
         self.assertTrue(is_text('a\nb') and is_content('a\n\nb'))
@@ -51,6 +63,28 @@ class Calls(unittest.TestCase):
         self.assertEqual([identifier(it) for it in (' A\n B ', b'', '\u1e9e')], ['a b', '', 'ss'])
         with self.assertRaises(NotUtf8):
             identifier(b'\xff')
+
+    def test_references_are_decoded(self):
+        self.assertEqual([reference(it) for it in ('&amp;', '&copy;', '&#65;', b'&#X1f600;', '&#0;')], ['&', '\xa9', 'A', '\U0001f600', '\ufffd'])
+
+    def test_leaves_cover_the_text(self):
+        document = 'a *b* [é](d)\n\te `f`'
+        found = leaves(document)
+        self.assertEqual(b''.join(it.content for it in found), document.encode())
+        self.assertEqual(''.join(document[it.character:it.end_character] for it in found), document)
+        self.assertIsNone(leaves(document.encode())[0].character)
+        self.assertEqual(b''.join(it.content for it in leaves('\ta', [Piece(0, 2, 2)])), b'a')
+
+    def test_many_contents_are_read_as_each_by_itself(self):
+        document, pieces = '[x] *a*\n\n> b\n> `c` é', [Piece(11, 13), Piece(15, 21)]
+        found = texts(document, [Content([Piece(0, 7)], True), Content(pieces), Content([])])
+        self.assertEqual(found, [text(document, [Piece(0, 7)], task=True), text(document, pieces), []])
+        self.assertEqual(texts(document, []), [])
+
+    def test_html_is_safe_where_nothing_else_is_asked(self):
+        document, defined = '<b> [a](javascript:b) [C]', {'c': ('/d', 'é'), 'e': b'/f'}
+        self.assertEqual(html(document, definitions=defined), '&lt;b&gt; <a href="">a</a> <a href="/d" title="é">C</a>')
+        self.assertEqual(html(document, definitions=defined, raw_html=True, any_link=True), '<b> <a href="javascript:b">a</a> <a href="/d" title="é">C</a>')
 
     def test_threads_do_not_meet(self):
         wanted, wrong = text('a *b* [c](d)'), []

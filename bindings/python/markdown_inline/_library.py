@@ -8,6 +8,8 @@ VERSION = 1
 DONE, TOO_SMALL = 0, 6
 EVENT = '<BBB5x6Q'
 EVENT_SIZE = 56
+LEAF = '<B7x11Q'
+LEAF_SIZE = 96
 NONE = 2 ** 64 - 1
 SHARED = 'libmarkdown_inline.so'
 
@@ -28,6 +30,14 @@ class Input(ctypes.Structure):
         ('labels_len', _size), ('definitions', ctypes.POINTER(Range)), ('definitions_len', _size), ('footnotes', ctypes.POINTER(Range)),
         ('footnotes_len', _size), ('options', ctypes.c_uint32),
     ]
+
+
+class Target(ctypes.Structure):
+    _fields_ = [('destination', Range), ('title', Range), ('has_title', ctypes.c_uint32)]
+
+
+class Content(ctypes.Structure):
+    _fields_ = [('pieces', Range), ('first_of_item', ctypes.c_uint32)]
 
 
 def _places():
@@ -53,12 +63,20 @@ def _load():
         function = getattr(library, name)
         function.restype = ctypes.c_uint32
         function.argtypes = [ctypes.c_char_p, _size, ctypes.POINTER(Piece), _size]
-    for name in ('markdown_inline_string', 'markdown_inline_text'):
+    array = [ctypes.c_void_p, _size, ctypes.POINTER(_size)]
+    for name in ('markdown_inline_string', 'markdown_inline_text', 'markdown_inline_leaves'):
         function = getattr(library, name)
         function.restype = ctypes.c_uint32
-        function.argtypes = [ctypes.POINTER(Input), ctypes.c_void_p, _size, ctypes.POINTER(_size)]
-    library.markdown_inline_identifier.restype = ctypes.c_uint32
-    library.markdown_inline_identifier.argtypes = [ctypes.c_char_p, _size, ctypes.c_void_p, _size, ctypes.POINTER(_size)]
+        function.argtypes = [ctypes.POINTER(Input)] + array
+    for name in ('markdown_inline_identifier', 'markdown_inline_reference'):
+        function = getattr(library, name)
+        function.restype = ctypes.c_uint32
+        function.argtypes = [ctypes.c_char_p, _size] + array
+    library.markdown_inline_texts.restype = ctypes.c_uint32
+    library.markdown_inline_texts.argtypes = [
+        ctypes.POINTER(Input), ctypes.POINTER(Content), _size, ctypes.c_void_p, _size, ctypes.POINTER(_size), _size, ctypes.POINTER(_size)]
+    library.markdown_inline_html.restype = ctypes.c_uint32
+    library.markdown_inline_html.argtypes = [ctypes.POINTER(Input), ctypes.POINTER(Target), _size, ctypes.c_uint32] + array
     return library
 
 
@@ -80,25 +98,58 @@ def ranges_of(labels, start):
     return found
 
 
-def fill(name, given):
-    """Calls a function that fills an array: its status, and the events' bytes. Each thread keeps an array, which only grows."""
-    function, count = getattr(LIBRARY, name), _size()
+def targets_of(targets, start):
+    """Where each destination and title stands, of those that follow one another from an index. A title may be None."""
+    found = (Target * len(targets))()
+    for it, (destination, title) in zip(found, targets):
+        it.destination.start, start = start, start + len(destination)
+        it.destination.end = it.title.start = start
+        start += len(title or b'')
+        it.title.end, it.has_title = start, title is not None
+    return found
+
+
+def filled(call, size):
+    """The status of a call that is lent an array, its length in elements of this size and a count, and what it wrote. Each thread keeps an array, which
+    only grows."""
+    count = _size()
     if not hasattr(_lent, 'array'):
         _lent.array = ctypes.create_string_buffer(64 * EVENT_SIZE)
     while True:
         array = _lent.array
-        status = function(ctypes.byref(given), array, len(array) // EVENT_SIZE, ctypes.byref(count))
+        status = call(array, len(array) // size, ctypes.byref(count))
         if status != TOO_SMALL:
-            return status, memoryview(array)[:count.value * EVENT_SIZE] if status == DONE else b''
-        _lent.array = ctypes.create_string_buffer(count.value * EVENT_SIZE)
+            return status, memoryview(array)[:count.value * size] if status == DONE else b''
+        _lent.array = ctypes.create_string_buffer(count.value * size)
 
 
-def identifier(label):
-    """The status of a call for a label's identifier, and its bytes."""
-    count, room = _size(), len(label)
-    while True:
-        array = ctypes.create_string_buffer(room)
-        status = LIBRARY.markdown_inline_identifier(label, len(label), array, room, ctypes.byref(count))
-        if status != TOO_SMALL:
-            return status, array.raw[:count.value] if status == DONE else b''
-        room = count.value
+def fill(name, given, size=EVENT_SIZE):
+    """Calls a function over an input: its status, and the bytes of what it found."""
+    function, at = getattr(LIBRARY, name), ctypes.byref(given)
+    return filled(lambda *lent: function(at, *lent), size)
+
+
+def decoded(name, given):
+    """Calls a function over bytes: its status, and the bytes that stand for them."""
+    function = getattr(LIBRARY, name)
+    status, found = filled(lambda *lent: function(given, len(given), *lent), 1)
+    return status, bytes(found)
+
+
+def texts(given, contents):
+    """Calls for many contents, each the numbers of its pieces and whether it is the first of a list item: the status, the events' bytes, and where the
+    events of each end."""
+    listed = (Content * len(contents))()
+    for it, (start, end, is_first) in zip(listed, contents):
+        it.pieces.start, it.pieces.end, it.first_of_item = start, end, bool(is_first)
+    ends = (_size * len(contents))()
+    status, found = filled(
+        lambda array, room, count: LIBRARY.markdown_inline_texts(ctypes.byref(given), listed, len(listed), array, room, ends, len(ends), count), EVENT_SIZE)
+    return status, found, list(ends)
+
+
+def html(given, targets, options):
+    """Calls for HTML: the status, and its bytes."""
+    status, found = filled(
+        lambda array, room, count: LIBRARY.markdown_inline_html(ctypes.byref(given), targets, len(targets), options, array, room, count), 1)
+    return status, bytes(found)

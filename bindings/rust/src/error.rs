@@ -1,9 +1,9 @@
-//! Why a call answers no events.
+//! Why a call answers nothing.
 
 use std::error;
 use std::fmt;
 
-/// Why a call answers no events: the first thing that is wrong.
+/// Why a call answers nothing: the first thing that is wrong.
 #[derive(Clone, Copy, Debug, PartialEq, Eq, Hash)]
 #[non_exhaustive]
 pub enum Error {
@@ -17,10 +17,12 @@ pub enum Error {
     NoMemory,
     /// The pieces are no content of the document.
     NoContent,
-    /// A label of a definition is not UTF-8.
+    /// A label of a definition, or where it leads, is not UTF-8.
     Definition,
     /// The document is longer than an eighth of `usize::MAX`.
     TooLong,
+    /// The bytes are no character reference, or one whose name is not known.
+    NoReference,
 }
 
 impl Error {
@@ -32,6 +34,7 @@ impl Error {
             7 => Error::NoContent,
             8 => Error::Definition,
             9 => Error::TooLong,
+            10 => Error::NoReference,
             _ => Error::NoMemory,
         }
     }
@@ -47,6 +50,7 @@ impl fmt::Display for Error {
             Error::NoContent => "pieces are no content of the document",
             Error::Definition => "range of a definition is no text of the labels",
             Error::TooLong => "document too long",
+            Error::NoReference => "no character reference",
         })
     }
 }

@@ -101,7 +101,7 @@ pub struct Events {
 
 /// The events one after another.
 #[derive(Clone)]
-pub struct Iter<'a>(slice::Iter<'a, RawEvent>);
+pub struct Iter<'a>(pub(crate) slice::Iter<'a, RawEvent>);
 
 impl Iterator for Iter<'_> {
     type Item = Event;

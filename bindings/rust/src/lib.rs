@@ -37,17 +37,21 @@
 
 mod error;
 mod event;
+mod leaf;
 mod name;
 mod options;
 mod raw;
+mod texts;
 
 pub use error::Error;
 pub use event::{Content, Event, Events, Iter, Kind, Link, Point};
+pub use leaf::{Leaf, LeafIter, Leaves};
 pub use name::Name;
-pub use options::Options;
+pub use options::{HtmlOptions, Options};
 pub use raw::Piece;
+pub use texts::{TextContent, Texts};
 
-use raw::{Call, RawEvent, RawInput, RawRange};
+use raw::{BytesCall, Call, RawContent, RawInput, RawRange, RawTarget};
 use std::borrow::Cow;
 
 /// The events of a whole document as a text, with CommonMark's constructs.
@@ -66,25 +70,42 @@ pub fn string<D: AsRef<[u8]> + ?Sized>(document: &D) -> Result<Events, Error> {
 /// assert_eq!(markdown_inline::identifier(" A\n B ").unwrap(), "a b");
 /// ```
 pub fn identifier<L: AsRef<[u8]> + ?Sized>(label: &L) -> Result<String, Error> {
-    let label = label.as_ref();
+    text_for(raw::markdown_inline_identifier, label.as_ref())
+}
+
+/// The text that a character reference stands for. The bytes are the whole reference, with its `&` and its `;`.
+///
+/// ```
+/// assert_eq!(markdown_inline::reference("&amp;").unwrap(), "&");
+/// assert_eq!(markdown_inline::reference("&#x41;").unwrap(), "A");
+/// ```
+pub fn reference<R: AsRef<[u8]> + ?Sized>(reference: &R) -> Result<String, Error> {
+    text_for(raw::markdown_inline_reference, reference.as_ref())
+}
+
+fn text_for(call: BytesCall, given: &[u8]) -> Result<String, Error> {
     let mut found = Vec::new();
+    // SAFETY: each pointer goes with the length of its array, and nothing is kept.
+    fill(&mut found, |array, len, count| unsafe {
+        call(given.as_ptr(), given.len(), array, len, count)
+    })?;
+    String::from_utf8(found).map_err(|_| Error::NotUtf8)
+}
+
+/// Fills a vector by a call that is lent its room, and lends more where that is too small. Where the status is DONE, the call has written as many
+/// elements to the front of the room as it has counted.
+fn fill<T>(
+    found: &mut Vec<T>,
+    call: impl Fn(*mut T, usize, &mut usize) -> u32,
+) -> Result<(), Error> {
+    found.clear();
     loop {
         let mut count = 0;
-        // SAFETY: each pointer goes with its slice's length or its vector's room, and nothing is kept.
-        let status = unsafe {
-            raw::markdown_inline_identifier(
-                label.as_ptr(),
-                label.len(),
-                found.as_mut_ptr(),
-                found.capacity(),
-                &mut count,
-            )
-        };
-        match status {
+        match call(found.as_mut_ptr(), found.capacity(), &mut count) {
             raw::DONE => {
-                // SAFETY: with this status so many bytes stand at the front of the room.
+                // SAFETY: with this status so many elements stand at the front of the room.
                 unsafe { found.set_len(count) };
-                return String::from_utf8(found).map_err(|_| Error::NotUtf8);
+                return Ok(());
             }
             raw::TOO_SMALL => found.try_reserve(count).map_err(|_| Error::NoMemory)?,
             status => return Err(Error::of(status)),
@@ -105,6 +126,7 @@ pub struct Input<'a> {
     pieces: Cow<'a, [Piece]>,
     labels: Vec<u8>,
     definitions: Vec<RawRange>,
+    targets: Vec<RawTarget>,
     footnotes: Vec<RawRange>,
     options: Options,
 }
@@ -122,6 +144,7 @@ impl<'a> Input<'a> {
             pieces: Cow::Owned(vec![whole]),
             labels: Vec::new(),
             definitions: Vec::new(),
+            targets: Vec::new(),
             footnotes: Vec::new(),
             options: Options::default(),
         }
@@ -139,10 +162,27 @@ impl<'a> Input<'a> {
         self
     }
 
-    /// One more definition, by its label as it is written.
-    pub fn definition<L: AsRef<[u8]>>(mut self, label: L) -> Input<'a> {
+    /// One more definition, by its label as it is written. In HTML it leads to an empty address.
+    pub fn definition<L: AsRef<[u8]>>(self, label: L) -> Input<'a> {
+        self.definition_to(label.as_ref(), b"", None)
+    }
+
+    /// One more definition, by its label as it is written, with where it leads and perhaps a title: both with escapes and character references
+    /// resolved.
+    pub fn definition_to<D: AsRef<[u8]> + ?Sized>(
+        mut self,
+        label: &D,
+        destination: impl AsRef<[u8]>,
+        title: Option<&str>,
+    ) -> Input<'a> {
         let range = self.labelled(label.as_ref());
         self.definitions.push(range);
+        let target = RawTarget {
+            destination: self.labelled(destination.as_ref()),
+            title: self.labelled(title.unwrap_or("").as_bytes()),
+            has_title: u32::from(title.is_some()),
+        };
+        self.targets.push(target);
         self
     }
 
@@ -212,24 +252,83 @@ impl<'a> Input<'a> {
         self.fill(raw::markdown_inline_string, &mut events.raw)
     }
 
-    fn fill(&self, call: Call, events: &mut Vec<RawEvent>) -> Result<(), Error> {
-        events.clear();
+    /// The leaves of the pieces as a text, each with its bytes.
+    ///
+    /// ```
+    /// # fn main() -> Result<(), markdown_inline::Error> {
+    /// let leaves = markdown_inline::Input::new("a *b*").leaves()?;
+    /// let bytes: Vec<_> = leaves.iter().map(|leaf| leaf.bytes).collect();
+    /// assert_eq!(bytes, [&b"a "[..], b"*", b"b", b"*"]);
+    /// # Ok(())
+    /// # }
+    /// ```
+    pub fn leaves(&self) -> Result<Leaves<'a>, Error> {
+        let mut leaves = Leaves {
+            document: self.document,
+            raw: Vec::new(),
+        };
+        self.fill(raw::markdown_inline_leaves, &mut leaves.raw)?;
+        Ok(leaves)
+    }
+
+    /// The events of many contents as texts, each of some of the pieces. The document is prepared once, and each content costs what it costs by
+    /// itself, wherever it stands. Whether a text is the first of a list item is said of each, and not by the options.
+    pub fn texts(&self, contents: &[TextContent]) -> Result<Texts, Error> {
         let input = self.raw();
-        loop {
-            let mut count = 0;
-            // SAFETY: each pointer of the input goes with its slice's length, that of the events with the room of the vector, and nothing is kept.
-            let status =
-                unsafe { call(&input, events.as_mut_ptr(), events.capacity(), &mut count) };
-            match status {
-                raw::DONE => {
-                    // SAFETY: with this status so many events stand at the front of the room.
-                    unsafe { events.set_len(count) };
-                    return Ok(());
-                }
-                raw::TOO_SMALL => events.try_reserve(count).map_err(|_| Error::NoMemory)?,
-                status => return Err(Error::of(status)),
-            }
-        }
+        let contents: Vec<RawContent> = contents.iter().map(RawContent::of).collect();
+        let mut ends = vec![0; contents.len()];
+        let mut events = Vec::new();
+        let room = ends.as_mut_ptr();
+        // SAFETY: each pointer goes with the length of its array, there is one end for each content, and nothing is kept.
+        fill(&mut events, |array, len, count| unsafe {
+            raw::markdown_inline_texts(
+                &input,
+                contents.as_ptr(),
+                contents.len(),
+                array,
+                len,
+                room,
+                contents.len(),
+                count,
+            )
+        })?;
+        Ok(Texts { events, ends })
+    }
+
+    /// The HTML of the pieces as a text.
+    ///
+    /// ```
+    /// use markdown_inline::{HtmlOptions, Input};
+    /// # fn main() -> Result<(), markdown_inline::Error> {
+    /// let input = Input::new("*a* [b]").definition_to("b", "/c", Some("d"));
+    /// assert_eq!(input.html(HtmlOptions::default())?, r#"<em>a</em> <a href="/c" title="d">b</a>"#);
+    /// # Ok(())
+    /// # }
+    /// ```
+    pub fn html(&self, options: HtmlOptions) -> Result<String, Error> {
+        let input = self.raw();
+        let mut html = Vec::new();
+        // SAFETY: each pointer goes with the length of its array, and nothing is kept.
+        fill(&mut html, |array, len, count| unsafe {
+            raw::markdown_inline_html(
+                &input,
+                self.targets.as_ptr(),
+                self.targets.len(),
+                options.bits(),
+                array,
+                len,
+                count,
+            )
+        })?;
+        String::from_utf8(html).map_err(|_| Error::NotUtf8)
+    }
+
+    fn fill<T>(&self, call: Call<T>, found: &mut Vec<T>) -> Result<(), Error> {
+        let input = self.raw();
+        // SAFETY: each pointer of the input goes with its slice's length, that of the array with the room of the vector, and nothing is kept.
+        fill(found, |array, len, count| unsafe {
+            call(&input, array, len, count)
+        })
     }
 
     fn raw(&self) -> RawInput {

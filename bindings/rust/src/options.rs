@@ -102,6 +102,21 @@ impl Options {
     }
 }
 
+/// What HTML may hold.
+#[derive(Clone, Copy, Debug, Default, PartialEq, Eq, Hash)]
+pub struct HtmlOptions {
+    /// Whether raw HTML is written as it stands, and not as text.
+    pub raw_html: bool,
+    /// Whether links and images lead wherever they say, and not to listed schemes alone.
+    pub any_link: bool,
+}
+
+impl HtmlOptions {
+    pub(crate) fn bits(self) -> u32 {
+        u32::from(self.raw_html) | u32::from(self.any_link) << 1
+    }
+}
+
 impl Default for Options {
     /// CommonMark's constructs.
     fn default() -> Options {

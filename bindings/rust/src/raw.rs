@@ -55,11 +55,52 @@ pub(crate) struct RawEvent {
     pub(crate) next: usize,
 }
 
+/// A leaf as it crosses.
+#[derive(Clone, Copy, Debug)]
+#[repr(C)]
+pub(crate) struct RawLeaf {
+    pub(crate) name: u8,
+    pub(crate) start_line: usize,
+    pub(crate) start_column: usize,
+    pub(crate) start: usize,
+    pub(crate) start_vs: usize,
+    pub(crate) end_line: usize,
+    pub(crate) end_column: usize,
+    pub(crate) end: usize,
+    pub(crate) end_vs: usize,
+    pub(crate) before: usize,
+    pub(crate) bytes_len: usize,
+    pub(crate) after: usize,
+}
+
+/// Where a definition leads, as it crosses.
+#[derive(Clone, Copy, Debug)]
+#[repr(C)]
+pub(crate) struct RawTarget {
+    pub destination: RawRange,
+    pub title: RawRange,
+    pub has_title: u32,
+}
+
+/// A content as it crosses.
+#[derive(Clone, Copy, Debug)]
+#[repr(C)]
+pub(crate) struct RawContent {
+    pub pieces: RawRange,
+    pub first_of_item: u32,
+}
+
 const _: () = assert!(size_of::<usize>() == 8 && size_of::<Piece>() == 32);
 const _: () = assert!(size_of::<RawInput>() == 88 && size_of::<RawEvent>() == 56);
+const _: () = assert!(size_of::<RawLeaf>() == 96 && size_of::<RawTarget>() == 40);
+const _: () = assert!(size_of::<RawContent>() == 24);
 
-pub(crate) type Call =
-    unsafe extern "C" fn(*const RawInput, *mut RawEvent, usize, *mut usize) -> u32;
+/// A call that fills an array by what is found in an input.
+pub(crate) type Call<T> = unsafe extern "C" fn(*const RawInput, *mut T, usize, *mut usize) -> u32;
+
+/// A call that fills an array of bytes by what stands for other bytes.
+pub(crate) type BytesCall =
+    unsafe extern "C" fn(*const u8, usize, *mut u8, usize, *mut usize) -> u32;
 
 extern "C" {
     pub(crate) fn markdown_inline_version() -> u32;
@@ -94,4 +135,52 @@ extern "C" {
         identifier_len: usize,
         count: *mut usize,
     ) -> u32;
+    pub(crate) fn markdown_inline_leaves(
+        input: *const RawInput,
+        leaves: *mut RawLeaf,
+        leaves_len: usize,
+        count: *mut usize,
+    ) -> u32;
+    pub(crate) fn markdown_inline_reference(
+        reference: *const u8,
+        reference_len: usize,
+        text: *mut u8,
+        text_len: usize,
+        count: *mut usize,
+    ) -> u32;
+    pub(crate) fn markdown_inline_texts(
+        input: *const RawInput,
+        contents: *const RawContent,
+        contents_len: usize,
+        events: *mut RawEvent,
+        events_len: usize,
+        ends: *mut usize,
+        ends_len: usize,
+        count: *mut usize,
+    ) -> u32;
+    pub(crate) fn markdown_inline_html(
+        input: *const RawInput,
+        targets: *const RawTarget,
+        targets_len: usize,
+        options: u32,
+        html: *mut u8,
+        html_len: usize,
+        count: *mut usize,
+    ) -> u32;
+}
+
+#[cfg(test)]
+mod tests {
+    use super::markdown_inline_is_text;
+    use crate::Error;
+
+    // No slice is so long. The library looks at the length before the bytes, so it may be lent fewer.
+    #[test]
+    fn a_document_that_is_too_long_is_refused() {
+        let piece = crate::Piece::default();
+        let len = (usize::MAX >> 3) + 1;
+        // SAFETY: with this length no byte is read.
+        let status = unsafe { markdown_inline_is_text([0u8].as_ptr(), len, &piece, 1) };
+        assert_eq!(Error::of(status), Error::TooLong);
+    }
 }

@@ -1,7 +1,8 @@
 //! Statuses, memory that is used again, and calls on several threads.
 
 use markdown_inline::{
-    identifier, is_right_version, string, text, Error, Events, Input, Options, Piece,
+    identifier, is_right_version, reference, string, text, Error, Events, HtmlOptions, Input,
+    Options, Piece, TextContent,
 };
 use std::thread;
 
@@ -29,6 +30,12 @@ fn each_error_comes() {
         Input::new("a").pieces(&past_end).is_content(),
         Input::new("a").definition(b"\xff").text().map(drop),
         Input::new("a").footnote(b"\xff").text().map(drop),
+        Input::new("a")
+            .definition_to("b", b"\xff", None)
+            .html(HtmlOptions::default())
+            .map(drop),
+        reference("&nothing;").map(drop),
+        reference("a").map(drop),
     ];
     let wanted = [
         Error::UnknownOption,
@@ -42,6 +49,9 @@ fn each_error_comes() {
         Error::NoContent,
         Error::Definition,
         Error::Definition,
+        Error::Definition,
+        Error::NoReference,
+        Error::NoReference,
     ];
     assert_eq!(found.map(|it| it.unwrap_err()), wanted);
     assert!(wanted.iter().all(|it| !it.to_string().is_empty()));
@@ -80,6 +90,86 @@ fn labels_are_normalized() {
         ["a b", "", "ss"]
     );
     assert_eq!(identifier(b"\xff"), Err(Error::NotUtf8));
+}
+
+#[test]
+fn references_are_decoded() {
+    assert_eq!(
+        ["&amp;", "&copy;", "&#65;", "&#X1f600;", "&#0;"].map(|it| reference(it).unwrap()),
+        ["&", "\u{a9}", "A", "\u{1f600}", "\u{fffd}"]
+    );
+}
+
+#[test]
+fn leaves_cover_the_text() {
+    let document = "a *b* [c](d)\n\te `f`";
+    let pieces = [
+        Piece {
+            end: 13,
+            ..Piece::default()
+        },
+        Piece {
+            start: 13,
+            start_vs: 2,
+            end: 19,
+            end_vs: 0,
+        },
+    ];
+    let leaves = Input::new(document).pieces(&pieces).leaves().unwrap();
+    let bytes: Vec<u8> = leaves.iter().flat_map(|leaf| leaf.bytes.to_vec()).collect();
+    assert_eq!(bytes, b"a *b* [c](d)\ne `f`");
+    assert_eq!(leaves.iter().map(|leaf| leaf.before).sum::<usize>(), 2);
+    assert_eq!(leaves.iter().len(), leaves.len());
+    assert_eq!(
+        leaves.iter().next_back().map(|leaf| leaf.end.index),
+        Some(19)
+    );
+}
+
+#[test]
+fn many_contents_are_read_as_each_by_itself() {
+    let document = "[x] *a*\n\n> b\n> `c`";
+    let piece = |start, end| Piece {
+        start,
+        end,
+        ..Piece::default()
+    };
+    let pieces = [piece(0, 7), piece(11, 13), piece(15, 18)];
+    let content = |pieces, first_of_item| TextContent {
+        pieces,
+        first_of_item,
+    };
+    let options = Options::COMMONMARK | Options::GFM;
+    let input = Input::new(document).pieces(&pieces).options(options);
+    let found = input
+        .texts(&[content(0..1, true), content(1..3, false)])
+        .unwrap();
+    let first = Input::new(document)
+        .pieces(&pieces[..1])
+        .options(options | Options::FIRST_OF_ITEM);
+    let second = Input::new(document).pieces(&pieces[1..]).options(options);
+    assert!(found.get(0).unwrap().eq(&first.text().unwrap()));
+    assert!(found.get(1).unwrap().eq(&second.text().unwrap()));
+    assert!(found.get(2).is_none() && found.len() == 2 && found.iter().count() == 2);
+    let wrong = [content(0..1, false), content(2..4, false)];
+    assert_eq!(input.texts(&wrong).unwrap_err(), Error::NoContent);
+}
+
+#[test]
+fn html_is_safe_where_nothing_else_is_asked() {
+    let input = Input::new("<b> [a](javascript:b) [c]").definition_to("C", "/d", Some("e"));
+    assert_eq!(
+        input.html(HtmlOptions::default()).unwrap(),
+        "&lt;b&gt; <a href=\"\">a</a> <a href=\"/d\" title=\"e\">c</a>"
+    );
+    let options = HtmlOptions {
+        raw_html: true,
+        any_link: true,
+    };
+    assert_eq!(
+        input.html(options).unwrap(),
+        "<b> <a href=\"javascript:b\">a</a> <a href=\"/d\" title=\"e\">c</a>"
+    );
 }
 
 #[test]

@@ -1,3 +1,7 @@
+mod Contents
+mod Errors
 mod Filled
 mod Labels
 mod Leaves
+mod Pushed
+mod Targets

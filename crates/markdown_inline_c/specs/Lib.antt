@@ -3,5 +3,8 @@
 pub mod FlatInput
 pub mod FlatEvents
 pub mod FlatLeaves
+pub mod FlatHtml
+pub mod FlatTexts
+pub mod References
 pub mod Statuses
 pub mod Answers

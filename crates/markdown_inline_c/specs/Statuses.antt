@@ -1,9 +1,17 @@
 -- What is wrong with an input that is refused, and the status that says so. Each fault is the first one, in the order of their numbers below.
-use Rattle.std.specs.Prelude.{ℕ, ◌<◌, ◌≤◌, List, length, IsUtf8}
+use Rattle.std.specs.Prelude.{◌≡◌, ◌⊎◌, ℕ, ◌<◌, ◌≤◌, false, List, length, IsUtf8}
+use Rattle.std.specs.Option.{is_some}
 use Rattle.markdown_engine_content.specs.Content.{document_limit, IsContent, IsTextContent}
 use Rattle.markdown_engine_content.specs.declared.parser.Piece.{Piece}
-use Rattle.markdown_inline_c.specs.FlatInput.{AreKnown, AreLabels, pieces_of}
+use Rattle.markdown_engine_content.specs.KnownPlaces.{IsDocument}
+use Rattle.markdown_inline_c.specs.FlatHtml.{AreKnownForHtml, AreTargets}
+use Rattle.markdown_inline_c.specs.FlatInput.{AreKnown, AreLabels, IsTextInput, pieces_of}
+use Rattle.markdown_inline_c.specs.FlatTexts.{IsContentAt, IsTextAt, AreTextsBefore}
+use Rattle.markdown_inline_c.specs.References.{reference_value}
 use Rattle.markdown_inline_c.specs.declared.fault.Fault.{Fault}
+use Rattle.markdown_inline_c.specs.declared.flat.FlatContent.{FlatContent}
+use Rattle.markdown_inline_c.specs.declared.flat.FlatPiece.{FlatPiece}
+use Rattle.markdown_inline_c.specs.declared.flat.FlatTarget.{FlatTarget}
 use Rattle.markdown_inline_c.specs.declared.flat.Input.{Input}
 
 abbrev pub fault_status : Fault → ℕ
@@ -14,6 +22,7 @@ fault_status Fault.Memory = 5
 fault_status Fault.NoContent = 7
 fault_status Fault.Definition = 8
 fault_status Fault.TooLong = 9
+fault_status Fault.NoReference = 10
 
 -- of a document
 abbrev pub IsDocumentFault : List ℕ → Fault → Type 0
@@ -48,3 +57,40 @@ abbrev pub IsLabelFault : List ℕ → Fault → Type 0
 IsLabelFault label Fault.NotUtf8 = IsUtf8 label → ⊥
 IsLabelFault label Fault.Memory = Unit {0}
 IsLabelFault label _ = ⊥
+
+-- of bytes that are to be a character reference
+abbrev pub IsReferenceFault : List ℕ → Fault → Type 0
+IsReferenceFault bytes Fault.NoReference = is_some (reference_value bytes) ≡ false
+IsReferenceFault bytes Fault.Memory = Unit {0}
+IsReferenceFault bytes _ = ⊥
+
+-- of where definitions lead; memory may be refused at any time
+abbrev pub IsTargetsFault : Input → List FlatTarget → Fault → Type 0
+IsTargetsFault i targets fault = (fault ≡ Fault.Memory) ⊎ ((fault ≡ Fault.Definition) × (AreTargets i targets → ⊥))
+
+-- of an input that is to be written as HTML: of what may be written, then of the text, then of where its definitions lead
+abbrev pub IsHtmlFault : Input → List FlatTarget → ℕ → Fault → Type 0
+IsHtmlFault i targets options fault =
+    ((fault ≡ Fault.UnknownOption) × (AreKnownForHtml options → ⊥))
+    ⊎ (AreKnownForHtml options × (IsTextFault i fault ⊎ (IsTextInput i × IsTargetsFault i targets fault)))
+
+-- of one of many contents
+abbrev pub IsContentAtFault : List ℕ → List FlatPiece → FlatContent → Fault → Type 0
+IsContentAtFault bytes pieces c fault =
+    ((fault ≡ Fault.NoContent) × (IsContentAt bytes pieces c → ⊥))
+    ⊎ ((fault ≡ Fault.BlankLine) × (IsContentAt bytes pieces c × (IsTextAt bytes pieces c → ⊥)))
+
+-- of the first of many contents that is no text
+pub record IsFirstFault (bytes : List ℕ) (pieces : List FlatPiece) (contents : List FlatContent) (fault : Fault) : Type 0 where
+  pub at : FlatContent
+  pub texts_before : AreTextsBefore bytes pieces contents at
+  pub fault_holds : IsContentAtFault bytes pieces at fault
+
+-- of an input and many contents of it that are to be texts: of the options, the document, the definitions, then of the first content that is none
+abbrev pub IsTextsFault : Input → List FlatContent → Fault → Type 0
+IsTextsFault i contents fault =
+    (fault ≡ Fault.Memory)
+    ⊎ (((fault ≡ Fault.UnknownOption) × (AreKnown i.options → ⊥))
+    ⊎ (AreKnown i.options × (IsDocumentFault i.bytes.now fault
+    ⊎ (IsDocument i.bytes.now × (((fault ≡ Fault.Definition) × (AreLabels i → ⊥))
+    ⊎ (AreLabels i × IsFirstFault i.bytes.now i.pieces.now contents fault))))))

@@ -1,12 +1,13 @@
 // Hands out what was found, in an array that the caller lends.
 
 ghost use Rattle.std.specs.Prelude.{◌≡◌, ◌≤◌, ◌++◌, IfErr, IfOk, drop, length, map};
-ghost use Rattle.markdown_inline_c.specs.Answers.{IsHandedOut};
+ghost use Rattle.markdown_inline_c.specs.Answers.{IsHandedOut, IsHandedOutTwice};
 ghost use Rattle.markdown_inline_c.specs.FlatEvents.{flat_event};
 ghost use Rattle.markdown_inline_c.specs.Statuses.{fault_status};
 
 use crate::fault::{DONE, Fault, TOO_SMALL};
 use crate::flat::{FlatEvent, flat_event};
+use crate::texts::Found;
 use markdown_engine_content::event::Event;
 use markdown_run::run::Run;
 
@@ -51,6 +52,30 @@ pub fn answer_with<X: Copy>(found: Result<Vec<X>, Fault>, array: &mut [X], count
                 return TOO_SMALL;
             }
             array[..found.len()].copy_from_slice(found.as_slice());
+            DONE
+        }
+        Err(fault) => fault.status(),
+    }
+}
+
+/// Hands out the events of contents and where those of each end, where there is room for both, or else says why not by its status.
+pub fn answer_texts(
+    found: Result<Found, Fault>,
+    events: &mut [FlatEvent],
+    ends: &mut [usize],
+    count: &mut usize,
+) -> u32
+    ensures ok { IfOk found (λ found. IsHandedOutTwice found.events.items events.old events.new found.ends.items ends.old ends.new count.new result) }
+    ensures err { IfErr found (λ fault. (result ≡ fault_status fault) × ((events.new ≡ events.old) × ((ends.new ≡ ends.old) × (count.new ≡ count.old)))) }
+{
+    match found {
+        Ok(found) => {
+            *count = found.events.len();
+            if found.events.len() > events.len() || found.ends.len() > ends.len() {
+                return TOO_SMALL;
+            }
+            events[..found.events.len()].copy_from_slice(found.events.as_slice());
+            ends[..found.ends.len()].copy_from_slice(found.ends.as_slice());
             DONE
         }
         Err(fault) => fault.status(),

@@ -43,8 +43,8 @@ impl Pieces {
     }
 }
 
-// Whether it can be a document.
-fn check_document(bytes: &[u8]) -> Result<(), Fault>
+/// Whether it can be a document, or else why not.
+pub fn check_document(bytes: &[u8]) -> Result<(), Fault>
     ensures ok { IfOk result (λ _. IsUtf8 bytes.now × (length bytes.now ≤ document_limit)) }
     ensures err { IfErr result (IsDocumentFault bytes.now) }
 {

@@ -29,6 +29,8 @@ pub enum Fault {
     Definition,
     /// The document is longer than an eighth of `usize::MAX`.
     TooLong,
+    /// The bytes are no character reference.
+    NoReference,
 }
 
 impl Fault {
@@ -44,6 +46,7 @@ impl Fault {
             Fault::NoContent => 7,
             Fault::Definition => 8,
             Fault::TooLong => 9,
+            Fault::NoReference => 10,
         }
     }
 }

@@ -106,6 +106,28 @@ pub struct FlatLeaf {
     pub after: usize,
 }
 
+/// Where a definition leads: places among the labels, in UTF-8, with escapes and character references resolved.
+#[repr(C)]
+#[derive(Clone, Copy, Debug, PartialEq, Eq)]
+pub struct FlatTarget {
+    /// Where its destination stands.
+    pub destination: Range,
+    /// Where its title stands, if it has one.
+    pub title: Range,
+    /// 0 where it has no title.
+    pub has_title: u32,
+}
+
+/// One of many contents of a document.
+#[repr(C)]
+#[derive(Clone, Copy, Debug, PartialEq, Eq)]
+pub struct FlatContent {
+    /// The numbers of its pieces among those of the input.
+    pub pieces: Range,
+    /// 0 where it is not the first of a list item.
+    pub first_of_item: u32,
+}
+
 pub(crate) fn piece_of(piece: FlatPiece) -> Piece
     ensures { result ≡ piece_of piece }
 {

@@ -24,7 +24,7 @@ const UNKNOWN_OPTION: u32 = 0x20_0000;
 // The bit that says that the text is the first of a list item.
 const FIRST_OF_ITEM: u32 = 0x10_0000;
 
-fn has_option(options: u32, bit: u32) -> bool
+pub(crate) fn has_option(options: u32, bit: u32) -> bool
     ensures { result ≡ has_option options bit }
 {
     options & bit != 0
@@ -61,7 +61,7 @@ fn options_of(options: u32) -> ParseOptions
 }
 
 // What is asked for, if each bit is one of an option.
-fn known_options(options: u32) -> Result<ParseOptions, Fault>
+pub(crate) fn known_options(options: u32) -> Result<ParseOptions, Fault>
     ensures ok { IfOk result (λ found. AreKnown options × (found ≡ options_of options)) }
     ensures err { IfErr result (λ fault. (fault ≡ UnknownOption) × (AreKnown options → ⊥)) }
 {
@@ -72,7 +72,7 @@ fn known_options(options: u32) -> Result<ParseOptions, Fault>
 }
 
 // The text of a range, if it is one.
-fn text_of(labels: &[u8], range: Range) -> Option<&str>
+pub(crate) fn text_of(labels: &[u8], range: Range) -> Option<&str>
     ensures some { IfSome result (λ text. (text.now ≡ range_bytes labels.now range) × IsLabel labels.now range) }
     ensures none { IfNone result (IsLabel labels.now range → ⊥) }
 {
@@ -92,7 +92,11 @@ fn push_identifier(alloc: Global, found: &mut Vec<String>, text: &str) -> Result
 
 // The identifiers of the labels at these ranges.
 #[tactic(auto, using(crate::proofs::Labels::all_read))]
-fn identifiers_of(alloc: Global, labels: &[u8], ranges: &[Range]) -> Result<Vec<String>, Fault>
+pub(crate) fn identifiers_of(
+    alloc: Global,
+    labels: &[u8],
+    ranges: &[Range],
+) -> Result<Vec<String>, Fault>
     ensures found { IfOk result (λ found. map string_bytes found.items ≡ identifiers labels.now ranges.now) }
     ensures labels { IfOk result (λ _. All (IsLabel labels.now) ranges.now) }
     ensures err { IfErr result (λ fault. (fault ≡ Memory) ⊎ ((fault ≡ Definition) × (All (IsLabel labels.now) ranges.now → ⊥))) }

@@ -2,17 +2,21 @@
 //!
 //! A call answers a status: 0 where it is done, 2 for an unknown option, 3 for a document that is not UTF-8, 4 for a text with a blank line or a
 //! line ending at its end, 5 where memory was refused, 6 for an array that is too small, 7 for pieces that are no content, 8 for the range of a
-//! definition that is no text of the labels, 9 for a document longer than an eighth of `usize::MAX`. It is that of the first thing that is wrong,
-//! in the order 2, 9, 3, 7, 4, 8.
+//! definition that is no text of the labels, 9 for a document longer than an eighth of `usize::MAX`, 10 for bytes that are no character reference.
+//! It is that of the first thing that is wrong, in the order 2, 9, 3, 7, 4, 8.
 #![tactic(auto)]
 
-ghost use Rattle.std.specs.Prelude.{◌≡◌, IsUtf8, map};
+ghost use Rattle.std.specs.Prelude.{◌≡◌, IsTrue, IsUtf8, map};
+ghost use Rattle.std.specs.Option.{is_some};
 ghost use Rattle.markdown_model.specs.InlineTree.{string_events, text_events};
 ghost use Rattle.markdown_inline_c.specs.FlatInput.{pieces_of, string_setting, text_setting, IsStringInput, IsTextInput};
 ghost use Rattle.markdown_inline_c.specs.FlatEvents.{flat_event};
 ghost use Rattle.markdown_inline_c.specs.FlatLeaves.{leaves_of};
-ghost use Rattle.markdown_inline_c.specs.Answers.{IsAnswer, IsTested};
-ghost use Rattle.markdown_inline_c.specs.Statuses.{IsContentFault, IsPiecesFault, IsLabelFault, IsStringFault, IsTextFault};
+ghost use Rattle.markdown_inline_c.specs.FlatHtml.{html_of, IsHtmlInput};
+ghost use Rattle.markdown_inline_c.specs.FlatTexts.{ends_of, texts_of, IsTextsInput};
+ghost use Rattle.markdown_inline_c.specs.References.{reference_text, reference_value};
+ghost use Rattle.markdown_inline_c.specs.Answers.{IsAnswer, IsAnswerTwice, IsTested};
+ghost use Rattle.markdown_inline_c.specs.Statuses.{IsContentFault, IsHtmlFault, IsPiecesFault, IsLabelFault, IsReferenceFault, IsStringFault, IsTextFault, IsTextsFault};
 ghost use Rattle.markdown_util.specs.Identifier.{identifier_of};
 ghost use Rattle.markdown_engine_content.specs.Content.{IsContent, IsTextContent};
 
@@ -20,12 +24,15 @@ pub mod answer;
 pub mod check;
 pub mod fault;
 pub mod flat;
+pub mod html;
 pub mod input;
 pub mod label;
 pub mod leaf;
+pub mod reference;
+pub mod texts;
 
-use answer::{answer, answer_with};
-use flat::{FlatEvent, FlatLeaf, FlatPiece, Input};
+use answer::{answer, answer_texts, answer_with};
+use flat::{FlatContent, FlatEvent, FlatLeaf, FlatPiece, FlatTarget, Input};
 use std::alloc::Global;
 
 /// The version of the functions that this library exports, and of the types that they take.
@@ -119,4 +126,66 @@ pub extern "C" fn markdown_inline_identifier(
     ensures { IsAnswer (identifier_of label.now) (IsUtf8 label.now) (IsLabelFault label.now) identifier.old identifier.new count.old count.new result }
 {
     answer_with(label::identifier(alloc, label), identifier, count)
+}
+
+/// The text that a character reference stands for: the bytes are the whole of it, with its `&` and its `;` (CommonMark 0.31, section 2.5).
+///
+/// With status 0 its UTF-8 stands at the front of `text`, and `count` is how many bytes it has. With status 6 `count` is that too, and they
+/// are more than there is room for. The status is 10 for bytes that are no reference, or one whose name is not known, and 5. Nothing else is
+/// written.
+#[unsafe(no_mangle)]
+pub extern "C" fn markdown_inline_reference(
+    alloc: Global,
+    reference: &[u8],
+    text: &mut [u8],
+    count: &mut usize,
+) -> u32
+    ensures { IsAnswer (reference_text reference.now) (IsTrue (is_some (reference_value reference.now))) (IsReferenceFault reference.now) text.old text.new count.old count.new result }
+{
+    answer_with(reference::decoded(alloc, reference), text, count)
+}
+
+/// The events of many contents of the input as texts, one content after another. The document is prepared once, and each content costs what it
+/// costs by itself, wherever it stands.
+///
+/// A content is a range of numbers of the input's pieces. That the text is the first of a list item is said of each content, and not by the
+/// options. Numbers of events count within a content.
+///
+/// With status 0 the events stand at the front of `events`, and `count` is how many they are; where those of each content end stands at the front
+/// of `ends`. With status 6 `count` is that too, and `events` has not room for them, or `ends` not for one end a content. Nothing else is
+/// written. The status is that of the first thing that is wrong, in the order 2, 9, 3, 8; then that of the first content that is no text, 7 or 4.
+#[unsafe(no_mangle)]
+pub extern "C" fn markdown_inline_texts(
+    alloc: Global,
+    input: &Input,
+    contents: &[FlatContent],
+    events: &mut [FlatEvent],
+    ends: &mut [usize],
+    count: &mut usize,
+) -> u32
+    ensures { IsAnswerTwice (texts_of input.now contents.now) (ends_of input.now contents.now) (IsTextsInput input.now contents.now) (IsTextsFault input.now contents.now) events.old events.new ends.old ends.new count.old count.new result }
+{
+    answer_texts(texts::texts(alloc, input, contents), events, ends, count)
+}
+
+/// The HTML of the inline tree of the input's pieces as a text.
+///
+/// Where each definition of the input leads is told by the target of the same number. The bits of `options` are 0x1, by which raw HTML is written as it
+/// stands and not as text, and 0x2, by which links lead wherever they say and not to listed schemes alone.
+///
+/// With status 0 the HTML, in UTF-8, stands at the front of `html`, and `count` is how many bytes it has. With status 6 `count` is that too, and
+/// they are more than there is room for. The status is 8 too where a target is no text of the labels, or where there is not one target for each
+/// definition. Nothing else is written.
+#[unsafe(no_mangle)]
+pub extern "C" fn markdown_inline_html(
+    alloc: Global,
+    input: &Input,
+    targets: &[FlatTarget],
+    options: u32,
+    html: &mut [u8],
+    count: &mut usize,
+) -> u32
+    ensures { IsAnswer (html_of input.now targets.now options) (IsHtmlInput input.now targets.now options) (IsHtmlFault input.now targets.now options) html.old html.new count.old count.new result }
+{
+    answer_with(html::html(alloc, input, targets, options), html, count)
 }

@@ -1,0 +1,69 @@
+//! Many contents of one document.
+
+use crate::event::Iter;
+use crate::raw::{RawContent, RawEvent, RawRange};
+use std::fmt;
+use std::ops::Range;
+
+/// One of many contents of a document.
+#[derive(Clone, Debug, Default, PartialEq, Eq, Hash)]
+pub struct TextContent {
+    /// The numbers of its pieces among those of the input.
+    pub pieces: Range<usize>,
+    /// Whether it is the first of a list item, where the check of a task may stand.
+    pub first_of_item: bool,
+}
+
+/// The events of many contents, of each by itself: their numbers count within a content.
+#[derive(Clone, Default)]
+pub struct Texts {
+    pub(crate) events: Vec<RawEvent>,
+    pub(crate) ends: Vec<usize>,
+}
+
+impl RawContent {
+    pub(crate) fn of(content: &TextContent) -> RawContent {
+        RawContent {
+            pieces: RawRange {
+                start: content.pieces.start,
+                end: content.pieces.end,
+            },
+            first_of_item: u32::from(content.first_of_item),
+        }
+    }
+}
+
+impl Texts {
+    /// How many contents there are.
+    pub fn len(&self) -> usize {
+        self.ends.len()
+    }
+
+    /// Whether there are none.
+    pub fn is_empty(&self) -> bool {
+        self.ends.is_empty()
+    }
+
+    /// The events of the content with this number, one after another.
+    pub fn get(&self, number: usize) -> Option<Iter<'_>> {
+        let end = *self.ends.get(number)?;
+        let start = match number {
+            0 => 0,
+            _ => self.ends[number - 1],
+        };
+        Some(Iter(self.events[start..end].iter()))
+    }
+
+    /// The contents one after another, of each its events.
+    pub fn iter(&self) -> impl Iterator<Item = Iter<'_>> {
+        (0..self.len()).filter_map(|number| self.get(number))
+    }
+}
+
+impl fmt::Debug for Texts {
+    fn fmt(&self, f: &mut fmt::Formatter<'_>) -> fmt::Result {
+        f.debug_list()
+            .entries(self.iter().map(|events| events.collect::<Vec<_>>()))
+            .finish()
+    }
+}

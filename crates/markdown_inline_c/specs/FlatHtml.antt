@@ -1,0 +1,66 @@
+-- What a caller in C hands in beside an input, and the HTML that it gets.
+use Rattle.std.specs.Prelude.{◌≡◌, ◌⊎◌, ℕ, ◌<◌, ◌==◌, if◌then◌else◌, List, [], ◌∷◌, length, Option, None, Some}
+use Rattle.std.specs.List.{All}
+use Rattle.markdown_engine_content.specs.Content.{content_of}
+use Rattle.markdown_html_model.specs.Html.{Defined, Page, html}
+use Rattle.markdown_html_model.specs.declared.options.HtmlOptions.{HtmlOptions}
+use Rattle.markdown_model.specs.InlineTree.{text_tree}
+use Rattle.markdown_util.specs.Identifier.{identifier_of}
+use Rattle.markdown_inline_c.specs.FlatInput.{has_option, IsLabel, IsTextInput, pieces_of, range_bytes, text_setting}
+use Rattle.markdown_inline_c.specs.declared.flat.FlatTarget.{FlatTarget}
+use Rattle.markdown_inline_c.specs.declared.flat.Input.{Input}
+use Rattle.markdown_inline_c.specs.declared.flat.Range.{Range}
+
+-- What may be written, each by a bit.
+
+-- each bit is one of what may be written
+abbrev pub AreKnownForHtml : ℕ → Type 0
+AreKnownForHtml options = options < 4
+
+abbrev pub html_options_of : ℕ → HtmlOptions
+html_options_of o = record { raw_html = has_option o 0x1; any_link = has_option o 0x2 }
+
+-- Where definitions lead.
+
+abbrev pub title_of : List ℕ → FlatTarget → Option (List ℕ)
+title_of labels t = if t.has_title == 0 then None else Some (range_bytes labels t.title)
+
+-- there is no title, or it stands among the labels
+abbrev pub IsTitle : List ℕ → FlatTarget → Type 0
+IsTitle labels t = (t.has_title ≡ 0) ⊎ IsLabel labels t.title
+
+-- where a definition leads stands among the labels
+pub record IsTarget (labels : List ℕ) (t : FlatTarget) : Type 0 where
+  pub destination : IsLabel labels t.destination
+  pub title : IsTitle labels t
+
+-- each definition has a target
+pub record AreTargets (i : Input) (targets : List FlatTarget) : Type 0 where
+  pub one_each : length targets ≡ length i.definitions.now
+  pub each : All (IsTarget i.labels.now) targets
+
+abbrev pub defined_at : List ℕ → Range → FlatTarget → Defined
+defined_at labels r t = record { identifier = identifier_of (range_bytes labels r); destination = range_bytes labels t.destination; title = title_of labels t }
+
+-- each label with its target
+abbrev pub defined_by : List ℕ → List Range → List FlatTarget → List Defined
+defined_by labels [] targets = []
+defined_by labels (r ∷ ranges) [] = []
+defined_by labels (r ∷ ranges) (t ∷ targets) = defined_at labels r t ∷ defined_by labels ranges targets
+
+abbrev pub page : Input → List FlatTarget → ℕ → Page
+page i targets options = record {
+  bytes = i.bytes.now;
+  definitions = defined_by i.labels.now i.definitions.now targets;
+  options = html_options_of options;
+}
+
+-- the HTML of the tree of the input's pieces as a text
+abbrev pub html_of : Input → List FlatTarget → ℕ → List ℕ
+html_of i targets options = html (page i targets options) (text_tree (text_setting i) (content_of i.bytes.now (pieces_of i.pieces.now)))
+
+-- an input that can be written as HTML
+pub record IsHtmlInput (i : Input) (targets : List FlatTarget) (options : ℕ) : Type 0 where
+  pub options_known : AreKnownForHtml options
+  pub is_text : IsTextInput i
+  pub are_targets : AreTargets i targets

@@ -1,0 +1,158 @@
+// The HTML of an input as a text.
+
+ghost use Rattle.std.specs.Prelude.{◌≡◌, ◌⊎◌, ◌∷◌, ◌++◌, [], IfErr, IfOk, OnOk, length, map, option_map, string_bytes};
+ghost use Rattle.std.specs.List.{All};
+ghost use Rattle.markdown_html.specs.View.{defined_of};
+ghost use Rattle.markdown_inline_c.specs.FlatHtml.{AreKnownForHtml, AreTargets, IsHtmlInput, IsTarget, IsTitle, defined_at, defined_by, html_of, html_options_of, title_of};
+ghost use Rattle.markdown_inline_c.specs.FlatInput.{IsLabel, range_bytes};
+ghost use Rattle.markdown_inline_c.specs.Statuses.{IsHtmlFault, IsTargetsFault};
+ghost use Rattle.markdown_inline_c.specs.declared.fault.Fault.TheVariants.{Definition as NoDefinition, Memory, UnknownOption};
+ghost use Rattle.markdown_util.specs.Identifier.{identifier_of};
+
+use crate::fault::Fault;
+use crate::flat::{FlatTarget, Input, Range};
+use crate::input::{self, has_option, text_of};
+use markdown_html::to_html;
+use markdown_html_model::options::{Definition, HtmlOptions};
+use markdown_util::util::normalize_identifier::normalize_identifier;
+use std::alloc::{AllocError, Global};
+
+// The lowest number with a bit that says nothing of HTML.
+const UNKNOWN_OPTION: u32 = 0x4;
+
+// What the bits let be written, if each bit is known.
+fn known_options(options: u32) -> Result<HtmlOptions, Fault>
+    ensures ok { IfOk result (λ found. AreKnownForHtml options × (found ≡ html_options_of options)) }
+    ensures err { IfErr result (λ fault. (fault ≡ UnknownOption) × (AreKnownForHtml options → ⊥)) }
+{
+    if options >= UNKNOWN_OPTION {
+        return Err(Fault::UnknownOption);
+    }
+    Ok(HtmlOptions {
+        raw_html: has_option(options, 0x1),
+        any_link: has_option(options, 0x2),
+    })
+}
+
+// The text at a range of the labels.
+fn text_at(alloc: Global, labels: &[u8], range: Range) -> Result<String, Fault>
+    ensures ok { IfOk result (λ text. string_bytes text ≡ range_bytes labels.now range) }
+    ensures label { IfOk result (λ _. IsLabel labels.now range) }
+    ensures err { IfErr result (λ fault. (fault ≡ Memory) ⊎ ((fault ≡ NoDefinition) × (IsLabel labels.now range → ⊥))) }
+{
+    let Some(text) = text_of(labels, range) else {
+        return Err(Fault::Definition);
+    };
+    Ok(String::from_str(alloc, text)?)
+}
+
+// The identifier of the label at a range.
+fn identifier_at(alloc: Global, labels: &[u8], range: Range) -> Result<String, Fault>
+    ensures ok { IfOk result (λ text. string_bytes text ≡ identifier_of (range_bytes labels.now range)) }
+    ensures err { IfErr result (λ fault. (fault ≡ Memory) ⊎ ((fault ≡ NoDefinition) × (IsLabel labels.now range → ⊥))) }
+{
+    let Some(text) = text_of(labels, range) else {
+        return Err(Fault::Definition);
+    };
+    Ok(normalize_identifier(alloc, text)?)
+}
+
+// The title of a definition, if it has one.
+fn title_at(alloc: Global, labels: &[u8], target: FlatTarget) -> Result<Option<String>, Fault>
+    ensures ok { IfOk result (λ title. option_map string_bytes title ≡ title_of labels.now target) }
+    ensures title { IfOk result (λ _. IsTitle labels.now target) }
+    ensures err { IfErr result (λ fault. (fault ≡ Memory) ⊎ ((fault ≡ NoDefinition) × (IsTitle labels.now target → ⊥))) }
+{
+    if target.has_title == 0 {
+        return Ok(None);
+    }
+    Ok(Some(text_at(alloc, labels, target.title)?))
+}
+
+// The definition of the label at a range.
+fn definition_at(
+    alloc: Global,
+    labels: &[u8],
+    range: Range,
+    target: FlatTarget,
+) -> Result<Definition, Fault>
+    requires { IsLabel labels.now range }
+    ensures ok { IfOk result (λ found. defined_of found ≡ defined_at labels.now range target) }
+    ensures target { IfOk result (λ _. IsTarget labels.now target) }
+    ensures err { IfErr result (λ fault. (fault ≡ Memory) ⊎ ((fault ≡ NoDefinition) × (IsTarget labels.now target → ⊥))) }
+{
+    Ok(Definition {
+        identifier: identifier_at(alloc, labels, range)?,
+        destination: text_at(alloc, labels, target.destination)?,
+        title: title_at(alloc, labels, target)?,
+    })
+}
+
+// Adds one more definition.
+fn push(found: &mut Vec<Definition>, definition: Definition) -> Result<(), AllocError>
+    ensures { OnOk result (found.new.items ≡ found.old.items ++ definition ∷ []) }
+{
+    found.push(definition)?;
+    Ok(())
+}
+
+// The definitions of the labels at these ranges, each with its target.
+fn definitions_of(
+    alloc: Global,
+    labels: &[u8],
+    ranges: &[Range],
+    targets: &[FlatTarget],
+) -> Result<Vec<Definition>, Fault>
+    requires labels { All (IsLabel labels.now) ranges.now }
+    requires one_each { length targets.now ≡ length ranges.now }
+    ensures found { IfOk result (λ found. map defined_of found.items ≡ defined_by labels.now ranges.now targets.now) }
+    ensures targets { IfOk result (λ _. All (IsTarget labels.now) targets.now) }
+    ensures err { IfErr result (λ fault. (fault ≡ Memory) ⊎ ((fault ≡ NoDefinition) × (All (IsTarget labels.now) targets.now → ⊥))) }
+{
+    let mut found = Vec::new(alloc);
+    for at in 0..targets.len() {
+        let definition = definition_at(alloc, labels, ranges[at], targets[at])?;
+        push(&mut found, definition)?;
+    }
+    Ok(found)
+}
+
+// The definitions of the input, each with its target.
+fn definitions(
+    alloc: Global,
+    input: &Input,
+    targets: &[FlatTarget],
+) -> Result<Vec<Definition>, Fault>
+    requires { All (IsLabel input.now.labels.now) input.now.definitions.now }
+    ensures found { IfOk result (λ found. map defined_of found.items ≡ defined_by input.now.labels.now input.now.definitions.now targets.now) }
+    ensures targets { IfOk result (λ _. AreTargets input.now targets.now) }
+    ensures err { IfErr result (IsTargetsFault input.now targets.now) }
+{
+    if targets.len() != input.definitions.len() {
+        return Err(Fault::Definition);
+    }
+    definitions_of(alloc, input.labels, input.definitions, targets)
+}
+
+/// The HTML of the tree of the input as a text, or why it is refused.
+pub fn html(
+    alloc: Global,
+    input: &Input,
+    targets: &[FlatTarget],
+    options: u32,
+) -> Result<Vec<u8>, Fault>
+    ensures html { IfOk result (λ html. html.items ≡ html_of input.now targets.now options) }
+    ensures input { IfOk result (λ _. IsHtmlInput input.now targets.now options) }
+    ensures err { IfErr result (IsHtmlFault input.now targets.now options) }
+{
+    let allowed = known_options(options)?;
+    let run = input::text(alloc, input)?;
+    let definitions = definitions(alloc, input, targets)?;
+    Ok(to_html(
+        alloc,
+        input.bytes,
+        run.events.as_slice(),
+        definitions.as_slice(),
+        allowed,
+    )?)
+}
