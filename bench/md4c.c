@@ -1,0 +1,24 @@
+/* Writes the HTML of what it reads, by md4c: emphasis, links and the rest of CommonMark, with strikethrough, autolink literals and math.
+ * usage: md4c < DOCUMENT */
+#include <stdio.h>
+#include <stdlib.h>
+
+/* As md4c-html.h declares it; the flags are those of md4c.h. */
+int md_html(const char *input, unsigned size, void (*output)(const char *, unsigned, void *), void *data, unsigned parser, unsigned renderer);
+
+enum { URL_LITERALS = 0x4, EMAIL_LITERALS = 0x8, STRIKETHROUGH = 0x200, WWW_LITERALS = 0x400, MATH = 0x1000 };
+
+static void put(const char *text, unsigned size, void *data) { fwrite(text, 1, size, data); }
+
+int main(void) {
+    size_t held = 0, room = 1 << 16;
+    char *text = malloc(room);
+    while (text) {
+        size_t got = fread(text + held, 1, room - held, stdin);
+        if (!got) break;
+        held += got;
+        if (held == room) text = realloc(text, room *= 2);
+    }
+    if (!text) return 5;
+    return md_html(text, (unsigned)held, put, stdout, URL_LITERALS | EMAIL_LITERALS | WWW_LITERALS | STRIKETHROUGH | MATH, 0);
+}
