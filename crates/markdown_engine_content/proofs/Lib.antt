@@ -21,6 +21,7 @@ pub mod NestingLemmas
 pub mod ByteCounts
 pub mod ByteSetLemmas
 pub mod LaneLemmas
+pub mod GroupWalk
 pub mod PlainByteLemmas
 pub mod StretchLemmas
 pub mod AndParts

@@ -1,5 +1,5 @@
 -- Bytes over which text goes on at once.
-use Rattle.std.specs.Prelude.{◌≡◌, ℕ, suc, ◌<◌, ◌≤◌, Bool, true, not, ◌&&◌, ◌||◌, nat_lt, nat_le, ◌==◌, if◌then◌else◌, List, [], ◌∷◌, get_or}
+use Rattle.std.specs.Prelude.{◌≡◌, ℕ, suc, ◌+◌, ◌*◌, ◌<◌, ◌≤◌, Bool, true, not, ◌&&◌, ◌||◌, nat_lt, nat_le, ◌==◌, if◌then◌else◌, List, [], ◌∷◌, get_or}
 use Rattle.std.specs.List.{list_any}
 use Rattle.std.specs.Str.{byte}
 use Rattle.std.specs.Int.{w64, trailing_zeros}
@@ -35,3 +35,12 @@ spares_words set = not (list_any is_word set)
 -- the place of the lowest bit that is set among sixteen, or sixteen
 abbrev pub first_set : ℕ → ℕ
 first_set mask = if mask == 0 then 16 else trailing_zeros w64 mask
+
+-- a line feed, or a byte above 13
+abbrev pub is_of_line : ℕ → Bool
+is_of_line b = b == 10 || nat_lt 13 b
+
+-- which of these bytes are line feeds: a bit for each, the lowest for the first
+abbrev pub feed_bits : List ℕ → ℕ
+feed_bits [] = 0
+feed_bits (b ∷ bs) = (if b == 10 then 1 else 0) + 2 * feed_bits bs

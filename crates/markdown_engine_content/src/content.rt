@@ -66,8 +66,9 @@ fn pass_ordinary(bytes: &[u8], stretch: Stretch, to: usize) -> Stretch
     }
 }
 
-// Walks forward to a place, if it is one of the document.
-pub(crate) fn reach(bytes: &[u8], point: Point, place: (usize, usize)) -> Option<Stretch>
+// Walks forward to a place, if it is one of the document, whichever codes come before it.
+#[inline(never)]
+fn walk_on(bytes: &[u8], point: Point, place: (usize, usize)) -> Option<Stretch>
     requires fits { length bytes.now ≤ document_limit }
     requires is_point { IsPoint bytes.now point }
     requires forward { IsTrue (is_at_or_after (place_of point) place) }
@@ -93,6 +94,25 @@ pub(crate) fn reach(bytes: &[u8], point: Point, place: (usize, usize)) -> Option
         Some(stretch)
     } else {
         None
+    }
+}
+
+// Walks forward to a place, if it is one of the document: mostly it is the point.
+#[inline(always)]
+pub(crate) fn reach(bytes: &[u8], point: Point, place: (usize, usize)) -> Option<Stretch>
+    requires fits { length bytes.now ≤ document_limit }
+    requires is_point { IsPoint bytes.now point }
+    requires forward { IsTrue (is_at_or_after (place_of point) place) }
+    ensures { Reaches bytes.now point place result }
+{
+    if (point.index, point.vs) == place {
+        Some(Stretch {
+            point,
+            has_line_ending: false,
+            ends_line: false,
+        })
+    } else {
+        walk_on(bytes, point, place)
     }
 }
 

@@ -1,5 +1,5 @@
 // Documents, in which many contents are read: each is found by a short walk from a known place.
-ghost use Rattle.std.specs.Prelude.{◌≡◌, ◌≤◌, ◌↔◌, length, IfOk, IsTrue, MatchOption};
+ghost use Rattle.std.specs.Prelude.{◌≡◌, ◌+◌, ◌≤◌, ◌↔◌, length, IfOk, IsTrue, MatchOption};
 ghost use Rattle.markdown_engine_content.specs.Codes.{place_of, is_at_or_after};
 ghost use Rattle.markdown_engine_content.specs.Content.{document_limit, IsContent, IsTextContent};
 ghost use Rattle.markdown_engine_content.specs.KnownPlaces.{IsDocument, AreMarks, IsFirst};
@@ -11,6 +11,7 @@ use crate::content::{
 };
 use crate::cursor::Cursor;
 use crate::event::Point;
+use crate::lanes::{LANES, feeds_among};
 use crate::parser::Piece;
 use crate::walk::{DOCUMENT_START, past_code, walk_to};
 use std::alloc::{AllocError, Global};
@@ -39,6 +40,63 @@ impl<'a> Model for Places<'a> {
     ghost invariant = { λ d. IsDocument d.bytes.now × AreMarks d.bytes.now d.marks.items };
 }
 
+// Walks on over the line feeds and bytes above 13 that are first among sixteen bytes, as far as an index.
+#[inline(always)]
+fn pass_group(bytes: &[u8], point: Point, to: usize) -> Point
+    requires fits { length bytes.now ≤ document_limit }
+    requires is_point { IsPoint bytes.now point }
+    requires at_byte { point.vs ≡ 0 }
+    requires forward { point.index ≤ to }
+    requires room { point.index + LANES ≤ length bytes.now }
+    ensures is_point { IsPoint bytes.now result }
+    ensures at_byte { result.vs ≡ 0 }
+    ensures from { point.index ≤ result.index }
+    ensures forward { result.index ≤ to }
+{
+    let (ordinary, group) = feeds_among(bytes, point.index);
+    let count = ordinary.min(to - point.index);
+    let feeds = group & ((1 << count) - 1);
+    if feeds == 0 {
+        Point {
+            line: point.line,
+            column: point.column + count,
+            index: point.index + count,
+            vs: 0,
+        }
+    } else {
+        Point {
+            line: point.line + feeds.count_ones() as usize,
+            column: count - feeds.ilog2() as usize,
+            index: point.index + count,
+            vs: 0,
+        }
+    }
+}
+
+// As `pass_bytes`, while sixteen bytes are left in the document.
+#[inline(always)]
+fn pass_groups(bytes: &[u8], point: Point, to: usize) -> Point
+    requires fits { length bytes.now ≤ document_limit }
+    requires is_point { IsPoint bytes.now point }
+    requires at_byte { point.vs ≡ 0 }
+    requires forward { point.index ≤ to }
+    requires within { to ≤ length bytes.now }
+    ensures is_point { IsPoint bytes.now result }
+    ensures at_byte { result.vs ≡ 0 }
+    ensures from { point.index ≤ result.index }
+    ensures forward { result.index ≤ to }
+{
+    let mut point = point;
+    while point.index < to && bytes.len() - point.index >= LANES {
+        let next = pass_group(bytes, point, to);
+        if next.index == point.index {
+            return point;
+        }
+        point = next;
+    }
+    point
+}
+
 // Walks on over line feeds and bytes above 13, as far as an index.
 fn pass_bytes(bytes: &[u8], point: Point, to: usize) -> Point
     requires fits { length bytes.now ≤ document_limit }
@@ -51,7 +109,7 @@ fn pass_bytes(bytes: &[u8], point: Point, to: usize) -> Point
     ensures from { point.index ≤ result.index }
     ensures forward { result.index ≤ to }
 {
-    let mut point = point;
+    let mut point = pass_groups(bytes, point, to);
     while point.index < to {
         let byte = bytes[point.index];
         if byte > b'\r' {

@@ -1,7 +1,7 @@
 // How many of sixteen bytes, from the first, are of a kind.
-ghost use Rattle.std.specs.Prelude.{◌≡◌, ◌≢◌, ℕ, ◌+◌, ◌^◌, ◌<◌, ◌≤◌, ◌∷◌, [], true, length, slice_index, IsTrue};
+ghost use Rattle.std.specs.Prelude.{◌≡◌, ◌≢◌, ℕ, ◌+◌, ◌^◌, ◌<◌, ◌≤◌, ◌∷◌, [], true, length, slice_index, take, drop, IsTrue};
 ghost use Rattle.std.specs.Int.{bit_at};
-ghost use Rattle.markdown_engine_content.specs.PlainBytes.{ArePlain, is_word, spares_words, first_set};
+ghost use Rattle.markdown_engine_content.specs.PlainBytes.{ArePlain, is_word, spares_words, first_set, is_of_line, feed_bits};
 
 use crate::bytes::ByteSet;
 use std::simd::prelude::*;
@@ -33,6 +33,20 @@ pub(crate) fn ordinary_among(bytes: &[u8], at: usize) -> usize
 {
     let lanes = u8x16::from_slice(&bytes[at..]);
     first_set(lanes.simd_le(u8x16::splat(b'\r')).to_bitmask())
+}
+
+// How many of the sixteen bytes from this index on are line feeds or above 13, from the first, and which are line feeds: a bit for each.
+#[inline(always)]
+pub(crate) fn feeds_among(bytes: &[u8], at: usize) -> (usize, u64)
+    requires { at + LANES ≤ length bytes.now }
+    ensures within { result.0 ≤ LANES }
+    ensures of_lines { (i : ℕ) → at ≤ i → i < at + result.0 → is_of_line (slice_index bytes.now i) ≡ true }
+    ensures feeds { result.1 ≡ feed_bits (take LANES (drop at bytes.now)) }
+{
+    let group = u8x16::from_slice(&bytes[at..]);
+    let feeds = group.simd_eq(u8x16::splat(b'\n'));
+    let others = group.simd_le(u8x16::splat(b'\r')) & group.simd_ne(u8x16::splat(b'\n'));
+    (first_set(others.to_bitmask()), feeds.to_bitmask())
 }
 
 // How many of the sixteen bytes from this index on are above 13 and none of these two, from the first.

@@ -1,6 +1,6 @@
 -- The walk that finds where sequences last begin, and what an index of them says of the codes that it was made of.
 use Rattle.std.proofs.Common.{◌≡◌, ℕ, zero, suc, ◌+◌, ◌==◌, ◌&&◌, ◌||◌, ◌-◌, nat_lt, Bool, true, false, if◌then◌else◌, cond, slice_get, slice_index_or, length, ◌<◌, ◌≤◌, ◌⊎◌, inl, inr, Option, Some, None, List, [], ◌∷◌, drop, refl, sym, ap, ◌∙◌, arith}
-use Rattle.std.proofs.lemmas.Bool.{and_right, eq-eqb, ne_eqb, not-false, or_from, or_left, or_parts, or_right}
+use Rattle.std.proofs.lemmas.Bool.{and_right, eq-eqb, ne_eqb, or_from, or_left, or_parts, or_right}
 use Rattle.std.specs.List.{list_any}
 use Rattle.std.proofs.lemmas.Bool.Decides.{nat_tests}
 use Rattle.std.proofs.lemmas.Grind.{common_steps}
@@ -8,7 +8,7 @@ use Rattle.std.proofs.lemmas.List.{drop_more}
 use Rattle.markdown_engine_content.specs.Codes.{Code}
 use Rattle.markdown_engine_content.specs.Place.{Place, ahead_at, code_at, code_before, last_of, moved, value_of}
 use Rattle.markdown_engine_index.specs.RunIndex.{later_or, begins_before}
-use Rattle.markdown_engine_index.specs.SequenceIndex.{begins_at, begun_at, closes_past_spacing, closes_twice, dots_behind_w, holds, is_behind_w, is_spacing, is_w, last_begins, last_in, last_where, marks_span, rules_out, shows_at, stand_next, stop_bytes, IsRightFor}
+use Rattle.markdown_engine_index.specs.SequenceIndex.{begins_at, begun_at, closes_past_spacing, closes_twice, dots_behind_w, is_behind_w, is_spacing, is_w, last_begins, last_in, last_where, marks_span, rules_out, shows_at, stand_next, stop_bytes, IsRightFor}
 use Rattle.markdown_engine_content.specs.declared.event.Point.{Point}
 use Rattle.markdown_engine_index.specs.declared.sequence_index.LastBegins.{LastBegins}
 use Rattle.markdown_engine_index.specs.declared.sequence_index.Sequence.{Sequence}
@@ -396,8 +396,3 @@ right-unknown cs index e last h = absurd (absent (sym e ∙ h))
   where
     absent : None ≡ Some last → ⊥
     absent x = cc
-
--- what does not begin anywhere
-pub not-held : (s : Sequence) (cs : List Code) → holds s cs ≡ false → last_where (begins_at s) cs ≡ None
-not-held s cs h =
-    ruled-out (Some (last_begins cs)) cs s 0 (right-made cs (Some (last_begins cs)) refl) (not-false (rules_out (Some (last_begins cs)) s 0) h)

@@ -1,5 +1,5 @@
 // Names in the order of their bytes, each found by a search.
-ghost use Rattle.std.specs.Prelude.{◌≡◌, ◌≤◌, ◌==◌, IfOk, map, length, string_bytes, true, false};
+ghost use Rattle.std.specs.Prelude.{◌≡◌, ◌≤◌, ◌==◌, IfOk, map, length, string_bytes, true, false, IsTrue};
 ghost use Rattle.std.specs.List.{list_any, starts_with, AllWithin};
 ghost use Rattle.std.specs.Str.{bytes_eq};
 ghost use Rattle.std.specs.List.Sorted.{IsNonDecreasing, IsPermutation, IsSorted};
@@ -64,8 +64,8 @@ impl NameIndex {
     pub fn begins(&self, front: &str) -> bool
         ensures { result ≡ list_any (λ name. starts_with (◌==◌) name front.now) self.now }
     {
-        let at = first_from(self.names.as_slice(), front);
-        at < self.names.len() && self.names[at].as_bytes().starts_with(front.as_bytes())
+        let names = self.names.as_slice();
+        first_begins(names, front) || one_begins(names, front)
     }
 
     /// Whether one of the names has so many opening brackets.
@@ -97,6 +97,25 @@ fn first_from(names: &[String], text: &str) -> usize
     ensures after { AllWithin (λ name. comes_before text.now (string_bytes name) ≡ false) names.now result (length names.now) }
 {
     names.partition_point(|name| name.as_str() < text)
+}
+
+// Whether the first of these names begins so: so do many names that are like each other, and each begins with an empty front.
+fn first_begins(names: &[String], front: &str) -> bool
+    ensures { IsTrue result → IsTrue (list_any (λ name. starts_with (◌==◌) (string_bytes name) front.now) names.now) }
+{
+    match names {
+        [first, ..] => first.as_bytes().starts_with(front.as_bytes()),
+        [] => false,
+    }
+}
+
+// Whether one of these names, which are in order, begins so.
+fn one_begins(names: &[String], front: &str) -> bool
+    requires { IsSorted string_cmp names.now }
+    ensures { result ≡ list_any (λ name. starts_with (◌==◌) (string_bytes name) front.now) names.now }
+{
+    let at = first_from(names, front);
+    at < names.len() && names[at].as_bytes().starts_with(front.as_bytes())
 }
 
 // Names in order.

@@ -1,31 +1,24 @@
--- The first name that does not come before a text settles it.
-use Rattle.std.proofs.Common.{◌==◌, ◌∙◌, ℕ, Bool, List, sym, ap, subst, get_or, string_bytes, arith}
+-- The names are in order, and what is told of them is told of their bytes.
+use Rattle.std.proofs.Common.{◌==◌, ◌∙◌, ℕ, Bool, List, sym, ap, subst, string_bytes}
 use Rattle.std.specs.List.{list_any, starts_with}
 use Rattle.std.specs.List.Sorted.{IsSorted}
 use Rattle.std.specs.String.{string_cmp}
-use Rattle.std.proofs.lemmas.Bool.{le-ltb}
-use Rattle.markdown_engine_index.proofs.NameOrder.{begins-after, begins-between, any_map, found, none}
+use Rattle.markdown_engine_index.proofs.NameOrder.{any_map}
 use Rattle.markdown_engine_index.proofs.name_index.NameIndex.begins.Goals as goal
 
-pub returns-then-at-len : goal.returns-then-at-len
-returns-then-at-len c =
+pub returns-then-first_begins : goal.returns-then-first_begins
+returns-then-first_begins c =
     let p : List ℕ → Bool = λ name. starts_with (◌==◌) name c.args.front.now in
-    let same = c.as_slice.ensures.value in
-    let sorted = subst (IsSorted string_cmp) (sym same) c.self.invariant.0 in
-    let at = c.first_from-at.result in
-    c.starts_with.ensures.value ∙ (λ i. starts_with (◌==◌) (c.as_bytes.ensures.value i) (c.as_bytes-then-at-len.ensures.value i))
-    ∙ ap (λ x. p (string_bytes x)) (c.index.ensures ∙ ap (λ zs. get_or zs at c.index.result.now) (sym same))
-    ∙ found string_bytes c.as_slice.result.now at c.args.front.now sorted c.first_from-at.ensures.before c.first_from-at.ensures.after p (begins-after c.args.front.now) (begins-between c.args.front.now) c.index.result.now (omega (arith, c.if-at-len.true, c.len.ensures, c.as_slice.ensures.len))
-    ∙ ap (list_any (λ x. p (string_bytes x))) same
+    c.if-first_begins.true ∙ sym (c.first_begins.ensures c.if-first_begins.true)
+    ∙ ap (list_any (λ x. p (string_bytes x))) c.as_slice-names.ensures.value
     ∙ sym (ap (list_any p) (sym c.self.view_is) ∙ any_map p string_bytes c.self.inside.names.items)
 
-pub returns-else-at-len : goal.returns-else-at-len
-returns-else-at-len c =
+pub returns-else-first_begins : goal.returns-else-first_begins
+returns-else-first_begins c =
     let p : List ℕ → Bool = λ name. starts_with (◌==◌) name c.args.front.now in
-    let same = c.as_slice.ensures.value in
-    let sorted = subst (IsSorted string_cmp) (sym same) c.self.invariant.0 in
-    let at = c.first_from-at.result in
-    le-ltb at c.len.result c.if-at-len.false
-    ∙ none string_bytes c.as_slice.result.now at c.args.front.now sorted c.first_from-at.ensures.before c.first_from-at.ensures.after p (begins-after c.args.front.now) (begins-between c.args.front.now) (omega (arith, c.if-at-len.false, c.len.ensures, c.as_slice.ensures.len))
-    ∙ ap (list_any (λ x. p (string_bytes x))) same
+    c.one_begins.ensures
+    ∙ ap (list_any (λ x. p (string_bytes x))) c.as_slice-names.ensures.value
     ∙ sym (ap (list_any p) (sym c.self.view_is) ∙ any_map p string_bytes c.self.inside.names.items)
+
+pub one_begins-requires : goal.one_begins-requires
+one_begins-requires c = subst (IsSorted string_cmp) (sym c.as_slice-names.ensures.value) c.self.invariant.0

@@ -1,6 +1,6 @@
 use Rattle.markdown_engine_content.proofs.WalkSteps.{codes_left_at}
 use Rattle.markdown_engine_content.proofs.WalkTargets.{IsReaching}
-use Rattle.markdown_engine_content.proofs.content.reach.Given as goal
+use Rattle.markdown_engine_content.proofs.content.walk_on.Given as goal
 
 abbrev pub invariant-loop-stretch : goal.invariant-loop-stretch
 invariant-loop-stretch l = IsReaching l.bytes l.fn.point l.place l.stretch
