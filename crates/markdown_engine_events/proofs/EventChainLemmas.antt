@@ -114,7 +114,7 @@ linked_at-after (x ∷ xs) ys j =
     let e : suc (length xs) + j ≡ suc (length xs + j) = omega arith in
     ap (linked_at (x ∷ xs ++ ys)) e ∙ linked_at-after xs ys j
 
-some-none : (p : ℕ) → None ≡ Some p → ⊥
+pub some-none : (p : ℕ) → None ≡ Some p → ⊥
 some-none p h = cc
 
 within-previous : (xs : List Event) (j p : ℕ) → previous_at xs j ≡ Some p → j < length xs

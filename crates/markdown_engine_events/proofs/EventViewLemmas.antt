@@ -1,12 +1,14 @@
 -- What a change of the kept events does to the events that contracts see, and that their links stay filled in.
-use Rattle.std.proofs.Common.{◌≡◌, ℕ, zero, suc, ◌+◌, ◌-◌, ◌<◌, ◌≤◌, Option, Some, None, List, [], ◌∷◌, ◌++◌, length, take, drop, get_or, true, refl, append_assoc, sym, ap, subst, ◌∙◌, arith}
-use Rattle.std.proofs.lemmas.List.{take_at, same_from_push, length_push, append-nil, length-take, get_or-take, get_or-drop}
+use Rattle.std.proofs.Common.{◌≡◌, ℕ, zero, suc, ◌+◌, ◌-◌, ◌<◌, ◌≤◌, Option, Some, None, List, [], ◌∷◌, ◌++◌, length, take, drop, get_or, Bool, true, false, refl, append_assoc, sym, ap, subst, ◌∙◌, arith}
+use Rattle.std.proofs.lemmas.Bool.{both_ways}
+use Rattle.std.proofs.lemmas.List.{take_at, same_from_push, length_push, append-nil, length-take, get_or-take, get_or-drop, get_or_append_left, get_or_push}
+use Rattle.std.proofs.lemmas.List.Elements.{All-append, All-drop, All-push, All-take}
 use Rattle.std.specs.List.{All}
 use Rattle.markdown_engine_content.specs.declared.event.Link.{Link}
 use Rattle.markdown_engine_content.specs.declared.event.Event.{Event}
-use Rattle.markdown_engine_events.specs.EventChains.{with_next, with_previous, bare, bares, previous_of, chained, changed_at, previous_at, linked_at, EndsChain, IsLinked, IsFresh, IsFilled, OnlyEnters, MayLink, link_previous, next_link}
+use Rattle.markdown_engine_events.specs.EventChains.{with_next, with_previous, bare, bares, previous_of, chained, changed_at, previous_at, linked_at, EndsChain, IsLinked, IsFresh, IsAlone, IsFilled, IsNoted, OnlyEnters, MayLink, link_previous, next_link}
 use Rattle.markdown_engine_events.proofs.EventChainLemmas.{length-changed_at, changed_at-append, length-bares, bares-append, bares-next, bares-previous, get-bares, chained-fresh, chained-push, chained-end, chained-link, IsLinked-prefix}
-use Rattle.markdown_engine_events.proofs.EventChainLemmas.{IsLinked-push, OnlyEnters-part, bare-fresh, fresh-of, chained-ends, fresh-unnamed, ends-before, last-earlier, IsLinked-connect, previous_of-bare, within-linked, changed_at-twice}
+use Rattle.markdown_engine_events.proofs.EventChainLemmas.{some-none, IsLinked-push, OnlyEnters-part, bare-fresh, fresh-of, chained-ends, fresh-unnamed, ends-before, last-earlier, IsLinked-connect, previous_of-bare, within-linked, changed_at-twice}
 
 -- the kept events at their view
 pub filled-at : (xs vs : List Event) → bares xs ≡ vs → IsFilled xs → xs ≡ chained vs
@@ -234,3 +236,54 @@ extended xs (y ∷ ys) k u =
 
 pub kept-extended : (xs ys zs : List Event) → IsFilled xs → All IsFresh ys → zs ≡ xs ++ ys → IsFilled zs
 kept-extended xs ys zs k u h = subst IsFilled (sym h) (extended xs ys k u)
+
+-- where no chain is noted
+
+pub filled-of : (b : Bool) (xs : List Event) → IsNoted b xs → IsFilled xs
+filled-of b xs n = record { filled = n.filled; linked = n.linked }
+
+pub noted : (b : Bool) (xs : List Event) → IsFilled xs → (b ≡ false → All IsAlone xs) → IsNoted b xs
+noted b xs f a = record { filled = f.filled; linked = f.linked; alone = a }
+
+pub noted-chain : (xs : List Event) → IsFilled xs → IsNoted true xs
+noted-chain xs f = noted true xs f (λ off. absurd (both_ways true off refl))
+
+pub part-alone : (b : Bool) (xs ws : List Event) (n m : ℕ) → ws ≡ xs → IsNoted b xs → b ≡ false → All IsAlone (take m (drop n ws))
+part-alone b xs ws n m w h off =
+    subst (λ (ys : List Event). All IsAlone (take m (drop n ys))) (sym w) (All-take IsAlone m (drop n xs) (All-drop IsAlone n xs (h.alone off)))
+
+fresh-alone : (e : Event) → IsFresh e → IsAlone e
+fresh-alone e f = (fresh-unnamed e f, ap (λ (x : Event). x.link) (bare-fresh e f))
+
+alone-one : (b : Bool) (xs ys : List Event) (e : Event) → IsNoted b xs → IsAlone e → ys ≡ xs ++ e ∷ [] → b ≡ false → All IsAlone ys
+alone-one b xs ys e n a h off = subst (All IsAlone) (sym h) (All-push IsAlone xs e (n.alone off) a)
+
+pub noted-push : (b : Bool) (xs vs ys : List Event) (e : Event) → bares xs ≡ vs → IsNoted b xs → IsFresh e → ys ≡ xs ++ e ∷ [] →
+    IsNoted b ys
+noted-push b xs vs ys e v n f h = noted b ys (kept-push xs vs ys e v (filled-of b xs n) f h) (alone-one b xs ys e n (fresh-alone e f) h)
+
+pub noted-plain : (b : Bool) (xs vs ys : List Event) (e : Event) → bares xs ≡ vs → IsNoted b xs → bare e ≡ e → previous_of e ≡ None →
+    IsLinked (vs ++ e ∷ []) → ys ≡ xs ++ e ∷ [] → IsNoted b ys
+noted-plain b xs vs ys e v n bs p w h =
+    noted b ys (kept-plain xs vs ys e v (filled-of b xs n) bs p w h) (alone-one b xs ys e n (p, ap (λ (x : Event). x.link) bs) h)
+
+pub noted-extended : (b : Bool) (xs ys zs : List Event) → IsNoted b xs → All IsFresh ys → zs ≡ xs ++ ys → IsNoted b zs
+noted-extended b xs ys zs n u h =
+    noted b zs (kept-extended xs ys zs (filled-of b xs n) u h)
+    (λ off. subst (All IsAlone) (sym h) (All-append IsAlone xs ys (n.alone off) (λ k d l. fresh-alone (get_or ys k d) (u k d l))))
+
+-- an event taken off
+
+pub noted-popped : (b : Bool) (xs ys : List Event) (e : Event) → IsNoted b xs → xs ≡ ys ++ e ∷ [] → previous_of e ≡ None → IsNoted b ys
+noted-popped b xs ys e n h p =
+    noted b ys (kept-popped xs ys e (filled-of b xs n) h p)
+    (λ off. λ k d l. subst IsAlone (get_or_append_left ys (e ∷ []) d k l) (subst (All IsAlone) h (n.alone off) k d (omega (arith, l, length_push ys e))))
+
+pub noted-dropped : (b : Bool) (xs ys zs : List Event) (e : Event) (p : ℕ) → IsNoted b xs → xs ≡ ys ++ e ∷ [] → previous_of e ≡ Some p →
+    zs ≡ changed_at (with_next None) p ys → IsNoted b zs
+noted-dropped b xs ys zs e p n h s g =
+    noted b zs (kept-dropped xs ys e p (filled-of b xs n) h s zs g)
+    (λ off.
+    let all : All IsAlone (ys ++ e ∷ []) = subst (All IsAlone) h (n.alone off) in
+    let last : IsAlone e = subst IsAlone (get_or_push ys e e (length ys) refl) (all (length ys) e (omega (arith, length_push ys e))) in
+    absurd (some-none p (sym last.0 ∙ s)))

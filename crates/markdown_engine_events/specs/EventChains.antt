@@ -1,6 +1,7 @@
 -- Chains of linked events: what each event says of the one before it on its chain, and what follows
 -- from that of the one after.
 use Rattle.std.specs.Prelude.{◌≡◌, ◌≢◌, ℕ, zero, suc, ◌<◌, ◌==◌, Bool, true, false, List, [], ◌∷◌, Option, Some, None, if◌then◌else◌}
+use Rattle.std.specs.List.{All}
 use Rattle.markdown_engine_content.specs.declared.event.Event.{Event}
 use Rattle.markdown_engine_content.specs.declared.event.Kind.{Kind}
 use Rattle.markdown_engine_content.specs.declared.event.Kind.TheVariants.{Enter, Exit}
@@ -118,3 +119,13 @@ IsUnlinked e = e.link ≡ None
 pub record IsFilled (items : List Event) : Type 0 where
   pub filled : items ≡ chained (bares items)
   pub linked : IsLinked (bares items)
+
+-- an event that names none before it on its chain, and none after it
+abbrev pub IsAlone : Event → Type 0
+IsAlone e = (link_previous e.link ≡ None) × (next_link None e.link ≡ e.link)
+
+-- and where no chain is noted, each event is alone
+pub record IsNoted (chains : Bool) (items : List Event) : Type 0 where
+  pub filled : items ≡ chained (bares items)
+  pub linked : IsLinked (bares items)
+  pub alone : chains ≡ false → All IsAlone items

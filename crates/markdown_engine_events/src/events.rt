@@ -1,6 +1,6 @@
 // The events so far.
-ghost use Rattle.std.specs.Prelude.{◌≡◌, ◌<◌, ◌≤◌, ◌+◌, ◌-◌, ◌++◌, ◌∷◌, ◌==◌, [], ℕ, length, take, drop, OnOk, OnErr, IfOk, IsTrue, Some, None, true, slice_index_or};
-ghost use Rattle.markdown_engine_events.specs.EventChains.{bare, chained, changed_at, next_link, with_next, with_previous, link_previous, previous_at, linked_at, EndsChain, IsLinked, IsFresh};
+ghost use Rattle.std.specs.Prelude.{◌≡◌, ◌<◌, ◌≤◌, ◌+◌, ◌-◌, ◌++◌, ◌∷◌, ◌==◌, [], ℕ, length, take, drop, OnOk, OnErr, IfOk, IsFalse, IsTrue, Some, None, true, slice_index_or};
+ghost use Rattle.markdown_engine_events.specs.EventChains.{bare, chained, changed_at, next_link, with_next, with_previous, link_previous, previous_at, linked_at, EndsChain, IsAlone, IsLinked, IsFresh};
 ghost use Rattle.std.specs.List.{All};
 
 use markdown_engine_content::event::{Event, Link};
@@ -17,18 +17,20 @@ use std::marker::Model;
 #[derive(Drop)]
 pub struct Events {
     items: Seq<Event>,
+    // whether two of the events may be linked; where not, no event need be looked at for its link
+    chains: bool,
 }
 
 impl Model for Events {
     ghost use Rattle.std.specs.Prelude.{List};
-    ghost use Rattle.markdown_engine_events.specs.EventChains.{bares, IsFilled};
+    ghost use Rattle.markdown_engine_events.specs.EventChains.{bares, IsNoted};
     ghost use Rattle.markdown_engine_content.specs.declared.event.Event.{Event};
 
     ghost Value = { List Event };
 
     ghost view = { λ s. bares s.items };
 
-    ghost invariant = { λ s. IsFilled s.items };
+    ghost invariant = { λ s. IsNoted s.chains s.items };
 }
 
 // The number of the event before on the chain.
@@ -166,6 +168,21 @@ fn alone_count(items: &[Event]) -> usize
     count
 }
 
+// How many events at the front are linked to no other: all of them where no chain is noted.
+#[inline]
+fn alone_front(items: &[Event], chains: bool) -> usize
+    requires { IsFalse chains → All IsAlone items.now }
+    ensures within { result ≤ length items.now }
+    ensures previous { All (λ e. link_previous e.link ≡ None) (take result items.now) }
+    ensures next { All (λ e. next_link None e.link ≡ e.link) (take result items.now) }
+{
+    if chains {
+        alone_count(items)
+    } else {
+        items.len()
+    }
+}
+
 impl Events {
     /// No event. Takes no memory.
     pub fn new(alloc: Global) -> Events
@@ -173,6 +190,7 @@ impl Events {
     {
         Events {
             items: Seq::new(alloc),
+            chains: false,
         }
     }
 
@@ -235,6 +253,7 @@ impl Events {
     {
         Ok(Events {
             items: Seq::from_vec(Vec::with_capacity(alloc, capacity)?),
+            chains: false,
         })
     }
 
@@ -248,7 +267,7 @@ impl Events {
         ensures end { from + length result.now ≤ to }
     {
         let items = &self.items.as_slice()[from..to];
-        &items[..alone_count(items)]
+        &items[..alone_front(items, self.chains)]
     }
 
     // Adds events that are linked to no other yet. `Err` only if memory is refused; the events are then as they were.
@@ -277,6 +296,7 @@ impl Events {
         self.items.push(linked)?;
         if let Some(previous) = previous_of(&linked) {
             set_next(&mut self.items, previous, Some(number));
+            self.chains = true;
         }
         Ok(())
     }
@@ -293,6 +313,7 @@ impl Events {
     {
         set_next(&mut self.items, previous, Some(index));
         set_previous(&mut self.items, index, previous);
+        self.chains = true;
     }
 
     // Takes the last event off, and with it the link on to it.
@@ -322,7 +343,7 @@ impl Events {
     pub fn into_vec(self) -> Vec<Event>
         ensures { result.items ≡ chained self }
     {
-        let Events { items } = self;
+        let Events { items, chains: _ } = self;
         items.into_vec()
     }
 }

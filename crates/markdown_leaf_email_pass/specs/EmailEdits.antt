@@ -36,3 +36,9 @@ mail_first bytes n links (e ∷ x ∷ es) = if may_mail bytes links e x then mai
 abbrev pub mails : List ℕ → ℕ → ℕ → List Event → List Edit
 mails bytes n links [] = []
 mails bytes n links (e ∷ es) = mail_first bytes n links (e ∷ es) ++ mails bytes (suc n) (links_after links e) es
+
+-- the first two events are the Enter of data and its Exit, with an `@` between them
+abbrev pub begins_signed : List ℕ → List Event → Bool
+begins_signed bytes [] = false
+begins_signed bytes (e ∷ []) = false
+begins_signed bytes (e ∷ x ∷ es) = opens_data e && has_sign bytes e.point x.point

@@ -19,20 +19,20 @@
 // Definition: `with_emails_apart` in `markdown_model/specs/Passes.antt`, by `with_emails` in `GfmEmailLiteral.antt`.
 #![tactic(auto)]
 
-ghost use Rattle.std.specs.Prelude.{◌≡◌, ◌<◌, ◌≤◌, ◌+◌, ◌^◌, ◌++◌, [], None, length, drop, OnOk, OnErr, IsTrue};
+ghost use Rattle.std.specs.Prelude.{◌≡◌, ◌<◌, ◌≤◌, ◌+◌, ◌^◌, ◌++◌, [], None, length, drop, OnOk, OnErr, IsTrue, IsFalse};
 ghost use Rattle.markdown_engine_content.specs.Content.{document_limit};
 ghost use Rattle.markdown_engine.specs.PastTree.{appended_from};
 ghost use Rattle.markdown_engine_content.specs.Tree.{Forest};
 ghost use Rattle.markdown_model.specs.Passes.{with_emails_apart};
 ghost use Rattle.markdown_partial.specs.TrimmedEvents.{FirstHasPlaces, HasPlaces, HasParts};
-ghost use Rattle.markdown_leaf_email_pass.specs.EmailEdits.{links_after, mail_first, mails};
+ghost use Rattle.markdown_leaf_email_pass.specs.EmailEdits.{begins_signed, links_after, mail_first, mails};
 
 use crate::literal::{has_sign, mailed_data};
 use markdown_engine::tokenizer::Tokenizer;
 use markdown_engine_content::event::{Event, Kind, Name};
 use markdown_engine_events::events::Events;
 use markdown_engine_events::util::edit_map::EditMap;
-use markdown_partial::partial_data::opens_data;
+use markdown_partial::partial_data::{next_data, opens_data};
 use std::alloc::{AllocError, Global};
 
 // How many links are open behind an event, where so many are open before it. The name is looked at first, since most events have another.
@@ -76,6 +76,39 @@ fn mail_first(
     Ok(())
 }
 
+// Whether data with an `@` begins at this event.
+fn begins_signed(bytes: &[u8], events: &Events, index: usize) -> bool
+    requires fits { length bytes.now ≤ document_limit }
+    requires within { index < length events.now }
+    requires counted { length events.now < 2 ^ 64 }
+    requires places { FirstHasPlaces bytes.now (drop index events.now) }
+    ensures { result ≡ begins_signed bytes.now (drop index events.now) }
+{
+    let enter = events.bare_at(index);
+    if opens_data(&enter) {
+        let exit = events.bare_at(index + 1);
+        return has_sign(bytes, enter.point, exit.point);
+    }
+    false
+}
+
+// Whether there is data with an `@`: where there is none, no edit is made.
+fn has_signed(bytes: &[u8], events: &Events) -> bool
+    requires fits { length bytes.now ≤ document_limit }
+    requires places { HasPlaces bytes.now events.now }
+    ensures { IsFalse result → mails bytes.now 0 0 events.now ≡ [] }
+{
+    let count = events.len();
+    let mut index = next_data(events, 0);
+    while index < count {
+        if begins_signed(bytes, events, index) {
+            return true;
+        }
+        index = next_data(events, index + 1);
+    }
+    false
+}
+
 // Collects the edits of all data.
 fn mail_each(
     alloc: Global,
@@ -88,6 +121,9 @@ fn mail_each(
     requires empty { map.old ≡ [] }
     ensures { OnOk result (map.new ≡ mails bytes.now 0 0 events.now) }
 {
+    if !has_signed(bytes, events) {
+        return Ok(());
+    }
     let mut links = 0usize;
     for index in 0..events.len() {
         mail_first(alloc, bytes, events, map, index, links)?;
@@ -118,6 +154,7 @@ fn mail(
 /// The document has at most `usize::MAX / 8` bytes, the edits are empty before and after, and each data stands at places of the
 /// document. The work is that of the events and of the codes of the data. The error comes where memory is refused; then `failed` is
 /// true.
+#[inline(never)]
 pub fn resolve(tokenizer: &mut Tokenizer) -> Result<(), AllocError>
     requires map { tokenizer.old.map ≡ [] }
     requires fits { length tokenizer.old.parse_state.now.bytes.now ≤ document_limit }

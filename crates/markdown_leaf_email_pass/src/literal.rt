@@ -47,6 +47,7 @@ struct Literal {
 }
 
 // Whether an `@` stands among the codes of a stretch: among its bytes, since no other byte is the code `@`.
+#[inline(always)]
 pub(crate) fn has_sign(bytes: &[u8], from: Point, to: Point) -> bool
     requires fits { length bytes.now ≤ document_limit }
     requires stretch { IsStretch bytes.now from to }

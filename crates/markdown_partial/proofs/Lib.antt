@@ -7,6 +7,7 @@ pub mod WhitespaceReadings
 pub mod PartialSpaceOrTabLaws
 pub mod PartialSpaceOrTabEolLaws
 pub mod WhitespaceAttempts
+pub mod DataSearch
 pub mod MergeEdits
 pub mod MergePassLaw
 pub mod TrimWalks

@@ -1,7 +1,7 @@
 -- the edits of neighbouring data, one by one
-use Rattle.std.proofs.Common.{◌≡◌, ◌≢◌, ℕ, zero, suc, ◌+◌, ◌-◌, ◌<◌, ◌≤◌, ◌&&◌, ◌||◌, not, nat_lt, Bool, true, false, List, [], ◌∷◌, ◌++◌, length, drop, get_or, refl, sym, ap, ◌∙◌, arith, append_assoc, append-nil, length-drop}
+use Rattle.std.proofs.Common.{◌≡◌, ◌≢◌, ℕ, zero, suc, ◌+◌, ◌-◌, ◌<◌, ◌≤◌, ◌&&◌, ◌||◌, not, nat_lt, Bool, true, false, List, [], ◌∷◌, ◌++◌, length, drop, get_or, refl, sym, ap, ◌∙◌, arith, append_assoc, append-nil, length-drop, inl, inr}
 use Rattle.std.proofs.Math.Bool.{or-false, and-false}
-use Rattle.std.proofs.lemmas.Bool.{both_ways, eq-eqb, ne_eqb}
+use Rattle.std.proofs.lemmas.Bool.{both_ways, cases_lt, eq-eqb, ne_eqb}
 use Rattle.std.proofs.lemmas.List.{drop_more}
 use Rattle.std.proofs.lemmas.List.Elements.{All-nil, All-cons}
 use Rattle.std.proofs.lemmas.Bool.Decides.{nat_tests}
@@ -13,6 +13,7 @@ use Rattle.markdown_engine_content.specs.declared.event.Event.{Event}
 use Rattle.markdown_engine_events.specs.declared.util.edit_map.Edit.{Edit}
 use Rattle.markdown_partial.specs.MergedEvents.{is_enter, is_data, opens_data, closes_data, opening, closing, joint, joints, marked, removal}
 use Rattle.markdown_engine_content.proofs.PlaceRules.{drop-more}
+use Rattle.markdown_partial.proofs.DataSearch.{BeginsNone, event-at}
 
 joint-three : (es : List Event) (i j k : ℕ) (a b c : Event) → j ≡ i + 1 → k ≡ i + 2 → k < length es →
     a ≡ get_or es i a → b ≡ get_or es j b → c ≡ get_or es k c →
@@ -81,10 +82,10 @@ few n (a ∷ b ∷ []) l =
     none-marked (n + 1) (joint (a ∷ b ∷ [])) (joints (suc n) (b ∷ [])) (two-short (opens_data a) (closes_data b)) (few (suc n) (b ∷ []) (omega arith))
 few n (a ∷ b ∷ c ∷ es) l = absurd (omega arith)
 
-pub joints-end : (i : ℕ) (es : List Event) → 2 ≤ i → length es ≤ i → joints (i - 2) (drop (i - 2) es) ≡ []
-joints-end i es h l = few (i - 2) (drop (i - 2) es) (omega (arith, length-drop (i - 2) es))
+joints-end : (i : ℕ) (es : List Event) → length es ≤ i → joints (i - 2) (drop (i - 2) es) ≡ []
+joints-end i es l = few (i - 2) (drop (i - 2) es) (omega (arith, length-drop (i - 2) es))
 
-pub joints-next : (i : ℕ) (es : List Event) → 2 ≤ i → i < length es →
+joints-next : (i : ℕ) (es : List Event) → 2 ≤ i → i < length es →
     joints (i - 2) (drop (i - 2) es) ≡ marked (joint (drop (i - 2) es)) (i - 1) ++ joints (i + 1 - 2) (drop (i + 1 - 2) es)
 joints-next i es h l = next (drop (i - 2) es) (drop (i + 1 - 2) es) (i - 2) (i - 1) (i + 1 - 2) (omega arith) (omega arith) (omega (arith, length-drop (i - 2) es)) (rest-drop-next (i - 2) (i + 1 - 2) es (omega arith))
   where
@@ -96,7 +97,7 @@ joints-next i es h l = next (drop (i - 2) es) (drop (i + 1 - 2) es) (i - 2) (i -
     rest-drop-next : (n k : ℕ) (xs : List Event) → k ≡ n + 1 → drop k xs ≡ drop 1 (drop n xs)
     rest-drop-next n k xs e = let same : k ≡ suc n = omega (arith, e) in ap (λ m. drop m xs) same ∙ drop-more n xs
 
-pub marks-more : (i : ℕ) (es : List Event) (old new : List Edit) → 2 ≤ i → i < length es →
+marks-more : (i : ℕ) (es : List Event) (old new : List Edit) → 2 ≤ i → i < length es →
     new ≡ old ++ marked (joint (drop (i - 2) es)) (i - 1) → old ++ joints (i - 2) (drop (i - 2) es) ≡ joints 0 es →
     new ++ joints (i + 1 - 2) (drop (i + 1 - 2) es) ≡ joints 0 es
 marks-more i es old new h l e k =
@@ -104,9 +105,39 @@ marks-more i es old new h l e k =
     let more : List Edit = joints (i + 1 - 2) (drop (i + 1 - 2) es) in
     ap (λ x. x ++ more) e ∙ append_assoc old here more ∙ ap (λ x. old ++ x) (sym (joints-next i es h l)) ∙ k
 
-pub marks-end : (i : ℕ) (es : List Event) (log : List Edit) → 2 ≤ i → length es ≤ i →
+-- where no data begins from a place up to another, no joint ends there
+joints-pass : (d i k : ℕ) (es : List Event) → k ≡ i + d → k ≤ length es → BeginsNone es i k →
+    joints (i - 2) (drop (i - 2) es) ≡ joints (k - 2) (drop (k - 2) es)
+joints-pass zero i k es h l none =
+    let same : i ≡ k = omega (arith, h) in ap (λ n. joints (n - 2) (drop (n - 2) es)) same
+joints-pass (suc d) i k es h l none =
+    let rest : joints (i + 1 - 2) (drop (i + 1 - 2) es) ≡ joints (k - 2) (drop (k - 2) es) = joints-pass d (i + 1) k es (omega (arith, h)) l (λ j e low high. none j e (omega (arith, low)) high) in
+    elim (cases_lt i 2) [
+      | inl low ↦ let same : i - 2 ≡ i + 1 - 2 = omega (arith, low) in ap (λ n. joints n (drop n es)) same ∙ rest
+      | inr two ↦
+          let there : i < length es = omega (arith, h, l) in
+          let at = event-at i es there in
+          let no : false ≡ joint (drop (i - 2) es) = joint-none es (i - 2) i at.0 (omega (arith, two)) there at.1 (ap opens_data at.1 ∙ none i at.0 (omega arith) (omega (arith, h))) in
+          joints-next i es two there ∙ ap (λ b. marked b (i - 1) ++ joints (i + 1 - 2) (drop (i + 1 - 2) es)) (sym no) ∙ rest
+    ]
+
+pub marks-begin : (first k : ℕ) (es : List Event) (log : List Edit) → first ≤ 2 → first ≤ k → k ≤ length es → BeginsNone es first k →
+    log ≡ [] → log ++ joints (k - 2) (drop (k - 2) es) ≡ joints 0 es
+marks-begin first k es log few l h none e =
+    let zeroth : 0 ≡ first - 2 = omega (arith, few) in
+    ap (λ x. x ++ joints (k - 2) (drop (k - 2) es)) e
+    ∙ sym (joints-pass (k - first) first k es (omega (arith, l)) h none)
+    ∙ ap (λ n. joints n (drop n es)) (sym zeroth)
+
+pub marks-on : (i k : ℕ) (es : List Event) (old new : List Edit) → 2 ≤ i → i < length es → i + 1 ≤ k → k ≤ length es → BeginsNone es (i + 1) k →
+    new ≡ old ++ marked (joint (drop (i - 2) es)) (i - 1) → old ++ joints (i - 2) (drop (i - 2) es) ≡ joints 0 es →
+    new ++ joints (k - 2) (drop (k - 2) es) ≡ joints 0 es
+marks-on i k es old new two here l h none e all =
+    ap (λ x. new ++ x) (sym (joints-pass (k - (i + 1)) (i + 1) k es (omega (arith, l)) h none)) ∙ marks-more i es old new two here e all
+
+pub marks-end : (i : ℕ) (es : List Event) (log : List Edit) → length es ≤ i →
     log ++ joints (i - 2) (drop (i - 2) es) ≡ joints 0 es → log ≡ joints 0 es
-marks-end i es log h l k = sym (append-nil log) ∙ ap (λ x. log ++ x) (sym (joints-end i es h l)) ∙ k
+marks-end i es log l k = sym (append-nil log) ∙ ap (λ x. log ++ x) (sym (joints-end i es l)) ∙ k
 
 -- Which events go.
 

@@ -1,6 +1,9 @@
 -- the edits of data, one by one
-use Rattle.std.proofs.Common.{◌≡◌, ℕ, zero, suc, ◌+◌, ◌<◌, ◌≤◌, ◌==◌, ◌&&◌, not, Bool, true, false, List, [], ◌∷◌, ◌++◌, length, drop, get_or, refl, sym, ap, subst, ◌∙◌, arith, append_assoc, append-nil, inl, inr, if◌then◌else◌}
+use Rattle.std.proofs.Common.{◌≡◌, ℕ, zero, suc, ◌+◌, ◌-◌, ◌<◌, ◌≤◌, ◌==◌, ◌&&◌, not, Bool, true, false, List, [], ◌∷◌, ◌++◌, length, drop, get_or, refl, sym, ap, subst, ◌∙◌, arith, append_assoc, append-nil, inl, inr, if◌then◌else◌}
 use Rattle.std.proofs.lemmas.List.{drop_more, drop_all}
+use Rattle.std.proofs.Math.Bool.{and-false}
+use Rattle.markdown_engine_content.specs.ListFunctions.{rest_of}
+use Rattle.markdown_engine_content.proofs.PlaceRules.{drop-more}
 use Rattle.std.proofs.lemmas.Bool.{cases_lt, cases_Bool, eq-eqb, ne_eqb, both_ways}
 use Rattle.std.proofs.lemmas.List.Elements.{All-nil, All-cons}
 use Rattle.std.specs.List.{All}
@@ -11,6 +14,7 @@ use Rattle.markdown_engine_events.specs.declared.util.edit_map.Edit.{Edit}
 use Rattle.markdown_engine_events.proofs.EditRules.{stays-where, goes-where}
 use Rattle.markdown_partial.specs.MergedEvents.{is_enter, is_data, opens_data}
 use Rattle.markdown_partial.specs.TrimmedData.{trimmed_events}
+use Rattle.markdown_partial.proofs.DataSearch.{BeginsNone, event-at}
 use Rattle.markdown_partial.specs.TrimmedEvents.{closes_ending, flag, goes_before, trim, trim_first, trims, ClosesAt, FirstHasPlaces, HasPlaces, loses}
 
 -- At the first event.
@@ -65,16 +69,11 @@ flag-next k front [] e l h = absurd (omega (arith, l))
 flag-next zero front (x ∷ es) e l h = ap closes_ending (sym h)
 flag-next (suc k) front (x ∷ es) e l h = flag-next k (closes_ending x) es e (omega (arith, l)) h
 
-event-at : (k : ℕ) (es : List Event) → k < length es → (e : Event) × (e ≡ get_or es k e)
-event-at k [] l = absurd (omega (arith, l))
-event-at zero (x ∷ es) l = (x, refl)
-event-at (suc k) (x ∷ es) l = event-at k es (omega (arith, l))
-
 pub places-on : (bytes : List ℕ) (i : ℕ) (es : List Event) → i < length es → HasPlaces bytes (drop i es) →
     HasPlaces bytes (drop (i + 1) es)
 places-on bytes i es l p = let at = event-at i es l in places-more bytes i es at.0 l at.1 p
 
-pub trims-on : (bytes : List ℕ) (hard whole : Bool) (i : ℕ) (es : List Event) (old new all : List Edit) →
+trims-on : (bytes : List ℕ) (hard whole : Bool) (i : ℕ) (es : List Event) (old new all : List Edit) →
     i < length es → new ≡ old ++ trim_first bytes hard whole i (flag i whole es) (drop i es) →
     old ++ trims bytes hard whole i (flag i whole es) (drop i es) ≡ all →
     new ++ trims bytes hard whole (i + 1) (flag (i + 1) whole es) (drop (i + 1) es) ≡ all
@@ -82,6 +81,67 @@ trims-on bytes hard whole i es old new all l g k =
     let at = event-at i es l in
     let one : i + 1 ≡ suc i = omega arith in
     trims-more bytes hard whole i (flag i whole es) (flag (i + 1) whole es) es at.0 old new all l at.1 (ap (λ j. flag j whole es) one ∙ flag-next i whole es at.0 l at.1) g k
+
+-- Past events that begin no data.
+
+pub places-pass : (bytes : List ℕ) (d i k : ℕ) (es : List Event) → k ≡ i + d → k ≤ length es → HasPlaces bytes (drop i es) →
+    HasPlaces bytes (drop k es)
+places-pass bytes zero i k es h l p =
+    let same : i ≡ k = omega (arith, h) in subst (λ n. HasPlaces bytes (drop n es)) same p
+places-pass bytes (suc d) i k es h l p =
+    places-pass bytes d (i + 1) k es (omega (arith, h)) l (places-on bytes i es (omega (arith, h, l)) p)
+
+trim-other : (bytes : List ℕ) (hard whole : Bool) (n : ℕ) (front : Bool) (e : Event) (es : List Event) → opens_data e ≡ false →
+    trim_first bytes hard whole n front (e ∷ es) ≡ []
+trim-other bytes hard whole n front e [] h = refl
+trim-other bytes hard whole n front e (x ∷ es) h =
+    ap (λ b. if b && loses front (goes_before whole es) bytes e.point x.point then trim bytes hard whole n front e x es ∷ [] else []) h
+
+-- and where blank codes stay on both sides, no edit is made
+
+two-behind : (bytes : List ℕ) (hard whole : Bool) (n : ℕ) (front : Bool) (es : List Event) → front ≡ false →
+    goes_before whole (rest_of (rest_of es)) ≡ false → trim_first bytes hard whole n front es ≡ []
+two-behind bytes hard whole n front [] h k = refl
+two-behind bytes hard whole n front (e ∷ []) h k = refl
+two-behind bytes hard whole n front (e ∷ x ∷ es) h k =
+    let off : opens_data e && loses front (goes_before whole es) bytes e.point x.point ≡ false =
+    ap (λ f. opens_data e && loses f (goes_before whole es) bytes e.point x.point) h ∙ ap (λ g. opens_data e && loses false g bytes e.point x.point) k ∙ and-false (opens_data e) in
+    ap (λ b. if b then trim bytes hard whole n front e x es ∷ [] else []) off
+
+pub trim-none : (bytes : List ℕ) (hard whole : Bool) (n : ℕ) (front : Bool) (i : ℕ) (es : List Event) → front ≡ false →
+    goes_before whole (drop (i + 2) es) ≡ false → trim_first bytes hard whole n front (drop i es) ≡ []
+trim-none bytes hard whole n front i es h k =
+    let more : i + 2 ≡ suc (suc i) = omega arith in
+    let behind : drop (i + 2) es ≡ rest_of (rest_of (drop i es)) = ap (λ m. drop m es) more ∙ drop-more (suc i) es ∙ ap rest_of (drop-more i es) in
+    two-behind bytes hard whole n front (drop i es) h (ap (goes_before whole) (sym behind) ∙ k)
+
+trims-pass : (bytes : List ℕ) (hard whole : Bool) (d i k : ℕ) (es : List Event) → k ≡ i + d → k ≤ length es → BeginsNone es i k →
+    trims bytes hard whole i (flag i whole es) (drop i es) ≡ trims bytes hard whole k (flag k whole es) (drop k es)
+trims-pass bytes hard whole zero i k es h l none =
+    let same : i ≡ k = omega (arith, h) in ap (λ n. trims bytes hard whole n (flag n whole es) (drop n es)) same
+trims-pass bytes hard whole (suc d) i k es h l none =
+    let there : i < length es = omega (arith, h, l) in
+    let at = event-at i es there in
+    let first : trim_first bytes hard whole i (flag i whole es) (drop i es) ≡ [] = ap (trim_first bytes hard whole i (flag i whole es)) (head-drop i es at.0 there at.1) ∙ trim-other bytes hard whole i (flag i whole es) at.0 (drop (i + 1) es) (ap opens_data at.1 ∙ none i at.0 (omega arith) (omega (arith, h))) in
+    sym (trims-on bytes hard whole i es [] [] (trims bytes hard whole i (flag i whole es) (drop i es)) there (sym first) refl)
+    ∙ trims-pass bytes hard whole d (i + 1) k es (omega (arith, h)) l (λ j e low high. none j e (omega (arith, low)) high)
+
+pub trims-begin : (bytes : List ℕ) (hard whole : Bool) (k : ℕ) (es : List Event) (log : List Edit) → k ≤ length es → BeginsNone es 0 k → log ≡ [] →
+    log ++ trims bytes hard whole k (flag k whole es) (drop k es) ≡ trims bytes hard whole 0 whole es
+trims-begin bytes hard whole k es log l none e =
+    ap (λ x. x ++ trims bytes hard whole k (flag k whole es) (drop k es)) e ∙ sym (trims-pass bytes hard whole k 0 k es (omega arith) l none)
+
+pub trims-next : (bytes : List ℕ) (hard whole : Bool) (i k : ℕ) (es : List Event) (old new all : List Edit) →
+    i < length es → i + 1 ≤ k → k ≤ length es → BeginsNone es (i + 1) k → new ≡ old ++ trim_first bytes hard whole i (flag i whole es) (drop i es) →
+    old ++ trims bytes hard whole i (flag i whole es) (drop i es) ≡ all →
+    new ++ trims bytes hard whole k (flag k whole es) (drop k es) ≡ all
+trims-next bytes hard whole i k es old new all here l h none e a =
+    ap (λ x. new ++ x) (sym (trims-pass bytes hard whole (k - (i + 1)) (i + 1) k es (omega (arith, l)) h none)) ∙ trims-on bytes hard whole i es old new all here e a
+
+pub trims-end : (bytes : List ℕ) (hard whole : Bool) (i : ℕ) (es : List Event) (log all : List Edit) → length es ≤ i →
+    log ++ trims bytes hard whole i (flag i whole es) (drop i es) ≡ all → log ≡ all
+trims-end bytes hard whole i es log all l k =
+    sym (append-nil log) ∙ ap (λ ys. log ++ trims bytes hard whole i (flag i whole es) ys) (sym (drop_all i es l)) ∙ k
 
 -- What the edits collect at a place.
 

@@ -19,7 +19,7 @@
 // Each state answers the error where a growth is refused; then `failed` is true.
 #![tactic(auto, using(markdown_engine::proofs::OperationFields::op_rules))]
 
-ghost use Rattle.std.specs.Prelude.{◌≡◌, ◌-◌, ◌<◌, ◌≤◌, ◌++◌, IfOk, OnOk, OnErr, IsTrue, Some, None, [], drop, length};
+ghost use Rattle.std.specs.Prelude.{◌≡◌, ◌-◌, ◌<◌, ◌≤◌, ◌++◌, ℕ, IfOk, OnOk, OnErr, IsTrue, Some, None, [], drop, length, slice_index_or, true, false};
 ghost use Rattle.markdown_engine.specs.Operations.{IsOpen, current_of};
 ghost use Rattle.markdown_engine_content.specs.declared.event.Name.TheVariants.{Data};
 ghost use Rattle.markdown_engine_events.specs.Edits.{edited};
@@ -157,18 +157,29 @@ pub fn inside_stops(fields: &TokenizeState) -> Option<ByteSet>
 }
 
 /// Whether this is the Enter of data without a link. The name is looked at first, since most events have another.
+#[inline]
 pub fn opens_data(event: &Event) -> bool
     ensures { result ≡ opens_data event.now }
 {
-    matches!(
-        event,
-        Event {
-            name: Name::Data,
-            kind: Kind::Enter,
-            link: None,
-            ..
-        }
-    )
+    matches!(event.name, Name::Data) && matches!(event.kind, Kind::Enter) && event.link.is_none()
+}
+
+/// The number of the first Enter of data without a link from an event on, or how many events there are.
+///
+/// The work is that of the events between, each of which takes one look.
+pub fn next_data(events: &Events, from: usize) -> usize
+    requires { from ≤ length events.now }
+    ensures from { from ≤ result }
+    ensures within { result ≤ length events.now }
+    ensures none { (i : ℕ) (e : Event) → from ≤ i → i < result → opens_data (slice_index_or events.now i e) ≡ false }
+    ensures here { (e : Event) → result < length events.now → opens_data (slice_index_or events.now result e) ≡ true }
+{
+    let count = events.len();
+    let mut at = from;
+    while at < count && !opens_data(&events.bare_at(at)) {
+        at += 1;
+    }
+    at
 }
 
 // Whether this is the Exit of data.
@@ -218,8 +229,11 @@ fn mark_joints(events: &Events, map: &mut EditMap) -> Result<(), AllocError>
     requires { map.old ≡ [] }
     ensures { OnOk result (map.new ≡ joints 0 events.now) }
 {
-    for index in 2..events.len() {
+    let count = events.len();
+    let mut index = next_data(events, count.min(2));
+    while index < count {
         mark(events, map, index)?;
+        index = next_data(events, index + 1);
     }
     Ok(())
 }

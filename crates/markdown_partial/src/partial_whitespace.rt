@@ -30,7 +30,7 @@ ghost use Rattle.markdown_engine.specs.PastTree.{appended_from};
 ghost use Rattle.markdown_engine_content.specs.Tree.{Forest};
 ghost use Rattle.markdown_model.specs.Passes.{is_hard_break_trailing, blank_name, trimmed};
 
-use crate::partial_data::opens_data;
+use crate::partial_data::{next_data, opens_data};
 use markdown_engine::tokenizer::Tokenizer;
 use markdown_engine_content::event::{Event, Kind, Name, Point};
 use markdown_engine_content::walk::{code_from, past_code};
@@ -294,8 +294,11 @@ fn trim_first(
     let enter = events.bare_at(index);
     if opens_data(&enter) {
         let front = front_goes(events, index, trimming.whole);
-        let exit = events.bare_at(index + 1);
         let back = goes_before(events, index + 2, trimming.whole);
+        if !front && !back {
+            return Ok(());
+        }
+        let exit = events.bare_at(index + 1);
         if loses_blank(bytes, front, back, enter.point, exit.point) {
             let hard = trimming.hard_break && goes_before(events, index + 2, false);
             trimmed_data(room, bytes, front, back, hard, enter.point, exit.point)?;
@@ -319,8 +322,11 @@ fn trim_each(
     ensures { OnOk result (map.new ≡ trims bytes.now trimming.hard_break trimming.whole 0 trimming.whole events.now) }
 {
     let mut room = Vec::new(alloc);
-    for index in 0..events.len() {
+    let count = events.len();
+    let mut index = next_data(events, 0);
+    while index < count {
         trim_first(&mut room, bytes, events, map, index, trimming)?;
+        index = next_data(events, index + 1);
     }
     Ok(())
 }

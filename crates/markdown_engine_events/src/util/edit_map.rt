@@ -530,6 +530,22 @@ impl EditMap {
         Ok(done)
     }
 
+    // Applies all edits at once, as `consume` does where there is one. It is kept out of line, so that a pass without an edit costs no more than
+    // the look whether there is one.
+    #[inline(never)]
+    fn consume_some(&mut self, events: &mut Events) -> Result<(), AllocError>
+        requires { CanEdit self.old events.old }
+        ensures ok { OnOk result (events.new ≡ edited self.old events.old) }
+        ensures none { OnOk result (self.new ≡ []) }
+        ensures err { OnErr result (events.new ≡ events.old) }
+        ensures stays { OnErr result (self.new ≡ self.old) }
+    {
+        let done = self.applied(events)?;
+        *events = done;
+        self.truncate(0);
+        Ok(())
+    }
+
     /// Applies all edits at once, in order of place, each place counted in the list before any edit; then
     /// there is no edit.
     ///
@@ -538,6 +554,7 @@ impl EditMap {
     /// the events that they name. `Err` only if memory is refused; events and edits are then as they
     /// were. The work is that of the events before and after, of sorting the edits by place where they are
     /// not in that order, and, for an event on a chain, of the linked events since the one before it.
+    #[inline]
     pub fn consume(&mut self, events: &mut Events) -> Result<(), AllocError>
         requires { CanEdit self.old events.old }
         ensures ok { OnOk result (events.new ≡ edited self.old events.old) }
@@ -548,9 +565,6 @@ impl EditMap {
         if self.is_empty() {
             return Ok(());
         }
-        let done = self.applied(events)?;
-        *events = done;
-        self.truncate(0);
-        Ok(())
+        self.consume_some(events)
     }
 }

@@ -1,4 +1,4 @@
-use Rattle.markdown_engine_events.proofs.EventViewLemmas.{linked-within, linked-within-changed, view-linked, kept-linked}
+use Rattle.markdown_engine_events.proofs.EventViewLemmas.{filled-of, linked-within, linked-within-changed, noted-chain, view-linked, kept-linked}
 use Rattle.markdown_engine_events.proofs.events.Events.connect.Goals as goal
 
 pub set_next-requires : goal.set_next-requires
@@ -10,7 +10,7 @@ set_previous-requires c =
 
 pub invariant_of-self : goal.invariant_of-self
 invariant_of-self c =
-    kept-linked c.self.inside.items _ _ _ _ _ c.self.view_is c.self.invariant c.requires.order c.requires.from c.requires.to c.requires.first c.requires.last c.set_next.ensures c.set_previous.ensures
+    noted-chain _ (kept-linked c.self.inside.items _ _ _ _ _ c.self.view_is (filled-of _ _ c.self.invariant) c.requires.order c.requires.from c.requires.to c.requires.first c.requires.last c.set_next.ensures c.set_previous.ensures)
 
 pub returns : goal.returns
 returns c = view-linked c.self.inside.items _ _ _ _ _ c.self.view_is c.set_next.ensures c.set_previous.ensures

@@ -1,9 +1,9 @@
-use Rattle.markdown_engine_events.proofs.EventViewLemmas.{view-extended, kept-extended}
+use Rattle.markdown_engine_events.proofs.EventViewLemmas.{view-extended, noted-extended}
 use Rattle.markdown_engine_events.proofs.events.Events.extend_fresh.Goals as goal
 
 pub invariant_of-self-2 : goal.invariant_of-self-2
 invariant_of-self-2 c =
-    kept-extended c.self.inside.items c.args.items.now _ c.self.invariant c.requires c.in_ok-extend_from_slice.ensures.ok
+    noted-extended c.self.inside.chains c.self.inside.items c.args.items.now _ c.self.invariant c.requires c.in_ok-extend_from_slice.ensures.ok
 
 pub returns-clause-ok : goal.returns-clause-ok
 returns-clause-ok c =

@@ -1,7 +1,7 @@
 use Rattle.std.proofs.Common.{◌∙◌, sym, ap, length, arith, ◌<◌}
 use Rattle.std.proofs.lemmas.List.{length_push}
 use Rattle.markdown_engine_events.proofs.EventChainLemmas.{last-earlier}
-use Rattle.markdown_engine_events.proofs.EventViewLemmas.{kept-plain, view-named, kept-named, view-one, view-length}
+use Rattle.markdown_engine_events.proofs.EventViewLemmas.{filled-of, noted-chain, noted-plain, view-named, kept-named, view-one, view-length}
 use Rattle.markdown_engine_events.proofs.events.Events.push_linked.Goals as goal
 
 pub set_next-requires : goal.set_next-requires
@@ -11,11 +11,11 @@ set_next-requires c =
 
 pub invariant_of-self-in-Some : goal.invariant_of-self-in-Some
 invariant_of-self-in-Some c =
-    kept-named c.self.inside.items _ _ _ c.args.linked _ _ c.self.view_is c.self.invariant c.requires.bare (sym c.previous_of.ensures ∙ c.in-Some.is) c.requires.chains (c.len-number.ensures ∙ sym (view-length _ _ c.self.view_is)) c.in_ok-push.ensures.ok c.set_next.ensures
+    noted-chain _ (kept-named c.self.inside.items _ _ _ c.args.linked _ _ c.self.view_is (filled-of _ _ c.self.invariant) c.requires.bare (sym c.previous_of.ensures ∙ c.in-Some.is) c.requires.chains (c.len-number.ensures ∙ sym (view-length _ _ c.self.view_is)) c.in_ok-push.ensures.ok c.set_next.ensures)
 
 pub invariant_of-self-in_default : goal.invariant_of-self-in_default
 invariant_of-self-in_default c =
-    kept-plain c.self.inside.items _ _ c.args.linked c.self.view_is c.self.invariant c.requires.bare (sym c.previous_of.ensures ∙ c.in_default.is) c.requires.chains c.in_ok-push.ensures.ok
+    noted-plain c.self.inside.chains c.self.inside.items _ _ c.args.linked c.self.view_is c.self.invariant c.requires.bare (sym c.previous_of.ensures ∙ c.in_default.is) c.requires.chains c.in_ok-push.ensures.ok
 
 pub returns-in-Some-clause-ok : goal.returns-in-Some-clause-ok
 returns-in-Some-clause-ok c =

@@ -1,0 +1,28 @@
+-- A walk past events that begin no data.
+use Rattle.std.proofs.Common.{◌≡◌, ℕ, zero, suc, ◌+◌, ◌<◌, ◌≤◌, false, List, [], ◌∷◌, length, get_or, refl, sym, ap, ◌∙◌, arith, inl, inr}
+use Rattle.std.proofs.lemmas.Bool.{cases_lt}
+use Rattle.markdown_engine_content.specs.declared.event.Event.{Event}
+use Rattle.markdown_partial.specs.MergedEvents.{opens_data}
+
+pub event-at : (k : ℕ) (es : List Event) → k < length es → (e : Event) × (e ≡ get_or es k e)
+event-at k [] l = absurd (omega (arith, l))
+event-at zero (x ∷ es) l = (x, refl)
+event-at (suc k) (x ∷ es) l = event-at k es (omega (arith, l))
+
+pub event-same : (k : ℕ) (es : List Event) (e r : Event) → k < length es → r ≡ get_or es k r → get_or es k e ≡ r
+event-same k [] e r l h = absurd (omega (arith, l))
+event-same zero (x ∷ es) e r l h = sym h
+event-same (suc k) (x ∷ es) e r l h = event-same k es e r (omega (arith, l)) h
+
+-- no data begins from a place up to another
+abbrev pub BeginsNone : List Event → ℕ → ℕ → Type 0
+BeginsNone es i k = (j : ℕ) (e : Event) → i ≤ j → j < k → opens_data (get_or es j e) ≡ false
+
+-- one event more that begins none
+pub none-more : (es : List Event) (i k : ℕ) (r : Event) → k < length es → r ≡ get_or es k r → opens_data r ≡ false →
+    BeginsNone es i k → BeginsNone es i (k + 1)
+none-more es i k r l h o none j e low high =
+    elim (cases_lt j k) [
+      | inl b ↦ none j e low b
+      | inr a ↦ let same : j ≡ k = omega arith in ap (λ n. opens_data (get_or es n e)) same ∙ ap opens_data (event-same k es e r l h) ∙ o
+    ]
