@@ -4,15 +4,16 @@ use Rattle.markdown_engine_content.specs.Codes.{Code}
 use Rattle.markdown_engine.specs.FailedRun.{Grown}
 use Rattle.markdown_engine_content.specs.ListFunctions.{rest_of}
 use Rattle.markdown_engine.specs.Operations.{Op, Enter, Exit, Consume, IsOpen, ahead, applied, done, frame_of, moves, scratched, attempted}
-use Rattle.markdown_engine.specs.StateRuns.{stepped, restored}
+use Rattle.markdown_engine.specs.StateRuns.{stepped, restored, going_state, going_in, Goes}
 use Rattle.markdown_engine.specs.TreeOps.{consumes}
 use Rattle.markdown_engine.specs.Weights.{codes_left, weight_at}
 use Rattle.markdown_engine_content.specs.declared.event.Name.{Name}
-use Rattle.markdown_engine.specs.declared.state.State.TheVariants.{Next, Retry, Nok}
+use Rattle.markdown_engine.specs.declared.state.State.{State}
+use Rattle.markdown_engine.specs.declared.state.State.TheVariants.{Next, Nok}
 use Rattle.markdown_engine.specs.declared.tokenizer.TokenizeState.{TokenizeState}
 use Rattle.markdown_engine.specs.declared.tokenizer.Tokenizer.{Tokenizer}
 use Rattle.markdown_engine.proofs.ReadingSequences.{scratched-same}
-use Rattle.markdown_engine.proofs.LawSteps.{restored-grown}
+use Rattle.markdown_engine.proofs.LawSteps.{Grown-refl, restored-grown}
 use Rattle.markdown_engine.proofs.OperationFields.{attempts-applied, left-ahead, left-applied, stack-applied}
 use Rattle.markdown_engine.proofs.OperationLemmas.{Grown-done, ahead-done, scratch-done}
 use Rattle.markdown_engine.proofs.TreeEvents.{done-append}
@@ -20,7 +21,7 @@ use Rattle.markdown_model.specs.Grammar.{Reading}
 use Rattle.markdown_plan.specs.Plan.{Plan, preceded, DoesAs}
 use Rattle.markdown_leaf_gfm.specs.GfmAutolinkLiteral.{rested, entered_literal, pass_ops}
 use Rattle.markdown_leaf_gfm.proofs.GfmAutolinkLiteralCovers.{leaf_ops, ops-leaf}
-use Rattle.markdown_engine.specs.StateWords.{Words, GoesIn, StateWords, words_in}
+use Rattle.markdown_engine.specs.StateWords.{Words, GoesIn, StateWords, words_in, words_at, weight_in}
 use Rattle.markdown_plan.proofs.LawStepsOfLayer.{Goes-attempt, follows}
 use Rattle.markdown_engine.specs.declared.state.StateName.{StateName}
 
@@ -60,7 +61,27 @@ enter-same : (name : Name) (T : Tokenizer) → rested T.tokenize_state ≡ T.tok
 enter-same name T e =
     ap (λ (x : TokenizeState). scratched x (entered_literal name T)) (e ∙ sym (scratch-done (Enter name ∷ []) T)) ∙ scratched-same (entered_literal name T)
 
-module _ (W : Words) (name : Name) (st last : StateName) (reading : Reading (List Code)) (p : Plan) (T : Tokenizer) (resting : rested T.tokenize_state ≡ T.tokenize_state) (same : p (ahead T) ≡ leaf_ops name (reading (ahead T))) where
+-- No literal stands here: it is entered in vain.
+
+pub no-literal : (W : Words) (n : ℕ) (name : Name) (last : StateName) (p : Plan) (T : Tokenizer) → 0 < n → p (ahead T) ≡ None →
+    (ok : Bool) (V : Tokenizer) → (ok ≡ false) × (V ≡ entered_literal name T) →
+    Goes W.ready W.ends (weight_in W) n (DoesAs 0 p T.tokenize_state T) [] (going_state (frame_of false (Next last) Nok (entered_literal name T)) ok) (going_in (frame_of false (Next last) Nok (entered_literal name T)) ok V)
+unfolding frame_of
+no-literal W n name last p T some e true V x = cc
+no-literal W n name last p T some e false V x =
+    let A : Tokenizer = entered_literal name T in
+    let E : Bool → Tokenizer → Type 0 = DoesAs 0 p T.tokenize_state T in
+    let back : restored (frame_of false (Next last) Nok A) V ≡ A = ap (restored (frame_of false (Next last) Nok A)) x.1 ∙ restored-grown false (Next last) Nok A A (Grown-refl 0 A) ∙ scratched-same A in (
+      record { goes_on = tt; falls = some },
+      λ ok X z. subst (λ b. E b X) (sym z.0)
+          (record {
+            none = e;
+            grown = subst (λ (y : Tokenizer). Grown 0 T y) (sym (z.1 ∙ back)) (Grown-done 0 (Enter name ∷ []) T refl);
+            scratch = ap (λ (y : Tokenizer). y.tokenize_state) (z.1 ∙ back) ∙ scratch-done (Enter name ∷ []) T;
+          }),
+    )
+
+module _ (W : Words) (name : Name) (st : State) (last : StateName) (reading : Reading (List Code)) (p : Plan) (T : Tokenizer) (resting : rested T.tokenize_state ≡ T.tokenize_state) (same : p (ahead T) ≡ leaf_ops name (reading (ahead T))) where
   abbrev inside : Plan
   inside cs = pass_ops (reading cs)
 
@@ -113,17 +134,32 @@ module _ (W : Words) (name : Name) (st last : StateName) (reading : Reading (Lis
         scratch = ap (λ (x : Tokenizer). x.tokenize_state) e ∙ scratch-done (Enter name ∷ []) T;
       }
 
-  pub literal-law : (k : ℕ) {v w : StateWords} → words_in W st ≡ v → words_in W last ≡ w → T.attempts ≡ [] →
+  -- the attempt has ended
+  pub literal-ended : (n : ℕ) {w : StateWords} → words_in W last ≡ w → 0 < n → ((U : Tokenizer) → codes_left U ≤ codes_left T → weight_at (w.rank U) U < n) →
+      Begins (inside (ahead T)) → ((U : Tokenizer) → IsOpen name U → w.ready U) →
+      ((U : Tokenizer) (ok : Bool) (V : Tokenizer) → w.ends U ok V → (ok ≡ true) × (V ≡ done (Exit name ∷ []) U)) →
+      (b : Bool) (U : Tokenizer) → DoesAs 0 inside (rested T.tokenize_state) (entered_literal name T) b U →
+      Goes W.ready W.ends (weight_in W) n (DoesAs 0 p T.tokenize_state T) [] (going_state (frame_of false (Next last) Nok (entered_literal name T)) b) (going_in (frame_of false (Next last) Nok (entered_literal name T)) b U)
+  unfolding frame_of
+  literal-ended n {w} say_last some falls first last_ready last_end true U y =
+      let E : Bool → Tokenizer → Type 0 = DoesAs 0 p T.tokenize_state T in
+      let f = follows W n E (Next last) {w = w} say_last U (last_ready U (opens-still U y)) (falls U (left-literal U y)) (λ ok V z. (let e = last_end U ok V z in subst (λ b. E b V) (sym e.0) (passed-literal U V first y e.1))) in
+      (record { goes_on = f.goes_on; falls = f.falls }, f.closed)
+  literal-ended n {w} say_last some falls first last_ready last_end false U y =
+      let E : Bool → Tokenizer → Type 0 = DoesAs 0 p T.tokenize_state T in
+      (record { goes_on = tt; falls = some }, λ ok V z. subst (λ b. E b V) (sym z.0) (failed-literal U V y (z.1 ∙ back-literal U y)))
+
+  pub literal-law : (k : ℕ) {v w : StateWords} → words_at W st ≡ v → words_in W last ≡ w → T.attempts ≡ [] →
       v.rank (entered_literal name T) < k → ((U : Tokenizer) → w.rank U < k) → Begins (inside (ahead T)) → v.ready (entered_literal name T) →
       ((ok : Bool) (U : Tokenizer) → v.ends (entered_literal name T) ok U → DoesAs 0 inside (rested T.tokenize_state) (entered_literal name T) ok U) →
       ((U : Tokenizer) → IsOpen name U → w.ready U) →
       ((U : Tokenizer) (ok : Bool) (V : Tokenizer) → w.ends U ok V → (ok ≡ true) × (V ≡ done (Exit name ∷ []) U)) →
-      GoesIn W (weight_at k T) (DoesAs 0 p T.tokenize_state T) (stepped (Retry st) (attempted false (Next last) Nok (entered_literal name T)))
+      GoesIn W (weight_at k T) (DoesAs 0 p T.tokenize_state T) (stepped st (attempted false (Next last) Nok (entered_literal name T)))
   literal-law k {v} {w} say_first say_last alone less one some on closed last_ready last_end =
       let A : Tokenizer = entered_literal name T in
       let n : ℕ = weight_at k T in
       let E : Bool → Tokenizer → Type 0 = DoesAs 0 p T.tokenize_state T in
-      Goes-attempt W n E (Retry st) {w = v} say_first (Next last) Nok A (attempts-applied (Enter name) T ∙ alone) on
+      Goes-attempt W n E st {w = v} say_first (Next last) Nok A (attempts-applied (Enter name) T ∙ alone) on
       (omega (arith, less, left-applied (Enter name) T refl))
       (λ U now x. let y = closed true U x in
       follows W n E (Next last) {w = w} say_last U (last_ready U (opens-still U y)) (omega (arith, one U, left-literal U y))

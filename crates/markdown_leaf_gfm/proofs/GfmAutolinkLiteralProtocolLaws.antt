@@ -8,7 +8,7 @@ use Rattle.markdown_engine_content.specs.Place.{moved, code_before, last_of, val
 use Rattle.markdown_engine.specs.StateRuns.{Stepped}
 use Rattle.markdown_engine.specs.Weights.{weight_at}
 use Rattle.markdown_engine_content.specs.declared.event.Name.TheVariants as N
-use Rattle.markdown_engine.specs.declared.state.State.TheVariants.{Next}
+use Rattle.markdown_engine.specs.declared.state.State.TheVariants.{Next, Retry}
 use Rattle.markdown_engine.specs.declared.state.StateName.TheVariants.{GfmAutolinkLiteralProtocolAfter, GfmAutolinkLiteralProtocolPrefixInside, GfmAutolinkLiteralProtocolSlashesInside, GfmAutolinkLiteralDomainInside}
 use Rattle.markdown_engine.specs.declared.tokenizer.TokenizeState.{TokenizeState}
 use Rattle.markdown_engine.specs.declared.tokenizer.Tokenizer.{Tokenizer}
@@ -217,7 +217,7 @@ protocol_start-law W within T alone on =
     if-step P (may_begin T && begins_scheme c) _ _
     (λ h. let may : may_begin T ≡ true = and-left (may_begin T) (begins_scheme c) h in
     let first : begins_scheme b.code.value ≡ true = ap begins_scheme b.value ∙ and-right (may_begin T) (begins_scheme c) h in
-    literal-law W N.GfmAutolinkLiteralProtocol GfmAutolinkLiteralProtocolPrefixInside GfmAutolinkLiteralProtocolAfter reading p T on.resting
+    literal-law W N.GfmAutolinkLiteralProtocol (Retry GfmAutolinkLiteralProtocolPrefixInside) GfmAutolinkLiteralProtocolAfter reading p T on.resting
     (here-is T (ahead T) ∙ if-true (may_begin T) _ None may)
     2 (within GfmAutolinkLiteralProtocolPrefixInside) (within GfmAutolinkLiteralProtocolAfter) alone (omega arith) (λ U. omega arith)
     (subst Begins (ap (λ cs. pass_ops (reading cs)) (sym b.whole)) (first-passed T b.code more first))

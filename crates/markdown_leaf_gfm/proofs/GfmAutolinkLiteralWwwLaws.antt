@@ -2,49 +2,55 @@
 use Rattle.std.proofs.Common.{◌≡◌, ℕ, ◌+◌, ◌≤◌, ◌==◌, ◌&&◌, ◌||◌, not, Bool, true, false, if◌then◌else◌, Option, Some, None, List, [], ◌∷◌, ◌++◌, refl, sym, ap, subst, ◌∙◌, arith}
 use Rattle.std.proofs.lemmas.Bool.{eqb-true, and_right, and_from}
 use Rattle.std.proofs.lemmas.Bool.Decides.{nat_tests}
-use Rattle.std.specs.Prelude.{codes, reverse}
+use Rattle.std.specs.Prelude.{codes, reverse, is_some}
 use Rattle.std.specs.List.{list_any}
 use Rattle.markdown_engine_content.specs.Codes.{Code}
 use Rattle.markdown_engine.specs.FailedRun.{Grown}
 use Rattle.markdown_engine_content.specs.ListFunctions.{rest_of}
-use Rattle.markdown_engine.specs.Operations.{Op, Exit, Consume, ahead, applied, current_of, previous_of, done, frame_of, scratched}
+use Rattle.markdown_engine.specs.Operations.{Op, Enter, Exit, Consume, ahead, applied, current_of, previous_of, done, frame_of, scratched}
 use Rattle.markdown_engine_content.specs.Place.{ahead_at, code_before, last_of, value_of}
-use Rattle.markdown_engine.specs.StateRuns.{Stepped, restored}
+use Rattle.markdown_engine.specs.StateRuns.{Stepped, Goes, going_state, going_in, restored}
 use Rattle.markdown_engine.specs.TreeOps.{consumes}
-use Rattle.markdown_engine.specs.Weights.{weight_at}
+use Rattle.markdown_engine.specs.Weights.{codes_left, weight_at}
 use Rattle.markdown_engine_content.specs.declared.event.Name.TheVariants as N
+use Rattle.markdown_engine.specs.declared.state.State.{State}
 use Rattle.markdown_engine.specs.declared.state.State.TheVariants.{Next, Retry, Nok}
 use Rattle.markdown_engine.specs.declared.state.StateName.TheVariants.{GfmAutolinkLiteralDomainInside, GfmAutolinkLiteralWwwAfter, GfmAutolinkLiteralWwwPrefixAfter, GfmAutolinkLiteralWwwPrefixInside}
 use Rattle.markdown_engine.specs.declared.tokenizer.TokenizeState.{TokenizeState}
+use Rattle.markdown_engine.specs.declared.tokenizer.Attempt.{Attempt}
 use Rattle.markdown_engine.specs.declared.tokenizer.Tokenizer.{Tokenizer}
 use Rattle.markdown_engine.proofs.ReadingSequences.{scratched-same}
 use Rattle.markdown_engine.proofs.LawSteps.{if-step, code-step, Grown-refl, restored-grown}
-use Rattle.markdown_engine.proofs.OperationFields.{ahead-none, ahead-some, ahead-consumed, attempts-applied, attempts-scratched, left-consumed, left-scratched, scratch-scratched}
-use Rattle.markdown_engine.proofs.OperationLemmas.{Grown-applied, Grown-scratched}
+use Rattle.markdown_engine.proofs.OperationFields.{ahead-none, ahead-some, ahead-consumed, attempts-applied, attempts-scratched, left-applied, left-consumed, left-scratched, scratch-scratched}
+use Rattle.markdown_engine.proofs.OperationLemmas.{Grown-applied, Grown-scratched, ahead-done, scratch-done}
 use Rattle.markdown_model.specs.CodeTests.{is_empty, is_among}
 use Rattle.markdown_model.specs.GfmAutolinkLiteral.{domain, domain_from, path, path_from, last_parts_plain, may_precede_www, begins_with_www, www_from_here}
 use Rattle.markdown_plan.specs.Plan.{Plan, plan_of, DoesAs}
 use Rattle.markdown_plan.proofs.PlanSteps.{EndsAs-plan}
 use Rattle.markdown_plan.specs.Characters.{bytes_of}
-use Rattle.markdown_leaf_gfm.specs.GfmAutolinkLiteral.{end_of, before_of, is_on, rested, sized, refused, precedes_www, www_letter, may_begin_www, is_ruled_out, KnowsDomains, www_start_at, www_start_step, www_prefix_at, entered_literal, StartReady, LiteralReady, WwwReady, Tries, is_well}
-use Rattle.markdown_leaf_gfm.specs.GfmAutolinkLiteral.{fields_after, domain_plan, address, pass_ops, domain_ends, www_test, www_prefix_ends, www_after_ends, www_here, www_start_ends, states, www_after_words, www_prefix_after_words, www_prefix_words, www_start_words}
+use Rattle.markdown_leaf_gfm.specs.GfmAutolinkLiteral.{end_of, before_of, is_on, rested, sized, ended, unworded, precedes_www, www_letter, may_begin_www, is_ruled_out, KnowsDomains, www_start_at, www_start_step, www_prefix_at, entered_literal, StartReady, LiteralReady, WwwReady, Looks, Tries, is_well}
+use Rattle.markdown_leaf_gfm.specs.GfmAutolinkLiteral.{fields_after, domain_plan, address, pass_ops, domain_ends, www_test, www_prefix_ends, www_prefix_after_ends, www_after_ends, www_here, www_start_ends, states, www_after_words, www_prefix_after_words, www_prefix_words, www_start_words}
 use Rattle.markdown_leaf_gfm.proofs.GfmAutolinkLiteralReadings.{address-is, www-more, www-other, www-left}
 use Rattle.markdown_leaf_gfm.specs.DomainOutlook.{is_barred}
 use Rattle.markdown_leaf_gfm.proofs.DomainOutlookLemmas.{ruled-out}
 use Rattle.markdown_leaf_gfm.proofs.GfmAutolinkLiteralCovers.{leaf_ops, from-here-is, whole-www, www-is, www-none}
-use Rattle.markdown_leaf_gfm.proofs.GfmAutolinkLiteralAttempts.{Begins, literal-law}
-use Rattle.markdown_leaf_gfm.proofs.GfmAutolinkLiteralAddressLaws.{does-same, follows-here}
+use Rattle.markdown_leaf_gfm.proofs.GfmAutolinkLiteralAttempts.{Begins, literal-ended, no-literal}
+use Rattle.markdown_leaf_gfm.proofs.GfmAutolinkLiteralAddressLaws.{does-same}
+use Rattle.markdown_leaf_gfm.proofs.CheckSteps.{Goes-both, goes-then}
 use Rattle.markdown_model.proofs.GrammarSteps.{if-false, and-left, then-none}
-use Rattle.markdown_engine.specs.StateWords.{Words, Law, GoesIn}
-use Rattle.markdown_plan.proofs.LawStepsOfLayer.{GoesOn-map, Goes-plain, Goes-end, Goes-check, Goes-no}
+use Rattle.markdown_engine.specs.StateWords.{Words, Law, GoesIn, end_words, weight_in}
+use Rattle.markdown_plan.proofs.LawStepsOfLayer.{GoesOn-map, Goes-plain, Goes-end, Goes-no}
 use Rattle.markdown_plan.specs.LayerEquation.{Within}
 
 -- In the word.
 
+sized-same : (s : TokenizeState) → s.size ≡ 0 → sized 0 s ≡ s
+sized-same s e = subst (λ n. record s { size = n } ≡ s) e refl
+
 tries-here : (test : Bool) (T : Tokenizer) (ok : Bool) (U : Tokenizer) → ok ≡ test →
-    U ≡ scratched (rested T.tokenize_state) T → Tries test T ok U
+    U ≡ scratched (sized 0 T.tokenize_state) T → Tries test T ok U
 tries-here test T ok U e h =
-    let s : TokenizeState = rested T.tokenize_state in
+    let s : TokenizeState = sized 0 T.tokenize_state in
     record {
       answer = e;
       grown = subst (λ (x : Tokenizer). Grown 0 T x) (sym h) (Grown-scratched 0 s T (scratched s T) (Grown-refl 0 (scratched s T)));
@@ -57,7 +63,17 @@ tries-past n test then1 T ok U e k =
     record {
       answer = k.answer ∙ e;
       grown = Grown-applied 0 Consume T U refl (Grown-scratched 0 (sized n T.tokenize_state) (done (Consume ∷ []) T) U k.grown);
-      scratch = k.scratch ∙ ap (λ (x : TokenizeState). rested x) (scratch-scratched (sized n T.tokenize_state) (done (Consume ∷ []) T));
+      scratch = k.scratch ∙ ap (λ (x : TokenizeState). sized 0 x) (scratch-scratched (sized n T.tokenize_state) (done (Consume ∷ []) T));
+    }
+
+-- behind the last code of it
+tries-last : (test then1 : Bool) (T : Tokenizer) (ok : Bool) (U : Tokenizer) → then1 ≡ test →
+    Looks then1 (scratched (sized 0 T.tokenize_state) (done (Consume ∷ []) T)) ok U → Tries test T ok U
+tries-last test then1 T ok U e k =
+    record {
+      answer = k.answer ∙ e;
+      grown = Grown-applied 0 Consume T U refl (Grown-scratched 0 (sized 0 T.tokenize_state) (done (Consume ∷ []) T) U k.grown);
+      scratch = k.scratch ∙ scratch-scratched (sized 0 T.tokenize_state) (done (Consume ∷ []) T);
     }
 
 www-then : (n : ℕ) (T : Tokenizer) (ok : Bool) (U : Tokenizer) →
@@ -67,26 +83,25 @@ unfolding scratched
 www-then n T ok U k =
     subst (λ cs. Tries (www_test n cs) (scratched (sized n T.tokenize_state) (done (Consume ∷ []) T)) ok U) (ahead-consumed T) k
 
-few-letters : (n v : ℕ) → www_letter n v ≡ true → n ≤ 3
-few-letters n v e = grind (arith, nat_tests)
+last-then : (T : Tokenizer) (ok : Bool) (U : Tokenizer) →
+    www_prefix_after_ends (scratched (sized 0 T.tokenize_state) (done (Consume ∷ []) T)) ok U →
+    Looks (not (is_empty (rest_of (ahead T)))) (scratched (sized 0 T.tokenize_state) (done (Consume ∷ []) T)) ok U
+unfolding scratched
+last-then T ok U k =
+    subst (λ cs. Looks (not (is_empty cs)) (scratched (sized 0 T.tokenize_state) (done (Consume ∷ []) T)) ok U) (ahead-consumed T) k
 
-not-four : (n : ℕ) → n ≤ 4 → (n == 4) ≡ false → n ≤ 3
-not-four n h e = grind (arith, nat_tests)
+few-letters : (n v : ℕ) → www_letter n v ≡ true → (n == 3) ≡ false → n + 1 ≤ 3
+few-letters n v e h = grind (arith, nat_tests)
 
-www-ready : (n : ℕ) (T : Tokenizer) → n ≤ 4 → WwwReady (scratched (sized n T.tokenize_state) (done (Consume ∷ []) T))
+www-ready : (n : ℕ) (T : Tokenizer) → n ≤ 3 → WwwReady (scratched (sized n T.tokenize_state) (done (Consume ∷ []) T))
 unfolding scratched
 www-ready n T h = record { few = h }
 
--- the word does not end with the content
-www-end : (n : ℕ) (b : Bool) → n ≤ 4 → (n == 4) ≡ b → www_test n [] ≡ false
-www-end n true h e = ap (λ k. www_test k []) (eqb-true n 4 e) ∙ www-left []
-www-end n false h e = www-other n [] (not-four n h e) refl
-
 module _ (W : Words) (within : Within states W) where
   tries-ended : (T : Tokenizer) (test : Bool) → T.attempts ≡ [] → test ≡ false →
-      GoesIn W (weight_at 1 T) (Tries test T) (refused T)
+      GoesIn W (weight_at 1 T) (Tries test T) (unworded T)
   tries-ended T test alone e =
-      Goes-end W (weight_at 1 T) (Tries test T) false (scratched (rested T.tokenize_state) T) (attempts-scratched (rested T.tokenize_state) T ∙ alone) (omega arith) (λ ok U x. tries-here test T ok U (x.0 ∙ sym e) x.1)
+      Goes-end W (weight_at 1 T) (Tries test T) false (scratched (sized 0 T.tokenize_state) T) (attempts-scratched (sized 0 T.tokenize_state) T ∙ alone) (omega arith) (λ ok U x. tries-here test T ok U (x.0 ∙ sym e) x.1)
 
   pub www_prefix-law : Law W www_prefix_words
   www_prefix-law T alone on =
@@ -95,19 +110,40 @@ module _ (W : Words) (within : Within states W) where
       let n : ℕ = s.size in
       let test : Bool = www_test n (ahead T) in
       code-step P (current_of T) (λ o. www_prefix_at o T)
-      (λ e. tries-ended T test alone (ap (www_test n) (ahead-none T e) ∙ www-end n (n == 4) on.few refl))
+      (λ e. tries-ended T test alone (ap (www_test n) (ahead-none T e) ∙ www-other n [] on.few refl))
       (λ c e. let b = ahead-some T c e in
       let more : List Code = rest_of (ahead T) in
       if-step P (www_letter n c) _ _
-      (λ h. let V : Tokenizer = scratched (sized (n + 1) s) (done (Consume ∷ []) T) in
+      (λ h. let next : www_test n (ahead T) ≡ www_test (n + 1) more = ap (www_test n) b.whole ∙ www-more n b.code more (ap (www_letter n) b.value ∙ h) in
+      if-step P (n == 3) _ _
+      (λ f. let V : Tokenizer = scratched (sized 0 s) (done (Consume ∷ []) T) in
+      Goes-plain W (weight_at 1 T) (www_prefix_ends T) (Next GfmAutolinkLiteralWwwPrefixAfter) (within GfmAutolinkLiteralWwwPrefixAfter) V (attempts-scratched (sized 0 s) (done (Consume ∷ []) T) ∙ attempts-applied Consume T ∙ alone)
+      tt
+      (omega (arith, left-scratched (sized 0 s) (done (Consume ∷ []) T), left-consumed T c e))
+      (λ ok U x. tries-last test _ T ok U (sym (next ∙ ap (λ k. www_test (k + 1) more) (eqb-true n 3 f) ∙ www-left more)) (last-then T ok U x)))
+      (λ f. let V : Tokenizer = scratched (sized (n + 1) s) (done (Consume ∷ []) T) in
       Goes-plain W (weight_at 1 T) (www_prefix_ends T) (Next GfmAutolinkLiteralWwwPrefixInside) (within GfmAutolinkLiteralWwwPrefixInside) V (attempts-scratched (sized (n + 1) s) (done (Consume ∷ []) T) ∙ attempts-applied Consume T ∙ alone)
-      (www-ready (n + 1) T (omega (arith, few-letters n c h)))
+      (www-ready (n + 1) T (few-letters n c h f))
       (omega (arith, left-scratched (sized (n + 1) s) (done (Consume ∷ []) T), left-consumed T c e))
-      (λ ok U x. tries-past (n + 1) test _ T ok U (sym (ap (www_test n) b.whole ∙ www-more n b.code more (ap (www_letter n) b.value ∙ h))) (www-then (n + 1) T ok U x)))
-      (λ h. if-step P (n == 4) _ _
-      (λ f. Goes-end W (weight_at 1 T) (www_prefix_ends T) true (scratched (rested s) T) (attempts-scratched (rested s) T ∙ alone) (omega arith)
-      (λ ok U x. tries-here test T ok U (x.0 ∙ sym (ap (λ k. www_test k (ahead T)) (eqb-true n 4 f) ∙ www-left (ahead T) ∙ ap (λ cs. not (is_empty cs)) b.whole)) x.1))
-      (λ f. tries-ended T test alone (ap (www_test n) b.whole ∙ www-other n (b.code ∷ more) (not-four n on.few f) (ap (www_letter n) b.value ∙ h)))))
+      (λ ok U x. tries-past (n + 1) test _ T ok U (sym next) (www-then (n + 1) T ok U x))))
+      (λ h. tries-ended T test alone (ap (www_test n) b.whole ∙ www-other n (b.code ∷ more) on.few (ap (www_letter n) b.value ∙ h))))
+
+  -- Behind it.
+
+  code-there : (T : Tokenizer) (o : Option ℕ) → current_of T ≡ o → is_some o ≡ not (is_empty (ahead T))
+  code-there T None e = sym (ap (λ cs. not (is_empty cs)) (ahead-none T e))
+  code-there T (Some c) e = sym (ap (λ cs. not (is_empty cs)) (ahead-some T c e).whole)
+
+  looks-here : (test : Bool) (T : Tokenizer) → T.attempts ≡ [] → (b : Bool) → b ≡ test →
+      GoesIn W (weight_at 1 T) (Looks test T) (ended b T)
+  looks-here test T alone true e =
+      Goes-end W (weight_at 1 T) (Looks test T) true T alone (omega arith) (λ ok U x. record { answer = x.0 ∙ e; grown = subst (λ (y : Tokenizer). Grown 0 T y) (sym x.1) (Grown-refl 0 T); scratch = ap (λ (y : Tokenizer). y.tokenize_state) x.1 })
+  looks-here test T alone false e =
+      Goes-end W (weight_at 1 T) (Looks test T) false T alone (omega arith) (λ ok U x. record { answer = x.0 ∙ e; grown = subst (λ (y : Tokenizer). Grown 0 T y) (sym x.1) (Grown-refl 0 T); scratch = ap (λ (y : Tokenizer). y.tokenize_state) x.1 })
+
+  pub www_prefix_after-law : Law W www_prefix_after_words
+  www_prefix_after-law T alone on =
+      looks-here (not (is_empty (ahead T))) T alone (is_some (current_of T)) (code-there T (current_of T) refl)
 
   -- The address.
 
@@ -142,16 +178,6 @@ module _ (W : Words) (within : Within states W) where
       let A : Tokenizer = entered_literal N.GfmAutolinkLiteralWww T in
       does-same (λ cs. pass_ops (address (bytes_of T) (end_of T) cs)) (domain_plan (bytes_of T) (end_of T) T.tokenize_state) (rested T.tokenize_state) A ok U (address-is (bytes_of T) (end_of T) T.tokenize_state (ahead A) e) k
 
-  pub www_prefix_after-law : Law W www_prefix_after_words
-  www_prefix_after-law T alone on =
-      literal-law W N.GfmAutolinkLiteralWww GfmAutolinkLiteralDomainInside GfmAutolinkLiteralWwwAfter (address (bytes_of T) (end_of T)) (plan_of (www_from_here (bytes_of T) (end_of T))) T on.resting
-      (from-here-is (bytes_of T) (end_of T) (ahead T))
-      6 (within GfmAutolinkLiteralDomainInside) (within GfmAutolinkLiteralWwwAfter) alone (omega arith) (λ U. omega arith)
-      (begins-address (bytes_of T) (end_of T) T.tokenize_state (ahead T) on.resting)
-      (address-ready T on)
-      (λ ok U k. address-entered T on.resting ok U k)
-      (λ U x. x) (λ U ok V x. x)
-
   -- The start.
 
   before-www : (T : Tokenizer) → precedes_www (previous_of T) ≡ may_precede_www (before_of T)
@@ -163,16 +189,10 @@ module _ (W : Words) (within : Within states W) where
       by_code (Some c) = refl
 
   -- the word is looked at, and all is as before
-  back-here : (T U : Tokenizer) (test ok : Bool) → rested T.tokenize_state ≡ T.tokenize_state → Tries test T ok U →
-      restored (frame_of true (Next GfmAutolinkLiteralWwwPrefixAfter) Nok T) U ≡ T
-  back-here T U test ok e k =
-      restored-grown true (Next GfmAutolinkLiteralWwwPrefixAfter) Nok T U k.grown ∙ ap (λ (x : TokenizeState). scratched x T) (k.scratch ∙ e) ∙ scratched-same T
-
-  no-fall : (T : Tokenizer) (p : Plan) → p (ahead T) ≡ None → (ok : Bool) (V : Tokenizer) → (ok ≡ false) × (V ≡ T) →
-      DoesAs 0 p T.tokenize_state T ok V
-  no-fall T p e ok V x =
-      subst (λ b. DoesAs 0 p T.tokenize_state T b V) (sym x.0)
-      (record { none = e; grown = subst (λ (y : Tokenizer). Grown 0 T y) (sym x.1) (Grown-refl 0 T); scratch = ap (λ (y : Tokenizer). y.tokenize_state) x.1 })
+  back-here : (A U : Tokenizer) (test ok : Bool) → A.tokenize_state.size ≡ 0 → Tries test A ok U →
+      restored (frame_of true (Next GfmAutolinkLiteralDomainInside) Nok A) U ≡ A
+  back-here A U test ok e k =
+      restored-grown true (Next GfmAutolinkLiteralDomainInside) Nok A U k.grown ∙ ap (λ (x : TokenizeState). scratched x A) (k.scratch ∙ sized-same A.tokenize_state e) ∙ scratched-same A
 
   and-three : (a m w : Bool) → a && (m && w) ≡ (a && m) && w
   and-three true m w = refl
@@ -244,35 +264,83 @@ module _ (W : Words) (within : Within states W) where
   no-word true b w e h = h e
   no-word false b w e h = refl
 
+  -- the word has been looked at, behind the Enter of the literal
+  word-tried : (T : Tokenizer) → StartReady T → may_begin_www T ≡ true → (b : Bool) (U : Tokenizer) →
+      www_prefix_ends (entered_literal N.GfmAutolinkLiteralWww T) b U →
+      Goes W.ready W.ends (weight_in W) (weight_at 7 T) (DoesAs 0 (plan_of (www_here T)) T.tokenize_state T) (frame_of false (Next GfmAutolinkLiteralWwwAfter) Nok (entered_literal N.GfmAutolinkLiteralWww T) ∷ []) (going_state (frame_of true (Next GfmAutolinkLiteralDomainInside) Nok (entered_literal N.GfmAutolinkLiteralWww T)) b) (going_in (frame_of true (Next GfmAutolinkLiteralDomainInside) Nok (entered_literal N.GfmAutolinkLiteralWww T)) b U)
+  unfolding frame_of
+  word-tried T on may b U x = by_answer b x
+    where
+      A : Tokenizer
+      A = entered_literal N.GfmAutolinkLiteralWww T
+
+      p : Plan
+      p = plan_of (www_here T)
+
+      n : ℕ
+      n = weight_at 7 T
+
+      scratch : A.tokenize_state ≡ T.tokenize_state
+      scratch = scratch-done (Enter N.GfmAutolinkLiteralWww ∷ []) T
+
+      size : A.tokenize_state.size ≡ 0
+      size = ap (λ (s : TokenizeState). s.size) (scratch ∙ sym on.resting)
+
+      test-same : www_test A.tokenize_state.size (ahead A) ≡ www_test 0 (ahead T)
+      test-same = ap (λ m. www_test m (ahead A)) size ∙ ap (www_test 0) (ahead-done (Enter N.GfmAutolinkLiteralWww ∷ []) T)
+
+      left : codes_left A ≤ codes_left T
+      left = omega (arith, left-applied (Enter N.GfmAutolinkLiteralWww) T refl)
+
+      G : List Attempt → State → Tokenizer → Type 0
+      G = Goes W.ready W.ends (weight_in W) n (DoesAs 0 p T.tokenize_state T)
+
+      outer : Attempt
+      outer = frame_of false (Next GfmAutolinkLiteralWwwAfter) Nok A
+
+      here : (ok : Bool) → Tries (www_test A.tokenize_state.size (ahead A)) A ok U →
+          restored (frame_of true (Next GfmAutolinkLiteralDomainInside) Nok A) U ≡ A
+      here ok k = back-here A U (www_test A.tokenize_state.size (ahead A)) ok size k
+
+      on-address : www_test 0 (ahead T) ≡ true → G (outer ∷ []) (Next GfmAutolinkLiteralDomainInside) A
+      on-address seen =
+          goes-then W n (DoesAs 0 p T.tokenize_state T) outer [] (Next GfmAutolinkLiteralDomainInside) (within GfmAutolinkLiteralDomainInside) A (address-ready T on) (omega (arith, left))
+          (λ ok V now y. literal-ended W N.GfmAutolinkLiteralWww (Next GfmAutolinkLiteralDomainInside) GfmAutolinkLiteralWwwAfter (address (bytes_of T) (end_of T)) p T on.resting
+          (www-stands T (ahead T) (and_from (may_begin_www T) (www_test 0 (ahead T)) may seen) ∙ from-here-is (bytes_of T) (end_of T) (ahead T))
+          n (within GfmAutolinkLiteralWwwAfter) (omega arith) (λ X less. omega (arith, less))
+          (begins-address (bytes_of T) (end_of T) T.tokenize_state (ahead T) on.resting)
+          (λ X z. z) (λ X k Y z. z) ok V (address-entered T on.resting ok V y))
+
+      given-up : www_test 0 (ahead T) ≡ false → G (outer ∷ []) Nok A
+      given-up seen =
+          goes-then W n (DoesAs 0 p T.tokenize_state T) outer [] Nok {w = end_words false} refl A tt (omega (arith, left))
+          (λ ok V now y. no-literal W n N.GfmAutolinkLiteralWww GfmAutolinkLiteralWwwAfter p T (omega arith) (www-fails T (ahead T) on.knows refl (and_right (may_begin_www T) (www_test 0 (ahead T)) seen)) ok V y)
+
+      by_answer : (b : Bool) → Tries (www_test A.tokenize_state.size (ahead A)) A b U →
+          G (outer ∷ []) (going_state (frame_of true (Next GfmAutolinkLiteralDomainInside) Nok A) b) (going_in (frame_of true (Next GfmAutolinkLiteralDomainInside) Nok A) b U)
+      by_answer true k =
+          subst (λ (X : Tokenizer). G (outer ∷ []) (Next GfmAutolinkLiteralDomainInside) X) (sym (here true k)) (on-address (sym test-same ∙ sym k.answer))
+      by_answer false k =
+          subst (λ (X : Tokenizer). G (outer ∷ []) Nok X) (sym (here false k)) (given-up (sym test-same ∙ sym k.answer))
+
   pub www_start-law : Law W www_start_words
   www_start-law T alone on =
       let s : TokenizeState = T.tokenize_state in
       let p : Plan = plan_of (www_here T) in
-      let q : Plan = plan_of (www_from_here (bytes_of T) (end_of T)) in
       let n : ℕ = weight_at 7 T in
       let F : Bool → Tokenizer → Type 0 = DoesAs 0 p s T in
       let P : Stepped → Type 0 = GoesIn W n F in
-      let size : s.size ≡ 0 = ap (λ (x : TokenizeState). x.size) (sym on.resting) in
+      let A : Tokenizer = entered_literal N.GfmAutolinkLiteralWww T in
+      let size : A.tokenize_state.size ≡ 0 = ap (λ (x : TokenizeState). x.size) (scratch-done (Enter N.GfmAutolinkLiteralWww ∷ []) T ∙ sym on.resting) in
       GoesOn-map W n F (www_start_ends T) (www_start_step T) (λ ok U k. EndsAs-plan (www_here T) (whole-www (bytes_of T) (end_of T) (is_on T) (before_of T)) s T ok U k)
       (code-step P (current_of T) (λ o. www_start_at (may_begin_www T) o T)
       (λ e. Goes-no W 7 0 p T alone (ap p (ahead-none T e) ∙ www-fails T [] on.knows (ahead-none T e) (and_right (may_begin_www T) (www_test 0 []) (www-other 0 [] (omega arith) refl))))
       (λ c e. let b = ahead-some T c e in
       let more : List Code = rest_of (ahead T) in
       if-step P (may_begin_www T && (c == 119 || c == 87)) _ _
-      (λ h. let may : may_begin_www T ≡ true = and-left (may_begin_www T) (c == 119 || c == 87) h in
-      Goes-check W n F (Retry GfmAutolinkLiteralWwwPrefixInside) (within GfmAutolinkLiteralWwwPrefixInside) (Next GfmAutolinkLiteralWwwPrefixAfter) Nok T alone (record { few = omega (arith, size) })
-      (omega arith)
-      (λ U now x. let k = x in
-      let seen : www_test 0 (ahead T) ≡ true = ap (λ m. www_test m (ahead T)) (sym size) ∙ sym k.answer in
-      follows-here W 7 p q s T _ GfmAutolinkLiteralWwwPrefixAfter (within GfmAutolinkLiteralWwwPrefixAfter) (back-here T U _ true on.resting k) (omega arith) (www-stands T (ahead T) (and_from (may_begin_www T) (www_test 0 (ahead T)) may seen))
-      on (λ ok U x. x))
-      (λ U now x. let k = x in
-      let seen : www_test 0 (ahead T) ≡ false = ap (λ m. www_test m (ahead T)) (sym size) ∙ sym k.answer in
-      record {
-        goes_on = tt;
-        falls = omega arith;
-        closed = λ ok V z. no-fall T p (www-fails T (ahead T) on.knows refl (and_right (may_begin_www T) (www_test 0 (ahead T)) seen)) ok V (z.0, z.1 ∙ back-here T U _ false on.resting k);
-      }))
+      (λ h. Goes-both W n F (Retry GfmAutolinkLiteralWwwPrefixInside) (within GfmAutolinkLiteralWwwPrefixInside) true false (Next GfmAutolinkLiteralDomainInside) Nok (Next GfmAutolinkLiteralWwwAfter) Nok A (attempts-applied (Enter N.GfmAutolinkLiteralWww) T ∙ alone) (record { few = omega (arith, size) })
+      (omega (arith, left-applied (Enter N.GfmAutolinkLiteralWww) T refl))
+      (λ k U now x. word-tried T on (and-left (may_begin_www T) (c == 119 || c == 87) h) k U x))
       (λ h. Goes-no W 7 0 p T alone
       (ap p b.whole ∙ www-fails T (b.code ∷ more) on.knows b.whole (no-word (may_begin_www T) (c == 119 || c == 87) (www_test 0 (b.code ∷ more)) h (λ f. www-other 0 (b.code ∷ more) (omega arith) (ap (λ v. v == 119 || v == 87) b.value ∙ f)))))))
 

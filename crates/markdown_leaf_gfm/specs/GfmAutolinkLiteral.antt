@@ -1,5 +1,5 @@
 -- What the states of autolink literals do, and how runs from them end.
-use Rattle.std.specs.Prelude.{◌≡◌, ◌<◌, ◌≤◌, ◌+◌, ℕ, zero, suc, Bool, true, false, ◌&&◌, ◌||◌, not, ◌-◌, ◌==◌, nat_lt, if◌then◌else◌, Option, Some, None, List, [], ◌∷◌, ◌++◌, drop, length, codes, IsUtf8}
+use Rattle.std.specs.Prelude.{◌≡◌, ◌<◌, ◌≤◌, ◌+◌, ℕ, zero, suc, Bool, true, false, ◌&&◌, ◌||◌, not, ◌-◌, ◌==◌, nat_lt, if◌then◌else◌, Option, Some, None, is_some, List, [], ◌∷◌, ◌++◌, drop, length, codes, IsUtf8}
 use Rattle.std.specs.Str.{IsCharBoundary, byte}
 use Rattle.std.specs.List.{list_any, slice_index}
 use Rattle.markdown_engine_content.specs.Codes.{Code}
@@ -12,13 +12,13 @@ use Rattle.markdown_engine.specs.TreeOps.{consumes}
 use Rattle.markdown_engine.specs.Weights.{codes_left}
 use Rattle.markdown_model.specs.CodeTests.{is_empty, next_is, is_whitespace_code, is_among, is_between}
 use Rattle.markdown_model.specs.Grammar.{Reading, ◌then_◌}
-use Rattle.markdown_model.specs.GfmAutolinkLiteral.{schemes, first_letters, letters, one_word_of, is_other, is_space, trails_in, domain, domain_from, path, path_from, count_if, www_from_here}
+use Rattle.markdown_model.specs.GfmAutolinkLiteral.{schemes, first_letters, letters, one_word_of, is_other, is_space, trails_in, domain, domain_from, path, path_from, count_if}
 use Rattle.markdown_model.specs.SingleConstructs as SingleConstructs
 use Rattle.markdown_util.specs.Neighbours.{class_of, after_index}
 use Rattle.markdown_util.specs.declared.util.char.Kind.{Kind}
 use Rattle.markdown_plan.specs.ByteTests.{letter_value, among_values}
 use Rattle.markdown_plan.specs.Characters.{bytes_of, later_value, at_later, ReadsText}
-use Rattle.markdown_plan.specs.Plan.{Plan, preceded, plan_of, DoesAs, KeepsAs}
+use Rattle.markdown_plan.specs.Plan.{Plan, preceded, DoesAs}
 use Rattle.markdown_partial.specs.PartialSpaceOrTab.{most}
 use Rattle.markdown_leaf_gfm.specs.DomainOutlook.{rules_out, IsRightFor}
 use Rattle.markdown_engine_content.specs.declared.event.Name.{Name}
@@ -352,30 +352,37 @@ is_ruled_out T = rules_out T.tokenize_state.no_domains T.cursor.at
 abbrev pub may_begin_www : Tokenizer → Bool
 may_begin_www T = (is_on T && precedes_www (previous_of T)) && not (is_ruled_out T)
 
+-- the literal is entered, and the word is looked at
+abbrev pub www_opened : Tokenizer → Tokenizer
+www_opened T =
+    attempted true (Next GfmAutolinkLiteralDomainInside) Nok (attempted false (Next GfmAutolinkLiteralWwwAfter) Nok (entered_literal N.GfmAutolinkLiteralWww T))
+
 abbrev pub www_start_at : Bool → Option ℕ → Tokenizer → Stepped
 www_start_at may None T = stepped Nok T
 www_start_at may (Some c) T =
-    if may && (c == byte "w" || c == byte "W")
-    then stepped (Retry GfmAutolinkLiteralWwwPrefixInside) (attempted true (Next GfmAutolinkLiteralWwwPrefixAfter) Nok T)
-    else stepped Nok T
+    if may && (c == byte "w" || c == byte "W") then stepped (Retry GfmAutolinkLiteralWwwPrefixInside) (www_opened T) else stepped Nok T
 
 abbrev pub www_start_step : Tokenizer → Stepped
 www_start_step T = www_start_at (may_begin_www T) (current_of T) T
 
+abbrev pub unworded : Tokenizer → Stepped
+unworded T = stepped Nok (scratched (sized 0 T.tokenize_state) T)
+
 abbrev pub www_prefix_at : Option ℕ → Tokenizer → Stepped
-www_prefix_at None T = refused T
+www_prefix_at None T = unworded T
 www_prefix_at (Some c) T =
     let s = T.tokenize_state in
     if www_letter s.size c
-    then stepped (Next GfmAutolinkLiteralWwwPrefixInside) (scratched (sized (s.size + 1) s) (done (Consume ∷ []) T))
-    else (if s.size == 4 then stepped State.Ok (scratched (rested s) T) else refused T)
+    then (if s.size == 3
+    then stepped (Next GfmAutolinkLiteralWwwPrefixAfter) (scratched (sized 0 s) (done (Consume ∷ []) T))
+    else stepped (Next GfmAutolinkLiteralWwwPrefixInside) (scratched (sized (s.size + 1) s) (done (Consume ∷ []) T)))
+    else unworded T
 
 abbrev pub www_prefix_step : Tokenizer → Stepped
 www_prefix_step T = www_prefix_at (current_of T) T
 
 abbrev pub www_prefix_after_step : Tokenizer → Stepped
-www_prefix_after_step T =
-    stepped (Retry GfmAutolinkLiteralDomainInside) (attempted false (Next GfmAutolinkLiteralWwwAfter) Nok (entered_literal N.GfmAutolinkLiteralWww T))
+www_prefix_after_step T = ended (is_some (current_of T)) T
 
 abbrev pub www_after_step : Tokenizer → Stepped
 www_after_step T = stepped State.Ok (done (Exit N.GfmAutolinkLiteralWww ∷ []) T)
@@ -573,22 +580,22 @@ path_after_ends T ok U = DoesAs 0 nothing_more (rested T.tokenize_state) T ok U
 abbrev pub www_test : ℕ → List Code → Bool
 www_test n cs = elim (letters (drop n (codes "www.")) cs) [ None ↦ false | Some r ↦ not (is_empty r.1) ]
 
--- a run that only looks, and puts the fields to rest
+-- a run that only looks, and puts the count to rest
 pub record Tries (test : Bool) (T : Tokenizer) (ok : Bool) (U : Tokenizer) : Type 0 where
   pub answer : ok ≡ test
   pub grown : Grown 0 T U
-  pub scratch : U.tokenize_state ≡ rested T.tokenize_state
+  pub scratch : U.tokenize_state ≡ sized 0 T.tokenize_state
 
 -- in `www.`
 pub record WwwReady (T : Tokenizer) : Type 0 where
-  pub few : T.tokenize_state.size ≤ 4
+  pub few : T.tokenize_state.size ≤ 3
 
 abbrev pub www_prefix_ends : Tokenizer → Bool → Tokenizer → Type 0
 www_prefix_ends T ok U = Tries (www_test T.tokenize_state.size (ahead T)) T ok U
 
--- a domain and a path
+-- a code stands behind it
 abbrev pub www_prefix_after_ends : Tokenizer → Bool → Tokenizer → Type 0
-www_prefix_after_ends T ok U = KeepsAs 0 (plan_of (www_from_here (bytes_of T) (end_of T))) T ok U
+www_prefix_after_ends T ok U = Looks (not (is_empty (ahead T))) T ok U
 
 abbrev pub www_after_ends : Tokenizer → Bool → Tokenizer → Type 0
 www_after_ends T ok U = (ok ≡ true) × (U ≡ done (Exit N.GfmAutolinkLiteralWww ∷ []) T)
@@ -621,7 +628,7 @@ abbrev pub www_prefix_words : StateWords
 www_prefix_words = record { ready = WwwReady; step = www_prefix_step; ends = www_prefix_ends; rank = λ T. 1 }
 
 abbrev pub www_prefix_after_words : StateWords
-www_prefix_after_words = record { ready = StartReady; step = www_prefix_after_step; ends = www_prefix_after_ends; rank = λ T. 6 }
+www_prefix_after_words = record { ready = λ T. Unit {0}; step = www_prefix_after_step; ends = www_prefix_after_ends; rank = λ T. 1 }
 
 abbrev pub www_after_words : StateWords
 www_after_words = record { ready = IsOpen N.GfmAutolinkLiteralWww; step = www_after_step; ends = www_after_ends; rank = λ T. 1 }

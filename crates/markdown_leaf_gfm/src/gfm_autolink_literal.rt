@@ -352,8 +352,13 @@ pub fn www_start(tokenizer: &mut Tokenizer) -> Result<State, AllocError>
         && !is_ruled_out(tokenizer)
         && matches!(tokenizer.current(), Some(b'w' | b'W'))
     {
+        tokenizer.enter(Name::GfmAutolinkLiteralWww)?;
+        tokenizer.attempt(
+            State::Next(StateName::GfmAutolinkLiteralWwwAfter),
+            State::Nok,
+        )?;
         tokenizer.check(
-            State::Next(StateName::GfmAutolinkLiteralWwwPrefixAfter),
+            State::Next(StateName::GfmAutolinkLiteralDomainInside),
             State::Nok,
         )?;
         Ok(State::Retry(StateName::GfmAutolinkLiteralWwwPrefixInside))
@@ -362,10 +367,10 @@ pub fn www_start(tokenizer: &mut Tokenizer) -> Result<State, AllocError>
     }
 }
 
-/// In `www.`, of which `size` codes are passed, or at the code that has to follow it.
+/// In `www.`, of which `size` codes are passed.
 ///
 ///     > | to www.a.b and
-///            ^^^^^
+///            ^^^^
 pub fn www_prefix_inside(tokenizer: &mut Tokenizer) -> Result<State, AllocError>
     ensures ok { IfOk result (λ s. www_prefix_step tokenizer.old ≡ record { state = s; left = tokenizer.new }) }
     ensures err { OnErr result (IsTrue tokenizer.new.failed) }
@@ -374,31 +379,33 @@ pub fn www_prefix_inside(tokenizer: &mut Tokenizer) -> Result<State, AllocError>
     match tokenizer.current() {
         Some(code) if is_www_letter(size, code) => {
             tokenizer.consume();
-            tokenizer.tokenize_state.size = size + 1;
-            Ok(State::Next(StateName::GfmAutolinkLiteralWwwPrefixInside))
+            if size == 3 {
+                tokenizer.tokenize_state.size = 0;
+                Ok(State::Next(StateName::GfmAutolinkLiteralWwwPrefixAfter))
+            } else {
+                tokenizer.tokenize_state.size = size + 1;
+                Ok(State::Next(StateName::GfmAutolinkLiteralWwwPrefixInside))
+            }
         }
-        Some(_) if size == 4 => {
-            rest(tokenizer);
-            Ok(State::Ok)
+        _ => {
+            tokenizer.tokenize_state.size = 0;
+            Ok(State::Nok)
         }
-        _ => Ok(refuse(tokenizer)),
     }
 }
 
-/// At the start of a literal, where `www.` was seen.
+/// After `www.`: a literal needs a code behind it.
 ///
 ///     > | to www.a.b and
-///            ^
+///                ^
 pub fn www_prefix_after(tokenizer: &mut Tokenizer) -> Result<State, AllocError>
     ensures ok { IfOk result (λ s. www_prefix_after_step tokenizer.old ≡ record { state = s; left = tokenizer.new }) }
     ensures err { OnErr result (IsTrue tokenizer.new.failed) }
 {
-    tokenizer.enter(Name::GfmAutolinkLiteralWww)?;
-    tokenizer.attempt(
-        State::Next(StateName::GfmAutolinkLiteralWwwAfter),
-        State::Nok,
-    )?;
-    Ok(State::Retry(StateName::GfmAutolinkLiteralDomainInside))
+    Ok(match tokenizer.current() {
+        Some(_) => State::Ok,
+        None => State::Nok,
+    })
 }
 
 /// After a literal from `www.` on.

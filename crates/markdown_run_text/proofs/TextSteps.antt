@@ -362,7 +362,7 @@ ends-marked T r =
 
 pub stops-marked : (T : Tokenizer) → StopsAtElements (text_marked T)
 unfolding scratched
-stops-marked T = stops-where (text_setting T) (end_in T) T.cursor.codes T.parse_state.now refl
+stops-marked T = stops-where (text_setting T) (end_in T) T.cursor.codes
 
 pub marked-start : (T : Tokenizer) → StartReady T → IsMarked (text_marked T)
 unfolding scratched

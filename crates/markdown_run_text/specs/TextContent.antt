@@ -15,7 +15,7 @@ use Rattle.markdown_engine_index.specs.TitleIndex.{closers_of}
 use Rattle.markdown_engine_index.specs.declared.name_index.Names.{Names}
 use Rattle.markdown_engine_content.specs.declared.parser.ParseState.{ParseState}
 use Rattle.markdown_engine.specs.declared.resolve.ResolveName.TheVariants as R
-use Rattle.markdown_engine_index.specs.declared.sequence_index.Sequence.TheVariants.{ResourceEnd, ProtocolSlash, WwwDot}
+use Rattle.markdown_engine_index.specs.declared.sequence_index.Sequence.TheVariants.{ResourceEnd, WwwDot}
 use Rattle.markdown_engine.specs.declared.state.State.TheVariants.{Next, Retry, Ok, Nok}
 use Rattle.markdown_engine.specs.declared.state.StateName.{StateName}
 use Rattle.markdown_engine.specs.declared.state.StateName.TheVariants as H
@@ -57,15 +57,19 @@ text_tries =
     ∷ (codes "]", (LabelEndStart, TextBeforeData))
     ∷ []
 
--- the codes at which data stops: those at which something is tried
+-- the codes at which something is tried
 abbrev pub text_markers : List ℕ
 text_markers = codes_in text_tries
+
+-- the codes at which data stops: these, and that at which an expression of MDX may be tried
+abbrev pub data_markers : List ℕ
+data_markers = byte "{" ∷ text_markers
 
 -- what is tried first at a code, if anything is
 abbrev pub first_try : ℕ → Option (StateName × StateName)
 first_try = said_at text_tries
 
--- Where no literal may begin, data goes on over the letters that literals begin with.
+-- Codes at which something is tried, apart from literals.
 
 abbrev pub literal_letters : List ℕ
 literal_letters = first_letters literal_words
@@ -73,14 +77,6 @@ literal_letters = first_letters literal_words
 -- the codes of the other lines
 abbrev pub plain_markers : List ℕ
 plain_markers = filter (λ n. not (list_any (λ m. n == m) literal_letters)) text_markers
-
--- a literal may begin in these codes: literals are on, and a sign stands there that each of them holds
-abbrev pub may_hold_literals : List Code → ParseState → Bool
-may_hold_literals cs p = p.options.now.constructs.gfm_autolink_literal && (holds ProtocolSlash cs || holds WwwDot cs)
-
--- the codes at which data of these codes stops
-abbrev pub markers_for : List Code → ParseState → List ℕ
-markers_for cs p = if may_hold_literals cs p then text_markers else plain_markers
 
 -- the codes whose runs close spans
 abbrev pub span_markers : List ℕ
@@ -143,10 +139,9 @@ indexed_fields c p s =
 abbrev pub named_fields : Place → ParseState → TokenizeState → TokenizeState
 named_fields c p s = record s { names = names_for s.names c p }
 
--- The scratch fields of a text of this content: where data stops, and that it passes letters with which no literal begins, with all that is
--- known of the content.
+-- The scratch fields of a text of this content: where data stops, with all that is known of the content.
 abbrev pub marked_fields : Place → ParseState → TokenizeState → TokenizeState
-marked_fields c p s = record (named_fields c p (indexed_fields c p s)) { markers = markers_for c.codes p; passes_letters = true }
+marked_fields c p s = record (named_fields c p (indexed_fields c p s)) { markers = data_markers; passes_letters = false }
 
 abbrev pub text_marked : Tokenizer → Tokenizer
 text_marked T = scratched (marked_fields T.cursor T.parse_state.now T.tokenize_state) T

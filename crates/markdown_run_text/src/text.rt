@@ -23,7 +23,7 @@ ghost use Rattle.markdown_engine_index.specs.RunIndex.{last_runs};
 ghost use Rattle.markdown_engine_index.specs.SequenceIndex.{last_begins};
 ghost use Rattle.markdown_plan.specs.Characters.{ReadsText};
 ghost use Rattle.markdown_run_text.specs.ContentPasses.{MayFinish, FinishesText};
-ghost use Rattle.markdown_run_text.specs.TextContent.{indexed_fields, named_fields, names_for, names_in, names_pay, order_pays, brackets_in, brackets_pay, titles_for, titles_pay, domains_for, domains_pay, span_markers, may_hold_literals, markers_for, first_try, attempt_step, start_step, before_step, before_html_step, before_hard_break_escape_step, before_label_start_link_step, before_data_step};
+ghost use Rattle.markdown_run_text.specs.TextContent.{indexed_fields, named_fields, names_for, names_in, names_pay, order_pays, brackets_in, brackets_pay, titles_for, titles_pay, domains_for, domains_pay, span_markers, data_markers, first_try, attempt_step, start_step, before_step, before_html_step, before_hard_break_escape_step, before_label_start_link_step, before_data_step};
 
 use markdown_engine::resolve::ResolveName;
 use markdown_engine::state::{State, StateName};
@@ -76,26 +76,11 @@ macro_rules! tries_with {
     };
 }
 
-// The bytes of all lines.
-macro_rules! bytes_of {
+// The bytes at which data stops: those of all lines, and that at which an expression of MDX may be tried.
+macro_rules! stops_of {
     ($([$($of_row:literal)*] $construct:ident, $otherwise:ident;)*) => {
-        byte_set!($($($of_row),*),*)
+        byte_set!(b'{', $($($of_row),*),*)
     };
-}
-
-// The bytes of the lines but for those of literals.
-macro_rules! plain_bytes_of {
-    (@of ($($plain:literal)*)) => { byte_set!($($plain),*) };
-    (@of $plain:tt [$($of_row:literal)*] GfmAutolinkLiteralProtocolStart, $otherwise:ident; $($rest:tt)*) => {
-        plain_bytes_of!(@of $plain $($rest)*)
-    };
-    (@of $plain:tt [$($of_row:literal)*] GfmAutolinkLiteralWwwStart, $otherwise:ident; $($rest:tt)*) => {
-        plain_bytes_of!(@of $plain $($rest)*)
-    };
-    (@of ($($plain:literal)*) [$($of_row:literal)*] $construct:ident, $otherwise:ident; $($rest:tt)*) => {
-        plain_bytes_of!(@of ($($plain)* $($of_row)*) $($rest)*)
-    };
-    ($($rows:tt)*) => { plain_bytes_of!(@of () $($rows)*) };
 }
 
 // What the line of a byte says, if it has one.
@@ -108,29 +93,11 @@ macro_rules! row_of {
     };
 }
 
-// Whether a literal may begin in the content. The sequences are those of the content.
-fn may_hold_literals(tokenizer: &Tokenizer) -> bool
-    requires { tokenizer.now.tokenize_state.sequences ≡ Some (last_begins tokenizer.now.cursor.codes) }
-    ensures { result ≡ may_hold_literals tokenizer.now.cursor.codes tokenizer.now.parse_state.now }
+// The bytes at which data of a text stops.
+fn markers() -> ByteSet
+    ensures { result ≡ data_markers }
 {
-    let constructs = &tokenizer.parse_state.options.constructs;
-    let sequences = &tokenizer.tokenize_state.sequences;
-    constructs.gfm_autolink_literal
-        && !(sequences.rules_out(Sequence::ProtocolSlash, 0)
-            && sequences.rules_out(Sequence::WwwDot, 0))
-}
-
-// The bytes at which data of a text may stop: those at which something is tried, but for the letters of literals where none may begin. The
-// sequences have to be those of the content.
-fn markers(tokenizer: &Tokenizer) -> ByteSet
-    requires { tokenizer.now.tokenize_state.sequences ≡ Some (last_begins tokenizer.now.cursor.codes) }
-    ensures { result ≡ markers_for tokenizer.now.cursor.codes tokenizer.now.parse_state.now }
-{
-    if may_hold_literals(tokenizer) {
-        tries!(bytes_of)
-    } else {
-        tries!(plain_bytes_of)
-    }
+    tries!(stops_of)
 }
 
 // Answers the start of what is tried first at this byte, and the state to go on with where that does not hold.
@@ -252,17 +219,13 @@ fn names_for<'a>(
     Ok(Some(names))
 }
 
-/// Makes known the names of what is defined, where they are lent or their order pays.
-///
-/// The error comes where memory is refused; then `failed` is true.
+// Makes known the names that a text is read with. It is kept out of line, since most texts are read with none.
+#[inline(never)]
 #[tactic(auto, unfolding(markdown_engine::specs::Operations::scratched))]
-pub fn index_names(tokenizer: &mut Tokenizer) -> Result<(), AllocError>
+fn learn_names(tokenizer: &mut Tokenizer) -> Result<(), AllocError>
     ensures ok { OnOk result (tokenizer.new ≡ scratched (named_fields tokenizer.old.cursor tokenizer.old.parse_state.now tokenizer.old.tokenize_state) tokenizer.old) }
     ensures err { OnErr result (IsTrue tokenizer.new.failed) }
 {
-    if tokenizer.tokenize_state.names.is_none() && !order_pays(tokenizer) {
-        return Ok(());
-    }
     let lent = tokenizer.tokenize_state.names.take();
     match names_for(tokenizer, lent) {
         Ok(names) => {
@@ -274,6 +237,21 @@ pub fn index_names(tokenizer: &mut Tokenizer) -> Result<(), AllocError>
             Err(refused)
         }
     }
+}
+
+/// Makes known the names of what is defined, where they are lent or their order pays.
+///
+/// The error comes where memory is refused; then `failed` is true.
+#[inline]
+#[tactic(auto, unfolding(markdown_engine::specs::Operations::scratched))]
+pub fn index_names(tokenizer: &mut Tokenizer) -> Result<(), AllocError>
+    ensures ok { OnOk result (tokenizer.new ≡ scratched (named_fields tokenizer.old.cursor tokenizer.old.parse_state.now tokenizer.old.tokenize_state) tokenizer.old) }
+    ensures err { OnErr result (IsTrue tokenizer.new.failed) }
+{
+    if tokenizer.tokenize_state.names.is_none() && !order_pays(tokenizer) {
+        return Ok(());
+    }
+    learn_names(tokenizer)
 }
 
 // Whether so many titles in parentheses may begin, behind some of which a resource may end, that to note where each may end pays. The
@@ -349,9 +327,9 @@ fn index_domains(tokenizer: &mut Tokenizer) -> Result<(), AllocError>
 
 /// Makes known what rules constructs out in the content.
 ///
-/// One walk over it finds the sequences that end HTML and resources, so that none is looked for in vain, and whether literals and spans may
-/// begin. The others are made only where that walk has seen what they look for. Where a mark of a span stands, one finds the runs at which
-/// spans may close. Where many titles in parentheses may begin, and a resource may end behind one, one finds where each may end. Where many
+/// One walk over it finds the sequences that end HTML and resources, so that none is looked for in vain, and whether literals from `www.` on
+/// and spans may begin. The others are made only where that walk has seen what they look for. Where a mark of a span stands, one finds the
+/// runs at which spans may close. Where many titles in parentheses may begin, and a resource may end behind one, one finds where each may end. Where many
 /// literals from `www.` on may begin behind a `_`, one finds at which of these places no domain begins.
 ///
 /// The error comes where memory is refused; then `failed` is true.
@@ -369,9 +347,8 @@ pub fn index(tokenizer: &mut Tokenizer) -> Result<(), AllocError>
 
 /// At the start of a text, where the check of a task may stand.
 ///
-/// What rules constructs out is made known, by `index`. Where no literal may begin, data need not look behind each of their letters. Where
-/// many names are defined and many labels may end, the names are put in order, so that each is found by a search; names that are lent, as
-/// those of a `document::Document`, are in order already.
+/// What rules constructs out is made known, by `index`. Where many names are defined and many labels may end, the names are put in order, so
+/// that each is found by a search; names that are lent, as those of a `document::Document`, are in order already.
 ///
 ///     > | [ ] do *it*
 ///         ^
@@ -382,8 +359,8 @@ pub fn start(tokenizer: &mut Tokenizer) -> Result<State, AllocError>
     ensures err { OnErr result (IsTrue tokenizer.new.failed) }
 {
     index(tokenizer)?;
-    tokenizer.tokenize_state.markers = markers(tokenizer);
-    tokenizer.tokenize_state.passes_letters = true;
+    tokenizer.tokenize_state.markers = markers();
+    tokenizer.tokenize_state.passes_letters = false;
     index_names(tokenizer)?;
     attempt(
         tokenizer,
@@ -475,6 +452,7 @@ pub fn before_data(tokenizer: &mut Tokenizer) -> Result<State, AllocError>
 /// hard breaks by spaces (CommonMark 6.7) and sets email literals apart (GFM 6.9).
 ///
 /// The error comes where memory is refused; then `failed` is true.
+#[inline]
 pub fn resolve(tokenizer: &mut Tokenizer) -> Result<Option<Subresult>, AllocError>
     requires { MayFinish tokenizer.old }
     ensures none { IfOk result (λ r. r ≡ None) }
