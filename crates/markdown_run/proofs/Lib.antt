@@ -18,3 +18,4 @@ pub mod StartsAndEnds
 pub mod ReadyTexts
 pub mod ElementsRead
 pub mod TextEnds
+pub mod PlainEnds

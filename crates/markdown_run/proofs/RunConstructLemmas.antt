@@ -82,7 +82,7 @@ construct-stays name T U V true c h k e = cc
 construct-stays name T U V false c h k e = refused-stays name T U V c k e
 
 -- an end of a label that is read
-ends-made : (T U : Tokenizer) → Ends T U → EndsOrLoses T true U
+pub ends-made : (T U : Tokenizer) → Ends T U → EndsOrLoses T true U
 unfolding past_mark
 ends-made T U k =
     (k.back, (k.kind, (k.tail, (k.holds ∙ ap (λ xs. Some ((k.back, (k.kind, k.tail)), xs)) (sym k.after), k.left))))

@@ -19,6 +19,10 @@ with_indexes s r = record r { runs = s.runs; sequences = s.sequences; titles = s
 abbrev pub indexed : TokenizeState → Tokenizer → Tokenizer
 indexed s T = scratched (with_indexes s T.tokenize_state) T
 
+-- with nothing known of the content
+abbrev pub forgotten : Tokenizer → Tokenizer
+forgotten T = indexed at_rest T
+
 -- nothing is known of the content
 abbrev pub KnowsNothing : Tokenizer → Type 0
 KnowsNothing T = T.tokenize_state ≡ with_indexes at_rest T.tokenize_state

@@ -1,11 +1,12 @@
 -- Whole runs: the states from one on, and then the passes that they registered.
-use Rattle.std.specs.Prelude.{◌≡◌, Bool}
+use Rattle.std.specs.Prelude.{◌≡◌, ◌∷◌, [], Bool}
 use Rattle.markdown_engine_events.specs.EventChains.{chained}
 use Rattle.markdown_engine.specs.PassesInOrder.{MayResolve, Resolves, unregistered}
+use Rattle.markdown_engine.specs.declared.resolve.ResolveName.TheVariants as R
 use Rattle.markdown_engine.specs.declared.state.StateName.{StateName}
 use Rattle.markdown_engine.specs.declared.tokenizer.Tokenizer.{Tokenizer}
 use Rattle.markdown_run_text.specs.ContentPasses.{may_resolve_of, resolves_of}
-use Rattle.markdown_run.specs.ElementsOfText.{EndsAt, text_named}
+use Rattle.markdown_run.specs.ElementsOfText.{EndsAt, forgotten, text_named}
 use Rattle.markdown_run.specs.Layer.{ends_of}
 use Rattle.markdown_run.specs.declared.run.Run.{Run}
 
@@ -36,3 +37,7 @@ pub record IsFoundInText (T : Tokenizer) (run : Run) : Type 0 where
   pub left : Tokenizer
   pub ends : EndsAt (text_named T) left
   pub found : IsFoundBehind left run
+
+-- the passes that end a text may be called behind elements that have registered none, whatever is known of the content
+abbrev pub MayFinishPlain : Tokenizer → Type 0
+MayFinishPlain T = MayResolve may_resolve_of resolves_of (R.Data ∷ R.Text ∷ []) (forgotten T)

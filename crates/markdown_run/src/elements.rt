@@ -11,9 +11,8 @@ ghost use Rattle.std.specs.Str.{byte};
 ghost use Rattle.markdown_engine.specs.Operations.{HasCode, ahead, current_of};
 ghost use Rattle.markdown_engine_content.specs.ListFunctions.{rest_of};
 ghost use Rattle.markdown_model.specs.CodeTests.{is_value, next_is};
-ghost use Rattle.markdown_engine.specs.RestingFields.{at_rest};
-ghost use Rattle.markdown_run_text.specs.TextContent.{StartReady};
-ghost use Rattle.markdown_run.specs.ElementsOfText.{EndsAt, GoesOn, IsReady, KnowsNothing, Learns, MayTry, PassesData, ReadsElement, Passes, indexed, text_named};
+ghost use Rattle.markdown_run_text.specs.TextContent.{StartReady, text_passed};
+ghost use Rattle.markdown_run.specs.ElementsOfText.{EndsAt, GoesOn, IsReady, KnowsNothing, Learns, MayTry, PassesData, ReadsElement, Passes, forgotten, text_named};
 
 use crate::run::construct;
 use markdown_engine::resolve::ResolveName;
@@ -21,7 +20,9 @@ use markdown_engine::state::StateName;
 use markdown_engine::tokenizer::Tokenizer;
 use markdown_engine_index::run_index::RunIndex;
 use markdown_engine_index::sequence_index::SequenceIndex;
-use markdown_run_readers::{attention, character_escape, label_start_link, partial_data};
+use markdown_run_readers::{
+    attention, character_escape, label_end, label_start_link, partial_data,
+};
 use markdown_run_text::text;
 use std::alloc::AllocError;
 
@@ -108,6 +109,20 @@ fn read_bracket(tokenizer: &mut Tokenizer) -> Result<bool, AllocError>
     label_start_link::read(tokenizer)
 }
 
+// Tries the end of a label: at once where a plain resource stands behind it.
+fn read_end(tokenizer: &mut Tokenizer) -> Result<bool, AllocError>
+    requires ready { IsReady tokenizer.old }
+    requires here { current_of tokenizer.old ≡ Some (byte "]") }
+    ensures reads { IfOk result (λ ok. ReadsElement tokenizer.old ok tokenizer.new) }
+    ensures err { OnErr result (IsTrue tokenizer.new.failed) }
+{
+    let held = label_end::read(tokenizer)?;
+    if held {
+        return Ok(true);
+    }
+    construct(StateName::LabelEndStart, tokenizer)
+}
+
 // Tries what may begin with the byte at hand, which is given, and answers whether it does.
 fn read_construct(tokenizer: &mut Tokenizer, byte: u8) -> Result<bool, AllocError>
     requires ready { IsReady tokenizer.old }
@@ -123,7 +138,7 @@ fn read_construct(tokenizer: &mut Tokenizer, byte: u8) -> Result<bool, AllocErro
         b'\\' => read_backslash(tokenizer),
         b'&' => construct(StateName::CharacterReferenceStart, tokenizer),
         b'<' => read_angle(tokenizer),
-        b']' => construct(StateName::LabelEndStart, tokenizer),
+        b']' => read_end(tokenizer),
         b'H' | b'h' => construct(StateName::GfmAutolinkLiteralProtocolStart, tokenizer),
         b'W' | b'w' => construct(StateName::GfmAutolinkLiteralWwwStart, tokenizer),
         _ => Ok(false),
@@ -160,7 +175,7 @@ fn learn(tokenizer: &mut Tokenizer, byte: u8, is_indexed: &mut bool) -> Result<(
 // Forgets what rules constructs out in the content.
 #[tactic(auto, unfolding(markdown_engine::specs::Operations::scratched))]
 fn forget(tokenizer: &mut Tokenizer)
-    ensures { tokenizer.new ≡ indexed at_rest tokenizer.old }
+    ensures { tokenizer.new ≡ forgotten tokenizer.old }
 {
     tokenizer.tokenize_state.runs = RunIndex::new(tokenizer.alloc);
     tokenizer.tokenize_state.sequences = SequenceIndex::new();
@@ -216,17 +231,24 @@ fn read_elements(tokenizer: &mut Tokenizer) -> Result<(), AllocError>
     Ok(())
 }
 
-// Reads the elements of a text, from its start to its end, and registers its passes. Nothing is known of the content before, nor behind.
+// Reads the elements of a text, from its start to its end. Nothing is known of the content before.
 pub(crate) fn read_text(tokenizer: &mut Tokenizer) -> Result<(), AllocError>
     requires ready { StartReady tokenizer.old }
     requires alone { tokenizer.old.attempts ≡ [] }
     requires unknown { KnowsNothing tokenizer.old }
-    ensures ok { OnOk result (EndsAt (text_named tokenizer.old) tokenizer.new) }
+    ensures ok { OnOk result (EndsAt (text_named tokenizer.old) (text_passed (forgotten tokenizer.new))) }
     ensures err { OnErr result (IsTrue tokenizer.new.failed) }
 {
     text::index_names(tokenizer)?;
     read_check(tokenizer)?;
-    read_elements(tokenizer)?;
+    read_elements(tokenizer)
+}
+
+// Ends a text whose elements are read: forgets what is known of the content, and registers the passes of a text.
+pub(crate) fn end_text(tokenizer: &mut Tokenizer) -> Result<(), AllocError>
+    ensures ok { OnOk result (tokenizer.new ≡ text_passed (forgotten tokenizer.old)) }
+    ensures err { OnErr result (IsTrue tokenizer.new.failed) }
+{
     forget(tokenizer);
     tokenizer.register_resolver(ResolveName::Data)?;
     tokenizer.register_resolver(ResolveName::Text)

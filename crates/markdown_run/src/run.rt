@@ -3,18 +3,19 @@ ghost use Rattle.std.specs.Prelude.{◌≡◌, ◌-◌, false, [], take, drop, m
 ghost use Rattle.std.specs.List.{All};
 ghost use Rattle.markdown_run.specs.RunConstruct.{IsConstruct, ConstructEnds};
 ghost use Rattle.markdown_run.specs.Layer.{ready_of};
-ghost use Rattle.markdown_run.specs.RunWithPasses.{MayPass, IsFoundFrom, MayPassText, IsFoundInText, IsFoundBehind};
-ghost use Rattle.markdown_run.specs.ElementsOfText.{KnowsNothing};
+ghost use Rattle.markdown_run.specs.RunWithPasses.{MayFinishPlain, MayPass, IsFoundFrom, MayPassText, IsFoundInText, IsFoundBehind};
+ghost use Rattle.markdown_run.specs.ElementsOfText.{KnowsNothing, forgotten};
+ghost use Rattle.markdown_engine_events.specs.EventChains.{chained};
 ghost use Rattle.markdown_engine.specs.PassesInOrder.{MayResolve, unregistered};
 ghost use Rattle.markdown_run_text.specs.ContentPasses.{may_resolve_of, resolves_of};
-ghost use Rattle.markdown_run_text.specs.TextContent.{StartReady};
+ghost use Rattle.markdown_run_text.specs.TextContent.{StartReady, text_passed};
 ghost use Rattle.markdown_engine_content.specs.Content.{IsContent, IsTextContent, content_of};
 ghost use Rattle.markdown_run_text.specs.RunSetting.{setting_of, text_setting_of};
 ghost use Rattle.markdown_attention.specs.AttentionPass.{IsProbed};
 ghost use Rattle.markdown_run_leaves.specs.InnermostEvents.{IsInOrder, covered, innermost, lent};
 ghost use Rattle.markdown_model.specs.InlineTree.{label_tree, string_events, text_events};
 
-use crate::elements::read_text;
+use crate::elements::{end_text, read_text};
 use crate::state::Inline;
 use markdown_engine::state::StateName;
 use markdown_engine::tokenizer::Tokenizer;
@@ -24,8 +25,10 @@ use markdown_engine_content::event::Event;
 use markdown_engine_content::parser::ParseState;
 pub use markdown_engine_content::parser::Piece;
 use markdown_engine_events::events::Events;
+use markdown_partial::partial_data;
 pub use markdown_run_leaves::leaf::{Leaf, Leaves};
 pub use markdown_run_leaves::leaves;
+use markdown_run_text::text;
 use std::alloc::{AllocError, Global};
 use std::mem;
 
@@ -38,17 +41,37 @@ pub struct Run {
     pub probes: u128,
 }
 
+// Takes what is found out of the tokenizer, behind all passes.
+fn found_in(tokenizer: &mut Tokenizer) -> Run
+    ensures events { result.events.items ≡ chained tokenizer.old.events }
+    ensures probes { result.probes ≡ tokenizer.old.tokenize_state.probes }
+{
+    let events = mem::replace(&mut tokenizer.events, Events::new(tokenizer.alloc));
+    Run {
+        events: events.into_vec(),
+        probes: tokenizer.tokenize_state.probes,
+    }
+}
+
 // Runs the passes that are registered, and takes what is found out of the tokenizer.
 fn finish(tokenizer: &mut Tokenizer) -> Result<Run, AllocError>
     requires { MayResolve may_resolve_of resolves_of tokenizer.old.resolvers (unregistered tokenizer.old) }
     ensures { IfOk result (λ run. IsFoundBehind tokenizer.old run) }
 {
     tokenizer.resolve_all::<Inline>()?;
-    let events = mem::replace(&mut tokenizer.events, Events::new(tokenizer.alloc));
-    Ok(Run {
-        events: events.into_vec(),
-        probes: tokenizer.tokenize_state.probes,
-    })
+    Ok(found_in(tokenizer))
+}
+
+// Runs the passes of a text that has registered none, and takes what is found out of the tokenizer. They are called at once and not registered,
+// so that no list is made for them; and what is known of the content, at which they do not look, need not be forgotten.
+fn finish_plain(tokenizer: &mut Tokenizer) -> Result<Run, AllocError>
+    requires none { tokenizer.old.resolvers ≡ [] }
+    requires passes { MayFinishPlain tokenizer.old }
+    ensures { IfOk result (λ run. IsFoundBehind (text_passed (forgotten tokenizer.old)) run) }
+{
+    partial_data::resolve(tokenizer)?;
+    text::resolve(tokenizer)?;
+    Ok(found_in(tokenizer))
 }
 
 // Runs the states from this one and then the passes that they registered, and takes what is found out of the tokenizer.
@@ -71,6 +94,10 @@ pub(crate) fn text_through(tokenizer: &mut Tokenizer) -> Result<Run, AllocError>
     ensures { IfOk result (λ run. IsFoundInText tokenizer.old run) }
 {
     read_text(tokenizer)?;
+    if tokenizer.resolvers.is_empty() {
+        return finish_plain(tokenizer);
+    }
+    end_text(tokenizer)?;
     finish(tokenizer)
 }
 
@@ -147,8 +174,8 @@ fn put_back<'a>(
 /// `AttentionStart` (a run of markers, past which the pass that pairs runs is registered);
 /// `DestinationStart`, `TitleStart` and `LabelStart`, which take their names from the scratch fields `token_1` to `token_5`, and a destination
 /// the depth of its parentheses from `size_b`; `DataStart`, which takes the bytes at which it stops from the scratch field `markers`, and holds
-/// everywhere (where the scratch field `passes_letters` is set, as behind `TextStart`, it goes on past letters with which no literal begins, GFM
-/// 6.9, as an `h` before no `t`); `SpaceOrTabStart` or `SpaceOrTabEolStart`, after the setter that asks for it.
+/// everywhere (where the scratch field `passes_letters` is set, it goes on past letters with which no literal begins, GFM 6.9, as an `h` before
+/// no `t`); `SpaceOrTabStart` or `SpaceOrTabEolStart`, after the setter that asks for it.
 ///
 /// `ConstructEnds` of `specs/RunConstruct` says what each reads: `construct_reading` names its definition, `start_reading` that of a start of a
 /// label, `end_reading` that of an end. These take the options, the code before, whether an escape ends right before, whether this is the content's

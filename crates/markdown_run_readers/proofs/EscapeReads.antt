@@ -1,6 +1,7 @@
 -- An escape that is at the place is read; where none is, none is read.
 use Rattle.std.proofs.Common.{◌≡◌, ◌&&◌, ◌||◌, ◌==◌, Bool, true, false, List, [], ◌∷◌, ◌++◌, None, Some, refl, sym, ap, ◌∙◌}
 use Rattle.std.specs.Prelude.{codes}
+use Rattle.std.proofs.Math.Bool.{and-false, or-false}
 use Rattle.markdown_engine_content.specs.Codes.{Code}
 use Rattle.markdown_engine_content.specs.Place.{Place, ahead_at, code_at, moved}
 use Rattle.markdown_engine_content.specs.Tree.{Forest, ◌⊕◌, leaf, leaf_codes}
@@ -37,10 +38,6 @@ solid-reads r tree rest T U solid reads whole e =
       after = ap ahead over ∙ ahead-past None tree T rest whole;
     }
 
-or-false : (b : Bool) → (b || false) ≡ b
-or-false true = refl
-or-false false = refl
-
 escape-solid : (c d : Code) → IsSolid (escape_tree (c ∷ []) (d ∷ []))
 escape-solid c d =
     IsSolid-group N.CharacterEscape (leaf N.CharacterEscapeMarker (c ∷ []) ⊕ leaf N.CharacterEscapeValue (d ∷ [])) (λ e. cc) (IsSolid-row (leaf N.CharacterEscapeMarker (c ∷ [])) (leaf N.CharacterEscapeValue (d ∷ [])) (IsSolid-leaf N.CharacterEscapeMarker (c ∷ [])) (IsSolid-leaf N.CharacterEscapeValue (d ∷ [])))
@@ -58,14 +55,10 @@ test-two p c d cs e =
     ap (λ o. is_some_mark (codes "\\") o && is_some_punctuation (code_at (moved p))) (code_at_ahead p c (d ∷ cs) e)
     ∙ ap (λ o. ((c.value == 92) || false) && is_some_punctuation o) (code_at_ahead (moved p) d cs (ahead_moved p c (d ∷ cs) e))
 
-and-none : (b : Bool) → (b && false) ≡ false
-and-none true = refl
-and-none false = refl
-
 test-one : (p : Place) (c : Code) → ahead_at p ≡ c ∷ [] → begins_escape p ≡ false
 test-one p c e =
     ap (λ o. is_some_mark (codes "\\") (code_at p) && is_some_punctuation o) (code_at_end (moved p) (ahead_moved p c [] e))
-    ∙ and-none (is_some_mark (codes "\\") (code_at p))
+    ∙ and-false (is_some_mark (codes "\\") (code_at p))
 
 test-none : (p : Place) → ahead_at p ≡ [] → begins_escape p ≡ false
 test-none p e = ap (λ o. is_some_mark (codes "\\") o && is_some_punctuation (code_at (moved p))) (code_at_end p e)

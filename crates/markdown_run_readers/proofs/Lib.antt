@@ -7,3 +7,4 @@ pub mod AttentionReads
 pub mod LabelStartConstructs
 pub mod LinkStarts
 pub mod WordLetters
+pub mod PlainResourceReads

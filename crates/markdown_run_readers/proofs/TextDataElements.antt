@@ -2,6 +2,7 @@
 use Rattle.std.proofs.Common.{◌≡◌, ℕ, ◌&&◌, ◌||◌, ◌==◌, Bool, true, false, not, List, [], ◌∷◌, ◌++◌, Option, None, Some, refl, sym, ap, ◌∙◌, inl, inr}
 use Rattle.std.specs.Prelude.{is_none}
 use Rattle.std.specs.List.{list_any}
+use Rattle.std.proofs.Math.Bool.{and-false}
 use Rattle.std.proofs.lemmas.Bool.{or_parts, or_cases, not-false}
 use Rattle.markdown_engine_content.specs.Codes.{Code, document_start, stop_of}
 use Rattle.markdown_engine_content.specs.Tree.{Forest}
@@ -54,16 +55,12 @@ unfolding gfm_autolink_literal_protocol
 no-scheme bytes end previous cs e =
     off-or-none (not (is_some_code is_letter previous)) _ cs (bind-none (one_word_of schemes) _ cs e)
 
-and-none : (b : Bool) → (b && false) ≡ false
-and-none true = refl
-and-none false = refl
-
 no-www : (bytes : List ℕ) (end : ℕ) (previous : Option Code) (cs : List Code) → letters www cs ≡ None →
     gfm_autolink_literal_www bytes end previous cs ≡ None
 unfolding gfm_autolink_literal_www
 no-www bytes end previous cs k =
     let none : begins_with_www cs ≡ false = by_letters (letters www cs) k in
-    switched-off (www_from_here bytes end) (may_precede_www previous && begins_with_www cs) cs (ap (λ b. may_precede_www previous && b) none ∙ and-none (may_precede_www previous))
+    switched-off (www_from_here bytes end) (may_precede_www previous && begins_with_www cs) cs (ap (λ b. may_precede_www previous && b) none ∙ and-false (may_precede_www previous))
   where
     by_letters : (o : Option (List Code × List Code)) → o ≡ None →
         (elim o as (λ _. Bool) [ None ↦ false | Some r ↦ not (is_empty r.1) ]) ≡ false

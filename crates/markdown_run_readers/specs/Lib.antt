@@ -2,5 +2,6 @@
 -- What has to be believed: what public contracts cite.
 pub mod ReaderEnds
 pub mod TextStops
+pub mod PlainResource
 -- What serves proofs: what functions and proofs promise each other.
 pub mod PlacesPassed

@@ -3,11 +3,13 @@ use Rattle.std.specs.Prelude.{ℕ, ◌+◌, Bool, true, false, ◌&&◌, ◌||�
 use Rattle.std.specs.Str.{byte}
 use Rattle.markdown_engine_content.specs.Codes.{Code}
 use Rattle.markdown_engine_content.specs.Place.{Place, ahead_at, code_at, code_before, moved}
+use Rattle.markdown_engine_content.specs.declared.event.Content.{Content}
 use Rattle.markdown_engine_content.specs.declared.event.Kind.TheVariants as Kind
+use Rattle.markdown_engine_content.specs.declared.event.Link.{Link}
 use Rattle.markdown_engine_content.specs.declared.event.Name.{Name}
 use Rattle.markdown_engine_content.specs.declared.event.Name.TheVariants as N
 use Rattle.markdown_engine_content.specs.declared.event.Point.{Point}
-use Rattle.markdown_engine.specs.Operations.{current_of, done, exit_event, exited}
+use Rattle.markdown_engine.specs.Operations.{Op, Enter, Exit, Consume, current_of, done, exit_event, exited, link_back}
 use Rattle.markdown_engine.specs.PastTree.{moved_by}
 use Rattle.markdown_engine.specs.declared.tokenizer.Tokenizer.{Tokenizer}
 use Rattle.markdown_leaf.specs.CharacterEscape.{is_on, is_punctuation}
@@ -84,10 +86,24 @@ holds_sign before (Some v) next =
 abbrev pub sign_at : Place → Bool
 sign_at p = holds_sign (code_before p) (code_at p) (code_at (moved p))
 
+-- with an Enter at this point, and with an Exit where the code before the place ends
+abbrev pub with_enter : Name → Option Link → Point → Tokenizer → Tokenizer
+with_enter n link p T = record T { events = T.events ++ record { kind = Kind.Enter; name = n; point = p; link = link } ∷ [] }
+
+abbrev pub with_exit : Name → Tokenizer → Tokenizer
+with_exit n T = record T { events = T.events ++ exit_event n T ∷ [] }
+
 -- with the events of a leaf from this point to where the code before the place ends
 abbrev pub with_leaf : Name → Point → Tokenizer → Tokenizer
-with_leaf n from T =
-    record T { events = (T.events ++ record { kind = Kind.Enter; name = n; point = from; link = None } ∷ []) ++ exit_event n T ∷ [] }
+with_leaf n from T = with_exit n (with_enter n None from T)
+
+-- so with those of data that is linked as a string, the first of its chain
+abbrev pub with_string : Point → Tokenizer → Tokenizer
+with_string from T = with_exit N.Data (with_enter N.Data (Some (link_back None Content.String)) from T)
+
+-- past a code, a leaf of this name
+abbrev pub marker_ops : Name → List Op
+marker_ops n = Enter n ∷ Consume ∷ Exit n ∷ []
 
 -- past data of one line from the code at hand on, with its events
 abbrev pub data_read : Bool → Tokenizer → Tokenizer

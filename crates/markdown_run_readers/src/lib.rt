@@ -3,5 +3,7 @@
 
 pub mod attention;
 pub mod character_escape;
+mod events;
+pub mod label_end;
 pub mod label_start_link;
 pub mod partial_data;

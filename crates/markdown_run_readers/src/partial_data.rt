@@ -4,23 +4,23 @@
 //! sign: a `.` behind a `w`, or a `:` before a `/`. So letters are looked at only in a stretch that ends at such a sign.
 #![tactic(auto, using(markdown_engine::proofs::OperationFields::op_rules))]
 
-ghost use Rattle.std.specs.Prelude.{◌≡◌, ◌++◌, ◌∷◌, [], ◌<◌, ◌==◌, ◌||◌, ◌&&◌, length, true, false, OnOk, OnErr, IsTrue, None};
+ghost use Rattle.std.specs.Prelude.{◌≡◌, ◌<◌, ◌==◌, ◌||◌, ◌&&◌, length, true, false, OnOk, OnErr, IsTrue, None};
 ghost use Rattle.std.specs.List.{list_any};
 ghost use Rattle.markdown_engine.specs.Operations.{HasCode, done};
 ghost use Rattle.markdown_engine.specs.PastTree.{Reads};
-ghost use Rattle.markdown_engine_events.specs.EventChains.{IsFresh};
 ghost use Rattle.markdown_engine_content.specs.Place.{ahead_at, code_at, moved};
 ghost use Rattle.markdown_model.specs.TextLines.{data_up_to};
 ghost use Rattle.markdown_partial.specs.PartialData.{ending, is_some_mark};
-ghost use Rattle.markdown_run_readers.specs.PlacesPassed.{past_data, goes_on, goes_in_line, is_some_letter, is_word, signs, markers_and_signs, sign_at, data_read, line_read, with_leaf};
+ghost use Rattle.markdown_run_readers.specs.PlacesPassed.{past_data, goes_on, goes_in_line, is_some_letter, is_word, signs, markers_and_signs, sign_at, data_read, line_read};
 ghost use Rattle.markdown_run_readers.specs.TextStops.{begins_word, text_stops};
 ghost use Rattle.markdown_run_text.specs.TextContent.{literal_letters, plain_markers};
 
+use crate::events::append_leaf;
 use markdown_engine::tokenizer::Tokenizer;
 use markdown_engine_content::byte_set;
 use markdown_engine_content::bytes::ByteSet;
 use markdown_engine_content::cursor::Cursor;
-use markdown_engine_content::event::{Event, Kind, Name, Point};
+use markdown_engine_content::event::Name;
 use markdown_plan::bytes::is_letter;
 use std::alloc::AllocError;
 
@@ -205,42 +205,6 @@ fn pass_data(cursor: &mut Cursor, literals: bool)
     } else {
         cursor.consume_stretch(&markers());
     }
-}
-
-// Appends an event; a refused growth is kept in mind.
-#[inline(always)]
-fn append(tokenizer: &mut Tokenizer, event: Event) -> Result<(), AllocError>
-    requires { IsFresh event }
-    ensures ok { OnOk result (tokenizer.new ≡ record tokenizer.old { events = tokenizer.old.events ++ event ∷ [] }) }
-    ensures err { OnErr result (IsTrue tokenizer.new.failed) }
-{
-    let appended = tokenizer.events.push(event);
-    if appended.is_err() {
-        tokenizer.fail();
-    }
-    appended
-}
-
-// Appends the events of a leaf from this point to where the code before the place ends. It is never among the open events.
-#[inline(always)]
-fn append_leaf(tokenizer: &mut Tokenizer, name: Name, from: Point) -> Result<(), AllocError>
-    ensures ok { OnOk result (tokenizer.new ≡ with_leaf name from tokenizer.old) }
-    ensures err { OnErr result (IsTrue tokenizer.new.failed) }
-{
-    let enter = Event {
-        kind: Kind::Enter,
-        name,
-        point: from,
-        link: None,
-    };
-    append(tokenizer, enter)?;
-    let exit = Event {
-        kind: Kind::Exit,
-        name,
-        point: tokenizer.cursor.exit_point(),
-        link: None,
-    };
-    append(tokenizer, exit)
 }
 
 // Reads the line ending at hand.

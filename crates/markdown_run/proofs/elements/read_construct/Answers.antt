@@ -4,7 +4,7 @@ use Rattle.std.proofs.lemmas.Result.{IfOk-weaker}
 use Rattle.std.specs.List.{list_any}
 use Rattle.markdown_engine.specs.declared.tokenizer.Tokenizer.{Tokenizer}
 use Rattle.markdown_run_text.specs.TextContent.{text_markers}
-use Rattle.markdown_run.proofs.ElementsRead.{none-among, nothing-tried, span-ends, run-ends, reference-ends, end-ends, protocol-ends, www-ends}
+use Rattle.markdown_run.proofs.ElementsRead.{none-among, nothing-tried, span-ends, run-ends, reference-ends, protocol-ends, www-ends}
 use Rattle.markdown_run.proofs.elements.read_construct.Goals as goal
 
 pub returns-in-96-clause-reads : goal.returns-in-96-clause-reads
@@ -36,11 +36,6 @@ pub returns-in-38-clause-reads : goal.returns-in-38-clause-reads
 returns-in-38-clause-reads c =
     let U : Tokenizer = c.construct-in-38.new.tokenizer in
     IfOk-weaker c.construct-in-38.result _ _ (λ ok k. reference-ends c.args.tokenizer.now U ok c.requires.ready (c.requires.here ∙ ap (λ n. Some n) c.in-38.is) k) c.construct-in-38.ensures.reads
-
-pub returns-in-93-clause-reads : goal.returns-in-93-clause-reads
-returns-in-93-clause-reads c =
-    let U : Tokenizer = c.construct-in-93.new.tokenizer in
-    IfOk-weaker c.construct-in-93.result _ _ (λ ok k. end-ends c.args.tokenizer.now U ok c.requires.ready (c.requires.here ∙ ap (λ n. Some n) c.in-93.is) k) c.construct-in-93.ensures.reads
 
 pub returns-in-72-clause-reads : goal.returns-in-72-clause-reads
 returns-in-72-clause-reads c =

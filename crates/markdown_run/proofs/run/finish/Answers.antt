@@ -1,5 +1,3 @@
-use Rattle.std.proofs.Common.{refl, ap, ◌∙◌}
-use Rattle.markdown_engine_events.specs.EventChains.{chained}
 use Rattle.markdown_run.proofs.run.finish.Goals as goal
 
 pub returns : goal.returns
@@ -7,6 +5,6 @@ returns c =
     record {
       passed = c.resolve_all.new.self;
       resolves = c.in_ok-resolve_all.ensures.ok;
-      events = c.into_vec.ensures ∙ ap chained c.replace-events.ensures.value;
-      probes = refl;
+      events = c.found_in.ensures.events;
+      probes = c.found_in.ensures.probes;
     }

@@ -1,9 +1,27 @@
+use Rattle.std.proofs.Common.{◌∙◌, sym, subst}
 use Rattle.std.proofs.lemmas.Result.{IfOk-weaker}
+use Rattle.markdown_engine.specs.declared.tokenizer.Tokenizer.{Tokenizer}
+use Rattle.markdown_run_text.specs.TextContent.{text_passed}
+use Rattle.markdown_run.specs.ElementsOfText.{EndsAt, forgotten, text_named}
+use Rattle.markdown_run.proofs.PlainEnds.{none-there, plain-passes}
 use Rattle.markdown_run.proofs.run.text_through.Goals as goal
 
+pub finish_plain-requires-clause-none : goal.finish_plain-requires-clause-none
+finish_plain-requires-clause-none c =
+    none-there c.read_text.new.tokenizer.resolvers (sym c.is_empty.ensures ∙ c.if-is_empty.true)
+
+pub finish_plain-requires-clause-passes : goal.finish_plain-requires-clause-passes
+finish_plain-requires-clause-passes c =
+    plain-passes c.read_text.new.tokenizer (finish_plain-requires-clause-none c) (c.requires.passes (text_passed (forgotten c.read_text.new.tokenizer)) c.in_ok-read_text.ensures.ok)
+
 pub finish-requires : goal.finish-requires
-finish-requires c = c.requires.passes c.read_text.new.tokenizer c.in_ok-read_text.ensures.ok
+finish-requires c =
+    c.requires.passes c.end_text.new.tokenizer (subst (λ (x : Tokenizer). EndsAt (text_named c.args.tokenizer.now) x) (sym c.in_ok-end_text.ensures.ok) c.in_ok-read_text.ensures.ok)
+
+pub returns-then-is_empty : goal.returns-then-is_empty
+returns-then-is_empty c =
+    IfOk-weaker c.finish_plain.result _ _ (λ run found. record { left = text_passed (forgotten c.read_text.new.tokenizer); ends = c.in_ok-read_text.ensures.ok; found = found }) c.finish_plain.ensures
 
 pub returns : goal.returns
 returns c =
-    IfOk-weaker c.finish.result _ _ (λ run found. record { left = c.read_text.new.tokenizer; ends = c.in_ok-read_text.ensures.ok; found = found }) c.finish.ensures
+    IfOk-weaker c.finish.result _ _ (λ run found. record { left = c.end_text.new.tokenizer; ends = subst (λ (x : Tokenizer). EndsAt (text_named c.args.tokenizer.now) x) (sym c.in_ok-end_text.ensures.ok) c.in_ok-read_text.ensures.ok; found = found }) c.finish.ensures
