@@ -1,10 +1,19 @@
 // Strings of a document, with escapes and references resolved.
 
+ghost use Rattle.std.specs.Prelude.{◌≡◌, ◌≤◌, length, IsUtf8};
+ghost use Rattle.std.specs.List.{All};
+ghost use Rattle.markdown_engine_content.specs.Content.{document_limit};
+ghost use Rattle.markdown_engine_content.specs.declared.event.Name.TheVariants as N;
+ghost use Rattle.markdown_run_leaves.specs.InnermostEvents.{IsInOrder, innermost};
+ghost use Rattle.markdown_model_laws.specs.LentTexts.{LendTexts};
+ghost use Rattle.markdown_model_laws.specs.DecodableValues.{EventsHaveValues, IsDecodable, marker_of};
+
 use markdown_inline::configuration::ParseOptions;
 use markdown_inline::event::{Event, Kind, Name};
+use markdown_inline::laws;
 use markdown_inline::parser::{ParseState, Piece};
-use markdown_inline::run;
-use markdown_inline::util::character_reference::{decode_named, parse};
+use markdown_inline::run::{self, Leaf};
+use markdown_inline::util::character_reference::decode;
 use std::alloc::{AllocError, Global};
 
 /// The bytes from a start to an end; none where they are not in order.
@@ -16,44 +25,43 @@ pub fn between(bytes: &[u8], start: usize, end: usize) -> &[u8] {
     }
 }
 
-// Appends what a reference stands for, by its marker and its value.
-fn push_reference(
-    alloc: Global,
-    text: &mut Vec<u8>,
-    marker: u8,
-    value: &[u8],
-) -> Result<(), AllocError> {
-    let value = String::from_utf8_lossy(alloc, value)?;
-    let whole = match marker {
-        b'&' => {
-            return text.extend_from_slice(
-                decode_named(value.as_str(), true).unwrap_or("").as_bytes(),
-            );
-        }
-        b'#' => format!(in alloc; "&#{value};")?,
-        _ => format!(in alloc; "&#x{value};")?,
-    };
-    text.extend_from_slice(parse(alloc, whole.as_str())?.as_bytes())
+// The marker of a reference, by the leaf right before its value.
+fn marker_of(before: Name) -> u8
+    ensures { result ≡ marker_of before }
+{
+    match before {
+        Name::CharacterReferenceMarkerNumeric => b'#',
+        Name::CharacterReferenceMarkerHexadecimal => b'x',
+        _ => b'&',
+    }
 }
 
-// Appends what an innermost event of a string stands for. Answers the marker of the reference that it is part of.
-fn push_part(
+// Appends what a reference stands for, by the leaf right before its value.
+fn push_reference(
     alloc: Global,
-    text: &mut Vec<u8>,
-    marker: u8,
-    name: Name,
-    part: &[u8],
-) -> Result<u8, AllocError> {
-    match name {
-        Name::CharacterReferenceMarker => return Ok(b'&'),
-        Name::CharacterReferenceMarkerNumeric => return Ok(b'#'),
-        Name::CharacterReferenceMarkerHexadecimal => return Ok(b'x'),
-        Name::CharacterReferenceValue => push_reference(alloc, text, marker, part)?,
-        Name::Data | Name::CharacterEscapeValue => text.extend_from_slice(part)?,
-        Name::LineEnding => text.push(b'\n')?,
-        _ => {}
+    text: &mut String,
+    before: Name,
+    value: Leaf,
+) -> Result<(), AllocError>
+    requires { IsDecodable (marker_of before) value.slice.bytes.now }
+{
+    match decode(alloc, value.slice.as_str(), marker_of(before), true)? {
+        Some(meant) => text.push_str(meant.as_str()),
+        None => Ok(()),
     }
-    Ok(marker)
+}
+
+// Appends what a leaf of a string stands for.
+fn push_leaf(alloc: Global, text: &mut String, before: Name, leaf: Leaf) -> Result<(), AllocError>
+    requires text { IsUtf8 leaf.slice.bytes.now }
+    requires value { leaf.name ≡ N.CharacterReferenceValue → IsDecodable (marker_of before) leaf.slice.bytes.now }
+{
+    match leaf.name {
+        Name::CharacterReferenceValue => push_reference(alloc, text, before, leaf),
+        Name::Data | Name::CharacterEscapeValue => text.push_str(leaf.slice.as_str()),
+        Name::LineEnding => text.push('\n'),
+        _ => Ok(()),
+    }
 }
 
 // Whether an event is the Exit of an innermost event, right behind its Enter.
@@ -65,21 +73,23 @@ fn is_innermost(events: &[Event], exit: usize) -> bool {
 }
 
 // The text that the events of a string stand for.
-fn resolved(alloc: Global, bytes: &[u8], events: &[Event]) -> Result<Vec<u8>, AllocError> {
-    let mut text = Vec::new(alloc);
-    let mut marker = b'&';
-    for exit in 1..events.len() {
-        if is_innermost(events, exit) {
-            let enter = events[exit - 1];
-            let part = between(bytes, enter.point.index, events[exit].point.index);
-            marker = push_part(alloc, &mut text, marker, enter.name, part)?;
-        }
+fn resolved(alloc: Global, bytes: &[u8], events: &[Event]) -> Result<String, AllocError>
+    requires fits { length bytes.now ≤ document_limit }
+    requires places { All (IsInOrder bytes.now) (innermost events.now) }
+    requires texts { LendTexts bytes.now events.now }
+    requires values { EventsHaveValues bytes.now events.now }
+{
+    let mut text = String::new(alloc);
+    let mut before = Name::Data;
+    for leaf in run::leaves(bytes, events) {
+        push_leaf(alloc, &mut text, before, leaf)?;
+        before = leaf.name;
     }
     Ok(text)
 }
 
 // The text of the string that these pieces of a document are; none where they are no content.
-fn string_of(alloc: Global, bytes: &[u8], pieces: &[Piece]) -> Result<Vec<u8>, AllocError> {
+fn string_of(alloc: Global, bytes: &[u8], pieces: &[Piece]) -> Result<String, AllocError> {
     let options = ParseOptions::default();
     let parse_state = ParseState {
         bytes,
@@ -88,9 +98,12 @@ fn string_of(alloc: Global, bytes: &[u8], pieces: &[Piece]) -> Result<Vec<u8>, A
         gfm_footnote_definitions: Vec::new(alloc),
     };
     if !run::is_content(bytes, pieces) {
-        return Ok(Vec::new(alloc));
+        return Ok(String::new(alloc));
     }
     let found = run::string(alloc, &parse_state, pieces)?;
+    // so each leaf is a text, and `decode` takes each value as it is
+    laws::leaves_are_texts();
+    laws::values_are_decodable();
     resolved(alloc, bytes, found.events.as_slice())
 }
 
@@ -106,8 +119,7 @@ pub fn text_between(
         start: (0, 0),
         end: (string.len(), 0),
     }];
-    let text = string_of(alloc, string, &pieces)?;
-    Ok(String::from_utf8_lossy(alloc, text.as_slice())?)
+    string_of(alloc, string, &pieces)
 }
 
 // A piece of the document from an index on, as one of the bytes from there on.
@@ -150,12 +162,11 @@ pub fn text_of_linked(alloc: Global, bytes: &[u8], events: &[Event]) -> Result<S
     };
     let from = first.point.index;
     let pieces = linked_pieces(alloc, events, from)?;
-    let text = string_of(
+    string_of(
         alloc,
         between(bytes, from, last.point.index),
         pieces.as_slice(),
-    )?;
-    Ok(String::from_utf8_lossy(alloc, text.as_slice())?)
+    )
 }
 
 /// The bytes of all innermost events of a list, as text.

@@ -29,3 +29,15 @@ pub mod DestinationsFound
 pub mod WhitespaceFound
 pub mod ResourcesFound
 pub mod AfterLabelFound
+pub mod ReferenceTrees
+pub mod ReferenceRows
+pub mod ReferenceConstructs
+pub mod ReferenceElements
+pub mod ReferencePasses
+pub mod ReferenceBytes
+pub mod ReferenceLaws
+pub mod CharacterRows
+pub mod CharacterConstructs
+pub mod CharacterElements
+pub mod CharacterPasses
+pub mod CharacterLaws

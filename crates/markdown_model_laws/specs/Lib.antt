@@ -11,3 +11,5 @@ pub mod RunsInOrderPair
 pub mod LinkParts
 pub mod ResourceParts
 pub mod EventOrder
+pub mod DecodableValues
+pub mod LentTexts

@@ -16,6 +16,8 @@ ghost use Rattle.markdown_model_laws.specs.RunsInOrderPair.{RunsInOrderMayPair};
 ghost use Rattle.markdown_model_laws.specs.EventOrder.{EventsNeverGoBack};
 ghost use Rattle.markdown_model_laws.specs.LinkParts.{TitlesAreFound, LabelsAreFound, DestinationsAreFound};
 ghost use Rattle.markdown_model_laws.specs.ResourceParts.{ResourcesAreFound, WhatFollowsIsFound};
+ghost use Rattle.markdown_model_laws.specs.DecodableValues.{ValuesAreDecodable};
+ghost use Rattle.markdown_model_laws.specs.LentTexts.{LeavesAreTexts};
 
 /// A one-line text with a backslash before each ASCII punctuation character, read as a string with escapes on, is given
 /// back by what is lent for its data and for what its escapes stand for.
@@ -111,4 +113,15 @@ pub fn resources_are_found()
 /// or nothing.
 pub fn what_follows_is_found()
     ensures { WhatFollowsIsFound }
+{}
+
+/// What is lent for the value of a character reference is a text, and `decode` takes it with the marker that the leaf right before it tells: `#` behind a
+/// number sign, `x` behind an `x` or `X`, and else `&` (CommonMark 2.5).
+pub fn values_are_decodable()
+    ensures { ValuesAreDecodable }
+{}
+
+/// What is lent for each of the innermost events of a content, read as text and read as a string, is text: it begins and ends between characters.
+pub fn leaves_are_texts()
+    ensures { LeavesAreTexts }
 {}

@@ -1,0 +1,294 @@
+-- The passes: each leaf of the inline tree begins with a character.
+use Rattle.std.proofs.Common.{◌≡◌, ◌≢◌, ◌&&◌, ◌||◌, not, ℕ, zero, suc, Bool, true, false, List, [], ◌∷◌, ◌++◌, length, reverse, Option, Some, None, refl, sym, ap, subst, ◌∙◌, append-nil}
+use Rattle.std.specs.Prelude.{codes}
+use Rattle.std.specs.Str.{byte}
+use Rattle.std.proofs.lemmas.List.{reverse-append}
+use Rattle.markdown_engine_content.specs.declared.event.Name.{Name}
+use Rattle.markdown_engine_content.specs.declared.event.Name.TheVariants as N
+use Rattle.markdown_engine_content.specs.Codes.{Code, is_blank}
+use Rattle.markdown_engine_content.specs.Tree.{Forest, empty, leaf_then, group_then, leaf, leaf_codes, ◌⊕◌}
+use Rattle.markdown_engine_content.proofs.TreeCodes.{leaf_codes-row}
+use Rattle.markdown_model.specs.BracketGroups.{paired}
+use Rattle.markdown_model.specs.CodeTests.{is_value, is_among, is_alphanumeric, is_empty, next_is}
+use Rattle.markdown_model.specs.Elements.{elements_of, string_elements_of}
+use Rattle.markdown_model.specs.GfmEmailLiteral.{is_local, is_word, email_protocol, is_xmpp, email_domain, is_email_domain, email_at, email_leaves, with_emails}
+use Rattle.markdown_model.specs.Grammar.{span}
+use Rattle.markdown_model.specs.InlineTree.{raw_tree, finished_text, finished_string, text_tree, string_tree}
+use Rattle.markdown_model.specs.Pairs.{pair_list}
+use Rattle.markdown_model.specs.Passes.{data_onto, merged, trimmed_data, trimmed, with_emails_apart, labels_of, blank_name}
+use Rattle.markdown_model.specs.Setting.{Setting}
+use Rattle.markdown_model.proofs.DefinitionSteps.{span-all}
+use Rattle.markdown_model.proofs.LabelsCover.{codes-labels_of}
+use Rattle.markdown_model.proofs.LeafCodes.{codes-leaf}
+use Rattle.markdown_model.proofs.LiteralCodes.{found, IsFound, reverse-first}
+use Rattle.markdown_model.proofs.OneTree.{codes-finished_text, codes-finished_string, leaves_cover}
+use Rattle.markdown_model.proofs.PassedTrees.{Walks, walks-row, walks-trimmed, walks-mailed}
+use Rattle.markdown_model.proofs.PassesKeepCodes.{codes-merged, codes-paired, codes-trimmed_data}
+use Rattle.markdown_model_laws.proofs.CharacterRows.{is_low, Early, IsSound, AllLow, Lows, Starts, all-early, lows-all, early-front, sound-back, sound-front, low-behind, lows-behind, all-join, low-list, value-low, among-low, IsLowTest}
+use Rattle.markdown_model_laws.proofs.CharacterConstructs.{blank-low, alphanumeric-low, either-low}
+use Rattle.markdown_model_laws.proofs.CharacterElements.{Lead, Flagged, text-labels-fit, string-labels-fit, paired-fits}
+
+-- Merging.
+
+abbrev Led : Forest → Type 0
+Led empty = Unit {0}
+Led (leaf_then name link cs rest) = (Early cs × (cs ≢ [])) × Led rest
+Led (group_then name a b inside rest) = Led inside × Led rest
+
+-- but for the first, where it is unlinked data
+abbrev LedOpen : Forest → Type 0
+LedOpen (leaf_then N.Data None cs rest) = (cs ≢ []) × Led rest
+LedOpen t = Led t
+
+abbrev LedAfter : Bool → Forest → Type 0
+LedAfter true t = LedOpen t
+LedAfter false t = Led t
+
+some-more : (cs ds : List Code) → cs ≢ [] → cs ++ ds ≢ []
+some-more [] ds h e = h refl
+some-more (c ∷ cs) ds h e = cc
+
+early-more : (cs ds : List Code) → cs ≢ [] → Early cs → Early (cs ++ ds)
+early-more [] ds h e = absurd (h refl)
+early-more (c ∷ cs) ds h e = e
+
+onto-led : (f : Bool) (cs : List Code) (t : Forest) → cs ≢ [] → Lead (f && true) cs → LedOpen t → LedAfter f (data_onto cs t)
+onto-led true cs (leaf_then N.Data None ds rest) n l h = (some-more cs ds n, h.1)
+onto-led true cs t n l h = (n, h)
+onto-led false cs (leaf_then N.Data None ds rest) n l h = ((early-more cs ds n l, some-more cs ds n), h.1)
+onto-led false cs t n l h = ((l, n), h)
+
+merged-led : (f : Bool) (t : Forest) → Flagged f t → LedAfter f (merged t)
+unfolding merged
+merged-led true empty h = tt
+merged-led false empty h = tt
+merged-led f (leaf_then N.Data None cs rest) h = onto-led f cs (merged rest) h.0.1.0 h.0.0 (merged-led true rest h.1)
+merged-led true (leaf_then name link cs rest) h = ((h.0.0, h.0.1.0), merged-led false rest h.1)
+merged-led false (leaf_then name link cs rest) h = ((h.0.0, h.0.1.0), merged-led false rest h.1)
+merged-led true (group_then name a b inside rest) h = (merged-led false inside h.0, merged-led false rest h.1)
+merged-led false (group_then name a b inside rest) h = (merged-led false inside h.0, merged-led false rest h.1)
+
+-- Leaves that begin with a character, and are sound.
+
+abbrev pub IsWhole : List Code → Type 0
+IsWhole cs = Starts cs × (cs ≢ [])
+
+abbrev pub AreWhole : Forest → Type 0
+AreWhole empty = Unit {0}
+AreWhole (leaf_then name link cs rest) = IsWhole cs × AreWhole rest
+AreWhole (group_then name a b inside rest) = AreWhole inside × AreWhole rest
+
+led-whole : (t : Forest) → Led t → IsSound (leaf_codes t) → AreWhole t
+led-whole empty h s = tt
+led-whole (leaf_then name link cs rest) h s =
+    (((h.0.0, sound-front cs (leaf_codes rest) s), h.0.1), led-whole rest h.1 (sound-back cs (leaf_codes rest) s))
+led-whole (group_then name a b inside rest) h s =
+    (led-whole inside h.0 (sound-front (leaf_codes inside) (leaf_codes rest) s), led-whole rest h.1 (sound-back (leaf_codes inside) (leaf_codes rest) s))
+
+whole : Walks AreWhole (λ name link cs. IsWhole cs) (λ name a b inside. Unit {0})
+whole = record {
+  none = tt;
+  leaf_of = λ name link cs rest h. h;
+  leaf_to = λ name link cs rest h k. (h, k);
+  group_of = λ name a b inside rest h. (tt, h.0, h.1);
+  group_to = λ name a b inside rest g h k. (h, k);
+}
+
+whole-row : (t u : Forest) → AreWhole t → AreWhole u → AreWhole (t ⊕ u)
+whole-row t u h k = walks-row whole t u h k
+
+whole-leaf : (name : Name) (cs : List Code) → Starts cs → AreWhole (leaf name cs)
+whole-leaf name [] h = tt
+whole-leaf name (c ∷ cs) h = ((h, λ e. cc), tt)
+
+starts-front : (xs ys : List Code) → Starts (xs ++ ys) → Starts xs
+starts-front xs ys h = (early-front xs ys h.0, sound-front xs ys h.1)
+
+starts-back : (xs ys : List Code) → AllLow xs → Starts (xs ++ ys) → Starts ys
+starts-back xs ys l h = (low-behind xs ys l h.1 h.0, sound-back xs ys h.1)
+
+-- Trimming.
+
+low-reverse : (cs : List Code) → AllLow cs → AllLow (reverse cs)
+low-reverse [] h = tt
+low-reverse (c ∷ cs) h =
+    subst AllLow (sym (reverse-append (c ∷ []) cs)) (all-join (reverse cs) (c ∷ []) (low-reverse cs h.1) (h.0, tt))
+
+blank-span : (on : Bool) (cs : List Code) → (let r : List Code × List Code = elim on [ true ↦ span is_blank cs | false ↦ ([], cs) ] in AllLow r.0)
+blank-span true cs = low-list is_blank blank-low (span is_blank cs).0 (span-all is_blank cs)
+blank-span false cs = tt
+
+three : (m n : Name) (a b d cs : List Code) → leaf_codes (leaf N.SpaceOrTab a ⊕ leaf m b ⊕ leaf n d) ≡ cs → a ++ (b ++ d) ≡ cs
+three m n a b d cs e =
+    sym (leaf_codes-row (leaf N.SpaceOrTab a) (leaf m b ⊕ leaf n d) ∙ (λ i. codes-leaf N.SpaceOrTab a i ++ (leaf_codes-row (leaf m b) (leaf n d) ∙ (λ j. codes-leaf m b j ++ codes-leaf n d j)) i)) ∙ e
+
+cut-whole : (front back hard : Bool) (cs : List Code) → Starts cs → AreWhole (trimmed_data front back hard cs)
+cut-whole front back hard cs h =
+    let cut : List Code × List Code = elim back [ true ↦ span is_blank (reverse cs) | false ↦ ([], reverse cs) ] in
+    let kept : List Code = reverse cut.1 in
+    let lead : List Code × List Code = elim front [ true ↦ span is_blank kept | false ↦ ([], kept) ] in
+    let last : List Code = reverse cut.0 in
+    let name : Name = blank_name hard last in
+    let all : lead.0 ++ (lead.1 ++ last) ≡ cs = three N.Data name lead.0 lead.1 last cs (codes-trimmed_data front back hard cs) in
+    let starts : Starts (lead.0 ++ (lead.1 ++ last)) = subst Starts (sym all) h in
+    let first_low : AllLow lead.0 = blank-span front kept in
+    let last_low : AllLow last = low-reverse cut.0 (blank-span back (reverse cs)) in
+    let rest : Starts (lead.1 ++ last) = starts-back lead.0 (lead.1 ++ last) first_low starts in
+    whole-row (leaf N.SpaceOrTab lead.0) (leaf N.Data lead.1 ⊕ leaf name last) (whole-leaf N.SpaceOrTab lead.0 (starts-front lead.0 (lead.1 ++ last) starts))
+    (whole-row (leaf N.Data lead.1) (leaf name last) (whole-leaf N.Data lead.1 (starts-front lead.1 last rest)) (whole-leaf name last (all-early last last_low, sound-back lead.1 last rest.1)))
+
+trimmed-whole : (hard front all : Bool) (t : Forest) → AreWhole t → AreWhole (trimmed hard front all t)
+trimmed-whole hard front all t h =
+    walks-trimmed whole hard (λ x y z cs k. cut-whole x y z cs k.0) (λ name a b inside _ g. tt) front all t h
+
+-- Emails.
+
+local-low : IsLowTest is_local
+local-low = either-low is_alphanumeric (is_among (codes "+-._")) alphanumeric-low (among-low (codes "+-._") refl)
+
+protocol-low : (cs : List Code) → AllLow (email_protocol cs).1
+unfolding email_protocol
+protocol-low [] = tt
+protocol-low (c ∷ cs) =
+    by_tests (is_value (byte ":") c) (is_word "mailto" (reverse (span is_alphanumeric cs).0)) (is_word "xmpp" (reverse (span is_alphanumeric cs).0)) (value-low 58 refl c)
+  where
+    s : List Code × List Code
+    s = span is_alphanumeric cs
+
+    low : AllLow s.0
+    low = low-list is_alphanumeric alphanumeric-low s.0 (span-all is_alphanumeric cs)
+
+    by_tests : (v a b : Bool) → (v ≡ true → is_low c ≡ true) → (let r : Name × List Code × List Code = elim (v && a) [
+      | true ↦ (N.GfmAutolinkLiteralMailto, c ∷ s.0, s.1)
+      | false ↦ elim (v && b) [ true ↦ (N.GfmAutolinkLiteralXmpp, c ∷ s.0, s.1) | false ↦ (N.GfmAutolinkLiteralEmail, [], c ∷ cs) ]
+    ] in AllLow r.1)
+    by_tests true true b h = (h refl, low)
+    by_tests true false true h = (h refl, low)
+    by_tests true false false h = tt
+    by_tests false a b h = tt
+
+domain-low : (slashes : Bool) (cs : List Code) → AllLow (email_domain slashes cs).0
+domain-low slashes [] = tt
+domain-low slashes (c ∷ cs) =
+    by_tests (is_alphanumeric c) (is_among (codes "-_") c) slashes (is_value (byte "/") c) (is_value (byte ".") c) (next_is is_alphanumeric cs) (alphanumeric-low c) (among-low (codes "-_") refl c) (value-low 47 refl c) (value-low 46 refl c) (domain-low slashes cs)
+  where
+    by_tests : (a b x d e g : Bool) → (a ≡ true → is_low c ≡ true) → (b ≡ true → is_low c ≡ true) → (d ≡ true → is_low c ≡ true) → (e ≡ true → is_low c ≡ true) → AllLow (email_domain slashes cs).0 →
+        (let r : List Code × List Code = elim ((a || b) || ((x && d) || (e && g))) [ true ↦ let s = email_domain slashes cs in (c ∷ s.0, s.1) | false ↦ ([], c ∷ cs) ] in AllLow r.0)
+    by_tests true b x d e g h k l m more = (h refl, more)
+    by_tests false true x d e g h k l m more = (k refl, more)
+    by_tests false false true true e g h k l m more = (l refl, more)
+    by_tests false false true false true true h k l m more = (m refl, more)
+    by_tests false false true false true false h k l m more = tt
+    by_tests false false true false false g h k l m more = tt
+    by_tests false false false d true true h k l m more = (m refl, more)
+    by_tests false false false d true false h k l m more = tt
+    by_tests false false false d false g h k l m more = tt
+
+-- the literal is a leaf of ASCII codes
+abbrev IsLowLeaf : Forest → Type 0
+IsLowLeaf t = (name : Name) × (cs : List Code) × (t ≡ leaf name cs) × Lows cs
+
+abbrev HasLowLeaf : Option (List Code × Forest × List Code) → Type 0
+HasLowLeaf None = Unit {0}
+HasLowLeaf (Some r) = IsLowLeaf r.1
+
+with-sign : (a b : List Code) (c : Code) → AllLow a → is_low c ≡ true → AllLow b → Lows (a ++ c ∷ b)
+with-sign [] b c h k l = (k, l)
+with-sign (x ∷ a) b c h k l = (h.0, all-join a (c ∷ b) h.1 (k, l))
+
+email-low : (before : List Code) (at : Code) (after : List Code) → HasLowLeaf (email_at before at after)
+unfolding email_at
+email-low before at after = by_test (is_value (byte "@") at) (not (is_empty local.0) && not (next_is (is_value (byte "/")) local.1)) (is_email_domain domain.0) (value-low 64 refl at)
+  where
+    local : List Code × List Code
+    local = span is_local before
+
+    protocol : Name × List Code × List Code
+    protocol = email_protocol local.1
+
+    domain : List Code × List Code
+    domain = email_domain (is_xmpp protocol.0) after
+
+    front : AllLow (reverse (local.0 ++ protocol.1))
+    front = low-reverse (local.0 ++ protocol.1) (all-join local.0 protocol.1 (low-list is_local local-low local.0 (span-all is_local before)) (protocol-low local.1))
+
+    by_test : (v x d : Bool) → (v ≡ true → is_low at ≡ true) →
+        HasLowLeaf (elim ((v && x) && d) [ true ↦ Some (reverse protocol.2, leaf protocol.0 (reverse (local.0 ++ protocol.1) ++ at ∷ domain.0), domain.1) | false ↦ None ])
+    by_test true true true h = (protocol.0, reverse (local.0 ++ protocol.1) ++ at ∷ domain.0, refl, with-sign (reverse (local.0 ++ protocol.1)) domain.0 at front (h refl) (domain-low (is_xmpp protocol.0) after))
+    by_test true true false h = tt
+    by_test true false d h = tt
+    by_test false x d h = tt
+
+found-whole : (x : List Code × Forest × List Code) (cs : List Code) → IsLowLeaf x.1 → x.0 ++ (leaf_codes x.1 ++ x.2) ≡ cs → Starts cs →
+    Starts x.0 × (AreWhole x.1 × Starts x.2)
+found-whole x cs (name, es, same, low) e h =
+    let starts : Starts (x.0 ++ (leaf_codes x.1 ++ x.2)) = subst Starts (sym e) h in
+    let lows : Lows (leaf_codes x.1) = subst Lows (sym (ap leaf_codes same ∙ codes-leaf name es)) low in
+    let sound : IsSound (leaf_codes x.1 ++ x.2) = sound-back x.0 (leaf_codes x.1 ++ x.2) starts.1 in
+    let own : IsSound es = subst IsSound (ap leaf_codes same ∙ codes-leaf name es) (sound-front (leaf_codes x.1) x.2 sound) in (
+      starts-front x.0 (leaf_codes x.1 ++ x.2) starts,
+      (subst AreWhole (sym same) (whole-leaf name es (all-early es (lows-all es low), own)), (lows-behind (leaf_codes x.1) x.2 lows sound, sound-back (leaf_codes x.1) x.2 sound)),
+    )
+
+emails-whole : (n : ℕ) (before cs : List Code) → Starts (reverse before ++ cs) → AreWhole (email_leaves n before cs)
+unfolding email_leaves
+emails-whole n before [] h = whole-leaf N.Data (reverse before) (subst Starts (append-nil (reverse before)) h)
+emails-whole zero before (c ∷ cs) h = whole-leaf N.Data (reverse before ++ c ∷ cs) h
+emails-whole (suc n) before (c ∷ cs) h = by_answer (email_at before c cs) (found before c cs) (email-low before c cs) (emails-whole n)
+  where
+    by_answer : (r : Option (List Code × Forest × List Code)) → IsFound before c cs r → HasLowLeaf r
+        → ((front ds : List Code) → Starts (reverse front ++ ds) → AreWhole (email_leaves n front ds))
+        → AreWhole (elim r as (λ _. Forest) [ None ↦ email_leaves n (c ∷ before) cs | Some x ↦ leaf N.Data x.0 ⊕ x.1 ⊕ email_leaves n [] x.2 ])
+    by_answer None k l more = more (c ∷ before) cs (subst Starts (sym (reverse-first c before cs)) h)
+    by_answer (Some x) k l more =
+        let parts = found-whole x (reverse before ++ c ∷ cs) l k h in
+        whole-row (leaf N.Data x.0) (x.1 ⊕ email_leaves n [] x.2) (whole-leaf N.Data x.0 parts.0) (whole-row x.1 (email_leaves n [] x.2) parts.1.0 (more [] x.2 parts.1.1))
+
+mailed-whole : (t : Forest) → AreWhole t → AreWhole (with_emails_apart t)
+unfolding with_emails
+mailed-whole t h = walks-mailed whole (λ cs k. emails-whole (length cs) [] cs k.0) (λ name a b inside _ g. tt) t h
+
+-- The inline trees.
+
+module _ (s : Setting) (cs : List Code) (starts : Starts cs) where
+  abbrev Labels : Forest
+  Labels = labels_of (elements_of s cs)
+
+  codes-text : leaf_codes Labels ≡ cs
+  unfolding text_tree
+  codes-text = codes-labels_of (elements_of s cs) ∙ sym (codes-finished_text s (pair_list s) (elements_of s cs)) ∙ (leaves_cover s cs).0
+
+  abbrev Pairs : Forest
+  Pairs = paired s (pair_list s) Labels
+
+  merged-text : AreWhole (merged Pairs)
+  merged-text =
+      led-whole (merged Pairs) (merged-led false Pairs (paired-fits s (pair_list s) Labels (text-labels-fit s cs starts.1 starts.0)))
+      (subst IsSound (sym (codes-merged Pairs ∙ codes-paired s (pair_list s) Labels ∙ codes-text)) starts.1)
+
+  abbrev Done : Forest
+  Done = trimmed s.options.constructs.hard_break_trailing true true (merged Pairs)
+
+  pub text-whole : AreWhole (text_tree s cs)
+  unfolding text_tree finished_text raw_tree
+  text-whole = by_test s.options.constructs.gfm_autolink_literal
+    where
+      done : AreWhole Done
+      done = trimmed-whole s.options.constructs.hard_break_trailing true true (merged Pairs) merged-text
+
+      by_test : (b : Bool) → AreWhole (elim b as (λ _. Forest) [ true ↦ with_emails_apart Done | false ↦ Done ])
+      by_test true = mailed-whole Done done
+      by_test false = done
+
+  abbrev Plain : Forest
+  Plain = labels_of (string_elements_of s cs)
+
+  codes-string : leaf_codes Plain ≡ cs
+  unfolding string_tree
+  codes-string = codes-labels_of (string_elements_of s cs) ∙ sym (codes-finished_string (string_elements_of s cs)) ∙ (leaves_cover s cs).1
+
+  pub string-whole : AreWhole (string_tree s cs)
+  unfolding string_tree finished_string
+  string-whole =
+      trimmed-whole false false false (merged Plain)
+      (led-whole (merged Plain) (merged-led false Plain (string-labels-fit s cs starts.1 starts.0)) (subst IsSound (sym (codes-merged Plain ∙ codes-string)) starts.1))

@@ -1,0 +1,180 @@
+-- The tree of labels of a content has references as they are read.
+use Rattle.std.proofs.Common.{◌≡◌, ◌==◌, ℕ, Bool, true, false, List, [], ◌∷◌, length, take, drop, Option, Some, None, refl}
+use Rattle.std.specs.List.{list_any}
+use Rattle.markdown_engine_content.specs.declared.event.Name.TheVariants as N
+use Rattle.markdown_engine_content.specs.declared.label_kind.LabelKind.{LabelKind}
+use Rattle.markdown_engine_content.specs.Codes.{Code, stop_of, document_start}
+use Rattle.markdown_engine_content.specs.Tree.{Forest, leaf, group, text_group, start_of, ◌⊕◌}
+use Rattle.markdown_model.specs.Grammar.{Reading, either}
+use Rattle.markdown_model.specs.Setting.{Setting}
+use Rattle.markdown_model.specs.LabelEnd.{Element, plain, starts, ends, label_before, label_end}
+use Rattle.markdown_model.specs.Elements.{as_plain, switched, line_ending, data_code, attention_run, label_start_image, gfm_label_start_footnote, label_start_link, code_text, math_text, Tries, tries, tried, first_check, text_element, string_element, text_choice, string_choice, elements_of, string_elements_of}
+use Rattle.markdown_model.specs.Passes.{start_marker, start_tree, label_name, label_group, labels_of}
+use Rattle.markdown_model.proofs.ElementCases.{AllAre, all_are, outcome_yields}
+use Rattle.markdown_model.proofs.LabelTreeFacts.{labels-have}
+use Rattle.markdown_model.proofs.NoLinkInConstructs.{Passes, Yields, yields_bind, yields_gives, yields_passed, yields_either, then_any}
+use Rattle.markdown_model.proofs.OneElementList.{text_elements, string_elements}
+use Rattle.markdown_model_laws.proofs.ReferenceTrees.{is_free, HasReferences}
+use Rattle.markdown_model_laws.proofs.ReferenceRows.{row, free-leaf, free-group, free-between}
+use Rattle.markdown_model_laws.proofs.ReferenceConstructs.{Refers, refers_character_reference, refers_character_escape, refers_hard_break_escape, refers_autolink, refers_code_text, refers_math_text, refers_html_text, refers_gfm_task_list_item_check, refers_gfm_autolink_literal_protocol, refers_gfm_autolink_literal_www, refers_after_label}
+
+-- Elements.
+
+abbrev Has : Element → Type 0
+Has (plain t) = HasReferences t
+Has (starts kind marker) = Unit {0}
+Has (ends marker None) = Unit {0}
+Has (ends marker (Some outcome)) = HasReferences outcome.1
+
+abbrev Have : Reading Element → Type 0
+Have a = Yields Has a
+
+alone : (a : Reading Forest) → Refers a → Have (as_plain a)
+unfolding as_plain
+alone a h = yields_bind HasReferences _ _ _ h λ tree k. yields_gives _ (plain tree) k
+
+on : (b : Bool) (a : Reading Element) → Have a → Have (switched b a)
+unfolding switched
+on b a h = yields_passed _ b a h
+
+own : (b : Bool) (a : Reading Forest) → Refers a → Have (switched b (as_plain a))
+own b a h = on b (as_plain a) (alone a h)
+
+ending : Have line_ending
+unfolding line_ending
+ending = then_any _ _ _ λ c. yields_gives _ (plain (leaf N.LineEnding c)) (free-leaf N.LineEnding c refl)
+
+data-read : Have data_code
+unfolding data_code
+data-read = then_any _ _ _ λ c. yields_gives _ (plain (leaf N.Data c)) (free-leaf N.Data c refl)
+
+run-read : (marker : ℕ) → Have (attention_run marker)
+unfolding attention_run
+run-read marker =
+    then_any _ _ _ λ markers. yields_gives _ (plain (leaf N.AttentionSequence markers)) (free-leaf N.AttentionSequence markers refl)
+
+image-read : (footnotes : Bool) → Have (label_start_image footnotes)
+unfolding label_start_image
+image-read footnotes = then_any _ _ _ λ marker. yields_gives _ (starts LabelKind.Image marker) tt
+
+footnote-read : Have gfm_label_start_footnote
+unfolding gfm_label_start_footnote
+footnote-read = then_any _ _ _ λ marker. yields_gives _ (starts LabelKind.GfmFootnote marker) tt
+
+link-read : Have label_start_link
+unfolding label_start_link
+link-read = then_any _ _ _ λ marker. yields_gives _ (starts LabelKind.Link marker) tt
+
+abbrev HasOutcome : LabelKind × Forest → Type 0
+HasOutcome o = HasReferences o.1
+
+end-read : (s : Setting) (earlier : List Element) → Have (label_end s earlier)
+unfolding label_end
+end-read s earlier =
+    then_any _ _ _ λ back. yields_either _ _ _
+    (yields_bind HasOutcome _ _ _ (outcome_yields HasReferences tt s (refers_after_label s) (label_before earlier) back) λ outcome k. yields_gives _ (ends back (Some outcome)) k)
+    (yields_gives _ (ends back None) tt)
+
+abbrev EachHas : Tries → Type 0
+EachHas [] = Unit {0}
+EachHas (line ∷ rows) = Have line.1 × EachHas rows
+
+tried-has : (rows : Tries) (v : ℕ) → EachHas rows → Have (tried rows v)
+unfolding tried
+tried-has [] v h = data-read
+tried-has (line ∷ rows) v h = by_test (list_any (λ n. v == n) line.0) (tried-has rows v h.1)
+  where
+    by_test : (b : Bool) → Have (tried rows v) →
+        Have (elim b as (λ _. Reading Element) [ true ↦ line.1 | false ↦ tried rows v ])
+    by_test true more = h.0
+    by_test false more = more
+
+both : (a b : Reading Element) → Have a → Have b → Have (either a b)
+both a b h k = yields_either _ a b h k
+
+module _ (s : Setting) (end : ℕ) (earlier : List Element) (previous : Option Code) where
+  each-has : EachHas (tries s end earlier previous)
+  unfolding tries code_text math_text
+  each-has = (
+    ending,
+    (
+      on _ _ (image-read _),
+      (
+        own _ _ (refers_math_text _ _ _),
+        (
+          own _ _ (refers_code_text _ _ _),
+          (
+            own _ _ (refers_character_reference _),
+            (on _ _ (run-read _), (on _ _ (run-read _), (on _ _ (run-read _), from_angles))),
+          ),
+        ),
+      ),
+    ),
+  )
+    where
+      from_brackets : EachHas (drop 11 (tries s end earlier previous))
+      from_brackets = (
+        both _ _ (on _ _ footnote-read) (on _ _ link-read),
+        (both _ _ (own _ _ refers_character_escape) (own _ _ refers_hard_break_escape), (on _ _ (end-read s earlier), tt)),
+      )
+
+      from_angles : EachHas (drop 8 (tries s end earlier previous))
+      from_angles = (
+        both _ _ (own _ _ refers_autolink) (own _ _ refers_html_text),
+        (own _ _ (refers_gfm_autolink_literal_protocol _ _ _), (own _ _ (refers_gfm_autolink_literal_www _ _ _), from_brackets)),
+      )
+
+  text-has : (cs : List Code) → Passes Has (text_element s end earlier previous cs)
+  unfolding text_element first_check
+  text-has [] = tt
+  text-has (c ∷ cs) =
+      (both _ _ (own _ _ refers_gfm_task_list_item_check) (both _ _ (tried-has (tries s end earlier previous) c.value each-has) data-read)).at (c ∷ cs)
+
+string-has : (s : Setting) → Have (string_element s)
+unfolding string_element
+string-has s =
+    both _ _ (own _ _ refers_character_escape) (both _ _ (own _ _ (refers_character_reference _)) (both _ _ ending data-read))
+
+-- Labels.
+
+start-has : (kind : LabelKind) (cs : List Code) → HasReferences (start_tree kind cs)
+start-has LabelKind.Image cs =
+    free-group N.LabelImage _ refl (row (leaf N.LabelImageMarker (take 1 cs)) (leaf N.LabelMarker (drop 1 cs)) (free-leaf N.LabelImageMarker (take 1 cs) refl) (free-leaf N.LabelMarker (drop 1 cs) refl))
+start-has LabelKind.GfmFootnote cs =
+    free-group N.GfmFootnoteCallLabel _ refl (row (leaf N.LabelMarker (take 1 cs)) (leaf N.GfmFootnoteCallMarker (drop 1 cs)) (free-leaf N.LabelMarker (take 1 cs) refl) (free-leaf N.GfmFootnoteCallMarker (drop 1 cs) refl))
+start-has LabelKind.Link cs = free-group N.LabelLink _ refl (free-leaf N.LabelMarker cs refl)
+start-has LabelKind.GfmUndefinedFootnote cs = free-group N.LabelLink _ refl (free-leaf N.LabelMarker cs refl)
+
+name-free : (kind : LabelKind) → is_free (label_name kind) ≡ true
+name-free LabelKind.Image = refl
+name-free LabelKind.GfmFootnote = refl
+name-free LabelKind.Link = refl
+name-free LabelKind.GfmUndefinedFootnote = refl
+
+label-has : (kind : LabelKind) (marker : List Code) (inside : Forest) (back : List Code) (tail : Forest) →
+    HasReferences inside → HasReferences tail → HasReferences (label_group kind marker inside back tail)
+label-has kind marker inside back tail h k =
+    let front : List Code = start_marker kind marker in
+    let caret : List Code = drop (length front) marker in
+    let text : Forest = text_group N.LabelText (stop_of document_start front) (start_of back) (leaf N.Data caret ⊕ inside) in
+    let close : Forest = group N.LabelEnd (leaf N.LabelMarker back) in
+    let label : Forest = start_tree kind front ⊕ text ⊕ close in
+    free-group (label_name kind) (group N.Label label ⊕ tail) (name-free kind)
+    (row (group N.Label label) tail
+    (free-group N.Label label refl
+    (row (start_tree kind front) (text ⊕ close) (start-has kind front)
+    (row text close (free-between N.LabelText (stop_of document_start front) (start_of back) (leaf N.Data caret ⊕ inside) refl (row (leaf N.Data caret) inside (free-leaf N.Data caret refl) h)) (free-group N.LabelEnd _ refl (free-leaf N.LabelMarker back refl)))))
+    k)
+
+labels-refer : (es : List Element) → AllAre Has es → HasReferences (labels_of es)
+labels-refer es h =
+    labels-have HasReferences Has tt row (λ t k. k) (λ kind marker k. free-leaf N.Data marker refl) (λ marker outcome k. free-leaf N.Data marker refl)
+    (λ kind marker inside back outcome m i e. label-has outcome.0 marker inside back outcome.1 i e) es h
+
+pub text-labels : (s : Setting) (cs : List Code) → HasReferences (labels_of (elements_of s cs))
+text-labels s cs =
+    labels-refer (elements_of s cs) (all_are Has (text_choice s cs) (λ earlier previous ds. text-has s _ earlier previous ds) (elements_of s cs) [] None cs (text_elements s cs))
+
+pub string-labels : (s : Setting) (cs : List Code) → HasReferences (labels_of (string_elements_of s cs))
+string-labels s cs =
+    labels-refer (string_elements_of s cs) (all_are Has (string_choice s) (λ earlier previous ds. (string-has s).at ds) (string_elements_of s cs) [] None cs (string_elements s cs))

@@ -1,0 +1,144 @@
+-- What is lent for the value of a reference is decodable.
+use Rattle.std.proofs.Common.{◌≡◌, ℕ, true, List, [], ◌∷◌, ◌++◌, map, refl, sym, ap, subst, inl, inr, append_assoc, append-nil}
+use Rattle.std.specs.Str.{IsUtf8}
+use Rattle.std.proofs.lemmas.Bool.{both_ways}
+use Rattle.markdown_engine_content.specs.Codes.{Code, document_start, stop_of}
+use Rattle.markdown_engine_content.specs.Content.{content_of}
+use Rattle.markdown_engine_content.specs.Slices.{position_bytes}
+use Rattle.markdown_engine_content.specs.Tree.{Forest, empty, leaf_then, group_then, events_of, start_of}
+use Rattle.markdown_engine_content.specs.declared.event.Name.{Name}
+use Rattle.markdown_engine_content.specs.declared.event.Name.TheVariants as N
+use Rattle.markdown_engine_content.specs.declared.event.Point.{Point}
+use Rattle.markdown_util.specs.Reference.{IsNumber}
+use Rattle.markdown_util.proofs.WholeReference.{number_from_value}
+use Rattle.markdown_model.specs.CodeTests.{values_of}
+use Rattle.markdown_model.specs.InlineTree.{text_tree, string_tree}
+use Rattle.markdown_partial.specs.TrimmedEvents.{IsPart}
+use Rattle.markdown_run_leaves.specs.InnermostEvents.{HasLeaves, Span, lent, leaves_of}
+use Rattle.markdown_run_leaves.proofs.InnermostEventsLaws.{lent-leaves}
+use Rattle.markdown_run_leaves.proofs.LeavesAreStretches.{leaves-are-stretches}
+use Rattle.markdown_model_laws.proofs.ReferenceTrees.{is_free, named_row, decimal_row, hexadecimal_row, IsDecimal, IsHexadecimal, IsReference, HasReferences}
+use Rattle.markdown_model_laws.specs.DecodableValues.{IsDecodable, HaveValues, EventsHaveValues, ValuesAreDecodable}
+use Rattle.markdown_model_laws.proofs.ReferenceBytes.{AreLetters, named-letters, decimal-letters, hexadecimal-letters, lent-letters, letters-text, decimal-value, hexadecimal-value}
+use Rattle.markdown_model_laws.proofs.ReferencePasses.{references-known}
+
+module _ (bytes : List ℕ) where
+  abbrev lent_of : List Code → List ℕ
+  lent_of cs = position_bytes bytes (start_of cs) (stop_of document_start cs)
+
+  spelled : (cs : List Code) → IsPart bytes cs → AreLetters cs → lent_of cs ≡ values_of cs
+  spelled cs part h = lent-letters bytes cs part.before part.after part.whole h
+
+  named-fits : (cs : List Code) → IsPart bytes cs → AreLetters cs → IsDecodable 38 (lent_of cs)
+  named-fits cs part h = record {
+    known = inl refl;
+    text = subst IsUtf8 (sym (spelled cs part h)) (letters-text cs h);
+    number = λ off. absurd (off refl);
+  }
+
+  decimal-fits : (t : Forest) (h : IsDecimal t) → IsPart bytes h.value → IsDecodable 35 (lent_of h.value)
+  decimal-fits t h part =
+      let letters = decimal-letters h.value h.digits in
+      let same : lent_of h.value ≡ values_of h.value = spelled h.value part letters in
+      record {
+        known = inr (inl refl);
+        text = subst IsUtf8 (sym same) (letters-text h.value letters);
+        number = λ off. subst (IsNumber 10) (sym same) (number_from_value 35 (values_of h.value) (inr (inl refl)) (decimal-value h.value h.some h.few h.digits) off);
+      }
+
+  hexadecimal-fits : (t : Forest) (h : IsHexadecimal t) → IsPart bytes h.value → IsDecodable 120 (lent_of h.value)
+  hexadecimal-fits t h part =
+      let letters = hexadecimal-letters h.value h.digits in
+      let same : lent_of h.value ≡ values_of h.value = spelled h.value part letters in
+      record {
+        known = inr (inr refl);
+        text = subst IsUtf8 (sym same) (letters-text h.value letters);
+        number = λ off. subst (IsNumber 16) (sym same) (number_from_value 120 (values_of h.value) (inr (inr refl)) (hexadecimal-value h.value h.some h.few h.digits) off);
+      }
+
+  -- Spans.
+
+  abbrev Good : List Span → Type 0
+  Good ss = (before : Name) → HaveValues before (map (lent bytes) ss)
+
+  free-value : (name : Name) → is_free name ≡ true → name ≡ N.CharacterReferenceValue → ⊥
+  free-value name h e = both_ways (is_free name) (ap is_free e) h
+
+  good-free : (s : Span) (ss : List Span) → is_free s.name ≡ true → Good ss → Good (s ∷ ss)
+  unfolding lent
+  good-free s ss h g = λ before. ((λ e. absurd (free-value s.name h e)), g s.name)
+
+  abbrev Goes : Forest → Type 0
+  Goes t = HasReferences t → HasLeaves bytes t → (ss : List Span) → Good ss → Good (leaves_of t ++ ss)
+
+  group-goes : (inside rest : Forest) → Goes inside → Goes rest → HasReferences inside → HasReferences rest →
+      HasLeaves bytes inside → HasLeaves bytes rest → (ss : List Span) → Good ss →
+      Good ((leaves_of inside ++ leaves_of rest) ++ ss)
+  group-goes inside rest in_goes rest_goes h k l m ss g =
+      subst Good (sym (append_assoc (leaves_of inside) (leaves_of rest) ss)) (in_goes h l (leaves_of rest ++ ss) (rest_goes k m ss g))
+
+  named-goes : (a b : Point) (front value back : List Code) (rest : Forest) (ss : List Span) → AreLetters value →
+      HasLeaves bytes (group_then N.CharacterReference a b (named_row front value back) rest) → Good (leaves_of rest ++ ss) →
+      Good (leaves_of (group_then N.CharacterReference a b (named_row front value back) rest) ++ ss)
+  unfolding lent
+  named-goes a b front value back rest ss h l g =
+      λ before. ((λ e. cc), ((λ e. named-fits value l.0.1.0 h), ((λ e. cc), g N.CharacterReferenceMarkerSemi)))
+
+  decimal-goes : (a b : Point) (t : Forest) (h : IsDecimal t) (rest : Forest) (ss : List Span) →
+      HasLeaves bytes (group_then N.CharacterReference a b (decimal_row h.front h.number h.value h.back) rest) → Good (leaves_of rest ++ ss) →
+      Good (leaves_of (group_then N.CharacterReference a b (decimal_row h.front h.number h.value h.back) rest) ++ ss)
+  unfolding lent
+  decimal-goes a b t h rest ss l g =
+      λ before. ((λ e. cc), ((λ e. cc), ((λ e. decimal-fits t h l.0.1.1.0), ((λ e. cc), g N.CharacterReferenceMarkerSemi))))
+
+  hexadecimal-goes : (a b : Point) (t : Forest) (h : IsHexadecimal t) (rest : Forest) (ss : List Span) →
+      HasLeaves bytes (group_then N.CharacterReference a b (hexadecimal_row h.front h.number h.x h.value h.back) rest) → Good (leaves_of rest ++ ss) →
+      Good (leaves_of (group_then N.CharacterReference a b (hexadecimal_row h.front h.number h.x h.value h.back) rest) ++ ss)
+  unfolding lent
+  hexadecimal-goes a b t h rest ss l g =
+      λ before. ((λ e. cc), ((λ e. cc), ((λ e. cc), ((λ e. hexadecimal-fits t h l.0.1.1.1.0), ((λ e. cc), g N.CharacterReferenceMarkerSemi)))))
+
+  abbrev Whole : Point → Point → Forest → Forest → Forest
+  Whole a b rest inside = group_then N.CharacterReference a b inside rest
+
+  rest-leaves : (a b : Point) (inside rest : Forest) → HasLeaves bytes (Whole a b rest inside) → HasLeaves bytes rest
+  rest-leaves a b empty rest l = l.1
+  rest-leaves a b (leaf_then m k cs more) rest l = l.1
+  rest-leaves a b (group_then m c d inner more) rest l = l.1
+
+  reference-goes : (a b : Point) (inside rest : Forest) → Goes rest → IsReference inside → HasReferences rest →
+      HasLeaves bytes (Whole a b rest inside) → (ss : List Span) → Good ss → Good (leaves_of (Whole a b rest inside) ++ ss)
+  reference-goes a b inside rest more (inl h) k l ss g =
+      subst (λ x. Good (leaves_of (Whole a b rest x) ++ ss)) (sym h.row)
+      (named-goes a b h.front h.value h.back rest ss (named-letters h.value h.letters) (subst (λ x. HasLeaves bytes (Whole a b rest x)) h.row l) (more k (rest-leaves a b inside rest l) ss g))
+  reference-goes a b inside rest more (inr (inl h)) k l ss g =
+      subst (λ x. Good (leaves_of (Whole a b rest x) ++ ss)) (sym h.row)
+      (decimal-goes a b inside h rest ss (subst (λ x. HasLeaves bytes (Whole a b rest x)) h.row l) (more k (rest-leaves a b inside rest l) ss g))
+  reference-goes a b inside rest more (inr (inr h)) k l ss g =
+      subst (λ x. Good (leaves_of (Whole a b rest x) ++ ss)) (sym h.row)
+      (hexadecimal-goes a b inside h rest ss (subst (λ x. HasLeaves bytes (Whole a b rest x)) h.row l) (more k (rest-leaves a b inside rest l) ss g))
+
+  goes : (t : Forest) → Goes t
+  goes empty h l ss g = g
+  goes (leaf_then name link cs rest) h l ss g =
+      good-free (record { name = name; start = start_of cs; end = stop_of document_start cs }) (leaves_of rest ++ ss) h.0 (goes rest h.1 l.1 ss g)
+  goes (group_then N.CharacterReference a b inside rest) h l ss g = reference-goes a b inside rest (goes rest) h.0 h.1 l ss g
+  goes (group_then name a b empty rest) h l ss g =
+      good-free (record { name = name; start = a; end = b }) (leaves_of rest ++ ss) h.0 (goes rest h.1.1 l.1 ss g)
+  goes (group_then name a b (leaf_then m k cs more) rest) h l ss g =
+      group-goes (leaf_then m k cs more) rest (goes (leaf_then m k cs more)) (goes rest) h.1.0 h.1.1 l.0 l.1 ss g
+  goes (group_then name a b (group_then m c d inner more) rest) h l ss g =
+      group-goes (group_then m c d inner more) rest (goes (group_then m c d inner more)) (goes rest) h.1.0 h.1.1 l.0 l.1 ss g
+
+  none-good : Good []
+  none-good = λ before. tt
+
+  tree-values : (t : Forest) → HasReferences t → HasLeaves bytes t → EventsHaveValues bytes (events_of t)
+  tree-values t h l before =
+      subst (HaveValues before) (sym (lent-leaves bytes t (events_of t) refl)) (subst Good (append-nil (leaves_of t)) (goes t h l [] none-good) before)
+
+pub values-are-decodable : ValuesAreDecodable
+values-are-decodable s pieces content =
+    let known = references-known s (content_of s.bytes pieces) in
+    let leaves = leaves-are-stretches s pieces content in
+    (tree-values s.bytes (text_tree s (content_of s.bytes pieces)) known.0 leaves.0, tree-values s.bytes (string_tree s (content_of s.bytes pieces)) known.1 leaves.1)

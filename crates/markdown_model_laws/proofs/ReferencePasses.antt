@@ -1,0 +1,156 @@
+-- The inline tree of each content has references as they are read.
+use Rattle.std.proofs.Common.{◌≡◌, ℕ, suc, Bool, true, false, ◌&&◌, ◌||◌, List, None, refl, ap, ◌∙◌, inl, inr}
+use Rattle.markdown_engine_content.specs.declared.event.Name.TheVariants as N
+use Rattle.markdown_engine_content.specs.Codes.{Code}
+use Rattle.markdown_engine_content.specs.Tree.{Forest, empty, leaf_then, group_then, leaf}
+use Rattle.markdown_model.specs.Elements.{elements_of, string_elements_of}
+use Rattle.markdown_model.specs.GfmEmailLiteral.{with_emails}
+use Rattle.markdown_model.specs.BracketGroups.{Token, run_tokens, assembled, tokens_of, paired}
+use Rattle.markdown_model.specs.InlineTree.{raw_tree, finished_text, finished_string, text_tree, string_tree}
+use Rattle.markdown_model.specs.Pairs.{Pair, pair_list}
+use Rattle.markdown_model.specs.Passes.{data_onto, merged, begins_line_ending, is_nothing, trimmed_data, trimmed, with_emails_apart, labels_of}
+use Rattle.markdown_model.specs.Runs.{Run, run_of, runs_of}
+use Rattle.markdown_model.specs.Setting.{Setting}
+use Rattle.markdown_model.proofs.BracketGroupFacts.{word-append}
+use Rattle.markdown_model.proofs.GivenNames.{pair-named, email-named}
+use Rattle.markdown_model.proofs.PairGroupFacts.{Any, any-parts, HasWord, run-has, assembled-has}
+use Rattle.markdown_model.proofs.PassedTrees.{trimmed_data-has, with_emails-has}
+use Rattle.markdown_model_laws.proofs.ReferenceTrees.{is_free, named_row, decimal_row, hexadecimal_row, IsReference, HasReferences, ReferencesAreKnown}
+use Rattle.markdown_model_laws.proofs.ReferenceRows.{row, free-leaf, free-between}
+use Rattle.markdown_model_laws.proofs.ReferenceElements.{text-labels, string-labels}
+
+-- What keeps the leaves of a reference keeps a reference.
+reference-kept : (f : Forest → Forest) → ((front value back : List Code) → f (named_row front value back) ≡ named_row front value back)
+    → ((front number value back : List Code) → f (decimal_row front number value back) ≡ decimal_row front number value back)
+    → ((front number x value back : List Code) → f (hexadecimal_row front number x value back) ≡ hexadecimal_row front number x value back)
+    → (t : Forest) → IsReference t → IsReference (f t)
+reference-kept f n d x t (inl h) =
+    inl (record { front = h.front; value = h.value; back = h.back; row = ap f h.row ∙ n h.front h.value h.back; letters = h.letters })
+reference-kept f n d x t (inr (inl h)) =
+    inr (inl (record { front = h.front; number = h.number; value = h.value; back = h.back; row = ap f h.row ∙ d h.front h.number h.value h.back; some = h.some; few = h.few; digits = h.digits }))
+reference-kept f n d x t (inr (inr h)) =
+    inr (inr (record { front = h.front; number = h.number; x = h.x; value = h.value; back = h.back; row = ap f h.row ∙ x h.front h.number h.x h.value h.back; some = h.some; few = h.few; digits = h.digits }))
+
+-- Pairs.
+
+data-has : (cs : List Code) → Any cs → HasReferences (leaf N.Data cs)
+data-has cs h = free-leaf N.Data cs refl
+
+abbrev HaveWord : List Token → Type 0
+HaveWord w = HasWord HasReferences Any data-has w
+
+assembled-refers : (w : List Token) → HaveWord w → HasReferences (assembled w)
+assembled-refers w h =
+    assembled-has HasReferences Any data-has tt row
+    (λ m n cs _. free-leaf _ cs (pair-named (λ names. is_free names.1 ≡ true) refl refl refl m n))
+    (λ m n a b f k. free-between _ a b f (pair-named (λ names. is_free names.0 ≡ true) refl refl refl m n) k)
+    (λ m n a b f k. free-between _ a b f (pair-named (λ names. is_free names.2 ≡ true) refl refl refl m n) k) w h
+
+module _ (s : Setting) (pairs_of : List Run → List Pair) where
+  abbrev inner : Forest → Forest
+  inner f = assembled (tokens_of s pairs_of f (pairs_of (runs_of s f)) 0)
+
+  reference-assembled : (f : Forest) → IsReference f → IsReference (inner f)
+  unfolding tokens_of
+  reference-assembled f h =
+      reference-kept inner (λ front value back. refl) (λ front number value back. refl) (λ front number x value back. refl) f h
+
+  tokens-refer : (f : Forest) (pairs : List Pair) (n : ℕ) → HasReferences f → HaveWord (tokens_of s pairs_of f pairs n)
+  unfolding tokens_of
+  tokens-refer empty pairs n h = tt
+  tokens-refer (leaf_then N.AttentionSequence link cs rest) pairs n h =
+      word-append HasReferences Any Any (run_tokens pairs n (run_of s cs)) (tokens_of s pairs_of rest pairs (suc n)) (run-has HasReferences Any data-has any-parts pairs n (run_of s cs) tt) (tokens-refer rest pairs (suc n) h.1)
+  tokens-refer (leaf_then name link cs rest) pairs n h = ((h.0, tt), tokens-refer rest pairs n h.1)
+  tokens-refer (group_then N.CharacterReference a b inside rest) pairs n h =
+      ((reference-assembled inside h.0, tt), tokens-refer rest pairs n h.1)
+  tokens-refer (group_then name a b inside rest) pairs n h =
+      let own : List Pair = pairs_of (runs_of s inside) in
+      ((h.0, (assembled-refers (tokens_of s pairs_of inside own 0) (tokens-refer inside own 0 h.1.0), tt)), tokens-refer rest pairs n h.1.1)
+
+  paired-refers : (f : Forest) → HasReferences f → HasReferences (paired s pairs_of f)
+  unfolding paired
+  paired-refers f h =
+      assembled-refers (tokens_of s pairs_of f (pairs_of (runs_of s f)) 0) (tokens-refer f (pairs_of (runs_of s f)) 0 h)
+
+-- Merging.
+
+onto-refers : (cs : List Code) (t : Forest) → HasReferences t → HasReferences (data_onto cs t)
+onto-refers cs (leaf_then N.Data None more rest) h = h
+onto-refers cs t h = (refl, h)
+
+reference-merged : (t : Forest) → IsReference t → IsReference (merged t)
+unfolding merged
+reference-merged t h =
+    reference-kept merged (λ front value back. refl) (λ front number value back. refl) (λ front number x value back. refl) t h
+
+merged-refers : (t : Forest) → HasReferences t → HasReferences (merged t)
+unfolding merged
+merged-refers empty h = tt
+merged-refers (leaf_then N.Data None cs rest) h = onto-refers cs (merged rest) (merged-refers rest h.1)
+merged-refers (leaf_then name link cs rest) h = (h.0, merged-refers rest h.1)
+merged-refers (group_then N.CharacterReference a b inside rest) h = (reference-merged inside h.0, merged-refers rest h.1)
+merged-refers (group_then name a b inside rest) h = (h.0, (merged-refers inside h.1.0, merged-refers rest h.1.1))
+
+-- Trimming.
+
+cut-refers : (front back hard : Bool) (cs : List Code) → HasReferences (trimmed_data front back hard cs)
+cut-refers front back hard cs =
+    trimmed_data-has HasReferences row (λ ds. free-leaf N.Data ds refl) (λ ds. free-leaf N.HardBreakTrailing ds refl) (λ ds. free-leaf N.SpaceOrTab ds refl) front back hard cs
+
+reference-trimmed : (hard : Bool) (t : Forest) → IsReference t → IsReference (trimmed hard false false t)
+unfolding trimmed
+reference-trimmed hard t h =
+    reference-kept (trimmed hard false false) (λ front value back. refl) (λ front number value back. refl) (λ front number x value back. refl) t h
+
+trimmed-refers : (hard front whole : Bool) (t : Forest) → HasReferences t → HasReferences (trimmed hard front whole t)
+unfolding trimmed
+trimmed-refers hard front whole empty h = tt
+trimmed-refers hard front whole (leaf_then N.Data None cs rest) h =
+    row (trimmed_data front (begins_line_ending rest || (whole && is_nothing rest)) (hard && begins_line_ending rest) cs) (trimmed hard false whole rest) (cut-refers _ _ _ cs) (trimmed-refers hard false whole rest h.1)
+trimmed-refers hard front whole (leaf_then N.LineEnding link cs rest) h = (refl, trimmed-refers hard true whole rest h.1)
+trimmed-refers hard front whole (leaf_then name link cs rest) h = (h.0, trimmed-refers hard false whole rest h.1)
+trimmed-refers hard front whole (group_then N.CharacterReference a b inside rest) h =
+    (reference-trimmed hard inside h.0, trimmed-refers hard false whole rest h.1)
+trimmed-refers hard front whole (group_then name a b inside rest) h =
+    (h.0, (trimmed-refers hard false false inside h.1.0, trimmed-refers hard false whole rest h.1.1))
+
+-- Emails.
+
+emails-refer : (cs : List Code) → HasReferences (with_emails cs)
+emails-refer cs =
+    with_emails-has HasReferences row (λ ds. free-leaf N.Data ds refl) (λ before ds. free-leaf _ ds (email-named (λ name. is_free name ≡ true) refl refl refl before)) cs
+
+reference-mailed : (t : Forest) → IsReference t → IsReference (with_emails_apart t)
+unfolding with_emails_apart
+reference-mailed t h =
+    reference-kept with_emails_apart (λ front value back. refl) (λ front number value back. refl) (λ front number x value back. refl) t h
+
+mailed-refers : (t : Forest) → HasReferences t → HasReferences (with_emails_apart t)
+unfolding with_emails_apart
+mailed-refers empty h = tt
+mailed-refers (leaf_then N.Data None cs rest) h =
+    row (with_emails cs) (with_emails_apart rest) (emails-refer cs) (mailed-refers rest h.1)
+mailed-refers (leaf_then name link cs rest) h = (h.0, mailed-refers rest h.1)
+mailed-refers (group_then N.CharacterReference a b inside rest) h = (reference-mailed inside h.0, mailed-refers rest h.1)
+mailed-refers (group_then N.Link a b inside rest) h = (refl, (h.1.0, mailed-refers rest h.1.1))
+mailed-refers (group_then name a b inside rest) h = (h.0, (mailed-refers inside h.1.0, mailed-refers rest h.1.1))
+
+pub references-known : ReferencesAreKnown
+unfolding text_tree string_tree finished_text finished_string raw_tree
+references-known s cs =
+    (by_test s.options.constructs.gfm_autolink_literal, trimmed-refers false false false (merged (labels_of (string_elements_of s cs))) (merged-refers (labels_of (string_elements_of s cs)) (string-labels s cs)))
+  where
+    labels : Forest
+    labels = labels_of (elements_of s cs)
+
+    done : Forest
+    done = trimmed s.options.constructs.hard_break_trailing true true (merged (paired s (pair_list s) labels))
+
+    refers : HasReferences done
+    refers =
+        trimmed-refers s.options.constructs.hard_break_trailing true true (merged (paired s (pair_list s) labels))
+        (merged-refers (paired s (pair_list s) labels) (paired-refers s (pair_list s) labels (text-labels s cs)))
+
+    by_test : (b : Bool) → HasReferences (elim b [ true ↦ with_emails_apart done | false ↦ done ])
+    by_test true = mailed-refers done refers
+    by_test false = refers
