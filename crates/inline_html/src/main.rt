@@ -17,8 +17,9 @@ ghost use Rattle.markdown_run_text.specs.RunSetting.{text_setting_of};
 
 mod words;
 
+use markdown_html::targets::Targets;
 use markdown_html::to_html;
-use markdown_html_model::options::{Definition, HtmlOptions};
+use markdown_html_model::options::HtmlOptions;
 use markdown_inline::parser::{ParseState, Piece};
 use markdown_inline::run;
 use std::alloc::{AllocError, Global};
@@ -75,10 +76,10 @@ fn html_of(
     parse_state: &ParseState,
     pieces: &[Piece],
     first_of_item: bool,
-    definitions: &[Definition],
+    definitions: &Targets,
     options: HtmlOptions,
 ) -> Result<Option<Vec<u8>>, AllocError>
-    ensures { let s = text_setting_of parse_state.now first_of_item in let tree = text_tree s (content_of s.bytes pieces.now) in IfOk result (λ found. IfSome found (λ written. written.items ≡ html (page_from s.bytes definitions.now options) tree)) }
+    ensures { let s = text_setting_of parse_state.now first_of_item in let tree = text_tree s (content_of s.bytes pieces.now) in IfOk result (λ found. IfSome found (λ written. written.items ≡ html (page_from parse_state.now definitions.now options) tree)) }
 {
     if !run::is_text(parse_state.bytes, pieces) {
         return Ok(None);
@@ -86,7 +87,7 @@ fn html_of(
     let found = run::text(alloc, parse_state, pieces, first_of_item)?;
     let html = to_html(
         alloc,
-        parse_state.bytes,
+        parse_state,
         found.events.as_slice(),
         definitions,
         options,
@@ -113,13 +114,13 @@ fn html(alloc: Global, bytes: &[u8], asked: Asked) -> Result<Vec<u8>, Fault> {
         start: (0, 0),
         end: (bytes.len(), 0),
     }];
-    let definitions = definitions.as_slice();
+    let definitions = words::targets_of(alloc, definitions)?;
     let found = html_of(
         alloc,
         &parse_state,
         &pieces,
         first_of_item,
-        definitions,
+        &definitions,
         html,
     )?;
     found.ok_or(Fault::BlankLine)

@@ -1,4 +1,5 @@
 // The words of the program.
+use markdown_html::targets::Targets;
 use markdown_html_model::options::{Definition, HtmlOptions};
 use markdown_inline::configuration::ParseOptions;
 use markdown_inline::util::normalize_identifier::normalize_identifier;
@@ -108,4 +109,16 @@ pub(crate) fn identifiers_of(
         identifiers.push(String::from_str(alloc, definition.identifier.as_str())?)?;
     }
     Ok(identifiers)
+}
+
+/// The definitions, to be found by their identifiers.
+pub(crate) fn targets_of(
+    alloc: Global,
+    definitions: Vec<Definition>,
+) -> Result<Targets, AllocError> {
+    let mut targets = Targets::new(alloc);
+    for definition in definitions {
+        targets.push(definition)?;
+    }
+    Ok(targets)
 }

@@ -1,3 +1,4 @@
 pub mod EventLoop
+pub mod FirstWith
 pub mod Lists
 pub mod WalkTree

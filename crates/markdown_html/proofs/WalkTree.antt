@@ -2,13 +2,13 @@
 use Rattle.std.proofs.Common.{◌≡◌, ◌∙◌, sym, ap, refl, ℕ, ◌+◌, Bool, true, false, List, [], ◌∷◌, ◌++◌, append-nil, append_assoc, length, take, drop, Option, None, Some}
 use Rattle.std.proofs.Math.Seq.{drop-append_seam, take-append_seam}
 use Rattle.markdown_engine_content.specs.Codes.{stop_of, document_start}
-use Rattle.markdown_engine_content.specs.Tree.{Forest, empty, leaf_then, group_then, start_of, event, event_count, events_from, next_linked, events_of}
+use Rattle.markdown_engine_content.specs.Tree.{Forest, empty, leaf_then, group_then, start_of, event, event_count, events_from, next_linked}
 use Rattle.markdown_engine_content.specs.declared.event.Event.{Event}
 use Rattle.markdown_engine_content.specs.declared.event.Kind.{Kind}
 use Rattle.markdown_engine_content.specs.declared.event.Link.{Link}
 use Rattle.markdown_engine_content.specs.declared.event.Name.{Name}
 use Rattle.markdown_engine_content.specs.declared.event.Point.{Point}
-use Rattle.markdown_html_model.specs.Html.{Page, Parts, Written, no_parts, joined_parts, or_else, own_parts, string_of, text_between, leaf_html, within_of, opening, closing, group_html, written, innermost, around, beside, nothing, html}
+use Rattle.markdown_html_model.specs.Html.{Page, Parts, Written, no_parts, joined_parts, or_else, own_parts, string_of, text_between, leaf_html, within_of, opening, closing, group_html, written, innermost, around, beside, nothing}
 use Rattle.markdown_html_model.specs.Roles.{role_of}
 use Rattle.markdown_html_model.specs.declared.role.Role.{Role}
 use Rattle.markdown_html_model.specs.declared.role.Within.{Within}
@@ -26,24 +26,26 @@ or_else-assoc : {A : Type 0} (x y z : Option A) → or_else x (or_else y z) ≡ 
 or_else-assoc None y z = refl
 or_else-assoc (Some x) y z = refl
 
-parts_with : Option (List ℕ) → Option (List ℕ) → Option (ℕ × ℕ) → Parts
-parts_with destination title label = record { destination = destination; title = title; label = label }
+parts_with : Option (List ℕ) → Option (List ℕ) → Option (ℕ × ℕ) → Option (ℕ × ℕ) → Parts
+parts_with destination title label reference = record { destination = destination; title = title; label = label; reference = reference }
 
-same-parts : (a b : Option (List ℕ)) (c d : Option (List ℕ)) (e f : Option (ℕ × ℕ)) → a ≡ b → c ≡ d → e ≡ f → parts_with a c e ≡ parts_with b d f
-same-parts a b c d e f g h k = ap (λ x. parts_with x c e) g ∙ ap (λ x. parts_with b x e) h ∙ ap (λ x. parts_with b d x) k
+same-parts : (a b c d : Option (List ℕ)) (e f i j : Option (ℕ × ℕ)) → a ≡ b → c ≡ d → e ≡ f → i ≡ j → parts_with a c e i ≡ parts_with b d f j
+same-parts a b c d e f i j g h k l =
+    ap (λ x. parts_with x c e i) g ∙ ap (λ x. parts_with b x e i) h ∙ ap (λ x. parts_with b d x i) k ∙ ap (λ x. parts_with b d f x) l
 
 -- parts read one after the other
 joined-assoc : (x y z : Parts) → joined_parts (joined_parts x y) z ≡ joined_parts x (joined_parts y z)
 unfolding parts_with
 joined-assoc x y z =
-    same-parts _ _ _ _ _ _
+    same-parts _ _ _ _ _ _ _ _
     (or_else-assoc z.destination y.destination x.destination)
     (or_else-assoc z.title y.title x.title)
     (or_else-assoc z.label y.label x.label)
+    (or_else-assoc z.reference y.reference x.reference)
 
 joined-first : (x : Parts) → joined_parts no_parts x ≡ x
 unfolding parts_with
-joined-first x = same-parts _ _ _ _ _ _ (or_else-none x.destination) (or_else-none x.title) (or_else-none x.label)
+joined-first x = same-parts _ _ _ _ _ _ _ _ (or_else-none x.destination) (or_else-none x.title) (or_else-none x.label) (or_else-none x.reference)
 
 state_with : State → List ℕ → Parts → State
 state_with s out parts = record s { out = out; parts = parts }
@@ -82,6 +84,7 @@ kept p within Role.Link a b inside parts e = cc
 kept p within Role.Image a b inside parts e = cc
 kept p within Role.Footnote a b inside parts e = cc
 kept p within Role.Label a b inside parts e = refl
+kept p within Role.FullReference a b inside parts e = refl
 kept p within Role.Destination a b inside parts e = cc
 kept p within Role.TitleText a b inside parts e = cc
 kept p within Role.Title a b inside parts e = refl
@@ -110,6 +113,7 @@ replaced within Role.Link e = refl
 replaced within Role.Image e = refl
 replaced within Role.Footnote e = refl
 replaced within Role.Label e = cc
+replaced within Role.FullReference e = cc
 replaced within Role.Destination e = refl
 replaced within Role.TitleText e = refl
 replaced within Role.Title e = cc
@@ -212,10 +216,12 @@ walk-tree p (leaf_then name (Some content) cs t) n previous s rest =
     leaf-walk p name (start_of cs) (stop_of document_start cs) (Some (record { previous = previous; next = next_linked (n + 2) t; content = content })) t (walk-tree p t) (n + 2) (Some n) s rest
 walk-tree p (group_then name a b inside t) n previous s rest = group-cases p name a b inside t (walk-tree p inside) (walk-tree p t) n previous s rest
 
--- the walk over all events of a tree
-pub walk-whole : (p : Page) (t : Forest) → walked p beginning (events_of t) ≡ after beginning (written p Within.Outside t)
-walk-whole p t = ap (walked p beginning) (sym (append-nil (events_of t))) ∙ walk-tree p t 0 None beginning []
+-- the walk over all events of trees
+pub walk-whole : (p : Page) (within : Within) (n : ℕ) (previous : Option ℕ) (t : Forest) → walked p (beginning within) (events_from n previous t) ≡ after (beginning within) (written p within t)
+walk-whole p within n previous t = ap (walked p (beginning within)) (sym (append-nil (events_from n previous t))) ∙ walk-tree p t n previous (beginning within) []
 
-pub walk-html : (p : Page) (t : Forest) (s : State) → walked p beginning (events_of t) ≡ s → s.out ≡ html p t
-unfolding html
-walk-html p t s e = ap (λ x. State.out x) (sym e) ∙ ap (λ x. State.out x) (walk-whole p t)
+abbrev pub html_within : Page → Within → Forest → List ℕ
+html_within p within t = let w = written p within t in w.html
+
+pub walk-html : (p : Page) (within : Within) (n : ℕ) (previous : Option ℕ) (t : Forest) (s : State) → walked p (beginning within) (events_from n previous t) ≡ s → s.out ≡ html_within p within t
+walk-html p within n previous t s e = ap (λ x. State.out x) (sym e) ∙ ap (λ x. State.out x) (walk-whole p within n previous t)

@@ -97,6 +97,6 @@ abbrev pub walked : Page → State → List Event → State
 walked p s [] = s
 walked p s (e ∷ rest) = walked p (stepped p s e rest) rest
 
--- the state after trees from this state
-abbrev pub beginning : State
-beginning = record { out = []; within = Within.Outside; parts = no_parts; opened = [] }
+-- before all events, which stand somewhere
+abbrev pub beginning : Within → State
+beginning within = record { out = []; within = within; parts = no_parts; opened = [] }

@@ -1,2 +1,4 @@
+pub mod DefinitionView
+pub mod FirstDefinitions
 pub mod View
 pub mod EventWalk

@@ -1,8 +1,8 @@
 -- What the types of the writer are, as the definitions see them.
-use Rattle.std.specs.Prelude.{List, ℕ, map, reverse, string_bytes}
+use Rattle.std.specs.Prelude.{List, map, reverse}
 use Rattle.std.specs.Option.{option_map}
+use Rattle.markdown_engine_content.specs.declared.parser.ParseState.{ParseState}
 use Rattle.markdown_html_model.specs.Html.{Defined, Page, Parts, Target}
-use Rattle.markdown_html_model.specs.declared.options.Definition.{Definition}
 use Rattle.markdown_html_model.specs.declared.options.HtmlOptions.{HtmlOptions}
 use Rattle.markdown_html.specs.EventWalk.{Open, State}
 use Rattle.markdown_html.specs.declared.addresses.Given.{Given}
@@ -11,18 +11,20 @@ use Rattle.markdown_html.specs.declared.targets.Goal.{Goal}
 use Rattle.markdown_html.specs.declared.writer.Entry.{Entry}
 use Rattle.markdown_html.specs.declared.writer.Writer.{Writer}
 
-abbrev pub defined_of : Definition → Defined
-defined_of d = record { identifier = string_bytes d.identifier; destination = string_bytes d.destination; title = option_map string_bytes d.title }
-
--- what a run of the writer is given
-abbrev pub page_from : List ℕ → List Definition → HtmlOptions → Page
-page_from bytes definitions options = record { bytes = bytes; definitions = map defined_of definitions; options = options }
+-- what stands beside the tree of a run with this parse state
+abbrev pub page_from : ParseState → List Defined → HtmlOptions → Page
+page_from s definitions options = record {
+  bytes = s.bytes.now;
+  footnotes_on = s.options.now.constructs.gfm_label_start_footnote;
+  definitions = definitions;
+  options = options;
+}
 
 abbrev pub page_of : Given → Page
-page_of g = page_from g.bytes.now g.definitions.now g.options
+page_of g = record { bytes = g.bytes.now; footnotes_on = g.footnotes_on; definitions = g.definitions.now; options = g.options }
 
 abbrev pub parts_of : Found → Parts
-parts_of f = record { destination = option_map (λ v. v.items) f.destination; title = option_map (λ v. v.items) f.title; label = f.label }
+parts_of f = record { destination = option_map (λ v. v.items) f.destination; title = option_map (λ v. v.items) f.title; label = f.label; reference = f.reference }
 
 abbrev pub target_view : Goal → Target
 target_view g = record { destination = g.destination.now; title = option_map (λ t. t.now) g.title }

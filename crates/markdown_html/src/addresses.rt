@@ -6,7 +6,8 @@ ghost use Rattle.markdown_html_text.specs.Schemes.{link_schemes, image_schemes};
 ghost use Rattle.markdown_html_model.specs.Html.{address, tag, text_html, title_attribute};
 ghost use Rattle.markdown_html.specs.View.{page_of};
 
-use markdown_html_model::options::{Definition, HtmlOptions};
+use crate::targets::Targets;
+use markdown_html_model::options::HtmlOptions;
 use markdown_html_model::role::Within;
 use markdown_html_text::escape::{push_address, push_escaped};
 use markdown_html_text::scheme::{is_safe_image, is_safe_link};
@@ -16,7 +17,8 @@ use std::alloc::AllocError;
 #[derive(Clone, Copy)]
 pub(crate) struct Given<'a> {
     pub(crate) bytes: &'a [u8],
-    pub(crate) definitions: &'a [Definition],
+    pub(crate) footnotes_on: bool,
+    pub(crate) definitions: &'a Targets,
     pub(crate) options: HtmlOptions,
 }
 

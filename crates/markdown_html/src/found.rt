@@ -16,6 +16,7 @@ pub(crate) struct Found {
     pub(crate) destination: Option<Vec<u8>>,
     pub(crate) title: Option<Vec<u8>>,
     pub(crate) label: Option<(usize, usize)>,
+    pub(crate) reference: Option<(usize, usize)>,
 }
 
 impl Found {
@@ -26,6 +27,7 @@ impl Found {
             destination: None,
             title: None,
             label: None,
+            reference: None,
         }
     }
 
@@ -37,6 +39,7 @@ impl Found {
             destination: later.destination.or(self.destination),
             title: later.title.or(self.title),
             label: later.label.or(self.label),
+            reference: later.reference.or(self.reference),
         }
     }
 
@@ -64,6 +67,7 @@ impl Found {
                 own.destination = Some(or_empty(alloc, own.destination));
             }
             Role::Label => own.label = Some((from.index, to.index)),
+            Role::FullReference => own.reference = Some((from.index, to.index)),
             Role::Link | Role::Image | Role::Footnote => {}
             _ => own = self,
         }

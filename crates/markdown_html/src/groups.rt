@@ -1,7 +1,7 @@
 // What holds others: what is written around its inside, or in place of it.
 #![tactic(auto)]
 
-ghost use Rattle.std.specs.Prelude.{◌≡◌, ◌++◌, ◌==◌, if◌then◌else◌, not, IfOk, OnOk, map};
+ghost use Rattle.std.specs.Prelude.{◌≡◌, ◌++◌, ◌==◌, codes, if◌then◌else◌, not, IfOk, OnOk, map};
 ghost use Rattle.std.specs.List.{list_any};
 ghost use Rattle.markdown_html_text.specs.Resolved.{resolved};
 ghost use Rattle.markdown_html_model.specs.Html.{begins_with_space, check_html, closing, ends_with_space, group_html, image_html, link_html, opening, span_html, span_text, text_html, without_padding};
@@ -11,8 +11,9 @@ use crate::addresses::{
     Given, push_image_address, push_link_address, push_tag, push_text, push_title,
 };
 use crate::found::Found;
+use crate::references::target;
 use crate::stretch::{bytes_before, bytes_between};
-use crate::targets::{Goal, target};
+use crate::targets::Goal;
 use markdown_engine_content::event::Point;
 use markdown_html_model::role::{Role, Within};
 use markdown_html_text::escape::push_escaped;
@@ -108,6 +109,18 @@ fn push_span(
     out.extend_from_slice(b"</code>")
 }
 
+fn push_math(
+    alloc: Global,
+    out: &mut Vec<u8>,
+    within: Within,
+    inside: &[u8],
+) -> Result<(), AllocError>
+    ensures { OnOk result (out.new.items ≡ out.old.items ++ span_html within (codes "<code class=\"language-math math-inline\">") (span_text inside.now)) }
+{
+    let front = b"<code class=\"language-math math-inline\">";
+    push_span(alloc, out, within, front, inside)
+}
+
 fn push_link(
     given: &Given,
     out: &mut Vec<u8>,
@@ -179,6 +192,20 @@ fn push_check(out: &mut Vec<u8>, within: Within, inside: &[u8]) -> Result<(), Al
     }
 }
 
+// The inside as it stands, between what is written before it and after it.
+fn push_inside(
+    out: &mut Vec<u8>,
+    within: Within,
+    role: Role,
+    inside: &[u8],
+) -> Result<(), AllocError>
+    ensures { OnOk result (out.new.items ≡ out.old.items ++ opening within role ++ inside.now ++ closing within role) }
+{
+    push_opening(out, within, role)?;
+    out.extend_from_slice(inside)?;
+    push_closing(out, within, role)
+}
+
 // What is written of something from one place to another, by what is inside it.
 pub(crate) fn push_group(
     alloc: Global,
@@ -193,34 +220,16 @@ pub(crate) fn push_group(
 ) -> Result<(), AllocError>
     ensures { OnOk result (out.new.items ≡ out.old.items ++ group_html (page_of given.now) within role from to inside.now (parts_of found.now)) }
 {
+    let text = bytes_between(given.bytes, from.index, to.index);
     match role {
         Role::Code => push_span(alloc, out, within, b"<code>", inside),
-        Role::Math => push_span(
-            alloc,
-            out,
-            within,
-            b"<code class=\"language-math math-inline\">",
-            inside,
-        ),
-        Role::Reference => push_reference(
-            alloc,
-            out,
-            within,
-            bytes_between(given.bytes, from.index, to.index),
-        ),
-        Role::Footnote => push_text(
-            out,
-            within,
-            bytes_between(given.bytes, from.index, to.index),
-        ),
+        Role::Math => push_math(alloc, out, within, inside),
+        Role::Reference => push_reference(alloc, out, within, text),
+        Role::Footnote => push_text(out, within, text),
         Role::Link => push_link(given, out, within, target(alloc, given, found)?, inside),
         Role::Image => push_image(given, out, within, target(alloc, given, found)?, inside),
         Role::Check => push_check(out, within, inside),
         Role::Destination | Role::TitleText | Role::Resource | Role::Tail => Ok(()),
-        _ => {
-            push_opening(out, within, role)?;
-            out.extend_from_slice(inside)?;
-            push_closing(out, within, role)
-        }
+        _ => push_inside(out, within, role, inside),
     }
 }

@@ -5,8 +5,9 @@ mod addresses;
 mod found;
 mod groups;
 mod leaves;
+mod references;
 mod stretch;
-mod targets;
+pub mod targets;
 mod writer;
 
-pub use writer::to_html;
+pub use writer::{text_of, to_html};

@@ -1,17 +1,17 @@
-// Where links and images lead.
+//! Where labels lead.
 #![tactic(auto)]
 
-ghost use Rattle.std.specs.Prelude.{◌≡◌, IfOk, map, option_map, string_bytes};
-ghost use Rattle.markdown_html_model.specs.Html.{defined, label_text, target_of};
-ghost use Rattle.markdown_html.specs.View.{defined_of, page_of, parts_of, target_view};
-ghost use Rattle.markdown_util.specs.Identifier.{identifier_of};
+ghost use Rattle.std.specs.Prelude.{◌≡◌, ◌++◌, ◌∷◌, [], None, OnErr, OnOk, option_map, string_bytes};
+ghost use Rattle.std.specs.List.{slice_get};
+ghost use Rattle.markdown_html_model.specs.Html.{defined, nowhere};
+ghost use Rattle.markdown_html.specs.FirstDefinitions.{IsDefined, first_with, target_there, target_with};
+ghost use Rattle.markdown_html.specs.DefinitionView.{defined_of};
+ghost use Rattle.markdown_html.specs.View.{target_view};
 
-use crate::addresses::Given;
-use crate::found::Found;
-use crate::stretch::bytes_between;
 use markdown_html_model::options::Definition;
-use markdown_util::util::normalize_identifier::normalize_identifier;
 use std::alloc::{AllocError, Global};
+use std::collections::BTreeMap;
+use std::marker::Model;
 
 // Where a link or an image leads, and its title.
 #[derive(Clone, Copy)]
@@ -20,7 +20,131 @@ pub(crate) struct Goal<'a> {
     pub(crate) title: Option<&'a [u8]>,
 }
 
-fn title_of<'a>(title: &'a Option<String>) -> Option<&'a [u8]>
+impl<'a> Goal<'a> {
+    pub(crate) fn nowhere() -> Goal<'a>
+        ensures { target_view result ≡ nowhere }
+    {
+        Goal {
+            destination: b"",
+            title: None,
+        }
+    }
+}
+
+/// What labels are defined to be, each found by a search.
+///
+/// Of several with one identifier the first counts (CommonMark 4.7). Contracts see the definitions in the order in which they were added.
+#[derive(Drop)]
+pub struct Targets {
+    definitions: Vec<Definition>,
+    // Where the first with each identifier stands.
+    numbers: BTreeMap<String, usize>,
+}
+
+impl Model for Targets {
+    ghost use Rattle.std.specs.Prelude.{◌≡◌, List, ℕ, map};
+    ghost use Rattle.std.specs.BTreeMap.{get_by_text};
+    ghost use Rattle.markdown_html_model.specs.Html.{Defined};
+    ghost use Rattle.markdown_html.specs.FirstDefinitions.{first_with};
+    ghost use Rattle.markdown_html.specs.DefinitionView.{defined_of};
+
+    ghost Value = { List Defined };
+
+    ghost view = { λ t. map defined_of t.definitions.items };
+
+    ghost invariant = { λ t. (identifier : List ℕ) → get_by_text t.numbers identifier ≡ first_with identifier (map defined_of t.definitions.items) };
+}
+
+impl Targets {
+    /// No definitions. Takes no memory.
+    pub fn new(alloc: Global) -> Targets
+        ensures { result ≡ [] }
+    {
+        Targets {
+            definitions: Vec::new(alloc),
+            numbers: BTreeMap::new(alloc),
+        }
+    }
+
+    // Where the first definition with an identifier stands.
+    fn first_with(&self, identifier: &str) -> Option<usize>
+        ensures { result ≡ first_with identifier.now self.now }
+    {
+        self.numbers.get(identifier).copied()
+    }
+
+    // Adds a definition that is the first with its identifier.
+    fn push_first(&mut self, definition: Definition) -> Result<(), AllocError>
+        requires { first_with (string_bytes definition.identifier) self.old ≡ None }
+        ensures ok { OnOk result (self.new ≡ self.old ++ defined_of definition ∷ []) }
+        ensures err { OnErr result (self.new ≡ self.old) }
+    {
+        let key = definition.identifier.clone()?;
+        let number = self.definitions.len();
+        self.definitions.push(definition)?;
+        match self.numbers.insert(key, number) {
+            Ok(_) => Ok(()),
+            Err(_) => {
+                self.definitions.pop();
+                Err(AllocError)
+            }
+        }
+    }
+
+    // Adds a definition that has one with its identifier before it.
+    fn push_later(&mut self, definition: Definition) -> Result<(), AllocError>
+        requires { IsDefined (string_bytes definition.identifier) self.old }
+        ensures ok { OnOk result (self.new ≡ self.old ++ defined_of definition ∷ []) }
+        ensures err { OnErr result (self.new ≡ self.old) }
+    {
+        self.definitions.push(definition)?;
+        Ok(())
+    }
+
+    /// Adds a definition.
+    ///
+    /// Takes time in proportion to its identifier, and to the logarithm of how many there are. The only error is that memory was refused;
+    /// nothing is added then.
+    pub fn push(&mut self, definition: Definition) -> Result<(), AllocError>
+        ensures ok { OnOk result (self.new ≡ self.old ++ defined_of definition ∷ []) }
+        ensures err { OnErr result (self.new ≡ self.old) }
+    {
+        match self.first_with(definition.identifier.as_str()) {
+            Some(_) => self.push_later(definition),
+            None => self.push_first(definition),
+        }
+    }
+
+    // The definition that stands somewhere.
+    fn at(&self, number: usize) -> Option<&Definition>
+        ensures { option_map (λ d. defined_of d.now) result ≡ slice_get self.now number }
+    {
+        self.definitions.as_slice().get(number)
+    }
+
+    // Where the definition leads that stands somewhere.
+    fn goal_at(&self, number: usize) -> Goal
+        ensures { target_view result ≡ target_there (slice_get self.now number) }
+    {
+        match self.at(number) {
+            Some(definition) => goal_of(definition),
+            None => Goal::nowhere(),
+        }
+    }
+
+    // Where the first definition with an identifier leads; nowhere where there is none.
+    #[tactic(auto, using(crate::proofs::FirstWith::defined_first))]
+    pub(crate) fn find(&self, identifier: &str) -> Goal
+        ensures { target_view result ≡ defined identifier.now self.now }
+    {
+        match self.first_with(identifier) {
+            Some(number) => self.goal_at(number),
+            None => Goal::nowhere(),
+        }
+    }
+}
+
+fn title_of(title: &Option<String>) -> Option<&[u8]>
     ensures { option_map (λ t. t.now) result ≡ option_map string_bytes title.now }
 {
     match title {
@@ -29,63 +153,11 @@ fn title_of<'a>(title: &'a Option<String>) -> Option<&'a [u8]>
     }
 }
 
-// The first definition with an identifier; an empty address without a title where there is none.
-fn defined<'a>(identifier: &[u8], definitions: &'a [Definition]) -> Goal<'a>
-    ensures { target_view result ≡ defined identifier.now (map defined_of definitions.now) }
+fn goal_of(definition: &Definition) -> Goal
+    ensures { target_view result ≡ target_with (defined_of definition.now) }
 {
-    for definition in definitions {
-        if definition.identifier.as_bytes() == identifier {
-            return Goal {
-                destination: definition.destination.as_bytes(),
-                title: title_of(&definition.title),
-            };
-        }
-    }
     Goal {
-        destination: b"",
-        title: None,
+        destination: definition.destination.as_bytes(),
+        title: title_of(&definition.title),
     }
-}
-
-// The text of a label; its bytes are UTF-8 in every document.
-fn label_text(bytes: &[u8], place: (usize, usize)) -> &str
-    ensures { result.now ≡ label_text bytes.now place }
-{
-    match str::from_utf8(bytes_between(bytes, place.0, place.1)) {
-        Ok(text) => text,
-        Err(_) => "",
-    }
-}
-
-fn slice_of<'a>(text: &'a Option<Vec<u8>>) -> Option<&'a [u8]>
-    ensures { option_map (λ t. t.now) result ≡ option_map (λ v. v.items) text.now }
-{
-    match text {
-        Some(text) => Some(text.as_slice()),
-        None => None,
-    }
-}
-
-// Where what has been found leads.
-pub(crate) fn target<'a>(
-    alloc: Global,
-    given: &Given<'a>,
-    found: &'a Found,
-) -> Result<Goal<'a>, AllocError>
-    ensures { IfOk result (λ to. target_view to ≡ target_of (page_of given.now) (parts_of found.now)) }
-{
-    if let Some(destination) = slice_of(&found.destination) {
-        return Ok(Goal {
-            destination,
-            title: slice_of(&found.title),
-        });
-    }
-    let Some(place) = found.label else {
-        return Ok(Goal {
-            destination: b"",
-            title: None,
-        });
-    };
-    let identifier = normalize_identifier(alloc, label_text(given.bytes, place))?;
-    Ok(defined(identifier.as_bytes(), given.definitions))
 }

@@ -1,13 +1,13 @@
 // The walk over events.
 #![tactic(auto)]
 
-ghost use Rattle.std.specs.Prelude.{◌≡◌, ◌≤◌, ◌++◌, ◌∷◌, IfOk, OnOk, drop, false, length, take, true};
+ghost use Rattle.std.specs.Prelude.{◌≡◌, ◌≤◌, ◌++◌, ◌∷◌, IfOk, OnOk, Option, drop, false, length, take, true, ℕ};
 ghost use Rattle.std.specs.List.{All};
 ghost use Rattle.markdown_engine_content.specs.Content.{document_limit};
-ghost use Rattle.markdown_engine_content.specs.Tree.{Forest, events_of};
+ghost use Rattle.markdown_engine_content.specs.Tree.{Forest, events_from, events_of};
 ghost use Rattle.markdown_partial.specs.TrimmedData.{IsStretch};
 ghost use Rattle.markdown_run_leaves.specs.InnermostEvents.{innermost, IsInOrder};
-ghost use Rattle.markdown_html_model.specs.Html.{group_html, html, within_of};
+ghost use Rattle.markdown_html_model.specs.Html.{group_html, html, plain_text, within_of, written};
 ghost use Rattle.markdown_html_model.specs.Roles.{role_of};
 ghost use Rattle.markdown_html_laws.specs.OwnMarkup.{IsOwnMarkup};
 ghost use Rattle.markdown_html.specs.View.{open_view, page_from, page_of, parts_of, state_of};
@@ -18,8 +18,10 @@ use crate::found::{Found, string_of};
 use crate::groups::{push_closing, push_group, push_opening};
 use crate::leaves::push_leaf;
 use crate::stretch::text_between;
+use crate::targets::Targets;
 use markdown_engine_content::event::{Event, Kind, Point};
-use markdown_html_model::options::{Definition, HtmlOptions};
+use markdown_engine_content::parser::ParseState;
+use markdown_html_model::options::HtmlOptions;
 use markdown_html_model::role::{Role, Within, role_of};
 use markdown_html_text::resolve::bytes_from;
 use std::alloc::{AllocError, Global};
@@ -234,10 +236,38 @@ fn step(
     }
 }
 
+// Writes trees that stand somewhere.
+fn written(
+    alloc: Global,
+    given: &Given,
+    within: Within,
+    events: &[Event],
+) -> Result<Vec<u8>, AllocError>
+    requires fits { length given.now.bytes.now ≤ document_limit }
+    requires places { All (IsInOrder given.now.bytes.now) (innermost events.now) }
+    ensures { (n : ℕ) (previous : Option ℕ) (t : Forest) → events.now ≡ events_from n previous t → IfOk result (λ out. let w = written (page_of given.now) within t in out.items ≡ w.html) }
+{
+    let mut writer = Writer {
+        out: Vec::new(alloc),
+        within,
+        found: Found::nothing(),
+        entries: Vec::new(alloc),
+    };
+    let mut left = events;
+    while let Some((event, rest)) = left.split_first() {
+        step(&mut writer, alloc, given, *event, rest)?;
+        left = rest;
+    }
+    Ok(writer.out)
+}
+
 /// The HTML of the tree whose events these are, over the bytes of a document.
 ///
-/// The events are those of a run over these bytes. A reference leads to the first definition with its identifier, and to an empty address where there is none. A
-/// look goes over the definitions for each reference; all else takes time and memory in proportion to the events, their text, and what is written.
+/// The events are those of a run with this parse state, of which the bytes and the options are read. A reference leads to the first definition with its
+/// identifier, and to an empty address where there is none.
+///
+/// Each reference takes time in proportion to its text, and to the logarithm of how many definitions there are. All else takes time and memory in proportion
+/// to the events, their text, and what is written.
 ///
 /// With raw HTML off no text becomes markup: what is written is text without `<`, `>` and `"`, and elements of a list, balanced and nested. Where `any_link`
 /// is off too, each `href` and `src` in it is empty, relative, or of a listed scheme, as a browser reads it.
@@ -245,32 +275,43 @@ fn step(
 /// The error comes only where memory is refused.
 pub fn to_html(
     alloc: Global,
-    bytes: &[u8],
+    parse_state: &ParseState,
     events: &[Event],
-    definitions: &[Definition],
+    definitions: &Targets,
     options: HtmlOptions,
 ) -> Result<Vec<u8>, AllocError>
-    requires fits { length bytes.now ≤ document_limit }
-    requires places { All (IsInOrder bytes.now) (innermost events.now) }
-    ensures exact { (t : Forest) → events.now ≡ events_of t → IfOk result (λ written. written.items ≡ html (page_from bytes.now definitions.now options) t) }
+    requires fits { length parse_state.now.bytes.now ≤ document_limit }
+    requires places { All (IsInOrder parse_state.now.bytes.now) (innermost events.now) }
+    ensures exact { (t : Forest) → events.now ≡ events_of t → IfOk result (λ written. written.items ≡ html (page_from parse_state.now definitions.now options) t) }
     ensures own { (t : Forest) → events.now ≡ events_of t → options.raw_html ≡ false → IfOk result (λ written. IsOwnMarkup true written.items) }
     ensures safe { (t : Forest) → events.now ≡ events_of t → options.raw_html ≡ false → options.any_link ≡ false → IfOk result (λ written. IsOwnMarkup false written.items) }
 {
     let given = Given {
-        bytes,
+        bytes: parse_state.bytes,
+        footnotes_on: parse_state.options.constructs.gfm_label_start_footnote,
         definitions,
         options,
     };
-    let mut writer = Writer {
-        out: Vec::new(alloc),
-        within: Within::Outside,
-        found: Found::nothing(),
-        entries: Vec::new(alloc),
+    written(alloc, &given, Within::Outside, events)
+}
+
+/// The text of the trees whose events these are, over the bytes of a document, as the description of an image has it (CommonMark 6.4).
+///
+/// Escapes and character references are resolved, and no markup is left. The destinations and titles of links are no part of it. The events are those of
+/// a run over these bytes, of all that stands inside a node, or of a node and its later siblings.
+///
+/// The error comes only where memory is refused.
+pub fn text_of(alloc: Global, bytes: &[u8], events: &[Event]) -> Result<Vec<u8>, AllocError>
+    requires fits { length bytes.now ≤ document_limit }
+    requires places { All (IsInOrder bytes.now) (innermost events.now) }
+    ensures { (n : ℕ) (previous : Option ℕ) (t : Forest) → events.now ≡ events_from n previous t → IfOk result (λ text. text.items ≡ plain_text bytes.now t) }
+{
+    let definitions = Targets::new(alloc);
+    let given = Given {
+        bytes,
+        footnotes_on: false,
+        definitions: &definitions,
+        options: HtmlOptions::safe(),
     };
-    let mut left = events;
-    while let Some((event, rest)) = left.split_first() {
-        step(&mut writer, alloc, &given, *event, rest)?;
-        left = rest;
-    }
-    Ok(writer.out)
+    written(alloc, &given, Within::InText, events)
 }

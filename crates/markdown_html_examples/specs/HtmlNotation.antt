@@ -1,12 +1,22 @@
 -- The words of examples of HTML.
 use Rattle.std.specs.Prelude.{ℕ, List, [], ◌∷◌, length}
 use Rattle.markdown_engine_content.specs.Content.{content_of}
-use Rattle.markdown_html_model.specs.Html.{Defined, html}
+use Rattle.markdown_engine_content.specs.Tree.{Forest}
+use Rattle.markdown_html_model.specs.Html.{Defined, html, plain_text}
 use Rattle.markdown_html_model.specs.declared.options.HtmlOptions.{HtmlOptions}
 use Rattle.markdown_model.specs.InlineTree.{text_tree}
 use Rattle.markdown_model_examples.specs.ExampleNotation.{RowSetting, piece, setting}
 
+-- the tree of the text that a document is
+abbrev pub tree_of : RowSetting → List ℕ → Forest
+tree_of r bytes = text_tree (setting r bytes) (content_of bytes (piece 0 0 (length bytes) 0 ∷ []))
+
 -- the HTML of the text that a document is
 abbrev pub html_answer : RowSetting → HtmlOptions → List Defined → List ℕ → List ℕ
 html_answer r options definitions bytes =
-    html (record { bytes = bytes; definitions = definitions; options = options }) (text_tree (setting r bytes) (content_of bytes (piece 0 0 (length bytes) 0 ∷ [])))
+    let on = r.options.constructs in
+    html (record { bytes = bytes; footnotes_on = on.gfm_label_start_footnote; definitions = definitions; options = options }) (tree_of r bytes)
+
+-- the plain text of the text that a document is
+abbrev pub text_answer : RowSetting → List ℕ → List ℕ
+text_answer r bytes = plain_text bytes (tree_of r bytes)

@@ -2,7 +2,7 @@
 use Rattle.std.specs.Prelude.{◌≡◌, true, false, [], ◌∷◌, codes, Some, None}
 use Rattle.markdown_engine_content.specs.DefaultOptions.{default_options, default_constructs}
 use Rattle.markdown_model_examples.specs.ExampleNotation.{default}
-use Rattle.markdown_html_examples.specs.HtmlNotation.{html_answer}
+use Rattle.markdown_html_examples.specs.HtmlNotation.{html_answer, text_answer}
 
 abbrev pub RuleRows : Type 0
 RuleRows =
@@ -67,4 +67,12 @@ RuleRows =
     -- «[a](?b:c)»: «<a href="?b:c">a</a>»
     (html_answer (default) (record { raw_html = false; any_link = false }) ([]) (codes "[a](?b:c)") ≡ (codes "<a href=\"?b:c\">a</a>")) ×
     -- «[a](%20%a&amp;[)»: «<a href="%20%25a&amp;%5B">a</a>»
-    (html_answer (default) (record { raw_html = false; any_link = false }) ([]) (codes "[a](%20%a&amp;[)") ≡ (codes "<a href=\"%20%25a&amp;%5B\">a</a>"))
+    (html_answer (default) (record { raw_html = false; any_link = false }) ([]) (codes "[a](%20%a&amp;[)") ≡ (codes "<a href=\"%20%25a&amp;%5B\">a</a>")) ×
+    -- «[^ a]»: «<a href="b">^ a</a>»
+    (html_answer (record default { options = record default_options { constructs = record default_constructs { gfm_label_start_footnote = true } }; definitions = (codes "^a") ∷ [] }) (record { raw_html = false; any_link = false }) ((record { identifier = codes "^a"; destination = codes "b"; title = None }) ∷ []) (codes "[^ a]") ≡ (codes "<a href=\"b\">^ a</a>")) ×
+    -- «[^ a]»: «<a href="b">^ a</a>»
+    (html_answer (record default { definitions = (codes "^ a") ∷ [] }) (record { raw_html = false; any_link = false }) ((record { identifier = codes "^ a"; destination = codes "b"; title = None }) ∷ []) (codes "[^ a]") ≡ (codes "<a href=\"b\">^ a</a>")) ×
+    -- «[c][^ a]»: «<a href="b">c</a>»
+    (html_answer (record default { options = record default_options { constructs = record default_constructs { gfm_label_start_footnote = true } }; definitions = (codes "^ a") ∷ [] }) (record { raw_html = false; any_link = false }) ((record { identifier = codes "^ a"; destination = codes "b"; title = None }) ∷ []) (codes "[c][^ a]") ≡ (codes "<a href=\"b\">c</a>")) ×
+    -- «*a* [b](c "d") ![e](f) &amp;\* <g> `h`»: «a b e &* <g> h»
+    (text_answer (default) (codes "*a* [b](c \"d\") ![e](f) &amp;\\* <g> `h`") ≡ (codes "a b e &* <g> h"))

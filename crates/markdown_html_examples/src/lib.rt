@@ -11,8 +11,8 @@ pub fn specification_rows()
     ensures { SpecificationRows }
 {}
 
-/// What the specification has no example for: strikethrough, math spans, task checks, literals, footnote calls, raw HTML as text, and addresses that are
-/// not safe.
+/// What the specification has no example for: strikethrough, math spans, task checks, literals, footnotes, raw HTML as text, addresses that are not
+/// safe, and plain text.
 pub fn rule_rows()
     ensures { RuleRows }
 {}

@@ -1,11 +1,10 @@
 -- The HTML of an inline tree (CommonMark 0.31, chapter 6; GFM's strikethrough, literals, task checks and footnote calls; math spans).
-use Rattle.std.specs.Prelude.{ℕ, ◌+◌, ◌-◌, Bool, true, false, not, ◌&&◌, ◌||◌, ◌==◌, if◌then◌else◌, List, [], ◌∷◌, ◌++◌, length, map, take, drop, replicate, codes, Option, None, Some}
+use Rattle.std.specs.Prelude.{ℕ, ◌-◌, Bool, true, false, not, ◌&&◌, ◌||◌, ◌==◌, if◌then◌else◌, List, [], ◌∷◌, ◌++◌, length, map, take, drop, replicate, codes, Option, None, Some}
 use Rattle.std.specs.List.{list_any}
 use Rattle.std.specs.Str.{byte, bytes_eq, is_utf8}
-use Rattle.markdown_engine_content.specs.Codes.{Code, stop_of, document_start}
+use Rattle.markdown_engine_content.specs.Codes.{stop_of, document_start}
 use Rattle.markdown_engine_content.specs.Slices.{position_bytes, spaces_before, spaces_after}
 use Rattle.markdown_engine_content.specs.Tree.{Forest, empty, leaf_then, group_then, start_of}
-use Rattle.markdown_engine_content.specs.declared.event.Name.{Name}
 use Rattle.markdown_engine_content.specs.declared.event.Point.{Point}
 use Rattle.markdown_util.specs.Identifier.{identifier_of}
 use Rattle.markdown_html_text.specs.Escaped.{escaped, addressed}
@@ -22,9 +21,10 @@ pub record Defined : Type 0 where
   pub destination : List ℕ
   pub title : Option (List ℕ)
 
--- what stands beside the tree: the document, what labels are defined to be, and what may be written
+-- what stands beside the tree: the document, whether footnotes were looked for, what labels are defined to be, and what may be written
 pub record Page : Type 0 where
   pub bytes : List ℕ
+  pub footnotes_on : Bool
   pub definitions : List Defined
   pub options : HtmlOptions
 
@@ -40,25 +40,27 @@ bytes_from bytes from to = take (to - from) (drop from bytes)
 
 -- Where a link or an image leads.
 
--- what has been read of a link or an image so far: its destination and title, and where the text of its label stands
+-- what has been read of a link or an image so far: its destination and title, and where the text of its label stands, and that of a full reference
 pub record Parts : Type 0 where
   pub destination : Option (List ℕ)
   pub title : Option (List ℕ)
   pub label : Option (ℕ × ℕ)
+  pub reference : Option (ℕ × ℕ)
 
 abbrev pub no_parts : Parts
-no_parts = record { destination = None; title = None; label = None }
+no_parts = record { destination = None; title = None; label = None; reference = None }
 
 abbrev pub or_else : {A : Type 0} → Option A → Option A → Option A
 or_else None y = y
 or_else (Some x) y = Some x
 
--- the parts of siblings: what comes later counts, so that the text of a full reference goes before that of the label
+-- the parts of siblings: what comes later counts
 abbrev pub joined_parts : Parts → Parts → Parts
 joined_parts x y = record {
   destination = or_else y.destination x.destination;
   title = or_else y.title x.title;
   label = or_else y.label x.label;
+  reference = or_else y.reference x.reference;
 }
 
 abbrev pub or_empty : Option (List ℕ) → List ℕ
@@ -78,6 +80,7 @@ own_parts Role.TitleText a b string inside = record no_parts { title = Some stri
 own_parts Role.Title a b string inside = record inside { title = Some (or_empty inside.title) }
 own_parts Role.Resource a b string inside = record inside { destination = Some (or_empty inside.destination) }
 own_parts Role.Label a b string inside = record no_parts { label = Some (a.index, b.index) }
+own_parts Role.FullReference a b string inside = record no_parts { reference = Some (a.index, b.index) }
 own_parts Role.Link a b string inside = no_parts
 own_parts Role.Image a b string inside = no_parts
 own_parts Role.Footnote a b string inside = no_parts
@@ -95,19 +98,36 @@ abbrev pub defined : List ℕ → List Defined → Target
 defined identifier [] = nowhere
 defined identifier (d ∷ ds) = if bytes_eq d.identifier identifier then record { destination = d.destination; title = d.title } else defined identifier ds
 
--- the bytes of a label, which are UTF-8 as the document is
-abbrev pub label_text : List ℕ → ℕ × ℕ → List ℕ
-label_text bytes place = let text = bytes_from bytes place.0 place.1 in if is_utf8 text then text else []
+-- the identifier of bytes, which are UTF-8 as the document is
+abbrev pub text_identifier : List ℕ → List ℕ
+text_identifier text = identifier_of (if is_utf8 text then text else [])
 
--- the target in a resource, or else that of the definition that the label names
+-- what follows a caret
+abbrev pub behind_caret : List ℕ → Option (List ℕ)
+behind_caret [] = None
+behind_caret (b ∷ bs) = if b == byte "^" then Some bs else None
+
+-- the identifier of a label's text. Where footnotes are looked for, a caret stands before the identifier of what follows it.
+abbrev pub label_identifier : Bool → List ℕ → List ℕ
+label_identifier false text = text_identifier text
+label_identifier true text = elim (behind_caret text) [ None ↦ text_identifier text | Some name ↦ byte "^" ∷ text_identifier name ]
+
+-- the target that a label has by its text
+abbrev pub label_target : Page → Option (ℕ × ℕ) → Target
+label_target p None = nowhere
+label_target p (Some place) = defined (label_identifier p.footnotes_on (bytes_from p.bytes place.0 place.1)) p.definitions
+
+-- that of a full reference, and else that of the label
+abbrev pub reference_target : Page → Option (ℕ × ℕ) → Option (ℕ × ℕ) → Target
+reference_target p label None = label_target p label
+reference_target p label (Some place) = defined (text_identifier (bytes_from p.bytes place.0 place.1)) p.definitions
+
+-- the target in a resource, and else that of the definition that is referred to (CommonMark 6.3)
 abbrev pub target_of : Page → Parts → Target
 target_of p parts =
     elim (parts.destination) [
       | Some destination ↦ record { destination = destination; title = parts.title }
-      | None ↦ elim (parts.label) [
-        | None ↦ nowhere
-        | Some place ↦ defined (identifier_of (label_text p.bytes place)) p.definitions
-      ]
+      | None ↦ reference_target p parts.label parts.reference
     ]
 
 -- Tags and text.
@@ -268,3 +288,11 @@ written p within (group_then name a b inside rest) = beside (around p within (ro
 -- the HTML of a tree
 unfoldable pub html : Page → Forest → List ℕ
 html p tree = let w = written p Within.Outside tree in w.html
+
+-- a document alone: text asks for nothing else
+abbrev pub text_page : List ℕ → Page
+text_page bytes = record { bytes = bytes; footnotes_on = false; definitions = []; options = record { raw_html = false; any_link = false } }
+
+-- the text of trees over a document, as the description of an image has it
+unfoldable pub plain_text : List ℕ → Forest → List ℕ
+plain_text bytes trees = let w = written (text_page bytes) Within.InText trees in w.html

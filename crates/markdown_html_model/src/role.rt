@@ -58,8 +58,10 @@ pub enum Role {
     Image,
     /// A footnote call.
     Footnote,
-    /// The text of a label, or of a full reference.
+    /// The text of a label.
     Label,
+    /// The text of a full reference.
+    FullReference,
     /// The text of a destination.
     Destination,
     /// The text of a title.
@@ -104,7 +106,8 @@ pub fn role_of(name: Name) -> Role
         Name::Link => Role::Link,
         Name::Image => Role::Image,
         Name::GfmFootnoteCall => Role::Footnote,
-        Name::LabelText | Name::ReferenceString => Role::Label,
+        Name::LabelText => Role::Label,
+        Name::ReferenceString => Role::FullReference,
         Name::ResourceDestinationString => Role::Destination,
         Name::ResourceTitleString => Role::TitleText,
         Name::ResourceTitle => Role::Title,

@@ -1,0 +1,20 @@
+use Rattle.std.proofs.Common.{subst, All}
+use Rattle.markdown_run_leaves.specs.InnermostEvents.{innermost, IsInOrder}
+use Rattle.markdown_html.specs.View.{page_of, state_of}
+use Rattle.markdown_html.proofs.Lists.{later_in_order}
+use Rattle.markdown_html.proofs.EventLoop.{walked_more, walked_end}
+use Rattle.markdown_html.proofs.writer.written.Goals as goal
+
+pub loop-event-preserved : goal.loop-event-preserved
+loop-event-preserved c =
+    let bytes = c.args.given.now.bytes.now in
+    let event = c.in-Some.event.now in
+    let rest = c.in-Some.rest.now in
+    record {
+      whole = walked_more (page_of c.args.given.now) _ (state_of c.loop-event.writer) (state_of c.step.new.writer) c.loop-event.left.now event rest c.loop-event.invariant.whole c.in-Some.ensures.cases.0 c.in_ok-step.ensures;
+      places = later_in_order bytes event rest (subst (λ es. All (IsInOrder bytes) (innermost es)) c.in-Some.ensures.cases.0 c.loop-event.invariant.places);
+    }
+
+pub returns : goal.returns
+returns c = λ n previous t is.
+    walked_end (page_of c.args.given.now) c.args.within n previous t c.args.events.now (state_of c.loop-event.writer) c.loop-event.left.now c.loop-event.invariant.whole c.in_default.ensures.cases is
