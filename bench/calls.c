@@ -49,15 +49,18 @@ static int read_one(const char *text, size_t len) {
 
 int main(int argc, char **argv) {
     static char text[1 << 20];
+    static struct { size_t from, len; } contents[1 << 12];
     long repeats = argc > 1 ? atol(argv[1]) : 1;
-    size_t len = fread(text, 1, sizeof text, stdin);
+    size_t len = fread(text, 1, sizeof text, stdin), count = 0;
     while (len && text[len - 1] == '\n') len--;
+    for (size_t from = 0; from < len && count < sizeof contents / sizeof *contents; count++) {
+        const char *end = (const char *)memmem(text + from, len - from, "\n\n", 2);
+        contents[count].from = from;
+        contents[count].len = (end ? (size_t)(end - text) : len) - from;
+        from += contents[count].len + 2;
+    }
     for (long at = 0; at < repeats; at++)
-        for (size_t from = 0; from < len;) {
-            const char *end = (const char *)memmem(text + from, len - from, "\n\n", 2);
-            size_t to = end ? (size_t)(end - text) : len;
-            if (read_one(text + from, to - from)) return 1;
-            from = to + 2;
-        }
+        for (size_t it = 0; it < count; it++)
+            if (read_one(text + contents[it].from, contents[it].len)) return 1;
     return 0;
 }

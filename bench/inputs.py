@@ -304,6 +304,7 @@ PATTERNS = [
         ('the same, a definition as long as the content', long_label),
         ('the same, a definition of as many `[` and a `b`', long_front),
         ('`![` .. `a` `](b)` ..', nested('![', 'a', '](b)')),
+        ('`![` .. `a` `](b` ..', nested('![', 'a', '](b')),
         ('`[a][b0] [a][b1] ..`, all defined', many_definitions),
         ('`[^`', again('[^')),
         ('`[^a]`', again('[^a]')),

@@ -13,6 +13,8 @@ COUNT = os.path.join(HERE, 'crates', 'mdinline_count', 'out', 'mdinline_count')
 # The function of `mdinline_count` that a run is called in.
 COUNTED = 'mdinline_count::count'
 TIME = '/usr/bin/time'
+# What has the C library copy by many instructions, and not by one that callgrind counts once for each byte.
+SMALL_COPIES = {'GLIBC_TUNABLES': 'glibc.cpu.x86_rep_movsb_threshold=%d' % (1 << 30)}
 
 
 class Program:
@@ -90,14 +92,15 @@ class Profile:
                     called = None
 
 
-def profile(program, given, seconds):
-    """Counts the instructions of a run; none where it takes longer than so many seconds."""
+def profile(program, given, seconds, small_copies=False):
+    """Counts the instructions of a run; none where it takes longer than so many seconds. Lists that grow are moved, and with `small_copies` that
+    counts as any other work."""
     with tempfile.TemporaryDirectory() as room:
         path = os.path.join(room, 'profile')
         command = ['valgrind', '--tool=callgrind', '--callgrind-out-file=' + path] + program.call(given)
         try:
             done = subprocess.run(command, input=program.bytes_of(given), stdout=subprocess.DEVNULL, stderr=subprocess.PIPE,
-                                  timeout=seconds)
+                                  env={**os.environ, **(SMALL_COPIES if small_copies else {})}, timeout=seconds)
         except subprocess.TimeoutExpired:
             return None
         if done.returncode != 0:
@@ -115,9 +118,9 @@ class Empty:
 BASE = {}
 
 
-def instructions(program, given, seconds=300):
+def instructions(program, given, seconds=300, small_copies=False):
     """The instructions of a run less those for a document of one letter; of our library, those of the run alone."""
-    found = profile(program, given, seconds)
+    found = profile(program, given, seconds, small_copies)
     if found is None:
         return None
     if program.function:

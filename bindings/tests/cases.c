@@ -1,4 +1,5 @@
-/* Reads cases of draw.py from standard input, and prints what the library finds in each, as the program of crates/markdown_test_runs does. */
+/* Reads cases of draw.py from standard input, and prints what the library finds in each: events as the program of crates/markdown_test_runs does,
+ * leaves, HTML in hexadecimal, or the events of each text; where there are none, why. */
 #include "markdown_inline.h"
 
 #include <stdio.h>
@@ -53,9 +54,107 @@ static void print_events(const markdown_inline_event *events, size_t count) {
     }
 }
 
-/* Answers a case. The array is exactly as long as is asked for, so that a sanitizer sees what is written past it. */
-static int answer(char **words) {
+/* What a call answers stands in an array that is exactly as long as is asked for, so that a sanitizer sees what is written past it. */
+static void *room(size_t count, size_t each) {
+    void *found = malloc(count * each + (count == 0));
+    if (!found) exit(1);
+    return found;
+}
+
+static uint32_t answer_events(const markdown_inline_input *input, int is_text) {
     size_t count = 0;
+    markdown_inline_event *events = NULL;
+    uint32_t status = (is_text ? markdown_inline_text : markdown_inline_string)(input, NULL, 0, &count);
+    if (status == MARKDOWN_INLINE_TOO_SMALL) {
+        events = (markdown_inline_event *)room(count, sizeof *events);
+        status = (is_text ? markdown_inline_text : markdown_inline_string)(input, events, count, &count);
+    }
+    if (status == MARKDOWN_INLINE_DONE) print_events(events, count);
+    free(events);
+    return status;
+}
+
+static void print_bytes(const uint8_t *bytes, size_t len) {
+    for (size_t at = 0; at < len; at++) printf("%02x", bytes[at]);
+}
+
+static void print_leaf(const markdown_inline_leaf *it) {
+    printf(" %s %zu:%zu:%zu:%zu", markdown_inline_name_text(it->name), it->start_line, it->start_column, it->start, it->start_vs);
+    printf(" %zu:%zu:%zu:%zu %zu:", it->end_line, it->end_column, it->end, it->end_vs, it->before);
+    print_bytes(document + it->start + (it->start_vs > 0), it->bytes_len);
+    printf(":%zu", it->after);
+}
+
+static uint32_t answer_leaves(const markdown_inline_input *input) {
+    size_t count = 0;
+    markdown_inline_leaf *leaves = NULL;
+    uint32_t status = markdown_inline_leaves(input, NULL, 0, &count);
+    if (status == MARKDOWN_INLINE_TOO_SMALL) {
+        leaves = (markdown_inline_leaf *)room(count, sizeof *leaves);
+        status = markdown_inline_leaves(input, leaves, count, &count);
+    }
+    for (size_t at = 0; status == MARKDOWN_INLINE_DONE && at < count; at++) print_leaf(&leaves[at]);
+    free(leaves);
+    return status;
+}
+
+/* Appends the target that a word names to the labels. */
+static markdown_inline_target read_target(char *word, size_t *len) {
+    markdown_inline_target target = {{*len, 0}, {0, 0}, 0};
+    char *title = strchr(word, ':');
+    if (title) *title++ = 0;
+    target.destination.end = *len = append(labels, *len, word + 1);
+    if (!title) return target;
+    target.has_title = 1;
+    target.title.start = *len;
+    target.title.end = *len = append(labels, *len, title);
+    return target;
+}
+
+static uint32_t answer_html(markdown_inline_input *input, char **words) {
+    markdown_inline_target targets[MOST / 16];
+    size_t found = 0, count = 0;
+    uint8_t *html = NULL;
+    uint32_t options = (uint32_t)strtoul(words[0], NULL, 10);
+    for (char *word; (word = next(&words[1])) != NULL;) targets[found++] = read_target(word, &input->labels_len);
+    uint32_t status = markdown_inline_html(input, targets, found, options, NULL, 0, &count);
+    if (status == MARKDOWN_INLINE_TOO_SMALL) {
+        html = (uint8_t *)room(count, 1);
+        status = markdown_inline_html(input, targets, found, options, html, count, &count);
+    }
+    if (status == MARKDOWN_INLINE_DONE) {
+        printf(" ");
+        print_bytes(html, count);
+    }
+    free(html);
+    return status;
+}
+
+static uint32_t answer_texts(const markdown_inline_input *input, char **words) {
+    markdown_inline_content contents[MOST / 16];
+    size_t found = 0, count = 0, first = 0;
+    markdown_inline_event *events = NULL;
+    for (char *word; (word = next(words)) != NULL; found++) {
+        markdown_inline_content *it = &contents[found];
+        sscanf(word, "%zu-%zu:%u", &it->pieces.start, &it->pieces.end, &it->first_of_item);
+    }
+    size_t *ends = (size_t *)room(found, sizeof *ends);
+    uint32_t status = markdown_inline_texts(input, contents, found, NULL, 0, ends, found, &count);
+    if (status == MARKDOWN_INLINE_TOO_SMALL) {
+        events = (markdown_inline_event *)room(count, sizeof *events);
+        status = markdown_inline_texts(input, contents, found, events, count, ends, found, &count);
+    }
+    for (size_t at = 0; status == MARKDOWN_INLINE_DONE && at < found; first = ends[at++]) {
+        printf(" |");
+        print_events(events + first, ends[at] - first);
+    }
+    free(ends);
+    free(events);
+    return status;
+}
+
+/* Answers a case. */
+static void answer(char **words) {
     markdown_inline_input input = {document, 0, pieces, 0, labels, 0, definitions, 0, footnotes, 0, (uint32_t)strtoul(words[1], NULL, 10)};
     for (char *word; (word = next(&words[2])) != NULL; input.pieces_len++) {
         markdown_inline_piece *it = &pieces[input.pieces_len];
@@ -64,31 +163,25 @@ static int answer(char **words) {
     input.definitions_len = read_ranges(words[3], definitions, &input.labels_len);
     input.footnotes_len = read_ranges(words[4], footnotes, &input.labels_len);
     input.bytes_len = append(document, 0, words[5]);
-    int is_text = words[0][0] == 't';
-    markdown_inline_event *events = NULL;
-    uint32_t status = (is_text ? markdown_inline_text : markdown_inline_string)(&input, NULL, 0, &count);
-    if (status == MARKDOWN_INLINE_TOO_SMALL) {
-        events = (markdown_inline_event *)malloc(count * sizeof *events);
-        if (!events) return 1;
-        status = (is_text ? markdown_inline_text : markdown_inline_string)(&input, events, count, &count);
-    }
     printf("%s", words[0]);
-    if (status == MARKDOWN_INLINE_DONE)
-        print_events(events, count);
-    else
-        printf(is_text ? " no text" : " no content");
+    if (!strcmp(words[0], "text") || !strcmp(words[0], "string")) {
+        int is_text = words[0][0] == 't';
+        if (answer_events(&input, is_text) != MARKDOWN_INLINE_DONE) printf(is_text ? " no text" : " no content");
+    } else {
+        uint32_t status = !strcmp(words[0], "leaves") ? answer_leaves(&input) : !strcmp(words[0], "html") ? answer_html(&input, words + 6) : answer_texts(&input, words + 6);
+        if (status != MARKDOWN_INLINE_DONE) printf(": %s", markdown_inline_status_text(status));
+    }
     printf("\n");
-    free(events);
-    return 0;
 }
 
 int main(void) {
     static char line[8 * MOST];
     while (fgets(line, sizeof line, stdin)) {
-        char *words[6], *word = strtok(line, " \n");
+        char *words[8], *word = strtok(line, " \n");
         size_t found = 0;
-        for (; word && found < 6; word = strtok(NULL, " \n")) words[found++] = word;
-        if (found != 6 || answer(words)) return 1;
+        for (; word && found < 8; word = strtok(NULL, " \n")) words[found++] = word;
+        if (found < 6) return 1;
+        answer(words);
     }
     return 0;
 }

@@ -1,10 +1,13 @@
 #!/usr/bin/env python3
 """Draws cases by a seed: documents of prose and constructs, whole or as pieces behind prefixes, some cut within a tab, with options and definitions.
 
-usage: draw.py SEED COUNT ROWS CASES
+usage: draw.py SEED COUNT ROWS CASES MORE
 
 ROWS gets them as the program of crates/markdown_test_runs reads them, and CASES as the callers here do: how it is read, the bits of the options,
-the pieces, the labels of definitions and of footnotes, the document; texts in hexadecimal, `-` for none, commas between pieces and labels."""
+the pieces, the labels of definitions and of footnotes, the document; texts in hexadecimal, `-` for none, commas between pieces and labels. MORE gets
+calls that the program does not make, which the callers compare among each other: a text's leaves; its HTML, with two words more, the bits of what it
+may hold, and the destination of each definition behind a `=`, with a title behind a colon where it has one; and the texts of several contents, with one word more,
+each content's first and last piece, and whether it begins a list item."""
 import random
 import re
 import sys
@@ -14,6 +17,7 @@ CONSTRUCTS = ['attention', 'autolink', 'character_escape', 'character_reference'
               'label_start_link', 'label_end', 'math_text', 'gfm_strikethrough_single_tilde', 'math_text_single_dollar', 'attention_first_lengths',
               'label_shortcut_before_bracket', 'first_of_item']
 COMMONMARK = 0x37e1f
+FIRST_OF_ITEM = 0x100000
 PARTS = ['a', 'bc', 'é', '漢', '😀', ' ', '  ', '\t', '*', '**', '_', '~', '~~', '`', '``', '$', '$$', '[', ']', '![', '](', ')', '(', '<', '>', '"', "'",
          '\\', '&', ';', '!', '#', '@', ':', '.', '/', '[x] ', '[a]', '[^n]', '[b c][]', '[d](e "f")', '![g](<h i>)', '&amp;', '&#65;', '&#x1f4a9;', '&copy;',
          '&nosuch;', '<https://j.k>', '<l@m.n>', 'https://o.p/q', 'www.r.s', 't@u.v', '<w x="y">', '</z>', '<!-- c -->', '<?p?>', '\\*', '\\\n', '  \n', '\n',
@@ -21,6 +25,8 @@ PARTS = ['a', 'bc', 'é', '漢', '😀', ' ', '  ', '\t', '*', '**', '_', '~', '
 PREFIXES = ['', '> ', '>', '   ', '- ', '\t', ' \t', '>\t', '1. ']
 LABELS = ['a', 'b c', 'd', 'é', 'word', 'x']
 NOTES = ['n', 'a', '*b*']
+TARGETS = ['', '/u', 'http://v.w', 'javascript:x', ' y:z', '"&<>', 'é?a=b&c', 'mailto:d@e']
+TITLES = [None, '', 'f', 'g "h" <i>', "&amp;'"]
 ESCAPES = {'\\': '\\\\', '\n': '\\n', '\r': '\\r', '\t': '\\t', '\0': '\\0'}
 
 
@@ -76,15 +82,46 @@ def line(how, bits, pieces, labels, notes, document):
     return ' '.join([how, str(bits)] + [it or '-' for it in [spans] + lists + [document.hex()]])
 
 
-def main(seed, count, rows, cases):
+def in_html(draw, labels):
+    """The words that a call for HTML has more."""
+    targets = [(draw.choice(TARGETS), draw.choice(TITLES)) for _ in labels]
+    written = ['=' + it.encode().hex() + ('' if title is None else ':' + title.encode().hex()) for it, title in targets]
+    return ' %d %s' % (draw.randrange(4), ','.join(written) or '-')
+
+
+def several(draw, cases):
+    """A call for the texts of these cases, one behind another in a document, with the options and the labels of the first."""
+    document, pieces, contents = b'', [], []
+    for _, _, listed, _, _, given in cases:
+        contents.append('%d-%d:%d' % (len(pieces), len(pieces) + len(listed), draw.randrange(2)))
+        pieces += [((start + len(document), at), (end + len(document), to)) for (start, at), (end, to) in listed]
+        document += given + draw.choice([b'\n', b'\r\n\r\n'])
+    return line('texts', cases[0][1] & ~FIRST_OF_ITEM, pieces, *cases[0][3:5], document) + ' ' + ','.join(contents)
+
+
+def more(draw, drawn):
+    """The calls that the program does not make."""
+    texts = [it for it in drawn if it[0] == 'text']
+    for it in texts:
+        yield line('leaves', *it[1:])
+        yield line('html', *it[1:]) + in_html(draw, it[3])
+    for at in range(0, len(texts) - 4, 4):
+        yield several(draw, texts[at:at + draw.randrange(1, 5)])
+
+
+def write(path, lines):
+    with open(path, 'w', encoding='utf-8', newline='') as out:
+        out.writelines(it + '\n' for it in lines)
+
+
+def main(seed, count, rows, cases, others):
     draw = random.Random(int(seed))
     drawn = [case(draw) for _ in range(int(count))]
-    with open(rows, 'w', encoding='utf-8', newline='') as out:
-        out.writelines(row(*it) + '\n' for it in drawn)
-    with open(cases, 'w', encoding='ascii') as out:
-        out.writelines(line(*it) + '\n' for it in drawn)
+    write(rows, (row(*it) for it in drawn))
+    write(cases, (line(*it) for it in drawn))
+    write(others, more(draw, drawn))
 
 
-if len(sys.argv) != 5:
+if len(sys.argv) != 6:
     sys.exit(__doc__)
 main(*sys.argv[1:])

@@ -1,7 +1,9 @@
-//! Reads cases of `bindings/tests/draw.py` from standard input, and prints what the library finds in each, as the program of
-//! `crates/markdown_test_runs` does.
+//! Reads cases of `bindings/tests/draw.py` from standard input, and prints what the library finds in each: events as the program of
+//! `crates/markdown_test_runs` does, leaves, HTML in hexadecimal, or the events of each text; where there are none, why.
 
-use markdown_inline::{Event, Input, Kind, Options, Piece};
+use markdown_inline::{
+    Error, Event, HtmlOptions, Input, Kind, Leaf, Options, Piece, Point, TextContent,
+};
 use std::io::{self, BufRead};
 
 fn listed(word: &str) -> impl Iterator<Item = &str> {
@@ -31,7 +33,6 @@ fn piece_of(word: &str) -> Piece {
 
 fn shown(event: Event) -> String {
     let sign = if event.kind == Kind::Enter { '+' } else { '-' };
-    let at = event.point;
     let number = |it: Option<usize>| it.map_or("-".to_string(), |it| it.to_string());
     let link = event.link.map_or(String::new(), |link| {
         format!(
@@ -41,28 +42,98 @@ fn shown(event: Event) -> String {
             number(link.next)
         )
     });
+    format!(" {sign}{} {}{link}", event.name, place(event.point))
+}
+
+fn place(at: Point) -> String {
+    format!("{}:{}:{}:{}", at.line, at.column, at.index, at.vs)
+}
+
+fn hexadecimal(bytes: &[u8]) -> String {
+    bytes.iter().map(|byte| format!("{byte:02x}")).collect()
+}
+
+fn shown_leaf(leaf: Leaf) -> String {
+    let (start, end) = (place(leaf.start), place(leaf.end));
+    let bytes = hexadecimal(leaf.bytes);
     format!(
-        " {sign}{} {}:{}:{}:{}{link}",
-        event.name, at.line, at.column, at.index, at.vs
+        " {} {start} {end} {}:{bytes}:{}",
+        leaf.name, leaf.before, leaf.after
     )
+}
+
+// A label's definition, with the target that a word names.
+fn defined<'a>(input: Input<'a>, label: &str, target: &str) -> Input<'a> {
+    let target = target.trim_start_matches('=');
+    let (destination, title) = match target.split_once(':') {
+        Some((destination, title)) => (destination, Some(bytes_of(title))),
+        None => (target, None),
+    };
+    let title = title.map(|it| String::from_utf8(it).unwrap());
+    input.definition_to(&bytes_of(label), bytes_of(destination), title.as_deref())
+}
+
+fn content_of(word: &str) -> TextContent {
+    let numbers: Vec<usize> = word
+        .split(['-', ':'])
+        .map(|it| it.parse().unwrap())
+        .collect();
+    TextContent {
+        pieces: numbers[0]..numbers[1],
+        first_of_item: numbers[2] == 1,
+    }
+}
+
+fn texts_of(input: &Input, contents: &str) -> Result<String, Error> {
+    let contents: Vec<TextContent> = listed(contents).map(content_of).collect();
+    let texts = input.texts(&contents)?;
+    let shown = texts
+        .iter()
+        .map(|events| " |".to_string() + &events.map(shown).collect::<String>());
+    Ok(shown.collect())
+}
+
+fn html_of(input: &Input, bits: &str) -> Result<String, Error> {
+    let bits: u32 = bits.parse().unwrap();
+    let options = HtmlOptions {
+        raw_html: bits & 1 > 0,
+        any_link: bits & 2 > 0,
+    };
+    Ok(format!(" {}", hexadecimal(input.html(options)?.as_bytes())))
+}
+
+// What is found in a case, or why nothing is.
+fn answer(words: &[&str]) -> Result<String, Error> {
+    let document = bytes_of(words[5]);
+    let pieces: Vec<Piece> = listed(words[2]).map(piece_of).collect();
+    let options = Options::from_bits(words[1].parse().unwrap());
+    let input = Input::new(&document).pieces(&pieces).options(options);
+    let input = match words[0] {
+        "html" => listed(words[3])
+            .zip(listed(words[7]))
+            .fold(input, |input, (label, target)| {
+                defined(input, label, target)
+            }),
+        _ => listed(words[3]).fold(input, |input, it| input.definition(bytes_of(it))),
+    };
+    let input = listed(words[4]).fold(input, |input, it| input.footnote(bytes_of(it)));
+    match words[0] {
+        "string" => Ok(input.string()?.iter().map(shown).collect()),
+        "text" => Ok(input.text()?.iter().map(shown).collect()),
+        "leaves" => Ok(input.leaves()?.iter().map(shown_leaf).collect()),
+        "html" => html_of(&input, words[6]),
+        _ => texts_of(&input, words[6]),
+    }
 }
 
 fn main() -> io::Result<()> {
     for line in io::stdin().lock().lines() {
         let line = line?;
         let words: Vec<&str> = line.split(' ').collect();
-        let document = bytes_of(words[5]);
-        let pieces: Vec<Piece> = listed(words[2]).map(piece_of).collect();
-        let options = Options::from_bits(words[1].parse().unwrap());
-        let input = Input::new(&document).pieces(&pieces).options(options);
-        let input = listed(words[3]).fold(input, |input, it| input.definition(bytes_of(it)));
-        let input = listed(words[4]).fold(input, |input, it| input.footnote(bytes_of(it)));
-        let (found, otherwise) = match words[0] {
-            "string" => (input.string(), " no content"),
-            _ => (input.text(), " no text"),
-        };
-        let shown = found.map_or(otherwise.to_string(), |events| {
-            events.iter().map(shown).collect()
+        let shown = answer(&words).unwrap_or_else(|error| match words[0] {
+            "string" => " no content".to_string(),
+            "text" => " no text".to_string(),
+            _ => format!(": {error}"),
         });
         println!("{}{shown}", words[0]);
     }

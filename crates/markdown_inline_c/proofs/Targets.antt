@@ -1,18 +1,17 @@
 -- Definitions with their targets, one after another.
-use Rattle.std.proofs.Common.{◌≡◌, ◌∙◌, sym, ap, subst, ◌⊎◌, inl, inr, pred, ℕ, ◌+◌, ◌<◌, ◌≤◌, List, [], ◌∷◌, ◌++◌, get_or, length, map, take, arith, refl}
+use Rattle.std.proofs.Common.{◌≡◌, ◌∙◌, sym, ap, subst, ◌⊎◌, inl, inr, pred, ℕ, ◌+◌, ◌<◌, ◌≤◌, List, [], ◌∷◌, ◌++◌, get_or, length, take, arith, refl}
 use Rattle.std.specs.List.{All}
-use Rattle.std.proofs.lemmas.List.{map-append, take_more, take_all, length-take-le}
+use Rattle.std.proofs.lemmas.List.{take_more, take_all, length-take-le}
 use Rattle.std.proofs.lemmas.List.Elements.{All-get_or, All-more}
-use Rattle.markdown_html.specs.View.{defined_of}
-use Rattle.markdown_html_model.specs.declared.options.Definition.{Definition}
+use Rattle.markdown_html_model.specs.Html.{Defined}
 use Rattle.markdown_inline_c.specs.FlatHtml.{IsTarget, defined_at, defined_by}
 use Rattle.markdown_inline_c.specs.declared.fault.Fault.{Fault}
 use Rattle.markdown_inline_c.specs.declared.flat.FlatTarget.{FlatTarget}
 use Rattle.markdown_inline_c.specs.declared.flat.Range.{Range}
 
 -- what is found are the definitions of the first labels, whose targets are targets
-pub record AreDefined (labels : List ℕ) (ranges : List Range) (targets : List FlatTarget) (found : List Definition) (i : ℕ) : Type 0 where
-  pub defined : map defined_of found ≡ defined_by labels (take i ranges) (take i targets)
+pub record AreDefined (labels : List ℕ) (ranges : List Range) (targets : List FlatTarget) (found : List Defined) (i : ℕ) : Type 0 where
+  pub defined : found ≡ defined_by labels (take i ranges) (take i targets)
   pub are_targets : All (IsTarget labels) (take i targets)
 
 defined_push : (labels : List ℕ) (ranges : List Range) (targets : List FlatTarget) (r : Range) (t : FlatTarget) → length targets ≡ length ranges
@@ -22,9 +21,9 @@ defined_push labels [] (t' ∷ targets) r t h = absurd (omega (arith, h))
 defined_push labels (r' ∷ ranges) [] r t h = absurd (omega (arith, h))
 defined_push labels (r' ∷ ranges) (t' ∷ targets) r t h = ap (λ xs. defined_at labels r' t' ∷ xs) (defined_push labels ranges targets r t (ap pred h))
 
-pub one_more : (labels : List ℕ) (ranges : List Range) (targets : List FlatTarget) (found more : List Definition) (next : Definition) (i : ℕ) (r : Range) (t : FlatTarget)
+pub one_more : (labels : List ℕ) (ranges : List Range) (targets : List FlatTarget) (found more : List Defined) (next : Defined) (i : ℕ) (r : Range) (t : FlatTarget)
     → length targets ≡ length ranges → i < length targets → AreDefined labels ranges targets found i → IsTarget labels (get_or targets i t)
-    → defined_of next ≡ defined_at labels (get_or ranges i r) (get_or targets i t) → more ≡ found ++ next ∷ []
+    → next ≡ defined_at labels (get_or ranges i r) (get_or targets i t) → more ≡ found ++ next ∷ []
     → AreDefined labels ranges targets more (i + 1)
 one_more labels ranges targets found more next i r t one_each h so_far is_target e m =
     let long : length (take i targets) ≡ length (take i ranges) =
@@ -32,9 +31,8 @@ one_more labels ranges targets found more next i r t one_each h so_far is_target
     in
     record {
       defined =
-          ap (map defined_of) m
-          ∙ map-append defined_of found (next ∷ [])
-          ∙ ap (λ xs. xs ++ defined_of next ∷ []) so_far.defined
+          m
+          ∙ ap (λ xs. xs ++ next ∷ []) so_far.defined
           ∙ ap (λ x. defined_by labels (take i ranges) (take i targets) ++ x ∷ []) e
           ∙ sym (defined_push labels (take i ranges) (take i targets) (get_or ranges i r) (get_or targets i t) long)
           ∙ ap (λ xs. defined_by labels xs (take i targets ++ get_or targets i t ∷ [])) (sym (take_more ranges i r (omega (arith, h, one_each))))
@@ -42,9 +40,9 @@ one_more labels ranges targets found more next i r t one_each h so_far is_target
       are_targets = All-more (IsTarget labels) targets i t h so_far.are_targets is_target;
     }
 
-pub all_defined : (labels : List ℕ) (ranges : List Range) (targets : List FlatTarget) (found : List Definition) (i : ℕ)
+pub all_defined : (labels : List ℕ) (ranges : List Range) (targets : List FlatTarget) (found : List Defined) (i : ℕ)
     → length targets ≡ length ranges → length targets ≤ i → AreDefined labels ranges targets found i
-    → (map defined_of found ≡ defined_by labels ranges targets) × All (IsTarget labels) targets
+    → (found ≡ defined_by labels ranges targets) × All (IsTarget labels) targets
 all_defined labels ranges targets found i one_each h all =
     let e : take i targets ≡ targets = take_all i targets h in
     let e' : take i ranges ≡ ranges = take_all i ranges (omega (arith, h, one_each)) in

@@ -1,12 +1,12 @@
 -- What a caller in C hands in beside an input, and the HTML that it gets.
-use Rattle.std.specs.Prelude.{◌≡◌, ◌⊎◌, ℕ, ◌<◌, ◌==◌, if◌then◌else◌, List, [], ◌∷◌, length, Option, None, Some}
+use Rattle.std.specs.Prelude.{◌≡◌, ◌⊎◌, ℕ, ◌<◌, Bool, ◌==◌, if◌then◌else◌, List, [], ◌∷◌, length, Option, None, Some}
 use Rattle.std.specs.List.{All}
 use Rattle.markdown_engine_content.specs.Content.{content_of}
 use Rattle.markdown_html_model.specs.Html.{Defined, Page, html}
 use Rattle.markdown_html_model.specs.declared.options.HtmlOptions.{HtmlOptions}
 use Rattle.markdown_model.specs.InlineTree.{text_tree}
 use Rattle.markdown_util.specs.Identifier.{identifier_of}
-use Rattle.markdown_inline_c.specs.FlatInput.{has_option, IsLabel, IsTextInput, pieces_of, range_bytes, text_setting}
+use Rattle.markdown_inline_c.specs.FlatInput.{has_option, IsLabel, IsTextInput, options_of, pieces_of, range_bytes, text_setting}
 use Rattle.markdown_inline_c.specs.declared.flat.FlatTarget.{FlatTarget}
 use Rattle.markdown_inline_c.specs.declared.flat.Input.{Input}
 use Rattle.markdown_inline_c.specs.declared.flat.Range.{Range}
@@ -48,9 +48,14 @@ defined_by labels [] targets = []
 defined_by labels (r ∷ ranges) [] = []
 defined_by labels (r ∷ ranges) (t ∷ targets) = defined_at labels r t ∷ defined_by labels ranges targets
 
+-- whether footnotes are looked for
+abbrev pub footnotes_on : Input → Bool
+footnotes_on i = let o = options_of i.options in o.constructs.gfm_label_start_footnote
+
 abbrev pub page : Input → List FlatTarget → ℕ → Page
 page i targets options = record {
   bytes = i.bytes.now;
+  footnotes_on = footnotes_on i;
   definitions = defined_by i.labels.now i.definitions.now targets;
   options = html_options_of options;
 }

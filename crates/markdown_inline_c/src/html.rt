@@ -1,8 +1,8 @@
 // The HTML of an input as a text.
 
-ghost use Rattle.std.specs.Prelude.{◌≡◌, ◌⊎◌, ◌∷◌, ◌++◌, [], IfErr, IfOk, OnOk, length, map, option_map, string_bytes};
+ghost use Rattle.std.specs.Prelude.{◌≡◌, ◌⊎◌, ◌∷◌, ◌++◌, [], IfErr, IfOk, OnOk, length, option_map, string_bytes};
 ghost use Rattle.std.specs.List.{All};
-ghost use Rattle.markdown_html.specs.View.{defined_of};
+ghost use Rattle.markdown_html.specs.DefinitionView.{defined_of};
 ghost use Rattle.markdown_inline_c.specs.FlatHtml.{AreKnownForHtml, AreTargets, IsHtmlInput, IsTarget, IsTitle, defined_at, defined_by, html_of, html_options_of, title_of};
 ghost use Rattle.markdown_inline_c.specs.FlatInput.{IsLabel, range_bytes};
 ghost use Rattle.markdown_inline_c.specs.Statuses.{IsHtmlFault, IsTargetsFault};
@@ -11,7 +11,9 @@ ghost use Rattle.markdown_util.specs.Identifier.{identifier_of};
 
 use crate::fault::Fault;
 use crate::flat::{FlatTarget, Input, Range};
-use crate::input::{self, has_option, text_of};
+use crate::input::{self, has_option, options_of, text_of};
+use markdown_engine_content::parser::ParseState;
+use markdown_html::targets::Targets;
 use markdown_html::to_html;
 use markdown_html_model::options::{Definition, HtmlOptions};
 use markdown_util::util::normalize_identifier::normalize_identifier;
@@ -89,8 +91,8 @@ fn definition_at(
 }
 
 // Adds one more definition.
-fn push(found: &mut Vec<Definition>, definition: Definition) -> Result<(), AllocError>
-    ensures { OnOk result (found.new.items ≡ found.old.items ++ definition ∷ []) }
+fn push(found: &mut Targets, definition: Definition) -> Result<(), AllocError>
+    ensures { OnOk result (found.new ≡ found.old ++ defined_of definition ∷ []) }
 {
     found.push(definition)?;
     Ok(())
@@ -102,14 +104,14 @@ fn definitions_of(
     labels: &[u8],
     ranges: &[Range],
     targets: &[FlatTarget],
-) -> Result<Vec<Definition>, Fault>
+) -> Result<Targets, Fault>
     requires labels { All (IsLabel labels.now) ranges.now }
     requires one_each { length targets.now ≡ length ranges.now }
-    ensures found { IfOk result (λ found. map defined_of found.items ≡ defined_by labels.now ranges.now targets.now) }
+    ensures found { IfOk result (λ found. found ≡ defined_by labels.now ranges.now targets.now) }
     ensures targets { IfOk result (λ _. All (IsTarget labels.now) targets.now) }
     ensures err { IfErr result (λ fault. (fault ≡ Memory) ⊎ ((fault ≡ NoDefinition) × (All (IsTarget labels.now) targets.now → ⊥))) }
 {
-    let mut found = Vec::new(alloc);
+    let mut found = Targets::new(alloc);
     for at in 0..targets.len() {
         let definition = definition_at(alloc, labels, ranges[at], targets[at])?;
         push(&mut found, definition)?;
@@ -118,13 +120,9 @@ fn definitions_of(
 }
 
 // The definitions of the input, each with its target.
-fn definitions(
-    alloc: Global,
-    input: &Input,
-    targets: &[FlatTarget],
-) -> Result<Vec<Definition>, Fault>
+fn definitions(alloc: Global, input: &Input, targets: &[FlatTarget]) -> Result<Targets, Fault>
     requires { All (IsLabel input.now.labels.now) input.now.definitions.now }
-    ensures found { IfOk result (λ found. map defined_of found.items ≡ defined_by input.now.labels.now input.now.definitions.now targets.now) }
+    ensures found { IfOk result (λ found. found ≡ defined_by input.now.labels.now input.now.definitions.now targets.now) }
     ensures targets { IfOk result (λ _. AreTargets input.now targets.now) }
     ensures err { IfErr result (IsTargetsFault input.now targets.now) }
 {
@@ -148,11 +146,18 @@ pub fn html(
     let allowed = known_options(options)?;
     let run = input::text(alloc, input)?;
     let definitions = definitions(alloc, input, targets)?;
+    let options = options_of(input.options);
+    let parse_state = ParseState {
+        bytes: input.bytes,
+        options: &options,
+        definitions: Vec::new(alloc),
+        gfm_footnote_definitions: Vec::new(alloc),
+    };
     Ok(to_html(
         alloc,
-        input.bytes,
+        &parse_state,
         run.events.as_slice(),
-        definitions.as_slice(),
+        &definitions,
         allowed,
     )?)
 }

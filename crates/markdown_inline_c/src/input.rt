@@ -31,7 +31,7 @@ pub(crate) fn has_option(options: u32, bit: u32) -> bool
 }
 
 // What the bits ask for.
-fn options_of(options: u32) -> ParseOptions
+pub(crate) fn options_of(options: u32) -> ParseOptions
     ensures { result ≡ options_of options }
 {
     ParseOptions {
@@ -90,13 +90,10 @@ fn push_identifier(alloc: Global, found: &mut Vec<String>, text: &str) -> Result
     Ok(())
 }
 
-// The identifiers of the labels at these ranges.
+// The identifiers of the labels at these ranges, of which there are some. It is kept out of line, since most inputs have none.
+#[inline(never)]
 #[tactic(auto, using(crate::proofs::Labels::all_read))]
-pub(crate) fn identifiers_of(
-    alloc: Global,
-    labels: &[u8],
-    ranges: &[Range],
-) -> Result<Vec<String>, Fault>
+fn some_identifiers_of(alloc: Global, labels: &[u8], ranges: &[Range]) -> Result<Vec<String>, Fault>
     ensures found { IfOk result (λ found. map string_bytes found.items ≡ identifiers labels.now ranges.now) }
     ensures labels { IfOk result (λ _. All (IsLabel labels.now) ranges.now) }
     ensures err { IfErr result (λ fault. (fault ≡ Memory) ⊎ ((fault ≡ Definition) × (All (IsLabel labels.now) ranges.now → ⊥))) }
@@ -109,6 +106,23 @@ pub(crate) fn identifiers_of(
         push_identifier(alloc, &mut found, text)?;
     }
     Ok(found)
+}
+
+// The identifiers of the labels at these ranges.
+#[inline]
+pub(crate) fn identifiers_of(
+    alloc: Global,
+    labels: &[u8],
+    ranges: &[Range],
+) -> Result<Vec<String>, Fault>
+    ensures found { IfOk result (λ found. map string_bytes found.items ≡ identifiers labels.now ranges.now) }
+    ensures labels { IfOk result (λ _. All (IsLabel labels.now) ranges.now) }
+    ensures err { IfErr result (λ fault. (fault ≡ Memory) ⊎ ((fault ≡ Definition) × (All (IsLabel labels.now) ranges.now → ⊥))) }
+{
+    if ranges.is_empty() {
+        return Ok(Vec::new(alloc));
+    }
+    some_identifiers_of(alloc, labels, ranges)
 }
 
 /// What is found in the input as a string, or why it is refused.

@@ -1,7 +1,7 @@
 use Rattle.std.proofs.Common.{◌∙◌, ap, arith, List, ◌∷◌, ◌++◌, [], ℕ, map, string_bytes}
 use Rattle.markdown_util.specs.Identifier.{identifier_of}
 use Rattle.markdown_inline_c.proofs.Labels.{all_read, one_more}
-use Rattle.markdown_inline_c.proofs.input.identifiers_of.Goals as goal
+use Rattle.markdown_inline_c.proofs.input.some_identifiers_of.Goals as goal
 
 pub loop-range-preserved : goal.loop-range-preserved
 loop-range-preserved c =
