@@ -43,7 +43,7 @@ at-zero a n = grind (arith, nat_tests)
 at-more : (a i n : ℕ) → cond (nat_le a (suc i)) n 0 ≡ cond (nat_le a i) n 0 + cond (a == suc i) n 0
 at-more a i n = grind (arith, nat_tests)
 
-added-zero : (log : List Edit) → added_up_to log 0 ≡ length (added_at 0 log)
+pub added-zero : (log : List Edit) → added_up_to log 0 ≡ length (added_at 0 log)
 added-zero [] = refl
 added-zero (e ∷ log) =
     let first = at-zero e.at (length e.events) in
@@ -51,7 +51,7 @@ added-zero (e ∷ log) =
     let whole = length-added 0 e log in
     omega arith
 
-added-more : (log : List Edit) (i : ℕ) → added_up_to log (suc i) ≡ added_up_to log i + length (added_at (suc i) log)
+pub added-more : (log : List Edit) (i : ℕ) → added_up_to log (suc i) ≡ added_up_to log i + length (added_at (suc i) log)
 added-more [] i = refl
 added-more (e ∷ log) i =
     let first = at-more e.at i (length e.events) in
@@ -122,7 +122,7 @@ moved-same log p q h k e =
 
 -- The list afterwards, event by event.
 
-some-none : {A : Type 0} → (p : A) → None ≡ Some p → ⊥
+pub some-none : {A : Type 0} → (p : A) → None ≡ Some p → ⊥
 some-none p h = cc
 
 slice-after : {A : Type 0} → (xs ys : List A) (k j : ℕ) → k ≡ length xs + j → slice_get (xs ++ ys) k ≡ slice_get ys j
@@ -181,7 +181,7 @@ pub record Stayed (log : List Edit) (i : ℕ) (es : List Event) (k : ℕ) (x : E
   pub is : x ≡ moved log event
 
 -- what holds of each event of a list
-abbrev Each : (Event → Type 0) → List Event → Type 0
+abbrev pub Each : (Event → Type 0) → List Event → Type 0
 Each P xs = (k : ℕ) (x : Event) → slice_get xs k ≡ Some x → P x
 
 Each-tail : (P : Event → Type 0) (y : Event) (xs : List Event) → Each P (y ∷ xs) → Each P xs
@@ -222,7 +222,7 @@ back-unlinked i [] u = Each-nil IsUnlinked
 back-unlinked i (e ∷ log) u =
     Each-append IsUnlinked (cond (e.at == i && not e.before) e.events []) (back_at i log) (Each-part IsUnlinked (e.at == i && not e.before) e.events (adds-head e log u)) (back-unlinked i log (adds-tail e log u))
 
-added-unlinked : (log : List Edit) (i : ℕ) → AddsUnlinked log → Each IsUnlinked (added_at i log)
+pub added-unlinked : (log : List Edit) (i : ℕ) → AddsUnlinked log → Each IsUnlinked (added_at i log)
 added-unlinked log i u =
     Each-append IsUnlinked (front_at i log) (back_at i log) (front-unlinked i log u) (back-unlinked i log u)
 

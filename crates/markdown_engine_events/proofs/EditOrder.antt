@@ -187,7 +187,7 @@ none = record { at = 0; remove = 0; from = 0; to = 0; before = false }
 abbrev pub entry : List Entry → ℕ → Entry
 entry es k = get_or es k none
 
-kept-read : (cs : List Event) (es : List Entry) (k : ℕ) → k < length es → (e : Edit) →
+pub kept-read : (cs : List Event) (es : List Entry) (k : ℕ) → k < length es → (e : Edit) →
     get_or (kept cs es) k e ≡ edit_of cs (entry es k)
 kept-read cs es k l e = get_or-map (edit_of cs) es k none e l
 
@@ -211,10 +211,10 @@ here-more i es k l at all =
     let P : List Entry → Type 0 = λ ys. All (λ e. e.at ≡ i) ys in
     subst P (sym (take_more es k none l)) (All-push (λ (e : Entry). e.at ≡ i) (take k es) (entry es k) all at)
 
-at-place : (a i n : ℕ) → a ≡ i → cond (a == i) n 0 ≡ n
+pub at-place : (a i n : ℕ) → a ≡ i → cond (a == i) n 0 ≡ n
 at-place a i n h = grind (arith, nat_tests)
 
-at-other : (a i n : ℕ) → a ≢ i → cond (a == i) n 0 ≡ 0
+pub at-other : (a i n : ℕ) → a ≢ i → cond (a == i) n 0 ≡ 0
 at-other a i n h = rw (ne_eqb a i h) refl
 
 pub removed-left : (cs : List Event) (i : ℕ) (es : List Entry) (k : ℕ) (a : ℕ) → k < length es →
@@ -274,7 +274,7 @@ none-elsewhere r i ys other = rw (ne_eqb r.at i other) (sym (append-nil ys))
 
 -- One edit that stands at a place by itself.
 
-one-comes : (e : Edit) (i : ℕ) (b : Bool) → e.at ≡ i → e.before ≡ b → added_at i (e ∷ []) ≡ e.events
+pub one-comes : (e : Edit) (i : ℕ) (b : Bool) → e.at ≡ i → e.before ≡ b → added_at i (e ∷ []) ≡ e.events
 one-comes e i true at b = rw (eq-eqb e.at i at) (rw b (append-nil e.events))
 one-comes e i false at b = rw (eq-eqb e.at i at) (rw b (append-nil e.events))
 

@@ -62,7 +62,7 @@ same-link f (Some l) h = ap (λ (p : Option ℕ). Some (record l { previous = p 
 nil-moved : (e : Event) → moved [] e ≡ e
 nil-moved e = ap (λ (l : Option Link). record e { link = l }) (same-link (moved_number []) e.link nil-number)
 
-nil-from : (i : ℕ) (es : List Event) → edited_from [] i es ≡ es
+pub nil-from : (i : ℕ) (es : List Event) → edited_from [] i es ≡ es
 nil-from i [] = refl
 nil-from i (e ∷ es) =
     ap (λ b. cond b [] (moved [] e ∷ []) ++ edited_from [] (suc i) es) (nil-removed i) ∙ ap (λ x. x ∷ edited_from [] (suc i) es) (nil-moved e) ∙ ap (λ xs. e ∷ xs) (nil-from (suc i) es)

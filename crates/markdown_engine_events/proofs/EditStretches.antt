@@ -7,15 +7,11 @@ use Rattle.std.proofs.lemmas.Bool.{le-ltb, lt-ltb}
 use Rattle.markdown_engine_content.specs.declared.event.Event.{Event}
 use Rattle.markdown_engine_content.specs.declared.event.Link.{Link}
 use Rattle.markdown_engine_events.specs.declared.util.edit_map.Edit.{Edit}
-use Rattle.markdown_engine_events.specs.EventChains.{previous_link, link_previous, previous_of, IsFresh}
+use Rattle.markdown_engine_events.specs.EventChains.{previous_link, link_previous, NamesNone, IsFresh}
 use Rattle.markdown_engine_events.specs.Edits.{removed_at, added_at, is_removed, moved_number, moved, edited_from, edited, IsRest}
 use Rattle.markdown_engine_events.proofs.EventChainLemmas.{fresh-unnamed}
 use Rattle.markdown_engine_events.proofs.EditLemmas.{range_end, range-next, removed-test, found, step-kept, step-gone, EndsAt}
 use Rattle.markdown_engine_events.proofs.EditRules.{added-none, removed-none, edited_until, edited-split}
-
--- an event that names none before it
-abbrev pub NamesNone : Event → Type 0
-NamesNone e = previous_of e ≡ None
 
 pub fresh-first : (xs : List Event) → All IsFresh xs → All NamesNone xs
 fresh-first xs u = λ k d l. fresh-unnamed (get_or xs k d) (u k d l)
@@ -25,11 +21,11 @@ same-first : (f : ℕ → ℕ) (l : Option Link) → link_previous l ≡ None �
 same-first f None h = refl
 same-first f (Some l) h = ap (λ (p : Option ℕ). Some (record l { previous = p })) (ap (option_map f) h ∙ sym h)
 
-first-moved : (log : List Edit) (e : Event) → NamesNone e → moved log e ≡ e
+pub first-moved : (log : List Edit) (e : Event) → NamesNone e → moved log e ≡ e
 first-moved log e h = ap (λ (l : Option Link). record e { link = l }) (same-first (moved_number log) e.link h)
 
 -- events that stay, where nothing comes, and that name none before them
-until-plain : (log : List Edit) (i : ℕ) (xs : List Event) →
+pub until-plain : (log : List Edit) (i : ℕ) (xs : List Event) →
     ((j : ℕ) → i ≤ j → j < i + length xs → added_at j log ≡ []) →
     ((j : ℕ) → i ≤ j → j < i + length xs → is_removed log j ≡ false) → All NamesNone xs → edited_until log i xs ≡ xs
 until-plain log i [] a r u = refl
@@ -37,7 +33,7 @@ until-plain log i (x ∷ xs) a r u =
     ap (λ y. y ++ (cond (is_removed log i) [] (moved log x ∷ []) ++ edited_until log (suc i) xs)) (a i (omega arith) (omega arith)) ∙ ap (λ b. cond b [] (moved log x ∷ []) ++ edited_until log (suc i) xs) (r i (omega arith) (omega arith)) ∙ ap (λ y. y ∷ edited_until log (suc i) xs) (first-moved log x (u 0 x (omega arith))) ∙ ap (λ y. x ∷ y) (until-plain log (suc i) xs (λ j l h. a j (omega arith) (omega arith)) (λ j l h. r j (omega arith) (omega arith)) (λ k d l. u (suc k) d (omega arith)))
 
 -- events that go, where nothing comes
-until-gone : (log : List Edit) (i : ℕ) (xs : List Event) → ((j : ℕ) → i ≤ j → j < i + length xs → added_at j log ≡ []) →
+pub until-gone : (log : List Edit) (i : ℕ) (xs : List Event) → ((j : ℕ) → i ≤ j → j < i + length xs → added_at j log ≡ []) →
     ((j : ℕ) → i ≤ j → j < i + length xs → is_removed log j ≡ true) → edited_until log i xs ≡ []
 until-gone log i [] a r = refl
 until-gone log i (x ∷ xs) a r =

@@ -1,4 +1,5 @@
 -- What a change of the kept events does to the events that contracts see, and that their links stay filled in.
+use Rattle.markdown_lists.proofs.PastedParts.{take-take-le}
 use Rattle.std.proofs.Common.{◌≡◌, ℕ, zero, suc, ◌+◌, ◌-◌, ◌<◌, ◌≤◌, Option, Some, None, List, [], ◌∷◌, ◌++◌, length, take, drop, get_or, Bool, true, false, refl, append_assoc, sym, ap, subst, ◌∙◌, arith}
 use Rattle.std.proofs.lemmas.Bool.{both_ways}
 use Rattle.std.proofs.lemmas.List.{take_at, same_from_push, length_push, append-nil, length-take, get_or-take, get_or-drop, get_or_append_left, get_or_push}
@@ -159,7 +160,7 @@ bare-read xs vs i d r v h k =
 abbrev pub AreBare : List Event → Type 0
 AreBare xs = All (λ e. next_link None e.link ≡ e.link) xs
 
-bares-same : (xs : List Event) → AreBare xs → bares xs ≡ xs
+pub bares-same : (xs : List Event) → AreBare xs → bares xs ≡ xs
 bares-same [] u = refl
 bares-same (x ∷ xs) u =
     ap (λ (l : Option Link). record x { link = l } ∷ bares xs) (u 0 x (omega arith)) ∙ ap (λ ys. x ∷ ys) (bares-same xs (λ k d l. u (suc k) d (omega arith)))
@@ -173,13 +174,7 @@ bares-part (suc n) (suc k) [] = refl
 bares-part (suc n) zero (x ∷ xs) = bares-part n zero xs
 bares-part (suc n) (suc k) (x ∷ xs) = bares-part n (suc k) xs
 
-take-take-le : (a b : ℕ) (ys : List Event) → a ≤ b → take a (take b ys) ≡ take a ys
-take-take-le zero b ys h = refl
-take-take-le (suc a) zero ys h = absurd (omega arith)
-take-take-le (suc a) (suc b) [] h = refl
-take-take-le (suc a) (suc b) (y ∷ ys) h = ap (λ zs. y ∷ zs) (take-take-le a b ys (omega arith))
-
-enters-each : (xs : List Event) → OnlyEnters xs → All (λ e. MayLink e.kind e.link) xs
+pub enters-each : (xs : List Event) → OnlyEnters xs → All (λ e. MayLink e.kind e.link) xs
 enters-each [] h = λ k d l. absurd (omega arith)
 enters-each (x ∷ xs) h = λ k d l. enters-step x xs h.0 (enters-each xs h.1) k d l
   where

@@ -4,3 +4,4 @@ pub mod EventViewLemmas
 pub mod EditLemmas
 pub mod EditOrder
 pub mod EditStretches
+pub mod EditsInPlace

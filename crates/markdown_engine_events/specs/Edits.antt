@@ -1,5 +1,5 @@
 -- Edits of a list of events, applied at once: each place is counted in the list before any edit.
-use Rattle.std.specs.Prelude.{◌≡◌, ℕ, zero, suc, ◌+◌, ◌-◌, ◌≤◌, ◌==◌, ◌||◌, ◌&&◌, not, nat_lt, nat_le, Bool, true, false, List, [], ◌∷◌, ◌++◌, length, take, drop, map, if◌then◌else◌}
+use Rattle.std.specs.Prelude.{max, sum_by, ◌≡◌, ℕ, zero, suc, ◌+◌, ◌-◌, ◌≤◌, ◌==◌, ◌||◌, ◌&&◌, not, nat_lt, nat_le, Bool, true, false, List, [], ◌∷◌, ◌++◌, length, take, drop, map, if◌then◌else◌}
 use Rattle.std.specs.List.{All}
 use Rattle.std.specs.List.Sorted.{IsNonDecreasingBy}
 use Rattle.std.specs.Option.{option_map}
@@ -104,6 +104,23 @@ pub record AreBrought (comes : List Event) (entries : List Entry) : Type 0 where
 pub record AreKept (comes : List Event) (entries : List Entry) : Type 0 where
   pub brought : AreBrought comes entries
   pub rises : IsNonDecreasingBy (λ e. e.to) entries
+
+-- edits in the order of their places, none below n, each behind what those before it remove, and within a list of so many
+-- events
+abbrev pub StandApart : ℕ → ℕ → List Edit → Type 0
+StandApart n count [] = Unit {0}
+StandApart n count (e ∷ log) = (n ≤ e.at) × ((e.at + e.remove ≤ count) × StandApart (e.at + max 1 e.remove) count log)
+
+-- each brings at least as many events as it removes; how many more they are together
+abbrev pub AreGrowing : List Edit → Type 0
+AreGrowing log = All (λ e. e.remove ≤ length e.events) log
+
+abbrev pub grown : List Edit → ℕ
+grown log = sum_by (λ e. length e.events - e.remove) log
+
+-- each removes at least as many events as it brings
+abbrev pub AreShrinking : List Edit → Type 0
+AreShrinking log = All (λ e. length e.events ≤ e.remove) log
 
 -- edits in the order of their places, none below n, which collect at each place from n on what the log collects there
 pub record IsRest (n : ℕ) (log rest : List Edit) : Type 0 where

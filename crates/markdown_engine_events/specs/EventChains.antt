@@ -40,6 +40,10 @@ link_previous (Some l) = l.previous
 abbrev pub previous_of : Event → Option ℕ
 previous_of e = link_previous e.link
 
+-- an event that names none before it
+abbrev pub NamesNone : Event → Type 0
+NamesNone e = previous_of e ≡ None
+
 abbrev pub has_link : Option Link → Bool
 has_link None = false
 has_link (Some l) = true

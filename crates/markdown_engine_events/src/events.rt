@@ -1,8 +1,11 @@
 // The events so far.
 ghost use Rattle.std.specs.Prelude.{◌≡◌, ◌<◌, ◌≤◌, ◌+◌, ◌-◌, ◌++◌, ◌∷◌, ◌==◌, [], ℕ, length, take, drop, OnOk, OnErr, IfOk, IsFalse, IsTrue, Some, None, true, slice_index_or};
 ghost use Rattle.markdown_engine_events.specs.EventChains.{bare, chained, changed_at, next_link, with_next, with_previous, link_previous, previous_at, linked_at, EndsChain, IsAlone, IsLinked, IsFresh};
+ghost use Rattle.markdown_engine_events.specs.Edits.{edited, edits_of, AreBrought};
 ghost use Rattle.std.specs.List.{All};
 
+use crate::util::edit_map::Kept;
+use crate::util::edits_in_place::{growth, is_shrinking, spread, squeeze, stand_apart};
 use markdown_engine_content::event::{Event, Link};
 use markdown_lists::seq::Seq;
 use std::alloc::{AllocError, Global};
@@ -255,6 +258,32 @@ impl Events {
             items: Seq::from_vec(Vec::with_capacity(alloc, capacity)?),
             chains: false,
         })
+    }
+
+    // Applies edits in the list itself, where that can be: no event is linked to another, the edits stand apart, and each brings as many events as
+    // it removes or more, or each as many or fewer. The answer is whether they are applied.
+    pub(crate) fn edit_in_place(&mut self, edits: &Kept) -> Result<bool, AllocError>
+        requires { AreBrought edits.now.comes.now edits.now.entries.now }
+        ensures done { IfOk result (λ done. IsTrue done → self.new ≡ edited (edits_of edits.now) self.old) }
+        ensures stays { IfOk result (λ done. IsFalse done → self.new ≡ self.old) }
+        ensures err { OnErr result (self.new ≡ self.old) }
+    {
+        let count = self.items.len();
+        if self.chains || !stand_apart(edits, count) {
+            return Ok(false);
+        }
+        if is_shrinking(edits) {
+            squeeze(&mut self.items, edits);
+            return Ok(true);
+        }
+        match growth(edits) {
+            Some(more) if more <= edits.comes.len() => {
+                self.items.extend_from_slice(&edits.comes[..more])?;
+                spread(&mut self.items, edits, count);
+                Ok(true)
+            }
+            _ => Ok(false),
+        }
     }
 
     // The events from `from` on that are linked to no other, up to the first that is, or up to `to`; lent.

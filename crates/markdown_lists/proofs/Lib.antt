@@ -1,1 +1,2 @@
 pub mod ReverseSet
+pub mod PastedParts

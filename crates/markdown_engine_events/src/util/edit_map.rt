@@ -1,5 +1,5 @@
 // Edits of a list of events, collected first and applied at once.
-ghost use Rattle.std.specs.Prelude.{◌≡◌, ◌≢◌, ℕ, ◌<◌, ◌≤◌, ◌+◌, ◌-◌, ◌^◌, ◌++◌, ◌∷◌, ◌==◌, [], length, take, drop, slice_index_or, min, max, sum_by, OnOk, OnErr, IfOk, IsTrue, List, true, false};
+ghost use Rattle.std.specs.Prelude.{◌≡◌, ◌≢◌, ℕ, ◌<◌, ◌≤◌, ◌+◌, ◌-◌, ◌^◌, ◌++◌, ◌∷◌, ◌==◌, [], length, take, drop, slice_index_or, min, max, sum_by, OnOk, OnErr, IfOk, IsTrue, IsFalse, List, true, false};
 ghost use Rattle.std.specs.List.{All};
 ghost use Rattle.std.specs.List.Sorted.{IsNonDecreasingBy};
 ghost use Rattle.markdown_engine_events.specs.EventChains.{bare, EndsChain, IsFresh, IsLinked, IsUnlinked};
@@ -26,15 +26,15 @@ pub struct Edit {
 
 // One edit, as a map keeps it.
 #[derive(Clone, Copy)]
-struct Entry {
+pub(crate) struct Entry {
     // The place: the number of an event, or how many events there are.
-    at: usize,
+    pub(crate) at: usize,
     // How many events go, from the place on.
-    remove: usize,
+    pub(crate) remove: usize,
     // Where the events that come begin, in the list of all that come.
-    from: usize,
+    pub(crate) from: usize,
     // Where they end.
-    to: usize,
+    pub(crate) to: usize,
     // Whether they come before those that earlier edits put there, and not behind.
     before: bool,
 }
@@ -65,13 +65,13 @@ impl Model for EditMap {
 
 // Edits, and the list of all events that come.
 #[derive(Clone, Copy)]
-struct Kept<'a> {
-    entries: &'a [Entry],
-    comes: &'a [Event],
+pub(crate) struct Kept<'a> {
+    pub(crate) entries: &'a [Entry],
+    pub(crate) comes: &'a [Event],
 }
 
 // The events that an edit brings.
-fn brought<'a>(comes: &'a [Event], edit: &Entry) -> &'a [Event]
+pub(crate) fn brought<'a>(comes: &'a [Event], edit: &Entry) -> &'a [Event]
     requires order { edit.now.from ≤ edit.now.to }
     requires within { edit.now.to ≤ length comes.now }
     ensures { result.now ≡ (edit_of comes.now edit.now).events }
@@ -530,6 +530,18 @@ impl EditMap {
         Ok(done)
     }
 
+    // Applies all edits in the list itself, where that can be. The answer is whether they are applied.
+    fn applied_in_place(&self, events: &mut Events) -> Result<bool, AllocError>
+        ensures done { IfOk result (λ done. IsTrue done → events.new ≡ edited self.now events.old) }
+        ensures stays { IfOk result (λ done. IsFalse done → events.new ≡ events.old) }
+        ensures err { OnErr result (events.new ≡ events.old) }
+    {
+        let mut sorted = Vec::new(self.alloc);
+        let edits = self.in_order(&mut sorted)?;
+        let done = events.edit_in_place(&edits)?;
+        Ok(done)
+    }
+
     // Applies all edits at once, as `consume` does where there is one. It is kept out of line, so that a pass without an edit costs no more than
     // the look whether there is one.
     #[inline(never)]
@@ -540,8 +552,10 @@ impl EditMap {
         ensures err { OnErr result (events.new ≡ events.old) }
         ensures stays { OnErr result (self.new ≡ self.old) }
     {
-        let done = self.applied(events)?;
-        *events = done;
+        if !self.applied_in_place(events)? {
+            let done = self.applied(events)?;
+            *events = done;
+        }
         self.truncate(0);
         Ok(())
     }
