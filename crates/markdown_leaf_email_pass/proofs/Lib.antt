@@ -8,3 +8,4 @@ pub mod EmailAtSign
 pub mod AtSignSearch
 pub mod EmailEditLemmas
 pub mod EmailPassLaw
+pub mod SettledEvents

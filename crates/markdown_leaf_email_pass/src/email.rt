@@ -77,7 +77,7 @@ fn mail_first(
 }
 
 // Whether data with an `@` begins at this event.
-fn begins_signed(bytes: &[u8], events: &Events, index: usize) -> bool
+pub(crate) fn begins_signed(bytes: &[u8], events: &Events, index: usize) -> bool
     requires fits { length bytes.now ≤ document_limit }
     requires within { index < length events.now }
     requires counted { length events.now < 2 ^ 64 }

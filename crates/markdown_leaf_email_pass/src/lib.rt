@@ -1,5 +1,6 @@
-//! The pass that sets email literals apart.
+//! The pass that sets email literals apart, and whether it and trimming find anything.
 #![tactic(auto)]
 
 pub mod email;
 mod literal;
+pub mod settled;

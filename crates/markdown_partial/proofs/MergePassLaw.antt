@@ -1,10 +1,11 @@
 -- the events of a tree, with its neighbouring data merged
-use Rattle.std.proofs.Common.{◌≡◌, ◌≢◌, ℕ, zero, suc, ◌+◌, ◌==◌, nat_le, ◌&&◌, Bool, true, false, List, [], ◌∷◌, ◌++◌, length, drop, Option, Some, None, if◌then◌else◌, refl, sym, ap, subst, ◌∙◌, arith, append_assoc, append-nil}
+use Rattle.std.proofs.Common.{◌≡◌, ◌≢◌, ℕ, zero, suc, ◌+◌, ◌==◌, ◌≤◌, nat_le, ◌&&◌, Bool, true, false, List, [], ◌∷◌, ◌++◌, length, drop, Option, Some, None, if◌then◌else◌, refl, sym, ap, subst, ◌∙◌, arith, append_assoc, append-nil}
 use Rattle.std.proofs.Math.Bool.{and-false}
 use Rattle.std.proofs.lemmas.Bool.{both_ways}
 use Rattle.std.specs.Option.{option_map}
 use Rattle.std.proofs.lemmas.List.{drop-drop}
 use Rattle.markdown_engine_content.specs.Codes.{Code, stop_of, document_start}
+use Rattle.markdown_engine_events.proofs.EditRules.{edited-nil}
 use Rattle.markdown_engine_events.specs.Edits.{is_removed, removed_before, added_up_to, added_at, front_at, back_at, moved_number, moved, edited_from, edited}
 use Rattle.markdown_engine_content.specs.ListFunctions.{rest_of}
 use Rattle.markdown_engine.specs.Operations.{link_back}
@@ -551,3 +552,19 @@ merged-events t d es e =
     ∙ r.events
     ∙ ap (λ y. appended_from 0 None (merged t) ++ y) (edited-end es (0 + event_count t))
     ∙ append-nil (appended_from 0 None (merged t))
+
+-- two events or fewer are no neighbouring data
+
+none-joined : (es : List Event) → length es ≤ 2 → joints 0 es ≡ []
+none-joined [] h = refl
+none-joined (e ∷ []) h = ap (λ b. marked b 1 ++ []) (and-false (opens_data e))
+none-joined (e ∷ x ∷ []) h =
+    ap (λ b. marked (opens_data e && b) 1 ++ joints 1 (x ∷ [])) (and-false (closes_data x))
+    ∙ ap (λ b. marked b 1 ++ joints 1 (x ∷ [])) (and-false (opens_data e))
+    ∙ ap (λ b. marked b 2 ++ []) (and-false (opens_data x))
+none-joined (e ∷ x ∷ y ∷ es) h = absurd (omega (arith, h))
+
+pub few-merged : (t : Forest) → HasData t → (es : List Event) → es ≡ appended_from 0 None t → length es ≤ 2 →
+    es ≡ appended_from 0 None (merged t)
+few-merged t d es e few =
+    sym (edited-nil es) ∙ ap (λ log. edited log es) (sym (none-joined es few)) ∙ merged-events t d es e

@@ -13,9 +13,9 @@ use Rattle.markdown_engine_content.specs.declared.event.Event.{Event}
 use Rattle.markdown_engine_events.specs.declared.util.edit_map.Edit.{Edit}
 use Rattle.markdown_engine_events.proofs.EditRules.{stays-where, goes-where}
 use Rattle.markdown_partial.specs.MergedEvents.{is_enter, is_data, opens_data}
-use Rattle.markdown_partial.specs.TrimmedData.{trimmed_events}
+use Rattle.markdown_partial.specs.TrimmedData.{IsStretch, trimmed_events}
 use Rattle.markdown_partial.proofs.DataSearch.{BeginsNone, event-at}
-use Rattle.markdown_partial.specs.TrimmedEvents.{closes_ending, flag, goes_before, trim, trim_first, trims, ClosesAt, FirstHasPlaces, HasPlaces, loses}
+use Rattle.markdown_partial.specs.TrimmedEvents.{closes_ending, flag, goes_before, trim, trim_first, trims, ClosesAt, FirstHasPlaces, HasPlaces, loses, loses_first}
 
 -- At the first event.
 
@@ -97,23 +97,76 @@ trim-other bytes hard whole n front e [] h = refl
 trim-other bytes hard whole n front e (x ∷ es) h =
     ap (λ b. if b && loses front (goes_before whole es) bytes e.point x.point then trim bytes hard whole n front e x es ∷ [] else []) h
 
--- and where blank codes stay on both sides, no edit is made
+-- The first data loses codes where it is trimmed.
 
-two-behind : (bytes : List ℕ) (hard whole : Bool) (n : ℕ) (front : Bool) (es : List Event) → front ≡ false →
-    goes_before whole (rest_of (rest_of es)) ≡ false → trim_first bytes hard whole n front es ≡ []
-two-behind bytes hard whole n front [] h k = refl
-two-behind bytes hard whole n front (e ∷ []) h k = refl
-two-behind bytes hard whole n front (e ∷ x ∷ es) h k =
-    let off : opens_data e && loses front (goes_before whole es) bytes e.point x.point ≡ false =
-    ap (λ f. opens_data e && loses f (goes_before whole es) bytes e.point x.point) h ∙ ap (λ g. opens_data e && loses false g bytes e.point x.point) k ∙ and-false (opens_data e) in
-    ap (λ b. if b then trim bytes hard whole n front e x es ∷ [] else []) off
+losing-other : (bytes : List ℕ) (whole front : Bool) (e : Event) (es : List Event) → opens_data e ≡ false → loses_first bytes whole front (e ∷ es) ≡ false
+losing-other bytes whole front e [] h = refl
+losing-other bytes whole front e (x ∷ es) h = ap (λ b. b && loses front (goes_before whole es) bytes e.point x.point) h
 
-pub trim-none : (bytes : List ℕ) (hard whole : Bool) (n : ℕ) (front : Bool) (i : ℕ) (es : List Event) → front ≡ false →
-    goes_before whole (drop (i + 2) es) ≡ false → trim_first bytes hard whole n front (drop i es) ≡ []
-trim-none bytes hard whole n front i es h k =
+pub loses-other : (bytes : List ℕ) (whole front : Bool) (i : ℕ) (es : List Event) (e : Event) → i < length es → e ≡ get_or es i e →
+    opens_data e ≡ false → loses_first bytes whole front (drop i es) ≡ false
+loses-other bytes whole front i es e l h o =
+    ap (loses_first bytes whole front) (head-drop i es e l h) ∙ losing-other bytes whole front e (drop (i + 1) es) o
+
+losing-none : (bytes : List ℕ) (whole front : Bool) (es : List Event) → front ≡ false → goes_before whole (rest_of (rest_of es)) ≡ false →
+    loses_first bytes whole front es ≡ false
+losing-none bytes whole front [] h k = refl
+losing-none bytes whole front (e ∷ []) h k = refl
+losing-none bytes whole front (e ∷ x ∷ es) h k =
+    ap (λ f. opens_data e && loses f (goes_before whole es) bytes e.point x.point) h
+    ∙ ap (λ g. opens_data e && loses false g bytes e.point x.point) k
+    ∙ and-false (opens_data e)
+
+pub loses-none : (bytes : List ℕ) (whole front : Bool) (i : ℕ) (es : List Event) → front ≡ false →
+    goes_before whole (drop (i + 2) es) ≡ false → loses_first bytes whole front (drop i es) ≡ false
+loses-none bytes whole front i es h k =
     let more : i + 2 ≡ suc (suc i) = omega arith in
     let behind : drop (i + 2) es ≡ rest_of (rest_of (drop i es)) = ap (λ m. drop m es) more ∙ drop-more (suc i) es ∙ ap rest_of (drop-more i es) in
-    two-behind bytes hard whole n front (drop i es) h (ap (goes_before whole) (sym behind) ∙ k)
+    losing-none bytes whole front (drop i es) h (ap (goes_before whole) (sym behind) ∙ k)
+
+-- of two events that follow one another
+pub loses-is : (bytes : List ℕ) (whole front : Bool) (i : ℕ) (es : List Event) (e x : Event) → i + 1 < length es → e ≡ get_or es i e →
+    x ≡ get_or es (i + 1) x → opens_data e ≡ true →
+    loses_first bytes whole front (drop i es) ≡ loses front (goes_before whole (drop (i + 2) es)) bytes e.point x.point
+loses-is bytes whole front i es e x l h k o =
+    let two : i + 1 + 1 ≡ i + 2 = omega arith in
+    ap (loses_first bytes whole front) (head-drop i es e (omega (arith, l)) h ∙ ap (λ xs. e ∷ xs) (head-drop (i + 1) es x l k))
+    ∙ ap (λ b. b && loses front (goes_before whole (drop (i + 1 + 1) es)) bytes e.point x.point) o
+    ∙ ap (λ m. loses front (goes_before whole (drop m es)) bytes e.point x.point) two
+
+-- so its edit is none where it loses none, and else that of its two events
+pub kept-edit : (bytes : List ℕ) (hard whole : Bool) (n : ℕ) (front : Bool) (es : List Event) → loses_first bytes whole front es ≡ false →
+    trim_first bytes hard whole n front es ≡ []
+kept-edit bytes hard whole n front [] h = refl
+kept-edit bytes hard whole n front (e ∷ []) h = refl
+kept-edit bytes hard whole n front (e ∷ x ∷ es) h = ap (λ b. if b then trim bytes hard whole n front e x es ∷ [] else []) h
+
+pub keeps-first : (bytes : List ℕ) (hard whole : Bool) (n : ℕ) (front : Bool) (es : List Event) (old : List Edit) →
+    loses_first bytes whole front es ≡ false → old ≡ old ++ trim_first bytes hard whole n front es
+keeps-first bytes hard whole n front es old h =
+    sym (append-nil old) ∙ ap (λ xs. old ++ xs) (sym (kept-edit bytes hard whole n front es h))
+
+pub opens-first : (bytes : List ℕ) (whole front : Bool) (i : ℕ) (es : List Event) (e : Event) → i < length es → e ≡ get_or es i e →
+    loses_first bytes whole front (drop i es) ≡ true → opens_data e ≡ true
+opens-first bytes whole front i es e l h k =
+    elim (cases_Bool (opens_data e)) [
+      | inl o ↦ o
+      | inr o ↦ absurd (both_ways (loses_first bytes whole front (drop i es)) (loses-other bytes whole front i es e l h o) k)
+    ]
+
+pub stretch-first : (bytes : List ℕ) (i : ℕ) (es : List Event) (e x : Event) → i + 1 < length es → x ≡ get_or es (i + 1) x →
+    ClosesAt bytes e (drop (i + 1) es) → IsStretch bytes e.point x.point
+stretch-first bytes i es e x l k c = (subst (λ (xs : List Event). ClosesAt bytes e xs) (head-drop (i + 1) es x l k) c).0
+
+pub edit-first : (bytes : List ℕ) (hard whole : Bool) (n : ℕ) (front : Bool) (i : ℕ) (es : List Event) (e x : Event) → i + 1 < length es →
+    e ≡ get_or es i e → x ≡ get_or es (i + 1) x → loses_first bytes whole front (drop i es) ≡ true →
+    trim_first bytes hard whole n front (drop i es) ≡ trim bytes hard whole n front e x (drop (i + 2) es) ∷ []
+edit-first bytes hard whole n front i es e x l h k losing =
+    let two : i + 1 + 1 ≡ i + 2 = omega arith in
+    let rest : List Event = drop (i + 2) es in
+    let both : drop i es ≡ e ∷ x ∷ rest = head-drop i es e (omega (arith, l)) h ∙ ap (λ xs. e ∷ xs) (head-drop (i + 1) es x l k) ∙ ap (λ m. e ∷ x ∷ drop m es) two in
+    let on : opens_data e && loses front (goes_before whole rest) bytes e.point x.point ≡ true = ap (loses_first bytes whole front) (sym both) ∙ losing in
+    ap (trim_first bytes hard whole n front) both ∙ ap (λ b. if b then trim bytes hard whole n front e x rest ∷ [] else []) on
 
 trims-pass : (bytes : List ℕ) (hard whole : Bool) (d i k : ℕ) (es : List Event) → k ≡ i + d → k ≤ length es → BeginsNone es i k →
     trims bytes hard whole i (flag i whole es) (drop i es) ≡ trims bytes hard whole k (flag k whole es) (drop k es)
@@ -144,12 +197,6 @@ trims-end bytes hard whole i es log all l k =
     sym (append-nil log) ∙ ap (λ ys. log ++ trims bytes hard whole i (flag i whole es) ys) (sym (drop_all i es l)) ∙ k
 
 -- What the edits collect at a place.
-
--- the first two events are data that loses codes
-abbrev pub begins_cut : List ℕ → Bool → Bool → List Event → Bool
-begins_cut bytes whole front [] = false
-begins_cut bytes whole front (e ∷ []) = false
-begins_cut bytes whole front (e ∷ x ∷ es) = opens_data e && loses front (goes_before whole es) bytes e.point x.point
 
 abbrev pub comes : List ℕ → Bool → Bool → Bool → List Event → List Event
 comes bytes hard whole front [] = []
@@ -241,7 +288,7 @@ module _ (bytes : List ℕ) (hard whole : Bool) where
       zero-plus (removed_at i log) ∙ ap (λ k. k + removed_at i log) (sym (zero-if (n == i)))
 
   removed-first : (i n : ℕ) (front : Bool) (es : List Event) (log : List Edit) →
-      removed_at i (trim_first bytes hard whole n front es ++ log) ≡ (if n == i then two (begins_cut bytes whole front es) else 0) + removed_at i log
+      removed_at i (trim_first bytes hard whole n front es ++ log) ≡ (if n == i then two (loses_first bytes whole front es) else 0) + removed_at i log
   removed-first i n front [] log =
       zero-plus (removed_at i log) ∙ ap (λ k. k + removed_at i log) (sym (zero-if (n == i)))
   removed-first i n front (e ∷ []) log =
@@ -261,7 +308,7 @@ module _ (bytes : List ℕ) (hard whole : Bool) where
   removed-earlier i n front [] l = refl
   removed-earlier i n front (e ∷ es) l =
       removed-first i n front (e ∷ es) (trims bytes hard whole (suc n) (closes_ending e) es)
-      ∙ ap (λ b. (if b then two (begins_cut bytes whole front (e ∷ es)) else 0) + removed_at i (trims bytes hard whole (suc n) (closes_ending e) es)) (ne_eqb n i (λ h. omega (arith, h)))
+      ∙ ap (λ b. (if b then two (loses_first bytes whole front (e ∷ es)) else 0) + removed_at i (trims bytes hard whole (suc n) (closes_ending e) es)) (ne_eqb n i (λ h. omega (arith, h)))
       ∙ sym (zero-plus (removed_at i (trims bytes hard whole (suc n) (closes_ending e) es)))
       ∙ removed-earlier i (suc n) (closes_ending e) es (omega arith)
 
@@ -280,17 +327,17 @@ module _ (bytes : List ℕ) (hard whole : Bool) where
       ∙ back-place i (suc n) k (closes_ending x) es (omega (arith, e))
 
   removed-place : (i n k : ℕ) (front : Bool) (es : List Event) → i ≡ n + k →
-      removed_at i (trims bytes hard whole n front es) ≡ two (begins_cut bytes whole (flag k front es) (drop k es))
+      removed_at i (trims bytes hard whole n front es) ≡ two (loses_first bytes whole (flag k front es) (drop k es))
   removed-place i n zero front [] e = refl
   removed-place i n (suc k) front [] e = refl
   removed-place i n zero front (x ∷ es) e =
       removed-first i n front (x ∷ es) (trims bytes hard whole (suc n) (closes_ending x) es)
-      ∙ ap (λ b. (if b then two (begins_cut bytes whole front (x ∷ es)) else 0) + removed_at i (trims bytes hard whole (suc n) (closes_ending x) es)) (eq-eqb n i (omega (arith, e)))
-      ∙ ap (λ j. two (begins_cut bytes whole front (x ∷ es)) + j) (removed-earlier i (suc n) (closes_ending x) es (omega (arith, e)))
+      ∙ ap (λ b. (if b then two (loses_first bytes whole front (x ∷ es)) else 0) + removed_at i (trims bytes hard whole (suc n) (closes_ending x) es)) (eq-eqb n i (omega (arith, e)))
+      ∙ ap (λ j. two (loses_first bytes whole front (x ∷ es)) + j) (removed-earlier i (suc n) (closes_ending x) es (omega (arith, e)))
       ∙ omega arith
   removed-place i n (suc k) front (x ∷ es) e =
       removed-first i n front (x ∷ es) (trims bytes hard whole (suc n) (closes_ending x) es)
-      ∙ ap (λ b. (if b then two (begins_cut bytes whole front (x ∷ es)) else 0) + removed_at i (trims bytes hard whole (suc n) (closes_ending x) es)) (ne_eqb n i (λ h. omega (arith, e, h)))
+      ∙ ap (λ b. (if b then two (loses_first bytes whole front (x ∷ es)) else 0) + removed_at i (trims bytes hard whole (suc n) (closes_ending x) es)) (ne_eqb n i (λ h. omega (arith, e, h)))
       ∙ sym (zero-plus (removed_at i (trims bytes hard whole (suc n) (closes_ending x) es)))
       ∙ removed-place i (suc n) k (closes_ending x) es (omega (arith, e))
 
@@ -303,7 +350,7 @@ module _ (bytes : List ℕ) (hard whole : Bool) where
       ap (λ xs. xs ++ back_at k (log_of es)) (front-trims k 0 whole es) ∙ back-place k 0 k whole es (omega arith)
 
   pub removed-here : (k : ℕ) (es : List Event) →
-      removed_at k (log_of es) ≡ two (begins_cut bytes whole (flag k whole es) (drop k es))
+      removed_at k (log_of es) ≡ two (loses_first bytes whole (flag k whole es) (drop k es))
   removed-here k es = removed-place k 0 k whole es (omega arith)
 
   two-most : (b : Bool) → two b ≤ 2
@@ -311,28 +358,28 @@ module _ (bytes : List ℕ) (hard whole : Bool) where
   two-most false = omega arith
 
   -- what no data that loses codes stands at, or just before, stays
-  pub stays-here : (j : ℕ) (es : List Event) → begins_cut bytes whole (flag j whole es) (drop j es) ≡ false →
-      ((p : ℕ) → suc p ≡ j → begins_cut bytes whole (flag p whole es) (drop p es) ≡ false) →
+  pub stays-here : (j : ℕ) (es : List Event) → loses_first bytes whole (flag j whole es) (drop j es) ≡ false →
+      ((p : ℕ) → suc p ≡ j → loses_first bytes whole (flag p whole es) (drop p es) ≡ false) →
       is_removed (log_of es) j ≡ false
   stays-here j es h k = stays-where (log_of es) j (λ p l. reach p l)
     where
       reach : (p : ℕ) → p ≤ j → p + removed_at p (log_of es) ≤ j
       reach p l =
           elim (cases_lt (p + 1) j) [
-            | inl far ↦ let most = two-most (begins_cut bytes whole (flag p whole es) (drop p es)) in let r = removed-here p es in omega (arith, far, most, r)
+            | inl far ↦ let most = two-most (loses_first bytes whole (flag p whole es) (drop p es)) in let r = removed-here p es in omega (arith, far, most, r)
             | inr near ↦
                 elim (cases_lt p j) [
                   | inl below ↦ let next : suc p ≡ j = omega (arith, near, below) in let r = removed-here p es ∙ ap two (k p next) in omega (arith, r, next)
-                  | inr at ↦ let same : p ≡ j = omega (arith, at, l) in let r = removed-here p es ∙ ap (λ i. two (begins_cut bytes whole (flag i whole es) (drop i es))) same ∙ ap two h in omega (arith, r, same)
+                  | inr at ↦ let same : p ≡ j = omega (arith, at, l) in let r = removed-here p es ∙ ap (λ i. two (loses_first bytes whole (flag i whole es) (drop i es))) same ∙ ap two h in omega (arith, r, same)
                 ]
           ]
 
-  pub goes-first : (j : ℕ) (es : List Event) → begins_cut bytes whole (flag j whole es) (drop j es) ≡ true →
+  pub goes-first : (j : ℕ) (es : List Event) → loses_first bytes whole (flag j whole es) (drop j es) ≡ true →
       is_removed (log_of es) j ≡ true
   goes-first j es h =
       let r = removed-here j es ∙ ap two h in goes-where (log_of es) j j (omega arith) (omega (arith, r))
 
-  pub goes-second : (j : ℕ) (es : List Event) → begins_cut bytes whole (flag j whole es) (drop j es) ≡ true →
+  pub goes-second : (j : ℕ) (es : List Event) → loses_first bytes whole (flag j whole es) (drop j es) ≡ true →
       is_removed (log_of es) (suc j) ≡ true
   goes-second j es h =
       let r = removed-here j es ∙ ap two h in goes-where (log_of es) (suc j) j (omega arith) (omega (arith, r))
@@ -363,14 +410,14 @@ module _ (bytes : List ℕ) (hard whole : Bool) where
   places-drop (suc j) [] h = h
   places-drop (suc j) (e ∷ es) h = places-drop j es h.1
 
-  first-linked-none : (front : Bool) (xs : List Event) → begins_cut bytes whole front xs ≡ true → HasPlaces bytes xs →
+  first-linked-none : (front : Bool) (xs : List Event) → loses_first bytes whole front xs ≡ true → HasPlaces bytes xs →
       linked_at xs 0 ≡ false
   first-linked-none front [] h p = refl
   first-linked-none front (e ∷ []) h p = cc
   first-linked-none front (e ∷ x ∷ xs) h p =
       opens-unlinked (is_enter e.kind) (is_data e.name) (has_link e.link) (and-first (opens_data e) (loses front (goes_before whole xs) bytes e.point x.point) h)
 
-  second-linked-none : (front : Bool) (xs : List Event) → begins_cut bytes whole front xs ≡ true → HasPlaces bytes xs →
+  second-linked-none : (front : Bool) (xs : List Event) → loses_first bytes whole front xs ≡ true → HasPlaces bytes xs →
       linked_at xs 1 ≡ false
   second-linked-none front [] h p = refl
   second-linked-none front (e ∷ []) h p = refl
@@ -380,19 +427,19 @@ module _ (bytes : List ℕ) (hard whole : Bool) where
   goes-unlinked : (j : ℕ) (es : List Event) → HasPlaces bytes es → is_removed (log_of es) j ≡ true →
       linked_at es j ≡ false
   goes-unlinked j es p h =
-      elim (cases_Bool (begins_cut bytes whole (flag j whole es) (drop j es))) [
+      elim (cases_Bool (loses_first bytes whole (flag j whole es) (drop j es))) [
         | inl b ↦ linked-drop 0 j es j (omega arith) ∙ first-linked-none (flag j whole es) (drop j es) b (places-drop j es p)
         | inr b ↦ unlinked-before j es p h b
       ]
     where
       unlinked-before : (j : ℕ) (es : List Event) → HasPlaces bytes es → is_removed (log_of es) j ≡ true →
-          begins_cut bytes whole (flag j whole es) (drop j es) ≡ false → linked_at es j ≡ false
+          loses_first bytes whole (flag j whole es) (drop j es) ≡ false → linked_at es j ≡ false
       unlinked-before zero es p h b =
           absurd (both_ways (is_removed (log_of es) zero) (stays-here zero es b (λ q e. absurd (omega (arith, e)))) h)
       unlinked-before (suc j) es p h b =
-          elim (cases_Bool (begins_cut bytes whole (flag j whole es) (drop j es))) [
+          elim (cases_Bool (loses_first bytes whole (flag j whole es) (drop j es))) [
             | inl d ↦ linked-drop 1 j es (suc j) (omega arith) ∙ second-linked-none (flag j whole es) (drop j es) d (places-drop j es p)
-            | inr d ↦ absurd (both_ways (is_removed (log_of es) (suc j)) (stays-here (suc j) es b (λ q e. let same : q ≡ j = omega (arith, e) in ap (λ i. begins_cut bytes whole (flag i whole es) (drop i es)) same ∙ d)) h)
+            | inr d ↦ absurd (both_ways (is_removed (log_of es) (suc j)) (stays-here (suc j) es b (λ q e. let same : q ≡ j = omega (arith, e) in ap (λ i. loses_first bytes whole (flag i whole es) (drop i es)) same ∙ d)) h)
           ]
 
   pub can-trim : (es : List Event) → HasPlaces bytes es → CanEdit (log_of es) es

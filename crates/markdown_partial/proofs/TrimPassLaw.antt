@@ -21,7 +21,7 @@ use Rattle.markdown_engine.proofs.TreeEvents.{length-appended_from, appended_fro
 use Rattle.markdown_model.specs.Passes.{trimmed, trimmed_data, blank_name, begins_line_ending, is_nothing}
 use Rattle.markdown_partial.specs.MergedEvents.{is_data, opens_data}
 use Rattle.markdown_partial.specs.TrimmedData.{trimmed_events, between, loses_blank, starts_blank, ends_blank}
-use Rattle.markdown_partial.specs.TrimmedEvents.{flag, is_ending, closes_ending, goes_before, loses, HasParts}
+use Rattle.markdown_partial.specs.TrimmedEvents.{flag, is_ending, closes_ending, goes_before, loses, loses_first, HasParts}
 use Rattle.markdown_partial.proofs.MergePassLaw.{drop-part}
 use Rattle.markdown_engine_content.specs.DocumentWalk.{IsPoint}
 use Rattle.markdown_engine_content.specs.Codes.{codes_of, is_code_before, place_of, point_at}
@@ -33,7 +33,7 @@ use Rattle.markdown_engine_content.proofs.DocumentPlaces.{chain-split, point-spl
 use Rattle.markdown_partial.specs.TrimmedData.{IsStretch}
 use Rattle.markdown_partial.specs.TrimmedEvents.{IsPart, HasPlaces}
 use Rattle.markdown_partial.proofs.TrimWalks.{forward-as}
-use Rattle.markdown_partial.proofs.TrimEdits.{comes, log_of, added-here, stays-here, goes-first, goes-second, begins_cut}
+use Rattle.markdown_partial.proofs.TrimEdits.{comes, log_of, added-here, stays-here, goes-first, goes-second}
 use Rattle.markdown_partial.proofs.TrimmedLeaves.{three-leaves, kept_of, lead_of, tail_of, cut}
 use Rattle.markdown_model.proofs.GrammarSteps.{span-none}
 use Rattle.markdown_engine_content.proofs.PlaceRules.{drop-more}
@@ -201,7 +201,7 @@ events-are front back hard bytes p q = refl
 -- One event.
 
 cut-first : (bytes : List ℕ) (whole front : Bool) (xs : List Event) (e : Event) (rest : List Event) → xs ≡ e ∷ rest →
-    opens_data e ≡ false → begins_cut bytes whole front xs ≡ false
+    opens_data e ≡ false → loses_first bytes whole front xs ≡ false
 cut-first bytes whole front [] e rest h o = cc
 cut-first bytes whole front (x ∷ []) e rest h o = refl
 cut-first bytes whole front (x ∷ y ∷ xs) e rest h o = ap (λ b. b && loses front (goes_before whole xs) bytes x.point y.point) (ap first-opens h ∙ o)
@@ -210,7 +210,7 @@ cut-first bytes whole front (x ∷ y ∷ xs) e rest h o = ap (λ b. b && loses f
     first-opens [] = false
     first-opens (z ∷ zs) = opens_data z
 
-comes-none : (bytes : List ℕ) (hard whole front : Bool) (xs : List Event) → begins_cut bytes whole front xs ≡ false →
+comes-none : (bytes : List ℕ) (hard whole front : Bool) (xs : List Event) → loses_first bytes whole front xs ≡ false →
     comes bytes hard whole front xs ≡ []
 comes-none bytes hard whole front [] h = refl
 comes-none bytes hard whole front (e ∷ []) h = refl
@@ -233,18 +233,18 @@ module _ (bytes : List ℕ) (hard whole : Bool) (es : List Event) where
   log = log_of bytes hard whole es
 
   abbrev Fresh : ℕ → Type 0
-  Fresh n = (p : ℕ) → suc p ≡ n → begins_cut bytes whole (flag p whole es) (drop p es) ≡ false
+  Fresh n = (p : ℕ) → suc p ≡ n → loses_first bytes whole (flag p whole es) (drop p es) ≡ false
 
   -- no data that loses codes begins here
   abbrev Stays : ℕ → Type 0
-  Stays n = begins_cut bytes whole (flag n whole es) (drop n es) ≡ false
+  Stays n = loses_first bytes whole (flag n whole es) (drop n es) ≡ false
 
   other-stays : (n : ℕ) (e : Event) (rest : List Event) → drop n es ≡ e ∷ rest → opens_data e ≡ false → Stays n
   other-stays n e rest h o = cut-first bytes whole (flag n whole es) (drop n es) e rest h o
 
   fresh-after : (n : ℕ) → Stays n → Fresh (n + 1)
   fresh-after n s p k =
-      let same : p ≡ n = omega (arith, k) in ap (λ i. begins_cut bytes whole (flag i whole es) (drop i es)) same ∙ s
+      let same : p ≡ n = omega (arith, k) in ap (λ i. loses_first bytes whole (flag i whole es) (drop i es)) same ∙ s
 
   -- past an event that stays
   record Step (n : ℕ) (e : Event) (rest : List Event) : Type 0 where
@@ -325,7 +325,7 @@ module _ (bytes : List ℕ) (hard whole : Bool) (es : List Event) where
       let again : n + 1 + 1 ≡ n + 2 = omega arith in
       let one : n + 1 ≡ suc n = omega arith in
       let both : opens_data e && loses front (goes_before whole rest) bytes e.point x.point ≡ true = ap (λ b. b && loses front (goes_before whole rest) bytes e.point x.point) o ∙ l in
-      let begins : begins_cut bytes whole (flag n whole es) (drop n es) ≡ true = ap (λ b. begins_cut bytes whole b (drop n es)) f ∙ ap (begins_cut bytes whole front) h ∙ both in
+      let begins : loses_first bytes whole (flag n whole es) (drop n es) ≡ true = ap (λ b. loses_first bytes whole b (drop n es)) f ∙ ap (loses_first bytes whole front) h ∙ both in
       let next : drop (n + 1) es ≡ x ∷ rest = drop-next n e (x ∷ rest) h in
       let behind : drop (suc n) es ≡ x ∷ rest = ap (λ i. drop i es) (sym one) ∙ next in
       let gone : is_removed log n ≡ true = goes-first bytes hard whole n es begins in
@@ -446,7 +446,7 @@ module _ (bytes : List ℕ) (hard whole : Bool) (es : List Event) where
       let q : Option ℕ = option_map (moved_number log) previous in
       let more : List Event = appended_from (n + 2) previous rest ++ tail in
       let stays : Stays n =
-      ap (λ b. begins_cut bytes whole b (drop n es)) h.flagged ∙ ap (begins_cut bytes whole front) h.there ∙ lost-is n m front w previous tail cs rest h ∙ l in
+      ap (λ b. loses_first bytes whole b (drop n es)) h.flagged ∙ ap (loses_first bytes whole front) h.there ∙ lost-is n m front w previous tail cs rest h ∙ l in
       let p : Pair n e x more = pair n e x more h.there stays refl h.fresh in
       let r : Trims (n + 2) (m + 2) false w previous rest tail =
       law (n + 2) (m + 2) false w previous tail (record { there = p.there; flagged = p.flagged; placed = omega (arith, p.placed, h.placed); fresh = p.fresh; ends = h.ends; plain = h.plain; has_parts = h.has_parts.1 }) in

@@ -36,6 +36,12 @@ trim bytes hard whole n front e x es =
 abbrev pub loses : Bool → Bool → List ℕ → Point → Point → Bool
 loses front back bytes from to = loses_blank front back (between bytes from to)
 
+-- the first two events are data that loses codes; `front` says that blank codes behind what stands before them go
+abbrev pub loses_first : List ℕ → Bool → Bool → List Event → Bool
+loses_first bytes whole front [] = false
+loses_first bytes whole front (e ∷ []) = false
+loses_first bytes whole front (e ∷ x ∷ es) = opens_data e && loses front (goes_before whole es) bytes e.point x.point
+
 -- the edit of the first two events, where they are data that loses codes; the first has this number, and `front` says that blank codes
 -- behind what stands before it go
 abbrev pub trim_first : List ℕ → Bool → Bool → ℕ → Bool → List Event → List Edit

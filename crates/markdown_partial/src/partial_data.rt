@@ -17,6 +17,7 @@
 // Definition: `data_up_to` in `markdown_model/specs/TextLines.antt`, and `merged` in `Passes.antt` for the pass.
 //
 // Each state answers the error where a growth is refused; then `failed` is true.
+// A reader stands beside: `partial_data` of `markdown_run_readers`.
 #![tactic(auto, using(markdown_engine::proofs::OperationFields::op_rules))]
 
 ghost use Rattle.std.specs.Prelude.{◌≡◌, ◌-◌, ◌<◌, ◌≤◌, ◌++◌, ℕ, IfOk, OnOk, OnErr, IsTrue, Some, None, [], drop, length, slice_index_or, true, false};
@@ -248,12 +249,10 @@ fn merge(events: &mut Events, map: &mut EditMap) -> Result<(), AllocError>
     map.consume(events)
 }
 
-/// Merges neighbouring data that carry no link.
-///
-/// The work is that of the events. The error comes where memory is refused; then `failed` is true.
-pub fn resolve(tokenizer: &mut Tokenizer) -> Result<Option<Subresult>, AllocError>
+// Merges neighbouring data in the events of a tokenizer.
+#[inline(never)]
+fn merge_events(tokenizer: &mut Tokenizer) -> Result<(), AllocError>
     requires { tokenizer.old.map ≡ [] }
-    ensures none { IfOk result (λ r. r ≡ None) }
     ensures same { OnOk result (tokenizer.new ≡ record tokenizer.old { events = tokenizer.new.events }) }
     ensures merged { (t : Forest) → HasData t → tokenizer.old.events ≡ appended_from 0 None t → OnOk result (tokenizer.new.events ≡ appended_from 0 None (merged t)) }
     ensures err { OnErr result (IsTrue tokenizer.new.failed) }
@@ -262,6 +261,23 @@ pub fn resolve(tokenizer: &mut Tokenizer) -> Result<Option<Subresult>, AllocErro
     if merged.is_err() {
         tokenizer.fail();
     }
-    merged?;
+    merged
+}
+
+/// Merges neighbouring data that carry no link.
+///
+/// The work is that of the events. The error comes where memory is refused; then `failed` is true.
+#[inline]
+pub fn resolve(tokenizer: &mut Tokenizer) -> Result<Option<Subresult>, AllocError>
+    requires { tokenizer.old.map ≡ [] }
+    ensures none { IfOk result (λ r. r ≡ None) }
+    ensures same { OnOk result (tokenizer.new ≡ record tokenizer.old { events = tokenizer.new.events }) }
+    ensures merged { (t : Forest) → HasData t → tokenizer.old.events ≡ appended_from 0 None t → OnOk result (tokenizer.new.events ≡ appended_from 0 None (merged t)) }
+    ensures err { OnErr result (IsTrue tokenizer.new.failed) }
+{
+    if tokenizer.events.len() <= 2 {
+        return Ok(None);
+    }
+    merge_events(tokenizer)?;
     Ok(None)
 }

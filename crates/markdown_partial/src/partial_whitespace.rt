@@ -25,7 +25,7 @@ ghost use Rattle.markdown_engine_content.specs.Content.{document_limit};
 ghost use Rattle.markdown_engine_content.specs.DocumentWalk.{value_from, IsPoint};
 ghost use Rattle.markdown_partial.specs.PartialSpaceOrTab.{at_blank};
 ghost use Rattle.markdown_partial.specs.TrimmedData.{between, IsStretch, end_of_kept, end_of_lead, at_real_space, starts_blank, ends_blank, is_same_place, leaf_events, trimmed_events};
-ghost use Rattle.markdown_partial.specs.TrimmedEvents.{opens_ending, closes_ending, flag, goes_before, loses, trim_first, trims, FirstHasPlaces, HasPlaces, HasParts};
+ghost use Rattle.markdown_partial.specs.TrimmedEvents.{opens_ending, closes_ending, flag, goes_before, loses, loses_first, trim_first, trims, FirstHasPlaces, HasPlaces, HasParts};
 ghost use Rattle.markdown_engine.specs.PastTree.{appended_from};
 ghost use Rattle.markdown_engine_content.specs.Tree.{Forest};
 ghost use Rattle.markdown_model.specs.Passes.{is_hard_break_trailing, blank_name, trimmed};
@@ -254,6 +254,14 @@ fn goes_before(events: &Events, index: usize, whole: bool) -> bool
     }
 }
 
+// Whether spaces before the event of this number may be a hard break: before a line ending, where these breaks are on.
+fn may_break(events: &Events, index: usize, hard_break: bool) -> bool
+    requires { index ≤ length events.now }
+    ensures { result ≡ hard_break && goes_before false (drop index events.now) }
+{
+    hard_break && goes_before(events, index, false)
+}
+
 // Whether blank codes behind what stands before the event of this number go: after a line ending, and at the start where the whole is
 // trimmed.
 fn front_goes(events: &Events, index: usize, whole: bool) -> bool
@@ -275,8 +283,58 @@ struct Trimming {
     whole: bool,
 }
 
-// Where data begins at this event, and blank codes stand where they go: puts its trimmed events in place of its own. They are made in
-// the room, whatever it holds. Most events begin no data, so nothing else is looked at before that.
+/// Whether data that carries no link begins at this event and loses blank codes; `whole` says that those at the start and at the end of the
+/// whole go. Most events begin no data, so nothing else is looked at before that.
+#[inline(always)]
+pub fn loses_first(bytes: &[u8], events: &Events, index: usize, whole: bool) -> bool
+    requires fits { length bytes.now ≤ document_limit }
+    requires within { index < length events.now }
+    requires counted { length events.now < 2 ^ 64 }
+    requires places { FirstHasPlaces bytes.now (drop index events.now) }
+    ensures { result ≡ loses_first bytes.now whole (flag index whole events.now) (drop index events.now) }
+{
+    let enter = events.bare_at(index);
+    if !opens_data(&enter) {
+        return false;
+    }
+    let front = front_goes(events, index, whole);
+    let back = goes_before(events, index + 2, whole);
+    if !front && !back {
+        return false;
+    }
+    let exit = events.bare_at(index + 1);
+    loses_blank(bytes, front, back, enter.point, exit.point)
+}
+
+// Puts the trimmed events of data that begins at this event, and loses codes, in place of its own. They are made in the room, whatever it
+// holds. It is kept out of line, since most data loses none.
+#[inline(never)]
+fn trim_data(
+    room: &mut Vec<Event>,
+    bytes: &[u8],
+    events: &Events,
+    map: &mut EditMap,
+    index: usize,
+    trimming: Trimming,
+) -> Result<(), AllocError>
+    requires fits { length bytes.now ≤ document_limit }
+    requires within { index < length events.now }
+    requires counted { length events.now < 2 ^ 64 }
+    requires places { FirstHasPlaces bytes.now (drop index events.now) }
+    requires loses { IsTrue (loses_first bytes.now trimming.whole (flag index trimming.whole events.now) (drop index events.now)) }
+    ensures { OnOk result (map.new ≡ map.old ++ trim_first bytes.now trimming.hard_break trimming.whole index (flag index trimming.whole events.now) (drop index events.now)) }
+{
+    let enter = events.bare_at(index);
+    let exit = events.bare_at(index + 1);
+    let front = front_goes(events, index, trimming.whole);
+    let back = goes_before(events, index + 2, trimming.whole);
+    let hard = may_break(events, index + 2, trimming.hard_break);
+    trimmed_data(room, bytes, front, back, hard, enter.point, exit.point)?;
+    map.add_slice(index, 2, room)?;
+    Ok(())
+}
+
+// The same, where data begins at this event and loses codes.
 fn trim_first(
     room: &mut Vec<Event>,
     bytes: &[u8],
@@ -291,21 +349,10 @@ fn trim_first(
     requires places { FirstHasPlaces bytes.now (drop index events.now) }
     ensures { OnOk result (map.new ≡ map.old ++ trim_first bytes.now trimming.hard_break trimming.whole index (flag index trimming.whole events.now) (drop index events.now)) }
 {
-    let enter = events.bare_at(index);
-    if opens_data(&enter) {
-        let front = front_goes(events, index, trimming.whole);
-        let back = goes_before(events, index + 2, trimming.whole);
-        if !front && !back {
-            return Ok(());
-        }
-        let exit = events.bare_at(index + 1);
-        if loses_blank(bytes, front, back, enter.point, exit.point) {
-            let hard = trimming.hard_break && goes_before(events, index + 2, false);
-            trimmed_data(room, bytes, front, back, hard, enter.point, exit.point)?;
-            map.add_slice(index, 2, room)?;
-        }
+    if !loses_first(bytes, events, index, trimming.whole) {
+        return Ok(());
     }
-    Ok(())
+    trim_data(room, bytes, events, map, index, trimming)
 }
 
 // Collects the edits of all data that loses codes.

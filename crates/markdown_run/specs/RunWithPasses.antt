@@ -1,6 +1,12 @@
 -- Whole runs: the states from one on, and then the passes that they registered.
 use Rattle.std.specs.Prelude.{◌≡◌, ◌∷◌, [], Bool}
 use Rattle.markdown_engine_events.specs.EventChains.{chained}
+use Rattle.std.specs.Borrow.{Bor}
+use Rattle.std.specs.declared.alloc.Global.{Global}
+use Rattle.markdown_engine.specs.RestingFields.{at_rest}
+use Rattle.markdown_engine.specs.RunStart.{begun_at}
+use Rattle.markdown_engine_content.specs.Place.{Place}
+use Rattle.markdown_engine_content.specs.declared.parser.ParseState.{ParseState}
 use Rattle.markdown_engine.specs.PassesInOrder.{MayResolve, Resolves, unregistered}
 use Rattle.markdown_engine.specs.declared.resolve.ResolveName.TheVariants as R
 use Rattle.markdown_engine.specs.declared.state.StateName.{StateName}
@@ -32,6 +38,11 @@ pub record IsFoundFrom (name : StateName) (T : Tokenizer) (run : Run) : Type 0 w
 
 abbrev pub MayPassText : Tokenizer → Type 0
 MayPassText T = (left : Tokenizer) → EndsAt (text_named T) left → MayResolve may_resolve_of resolves_of left.resolvers (unregistered left)
+
+-- at the start of a text, where nothing is known of the names
+abbrev pub begun_text : Global → Bor ParseState → Place → Bool → Tokenizer
+begun_text alloc parse_state place first =
+    record (begun_at alloc parse_state place) { tokenize_state = record at_rest { document_at_first_paragraph_of_list_item = first } }
 
 pub record IsFoundInText (T : Tokenizer) (run : Run) : Type 0 where
   pub left : Tokenizer

@@ -3,7 +3,7 @@ ghost use Rattle.std.specs.Prelude.{◌≡◌, ◌-◌, false, [], take, drop, m
 ghost use Rattle.std.specs.List.{All};
 ghost use Rattle.markdown_run.specs.RunConstruct.{IsConstruct, ConstructEnds};
 ghost use Rattle.markdown_run.specs.Layer.{ready_of};
-ghost use Rattle.markdown_run.specs.RunWithPasses.{MayFinishPlain, MayPass, IsFoundFrom, MayPassText, IsFoundInText, IsFoundBehind};
+ghost use Rattle.markdown_run.specs.RunWithPasses.{MayFinishPlain, MayPass, IsFoundFrom, MayPassText, IsFoundInText, IsFoundBehind, begun_text};
 ghost use Rattle.markdown_run.specs.ElementsOfText.{KnowsNothing, forgotten};
 ghost use Rattle.markdown_engine_events.specs.EventChains.{chained};
 ghost use Rattle.markdown_engine.specs.PassesInOrder.{MayResolve, unregistered};
@@ -101,6 +101,25 @@ pub(crate) fn text_through(tokenizer: &mut Tokenizer) -> Result<Run, AllocError>
     finish(tokenizer)
 }
 
+// Reads a text from its start, where a cursor stands. The cursor is made before, so that the room of the tokenizer is filled once.
+fn text_from<'a>(
+    alloc: Global,
+    parse_state: &'a ParseState<'a>,
+    cursor: Cursor<'a>,
+    first_of_item: bool,
+) -> Result<Run, AllocError>
+    requires ready { StartReady (begun_text alloc parse_state cursor first_of_item) }
+    requires unknown { KnowsNothing (begun_text alloc parse_state cursor first_of_item) }
+    requires passes { MayPassText (begun_text alloc parse_state cursor first_of_item) }
+    ensures { IfOk result (λ run. IsFoundInText (begun_text alloc parse_state.entry cursor.entry first_of_item) run) }
+{
+    let mut tokenizer = Tokenizer::starting_at(alloc, parse_state, cursor);
+    tokenizer
+        .tokenize_state
+        .document_at_first_paragraph_of_list_item = first_of_item;
+    text_through(&mut tokenizer)
+}
+
 /// The events of the inline tree of a content that is read as a string: of its escapes, character references and data.
 ///
 /// The pieces have to be a content, which `is_content` answers.
@@ -143,11 +162,8 @@ pub fn text(
     ensures probes { let s = text_setting_of parse_state.now first_of_item in IfOk result (λ run. IsProbed s (label_tree s (content_of s.bytes pieces.now)) run.probes) }
     ensures no_probes { let on = parse_state.now.options.now.constructs in on.attention ≡ false → on.gfm_strikethrough ≡ false → IfOk result (λ run. run.probes ≡ 0) }
 {
-    let mut tokenizer = Tokenizer::new(alloc, parse_state, pieces);
-    tokenizer
-        .tokenize_state
-        .document_at_first_paragraph_of_list_item = first_of_item;
-    text_through(&mut tokenizer)
+    let cursor = Cursor::new(parse_state.bytes, pieces);
+    text_from(alloc, parse_state, cursor, first_of_item)
 }
 
 // Puts back events, edits, open names and place.
@@ -166,9 +182,8 @@ fn put_back<'a>(
     tokenizer.cursor = cursor;
 }
 
-/// Reads one construct at the tokenizer's place, by the name of the state that starts it: `CharacterEscapeStart`, `CharacterReferenceStart`,
-/// `HardBreakEscapeStart`, `AutolinkStart`, `HtmlTextStart`, `RawTextStart` (a code span, or a math span), `GfmTaskListItemCheckStart`,
-/// `GfmAutolinkLiteralProtocolStart`, `GfmAutolinkLiteralWwwStart`;
+/// Reads one construct at the tokenizer's place, by the name of the state that starts it: one of those that `IsConstruct` of `specs/RunConstruct`
+/// lists, as `AutolinkStart`, or `RawTextStart` (a code span, or a math span);
 /// `LabelStartLinkStart`, `LabelStartImageStart` and `GfmLabelStartFootnoteStart`, which are kept; `LabelEndStart`, which makes a label of the last
 /// start kept, with the resource or reference behind it (CommonMark 6.3 and 6.4, and footnote calls);
 /// `AttentionStart` (a run of markers, past which the pass that pairs runs is registered);

@@ -33,11 +33,11 @@ module _ (T W : Tokenizer) (same : W ≡ record T { events = W.events })
   -- and V is W with its emails set apart
   pub finishes-with : (V : Tokenizer) → V ≡ record W { events = V.events } →
       ((t : Forest) → HasParts (bytes_in W) t → W.events ≡ appended_from 0 None t → V.events ≡ appended_from 0 None (with_emails_apart t)) →
-      (on_in W).gfm_autolink_literal ≡ true → FinishesText T V
+      (on_in T).gfm_autolink_literal ≡ true → FinishesText T V
   finishes-with V last mails on = record {
     same = last ∙ ap (λ (x : Tokenizer). record x { events = V.events }) same;
     trims = λ t h e.
         let u : Forest = trimmed (on_in T).hard_break_trailing true true t in
         mails u (parts-there t h) (trims t h e)
-        ∙ ap (λ b. appended_from 0 None (mailed_where b u)) (sym on ∙ ap (λ (x : Tokenizer). (on_in x).gfm_autolink_literal) same);
+        ∙ ap (λ b. appended_from 0 None (mailed_where b u)) (sym on);
   }

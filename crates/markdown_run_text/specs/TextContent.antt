@@ -108,6 +108,11 @@ abbrev pub names_for : Option Names → Place → ParseState → Option Names
 names_for None c p = if order_pays c.codes p then Some (names_in c p) else None
 names_for (Some names) c p = Some (record names { brackets = if brackets_pay c.codes p then brackets_in c p else names.brackets })
 
+-- these are other names than those that are lent, if any
+abbrev pub names_change : Option Names → List Code → ParseState → Bool
+names_change None cs p = order_pays cs p
+names_change (Some names) cs p = brackets_pay cs p
+
 -- so many titles in parentheses may begin in these codes, behind some of which a resource may end, that to note where each may end pays
 abbrev pub titles_pay : List Code → Bool
 titles_pay cs = holds ResourceEnd cs && nat_le 16 (count_among (codes "(") cs)

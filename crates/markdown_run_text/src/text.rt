@@ -23,7 +23,7 @@ ghost use Rattle.markdown_engine_index.specs.RunIndex.{last_runs};
 ghost use Rattle.markdown_engine_index.specs.SequenceIndex.{last_begins};
 ghost use Rattle.markdown_plan.specs.Characters.{ReadsText};
 ghost use Rattle.markdown_run_text.specs.ContentPasses.{MayFinish, FinishesText};
-ghost use Rattle.markdown_run_text.specs.TextContent.{indexed_fields, named_fields, names_for, names_in, names_pay, order_pays, brackets_in, brackets_pay, titles_for, titles_pay, domains_for, domains_pay, span_markers, data_markers, first_try, attempt_step, start_step, before_step, before_html_step, before_hard_break_escape_step, before_label_start_link_step, before_data_step};
+ghost use Rattle.markdown_run_text.specs.TextContent.{indexed_fields, named_fields, names_for, names_change, names_in, names_pay, order_pays, brackets_in, brackets_pay, titles_for, titles_pay, domains_for, domains_pay, span_markers, data_markers, first_try, attempt_step, start_step, before_step, before_html_step, before_hard_break_escape_step, before_label_start_link_step, before_data_step};
 
 use markdown_engine::resolve::ResolveName;
 use markdown_engine::state::{State, StateName};
@@ -38,6 +38,7 @@ use markdown_engine_index::run_index::RunIndex;
 use markdown_engine_index::sequence_index::{Sequence, SequenceIndex};
 use markdown_engine_index::title_index::TitleIndex;
 use markdown_leaf_email_pass::email;
+use markdown_leaf_email_pass::settled::is_settled;
 use markdown_leaf_gfm::domain_outlook;
 use markdown_partial::{literal_letters, partial_whitespace};
 use std::alloc::AllocError;
@@ -219,6 +220,17 @@ fn names_for<'a>(
     Ok(Some(names))
 }
 
+// Whether a text is read with other names than those that are lent, if any: with brackets noted, or where none are lent with an order.
+#[inline(always)]
+fn names_change(tokenizer: &Tokenizer) -> bool
+    ensures { result ≡ names_change tokenizer.now.tokenize_state.names tokenizer.now.cursor.codes tokenizer.now.parse_state.now }
+{
+    match &tokenizer.tokenize_state.names {
+        Some(_) => brackets_pay(tokenizer),
+        None => order_pays(tokenizer),
+    }
+}
+
 // Makes known the names that a text is read with. It is kept out of line, since most texts are read with none.
 #[inline(never)]
 #[tactic(auto, unfolding(markdown_engine::specs::Operations::scratched))]
@@ -242,13 +254,13 @@ fn learn_names(tokenizer: &mut Tokenizer) -> Result<(), AllocError>
 /// Makes known the names of what is defined, where they are lent or their order pays.
 ///
 /// The error comes where memory is refused; then `failed` is true.
-#[inline]
+#[inline(always)]
 #[tactic(auto, unfolding(markdown_engine::specs::Operations::scratched))]
 pub fn index_names(tokenizer: &mut Tokenizer) -> Result<(), AllocError>
     ensures ok { OnOk result (tokenizer.new ≡ scratched (named_fields tokenizer.old.cursor tokenizer.old.parse_state.now tokenizer.old.tokenize_state) tokenizer.old) }
     ensures err { OnErr result (IsTrue tokenizer.new.failed) }
 {
-    if tokenizer.tokenize_state.names.is_none() && !order_pays(tokenizer) {
+    if !names_change(tokenizer) {
         return Ok(());
     }
     learn_names(tokenizer)
@@ -452,21 +464,25 @@ pub fn before_data(tokenizer: &mut Tokenizer) -> Result<State, AllocError>
 /// hard breaks by spaces (CommonMark 6.7) and sets email literals apart (GFM 6.9).
 ///
 /// The error comes where memory is refused; then `failed` is true.
-#[inline]
+#[inline(always)]
 pub fn resolve(tokenizer: &mut Tokenizer) -> Result<Option<Subresult>, AllocError>
     requires { MayFinish tokenizer.old }
     ensures none { IfOk result (λ r. r ≡ None) }
     ensures ok { IfOk result (λ _. FinishesText tokenizer.old tokenizer.new) }
     ensures err { OnErr result (IsTrue tokenizer.new.failed) }
 {
+    let bytes = tokenizer.parse_state.bytes;
     let hard_break = tokenizer.parse_state.options.constructs.hard_break_trailing;
-    partial_whitespace::resolve_whitespace(tokenizer, hard_break, true)?;
-    if tokenizer
+    let emails = tokenizer
         .parse_state
         .options
         .constructs
-        .gfm_autolink_literal
-    {
+        .gfm_autolink_literal;
+    if emails && is_settled(bytes, &tokenizer.events, true) {
+        return Ok(None);
+    }
+    partial_whitespace::resolve_whitespace(tokenizer, hard_break, true)?;
+    if emails {
         email::resolve(tokenizer)?;
     }
     Ok(None)

@@ -1,5 +1,3 @@
-use Rattle.markdown_engine.specs.declared.tokenizer.Tokenizer.{Tokenizer}
-use Rattle.markdown_run_text.specs.ContentPasses.{MergesData}
 use Rattle.markdown_run.proofs.PlainEnds.{plain-found, plain-map, plain-may}
 use Rattle.markdown_run.proofs.run.finish_plain.Goals as goal
 

@@ -1,0 +1,25 @@
+use Rattle.std.proofs.Common.{◌<◌, length, arith, sym, ◌∙◌}
+use Rattle.markdown_leaf_email_pass.proofs.EmailEditLemmas.{places-first}
+use Rattle.markdown_leaf_email_pass.proofs.SettledEvents.{settles-start, settles-next, settles-end}
+use Rattle.markdown_leaf_email_pass.proofs.settled.is_settled.Goals as goal
+
+pub loop-index-init : goal.loop-index-init
+loop-index-init c =
+    let r = c.next_data-index in
+    settles-start c.args.bytes.now c.args.whole c.args.events.now r.result r.ensures.within r.ensures.none c.requires.places
+
+pub loses_first-requires-clause-places : goal.loses_first-requires-clause-places
+loses_first-requires-clause-places c = places-first _ _ c.loop-index.invariant.mails.places
+
+pub begins_signed-requires-clause-places : goal.begins_signed-requires-clause-places
+begins_signed-requires-clause-places c = places-first _ _ c.loop-index.invariant.mails.places
+
+pub loop-index-preserved : goal.loop-index-preserved
+loop-index-preserved c =
+    let r = c.next_data-index-in-loop-index in
+    let here : c.loop-index.index < length c.args.events.now = omega (arith, c.loop-index-test.true, c.len-count.ensures) in
+    settles-next c.args.bytes.now c.args.whole c.args.events.now c.loop-index.index r.result here (sym c.loses_first.ensures ∙ c.if-loses_first.false) (sym c.begins_signed.ensures ∙ c.if-begins_signed.false) r.ensures.from r.ensures.within r.ensures.none c.loop-index.invariant
+
+pub returns : goal.returns
+returns c = λ hard t h e yes.
+    settles-end c.args.bytes.now c.args.whole c.args.events.now c.loop-index.index (omega (arith, c.loop-index-test.false, c.len-count.ensures)) c.loop-index.invariant hard t h e

@@ -1,0 +1,37 @@
+// Whether the last passes of a text find nothing: one walk in place of one for trimming and one for emails.
+//
+// No data that carries no link loses a blank code, and none has an `@`: then neither pass changes an event. Most texts are so.
+#![tactic(auto)]
+
+ghost use Rattle.std.specs.Prelude.{◌≡◌, ◌≤◌, Bool, None, IsTrue, length};
+ghost use Rattle.markdown_engine_content.specs.Content.{document_limit};
+ghost use Rattle.markdown_engine.specs.PastTree.{appended_from};
+ghost use Rattle.markdown_engine_content.specs.Tree.{Forest};
+ghost use Rattle.markdown_model.specs.Passes.{trimmed, with_emails_apart};
+ghost use Rattle.markdown_partial.specs.TrimmedEvents.{HasPlaces, HasParts};
+
+use crate::email::begins_signed;
+use markdown_engine_events::events::Events;
+use markdown_partial::partial_data::next_data;
+use markdown_partial::partial_whitespace::loses_first;
+
+/// Whether no data loses blank codes, and none has an `@`. Then trimming and setting emails apart leave the events as they are, whether or not
+/// hard breaks are looked for; `whole` says that the start and the end of the whole are trimmed too.
+///
+/// The document has at most `usize::MAX / 8` bytes, and each data stands at places of it. The work is that of the events and of the bytes of
+/// the data. Takes no memory.
+pub fn is_settled(bytes: &[u8], events: &Events, whole: bool) -> bool
+    requires fits { length bytes.now ≤ document_limit }
+    requires places { HasPlaces bytes.now events.now }
+    ensures { (hard : Bool) (t : Forest) → HasParts bytes.now t → events.now ≡ appended_from 0 None t → IsTrue result → events.now ≡ appended_from 0 None (with_emails_apart (trimmed hard whole whole t)) }
+{
+    let count = events.len();
+    let mut index = next_data(events, 0);
+    while index < count {
+        if loses_first(bytes, events, index, whole) || begins_signed(bytes, events, index) {
+            return false;
+        }
+        index = next_data(events, index + 1);
+    }
+    true
+}
