@@ -1,5 +1,5 @@
 -- The laws of the states of a label's end.
-use Rattle.std.proofs.Common.{◌≡◌, ℕ, ◌<◌, ◌==◌, Bool, true, false, ◌&&◌, None, List, [], ◌∷◌, refl, sym, ap, subst, ◌∙◌, arith}
+use Rattle.std.proofs.Common.{◌≡◌, ℕ, ◌<◌, ◌==◌, Bool, true, false, ◌&&◌, not, None, List, [], ◌∷◌, refl, sym, ap, subst, ◌∙◌, arith}
 use Rattle.std.specs.Prelude.{is_some}
 use Rattle.markdown_engine_content.specs.ListFunctions.{rest_of}
 use Rattle.markdown_engine.specs.Operations.{ahead, applied, current_of, scratched}
@@ -32,7 +32,7 @@ use Rattle.markdown_model.proofs.GrammarSteps.{either-some, either-second, if-tr
 use Rattle.markdown_label.specs.AfterLabelParts.{rested}
 use Rattle.markdown_label.proofs.NextCodeTests.{at-value, at-none}
 use Rattle.markdown_label.specs.LabelFields.{AreOrdered, with_kind, as_link}
-use Rattle.markdown_label.specs.LabelEnd.{identifier_between, by_definition, not_full, tail_at, link_tried, after_by, made_here, lost_here, label_seen, may_be_shortcut, collapsed_front, collapsed_back, collapsed_at, reference_collapsed_step, collapsed_open_at, AfterReady, FullReady, tail_ends, kind_set, made, after_reading_of}
+use Rattle.markdown_label.specs.LabelEnd.{identifier_between, by_definition, not_full, tail_at, link_tried, after_by, made_here, lost_here, label_seen, label_matters, may_be_shortcut, collapsed_front, collapsed_back, collapsed_at, reference_collapsed_step, collapsed_open_at, AfterReady, FullReady, tail_ends, kind_set, made, after_reading_of}
 use Rattle.markdown_label.specs.LabelEnd.{after_reading, after_ends, ok_ends, nok_ends, not_full_reading, reference_collapsed_ends, collapsed_open_plan, reference_collapsed_open_ends, starts_set, states_and_called, ok_words, nok_words, after_words, reference_collapsed_words, reference_collapsed_open_words, reference_not_full_words}
 use Rattle.markdown_model.specs.SingleConstructs.{outcome}
 use Rattle.markdown_label.specs.LabelSetting.{setting_in}
@@ -49,6 +49,11 @@ seen-back : (b : Bool) (T : Tokenizer) → T.tokenize_state.seen ≡ false →
     scratched (label_seen false (label_seen b T.tokenize_state)) (scratched (label_seen b T.tokenize_state) T) ≡ T
 unfolding scratched
 seen-back b T e = ap (λ x. record T { tokenize_state = record T.tokenize_state { seen = x } }) (sym e)
+
+-- where it matters
+matters-seen : (o x : Bool) → (o && not (o && x)) ≡ (o && not x)
+matters-seen true x = refl
+matters-seen false x = refl
 
 -- a lost start puts it to rest
 lost-seen : (b : Bool) (T : Tokenizer) → lost_here (scratched (label_seen b T.tokenize_state) T) ≡ lost_here T
@@ -124,17 +129,18 @@ module _ (W : Words) (within : Within states_and_called W) where
 
   -- where a `[` follows that begins no full reference
   not-full-goes : (n : ℕ) (defined : Bool) (M : Tokenizer) → AreOrdered M.tokenize_state.label_starts → weight_at 3 M < n → M.tokenize_state.seen ≡ false → after_label (setting_in M) defined (ahead M) ≡ reference_after_label (setting_in M) defined (ahead M) → full_reference (setting_in M) (ahead M) ≡ None
-      → FollowsIn W n (tail_ends (after_label (setting_in M) defined) M) (Next (not_full defined)) (scratched (label_seen (is_some (label reference_names (ahead M))) M.tokenize_state) M)
+      → FollowsIn W n (tail_ends (after_label (setting_in M) defined) M) (Next (not_full defined)) (scratched (label_seen (label_matters M && is_some (label reference_names (ahead M))) M.tokenize_state) M)
   unfolding scratched
   not-full-goes n true M ordered room rest is none =
-      let b : Bool = is_some (label reference_names (ahead M)) in
+      let x : Bool = is_some (label reference_names (ahead M)) in
+      let b : Bool = label_matters M && x in
       let V : Tokenizer = scratched (label_seen b M.tokenize_state) M in
       follows W n (tail_ends (after_label (setting_in M) true) M) (Next LabelEndReferenceNotFull) (within LabelEndReferenceNotFull) V ordered room
       (λ ok U h.
       let back : tail_ends (not_full_reading V) M ok U = subst (λ (x : Tokenizer). tail_ends (not_full_reading V) x ok U) (seen-back b M rest) h in
-      tail-same (not_full_reading V) (after_label (setting_in M) true) M (sym (is ∙ defined-either (setting_in M) (ahead M) none)) ok U back)
+      tail-same (not_full_reading V) (after_label (setting_in M) true) M (ap (λ o. either collapsed_reference (shortcut o) (ahead M)) (matters-seen (label_matters M) x) ∙ sym (is ∙ defined-either (setting_in M) (ahead M) none)) ok U back)
   not-full-goes n false M ordered room rest is none =
-      let b : Bool = is_some (label reference_names (ahead M)) in
+      let b : Bool = label_matters M && is_some (label reference_names (ahead M)) in
       let V : Tokenizer = scratched (label_seen b M.tokenize_state) M in
       follows W n (tail_ends (after_label (setting_in M) false) M) (Next LabelEndNok) (within LabelEndNok) V tt (omega (arith, room))
       (λ ok U k. loses-here (after_label (setting_in M) false) M (is ∙ undefined-none (setting_in M) (ahead M) none) ok U (k.0, k.1 ∙ lost-seen b M))
@@ -163,7 +169,7 @@ module _ (W : Words) (within : Within states_and_called W) where
       (λ g. if-step P (c == 91) _ _
       (λ h.
       let is : big (ahead M) ≡ reference_after_label s defined (ahead M) = after-bracket s defined (ahead M) (at-value M c 40 false e g) (at-value M c 91 true e h) in
-      goes-tried W within n big LabelEndReferenceFull (within LabelEndReferenceFull) (not_full defined) (full_reference s) (label_seen (is_some (label reference_names (ahead M))) M.tokenize_state) M alone
+      goes-tried W within n big LabelEndReferenceFull (within LabelEndReferenceFull) (not_full defined) (full_reference s) (label_seen (label_matters M && is_some (label reference_names (ahead M))) M.tokenize_state) M alone
       ordered
       k
       room

@@ -1,6 +1,7 @@
 -- The laws of the states of a full reference.
 use Rattle.std.proofs.Common.{◌≡◌, ℕ, ◌+◌, Bool, true, false, if◌then◌else◌, Some, None, List, [], ◌∷◌, ◌++◌, length, nat_lt, refl, sym, ap, subst, ◌∙◌, arith, append_assoc}
-use Rattle.std.specs.Prelude.{is_some, IsUtf8}
+use Rattle.std.proofs.Math.Bool.{and-true, and-false}
+use Rattle.std.specs.Prelude.{◌&&◌, is_some, IsUtf8}
 use Rattle.std.specs.Str.{IsCharBoundary}
 use Rattle.markdown_engine_content.specs.Codes.{Code, stop_of, document_start}
 use Rattle.markdown_engine.specs.FailedRun.{Fails}
@@ -28,7 +29,7 @@ use Rattle.markdown_model.specs.Setting.{Setting, is_defined}
 use Rattle.markdown_model.proofs.NoLinkInConstructs.{Passes}
 use Rattle.markdown_model.proofs.GrammarSteps.{bind-some, bind-none, switched-on, switched-off}
 use Rattle.markdown_partial_link.specs.PartialLabel as PartialLabel
-use Rattle.markdown_label.specs.LabelEnd.{names_set, label_seen, reference_name, ReferenceIsAround, FullReady, FullFails, reference_full_ends, reference_full_after_ends, reference_full_missing_ends, states_and_called, reference_full_words, reference_full_after_words, reference_full_missing_words}
+use Rattle.markdown_label.specs.LabelEnd.{names_set, label_seen, label_matters, reference_name, ReferenceIsAround, FullReady, FullFails, reference_full_ends, reference_full_after_ends, reference_full_missing_ends, states_and_called, reference_full_words, reference_full_after_words, reference_full_missing_words}
 use Rattle.markdown_label.specs.AfterLabelParts.{names_rested, rested, PartReady}
 use Rattle.markdown_label.specs.LabelSetting.{setting_in, IsListed}
 use Rattle.markdown_label.proofs.ReferenceFullText.{reference-around}
@@ -123,6 +124,12 @@ setting-past : (t : Forest) (T U : Tokenizer) →
 unfolding past scratched
 setting-past t T U left = ap setting_in left
 
+matters-past : (t : Forest) (T U : Tokenizer) →
+    U ≡ past None t (scratched (names_set T.tokenize_state) (scratched (names_set T.tokenize_state) T)) →
+    label_matters U ≡ label_matters T
+unfolding past scratched
+matters-past t T U left = ap label_matters left
+
 as-label : (T U : Tokenizer) →
     Reads (label reference_names) None (names_set T.tokenize_state) (scratched (names_set T.tokenize_state) T) U →
     LabelRead T U
@@ -162,12 +169,14 @@ whole-read T U V k r found e =
 whole-refused : (T U V : Tokenizer) → FullReady T →
     (r : Reads (label reference_names) None (names_set T.tokenize_state) (scratched (names_set T.tokenize_state) T) U) →
     is_defined (setting_in T).definitions (reference_identifier (setting_in T) r.tree) ≡ false →
-    V ≡ scratched (label_seen true (names_rested U.tokenize_state)) U → FullFails T V
+    V ≡ scratched (label_seen (label_matters U) (names_rested U.tokenize_state)) U → FullFails T V
 unfolding scratched
 whole-refused T U V k r found e =
+    let m : Bool = label_matters T in
+    let left : V ≡ scratched (label_seen m (names_rested U.tokenize_state)) U = subst (λ b. V ≡ scratched (label_seen b (names_rested U.tokenize_state)) U) (matters-past r.tree T U r.left) e in
     record {
       refused = full-undefined (setting_in T) (ahead T) r.tree r.rest r.holds found;
-      fails = subst (λ b. Fails (label_seen b T.tokenize_state) T V) (sym (ap is_some r.holds)) (Fails-past None r.tree (label_seen true T.tokenize_state) T V (past-back r.tree T U true k.part.rest r.left V e));
+      fails = subst (λ b. Fails (label_seen b T.tokenize_state) T V) (sym (ap (λ o. m && is_some o) r.holds ∙ and-true m)) (Fails-past None r.tree (label_seen m T.tokenize_state) T V (past-back r.tree T U m k.part.rest r.left V left));
     }
 
 -- no label stands there
@@ -177,7 +186,7 @@ none-there T V k none e =
     let same : V ≡ T = e ∙ ap (λ q. scratched q T) (names-back T.tokenize_state k.part.rest) ∙ scratched-same T in
     record {
       refused = full-missing (setting_in T) (ahead T) none;
-      fails = subst (λ s. Fails s T V) (sym (ap (λ o. label_seen (is_some o) T.tokenize_state) none ∙ seen-rest T.tokenize_state k.part.rest)) (subst (λ x. Fails T.tokenize_state T x) (sym same) (record { grown = Grown-refl 0 T; scratch = refl }));
+      fails = subst (λ s. Fails s T V) (sym (ap (λ o. label_seen (label_matters T && is_some o) T.tokenize_state) none ∙ ap (λ b. label_seen b T.tokenize_state) (and-false (label_matters T)) ∙ seen-rest T.tokenize_state k.part.rest)) (subst (λ x. Fails T.tokenize_state T x) (sym same) (record { grown = Grown-refl 0 T; scratch = refl }));
     }
 
 missing-ends : (T : Tokenizer) → FullReady T → label reference_names (ahead T) ≡ None → (ok : Bool) (V : Tokenizer) →
@@ -197,10 +206,10 @@ module _ (W : Words) (within : Within states_and_called W) where
       let n : ℕ = weight_at 1 T in
       let s : TokenizeState = names_rested T.tokenize_state in
       let b : Bool = is_defined (setting_in T).definitions (reference_name T) in
-      let left : Bool → Tokenizer = λ ok. scratched (if ok then s else label_seen true s) T in
+      let left : Bool → Tokenizer = λ ok. scratched (if ok then s else label_seen (label_matters T) s) T in
       if-step (GoesIn W n (reference_full_after_ends T)) b _ _
       (λ h. Goes-end W n (reference_full_after_ends T) true (scratched s T) (attempts-scratched _ T ∙ alone) (omega arith) (λ ok U x. (x.0 ∙ sym h, x.1 ∙ ap left (sym x.0))))
-      (λ h. Goes-end W n (reference_full_after_ends T) false (scratched (label_seen true s) T) (attempts-scratched _ T ∙ alone) (omega arith) (λ ok U x. (x.0 ∙ sym h, x.1 ∙ ap left (sym x.0))))
+      (λ h. Goes-end W n (reference_full_after_ends T) false (scratched (label_seen (label_matters T) s) T) (attempts-scratched _ T ∙ alone) (omega arith) (λ ok U x. (x.0 ∙ sym h, x.1 ∙ ap left (sym x.0))))
 
   -- behind a label
   defined-ends : (T U : Tokenizer) → FullReady T → LabelRead T U → (ok : Bool) (V : Tokenizer) →

@@ -149,6 +149,10 @@ names_set s = record s { token_1 = N.Reference; token_2 = N.ReferenceMarker; tok
 abbrev pub label_seen : Bool → TokenizeState → TokenizeState
 label_seen b s = record s { seen = b }
 
+-- a shortcut may stand before a `[`, so that it matters whether a label stands there
+abbrev pub label_matters : Tokenizer → Bool
+label_matters T = T.parse_state.now.options.now.label_shortcut_before_bracket
+
 abbrev pub reference_full_step : Tokenizer → Stepped
 reference_full_step T = stepped (Retry LabelStart) (attempted false (Next LabelEndReferenceFullAfter) (Next LabelEndReferenceFullMissing) (scratched (names_set T.tokenize_state) T))
 
@@ -160,14 +164,14 @@ abbrev pub reference_full_after_step : Tokenizer → Stepped
 reference_full_after_step T =
     if is_defined (setting_in T).definitions (reference_name T)
     then stepped Ok (scratched (names_rested T.tokenize_state) T)
-    else stepped Nok (scratched (label_seen true (names_rested T.tokenize_state)) T)
+    else stepped Nok (scratched (label_seen (label_matters T) (names_rested T.tokenize_state)) T)
 
 abbrev pub reference_full_missing_step : Tokenizer → Stepped
 reference_full_missing_step T = stepped Nok (scratched (names_rested T.tokenize_state) T)
 
 -- a shortcut may stand before a `[` that begins neither `[]` nor a label
 abbrev pub may_be_shortcut : Tokenizer → Bool
-may_be_shortcut T = T.parse_state.now.options.now.label_shortcut_before_bracket && not T.tokenize_state.seen
+may_be_shortcut T = label_matters T && not T.tokenize_state.seen
 
 abbrev pub reference_not_full_step : Tokenizer → Stepped
 reference_not_full_step T =
@@ -345,10 +349,10 @@ abbrev pub start_ends : Tokenizer → Bool → Tokenizer → Type 0
 start_ends T true U = Ends T U
 start_ends T false U = EndFails T U
 
--- a full reference, or not; then it shows whether a label stands there
+-- a full reference, or not; then it shows whether a label stands there, where that matters
 pub record FullFails (T U : Tokenizer) : Type 0 where
   pub refused : full_reference (setting_in T) (ahead T) ≡ None
-  pub fails : Fails (label_seen (is_some (label reference_names (ahead T))) T.tokenize_state) T U
+  pub fails : Fails (label_seen (label_matters T && is_some (label reference_names (ahead T))) T.tokenize_state) T U
 
 abbrev pub reference_full_ends : Tokenizer → Bool → Tokenizer → Type 0
 reference_full_ends T true U = EndsAs (full_reference (setting_in T)) None T.tokenize_state T true U
@@ -357,7 +361,7 @@ reference_full_ends T false U = FullFails T U
 abbrev pub reference_full_after_ends : Tokenizer → Bool → Tokenizer → Type 0
 reference_full_after_ends T ok U =
     (ok ≡ is_defined (setting_in T).definitions (reference_name T))
-    × (U ≡ scratched (if ok then names_rested T.tokenize_state else label_seen true (names_rested T.tokenize_state)) T)
+    × (U ≡ scratched (if ok then names_rested T.tokenize_state else label_seen (label_matters T) (names_rested T.tokenize_state)) T)
 
 abbrev pub reference_full_missing_ends : Tokenizer → Bool → Tokenizer → Type 0
 reference_full_missing_ends T ok U = (ok ≡ false) × (U ≡ scratched (names_rested T.tokenize_state) T)

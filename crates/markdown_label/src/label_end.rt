@@ -24,6 +24,7 @@
 // Definition: `label_end` in `markdown_model/specs/LabelEnd.antt`.
 //
 // Each state answers the error where a growth is refused; then `failed` is true.
+// A reader of a plain resource stands beside: `label_end` of `markdown_run_readers`.
 #![tactic(auto, using(markdown_engine::proofs::OperationFields::law_rules), unfolding(markdown_engine::specs::Operations::scratched, markdown_engine::specs::Operations::attempted, markdown_engine::specs::Operations::frame_of))]
 
 ghost use Rattle.std.specs.Prelude.{◌≡◌, IfOk, OnErr, IsTrue};
@@ -251,12 +252,13 @@ pub fn reference_full_after(tokenizer: &mut Tokenizer) -> Result<State, AllocErr
     let to = tokenizer.events.len() - 4;
     let from = tokenizer.tokenize_state.end + 7;
     let defined = is_defined_between(tokenizer, from, to)?;
+    let matters = tokenizer.parse_state.options.label_shortcut_before_bracket;
     let state = &mut tokenizer.tokenize_state;
     rest_names(state);
     if defined {
         Ok(State::Ok)
     } else {
-        state.seen = true;
+        state.seen = matters;
         Ok(State::Nok)
     }
 }
