@@ -1,2 +1,3 @@
 pub mod WholeDocument
 pub mod DefiningWords
+pub mod LastPieceLemmas

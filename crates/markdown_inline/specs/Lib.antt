@@ -3,3 +3,5 @@
 pub mod ProgramWords
 pub mod ProgramOutput
 pub mod ProgramStatuses
+-- What serves proofs: what functions promise each other.
+pub mod LastPiece

@@ -4,6 +4,7 @@
 
 pub mod laws;
 pub mod options;
+pub mod pieces;
 pub mod program;
 pub mod util;
 

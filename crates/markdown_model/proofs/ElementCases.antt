@@ -1,5 +1,5 @@
 -- What holds where nothing is read, and of what each construct reads at some codes, holds of the element that is read there.
-use Rattle.std.proofs.Common.{◌≡◌, ℕ, Bool, true, false, not, ◌==◌, List, [], ◌∷◌, ◌++◌, drop, refl, subst, Option, Some, None}
+use Rattle.std.proofs.Common.{◌≡◌, ℕ, Bool, true, false, not, ◌==◌, List, [], ◌∷◌, ◌++◌, refl, subst, Option, Some, None}
 use Rattle.std.specs.Prelude.{codes}
 use Rattle.std.specs.List.{list_any}
 use Rattle.std.specs.Str.{byte}
@@ -99,7 +99,8 @@ module _ (s : Setting) (end : ℕ) (earlier : List Element) (previous : Option C
   each_has : (cs : List Code) (h : EachConstruct s end earlier previous P cs) →
       EachHas P h.none cs (tries s end earlier previous)
   unfolding tries code_text math_text
-  each_has cs h = (h.ending, (on _ _ (λ _. image_has P h.none cs h.starts_has _), (own _ _ (search plain_constructs), (own _ _ (search plain_constructs), from_references))))
+  each_has cs h =
+      search (h.ending, h.stars, h.underscores, h.tildes, h.ended, on, own, both, image, footnote, link, plain_constructs) parts 20 depth 30 fits 5000
     where
       on : (b : Bool) (a : Reading Element) → (b ≡ true → P (a cs)) → P (switched b a cs)
       on = switched_has P h.none cs
@@ -110,19 +111,14 @@ module _ (s : Setting) (end : ℕ) (earlier : List Element) (previous : Option C
       both : (a e : Reading Element) → P (a cs) → P (e cs) → P (either a e cs)
       both = either_has P h.none cs
 
-      from_brackets : EachHas P h.none cs (drop 11 (tries s end earlier previous))
-      from_brackets = (
-        both _ _ (on _ _ (λ _. footnote_has P h.none cs h.starts_has)) (on _ _ (λ _. link_has P h.none cs h.starts_has)),
-        (both _ _ (own _ _ (search plain_constructs)) (own _ _ (search plain_constructs)), (on _ _ (λ _. h.ended), tt)),
-      )
+      image : (footnotes : Bool) → P (label_start_image footnotes cs)
+      image = image_has P h.none cs h.starts_has
 
-      from_angles : EachHas P h.none cs (drop 8 (tries s end earlier previous))
-      from_angles =
-          (both _ _ (own _ _ (search plain_constructs)) (own _ _ (search plain_constructs)), (own _ _ (search plain_constructs), (own _ _ (search plain_constructs), from_brackets)))
+      footnote : P (gfm_label_start_footnote cs)
+      footnote = footnote_has P h.none cs h.starts_has
 
-      from_references : EachHas P h.none cs (drop 4 (tries s end earlier previous))
-      from_references =
-          (own _ _ (search plain_constructs), (on _ _ h.stars, (on _ _ h.underscores, (on _ _ h.tildes, from_angles))))
+      link : P (label_start_link cs)
+      link = link_has P h.none cs h.starts_has
 
   -- in a text, at a code
   pub row_has : (v : ℕ) (cs : List Code) → EachConstruct s end earlier previous P cs → P (data_code cs)

@@ -21,7 +21,7 @@ use Rattle.markdown_model.proofs.LeafRows.{Leaves, leaves-row, leaves-leaf, IsFi
 use Rattle.markdown_model.proofs.LiteralCodes.{takes_one_word, takes_domain, takes_path}
 use Rattle.markdown_model.proofs.NoLinkInConstructs.{Passes, Yields, yields_bind, yields_gives, yields_passed, yields_either, yields_before}
 use Rattle.markdown_model.proofs.OneLineLiterals.{IsLineThere, IsSomeLineThere, domain-line, path-line, join-there}
-use Rattle.markdown_model.proofs.OneLineReadings.{Skips, not-ending, on-line, some-join, line-join, some-any, IsOne, one-some, one-one, one-line, some-line, any-line, then-line, repeatedly-line, one-word-some}
+use Rattle.markdown_model.proofs.OneLineReadings.{Skips, not-ending, on-line, some-join, some-any, IsOne, one-some, one-one, one-line, some-line, any-line, then-line, repeatedly-line, one-word-some}
 use Rattle.markdown_model.proofs.ReadingsCover.{At, Covers, codes_laws, bind, given, if_passed, one_of, seen_before, Takes, takes_one, takes_some, takes_uri, takes_email_address, takes_html_text, codes-line_leaves, codes-lines, covers_closing}
 use Rattle.markdown_model.proofs.ReadsACode.{Left, Consumes, html_text_takes}
 

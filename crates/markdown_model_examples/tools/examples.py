@@ -1,5 +1,6 @@
 #!/usr/bin/env python3
-"""Writes the theorems of tools/examples.txt: specs/Examples/, proofs/examples/ and src/examples.rt.
+"""Writes the theorems of tools/examples.txt: specs/Examples/, proofs/examples/ and src/examples.rt. In proofs/Computed.antt it names the unfoldable
+definitions of `markdown_model`.
 
 Run it in the crate's folder. It computes lines, columns and link numbers by itself, from the documents."""
 import os, re
@@ -207,7 +208,31 @@ def snake(name):
     return re.sub('(?<!^)([A-Z])', r'_\1', name).lower()
 
 
+def computed():
+    """Names in proofs/Computed.antt what each file there of the definitions lets unfold."""
+    path = os.path.join(HERE, 'proofs/Computed.antt')
+    with open(path, encoding='utf-8') as file:
+        text = file.read()
+    use = re.compile(r'use Rattle\.markdown_model\.specs\.(\w+)\.\{(.*)\}\n')
+    listed = [name for names in use.findall(text) for name in names[1].split(', ')]
+    unfolded = re.search(r'(?m)^unfolding (.*)$', text).group(1).split()
+    names = [name for name in unfolded if name not in listed]
+
+    def now(found):
+        with open(os.path.join(HERE, '../markdown_model/specs/%s.antt' % found.group(1)), encoding='utf-8') as file:
+            own = re.findall(r'(?m)^ *unfoldable pub (\S+) :', file.read())
+        before = found.group(2).split(', ')
+        own = [name for name in before if name in own] + [name for name in own if name not in before]
+        names.extend(own)
+        return 'use Rattle.markdown_model.specs.%s.{%s}\n' % (found.group(1), ', '.join(own))
+    text = use.sub(now, text)
+    text = re.sub(r'(?m)^unfolding .*$', lambda found: 'unfolding ' + ' '.join(names), text)
+    with open(path, 'w', encoding='utf-8') as file:
+        file.write(text)
+
+
 def main():
+    computed()
     groups = groups_of(HERE + '/tools/examples.txt')
     for name, lines in groups.items():
         spec = ['', 'abbrev pub Examples : Type 0', 'Examples =']

@@ -642,6 +642,20 @@ module _ (bytes : List ℕ) (end : ℕ) where
       here : (cs : List Code) → ReadsLeads (provided (may_precede_www previous && begins_with_www cs) >> www_from_here bytes end)
       here cs = reads_passed Leads true true _ _ leads_www_from_here
 
+-- All of them.
+pub ruleset leads_constructs = (
+  leads_character_escape,
+  leads_hard_break_escape,
+  leads_character_reference,
+  leads_autolink,
+  leads_code_text,
+  leads_math_text,
+  leads_html_text,
+  leads_gfm_task_list_item_check,
+  leads_gfm_autolink_literal_protocol,
+  leads_gfm_autolink_literal_www,
+)
+
 -- What follows a label.
 
 leads_spacing : (link : Option Content) → Reads false true Leads (space_or_tab_eol link)

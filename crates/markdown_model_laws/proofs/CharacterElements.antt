@@ -27,7 +27,8 @@ use Rattle.markdown_model.proofs.OneElementList.{text_elements, string_elements}
 use Rattle.markdown_model.proofs.PassesKeepCodes.{codes-run_of}
 use Rattle.markdown_model.proofs.ReadingsCover.{takes_word_of}
 use Rattle.markdown_model_laws.proofs.CharacterRows.{low-early, Early, IsSound, AllLow, Lows, lows-all, value-low, Goes, Reads, reads_bind, reads_gives, reads_passed, reads_either, reads_before, reads_anywhere, reads_lows, reads_one, reads_some_low}
-use Rattle.markdown_model_laws.proofs.CharacterConstructs.{Leads, leads-row, low-leaf, ReadsLeads, AllBelow, word-lows, leads_character_escape, leads_hard_break_escape, leads_character_reference, leads_autolink, leads_code_text, leads_math_text, leads_html_text, leads_gfm_task_list_item_check, leads_gfm_autolink_literal_protocol, leads_gfm_autolink_literal_www, leads_after_label}
+use Rattle.markdown_model_laws.proofs.EachRow.{EachRow, OfConstructs}
+use Rattle.markdown_model_laws.proofs.CharacterConstructs.{Leads, leads-row, low-leaf, ReadsLeads, AllBelow, word-lows, leads_character_escape, leads_character_reference, leads_gfm_task_list_item_check, leads_after_label, leads_constructs}
 
 -- Rows: `f` says that unlinked data stands before.
 
@@ -189,8 +190,7 @@ module _ (c : Code) (cs : List Code) (s : IsSound (c ∷ cs)) where
   here-data = gone-data c cs s
 
   abbrev EachHere : Tries → Type 0
-  EachHere [] = Unit {0}
-  EachHere (line ∷ rows) = Here line.1 × EachHere rows
+  EachHere rows = EachRow Here rows
 
   tried-here : (rows : Tries) (v : ℕ) → EachHere rows → Here (tried rows v)
   unfolding tried
@@ -213,35 +213,24 @@ module _ (c : Code) (cs : List Code) (s : IsSound (c ∷ cs)) where
     own b a h = on b (as_plain a) (alone a h)
 
     module _ (set : Setting) (end : ℕ) (earlier : List Element) (previous : Option Code) where
-      from_brackets : EachHere (drop 11 (tries set end earlier previous))
+      rows-have : (H : Reading Element → Type 0) → OfConstructs ReadsLeads H set earlier → EachRow H (tries set end earlier previous)
       unfolding tries code_text math_text
-      from_brackets = (
-        both _ _ (on _ _ footnote-read) (on _ _ link-read),
-        (both _ _ (own _ _ leads_character_escape) (own _ _ leads_hard_break_escape), (on _ _ (end-read set earlier), tt)),
-      )
-
-      from_angles : EachHere (drop 8 (tries set end earlier previous))
-      unfolding tries code_text math_text
-      from_angles = (
-        both _ _ (own _ _ leads_autolink) (own _ _ leads_html_text),
-        (own _ _ (leads_gfm_autolink_literal_protocol _ _ _), (own _ _ (leads_gfm_autolink_literal_www _ _ _), from_brackets)),
-      )
+      rows-have H r = search (r.ending, r.on, r.own, r.both, r.image, r.footnote, r.link, r.stars, r.underscores, r.tildes, r.last, leads_constructs) parts 20 depth 30 fits 5000
 
       each-here : EachHere (tries set end earlier previous)
-      unfolding tries code_text math_text
-      each-here = (
-        here line_ending ending,
-        (
-          on _ _ (image-read _),
-          (
-            own _ _ (leads_math_text _ _ _),
-            (
-              own _ _ (leads_code_text _ _ _),
-              (own _ _ (leads_character_reference _), (on _ _ (run-read _ refl), (on _ _ (run-read _ refl), (on _ _ (run-read _ refl), from_angles)))),
-            ),
-          ),
-        ),
-      )
+      each-here = rows-have Here (record {
+        ending = here line_ending ending;
+        on = λ b a h. gone-switched (c ∷ cs) b a h;
+        own = own;
+        both = both;
+        image = λ f. here _ (image-read f);
+        footnote = here _ footnote-read;
+        link = here _ link-read;
+        stars = here _ (run-read _ refl);
+        underscores = here _ (run-read _ refl);
+        tildes = here _ (run-read _ refl);
+        last = here _ (end-read set earlier);
+      })
 
       text-first : Here (text_element set end earlier previous)
       unfolding text_element first_check

@@ -23,7 +23,8 @@ use Rattle.markdown_model.specs.CodeTests.{is_between, is_later_byte}
 use Rattle.markdown_model.specs.InlineTree.{text_tree, string_tree}
 use Rattle.markdown_model.proofs.OneTree.{leaves_cover}
 use Rattle.markdown_partial.specs.TrimmedData.{IsStretch}
-use Rattle.markdown_partial.proofs.TrimPassLaw.{Part, part-of}
+use Rattle.markdown_partial.specs.TrimmedEvents.{IsPart}
+use Rattle.markdown_partial.proofs.TrimPassLaw.{part-of}
 use Rattle.markdown_plan.specs.Characters.{IsText, at_later}
 use Rattle.markdown_plan.proofs.ContentCharacters.{content-text, same-code, none-some}
 use Rattle.markdown_run_leaves.specs.InnermostEvents.{HasLeaves, Span, lent, leaves_of}
@@ -42,9 +43,14 @@ sound-from [] h = tt
 sound-from (c ∷ []) h = ((λ l. tt), tt)
 sound-from (c ∷ d ∷ cs) h = ((λ l. h 0 c d refl refl l), sound-from (d ∷ cs) (λ n x y e k l. h (suc n) x y e k l))
 
+-- something said of the places of each span
+abbrev pub EachSpan : (Point → Point → Type 0) → List Span → Type 0
+EachSpan P [] = Unit {0}
+EachSpan P (s ∷ ss) = P s.start s.end × EachSpan P ss
+
 module _ (bytes : List ℕ) where
   -- a code begins between characters unless it is a later byte of one, and ends so unless a later byte follows
-  abbrev Bounds : List Code → Type 0
+  abbrev pub Bounds : List Code → Type 0
   Bounds [] = Unit {0}
   Bounds (c ∷ cs) = ((is_later_byte c ≡ false → IsCharBoundary bytes c.start.index) × (Early cs → IsCharBoundary bytes c.stop.index)) × Bounds cs
 
@@ -110,38 +116,46 @@ module _ (bytes : List ℕ) where
     heads-early (group_then name a b inside rest) after h e =
         subst Early (sym (append_assoc (leaf_codes inside) (leaf_codes rest) after)) (heads-early inside (leaf_codes rest ++ after) h.0 (heads-early rest after h.1 e))
 
+    -- What holds of a leaf that begins and ends between characters, and of a group around nothing, holds of each span.
+
+    module _ (P : Point → Point → Type 0) (over : (cs : List Code) → IsPart bytes cs → IsCharBoundary bytes (start_of cs).index → IsCharBoundary bytes (stop_of document_start cs).index → P (start_of cs) (stop_of document_start cs)) (nowhere : (a b : Point) → a ≡ b → P a b) where
+      spans-append : (ss ts : List Span) → EachSpan P ss → EachSpan P ts → EachSpan P (ss ++ ts)
+      spans-append [] ts h k = k
+      spans-append (s ∷ ss) ts h k = (h.0, spans-append ss ts h.1 k)
+
+      abbrev Spans : Forest → Type 0
+      Spans t = (after : List Code) → AreWhole t → HasLeaves bytes t → Bounds (leaf_codes t ++ after) → Early after → EachSpan P (leaves_of t)
+
+      group-spans : (inside rest : Forest) → Spans inside → Spans rest → (after : List Code) → AreWhole inside → AreWhole rest → HasLeaves bytes inside → HasLeaves bytes rest
+          → Bounds ((leaf_codes inside ++ leaf_codes rest) ++ after) → Early after → EachSpan P (leaves_of inside ++ leaves_of rest)
+      group-spans inside rest in_spans rest_spans after h k l m b e =
+          let bounds : Bounds (leaf_codes inside ++ (leaf_codes rest ++ after)) = subst Bounds (append_assoc (leaf_codes inside) (leaf_codes rest) after) b in
+          spans-append (leaves_of inside) (leaves_of rest) (in_spans (leaf_codes rest ++ after) h l bounds (heads-early rest after k e)) (rest_spans after k m (bounds-back (leaf_codes inside) (leaf_codes rest ++ after) bounds) e)
+
+      spans : (t : Forest) → Spans t
+      spans empty after h l b e = tt
+      spans (leaf_then name link cs rest) after h l b e =
+          let bounds : Bounds (cs ++ (leaf_codes rest ++ after)) = subst Bounds (append_assoc cs (leaf_codes rest) after) b in
+          let next : Early (leaf_codes rest ++ after) = heads-early rest after h.1 e in (
+            over cs l.0 (first-bound cs (leaf_codes rest ++ after) h.0.1 bounds h.0.0.0) (last-bound document_start cs (leaf_codes rest ++ after) h.0.1 bounds next),
+            spans rest after h.1 l.1 (bounds-back cs (leaf_codes rest ++ after) bounds) e,
+          )
+      spans (group_then name a b empty rest) after h l bounds e =
+          (nowhere a b l.0.1, spans rest after h.1 l.1 bounds e)
+      spans (group_then name a b (leaf_then m k cs more) rest) after h l bounds e =
+          group-spans (leaf_then m k cs more) rest (spans (leaf_then m k cs more)) (spans rest) after h.0 h.1 l.0 l.1 bounds e
+      spans (group_then name a b (group_then m c d inner more) rest) after h l bounds e =
+          group-spans (group_then m c d inner more) rest (spans (group_then m c d inner more)) (spans rest) after h.0 h.1 l.0 l.1 bounds e
+
+      pub each-span : (t : Forest) → AreWhole t → HasLeaves bytes t → Bounds (leaf_codes t) → EachSpan P (leaves_of t)
+      each-span t h l b = spans t [] h l (subst Bounds (sym (append-nil (leaf_codes t))) b) tt
+
     abbrev AreTexts : List Span → Type 0
-    AreTexts [] = Unit {0}
-    AreTexts (s ∷ ss) = IsUtf8 (position_bytes bytes s.start s.end) × AreTexts ss
+    AreTexts ss = EachSpan (λ p q. IsUtf8 (position_bytes bytes p q)) ss
 
-    texts-append : (ss ts : List Span) → AreTexts ss → AreTexts ts → AreTexts (ss ++ ts)
-    texts-append [] ts h k = k
-    texts-append (s ∷ ss) ts h k = (h.0, texts-append ss ts h.1 k)
-
-    abbrev Texts : Forest → Type 0
-    Texts t = (after : List Code) → AreWhole t → HasLeaves bytes t → Bounds (leaf_codes t ++ after) → Early after → AreTexts (leaves_of t)
-
-    group-texts : (inside rest : Forest) → Texts inside → Texts rest → (after : List Code) → AreWhole inside → AreWhole rest → HasLeaves bytes inside → HasLeaves bytes rest
-        → Bounds ((leaf_codes inside ++ leaf_codes rest) ++ after) → Early after → AreTexts (leaves_of inside ++ leaves_of rest)
-    group-texts inside rest in_texts rest_texts after h k l m b e =
-        let bounds : Bounds (leaf_codes inside ++ (leaf_codes rest ++ after)) = subst Bounds (append_assoc (leaf_codes inside) (leaf_codes rest) after) b in
-        texts-append (leaves_of inside) (leaves_of rest) (in_texts (leaf_codes rest ++ after) h l bounds (heads-early rest after k e)) (rest_texts after k m (bounds-back (leaf_codes inside) (leaf_codes rest ++ after) bounds) e)
-
-    texts : (t : Forest) → Texts t
-    texts empty after h l b e = tt
-    texts (leaf_then name link cs rest) after h l b e =
-        let bounds : Bounds (cs ++ (leaf_codes rest ++ after)) = subst Bounds (append_assoc cs (leaf_codes rest) after) b in
-        let next : Early (leaf_codes rest ++ after) = heads-early rest after h.1 e in
-        let part : Part bytes cs = part-of bytes cs l.0 in (
-          text-between (start_of cs) (stop_of document_start cs) part.stretch (first-bound cs (leaf_codes rest ++ after) h.0.1 bounds h.0.0.0) (last-bound document_start cs (leaf_codes rest ++ after) h.0.1 bounds next),
-          texts rest after h.1 l.1 (bounds-back cs (leaf_codes rest ++ after) bounds) e,
-        )
-    texts (group_then name a b empty rest) after h l bounds e =
-        (text-nowhere a b l.0.1, texts rest after h.1 l.1 bounds e)
-    texts (group_then name a b (leaf_then m k cs more) rest) after h l bounds e =
-        group-texts (leaf_then m k cs more) rest (texts (leaf_then m k cs more)) (texts rest) after h.0 h.1 l.0 l.1 bounds e
-    texts (group_then name a b (group_then m c d inner more) rest) after h l bounds e =
-        group-texts (group_then m c d inner more) rest (texts (group_then m c d inner more)) (texts rest) after h.0 h.1 l.0 l.1 bounds e
+    texts : (t : Forest) → AreWhole t → HasLeaves bytes t → Bounds (leaf_codes t) → AreTexts (leaves_of t)
+    texts t h l b =
+        each-span (λ p q. IsUtf8 (position_bytes bytes p q)) (λ cs part first last. text-between (start_of cs) (stop_of document_start cs) (part-of bytes cs part).stretch first last) text-nowhere t h l b
 
     all-texts : (ss : List Span) → AreTexts ss → All (λ l. IsUtf8 l.bytes) (map (lent bytes) ss)
     unfolding lent
@@ -151,7 +165,7 @@ module _ (bytes : List ℕ) where
     tree-lends : (t : Forest) → AreWhole t → HasLeaves bytes t → Bounds (leaf_codes t) → LendTexts bytes (events_of t)
     tree-lends t h l b =
         subst (All (λ l. IsUtf8 l.bytes)) (sym (lent-leaves bytes t (events_of t) refl))
-        (all-texts (leaves_of t) (texts t [] h l (subst Bounds (sym (append-nil (leaf_codes t))) b) tt))
+        (all-texts (leaves_of t) (texts t h l b))
 
 -- The first code of a content begins a character.
 
@@ -182,15 +196,23 @@ first-early bytes (piece ∷ pieces) content = by_codes (content_of bytes (piece
     by_codes (c ∷ cs) e false o =
         absurd (none-some _ c (closed-standing bytes (piece ∷ pieces) (piece ∷ pieces) p 0 standing o).0 (ap (λ xs. slice_get xs 0) e))
 
-pub leaves-are-texts : LeavesAreTexts
+-- a content's codes, and what of them are places between characters
+pub content-starts : (bytes : List ℕ) (pieces : List Piece) → IsContent bytes pieces →
+    Starts (content_of bytes pieces) × Bounds bytes (content_of bytes pieces)
 unfolding start_of_content
+content-starts bytes pieces content =
+    let all : List Code = content_of bytes pieces in
+    let text : IsText bytes (content_place bytes pieces 0) = content-text bytes pieces 0 content in (
+      (first-early bytes pieces content, sound-from all (λ n c d e k l. text.next n c d e k l)),
+      bounds-from bytes all (λ n c e k. text.first n c e k) (λ n c e k. text.stop n c e k),
+    )
+
+pub leaves-are-texts : LeavesAreTexts
 leaves-are-texts s pieces content =
     let all : List Code = content_of s.bytes pieces in
-    let text : IsText s.bytes (content_place s.bytes pieces 0) = content-text s.bytes pieces 0 content in
-    let starts : Starts all = (first-early s.bytes pieces content, sound-from all (λ n c d e k l. text.next n c d e k l)) in
-    let bounds : Bounds s.bytes all = bounds-from s.bytes all (λ n c e k. text.first n c e k) (λ n c e k. text.stop n c e k) in
+    let known : Starts all × Bounds s.bytes all = content-starts s.bytes pieces content in
     let leaves = leaves-are-stretches s pieces content in
     let cover = leaves_cover s all in (
-      tree-lends s.bytes content.is_text (text_tree s all) (text-whole s all starts) leaves.0 (subst (Bounds s.bytes) (sym cover.0) bounds),
-      tree-lends s.bytes content.is_text (string_tree s all) (string-whole s all starts) leaves.1 (subst (Bounds s.bytes) (sym cover.1) bounds),
+      tree-lends s.bytes content.is_text (text_tree s all) (text-whole s all known.0) leaves.0 (subst (Bounds s.bytes) (sym cover.0) known.1),
+      tree-lends s.bytes content.is_text (string_tree s all) (string-whole s all known.0) leaves.1 (subst (Bounds s.bytes) (sym cover.1) known.1),
     )

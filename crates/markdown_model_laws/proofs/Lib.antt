@@ -38,6 +38,13 @@ pub mod ReferenceBytes
 pub mod ReferenceLaws
 pub mod CharacterRows
 pub mod CharacterConstructs
+pub mod EachRow
 pub mod CharacterElements
 pub mod CharacterPasses
 pub mod CharacterLaws
+pub mod PieceBorders
+pub mod PieceRows
+pub mod LeafPieceLaws
+pub mod ChainTrees
+pub mod ChainPasses
+pub mod ChainEvents

@@ -195,6 +195,20 @@ module _ (bytes : List ℕ) (end : ℕ) (previous : Option Code) where
       here : (cs : List Code) → Refers (provided (may_precede_www previous && begins_with_www cs) >> www_from_here bytes end)
       here cs = yields_passed _ _ _ refers_www_from_here
 
+-- All of them.
+pub ruleset refers_constructs = (
+  refers_character_escape,
+  refers_hard_break_escape,
+  refers_character_reference,
+  refers_autolink,
+  refers_code_text,
+  refers_math_text,
+  refers_html_text,
+  refers_gfm_task_list_item_check,
+  refers_gfm_autolink_literal_protocol,
+  refers_gfm_autolink_literal_www,
+)
+
 -- What follows a label.
 
 refers_optional : (a : Reading Forest) → Refers a → Refers (optional_tree a)

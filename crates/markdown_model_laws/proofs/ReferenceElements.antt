@@ -16,7 +16,8 @@ use Rattle.markdown_model.proofs.NoLinkInConstructs.{Passes, Yields, yields_bind
 use Rattle.markdown_model.proofs.OneElementList.{text_elements, string_elements}
 use Rattle.markdown_model_laws.proofs.ReferenceTrees.{is_free, HasReferences}
 use Rattle.markdown_model_laws.proofs.ReferenceRows.{row, free-leaf, free-group, free-between}
-use Rattle.markdown_model_laws.proofs.ReferenceConstructs.{Refers, refers_character_reference, refers_character_escape, refers_hard_break_escape, refers_autolink, refers_code_text, refers_math_text, refers_html_text, refers_gfm_task_list_item_check, refers_gfm_autolink_literal_protocol, refers_gfm_autolink_literal_www, refers_after_label}
+use Rattle.markdown_model_laws.proofs.EachRow.{EachRow, OfConstructs}
+use Rattle.markdown_model_laws.proofs.ReferenceConstructs.{Refers, refers_character_reference, refers_character_escape, refers_gfm_task_list_item_check, refers_after_label, refers_constructs}
 
 -- Elements.
 
@@ -76,8 +77,7 @@ end-read s earlier =
     (yields_gives _ (ends back None) tt)
 
 abbrev EachHas : Tries → Type 0
-EachHas [] = Unit {0}
-EachHas (line ∷ rows) = Have line.1 × EachHas rows
+EachHas rows = EachRow Have rows
 
 tried-has : (rows : Tries) (v : ℕ) → EachHas rows → Have (tried rows v)
 unfolding tried
@@ -93,36 +93,24 @@ both : (a b : Reading Element) → Have a → Have b → Have (either a b)
 both a b h k = yields_either _ a b h k
 
 module _ (s : Setting) (end : ℕ) (earlier : List Element) (previous : Option Code) where
-  each-has : EachHas (tries s end earlier previous)
+  rows-have : (H : Reading Element → Type 0) → OfConstructs Refers H s earlier → EachRow H (tries s end earlier previous)
   unfolding tries code_text math_text
-  each-has = (
-    ending,
-    (
-      on _ _ (image-read _),
-      (
-        own _ _ (refers_math_text _ _ _),
-        (
-          own _ _ (refers_code_text _ _ _),
-          (
-            own _ _ (refers_character_reference _),
-            (on _ _ (run-read _), (on _ _ (run-read _), (on _ _ (run-read _), from_angles))),
-          ),
-        ),
-      ),
-    ),
-  )
-    where
-      from_brackets : EachHas (drop 11 (tries s end earlier previous))
-      from_brackets = (
-        both _ _ (on _ _ footnote-read) (on _ _ link-read),
-        (both _ _ (own _ _ refers_character_escape) (own _ _ refers_hard_break_escape), (on _ _ (end-read s earlier), tt)),
-      )
+  rows-have H r = search (r.ending, r.on, r.own, r.both, r.image, r.footnote, r.link, r.stars, r.underscores, r.tildes, r.last, refers_constructs) parts 20 depth 30 fits 5000
 
-      from_angles : EachHas (drop 8 (tries s end earlier previous))
-      from_angles = (
-        both _ _ (own _ _ refers_autolink) (own _ _ refers_html_text),
-        (own _ _ (refers_gfm_autolink_literal_protocol _ _ _), (own _ _ (refers_gfm_autolink_literal_www _ _ _), from_brackets)),
-      )
+  each-has : EachHas (tries s end earlier previous)
+  each-has = rows-have Have (record {
+    ending = ending;
+    on = on;
+    own = own;
+    both = both;
+    image = image-read;
+    footnote = footnote-read;
+    link = link-read;
+    stars = run-read _;
+    underscores = run-read _;
+    tildes = run-read _;
+    last = end-read s earlier;
+  })
 
   text-has : (cs : List Code) → Passes Has (text_element s end earlier previous cs)
   unfolding text_element first_check

@@ -13,3 +13,5 @@ pub mod ResourceParts
 pub mod EventOrder
 pub mod DecodableValues
 pub mod LentTexts
+pub mod LeafPieces
+pub mod UnbrokenChains

@@ -18,6 +18,8 @@ ghost use Rattle.markdown_model_laws.specs.LinkParts.{TitlesAreFound, LabelsAreF
 ghost use Rattle.markdown_model_laws.specs.ResourceParts.{ResourcesAreFound, WhatFollowsIsFound};
 ghost use Rattle.markdown_model_laws.specs.DecodableValues.{ValuesAreDecodable};
 ghost use Rattle.markdown_model_laws.specs.LentTexts.{LeavesAreTexts};
+ghost use Rattle.markdown_model_laws.specs.LeafPieces.{LeavesAreContents};
+ghost use Rattle.markdown_model_laws.specs.UnbrokenChains.{ChainsAreUnbroken};
 
 /// A one-line text with a backslash before each ASCII punctuation character, read as a string with escapes on, is given
 /// back by what is lent for its data and for what its escapes stand for.
@@ -124,4 +126,16 @@ pub fn values_are_decodable()
 /// What is lent for each of the innermost events of a content, read as text and read as a string, is text: it begins and ends between characters.
 pub fn leaves_are_texts()
     ensures { LeavesAreTexts }
+{}
+
+/// The pieces of the document that leaves of a content are, of those that stand one after another, are a content again, where pieces that meet are one. So a
+/// label, a title or a destination may be read as a string of its leaves.
+pub fn leaves_are_contents()
+    ensures { LeavesAreContents }
+{}
+
+/// In the events of a content, read as text and read as a string, the Exit of a linked leaf is the event behind its Enter, and the next leaf of its chain begins
+/// with the event behind that. So a chain is events that stand one after another, whose leaves are a content.
+pub fn chains_are_unbroken()
+    ensures { ChainsAreUnbroken }
 {}
