@@ -1,7 +1,7 @@
 // The links, images, autolinks and literals of a text.
 
 use crate::definition::Target;
-use crate::strings::{one_line, raw_text, text_of_linked};
+use crate::strings::one_line;
 use markdown_inline::configuration::{Constructs, ParseOptions};
 use markdown_inline::definitions::Definitions;
 use markdown_inline::document::Document;
@@ -10,9 +10,11 @@ use markdown_inline::labels::Labels;
 use markdown_inline::node::Node;
 use markdown_inline::parser::{ParseState, Piece};
 use markdown_inline::tree::Tree;
+use markdown_links::links::target_of;
+use markdown_links::target::{Address, Target as Leads};
 use std::alloc::{AllocError, Global};
 
-/// The constructs of CommonMark, and autolink literals.
+/// The constructs and the rules of CommonMark, and autolink literals: the options that `mdinline` calls `cm-lengths` and `cm-shortcut` are on.
 pub const OPTIONS: ParseOptions = ParseOptions {
     constructs: Constructs {
         attention: true,
@@ -85,140 +87,104 @@ impl Kind {
     }
 }
 
-// What is read of a document for its lines.
-#[derive(Drop)]
-struct Reader<'a> {
-    alloc: Global,
-    bytes: &'a [u8],
-    tree: Tree<'a>,
-    labels: &'a Labels<'a>,
-    // Where each definition leads, by its number.
-    targets: &'a [Target],
+// What kind of link a node of this name is; none where it is no link.
+fn kind_of(name: Name) -> Option<Kind> {
+    match name {
+        Name::Link => Some(Kind::Link),
+        Name::Image => Some(Kind::Image),
+        Name::Autolink => Some(Kind::Autolink),
+        Name::GfmAutolinkLiteralWww
+        | Name::GfmAutolinkLiteralEmail
+        | Name::GfmAutolinkLiteralProtocol
+        | Name::GfmAutolinkLiteralMailto
+        | Name::GfmAutolinkLiteralXmpp => Some(Kind::Literal),
+        _ => None,
+    }
 }
 
-// The first node of this name inside a node.
-fn find(tree: &Tree, node: usize, name: Name) -> Option<Node> {
-    let node = tree.node(node)?;
-    for number in node.enter..node.exit {
-        match tree.node(number) {
-            Some(inner) if inner.name == name => return Some(inner),
-            _ => {}
-        }
-    }
-    None
+// The text of an address.
+fn text_of(alloc: Global, bytes: &[u8]) -> Result<String, AllocError> {
+    Ok(String::from_utf8_lossy(alloc, bytes)?)
 }
 
-// The child of this name.
-fn child(tree: &Tree, node: usize, name: Name) -> Option<Node> {
-    let node = tree.node(node)?;
-    let mut next = tree.first_child(node.enter);
-    for _ in node.enter..node.exit {
-        let inner = tree.node(next?)?;
-        if inner.name == name {
-            return Some(inner);
-        }
-        next = tree.next_sibling(inner.enter);
-    }
-    None
+// An address with texts; the title is empty where there is none.
+fn texts_of(alloc: Global, address: Address) -> Result<Target, AllocError> {
+    let Address { destination, title } = address;
+    let title = title.unwrap_or(Vec::new(alloc));
+    Ok(Target {
+        destination: text_of(alloc, destination.as_slice())?,
+        title: text_of(alloc, title.as_slice())?,
+    })
 }
 
-impl<'a> Reader<'a> {
-    // The linked string in the first node of this name inside a node.
-    fn string(&self, node: usize, name: Name) -> Result<String, AllocError> {
-        match find(&self.tree, node, name) {
-            Some(inner) => text_of_linked(self.alloc, self.bytes, self.tree.events(inner.enter)),
-            None => Ok(String::new(self.alloc)),
-        }
-    }
-
-    // Where the definition leads that a link or an image refers to.
-    fn referred(&self, node: usize) -> Result<Target, AllocError> {
-        let alloc = self.alloc;
-        match self.labels.met(&self.tree, node)? {
-            Some(number) if number < self.targets.len() => {
-                let target = &self.targets[number];
-                Ok(Target {
-                    destination: target.destination.clone()?,
-                    title: target.title.clone()?,
-                })
-            }
-            _ => Ok(Target {
-                destination: String::new(alloc),
-                title: String::new(alloc),
-            }),
-        }
-    }
-
-    // Where a link or an image leads.
-    fn target(&self, node: usize) -> Result<Target, AllocError> {
-        match child(&self.tree, node, Name::Resource) {
-            Some(resource) => Ok(Target {
-                destination: self.string(resource.enter, Name::ResourceDestinationString)?,
-                title: self.string(resource.enter, Name::ResourceTitleString)?,
-            }),
-            None => self.referred(node),
-        }
-    }
-
-    // What stands in a node, with this before it.
-    fn written(&self, node: Node, before: &str) -> Result<Target, AllocError> {
-        let raw = raw_text(self.alloc, self.bytes, self.tree.events(node.enter))?;
+// Where a definition leads.
+fn target_at(alloc: Global, targets: &[Target], number: usize) -> Result<Target, AllocError> {
+    if number < targets.len() {
+        let target = &targets[number];
         Ok(Target {
-            destination: format!(in self.alloc; "{before}{raw}")?,
-            title: String::new(self.alloc),
+            destination: target.destination.clone()?,
+            title: target.title.clone()?,
         })
-    }
-
-    // Where an autolink leads.
-    fn autolink(&self, node: Node) -> Result<Target, AllocError> {
-        if let Some(uri) = child(&self.tree, node.enter, Name::AutolinkProtocol) {
-            return self.written(uri, "");
-        }
-        let address = child(&self.tree, node.enter, Name::AutolinkEmail).unwrap_or(node);
-        self.written(address, "mailto:")
-    }
-
-    // What kind of link a node is, and where it leads; none where it is no link.
-    fn link(&self, node: Node) -> Result<Option<(Kind, Target)>, AllocError> {
-        Ok(Some(match node.name {
-            Name::Link => (Kind::Link, self.target(node.enter)?),
-            Name::Image => (Kind::Image, self.target(node.enter)?),
-            Name::Autolink => (Kind::Autolink, self.autolink(node)?),
-            Name::GfmAutolinkLiteralWww => (Kind::Literal, self.written(node, "http://")?),
-            Name::GfmAutolinkLiteralEmail => (Kind::Literal, self.written(node, "mailto:")?),
-            Name::GfmAutolinkLiteralProtocol
-            | Name::GfmAutolinkLiteralMailto
-            | Name::GfmAutolinkLiteralXmpp => (Kind::Literal, self.written(node, "")?),
-            _ => return Ok(None),
-        }))
+    } else {
+        texts_of(alloc, nowhere(alloc))
     }
 }
 
-/// Adds a line for each link of a text: line, column, kind, destination, title.
-pub fn push_lines<'a>(
+// An empty address.
+fn nowhere(alloc: Global) -> Address {
+    Address {
+        destination: Vec::new(alloc),
+        title: None,
+    }
+}
+
+// Where a node leads, with what the definitions say.
+fn target(
+    alloc: Global,
+    labels: &Labels,
+    tree: &Tree,
+    node: Node,
+    targets: &[Target],
+) -> Result<Target, AllocError> {
+    match target_of(alloc, labels, tree, node.enter)? {
+        Some(Leads::Here(address)) => texts_of(alloc, address),
+        Some(Leads::Definition(number)) => target_at(alloc, targets, number),
+        _ => texts_of(alloc, nowhere(alloc)),
+    }
+}
+
+// Adds a line for a link: line, column, kind, destination, title.
+fn push_line(
     alloc: Global,
     lines: &mut String,
-    labels: &'a Labels<'a>,
-    events: &'a [Event],
-    targets: &'a [Target],
+    node: Node,
+    kind: Kind,
+    target: &Target,
 ) -> Result<(), AllocError> {
-    let reader = Reader {
-        alloc,
-        bytes: labels.bytes,
-        tree: Tree::new(alloc, events)?,
-        labels,
-        targets,
-    };
+    let destination = one_line(alloc, target.destination.as_str())?;
+    let title = one_line(alloc, target.title.as_str())?;
+    let Point { line, column, .. } = node.start;
+    let kind = kind.word();
+    writeln!(lines, "{line}\t{column}\t{kind}\t{destination}\t{title}")?;
+    Ok(())
+}
+
+/// Adds a line for each link of a text.
+pub fn push_lines(
+    alloc: Global,
+    lines: &mut String,
+    labels: &Labels,
+    events: &[Event],
+    targets: &[Target],
+) -> Result<(), AllocError> {
+    let tree = Tree::new(alloc, events)?;
     for number in 0..events.len() {
-        let Some(node) = reader.tree.node(number) else {
+        let Some(node) = tree.node(number) else {
             continue;
         };
-        if let Some((kind, target)) = reader.link(node)? {
-            let destination = one_line(alloc, target.destination.as_str())?;
-            let title = one_line(alloc, target.title.as_str())?;
-            let Point { line, column, .. } = node.start;
-            let kind = kind.word();
-            writeln!(lines, "{line}\t{column}\t{kind}\t{destination}\t{title}")?;
+        if let Some(kind) = kind_of(node.name) {
+            let target = target(alloc, labels, &tree, node, targets)?;
+            push_line(alloc, lines, node, kind, &target)?;
         }
     }
     Ok(())

@@ -9,7 +9,7 @@ ghost use Rattle.markdown_model_laws.specs.LentTexts.{LendTexts};
 ghost use Rattle.markdown_model_laws.specs.DecodableValues.{EventsHaveValues, IsDecodable, marker_of};
 
 use markdown_inline::configuration::ParseOptions;
-use markdown_inline::event::{Event, Kind, Name};
+use markdown_inline::event::{Event, Name};
 use markdown_inline::laws;
 use markdown_inline::parser::{ParseState, Piece};
 use markdown_inline::run::{self, Leaf};
@@ -64,14 +64,6 @@ fn push_leaf(alloc: Global, text: &mut String, before: Name, leaf: Leaf) -> Resu
     }
 }
 
-// Whether an event is the Exit of an innermost event, right behind its Enter.
-fn is_innermost(events: &[Event], exit: usize) -> bool {
-    exit > 0
-        && exit < events.len()
-        && events[exit - 1].kind == Kind::Enter
-        && events[exit].kind == Kind::Exit
-}
-
 // The text that the events of a string stand for.
 fn resolved(alloc: Global, bytes: &[u8], events: &[Event]) -> Result<String, AllocError>
     requires fits { length bytes.now ≤ document_limit }
@@ -120,65 +112,6 @@ pub fn text_between(
         end: (string.len(), 0),
     }];
     string_of(alloc, string, &pieces)
-}
-
-// A piece of the document from an index on, as one of the bytes from there on.
-fn moved(piece: Piece, by: usize) -> Piece {
-    Piece {
-        start: (piece.start.0.saturating_sub(by), piece.start.1),
-        end: (piece.end.0.saturating_sub(by), piece.end.1),
-    }
-}
-
-// The pieces that the linked events of a list are; neighbours that meet are one piece.
-fn linked_pieces(alloc: Global, events: &[Event], from: usize) -> Result<Vec<Piece>, AllocError> {
-    let mut pieces: Vec<Piece> = Vec::new(alloc);
-    for exit in 1..events.len() {
-        let enter = events[exit - 1];
-        if enter.link.is_none() || !is_innermost(events, exit) {
-            continue;
-        }
-        let piece = moved(
-            Piece {
-                start: (enter.point.index, enter.point.vs),
-                end: (events[exit].point.index, events[exit].point.vs),
-            },
-            from,
-        );
-        match pieces.last_mut() {
-            Some(last) if last.end == piece.start => last.end = piece.end,
-            _ => pieces.push(piece)?,
-        }
-    }
-    Ok(pieces)
-}
-
-/// The text of the string that the linked events of a list are.
-///
-/// A run looks at the document from its start on. So it is given no more of it than the string takes.
-pub fn text_of_linked(alloc: Global, bytes: &[u8], events: &[Event]) -> Result<String, AllocError> {
-    let (Some(first), Some(last)) = (events.first(), events.last()) else {
-        return Ok(String::new(alloc));
-    };
-    let from = first.point.index;
-    let pieces = linked_pieces(alloc, events, from)?;
-    string_of(
-        alloc,
-        between(bytes, from, last.point.index),
-        pieces.as_slice(),
-    )
-}
-
-/// The bytes of all innermost events of a list, as text.
-pub fn raw_text(alloc: Global, bytes: &[u8], events: &[Event]) -> Result<String, AllocError> {
-    let mut text = Vec::new(alloc);
-    for exit in 1..events.len() {
-        if is_innermost(events, exit) {
-            let start = events[exit - 1].point.index;
-            text.extend_from_slice(between(bytes, start, events[exit].point.index))?;
-        }
-    }
-    Ok(String::from_utf8_lossy(alloc, text.as_slice())?)
 }
 
 /// A text with a space in place of each control character of ASCII, so that it is one field of a line.

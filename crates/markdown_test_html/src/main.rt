@@ -2,8 +2,9 @@
 //!
 //! A line of the input is a row: a word, a text, and definitions, with a tab between each two. `html` reads the text as CommonMark has it, and lets raw HTML and
 //! any address be written, as the specification does; `gfm` reads it with GitHub's extensions, and lets neither be. `text` prints its plain text. A definition
-//! is `LABEL: DESTINATION`, perhaps with a title behind a space. `␊` stands for a line ending and `→` for a tab, in what is printed too. A line that begins
-//! with `#` is no row. The rows of a section of CommonMark have the HTML that cmark 0.30.2 gives them.
+//! is `LABEL: DESTINATION`, perhaps with a title behind a space. `␊` stands for a line ending and `→` for a tab, in what is printed too, and `␠` for a space
+//! in a destination. A line that begins with `#` is no row. The first rows, by sections, have the HTML that cmark 0.30.2 gives them; the last are the
+//! specification's examples, with its HTML, as `tools/spec-examples` has written them.
 //!
 //! Where memory is refused, the answers end there, and the status is 3.
 #![tactic(auto)]
@@ -34,6 +35,7 @@ fn meant(alloc: Global, written: &str) -> Result<String, AllocError> {
         text.push(match c {
             '␊' => '\n',
             '→' => '\t',
+            '␠' => ' ',
             _ => c,
         })?;
     }
@@ -57,12 +59,12 @@ fn definition(alloc: Global, field: &str) -> Result<Definition, AllocError> {
     let (label, rest) = field.split_once(": ").unwrap_or((field, ""));
     let (destination, title) = rest.split_once(' ').unwrap_or((rest, ""));
     Ok(Definition {
-        identifier: normalize_identifier(alloc, label)?,
-        destination: String::from_str(alloc, destination)?,
+        identifier: normalize_identifier(alloc, meant(alloc, label)?.as_str())?,
+        destination: meant(alloc, destination)?,
         title: if title.is_empty() {
             None
         } else {
-            Some(String::from_str(alloc, title)?)
+            Some(meant(alloc, title)?)
         },
     })
 }
