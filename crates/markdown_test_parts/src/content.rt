@@ -29,12 +29,17 @@ pub(crate) const DOCUMENT_START: Point = Point {
 // Appends what a case answers.
 pub(crate) fn answer(alloc: Global, case: &Case, out: &mut String) -> Result<(), AllocError> {
     let pieces = case.pieces(alloc)?;
+    answer_on(case, pieces.as_slice(), out)
+}
+
+// Appends what a case answers that has these pieces.
+fn answer_on(case: &Case, pieces: &[Piece], out: &mut String) -> Result<(), AllocError> {
     let bytes = case.text.as_slice();
     match case.call {
-        "is_content" => push_flag(out, is_content(bytes, &pieces)),
-        "is_text" => push_flag(out, is_text(bytes, &pieces)),
+        "is_content" => push_flag(out, is_content(bytes, pieces)),
+        "is_text" => push_flag(out, is_text(bytes, pieces)),
         "walk" => walk(bytes, case.number(0), case.number(1), out),
-        "lend" => lend(bytes, &pieces, out),
+        "lend" => lend(bytes, pieces, out),
         "lend_between" => lend_between(bytes, case.number(0), case.number(1), out),
         _ => out.push_str(" no such call"),
     }

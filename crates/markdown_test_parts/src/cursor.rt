@@ -16,15 +16,21 @@ use crate::document::{push_count, push_flag};
 use markdown_engine_content::byte_set;
 use markdown_engine_content::content::is_content;
 use markdown_engine_content::cursor::Cursor;
+use markdown_engine_content::parser::Piece;
 use std::alloc::{AllocError, Global};
 
 // Appends what a case answers.
 pub(crate) fn answer(alloc: Global, case: &Case, out: &mut String) -> Result<(), AllocError> {
     let pieces = case.pieces(alloc)?;
-    if !is_content(&case.text, &pieces) {
+    answer_on(case, pieces.as_slice(), out)
+}
+
+// Appends what a case answers that has these pieces.
+fn answer_on(case: &Case, pieces: &[Piece], out: &mut String) -> Result<(), AllocError> {
+    if !is_content(&case.text, pieces) {
         return out.push_str(" no content");
     }
-    let mut cursor = Cursor::new(&case.text, &pieces);
+    let mut cursor = Cursor::new(&case.text, pieces);
     match case.call {
         "read" => read(&mut cursor, out),
         "stretch" => stretch(&mut cursor, out),

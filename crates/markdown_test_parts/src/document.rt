@@ -1,9 +1,10 @@
-// Calls that take a tokenizer at the start of the text: those of `attempts`, `parts`, `spaces`, and `emphasis run`.
+// Calls that take a tokenizer at the start of the text: those of `attempts`, `parts`, `spaces`, `emphasis`, and `mail find`. One function owns the
+// tokenizer, and hands it over, since each that owns one takes long to prove.
 ghost use Rattle.markdown_engine_content.specs.Content.{IsContent};
-ghost use Rattle.std.specs.Prelude.{◌≡◌};
+ghost use Rattle.std.specs.Prelude.{◌≡◌, []};
 
 use crate::case::{Case, whole};
-use crate::{attempts, emphasis, parts, spaces};
+use crate::{attempts, emphasis, mail, parts, spaces};
 use markdown_engine::state::State;
 use markdown_engine::tokenizer::Tokenizer;
 use markdown_engine_content::configuration::{Constructs, ParseOptions};
@@ -50,9 +51,9 @@ pub(crate) fn answer(
     if !is_content(&case.text, &pieces) {
         return out.push_str(" no content");
     }
-    let options = options(false);
+    let options = options(case.word(0) == "first");
     let parse_state = document(alloc, &case.text, &options);
-    answer_at(alloc, &parse_state, &pieces, part, case.call, out)
+    answer_at(alloc, &parse_state, &pieces, part, case, out)
 }
 
 // Makes the tokenizer, and the call.
@@ -61,27 +62,31 @@ fn answer_at(
     parse_state: &ParseState,
     pieces: &[Piece],
     part: &str,
-    call: &str,
+    case: &Case,
     out: &mut String,
 ) -> Result<(), AllocError>
     requires { IsContent parse_state.now.bytes.now pieces.now }
 {
     let mut tokenizer = Tokenizer::new(alloc, parse_state, pieces);
-    answer_by(&mut tokenizer, part, call, out)
+    answer_by(&mut tokenizer, part, case, out)
 }
 
 // Makes the call.
 fn answer_by(
     tokenizer: &mut Tokenizer,
     part: &str,
-    call: &str,
+    case: &Case,
     out: &mut String,
-) -> Result<(), AllocError> {
+) -> Result<(), AllocError>
+    requires map { tokenizer.old.map ≡ [] }
+    requires events { tokenizer.old.events ≡ [] }
+{
     match part {
-        "attempts" => attempts::answer(tokenizer, call, out),
-        "emphasis" => emphasis::pass_run(tokenizer, out),
-        "parts" => parts::answer(tokenizer, call, out),
-        _ => spaces::answer(tokenizer, call, out),
+        "attempts" => attempts::answer(tokenizer, case.call, out),
+        "parts" => parts::answer(tokenizer, case.call, out),
+        "spaces" => spaces::answer(tokenizer, case.call, out),
+        "mail" => mail::find(tokenizer, case.word(0), out),
+        _ => emphasis::answer_at(tokenizer, part, case, out),
     }
 }
 

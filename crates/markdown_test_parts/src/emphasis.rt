@@ -20,13 +20,12 @@ ghost use Rattle.markdown_attention.specs.AttentionPass.{IsSmall};
 ghost use Rattle.markdown_test_parts.specs.Fixtures.{HaveRuns};
 
 use crate::case::{Case, ask_in_vain, is_held, whole};
-use crate::document::{self, document, options, push_count, push_flag, push_state};
+use crate::document::{self, push_count, push_flag, push_state};
 use markdown_attention::attention::runs::{Runs, Sequence};
 use markdown_attention::attention::{inside, resolve, resolve_counted, start};
 use markdown_engine::tokenizer::Tokenizer;
 use markdown_engine_content::content::is_content;
 use markdown_engine_content::event::{Event, Kind, Name, Point};
-use markdown_engine_content::parser::{ParseState, Piece};
 use markdown_engine_events::events::Events;
 use std::alloc::{AllocError, Global};
 
@@ -43,13 +42,30 @@ enum How {
 pub(crate) fn answer(alloc: Global, case: &Case, out: &mut String) -> Result<(), AllocError> {
     match case.call {
         "pass" => {
-            pass(alloc, case, How::Counted, out)?;
-            pass(alloc, case, How::ByName, out)
+            document::answer(alloc, "counted", case, out)?;
+            document::answer(alloc, "named", case, out)
         }
-        "steady" => take(alloc, case, out),
-        "none" => find_none(alloc, case, out),
-        "run" => document::answer(alloc, "emphasis", case, out),
+        "steady" | "none" | "run" => document::answer(alloc, case.call, case, out),
         _ => out.push_str(" no such call"),
+    }
+}
+
+// Makes the call.
+pub(crate) fn answer_at(
+    tokenizer: &mut Tokenizer,
+    call: &str,
+    case: &Case,
+    out: &mut String,
+) -> Result<(), AllocError>
+    requires map { tokenizer.old.map ≡ [] }
+    requires events { tokenizer.old.events ≡ [] }
+{
+    match call {
+        "counted" => pass(tokenizer, case, How::Counted, out),
+        "named" => pass(tokenizer, case, How::ByName, out),
+        "steady" => take(tokenizer, out),
+        "none" => find_none(tokenizer, case, out),
+        _ => pass_run(tokenizer, out),
     }
 }
 
@@ -237,37 +253,16 @@ fn pair(tokenizer: &mut Tokenizer, how: How, out: &mut String) -> Result<Option<
     }))
 }
 
-// Makes the tokenizer, and calls the pass.
-fn group_at(
-    alloc: Global,
-    parse_state: &ParseState,
-    pieces: &[Piece],
-    how: How,
-    out: &mut String,
-) -> Result<Option<Count>, AllocError>
-    requires content { IsContent parse_state.now.bytes.now pieces.now }
-    requires ascii { IsAscii parse_state.now.bytes.now }
-    requires fits { length parse_state.now.bytes.now + 1 < 2 ^ 64 }
-{
-    let mut tokenizer = Tokenizer::new(alloc, parse_state, pieces);
-    pair(&mut tokenizer, how, out)
-}
-
 // Appends what the pass leaves of a text. Answers the numbers of runs and looks, and none where the text is not in ASCII, or has too many runs.
-fn group(
-    alloc: Global,
-    case: &Case,
-    how: How,
-    out: &mut String,
-) -> Result<Option<Count>, AllocError> {
-    let bytes = case.text.as_slice();
-    let pieces = whole(bytes);
-    if !is_content(bytes, &pieces) || !bytes.is_ascii() {
+fn group(tokenizer: &mut Tokenizer, how: How, out: &mut String) -> Result<Option<Count>, AllocError>
+    requires map { tokenizer.old.map ≡ [] }
+    requires events { tokenizer.old.events ≡ [] }
+{
+    let bytes = tokenizer.parse_state.bytes;
+    if !is_content(bytes, &whole(bytes)) || !bytes.is_ascii() {
         return Ok(None);
     }
-    let options = options(case.word(0) == "first");
-    let parse_state = document(alloc, bytes, &options);
-    group_at(alloc, &parse_state, &pieces, how, out)
+    pair(tokenizer, how, out)
 }
 
 // Appends how many runs there are, and whether there are as many looks as pairs at least, and no more than the bound.
@@ -281,22 +276,36 @@ fn push_found(out: &mut String, found: Option<Count>, case: &Case) -> Result<(),
 }
 
 // What the pass leaves of a text, by itself or by its name, on a line of its own.
-fn pass(alloc: Global, case: &Case, how: How, out: &mut String) -> Result<(), AllocError> {
+fn pass(
+    tokenizer: &mut Tokenizer,
+    case: &Case,
+    how: How,
+    out: &mut String,
+) -> Result<(), AllocError>
+    requires map { tokenizer.old.map ≡ [] }
+    requires events { tokenizer.old.events ≡ [] }
+{
     out.push_str("\n    ")?;
-    let found = group(alloc, case, how, out)?;
+    let found = group(tokenizer, how, out)?;
     push_found(out, found, case)
 }
 
 // Whether one pair is taken.
-fn take(alloc: Global, case: &Case, out: &mut String) -> Result<(), AllocError> {
-    let _ = group(alloc, case, How::Taken, out)?;
+fn take(tokenizer: &mut Tokenizer, out: &mut String) -> Result<(), AllocError>
+    requires map { tokenizer.old.map ≡ [] }
+    requires events { tokenizer.old.events ≡ [] }
+{
+    let _ = group(tokenizer, How::Taken, out)?;
     Ok(())
 }
 
 // Whether the pass leaves no pair in a text: each has a text between its markers.
-fn find_none(alloc: Global, case: &Case, out: &mut String) -> Result<(), AllocError> {
-    let mut events = String::new(alloc);
-    let found = group(alloc, case, How::Counted, &mut events)?;
+fn find_none(tokenizer: &mut Tokenizer, case: &Case, out: &mut String) -> Result<(), AllocError>
+    requires map { tokenizer.old.map ≡ [] }
+    requires events { tokenizer.old.events ≡ [] }
+{
+    let mut events = String::new(tokenizer.alloc);
+    let found = group(tokenizer, How::Counted, &mut events)?;
     push_flag(out, !events.contains("Text"))?;
     push_found(out, found, case)
 }
@@ -312,7 +321,7 @@ fn is_in_run(tokenizer: &Tokenizer) -> bool
 }
 
 // Calls the states of a run over two markers and a letter.
-pub(crate) fn pass_run(tokenizer: &mut Tokenizer, out: &mut String) -> Result<(), AllocError> {
+fn pass_run(tokenizer: &mut Tokenizer, out: &mut String) -> Result<(), AllocError> {
     push_state(out, start(tokenizer)?)?;
     for _ in 0..3 {
         if !is_in_run(tokenizer) {

@@ -175,6 +175,11 @@ fn push_names(out: &mut String, names: &Listed, case: &Case) -> Result<(), Alloc
 // The names of definitions and of footnotes, and the brackets of a text.
 fn names_of(alloc: Global, case: &Case, out: &mut String) -> Result<(), AllocError> {
     let names = names_in(alloc, case)?;
+    push_all(out, &names, case)
+}
+
+// Appends how many brackets the text has, and which of the first two words are names.
+fn push_all(out: &mut String, names: &Names, case: &Case) -> Result<(), AllocError> {
     write!(out, " {:?}", names.brackets.between(0, case.text.len()))?;
     push_names(out, &names.definitions, case)?;
     push_names(out, &names.footnotes, case)

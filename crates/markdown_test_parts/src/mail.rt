@@ -16,11 +16,11 @@ ghost use Rattle.markdown_partial.specs.TrimmedEvents.{HasPlaces};
 
 use crate::case::Case;
 use crate::content::DOCUMENT_START;
-use crate::document::{document, options, push_count};
+use crate::document::{self, push_count};
 use markdown_engine::tokenizer::Tokenizer;
 use markdown_engine_content::content::is_content;
 use markdown_engine_content::event::{Content, Event, Kind, Link, Name, Point};
-use markdown_engine_content::parser::{ParseState, Piece};
+use markdown_engine_content::parser::Piece;
 use markdown_engine_content::walk::walk_to;
 use markdown_engine_events::events::Events;
 use markdown_leaf_email_pass::email::resolve;
@@ -31,15 +31,7 @@ use std::alloc::{AllocError, Global};
 // Appends what a case answers.
 pub(crate) fn answer(alloc: Global, case: &Case, out: &mut String) -> Result<(), AllocError> {
     match case.call {
-        "find" => match case.word(0) {
-            "Emphasis" => find(alloc, &case.text, Name::Emphasis, None, out),
-            "Image" => find(alloc, &case.text, Name::Image, None, out),
-            "Link" => find(alloc, &case.text, Name::Link, None, out),
-            _ => {
-                let content = Some(Content::String);
-                find(alloc, &case.text, Name::ResourceTitleString, content, out)
-            }
-        },
+        "find" => document::answer(alloc, "mail", case, out),
         "leaves" => lend_leaves(&case.text, out),
         _ => out.push_str(" no such call"),
     }
@@ -110,33 +102,27 @@ fn push_innermost(out: &mut String, events: &[Event]) -> Result<(), AllocError> 
     Ok(())
 }
 
-// What the pass leaves of these events.
-fn push_found(
-    alloc: Global,
-    parse_state: &ParseState,
-    pieces: &[Piece],
-    events: Events,
-    out: &mut String,
-) -> Result<(), AllocError>
-    requires content { IsContent parse_state.now.bytes.now pieces.now }
-    requires places { HasPlaces parse_state.now.bytes.now events }
+// The group of a name, and the content that is linked in it.
+fn group_of(word: &str) -> (Name, Option<Content>)
+    ensures { is_data result.0 ≡ false }
 {
-    let mut tokenizer = Tokenizer::new(alloc, parse_state, pieces);
-    tokenizer.events = events;
-    resolve(&mut tokenizer)?;
-    push_innermost(out, tokenizer.events.as_slice())
+    match word {
+        "Emphasis" => (Name::Emphasis, None),
+        "Image" => (Name::Image, None),
+        "Link" => (Name::Link, None),
+        _ => (Name::ResourceTitleString, Some(Content::String)),
+    }
 }
 
 // What the pass leaves of data that is the whole document, in such a group.
-fn find(
-    alloc: Global,
-    bytes: &[u8],
-    group: Name,
-    content: Option<Content>,
+pub(crate) fn find(
+    tokenizer: &mut Tokenizer,
+    word: &str,
     out: &mut String,
 ) -> Result<(), AllocError>
-    requires { is_data group ≡ false }
+    requires { tokenizer.old.map ≡ [] }
 {
+    let bytes = tokenizer.parse_state.bytes;
     let pieces = [Piece {
         start: (0, 0),
         end: (bytes.len(), 0),
@@ -144,10 +130,10 @@ fn find(
     if !is_content(bytes, &pieces) {
         return out.push_str(" no content");
     }
-    let events = data_in(alloc, bytes, group, content)?;
-    let options = options(false);
-    let parse_state = document(alloc, bytes, &options);
-    push_found(alloc, &parse_state, &pieces, events, out)
+    let (group, content) = group_of(word);
+    tokenizer.events = data_in(tokenizer.alloc, bytes, group, content)?;
+    resolve(tokenizer)?;
+    push_innermost(out, tokenizer.events.as_slice())
 }
 
 // Appends what is lent for an innermost event.

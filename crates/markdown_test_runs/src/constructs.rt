@@ -303,7 +303,7 @@ fn read_one(tokenizer: &mut Tokenizer, reading: &str, asked: Asked) -> Result<bo
         "state" => run_spacing(tokenizer),
         "destination" | "title" | "label" => read_part(tokenizer, reading),
         "task" | "protocol" | "www" | "footnote" => read_gfm(tokenizer, reading),
-        "end" => read_end(tokenizer),
+        "end" | "wholeend" => read_end(tokenizer, reading == "wholeend"),
         "wholeescape" | "wholelink" | "wholeattention" | "wholedata" => {
             read_whole(tokenizer, reading)
         }

@@ -11,6 +11,7 @@ use markdown_engine::state::StateName;
 use markdown_engine::tokenizer::{LabelKind, LabelStart, Tokenizer};
 use markdown_engine_content::event::{Event, Kind, Name, Point};
 use markdown_inline::run::construct;
+use markdown_run_readers::label_end;
 use std::alloc::AllocError;
 
 // Keeps the start of a link that stands before all codes.
@@ -41,19 +42,37 @@ fn keep_start(tokenizer: &mut Tokenizer) -> Result<(), AllocError>
     })
 }
 
-// Reads the end of a label whose start stands before it.
-pub(crate) fn read_end(tokenizer: &mut Tokenizer) -> Result<bool, AllocError>
+// The same. A refusal of memory is noted.
+fn start_kept(tokenizer: &mut Tokenizer) -> Result<(), AllocError>
+    requires alone { tokenizer.old.attempts ≡ [] }
+    requires events { tokenizer.old.events ≡ [] }
+    requires rest { tokenizer.old.tokenize_state ≡ at_rest }
+    requires fits { codes_left tokenizer.old ≤ most }
+    requires text { ReadsText tokenizer.old }
+    ensures alone { IfOk result (λ _. tokenizer.new.attempts ≡ []) }
+    ensures construct { IfOk result (λ _. IsConstruct LabelEndStart tokenizer.new) }
+{
+    match keep_start(tokenizer) {
+        Ok(()) => Ok(()),
+        Err(AllocError) => {
+            tokenizer.fail();
+            Err(AllocError)
+        }
+    }
+}
+
+/// Reads the end of a label whose start stands before it, by its states or by its reader.
+pub(crate) fn read_end(tokenizer: &mut Tokenizer, by_reader: bool) -> Result<bool, AllocError>
     requires alone { tokenizer.old.attempts ≡ [] }
     requires events { tokenizer.old.events ≡ [] }
     requires rest { tokenizer.old.tokenize_state ≡ at_rest }
     requires fits { codes_left tokenizer.old ≤ most }
     requires text { ReadsText tokenizer.old }
 {
-    match keep_start(tokenizer) {
-        Ok(()) => construct(StateName::LabelEndStart, tokenizer),
-        Err(AllocError) => {
-            tokenizer.fail();
-            Err(AllocError)
-        }
+    start_kept(tokenizer)?;
+    if by_reader {
+        label_end::read(tokenizer)
+    } else {
+        construct(StateName::LabelEndStart, tokenizer)
     }
 }

@@ -56,6 +56,7 @@ impl<'a> Read for Slow<'a> {
 #[derive(Drop)]
 pub(crate) struct Narrow {
     room: usize,
+    fails: ErrorKind,
     is_ready: bool,
     flushes: bool,
     held: Vec<u8>,
@@ -63,9 +64,10 @@ pub(crate) struct Narrow {
 }
 
 impl Narrow {
-    pub(crate) fn new(alloc: Global, room: usize, flushes: bool) -> Narrow {
+    pub(crate) fn new(alloc: Global, room: usize, fails: ErrorKind, flushes: bool) -> Narrow {
         Narrow {
             room,
+            fails,
             is_ready: false,
             flushes,
             held: Vec::new(alloc),
@@ -81,7 +83,7 @@ impl Write for Narrow {
             return Err(io::Error::from(ErrorKind::Interrupted));
         }
         if self.room == 0 {
-            return Err(io::Error::from(ErrorKind::Other));
+            return Err(io::Error::from(self.fails));
         }
         let Some(first) = buf.first() else {
             return Ok(0);
@@ -93,7 +95,7 @@ impl Write for Narrow {
 
     fn flush(&mut self) -> io::Result<()> {
         if !self.flushes {
-            return Err(io::Error::from(ErrorKind::Other));
+            return Err(io::Error::from(self.fails));
         }
         self.passed.append(&mut self.held)?;
         Ok(())

@@ -6,11 +6,13 @@
 //! - `equal` and `count`: a text, of which the run, its passes by name, and a pass that is as simple as can be are to leave the same events; and
 //!   how many they are. `passes`: the same of a string, without the simple pass.
 //! - `steady`: a text, behind whose run memory is asked for once more in vain; then the calls that take none are to answer as ever.
+//! - `value`: what the references in the document stand for.
 //! - A single construct at the start of the content: `escape`, `reference`, `break`, `autolink`, `html`, `span` (of code, or of math), `attention`,
 //!   `task`, `protocol`, `www`, `link`, `image`, `footnote`, `end` (of the label of a link that starts before the content), `destination`, `title`,
 //!   `label`; `data`, which stops at `*` and `h`; `letters`, the same data with `H`, `W` and `w`, which goes on past letters with which no literal
 //!   begins; `space`, at least and at most so many blank codes on one line; `spacing`, blank codes with a line ending behind the first code;
 //!   `linked`, the same at the start, linked where they begin with the line ending; `state`, the same by their first state, which puts no event back.
+//! - The same by its reader: `wholeescape`, `wholelink`, `wholeattention`, `wholedata`, `wholeend`.
 //! - A single call of a state, in the run of a text or a string: `text-call`, `string-call`. The call is the first of the state named `state=NAME`
 //!   at the byte `at=INDEX`, given as in a piece, where the scratch fields that are not at rest are those of `fields=FIELDS`. Indexes, the markers
 //!   of data, and whether a text is the first of an item are left out there.

@@ -80,7 +80,8 @@ fn broken(alloc: Global, row: &Row, out: &mut String) -> Result<(), AllocError> 
 
 // A narrow writer.
 fn narrow_writer(alloc: Global, row: &Row) -> Narrow {
-    Narrow::new(alloc, row.asked.most.unwrap_or(0), row.asked.flushes)
+    let fails = row.fault.unwrap_or(ErrorKind::Other);
+    Narrow::new(alloc, row.asked.most.unwrap_or(0), fails, row.asked.flushes)
 }
 
 // Runs it with a narrow writer.

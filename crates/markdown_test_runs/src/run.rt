@@ -10,6 +10,7 @@ use crate::row::{Asked, Row};
 use crate::steady::print_steady;
 use markdown_engine_content::parser::{ParseState, Piece};
 use markdown_inline::run::{Leaves, Run, is_content, is_text, leaves, string, text};
+use markdown_inline::util::character_reference::parse;
 use std::alloc::{AllocError, Global};
 
 /// Prints what is found in a case that is read so.
@@ -87,10 +88,17 @@ fn print_read(
         "string" => print_string(alloc, parse_state, pieces, asked, out),
         "equal" | "count" => print_pairs(alloc, reading, parse_state, pieces, asked, out),
         "steady" => print_steady(alloc, parse_state, pieces, out),
+        "value" => print_value(alloc, parse_state.bytes, out),
         _ if !is_content(parse_state.bytes, pieces) => out.push_str(" no content"),
         "passes" => print_string_likeness(alloc, parse_state, pieces, out),
         _ => print_construct(alloc, reading, parse_state, pieces, asked, out),
     }
+}
+
+// Prints what the references of a text stand for.
+fn print_value(alloc: Global, bytes: &[u8], out: &mut String) -> Result<(), AllocError> {
+    let value = parse(alloc, str::from_utf8(bytes).unwrap_or(""))?;
+    write!(out, " {value}")
 }
 
 // Prints what is found in a text.

@@ -3,6 +3,7 @@ ghost use Rattle.std.specs.Prelude.{◌≡◌, None};
 
 use markdown_engine::state::StateName;
 use markdown_engine::tokenizer::Tokenizer;
+use markdown_engine_content::configuration::ParseOptions;
 use markdown_engine_content::event::{Content, Event, Kind, Name, Point};
 use markdown_engine_content::parser::ParseState;
 use markdown_engine_content::util::skip::to_back;
@@ -16,6 +17,7 @@ use markdown_inline::util::char::{
 use markdown_inline::util::character_reference::{
     decode_named, decode_numeric, value_max, value_test,
 };
+use markdown_inline::util::constant;
 use markdown_inline::{laws, partial_space_or_tab, partial_space_or_tab_eol};
 use std::alloc::{AllocError, Global};
 
@@ -44,6 +46,36 @@ fn are_decoded() -> bool {
     let bounds = value_max(b'&') == 31 && value_max(b'#') == 7 && value_max(b'x') == 6;
     let tests = value_test(b'&', b'z') && value_test(b'x', b'F') && !value_test(b'#', b'a');
     named && numeric && bounds && tests
+}
+
+// Whether the limits of the grammar are these.
+fn are_limits() -> bool {
+    let references = constant::CHARACTER_REFERENCE_NAMED_SIZE_MAX == 31
+        && constant::CHARACTER_REFERENCE_DECIMAL_SIZE_MAX == 7
+        && constant::CHARACTER_REFERENCE_HEXADECIMAL_SIZE_MAX == 6
+        && constant::CHARACTER_REFERENCES.len() == 294
+        && constant::CHARACTER_REFERENCES_HTML_4.len() == 252;
+    let autolinks = constant::AUTOLINK_SCHEME_SIZE_MAX == 32
+        && constant::AUTOLINK_DOMAIN_SIZE_MAX == 63;
+    let links = constant::RESOURCE_DESTINATION_BALANCE_MAX == 32
+        && constant::LINK_REFERENCE_SIZE_MAX == 999;
+    let others = constant::HARD_BREAK_PREFIX_SIZE_MIN == 2
+        && constant::HTML_CDATA_PREFIX == *b"CDATA["
+        && constant::TAB_SIZE == 4
+        && constant::DOCUMENT_LIMIT == usize::MAX / 8;
+    references && autolinks && links && others
+}
+
+// Whether all constructs are those of CommonMark with math and GitHub's, and each other setting is as by default.
+fn are_options() -> bool {
+    let mut options = ParseOptions::default();
+    let on = &mut options.constructs;
+    on.gfm_autolink_literal = true;
+    on.gfm_label_start_footnote = true;
+    on.gfm_strikethrough = true;
+    on.gfm_task_list_item = true;
+    on.math_text = true;
+    options == ALL_CONSTRUCTS
 }
 
 // Whether characters have their neighbours and classes.
@@ -197,6 +229,7 @@ fn cite_laws() {
     laws::labels_are_found();
     laws::labels_match();
     laws::leaves_are_stretches();
+    laws::leaves_are_texts();
     laws::leaves_cover();
     laws::links_are_not_mailed();
     laws::links_do_not_nest();
@@ -218,6 +251,7 @@ fn cite_laws() {
     laws::titles_are_found();
     laws::trees_are_filled();
     laws::unchanged();
+    laws::values_are_decodable();
     laws::what_follows_is_found();
 }
 
@@ -249,6 +283,8 @@ fn print_if(holds: bool, name: &str, out: &mut String) -> Result<(), AllocError>
 // Prints which calls answer as they should that ask for nothing.
 fn print_steady_calls(alloc: Global, out: &mut String) -> Result<(), AllocError> {
     cite_laws();
+    print_if(are_options(), "options", out)?;
+    print_if(are_limits(), "limits", out)?;
     print_if(are_decoded(), "references", out)?;
     print_if(are_classified(), "characters", out)?;
     print_if(are_contents(), "contents", out)?;

@@ -12,7 +12,7 @@ sys.dont_write_bytecode = True
 import examples
 
 CONSTRUCTS = ['escape', 'reference', 'break', 'autolink', 'html', 'span', 'attention', 'task', 'protocol', 'www', 'link', 'image', 'footnote', 'end',
-              'destination', 'title', 'label', 'data', 'letters', 'space', 'spacing', 'linked', 'state', 'wholedata']
+              'destination', 'title', 'label', 'data', 'letters', 'space', 'spacing', 'linked', 'state', 'wholedata', 'wholeend']
 # What a reader reads too.
 READ_WHOLE = ['escape', 'attention', 'link']
 PROGRAMS = ['program', 'broken', 'slow', 'narrow', 'mute', 'wordless']
@@ -142,9 +142,9 @@ def construct_case(kind, words, document, pieces, answer):
     trees = examples.parsed(events)
     passed = len(data[:1].encode()) if kind == 'spacing' else 0
     rest = rest or ' starts 0 at %d' % (trees[-1][2][0] if trees else passed)
-    opened = ' +LabelLink 1:1:0:0' if kind == 'end' else ''
+    opened = ' +LabelLink 1:1:0:0' if kind.endswith('end') else ''
     linked = kind == 'linked' and data[:1] == '\n'
-    held = ' no' if events.startswith(' no') else ' holds' + opened
+    held = (' no' if events.startswith(' no') else ' holds') + opened
     return [kind] + fields, held + printed_events(events, examples.points(data.encode()), linked) + ';' + rest
 
 
@@ -229,6 +229,8 @@ def own_cases(line):
     elif kind == 'met':
         fields = word_fields(words) + piece_fields(pieces, examples.plain(document).encode()) + list(document_fields(document))
         yield [kind] + fields, answer.replace(',', '')
+    elif kind == 'value':
+        yield [kind] + list(document_fields(document)), ' ' + escaped(examples.plain(answer[1:]))
     elif kind == 'steady':
         yield [kind] + piece_fields(pieces, examples.plain(document).encode()) + list(document_fields(document)), answer
     elif kind in PROGRAMS:

@@ -1,9 +1,10 @@
-//! Counts the events of many contents of a text that it reads from standard input, to measure what each costs: runs alone, without the printing
-//! of their events.
+//! Counts the events of the contents of a text that it reads from standard input, to measure what each costs: runs alone, with all constructs on,
+//! without the printing of their events.
 //!
 //! A content is a paragraph: what stands between blank lines. The first word says how they are read: `run`, as pieces of one document by
 //! `run::is_text` and `run::text`; `documents`, each as a document by itself; `document`, as contents of one `Document`; `prepare`, where a
-//! `Document` is made and no content is read. A second word is the number of definitions that are made: `definition 0` and so on.
+//! `Document` is made and no content is read. It may be several with commas between: then each prints a line. Of the other words `made=N` makes N
+//! definitions, `definition 0` and so on, and each other word is the identifier of one.
 #![tactic(auto)]
 
 use markdown_engine_content::parser::ParseState;
@@ -12,14 +13,25 @@ use markdown_inline::options::ALL_CONSTRUCTS;
 use markdown_inline::run::{self, Piece};
 use std::alloc::{AllocError, Global};
 use std::env;
-use std::io::Read;
+use std::io::{self, Read};
 use std::process::ExitCode;
 
-// So many made definitions.
-fn definitions(alloc: Global, count: usize) -> Result<Vec<String>, AllocError> {
-    let mut found = Vec::new(alloc);
+// Appends so many made definitions.
+fn make(alloc: Global, found: &mut Vec<String>, count: usize) -> Result<(), AllocError> {
     for number in 0..count {
         found.push(format!(in alloc; "definition {number}")?)?;
+    }
+    Ok(())
+}
+
+// The definitions that words ask for.
+fn definitions(alloc: Global, words: &[String]) -> Result<Vec<String>, AllocError> {
+    let mut found = Vec::new(alloc);
+    for word in words {
+        match word.as_str().strip_prefix("made=") {
+            Some(count) => make(alloc, &mut found, count.parse().unwrap_or(0))?,
+            None => found.push(word.clone()?)?,
+        }
     }
     Ok(found)
 }
@@ -36,6 +48,9 @@ fn paragraphs(alloc: Global, bytes: &[u8]) -> Result<Vec<(usize, usize)>, AllocE
             }
             from = at.saturating_add(2);
         }
+    }
+    if from < bytes.len() {
+        found.push((from, bytes.len()))?;
     }
     Ok(found)
 }
@@ -117,13 +132,13 @@ fn count_contents(
     Ok(total)
 }
 
-// The number of events of all paragraphs, read in this way, with so many definitions.
-fn count(alloc: Global, bytes: &[u8], way: &str, defined: usize) -> Result<usize, AllocError> {
+// The number of events of all paragraphs, read in this way, with the definitions that words ask for.
+fn count(alloc: Global, bytes: &[u8], way: &str, words: &[String]) -> Result<usize, AllocError> {
     let paragraphs = paragraphs(alloc, bytes)?;
     let parse_state = ParseState {
         bytes,
         options: &ALL_CONSTRUCTS,
-        definitions: definitions(alloc, defined)?,
+        definitions: definitions(alloc, words)?,
         gfm_footnote_definitions: Vec::new(alloc),
     };
     let read = paragraphs.as_slice();
@@ -143,6 +158,18 @@ fn words(rt: &HostRuntime, alloc: Global) -> Vec<String> {
     }
 }
 
+// Prints the number of events of each way of reading that the first word names.
+fn print(rt: &HostRuntime, bytes: &[u8], words: &[String]) -> io::Result<()> {
+    let Some((ways, rest)) = words.split_first() else {
+        return Ok(());
+    };
+    for way in ways.as_str().split(',') {
+        let events = count(rt.alloc(), bytes, way, rest)?;
+        println!(rt; "{events}")?;
+    }
+    Ok(())
+}
+
 fn main(rt: HostRuntime) -> ExitCode {
     let alloc = rt.alloc();
     let words = words(&rt, alloc);
@@ -150,16 +177,8 @@ fn main(rt: HostRuntime) -> ExitCode {
     if rt.stdin().read_to_end(&mut bytes).is_err() {
         return ExitCode::FAILURE;
     }
-    let way = match words.first() {
-        Some(word) => word.as_str(),
-        None => "document",
-    };
-    let defined = match words.get(1) {
-        Some(word) => word.as_str().parse().unwrap_or(0),
-        None => 0,
-    };
-    match count(alloc, bytes.as_slice(), way, defined) {
-        Ok(events) if println!(rt; "{events}").is_ok() => ExitCode::SUCCESS,
-        _ => ExitCode::FAILURE,
+    match print(&rt, bytes.as_slice(), words.as_slice()) {
+        Ok(()) => ExitCode::SUCCESS,
+        Err(_) => ExitCode::FAILURE,
     }
 }
