@@ -44,99 +44,190 @@ extern "C" {
 
 /* Options, each by a bit: the constructs, the four settings, and whether the text is the first of a list item. */
 #define MARKDOWN_INLINE_EACH_OPTION(X) \
+    /* Emphasis and strong emphasis (CommonMark 6.2). */ \
     X(ATTENTION, "attention", 0x1) \
+    /* Autolinks (CommonMark 6.5). */ \
     X(AUTOLINK, "autolink", 0x2) \
+    /* Backslash escapes (CommonMark 2.4). */ \
     X(CHARACTER_ESCAPE, "character_escape", 0x4) \
+    /* Character references (CommonMark 2.5). */ \
     X(CHARACTER_REFERENCE, "character_reference", 0x8) \
+    /* Code spans (CommonMark 6.1). */ \
     X(CODE_TEXT, "code_text", 0x10) \
+    /* Autolink literals (GFM 6.9). */ \
     X(GFM_AUTOLINK_LITERAL, "gfm_autolink_literal", 0x20) \
+    /* Starts of footnote calls. */ \
     X(GFM_LABEL_START_FOOTNOTE, "gfm_label_start_footnote", 0x40) \
+    /* Strikethrough (GFM 6.5). */ \
     X(GFM_STRIKETHROUGH, "gfm_strikethrough", 0x80) \
+    /* Checks of task list items (GFM 5.3). */ \
     X(GFM_TASK_LIST_ITEM, "gfm_task_list_item", 0x100) \
+    /* Hard line breaks by a backslash (CommonMark 6.7). */ \
     X(HARD_BREAK_ESCAPE, "hard_break_escape", 0x200) \
+    /* Hard line breaks by spaces (CommonMark 6.7). */ \
     X(HARD_BREAK_TRAILING, "hard_break_trailing", 0x400) \
+    /* Inline HTML (CommonMark 6.6). */ \
     X(HTML_TEXT, "html_text", 0x800) \
+    /* Starts of images (CommonMark 6.4). */ \
     X(LABEL_START_IMAGE, "label_start_image", 0x1000) \
+    /* Starts of links (CommonMark 6.3). */ \
     X(LABEL_START_LINK, "label_start_link", 0x2000) \
+    /* Ends of links, images and footnote calls. */ \
     X(LABEL_END, "label_end", 0x4000) \
+    /* Math spans. */ \
     X(MATH_TEXT, "math_text", 0x8000) \
+    /* Whether one tilde makes strikethrough, beside two. */ \
     X(GFM_STRIKETHROUGH_SINGLE_TILDE, "gfm_strikethrough_single_tilde", 0x10000) \
+    /* Whether one dollar opens and closes a math span, beside more. */ \
     X(MATH_TEXT_SINGLE_DOLLAR, "math_text_single_dollar", 0x20000) \
+    /* Whether the rule of three of emphasis reads the lengths of whole runs, as CommonMark says, and not what earlier pairs left of them. */ \
     X(ATTENTION_FIRST_LENGTHS, "attention_first_lengths", 0x40000) \
+    /* Whether a defined label before a `[` that begins no label of its own is a shortcut reference, as CommonMark says. */ \
     X(LABEL_SHORTCUT_BEFORE_BRACKET, "label_shortcut_before_bracket", 0x80000) \
+    /* Whether the text is the first of a list item, where the check of a task may stand. */ \
     X(FIRST_OF_ITEM, "first_of_item", 0x100000)
 
 /* Names of events, by their numbers from 0. */
 #define MARKDOWN_INLINE_EACH_NAME(X) \
+    /* A run of `*`, `_` or `~` that attention has not yet looked at. No event of a finished run has this name. */ \
     X(ATTENTION_SEQUENCE, "AttentionSequence") \
+    /* `<https://example.com>` or `<a@b.c>` whole. */ \
     X(AUTOLINK, "Autolink") \
+    /* The address between the angle brackets of an autolink. */ \
     X(AUTOLINK_EMAIL, "AutolinkEmail") \
+    /* `<` or `>` of an autolink. */ \
     X(AUTOLINK_MARKER, "AutolinkMarker") \
+    /* The URI between the angle brackets of an autolink. */ \
     X(AUTOLINK_PROTOCOL, "AutolinkProtocol") \
+    /* A backslash and the ASCII punctuation that it escapes. */ \
     X(CHARACTER_ESCAPE, "CharacterEscape") \
+    /* The backslash of a character escape. */ \
     X(CHARACTER_ESCAPE_MARKER, "CharacterEscapeMarker") \
+    /* The escaped character. */ \
     X(CHARACTER_ESCAPE_VALUE, "CharacterEscapeValue") \
+    /* `&amp;`, `&#123;` or `&#x1F;` whole. */ \
     X(CHARACTER_REFERENCE, "CharacterReference") \
+    /* `&`. */ \
     X(CHARACTER_REFERENCE_MARKER, "CharacterReferenceMarker") \
+    /* `x` or `X` of a hexadecimal reference. */ \
     X(CHARACTER_REFERENCE_MARKER_HEXADECIMAL, "CharacterReferenceMarkerHexadecimal") \
+    /* `#` of a numeric reference. */ \
     X(CHARACTER_REFERENCE_MARKER_NUMERIC, "CharacterReferenceMarkerNumeric") \
+    /* `;`. */ \
     X(CHARACTER_REFERENCE_MARKER_SEMI, "CharacterReferenceMarkerSemi") \
+    /* The name or the digits of a reference. */ \
     X(CHARACTER_REFERENCE_VALUE, "CharacterReferenceValue") \
+    /* A code span whole. */ \
     X(CODE_TEXT, "CodeText") \
+    /* A stretch of one line within a code span. */ \
     X(CODE_TEXT_DATA, "CodeTextData") \
+    /* The grave accents that open or close a code span. */ \
     X(CODE_TEXT_SEQUENCE, "CodeTextSequence") \
+    /* Text that no construct takes. */ \
     X(DATA, "Data") \
+    /* Emphasis whole. */ \
     X(EMPHASIS, "Emphasis") \
+    /* One marker that opens or closes emphasis. */ \
     X(EMPHASIS_SEQUENCE, "EmphasisSequence") \
+    /* What stands between the markers of an emphasis. */ \
     X(EMPHASIS_TEXT, "EmphasisText") \
+    /* An email address that stands by itself. */ \
     X(GFM_AUTOLINK_LITERAL_EMAIL, "GfmAutolinkLiteralEmail") \
+    /* An email address with `mailto:` before it. */ \
     X(GFM_AUTOLINK_LITERAL_MAILTO, "GfmAutolinkLiteralMailto") \
+    /* `http://` or `https://` with what belongs to it. */ \
     X(GFM_AUTOLINK_LITERAL_PROTOCOL, "GfmAutolinkLiteralProtocol") \
+    /* `www.` with what belongs to it. */ \
     X(GFM_AUTOLINK_LITERAL_WWW, "GfmAutolinkLiteralWww") \
+    /* An address with `xmpp:` before it. */ \
     X(GFM_AUTOLINK_LITERAL_XMPP, "GfmAutolinkLiteralXmpp") \
+    /* A footnote call whole. */ \
     X(GFM_FOOTNOTE_CALL, "GfmFootnoteCall") \
+    /* `[^` of a footnote call. */ \
     X(GFM_FOOTNOTE_CALL_LABEL, "GfmFootnoteCallLabel") \
+    /* `^` of a footnote call. */ \
     X(GFM_FOOTNOTE_CALL_MARKER, "GfmFootnoteCallMarker") \
+    /* Strikethrough whole. */ \
     X(GFM_STRIKETHROUGH, "GfmStrikethrough") \
+    /* The tildes that open or close strikethrough. */ \
     X(GFM_STRIKETHROUGH_SEQUENCE, "GfmStrikethroughSequence") \
+    /* What stands between the tildes. */ \
     X(GFM_STRIKETHROUGH_TEXT, "GfmStrikethroughText") \
+    /* `[ ]` or `[x]` at the start of a list item. */ \
     X(GFM_TASK_LIST_ITEM_CHECK, "GfmTaskListItemCheck") \
+    /* `[` or `]` of a check. */ \
     X(GFM_TASK_LIST_ITEM_MARKER, "GfmTaskListItemMarker") \
+    /* `x` or `X` of a check. */ \
     X(GFM_TASK_LIST_ITEM_VALUE_CHECKED, "GfmTaskListItemValueChecked") \
+    /* The blank of a check. */ \
     X(GFM_TASK_LIST_ITEM_VALUE_UNCHECKED, "GfmTaskListItemValueUnchecked") \
+    /* The backslash of a hard break. */ \
     X(HARD_BREAK_ESCAPE, "HardBreakEscape") \
+    /* The spaces of a hard break. */ \
     X(HARD_BREAK_TRAILING, "HardBreakTrailing") \
+    /* Inline HTML whole. */ \
     X(HTML_TEXT, "HtmlText") \
+    /* A stretch of one line within inline HTML. */ \
     X(HTML_TEXT_DATA, "HtmlTextData") \
+    /* An image whole. */ \
     X(IMAGE, "Image") \
+    /* The brackets of a link, an image or a footnote call, with the text between them. */ \
     X(LABEL, "Label") \
+    /* `]` of a label. */ \
     X(LABEL_END, "LabelEnd") \
+    /* `![`. */ \
     X(LABEL_IMAGE, "LabelImage") \
+    /* `!` of an image. */ \
     X(LABEL_IMAGE_MARKER, "LabelImageMarker") \
+    /* `[` of a link. */ \
     X(LABEL_LINK, "LabelLink") \
+    /* `[` or `]` of a label. */ \
     X(LABEL_MARKER, "LabelMarker") \
+    /* What stands between the brackets. */ \
     X(LABEL_TEXT, "LabelText") \
+    /* A line ending: CR LF, LF or CR. */ \
     X(LINE_ENDING, "LineEnding") \
+    /* A link whole. */ \
     X(LINK, "Link") \
+    /* A math span whole. */ \
     X(MATH_TEXT, "MathText") \
+    /* A stretch of one line within a math span. */ \
     X(MATH_TEXT_DATA, "MathTextData") \
+    /* The dollars that open or close a math span. */ \
     X(MATH_TEXT_SEQUENCE, "MathTextSequence") \
+    /* `[..]` or `[]` after a label. */ \
     X(REFERENCE, "Reference") \
+    /* `[` or `]` of a reference. */ \
     X(REFERENCE_MARKER, "ReferenceMarker") \
+    /* What stands between the brackets of a full reference. */ \
     X(REFERENCE_STRING, "ReferenceString") \
+    /* `(..)` after a label. */ \
     X(RESOURCE, "Resource") \
+    /* A destination, with its angle brackets if it has them. */ \
     X(RESOURCE_DESTINATION, "ResourceDestination") \
+    /* A destination in angle brackets. */ \
     X(RESOURCE_DESTINATION_LITERAL, "ResourceDestinationLiteral") \
+    /* `<` or `>` of a destination. */ \
     X(RESOURCE_DESTINATION_LITERAL_MARKER, "ResourceDestinationLiteralMarker") \
+    /* A destination without angle brackets. */ \
     X(RESOURCE_DESTINATION_RAW, "ResourceDestinationRaw") \
+    /* The text of a destination. */ \
     X(RESOURCE_DESTINATION_STRING, "ResourceDestinationString") \
+    /* `(` or `)` of a resource. */ \
     X(RESOURCE_MARKER, "ResourceMarker") \
+    /* A title with its quotes. */ \
     X(RESOURCE_TITLE, "ResourceTitle") \
+    /* A quote or parenthesis of a title. */ \
     X(RESOURCE_TITLE_MARKER, "ResourceTitleMarker") \
+    /* The text of a title. */ \
     X(RESOURCE_TITLE_STRING, "ResourceTitleString") \
+    /* Spaces, tabs and virtual spaces. */ \
     X(SPACE_OR_TAB, "SpaceOrTab") \
+    /* Strong emphasis whole. */ \
     X(STRONG, "Strong") \
+    /* The two markers that open or close strong emphasis. */ \
     X(STRONG_SEQUENCE, "StrongSequence") \
+    /* What stands between the markers of a strong emphasis. */ \
     X(STRONG_TEXT, "StrongText")
 
 enum {

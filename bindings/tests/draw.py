@@ -8,16 +8,18 @@ the pieces, the labels of definitions and of footnotes, the document; texts in h
 calls that the program does not make, which the callers compare among each other: a text's leaves; its HTML, with two words more, the bits of what it
 may hold, and the destination of each definition behind a `=`, with a title behind a colon where it has one; and the texts of several contents, with one word more,
 each content's first and last piece, and whether it begins a list item."""
+import os
 import random
 import re
 import sys
 
-CONSTRUCTS = ['attention', 'autolink', 'character_escape', 'character_reference', 'code_text', 'gfm_autolink_literal', 'gfm_label_start_footnote',
-              'gfm_strikethrough', 'gfm_task_list_item', 'hard_break_escape', 'hard_break_trailing', 'html_text', 'label_start_image',
-              'label_start_link', 'label_end', 'math_text', 'gfm_strikethrough_single_tilde', 'math_text_single_dollar', 'attention_first_lengths',
-              'label_shortcut_before_bracket', 'first_of_item']
-COMMONMARK = 0x37e1f
-FIRST_OF_ITEM = 0x100000
+sys.path.insert(0, os.path.join(os.path.dirname(os.path.abspath(__file__)), '..', 'python', 'markdown_inline'))
+from _tables import COMMONMARK, GFM, MATH, OPTIONS  # noqa: E402
+
+CONSTRUCTS = list(OPTIONS)
+FIRST_OF_ITEM = OPTIONS['first_of_item']
+# Off by default, and drawn as often as not.
+RARE = sum(OPTIONS[name] for name in ('attention_first_lengths', 'label_shortcut_before_bracket', 'first_of_item'))
 PARTS = ['a', 'bc', 'é', '漢', '😀', ' ', '  ', '\t', '*', '**', '_', '~', '~~', '`', '``', '$', '$$', '[', ']', '![', '](', ')', '(', '<', '>', '"', "'",
          '\\', '&', ';', '!', '#', '@', ':', '.', '/', '[x] ', '[a]', '[^n]', '[b c][]', '[d](e "f")', '![g](<h i>)', '&amp;', '&#65;', '&#x1f4a9;', '&copy;',
          '&nosuch;', '<https://j.k>', '<l@m.n>', 'https://o.p/q', 'www.r.s', 't@u.v', '<w x="y">', '</z>', '<!-- c -->', '<?p?>', '\\*', '\\\n', '  \n', '\n',
@@ -56,8 +58,8 @@ def case(draw):
         document, pieces = pieces_of(draw, text)
     else:
         document, pieces = text.encode(), [((0, 0), (len(text.encode()), 0))]
-    bits = COMMONMARK | 0x1e0 * draw.randrange(2) | 0x8000 * draw.randrange(2) | 0x1c0000 & draw.getrandbits(21)
-    bits ^= sum(1 << at for at in range(18) if draw.random() < 0.04)
+    bits = COMMONMARK | GFM * draw.randrange(2) | MATH * draw.randrange(2) | RARE & draw.getrandbits(len(OPTIONS))
+    bits ^= sum(bit for bit in OPTIONS.values() if not bit & RARE and draw.random() < 0.04)
     how = 'string' if draw.random() < 0.15 else 'text'
     labels = [] if how == 'string' else draw.sample(LABELS, draw.randrange(4))
     notes = [] if how == 'string' else draw.sample(NOTES, draw.randrange(3))
