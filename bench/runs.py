@@ -3,16 +3,20 @@ import os
 import re
 import resource
 import shutil
+import statistics
 import subprocess
 import sys
 import tempfile
 
 HERE = os.path.dirname(os.path.dirname(os.path.abspath(__file__)))
 MDINLINE = os.path.join(HERE, 'crates', 'mdinline', 'out', 'mdinline')
-COUNT = os.path.join(HERE, 'crates', 'mdinline_count', 'out', 'mdinline_count')
-# The function of `mdinline_count` that a run is called in.
-COUNTED = 'mdinline_count::count'
+FOLDER = os.path.join(HERE, 'crates', 'mdinline_contents')
+CONTENTS = os.path.join(FOLDER, 'out', 'mdinline_contents')
+# The function of `mdinline_contents` that a run over a whole document is called in.
+COUNTED = 'mdinline_contents::count_runs'
 TIME = '/usr/bin/time'
+# How often memory is measured: what a run holds varies by some pages.
+RUNS = 9
 # What has the C library copy by many instructions, and not by one that callgrind counts once for each byte.
 SMALL_COPIES = {'GLIBC_TUNABLES': 'glibc.cpu.x86_rep_movsb_threshold=%d' % (1 << 30)}
 
@@ -30,7 +34,7 @@ class Program:
         return (given.text if self.ours else given.document()).encode()
 
 
-LIBRARY = Program('library', [COUNT], ours=True, function=COUNTED)
+LIBRARY = Program('library', [CONTENTS, 'documents'], ours=True, function=COUNTED)
 WHOLE = Program('mdinline', [MDINLINE, 'text', 'gfm', 'math'], ours=True, prefix='label=')
 OTHERS = [
     Program('cmark', ['cmark']),
@@ -45,7 +49,7 @@ def say(text):
 
 def build():
     """Proves and builds our two programs, where that is not done yet."""
-    for command, folder in ((['./mdinline', '--prove'], HERE), (['rt', 'run'], os.path.join(HERE, 'crates', 'mdinline_count'))):
+    for command, folder in ((['./mdinline', '--prove'], HERE), (['rt', 'run'], FOLDER)):
         done = subprocess.run(command, cwd=folder, stdin=subprocess.DEVNULL, stdout=subprocess.PIPE, stderr=subprocess.PIPE)
         if done.returncode != 0:
             sys.exit(done.stderr.decode() + 'the programs were not built')
@@ -131,13 +135,18 @@ def instructions(program, given, seconds=300, small_copies=False):
 
 
 def peak(program, given):
-    """The most memory that a run holds, in bytes, less that for a document of one letter; none where `time` is not installed."""
+    """The most memory that a run holds, in bytes, less that for a document of one letter, the median of some runs; none where `time` is not
+    installed."""
     if not os.path.exists(TIME):
         return None
-    def held(what):
+    def once(what):
         command = [TIME, '-f', '%M'] + program.call(what)
         done = subprocess.run(command, input=program.bytes_of(what), stdout=subprocess.DEVNULL, stderr=subprocess.PIPE)
         return int(done.stderr.split()[-1]) * 1024
+
+    def held(what):
+        return statistics.median(once(what) for _ in range(RUNS))
+
     return max(held(given) - held(Empty()), 0)
 
 
