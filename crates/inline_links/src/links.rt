@@ -2,7 +2,7 @@
 
 use crate::definition::Target;
 use crate::strings::one_line;
-use markdown_inline::configuration::{Constructs, ParseOptions};
+use markdown_inline::configuration::{COMMONMARK, Constructs, ParseOptions};
 use markdown_inline::definitions::Definitions;
 use markdown_inline::document::Document;
 use markdown_inline::event::{Event, Name, Point};
@@ -17,22 +17,8 @@ use std::alloc::{AllocError, Global};
 /// The constructs and the rules of CommonMark, and autolink literals: the options that `mdinline` calls `cm-lengths` and `cm-shortcut` are on.
 pub const OPTIONS: ParseOptions = ParseOptions {
     constructs: Constructs {
-        attention: true,
-        autolink: true,
-        character_escape: true,
-        character_reference: true,
-        code_text: true,
         gfm_autolink_literal: true,
-        gfm_label_start_footnote: false,
-        gfm_strikethrough: false,
-        gfm_task_list_item: false,
-        hard_break_escape: true,
-        hard_break_trailing: true,
-        html_text: true,
-        label_start_image: true,
-        label_start_link: true,
-        label_end: true,
-        math_text: false,
+        ..COMMONMARK
     },
     gfm_strikethrough_single_tilde: true,
     math_text_single_dollar: true,

@@ -1,6 +1,7 @@
 -- The definitions of this crate.
 -- What has to be believed: what public contracts and the theorem cite.
 pub mod DefaultOptions
+pub mod EventNames
 pub mod Codes
 pub mod Content
 pub mod DocumentWalk

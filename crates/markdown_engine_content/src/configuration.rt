@@ -1,5 +1,89 @@
 // What a run is asked to look for.
 
+ghost use Rattle.std.specs.Prelude.{◌≡◌};
+ghost use Rattle.markdown_engine_content.specs.DefaultOptions.{constructs_of, has_option, options_of};
+
+/// The switch of each construct by its name, and its bit.
+pub const CONSTRUCTS: [(&str, u32); 16] = [
+    ("attention", 0x1),
+    ("autolink", 0x2),
+    ("character_escape", 0x4),
+    ("character_reference", 0x8),
+    ("code_text", 0x10),
+    ("gfm_autolink_literal", 0x20),
+    ("gfm_label_start_footnote", 0x40),
+    ("gfm_strikethrough", 0x80),
+    ("gfm_task_list_item", 0x100),
+    ("hard_break_escape", 0x200),
+    ("hard_break_trailing", 0x400),
+    ("html_text", 0x800),
+    ("label_start_image", 0x1000),
+    ("label_start_link", 0x2000),
+    ("label_end", 0x4000),
+    ("math_text", 0x8000),
+];
+
+/// The other switches by their names, and their bits.
+pub const SETTINGS: [(&str, u32); 4] = [
+    ("gfm_strikethrough_single_tilde", 0x1_0000),
+    ("math_text_single_dollar", 0x2_0000),
+    ("attention_first_lengths", 0x4_0000),
+    ("label_shortcut_before_bracket", 0x8_0000),
+];
+
+/// The bits of CommonMark's constructs, and of the settings that are on by default.
+pub const DEFAULT_BITS: u32 = 0x3_7E1F;
+
+/// The lowest number with a bit that is none of an option. The bit 0x10_0000 says that a text is the first of a list item.
+pub const UNKNOWN_OPTION: u32 = 0x20_0000;
+
+/// All constructs.
+pub const ALL_CONSTRUCTS: Constructs = Constructs {
+    attention: true,
+    autolink: true,
+    character_escape: true,
+    character_reference: true,
+    code_text: true,
+    gfm_autolink_literal: true,
+    gfm_label_start_footnote: true,
+    gfm_strikethrough: true,
+    gfm_task_list_item: true,
+    hard_break_escape: true,
+    hard_break_trailing: true,
+    html_text: true,
+    label_start_image: true,
+    label_start_link: true,
+    label_end: true,
+    math_text: true,
+};
+
+/// CommonMark's constructs.
+pub const COMMONMARK: Constructs = Constructs {
+    attention: true,
+    autolink: true,
+    character_escape: true,
+    character_reference: true,
+    code_text: true,
+    gfm_autolink_literal: false,
+    gfm_label_start_footnote: false,
+    gfm_strikethrough: false,
+    gfm_task_list_item: false,
+    hard_break_escape: true,
+    hard_break_trailing: true,
+    html_text: true,
+    label_start_image: true,
+    label_start_link: true,
+    label_end: true,
+    math_text: false,
+};
+
+/// Whether the options have this bit.
+pub fn has_option(options: u32, bit: u32) -> bool
+    ensures { result ≡ has_option options bit }
+{
+    options & bit != 0
+}
+
 /// The constructs that are looked for, each by a switch.
 ///
 /// A construct whose switch is off never holds; what it would have taken is left to others, and in the end is data.
@@ -39,32 +123,40 @@ pub struct Constructs {
     pub math_text: bool,
 }
 
+impl Constructs {
+    /// The constructs that these bits switch on.
+    pub fn of_bits(options: u32) -> Constructs
+        ensures { result ≡ constructs_of options }
+    {
+        Constructs {
+            attention: has_option(options, 0x1),
+            autolink: has_option(options, 0x2),
+            character_escape: has_option(options, 0x4),
+            character_reference: has_option(options, 0x8),
+            code_text: has_option(options, 0x10),
+            gfm_autolink_literal: has_option(options, 0x20),
+            gfm_label_start_footnote: has_option(options, 0x40),
+            gfm_strikethrough: has_option(options, 0x80),
+            gfm_task_list_item: has_option(options, 0x100),
+            hard_break_escape: has_option(options, 0x200),
+            hard_break_trailing: has_option(options, 0x400),
+            html_text: has_option(options, 0x800),
+            label_start_image: has_option(options, 0x1000),
+            label_start_link: has_option(options, 0x2000),
+            label_end: has_option(options, 0x4000),
+            math_text: has_option(options, 0x8000),
+        }
+    }
+}
+
 impl Default for Constructs {
-    ghost use Rattle.std.specs.Prelude.{◌≡◌};
     ghost use Rattle.markdown_engine_content.specs.DefaultOptions.{default_constructs};
 
     ghost is_default = { λ c. c ≡ default_constructs };
 
     /// CommonMark's constructs.
     fn default() -> Constructs {
-        Constructs {
-            attention: true,
-            autolink: true,
-            character_escape: true,
-            character_reference: true,
-            code_text: true,
-            gfm_autolink_literal: false,
-            gfm_label_start_footnote: false,
-            gfm_strikethrough: false,
-            gfm_task_list_item: false,
-            hard_break_escape: true,
-            hard_break_trailing: true,
-            html_text: true,
-            label_start_image: true,
-            label_start_link: true,
-            label_end: true,
-            math_text: false,
-        }
+        COMMONMARK
     }
 }
 
@@ -83,8 +175,22 @@ pub struct ParseOptions {
     pub label_shortcut_before_bracket: bool,
 }
 
+impl ParseOptions {
+    /// What these bits ask for.
+    pub fn of_bits(options: u32) -> ParseOptions
+        ensures { result ≡ options_of options }
+    {
+        ParseOptions {
+            constructs: Constructs::of_bits(options),
+            gfm_strikethrough_single_tilde: has_option(options, 0x1_0000),
+            math_text_single_dollar: has_option(options, 0x2_0000),
+            attention_first_lengths: has_option(options, 0x4_0000),
+            label_shortcut_before_bracket: has_option(options, 0x8_0000),
+        }
+    }
+}
+
 impl Default for ParseOptions {
-    ghost use Rattle.std.specs.Prelude.{◌≡◌};
     ghost use Rattle.markdown_engine_content.specs.DefaultOptions.{default_options};
 
     ghost is_default = { λ o. o ≡ default_options };

@@ -147,6 +147,89 @@ pub enum Name {
     StrongText,
 }
 
+/// How many names there are.
+pub const NAMES: usize = 70;
+
+/// The names of all events in the order of their numbers, handed to the macro that is named, behind the words that come after its name.
+#[macro_export]
+macro_rules! event_names {
+    ($of_names:ident $($more:tt)*) => {
+        $of_names! {
+            $($more)*
+            AttentionSequence
+            Autolink
+            AutolinkEmail
+            AutolinkMarker
+            AutolinkProtocol
+            CharacterEscape
+            CharacterEscapeMarker
+            CharacterEscapeValue
+            CharacterReference
+            CharacterReferenceMarker
+            CharacterReferenceMarkerHexadecimal
+            CharacterReferenceMarkerNumeric
+            CharacterReferenceMarkerSemi
+            CharacterReferenceValue
+            CodeText
+            CodeTextData
+            CodeTextSequence
+            Data
+            Emphasis
+            EmphasisSequence
+            EmphasisText
+            GfmAutolinkLiteralEmail
+            GfmAutolinkLiteralMailto
+            GfmAutolinkLiteralProtocol
+            GfmAutolinkLiteralWww
+            GfmAutolinkLiteralXmpp
+            GfmFootnoteCall
+            GfmFootnoteCallLabel
+            GfmFootnoteCallMarker
+            GfmStrikethrough
+            GfmStrikethroughSequence
+            GfmStrikethroughText
+            GfmTaskListItemCheck
+            GfmTaskListItemMarker
+            GfmTaskListItemValueChecked
+            GfmTaskListItemValueUnchecked
+            HardBreakEscape
+            HardBreakTrailing
+            HtmlText
+            HtmlTextData
+            Image
+            Label
+            LabelEnd
+            LabelImage
+            LabelImageMarker
+            LabelLink
+            LabelMarker
+            LabelText
+            LineEnding
+            Link
+            MathText
+            MathTextData
+            MathTextSequence
+            Reference
+            ReferenceMarker
+            ReferenceString
+            Resource
+            ResourceDestination
+            ResourceDestinationLiteral
+            ResourceDestinationLiteralMarker
+            ResourceDestinationRaw
+            ResourceDestinationString
+            ResourceMarker
+            ResourceTitle
+            ResourceTitleMarker
+            ResourceTitleString
+            SpaceOrTab
+            Strong
+            StrongSequence
+            StrongText
+        }
+    };
+}
+
 /// Whether an event begins or ends what it names.
 #[derive(Clone, Copy, Debug, PartialEq, Eq)]
 pub enum Kind {

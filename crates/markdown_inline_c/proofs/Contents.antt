@@ -8,7 +8,8 @@ use Rattle.markdown_engine_content.specs.declared.parser.ParseState.{ParseState}
 use Rattle.markdown_model.specs.Setting.{Setting}
 use Rattle.markdown_run_text.specs.RunSetting.{setting_of}
 use Rattle.markdown_util.specs.Reference.{html_5_rows}
-use Rattle.markdown_inline_c.specs.FlatInput.{identifiers, options_of, text_setting}
+use Rattle.markdown_engine_content.specs.DefaultOptions.{options_of}
+use Rattle.markdown_inline_c.specs.FlatInput.{identifiers, text_setting}
 use Rattle.markdown_inline_c.specs.FlatTexts.{IsTextAt, ends_after, events_at, events_of_all}
 use Rattle.markdown_inline_c.specs.Statuses.{IsContentAtFault, IsFirstFault}
 use Rattle.markdown_inline_c.specs.declared.fault.Fault.{Fault}

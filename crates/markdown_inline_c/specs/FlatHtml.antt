@@ -2,11 +2,13 @@
 use Rattle.std.specs.Prelude.{◌≡◌, ◌⊎◌, ℕ, ◌<◌, Bool, ◌==◌, if◌then◌else◌, List, [], ◌∷◌, length, Option, None, Some}
 use Rattle.std.specs.List.{All}
 use Rattle.markdown_engine_content.specs.Content.{content_of}
+use Rattle.markdown_engine_content.specs.DefaultOptions.{has_option, options_of}
 use Rattle.markdown_html_model.specs.Html.{Defined, Page, html}
 use Rattle.markdown_html_model.specs.declared.options.HtmlOptions.{HtmlOptions}
+use Rattle.markdown_html_model.specs.declared.options.LineEnds.{LineEnds}
 use Rattle.markdown_model.specs.InlineTree.{text_tree}
 use Rattle.markdown_util.specs.Identifier.{identifier_of}
-use Rattle.markdown_inline_c.specs.FlatInput.{has_option, IsLabel, IsTextInput, options_of, pieces_of, range_bytes, text_setting}
+use Rattle.markdown_inline_c.specs.FlatInput.{IsLabel, IsTextInput, pieces_of, range_bytes, text_setting}
 use Rattle.markdown_inline_c.specs.declared.flat.FlatTarget.{FlatTarget}
 use Rattle.markdown_inline_c.specs.declared.flat.Input.{Input}
 use Rattle.markdown_inline_c.specs.declared.flat.Range.{Range}
@@ -18,7 +20,7 @@ abbrev pub AreKnownForHtml : ℕ → Type 0
 AreKnownForHtml options = options < 4
 
 abbrev pub html_options_of : ℕ → HtmlOptions
-html_options_of o = record { raw_html = has_option o 0x1; any_link = has_option o 0x2 }
+html_options_of o = record { raw_html = has_option o 0x1; any_link = has_option o 0x2; line_ends = LineEnds.Kept }
 
 -- Where definitions lead.
 
@@ -60,9 +62,9 @@ page i targets options = record {
   options = html_options_of options;
 }
 
--- the HTML of the tree of the input's pieces as a text
+-- the HTML of the tree of the input's pieces as a text, with no footnote calls before it
 abbrev pub html_of : Input → List FlatTarget → ℕ → List ℕ
-html_of i targets options = html (page i targets options) (text_tree (text_setting i) (content_of i.bytes.now (pieces_of i.pieces.now)))
+html_of i targets options = html (page i targets options) [] (text_tree (text_setting i) (content_of i.bytes.now (pieces_of i.pieces.now)))
 
 -- an input that can be written as HTML
 pub record IsHtmlInput (i : Input) (targets : List FlatTarget) (options : ℕ) : Type 0 where

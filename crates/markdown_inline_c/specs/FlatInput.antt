@@ -1,8 +1,8 @@
 -- What a caller in C hands in.
-use Rattle.std.specs.Prelude.{ℕ, ◌<◌, ◌≤◌, Bool, false, not, ◌==◌, List, [], map, length, slice_range, bit_and, IsUtf8}
+use Rattle.std.specs.Prelude.{ℕ, ◌≤◌, false, List, [], map, length, slice_range, IsUtf8}
 use Rattle.std.specs.List.{All}
 use Rattle.markdown_engine_content.specs.Content.{IsContent, IsTextContent}
-use Rattle.markdown_engine_content.specs.declared.configuration.ParseOptions.{ParseOptions}
+use Rattle.markdown_engine_content.specs.DefaultOptions.{AreKnown, has_option, options_of}
 use Rattle.markdown_engine_content.specs.declared.parser.Piece.{Piece}
 use Rattle.markdown_model.specs.Setting.{Setting}
 use Rattle.markdown_util.specs.Identifier.{identifier_of}
@@ -21,41 +21,6 @@ pieces_of pieces = map piece_of pieces
 abbrev pub pieces_listed : Pieces → List Piece
 pieces_listed (Pieces.One pieces) = pieces
 pieces_listed (Pieces.Many pieces) = pieces.items
-
--- Options, each by a bit.
-
-abbrev pub has_option : ℕ → ℕ → Bool
-has_option options bit = not (bit_and options bit == 0)
-
--- each bit is one of an option
-abbrev pub AreKnown : ℕ → Type 0
-AreKnown options = options < 0x20_0000
-
-abbrev pub options_of : ℕ → ParseOptions
-options_of o = record {
-  constructs = record {
-    attention = has_option o 0x1;
-    autolink = has_option o 0x2;
-    character_escape = has_option o 0x4;
-    character_reference = has_option o 0x8;
-    code_text = has_option o 0x10;
-    gfm_autolink_literal = has_option o 0x20;
-    gfm_label_start_footnote = has_option o 0x40;
-    gfm_strikethrough = has_option o 0x80;
-    gfm_task_list_item = has_option o 0x100;
-    hard_break_escape = has_option o 0x200;
-    hard_break_trailing = has_option o 0x400;
-    html_text = has_option o 0x800;
-    label_start_image = has_option o 0x1000;
-    label_start_link = has_option o 0x2000;
-    label_end = has_option o 0x4000;
-    math_text = has_option o 0x8000;
-  };
-  gfm_strikethrough_single_tilde = has_option o 0x1_0000;
-  math_text_single_dollar = has_option o 0x2_0000;
-  attention_first_lengths = has_option o 0x4_0000;
-  label_shortcut_before_bracket = has_option o 0x8_0000;
-}
 
 -- Labels of definitions, each by where it stands among bytes.
 

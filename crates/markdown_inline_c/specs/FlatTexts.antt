@@ -2,12 +2,13 @@
 use Rattle.std.specs.Prelude.{◌≡◌, ℕ, ◌+◌, ◌≤◌, Bool, not, ◌==◌, List, [], ◌∷◌, ◌++◌, length, map, slice_range}
 use Rattle.std.specs.List.{All, flat_map}
 use Rattle.markdown_engine_content.specs.Content.{IsContent, IsTextContent}
+use Rattle.markdown_engine_content.specs.DefaultOptions.{AreKnown}
 use Rattle.markdown_engine_content.specs.KnownPlaces.{IsDocument}
 use Rattle.markdown_engine_content.specs.declared.parser.Piece.{Piece}
 use Rattle.markdown_model.specs.InlineTree.{text_events}
 use Rattle.markdown_model.specs.Setting.{Setting}
 use Rattle.markdown_inline_c.specs.FlatEvents.{flat_event}
-use Rattle.markdown_inline_c.specs.FlatInput.{AreKnown, AreLabels, pieces_of, text_setting}
+use Rattle.markdown_inline_c.specs.FlatInput.{AreLabels, pieces_of, text_setting}
 use Rattle.markdown_inline_c.specs.declared.flat.FlatContent.{FlatContent}
 use Rattle.markdown_inline_c.specs.declared.flat.FlatEvent.{FlatEvent}
 use Rattle.markdown_inline_c.specs.declared.flat.FlatPiece.{FlatPiece}

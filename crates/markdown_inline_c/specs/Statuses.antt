@@ -2,10 +2,11 @@
 use Rattle.std.specs.Prelude.{◌≡◌, ◌⊎◌, ℕ, ◌<◌, ◌≤◌, false, List, length, IsUtf8}
 use Rattle.std.specs.Option.{is_some}
 use Rattle.markdown_engine_content.specs.Content.{document_limit, IsContent, IsTextContent}
+use Rattle.markdown_engine_content.specs.DefaultOptions.{AreKnown}
 use Rattle.markdown_engine_content.specs.declared.parser.Piece.{Piece}
 use Rattle.markdown_engine_content.specs.KnownPlaces.{IsDocument}
 use Rattle.markdown_inline_c.specs.FlatHtml.{AreKnownForHtml, AreTargets}
-use Rattle.markdown_inline_c.specs.FlatInput.{AreKnown, AreLabels, IsTextInput, pieces_of}
+use Rattle.markdown_inline_c.specs.FlatInput.{AreLabels, IsTextInput, pieces_of}
 use Rattle.markdown_inline_c.specs.FlatTexts.{IsContentAt, IsTextAt, AreTextsBefore}
 use Rattle.markdown_inline_c.specs.References.{reference_value}
 use Rattle.markdown_inline_c.specs.declared.fault.Fault.{Fault}

@@ -1,7 +1,8 @@
 // What crosses to C: structs of numbers and of arrays.
 
 ghost use Rattle.std.specs.Prelude.{◌≡◌};
-ghost use Rattle.markdown_inline_c.specs.FlatEvents.{flat_event, kind_number, link_number, name_number, number_or_max};
+ghost use Rattle.markdown_engine_content.specs.EventNames.{name_number};
+ghost use Rattle.markdown_inline_c.specs.FlatEvents.{flat_event, kind_number, link_number, number_or_max};
 ghost use Rattle.markdown_inline_c.specs.FlatInput.{piece_of};
 
 use markdown_engine_content::event::{Content, Event, Kind, Name};

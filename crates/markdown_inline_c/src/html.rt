@@ -11,11 +11,13 @@ ghost use Rattle.markdown_util.specs.Identifier.{identifier_of};
 
 use crate::fault::Fault;
 use crate::flat::{FlatTarget, Input, Range};
-use crate::input::{self, has_option, options_of, text_of};
+use crate::input::{self, text_of};
+use markdown_engine_content::configuration::{ParseOptions, has_option};
 use markdown_engine_content::parser::ParseState;
+use markdown_html::footnotes::FootnoteCalls;
 use markdown_html::targets::Targets;
 use markdown_html::to_html;
-use markdown_html_model::options::{Definition, HtmlOptions};
+use markdown_html_model::options::{Definition, HtmlOptions, LineEnds};
 use markdown_util::util::normalize_identifier::normalize_identifier;
 use std::alloc::{AllocError, Global};
 
@@ -33,6 +35,7 @@ fn known_options(options: u32) -> Result<HtmlOptions, Fault>
     Ok(HtmlOptions {
         raw_html: has_option(options, 0x1),
         any_link: has_option(options, 0x2),
+        line_ends: LineEnds::Kept,
     })
 }
 
@@ -132,7 +135,7 @@ fn definitions(alloc: Global, input: &Input, targets: &[FlatTarget]) -> Result<T
     definitions_of(alloc, input.labels, input.definitions, targets)
 }
 
-/// The HTML of the tree of the input as a text, or why it is refused.
+/// The HTML of the tree of the input as a text, or why it is refused. Footnotes are numbered from 1 on.
 pub fn html(
     alloc: Global,
     input: &Input,
@@ -146,7 +149,7 @@ pub fn html(
     let allowed = known_options(options)?;
     let run = input::text(alloc, input)?;
     let definitions = definitions(alloc, input, targets)?;
-    let options = options_of(input.options);
+    let options = ParseOptions::of_bits(input.options);
     let parse_state = ParseState {
         bytes: input.bytes,
         options: &options,
@@ -158,6 +161,7 @@ pub fn html(
         &parse_state,
         run.events.as_slice(),
         &definitions,
+        &mut FootnoteCalls::new(alloc),
         allowed,
     )?)
 }

@@ -2,63 +2,25 @@
 
 ghost use Rattle.std.specs.Prelude.{◌≡◌, ◌⊎◌, ◌<◌, ◌∷◌, ◌++◌, [], IfErr, IfNone, IfOk, IfSome, OnOk, map, string_bytes};
 ghost use Rattle.std.specs.List.{All};
+ghost use Rattle.markdown_engine_content.specs.DefaultOptions.{AreKnown, options_of};
 ghost use Rattle.markdown_model.specs.InlineTree.{string_events, text_events};
 ghost use Rattle.markdown_run_leaves.specs.InnermostEvents.{innermost, IsInOrder};
 ghost use Rattle.markdown_util.specs.Identifier.{identifier_of};
-ghost use Rattle.markdown_inline_c.specs.FlatInput.{has_option, identifiers, IsLabel, options_of, pieces_of, range_bytes, string_setting, text_setting, IsStringInput, IsTextInput, AreKnown};
+ghost use Rattle.markdown_inline_c.specs.FlatInput.{identifiers, IsLabel, pieces_of, range_bytes, string_setting, text_setting, IsStringInput, IsTextInput};
 ghost use Rattle.markdown_inline_c.specs.Statuses.{IsStringFault, IsTextFault};
 ghost use Rattle.markdown_inline_c.specs.declared.fault.Fault.TheVariants.{Definition, Memory, UnknownOption};
 
 use crate::check::{Pieces, check_content, check_text};
 use crate::fault::Fault;
 use crate::flat::{Input, Range};
-use markdown_engine_content::configuration::{Constructs, ParseOptions};
+use markdown_engine_content::configuration::{ParseOptions, UNKNOWN_OPTION, has_option};
 use markdown_engine_content::parser::ParseState;
 use markdown_run::run::{self, Run};
 use markdown_util::util::normalize_identifier::normalize_identifier;
 use std::alloc::{AllocError, Global};
 
-// The lowest number with a bit that is none of an option.
-const UNKNOWN_OPTION: u32 = 0x20_0000;
-
 // The bit that says that the text is the first of a list item.
 const FIRST_OF_ITEM: u32 = 0x10_0000;
-
-pub(crate) fn has_option(options: u32, bit: u32) -> bool
-    ensures { result ≡ has_option options bit }
-{
-    options & bit != 0
-}
-
-// What the bits ask for.
-pub(crate) fn options_of(options: u32) -> ParseOptions
-    ensures { result ≡ options_of options }
-{
-    ParseOptions {
-        constructs: Constructs {
-            attention: has_option(options, 0x1),
-            autolink: has_option(options, 0x2),
-            character_escape: has_option(options, 0x4),
-            character_reference: has_option(options, 0x8),
-            code_text: has_option(options, 0x10),
-            gfm_autolink_literal: has_option(options, 0x20),
-            gfm_label_start_footnote: has_option(options, 0x40),
-            gfm_strikethrough: has_option(options, 0x80),
-            gfm_task_list_item: has_option(options, 0x100),
-            hard_break_escape: has_option(options, 0x200),
-            hard_break_trailing: has_option(options, 0x400),
-            html_text: has_option(options, 0x800),
-            label_start_image: has_option(options, 0x1000),
-            label_start_link: has_option(options, 0x2000),
-            label_end: has_option(options, 0x4000),
-            math_text: has_option(options, 0x8000),
-        },
-        gfm_strikethrough_single_tilde: has_option(options, 0x1_0000),
-        math_text_single_dollar: has_option(options, 0x2_0000),
-        attention_first_lengths: has_option(options, 0x4_0000),
-        label_shortcut_before_bracket: has_option(options, 0x8_0000),
-    }
-}
 
 // What is asked for, if each bit is one of an option.
 pub(crate) fn known_options(options: u32) -> Result<ParseOptions, Fault>
@@ -68,7 +30,7 @@ pub(crate) fn known_options(options: u32) -> Result<ParseOptions, Fault>
     if options >= UNKNOWN_OPTION {
         return Err(Fault::UnknownOption);
     }
-    Ok(options_of(options))
+    Ok(ParseOptions::of_bits(options))
 }
 
 // The text of a range, if it is one.

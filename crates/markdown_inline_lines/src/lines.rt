@@ -3,7 +3,8 @@ ghost use Rattle.std.specs.Prelude.{◌≡◌, [], ◌++◌, ◌+◌, ◌-◌, �
 ghost use Rattle.markdown_inline_lines.specs.PrintedLines.{words_text, content_text, number_text, point_text, rest_text, link_text, line_of, lines_of};
 
 use itoa::{Buffer, write_digits};
-use markdown_engine_content::event::{Content, Event, Kind, Link, Name, Point};
+use markdown_engine_content::event::{Content, Event, Kind, Link, NAMES, Name, Point};
+use markdown_engine_content::event_names;
 use std::alloc::{AllocError, Global};
 use std::marker::Model;
 
@@ -19,85 +20,6 @@ const MOSTLY: usize = 40;
 // How many bytes of lines are collected before they are added to the output.
 const COLLECTED: usize = 4096;
 
-// The names of all events in the order of their numbers, handed to the macro that is named, behind the words that come after its name.
-macro_rules! all_names {
-    ($of_names:ident $($more:tt)*) => {
-        $of_names! {
-            $($more)*
-            AttentionSequence
-            Autolink
-            AutolinkEmail
-            AutolinkMarker
-            AutolinkProtocol
-            CharacterEscape
-            CharacterEscapeMarker
-            CharacterEscapeValue
-            CharacterReference
-            CharacterReferenceMarker
-            CharacterReferenceMarkerHexadecimal
-            CharacterReferenceMarkerNumeric
-            CharacterReferenceMarkerSemi
-            CharacterReferenceValue
-            CodeText
-            CodeTextData
-            CodeTextSequence
-            Data
-            Emphasis
-            EmphasisSequence
-            EmphasisText
-            GfmAutolinkLiteralEmail
-            GfmAutolinkLiteralMailto
-            GfmAutolinkLiteralProtocol
-            GfmAutolinkLiteralWww
-            GfmAutolinkLiteralXmpp
-            GfmFootnoteCall
-            GfmFootnoteCallLabel
-            GfmFootnoteCallMarker
-            GfmStrikethrough
-            GfmStrikethroughSequence
-            GfmStrikethroughText
-            GfmTaskListItemCheck
-            GfmTaskListItemMarker
-            GfmTaskListItemValueChecked
-            GfmTaskListItemValueUnchecked
-            HardBreakEscape
-            HardBreakTrailing
-            HtmlText
-            HtmlTextData
-            Image
-            Label
-            LabelEnd
-            LabelImage
-            LabelImageMarker
-            LabelLink
-            LabelMarker
-            LabelText
-            LineEnding
-            Link
-            MathText
-            MathTextData
-            MathTextSequence
-            Reference
-            ReferenceMarker
-            ReferenceString
-            Resource
-            ResourceDestination
-            ResourceDestinationLiteral
-            ResourceDestinationLiteralMarker
-            ResourceDestinationRaw
-            ResourceDestinationString
-            ResourceMarker
-            ResourceTitle
-            ResourceTitleMarker
-            ResourceTitleString
-            SpaceOrTab
-            Strong
-            StrongSequence
-            StrongText
-        }
-    };
-}
-
 // The words of the events of one kind, by the numbers of their names, and how long they are. Spaces stand behind them, so that all are as long
 // as what a line copies.
 macro_rules! words_of {
@@ -109,9 +31,9 @@ macro_rules! words_of {
     };
 }
 
-static ENTERS: [(&str, usize); 70] = all_names!(words_of "Enter");
+static ENTERS: [(&str, usize); NAMES] = event_names!(words_of "Enter");
 
-static EXITS: [(&str, usize); 70] = all_names!(words_of "Exit");
+static EXITS: [(&str, usize); NAMES] = event_names!(words_of "Exit");
 
 // Whether an event begins or ends, its name, and spaces, at least 48 bytes; and how many bytes the words are, without the spaces behind them.
 fn words_of(kind: Kind, name: Name) -> (&'static str, usize)
