@@ -3,8 +3,8 @@ use Rattle.std.proofs.Common.{suc, zero, ◌≡◌, ◌≢◌, ℕ, ◌+◌, ◌
 use Rattle.std.specs.List.{All}
 use Rattle.std.specs.Option.{option_map}
 use Rattle.std.proofs.lemmas.Option.{slice_get-get_or}
-use Rattle.std.proofs.Math.Seq.{paste, take-append_seam}
-use Rattle.std.proofs.lemmas.List.{take-append-drop, append-nil, length-take, length-drop, drop_more, drop-drop, take_all, drop_all, take_more, take_rest, length-map}
+use Rattle.std.proofs.Math.Seq.{paste}
+use Rattle.std.proofs.lemmas.List.{take-append-drop, append-nil, length-take, length-drop, drop_more, drop-drop, take_all, drop_all, take_more, length-map}
 use Rattle.std.proofs.lemmas.List.Edits.{length-paste, take-paste}
 use Rattle.std.proofs.lemmas.List.Elements.{All-take, All-drop, All-append}
 use Rattle.std.proofs.lemmas.List.Sums.{sum_by_push, sum_by-cons, sum_by-take-le}
@@ -16,7 +16,7 @@ use Rattle.markdown_engine_events.specs.declared.util.edit_map.Entry.{Entry}
 use Rattle.markdown_engine_events.specs.EventChains.{NamesNone, previous_of, with_previous, bares, OnlyEnters, IsFresh, IsUnlinked, IsLinked, IsNoted}
 use Rattle.markdown_engine_events.proofs.EventChainLemmas.{fresh-unnamed, fresh-of, unlinked-fresh}
 use Rattle.markdown_engine_events.proofs.EditLemmas.{added-zero, added-more, added-unlinked, some-none, Each}
-use Rattle.markdown_engine_events.specs.Edits.{edit_of, kept, removed_at, added_at, removed_by, is_removed, moved, edited_from, edited, grown, StandApart, AreGrowing, AreShrinking, AddsUnlinked, IsRest, added_up_to, removed_before, moved_number}
+use Rattle.markdown_engine_events.specs.Edits.{edit_of, kept, removed_at, added_at, removed_by, is_removed, moved, edited_from, edited, grown, StandApart, AreGrowing, AddsUnlinked, IsRest, added_up_to, removed_before, moved_number}
 use Rattle.markdown_engine_events.proofs.EditRules.{nil-from, stays-where, goes-where, added-none, removed-none, added-first, added-second, edited_until, edited-split}
 use Rattle.markdown_engine_events.proofs.EditOrder.{one-comes, at-place, at-other, entry, kept-read, next-from}
 use Rattle.markdown_lists.proofs.PastedParts.{take-take-le, part-same, pasted-front, pasted-back, pasted-past}
@@ -277,59 +277,58 @@ module _ (cs : List Event) (E : List Entry) (i count : ℕ) (within : i < length
   pub next-above : (read : ℕ) → All (λ x. read ≤ x.at) (drop i (kept cs E)) → read ≤ (edit_of cs (entry E i)).at
   next-above read ahead = next-from cs E i read within ahead
 
-  pub next-shrinks : AreShrinking (kept cs E) → length (edit_of cs (entry E i)).events ≤ (edit_of cs (entry E i)).remove
-  next-shrinks shrinking =
-      let e = edit_of cs (entry E i) in
-      let size = length-map E (edit_of cs) in
-      let h = shrinking i e (omega arith) in
-      subst (λ x. length x.events ≤ x.remove) (kept-read cs E i within e) h
+  -- what the edits from the i-th on bring beyond what they remove
+  pub next-grown : grown (drop i (kept cs E)) ≡ (length (edit_of cs (entry E i)).events - (edit_of cs (entry E i)).remove) + grown (drop (i + 1) (kept cs E))
+  next-grown =
+      ap grown (first-of cs E i count within apart) ∙ sum_by-cons (λ e. length e.events - e.remove) (edit_of cs (entry E i)) (drop (i + 1) (kept cs E))
 
   pub next-ahead : All (λ x. (edit_of cs (entry E i)).at + (edit_of cs (entry E i)).remove ≤ x.at) (drop (i + 1) (kept cs E))
   next-ahead = λ k d l. let b = ahead-behind cs E i count within apart k d l in omega arith
 
-  -- A list that is filled from its front, after one edit more.
-  pub squeeze-front : (es items moved_items filled : List Event) (xs : List Event) (read end : ℕ) → length es ≡ count → length items ≡ count → All NamesNone es →
-      end ≤ read → All (λ x. read ≤ x.at) (drop i (kept cs E)) → length xs ≤ (edit_of cs (entry E i)).remove →
-      moved_items ≡ paste items end (drop read items) ((edit_of cs (entry E i)).at - read) → filled ≡ paste moved_items (end + ((edit_of cs (entry E i)).at - read)) xs (length xs) →
-      xs ≡ (edit_of cs (entry E i)).events → drop read items ≡ drop read es →
+  -- A list that is filled from its front, after one edit more: its events stand behind some room.
+  pub fill-front : (es items moved_items filled : List Event) (xs : List Event) (room read end n : ℕ) → length es ≡ count → length items ≡ count + room → All NamesNone es →
+      end ≤ room + read → end + n + length xs ≤ length items → All (λ x. read ≤ x.at) (drop i (kept cs E)) → n ≡ (edit_of cs (entry E i)).at - read →
+      moved_items ≡ paste items end (drop (room + read) items) n → filled ≡ paste moved_items (end + ((edit_of cs (entry E i)).at - read)) xs (length xs) →
+      xs ≡ (edit_of cs (entry E i)).events → drop (room + read) items ≡ drop read es →
       take end items ++ edited_from (drop i (kept cs E)) read (drop read es) ≡ edited (kept cs E) es →
       take (end + ((edit_of cs (entry E i)).at - read) + length xs) filled ++ edited_from (drop (i + 1) (kept cs E)) ((edit_of cs (entry E i)).at + (edit_of cs (entry E i)).remove) (drop ((edit_of cs (entry E i)).at + (edit_of cs (entry E i)).remove) es) ≡ edited (kept cs E) es
-  squeeze-front es items moved_items filled xs read end size length_is plain order ahead few move write brings back front =
+  fill-front es items moved_items filled xs room read end n size length_is plain order space ahead far move write brings back front =
       let e = edit_of cs (entry E i) in
-      let n = e.at - read in
+      let m = e.at - read in
       let above = next-above read ahead in
       let fits = fits-here cs E i count within apart in
-      let rest_size : length (drop read items) ≡ count - read = omega (arith, length-drop read items) in
-      let long : length moved_items ≡ length items = omega (arith, ap length move, length-paste items end (drop read items) n (omega arith) (omega arith)) in
+      let rest_size : length (drop (room + read) items) ≡ count - read = omega (arith, length-drop (room + read) items) in
+      let long : length moved_items ≡ length items = omega (arith, ap length move, length-paste items end (drop (room + read) items) n (omega arith) (omega arith)) in
       let behind_it = edited_from (drop (i + 1) (kept cs E)) (e.at + e.remove) (drop (e.at + e.remove) es) in
-      let first : take (end + n) moved_items ≡ take end items ++ take n (drop read es) =
-      ap (take (end + n)) move ∙ take-paste items end (drop read items) n (omega arith) (omega arith) ∙ ap (λ ys. take end items ++ take n ys) back in
-      let second : take (end + n + length xs) filled ≡ take end items ++ (take n (drop read es) ++ e.events) =
-      ap (take (end + n + length xs)) write ∙ take-paste moved_items (end + n) xs (length xs) (omega arith) (omega arith) ∙ ap (λ ys. take (end + n) moved_items ++ ys) (take_all (length xs) xs (omega arith) ∙ brings) ∙ ap (λ ys. ys ++ e.events) first ∙ append_assoc (take end items) (take n (drop read es)) e.events in
-      let rest : edited_from (drop i (kept cs E)) read (drop read es) ≡ take n (drop read es) ++ (e.events ++ behind_it) =
-      plain-on (drop i (kept cs E)) read e.at es above (omega arith) (ahead-here cs E i count within apart) plain ∙ ap (λ ys. take n (drop read es) ++ ys) (from-here cs E i count within apart es size plain) in
-      ap (λ ys. ys ++ behind_it) second ∙ append_assoc (take end items) (take n (drop read es) ++ e.events) behind_it ∙ ap (λ ys. take end items ++ ys) (append_assoc (take n (drop read es)) e.events behind_it ∙ sym rest) ∙ front
+      let first : take (end + m) moved_items ≡ take end items ++ take m (drop read es) =
+      ap (λ k. take (end + k) moved_items) (sym far) ∙ ap (take (end + n)) move ∙ take-paste items end (drop (room + read) items) n (omega arith) (omega arith) ∙ ap (λ ys. take end items ++ take n ys) back ∙ ap (λ k. take end items ++ take k (drop read es)) far in
+      let second : take (end + m + length xs) filled ≡ take end items ++ (take m (drop read es) ++ e.events) =
+      ap (take (end + m + length xs)) write ∙ take-paste moved_items (end + m) xs (length xs) (omega arith) (omega arith) ∙ ap (λ ys. take (end + m) moved_items ++ ys) (take_all (length xs) xs (omega arith) ∙ brings) ∙ ap (λ ys. ys ++ e.events) first ∙ append_assoc (take end items) (take m (drop read es)) e.events in
+      let rest : edited_from (drop i (kept cs E)) read (drop read es) ≡ take m (drop read es) ++ (e.events ++ behind_it) =
+      plain-on (drop i (kept cs E)) read e.at es above (omega arith) (ahead-here cs E i count within apart) plain ∙ ap (λ ys. take m (drop read es) ++ ys) (from-here cs E i count within apart es size plain) in
+      ap (λ ys. ys ++ behind_it) second ∙ append_assoc (take end items) (take m (drop read es) ++ e.events) behind_it ∙ ap (λ ys. take end items ++ ys) (append_assoc (take m (drop read es)) e.events behind_it ∙ sym rest) ∙ front
 
-  pub squeeze-back : (es items moved_items filled : List Event) (xs : List Event) (read end : ℕ) → length items ≡ count → end ≤ read → read ≤ (edit_of cs (entry E i)).at →
-      length xs ≤ (edit_of cs (entry E i)).remove → length moved_items ≡ length items →
-      moved_items ≡ paste items end (drop read items) ((edit_of cs (entry E i)).at - read) → filled ≡ paste moved_items (end + ((edit_of cs (entry E i)).at - read)) xs (length xs) →
-      drop read items ≡ drop read es →
-      drop ((edit_of cs (entry E i)).at + (edit_of cs (entry E i)).remove) filled ≡ drop ((edit_of cs (entry E i)).at + (edit_of cs (entry E i)).remove) es
-  squeeze-back es items moved_items filled xs read end size order above few long move write back =
+  pub fill-back : (es items moved_items filled : List Event) (xs : List Event) (room read end n : ℕ) → length items ≡ count + room → read ≤ (edit_of cs (entry E i)).at →
+      end ≤ room + read → end + n + length xs ≤ room + ((edit_of cs (entry E i)).at + (edit_of cs (entry E i)).remove) → n ≡ (edit_of cs (entry E i)).at - read → length moved_items ≡ length items →
+      moved_items ≡ paste items end (drop (room + read) items) n → filled ≡ paste moved_items (end + ((edit_of cs (entry E i)).at - read)) xs (length xs) →
+      drop (room + read) items ≡ drop read es →
+      drop (room + ((edit_of cs (entry E i)).at + (edit_of cs (entry E i)).remove)) filled ≡ drop ((edit_of cs (entry E i)).at + (edit_of cs (entry E i)).remove) es
+  fill-back es items moved_items filled xs room read end n size above order space far long move write back =
       let e = edit_of cs (entry E i) in
-      let n = e.at - read in
+      let m = e.at - read in
       let to = e.at + e.remove in
       let fits = fits-here cs E i count within apart in
-      let far : read + (to - read) ≡ to = omega arith in
-      ap (drop to) write ∙ pasted-past moved_items (end + n) xs (length xs) (omega arith) to (omega arith) (omega arith) ∙ ap (drop to) move ∙ pasted-past items end (drop read items) n (omega arith) to (omega (arith, length-drop read items)) (omega arith) ∙ ap (λ k. drop k items) (sym far) ∙ sym (drop-drop (to - read) read items) ∙ ap (drop (to - read)) back ∙ drop-drop (to - read) read es ∙ ap (λ k. drop k es) far
+      let there : room + read + (to - read) ≡ room + to = omega arith in
+      let here : read + (to - read) ≡ to = omega arith in
+      ap (drop (room + to)) write ∙ pasted-past moved_items (end + m) xs (length xs) (omega arith) (room + to) (omega arith) (omega arith) ∙ ap (drop (room + to)) move ∙ pasted-past items end (drop (room + read) items) n (omega arith) (room + to) (omega (arith, length-drop (room + read) items)) (omega arith) ∙ ap (λ k. drop k items) (sym there) ∙ sym (drop-drop (to - read) (room + read) items) ∙ ap (drop (to - read)) back ∙ drop-drop (to - read) read es ∙ ap (λ k. drop k es) here
 
 -- the last of the list follows
-pub squeeze-all : (log : List Edit) (es items moved_items all : List Event) (i read end count : ℕ) → count ≡ length items → length items ≡ length es → end ≤ read → read ≤ length es → length log ≤ i →
-    moved_items ≡ paste items end (drop read items) (count - read) → all ≡ take (end + (count - read)) moved_items →
-    drop read items ≡ drop read es → take end items ++ edited_from (drop i log) read (drop read es) ≡ edited log es → all ≡ edited log es
-squeeze-all log es items moved_items all i read end count whole size order within past move cut back front =
-    let n = count - read in
-    cut ∙ ap (take (end + n)) move ∙ take-paste items end (drop read items) n (omega arith) (omega (arith, length-drop read items)) ∙ ap (λ ys. take end items ++ ys) (ap (λ m. take (m - read) (drop read items)) whole ∙ take_rest items read ∙ back ∙ sym (nil-from read (drop read es)) ∙ ap (λ edits. edited_from edits read (drop read es)) (sym (drop_all i log past))) ∙ front
+pub fill-all : (log : List Edit) (es items moved_items all : List Event) (i room read end count n : ℕ) → length es ≡ count → length items ≡ count + room → end ≤ room + read → read ≤ count → length log ≤ i →
+    n ≡ count - read → moved_items ≡ paste items end (drop (room + read) items) n → all ≡ take (end + (count - read)) moved_items →
+    drop (room + read) items ≡ drop read es → take end items ++ edited_from (drop i log) read (drop read es) ≡ edited log es → all ≡ edited log es
+fill-all log es items moved_items all i room read end count n whole size order within past far move cut back front =
+    let rest_size : length (drop (room + read) items) ≡ count - read = omega (arith, length-drop (room + read) items) in
+    cut ∙ ap (λ k. take (end + k) moved_items) (sym far) ∙ ap (take (end + n)) move ∙ take-paste items end (drop (room + read) items) n (omega arith) (omega arith) ∙ ap (λ ys. take end items ++ ys) (take_all n (drop (room + read) items) (omega arith) ∙ back ∙ sym (nil-from read (drop read es)) ∙ ap (λ edits. edited_from edits read (drop read es)) (sym (drop_all i log past))) ∙ front
 
 -- all edits are applied
 pub spread-all : (log : List Edit) (es items : List Event) (read end : ℕ) → read ≡ end → read ≤ length es → All NamesNone es →
@@ -361,9 +360,6 @@ module _ (cs : List Event) (E : List Entry) (i : ℕ) (some : 0 < i) (within : i
 
   pub growing-more : AreGrowing (drop i (kept cs E)) → (edit_of cs (entry E (i - 1))).remove ≤ length (edit_of cs (entry E (i - 1))).events → AreGrowing (drop (i - 1) (kept cs E))
   growing-more all h = all-more (λ e. e.remove ≤ length e.events) h all
-
-  pub shrinking-more : AreShrinking (drop i (kept cs E)) → length (edit_of cs (entry E (i - 1))).events ≤ (edit_of cs (entry E (i - 1))).remove → AreShrinking (drop (i - 1) (kept cs E))
-  shrinking-more all h = all-more (λ e. length e.events ≤ e.remove) h all
 
   pub grown-more : grown (drop (i - 1) (kept cs E)) ≡ (length (edit_of cs (entry E (i - 1))).events - (edit_of cs (entry E (i - 1))).remove) + grown (drop i (kept cs E))
   grown-more = ap grown part-of ∙ sum_by-cons (λ e. length e.events - e.remove) (edit_of cs (entry E (i - 1))) (drop i (kept cs E))
@@ -419,10 +415,6 @@ pub view-edited : (b : Bool) (log : List Edit) (items vs all : List Event) → I
     bares all ≡ edited log vs
 view-edited b log items vs all n off u v h =
     sym (alone-seen b all (bares all) (noted-edited b log items all n off u h) off refl) ∙ h ∙ ap (edited log) (alone-seen b items vs n off v)
-
--- the list with room behind it
-pub with-room : (items more all : List Event) (n : ℕ) → all ≡ items ++ more → n ≡ length items → take n all ≡ items
-with-room items more all n h e = ap (take n) h ∙ ap (λ k. take k (items ++ more)) e ∙ take-append_seam items more
 
 -- Edits in the order of their places do what the edits do.
 

@@ -111,16 +111,12 @@ abbrev pub StandApart : ℕ → ℕ → List Edit → Type 0
 StandApart n count [] = Unit {0}
 StandApart n count (e ∷ log) = (n ≤ e.at) × ((e.at + e.remove ≤ count) × StandApart (e.at + max 1 e.remove) count log)
 
--- each brings at least as many events as it removes; how many more they are together
+-- each brings at least as many events as it removes; how many they bring together beyond what they remove
 abbrev pub AreGrowing : List Edit → Type 0
 AreGrowing log = All (λ e. e.remove ≤ length e.events) log
 
 abbrev pub grown : List Edit → ℕ
 grown log = sum_by (λ e. length e.events - e.remove) log
-
--- each removes at least as many events as it brings
-abbrev pub AreShrinking : List Edit → Type 0
-AreShrinking log = All (λ e. length e.events ≤ e.remove) log
 
 -- edits in the order of their places, none below n, which collect at each place from n on what the log collects there
 pub record IsRest (n : ℕ) (log rest : List Edit) : Type 0 where

@@ -5,7 +5,7 @@ ghost use Rattle.markdown_engine_events.specs.Edits.{edited, edits_of, AreBrough
 ghost use Rattle.std.specs.List.{All};
 
 use crate::util::edit_map::Kept;
-use crate::util::edits_in_place::{growth, is_shrinking, spread, squeeze, stand_apart};
+use crate::util::edits_in_place::{apply, growth, stand_apart};
 use markdown_engine_content::event::{Event, Link};
 use markdown_lists::seq::Seq;
 use std::alloc::{AllocError, Global};
@@ -186,6 +186,29 @@ fn alone_front(items: &[Event], chains: bool) -> usize
     }
 }
 
+// How many events are added at once, at the most: what is copied is then in the nearest cache.
+const AT_ONCE: usize = 32;
+
+// Adds so many events at the end, whichever they are: some of the first of those that are given, again and again.
+fn add_room(items: &mut Seq<Event>, given: &[Event], more: usize) -> Result<(), AllocError>
+    requires { more ≤ length given.now }
+    ensures stays { OnOk result (take (length items.old) items.new ≡ items.old) }
+    ensures room { OnOk result (length items.new ≡ length items.old + more) }
+    ensures err { OnErr result (items.new ≡ items.old) }
+{
+    let count = items.len();
+    let mut left = more;
+    while left > 0 {
+        let part = left.min(AT_ONCE);
+        if items.extend_from_slice(&given[..part]).is_err() {
+            items.truncate(count);
+            return Err(AllocError);
+        }
+        left -= part;
+    }
+    Ok(())
+}
+
 impl Events {
     /// No event. Takes no memory.
     pub fn new(alloc: Global) -> Events
@@ -260,8 +283,8 @@ impl Events {
         })
     }
 
-    // Applies edits in the list itself, where that can be: no event is linked to another, the edits stand apart, and each brings as many events as
-    // it removes or more, or each as many or fewer. The answer is whether they are applied.
+    // Applies edits in the list itself, where that can be: no event is linked to another, and the edits stand apart. The answer is whether they are
+    // applied.
     pub(crate) fn edit_in_place(&mut self, edits: &Kept) -> Result<bool, AllocError>
         requires { AreBrought edits.now.comes.now edits.now.entries.now }
         ensures done { IfOk result (λ done. IsTrue done → self.new ≡ edited (edits_of edits.now) self.old) }
@@ -272,14 +295,10 @@ impl Events {
         if self.chains || !stand_apart(edits, count) {
             return Ok(false);
         }
-        if is_shrinking(edits) {
-            squeeze(&mut self.items, edits);
-            return Ok(true);
-        }
         match growth(edits) {
             Some(more) if more <= edits.comes.len() => {
-                self.items.extend_from_slice(&edits.comes[..more])?;
-                spread(&mut self.items, edits, count);
+                add_room(&mut self.items, edits.comes, more)?;
+                apply(&mut self.items, edits, count);
                 Ok(true)
             }
             _ => Ok(false),

@@ -26,3 +26,8 @@ none-more es i k r l h o none j e low high =
       | inl b ↦ none j e low b
       | inr a ↦ let same : j ≡ k = omega arith in ap (λ n. opens_data (get_or es n e)) same ∙ ap opens_data (event-same k es e r l h) ∙ o
     ]
+
+-- none up to a place, and none from there up to another
+pub none-on : (es : List Event) (i k n : ℕ) → BeginsNone es i k → BeginsNone es k n → BeginsNone es i n
+none-on es i k n first more j e low high =
+    elim (cases_lt j k) [ inl b ↦ first j e low b | inr a ↦ more j e a high ]

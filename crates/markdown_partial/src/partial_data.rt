@@ -20,7 +20,7 @@
 // A reader stands beside: `partial_data` of `markdown_run_readers`.
 #![tactic(auto, using(markdown_engine::proofs::OperationFields::op_rules))]
 
-ghost use Rattle.std.specs.Prelude.{◌≡◌, ◌-◌, ◌<◌, ◌≤◌, ◌++◌, ℕ, IfOk, OnOk, OnErr, IsTrue, Some, None, [], drop, length, slice_index_or, true, false};
+ghost use Rattle.std.specs.Prelude.{◌≡◌, ◌+◌, ◌-◌, ◌^◌, ◌<◌, ◌≤◌, ◌++◌, ℕ, IfOk, OnOk, OnErr, IsTrue, Some, None, [], drop, length, slice_index_or, true, false};
 ghost use Rattle.markdown_engine.specs.Operations.{IsOpen, current_of};
 ghost use Rattle.markdown_engine_content.specs.declared.event.Name.TheVariants.{Data};
 ghost use Rattle.markdown_engine_events.specs.Edits.{edited};
@@ -165,10 +165,29 @@ pub fn opens_data(event: &Event) -> bool
     matches!(event.name, Name::Data) && matches!(event.kind, Kind::Enter) && event.link.is_none()
 }
 
-/// The number of the first Enter of data without a link from an event on, or how many events there are.
-///
-/// The work is that of the events between, each of which takes one look.
-pub fn next_data(events: &Events, from: usize) -> usize
+// How many events are looked at with no other look between.
+const FOUR: usize = 4;
+
+// How many of the four events from this index on come before the first Enter of data without a link.
+#[inline(always)]
+fn others_among_four(events: &Events, at: usize) -> usize
+    requires within { at + FOUR ≤ length events.now }
+    requires counted { length events.now < 2 ^ 64 }
+    ensures within { result ≤ FOUR }
+    ensures none { (i : ℕ) (e : Event) → at ≤ i → i < at + result → opens_data (slice_index_or events.now i e) ≡ false }
+    ensures here { (e : Event) → result < FOUR → opens_data (slice_index_or events.now (at + result) e) ≡ true }
+{
+    for count in 0..FOUR {
+        if opens_data(&events.bare_at(at + count)) {
+            return count;
+        }
+    }
+    FOUR
+}
+
+// As `next_data`, where few events are left.
+#[inline(always)]
+fn next_of_few(events: &Events, from: usize) -> usize
     requires { from ≤ length events.now }
     ensures from { from ≤ result }
     ensures within { result ≤ length events.now }
@@ -181,6 +200,29 @@ pub fn next_data(events: &Events, from: usize) -> usize
         at += 1;
     }
     at
+}
+
+/// The number of the first Enter of data without a link from an event on, or how many events there are.
+///
+/// The work is that of the events between, each of which takes one look.
+#[inline(always)]
+pub fn next_data(events: &Events, from: usize) -> usize
+    requires { from ≤ length events.now }
+    ensures from { from ≤ result }
+    ensures within { result ≤ length events.now }
+    ensures none { (i : ℕ) (e : Event) → from ≤ i → i < result → opens_data (slice_index_or events.now i e) ≡ false }
+    ensures here { (e : Event) → result < length events.now → opens_data (slice_index_or events.now result e) ≡ true }
+{
+    let count = events.len();
+    let mut at = from;
+    while count - at >= FOUR {
+        let others = others_among_four(events, at);
+        at += others;
+        if others < FOUR {
+            return at;
+        }
+    }
+    next_of_few(events, at)
 }
 
 // Whether this is the Exit of data.
@@ -258,10 +300,7 @@ fn merge_events(tokenizer: &mut Tokenizer) -> Result<(), AllocError>
     ensures err { OnErr result (IsTrue tokenizer.new.failed) }
 {
     let merged = merge(&mut tokenizer.events, &mut tokenizer.map);
-    if merged.is_err() {
-        tokenizer.fail();
-    }
-    merged
+    tokenizer.noted(merged)
 }
 
 /// Merges neighbouring data that carry no link.

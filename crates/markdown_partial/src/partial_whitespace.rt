@@ -427,8 +427,5 @@ pub fn resolve_whitespace(
             whole: trim_whole,
         },
     );
-    if trimmed.is_err() {
-        tokenizer.fail();
-    }
-    trimmed
+    tokenizer.noted(trimmed)
 }

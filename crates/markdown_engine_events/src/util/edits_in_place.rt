@@ -2,7 +2,7 @@
 ghost use Rattle.std.specs.Prelude.{◌≡◌, ◌≤◌, ◌+◌, ◌-◌, ◌++◌, length, take, drop, MatchOption, IsTrue};
 ghost use Rattle.std.specs.List.{All};
 ghost use Rattle.markdown_engine_events.specs.EventChains.{NamesNone};
-ghost use Rattle.markdown_engine_events.specs.Edits.{edited, edits_of, grown, AreBrought, AreGrowing, AreShrinking, StandApart};
+ghost use Rattle.markdown_engine_events.specs.Edits.{edited, edits_of, grown, AreBrought, AreGrowing, StandApart};
 
 use crate::util::edit_map::{Kept, brought};
 use markdown_engine_content::event::Event;
@@ -27,31 +27,28 @@ pub(crate) fn stand_apart(edits: &Kept, count: usize) -> bool
     true
 }
 
-// How many more events there are afterwards, where each edit brings as many as it removes or more.
+// How much the edits bring beyond what they remove, where an edit that removes more counts as none. None past the largest number.
 pub(crate) fn growth(edits: &Kept) -> Option<usize>
     requires { AreBrought edits.now.comes.now edits.now.entries.now }
-    ensures { MatchOption result (Unit {0}) (λ more. AreGrowing (edits_of edits.now) × (more ≡ grown (edits_of edits.now))) }
+    ensures { MatchOption result (Unit {0}) (λ more. more ≡ grown (edits_of edits.now)) }
 {
     let mut more = 0usize;
     for index in (0..edits.entries.len()).rev() {
         let edit = &edits.entries[index];
         let comes = brought(edits.comes, edit).len();
-        if comes < edit.remove {
-            return None;
-        }
-        more = more.checked_add(comes - edit.remove)?;
+        more = more.checked_add(comes.saturating_sub(edit.remove))?;
     }
     Some(more)
 }
 
-// Whether each edit removes as many events as it brings or more.
-pub(crate) fn is_shrinking(edits: &Kept) -> bool
+// Whether each edit brings as many events as it removes or more.
+fn is_growing(edits: &Kept) -> bool
     requires { AreBrought edits.now.comes.now edits.now.entries.now }
-    ensures { IsTrue result → AreShrinking (edits_of edits.now) }
+    ensures { IsTrue result → AreGrowing (edits_of edits.now) }
 {
     for index in (0..edits.entries.len()).rev() {
         let edit = &edits.entries[index];
-        if brought(edits.comes, edit).len() > edit.remove {
+        if brought(edits.comes, edit).len() < edit.remove {
             return false;
         }
     }
@@ -60,7 +57,7 @@ pub(crate) fn is_shrinking(edits: &Kept) -> bool
 
 // Applies edits that bring as many events as they remove or more: the list has room for all at its end, behind the events that are
 // edited, and is filled from there.
-pub(crate) fn spread(items: &mut Seq<Event>, edits: &Kept, count: usize)
+fn spread(items: &mut Seq<Event>, edits: &Kept, count: usize)
     requires brought { AreBrought edits.now.comes.now edits.now.entries.now }
     requires apart { StandApart 0 count (edits_of edits.now) }
     requires growing { AreGrowing (edits_of edits.now) }
@@ -82,25 +79,56 @@ pub(crate) fn spread(items: &mut Seq<Event>, edits: &Kept, count: usize)
     }
 }
 
-// Applies edits that remove as many events as they bring or more: the list is filled from its front.
-pub(crate) fn squeeze(items: &mut Seq<Event>, edits: &Kept)
-    requires brought { AreBrought edits.now.comes.now edits.now.entries.now }
-    requires apart { StandApart 0 (length items.old) (edits_of edits.now) }
-    requires shrinking { AreShrinking (edits_of edits.now) }
-    requires plain { All NamesNone items.old }
-    ensures { items.new ≡ edited (edits_of edits.now) items.old }
+// Moves so many events from the front of a list to its end.
+fn move_to_end(items: &mut Seq<Event>, count: usize)
+    requires { count ≤ length items.old }
+    ensures size { length items.new ≡ length items.old }
+    ensures moved { drop (length items.old - count) items.new ≡ take count items.old }
 {
-    let count = items.len();
+    let room = items.len() - count;
+    if room > 0 {
+        items.move_within(0, count, room);
+    }
+}
+
+// Applies edits of the last `count` events of a list, which has room before them for what they bring beyond what they remove: it is filled from its
+// front.
+fn fill(items: &mut Seq<Event>, edits: &Kept, count: usize)
+    requires brought { AreBrought edits.now.comes.now edits.now.entries.now }
+    requires apart { StandApart 0 count (edits_of edits.now) }
+    requires room { length items.old ≡ count + grown (edits_of edits.now) }
+    requires plain { All NamesNone (drop (length items.old - count) items.old) }
+    ensures { items.new ≡ edited (edits_of edits.now) (drop (length items.old - count) items.old) }
+{
+    let len = items.len();
+    let room = len - count;
     let mut read = 0usize;
     let mut end = 0usize;
     for edit in edits.entries {
-        items.move_within(read, edit.at, end);
+        items.move_within(room + read, room + edit.at, end);
         end += edit.at - read;
         let comes = brought(edits.comes, edit);
         items.write(end, comes);
         end += comes.len();
         read = edit.at + edit.remove;
     }
-    items.move_within(read, count, end);
+    items.move_within(room + read, len, end);
     items.truncate(end + (count - read));
+}
+
+// Applies edits of the first `count` events of a list, which has room for what they bring beyond what they remove. Where all grow, the events
+// before the first edit stay where they are.
+pub(crate) fn apply(items: &mut Seq<Event>, edits: &Kept, count: usize)
+    requires brought { AreBrought edits.now.comes.now edits.now.entries.now }
+    requires apart { StandApart 0 count (edits_of edits.now) }
+    requires room { length items.old ≡ count + grown (edits_of edits.now) }
+    requires plain { All NamesNone (take count items.old) }
+    ensures { items.new ≡ edited (edits_of edits.now) (take count items.old) }
+{
+    if is_growing(edits) {
+        spread(items, edits, count);
+    } else {
+        move_to_end(items, count);
+        fill(items, edits, count);
+    }
 }

@@ -1,5 +1,5 @@
 use Rattle.std.proofs.Common.{length, ap, arith}
-use Rattle.markdown_engine_events.proofs.EditsInPlace.{growing-more, grown-more}
+use Rattle.markdown_engine_events.proofs.EditsInPlace.{grown-more}
 use Rattle.markdown_engine_events.proofs.util.edits_in_place.growth.Goals as goal
 
 pub loop-index-preserved : goal.loop-index-preserved
@@ -9,7 +9,4 @@ loop-index-preserved c =
     let i = c.loop-index.index in
     let sum = grown-more cs es i c.loop-index-test.true (omega arith) in
     let size = ap length c.brought-comes.ensures in
-    record {
-      growing = growing-more cs es i c.loop-index-test.true (omega arith) c.loop-index.invariant.growing (omega (arith, c.if-comes-edit.false));
-      more = omega (arith, c.loop-index.invariant.more, c.in_ok-more.ensures);
-    }
+    omega (arith, c.loop-index.invariant, c.in_ok-more.ensures)
