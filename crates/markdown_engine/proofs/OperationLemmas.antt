@@ -4,7 +4,6 @@ use Rattle.std.proofs.lemmas.Grind.{common_steps}
 use Rattle.std.proofs.lemmas.List.{take-append-drop, drop-drop}
 use Rattle.markdown_engine_content.specs.ListFunctions.{rest_of}
 use Rattle.markdown_engine.specs.Operations.{Op, Enter, Exit, EnterLink, EnterConnected, Consume, applied, op_events, op_stack, op_moves, op_stays, op_depth, done, moves, stays, ahead, scratched}
-use Rattle.markdown_engine_content.specs.Place.{moved}
 use Rattle.markdown_engine.specs.FailedRun.{Grown, unwound}
 use Rattle.markdown_engine.specs.Weights.{codes_left}
 use Rattle.markdown_engine_content.proofs.AndParts.{and-left, and-right}
@@ -25,18 +24,6 @@ scratch-done (o ∷ os) T = scratch-done os (applied o T) ∙ scratch-applied o 
 pub input-done : (os : List Op) (T : Tokenizer) → (done os T).parse_state ≡ T.parse_state
 input-done [] T = refl
 input-done (o ∷ os) T = input-done os (applied o T) ∙ input-applied o T
-
-codes-applied : (o : Op) (T : Tokenizer) → (applied o T).cursor.codes ≡ T.cursor.codes
-unfolding applied moved
-codes-applied (Enter n) T = refl
-codes-applied (Exit n) T = refl
-codes-applied (EnterLink n c) T = refl
-codes-applied (EnterConnected n c) T = refl
-codes-applied Consume T = refl
-
-pub codes-done : (os : List Op) (T : Tokenizer) → (done os T).cursor.codes ≡ T.cursor.codes
-codes-done [] T = refl
-codes-done (o ∷ os) T = codes-done os (applied o T) ∙ codes-applied o T
 
 drop-both : {A : Type 0} → (m n : ℕ) (xs : List A) → drop n (drop m xs) ≡ drop (m + n) xs
 drop-both m n xs = drop-drop n m xs

@@ -58,10 +58,7 @@ fn hand_over<'a>(
         return Ok(());
     }
     let moved = waiting.append(&mut tokenizer.attempts);
-    if moved.is_err() {
-        tokenizer.fail();
-    }
-    moved
+    tokenizer.noted(moved)
 }
 
 // Runs states from this answer until Ok or Nok with no attempt open. The attempts that are open wait in a list of their own.

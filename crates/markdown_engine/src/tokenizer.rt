@@ -309,6 +309,19 @@ impl<'a> Tokenizer<'a> {
         self.failed = true;
     }
 
+    /// Hands on what a growth answered; where it was refused, keeps that in mind.
+    #[inline(always)]
+    pub fn noted<T>(&mut self, found: Result<T, AllocError>) -> Result<T, AllocError>
+        ensures same { result ≡ found }
+        ensures ok { OnOk result (self.new ≡ self.old) }
+        ensures err { OnErr result (self.new ≡ refused self.old) }
+    {
+        if found.is_err() {
+            self.fail();
+        }
+        found
+    }
+
     // An Enter of this name at the place.
     fn enter_here(&self, name: Name, link: Option<Link>) -> Event
         ensures { result ≡ enter_event name link self.now }
@@ -328,10 +341,7 @@ impl<'a> Tokenizer<'a> {
         ensures err { OnErr result (IsTrue self.new.failed) }
     {
         let appended = self.events.push(event);
-        if appended.is_err() {
-            self.fail();
-        }
-        appended
+        self.noted(appended)
     }
 
     // Opens an event of this name; a refused growth is kept in mind.
@@ -340,10 +350,7 @@ impl<'a> Tokenizer<'a> {
         ensures err { OnErr result (IsTrue self.new.failed) }
     {
         let opened = self.stack.push(name);
-        if opened.is_err() {
-            self.fail();
-        }
-        opened
+        self.noted(opened)
     }
 
     /// Appends an Enter at the place.
@@ -383,10 +390,7 @@ impl<'a> Tokenizer<'a> {
         };
         let event = self.enter_here(name, Some(back));
         let appended = self.events.push_linked(event);
-        if appended.is_err() {
-            self.fail();
-        }
-        appended?;
+        self.noted(appended)?;
         self.open(name)
     }
 
@@ -432,10 +436,7 @@ impl<'a> Tokenizer<'a> {
             cursor: self.cursor.save(),
         };
         let opened = self.attempts.push(attempt);
-        if opened.is_err() {
-            self.fail();
-        }
-        opened
+        self.noted(opened)
     }
 
     /// Goes on with `ok` after the next Ok, keeping all; after the next Nok restores, and goes on with `nok`.
@@ -478,10 +479,7 @@ impl<'a> Tokenizer<'a> {
             return Ok(());
         }
         let added = self.resolvers.push(name);
-        if added.is_err() {
-            self.fail();
-        }
-        added
+        self.noted(added)
     }
 
     /// Adds the pass first, unless it is there.
@@ -494,9 +492,6 @@ impl<'a> Tokenizer<'a> {
             return Ok(());
         }
         let added = self.resolvers.push_first(name);
-        if added.is_err() {
-            self.fail();
-        }
-        added
+        self.noted(added)
     }
 }

@@ -150,10 +150,7 @@ pub(crate) fn name_between(
     ensures err { OnErr result (IsTrue tokenizer.new.failed) }
 {
     let name = identifier_between(tokenizer, kind, from, to);
-    if name.is_err() {
-        tokenizer.fail();
-    }
-    name
+    tokenizer.noted(name)
 }
 
 // Whether the identifier between two events is that of a definition.
@@ -185,8 +182,5 @@ pub(crate) fn is_link(
     ensures err { OnErr result (IsTrue tokenizer.new.failed) }
 {
     let defined = is_link_defined(tokenizer, kind, name);
-    if defined.is_err() {
-        tokenizer.fail();
-    }
-    defined
+    tokenizer.noted(defined)
 }

@@ -225,10 +225,7 @@ pub fn ok(tokenizer: &mut Tokenizer) -> Result<State, AllocError>
             ),
         };
         let added = tokenizer.tokenize_state.labels.push(label);
-        if added.is_err() {
-            tokenizer.fail();
-        }
-        added?;
+        tokenizer.noted(added)?;
         if !is_image(start.kind) {
             mark(&mut tokenizer.tokenize_state.label_starts);
         }
@@ -276,10 +273,7 @@ pub fn nok(tokenizer: &mut Tokenizer) -> Result<State, AllocError>
 {
     if let Some(start) = tokenizer.tokenize_state.label_starts.pop() {
         let loose = tokenizer.tokenize_state.label_starts_loose.push(start);
-        if loose.is_err() {
-            tokenizer.fail();
-        }
-        loose?;
+        tokenizer.noted(loose)?;
     }
     tokenizer.tokenize_state.end = 0;
     tokenizer.tokenize_state.seen = false;

@@ -25,9 +25,6 @@ pub(crate) fn keep_start(
         inactive: false,
     };
     let kept = tokenizer.tokenize_state.label_starts.push(start);
-    if kept.is_err() {
-        tokenizer.fail();
-    }
-    kept?;
+    tokenizer.noted(kept)?;
     tokenizer.register_resolver_before(ResolveName::Label)
 }

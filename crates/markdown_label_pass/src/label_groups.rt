@@ -361,9 +361,6 @@ pub fn resolve(tokenizer: &mut Tokenizer) -> Result<Option<Subresult>, AllocErro
         &mut tokenizer.events,
         &mut tokenizer.map,
     );
-    if done.is_err() {
-        tokenizer.fail();
-    }
-    done?;
+    tokenizer.noted(done)?;
     Ok(None)
 }

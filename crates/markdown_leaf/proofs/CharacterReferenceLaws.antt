@@ -1,7 +1,8 @@
 -- The laws of the states of a character reference.
-use Rattle.std.proofs.Common.{◌≡◌, ◌≢◌, ℕ, ◌+◌, ◌≤◌, ◌==◌, ◌&&◌, ◌||◌, nat_lt, Bool, true, false, List, [], ◌∷◌, ◌++◌, drop, refl, sym, ap, subst, ◌∙◌, arith, append-nil, inl, inr}
+use Rattle.std.proofs.Common.{◌≡◌, ◌≢◌, ℕ, ◌+◌, ◌≤◌, ◌<◌, ◌==◌, ◌&&◌, ◌||◌, nat_lt, Bool, true, false, List, [], ◌∷◌, ◌++◌, drop, length, Some, refl, sym, ap, subst, ◌∙◌, arith, append-nil, inl, inr}
 use Rattle.std.specs.Prelude.{codes}
 use Rattle.std.proofs.Math.Bool.{or-false, and-false}
+use Rattle.std.proofs.lemmas.Grind.{common_steps}
 use Rattle.markdown_engine_content.specs.Codes.{Code}
 use Rattle.markdown_engine_content.specs.ListFunctions.{rest_of}
 use Rattle.markdown_engine.specs.Operations.{Op, Consume, applied, current_of, ahead, done, scratched}
@@ -9,7 +10,7 @@ use Rattle.markdown_engine.specs.StateRuns.{Stepped, stepped}
 use Rattle.markdown_engine.specs.Weights.{weight_at}
 use Rattle.markdown_engine_content.specs.declared.event.Name.{Name}
 use Rattle.markdown_engine_content.specs.declared.event.Name.TheVariants as N
-use Rattle.markdown_engine.specs.declared.state.State.TheVariants.{Next, Retry, Nok}
+use Rattle.markdown_engine.specs.declared.state.State.TheVariants.{Next, Retry}
 use Rattle.markdown_engine.specs.declared.state.StateName.{StateName}
 use Rattle.markdown_engine.specs.declared.state.StateName.TheVariants as H
 use Rattle.markdown_engine.specs.declared.state.StateName.TheVariants.{CharacterReferenceOpen, CharacterReferenceNumeric, CharacterReferenceValue}
@@ -21,10 +22,13 @@ use Rattle.markdown_engine.proofs.OperationLemmas.{scratch-done}
 use Rattle.markdown_model.specs.CodeTests.{is_value, is_among, is_alphanumeric, is_digit, is_hex_digit, next_is}
 use Rattle.markdown_model.specs.Grammar.{◌>>◌, provided, some}
 use Rattle.markdown_model.specs.LeafConstructs.{Parts, character_reference, reference_tree, named_parts, decimal_parts, hexadecimal_parts}
-use Rattle.markdown_util.specs.Reference.{html_5_rows, IsMarker, value_size_max}
-use Rattle.markdown_leaf.specs.CharacterReference.{IsAtRest, IsOpened, IsValue, is_on, marked, sized, rested, opening, number_sign, hexadecimal_sign, value_start, closing, begins_name, is_taken, start_at, start_step, named_step, open_at, decimal_step}
-use Rattle.markdown_leaf.specs.CharacterReference.{numeric_at, value_at, reference_here, value_plan, numeric_plan, named_plan, open_plan, start_ends, open_ends, numeric_ends, value_ends, states, numeric_words, open_words, start_words, value_words}
+use Rattle.markdown_util.specs.Reference.{html_5_rows, IsMarker, value_size_max, is_value_byte}
+use Rattle.markdown_leaf.specs.CharacterReference.{IsAtRest, IsOpened, IsValue, is_on, marked, sized, rested, opening, number_sign, hexadecimal_sign, value_start, closing, is_known, is_taken, read_of, start_at, start_step, named_step, open_at, decimal_step}
+use Rattle.markdown_leaf.specs.CharacterReference.{numeric_at, value_at, reference_here, value_plan, numeric_plan, open_plan, start_ends, open_ends, numeric_ends, value_ends, states, numeric_words, open_words, start_words, value_words}
 use Rattle.markdown_plan.specs.Plan.{Plan, preceded, plan_of, DoesAs, KeepsAs}
+use Rattle.markdown_plan.specs.Characters.{ReadsText}
+use Rattle.markdown_plan.proofs.CharactersAlongContent.{text-moved, text-scratched}
+use Rattle.markdown_leaf.proofs.CharacterReferenceBytes.{index-more, read-more, read-none, read-size}
 use Rattle.markdown_leaf.proofs.CharacterReferenceReadings.{reference-start, no-reference, value-close, value-more, value-end, value-stop}
 use Rattle.markdown_plan.proofs.PlanSteps.{EndsAs-plan, no-codes}
 use Rattle.markdown_model.proofs.GrammarSteps.{and-left, and-right, if-true, if-false}
@@ -91,31 +95,51 @@ rested-same : (s : TokenizeState) → s.marker ≡ 0 → s.size ≡ 0 → rested
 rested-same s e h =
     subst (λ m. record s { marker = m; size = 0 } ≡ s) e (subst (λ n. record s { marker = s.marker; size = n } ≡ s) h refl)
 
+-- no operation but a code that is passed changes what is read as characters
+opening-text : (T : Tokenizer) → ReadsText T → ReadsText (done opening T)
+unfolding applied
+opening-text T k = text-moved _ T.cursor k
+
+number-text : (T : Tokenizer) → ReadsText T → ReadsText (done number_sign T)
+unfolding applied
+number-text T k = text-moved _ T.cursor k
+
+sign-text : (T : Tokenizer) → ReadsText T → ReadsText (done hexadecimal_sign T)
+unfolding applied
+sign-text T k = text-moved _ T.cursor k
+
+start-text : (T : Tokenizer) → ReadsText T → ReadsText (done value_start T)
+unfolding applied
+start-text T k = k
+
 opened-done : (T : Tokenizer) → IsAtRest T → IsOpened (done opening T)
 opened-done T r =
-    record { whole = grind (arith, law_rules); marker = ap (λ (s : TokenizeState). s.marker) (scratch-done opening T) ∙ r.marker; size = ap (λ (s : TokenizeState). s.size) (scratch-done opening T) ∙ r.size }
+    record { text = opening-text T r.text; whole = grind (arith, law_rules); marker = ap (λ (s : TokenizeState). s.marker) (scratch-done opening T) ∙ r.marker; size = ap (λ (s : TokenizeState). s.size) (scratch-done opening T) ∙ r.size }
 
 numbered-done : (T : Tokenizer) → IsOpened T → IsOpened (done number_sign T)
 numbered-done T o =
-    record { whole = grind (arith, law_rules, o.whole); marker = ap (λ (s : TokenizeState). s.marker) (scratch-done number_sign T) ∙ o.marker; size = ap (λ (s : TokenizeState). s.size) (scratch-done number_sign T) ∙ o.size }
+    record { text = number-text T o.text; whole = grind (arith, law_rules, o.whole); marker = ap (λ (s : TokenizeState). s.marker) (scratch-done number_sign T) ∙ o.marker; size = ap (λ (s : TokenizeState). s.size) (scratch-done number_sign T) ∙ o.size }
 
 -- on in the value, of this kind
 value-from : (m : ℕ) (os : List Op) (T : Tokenizer) → IsOpened T → (ok : Bool) (U : Tokenizer) →
     value_ends (scratched (marked m T.tokenize_state) (done os T)) ok U →
-    DoesAs 2 (value_plan m 0) (rested T.tokenize_state) (scratched (marked m T.tokenize_state) (done os T)) ok U
+    DoesAs 2 (value_plan m []) (rested T.tokenize_state) (scratched (marked m T.tokenize_state) (done os T)) ok U
 value-from m os T o ok U k =
     let V : Tokenizer = scratched (marked m T.tokenize_state) (done os T) in
     let now : V.tokenize_state ≡ marked m T.tokenize_state = scratch-scratched (marked m T.tokenize_state) (done os T) in
-    subst (λ n. DoesAs 2 (value_plan m n) (rested T.tokenize_state) V ok U) o.size
-    (subst (λ (s : TokenizeState). DoesAs 2 (value_plan s.marker s.size) (rested s) V ok U) now k)
+    let none : read_of V ≡ [] = read-none V (ap (λ (s : TokenizeState). s.size) now ∙ o.size) in
+    subst (λ (read : List ℕ). DoesAs 2 (value_plan m read) (rested T.tokenize_state) V ok U) none
+    (subst (λ (s : TokenizeState). DoesAs 2 (value_plan s.marker (read_of V)) (rested s) V ok U) now k)
 
 -- in a value of this kind
-is-value : (m : ℕ) (V : Tokenizer) (s : TokenizeState) (more : List Name) →
+is-value : (m : ℕ) (V : Tokenizer) (s : TokenizeState) (more : List Name) → ReadsText V →
     V.stack ≡ N.CharacterReferenceValue ∷ N.CharacterReference ∷ more → V.tokenize_state ≡ marked m s → s.size ≡ 0 →
     IsMarker m → IsValue V
-is-value m V s more e now z k =
+is-value m V s more text e now z k =
     let size : V.tokenize_state.size ≡ 0 = ap (λ (q : TokenizeState). q.size) now ∙ z in
     record {
+      text = text;
+      begins = omega (arith, size);
       value = e ∙ ap (λ ns. N.CharacterReferenceValue ∷ rest_of ns) (sym e);
       whole = ap rest_of e ∙ ap (λ ns. N.CharacterReference ∷ rest_of (rest_of ns)) (sym e);
       marker = subst (λ (q : TokenizeState). IsMarker q.marker) (sym now) k;
@@ -137,12 +161,39 @@ taken-room : (m n c : ℕ) → is_taken m n c ≡ true → n + 1 ≤ value_size_
 unfolding is_taken
 taken-room m n c e = less-more n (value_size_max m) (and-left _ _ e)
 
+-- a code of a value is above the space
+value-high : (m c : ℕ) → IsMarker m → is_value_byte m c ≡ true → 32 < c
+value-high m c (inl e) h = name-high c (subst (λ k. is_value_byte k c ≡ true) e h)
+  where
+    name-high : (c : ℕ) → is_value_byte 38 c ≡ true → 32 < c
+    name-high c h = grind (arith, common_steps)
+value-high m c (inr (inl e)) h = decimal-high c (subst (λ k. is_value_byte k c ≡ true) e h)
+  where
+    decimal-high : (c : ℕ) → is_value_byte 35 c ≡ true → 32 < c
+    decimal-high c h = grind (arith, common_steps)
+value-high m c (inr (inr e)) h = hexadecimal-high c (subst (λ k. is_value_byte k c ≡ true) e h)
+  where
+    hexadecimal-high : (c : ℕ) → is_value_byte 120 c ≡ true → 32 < c
+    hexadecimal-high c h = grind (arith, common_steps)
+
+taken-high : (m n c : ℕ) → IsMarker m → is_taken m n c ≡ true → 32 < c
+unfolding is_taken
+taken-high m n c k e = value-high m c k (and-right _ _ e)
+
 -- one code further on in the value
-value-on : (T : Tokenizer) → IsValue T → (c : ℕ) → is_taken T.tokenize_state.marker T.tokenize_state.size c ≡ true →
+value-on : (T : Tokenizer) → IsValue T → (c : ℕ) → current_of T ≡ Some c →
+    is_taken T.tokenize_state.marker T.tokenize_state.size c ≡ true →
     IsValue (scratched (sized (T.tokenize_state.size + 1) T.tokenize_state) (done (Consume ∷ []) T))
 unfolding scratched applied
-value-on T v c e =
-    record { value = v.value; whole = v.whole; marker = v.marker; size = taken-room T.tokenize_state.marker T.tokenize_state.size c e }
+value-on T v c here e =
+    record {
+      text = text-moved _ T.cursor v.text;
+      begins = omega (arith, v.begins, index-more (sized (T.tokenize_state.size + 1) T.tokenize_state) T c v.text here (taken-high T.tokenize_state.marker T.tokenize_state.size c v.marker e));
+      value = v.value;
+      whole = v.whole;
+      marker = v.marker;
+      size = taken-room T.tokenize_state.marker T.tokenize_state.size c e;
+    }
 
 sign-test : (c : Code) → is_among (codes "xX") c ≡ (c.value == 120) || (c.value == 88)
 sign-test c = ap (λ b. (c.value == 120) || b) (or-false (c.value == 88))
@@ -168,19 +219,15 @@ module _ (W : Words) (within : Within states W) where
       (λ ok U k. subst (λ (s : TokenizeState). DoesAs 1 open_plan s (done opening T) ok U) (open_rest (opened-done T rest)) k))
       (λ h. Goes-no W 4 0 p T alone (ap p b.whole ∙ no-reference (is_on T) (b.code ∷ rest_of (ahead T)) (ap (λ v. is_on T && (v == 38)) b.value ∙ h)))))
 
-  -- neither a number nor a name of the table, or the start of a name
+  -- the start of a name
   named-law : (T : Tokenizer) → T.attempts ≡ [] → IsOpened T → next_is (is_value 35) (ahead T) ≡ false →
       GoesIn W (weight_at 3 T) (open_ends T) (named_step T)
   named-law T alone o none =
-      let P : Stepped → Type 0 = GoesIn W (weight_at 3 T) (open_ends T) in
       let V : Tokenizer = scratched (marked 38 T.tokenize_state) (done value_start T) in
-      let other : open_plan (ahead T) ≡ named_plan (ahead T) = if-false _ _ _ none in
-      if-step P (begins_name (ahead T)) _ _
-      (λ h. Goes-on W 3 1 open_plan (value_plan 38 0) value_start (rested T.tokenize_state) (marked 38 T.tokenize_state) T (Retry CharacterReferenceValue) (within CharacterReferenceValue) alone refl (no-codes T) (omega arith)
-      (other ∙ if-true _ _ _ h)
-      (is-value 38 V T.tokenize_state (rest_of T.stack) (started 38 T o) (scratch-scratched _ _) o.size (inl refl))
-      (λ ok U k. value-from 38 value_start T o ok U k))
-      (λ h. subst (λ (s : TokenizeState). GoesIn W (weight_at 3 T) (DoesAs 1 open_plan s T) (stepped Nok T)) (sym (rested-same T.tokenize_state o.marker o.size)) (Goes-no W 3 1 open_plan T alone (other ∙ if-false _ _ _ h)))
+      Goes-on W 3 1 open_plan (value_plan 38 []) value_start (rested T.tokenize_state) (marked 38 T.tokenize_state) T (Retry CharacterReferenceValue) (within CharacterReferenceValue) alone refl (no-codes T) (omega arith)
+      (if-false _ _ _ none)
+      (is-value 38 V T.tokenize_state (rest_of T.stack) (text-scratched _ (done value_start T) (start-text T o.text)) (started 38 T o) (scratch-scratched _ _) o.size (inl refl))
+      (λ ok U k. value-from 38 value_start T o ok U k)
 
   pub open-law : Law W open_words
   open-law T alone o =
@@ -200,9 +247,9 @@ module _ (W : Words) (within : Within states W) where
       GoesIn W (weight_at 2 T) (numeric_ends T) (decimal_step T)
   decimal-law T alone o none =
       let V : Tokenizer = scratched (marked 35 T.tokenize_state) (done value_start T) in
-      Goes-on W 2 1 numeric_plan (value_plan 35 0) value_start (rested T.tokenize_state) (marked 35 T.tokenize_state) T (Retry CharacterReferenceValue) (within CharacterReferenceValue) alone refl (no-codes T) (omega arith)
+      Goes-on W 2 1 numeric_plan (value_plan 35 []) value_start (rested T.tokenize_state) (marked 35 T.tokenize_state) T (Retry CharacterReferenceValue) (within CharacterReferenceValue) alone refl (no-codes T) (omega arith)
       (if-false _ _ _ none)
-      (is-value 35 V T.tokenize_state (rest_of T.stack) (started 35 T o) (scratch-scratched _ _) o.size (inr (inl refl)))
+      (is-value 35 V T.tokenize_state (rest_of T.stack) (text-scratched _ (done value_start T) (start-text T o.text)) (started 35 T o) (scratch-scratched _ _) o.size (inr (inl refl)))
       (λ ok U k. value-from 35 value_start T o ok U k)
 
   pub numeric-law : Law W numeric_words
@@ -213,30 +260,46 @@ module _ (W : Words) (within : Within states W) where
       (λ e. decimal-law T alone o (ap (next_is (is_among (codes "xX"))) (ahead-none T e)))
       (λ c e. let b = ahead-some T c e in
       if-step P ((c == 120) || (c == 88)) _ _
-      (λ h. Goes-on W 2 1 numeric_plan (value_plan 120 0) hexadecimal_sign (rested T.tokenize_state) (marked 120 T.tokenize_state) T (Next CharacterReferenceValue) (within CharacterReferenceValue) alone refl (some-codes T c e) (omega arith)
-      (ap numeric_plan b.whole ∙ if-true _ _ _ (sign-test b.code ∙ ap (λ v. (v == 120) || (v == 88)) b.value ∙ h) ∙ ap (λ cs. preceded hexadecimal_sign (value_plan 120 0 (drop 1 cs))) (sym b.whole))
-      (is-value 120 V T.tokenize_state (rest_of T.stack) (signed T o) (scratch-scratched _ _) o.size (inr (inr refl)))
+      (λ h. Goes-on W 2 1 numeric_plan (value_plan 120 []) hexadecimal_sign (rested T.tokenize_state) (marked 120 T.tokenize_state) T (Next CharacterReferenceValue) (within CharacterReferenceValue) alone refl (some-codes T c e) (omega arith)
+      (ap numeric_plan b.whole ∙ if-true _ _ _ (sign-test b.code ∙ ap (λ v. (v == 120) || (v == 88)) b.value ∙ h) ∙ ap (λ cs. preceded hexadecimal_sign (value_plan 120 [] (drop 1 cs))) (sym b.whole))
+      (is-value 120 V T.tokenize_state (rest_of T.stack) (text-scratched _ (done hexadecimal_sign T) (sign-text T o.text)) (signed T o) (scratch-scratched _ _) o.size (inr (inr refl)))
       (λ ok U k. value-from 120 hexadecimal_sign T o ok U k))
       (λ h. decimal-law T alone o (ap (next_is (is_among (codes "xX"))) b.whole ∙ sign-test b.code ∙ ap (λ v. (v == 120) || (v == 88)) b.value ∙ h)))
+
+  -- on past a code of the value
+  taken-law : (T : Tokenizer) → T.attempts ≡ [] → IsValue T → (c : ℕ) → current_of T ≡ Some c →
+      is_taken T.tokenize_state.marker T.tokenize_state.size c ≡ true →
+      GoesIn W (weight_at 1 T) (value_ends T) (stepped (Next CharacterReferenceValue) (scratched (sized (T.tokenize_state.size + 1) T.tokenize_state) (done (Consume ∷ []) T)))
+  taken-law T alone v c e t =
+      let s : TokenizeState = T.tokenize_state in
+      let read : List ℕ = read_of T in
+      let p : Plan = value_plan s.marker read in
+      let V : Tokenizer = scratched (sized (s.size + 1) s) (done (Consume ∷ []) T) in
+      let b = ahead-some T c e in
+      let taken : is_taken s.marker (length read) b.code.value ≡ true = ap (λ n. is_taken s.marker n b.code.value) (read-size T v) ∙ ap (is_taken s.marker s.size) b.value ∙ t in
+      let more : read_of V ≡ read ++ b.code.value ∷ [] = read-more T c v e (taken-high s.marker s.size c v.marker t) ∙ ap (λ x. read ++ x ∷ []) (sym b.value) in
+      let now : V.tokenize_state ≡ sized (s.size + 1) s = scratch-scratched (sized (s.size + 1) s) (done (Consume ∷ []) T) in
+      Goes-on W 1 2 p (value_plan s.marker (read ++ b.code.value ∷ [])) (Consume ∷ []) (rested s) (sized (s.size + 1) s) T (Next CharacterReferenceValue) (within CharacterReferenceValue) alone refl (some-codes T c e) (omega arith)
+      (ap p b.whole ∙ value-more s.marker read b.code (rest_of (ahead T)) taken ∙ ap (λ cs. preceded (Consume ∷ []) (value_plan s.marker (read ++ b.code.value ∷ []) (drop 1 cs))) (sym b.whole))
+      (value-on T v c e t)
+      (λ ok U k. subst (λ (q : TokenizeState). DoesAs 2 (value_plan q.marker (read ++ b.code.value ∷ [])) (rested q) V ok U) now (subst (λ (xs : List ℕ). DoesAs 2 (value_plan V.tokenize_state.marker xs) (rested V.tokenize_state) V ok U) more k))
 
   pub value-law : Law W value_words
   value-law T alone v =
       let s : TokenizeState = T.tokenize_state in
-      let p : Plan = value_plan s.marker s.size in
+      let read : List ℕ = read_of T in
+      let p : Plan = value_plan s.marker read in
       let P : Stepped → Type 0 = GoesIn W (weight_at 1 T) (value_ends T) in
-      let V : Tokenizer = scratched (sized (s.size + 1) s) (done (Consume ∷ []) T) in
+      let size : s.size ≡ length read = sym (read-size T v) in
       code-step P (current_of T) (λ x. value_at x T)
-      (λ e. Goes-nok W 1 2 p (rested s) T alone (ap p (ahead-none T e) ∙ value-end s.marker s.size))
+      (λ e. Goes-nok W 1 2 p (rested s) T alone (ap p (ahead-none T e) ∙ value-end s.marker read))
       (λ c e. let b = ahead-some T c e in
-      if-step P ((c == 59) && nat_lt 0 s.size) _ _
-      (λ h. Goes-ok W 1 2 p closing (rested s) T alone (ap p b.whole ∙ value-close s.marker s.size b.code (rest_of (ahead T)) (ap (λ x. x == 59) b.value ∙ and-left _ _ h) (and-right _ _ h) v.size))
+      if-step P (((c == 59) && nat_lt 0 s.size) && is_known s.marker read) _ _
+      (λ h. let ends : (c == 59) && nat_lt 0 s.size ≡ true = and-left _ _ h in
+      Goes-ok W 1 2 p closing (rested s) T alone (ap p b.whole ∙ value-close s.marker read b.code (rest_of (ahead T)) (ap (λ x. x == 59) b.value ∙ and-left _ _ ends) (ap (nat_lt 0) (sym size) ∙ and-right _ _ ends) (and-right _ _ h) (subst (λ n. n ≤ value_size_max s.marker) size v.size)))
       (λ h. if-step P (is_taken s.marker s.size c) _ _
-      (λ t. let t2 : is_taken s.marker s.size b.code.value ≡ true = ap (is_taken s.marker s.size) b.value ∙ t in
-      Goes-on W 1 2 p (value_plan s.marker (s.size + 1)) (Consume ∷ []) (rested s) (sized (s.size + 1) s) T (Next CharacterReferenceValue) (within CharacterReferenceValue) alone refl (some-codes T c e) (omega arith)
-      (ap p b.whole ∙ value-more s.marker s.size b.code (rest_of (ahead T)) t2 ∙ ap (λ cs. preceded (Consume ∷ []) (value_plan s.marker (s.size + 1) (drop 1 cs))) (sym b.whole))
-      (value-on T v c t)
-      (λ ok U k. subst (λ (q : TokenizeState). DoesAs 2 (value_plan q.marker q.size) (rested q) V ok U) (scratch-scratched (sized (s.size + 1) s) (done (Consume ∷ []) T)) k))
-      (λ t. Goes-nok W 1 2 p (rested s) T alone (ap p b.whole ∙ value-stop s.marker s.size b.code (rest_of (ahead T)) (ap (λ x. (x == 59) && nat_lt 0 s.size) b.value ∙ h) (ap (is_taken s.marker s.size) b.value ∙ t)))))
+      (λ t. taken-law T alone v c e t)
+      (λ t. Goes-nok W 1 2 p (rested s) T alone (ap p b.whole ∙ value-stop s.marker read b.code (rest_of (ahead T)) (ap (λ x. ((x == 59) && nat_lt 0 (length read)) && is_known s.marker read) b.value ∙ ap (λ n. ((c == 59) && nat_lt 0 n) && is_known s.marker read) (sym size) ∙ h) (ap (λ n. is_taken s.marker n b.code.value) (sym size) ∙ ap (is_taken s.marker s.size) b.value ∙ t)))))
 
 -- of these states, and of any other as it is given
 pub laws : (W : Words) → Within states W → (t : StateName → StateWords) → AreLawful W t → AreLawful W (states t)

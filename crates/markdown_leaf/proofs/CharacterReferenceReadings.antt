@@ -1,9 +1,9 @@
 -- What the definition of a character reference reads, by what stands there.
-use Rattle.std.proofs.Common.{◌≡◌, ℕ, suc, ◌+◌, ◌≤◌, ◌==◌, ◌&&◌, ◌||◌, nat_le, nat_lt, Bool, true, false, if◌then◌else◌, Option, Some, None, List, [], ◌∷◌, ◌++◌, length, refl, sym, ap, subst, ◌∙◌, arith, append_assoc}
+use Rattle.std.proofs.Common.{◌≡◌, ℕ, suc, ◌+◌, ◌≤◌, ◌==◌, ◌&&◌, ◌||◌, nat_le, nat_lt, Bool, true, false, if◌then◌else◌, Option, Some, None, List, [], ◌∷◌, ◌++◌, length, refl, sym, ap, ◌∙◌, arith, append_assoc, append-nil, length-append, not}
 use Rattle.std.specs.Char.{is_ascii_alphanumeric}
 use Rattle.std.specs.Prelude.{codes}
 use Rattle.markdown_util.proofs.WholeReference.{semicolon_stops}
-use Rattle.std.proofs.Math.Bool.{and-false}
+use Rattle.std.proofs.Math.Bool.{and-false, and-true}
 use Rattle.std.proofs.lemmas.Bool.{le-leb, eqb-true}
 use Rattle.markdown_engine_content.specs.Codes.{Code}
 use Rattle.markdown_engine_content.specs.ListFunctions.{rest_of}
@@ -11,63 +11,87 @@ use Rattle.markdown_engine.specs.Operations.{Op, Enter, Exit, Consume}
 use Rattle.markdown_engine.specs.TreeOps.{consumes, ops_of}
 use Rattle.markdown_engine_content.specs.Tree.{Forest}
 use Rattle.markdown_engine_content.specs.declared.event.Name.TheVariants as N
-use Rattle.markdown_model.specs.CodeTests.{is_value, is_among, is_between, is_alphanumeric, is_digit, is_hex_digit, is_empty, next_is}
+use Rattle.markdown_model.specs.CodeTests.{is_value, is_among, is_between, is_alphanumeric, is_digit, is_hex_digit, is_empty, next_is, values_of}
 use Rattle.markdown_model.specs.Grammar.{Reading, ◌>>◌, ◌>>=◌, either, provided, one, some, span, gives}
 use Rattle.markdown_model.specs.LeafConstructs.{Parts, character_reference, reference_tree, named_parts, decimal_parts, hexadecimal_parts, is_name}
 use Rattle.markdown_util.specs.Reference.{html_5_rows, value_size_max, is_value_byte}
-use Rattle.markdown_leaf.specs.CharacterReference.{opening, number_sign, hexadecimal_sign, value_start, closing, begins_name, is_value_code, is_taken, value_of, value_plan, numeric_plan, named_plan, open_plan}
+use Rattle.markdown_leaf.specs.CharacterReference.{opening, number_sign, hexadecimal_sign, value_start, closing, has_value, is_known, is_whole, is_value_code, is_taken, value_of, value_plan, numeric_plan, named_plan, open_plan}
 use Rattle.markdown_plan.specs.Plan.{preceded, tree_ops, plan_of}
 use Rattle.markdown_leaf.proofs.CharacterReferenceNames.{name-short, length-values, same-code}
 use Rattle.markdown_plan.proofs.PlanSteps.{preceded-twice}
-use Rattle.markdown_model.proofs.GrammarSteps.{bind-some, bind-none, after-some, after-none, provided-true, provided-false, one-here, one-not, some-span, some-nothing, either-first, either-second, switched-on, switched-off, and-left, and-right, left-true, right-true, if-true, if-false, span-takes, span-none}
+use Rattle.markdown_model.proofs.GrammarSteps.{bind-some, bind-none, after-some, after-none, provided-true, provided-false, one-here, one-not, some-span, some-nothing, either-first, either-second, switched-on, switched-off, and-right, left-true, right-true, if-true, if-false, span-takes, span-none}
 use Rattle.markdown_model.proofs.DefinitionSteps.{span-agrees}
 
 -- Values.
 
-between-size : (n max : ℕ) → nat_lt 0 n ≡ true → n ≤ max → is_between 1 max (n + 0) ≡ true
+between-size : (n max : ℕ) → nat_lt 0 n ≡ true → n ≤ max → is_between 1 max n ≡ true
 between-size n max e h = grind arith
 
-pub value-close : (m n : ℕ) (c : Code) (cs : List Code) → (c.value == 59) ≡ true → nat_lt 0 n ≡ true →
-    n ≤ value_size_max m → value_plan m n (c ∷ cs) ≡ Some closing
-value-close m n c cs e h l =
+-- what was passed is the value
+passed-value : (m : ℕ) (read : List ℕ) (cs : List Code) →
+    value_of m read ([], cs) ≡ (if is_whole m read && next_is (is_value 59) cs then Some closing else None)
+passed-value m read cs = ap (λ v. if is_whole m v && next_is (is_value 59) cs then Some closing else None) (append-nil read)
+
+pub value-close : (m : ℕ) (read : List ℕ) (c : Code) (cs : List Code) → (c.value == 59) ≡ true →
+    nat_lt 0 (length read) ≡ true → is_known m read ≡ true → length read ≤ value_size_max m →
+    value_plan m read (c ∷ cs) ≡ Some closing
+value-close m read c cs e h k l =
     let other : is_value_code m c ≡ false = ap (is_value_byte m) (eqb-true c.value 59 e) ∙ semicolon_stops m in
-    ap (value_of m n) (span-none (is_value_code m) (c ∷ cs) other)
-    ∙ if-true _ (Some closing) None (rw (e, between-size n (value_size_max m) h l) refl)
+    let size : is_between 1 (value_size_max m) (length read) ≡ true = between-size (length read) (value_size_max m) h l in
+    ap (value_of m read) (span-none (is_value_code m) (c ∷ cs) other)
+    ∙ passed-value m read (c ∷ cs)
+    ∙ if-true _ (Some closing) None (ap (λ b. (b && is_known m read) && (c.value == 59)) size ∙ ap (λ b. b && (c.value == 59)) k ∙ e)
 
 preceded-if : (os : List Op) (b : Bool) (x : List Op) →
     (if b then Some (os ++ x) else None) ≡ preceded os (if b then Some x else None)
 preceded-if os true x = refl
 preceded-if os false x = refl
 
-pub value-more : (m n : ℕ) (c : Code) (cs : List Code) → is_taken m n c.value ≡ true →
-    value_plan m n (c ∷ cs) ≡ preceded (Consume ∷ []) (value_plan m (n + 1) cs)
+pub value-more : (m : ℕ) (read : List ℕ) (c : Code) (cs : List Code) → is_taken m (length read) c.value ≡ true →
+    value_plan m read (c ∷ cs) ≡ preceded (Consume ∷ []) (value_plan m (read ++ c.value ∷ []) cs)
 unfolding is_taken
-value-more m n c cs e =
+value-more m read c cs e =
     let s : List Code × List Code = span (is_value_code m) cs in
-    let size : n + suc (length s.0) ≡ (n + 1) + length s.0 = omega arith in
-    ap (value_of m n) (span-takes (is_value_code m) c cs (and-right _ _ e))
-    ∙ ap (λ k. if is_between 1 (value_size_max m) k && next_is (is_value 59) s.1 then Some (Consume ∷ consumes s.0 ++ closing) else None) size
-    ∙ preceded-if (Consume ∷ []) (is_between 1 (value_size_max m) ((n + 1) + length s.0) && next_is (is_value 59) s.1) (consumes s.0 ++ closing)
+    let more : read ++ c.value ∷ values_of s.0 ≡ (read ++ c.value ∷ []) ++ values_of s.0 = sym (append_assoc read (c.value ∷ []) (values_of s.0)) in
+    ap (value_of m read) (span-takes (is_value_code m) c cs (and-right _ _ e))
+    ∙ ap (λ v. if is_whole m v && next_is (is_value 59) s.1 then Some (Consume ∷ consumes s.0 ++ closing) else None) more
+    ∙ preceded-if (Consume ∷ []) (is_whole m ((read ++ c.value ∷ []) ++ values_of s.0) && next_is (is_value 59) s.1) (consumes s.0 ++ closing)
 
 too-many : (n max k : ℕ) → nat_lt n max ≡ false → is_between 1 max (n + suc k) ≡ false
 too-many n max k e = grind arith
 
-none-yet : (n max : ℕ) → nat_lt 0 n ≡ false → is_between 1 max (n + 0) ≡ false
+none-yet : (n max : ℕ) → nat_lt 0 n ≡ false → is_between 1 max n ≡ false
 none-yet n max e = grind arith
 
-pub value-end : (m n : ℕ) → value_plan m n [] ≡ None
-value-end m n = if-false _ _ _ (and-false (is_between 1 (value_size_max m) (n + 0)))
+pub value-end : (m : ℕ) (read : List ℕ) → value_plan m read [] ≡ None
+value-end m read = if-false _ _ _ (and-false (is_whole m (read ++ [])))
 
-pub value-stop : (m n : ℕ) (c : Code) (cs : List Code) → (c.value == 59) && nat_lt 0 n ≡ false →
-    is_taken m n c.value ≡ false → value_plan m n (c ∷ cs) ≡ None
+no-value : (m : ℕ) (read : List ℕ) → nat_lt 0 (length read) && is_known m read ≡ false → is_whole m read ≡ false
+no-value m read h =
+    let max : ℕ = value_size_max m in
+    elim (nat_lt 0 (length read)) as (λ b. nat_lt 0 (length read) ≡ b → is_whole m read ≡ false) [
+      | true ↦ λ k. ap (λ b. is_between 1 max (length read) && b) (left-true _ _ h k) ∙ and-false _
+      | false ↦ λ k. ap (λ b. b && is_known m read) (none-yet (length read) max k)
+    ] refl
+
+full-value : (m : ℕ) (read : List ℕ) (c : Code) (cs : List Code) → nat_lt (length read) (value_size_max m) ≡ false →
+    is_whole m (read ++ values_of (c ∷ cs)) ≡ false
+full-value m read c cs h =
+    let size : length (read ++ values_of (c ∷ cs)) ≡ length read + suc (length (values_of cs)) = length-append read (values_of (c ∷ cs)) in
+    ap (λ b. b && is_known m (read ++ values_of (c ∷ cs))) (ap (is_between 1 (value_size_max m)) size ∙ too-many (length read) (value_size_max m) (length (values_of cs)) h)
+
+pub value-stop : (m : ℕ) (read : List ℕ) (c : Code) (cs : List Code) →
+    ((c.value == 59) && nat_lt 0 (length read)) && is_known m read ≡ false → is_taken m (length read) c.value ≡ false →
+    value_plan m read (c ∷ cs) ≡ None
 unfolding is_taken
-value-stop m n c cs e h =
-    elim (is_value_code m c) as (λ b. is_value_code m c ≡ b → value_plan m n (c ∷ cs) ≡ None) [
-      | true ↦ λ k. ap (value_of m n) (span-takes (is_value_code m) c cs k) ∙ if-false _ _ _ (ap (λ b. b && next_is (is_value 59) (span (is_value_code m) cs).1) (too-many n (value_size_max m) (length (span (is_value_code m) cs).0) (right-true _ _ h k)))
-      | false ↦ λ k. ap (value_of m n) (span-none (is_value_code m) (c ∷ cs) k)
-          ∙ (elim (c.value == 59) as (λ b. (c.value == 59) ≡ b → value_of m n ([], c ∷ cs) ≡ None) [
-            | true ↦ λ t. if-false _ _ _ (ap (λ b. b && (c.value == 59)) (none-yet n (value_size_max m) (left-true _ _ e t)))
-            | false ↦ λ t. if-false _ _ _ (ap (λ b. is_between 1 (value_size_max m) (n + 0) && b) t ∙ and-false _)
+value-stop m read c cs e h =
+    elim (is_value_code m c) as (λ b. is_value_code m c ≡ b → value_plan m read (c ∷ cs) ≡ None) [
+      | true ↦ λ k. let s : List Code × List Code = span (is_value_code m) cs in
+          ap (value_of m read) (span-takes (is_value_code m) c cs k) ∙ if-false _ _ _ (ap (λ b. b && next_is (is_value 59) s.1) (full-value m read c s.0 (right-true _ _ h k)))
+      | false ↦ λ k. ap (value_of m read) (span-none (is_value_code m) (c ∷ cs) k) ∙ passed-value m read (c ∷ cs)
+          ∙ (elim (c.value == 59) as (λ b. (c.value == 59) ≡ b → (if is_whole m read && (c.value == 59) then Some closing else None) ≡ None) [
+            | true ↦ λ t. if-false _ _ _ (ap (λ b. b && (c.value == 59)) (no-value m read (sym (ap (λ b. (b && nat_lt 0 (length read)) && is_known m read) t) ∙ e)))
+            | false ↦ λ t. if-false _ _ _ (ap (λ b. is_whole m read && b) t ∙ and-false _)
           ] refl)
     ] refl
 
@@ -90,14 +114,6 @@ module _ (p : Code → Bool) (ok : List Code → Bool) (f : List Code → List C
   tail-open cs v vs r e h k =
       bind-some _ _ _ _ _ _ (some-span p cs v vs r e) (after-some _ _ _ _ _ _ (provided-true (ok (v ∷ vs)) r h) (bind-none _ _ _ (one-not (is_value 59) r k)))
 
-  tail-none : (cs w r : List Code) → span p cs ≡ (w, r) → ok w && next_is (is_value 59) r ≡ false → tail cs ≡ None
-  tail-none cs [] r e h = tail-nothing cs r e
-  tail-none cs (v ∷ vs) r e h =
-      elim (ok (v ∷ vs)) as (λ b. ok (v ∷ vs) ≡ b → tail cs ≡ None) [
-        | false ↦ λ k. tail-refused cs v vs r e k
-        | true ↦ λ k. tail-open cs v vs r e k (left-true _ _ h k)
-      ] refl
-
   tail-whole : (cs : List Code) (v : Code) (vs : List Code) (b : Code) (r : List Code) → span p cs ≡ (v ∷ vs, b ∷ r) →
       ok (v ∷ vs) ≡ true → (b.value == 59) ≡ true → tail cs ≡ Some (f (v ∷ vs) (b ∷ []), r)
   unfolding gives
@@ -114,38 +130,60 @@ abbrev Begins : List Op → (List Code → List Code → Parts) → Type 0
 Begins os f =
     (v : Code) (vs : List Code) (b : Code) → Some (ops_of (reference_tree (f (v ∷ vs) (b ∷ [])))) ≡ preceded os (Some (consumes (v ∷ vs) ++ closing))
 
-between-some : (k max : ℕ) → is_between 1 max (0 + suc k) ≡ nat_le (suc k) max
-between-some k max = grind arith
-
 tail-by : (m : ℕ) (os : List Op) (p : Code → Bool) (ok : List Code → Bool) (f : List Code → List Code → Parts) →
     Begins os f → (cs w r : List Code) → span p cs ≡ (w, r) →
-    (is_empty w ≡ false → ok w ≡ nat_le (length w) (value_size_max m)) →
-    part_ops (tail p ok f cs) ≡ preceded os (value_of m 0 (w, r))
+    (is_empty w ≡ false → ok w ≡ is_whole m (values_of w)) →
+    part_ops (tail p ok f cs) ≡ preceded os (value_of m [] (w, r))
 tail-by m os p ok f g cs [] r e h = ap part_ops (tail-nothing p ok f cs r e)
 tail-by m os p ok f g cs (v ∷ vs) r e h =
-    let max : ℕ = value_size_max m in
-    let fits : is_between 1 max (0 + suc (length vs)) ≡ ok (v ∷ vs) = between-some (length vs) max ∙ sym (h refl) in
-    elim (ok (v ∷ vs)) as (λ b. ok (v ∷ vs) ≡ b → part_ops (tail p ok f cs) ≡ preceded os (value_of m 0 (v ∷ vs, r))) [
+    let fits : is_whole m (values_of (v ∷ vs)) ≡ ok (v ∷ vs) = sym (h refl) in
+    elim (ok (v ∷ vs)) as (λ b. ok (v ∷ vs) ≡ b → part_ops (tail p ok f cs) ≡ preceded os (value_of m [] (v ∷ vs, r))) [
       | false ↦ λ k. ap part_ops (tail-refused p ok f cs v vs r e k) ∙ ap (preceded os) (sym (if-false _ _ _ (ap (λ b. b && next_is (is_value 59) r) (fits ∙ k))))
-      | true ↦ λ k. elim (next_is (is_value 59) r) as (λ b. next_is (is_value 59) r ≡ b → part_ops (tail p ok f cs) ≡ preceded os (value_of m 0 (v ∷ vs, r))) [
-        | false ↦ λ t. ap part_ops (tail-open p ok f cs v vs r e k t) ∙ ap (preceded os) (sym (if-false _ _ _ (ap (λ b. is_between 1 max (0 + suc (length vs)) && b) t ∙ and-false _)))
+      | true ↦ λ k. elim (next_is (is_value 59) r) as (λ b. next_is (is_value 59) r ≡ b → part_ops (tail p ok f cs) ≡ preceded os (value_of m [] (v ∷ vs, r))) [
+        | false ↦ λ t. ap part_ops (tail-open p ok f cs v vs r e k t) ∙ ap (preceded os) (sym (if-false _ _ _ (ap (λ b. is_whole m (values_of (v ∷ vs)) && b) t ∙ and-false _)))
         | true ↦ λ t. closed r e t (fits ∙ k) k
       ] refl
     ] refl
   where
     closed : (r : List Code) → span p cs ≡ (v ∷ vs, r) → next_is (is_value 59) r ≡ true →
-        is_between 1 (value_size_max m) (0 + suc (length vs)) ≡ true → ok (v ∷ vs) ≡ true →
-        part_ops (tail p ok f cs) ≡ preceded os (value_of m 0 (v ∷ vs, r))
+        is_whole m (values_of (v ∷ vs)) ≡ true → ok (v ∷ vs) ≡ true →
+        part_ops (tail p ok f cs) ≡ preceded os (value_of m [] (v ∷ vs, r))
     closed [] e t i k = cc
     closed (b ∷ r) e t i k =
         ap part_ops (tail-whole p ok f cs v vs b r e k t) ∙ g v vs b ∙ ap (preceded os) (sym (if-true _ _ _ (ap (λ x. x && (b.value == 59)) i ∙ t)))
 
 tail-plan : (m : ℕ) (os : List Op) (p : Code → Bool) (ok : List Code → Bool) (f : List Code → List Code → Parts) →
     Begins os f → (cs : List Code) → ((c : Code) → p c ≡ is_value_code m c) →
-    (is_empty (span p cs).0 ≡ false → ok (span p cs).0 ≡ nat_le (length (span p cs).0) (value_size_max m)) →
-    part_ops (tail p ok f cs) ≡ preceded os (value_plan m 0 cs)
+    (is_empty (span p cs).0 ≡ false → ok (span p cs).0 ≡ is_whole m (values_of (span p cs).0)) →
+    part_ops (tail p ok f cs) ≡ preceded os (value_plan m [] cs)
 tail-plan m os p ok f g cs same h =
-    tail-by m os p ok f g cs (span p cs).0 (span p cs).1 refl h ∙ ap (λ s. preceded os (value_of m 0 s)) (span-agrees p (is_value_code m) same cs)
+    tail-by m os p ok f g cs (span p cs).0 (span p cs).1 refl h ∙ ap (λ s. preceded os (value_of m [] s)) (span-agrees p (is_value_code m) same cs)
+
+-- Whole values.
+
+between-some : (k max : ℕ) → is_between 1 max (suc k) ≡ nat_le (suc k) max
+between-some k max = grind arith
+
+-- of a number, any
+number-whole : (m : ℕ) (w : List Code) → (m == 38) ≡ false → is_empty w ≡ false →
+    nat_le (length w) (value_size_max m) ≡ is_whole m (values_of w)
+number-whole m [] e h = cc
+number-whole m (c ∷ cs) e h =
+    let max : ℕ = value_size_max m in
+    let value : List ℕ = values_of (c ∷ cs) in
+    ap (λ n. nat_le (suc n) max) (sym (length-values cs))
+    ∙ sym (between-some (length (values_of cs)) max)
+    ∙ sym (ap (λ b. is_between 1 max (length value) && (not b || has_value html_5_rows value)) e ∙ and-true _)
+
+-- of a name, one of the table
+name-whole : (w : List Code) → is_empty w ≡ false → is_name html_5_rows w ≡ is_whole 38 (values_of w)
+name-whole [] h = cc
+name-whole (c ∷ cs) h =
+    let value : List ℕ = values_of (c ∷ cs) in
+    elim (has_value html_5_rows value) as (λ b. has_value html_5_rows value ≡ b → has_value html_5_rows value ≡ is_whole 38 value) [
+      | true ↦ λ k. sym (ap (λ b. b && has_value html_5_rows value) (between-some (length (values_of cs)) 31 ∙ le-leb (length value) 31 (name-short value k)))
+      | false ↦ λ k. k ∙ sym (ap (λ b. is_between 1 31 (length value) && b) k ∙ and-false _)
+    ] refl
 
 -- The three kinds.
 
@@ -228,36 +266,29 @@ begins-decimal c d v vs b = rw (append_assoc (consumes vs) value_end (Exit N.Cha
 begins-hexadecimal : (c d x : Code) → Begins (opening ++ number_sign ++ hexadecimal_sign) (hexadecimal_by c d x)
 begins-hexadecimal c d x v vs b = rw (append_assoc (consumes vs) value_end (Exit N.CharacterReference ∷ [])) refl
 
--- a name of the table and a `;`
-named-here : (c : Code) (cs : List Code) → (c.value == 38) ≡ true → begins_name cs ≡ true →
-    part_ops (named_parts html_5_rows (c ∷ cs)) ≡ preceded opening (preceded value_start (value_plan 38 0 cs))
-named-here c cs e h =
-    let short : nat_le (length (span is_alphanumeric cs).0) 31 ≡ true = le-leb _ 31 (subst (λ n. n ≤ 31) (length-values (span is_alphanumeric cs).0) (name-short _ (and-left _ _ h))) in
+named-here : (c : Code) (cs : List Code) → (c.value == 38) ≡ true →
+    part_ops (named_parts html_5_rows (c ∷ cs)) ≡ preceded opening (named_plan cs)
+named-here c cs e =
     ap part_ops (named-is c cs e)
-    ∙ tail-plan 38 (opening ++ value_start) is_alphanumeric (is_name html_5_rows) (named_by c) (begins-named c) cs same-code (λ _. and-left _ _ h ∙ sym short)
-    ∙ preceded-twice opening value_start (value_plan 38 0 cs)
-
-no-name : (c : Code) (cs : List Code) → (c.value == 38) ≡ true → begins_name cs ≡ false →
-    named_parts html_5_rows (c ∷ cs) ≡ None
-no-name c cs e h =
-    named-is c cs e ∙ tail-none is_alphanumeric (is_name html_5_rows) (named_by c) cs (span is_alphanumeric cs).0 (span is_alphanumeric cs).1 refl h
+    ∙ tail-plan 38 (opening ++ value_start) is_alphanumeric (is_name html_5_rows) (named_by c) (begins-named c) cs same-code (name-whole (span is_alphanumeric cs).0)
+    ∙ preceded-twice opening value_start (value_plan 38 [] cs)
 
 decimal-here : (c d : Code) (cs : List Code) → (c.value == 38) ≡ true → (d.value == 35) ≡ true →
-    part_ops (decimal_parts (c ∷ d ∷ cs)) ≡ preceded opening (preceded number_sign (preceded value_start (value_plan 35 0 cs)))
+    part_ops (decimal_parts (c ∷ d ∷ cs)) ≡ preceded opening (preceded number_sign (preceded value_start (value_plan 35 [] cs)))
 decimal-here c d cs e h =
     ap part_ops (decimal-is c d cs e h)
-    ∙ tail-plan 35 (opening ++ number_sign ++ value_start) is_digit (λ v. nat_le (length v) 7) (decimal_by c d) (begins-decimal c d) cs (λ k. refl) (λ _. refl)
-    ∙ preceded-twice opening (number_sign ++ value_start) (value_plan 35 0 cs)
-    ∙ ap (preceded opening) (preceded-twice number_sign value_start (value_plan 35 0 cs))
+    ∙ tail-plan 35 (opening ++ number_sign ++ value_start) is_digit (λ v. nat_le (length v) 7) (decimal_by c d) (begins-decimal c d) cs (λ k. refl) (number-whole 35 (span is_digit cs).0 refl)
+    ∙ preceded-twice opening (number_sign ++ value_start) (value_plan 35 [] cs)
+    ∙ ap (preceded opening) (preceded-twice number_sign value_start (value_plan 35 [] cs))
 
 hexadecimal-here : (c d x : Code) (cs : List Code) → (c.value == 38) ≡ true → (d.value == 35) ≡ true →
     is_among (codes "xX") x ≡ true →
-    part_ops (hexadecimal_parts (c ∷ d ∷ x ∷ cs)) ≡ preceded opening (preceded number_sign (preceded hexadecimal_sign (value_plan 120 0 cs)))
+    part_ops (hexadecimal_parts (c ∷ d ∷ x ∷ cs)) ≡ preceded opening (preceded number_sign (preceded hexadecimal_sign (value_plan 120 [] cs)))
 hexadecimal-here c d x cs e h k =
     ap part_ops (hexadecimal-is c d x cs e h k)
-    ∙ tail-plan 120 (opening ++ number_sign ++ hexadecimal_sign) is_hex_digit (λ v. nat_le (length v) 6) (hexadecimal_by c d x) (begins-hexadecimal c d x) cs (λ y. refl) (λ _. refl)
-    ∙ preceded-twice opening (number_sign ++ hexadecimal_sign) (value_plan 120 0 cs)
-    ∙ ap (preceded opening) (preceded-twice number_sign hexadecimal_sign (value_plan 120 0 cs))
+    ∙ tail-plan 120 (opening ++ number_sign ++ hexadecimal_sign) is_hex_digit (λ v. nat_le (length v) 6) (hexadecimal_by c d x) (begins-hexadecimal c d x) cs (λ y. refl) (number-whole 120 (span is_hex_digit cs).0 refl)
+    ∙ preceded-twice opening (number_sign ++ hexadecimal_sign) (value_plan 120 [] cs)
+    ∙ ap (preceded opening) (preceded-twice number_sign hexadecimal_sign (value_plan 120 [] cs))
 
 -- no digit is an `x`
 no-digits : (c d x : Code) (cs : List Code) → (c.value == 38) ≡ true → (d.value == 35) ≡ true →
@@ -287,13 +318,13 @@ number-parts : (c d : Code) (cs : List Code) → (c.value == 38) ≡ true → (d
     part_ops (parts (c ∷ d ∷ cs)) ≡ preceded opening (preceded number_sign (numeric_plan cs))
 number-parts c d cs e h =
     ap part_ops (either-second (named_parts html_5_rows) numbered (c ∷ d ∷ cs) (no-letters c d cs e h))
-    ∙ elim (next_is (is_among (codes "xX")) cs) as (λ b. next_is (is_among (codes "xX")) cs ≡ b → part_ops (numbered (c ∷ d ∷ cs)) ≡ preceded opening (preceded number_sign (if b then preceded hexadecimal_sign (value_plan 120 0 (rest_of cs)) else preceded value_start (value_plan 35 0 cs)))) [
+    ∙ elim (next_is (is_among (codes "xX")) cs) as (λ b. next_is (is_among (codes "xX")) cs ≡ b → part_ops (numbered (c ∷ d ∷ cs)) ≡ preceded opening (preceded number_sign (if b then preceded hexadecimal_sign (value_plan 120 [] (rest_of cs)) else preceded value_start (value_plan 35 [] cs)))) [
       | true ↦ λ k. signed cs k
       | false ↦ λ k. ap part_ops (either-first decimal_parts hexadecimal_parts (c ∷ d ∷ cs) (no-sign c d cs e h k)) ∙ decimal-here c d cs e h
     ] refl
   where
     signed : (cs : List Code) → next_is (is_among (codes "xX")) cs ≡ true →
-        part_ops (numbered (c ∷ d ∷ cs)) ≡ preceded opening (preceded number_sign (preceded hexadecimal_sign (value_plan 120 0 (rest_of cs))))
+        part_ops (numbered (c ∷ d ∷ cs)) ≡ preceded opening (preceded number_sign (preceded hexadecimal_sign (value_plan 120 [] (rest_of cs))))
     signed [] k = cc
     signed (x ∷ cs) k =
         ap part_ops (either-second decimal_parts hexadecimal_parts (c ∷ d ∷ x ∷ cs) (no-digits c d x cs e h k)) ∙ hexadecimal-here c d x cs e h k
@@ -303,10 +334,7 @@ name-parts : (c : Code) (cs : List Code) → (c.value == 38) ≡ true → next_i
     part_ops (parts (c ∷ cs)) ≡ preceded opening (named_plan cs)
 name-parts c cs e h =
     ap part_ops (either-first (named_parts html_5_rows) numbered (c ∷ cs) (either-second decimal_parts hexadecimal_parts (c ∷ cs) (no-decimal c cs e h) ∙ no-hexadecimal c cs e h))
-    ∙ elim (begins_name cs) as (λ b. begins_name cs ≡ b → part_ops (named_parts html_5_rows (c ∷ cs)) ≡ preceded opening (if b then preceded value_start (value_plan 38 0 cs) else None)) [
-      | true ↦ λ k. named-here c cs e k
-      | false ↦ λ k. ap part_ops (no-name c cs e k)
-    ] refl
+    ∙ named-here c cs e
 
 reference-parts : (c : Code) (cs : List Code) → (c.value == 38) ≡ true →
     part_ops (parts (c ∷ cs)) ≡ preceded opening (open_plan cs)

@@ -1,14 +1,15 @@
 pub mod CharacterEscapeLaws
 pub mod HardBreakEscapeLaws
 pub mod CharacterReferenceNames
+pub mod CharacterReferenceBytes
 pub mod CharacterReferenceReadings
 pub mod CharacterReferenceLaws
 pub mod LastEvent
 pub mod RawTextReadings
 pub mod RawTextCovers
-pub mod RawTextWithoutEnd
 pub mod RawTextReady
 pub mod RawTextLaws
+pub mod RawTextWithoutEnd
 pub mod AutolinkReadings
 pub mod AutolinkCovers
 pub mod AutolinkLaws

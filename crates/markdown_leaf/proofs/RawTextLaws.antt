@@ -23,18 +23,17 @@ use Rattle.markdown_model.specs.CodeTests.{is_value, is_some_code, next_is}
 use Rattle.markdown_model.specs.LeafConstructs.{SpanNames, code_names, math_names}
 use Rattle.markdown_plan.specs.Plan.{Plan, preceded, plan_of, KeepsAs}
 use Rattle.markdown_leaf.specs.RawText.{data_step, data_stops, names_in, begun, rested, is_same, is_barred, code_just_before, code_is_on, math_is_on, single_dollar, opened, start_at, start_step, after_opening, sequence_open_at, between_at, after_data, data_at, after_run, sequence_close_at, StartReady, SequenceOpenReady, DataReady}
-use Rattle.markdown_leaf.specs.RawText.{SequenceCloseReady, between_rank, close_rank, span_at, is_hopeless, closed_ops, inside_plan, is_data, data_plan, run_naming, opening_plan, start_ends, sequence_open_ends, between_ends, data_ends, sequence_close_ends, states, between_words, data_words, sequence_close_words, sequence_open_words, start_words}
+use Rattle.markdown_leaf.specs.RawText.{SequenceCloseReady, between_rank, close_rank, span_at, inside_plan, is_data, data_plan, run_naming, opening_plan, start_ends, sequence_open_ends, between_ends, data_ends, sequence_close_ends, states, between_words, data_words, sequence_close_words, sequence_open_words, start_words}
 use Rattle.markdown_model.specs.SingleConstructs.{follows_escape}
 use Rattle.markdown_plan.specs.ScratchFields.{with_size, with_size_b}
 use Rattle.markdown_plan.specs.LateNames.{Naming, NamesAs, opened as opened_by, renamed}
 use Rattle.markdown_plan.proofs.LateNameSteps.{DoesAs-entered}
 use Rattle.markdown_engine.proofs.OperationLemmas.{left-done}
-use Rattle.markdown_leaf.proofs.RawTextWithoutEnd.{hopeless-none}
 use Rattle.markdown_plan.proofs.PlanSteps.{EndsAs-plan, preceded-twice}
 use Rattle.markdown_leaf.proofs.RawTextReadings.{inside-none, inside-ending, inside-data, inside-run, data-more, data-end, run-more, run-closed, run-other, open-more, open-end, code-opens, math-opens-here, no-span}
 use Rattle.markdown_leaf.proofs.RawTextReady.{start-opened, opened-more, opened-between, between-ending, between-data, between-run, data-next, data-between, run-next, run-between, opening-says}
 use Rattle.markdown_leaf.proofs.RawTextCovers.{whole-here}
-use Rattle.markdown_model.proofs.GrammarSteps.{and-left, and-right, if-true}
+use Rattle.markdown_model.proofs.GrammarSteps.{and-left, and-right, if-false, if-true}
 use Rattle.markdown_plan.proofs.PassedByReadings.{Gives, Covers, Gives-either}
 use Rattle.markdown_engine.specs.StateWords.{StateWords, Words, Law, GoesIn}
 use Rattle.markdown_plan.proofs.LawStepsOfLayer.{GoesOn-map, Goes-on, Goes-ops, Goes-kept, Goes-inside, Goes-settled, Goes-nok, Goes-no, Goes-named}
@@ -52,10 +51,6 @@ neither false false e f = refl
 neither true b e f = cc
 neither false true e f = cc
 
-or-left : (a b : Bool) → (a || b) ≡ false → a ≡ false
-or-left false b e = refl
-or-left true b e = cc
-
 free-is : (e : Bool) (m : ℕ) (o : Option Code) →
     not (is_same m (value_of o) && not e) ≡ (e || not (is_some_code (is_value m) o))
 free-is true m None = refl
@@ -64,7 +59,7 @@ free-is true m (Some d) = elim (d.value == m) as (λ b. not (b && false) ≡ tru
 free-is false m (Some d) = elim (d.value == m) as (λ b. not (b && true) ≡ not b) [ true ↦ refl | false ↦ refl ]
 
 -- nothing bars a span of this marker
-barred-is : (m : ℕ) (T : Tokenizer) →
+pub barred-is : (m : ℕ) (T : Tokenizer) →
     not (is_barred m T) ≡ (follows_escape T.events || not (is_some_code (is_value m) (code_just_before T)))
 unfolding code_before
 barred-is m T = free-is (follows_escape T.events) m (code_just_before T)
@@ -239,14 +234,6 @@ module _ (W : Words) (within : Within states W) where
 
   -- The opening run.
 
-  -- nothing closes where the run is too short or hopeless
-  none-opened : (T : Tokenizer) → SequenceOpenReady T → next_is (is_value T.tokenize_state.marker) (ahead T) ≡ false →
-      (short : Bool) → (short || is_hopeless T) ≡ true →
-      (if not short then preceded (Exit T.tokenize_state.token_2 ∷ []) (inside_plan T.tokenize_state.marker (names_in T.tokenize_state) T.tokenize_state.size (ahead T)) else None) ≡ None
-  none-opened T k h true e = refl
-  none-opened T k h false e =
-      ap (λ o. preceded (Exit T.tokenize_state.token_2 ∷ []) (closed_ops (names_in T.tokenize_state) o)) (hopeless-none T k.marker k.indexed e h)
-
   run-opened : (T : Tokenizer) → T.attempts ≡ [] → SequenceOpenReady T →
       next_is (is_value T.tokenize_state.marker) (ahead T) ≡ false →
       GoesIn W (weight_at 6 T) (sequence_open_ends T) (after_opening T)
@@ -259,10 +246,10 @@ module _ (W : Words) (within : Within states W) where
       let V : Tokenizer = done (Exit s.token_2 ∷ []) T in
       let end = open-end (single_dollar T) m (names_in s) s.size (ahead T) h in
       let short : Bool = m == 36 && (s.size == 1 && not (single_dollar T)) in
-      if-step P (short || is_hopeless T) _ _
-      (λ g. Goes-nok W 6 2 p (rested s) T alone (end ∙ none-opened T k h short g))
+      if-step P short _ _
+      (λ g. Goes-nok W 6 2 p (rested s) T alone (end ∙ if-false _ _ _ (ap not g)))
       (λ g. Goes-kept W 6 2 p (inside_plan m (names_in s) s.size) (Exit s.token_2 ∷ []) (rested s) T (Retry RawTextBetween) (within RawTextBetween) alone refl (omega arith) (omega (arith, between-low (current_of V) V))
-      (end ∙ if-true _ _ _ (ap not (or-left short (is_hopeless T) g)))
+      (end ∙ if-true _ _ _ (ap not g))
       (opened-between T k)
       (λ ok U x. x))
 

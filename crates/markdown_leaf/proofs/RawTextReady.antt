@@ -2,19 +2,18 @@
 use Rattle.std.proofs.Common.{◌≡◌, ℕ, ◌+◌, ◌<◌, ◌≤◌, ◌==◌, Bool, false, List, [], ◌∷◌, length, refl, sym, ap, subst, ◌∙◌, arith}
 use Rattle.std.proofs.lemmas.Grind.{common_steps}
 use Rattle.markdown_engine.specs.Operations.{Op, Enter, Exit, Consume, ahead, applied, done, scratched, moves}
-use Rattle.markdown_engine_index.specs.RunIndex.{LastRuns, last_runs}
 use Rattle.markdown_engine.specs.Weights.{codes_left}
 use Rattle.markdown_engine_content.specs.declared.event.Name.{Name}
 use Rattle.markdown_engine_content.specs.declared.event.Name.TheVariants as N
 use Rattle.markdown_engine.specs.declared.tokenizer.TokenizeState.{TokenizeState}
 use Rattle.markdown_engine.specs.declared.tokenizer.Tokenizer.{Tokenizer}
 use Rattle.markdown_engine.proofs.OperationFields.{left-scratched}
-use Rattle.markdown_engine.proofs.OperationLemmas.{left-done, codes-done}
+use Rattle.markdown_engine.proofs.OperationLemmas.{left-done}
 use Rattle.markdown_model.specs.LeafConstructs.{SpanNames}
 use Rattle.markdown_plan.proofs.OpenEvents.{second-open}
 use Rattle.markdown_plan.proofs.LateNameSteps.{renamed-entered, renamed-consumed, renamed-scratched}
 use Rattle.markdown_plan.specs.Plan.{DoesAs}
-use Rattle.markdown_leaf.specs.RawText.{begun, rested, IsIndexed, StartReady, SequenceOpenReady, BetweenReady, DataReady, SequenceCloseReady, single_dollar, opening_plan, sequence_open_ends}
+use Rattle.markdown_leaf.specs.RawText.{begun, rested, StartReady, SequenceOpenReady, BetweenReady, DataReady, SequenceCloseReady, single_dollar, opening_plan, sequence_open_ends}
 use Rattle.markdown_plan.specs.ScratchFields.{with_size, with_size_b, Fits}
 use Rattle.markdown_plan.specs.LateNames.{renamed}
 
@@ -28,24 +27,17 @@ pub some-event : (T : Tokenizer) (m : Name) → 0 < length (applied (Enter m) T)
 unfolding applied
 some-event T m = grind (arith, common_steps)
 
--- what was right stays right
-indexed-after : (os : List Op) (r : TokenizeState) (T : Tokenizer) → r.runs ≡ T.tokenize_state.runs → IsIndexed T →
-    IsIndexed (scratched r (done os T))
-unfolding scratched
-indexed-after os r T same k =
-    same ∙ k ∙ ap (λ (x : LastRuns). last_runs x.asked T.cursor.codes) (sym same) ∙ ap (λ cs. last_runs r.runs.asked cs) (sym (codes-done os T))
-
 pub start-opened : (m : ℕ) (names : SpanNames) (T : Tokenizer) → (m == 10) ≡ false → StartReady T →
     SequenceOpenReady (scratched (begun m names T.tokenize_state) (done (Enter names.whole ∷ Enter names.sequence ∷ []) T))
 unfolding scratched applied
 start-opened m names T h k =
-    record { marker = h; stand_open = refl; uncounted = ap (λ (s : TokenizeState). s.size_b) k.rest; fits = fits-after T.tokenize_state.size 0 (Enter names.whole ∷ Enter names.sequence ∷ []) (begun m names T.tokenize_state) T T refl (omega arith) (omega (arith, ap (λ (s : TokenizeState). s.size) k.rest)) k.fits; indexed = indexed-after (Enter names.whole ∷ Enter names.sequence ∷ []) (begun m names T.tokenize_state) T refl k.indexed }
+    record { marker = h; stand_open = refl; uncounted = ap (λ (s : TokenizeState). s.size_b) k.rest; fits = fits-after T.tokenize_state.size 0 (Enter names.whole ∷ Enter names.sequence ∷ []) (begun m names T.tokenize_state) T T refl (omega arith) (omega (arith, ap (λ (s : TokenizeState). s.size) k.rest)) k.fits }
 
 pub opened-more : (T : Tokenizer) → 1 ≤ length (ahead T) → SequenceOpenReady T →
     SequenceOpenReady (scratched (with_size (T.tokenize_state.size + 1) T.tokenize_state) (done (Consume ∷ []) T))
 unfolding scratched applied
 opened-more T within k =
-    record { marker = k.marker; stand_open = k.stand_open; uncounted = k.uncounted; fits = fits-after (T.tokenize_state.size + 1) T.tokenize_state.size (Consume ∷ []) (with_size (T.tokenize_state.size + 1) T.tokenize_state) T T refl within (omega arith) k.fits; indexed = indexed-after (Consume ∷ []) (with_size (T.tokenize_state.size + 1) T.tokenize_state) T refl k.indexed }
+    record { marker = k.marker; stand_open = k.stand_open; uncounted = k.uncounted; fits = fits-after (T.tokenize_state.size + 1) T.tokenize_state.size (Consume ∷ []) (with_size (T.tokenize_state.size + 1) T.tokenize_state) T T refl within (omega arith) k.fits }
 
 pub opened-between : (T : Tokenizer) → SequenceOpenReady T → BetweenReady (done (Exit T.tokenize_state.token_2 ∷ []) T)
 unfolding applied

@@ -1,19 +1,29 @@
 -- Where no run of a size is left, no span of that size closes.
-use Rattle.std.proofs.lemmas.Bool.{and_left}
-use Rattle.std.proofs.Common.{◌≡◌, ℕ, zero, suc, ◌≤◌, ◌==◌, Bool, true, false, ◌&&◌, ◌||◌, not, if◌then◌else◌, None, List, [], ◌∷◌, length, drop, refl, sym, ap, ◌∙◌, arith}
+use Rattle.std.proofs.lemmas.Bool.{and_left, eq-eqb}
+use Rattle.std.proofs.lemmas.List.{drop-drop}
+use Rattle.std.proofs.Common.{◌≡◌, ℕ, zero, suc, ◌+◌, ◌≤◌, ◌==◌, Bool, true, false, ◌&&◌, ◌||◌, not, if◌then◌else◌, Option, Some, None, List, [], ◌∷◌, ◌++◌, length, drop, refl, sym, ap, subst, ◌∙◌, arith}
 use Rattle.markdown_engine_content.specs.Codes.{Code, is_line_ending}
-use Rattle.markdown_engine.specs.Operations.{ahead}
+use Rattle.markdown_engine_content.specs.ListFunctions.{rest_of}
+use Rattle.markdown_engine.specs.Operations.{Enter, Exit, Consume, ahead, current_of}
 use Rattle.markdown_engine_content.specs.Place.{ahead_at}
-use Rattle.markdown_engine_index.specs.RunIndex.{leading, last_run_from, last_run, begins_before}
+use Rattle.markdown_engine_content.specs.declared.event.Name.TheVariants as N
+use Rattle.markdown_engine_index.specs.RunIndex.{leading, last_run_from, last_run, begins_before, rules_out}
 use Rattle.markdown_engine.specs.declared.tokenizer.Tokenizer.{Tokenizer}
+use Rattle.markdown_engine.specs.TreeOps.{consumes}
+use Rattle.markdown_engine.proofs.OperationFields.{ahead-some, Begins}
 use Rattle.markdown_engine_index.proofs.RunIndexFacts.{later-none, none-after, ruled-out}
-use Rattle.markdown_model.specs.CodeTests.{is_value, next_is}
+use Rattle.markdown_model.specs.CodeTests.{is_value, is_some_code, next_is}
 use Rattle.markdown_model.specs.Grammar.{span}
-use Rattle.markdown_model.specs.LeafConstructs.{closing_run, closing, code_names}
+use Rattle.markdown_model.specs.LeafConstructs.{SpanNames, closing_run, closing, code_names, math_names}
+use Rattle.markdown_model.specs.SingleConstructs.{follows_escape}
 use Rattle.markdown_model.specs.TextLines.{stretches}
-use Rattle.markdown_leaf.proofs.RawTextReadings.{other-value, flipped, not-right, agree-marker, agree-data, ending-alone}
+use Rattle.markdown_model.proofs.GrammarSteps.{and-left, and-right}
+use Rattle.markdown_leaf.proofs.RawTextReadings.{other-value, flipped, not-right, agree-marker, agree-data, ending-alone, code-opens, math-opens-here, no-span}
+use Rattle.markdown_leaf.proofs.RawTextLaws.{barred-is}
 use Rattle.markdown_plan.proofs.FirstStretch.{stretch-alone, stretch-span}
-use Rattle.markdown_leaf.specs.RawText.{HasMarker, IsIndexed, is_hopeless, is_data}
+use Rattle.markdown_plan.proofs.PlanSteps.{none-read}
+use Rattle.markdown_plan.specs.Plan.{plan_of, preceded}
+use Rattle.markdown_leaf.specs.RawText.{IsIndexed, is_barred, is_ruled_out, is_data, closed_ops, opens, opening_plan, span_at, code_just_before, code_is_on, math_is_on, single_dollar}
 
 -- The first stretch is not the closing run.
 closing-skip : (p : Code → Bool) (n : ℕ) (s : List Code) (ss : List (List Code)) →
@@ -41,7 +51,7 @@ module _ (m : ℕ) where
         | false ↦ λ h. refl
       ] refl
 
-  run-length : (cs : List Code) → length (span (is_value m) cs).0 ≡ leading m cs
+  pub run-length : (cs : List Code) → length (span (is_value m) cs).0 ≡ leading m cs
   run-length [] = refl
   run-length (c ∷ cs) =
       elim (c.value == m) as (λ b. (c.value == m) ≡ b → length (elim b as (λ _. List Code × List Code) [ true ↦ let s = span (is_value m) cs in (c ∷ s.0, s.1) | false ↦ ([], c ∷ cs) ]).0 ≡ (if b then suc (leading m cs) else 0)) [
@@ -56,10 +66,6 @@ module _ (m : ℕ) where
         | true ↦ λ h. past-leading cs
         | false ↦ λ h. ap (λ b. if b then suc (leading m cs) else 0) h
       ] refl
-
-  pub none-leading : (cs : List Code) → next_is (is_value m) cs ≡ false → leading m cs ≡ 0
-  none-leading [] h = refl
-  none-leading (c ∷ cs) h = ap (λ b. if b then suc (leading m cs) else 0) h
 
   leading-more : (c : Code) (cs : List Code) → is_value m c ≡ true → leading m (c ∷ cs) ≡ suc (leading m cs)
   leading-more c cs h = ap (λ b. if b then suc (leading m cs) else 0) h
@@ -154,13 +160,86 @@ module _ (m : ℕ) where
           none-left k g = omega (arith, g)
       absent-from (suc fuel) (c ∷ cs) l h = at-code c cs (λ ds g k. absent-from fuel ds (omega (arith, g, l)) k) h
 
-      pub closing-absent : (cs : List Code) → last_run m n cs ≡ None → closing (is_value m) n cs ≡ None
+      closing-absent : (cs : List Code) → last_run m n cs ≡ None → closing (is_value m) n cs ≡ None
       closing-absent cs h = absent-from (length cs) cs (omega arith) h
 
--- Past an opening run that no run of its size follows, no span closes.
-pub hopeless-none : (T : Tokenizer) → HasMarker T → IsIndexed T → is_hopeless T ≡ true →
-    next_is (is_value T.tokenize_state.marker) (ahead T) ≡ false →
-    closing (is_value T.tokenize_state.marker) T.tokenize_state.size (ahead T) ≡ None
+-- Past an opening run that no run of its size follows.
+
+if-none : {A : Type 0} (b : Bool) → ◌≡◌ {A = Option A} (if b then None else None) None
+if-none true = refl
+if-none false = refl
+
+opening-none : (single : Bool) (m : ℕ) (names : SpanNames) (c : Code) (cs : List Code) → (m == 10) ≡ false → is_value m c ≡ true →
+    last_run m (leading m (c ∷ cs)) (drop (leading m (c ∷ cs)) (c ∷ cs)) ≡ None → opening_plan single m names 1 cs ≡ None
+opening-none single m names c cs e h absent =
+    let s : List Code × List Code = span (is_value m) cs in
+    let more : leading m (c ∷ cs) ≡ suc (leading m cs) = leading-more m c cs h in
+    let size : suc (leading m cs) ≡ 1 + length s.0 = omega (arith, run-length m cs) in
+    let here : last_run m (1 + length s.0) s.1 ≡ None =
+    ap (λ xs. last_run m (1 + length s.0) xs) (run-rest m cs) ∙ ap (λ n. last_run m n (drop (leading m cs) cs)) (sym size)
+    ∙ ap (λ n. last_run m n (drop n (c ∷ cs))) (sym more) ∙ absent in
+    ap (λ o. if opens single m (1 + length s.0) then preceded (consumes s.0 ++ Exit names.sequence ∷ []) (closed_ops names o) else None) (closing-absent m (1 + length s.0) e s.1 here)
+    ∙ if-none (opens single m (1 + length s.0))
+
+-- what is known rules a run as long out behind the one at hand
+none-follows : (m : ℕ) (T : Tokenizer) → IsIndexed T →
+    rules_out T.tokenize_state.runs m (leading m (ahead T)) (T.cursor.at + leading m (ahead T)) ≡ true →
+    last_run m (leading m (ahead T)) (drop (leading m (ahead T)) (ahead T)) ≡ None
 unfolding ahead_at
-hopeless-none T e k h g =
-    closing-absent T.tokenize_state.marker T.tokenize_state.size e (ahead T) (ruled-out T.tokenize_state.runs T.cursor.codes T.tokenize_state.marker T.tokenize_state.size T.cursor.at k h (none-leading T.tokenize_state.marker (ahead T) g))
+none-follows m T right h =
+    let n : ℕ = leading m (ahead T) in
+    let there : drop n (ahead T) ≡ drop (T.cursor.at + n) T.cursor.codes = drop-drop n T.cursor.at T.cursor.codes in
+    ap (last_run m n) there
+    ∙ ruled-out T.tokenize_state.runs T.cursor.codes m n (T.cursor.at + n) right h (ap (leading m) (sym there) ∙ past-leading m (ahead T))
+
+-- Where a span is ruled out none is read.
+
+-- what is off
+and-off : (a b c : Bool) → b ≡ false → a && (b && c) ≡ false
+and-off true true c e = cc
+and-off true false c e = refl
+and-off false b c e = refl
+
+free-so : (m : ℕ) (T : Tokenizer) → is_ruled_out m T ≡ true →
+    (follows_escape T.events || not (is_some_code (is_value m) (code_just_before T))) ≡ true
+free-so m T h = sym (barred-is m T) ∙ and-left (not (is_barred m T)) _ h
+
+opening-ruled : (m : ℕ) (names : SpanNames) (T : Tokenizer) → (m == 10) ≡ false → IsIndexed T → (b : Begins m (ahead T)) →
+    is_ruled_out m T ≡ true → opening_plan (single_dollar T) m names 1 (rest_of (ahead T)) ≡ None
+opening-ruled m names T e right b h =
+    opening-none (single_dollar T) m names b.code (rest_of (ahead T)) e (ap (λ v. v == m) b.value ∙ eq-eqb m m refl)
+    (subst (λ cs. last_run m (leading m cs) (drop (leading m cs) cs) ≡ None) b.whole (none-follows m T right (and-right (not (is_barred m T)) _ h)))
+
+pub code-ruled-out : (T : Tokenizer) → IsIndexed T → current_of T ≡ Some 96 → is_ruled_out 96 T ≡ true →
+    span_at T (ahead T) ≡ None
+code-ruled-out T right here h = none-read (span_at T (ahead T)) (by_switch (code_is_on T) refl)
+  where
+    b : Begins 96 (ahead T)
+    b = ahead-some T 96 here
+
+    by_switch : (on : Bool) → code_is_on T ≡ on → plan_of (span_at T) (ahead T) ≡ None
+    by_switch true on =
+        ap (plan_of (span_at T)) b.whole
+        ∙ code-opens (code_is_on T) (math_is_on T) (single_dollar T) (follows_escape T.events) (code_just_before T) b.code (rest_of (ahead T)) (ap (λ v. v == 96) b.value) on (free-so 96 T h)
+        ∙ ap (preceded (Enter N.CodeText ∷ Enter N.CodeTextSequence ∷ Consume ∷ [])) (opening-ruled 96 code_names T refl right b h)
+    by_switch false off =
+        ap (plan_of (span_at T)) b.whole
+        ∙ no-span (code_is_on T) (math_is_on T) (single_dollar T) (follows_escape T.events) (code_just_before T) (b.code ∷ rest_of (ahead T))
+        (and-off (b.code.value == 96) (code_is_on T) _ off) (ap (λ v. (v == 36) && (math_is_on T && (follows_escape T.events || not (is_some_code (is_value 36) (code_just_before T))))) b.value)
+
+pub math-ruled-out : (T : Tokenizer) → IsIndexed T → current_of T ≡ Some 36 → is_ruled_out 36 T ≡ true →
+    span_at T (ahead T) ≡ None
+math-ruled-out T right here h = none-read (span_at T (ahead T)) (by_switch (math_is_on T) refl)
+  where
+    b : Begins 36 (ahead T)
+    b = ahead-some T 36 here
+
+    by_switch : (on : Bool) → math_is_on T ≡ on → plan_of (span_at T) (ahead T) ≡ None
+    by_switch true on =
+        ap (plan_of (span_at T)) b.whole
+        ∙ math-opens-here (code_is_on T) (math_is_on T) (single_dollar T) (follows_escape T.events) (code_just_before T) b.code (rest_of (ahead T)) (ap (λ v. v == 36) b.value) on (free-so 36 T h)
+        ∙ ap (preceded (Enter N.MathText ∷ Enter N.MathTextSequence ∷ Consume ∷ [])) (opening-ruled 36 math_names T refl right b h)
+    by_switch false off =
+        ap (plan_of (span_at T)) b.whole
+        ∙ no-span (code_is_on T) (math_is_on T) (single_dollar T) (follows_escape T.events) (code_just_before T) (b.code ∷ rest_of (ahead T))
+        (ap (λ v. (v == 96) && (code_is_on T && (follows_escape T.events || not (is_some_code (is_value 96) (code_just_before T))))) b.value) (and-off (b.code.value == 36) (math_is_on T) _ off)

@@ -1,18 +1,18 @@
 -- What the states of a character reference do, and how runs from them end.
-use Rattle.std.specs.Prelude.{◌≡◌, ℕ, ◌+◌, ◌≤◌, Bool, true, false, ◌&&◌, ◌||◌, ◌==◌, nat_lt, if◌then◌else◌, Option, Some, None, is_some, take, ◌<◌, List, [], ◌∷◌, ◌++◌, length, codes}
-use Rattle.std.specs.Char.{is_ascii_alphanumeric}
-use Rattle.std.specs.List.{list_all}
+use Rattle.std.specs.Prelude.{◌≡◌, ℕ, ◌+◌, ◌-◌, ◌≤◌, Bool, not, ◌&&◌, ◌||◌, ◌==◌, nat_lt, if◌then◌else◌, Option, Some, None, is_some, List, [], ◌∷◌, ◌++◌, length, codes}
+use Rattle.std.specs.List.{slice_range}
 use Rattle.markdown_engine_content.specs.Codes.{Code}
 use Rattle.markdown_engine_content.specs.ListFunctions.{rest_of}
-use Rattle.markdown_engine.specs.Operations.{Op, Enter, Exit, Consume, done, current_of, ahead, IsOpen, scratched}
+use Rattle.markdown_engine_content.specs.Place.{point_of}
+use Rattle.markdown_engine.specs.Operations.{Op, Enter, Exit, Consume, done, current_of, IsOpen, scratched}
 use Rattle.markdown_engine.specs.PastTree.{EndsAs, TreeReading}
 use Rattle.markdown_engine.specs.StateRuns.{Stepped, stepped}
 use Rattle.markdown_engine.specs.TreeOps.{consumes}
-use Rattle.markdown_model.specs.CodeTests.{is_value, is_among, is_between, is_alphanumeric, next_is, values_of}
+use Rattle.markdown_model.specs.CodeTests.{is_value, is_among, is_between, next_is, values_of}
 use Rattle.markdown_model.specs.Grammar.{span}
-use Rattle.markdown_model.specs.LeafConstructs.{is_name}
 use Rattle.markdown_model.specs.SingleConstructs as SingleConstructs
 use Rattle.markdown_util.specs.Reference.{Table, IsMarker, html_5_rows, named_value, value_size_max, is_value_byte}
+use Rattle.markdown_plan.specs.Characters.{bytes_of, ReadsText}
 use Rattle.markdown_plan.specs.Plan.{Plan, preceded, DoesAs}
 use Rattle.markdown_engine_content.specs.declared.event.Name.TheVariants as N
 use Rattle.markdown_engine.specs.declared.state.State.TheVariants.{Next, Retry, Nok}
@@ -36,17 +36,29 @@ abbrev pub rested : TokenizeState → TokenizeState
 rested s = record s { marker = 0; size = 0 }
 
 pub record IsAtRest (T : Tokenizer) : Type 0 where
+  pub text : ReadsText T
   pub marker : T.tokenize_state.marker ≡ 0
   pub size : T.tokenize_state.size ≡ 0
 
 -- after the `&`
 pub record IsOpened (T : Tokenizer) : Type 0 where
+  pub text : ReadsText T
   pub whole : IsOpen N.CharacterReference T
   pub marker : T.tokenize_state.marker ≡ 0
   pub size : T.tokenize_state.size ≡ 0
 
+-- how many bytes of the document stand before the place
+abbrev pub index_of : Tokenizer → ℕ
+index_of T = (point_of T.cursor).index
+
+-- the bytes of the value that are passed: so many as are counted, just before the place
+abbrev pub read_of : Tokenizer → List ℕ
+read_of T = slice_range (bytes_of T) (index_of T - T.tokenize_state.size) (index_of T)
+
 -- in the value
 pub record IsValue (T : Tokenizer) : Type 0 where
+  pub text : ReadsText T
+  pub begins : T.tokenize_state.size ≤ index_of T
   pub value : IsOpen N.CharacterReferenceValue T
   pub whole : rest_of T.stack ≡ N.CharacterReference ∷ rest_of (rest_of T.stack)
   pub marker : IsMarker T.tokenize_state.marker
@@ -76,28 +88,9 @@ closing =
 abbrev pub has_value : Table → List ℕ → Bool
 has_value table name = is_some (named_value table name)
 
--- the letters and digits at hand are a name of the table, and a `;` stands behind them
-abbrev pub begins_name : List Code → Bool
-begins_name cs = is_name html_5_rows (span is_alphanumeric cs).0 && next_is (is_value (byte ";")) (span is_alphanumeric cs).1
-
--- a code of a name
-abbrev pub is_name_code : Code → Bool
-is_name_code c = is_ascii_alphanumeric c.value
-
--- from some codes to those after, so many codes of a name were passed, and their values written down
-pub record IsPassing (before after : List Code) (name : List ℕ) (size : ℕ) : Type 0 where
-  pub passed : List Code
-  pub front : (span is_name_code before).0 ≡ passed ++ (span is_name_code after).0
-  pub back : (span is_name_code before).1 ≡ (span is_name_code after).1
-  pub values : take size name ≡ values_of passed
-  pub count : length passed ≡ size
-  pub all : list_all is_ascii_alphanumeric (values_of passed) ≡ true
-
--- as many as there are, or as there is room for
-pub record HasPassed (before after : List Code) (name : List ℕ) (size : ℕ) : Type 0 where
-  pub passing : IsPassing before after name size
-  pub room : size ≤ length name
-  pub ends : size < length name → next_is is_name_code after ≡ false
+-- a value of this kind may be these bytes: a named one is a name of the table
+abbrev pub is_known : ℕ → List ℕ → Bool
+is_known marker value = not (marker == byte "&") || has_value html_5_rows value
 
 -- The states, by the current code.
 
@@ -112,10 +105,7 @@ abbrev pub start_step : Tokenizer → Stepped
 start_step T = start_at (is_on T) (current_of T) T
 
 abbrev pub named_step : Tokenizer → Stepped
-named_step T =
-    if begins_name (ahead T)
-    then stepped (Retry CharacterReferenceValue) (scratched (marked (byte "&") T.tokenize_state) (done value_start T))
-    else stepped Nok T
+named_step T = stepped (Retry CharacterReferenceValue) (scratched (marked (byte "&") T.tokenize_state) (done value_start T))
 
 abbrev pub open_at : Option ℕ → Tokenizer → Stepped
 open_at None T = named_step T
@@ -144,7 +134,7 @@ is_taken marker size c = nat_lt size (value_size_max marker) && is_value_byte ma
 abbrev pub value_at : Option ℕ → Tokenizer → Stepped
 value_at None T = stepped Nok (scratched (rested T.tokenize_state) T)
 value_at (Some c) T =
-    if (c == byte ";") && nat_lt 0 T.tokenize_state.size
+    if ((c == byte ";") && nat_lt 0 T.tokenize_state.size) && is_known T.tokenize_state.marker (read_of T)
     then stepped State.Ok (scratched (rested T.tokenize_state) (done closing T))
     else (if is_taken T.tokenize_state.marker T.tokenize_state.size c
     then stepped (Next CharacterReferenceValue) (scratched (sized (T.tokenize_state.size + 1) T.tokenize_state) (done (Consume ∷ []) T))
@@ -165,28 +155,32 @@ start_ends T ok U = EndsAs (reference_here T) None T.tokenize_state T ok U
 abbrev pub is_value_code : ℕ → Code → Bool
 is_value_code marker c = is_value_byte marker c.value
 
--- the rest of a value of this kind, of so many codes: the codes that go on with it, and a `;`
-abbrev pub value_of : ℕ → ℕ → List Code × List Code → Option (List Op)
-value_of marker size s =
-    if is_between 1 (value_size_max marker) (size + length s.0) && next_is (is_value (byte ";")) s.1 then Some (consumes s.0 ++ closing) else None
+-- so many bytes as a value of this kind has, which may be one
+abbrev pub is_whole : ℕ → List ℕ → Bool
+is_whole marker value = is_between 1 (value_size_max marker) (length value) && is_known marker value
 
-abbrev pub value_plan : ℕ → ℕ → Plan
-value_plan marker size cs = value_of marker size (span (is_value_code marker) cs)
+-- the rest of a value of this kind behind these bytes of it: the codes that go on with it, and a `;`
+abbrev pub value_of : ℕ → List ℕ → List Code × List Code → Option (List Op)
+value_of marker read s =
+    if is_whole marker (read ++ values_of s.0) && next_is (is_value (byte ";")) s.1 then Some (consumes s.0 ++ closing) else None
+
+abbrev pub value_plan : ℕ → List ℕ → Plan
+value_plan marker read cs = value_of marker read (span (is_value_code marker) cs)
 
 abbrev pub value_ends : Tokenizer → Bool → Tokenizer → Type 0
-value_ends T ok U = DoesAs 2 (value_plan T.tokenize_state.marker T.tokenize_state.size) (rested T.tokenize_state) T ok U
+value_ends T ok U = DoesAs 2 (value_plan T.tokenize_state.marker (read_of T)) (rested T.tokenize_state) T ok U
 
 -- after the `#`: an `x` and hexadecimal digits, or decimal digits
 abbrev pub numeric_plan : Plan
 numeric_plan cs =
-    if next_is (is_among (codes "xX")) cs then preceded hexadecimal_sign (value_plan (byte "x") 0 (rest_of cs)) else preceded value_start (value_plan (byte "#") 0 cs)
+    if next_is (is_among (codes "xX")) cs then preceded hexadecimal_sign (value_plan (byte "x") [] (rest_of cs)) else preceded value_start (value_plan (byte "#") [] cs)
 
 abbrev pub numeric_ends : Tokenizer → Bool → Tokenizer → Type 0
 numeric_ends T ok U = DoesAs 1 numeric_plan (rested T.tokenize_state) T ok U
 
 -- after the `&`: a number, or a name
 abbrev pub named_plan : Plan
-named_plan cs = if begins_name cs then preceded value_start (value_plan (byte "&") 0 cs) else None
+named_plan cs = preceded value_start (value_plan (byte "&") [] cs)
 
 abbrev pub open_plan : Plan
 open_plan cs = if next_is (is_value (byte "#")) cs then preceded number_sign (numeric_plan (rest_of cs)) else named_plan cs

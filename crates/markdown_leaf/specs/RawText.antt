@@ -1,10 +1,10 @@
 -- What the states of code spans and math spans do, and how runs from them end.
 use Rattle.std.specs.Prelude.{◌≡◌, ℕ, ◌+◌, Bool, false, ◌&&◌, ◌||◌, not, ◌==◌, if◌then◌else◌, Option, Some, None, codes, List, [], ◌∷◌, ◌++◌, length}
 use Rattle.markdown_engine_content.specs.Codes.{Code, is_line_ending}
-use Rattle.markdown_engine.specs.Operations.{Op, Enter, Exit, Consume, IsOpen, done, current_of, previous_of, scratched}
+use Rattle.markdown_engine.specs.Operations.{Op, Enter, Exit, Consume, IsOpen, ahead, done, current_of, previous_of, scratched}
 use Rattle.markdown_engine.specs.PastTree.{EndsAs, TreeReading}
 use Rattle.markdown_engine_content.specs.Place.{last_of}
-use Rattle.markdown_engine_index.specs.RunIndex.{last_runs, rules_out}
+use Rattle.markdown_engine_index.specs.RunIndex.{last_runs, leading, rules_out}
 use Rattle.markdown_engine.specs.StateRuns.{Stepped, stepped}
 use Rattle.markdown_engine.specs.Steady.{alone_among}
 use Rattle.markdown_engine_content.specs.Tree.{◌⊕◌, leaf}
@@ -80,13 +80,9 @@ start_step T = start_at (current_of T) T
 abbrev pub is_too_short : Bool → TokenizeState → Bool
 is_too_short single s = s.marker == byte "$" && (s.size == 1 && not single)
 
--- past the opening run: it is known that no run of its size follows
-abbrev pub is_hopeless : Tokenizer → Bool
-is_hopeless T = rules_out T.tokenize_state.runs T.tokenize_state.marker T.tokenize_state.size T.cursor.at
-
 abbrev pub after_opening : Tokenizer → Stepped
 after_opening T =
-    if is_too_short (single_dollar T) T.tokenize_state || is_hopeless T then stepped Nok (scratched (rested T.tokenize_state) T)
+    if is_too_short (single_dollar T) T.tokenize_state then stepped Nok (scratched (rested T.tokenize_state) T)
     else stepped (Retry RawTextBetween) (done (Exit T.tokenize_state.token_2 ∷ []) T)
 
 abbrev pub sequence_open_at : Option ℕ → Tokenizer → Stepped
@@ -144,14 +140,9 @@ sequence_close_step T = sequence_close_at (current_of T) T
 
 -- When they may be called; outside a run of markers none is counted.
 
--- what is known of the runs is right; nothing is known where no byte was asked for
-abbrev pub IsIndexed : Tokenizer → Type 0
-IsIndexed T = T.tokenize_state.runs ≡ last_runs T.tokenize_state.runs.asked T.cursor.codes
-
 pub record StartReady (T : Tokenizer) : Type 0 where
   pub rest : T.tokenize_state ≡ rested T.tokenize_state
   pub fits : Fits 0 T
-  pub indexed : IsIndexed T
 
 -- the marker is no line ending
 abbrev pub HasMarker : Tokenizer → Type 0
@@ -162,7 +153,6 @@ pub record SequenceOpenReady (T : Tokenizer) : Type 0 where
   pub stand_open : AreOpen T.tokenize_state.token_2 T.tokenize_state.token_1 T
   pub uncounted : T.tokenize_state.size_b ≡ 0
   pub fits : Fits T.tokenize_state.size T
-  pub indexed : IsIndexed T
 
 pub record BetweenReady (T : Tokenizer) : Type 0 where
   pub marker : HasMarker T
@@ -182,6 +172,18 @@ pub record SequenceCloseReady (T : Tokenizer) : Type 0 where
   pub some : HasEvent T
   pub entered : renamed T.tokenize_state.token_2 T ≡ T
   pub fits : Fits T.tokenize_state.size_b T
+
+-- What rules a span out before it is tried.
+
+-- what is known of the runs is right; nothing is known where no byte was asked for
+abbrev pub IsIndexed : Tokenizer → Type 0
+IsIndexed T = T.tokenize_state.runs ≡ last_runs T.tokenize_state.runs.asked T.cursor.codes
+
+-- a run of this marker may open a span here, and it is known that none as long follows
+abbrev pub is_ruled_out : ℕ → Tokenizer → Bool
+is_ruled_out marker T =
+    let size : ℕ = leading marker (ahead T) in
+    not (is_barred marker T) && rules_out T.tokenize_state.runs marker size (T.cursor.at + size)
 
 -- How runs end.
 

@@ -22,20 +22,16 @@
 #![tactic(auto, using(markdown_engine::proofs::OperationFields::op_rules), unfolding(markdown_engine::specs::Operations::scratched))]
 
 ghost use Rattle.std.specs.Prelude.{◌≡◌, ◌<◌, IsTrue};
-ghost use Rattle.std.specs.Char.{is_ascii_alphanumeric};
-ghost use Rattle.std.specs.List.{list_all};
 ghost use Rattle.markdown_engine.specs.Operations.{scratched};
-ghost use Rattle.markdown_engine_content.specs.Place.{ahead_at};
 ghost use Rattle.markdown_util.specs.Reference.{html_5_rows, IsMarker, value_size_max};
-ghost use Rattle.markdown_leaf.specs.CharacterReference.{begins_name, has_value, HasPassed, IsValue, is_taken, rested, start_step, open_step, numeric_step, value_step};
+ghost use Rattle.markdown_leaf.specs.CharacterReference.{has_value, is_known, IsValue, is_taken, read_of, rested, start_step, open_step, numeric_step, value_step};
 ghost use Rattle.markdown_plan.specs.StateCalls.{Steps};
 
 use markdown_engine::state::{State, StateName};
 use markdown_engine::tokenizer::Tokenizer;
-use markdown_engine_content::cursor::Cursor;
 use markdown_engine_content::event::Name;
+use markdown_engine_content::util::slice::Slice;
 use markdown_util::util::character_reference::{decode_named, value_max, value_test};
-use markdown_util::util::constant::CHARACTER_REFERENCE_NAMED_SIZE_MAX;
 use std::alloc::AllocError;
 use std::str;
 
@@ -59,7 +55,7 @@ pub fn start(tokenizer: &mut Tokenizer) -> Result<State, AllocError>
     }
 }
 
-/// After the `&`: a `#`, or a name of the table and its `;`.
+/// After the `&`: a `#`, or the first letter or digit of a name.
 ///
 ///     > | &lt; &#36; &#x3E;
 ///          ^    ^     ^
@@ -71,12 +67,10 @@ pub fn open(tokenizer: &mut Tokenizer) -> Result<State, AllocError>
         tokenizer.consume();
         tokenizer.exit(Name::CharacterReferenceMarkerNumeric)?;
         Ok(State::Next(StateName::CharacterReferenceNumeric))
-    } else if stands_at_name(&tokenizer.cursor) {
+    } else {
         tokenizer.enter(Name::CharacterReferenceValue)?;
         tokenizer.tokenize_state.marker = b'&';
         Ok(State::Retry(StateName::CharacterReferenceValue))
-    } else {
-        Ok(State::Nok)
     }
 }
 
@@ -115,7 +109,7 @@ pub fn value(tokenizer: &mut Tokenizer) -> Result<State, AllocError>
         put_to_rest(tokenizer);
         return Ok(State::Nok);
     };
-    if byte == b';' && size > 0 {
+    if byte == b';' && size > 0 && is_known(tokenizer) {
         tokenizer.exit(Name::CharacterReferenceValue)?;
         tokenizer.enter(Name::CharacterReferenceMarkerSemi)?;
         tokenizer.consume();
@@ -151,46 +145,23 @@ fn put_to_rest(tokenizer: &mut Tokenizer)
     tokenizer.tokenize_state.size = 0;
 }
 
-// Whether a name of the table and a `;` stand at the place.
-fn stands_at_name(cursor: &Cursor) -> bool
-    ensures { result ≡ begins_name (ahead_at cursor.now) }
+// Whether the value that is passed may be one: a named one is a name of the table.
+fn is_known(tokenizer: &Tokenizer) -> bool
+    requires { IsValue tokenizer.now }
+    ensures { result ≡ is_known tokenizer.now.tokenize_state.marker (read_of tokenizer.now) }
 {
-    let mut name = [0; CHARACTER_REFERENCE_NAMED_SIZE_MAX];
-    let mut ahead = cursor.save();
-    let size = pass_name(&mut ahead, &mut name);
-    let Some(byte) = ahead.current() else {
-        return false;
-    };
-    if byte != b';' {
-        return false;
-    }
-    is_name(&name[..size])
+    let end = tokenizer.point().index;
+    let start = end - tokenizer.tokenize_state.size;
+    let value = Slice::from_indices(tokenizer.parse_state.bytes, start, end);
+    tokenizer.tokenize_state.marker != b'&' || is_name(value.bytes)
 }
 
-// Passes letters and digits, no more than there is room for, and answers how many.
-fn pass_name(ahead: &mut Cursor, name: &mut [u8]) -> usize
-    ensures { HasPassed (ahead_at ahead.old) (ahead_at ahead.new) name.new result }
-{
-    for (size, slot) in name.iter_mut().enumerate() {
-        let Some(byte) = ahead.current() else {
-            return size;
-        };
-        if !byte.is_ascii_alphanumeric() {
-            return size;
-        }
-        *slot = byte;
-        ahead.consume();
-    }
-    name.len()
-}
-
-// Whether these bytes, letters and digits, are a name of the table.
+// Whether these bytes are a name of the table.
 fn is_name(bytes: &[u8]) -> bool
-    requires { IsTrue (list_all is_ascii_alphanumeric bytes.now) }
     ensures { result ≡ has_value html_5_rows bytes.now }
 {
     match str::from_utf8(bytes) {
         Ok(name) => decode_named(name, true).is_some(),
-        Err(_) => unreachable!(),
+        Err(_) => false,
     }
 }

@@ -24,7 +24,7 @@
 
 ghost use Rattle.std.specs.Prelude.{◌≡◌};
 ghost use Rattle.markdown_engine.specs.Operations.{scratched};
-ghost use Rattle.markdown_leaf.specs.RawText.{start_step, sequence_open_step, between_step, data_step, data_stops, sequence_close_step, after_opening, after_run, opened, is_barred, is_hopeless, rested, names_in, SequenceOpenReady, BetweenReady, DataReady, SequenceCloseReady};
+ghost use Rattle.markdown_leaf.specs.RawText.{start_step, sequence_open_step, between_step, data_step, data_stops, sequence_close_step, after_opening, after_run, opened, is_barred, rested, names_in, SequenceOpenReady, BetweenReady, DataReady, SequenceCloseReady};
 ghost use Rattle.markdown_model.specs.SingleConstructs.{ends_escape, follows_escape};
 ghost use Rattle.markdown_plan.specs.StateCalls.{Steps};
 
@@ -54,8 +54,8 @@ fn follows_escape(tokenizer: &Tokenizer) -> bool
     ends_escape(tokenizer.events.bare_at(len - 1))
 }
 
-// Whether the marker stands before, and is not the value of an escape.
-fn is_barred(tokenizer: &Tokenizer, marker: u8) -> bool
+/// Whether this marker stands before, and is not the value of an escape: then no span of it starts here. Takes no memory.
+pub fn is_barred(tokenizer: &Tokenizer, marker: u8) -> bool
     ensures { result ≡ is_barred marker tokenizer.now }
 {
     tokenizer.previous() == Some(marker) && !follows_escape(tokenizer)
@@ -121,25 +121,14 @@ pub fn start(tokenizer: &mut Tokenizer) -> Result<State, AllocError>
     }
 }
 
-// Whether it is known that no run as long as the opening one follows.
-fn is_hopeless(tokenizer: &Tokenizer) -> bool
-    ensures { result ≡ is_hopeless tokenizer.now }
-{
-    let fields = &tokenizer.tokenize_state;
-    fields
-        .runs
-        .rules_out(fields.marker, fields.size, tokenizer.cursor.passed())
-}
-
-// After the opening run: it has to be long enough, and a run as long may have to follow.
+// After the opening run: it has to be long enough.
 fn after_opening(tokenizer: &mut Tokenizer) -> Result<State, AllocError>
     requires { SequenceOpenReady tokenizer.old }
     ensures { Steps after_opening tokenizer.old result tokenizer.new }
 {
-    if (tokenizer.tokenize_state.marker == b'$'
+    if tokenizer.tokenize_state.marker == b'$'
         && tokenizer.tokenize_state.size == 1
-        && !tokenizer.parse_state.options.math_text_single_dollar)
-        || is_hopeless(tokenizer)
+        && !tokenizer.parse_state.options.math_text_single_dollar
     {
         rest(tokenizer);
         Ok(State::Nok)

@@ -36,8 +36,5 @@ pub(crate) fn rename_entered(tokenizer: &mut Tokenizer, name: Name) -> Result<()
     ensures err { OnErr result (IsTrue tokenizer.new.failed) }
 {
     let done = rename_both(tokenizer, name);
-    if done.is_err() {
-        tokenizer.fail();
-    }
-    done
+    tokenizer.noted(done)
 }

@@ -170,8 +170,5 @@ pub fn resolve(tokenizer: &mut Tokenizer) -> Result<(), AllocError>
         &mut tokenizer.events,
         &mut tokenizer.map,
     );
-    if mailed.is_err() {
-        tokenizer.fail();
-    }
-    mailed
+    tokenizer.noted(mailed)
 }

@@ -3,8 +3,8 @@ use Rattle.std.proofs.Common.{◌≡◌, ℕ, ◌<◌, ◌≤◌, Bool, true, fa
 use Rattle.markdown_engine_content.specs.Codes.{Code}
 use Rattle.markdown_engine.specs.FailedRun.{Grown}
 use Rattle.markdown_engine_content.specs.ListFunctions.{rest_of}
-use Rattle.markdown_engine.specs.Operations.{Op, Enter, Exit, Consume, IsOpen, ahead, applied, done, frame_of, moves, scratched, attempted}
-use Rattle.markdown_engine.specs.StateRuns.{stepped, restored, going_state, going_in, Goes}
+use Rattle.markdown_engine.specs.Operations.{Op, Enter, Exit, Consume, IsOpen, ahead, applied, done, frame_of, moves, scratched}
+use Rattle.markdown_engine.specs.StateRuns.{restored, going_state, going_in, Goes}
 use Rattle.markdown_engine.specs.TreeOps.{consumes}
 use Rattle.markdown_engine.specs.Weights.{codes_left, weight_at}
 use Rattle.markdown_engine_content.specs.declared.event.Name.{Name}
@@ -14,33 +14,33 @@ use Rattle.markdown_engine.specs.declared.tokenizer.TokenizeState.{TokenizeState
 use Rattle.markdown_engine.specs.declared.tokenizer.Tokenizer.{Tokenizer}
 use Rattle.markdown_engine.proofs.ReadingSequences.{scratched-same}
 use Rattle.markdown_engine.proofs.LawSteps.{Grown-refl, restored-grown}
-use Rattle.markdown_engine.proofs.OperationFields.{attempts-applied, left-ahead, left-applied, stack-applied}
+use Rattle.markdown_engine.proofs.OperationFields.{left-ahead, left-applied, stack-applied}
 use Rattle.markdown_engine.proofs.OperationLemmas.{Grown-done, ahead-done, scratch-done}
 use Rattle.markdown_engine.proofs.TreeEvents.{done-append}
 use Rattle.markdown_model.specs.Grammar.{Reading}
 use Rattle.markdown_plan.specs.Plan.{Plan, preceded, DoesAs}
 use Rattle.markdown_leaf_gfm.specs.GfmAutolinkLiteral.{rested, entered_literal, pass_ops}
 use Rattle.markdown_leaf_gfm.proofs.GfmAutolinkLiteralCovers.{leaf_ops, ops-leaf}
-use Rattle.markdown_engine.specs.StateWords.{Words, GoesIn, StateWords, words_in, words_at, weight_in}
-use Rattle.markdown_plan.proofs.LawStepsOfLayer.{Goes-attempt, follows}
+use Rattle.markdown_engine.specs.StateWords.{Words, StateWords, words_in, weight_in}
+use Rattle.markdown_plan.proofs.LawStepsOfLayer.{follows}
 use Rattle.markdown_engine.specs.declared.state.StateName.{StateName}
 
 stack-consumes : (cs : List Code) (T : Tokenizer) → (done (consumes cs) T).stack ≡ T.stack
 stack-consumes [] T = refl
 stack-consumes (c ∷ cs) T = stack-consumes cs (applied Consume T) ∙ stack-applied Consume T
 
-left-passed : (os : List Op) (T : Tokenizer) → codes_left (done os T) ≤ codes_left T
+pub left-passed : (os : List Op) (T : Tokenizer) → codes_left (done os T) ≤ codes_left T
 left-passed os T =
     omega (arith, left-ahead T, left-ahead (done os T), ap length (ahead-done os T), length-drop (moves os) (ahead T))
 
 -- what the operations of a reading are
-record IsPassed (o : Option (List Code × List Code)) (os : List Op) : Type 0 where
-  text : List Code
-  rest : List Code
-  read : ◌≡◌ {A = Option (List Code × List Code)} o (Some (text, rest))
-  is : os ≡ consumes text
+pub record IsPassed (o : Option (List Code × List Code)) (os : List Op) : Type 0 where
+  pub text : List Code
+  pub rest : List Code
+  pub read : ◌≡◌ {A = Option (List Code × List Code)} o (Some (text, rest))
+  pub is : os ≡ consumes text
 
-passed-is : (o : Option (List Code × List Code)) (os : List Op) → pass_ops o ≡ Some os → IsPassed o os
+pub passed-is : (o : Option (List Code × List Code)) (os : List Op) → pass_ops o ≡ Some os → IsPassed o os
 passed-is None os e = cc
 passed-is (Some r) os e = record { text = r.0; rest = r.1; read = refl; is = cc }
 
@@ -56,7 +56,7 @@ pub begins-first : (o : Option (List Op)) → Begins (preceded (Consume ∷ []) 
 begins-first None os e = cc
 begins-first (Some xs) os e = (xs, cc)
 
-enter-same : (name : Name) (T : Tokenizer) → rested T.tokenize_state ≡ T.tokenize_state →
+pub enter-same : (name : Name) (T : Tokenizer) → rested T.tokenize_state ≡ T.tokenize_state →
     scratched (rested T.tokenize_state) (entered_literal name T) ≡ entered_literal name T
 enter-same name T e =
     ap (λ (x : TokenizeState). scratched x (entered_literal name T)) (e ∙ sym (scratch-done (Enter name ∷ []) T)) ∙ scratched-same (entered_literal name T)
@@ -148,25 +148,3 @@ module _ (W : Words) (name : Name) (st : State) (last : StateName) (reading : Re
   literal-ended n {w} say_last some falls first last_ready last_end false U y =
       let E : Bool → Tokenizer → Type 0 = DoesAs 0 p T.tokenize_state T in
       (record { goes_on = tt; falls = some }, λ ok V z. subst (λ b. E b V) (sym z.0) (failed-literal U V y (z.1 ∙ back-literal U y)))
-
-  pub literal-law : (k : ℕ) {v w : StateWords} → words_at W st ≡ v → words_in W last ≡ w → T.attempts ≡ [] →
-      v.rank (entered_literal name T) < k → ((U : Tokenizer) → w.rank U < k) → Begins (inside (ahead T)) → v.ready (entered_literal name T) →
-      ((ok : Bool) (U : Tokenizer) → v.ends (entered_literal name T) ok U → DoesAs 0 inside (rested T.tokenize_state) (entered_literal name T) ok U) →
-      ((U : Tokenizer) → IsOpen name U → w.ready U) →
-      ((U : Tokenizer) (ok : Bool) (V : Tokenizer) → w.ends U ok V → (ok ≡ true) × (V ≡ done (Exit name ∷ []) U)) →
-      GoesIn W (weight_at k T) (DoesAs 0 p T.tokenize_state T) (stepped st (attempted false (Next last) Nok (entered_literal name T)))
-  literal-law k {v} {w} say_first say_last alone less one some on closed last_ready last_end =
-      let A : Tokenizer = entered_literal name T in
-      let n : ℕ = weight_at k T in
-      let E : Bool → Tokenizer → Type 0 = DoesAs 0 p T.tokenize_state T in
-      Goes-attempt W n E st {w = v} say_first (Next last) Nok A (attempts-applied (Enter name) T ∙ alone) on
-      (omega (arith, less, left-applied (Enter name) T refl))
-      (λ U now x. let y = closed true U x in
-      follows W n E (Next last) {w = w} say_last U (last_ready U (opens-still U y)) (omega (arith, one U, left-literal U y))
-      (λ ok V z. (let e = last_end U ok V z in subst (λ b. E b V) (sym e.0) (passed-literal U V some y e.1))))
-      (λ U now x. let y = closed false U x in
-      record {
-        goes_on = tt;
-        falls = omega arith;
-        closed = λ ok V z. subst (λ b. E b V) (sym z.0) (failed-literal U V y (z.1 ∙ back-literal U y));
-      })

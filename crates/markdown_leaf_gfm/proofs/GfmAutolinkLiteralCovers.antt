@@ -14,7 +14,7 @@ use Rattle.markdown_plan.specs.Plan.{tree_ops, plan_of}
 use Rattle.markdown_plan.specs.PrecededReadings.{after}
 use Rattle.markdown_plan.proofs.PrecededReadingLemmas.{then-after}
 use Rattle.markdown_plan.proofs.PassedByReadings.{Read, Gives, Covers, both-parts, Gives-bind, Gives-either, Gives-gives, Gives-one, Gives-switched, Covers-leaf}
-use Rattle.markdown_leaf_gfm.specs.GfmAutolinkLiteral.{address, prefix_reading}
+use Rattle.markdown_leaf_gfm.specs.GfmAutolinkLiteral.{address, protocol_reading}
 use Rattle.markdown_leaf_gfm.proofs.LettersOfWords.{letter_test}
 use Rattle.markdown_model.proofs.GrammarSteps.{bind-some, bind-none, then-none, switched-on, switched-off}
 
@@ -75,7 +75,7 @@ ops-leaf name (c ∷ cs) os e = refl
 
 module _ (bytes : List ℕ) (end : ℕ) where
   protocol-text : (cs : List Code) →
-      (one_word_of schemes >>= λ scheme. domain bytes end >>= λ host. path bytes end >>= λ further. gives (leaf N.GfmAutolinkLiteralProtocol (scheme ++ host ++ further))) cs ≡ mapped (leaf N.GfmAutolinkLiteralProtocol) (prefix_reading bytes end 0 0 cs)
+      (one_word_of schemes >>= λ scheme. domain bytes end >>= λ host. path bytes end >>= λ further. gives (leaf N.GfmAutolinkLiteralProtocol (scheme ++ host ++ further))) cs ≡ mapped (leaf N.GfmAutolinkLiteralProtocol) (protocol_reading bytes end cs)
   protocol-text cs =
       let name : List Code → Forest = leaf N.GfmAutolinkLiteralProtocol in
       bind-then (one_word_of schemes) (address bytes end) _ name (λ x r.
@@ -84,14 +84,14 @@ module _ (bytes : List ℕ) (end : ℕ) where
 
   -- where no letter stands before
   protocol-by : (previous : Option Code) (cs : List Code) (b : Bool) → is_some_code is_letter previous ≡ b →
-      tree_ops (gfm_autolink_literal_protocol bytes end previous cs) ≡ (if not b then leaf_ops N.GfmAutolinkLiteralProtocol (prefix_reading bytes end 0 0 cs) else None)
+      tree_ops (gfm_autolink_literal_protocol bytes end previous cs) ≡ (if not b then leaf_ops N.GfmAutolinkLiteralProtocol (protocol_reading bytes end cs) else None)
   unfolding gfm_autolink_literal_protocol
   protocol-by previous cs true e = ap tree_ops (switched-off _ _ cs (ap not e))
   protocol-by previous cs false e =
-      ap tree_ops (switched-on _ _ cs (ap not e) ∙ protocol-text cs) ∙ mapped-ops N.GfmAutolinkLiteralProtocol (prefix_reading bytes end 0 0 cs)
+      ap tree_ops (switched-on _ _ cs (ap not e) ∙ protocol-text cs) ∙ mapped-ops N.GfmAutolinkLiteralProtocol (protocol_reading bytes end cs)
 
   pub protocol-is : (on : Bool) (previous : Option Code) (cs : List Code) →
-      plan_of (provided on >> gfm_autolink_literal_protocol bytes end previous) cs ≡ (if on && not (is_some_code is_letter previous) then leaf_ops N.GfmAutolinkLiteralProtocol (prefix_reading bytes end 0 0 cs) else None)
+      plan_of (provided on >> gfm_autolink_literal_protocol bytes end previous) cs ≡ (if on && not (is_some_code is_letter previous) then leaf_ops N.GfmAutolinkLiteralProtocol (protocol_reading bytes end cs) else None)
   protocol-is true previous cs =
       ap tree_ops (switched-on (gfm_autolink_literal_protocol bytes end previous) true cs refl) ∙ protocol-by previous cs (is_some_code is_letter previous) refl
   protocol-is false previous cs =
@@ -99,7 +99,7 @@ module _ (bytes : List ℕ) (end : ℕ) where
 
 -- What they cover.
 
-abbrev Itself : List Code → List Code → Type 0
+abbrev pub Itself : List Code → List Code → Type 0
 Itself x ws = x ≡ ws
 
 gives-letters : (ns : List ℕ) → Gives Itself (letters ns)
@@ -110,7 +110,7 @@ gives-letters (n ∷ ns) =
     Gives-bind _ _ Itself _ (gives-letters ns) (λ b vs q.
     Gives-gives (a ++ b) _ (ap (λ x. x ++ b) p.0 ∙ ap (λ x. ws ++ x) (q ∙ sym (append-nil vs)))))
 
-gives-one-word : (words : List (List ℕ)) → Gives Itself (one_word_of words)
+pub gives-one-word : (words : List (List ℕ)) → Gives Itself (one_word_of words)
 unfolding one_word_of
 gives-one-word [] cs x rest k = cc
 gives-one-word (word ∷ words) cs x rest k =

@@ -1,7 +1,7 @@
 -- What autolink literals read, by what stands there.
-use Rattle.std.proofs.Common.{◌≡◌, ℕ, zero, suc, ◌+◌, ◌≤◌, ◌==◌, ◌&&◌, ◌||◌, not, Bool, true, false, if◌then◌else◌, Option, Some, None, List, [], ◌∷◌, ◌++◌, reverse, append_assoc, append-nil, refl, sym, ap, subst, ◌∙◌, arith}
+use Rattle.std.proofs.Common.{◌≡◌, ℕ, zero, suc, ◌+◌, ◌≤◌, ◌==◌, ◌&&◌, ◌||◌, not, Bool, true, false, if◌then◌else◌, Option, Some, None, List, [], ◌∷◌, ◌++◌, length, nat_lt, reverse, append_assoc, append-nil, refl, sym, ap, subst, ◌∙◌, arith}
 use Rattle.std.specs.Prelude.{codes}
-use Rattle.std.specs.List.{list_any}
+use Rattle.std.specs.List.{list_all, list_any}
 use Rattle.std.proofs.lemmas.List.{reverse-append}
 use Rattle.std.proofs.lemmas.Bool.Decides.{nat_tests}
 use Rattle.std.proofs.lemmas.Bool.{eqb-true}
@@ -10,15 +10,16 @@ use Rattle.markdown_engine.specs.Operations.{Op, Consume}
 use Rattle.markdown_engine.specs.TreeOps.{consumes}
 use Rattle.markdown_engine.specs.declared.tokenizer.TokenizeState.{TokenizeState}
 use Rattle.markdown_model.specs.CodeTests.{is_value, is_among, is_empty, next_is}
-use Rattle.markdown_model.specs.Grammar.{Reading, ◌then_◌, with_first}
+use Rattle.markdown_model.specs.Grammar.{◌then_◌, with_first}
 use Rattle.markdown_model.specs.GfmAutolinkLiteral.{schemes, letters, one_word_of, last_parts_plain, is_domain, domain, domain_from, is_domain_code, path, path_from, ends_path, count_if}
 use Rattle.markdown_plan.specs.ByteTests.{letter_value}
 use Rattle.markdown_plan.specs.Plan.{preceded}
-use Rattle.markdown_plan.proofs.PrecededReadingLemmas.{then-after, after-more, after-none}
+use Rattle.markdown_plan.specs.PrecededReadings.{after}
+use Rattle.markdown_plan.proofs.PrecededReadingLemmas.{then-after}
 use Rattle.markdown_plan.proofs.PlanSteps.{consumes-append}
-use Rattle.markdown_leaf_gfm.specs.GfmAutolinkLiteral.{stands_for, word_at, words_like, are_schemes, www_letter, www_test, rested, saw, underscored, dotted, is_well, passed_code, fields_after, pass_ops, path_plan, domain_plan, domain_after_plan, address, slashes_plan, prefix_plan}
+use Rattle.markdown_leaf_gfm.specs.GfmAutolinkLiteral.{one_named, longest, words_behind, are_schemes, www_letter, www_test, rested, saw, underscored, dotted, is_well, passed_code, fields_after, pass_ops, path_plan, domain_plan, domain_after_plan, address, protocol_reading, slashes_plan, prefix_plan}
 use Rattle.markdown_leaf_gfm.proofs.LettersOfWords.{letter_test, letters-more, letters-none, letters-nil}
-use Rattle.markdown_leaf_gfm.proofs.SchemesLeft.{Goes, tails, no_words, is_spelling, colon-for, one_begins, words-more, words-none, words-end, colon-read, next-words, left-letter, left-some}
+use Rattle.markdown_leaf_gfm.proofs.SchemesLeft.{tails, one_begins, schemes-behind, words-more-behind, words-more, words-none, words-end, colon-read, named-begin, no-other, no-longer}
 use Rattle.markdown_model.proofs.GrammarSteps.{then-some, then-none, if-true, if-false}
 
 -- Domains: their fields, code by code.
@@ -190,17 +191,6 @@ module _ (bytes : List ℕ) (end : ℕ) where
 
 -- Words.
 
-pub then-first : (a b k : Reading (List Code)) (c : Code) (cs : List Code) → a (c ∷ cs) ≡ with_first c (b cs) →
-    (a then_ k) (c ∷ cs) ≡ with_first c ((b then_ k) cs)
-then-first a b k c cs e = by_what (b cs) refl
-  where
-    by_what : (o : Option (List Code × List Code)) → b cs ≡ o → (a then_ k) (c ∷ cs) ≡ with_first c ((b then_ k) cs)
-    by_what None h = then-none a k (c ∷ cs) (e ∙ ap (with_first c) h) ∙ ap (with_first c) (sym (then-none b k cs h))
-    by_what (Some r) h =
-        then-after a k (c ∷ cs) (c ∷ r.0) r.1 (e ∙ ap (with_first c) h)
-        ∙ after-more c r.0 (k r.1)
-        ∙ ap (with_first c) (sym (then-after b k cs r.0 r.1 h))
-
 pub ops-first : (c : Code) (o : Option (List Code × List Code)) →
     pass_ops (with_first c o) ≡ preceded (Consume ∷ []) (pass_ops o)
 ops-first c None = refl
@@ -215,84 +205,107 @@ next-same : (p q : Code → Bool) → ((c : Code) → p c ≡ q c) → (cs : Lis
 next-same p q h [] = refl
 next-same p q h (c ∷ cs) = h c
 
-letters-here : (n : ℕ) (ns : List ℕ) (k : Reading (List Code)) (c : Code) (cs : List Code) → letter_test n c ≡ true →
-    pass_ops ((letters (n ∷ ns) then_ k) (c ∷ cs)) ≡ preceded (Consume ∷ []) (pass_ops ((letters ns then_ k) cs))
-letters-here n ns k c cs e =
-    ap pass_ops (then-first (letters (n ∷ ns)) (letters ns) k c cs (letters-more n ns c cs e)) ∙ ops-first c ((letters ns then_ k) cs)
+letters-here : (n : ℕ) (ns : List ℕ) (c : Code) (cs : List Code) → letter_test n c ≡ true →
+    pass_ops (letters (n ∷ ns) (c ∷ cs)) ≡ preceded (Consume ∷ []) (pass_ops (letters ns cs))
+letters-here n ns c cs e = ap pass_ops (letters-more n ns c cs e) ∙ ops-first c (letters ns cs)
 
-letters-other : (n : ℕ) (ns : List ℕ) (k : Reading (List Code)) (cs : List Code) → next_is (letter_test n) cs ≡ false →
-    pass_ops ((letters (n ∷ ns) then_ k) cs) ≡ None
-letters-other n ns k cs e = ap pass_ops (then-none (letters (n ∷ ns)) k cs (letters-none n ns cs e))
+-- Behind a front of the name of a scheme.
 
-then-same : (a b k : Reading (List Code)) (cs : List Code) → a cs ≡ b cs → (a then_ k) cs ≡ (b then_ k) cs
-unfolding ◌then_◌
-then-same a b k cs e =
-    ap (λ (o : Option (List Code × List Code)). elim o as (λ _. Option (List Code × List Code)) [ None ↦ None | Some r ↦ elim (k r.1) as (λ _. Option (List Code × List Code)) [ None ↦ None | Some s ↦ Some (r.0 ++ s.0, s.1) ] ]) e
+-- the schemes are such
+pub all-schemes : are_schemes schemes ≡ true
+all-schemes = refl
 
-then-nothing : (a k : Reading (List Code)) (cs : List Code) → a cs ≡ Some ([], cs) → (a then_ k) cs ≡ k cs
-then-nothing a k cs e = then-after a k cs [] cs e ∙ after-none (k cs)
+module _ (vs : List ℕ) (names : list_all letter_value vs ≡ true) where
+  left-schemes : are_schemes (words_behind vs schemes) ≡ true
+  left-schemes = schemes-behind vs schemes names all-schemes
+
+  prefix-at : (c : Code) (cs : List Code) →
+      prefix_plan vs (c ∷ cs) ≡ preceded (Consume ∷ []) (pass_ops (one_word_of (tails c.value (words_behind vs schemes)) cs))
+  prefix-at c cs =
+      ap pass_ops (words-more (words_behind vs schemes) c cs left-schemes) ∙ ops-first c (one_word_of (tails c.value (words_behind vs schemes)) cs)
+
+  pub prefix-more : (c : Code) (cs : List Code) →
+      prefix_plan vs (c ∷ cs) ≡ preceded (Consume ∷ []) (prefix_plan (vs ++ c.value ∷ []) cs)
+  prefix-more c cs =
+      prefix-at c cs ∙ ap (λ ws. preceded (Consume ∷ []) (pass_ops (one_word_of ws cs))) (sym (words-more-behind vs c.value schemes))
+
+  pub prefix-colon : (c : Code) (cs : List Code) → (c.value == 58) ≡ true → one_named schemes vs ≡ true →
+      prefix_plan vs (c ∷ cs) ≡ preceded (Consume ∷ []) (slashes_plan 0 cs)
+  prefix-colon c cs e h =
+      prefix-at c cs
+      ∙ ap (λ v. preceded (Consume ∷ []) (pass_ops (one_word_of (tails v (words_behind vs schemes)) cs))) (eqb-true c.value 58 e)
+      ∙ ap (λ o. preceded (Consume ∷ []) (pass_ops o)) (colon-read (words_behind vs schemes) cs left-schemes (sym (named-begin vs schemes) ∙ h))
+
+  pub prefix-none : (c : Code) (cs : List Code) → one_begins (words_behind vs schemes) c.value ≡ false →
+      prefix_plan vs (c ∷ cs) ≡ None
+  prefix-none c cs e = ap pass_ops (words-none (words_behind vs schemes) c cs left-schemes e)
+
+  pub prefix-end : prefix_plan vs [] ≡ None
+  prefix-end = ap pass_ops (words-end (words_behind vs schemes) left-schemes)
+
+  -- no scheme goes on with a letter behind so many, or with a colon behind another name, or with another code
+  pub prefix-other : (c : Code) (cs : List Code) → (letter_value c.value && nat_lt (length vs) (longest schemes)) ≡ false →
+      ((c.value == 58) && one_named schemes vs) ≡ false → prefix_plan vs (c ∷ cs) ≡ None
+  prefix-other c cs e h = prefix-none c cs (by_letter (letter_value c.value) refl e)
+    where
+      Goal : Type 0
+      Goal = one_begins (words_behind vs schemes) c.value ≡ false
+
+      many : nat_lt (length vs) (longest schemes) ≡ false → longest schemes ≤ length vs
+      many k = grind (arith, nat_tests)
+
+      by_colon : letter_value c.value ≡ false → (t : Bool) → (c.value == 58) ≡ t → (t && one_named schemes vs) ≡ false → Goal
+      by_colon l true f k =
+          ap (one_begins (words_behind vs schemes)) (eqb-true c.value 58 f) ∙ sym (named-begin vs schemes) ∙ k
+      by_colon l false f k = no-other (words_behind vs schemes) c.value left-schemes l f
+
+      by_letter : (t : Bool) → letter_value c.value ≡ t → (t && nat_lt (length vs) (longest schemes)) ≡ false → Goal
+      by_letter true l k = no-longer vs schemes c.value names l (many k)
+      by_letter false l k = by_colon l (c.value == 58) refl h
+
+pub slashes-more : (n : ℕ) (c : Code) (cs : List Code) → (c.value == 47) ≡ true → (n == 0) ≡ true →
+    slashes_plan n (c ∷ cs) ≡ preceded (Consume ∷ []) (slashes_plan 1 cs)
+slashes-more n c cs e h =
+    ap pass_ops (ap (λ ns. letters ns (c ∷ cs)) (if-true _ (codes "//") (codes "/") h)) ∙ letters-here 47 _ c cs (sym (case-slash c.value) ∙ e)
+
+pub slashes-last : (n : ℕ) (c : Code) (cs : List Code) → (c.value == 47) ≡ true → (n == 0) ≡ false →
+    slashes_plan n (c ∷ cs) ≡ Some (Consume ∷ [])
+slashes-last n c cs e h =
+    ap pass_ops (ap (λ ns. letters ns (c ∷ cs)) (if-false _ (codes "//") (codes "/") h))
+    ∙ letters-here 47 [] c cs (sym (case-slash c.value) ∙ e)
+    ∙ ap (λ o. preceded (Consume ∷ []) (pass_ops o)) (letters-nil cs)
+
+none-by : (b : Bool) (cs : List Code) → next_is (is_value 47) cs ≡ false →
+    pass_ops (letters (if b then codes "//" else codes "/") cs) ≡ None
+none-by true cs e =
+    ap pass_ops (letters-none 47 _ cs (next-same (letter_test 47) (is_value 47) (λ c. sym (case-slash c.value)) cs ∙ e))
+none-by false cs e =
+    ap pass_ops (letters-none 47 _ cs (next-same (letter_test 47) (is_value 47) (λ c. sym (case-slash c.value)) cs ∙ e))
+
+pub slashes-none : (n : ℕ) (cs : List Code) → next_is (is_value 47) cs ≡ false → slashes_plan n cs ≡ None
+slashes-none n cs e = none-by (n == 0) cs e
+
+-- A scheme, and the address behind it.
+
+ops-after : (x : List Code) (o : Option (List Code × List Code)) →
+    pass_ops (after x o) ≡ preceded (consumes x) (pass_ops o)
+ops-after x None = refl
+ops-after x (Some r) = ap (λ os. Some os) (consumes-append x r.0)
 
 module _ (bytes : List ℕ) (end : ℕ) where
-  pub prefix-at : (k n a : ℕ) (words : List (List ℕ)) (c : Code) (cs : List Code) → are_schemes (words_like (word_at schemes k) n schemes) ≡ true → is_spelling a ≡ true → stands_for a c.value ≡ true → words ≡ tails a (words_like (word_at schemes k) n schemes)
-      → prefix_plan bytes end k n (c ∷ cs) ≡ preceded (Consume ∷ []) (pass_ops ((one_word_of words then_ address bytes end) cs))
-  prefix-at k n a words c cs h s e f =
-      let left : List (List ℕ) = words_like (word_at schemes k) n schemes in
-      ap pass_ops (then-first (one_word_of left) (one_word_of words) (address bytes end) c cs (words-more a left c cs h s e ∙ ap (λ ws. with_first c (one_word_of ws cs)) (sym f)))
-      ∙ ops-first c ((one_word_of words then_ address bytes end) cs)
+  pub protocol-behind : (cs x rest : List Code) (s : TokenizeState) → one_word_of schemes cs ≡ Some (x, rest) →
+      rested s ≡ s → pass_ops (protocol_reading bytes end cs) ≡ preceded (consumes x) (domain_plan bytes end s rest)
+  protocol-behind cs x rest s e h =
+      ap pass_ops (then-after (one_word_of schemes) (address bytes end) cs x rest e)
+      ∙ ops-after x (address bytes end rest)
+      ∙ ap (preceded (consumes x)) (address-is bytes end s rest h)
 
-  pub prefix-more : (k n j : ℕ) (c : Code) (cs : List Code) → are_schemes (words_like (word_at schemes k) n schemes) ≡ true → (g : Goes schemes (word_at schemes k) n c.value j)
-      → prefix_plan bytes end k n (c ∷ cs) ≡ preceded (Consume ∷ []) (prefix_plan bytes end j (n + 1) cs)
-  prefix-more k n j c cs h g =
-      prefix-at k n g.letter (words_like (word_at schemes j) (n + 1) schemes) c cs h (left-letter schemes (word_at schemes k) n j g.letter g.more h g.rest) g.stands (next-words (word_at schemes k) (word_at schemes j) n g.letter g.more schemes g.rest)
-
-  pub prefix-colon : (k n j : ℕ) (c : Code) (cs : List Code) → are_schemes (words_like (word_at schemes k) n schemes) ≡ true → Goes schemes (word_at schemes k) n c.value j → (c.value == 58) ≡ true
-      → prefix_plan bytes end k n (c ∷ cs) ≡ preceded (Consume ∷ []) (slashes_plan bytes end 0 cs)
-  prefix-colon k n j c cs h g e =
-      let left : List (List ℕ) = words_like (word_at schemes k) n schemes in
-      let spells : is_spelling g.letter ≡ true = left-letter schemes (word_at schemes k) n j g.letter g.more h g.rest in
-      let colon : g.letter ≡ 58 = eqb-true g.letter 58 (colon-for g.letter c.value spells g.stands e) in
-      prefix-at k n g.letter (tails g.letter left) c cs h spells g.stands refl
-      ∙ ap (preceded (Consume ∷ [])) (ap (λ a. pass_ops ((one_word_of (tails a left) then_ address bytes end) cs)) colon
-      ∙ ap pass_ops (then-same (one_word_of (tails 58 left)) (letters (codes "//")) (address bytes end) cs
-      (colon-read left cs h (ap (λ a. no_words (tails a left)) (sym colon) ∙ left-some schemes (word_at schemes k) n j g.letter g.more g.rest))))
-
-  pub prefix-none : (k n : ℕ) (c : Code) (cs : List Code) →
-      are_schemes (words_like (word_at schemes k) n schemes) ≡ true →
-      one_begins (words_like (word_at schemes k) n schemes) c.value ≡ false → prefix_plan bytes end k n (c ∷ cs) ≡ None
-  prefix-none k n c cs h e =
-      ap pass_ops (then-none (one_word_of (words_like (word_at schemes k) n schemes)) (address bytes end) (c ∷ cs) (words-none (words_like (word_at schemes k) n schemes) c cs h e))
-
-  pub prefix-end : (k n : ℕ) → are_schemes (words_like (word_at schemes k) n schemes) ≡ true →
-      prefix_plan bytes end k n [] ≡ None
-  prefix-end k n h =
-      ap pass_ops (then-none (one_word_of (words_like (word_at schemes k) n schemes)) (address bytes end) [] (words-end (words_like (word_at schemes k) n schemes) h))
-
-  slashes-by : (b : Bool) (c : Code) (cs : List Code) → (c.value == 47) ≡ true →
-      pass_ops ((letters (if b then codes "//" else codes "/") then_ address bytes end) (c ∷ cs)) ≡ preceded (Consume ∷ []) (if b then slashes_plan bytes end 1 cs else pass_ops (address bytes end cs))
-  slashes-by true c cs e = letters-here 47 _ (address bytes end) c cs (sym (case-slash c.value) ∙ e)
-  slashes-by false c cs e =
-      letters-here 47 _ (address bytes end) c cs (sym (case-slash c.value) ∙ e)
-      ∙ ap (λ o. preceded (Consume ∷ []) (pass_ops o)) (then-nothing (letters []) (address bytes end) cs (letters-nil cs))
-
-  pub slashes-more : (n : ℕ) (c : Code) (cs : List Code) → (c.value == 47) ≡ true → (n == 0) ≡ true →
-      slashes_plan bytes end n (c ∷ cs) ≡ preceded (Consume ∷ []) (slashes_plan bytes end 1 cs)
-  slashes-more n c cs e h = slashes-by (n == 0) c cs e ∙ ap (preceded (Consume ∷ [])) (if-true _ _ _ h)
-
-  pub slashes-last : (n : ℕ) (c : Code) (cs : List Code) (s : TokenizeState) → (c.value == 47) ≡ true →
-      (n == 0) ≡ false → rested s ≡ s →
-      slashes_plan bytes end n (c ∷ cs) ≡ preceded (Consume ∷ []) (domain_plan bytes end s cs)
-  slashes-last n c cs s e h k =
-      slashes-by (n == 0) c cs e ∙ ap (preceded (Consume ∷ [])) (if-false _ _ _ h ∙ address-is bytes end s cs k)
-
-  none-by : (b : Bool) (cs : List Code) → next_is (is_value 47) cs ≡ false →
-      pass_ops ((letters (if b then codes "//" else codes "/") then_ address bytes end) cs) ≡ None
-  none-by true cs e =
-      letters-other 47 _ (address bytes end) cs (next-same (letter_test 47) (is_value 47) (λ c. sym (case-slash c.value)) cs ∙ e)
-  none-by false cs e =
-      letters-other 47 _ (address bytes end) cs (next-same (letter_test 47) (is_value 47) (λ c. sym (case-slash c.value)) cs ∙ e)
-
-  pub slashes-none : (n : ℕ) (cs : List Code) → next_is (is_value 47) cs ≡ false → slashes_plan bytes end n cs ≡ None
-  slashes-none n cs e = none-by (n == 0) cs e
+  pub protocol-none : (cs : List Code) → prefix_plan [] cs ≡ None → protocol_reading bytes end cs ≡ None
+  protocol-none cs e = then-none (one_word_of schemes) (address bytes end) cs (read-none (one_word_of schemes cs) e)
+    where
+      read-none : (o : Option (List Code × List Code)) → pass_ops o ≡ None → o ≡ None
+      read-none None k = refl
+      read-none (Some r) k = cc
 
 -- The word `www.`.
 

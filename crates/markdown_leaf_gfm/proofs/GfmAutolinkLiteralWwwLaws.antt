@@ -26,7 +26,7 @@ use Rattle.markdown_engine.proofs.OperationLemmas.{Grown-applied, Grown-scratche
 use Rattle.markdown_model.specs.CodeTests.{is_empty, is_among}
 use Rattle.markdown_model.specs.GfmAutolinkLiteral.{domain, domain_from, path, path_from, last_parts_plain, may_precede_www, begins_with_www, www_from_here}
 use Rattle.markdown_plan.specs.Plan.{Plan, plan_of, DoesAs}
-use Rattle.markdown_plan.proofs.PlanSteps.{EndsAs-plan}
+use Rattle.markdown_plan.proofs.PlanSteps.{EndsAs-plan, none-read}
 use Rattle.markdown_plan.specs.Characters.{bytes_of}
 use Rattle.markdown_leaf_gfm.specs.GfmAutolinkLiteral.{end_of, before_of, is_on, rested, sized, ended, unworded, precedes_www, www_letter, may_begin_www, is_ruled_out, KnowsDomains, www_start_at, www_start_step, www_prefix_at, entered_literal, StartReady, LiteralReady, WwwReady, Looks, Tries, is_well}
 use Rattle.markdown_leaf_gfm.specs.GfmAutolinkLiteral.{fields_after, domain_plan, address, pass_ops, domain_ends, www_test, www_prefix_ends, www_prefix_after_ends, www_after_ends, www_here, www_start_ends, states, www_after_words, www_prefix_after_words, www_prefix_words, www_start_words}
@@ -96,6 +96,26 @@ few-letters n v e h = grind (arith, nat_tests)
 www-ready : (n : ℕ) (T : Tokenizer) → n ≤ 3 → WwwReady (scratched (sized n T.tokenize_state) (done (Consume ∷ []) T))
 unfolding scratched
 www-ready n T h = record { few = h }
+
+-- Where it stands.
+
+before-www : (T : Tokenizer) → precedes_www (previous_of T) ≡ may_precede_www (before_of T)
+unfolding code_before
+before-www T = by_code (last_of T.cursor.codes T.cursor.at)
+  where
+    by_code : (o : Option Code) → precedes_www (value_of o) ≡ may_precede_www o
+    by_code None = refl
+    by_code (Some c) = refl
+
+and-three : (a m w : Bool) → a && (m && w) ≡ (a && m) && w
+and-three true m w = refl
+and-three false m w = refl
+
+-- a literal stands here where it may begin and the word is seen
+stands-by : (T : Tokenizer) (cs : List Code) →
+    is_on T && (may_precede_www (before_of T) && begins_with_www cs) ≡ may_begin_www T && www_test 0 cs
+stands-by T cs =
+    and-three (is_on T) (may_precede_www (before_of T)) (begins_with_www cs) ∙ ap (λ m. (is_on T && m) && begins_with_www cs) (sym (before-www T))
 
 module _ (W : Words) (within : Within states W) where
   tries-ended : (T : Tokenizer) (test : Bool) → T.attempts ≡ [] → test ≡ false →
@@ -180,85 +200,18 @@ module _ (W : Words) (within : Within states W) where
 
   -- The start.
 
-  before-www : (T : Tokenizer) → precedes_www (previous_of T) ≡ may_precede_www (before_of T)
-  unfolding code_before
-  before-www T = by_code (last_of T.cursor.codes T.cursor.at)
-    where
-      by_code : (o : Option Code) → precedes_www (value_of o) ≡ may_precede_www o
-      by_code None = refl
-      by_code (Some c) = refl
-
   -- the word is looked at, and all is as before
   back-here : (A U : Tokenizer) (test ok : Bool) → A.tokenize_state.size ≡ 0 → Tries test A ok U →
       restored (frame_of true (Next GfmAutolinkLiteralDomainInside) Nok A) U ≡ A
   back-here A U test ok e k =
       restored-grown true (Next GfmAutolinkLiteralDomainInside) Nok A U k.grown ∙ ap (λ (x : TokenizeState). scratched x A) (k.scratch ∙ sized-same A.tokenize_state e) ∙ scratched-same A
 
-  and-three : (a m w : Bool) → a && (m && w) ≡ (a && m) && w
-  and-three true m w = refl
-  and-three false m w = refl
-
-  -- a literal stands here where it may begin and the word is seen
-  may_be : Tokenizer → Bool
-  may_be T = is_on T && precedes_www (previous_of T)
-
-  stands-by : (T : Tokenizer) (cs : List Code) →
-      is_on T && (may_precede_www (before_of T) && begins_with_www cs) ≡ may_be T && www_test 0 cs
-  unfolding may_be
-  stands-by T cs =
-      and-three (is_on T) (may_precede_www (before_of T)) (begins_with_www cs) ∙ ap (λ m. (is_on T && m) && begins_with_www cs) (sym (before-www T))
-
-  -- no domain begins where that is known
-  barred-domain : (bytes : List ℕ) (end : ℕ) (cs : List Code) → is_barred bytes end cs ≡ true →
-      domain bytes end cs ≡ None
-  unfolding domain
-  barred-domain bytes end cs e =
-      ap (λ b. elim b as (λ _. Option (List Code × List Code)) [ true ↦ Some (domain_from bytes end cs) | false ↦ None ])
-      (no-domain (list_any (λ c. not (is_among (codes "._-") c)) (domain_from bytes end cs).0) (last_parts_plain 0 (reverse (domain_from bytes end cs).0)) e)
-    where
-      no-domain : (a b : Bool) → not b ≡ true → a && b ≡ false
-      no-domain true true k = cc
-      no-domain true false k = refl
-      no-domain false b k = refl
-
-  ruled-none : (T : Tokenizer) → KnowsDomains T → is_ruled_out T ≡ true →
-      plan_of (www_from_here (bytes_of T) (end_of T)) (ahead T) ≡ None
-  unfolding ahead_at
-  ruled-none T knows e =
-      from-here-is (bytes_of T) (end_of T) (ahead T)
-      ∙ ap (leaf_ops N.GfmAutolinkLiteralWww) (then-none (domain (bytes_of T) (end_of T)) (path (bytes_of T) (end_of T)) (ahead T) (barred-domain (bytes_of T) (end_of T) (ahead T) (ruled-out (bytes_of T) (end_of T) T.cursor.codes T.tokenize_state.no_domains T.cursor.at knows e)))
-
-  first-part : (a k w : Bool) → (a && not k) && w ≡ true → a && w ≡ true
-  first-part true true w e = cc
-  first-part true false w e = e
-  first-part false k w e = cc
-
   www-stands : (T : Tokenizer) (cs : List Code) → may_begin_www T && www_test 0 cs ≡ true →
       plan_of (www_here T) cs ≡ plan_of (www_from_here (bytes_of T) (end_of T)) cs
-  unfolding may_be
-  www-stands T cs e =
-      www-is (bytes_of T) (end_of T) (is_on T) (before_of T) cs (stands-by T cs ∙ first-part (may_be T) (is_ruled_out T) (www_test 0 cs) e)
+  www-stands T cs e = www-is (bytes_of T) (end_of T) (is_on T) (before_of T) cs (stands-by T cs ∙ e)
 
-  fails-by : (T : Tokenizer) (cs : List Code) (b : Bool) → KnowsDomains T → ahead T ≡ cs →
-      may_be T && www_test 0 cs ≡ b → is_ruled_out T ≡ true → plan_of (www_here T) cs ≡ None
-  fails-by T cs true knows here e k =
-      www-is (bytes_of T) (end_of T) (is_on T) (before_of T) cs (stands-by T cs ∙ e) ∙ ap (plan_of (www_from_here (bytes_of T) (end_of T))) (sym here) ∙ ruled-none T knows k
-  fails-by T cs false knows here e k = www-none (bytes_of T) (end_of T) (is_on T) (before_of T) cs (stands-by T cs ∙ e)
-
-  and-same : (a : Bool) → a && true ≡ a
-  and-same true = refl
-  and-same false = refl
-
-  www-fails : (T : Tokenizer) (cs : List Code) → KnowsDomains T → ahead T ≡ cs →
-      may_begin_www T && www_test 0 cs ≡ false → plan_of (www_here T) cs ≡ None
-  unfolding may_be
-  www-fails T cs knows here e = by_known (is_ruled_out T) refl e
-    where
-      by_known : (k : Bool) → is_ruled_out T ≡ k → (may_be T && not k) && www_test 0 cs ≡ false →
-          plan_of (www_here T) cs ≡ None
-      by_known true h f = fails-by T cs (may_be T && www_test 0 cs) knows here refl h
-      by_known false h f =
-          www-none (bytes_of T) (end_of T) (is_on T) (before_of T) cs (stands-by T cs ∙ ap (λ m. m && www_test 0 cs) (sym (and-same (may_be T))) ∙ f)
+  www-fails : (T : Tokenizer) (cs : List Code) → may_begin_www T && www_test 0 cs ≡ false → plan_of (www_here T) cs ≡ None
+  www-fails T cs e = www-none (bytes_of T) (end_of T) (is_on T) (before_of T) cs (stands-by T cs ∙ e)
 
   no-word : (a b w : Bool) → a && b ≡ false → (b ≡ false → w ≡ false) → a && w ≡ false
   no-word true b w e h = h e
@@ -314,7 +267,7 @@ module _ (W : Words) (within : Within states W) where
       given-up : www_test 0 (ahead T) ≡ false → G (outer ∷ []) Nok A
       given-up seen =
           goes-then W n (DoesAs 0 p T.tokenize_state T) outer [] Nok {w = end_words false} refl A tt (omega (arith, left))
-          (λ ok V now y. no-literal W n N.GfmAutolinkLiteralWww GfmAutolinkLiteralWwwAfter p T (omega arith) (www-fails T (ahead T) on.knows refl (and_right (may_begin_www T) (www_test 0 (ahead T)) seen)) ok V y)
+          (λ ok V now y. no-literal W n N.GfmAutolinkLiteralWww GfmAutolinkLiteralWwwAfter p T (omega arith) (www-fails T (ahead T) (and_right (may_begin_www T) (www_test 0 (ahead T)) seen)) ok V y)
 
       by_answer : (b : Bool) → Tries (www_test A.tokenize_state.size (ahead A)) A b U →
           G (outer ∷ []) (going_state (frame_of true (Next GfmAutolinkLiteralDomainInside) Nok A) b) (going_in (frame_of true (Next GfmAutolinkLiteralDomainInside) Nok A) b U)
@@ -334,7 +287,7 @@ module _ (W : Words) (within : Within states W) where
       let size : A.tokenize_state.size ≡ 0 = ap (λ (x : TokenizeState). x.size) (scratch-done (Enter N.GfmAutolinkLiteralWww ∷ []) T ∙ sym on.resting) in
       GoesOn-map W n F (www_start_ends T) (www_start_step T) (λ ok U k. EndsAs-plan (www_here T) (whole-www (bytes_of T) (end_of T) (is_on T) (before_of T)) s T ok U k)
       (code-step P (current_of T) (λ o. www_start_at (may_begin_www T) o T)
-      (λ e. Goes-no W 7 0 p T alone (ap p (ahead-none T e) ∙ www-fails T [] on.knows (ahead-none T e) (and_right (may_begin_www T) (www_test 0 []) (www-other 0 [] (omega arith) refl))))
+      (λ e. Goes-no W 7 0 p T alone (ap p (ahead-none T e) ∙ www-fails T [] (and_right (may_begin_www T) (www_test 0 []) (www-other 0 [] (omega arith) refl))))
       (λ c e. let b = ahead-some T c e in
       let more : List Code = rest_of (ahead T) in
       if-step P (may_begin_www T && (c == 119 || c == 87)) _ _
@@ -342,8 +295,35 @@ module _ (W : Words) (within : Within states W) where
       (omega (arith, left-applied (Enter N.GfmAutolinkLiteralWww) T refl))
       (λ k U now x. word-tried T on (and-left (may_begin_www T) (c == 119 || c == 87) h) k U x))
       (λ h. Goes-no W 7 0 p T alone
-      (ap p b.whole ∙ www-fails T (b.code ∷ more) on.knows b.whole (no-word (may_begin_www T) (c == 119 || c == 87) (www_test 0 (b.code ∷ more)) h (λ f. www-other 0 (b.code ∷ more) (omega arith) (ap (λ v. v == 119 || v == 87) b.value ∙ f)))))))
+      (ap p b.whole ∙ www-fails T (b.code ∷ more) (no-word (may_begin_www T) (c == 119 || c == 87) (www_test 0 (b.code ∷ more)) h (λ f. www-other 0 (b.code ∷ more) (omega arith) (ap (λ v. v == 119 || v == 87) b.value ∙ f)))))))
 
 pub www_after-law : (W : Words) → Law W www_after_words
 www_after-law W T alone _ =
     Goes-end W (weight_at 1 T) (www_after_ends T) true (done (Exit N.GfmAutolinkLiteralWww ∷ []) T) (attempts-applied (Exit N.GfmAutolinkLiteralWww) T ∙ alone) (omega arith) (λ ok U k. k)
+
+-- Where it is known that no domain begins, no literal is read.
+
+barred-domain : (bytes : List ℕ) (end : ℕ) (cs : List Code) → is_barred bytes end cs ≡ true →
+    domain bytes end cs ≡ None
+unfolding domain
+barred-domain bytes end cs e =
+    ap (λ b. elim b as (λ _. Option (List Code × List Code)) [ true ↦ Some (domain_from bytes end cs) | false ↦ None ])
+    (no-domain (list_any (λ c. not (is_among (codes "._-") c)) (domain_from bytes end cs).0) (last_parts_plain 0 (reverse (domain_from bytes end cs).0)) e)
+  where
+    no-domain : (a b : Bool) → not b ≡ true → a && b ≡ false
+    no-domain true true k = cc
+    no-domain true false k = refl
+    no-domain false b k = refl
+
+pub www-ruled-out : (T : Tokenizer) → KnowsDomains T → is_ruled_out T ≡ true → www_here T (ahead T) ≡ None
+unfolding ahead_at
+www-ruled-out T knows e = none-read (www_here T (ahead T)) (by_test (may_begin_www T && www_test 0 (ahead T)) refl)
+  where
+    none : plan_of (www_from_here (bytes_of T) (end_of T)) (ahead T) ≡ None
+    none =
+        from-here-is (bytes_of T) (end_of T) (ahead T)
+        ∙ ap (leaf_ops N.GfmAutolinkLiteralWww) (then-none (domain (bytes_of T) (end_of T)) (path (bytes_of T) (end_of T)) (ahead T) (barred-domain (bytes_of T) (end_of T) (ahead T) (ruled-out (bytes_of T) (end_of T) T.cursor.codes T.tokenize_state.no_domains T.cursor.at knows e)))
+
+    by_test : (b : Bool) → may_begin_www T && www_test 0 (ahead T) ≡ b → plan_of (www_here T) (ahead T) ≡ None
+    by_test true h = www-is (bytes_of T) (end_of T) (is_on T) (before_of T) (ahead T) (stands-by T (ahead T) ∙ h) ∙ none
+    by_test false h = www-none (bytes_of T) (end_of T) (is_on T) (before_of T) (ahead T) (stands-by T (ahead T) ∙ h)

@@ -1,7 +1,7 @@
 -- What the states of autolink literals do, and how runs from them end.
-use Rattle.std.specs.Prelude.{◌≡◌, ◌<◌, ◌≤◌, ◌+◌, ℕ, zero, suc, Bool, true, false, ◌&&◌, ◌||◌, not, ◌-◌, ◌==◌, nat_lt, if◌then◌else◌, Option, Some, None, is_some, List, [], ◌∷◌, ◌++◌, drop, length, codes, IsUtf8}
+use Rattle.std.specs.Prelude.{◌≡◌, ◌<◌, ◌≤◌, ◌+◌, ℕ, Bool, true, false, ◌&&◌, ◌||◌, not, ◌-◌, ◌==◌, nat_lt, if◌then◌else◌, Option, Some, None, is_some, List, [], ◌∷◌, ◌++◌, drop, length, codes, IsUtf8}
 use Rattle.std.specs.Str.{IsCharBoundary, byte}
-use Rattle.std.specs.List.{list_any, slice_index}
+use Rattle.std.specs.List.{list_all, list_any, slice_range}
 use Rattle.markdown_engine_content.specs.Codes.{Code}
 use Rattle.markdown_engine.specs.FailedRun.{Grown}
 use Rattle.markdown_engine.specs.Operations.{Op, Enter, Exit, Consume, HasCode, ahead, attempted, done, current_of, previous_of, scratched, IsOpen}
@@ -48,48 +48,43 @@ kind_here T = class_of (after_index (bytes_of T) (point_of T.cursor).index)
 abbrev pub stands_for : ℕ → ℕ → Bool
 stands_for letter v = v == letter || (letter_value v && v + 32 == letter)
 
--- the word has this behind n codes
-abbrev pub has_at : List ℕ → ℕ → ℕ → Bool
-has_at word n v = nat_lt n (length word) && stands_for (slice_index word n) v
-
--- the word begins with n codes of the first, and goes on with this
-abbrev pub goes_on_like : List ℕ → List ℕ → ℕ → ℕ → Bool
-goes_on_like first [] n v = false
-goes_on_like first (letter ∷ rest) n v =
-    if n == 0 then stands_for letter v else elim first [ [] ↦ false | other ∷ more ↦ if other == letter then goes_on_like more rest (n - 1) v else false ]
-
--- the word of this number
-abbrev pub word_at : List (List ℕ) → ℕ → List ℕ
-word_at [] k = []
-word_at (word ∷ words) k = if k == 0 then word else word_at words (k - 1)
-
--- the number of the first word that begins with n codes of this one and goes on with this, counted from k
-abbrev pub first_like : List (List ℕ) → ℕ → List ℕ → ℕ → ℕ → Option ℕ
-first_like [] k word n v = None
-first_like (other ∷ words) k word n v = if goes_on_like word other n v then Some k else first_like words (k + 1) word n v
-
--- a scheme that begins with n codes of scheme k and goes on with this: that scheme itself, or else the first
-abbrev pub scheme_with : ℕ → ℕ → ℕ → Option ℕ
-scheme_with k n v = if has_at (word_at schemes k) n v then Some k else first_like schemes 0 (word_at schemes k) n v
-
 abbrev pub begins_scheme : ℕ → Bool
 begins_scheme v = list_any (λ n. v == n) (first_letters schemes)
 
--- what is left of the word behind n codes, if they are those that the first begins with
-abbrev pub rest_like : List ℕ → ℕ → List ℕ → Option (List ℕ)
-rest_like first zero word = Some word
-rest_like [] (suc n) word = None
-rest_like (other ∷ more) (suc n) [] = None
-rest_like (other ∷ more) (suc n) (letter ∷ rest) = if other == letter then rest_like more n rest else None
+-- what is left of the word behind this name, if it begins so
+abbrev pub behind_name : List ℕ → List ℕ → Option (List ℕ)
+behind_name [] word = Some word
+behind_name (v ∷ vs) [] = None
+behind_name (v ∷ vs) (letter ∷ rest) = if stands_for letter v then behind_name vs rest else None
 
 abbrev pub some_before : Option (List ℕ) → List (List ℕ) → List (List ℕ)
 some_before None words = words
 some_before (Some word) words = word ∷ words
 
 -- what is left so of each of these words
-abbrev pub words_like : List ℕ → ℕ → List (List ℕ) → List (List ℕ)
-words_like first n [] = []
-words_like first n (word ∷ words) = some_before (rest_like first n word) (words_like first n words)
+abbrev pub words_behind : List ℕ → List (List ℕ) → List (List ℕ)
+words_behind vs [] = []
+words_behind vs (word ∷ words) = some_before (behind_name vs word) (words_behind vs words)
+
+-- the word has this name before its colon
+abbrev pub is_named : List ℕ → List ℕ → Bool
+is_named vs [] = false
+is_named [] (n ∷ ns) = n == byte ":"
+is_named (v ∷ vs) (n ∷ ns) = stands_for n v && is_named vs ns
+
+-- one of these words has it
+abbrev pub one_named : List (List ℕ) → List ℕ → Bool
+one_named words vs = list_any (is_named vs) words
+
+-- the codes of a word before its colon
+abbrev pub name_size : List ℕ → ℕ
+name_size [] = 0
+name_size (n ∷ ns) = if n == byte ":" then 0 else name_size ns + 1
+
+-- most of them in one of these words
+abbrev pub longest : List (List ℕ) → ℕ
+longest [] = 0
+longest (word ∷ words) = if nat_lt (longest words) (name_size word) then name_size word else longest words
 
 -- Schemes: lower-case letters, and `://`.
 
@@ -139,14 +134,18 @@ abbrev pub count_value : ℕ → ℕ → ℕ → ℕ
 count_value n v k = elim (v == n) [ true ↦ k + 1 | false ↦ k ]
 
 abbrev pub rested : TokenizeState → TokenizeState
-rested s = record s { marker = 0; marker_b = 0; size = 0; size_b = 0; seen = false }
+rested s = record s { start = 0; marker = 0; marker_b = 0; size = 0; size_b = 0; seen = false }
 
 abbrev pub sized : ℕ → TokenizeState → TokenizeState
 sized n s = record s { size = n }
 
--- in a scheme
-abbrev pub spelled : ℕ → ℕ → TokenizeState → TokenizeState
-spelled k n s = record s { size = n; size_b = k }
+-- a literal with a protocol begins at this index
+abbrev pub started : ℕ → TokenizeState → TokenizeState
+started i s = record s { start = i }
+
+-- behind the name of its protocol
+abbrev pub named : TokenizeState → TokenizeState
+named s = record s { start = 0 }
 
 abbrev pub saw : TokenizeState → TokenizeState
 saw s = record s { seen = true }
@@ -188,12 +187,19 @@ may_begin T = is_on T && not (is_letter_before (previous_of T))
 abbrev pub entered_literal : Name → Tokenizer → Tokenizer
 entered_literal name T = done (Enter name ∷ []) T
 
+-- the literal is entered, and its start noted
+abbrev pub protocol_entered : Tokenizer → Tokenizer
+protocol_entered T = scratched (started (point_of T.cursor).index T.tokenize_state) (entered_literal N.GfmAutolinkLiteralProtocol T)
+
+-- the protocol is attempted, and then the address
+abbrev pub protocol_opened : Tokenizer → Tokenizer
+protocol_opened T =
+    attempted false (Next GfmAutolinkLiteralDomainInside) Nok (attempted false (Next GfmAutolinkLiteralProtocolAfter) Nok (protocol_entered T))
+
 abbrev pub protocol_start_at : Bool → Option ℕ → Tokenizer → Stepped
 protocol_start_at may None T = stepped Nok T
 protocol_start_at may (Some c) T =
-    if may && begins_scheme c
-    then stepped (Retry GfmAutolinkLiteralProtocolPrefixInside) (attempted false (Next GfmAutolinkLiteralProtocolAfter) Nok (entered_literal N.GfmAutolinkLiteralProtocol T))
-    else stepped Nok T
+    if may && begins_scheme c then stepped (Retry GfmAutolinkLiteralProtocolPrefixInside) (protocol_opened T) else stepped Nok T
 
 abbrev pub protocol_start_step : Tokenizer → Stepped
 protocol_start_step T = protocol_start_at (may_begin T) (current_of T) T
@@ -201,18 +207,24 @@ protocol_start_step T = protocol_start_at (may_begin T) (current_of T) T
 abbrev pub protocol_after_step : Tokenizer → Stepped
 protocol_after_step T = stepped State.Ok (done (Exit N.GfmAutolinkLiteralProtocol ∷ []) T)
 
--- by the scheme with which the code goes on
-abbrev pub prefix_by : ℕ → Option ℕ → Tokenizer → Stepped
-prefix_by c None T = refused T
-prefix_by c (Some k) T =
-    let s = T.tokenize_state in
-    if c == byte ":"
-    then stepped (Next GfmAutolinkLiteralProtocolSlashesInside) (scratched (spelled 0 0 s) (done (Consume ∷ []) T))
-    else stepped (Next GfmAutolinkLiteralProtocolPrefixInside) (scratched (spelled k (s.size + 1) s) (done (Consume ∷ []) T))
+-- the bytes from the start of a literal on
+abbrev pub name_of : Tokenizer → List ℕ
+name_of T = slice_range (bytes_of T) T.tokenize_state.start (point_of T.cursor).index
+
+-- so many of them that a name of a scheme may go on
+abbrev pub is_short_name : Tokenizer → Bool
+is_short_name T = nat_lt ((point_of T.cursor).index - T.tokenize_state.start) (longest schemes)
+
+abbrev pub unnamed : Tokenizer → Stepped
+unnamed T = stepped Nok (scratched (named T.tokenize_state) T)
 
 abbrev pub prefix_at : Option ℕ → Tokenizer → Stepped
-prefix_at None T = refused T
-prefix_at (Some c) T = prefix_by c (scheme_with T.tokenize_state.size_b T.tokenize_state.size c) T
+prefix_at None T = unnamed T
+prefix_at (Some c) T =
+    if letter_value c && is_short_name T then stepped (Next GfmAutolinkLiteralProtocolPrefixInside) (done (Consume ∷ []) T)
+    else (if (c == byte ":") && one_named schemes (name_of T)
+    then stepped (Next GfmAutolinkLiteralProtocolSlashesInside) (scratched (named T.tokenize_state) (done (Consume ∷ []) T))
+    else unnamed T)
 
 abbrev pub prefix_step : Tokenizer → Stepped
 prefix_step T = prefix_at (current_of T) T
@@ -224,7 +236,7 @@ slashes_at (Some c) T =
     if c == byte "/"
     then (if s.size == 0
     then stepped (Next GfmAutolinkLiteralProtocolSlashesInside) (scratched (sized 1 s) (done (Consume ∷ []) T))
-    else stepped (Next GfmAutolinkLiteralDomainInside) (scratched (sized 0 s) (done (Consume ∷ []) T)))
+    else stepped State.Ok (scratched (sized 0 s) (done (Consume ∷ []) T)))
     else refused T
 
 abbrev pub slashes_step : Tokenizer → Stepped
@@ -345,12 +357,8 @@ precedes_www (Some v) = ((v == byte " " || v == byte "\t") || v == byte "\n") ||
 abbrev pub www_letter : ℕ → ℕ → Bool
 www_letter n v = if nat_lt n 3 then v == byte "w" || v == byte "W" else ((n == 3) && (v == byte "."))
 
--- it is known that no domain begins at the place
-abbrev pub is_ruled_out : Tokenizer → Bool
-is_ruled_out T = rules_out T.tokenize_state.no_domains T.cursor.at
-
 abbrev pub may_begin_www : Tokenizer → Bool
-may_begin_www T = (is_on T && precedes_www (previous_of T)) && not (is_ruled_out T)
+may_begin_www T = is_on T && precedes_www (previous_of T)
 
 -- the literal is entered, and the word is looked at
 abbrev pub www_opened : Tokenizer → Tokenizer
@@ -409,12 +417,18 @@ pub record WordReady (T : Tokenizer) : Type 0 where
   pub fresh : sized 0 T.tokenize_state ≡ rested T.tokenize_state
   pub short : codes_left T ≤ most
 
--- in the name of a protocol
+-- the bytes from the start of the literal on may be looked at
+pub record MayName (T : Tokenizer) : Type 0 where
+  pub order : T.tokenize_state.start ≤ (point_of T.cursor).index
+  pub within : (point_of T.cursor).index ≤ length (bytes_of T)
+
+-- in the name of a protocol: letters stand from the start of the literal on
 pub record SchemeReady (T : Tokenizer) : Type 0 where
   pub text : ReadsText T
-  pub fresh : spelled 0 0 T.tokenize_state ≡ rested T.tokenize_state
+  pub fresh : named T.tokenize_state ≡ rested T.tokenize_state
   pub short : codes_left T ≤ most
-  pub words : are_schemes (words_like (word_at schemes T.tokenize_state.size_b) T.tokenize_state.size schemes) ≡ true
+  pub name : MayName T
+  pub letters : list_all letter_value (name_of T) ≡ true
 
 -- in a domain or a path: the parentheses that are left may be counted
 pub record LiteralReady (T : Tokenizer) : Type 0 where
@@ -449,16 +463,21 @@ pub record LookReady (T : Tokenizer) : Type 0 where
   pub text : ReadsText T
   pub begins : at_later (current_of T) ≡ false
 
--- what is known of domains is right for the content
-abbrev pub KnowsDomains : Tokenizer → Type 0
-KnowsDomains T = IsRightFor (bytes_of T) (end_of T) T.cursor.codes T.tokenize_state.no_domains
-
 -- at the start of a literal
 pub record StartReady (T : Tokenizer) : Type 0 where
   pub text : ReadsText T
   pub resting : rested T.tokenize_state ≡ T.tokenize_state
   pub short : codes_left T ≤ most
-  pub knows : KnowsDomains T
+
+-- What rules a literal from `www.` on out before it is tried.
+
+-- what is known of domains is right for the content
+abbrev pub KnowsDomains : Tokenizer → Type 0
+KnowsDomains T = IsRightFor (bytes_of T) (end_of T) T.cursor.codes T.tokenize_state.no_domains
+
+-- it is known that no domain begins at the place
+abbrev pub is_ruled_out : Tokenizer → Bool
+is_ruled_out T = rules_out T.tokenize_state.no_domains T.cursor.at
 
 -- How runs end.
 
@@ -522,19 +541,17 @@ module _ (bytes : List ℕ) (end : ℕ) where
   abbrev pub address : Reading (List Code)
   address = domain bytes end then_ path bytes end
 
-  -- the slashes of which so many are passed, and the address
-  abbrev pub slashes_reading : ℕ → Reading (List Code)
-  slashes_reading n = letters (if n == 0 then codes "//" else codes "/") then_ address
+  -- a scheme, and the address
+  abbrev pub protocol_reading : Reading (List Code)
+  protocol_reading = one_word_of schemes then_ address
 
-  -- the rest of a scheme that begins with n codes of scheme k, and the address
-  abbrev pub prefix_reading : ℕ → ℕ → Reading (List Code)
-  prefix_reading k n = one_word_of (words_like (word_at schemes k) n schemes) then_ address
+-- the slashes of which so many are passed
+abbrev pub slashes_plan : ℕ → Plan
+slashes_plan n cs = pass_ops (letters (if n == 0 then codes "//" else codes "/") cs)
 
-  abbrev pub slashes_plan : ℕ → Plan
-  slashes_plan n cs = pass_ops (slashes_reading n cs)
-
-  abbrev pub prefix_plan : ℕ → ℕ → Plan
-  prefix_plan k n cs = pass_ops (prefix_reading k n cs)
+-- the rest of a scheme behind this front of it
+abbrev pub prefix_plan : List ℕ → Plan
+prefix_plan vs cs = pass_ops (one_word_of (words_behind vs schemes) cs)
 
 -- the code before the place
 abbrev pub before_of : Tokenizer → Option Code
@@ -551,10 +568,10 @@ abbrev pub protocol_after_ends : Tokenizer → Bool → Tokenizer → Type 0
 protocol_after_ends T ok U = (ok ≡ true) × (U ≡ done (Exit N.GfmAutolinkLiteralProtocol ∷ []) T)
 
 abbrev pub prefix_ends : Tokenizer → Bool → Tokenizer → Type 0
-prefix_ends T ok U = DoesAs 0 (prefix_plan (bytes_of T) (end_of T) T.tokenize_state.size_b T.tokenize_state.size) (rested T.tokenize_state) T ok U
+prefix_ends T ok U = DoesAs 0 (prefix_plan (name_of T)) (rested T.tokenize_state) T ok U
 
 abbrev pub slashes_ends : Tokenizer → Bool → Tokenizer → Type 0
-slashes_ends T ok U = DoesAs 0 (slashes_plan (bytes_of T) (end_of T) T.tokenize_state.size) (rested T.tokenize_state) T ok U
+slashes_ends T ok U = DoesAs 0 (slashes_plan T.tokenize_state.size) (rested T.tokenize_state) T ok U
 
 abbrev pub domain_ends : Tokenizer → Bool → Tokenizer → Type 0
 domain_ends T ok U = DoesAs 0 (domain_plan (bytes_of T) (end_of T) T.tokenize_state) (rested T.tokenize_state) T ok U
@@ -610,7 +627,7 @@ www_start_ends T ok U = EndsAs (www_here T) None T.tokenize_state T ok U
 -- The states.
 
 abbrev pub protocol_start_words : StateWords
-protocol_start_words = record { ready = StartReady; step = protocol_start_step; ends = protocol_start_ends; rank = λ T. 2 }
+protocol_start_words = record { ready = StartReady; step = protocol_start_step; ends = protocol_start_ends; rank = λ T. 7 }
 
 abbrev pub prefix_words : StateWords
 prefix_words = record { ready = SchemeReady; step = prefix_step; ends = prefix_ends; rank = λ T. 1 }

@@ -23,13 +23,14 @@
 // Each state answers the error where a growth is refused; then `failed` is true.
 #![tactic(auto, using(markdown_engine::proofs::OperationFields::law_rules), unfolding(markdown_engine::specs::Operations::scratched))]
 
-ghost use Rattle.std.specs.Prelude.{◌≡◌, ◌<◌, ◌≤◌, ◌+◌, false, length, map, Some, IfOk, OnErr, IsTrue};
+ghost use Rattle.std.specs.Prelude.{◌≡◌, ◌<◌, ◌+◌, false, map, Some, IfOk, OnErr, IsTrue};
 ghost use Rattle.markdown_engine.specs.Operations.{HasCode, IsOpen, current_of, scratched};
 ghost use Rattle.markdown_engine_content.specs.declared.event.Name.TheVariants.{GfmAutolinkLiteralProtocol, GfmAutolinkLiteralWww};
+ghost use Rattle.markdown_model.specs.GfmAutolinkLiteral.{schemes};
 ghost use Rattle.markdown_plan.specs.Characters.{at_later};
 ghost use Rattle.markdown_partial.specs.PartialSpaceOrTab.{most};
-ghost use Rattle.markdown_leaf_gfm.specs.GfmAutolinkLiteral.{kind_here, trail_value, mark_value, known_after, is_known, count_value, stands_for, has_at, goes_on_like, word_at, first_like, scheme_with, begins_scheme, marked, domain_on, rested, refused, protocol_start_step, protocol_after_step, prefix_by, prefix_step, slashes_step, precedes_www, www_letter, is_ruled_out};
-ghost use Rattle.markdown_leaf_gfm.specs.GfmAutolinkLiteral.{www_start_step, www_prefix_step, www_prefix_after_step, www_after_step, domain_step, domain_punctuation_step, domain_after_step, passing, path_step, path_punctuation_step, path_after_step, trail_step, bracket_after_step, reference_start_step, reference_step, MayClass, TrailReady, MayCount};
+ghost use Rattle.markdown_leaf_gfm.specs.GfmAutolinkLiteral.{kind_here, trail_value, mark_value, known_after, is_known, count_value, stands_for, is_named, one_named, longest, begins_scheme, marked, domain_on, rested, refused, protocol_start_step, protocol_after_step, prefix_step, slashes_step, precedes_www, www_letter, is_ruled_out};
+ghost use Rattle.markdown_leaf_gfm.specs.GfmAutolinkLiteral.{www_start_step, www_prefix_step, www_prefix_after_step, www_after_step, domain_step, domain_punctuation_step, domain_after_step, passing, path_step, path_punctuation_step, path_after_step, trail_step, bracket_after_step, reference_start_step, reference_step, MayClass, MayName, TrailReady, MayCount};
 
 use markdown_engine::state::{State, StateName};
 use markdown_engine::tokenizer::{TokenizeState, Tokenizer};
@@ -40,10 +41,14 @@ use markdown_plan::bytes::is_letter;
 use markdown_util::util::char::{Kind, kind_after_index};
 use std::alloc::AllocError;
 
+// The size of the longest name of a scheme, `https`.
+const LONGEST_NAME: usize = 5;
+
 // Puts the scratch fields of literals to rest.
 fn rest(tokenizer: &mut Tokenizer)
     ensures { tokenizer.new ≡ scratched (rested tokenizer.old.tokenize_state) tokenizer.old }
 {
+    tokenizer.tokenize_state.start = 0;
     tokenizer.tokenize_state.marker = 0;
     tokenizer.tokenize_state.marker_b = 0;
     tokenizer.tokenize_state.size = 0;
@@ -75,96 +80,32 @@ fn stands_for(letter: u8, code: u8) -> bool
     code == letter || (is_letter(code) && code + 32 == letter)
 }
 
-// Whether the word has this code behind so many.
-fn has_at(word: &[u8], size: usize, code: u8) -> bool
-    ensures { result ≡ has_at word.now size code }
-{
-    size < word.len() && stands_for(word[size], code)
-}
-
-// Whether the word begins with so many codes of the first, and goes on with this code.
-fn goes_on_like(mut first: &[u8], mut word: &[u8], mut size: usize, code: u8) -> bool
-    ensures { result ≡ goes_on_like first.entry.now word.entry.now size code }
+// Whether the word has this name before its colon.
+fn is_named(mut name: &[u8], mut word: &[u8]) -> bool
+    ensures { result ≡ is_named name.entry.now word.entry.now }
 {
     while let [letter, rest @ ..] = word {
-        if size == 0 {
-            return stands_for(*letter, code);
-        }
-        match first {
-            [other, more @ ..] if other == letter => first = more,
+        match name {
+            [code, more @ ..] if stands_for(*letter, *code) => name = more,
+            [] => return *letter == b':',
             _ => return false,
         }
         word = rest;
-        size -= 1;
     }
     false
 }
 
-// The word of this number; behind the last, none.
-fn word_at<'a>(mut words: &'a [&'a [u8]], mut number: usize) -> &'a [u8]
-    ensures { result.now ≡ word_at (map (λ w. w.now) words.entry.now) number }
+// Whether one of these words has this name.
+fn one_named(mut words: &[&[u8]], name: &[u8]) -> bool
+    ensures { result ≡ one_named (map (λ w. w.now) words.entry.now) name.now }
 {
     while let [word, rest @ ..] = words {
-        if number == 0 {
-            return word;
+        if is_named(name, word) {
+            return true;
         }
         words = rest;
-        number -= 1;
     }
-    &[]
-}
-
-// The number of the first of these words that begins with so many codes of the word, and goes on with this code. They are counted from
-// `number` on.
-fn first_like(
-    mut words: &[&[u8]],
-    mut number: usize,
-    word: &[u8],
-    size: usize,
-    code: u8,
-) -> Option<usize>
-    requires { number + length words.now ≤ most }
-    ensures { result ≡ first_like (map (λ w. w.now) words.entry.now) number word.now size code }
-{
-    while let [other, rest @ ..] = words {
-        if goes_on_like(word, other, size, code) {
-            return Some(number);
-        }
-        words = rest;
-        number += 1;
-    }
-    None
-}
-
-// Of a scheme that begins with so many codes of this one, and goes on with this code, the number.
-fn scheme_with(scheme: usize, size: usize, code: u8) -> Option<usize>
-    ensures { result ≡ scheme_with scheme size code }
-{
-    let word = word_at(&SCHEMES, scheme);
-    if has_at(word, size, code) {
-        Some(scheme)
-    } else {
-        first_like(&SCHEMES, 0, word, size, code)
-    }
-}
-
-// Passes a code of the scheme with this number.
-fn spell(tokenizer: &mut Tokenizer, scheme: usize, code: u8) -> State
-    requires code { HasCode tokenizer.old }
-    requires size { tokenizer.old.tokenize_state.size < most }
-    ensures { prefix_by code (Some scheme) tokenizer.old ≡ record { state = result; left = tokenizer.new } }
-{
-    tokenizer.consume();
-    let scratch = &mut tokenizer.tokenize_state;
-    if code == b':' {
-        scratch.size = 0;
-        scratch.size_b = 0;
-        State::Next(StateName::GfmAutolinkLiteralProtocolSlashesInside)
-    } else {
-        scratch.size += 1;
-        scratch.size_b = scheme;
-        State::Next(StateName::GfmAutolinkLiteralProtocolPrefixInside)
-    }
+    false
 }
 
 // Whether a literal with a protocol may begin with this byte.
@@ -260,8 +201,13 @@ pub fn protocol_start(tokenizer: &mut Tokenizer) -> Result<State, AllocError>
         && letter_here
     {
         tokenizer.enter(Name::GfmAutolinkLiteralProtocol)?;
+        tokenizer.tokenize_state.start = tokenizer.point().index;
         tokenizer.attempt(
             State::Next(StateName::GfmAutolinkLiteralProtocolAfter),
+            State::Nok,
+        )?;
+        tokenizer.attempt(
+            State::Next(StateName::GfmAutolinkLiteralDomainInside),
             State::Nok,
         )?;
         Ok(State::Retry(StateName::GfmAutolinkLiteralProtocolPrefixInside))
@@ -283,22 +229,32 @@ pub fn protocol_after(tokenizer: &mut Tokenizer) -> Result<State, AllocError>
     Ok(State::Ok)
 }
 
-/// In the name of a protocol, of which `size` letters are passed, or at its colon. A scheme that begins so has the number `size_b`.
+/// In the name of a protocol, which begins at the byte `start`, or at its colon.
 ///
 ///     > | to http://a.b/c and
 ///            ^^^^^
 pub fn protocol_prefix_inside(tokenizer: &mut Tokenizer) -> Result<State, AllocError>
+    requires { MayName tokenizer.old }
     ensures ok { IfOk result (λ s. prefix_step tokenizer.old ≡ record { state = s; left = tokenizer.new }) }
     ensures err { OnErr result (IsTrue tokenizer.new.failed) }
 {
-    let Some(code) = tokenizer.current() else {
-        return Ok(refuse(tokenizer));
-    };
-    let size = tokenizer.tokenize_state.size;
-    let Some(scheme) = scheme_with(tokenizer.tokenize_state.size_b, size, code) else {
-        return Ok(refuse(tokenizer));
-    };
-    Ok(spell(tokenizer, scheme, code))
+    let start = tokenizer.tokenize_state.start;
+    let index = tokenizer.point().index;
+    match tokenizer.current() {
+        Some(code) if is_letter(code) && index - start < LONGEST_NAME => {
+            tokenizer.consume();
+            Ok(State::Next(StateName::GfmAutolinkLiteralProtocolPrefixInside))
+        }
+        Some(b':') if one_named(&SCHEMES, &tokenizer.parse_state.bytes[start..index]) => {
+            tokenizer.consume();
+            tokenizer.tokenize_state.start = 0;
+            Ok(State::Next(StateName::GfmAutolinkLiteralProtocolSlashesInside))
+        }
+        _ => {
+            tokenizer.tokenize_state.start = 0;
+            Ok(State::Nok)
+        }
+    }
 }
 
 /// At the slashes after a protocol, of which `size` are passed.
@@ -317,15 +273,15 @@ pub fn protocol_slashes_inside(tokenizer: &mut Tokenizer) -> Result<State, Alloc
                 Ok(State::Next(StateName::GfmAutolinkLiteralProtocolSlashesInside))
             } else {
                 tokenizer.tokenize_state.size = 0;
-                Ok(State::Next(StateName::GfmAutolinkLiteralDomainInside))
+                Ok(State::Ok)
             }
         }
         _ => Ok(refuse(tokenizer)),
     }
 }
 
-// Whether it is known that no domain begins at the place.
-fn is_ruled_out(tokenizer: &Tokenizer) -> bool
+/// Whether it is known that no domain begins at the place, so that no literal from `www.` on does. Takes no memory.
+pub fn is_ruled_out(tokenizer: &Tokenizer) -> bool
     ensures { result ≡ is_ruled_out tokenizer.now }
 {
     match &tokenizer.tokenize_state.no_domains {
@@ -334,8 +290,7 @@ fn is_ruled_out(tokenizer: &Tokenizer) -> bool
     }
 }
 
-/// At the start of a literal from `www.` on: its first letter. The word is only looked at: it belongs to the domain. Where it is known that
-/// no domain begins here, it is given up at once.
+/// At the start of a literal from `www.` on: its first letter. The word is only looked at: it belongs to the domain.
 ///
 ///     > | to www.a.b and
 ///            ^
@@ -349,7 +304,6 @@ pub fn www_start(tokenizer: &mut Tokenizer) -> Result<State, AllocError>
         .constructs
         .gfm_autolink_literal
         && may_precede_www(tokenizer.previous())
-        && !is_ruled_out(tokenizer)
         && matches!(tokenizer.current(), Some(b'w' | b'W'))
     {
         tokenizer.enter(Name::GfmAutolinkLiteralWww)?;

@@ -6,10 +6,8 @@ use Rattle.markdown_engine_content.specs.Codes.{Code}
 use Rattle.markdown_engine_content.specs.ListFunctions.{rest_of}
 use Rattle.markdown_engine.specs.Operations.{Op, Exit, Consume, current_of, ahead, applied, done, scratched}
 use Rattle.markdown_engine.specs.StateRuns.{Stepped}
-use Rattle.markdown_engine_index.specs.SequenceIndex.{begins_at, last_where}
 use Rattle.markdown_engine.specs.Weights.{weight_at}
 use Rattle.markdown_engine_content.specs.declared.event.Name.TheVariants as N
-use Rattle.markdown_engine_index.specs.declared.sequence_index.Sequence.TheVariants.{CommentEnd, SectionEnd, InstructionEnd, DeclarationEnd}
 use Rattle.markdown_engine.specs.declared.state.State.TheVariants.{Next}
 use Rattle.markdown_engine.specs.declared.state.StateName.TheVariants as H
 use Rattle.markdown_engine.specs.declared.tokenizer.TokenizeState.{TokenizeState}
@@ -26,7 +24,7 @@ use Rattle.markdown_leaf_html.specs.HtmlLines.{InLine, break_from, text_from, te
 use Rattle.markdown_leaf_html.specs.HtmlTextRests.{Part, state_of, reading_of, Open, DeclarationOpen, CommentOpenInside, Comment, CommentClose, CommentEnd, Cdata, CdataClose, CdataEnd, Declaration, Instruction, InstructionClose, TagCloseStart, TagClose, TagCloseBetween, TagOpen, TagOpenBetween, AttributeName}
 use Rattle.markdown_leaf_html.specs.HtmlTextRests.{AttributeNameAfter, ValueBefore, ValueQuotedAfter, ValueUnquoted, End, rank_of, tag_rest, tag_next, name_next, value_rest, quoted_rest, closing_between, marked, after_mark, after_two_marks, cdata_opening, instruction_after_one, declaration_rest}
 use Rattle.markdown_leaf_html.specs.HtmlByteTests.{blank_value, whitespace_value, name_value, attribute_first_value, attribute_rest_value, after_value, barred_value}
-use Rattle.markdown_leaf_html.specs.HtmlText.{rested, with_marker, closing, is_hopeless, past_code, past_unless, prefix_value, cdata_passed, starts_no_value, quote_value, quote_passed, PartReady, CdataReady, QuotedReady, part_ends, quoted_ends, open_at, declaration_open_at, comment_open_inside_at, marked_at, after_mark_at}
+use Rattle.markdown_leaf_html.specs.HtmlText.{rested, with_marker, closing, past_code, prefix_value, cdata_passed, starts_no_value, quote_value, quote_passed, PartReady, CdataReady, QuotedReady, part_ends, quoted_ends, open_at, declaration_open_at, comment_open_inside_at, marked_at, after_mark_at}
 use Rattle.markdown_leaf_html.specs.HtmlText.{after_two_marks_at, over_to, cdata_open_inside_at, cdata_open_inside_step, declaration_at, instruction_at, instruction_close_at, tag_close_start_at, tag_close_at, tag_close_between_at, tag_open_at, tag_open_between_at, tag_open_attribute_name_at, tag_open_attribute_name_after_at}
 use Rattle.markdown_leaf_html.specs.HtmlText.{tag_open_attribute_value_before_at, tag_open_attribute_value_quoted_at, tag_open_attribute_value_quoted_step, tag_open_attribute_value_quoted_after_at, tag_open_attribute_value_unquoted_at, end_at, cdata_open_inside_words, tag_open_attribute_value_quoted_words, part_words}
 use Rattle.markdown_leaf_html.proofs.HtmlLineBreaks.{Goes}
@@ -36,21 +34,20 @@ use Rattle.markdown_leaf_html.proofs.HtmlKindReadings.{end-here, end-none, marke
 use Rattle.markdown_leaf_html.proofs.HtmlKindReadings.{instruction-other, instruction-one-end, instruction-one-other, spaces-first, spaces-none, closing-goes, name-on, name-none, name-first, name-not, marked-none, marked-dash, marked-letter, marked-bracket, open-none, open-letter, open-slash, open-question, open-bang}
 use Rattle.markdown_leaf_html.proofs.HtmlTagReadings.{among-each, rest-between, rest-refused, between-none, between-slash, between-first, name-rest-on, name-rest-end, name-after-equals, name-after-other, value-space, value-quote, value-end}
 use Rattle.markdown_leaf_html.proofs.HtmlTagReadings.{value-none, value-plain, quoted-end, quoted-close, quoted-more, unquoted-more, unquoted-after, unquoted-none, between-goes, name-after-goes, value-goes, quoted-goes}
-use Rattle.markdown_leaf_html.proofs.HtmlWithoutEnd.{hopeless-none, instruction-absent, declaration-absent, section-absent, comment-absent}
 use Rattle.markdown_leaf_html.proofs.HtmlTextReady.{quoted-next, quoted-broken, quoted-opened, quoted-closed, cdata-opened, cdata-next, cdata-closed, part-next}
 use Rattle.markdown_leaf_html.proofs.HtmlLineEndingLaws.{Within, next-at, next-end}
-use Rattle.markdown_leaf_html.proofs.HtmlTextSteps.{text-next, not-ending, part-past, part-unless, part-over, part-fails, text-broken, part-broken-on}
+use Rattle.markdown_leaf_html.proofs.HtmlTextSteps.{text-next, not-ending, part-past, part-over, part-fails, text-broken, part-broken-on}
 use Rattle.markdown_engine.specs.StateWords.{Words, Law, GoesIn}
 use Rattle.markdown_plan.proofs.LawStepsOfLayer.{Goes-on, Goes-kept, Goes-yes, Goes-nok}
 
 -- Tests.
 
 -- of the code at hand
-at : (p : ℕ → Bool) (T : Tokenizer) (c : ℕ) (e : current_of T ≡ Some c) → p (ahead-some T c e).code.value ≡ p c
+pub at : (p : ℕ → Bool) (T : Tokenizer) (c : ℕ) (e : current_of T ≡ Some c) → p (ahead-some T c e).code.value ≡ p c
 at p T c e = ap p (ahead-some T c e).value
 
 -- of a code of this value
-is-so : (p : ℕ → Bool) (n : ℕ) (T : Tokenizer) (c : ℕ) (e : current_of T ≡ Some c) → (c == n) ≡ true →
+pub is-so : (p : ℕ → Bool) (n : ℕ) (T : Tokenizer) (c : ℕ) (e : current_of T ≡ Some c) → (c == n) ≡ true →
     p (ahead-some T c e).code.value ≡ p n
 is-so p n T c e h = ap p ((ahead-some T c e).value ∙ eqb-true c n h)
 
@@ -129,7 +126,7 @@ not-bracket-by : (c : ℕ) (b : Bool) → (c == 91) ≡ b → letter_value c ≡
 not-bracket-by c false e h = refl
 not-bracket-by c true e h = let no : true ≡ false = sym h ∙ ap letter_value (eqb-true c 91 e) in cc
 
-not-bracket : (c : ℕ) → letter_value c ≡ true → (c == 91) ≡ false
+pub not-bracket : (c : ℕ) → letter_value c ≡ true → (c == 91) ≡ false
 not-bracket c h = not-bracket-by c (c == 91) refl h
 
 abbrev Barred : ℕ → Type 0
@@ -185,7 +182,7 @@ module _ (W : Words) (within : Within W) where
       (λ h1. if-step P (c == 47) _ _
       (λ h2. part-past W within Open TagCloseStart T c alone r e (ap (λ v. v == 10) (eqb-true c 47 h2)) (open-slash b.code rest (is-so letter_value 47 T c e h2) (is-so (λ v. v == 47) 47 T c e h2) (is-so (λ v. v == 33) 47 T c e h2) (is-so (λ v. v == 63) 47 T c e h2)))
       (λ h2. if-step P (c == 63) _ _
-      (λ h3. part-unless W within Open Instruction InstructionEnd T c alone r e (ap (λ v. v == 10) (eqb-true c 63 h3)) (open-question b.code rest (is-so letter_value 63 T c e h3) (is-so (λ v. v == 47) 63 T c e h3) (is-so (λ v. v == 33) 63 T c e h3) (is-so (λ v. v == 63) 63 T c e h3)) (instruction-absent b.code rest))
+      (λ h3. part-past W within Open Instruction T c alone r e (ap (λ v. v == 10) (eqb-true c 63 h3)) (open-question b.code rest (is-so letter_value 63 T c e h3) (is-so (λ v. v == 47) 63 T c e h3) (is-so (λ v. v == 33) 63 T c e h3) (is-so (λ v. v == 63) 63 T c e h3)))
       (λ h3. if-step P (letter_value c) _ _
       (λ h4. part-past W within Open TagOpen T c alone r e (not-ending letter_value c h4 refl) (open-letter b.code rest (at letter_value T c e ∙ h4) (at (λ v. v == 47) T c e ∙ h2) (at (λ v. v == 33) T c e ∙ h1) (at (λ v. v == 63) T c e ∙ h3)))
       (λ h4. part-fails W within Open T alone (open-none (ahead T) (next-at letter_value T c e ∙ h4) (next-at (λ v. v == 47) T c e ∙ h2) (next-at (λ v. v == 33) T c e ∙ h1) (next-at (λ v. v == 63) T c e ∙ h3)))))))
@@ -205,16 +202,6 @@ module _ (W : Words) (within : Within W) where
       (λ ok U x. subst (λ (s : TokenizeState). DoesAs 2 (text_of (cdata_opening 0)) s V ok U) (next.rest ∙ scratch-done (Consume ∷ []) T)
       (subst (λ (n : ℕ). DoesAs 2 (text_of (cdata_opening n)) (rested V.tokenize_state) V ok U) size x))
 
-  cdata-tried : (T : Tokenizer) (c : ℕ) → T.attempts ≡ [] → PartReady T → (e : current_of T ≡ Some c) →
-      (c == 91) ≡ true →
-      GoesIn W (weight_at (rank_of DeclarationOpen) T) (part_ends DeclarationOpen T) (past_unless SectionEnd H.HtmlTextCdataOpenInside T)
-  cdata-tried T c alone r e h =
-      let b : Begins c (ahead T) = ahead-some T c e in
-      let rest : List Code = rest_of (ahead T) in
-      if-step (GoesIn W (weight_at (rank_of DeclarationOpen) T) (part_ends DeclarationOpen T)) (is_hopeless SectionEnd T) _ _
-      (λ g. part-fails W within DeclarationOpen T alone (ap declaration_rest b.whole ∙ marked-bracket b.code rest (is-so (λ v. v == 45) 91 T c e h) (is-so letter_value 91 T c e h) (is-so (λ v. v == 91) 91 T c e h) ∙ ap (with_first b.code) (section-absent b.code rest (ap (last_where (begins_at SectionEnd)) (sym b.whole) ∙ hopeless-none SectionEnd T r.inside.indexed g))))
-      (λ g. cdata-entered T c alone r e h)
-
   pub declaration_open-law : Law W (part_words DeclarationOpen)
   declaration_open-law T alone r =
       let P : Stepped → Type 0 = GoesIn W (weight_at (rank_of DeclarationOpen) T) (part_ends DeclarationOpen T) in
@@ -224,11 +211,11 @@ module _ (W : Words) (within : Within W) where
       let b : Begins c (ahead T) = ahead-some T c e in
       let rest : List Code = rest_of (ahead T) in
       if-step P (c == 45) _ _
-      (λ h1. part-unless W within DeclarationOpen CommentOpenInside CommentEnd T c alone r e (ap (λ v. v == 10) (eqb-true c 45 h1)) (marked-dash b.code rest (is-so (λ v. v == 45) 45 T c e h1) (is-so letter_value 45 T c e h1) (is-so (λ v. v == 91) 45 T c e h1)) (comment-absent b.code rest (is-so (λ v. v == 45) 45 T c e h1)))
+      (λ h1. part-past W within DeclarationOpen CommentOpenInside T c alone r e (ap (λ v. v == 10) (eqb-true c 45 h1)) (marked-dash b.code rest (is-so (λ v. v == 45) 45 T c e h1) (is-so letter_value 45 T c e h1) (is-so (λ v. v == 91) 45 T c e h1)))
       (λ h1. if-step P (letter_value c) _ _
-      (λ h2. part-unless W within DeclarationOpen Declaration DeclarationEnd T c alone r e (not-ending letter_value c h2 refl) (marked-letter b.code rest (at (λ v. v == 45) T c e ∙ h1) (at letter_value T c e ∙ h2) (at (λ v. v == 91) T c e ∙ not-bracket c h2)) (declaration-absent b.code rest))
+      (λ h2. part-past W within DeclarationOpen Declaration T c alone r e (not-ending letter_value c h2 refl) (marked-letter b.code rest (at (λ v. v == 45) T c e ∙ h1) (at letter_value T c e ∙ h2) (at (λ v. v == 91) T c e ∙ not-bracket c h2)))
       (λ h2. if-step P (c == 91) _ _
-      (λ h3. cdata-tried T c alone r e h3)
+      (λ h3. cdata-entered T c alone r e h3)
       (λ h3. part-fails W within DeclarationOpen T alone (marked-none (ahead T) (next-at (λ v. v == 45) T c e ∙ h1) (next-at letter_value T c e ∙ h2) (next-at (λ v. v == 91) T c e ∙ h3))))))
 
   pub comment_open_inside-law : Law W (part_words CommentOpenInside)

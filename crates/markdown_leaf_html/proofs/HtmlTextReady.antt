@@ -2,19 +2,18 @@
 use Rattle.std.proofs.Common.{◌≡◌, ℕ, ◌+◌, ◌<◌, ◌≤◌, ◌&&◌, Bool, true, false, List, [], ◌∷◌, ◌++◌, length, drop, refl, sym, ap, subst, ◌∙◌, arith}
 use Rattle.markdown_engine_content.specs.Codes.{Code, is_line_ending, is_blank}
 use Rattle.markdown_engine.specs.Operations.{Op, Exit, Consume, ahead, applied, done, moves, op_stack, scratched}
-use Rattle.markdown_engine_index.specs.SequenceIndex.{last_begins}
 use Rattle.markdown_engine_content.specs.declared.event.Name.{Name}
 use Rattle.markdown_engine_content.specs.declared.event.Name.TheVariants as N
 use Rattle.markdown_engine.specs.declared.tokenizer.TokenizeState.{TokenizeState}
 use Rattle.markdown_engine.specs.declared.tokenizer.Tokenizer.{Tokenizer}
 use Rattle.markdown_engine.proofs.OperationFields.{stack-applied}
-use Rattle.markdown_engine.proofs.OperationLemmas.{left-done, scratch-done, codes-done}
+use Rattle.markdown_engine.proofs.OperationLemmas.{left-done, scratch-done}
 use Rattle.markdown_engine_content.proofs.AndParts.{and-left}
 use Rattle.markdown_partial.specs.PartialSpaceOrTab as PartialSpaceOrTab
 use Rattle.markdown_plan.proofs.OpenEvents.{second-open}
 use Rattle.markdown_plan.specs.ScratchFields.{AreOpen, with_size}
 use Rattle.markdown_leaf_html.specs.HtmlLines.{Mode, InLine, AtStart, InBlank, takes_blank, left_open, to_data, to_blank, ending_ops, break_from}
-use Rattle.markdown_leaf_html.specs.HtmlText.{rested, with_marker, opening, IsIndexed, StartReady, SpacesReady, InsideReady, PartReady, CdataReady, QuotedReady, AfterReady}
+use Rattle.markdown_leaf_html.specs.HtmlText.{rested, with_marker, opening, StartReady, SpacesReady, InsideReady, PartReady, CdataReady, QuotedReady, AfterReady}
 use Rattle.markdown_leaf_html.specs.HtmlByteTests.{whitespace_value}
 use Rattle.markdown_leaf_html.proofs.HtmlLineBreaks.{break-ending, break-blank, break-data, break-fits}
 
@@ -85,24 +84,17 @@ pub spaces-done : (os : List Op) (T : Tokenizer) → moves os ≤ length (ahead 
 spaces-done os T h k =
     record { resting = subst (λ (s : TokenizeState). PartialSpaceOrTab.rested s ≡ s) (sym (scratch-done os T)) k.resting; short = omega (arith, left-done os T h, k.short) }
 
--- What is known of sequences.
-
--- what was right stays right past operations
-indexed-past : (os : List Op) (T : Tokenizer) → IsIndexed T → IsIndexed (done os T)
-indexed-past os T right last known =
-    right last (ap (λ (s : TokenizeState). s.sequences) (sym (scratch-done os T)) ∙ known) ∙ ap last_begins (sym (codes-done os T))
-
 -- The states of one place.
 
 pub inside-next : (T : Tokenizer) → 1 ≤ length (ahead T) → InsideReady T → InsideReady (done (Consume ∷ []) T)
 unfolding applied
 inside-next T more k =
-    record { stand_open = k.stand_open; spaces = spaces-done (Consume ∷ []) T more k.spaces; indexed = indexed-past (Consume ∷ []) T k.indexed }
+    record { stand_open = k.stand_open; spaces = spaces-done (Consume ∷ []) T more k.spaces }
 
 pub inside-broken : (T : Tokenizer) → InsideReady T → InsideReady (done (break_from InLine (ahead T)) T)
 inside-broken T k =
     let os : List Op = break_from InLine (ahead T) in
-    record { stand_open = open-broken T (ahead T) k.stand_open; spaces = spaces-done os T (break-fits InLine (ahead T)) k.spaces; indexed = indexed-past os T k.indexed }
+    record { stand_open = open-broken T (ahead T) k.stand_open; spaces = spaces-done os T (break-fits InLine (ahead T)) k.spaces }
 
 rest-done : (os : List Op) (T : Tokenizer) (P : TokenizeState → Type 0) → P T.tokenize_state →
     P (done os T).tokenize_state
@@ -132,12 +124,12 @@ quoted-broken T k =
       quote = rest-done (break_from InLine (ahead T)) T (λ s. whitespace_value s.marker ≡ false) k.quote;
     }
 
--- with other scratch fields, where those of whitespace are at rest, and the same is known of sequences
+-- with other scratch fields, where those of whitespace are at rest
 pub inside-scratched : (r : TokenizeState) (T : Tokenizer) → PartialSpaceOrTab.rested r ≡ r →
-    r.sequences ≡ T.tokenize_state.sequences → InsideReady T → InsideReady (scratched r T)
+    InsideReady T → InsideReady (scratched r T)
 unfolding scratched
-inside-scratched r T e same k =
-    record { stand_open = k.stand_open; spaces = record { resting = e; short = k.spaces.short }; indexed = λ last known. k.indexed last (sym same ∙ known) }
+inside-scratched r T e k =
+    record { stand_open = k.stand_open; spaces = record { resting = e; short = k.spaces.short } }
 
 pub quoted-opened : (c : ℕ) (T : Tokenizer) → 1 ≤ length (ahead T) → whitespace_value c ≡ false → PartReady T →
     QuotedReady (scratched (with_marker c T.tokenize_state) (done (Consume ∷ []) T))
@@ -145,7 +137,7 @@ unfolding scratched applied
 quoted-opened c T more h k =
     let s : TokenizeState = T.tokenize_state in
     record {
-      inside = inside-scratched (with_marker c s) (done (Consume ∷ []) T) (ap (with_marker c) k.inside.spaces.resting) refl (inside-next T more k.inside);
+      inside = inside-scratched (with_marker c s) (done (Consume ∷ []) T) (ap (with_marker c) k.inside.spaces.resting) (inside-next T more k.inside);
       rest = ap (with_marker 0) k.rest;
       quote = h;
     }
@@ -154,7 +146,7 @@ pub quoted-closed : (T : Tokenizer) → 1 ≤ length (ahead T) → QuotedReady T
     PartReady (scratched (with_marker 0 T.tokenize_state) (done (Consume ∷ []) T))
 unfolding scratched applied
 quoted-closed T more k =
-    record { inside = inside-scratched (with_marker 0 T.tokenize_state) (done (Consume ∷ []) T) (ap (with_marker 0) k.inside.spaces.resting) refl (inside-next T more k.inside); rest = k.rest }
+    record { inside = inside-scratched (with_marker 0 T.tokenize_state) (done (Consume ∷ []) T) (ap (with_marker 0) k.inside.spaces.resting) (inside-next T more k.inside); rest = k.rest }
 
 pub cdata-opened : (T : Tokenizer) → PartReady T → CdataReady T
 cdata-opened T k =
@@ -167,7 +159,7 @@ unfolding scratched applied
 cdata-next T more h k =
     let s : TokenizeState = T.tokenize_state in
     record {
-      inside = inside-scratched (with_size (s.size + 1) s) (done (Consume ∷ []) T) (ap (with_size (s.size + 1)) k.inside.spaces.resting) refl (inside-next T more k.inside);
+      inside = inside-scratched (with_size (s.size + 1) s) (done (Consume ∷ []) T) (ap (with_size (s.size + 1)) k.inside.spaces.resting) (inside-next T more k.inside);
       rest = k.rest;
       size = h;
     }
@@ -176,12 +168,12 @@ pub cdata-closed : (T : Tokenizer) → 1 ≤ length (ahead T) → CdataReady T �
     PartReady (scratched (with_size 0 T.tokenize_state) (done (Consume ∷ []) T))
 unfolding scratched applied
 cdata-closed T more k =
-    record { inside = inside-scratched (with_size 0 T.tokenize_state) (done (Consume ∷ []) T) (ap (with_size 0) k.inside.spaces.resting) refl (inside-next T more k.inside); rest = k.rest }
+    record { inside = inside-scratched (with_size 0 T.tokenize_state) (done (Consume ∷ []) T) (ap (with_size 0) k.inside.spaces.resting) (inside-next T more k.inside); rest = k.rest }
 
 pub start-opened : (T : Tokenizer) → 1 ≤ length (ahead T) → StartReady T → PartReady (done opening T)
 unfolding applied
 start-opened T more k =
-    record { inside = record { stand_open = refl; spaces = spaces-done opening T more k.spaces; indexed = indexed-past opening T k.indexed }; rest = k.rest }
+    record { inside = record { stand_open = refl; spaces = spaces-done opening T more k.spaces }; rest = k.rest }
 
 -- Line endings.
 

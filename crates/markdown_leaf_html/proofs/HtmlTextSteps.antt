@@ -5,14 +5,11 @@ use Rattle.markdown_engine_content.specs.Codes.{Code}
 use Rattle.markdown_engine_content.specs.ListFunctions.{rest_of}
 use Rattle.markdown_engine.specs.Operations.{Op, Consume, current_of, ahead, done, moves, scratched}
 use Rattle.markdown_engine.specs.StateRuns.{stepped}
-use Rattle.markdown_engine_index.specs.SequenceIndex.{begins_at, last_where}
 use Rattle.markdown_engine.specs.Weights.{codes_left, weight_at}
-use Rattle.markdown_engine_index.specs.declared.sequence_index.Sequence.{Sequence}
 use Rattle.markdown_engine.specs.declared.state.State.TheVariants.{Next, Retry, Nok}
 use Rattle.markdown_engine.specs.declared.state.StateName.TheVariants as H
 use Rattle.markdown_engine.specs.declared.tokenizer.TokenizeState.{TokenizeState}
 use Rattle.markdown_engine.specs.declared.tokenizer.Tokenizer.{Tokenizer}
-use Rattle.markdown_engine.proofs.LawSteps.{if-step}
 use Rattle.markdown_engine.proofs.OperationFields.{ahead-some, Begins, some-codes}
 use Rattle.markdown_engine.proofs.OperationLemmas.{left-done, scratch-done}
 use Rattle.markdown_model.specs.Grammar.{Reading, with_first}
@@ -20,9 +17,8 @@ use Rattle.markdown_plan.specs.Plan.{preceded, DoesAs}
 use Rattle.markdown_plan.proofs.PlanSteps.{DoesAs-then, kept, preceded-nil}
 use Rattle.markdown_leaf_html.specs.HtmlLines.{InLine, break_from, text_from, text_of}
 use Rattle.markdown_leaf_html.specs.HtmlTextRests.{Part, Open, DeclarationOpen, CommentOpenInside, Comment, CommentClose, CommentEnd, Cdata, CdataClose, CdataEnd, Declaration, Instruction, InstructionClose, TagCloseStart, TagClose, TagCloseBetween, TagOpen, TagOpenBetween, AttributeName, AttributeNameAfter, ValueBefore, ValueQuotedAfter, ValueUnquoted, End, state_of, reading_of, rank_of}
-use Rattle.markdown_leaf_html.specs.HtmlText.{is_hopeless, past_code, past_unless, over_to, broken, InsideReady, PartReady, part_ends}
+use Rattle.markdown_leaf_html.specs.HtmlText.{past_code, over_to, broken, InsideReady, PartReady, part_ends}
 use Rattle.markdown_leaf_html.proofs.HtmlLineBreaks.{Goes, text-code, breaks, break-stays, break-depth, break-fits, break-moves}
-use Rattle.markdown_leaf_html.proofs.HtmlWithoutEnd.{hopeless-none}
 use Rattle.markdown_leaf_html.proofs.HtmlTextReady.{part-next, part-broken}
 use Rattle.markdown_leaf_html.proofs.HtmlLineEndingLaws.{Within}
 use Rattle.markdown_engine.specs.StateWords.{Words, GoesIn, StateWords, words_in}
@@ -83,18 +79,6 @@ module _ (W : Words) (within : Within W) where
   pub part-fails : (k : Part) (T : Tokenizer) → T.attempts ≡ [] → reading_of k (ahead T) ≡ None →
       GoesIn W (weight_at (rank_of k) T) (part_ends k T) (stepped Nok T)
   part-fails k T alone none = Goes-no W (rank_of k) 2 (text_of (reading_of k)) T alone (ap (text_from InLine) none)
-
-  -- past a code, unless it is known that what begins with it does not end
-  pub part-unless : (k j : Part) (s : Sequence) (T : Tokenizer) (c : ℕ) → T.attempts ≡ [] → PartReady T →
-      (e : current_of T ≡ Some c) → (c == 10) ≡ false →
-      reading_of k ((ahead-some T c e).code ∷ rest_of (ahead T)) ≡ with_first (ahead-some T c e).code (reading_of j (rest_of (ahead T))) →
-      (last_where (begins_at s) ((ahead-some T c e).code ∷ rest_of (ahead T)) ≡ None → reading_of j (rest_of (ahead T)) ≡ None) →
-      GoesIn W (weight_at (rank_of k) T) (part_ends k T) (past_unless s (state_of j) T)
-  part-unless k j s T c alone r e h same none =
-      let b : Begins c (ahead T) = ahead-some T c e in
-      if-step (GoesIn W (weight_at (rank_of k) T) (part_ends k T)) (is_hopeless s T) _ _
-      (λ g. part-fails k T alone (ap (reading_of k) b.whole ∙ same ∙ ap (with_first b.code) (none (ap (last_where (begins_at s)) (sym b.whole) ∙ hopeless-none s T r.inside.indexed g))))
-      (λ g. part-past k j T c alone r e h same)
 
   pub part-over : (k j : Part) (T : Tokenizer) → T.attempts ≡ [] → PartReady T → rank_of j < rank_of k →
       reading_of k (ahead T) ≡ reading_of j (ahead T) →

@@ -6,6 +6,7 @@ use Rattle.markdown_engine.specs.StateRuns.{Stepped, stepped}
 use Rattle.markdown_engine_index.specs.SequenceIndex.{rules_out, IsRightFor}
 use Rattle.markdown_engine.specs.Steady.{alone_among}
 use Rattle.markdown_engine.specs.Weights.{codes_left}
+use Rattle.markdown_engine_content.specs.Place.{code_at, moved}
 use Rattle.markdown_engine_content.specs.declared.event.Name.TheVariants as N
 use Rattle.markdown_engine_index.specs.declared.sequence_index.Sequence.{Sequence}
 use Rattle.markdown_engine_index.specs.declared.sequence_index.Sequence.TheVariants.{CommentEnd, SectionEnd, InstructionEnd, DeclarationEnd}
@@ -67,20 +68,12 @@ start_at (Some c) T = if is_on T && (c == byte "<") then stepped (Next H.HtmlTex
 abbrev pub start_step : Tokenizer → Stepped
 start_step T = start_at (current_of T) T
 
--- it is known that what ends with this sequence does not end
-abbrev pub is_hopeless : Sequence → Tokenizer → Bool
-is_hopeless ending T = rules_out T.tokenize_state.sequences ending T.cursor.at
-
--- past the code at hand, unless it is known that what begins with it does not end
-abbrev pub past_unless : Sequence → StateName → Tokenizer → Stepped
-past_unless ending st T = if is_hopeless ending T then stepped Nok T else past_code st T
-
 abbrev pub open_at : Option ℕ → Tokenizer → Stepped
 open_at None T = stepped Nok T
 open_at (Some c) T =
     if c == byte "!" then past_code H.HtmlTextDeclarationOpen T
     else (if c == byte "/" then past_code H.HtmlTextTagCloseStart T
-    else (if c == byte "?" then past_unless InstructionEnd H.HtmlTextInstruction T
+    else (if c == byte "?" then past_code H.HtmlTextInstruction T
     else (if letter_value c then past_code H.HtmlTextTagOpen T
     else stepped Nok T)))
 
@@ -90,9 +83,9 @@ open_step T = open_at (current_of T) T
 abbrev pub declaration_open_at : Option ℕ → Tokenizer → Stepped
 declaration_open_at None T = stepped Nok T
 declaration_open_at (Some c) T =
-    if c == byte "-" then past_unless CommentEnd H.HtmlTextCommentOpenInside T
-    else (if letter_value c then past_unless DeclarationEnd H.HtmlTextDeclaration T
-    else (if c == byte "[" then past_unless SectionEnd H.HtmlTextCdataOpenInside T
+    if c == byte "-" then past_code H.HtmlTextCommentOpenInside T
+    else (if letter_value c then past_code H.HtmlTextDeclaration T
+    else (if c == byte "[" then past_code H.HtmlTextCdataOpenInside T
     else stepped Nok T))
 
 abbrev pub declaration_open_step : Tokenizer → Stepped
@@ -372,20 +365,14 @@ pub record SpacesReady (T : Tokenizer) : Type 0 where
   pub resting : PartialSpaceOrTab.rested T.tokenize_state ≡ T.tokenize_state
   pub short : codes_left T ≤ most
 
--- what is known of the sequences that end HTML is right; it may be nothing
-abbrev pub IsIndexed : Tokenizer → Type 0
-IsIndexed T = IsRightFor T.cursor.codes T.tokenize_state.sequences
-
 pub record StartReady (T : Tokenizer) : Type 0 where
   pub spaces : SpacesReady T
-  pub indexed : IsIndexed T
   pub rest : rested T.tokenize_state ≡ T.tokenize_state
 
 -- in the data of a line
 pub record InsideReady (T : Tokenizer) : Type 0 where
   pub stand_open : AreOpen N.HtmlTextData N.HtmlText T
   pub spaces : SpacesReady T
-  pub indexed : IsIndexed T
 
 -- a state that leaves the scratch fields alone
 pub record PartReady (T : Tokenizer) : Type 0 where
@@ -413,6 +400,38 @@ pub record BeforeReady (T : Tokenizer) : Type 0 where
 pub record AfterReady (T : Tokenizer) : Type 0 where
   pub stand_open : IsOpen N.HtmlText T
   pub spaces : SpacesReady T
+
+-- What rules HTML out before it is tried.
+
+-- what is known of the sequences that end HTML is right; it may be nothing
+abbrev pub IsIndexed : Tokenizer → Type 0
+IsIndexed T = IsRightFor T.cursor.codes T.tokenize_state.sequences
+
+-- the sequence that ends what begins with `<!` and this code
+abbrev pub marked_ending : Option ℕ → Option Sequence
+marked_ending None = None
+marked_ending (Some c) =
+    if c == byte "-" then Some CommentEnd
+    else (if c == byte "[" then Some SectionEnd
+    else (if letter_value c then Some DeclarationEnd
+    else None))
+
+-- that which ends what begins with `<` and these two codes, where that is neither an opening nor a closing tag
+abbrev pub ending_at : Option ℕ → Option ℕ → Option Sequence
+ending_at None next = None
+ending_at (Some c) next =
+    if c == byte "?" then Some InstructionEnd
+    else (if c == byte "!" then marked_ending next
+    else None)
+
+-- the sequence is known not to follow
+abbrev pub is_absent : Option Sequence → Tokenizer → Bool
+is_absent None T = false
+is_absent (Some ending) T = rules_out T.tokenize_state.sequences ending T.cursor.at
+
+-- it is known that what begins with the `<` at hand does not end
+abbrev pub is_ruled_out : Tokenizer → Bool
+is_ruled_out T = is_absent (ending_at (code_at (moved T.cursor)) (code_at (moved (moved T.cursor)))) T
 
 -- How runs end.
 

@@ -25,11 +25,12 @@
 
 ghost use Rattle.std.specs.Prelude.{◌≡◌, ◌<◌, Some, IfOk, OnErr, IsTrue};
 ghost use Rattle.std.specs.Str.{byte};
+ghost use Rattle.markdown_engine_content.specs.Place.{code_at, moved};
 ghost use Rattle.markdown_engine.specs.Operations.{HasCode, current_of};
 ghost use Rattle.markdown_engine_content.specs.declared.event.Name.TheVariants.{HtmlText, HtmlTextData};
 ghost use Rattle.markdown_plan.specs.ScratchFields.{AreOpen};
 ghost use Rattle.markdown_leaf_html.specs.HtmlByteTests.{name_value, attribute_first_value, attribute_rest_value, after_value};
-ghost use Rattle.markdown_leaf_html.specs.HtmlText.{stops_in, past_unless, broken, ending_passed, start_step, open_step, declaration_open_step, comment_open_inside_step, comment_step, comment_close_step, comment_end_step, cdata_open_inside_step, cdata_step, cdata_close_step, cdata_end_step};
+ghost use Rattle.markdown_leaf_html.specs.HtmlText.{stops_in, is_ruled_out, ending_at, marked_ending, broken, ending_passed, start_step, open_step, declaration_open_step, comment_open_inside_step, comment_step, comment_close_step, comment_end_step, cdata_open_inside_step, cdata_step, cdata_close_step, cdata_end_step};
 ghost use Rattle.markdown_leaf_html.specs.HtmlText.{declaration_step, instruction_step, instruction_close_step, tag_close_start_step, tag_close_step, tag_close_between_step, tag_open_step, tag_open_between_step, tag_open_attribute_name_step, tag_open_attribute_name_after_step};
 ghost use Rattle.markdown_leaf_html.specs.HtmlText.{tag_open_attribute_value_before_step, tag_open_attribute_value_quoted_step, tag_open_attribute_value_quoted_after_step, tag_open_attribute_value_unquoted_step, end_step, line_ending_before_step, line_ending_after_step, line_ending_after_prefix_step};
 
@@ -87,17 +88,45 @@ pub fn stop_bytes(name: StateName, fields: &TokenizeState) -> Option<ByteSet>
     }
 }
 
-// Passes the code at hand and goes on with this state, unless it is known that the sequence does not follow that is to end it.
-fn pass_unless_hopeless(tokenizer: &mut Tokenizer, ending: Sequence, state: StateName) -> State
-    requires { HasCode tokenizer.old }
-    ensures { past_unless ending state tokenizer.old ≡ record { state = result; left = tokenizer.new } }
+// The sequence that ends what begins with `<!` and this code, if anything does.
+fn marked_ending(code: Option<u8>) -> Option<Sequence>
+    ensures { result ≡ marked_ending code }
+{
+    match code {
+        Some(b'-') => Some(Sequence::CommentEnd),
+        Some(b'[') => Some(Sequence::SectionEnd),
+        Some(code) if is_letter(code) => Some(Sequence::DeclarationEnd),
+        _ => None,
+    }
+}
+
+// The sequence that ends what begins with the code at hand and the next two, where that is neither an opening nor a closing tag.
+fn ending(tokenizer: &Tokenizer) -> Option<Sequence>
+    requires { HasCode tokenizer.now }
+    ensures { result ≡ ending_at (code_at (moved tokenizer.now.cursor)) (code_at (moved (moved tokenizer.now.cursor))) }
+{
+    match tokenizer.cursor.next() {
+        Some(b'?') => Some(Sequence::InstructionEnd),
+        Some(b'!') => {
+            let mut mark = tokenizer.cursor.save();
+            mark.consume();
+            marked_ending(mark.next())
+        }
+        _ => None,
+    }
+}
+
+/// Whether it is known that what begins with the `<` at hand does not end: an instruction, a comment, a declaration or a CDATA section. Takes no
+/// memory.
+pub fn is_ruled_out(tokenizer: &Tokenizer) -> bool
+    requires { HasCode tokenizer.now }
+    ensures { result ≡ is_ruled_out tokenizer.now }
 {
     let index = &tokenizer.tokenize_state.sequences;
-    if index.rules_out(ending, tokenizer.cursor.passed()) {
-        return State::Nok;
+    match ending(tokenizer) {
+        Some(ending) => index.rules_out(ending, tokenizer.cursor.passed()),
+        None => false,
     }
-    tokenizer.consume();
-    State::Next(state)
 }
 
 // Goes on with this state after the line ending at hand and the whitespace after it.
@@ -139,7 +168,7 @@ pub fn start(tokenizer: &mut Tokenizer) -> Result<State, AllocError>
     }
 }
 
-/// After `<`: which kind it is. An instruction is given up here where it is known that no `?>` follows.
+/// After `<`: which kind it is.
 ///
 ///     > | x<br>y
 ///           ^
@@ -156,11 +185,10 @@ pub fn open(tokenizer: &mut Tokenizer) -> Result<State, AllocError>
             tokenizer.consume();
             Ok(State::Next(StateName::HtmlTextTagCloseStart))
         }
-        Some(b'?') => Ok(pass_unless_hopeless(
-            tokenizer,
-            Sequence::InstructionEnd,
-            StateName::HtmlTextInstruction,
-        )),
+        Some(b'?') => {
+            tokenizer.consume();
+            Ok(State::Next(StateName::HtmlTextInstruction))
+        }
         Some(code) if is_letter(code) => {
             tokenizer.consume();
             Ok(State::Next(StateName::HtmlTextTagOpen))
@@ -169,7 +197,7 @@ pub fn open(tokenizer: &mut Tokenizer) -> Result<State, AllocError>
     }
 }
 
-/// After `<!`: a comment, a declaration or a CDATA section, each of which is given up here where it is known that its end does not follow.
+/// After `<!`: a comment, a declaration or a CDATA section.
 ///
 ///     > | x<!DTD 1>y
 ///            ^
@@ -178,21 +206,18 @@ pub fn declaration_open(tokenizer: &mut Tokenizer) -> Result<State, AllocError>
     ensures err { OnErr result (IsTrue tokenizer.new.failed) }
 {
     match tokenizer.current() {
-        Some(b'-') => Ok(pass_unless_hopeless(
-            tokenizer,
-            Sequence::CommentEnd,
-            StateName::HtmlTextCommentOpenInside,
-        )),
-        Some(code) if is_letter(code) => Ok(pass_unless_hopeless(
-            tokenizer,
-            Sequence::DeclarationEnd,
-            StateName::HtmlTextDeclaration,
-        )),
-        Some(b'[') => Ok(pass_unless_hopeless(
-            tokenizer,
-            Sequence::SectionEnd,
-            StateName::HtmlTextCdataOpenInside,
-        )),
+        Some(b'-') => {
+            tokenizer.consume();
+            Ok(State::Next(StateName::HtmlTextCommentOpenInside))
+        }
+        Some(code) if is_letter(code) => {
+            tokenizer.consume();
+            Ok(State::Next(StateName::HtmlTextDeclaration))
+        }
+        Some(b'[') => {
+            tokenizer.consume();
+            Ok(State::Next(StateName::HtmlTextCdataOpenInside))
+        }
         _ => Ok(State::Nok),
     }
 }

@@ -6,20 +6,20 @@ use Rattle.std.proofs.lemmas.Bool.Decides.{nat_tests}
 use Rattle.std.proofs.lemmas.Bool.{and_parts, eqb-true, not-false}
 use Rattle.std.proofs.lemmas.List.{length-drop}
 use Rattle.std.proofs.lemmas.Str.{IsCharBoundary-start, IsCharBoundary-before_ascii, IsCharBoundary-after_ascii}
-use Rattle.markdown_engine_content.specs.Codes.{Code, is_line_ending_byte, line_ending_len, line_start, next_column, tab_value, place_of, point_at}
+use Rattle.markdown_engine_content.specs.Codes.{Code, is_line_ending, is_line_ending_byte, line_ending_len, line_start, next_column, tab_value, place_of, point_at}
 use Rattle.markdown_engine_content.specs.Content.{IsContent, IsBetweenCharacters, are_pieces, is_place, content_of, content_end}
 use Rattle.markdown_engine.specs.Operations.{scratched}
 use Rattle.markdown_engine.specs.PastTree.{past, moved_by}
-use Rattle.markdown_engine_content.specs.Place.{Place, moved, start_of_content, value_of}
+use Rattle.markdown_engine_content.specs.Place.{Place, moved, start_of_content, start_or, value_of}
 use Rattle.markdown_engine_content.specs.PlaceInDocument.{IsStanding, is_open, first_point, followed, content_place}
 use Rattle.markdown_engine_content.specs.Tree.{Forest, leaf_codes}
 use Rattle.markdown_engine_content.specs.declared.event.Point.{Point}
 use Rattle.markdown_engine_content.specs.declared.parser.Piece.{Piece}
 use Rattle.markdown_engine.specs.declared.tokenizer.TokenizeState.{TokenizeState}
 use Rattle.markdown_engine.specs.declared.tokenizer.Tokenizer.{Tokenizer}
-use Rattle.markdown_engine_content.proofs.CursorInvariant.{IsOpenStanding, open-standing, closed-standing, standing-start, standing-next}
+use Rattle.markdown_engine_content.proofs.CursorInvariant.{IsOpenStanding, open-standing, closed-standing, standing-start, standing-next, standing-point}
 use Rattle.markdown_engine_content.proofs.DocumentPlaces.{there}
-use Rattle.markdown_engine_content.proofs.ContentCodes.{piece_row}
+use Rattle.markdown_engine_content.proofs.ContentCodes.{piece_row, open-row, line-last}
 use Rattle.markdown_engine_content.proofs.DocumentCodes.{tab_left, value_at, stop_at, code_here}
 use Rattle.markdown_model.specs.CodeTests.{is_later_byte}
 use Rattle.markdown_plan.specs.Characters.{later_value, at_later, IsText, ReadsText}
@@ -250,6 +250,59 @@ ends-at bytes pieces n c content e h =
         begins-at bytes q there.in_bytes (ap (λ (x : Option Code). at_later (value_of x)) (sym there.code) ∙ h)
     by-open k q false p s w o g = piece-ends bytes q (drop k pieces) p w o g
 
+-- A code above the space is its byte.
+
+plain-value : (b vs : ℕ) → 32 < (if is_line_ending_byte b then 10 else (if b == 9 && nat_lt 0 vs then 32 else b)) →
+    (if is_line_ending_byte b then 10 else (if b == 9 && nat_lt 0 vs then 32 else b)) ≡ b
+plain-value b vs h = grind (arith, nat_tests)
+
+plain-no-ending : (b : ℕ) → 32 < b → is_line_ending_byte b ≡ false
+plain-no-ending b h = grind (arith, nat_tests)
+
+plain-no-tab : (b vs : ℕ) → 32 < b → (b == 9 && nat_lt 0 vs) ≡ false
+plain-no-tab b vs h = grind (arith, nat_tests)
+
+-- it ends right behind its byte
+plain-stop : (bytes : List ℕ) (p : Point) → 32 < get_or bytes p.index 0 → (stop_at bytes p).index ≡ p.index + 1
+plain-stop bytes p h =
+    let b : ℕ = get_or bytes p.index 0 in
+    let P : Bool → Bool → Type 0 = λ x y. (let q : Point = if x then line_start (p.line + 1) (p.index + line_ending_len b (drop (p.index + 1) bytes)) else (if y then next_column p p.index (p.vs + 1) else next_column p (p.index + 1) 0) in q.index ≡ p.index + 1) in
+    subst (λ x. P x (b == tab_value && nat_lt 0 (tab_left p))) (sym (plain-no-ending b h)) (subst (λ y. P false y) (sym (plain-no-tab b (tab_left p) h)) refl)
+
+-- and the next code stands in the same piece
+plain-followed : (bytes : List ℕ) (pieces : List Piece) (k n : ℕ) (p : Point) (left : List Piece) → IsStanding bytes pieces left p n →
+    is_open (place_of p) left ≡ true → is_line_ending (code_here bytes p) ≡ false →
+    (followed bytes k (stop_at bytes p) left).1 ≡ stop_at bytes p
+plain-followed bytes pieces k n p [] s o e = refl
+plain-followed bytes pieces k n p (piece ∷ []) s o e = refl
+plain-followed bytes pieces k n p (piece ∷ next ∷ more) s o e =
+    elim (is_open (place_of (stop_at bytes p)) (piece ∷ [])) as (λ x. is_open (place_of (stop_at bytes p)) (piece ∷ []) ≡ x → (let r : ℕ × Point = if x then (k, stop_at bytes p) else (k + 1, point_at bytes next.start) in r.1 ≡ stop_at bytes p)) [
+      | true ↦ λ h. refl
+      | false ↦ λ h. let ends : is_line_ending (code_here bytes p) ≡ true = line-last bytes p piece next more (open-row bytes p piece (next ∷ more) s.is_point s.in_order s.within o) s.line h in
+          let no : false ≡ true = sym e ∙ ends in cc
+    ] refl
+
+no-ending : (c : Code) → 32 < c.value → is_line_ending c ≡ false
+no-ending c h = grind (arith, nat_tests)
+
+byte-at : (bytes : List ℕ) (pieces : List Piece) (n : ℕ) (c : Code) → IsContent bytes pieces →
+    slice_get (content_of bytes pieces) n ≡ Some c → 32 < c.value →
+    (get_or bytes c.start.index 0 ≡ c.value) × ((start_or (slice_get (content_of bytes pieces) (suc n)) (content_end bytes pieces)).index ≡ c.start.index + 1)
+byte-at bytes pieces n c content e h =
+    let r : Reached bytes pieces n = reached bytes pieces content n c e in
+    let p : Point = r.point in
+    let here : IsOpenStanding bytes pieces p n = open-standing bytes pieces (drop r.piece pieces) p n r.standing r.opens in
+    let same : code_here bytes p ≡ c = same-code _ _ _ here.code e in
+    let low : 32 < value_at bytes p = subst (λ (x : Code). 32 < x.value) (sym same) h in
+    let byte : value_at bytes p ≡ get_or bytes p.index 0 = plain-value (get_or bytes p.index 0) p.vs low in
+    let left : List Piece = drop r.piece pieces in
+    let f : ℕ × Point = followed bytes r.piece (stop_at bytes p) left in
+    let s : IsStanding bytes pieces (drop f.0 pieces) f.1 (suc n) = subst (λ m. IsStanding bytes pieces (drop f.0 pieces) f.1 m) (add-one n) (standing-next bytes pieces p n r.piece r.standing r.opens) in
+    let stays : f.1 ≡ stop_at bytes p = plain-followed bytes pieces r.piece n p left r.standing r.opens (no-ending (code_here bytes p) low) in
+    let next : (start_or (slice_get (content_of bytes pieces) (suc n)) (content_end bytes pieces)).index ≡ p.index + 1 =
+    ap (λ (x : Point). x.index) (sym (standing-point bytes pieces (drop f.0 pieces) f.1 (suc n) s) ∙ stays) ∙ plain-stop bytes p (subst (λ v. 32 < v) byte low) in
+    subst (λ (x : Code). (get_or bytes x.start.index 0 ≡ x.value) × ((start_or (slice_get (content_of bytes pieces) (suc n)) (content_end bytes pieces)).index ≡ x.start.index + 1)) same (sym byte, next)
+
 -- at each place of a content the text is read as characters
 pub content-text : (bytes : List ℕ) (pieces : List Piece) (n : ℕ) → IsContent bytes pieces →
     IsText bytes (content_place bytes pieces n)
@@ -260,6 +313,8 @@ content-text bytes pieces n content = record {
   first = λ k c e h. first-at bytes pieces k c content e h;
   next = λ k c d e f h. after-at bytes pieces k c d content e f h;
   stop = λ k c e h. ends-at bytes pieces k c content e h;
+  byte = λ k c e h. (byte-at bytes pieces k c content e h).0;
+  behind = λ k c e h. (byte-at bytes pieces k c content e h).1;
 }
 
 pub text-moved_by : (bytes : List ℕ) (cs : List Code) (p : Place) → IsText bytes p → IsText bytes (moved_by cs p)

@@ -20,7 +20,6 @@ use Rattle.markdown_plan.proofs.ContentCharacters.{content-text}
 use Rattle.markdown_plan.proofs.ContentEnds.{content-ends}
 use Rattle.markdown_leaf_gfm.specs.GfmAutolinkLiteral as GfmAutolinkLiteral
 use Rattle.markdown_leaf.specs.RawText as RawText
-use Rattle.markdown_leaf_gfm.proofs.DomainOutlookLemmas as DomainOutlookLemmas
 use Rattle.markdown_partial.proofs.WhitespaceAttempts.{asked-ready, eol-asked-ready}
 use Rattle.markdown_partial.specs.PartialSpaceOrTabEol as PartialSpaceOrTabEol
 use Rattle.markdown_partial.specs.PartialSpaceOrTab as PartialSpaceOrTab
@@ -37,7 +36,7 @@ unknown-runs s cs e = e ∙ none-known cs ∙ ap (λ (x : LastRuns). last_runs x
 
 pub start-spans : (T : Tokenizer) → T.tokenize_state ≡ at_rest → codes_left T ≤ most → RawText.StartReady T
 start-spans T e fits =
-    record { rest = e ∙ ap RawText.rested (sym e); fits = omega (arith, fits); indexed = unknown-runs T.tokenize_state T.cursor.codes (ap (λ (s : TokenizeState). s.runs) e) }
+    record { rest = e ∙ ap RawText.rested (sym e); fits = omega (arith, fits) }
 
 -- Literals.
 
@@ -50,14 +49,12 @@ start-reads bytes pieces T content input place =
 
 pub start-literals : (bytes : List ℕ) (pieces : List Piece) (T : Tokenizer) → IsContent bytes pieces →
     bytes_of T ≡ bytes → T.cursor ≡ start_of_content bytes pieces →
-    GfmAutolinkLiteral.rested T.tokenize_state ≡ T.tokenize_state → T.tokenize_state.no_domains ≡ None →
-    GfmAutolinkLiteral.StartReady T
-start-literals bytes pieces T content input place resting unknown =
+    GfmAutolinkLiteral.rested T.tokenize_state ≡ T.tokenize_state → GfmAutolinkLiteral.StartReady T
+start-literals bytes pieces T content input place resting =
     record {
       text = start-reads bytes pieces T content input place;
       resting = resting;
       short = start-fits bytes pieces T content place;
-      knows = DomainOutlookLemmas.right-unknown (bytes_of T) (GfmAutolinkLiteral.end_of T) T.cursor.codes T.tokenize_state.no_domains unknown;
     }
 
 -- a text content that has codes ends with the last of them

@@ -1,7 +1,7 @@
 -- What a construct that is tried in a text leads to, and data.
 use Rattle.std.proofs.Common.{◌≡◌, ◌≢◌, ℕ, ◌<◌, ◌≤◌, ◌==◌, ◌||◌, Bool, true, false, Some, None, List, [], ◌∷◌, refl, sym, ap, subst, ◌∙◌, arith}
 use Rattle.std.specs.List.{list_any}
-use Rattle.std.proofs.lemmas.Bool.{ne_eqb}
+use Rattle.std.proofs.lemmas.Bool.{eqb-true, ne_eqb}
 use Rattle.std.specs.Prelude.{is_some, ◌&&◌}
 use Rattle.std.specs.Str.{byte}
 use Rattle.markdown_engine_content.specs.Codes.{Code}
@@ -11,6 +11,7 @@ use Rattle.markdown_engine_content.proofs.PlaceRules.{ahead-moved}
 use Rattle.markdown_engine.specs.Operations.{HasCode, ahead, current_of, scratched}
 use Rattle.markdown_engine.specs.PastTree.{past, Reads, TreeReading}
 use Rattle.markdown_engine.specs.Weights.{codes_left}
+use Rattle.markdown_engine_index.specs.RunIndex.{is_asked}
 use Rattle.markdown_engine.specs.declared.state.StateName.TheVariants.{AttentionStart, AutolinkStart, CharacterEscapeStart, CharacterReferenceStart, GfmAutolinkLiteralProtocolStart, GfmAutolinkLiteralWwwStart, GfmLabelStartFootnoteStart}
 use Rattle.markdown_engine.specs.declared.state.StateName.TheVariants.{HardBreakEscapeStart, HtmlTextStart, LabelEndStart, LabelStartImageStart, LabelStartLinkStart, RawTextStart}
 use Rattle.markdown_engine.specs.declared.tokenizer.TokenizeState.{TokenizeState}
@@ -27,6 +28,9 @@ use Rattle.markdown_leaf.specs.CharacterEscape.{escape_here}
 use Rattle.markdown_leaf.specs.CharacterReference.{reference_here}
 use Rattle.markdown_leaf.specs.HardBreakEscape.{break_here}
 use Rattle.markdown_leaf.specs.RawText as RawText
+use Rattle.markdown_leaf.proofs.RawTextWithoutEnd.{code-ruled-out, math-ruled-out}
+use Rattle.markdown_leaf_gfm.proofs.GfmAutolinkLiteralWwwLaws.{www-ruled-out}
+use Rattle.markdown_leaf_html.proofs.HtmlWithoutEnd.{html-ruled-out}
 use Rattle.markdown_leaf_gfm.specs.GfmAutolinkLiteral as GfmAutolinkLiteral
 use Rattle.markdown_leaf_gfm.specs.GfmTaskListItemCheck as GfmTaskListItemCheck
 use Rattle.markdown_leaf_html.specs.HtmlText as HtmlText
@@ -40,11 +44,11 @@ use Rattle.markdown_run_row.specs.RunOverElements.{AreSingle, Advances, DataFini
 use Rattle.markdown_run_row.proofs.ConstructNodes.{node-of}
 use Rattle.markdown_run_row.proofs.ElementSteps.{some-ahead, advances-finishes, data-advances, node-advances, run-advances}
 use Rattle.markdown_run_row.proofs.RowFields.{lost-within}
-use Rattle.markdown_run_text.specs.TextContent.{StandsAlone, text_choice_of, text_markers, text_passed}
+use Rattle.markdown_run_text.specs.TextContent.{StandsAlone, span_markers, text_choice_of, text_markers, text_passed}
 use Rattle.markdown_run_text.proofs.TextContentLaws.{angle-row, slash-row}
 use Rattle.markdown_run_text.proofs.TextElements.{is_marker}
 use Rattle.markdown_run_text.proofs.TextLabelTries.{image-advances, image-alone, footnote-advances, link-advances, bracket-alone, made-advances, failed-advances, end-alone}
-use Rattle.markdown_run_text.proofs.TextSteps.{IsSame, same-row, choice-same, ready-past, no-check-past, tree-kept, registered-kept, made-kept, some-none, ends-on, lost-there, not-lost, lost-left, lost-current, same-lost}
+use Rattle.markdown_run_text.proofs.TextSteps.{IsSame, same-row, choice-same, indexed-past, domains-past, ready-past, no-check-past, tree-kept, registered-kept, made-kept, some-none, ends-on, lost-there, not-lost, lost-left, lost-current, same-lost}
 use Rattle.markdown_run_text.proofs.TextTries.{ReadsElements, single-ahead, first-reads, second-reads, second-alone, reference-reads, reference-alone, span-reads, span-alone, run-reads, run-alone, run-leaf, protocol-reads, protocol-alone, www-reads, www-alone, other-alone}
 use Rattle.markdown_run_readers.specs.TextStops.{text_stops}
 use Rattle.markdown_run.specs.ElementsOfText.{indexed, data_stops, MayTry, IsReady, EndsAt, EndsByData, LeadsTo, Passes, Stays, ReadsElement}
@@ -66,7 +70,7 @@ single-past T U e single front earlier previous c cs w free =
 pub may-past : (T U : Tokenizer) → IsSame T U → codes_left U ≤ codes_left T → AreWithin U U.tokenize_state.label_starts →
     U.attempts ≡ [] → MayTry T → MayTry U
 may-past T U e l within alone r =
-    record { start = ready-past T U e l within r.start; single = single-past T U e r.single; alone = alone }
+    record { start = ready-past T U e l within r.start; runs = indexed-past T U e r.runs; domains = domains-past T U e r.domains; single = single-past T U e r.single; alone = alone }
 
 pub element-passes : (T U : Tokenizer) → MayTry T → AreWithin U U.tokenize_state.label_starts →
     Advances (text_choice_of T) T U → Passes T U
@@ -126,6 +130,25 @@ pub span-ends : (T U : Tokenizer) (ok : Bool) (v : ℕ) → IsReady T → curren
 span-ends T U ok v r here h k =
     plain-ends T U ok v (RawText.span_at T) r here k (search plain_constructs) (span-reads T v here h) (span-alone T v here h)
 
+-- it is known that none closes
+pub span-ruled : (T : Tokenizer) (v : ℕ) → IsReady T → current_of T ≡ Some v → is_asked span_markers v ≡ true →
+    RawText.is_ruled_out v T ≡ true → Stays T T
+span-ruled T v r here h k = by_marker (v == 96) refl
+  where
+    other : (b : Bool) → (false || (b || false)) ≡ b
+    other true = refl
+    other false = refl
+
+    by_marker : (b : Bool) → (v == 96) ≡ b → Stays T T
+    by_marker true e =
+        let code : v ≡ 96 = eqb-true v 96 e in
+        let there : current_of T ≡ Some 96 = here ∙ ap (λ n. Some n) code in
+        alone-stays T T 96 r there refl (span-alone T 96 there refl (code-ruled-out T r.may_try.runs there (ap (λ n. RawText.is_ruled_out n T) (sym code) ∙ k)))
+    by_marker false e =
+        let math : v ≡ 36 = eqb-true v 36 (sym (other (v == 36)) ∙ ap (λ b. b || ((v == 36) || false)) (sym e) ∙ h) in
+        let there : current_of T ≡ Some 36 = here ∙ ap (λ n. Some n) math in
+        alone-stays T T 36 r there refl (span-alone T 36 there refl (math-ruled-out T r.may_try.runs there (ap (λ n. RawText.is_ruled_out n T) (sym math) ∙ k)))
+
 pub reference-ends : (T U : Tokenizer) (ok : Bool) → IsReady T → current_of T ≡ Some (byte "&") →
     ConstructEnds CharacterReferenceStart T ok U → ReadsElement T ok U
 reference-ends T U ok r here k =
@@ -140,6 +163,12 @@ pub www-ends : (T U : Tokenizer) (ok : Bool) (v : ℕ) → IsReady T → current
     list_any (λ n. v == n) (first_letters (www ∷ [])) ≡ true → ConstructEnds GfmAutolinkLiteralWwwStart T ok U → ReadsElement T ok U
 www-ends T U ok v r here h k =
     plain-ends T U ok v (GfmAutolinkLiteral.www_here T) r here k (search plain_constructs) (www-reads T v r.may_try.start.last here h) (www-alone T v r.may_try.start.last here h)
+
+-- it is known that no domain begins
+pub www-ruled : (T : Tokenizer) (v : ℕ) → IsReady T → current_of T ≡ Some v → list_any (λ n. v == n) (first_letters (www ∷ [])) ≡ true →
+    GfmAutolinkLiteral.is_ruled_out T ≡ true → Stays T T
+www-ruled T v r here h k =
+    alone-stays T T v r here refl (www-alone T v r.may_try.start.last here h (www-ruled-out T r.may_try.domains k))
 
 -- Two constructs are tried, one behind the other.
 
@@ -159,6 +188,14 @@ html-ends T U V ok r here k h =
     let same : U ≡ T = k.1 ∙ scratched-same T in
     let there : ConstructEnds HtmlTextStart T ok V = subst (λ (x : Tokenizer). ConstructEnds HtmlTextStart x ok V) same h in
     plain-ends T V ok (byte "<") (HtmlText.html_here T) r here there (search plain_constructs) (second-reads T (byte "<") _ _ _ _ (angle-row T) here k.0) (second-alone T (byte "<") _ _ _ _ (angle-row T) here k.0)
+
+-- it is known that HTML does not end
+pub html-ruled : (T U : Tokenizer) → IsReady T → current_of T ≡ Some (byte "<") → ConstructEnds AutolinkStart T false U →
+    HtmlText.is_ruled_out U ≡ true → Stays T U
+html-ruled T U r here k h =
+    let same : U ≡ T = k.1 ∙ scratched-same T in
+    alone-stays T U (byte "<") r here same
+    (second-alone T (byte "<") _ _ _ _ (angle-row T) here k.0 (html-ruled-out T r.may_try.start.ends.part.indexed here (ap (λ (x : Tokenizer). HtmlText.is_ruled_out x) (sym same) ∙ h)))
 
 pub escape-holds : (T U : Tokenizer) → IsReady T → current_of T ≡ Some (byte "\\") → ConstructEnds CharacterEscapeStart T true U → Passes T U
 escape-holds T U r here k = plain-holds T U (escape_here T) r k (search plain_constructs) (first-reads T (byte "\\") _ _ _ _ (slash-row T) here)

@@ -9,12 +9,14 @@ use Rattle.markdown_engine.specs.declared.tokenizer.TokenizeState.{TokenizeState
 use Rattle.markdown_engine.specs.declared.tokenizer.Tokenizer.{Tokenizer}
 use Rattle.markdown_label.proofs.KeptStartPlaces.{within-grown}
 use Rattle.markdown_leaf_gfm.specs.DomainOutlook.{no_domains}
+use Rattle.markdown_leaf_gfm.proofs.DomainOutlookLemmas.{right-unknown}
 use Rattle.markdown_leaf_gfm.specs.GfmAutolinkLiteral as GfmAutolinkLiteral
 use Rattle.markdown_plan.specs.Characters.{bytes_of}
 use Rattle.markdown_plan.proofs.CharactersAlongContent.{text-scratched}
 use Rattle.markdown_run_text.specs.TextContent.{StartReady, domains_pay, indexed_fields, named_fields, text_setting, titles_pay}
 use Rattle.markdown_run_readers.proofs.TextDataElements.{text-single}
 use Rattle.markdown_run_text.proofs.TextSteps.{made-known, names-known}
+use Rattle.markdown_run.proofs.ConstructsAtStart.{unknown-runs}
 use Rattle.markdown_run.specs.ElementsOfText.{indexed, KnowsNothing, text_named, MayTry, IsReady, EndsAt, LeadsTo, Learns}
 
 -- what is known of the content is right
@@ -24,9 +26,9 @@ ready-indexed T r =
     let f : TokenizeState → TokenizeState = indexed_fields T.cursor T.parse_state.now in
     let U : Tokenizer = scratched (f T.tokenize_state) T in
     record {
-      spans = record { rest = ap f r.spans.rest; fits = r.spans.fits; indexed = refl };
+      spans = record { rest = ap f r.spans.rest; fits = r.spans.fits };
       look = record { resting = ap f r.look.resting; short = r.look.short };
-      literals = record { text = text-scratched (f T.tokenize_state) T r.literals.text; resting = ap f r.literals.resting; short = r.literals.short; knows = λ places. made-known (domains_pay T.cursor.codes T.parse_state.now) (no_domains (bytes_of T) (GfmAutolinkLiteral.end_of T) T.cursor.codes) places };
+      literals = record { text = text-scratched (f T.tokenize_state) T r.literals.text; resting = ap f r.literals.resting; short = r.literals.short };
       ends = record {
         part = record { short = r.ends.part.short; indexed = right-made T.cursor.codes (Some (last_begins T.cursor.codes)) refl; titled = λ closers. made-known (titles_pay T.cursor.codes) (closers_of T.cursor.codes) closers; spaces = record { space = ap f r.ends.part.spaces.space; eol = ap f r.ends.part.spaces.eol }; rest = ap f r.ends.part.rest };
         listed = r.ends.listed;
@@ -45,7 +47,16 @@ learned T U r e = subst (λ (x : Tokenizer). Learns T x) (sym e) there
     there : Learns T (scratched (indexed_fields T.cursor T.parse_state.now T.tokenize_state) T)
     there =
         record {
-          ready = record { may_try = record { start = ready-indexed T r.may_try.start; single = r.may_try.single; alone = r.may_try.alone }; unchecked = r.unchecked };
+          ready = record {
+            may_try = record {
+              start = ready-indexed T r.may_try.start;
+              runs = refl;
+              domains = λ places. made-known (domains_pay T.cursor.codes T.parse_state.now) (no_domains (bytes_of T) (GfmAutolinkLiteral.end_of T) T.cursor.codes) places;
+              single = r.may_try.single;
+              alone = r.may_try.alone;
+            };
+            unchecked = r.unchecked;
+          };
           same = refl;
         }
 
@@ -61,9 +72,9 @@ ready-named T r =
     let f : TokenizeState → TokenizeState = named_fields T.cursor T.parse_state.now in
     let U : Tokenizer = text_named T in
     record {
-      spans = record { rest = ap f r.spans.rest; fits = r.spans.fits; indexed = r.spans.indexed };
+      spans = record { rest = ap f r.spans.rest; fits = r.spans.fits };
       look = record { resting = ap f r.look.resting; short = r.look.short };
-      literals = record { text = text-scratched (f T.tokenize_state) T r.literals.text; resting = ap f r.literals.resting; short = r.literals.short; knows = r.literals.knows };
+      literals = record { text = text-scratched (f T.tokenize_state) T r.literals.text; resting = ap f r.literals.resting; short = r.literals.short };
       ends = record {
         part = record { short = r.ends.part.short; indexed = r.ends.part.indexed; titled = r.ends.part.titled; spaces = record { space = ap f r.ends.part.spaces.space; eol = ap f r.ends.part.spaces.eol }; rest = ap f r.ends.part.rest };
         listed = λ names known. names-known T.cursor T.parse_state.now T.tokenize_state.names names r.ends.listed known;
@@ -74,12 +85,12 @@ ready-named T r =
       last = r.last;
     }
 
-pub named-ready : (T U : Tokenizer) → StartReady T → T.attempts ≡ [] → U ≡ text_named T → MayTry U
+pub named-ready : (T U : Tokenizer) → StartReady T → KnowsNothing T → T.attempts ≡ [] → U ≡ text_named T → MayTry U
 unfolding scratched
-named-ready T U r alone e = subst MayTry (sym e) there
+named-ready T U r unknown alone e = subst MayTry (sym e) there
   where
     there : MayTry (text_named T)
-    there = record { start = ready-named T r; single = text-single (text_setting T) T.parse_state.now.options.now.constructs.gfm_autolink_literal T.cursor.codes refl; alone = alone }
+    there = record { start = ready-named T r; runs = unknown-runs T.tokenize_state T.cursor.codes (ap (λ (s : TokenizeState). s.runs) unknown); domains = right-unknown (bytes_of T) (GfmAutolinkLiteral.end_of T) T.cursor.codes T.tokenize_state.no_domains (ap (λ (s : TokenizeState). s.no_domains) unknown); single = text-single (text_setting T) T.parse_state.now.options.now.constructs.gfm_autolink_literal T.cursor.codes refl; alone = alone }
 
 -- it leads to where it stands
 pub named-leads : (T U : Tokenizer) → U ≡ text_named T → LeadsTo (text_named T) U

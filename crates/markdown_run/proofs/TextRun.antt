@@ -48,7 +48,7 @@ use Rattle.markdown_run_row.proofs.RowTreeFacts.{grouped-runless}
 use Rattle.markdown_run.proofs.MayPairOfCutData.{good-alike}
 use Rattle.markdown_run.proofs.TreesWithoutRuns.{probes-none}
 use Rattle.markdown_run.proofs.WholeRun.{Starts, start-with, AreFresh, IsFound, finished-may, finished-left, finished-events, finished-probes, finished-elements}
-use Rattle.markdown_run.proofs.ConstructsAtStart.{start-fits, start-last, start-literals, start-reads, unknown-runs}
+use Rattle.markdown_run.proofs.ConstructsAtStart.{start-fits, start-last, start-literals, start-reads}
 use Rattle.markdown_run.proofs.TextTree.{text-labels, text-still, text-finished}
 use Rattle.markdown_run.proofs.RowsWithoutRuns.{row-still}
 
@@ -116,9 +116,9 @@ text-ready p pieces lent first T text right k =
     let fits : codes_left T ≤ most = start-fits p.bytes.now pieces T content k.place in
     let input : T.parse_state.now.bytes.now ≡ p.bytes.now = ap (λ (x : ParseState). x.bytes.now) k.input in
     record {
-      spans = record { rest = k.fields ∙ sym (ap RawText.rested k.fields); fits = omega (arith, fits); indexed = unknown-runs T.tokenize_state T.cursor.codes (ap (λ (s : TokenizeState). s.runs) k.fields) };
+      spans = record { rest = k.fields ∙ sym (ap RawText.rested k.fields); fits = omega (arith, fits) };
       look = record { resting = ap PartialSpaceOrTab.rested k.fields ∙ sym k.fields; short = fits };
-      literals = start-literals p.bytes.now pieces T content input k.place (ap GfmAutolinkLiteral.rested k.fields ∙ sym k.fields) (ap (λ (s : TokenizeState). s.no_domains) k.fields);
+      literals = start-literals p.bytes.now pieces T content input k.place (ap GfmAutolinkLiteral.rested k.fields ∙ sym k.fields);
       last = start-last p.bytes.now pieces T.cursor text k.place;
       ends = record {
         part = record { short = fits; indexed = right-unknown T.cursor.codes T.tokenize_state.sequences (ap (λ (s : TokenizeState). s.sequences) k.fields); titled = TitleIndexLemmas.right-unknown T.cursor.codes T.tokenize_state.titles (ap (λ (s : TokenizeState). s.titles) k.fields); spaces = record { space = ap PartialSpaceOrTab.rested k.fields ∙ sym k.fields; eol = ap PartialSpaceOrTabEol.eol_rested k.fields ∙ sym k.fields }; rest = ap AfterLabelParts.rested k.fields ∙ sym k.fields };

@@ -6,6 +6,8 @@ use Rattle.markdown_engine.specs.RestingFields.{at_rest}
 use Rattle.markdown_engine.specs.Weights.{codes_left}
 use Rattle.markdown_engine.specs.declared.tokenizer.TokenizeState.{TokenizeState}
 use Rattle.markdown_engine.specs.declared.tokenizer.Tokenizer.{Tokenizer}
+use Rattle.markdown_leaf.specs.RawText as RawText
+use Rattle.markdown_leaf_gfm.specs.GfmAutolinkLiteral as GfmAutolinkLiteral
 use Rattle.markdown_leaf_gfm.specs.GfmTaskListItemCheck.{check_here}
 use Rattle.markdown_model.specs.TextLines.{data_up_to}
 use Rattle.markdown_run_readers.specs.TextStops.{text_stops}
@@ -35,9 +37,12 @@ text_named T = scratched (named_fields T.cursor T.parse_state.now T.tokenize_sta
 abbrev pub data_stops : Tokenizer → List Code → Bool
 data_stops T = text_stops T.parse_state.now.options.now.constructs.gfm_autolink_literal
 
--- constructs may be tried, and each code of the content where data does not stop is an element by itself
+-- constructs may be tried, what is known of runs and domains is right, and each code of the content where data does not stop is an element by
+-- itself
 pub record MayTry (T : Tokenizer) : Type 0 where
   pub start : StartReady T
+  pub runs : RawText.IsIndexed T
+  pub domains : GfmAutolinkLiteral.KnowsDomains T
   pub single : AreSingle (text_choice_of T) (data_stops T) T.cursor.codes
   pub alone : T.attempts ≡ []
 

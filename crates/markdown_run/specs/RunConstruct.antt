@@ -40,10 +40,9 @@ use Rattle.markdown_partial_link.specs.PartialLabel as PartialLabel
 use Rattle.markdown_util.specs.Reference.{html_5_rows}
 
 -- The states that start a construct, each with what it asks for: the scratch fields that it counts in are at rest. A span, whitespace with a
--- line ending, and a literal ask that fewer codes are left than a `usize` counts, which holds over every content; a span also that what is known
--- of the runs is right, HTML that what is known of its ends is, an end of a label that what is known of the ends of resources and of the names
--- that are defined is, and a literal that the content is read as characters, as every content is, and that what is known of where no domain begins
--- (`no_domains`) is right. Whitespace has the fields of what it reads as
+-- line ending, and a literal ask that fewer codes are left than a `usize` counts, which holds over every content; an end of a label also that
+-- what is known of the ends of resources and of the names that are defined is right, and a literal and a
+-- reference that the content is read as characters, as every content is. Whitespace has the fields of what it reads as
 -- its setter leaves them: where it is to go on with a chain, a linked event stands just before, and where whitespace with a line ending is
 -- linked, no blank code is at hand.
 abbrev pub IsConstruct : StateName → Tokenizer → Type 0

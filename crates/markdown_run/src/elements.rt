@@ -6,12 +6,14 @@
 //! Each function answers the error where a growth is refused; then `failed` is true.
 #![tactic(auto)]
 
-ghost use Rattle.std.specs.Prelude.{◌≡◌, [], None, Some, IfOk, OnOk, OnErr, IsTrue};
+ghost use Rattle.std.specs.Prelude.{◌≡◌, [], ◌∷◌, None, Some, IfOk, OnOk, OnErr, IsTrue};
 ghost use Rattle.std.specs.Str.{byte};
 ghost use Rattle.markdown_engine.specs.Operations.{HasCode, ahead, current_of};
 ghost use Rattle.markdown_engine_content.specs.ListFunctions.{rest_of};
+ghost use Rattle.markdown_engine_index.specs.RunIndex.{is_asked};
 ghost use Rattle.markdown_model.specs.CodeTests.{is_value, next_is};
-ghost use Rattle.markdown_run_text.specs.TextContent.{StartReady, text_passed};
+ghost use Rattle.markdown_model.specs.GfmAutolinkLiteral.{first_letters, www};
+ghost use Rattle.markdown_run_text.specs.TextContent.{StartReady, span_markers, text_passed};
 ghost use Rattle.markdown_run.specs.ElementsOfText.{EndsAt, GoesOn, IsReady, KnowsNothing, Learns, MayTry, PassesData, ReadsElement, Passes, forgotten, text_named};
 
 use crate::run::construct;
@@ -20,8 +22,10 @@ use markdown_engine::state::StateName;
 use markdown_engine::tokenizer::Tokenizer;
 use markdown_engine_index::run_index::RunIndex;
 use markdown_engine_index::sequence_index::SequenceIndex;
+use markdown_leaf_gfm::gfm_autolink_literal;
+use markdown_leaf_html::html_text;
 use markdown_run_readers::{
-    attention, character_escape, label_end, label_start_link, partial_data,
+    attention, character_escape, label_end, label_start_link, partial_data, raw_text,
 };
 use markdown_run_text::text;
 use std::alloc::AllocError;
@@ -51,7 +55,7 @@ fn comes_next(tokenizer: &Tokenizer, byte: u8) -> bool
     }
 }
 
-// Tries an autolink, and then HTML.
+// Tries an autolink, and then HTML, unless it is known that this does not end.
 fn read_angle(tokenizer: &mut Tokenizer) -> Result<bool, AllocError>
     requires ready { IsReady tokenizer.old }
     requires here { current_of tokenizer.old ≡ Some (byte "<") }
@@ -61,6 +65,9 @@ fn read_angle(tokenizer: &mut Tokenizer) -> Result<bool, AllocError>
     let held = construct(StateName::AutolinkStart, tokenizer)?;
     if held {
         return Ok(true);
+    }
+    if html_text::is_ruled_out(tokenizer) {
+        return Ok(false);
     }
     construct(StateName::HtmlTextStart, tokenizer)
 }
@@ -123,6 +130,34 @@ fn read_end(tokenizer: &mut Tokenizer) -> Result<bool, AllocError>
     construct(StateName::LabelEndStart, tokenizer)
 }
 
+// Tries a span of the marker at hand, which is given, unless it is known that none closes.
+fn read_span(tokenizer: &mut Tokenizer, marker: u8) -> Result<bool, AllocError>
+    requires ready { IsReady tokenizer.old }
+    requires here { current_of tokenizer.old ≡ Some marker }
+    requires marks { IsTrue (is_asked span_markers marker) }
+    ensures reads { IfOk result (λ ok. ReadsElement tokenizer.old ok tokenizer.new) }
+    ensures err { OnErr result (IsTrue tokenizer.new.failed) }
+{
+    if raw_text::is_ruled_out(tokenizer, marker) {
+        return Ok(false);
+    }
+    construct(StateName::RawTextStart, tokenizer)
+}
+
+// Tries a literal from `www.` on, unless it is known that no domain begins at its first letter, which is given.
+fn read_www(tokenizer: &mut Tokenizer, letter: u8) -> Result<bool, AllocError>
+    requires ready { IsReady tokenizer.old }
+    requires here { current_of tokenizer.old ≡ Some letter }
+    requires begins { IsTrue (is_asked (first_letters (www ∷ [])) letter) }
+    ensures reads { IfOk result (λ ok. ReadsElement tokenizer.old ok tokenizer.new) }
+    ensures err { OnErr result (IsTrue tokenizer.new.failed) }
+{
+    if gfm_autolink_literal::is_ruled_out(tokenizer) {
+        return Ok(false);
+    }
+    construct(StateName::GfmAutolinkLiteralWwwStart, tokenizer)
+}
+
 // Tries what may begin with the byte at hand, which is given, and answers whether it does.
 fn read_construct(tokenizer: &mut Tokenizer, byte: u8) -> Result<bool, AllocError>
     requires ready { IsReady tokenizer.old }
@@ -131,7 +166,7 @@ fn read_construct(tokenizer: &mut Tokenizer, byte: u8) -> Result<bool, AllocErro
     ensures err { OnErr result (IsTrue tokenizer.new.failed) }
 {
     match byte {
-        b'`' | b'$' => construct(StateName::RawTextStart, tokenizer),
+        b'`' | b'$' => read_span(tokenizer, byte),
         b'*' | b'_' | b'~' => attention::read(tokenizer, byte),
         b'[' => read_bracket(tokenizer),
         b'!' => read_bang(tokenizer),
@@ -140,7 +175,7 @@ fn read_construct(tokenizer: &mut Tokenizer, byte: u8) -> Result<bool, AllocErro
         b'<' => read_angle(tokenizer),
         b']' => read_end(tokenizer),
         b'H' | b'h' => construct(StateName::GfmAutolinkLiteralProtocolStart, tokenizer),
-        b'W' | b'w' => construct(StateName::GfmAutolinkLiteralWwwStart, tokenizer),
+        b'W' | b'w' => read_www(tokenizer, byte),
         _ => Ok(false),
     }
 }

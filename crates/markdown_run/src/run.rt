@@ -203,9 +203,8 @@ fn put_back<'a>(
 ///
 /// The scratch fields that a construct counts in are at rest before, as they are in a new tokenizer. Where a construct counts codes, or reads
 /// whitespace, it asks that fewer are left than a `usize` counts, which holds over every content: it has at most four codes for each byte.
-/// `RawTextStart` also asks that the scratch field `runs` is right for the content, `HtmlTextStart` and `LabelEndStart` that `sequences` is,
-/// and `LabelEndStart` that `titles` is, and that `names` is right for what is defined; a literal asks that `no_domains` is; in a new tokenizer
-/// nothing is known there. A literal also asks that the codes of the content are those of its characters, which holds over every content. Whitespace that is to be connected asks
+/// `LabelEndStart` also asks that the scratch fields `sequences` and `titles` are right for the content, and `names` for what is defined; in a new
+/// tokenizer nothing is known there. A literal and a character reference ask that the codes of the content are those of its characters, which holds over every content. Whitespace that is to be connected asks
 /// for a linked event just before, and with a line ending for a content too; and where whitespace with a line ending has a content, no blank
 /// code is at hand. An end of a label asks that the starts kept end between characters, as each does that was read.
 pub fn construct(name: StateName, tokenizer: &mut Tokenizer) -> Result<bool, AllocError>

@@ -1,5 +1,5 @@
 -- A run of markers that is passed is read.
-use Rattle.std.proofs.Common.{◌≡◌, ℕ, ◌+◌, ◌==◌, Bool, true, false, List, [], ◌∷◌, ◌++◌, Option, None, Some, refl, sym, ap, ◌∙◌, append-nil, length}
+use Rattle.std.proofs.Common.{◌≡◌, ℕ, ◌+◌, ◌==◌, Bool, true, false, List, [], ◌∷◌, ◌++◌, Option, None, Some, refl, sym, ap, ◌∙◌, append-nil, length, arith}
 use Rattle.std.specs.Option.{is_some}
 use Rattle.std.proofs.lemmas.Bool.{eqb-true, eq-eqb}
 use Rattle.markdown_engine_content.specs.Codes.{Code}
@@ -8,6 +8,7 @@ use Rattle.markdown_engine_content.specs.Place.{Place, ahead_at, code_at, moved}
 use Rattle.markdown_engine_content.specs.Tree.{Forest, leaf, leaf_codes}
 use Rattle.markdown_engine_content.specs.declared.event.Name.TheVariants as N
 use Rattle.markdown_engine_content.proofs.PlaceRules.{IsAhead, ahead_none, ahead_some, left_moved}
+use Rattle.markdown_engine_index.specs.RunIndex.{leading}
 use Rattle.markdown_engine.specs.Operations.{ahead, applied, current_of, entered, exited, registered}
 use Rattle.markdown_engine.specs.PastTree.{moved_by, passed, past}
 use Rattle.markdown_engine.specs.declared.resolve.ResolveName.TheVariants as R
@@ -17,6 +18,7 @@ use Rattle.markdown_engine.proofs.ReadingSequences.{scratched-same}
 use Rattle.markdown_engine.proofs.TreeEvents.{ahead-past, leaf-past}
 use Rattle.markdown_attention.specs.Attention.{switches_of}
 use Rattle.markdown_attention.proofs.AttentionLaws.{run-ahead}
+use Rattle.markdown_leaf.proofs.RawTextWithoutEnd.{run-length}
 use Rattle.markdown_model.specs.CodeTests.{is_value}
 use Rattle.markdown_model.specs.Elements.{attention_run, switched}
 use Rattle.markdown_model.specs.Grammar.{gives, span}
@@ -56,6 +58,15 @@ run-stops m p h = by_code (code_at p) refl h
         ∙ ap (λ (s : List Code × List Code). moved_by s.0 p) (span-none (is_value m) (a.code ∷ ahead_at (moved p)) (ap (λ x. x == m) a.value ∙ k))
 
 -- The whole run.
+
+at-moved : (cs : List Code) (p : Place) → (moved_by cs p).at ≡ p.at + length cs
+unfolding moved
+at-moved [] p = omega arith
+at-moved (c ∷ cs) p = let more : (moved_by cs (moved p)).at ≡ (moved p).at + length cs = at-moved cs (moved p) in omega (arith, more)
+
+-- it is as long as the codes that come next with its value
+pub run-at : (m : ℕ) (p : Place) → (past_run m p).at ≡ p.at + leading m (ahead_at p)
+run-at m p = at-moved (span (is_value m) (ahead_at p)).0 p ∙ ap (λ n. p.at + n) (run-length m (ahead_at p))
 
 run-codes : (m : ℕ) (on : Bool) (c : Code) (cs : List Code) → on ≡ true → (c.value == m) ≡ true
     → switched on (attention_run m) (c ∷ cs) ≡ Some (plain (leaf N.AttentionSequence (c ∷ (span (is_value m) cs).0)), (span (is_value m) cs).1)

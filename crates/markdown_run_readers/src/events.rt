@@ -27,10 +27,7 @@ fn append(tokenizer: &mut Tokenizer, event: Event) -> Result<(), AllocError>
     ensures err { OnErr result (IsTrue tokenizer.new.failed) }
 {
     let appended = tokenizer.events.push(event);
-    if appended.is_err() {
-        tokenizer.fail();
-    }
-    appended
+    tokenizer.noted(appended)
 }
 
 // Appends an Enter at this point.

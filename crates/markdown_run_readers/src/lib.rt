@@ -7,3 +7,4 @@ mod events;
 pub mod label_end;
 pub mod label_start_link;
 pub mod partial_data;
+pub mod raw_text;

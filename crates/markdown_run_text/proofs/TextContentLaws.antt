@@ -149,11 +149,11 @@ module _ (W : Words) (within : Within states_and_called W) where
 
     tries-reference : current_of T ≡ Some (byte "&") → Before (attempt_step CharacterReferenceStart TextBeforeData T)
     tries-reference d =
-        try-law 8 T CharacterReferenceStart TextBeforeData (within CharacterReferenceStart) (reference_here T) alone (at-rest-reference T ready.marked.spans) (omega arith) ready.marked (λ ok U g. g) (search plain_constructs) (reference-reads T d) (λ none. to-data 8 T (byte "&") (omega arith) ready d (reference-alone T d none))
+        try-law 8 T CharacterReferenceStart TextBeforeData (within CharacterReferenceStart) (reference_here T) alone (at-rest-reference T ready.marked.literals.text ready.marked.spans) (omega arith) ready.marked (λ ok U g. g) (search plain_constructs) (reference-reads T d) (λ none. to-data 8 T (byte "&") (omega arith) ready d (reference-alone T d none))
 
     tries-autolink : current_of T ≡ Some (byte "<") → Before (attempt_step AutolinkStart TextBeforeHtml T)
     tries-autolink d =
-        try-law 8 T AutolinkStart TextBeforeHtml (within AutolinkStart) (link_here T) alone (at-rest-reference T ready.marked.spans).size (omega arith) ready.marked (λ ok U g. g) (search plain_constructs) (first-reads T (byte "<") _ _ _ _ (angle-row T) d)
+        try-law 8 T AutolinkStart TextBeforeHtml (within AutolinkStart) (link_here T) alone (at-rest-reference T ready.marked.literals.text ready.marked.spans).size (omega arith) ready.marked (λ ok U g. g) (search plain_constructs) (first-reads T (byte "<") _ _ _ _ (angle-row T) d)
         (λ none. follows W (weight_at 8 T) (before_ends T) (Next TextBeforeHtml) (within TextBeforeHtml) T (record { before = ready; angle = d; no_autolink = none }) (omega arith) (λ ok V h. h))
 
     tries-escape : current_of T ≡ Some (byte "\\") →

@@ -139,9 +139,9 @@ pub ready-past : (T U : Tokenizer) → IsSame T U → codes_left U ≤ codes_lef
 ready-past T U e l within r =
     let u : TokenizeState = U.tokenize_state in
     record {
-      spans = record { rest = e.fields ∙ ap (relisted u) r.spans.rest ∙ ap RawText.rested (sym e.fields); fits = omega (arith, l, r.spans.fits); indexed = indexed-past T U e r.spans.indexed };
+      spans = record { rest = e.fields ∙ ap (relisted u) r.spans.rest ∙ ap RawText.rested (sym e.fields); fits = omega (arith, l, r.spans.fits) };
       look = record { resting = ap PartialSpaceOrTab.rested e.fields ∙ ap (relisted u) r.look.resting ∙ sym e.fields; short = omega (arith, l, r.look.short) };
-      literals = record { text = e.text; resting = ap GfmAutolinkLiteral.rested e.fields ∙ ap (relisted u) r.literals.resting ∙ sym e.fields; short = omega (arith, l, r.literals.short); knows = domains-past T U e r.literals.knows };
+      literals = record { text = e.text; resting = ap GfmAutolinkLiteral.rested e.fields ∙ ap (relisted u) r.literals.resting ∙ sym e.fields; short = omega (arith, l, r.literals.short) };
       ends = record { part = part-past T U e l r.ends.part; listed = listed-past T U e r.ends.listed; text = e.text; within = within; resting = ap (λ (s : TokenizeState). s.end) e.fields ∙ r.ends.resting };
       last = last-past T U e r.last;
     }
@@ -242,9 +242,9 @@ pub weight-marked : (T : Tokenizer) → weight_at 9 (text_marked T) ≡ weight_a
 weight-marked T =
     ap (λ n. 256 * n + 9 + 1) (left-scratched (marked_fields T.cursor T.parse_state.now T.tokenize_state) T)
 
-pub at-rest-reference : (T : Tokenizer) → RawText.StartReady T → IsAtRest T
-at-rest-reference T r =
-    record { marker = ap (λ (s : TokenizeState). s.marker) r.rest; size = ap (λ (s : TokenizeState). s.size) r.rest }
+pub at-rest-reference : (T : Tokenizer) → ReadsText T → RawText.StartReady T → IsAtRest T
+at-rest-reference T text r =
+    record { text = text; marker = ap (λ (s : TokenizeState). s.marker) r.rest; size = ap (λ (s : TokenizeState). s.size) r.rest }
 
 pub run-ready : (T : Tokenizer) → RawText.StartReady T → Attention.StartReady T
 run-ready T r = r.rest ∙ ap (Attention.with_marker 0) (sym r.rest)
@@ -299,7 +299,7 @@ same-lost T r =
 
 pub html-ready : (T : Tokenizer) → StartReady T → HtmlText.StartReady T
 html-ready T r =
-    record { spaces = record { resting = r.look.resting; short = r.look.short }; indexed = r.ends.part.indexed; rest = sym (html-rest T r.spans) }
+    record { spaces = record { resting = r.look.resting; short = r.look.short }; rest = sym (html-rest T r.spans) }
   where
     html-rest : (T : Tokenizer) → RawText.StartReady T → T.tokenize_state ≡ HtmlText.rested T.tokenize_state
     html-rest T k = k.rest ∙ ap HtmlText.rested (sym k.rest)
@@ -307,7 +307,7 @@ html-ready T r =
 pub spans-marked : (T : Tokenizer) → RawText.StartReady T → RawText.StartReady (text_marked T)
 unfolding scratched
 spans-marked T r =
-    record { rest = ap {A = TokenizeState} (λ s. marked_fields T.cursor T.parse_state.now s) r.rest; fits = r.fits; indexed = refl }
+    record { rest = ap {A = TokenizeState} (λ s. marked_fields T.cursor T.parse_state.now s) r.rest; fits = r.fits }
 
 pub look-marked : (T : Tokenizer) → GfmTaskListItemCheck.MayLook T → GfmTaskListItemCheck.MayLook (text_marked T)
 unfolding scratched
@@ -324,7 +324,7 @@ pub literals-marked : (T : Tokenizer) → GfmAutolinkLiteral.StartReady T → Gf
 unfolding scratched
 literals-marked T r =
     let s : TokenizeState → TokenizeState = marked_fields T.cursor T.parse_state.now in
-    record { text = text-scratched (s T.tokenize_state) T r.text; resting = ap s r.resting; short = r.short; knows = λ places. made-known (domains_pay T.cursor.codes T.parse_state.now) (no_domains (bytes_of T) (GfmAutolinkLiteral.end_of T) T.cursor.codes) places }
+    record { text = text-scratched (s T.tokenize_state) T r.text; resting = ap s r.resting; short = r.short }
 
 -- and of the names, whichever part of the document the brackets are of
 pub listed-made : (s : Setting) (start end : ℕ) (names : Names) →

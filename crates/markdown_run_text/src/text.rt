@@ -140,10 +140,7 @@ fn index_runs(tokenizer: &mut Tokenizer) -> Result<(), AllocError>
             tokenizer.tokenize_state.runs = runs;
             Ok(())
         }
-        Err(refused) => {
-            tokenizer.fail();
-            Err(refused)
-        }
+        Err(refused) => tokenizer.noted(Err(refused)),
     }
 }
 
@@ -244,10 +241,7 @@ fn learn_names(tokenizer: &mut Tokenizer) -> Result<(), AllocError>
             tokenizer.tokenize_state.names = names;
             Ok(())
         }
-        Err(refused) => {
-            tokenizer.fail();
-            Err(refused)
-        }
+        Err(refused) => tokenizer.noted(Err(refused)),
     }
 }
 
@@ -292,10 +286,7 @@ fn index_titles(tokenizer: &mut Tokenizer) -> Result<(), AllocError>
             tokenizer.tokenize_state.titles = Some(titles);
             Ok(())
         }
-        Err(refused) => {
-            tokenizer.fail();
-            Err(refused)
-        }
+        Err(refused) => tokenizer.noted(Err(refused)),
     }
 }
 
@@ -330,10 +321,7 @@ fn index_domains(tokenizer: &mut Tokenizer) -> Result<(), AllocError>
             tokenizer.tokenize_state.no_domains = Some(places);
             Ok(())
         }
-        Err(refused) => {
-            tokenizer.fail();
-            Err(refused)
-        }
+        Err(refused) => tokenizer.noted(Err(refused)),
     }
 }
 
@@ -359,7 +347,7 @@ pub fn index(tokenizer: &mut Tokenizer) -> Result<(), AllocError>
 
 /// At the start of a text, where the check of a task may stand.
 ///
-/// What rules constructs out is made known, by `index`. Where many names are defined and many labels may end, the names are put in order, so
+/// What rules constructs out is made known, by `index`; of it the states ask alone where a resource may end. Where many names are defined and many labels may end, the names are put in order, so
 /// that each is found by a search; names that are lent, as those of a `document::Document`, are in order already.
 ///
 ///     > | [ ] do *it*

@@ -109,10 +109,7 @@ pub fn resolve_counted(tokenizer: &mut Tokenizer, probes: &mut u128) -> Result<(
     ensures err { OnErr result (IsTrue tokenizer.new.failed) }
 {
     match pair_and_group(tokenizer) {
-        Err(error) => {
-            tokenizer.fail();
-            Err(error)
-        }
+        Err(error) => tokenizer.noted(Err(error)),
         Ok(count) => {
             *probes = count;
             Ok(())

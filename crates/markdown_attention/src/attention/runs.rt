@@ -82,10 +82,7 @@ impl Runs {
         let bytes = tokenizer.parse_state.bytes;
         let tildes = tokenizer.parse_state.options.constructs.gfm_strikethrough;
         match read(tokenizer.alloc, bytes, tildes, &tokenizer.events) {
-            Err(error) => {
-                tokenizer.fail();
-                Err(error)
-            }
+            Err(error) => tokenizer.noted(Err(error)),
             Ok(found) => Ok(Runs {
                 list: found.list,
                 texts: found.texts,

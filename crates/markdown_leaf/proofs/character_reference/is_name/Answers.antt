@@ -1,5 +1,6 @@
-use Rattle.markdown_leaf.proofs.CharacterReferenceNames.{name-utf8}
+use Rattle.std.proofs.Common.{sym}
+use Rattle.markdown_leaf.proofs.CharacterReferenceNames.{no-text}
 use Rattle.markdown_leaf.proofs.character_reference.is_name.Goals as goal
 
-pub unreachable-requires : goal.unreachable-requires
-unreachable-requires c = c.in-Err.ensures.cases.0 (name-utf8 c.args.bytes.now c.requires)
+pub returns-in-Err : goal.returns-in-Err
+returns-in-Err c = sym (no-text c.args.bytes.now c.in-Err.ensures.cases.0)

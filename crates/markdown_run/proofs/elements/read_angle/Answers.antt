@@ -1,12 +1,14 @@
 use Rattle.std.proofs.Common.{Bool, false, sym, ap, subst, ◌∙◌}
 use Rattle.std.proofs.lemmas.Result.{IfOk-weaker}
+use Rattle.std.specs.Option.{is_some}
+use Rattle.markdown_engine.specs.Operations.{current_of}
 use Rattle.markdown_engine.specs.declared.state.StateName.TheVariants.{AutolinkStart}
 use Rattle.markdown_engine.specs.declared.tokenizer.Tokenizer.{Tokenizer}
 use Rattle.markdown_engine.proofs.ReadingSequences.{scratched-same}
 use Rattle.markdown_leaf_html.specs.HtmlText as HtmlText
 use Rattle.markdown_run_text.proofs.TextSteps.{html-ready}
 use Rattle.markdown_run.specs.RunConstruct.{ConstructEnds}
-use Rattle.markdown_run.proofs.ElementsRead.{autolink-holds, html-ends}
+use Rattle.markdown_run.proofs.ElementsRead.{autolink-holds, html-ends, html-ruled}
 use Rattle.markdown_run.proofs.elements.read_angle.Goals as goal
 
 pub returns-then-held-clause-reads : goal.returns-then-held-clause-reads
@@ -14,6 +16,20 @@ returns-then-held-clause-reads c =
     let T : Tokenizer = c.args.tokenizer.now in
     let U : Tokenizer = c.construct.new.tokenizer in
     autolink-holds T U c.requires.ready c.requires.here (subst (λ (b : Bool). ConstructEnds AutolinkStart T b U) c.if-held.true c.in_ok-held.ensures.reads)
+
+pub is_ruled_out-requires : goal.is_ruled_out-requires
+is_ruled_out-requires c =
+    let T : Tokenizer = c.args.tokenizer.now in
+    let U : Tokenizer = c.construct.new.tokenizer in
+    let first : ConstructEnds AutolinkStart T false U = subst (λ (b : Bool). ConstructEnds AutolinkStart T b U) c.if-held.false c.in_ok-held.ensures.reads in
+    ap (λ (x : Tokenizer). is_some (current_of x)) (first.1 ∙ scratched-same T) ∙ ap is_some c.requires.here
+
+pub returns-then-is_ruled_out-clause-reads : goal.returns-then-is_ruled_out-clause-reads
+returns-then-is_ruled_out-clause-reads c =
+    let T : Tokenizer = c.args.tokenizer.now in
+    let U : Tokenizer = c.construct.new.tokenizer in
+    let first : ConstructEnds AutolinkStart T false U = subst (λ (b : Bool). ConstructEnds AutolinkStart T b U) c.if-held.false c.in_ok-held.ensures.reads in
+    html-ruled T U c.requires.ready c.requires.here first (sym c.is_ruled_out.ensures ∙ c.if-is_ruled_out.true)
 
 pub construct-requires-2-clause-construct : goal.construct-requires-2-clause-construct
 construct-requires-2-clause-construct c = λ _.

@@ -1,23 +1,16 @@
-use Rattle.std.proofs.Common.{◌≡◌, ◌==◌, false, Some, ap, ◌∙◌, refl, arith, inl, inr}
+use Rattle.std.proofs.Common.{◌≡◌, ◌==◌, false, [], ◌∷◌, Some, ap, ◌∙◌, refl, arith, inl, inr}
 use Rattle.std.proofs.lemmas.Bool.Decides.{nat_tests}
 use Rattle.std.proofs.lemmas.Result.{IfOk-weaker}
 use Rattle.std.specs.List.{list_any}
+use Rattle.markdown_engine_index.specs.RunIndex.{is_asked}
+use Rattle.markdown_model.specs.GfmAutolinkLiteral.{first_letters, www}
 use Rattle.markdown_engine.specs.declared.tokenizer.Tokenizer.{Tokenizer}
-use Rattle.markdown_run_text.specs.TextContent.{text_markers}
-use Rattle.markdown_run.proofs.ElementsRead.{none-among, nothing-tried, span-ends, run-ends, reference-ends, protocol-ends, www-ends}
+use Rattle.markdown_run_text.specs.TextContent.{span_markers, text_markers}
+use Rattle.markdown_run.proofs.ElementsRead.{none-among, nothing-tried, run-ends, reference-ends, protocol-ends}
 use Rattle.markdown_run.proofs.elements.read_construct.Goals as goal
 
-pub returns-in-96-clause-reads : goal.returns-in-96-clause-reads
-returns-in-96-clause-reads c =
-    let T : Tokenizer = c.args.tokenizer.now in
-    let U : Tokenizer = c.construct.new.tokenizer in
-    IfOk-weaker c.construct.result _ _
-    (λ ok k.
-    elim c.in-96.is [
-      | inl e ↦ span-ends T U ok 36 c.requires.ready (c.requires.here ∙ ap (λ n. Some n) e) refl k
-      | inr e ↦ span-ends T U ok 96 c.requires.ready (c.requires.here ∙ ap (λ n. Some n) e) refl k
-    ])
-    c.construct.ensures.reads
+pub read_span-requires-clause-marks : goal.read_span-requires-clause-marks
+read_span-requires-clause-marks c = elim c.in-96.is [ inl e ↦ ap (is_asked span_markers) e | inr e ↦ ap (is_asked span_markers) e ]
 
 pub returns-in-42-clause-reads : goal.returns-in-42-clause-reads
 returns-in-42-clause-reads c =
@@ -34,8 +27,8 @@ returns-in-42-clause-reads c =
 
 pub returns-in-38-clause-reads : goal.returns-in-38-clause-reads
 returns-in-38-clause-reads c =
-    let U : Tokenizer = c.construct-in-38.new.tokenizer in
-    IfOk-weaker c.construct-in-38.result _ _ (λ ok k. reference-ends c.args.tokenizer.now U ok c.requires.ready (c.requires.here ∙ ap (λ n. Some n) c.in-38.is) k) c.construct-in-38.ensures.reads
+    let U : Tokenizer = c.construct.new.tokenizer in
+    IfOk-weaker c.construct.result _ _ (λ ok k. reference-ends c.args.tokenizer.now U ok c.requires.ready (c.requires.here ∙ ap (λ n. Some n) c.in-38.is) k) c.construct.ensures.reads
 
 pub returns-in-72-clause-reads : goal.returns-in-72-clause-reads
 returns-in-72-clause-reads c =
@@ -49,17 +42,9 @@ returns-in-72-clause-reads c =
     ])
     c.construct-in-72.ensures.reads
 
-pub returns-in-87-clause-reads : goal.returns-in-87-clause-reads
-returns-in-87-clause-reads c =
-    let T : Tokenizer = c.args.tokenizer.now in
-    let U : Tokenizer = c.construct-in-87.new.tokenizer in
-    IfOk-weaker c.construct-in-87.result _ _
-    (λ ok k.
-    elim c.in-87.is [
-      | inl e ↦ www-ends T U ok 87 c.requires.ready (c.requires.here ∙ ap (λ n. Some n) e) refl k
-      | inr e ↦ www-ends T U ok 119 c.requires.ready (c.requires.here ∙ ap (λ n. Some n) e) refl k
-    ])
-    c.construct-in-87.ensures.reads
+pub read_www-requires-clause-begins : goal.read_www-requires-clause-begins
+read_www-requires-clause-begins c =
+    elim c.in-87.is [ inl e ↦ ap (is_asked (first_letters (www ∷ []))) e | inr e ↦ ap (is_asked (first_letters (www ∷ []))) e ]
 
 not-tried : (c : goal.In_default) → list_any (λ n. c.args.byte == n) text_markers ≡ false
 not-tried c =

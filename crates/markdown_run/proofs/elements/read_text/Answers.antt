@@ -9,7 +9,7 @@ use Rattle.markdown_run.proofs.elements.read_text.Goals as goal
 
 pub read_check-requires : goal.read_check-requires
 read_check-requires c =
-    named-ready c.args.tokenizer.now c.index_names.new.tokenizer c.requires.ready c.requires.alone c.in_ok-index_names.ensures.ok
+    named-ready c.args.tokenizer.now c.index_names.new.tokenizer c.requires.ready c.requires.unknown c.requires.alone c.in_ok-index_names.ensures.ok
 
 pub read_elements-requires : goal.read_elements-requires
 read_elements-requires c = c.in_ok-read_check.ensures.ok.ready
