@@ -367,9 +367,9 @@ uint32_t markdown_inline_texts(const markdown_inline_input *input, const markdow
     markdown_inline_event *events, size_t events_len, size_t *ends, size_t ends_len, size_t *count);
 
 /* Writes the HTML of the input's pieces as a text, in UTF-8. The target of each number says where the definition of that number leads. `options` has
- * bits MARKDOWN_INLINE_HTML_RAW and MARKDOWN_INLINE_HTML_ANY_LINK; without them nothing runs that the text brings. DONE: the HTML stands at the front
- * of the array, and `*count` is how many bytes it has. DEFINITION: a label or a target is no text of the labels, or there is not one target for each
- * definition. The rest is as of events. */
+ * bits MARKDOWN_INLINE_HTML_RAW and MARKDOWN_INLINE_HTML_ANY_LINK; without them nothing runs that the text brings. Each call numbers footnotes from 1 on,
+ * and line endings stay. DONE: the HTML stands at the front of the array, and `*count` is how many bytes it has. DEFINITION: a label or a target is no text
+ * of the labels, or there is not one target for each definition. The rest is as of events. */
 uint32_t markdown_inline_html(const markdown_inline_input *input, const markdown_inline_target *targets, size_t targets_len, uint32_t options,
     uint8_t *html, size_t html_len, size_t *count);
 

@@ -1,14 +1,14 @@
 //! Writes the HTML of a paragraph that it reads from standard input.
 //!
 //! The first word is `text`. The others are those of `mdinline` but `label=`: `gfm`, `math`, `task`, `cm-lengths`, `cm-shortcut`, `note=TEXT`; and
-//! `raw`, which writes raw HTML as it stands; `any-link`, by which links lead wherever they say; `define=LABEL`, which defines a label, followed
+//! `raw`, which writes raw HTML as it stands; `any-link`, by which links lead wherever they say; `lf` and `crlf`, which write line endings so; `define=LABEL`, which defines a label, followed
 //! by `to=DESTINATION` and perhaps `title=TEXT`. One final line ending is dropped.
 //!
 //! The status is 0; 2 where a word is not known; 3 where the input is not UTF-8; 4 where a line is blank; 5 where memory is refused; 6 where
 //! reading or writing fails.
 #![tactic(auto)]
 
-ghost use Rattle.std.specs.Prelude.{◌≡◌, IfOk, IfSome};
+ghost use Rattle.std.specs.Prelude.{◌≡◌, [], IfOk, IfSome};
 ghost use Rattle.markdown_engine_content.specs.Content.{content_of};
 ghost use Rattle.markdown_html.specs.View.{page_from};
 ghost use Rattle.markdown_html_model.specs.Html.{html};
@@ -17,6 +17,7 @@ ghost use Rattle.markdown_run_text.specs.RunSetting.{text_setting_of};
 
 mod words;
 
+use markdown_html::footnotes::FootnoteCalls;
 use markdown_html::targets::Targets;
 use markdown_html::to_html;
 use markdown_html_model::options::HtmlOptions;
@@ -79,7 +80,7 @@ fn html_of(
     definitions: &Targets,
     options: HtmlOptions,
 ) -> Result<Option<Vec<u8>>, AllocError>
-    ensures { let s = text_setting_of parse_state.now first_of_item in let tree = text_tree s (content_of s.bytes pieces.now) in IfOk result (λ found. IfSome found (λ written. written.items ≡ html (page_from parse_state.now definitions.now options) tree)) }
+    ensures { let s = text_setting_of parse_state.now first_of_item in let tree = text_tree s (content_of s.bytes pieces.now) in IfOk result (λ found. IfSome found (λ written. written.items ≡ html (page_from parse_state.now definitions.now options) [] tree)) }
 {
     if !run::is_text(parse_state.bytes, pieces) {
         return Ok(None);
@@ -90,6 +91,7 @@ fn html_of(
         parse_state,
         found.events.as_slice(),
         definitions,
+        &mut FootnoteCalls::new(alloc),
         options,
     )?;
     Ok(Some(html))

@@ -1,6 +1,6 @@
 // The words of the program.
 use markdown_html::targets::Targets;
-use markdown_html_model::options::{Definition, HtmlOptions};
+use markdown_html_model::options::{Definition, HtmlOptions, LineEnds};
 use markdown_inline::configuration::ParseOptions;
 use markdown_inline::util::normalize_identifier::normalize_identifier;
 use std::alloc::{AllocError, Global};
@@ -47,6 +47,8 @@ impl Asked {
             "cm-shortcut" => self.options.label_shortcut_before_bracket = true,
             "raw" => self.html.raw_html = true,
             "any-link" => self.html.any_link = true,
+            "lf" => self.html.line_ends = LineEnds::Lf,
+            "crlf" => self.html.line_ends = LineEnds::CrLf,
             _ => return Ok(false),
         }
         Ok(true)

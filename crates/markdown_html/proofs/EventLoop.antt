@@ -1,5 +1,5 @@
 -- States that agree in all parts, and steps over a list of events.
-use Rattle.std.proofs.Common.{◌≡◌, ◌∙◌, sym, ap, refl, subst, ℕ, List, [], ◌∷◌, length, Option, Bool, true, false, if◌then◌else◌, Bor, IfOk, Result, Ok, Err, MatchResult}
+use Rattle.std.proofs.Common.{◌≡◌, ◌∙◌, sym, ap, refl, subst, ℕ, List, [], ◌∷◌, length, Option, Bool, true, false, if◌then◌else◌, Bor, Result, Ok, Err, MatchResult}
 use Rattle.std.specs.Str.{is_utf8, IsUtf8}
 use Rattle.std.proofs.lemmas.Str.{is_utf8-from_IsUtf8, IsUtf8-from_is_utf8}
 use Rattle.markdown_engine_content.specs.Tree.{Forest, events_from}
@@ -8,30 +8,29 @@ use Rattle.markdown_html_model.specs.Html.{Defined, Page, plain_text, text_page}
 use Rattle.markdown_html_model.specs.declared.options.HtmlOptions.{HtmlOptions}
 use Rattle.markdown_html_model.specs.declared.role.Within.{Within}
 use Rattle.markdown_html.specs.EventWalk.{State, stepped, walked, beginning}
-use Rattle.markdown_html.proofs.WalkTree.{html_within, walk-html}
+use Rattle.markdown_html.proofs.WalkTree.{IsWrittenAs, html_within, walk-html}
 
 -- one event less to go
 pub walked_more : (p : Page) (whole old new : State) (left : List Event) (e : Event) (rest : List Event) → walked p old left ≡ whole → left ≡ e ∷ rest → new ≡ stepped p old e rest → walked p new rest ≡ whole
 walked_more p whole old new left e rest so_far is step = ap (λ s. walked p s rest) step ∙ ap (walked p old) (sym is) ∙ so_far
 
-pub walked_end : (p : Page) (within : Within) (n : ℕ) (previous : Option ℕ) (t : Forest) (events : List Event) (s : State) (left : List Event)
-    → walked p s left ≡ walked p (beginning within) events → length left ≡ 0 → events ≡ events_from n previous t → s.out ≡ html_within p within t
-walked_end p within n previous t events s [] so_far none is = walk-html p within n previous t s (ap (walked p (beginning within)) (sym is) ∙ sym so_far)
-walked_end p within n previous t events s (x ∷ left) so_far none is = cc
+pub walked_end : (p : Page) (before : List (List ℕ)) (within : Within) (n : ℕ) (previous : Option ℕ) (t : Forest) (events : List Event) (s : State) (left : List Event)
+    → walked p s left ≡ walked p (beginning before within) events → length left ≡ 0 → events ≡ events_from n previous t → IsWrittenAs p before within t s
+walked_end p before within n previous t events s [] so_far none is =
+    walk-html p before within n previous t s (ap (walked p (beginning before within)) (sym is) ∙ sym so_far)
+walked_end p before within n previous t events s (x ∷ left) so_far none is = cc
 
 abbrev pub page-with : List ℕ → List Defined → HtmlOptions → Page
 page-with bytes definitions options = record { bytes = bytes; footnotes_on = false; definitions = definitions; options = options }
 
--- with no definitions and these options, what is written is plain text
-pub text-alone : (bytes : List ℕ) (definitions : List Defined) (options : HtmlOptions) (t : Forest) → definitions ≡ [] → options ≡ Page.options (text_page bytes)
-    → html_within (page-with bytes definitions options) Within.InText t ≡ plain_text bytes t
+-- with no definitions, no calls and these options, what is written is plain text
+pub text-alone : (bytes : List ℕ) (definitions : List Defined) (options : HtmlOptions) (before : List (List ℕ)) (t : Forest) → definitions ≡ [] → options ≡ Page.options (text_page bytes) → before ≡ []
+    → html_within (page-with bytes definitions options) before Within.InText t ≡ plain_text bytes t
 unfolding plain_text
-text-alone bytes definitions options t d o =
-    ap (λ ds. html_within (page-with bytes ds options) Within.InText t) d ∙ ap (λ os. html_within (page-with bytes [] os) Within.InText t) o
-
-pub if_ok_more : {A E : Type 0} (r : Result A E) (P Q : A → Type 0) → ((x : A) → P x → Q x) → IfOk r P → IfOk r Q
-if_ok_more (Ok x) P Q f h = f x h
-if_ok_more (Err e) P Q f h = tt
+text-alone bytes definitions options before t d o none =
+    ap (λ ds. html_within (page-with bytes ds options) before Within.InText t) d
+    ∙ ap (λ os. html_within (page-with bytes [] os) before Within.InText t) o
+    ∙ ap (λ calls. html_within (text_page bytes) calls Within.InText t) none
 
 -- what reading a label as UTF-8 answers
 pub label_read : {E : Type 0} (r : Result (Bor (List ℕ)) E) (x : Bor (List ℕ)) (text : List ℕ) (Q : E → Type 0) → MatchResult r (λ s. (s.now ≡ text) × IsUtf8 text) Q → r ≡ Ok x

@@ -1,4 +1,5 @@
 pub mod EventLoop
 pub mod FirstWith
 pub mod Lists
+pub mod OneMoreCall
 pub mod WalkTree

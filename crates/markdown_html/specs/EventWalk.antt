@@ -3,7 +3,7 @@ use Rattle.std.specs.Prelude.{ℕ, Bool, true, false, List, [], ◌∷◌, ◌++
 use Rattle.markdown_engine_content.specs.declared.event.Event.{Event}
 use Rattle.markdown_engine_content.specs.declared.event.Kind.TheVariants.{Enter, Exit}
 use Rattle.markdown_engine_content.specs.declared.event.Point.{Point}
-use Rattle.markdown_html_model.specs.Html.{Page, Parts, no_parts, joined_parts, own_parts, string_of, text_between, leaf_html, within_of, opening, closing, group_html}
+use Rattle.markdown_html_model.specs.Html.{Page, Parts, no_parts, joined_parts, own_calls, own_parts, string_of, text_between, leaf_html, within_of, opening, closing, group_html}
 use Rattle.markdown_html_model.specs.Roles.{role_of}
 use Rattle.markdown_html_model.specs.declared.role.Role.{Role}
 use Rattle.markdown_html_model.specs.declared.role.Within.{Within}
@@ -15,12 +15,13 @@ pub record Open : Type 0 where
   pub within : Within
   pub parts : Parts
 
--- what is written, and where it goes on; of what is open the innermost comes first
+-- what is written, and where it goes on, with the calls so far; of what is open the innermost comes first
 pub record State : Type 0 where
   pub out : List ℕ
   pub within : Within
   pub parts : Parts
   pub opened : List Open
+  pub calls : List (List ℕ)
 
 -- the inside stays as it is written
 abbrev pub keeps_inside : Role → Bool
@@ -45,6 +46,7 @@ entered s role point =
       within = within_of s.within role;
       parts = no_parts;
       opened = record { start = length out; point = point; within = s.within; parts = s.parts } ∷ s.opened;
+      calls = s.calls;
     }
 
 -- something innermost, entered already
@@ -57,19 +59,20 @@ is_text_alone Within.InText Role.Link = true
 is_text_alone Within.InText Role.Image = true
 is_text_alone within role = false
 
-unfoldable pub closed_out : Page → Open → Role → Point → List ℕ → Parts → List ℕ
-closed_out p o role to out parts =
+unfoldable pub closed_out : Page → List (List ℕ) → Open → Role → Point → List ℕ → Parts → List ℕ
+closed_out p before o role to out parts =
     elim (keeps_inside role) [
       | true ↦ out ++ closing o.within role
-      | false ↦ take o.start out ++ group_html p o.within role o.point to (drop o.start out) parts
+      | false ↦ take o.start out ++ group_html p before o.within role o.point to (drop o.start out) parts
     ]
 
 unfoldable pub closed : Page → State → Open → List Open → Role → Point → State
 closed p s o opened role to = record {
-  out = closed_out p o role to s.out s.parts;
+  out = closed_out p s.calls o role to s.out s.parts;
   within = o.within;
   parts = joined_parts o.parts (own_parts role o.point to (string_of role (drop o.start s.out)) s.parts);
   opened = opened;
+  calls = own_calls p role s.parts ++ s.calls;
 }
 
 abbrev pub exited : Page → State → List Open → Role → Point → State
@@ -97,6 +100,6 @@ abbrev pub walked : Page → State → List Event → State
 walked p s [] = s
 walked p s (e ∷ rest) = walked p (stepped p s e rest) rest
 
--- before all events, which stand somewhere
-abbrev pub beginning : Within → State
-beginning within = record { out = []; within = within; parts = no_parts; opened = [] }
+-- before all events, which stand somewhere, behind these calls
+abbrev pub beginning : List (List ℕ) → Within → State
+beginning before within = record { out = []; within = within; parts = no_parts; opened = []; calls = before }

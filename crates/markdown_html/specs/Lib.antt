@@ -1,4 +1,5 @@
 pub mod DefinitionView
 pub mod FirstDefinitions
+pub mod KnownFootnotes
 pub mod View
 pub mod EventWalk

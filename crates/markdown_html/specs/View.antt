@@ -34,4 +34,4 @@ open_view e = record { start = e.start; point = e.point; within = e.within; part
 
 -- of what is open the innermost comes first
 abbrev pub state_of : Writer → State
-state_of w = record { out = w.out.items; within = w.within; parts = parts_of w.found; opened = reverse (map open_view w.entries.items) }
+state_of w = record { out = w.out.items; within = w.within; parts = parts_of w.found; opened = reverse (map open_view w.entries.items); calls = w.calls }

@@ -10,6 +10,8 @@ ghost use Rattle.markdown_html.specs.View.{page_of, parts_of, target_view};
 use crate::addresses::{
     Given, push_image_address, push_link_address, push_tag, push_text, push_title,
 };
+use crate::calls::push_call;
+use crate::footnotes::FootnoteCalls;
 use crate::found::Found;
 use crate::references::target;
 use crate::stretch::{bytes_before, bytes_between};
@@ -210,6 +212,7 @@ fn push_inside(
 pub(crate) fn push_group(
     alloc: Global,
     given: &Given,
+    calls: &FootnoteCalls,
     out: &mut Vec<u8>,
     within: Within,
     role: Role,
@@ -218,14 +221,14 @@ pub(crate) fn push_group(
     inside: &[u8],
     found: &Found,
 ) -> Result<(), AllocError>
-    ensures { OnOk result (out.new.items ≡ out.old.items ++ group_html (page_of given.now) within role from to inside.now (parts_of found.now)) }
+    ensures { OnOk result (out.new.items ≡ out.old.items ++ group_html (page_of given.now) calls.now within role from to inside.now (parts_of found.now)) }
 {
     let text = bytes_between(given.bytes, from.index, to.index);
     match role {
         Role::Code => push_span(alloc, out, within, b"<code>", inside),
         Role::Math => push_math(alloc, out, within, inside),
         Role::Reference => push_reference(alloc, out, within, text),
-        Role::Footnote => push_text(out, within, text),
+        Role::Footnote => push_call(alloc, given, calls, out, within, found.label),
         Role::Link => push_link(given, out, within, target(alloc, given, found)?, inside),
         Role::Image => push_image(given, out, within, target(alloc, given, found)?, inside),
         Role::Check => push_check(out, within, inside),

@@ -2,10 +2,11 @@
 #![tactic(auto)]
 
 ghost use Rattle.std.specs.Prelude.{◌≡◌, ◌++◌, OnOk};
-ghost use Rattle.markdown_html_model.specs.Html.{leaf_html, own_link, own_link_outside, raw_html};
+ghost use Rattle.markdown_html_model.specs.Html.{leaf_html, line_end, line_ending, own_link, own_link_outside, raw_html};
 ghost use Rattle.markdown_html.specs.View.{page_of};
 
 use crate::addresses::{Given, push_link_address, push_tag, push_text};
+use markdown_html_model::options::LineEnds;
 use markdown_html_model::role::{Role, Within};
 use markdown_html_text::escape::push_escaped;
 use std::alloc::{AllocError, Global};
@@ -60,6 +61,31 @@ fn push_raw(given: &Given, out: &mut Vec<u8>, within: Within, text: &[u8]) -> Re
     }
 }
 
+fn push_line_ending(out: &mut Vec<u8>, ends: LineEnds, text: &[u8]) -> Result<(), AllocError>
+    ensures { OnOk result (out.new.items ≡ out.old.items ++ line_ending ends text.now) }
+{
+    match ends {
+        LineEnds::Kept => push_escaped(out, text),
+        LineEnds::Lf => out.extend_from_slice(b"\n"),
+        LineEnds::CrLf => out.extend_from_slice(b"\r\n"),
+    }
+}
+
+// A line ending of the text; one line feed where text alone is written.
+fn push_line_end(
+    given: &Given,
+    out: &mut Vec<u8>,
+    within: Within,
+    text: &[u8],
+) -> Result<(), AllocError>
+    ensures { OnOk result (out.new.items ≡ out.old.items ++ line_end (page_of given.now) within text.now) }
+{
+    match within {
+        Within::InText => out.extend_from_slice(b"\n"),
+        _ => push_line_ending(out, given.options.line_ends, text),
+    }
+}
+
 // What is written of something innermost, by its text.
 pub(crate) fn push_leaf(
     alloc: Global,
@@ -73,7 +99,7 @@ pub(crate) fn push_leaf(
 {
     match role {
         Role::Plain => push_text(out, within, text),
-        Role::LineEnd => out.extend_from_slice(b"\n"),
+        Role::LineEnd => push_line_end(given, out, within, text),
         Role::Break => push_tag(out, within, b"<br />"),
         Role::Raw => push_raw(given, out, within, text),
         Role::Uri => push_own_link(alloc, given, out, within, b"", text),

@@ -2,6 +2,8 @@
 #![tactic(auto)]
 
 mod addresses;
+mod calls;
+pub mod footnotes;
 mod found;
 mod groups;
 mod leaves;

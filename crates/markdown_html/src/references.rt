@@ -3,7 +3,7 @@
 
 ghost use Rattle.std.specs.Prelude.{◌≡◌, [], if◌then◌else◌, IfOk, option_map, string_bytes, true};
 ghost use Rattle.std.specs.Str.{is_utf8};
-ghost use Rattle.markdown_html_model.specs.Html.{behind_caret, label_identifier, label_target, reference_target, target_of, text_identifier};
+ghost use Rattle.markdown_html_model.specs.Html.{behind_caret, call_identifier, label_identifier, label_target, reference_target, target_of, text_identifier};
 ghost use Rattle.markdown_html.specs.View.{page_of, parts_of, target_view};
 
 use crate::addresses::Given;
@@ -93,6 +93,20 @@ fn reference_target<'a>(
     let text = bytes_between(given.bytes, place.0, place.1);
     let identifier = text_identifier(alloc, text)?;
     Ok(given.definitions.find(identifier.as_str()))
+}
+
+// The identifier of a footnote call, by its label.
+pub(crate) fn call_identifier(
+    alloc: Global,
+    given: &Given,
+    label: Option<(usize, usize)>,
+) -> Result<String, AllocError>
+    ensures { IfOk result (λ identifier. string_bytes identifier ≡ call_identifier (page_of given.now) label) }
+{
+    match label {
+        Some(place) => text_identifier(alloc, bytes_between(given.bytes, place.0, place.1)),
+        None => Ok(String::new(alloc)),
+    }
 }
 
 fn slice_of<'a>(text: &'a Option<Vec<u8>>) -> Option<&'a [u8]>

@@ -1,22 +1,24 @@
 // The walk over events.
 #![tactic(auto)]
 
-ghost use Rattle.std.specs.Prelude.{◌≡◌, ◌≤◌, ◌++◌, ◌∷◌, IfOk, OnOk, Option, drop, false, length, take, true, ℕ};
+ghost use Rattle.std.specs.Prelude.{◌≡◌, ◌≤◌, ◌++◌, ◌∷◌, [], IfOk, OnErr, OnOk, Option, drop, false, length, take, true, ℕ};
 ghost use Rattle.std.specs.List.{All};
 ghost use Rattle.markdown_engine_content.specs.Content.{document_limit};
 ghost use Rattle.markdown_engine_content.specs.Tree.{Forest, events_from, events_of};
 ghost use Rattle.markdown_partial.specs.TrimmedData.{IsStretch};
 ghost use Rattle.markdown_run_leaves.specs.InnermostEvents.{innermost, IsInOrder};
-ghost use Rattle.markdown_html_model.specs.Html.{group_html, html, plain_text, within_of, written};
+ghost use Rattle.markdown_html_model.specs.Html.{calls_behind, group_html, html, own_calls, plain_text, within_of, written};
 ghost use Rattle.markdown_html_model.specs.Roles.{role_of};
 ghost use Rattle.markdown_html_laws.specs.OwnMarkup.{IsOwnMarkup};
 ghost use Rattle.markdown_html.specs.View.{open_view, page_from, page_of, parts_of, state_of};
 ghost use Rattle.markdown_html.specs.EventWalk.{closed, closed_out, entered, exit_first, exited, filled, is_text_alone, keeps_inside, stepped};
 
 use crate::addresses::Given;
+use crate::footnotes::FootnoteCalls;
 use crate::found::{Found, string_of};
 use crate::groups::{push_closing, push_group, push_opening};
 use crate::leaves::push_leaf;
+use crate::references::call_identifier;
 use crate::stretch::text_between;
 use crate::targets::Targets;
 use markdown_engine_content::event::{Event, Kind, Point};
@@ -48,6 +50,7 @@ struct Writer {
     // What has been found in the innermost that is open.
     found: Found,
     entries: Vec<Entry>,
+    calls: FootnoteCalls,
 }
 
 // Where the inside of something stands.
@@ -81,19 +84,21 @@ fn keeps_inside(role: Role) -> bool
 fn replace(
     alloc: Global,
     given: &Given,
+    calls: &FootnoteCalls,
     out: &mut Vec<u8>,
     entry: &Entry,
     role: Role,
     to: Point,
     found: &Found,
 ) -> Result<(), AllocError>
-    ensures { OnOk result (out.new.items ≡ take entry.now.start out.old.items ++ group_html (page_of given.now) entry.now.within role entry.now.point to (drop entry.now.start out.old.items) (parts_of found.now)) }
+    ensures { OnOk result (out.new.items ≡ take entry.now.start out.old.items ++ group_html (page_of given.now) calls.now entry.now.within role entry.now.point to (drop entry.now.start out.old.items) (parts_of found.now)) }
 {
     let inside = Vec::from_slice(alloc, bytes_from(out.as_slice(), entry.start))?;
     out.truncate(entry.start);
     push_group(
         alloc,
         given,
+        calls,
         out,
         entry.within,
         role,
@@ -116,13 +121,14 @@ fn is_text_alone(within: Within, role: Role) -> bool
 fn close(
     alloc: Global,
     given: &Given,
+    calls: &FootnoteCalls,
     out: &mut Vec<u8>,
     entry: &Entry,
     role: Role,
     to: Point,
     found: &Found,
 ) -> Result<(), AllocError>
-    ensures { OnOk result (out.new.items ≡ closed_out (page_of given.now) (open_view entry.now) role to out.old.items (parts_of found.now)) }
+    ensures { OnOk result (out.new.items ≡ closed_out (page_of given.now) calls.now (open_view entry.now) role to out.old.items (parts_of found.now)) }
 {
     if keeps_inside(role) {
         return push_closing(out, entry.within, role);
@@ -130,7 +136,23 @@ fn close(
     if is_text_alone(entry.within, role) {
         return Ok(());
     }
-    replace(alloc, given, out, entry, role, to, found)
+    replace(alloc, given, calls, out, entry, role, to, found)
+}
+
+// Adds the call that something is, if it is one.
+fn push_calls(
+    calls: &mut FootnoteCalls,
+    alloc: Global,
+    given: &Given,
+    role: Role,
+    found: &Found,
+) -> Result<(), AllocError>
+    ensures { OnOk result (calls.new ≡ own_calls (page_of given.now) role (parts_of found.now) ++ calls.old) }
+{
+    match role {
+        Role::Footnote => calls.push(call_identifier(alloc, given, found.label)?),
+        _ => Ok(()),
+    }
 }
 
 impl Writer {
@@ -188,7 +210,17 @@ impl Writer {
             return Ok(());
         };
         let string = string_of(alloc, role, bytes_from(self.out.as_slice(), entry.start))?;
-        close(alloc, given, &mut self.out, &entry, role, to, &self.found)?;
+        close(
+            alloc,
+            given,
+            &self.calls,
+            &mut self.out,
+            &entry,
+            role,
+            to,
+            &self.found,
+        )?;
+        push_calls(&mut self.calls, alloc, given, role, &self.found)?;
         let inside = mem::replace(&mut self.found, Found::nothing());
         self.within = entry.within;
         self.found = entry
@@ -236,35 +268,40 @@ fn step(
     }
 }
 
-// Writes trees that stand somewhere.
+// Writes trees that stand somewhere, behind the calls before them.
 fn written(
     alloc: Global,
     given: &Given,
+    calls: FootnoteCalls,
     within: Within,
     events: &[Event],
-) -> Result<Vec<u8>, AllocError>
+) -> Result<Writer, AllocError>
     requires fits { length given.now.bytes.now ≤ document_limit }
     requires places { All (IsInOrder given.now.bytes.now) (innermost events.now) }
-    ensures { (n : ℕ) (previous : Option ℕ) (t : Forest) → events.now ≡ events_from n previous t → IfOk result (λ out. let w = written (page_of given.now) within t in out.items ≡ w.html) }
+    ensures { (n : ℕ) (previous : Option ℕ) (t : Forest) → events.now ≡ events_from n previous t → IfOk result (λ writer. let w = written (page_of given.now) calls within t in (writer.out.items ≡ w.html) × (writer.calls ≡ w.calls ++ calls)) }
 {
     let mut writer = Writer {
         out: Vec::new(alloc),
         within,
         found: Found::nothing(),
         entries: Vec::new(alloc),
+        calls,
     };
     let mut left = events;
     while let Some((event, rest)) = left.split_first() {
         step(&mut writer, alloc, given, *event, rest)?;
         left = rest;
     }
-    Ok(writer.out)
+    Ok(writer)
 }
 
 /// The HTML of the tree whose events these are, over the bytes of a document.
 ///
 /// The events are those of a run with this parse state, of which the bytes and the options are read. A reference leads to the first definition with its
 /// identifier, and to an empty address where there is none.
+///
+/// A footnote call is written with its number in the document. So one `FootnoteCalls` is handed to the contents of a document one after the other. It then has the
+/// calls of this content too; after an error it has none, and the document has to be written anew.
 ///
 /// Each reference takes time in proportion to its text, and to the logarithm of how many definitions there are. All else takes time and memory in proportion
 /// to the events, their text, and what is written.
@@ -278,11 +315,14 @@ pub fn to_html(
     parse_state: &ParseState,
     events: &[Event],
     definitions: &Targets,
+    calls: &mut FootnoteCalls,
     options: HtmlOptions,
 ) -> Result<Vec<u8>, AllocError>
     requires fits { length parse_state.now.bytes.now ≤ document_limit }
     requires places { All (IsInOrder parse_state.now.bytes.now) (innermost events.now) }
-    ensures exact { (t : Forest) → events.now ≡ events_of t → IfOk result (λ written. written.items ≡ html (page_from parse_state.now definitions.now options) t) }
+    ensures exact { (t : Forest) → events.now ≡ events_of t → IfOk result (λ written. written.items ≡ html (page_from parse_state.now definitions.now options) calls.old t) }
+    ensures calls { (t : Forest) → events.now ≡ events_of t → OnOk result (calls.new ≡ calls_behind (page_from parse_state.now definitions.now options) calls.old t) }
+    ensures err { OnErr result (calls.new ≡ []) }
     ensures own { (t : Forest) → events.now ≡ events_of t → options.raw_html ≡ false → IfOk result (λ written. IsOwnMarkup true written.items) }
     ensures safe { (t : Forest) → events.now ≡ events_of t → options.raw_html ≡ false → options.any_link ≡ false → IfOk result (λ written. IsOwnMarkup false written.items) }
 {
@@ -292,7 +332,10 @@ pub fn to_html(
         definitions,
         options,
     };
-    written(alloc, &given, Within::Outside, events)
+    let before = mem::replace(calls, FootnoteCalls::new(alloc));
+    let writer = written(alloc, &given, before, Within::Outside, events)?;
+    *calls = writer.calls;
+    Ok(writer.out)
 }
 
 /// The text of the trees whose events these are, over the bytes of a document, as the description of an image has it (CommonMark 6.4).
@@ -313,5 +356,6 @@ pub fn text_of(alloc: Global, bytes: &[u8], events: &[Event]) -> Result<Vec<u8>,
         definitions: &definitions,
         options: HtmlOptions::safe(),
     };
-    written(alloc, &given, Within::InText, events)
+    let calls = FootnoteCalls::new(alloc);
+    Ok(written(alloc, &given, calls, Within::InText, events)?.out)
 }

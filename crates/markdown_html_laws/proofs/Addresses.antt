@@ -1,10 +1,10 @@
 -- Addresses as they are written are quiet, and safe where they have to be.
-use Rattle.std.proofs.Common.{◌≡◌, ◌∙◌, sym, ap, refl, subst, ℕ, Bool, true, false, cond, ◌+◌, not, nat_lt, if◌then◌else◌, ◌&&◌, ◌||◌, List, [], ◌∷◌, ◌++◌, drop, arith, inl, inr}
+use Rattle.std.proofs.Common.{◌≡◌, ◌∙◌, sym, ap, refl, subst, ℕ, Bool, true, false, cond, ◌+◌, not, nat_lt, if◌then◌else◌, ◌&&◌, ◌||◌, List, [], ◌∷◌, ◌++◌, drop, codes, arith, inl, inr}
 use Rattle.std.specs.List.{filter, prefix_len}
 use Rattle.std.proofs.lemmas.Bool.{and_parts}
 use Rattle.std.proofs.lemmas.Bool.Decides.{nat_tests}
 use Rattle.markdown_html_text.specs.Escaped.{addressed, address_byte}
-use Rattle.markdown_html_text.specs.Schemes.{goes_on_scheme, is_listed, is_safe}
+use Rattle.markdown_html_text.specs.Schemes.{goes_on_scheme, is_listed, is_safe, link_schemes, scheme_of}
 use Rattle.markdown_html_text.proofs.NoMarkup.{addressed_quiet}
 use Rattle.markdown_html_model.specs.Html.{Page, address}
 use Rattle.markdown_html_laws.specs.BrowserScheme.{is_control_or_space, is_safe_value, is_scheme_byte, is_tab_or_newline, scheme_of_input, url_input, url_scheme}
@@ -83,3 +83,14 @@ any-address p schemes a = (written-quiet a (p.options.any_link || is_safe scheme
 
 pub safe-address : (p : Page) → p.options.any_link ≡ false → (schemes : List (List ℕ)) (a : List ℕ) → IsAddress false schemes (address p schemes a)
 safe-address p off schemes a = (written-quiet a (p.options.any_link || is_safe schemes a), written-safe schemes a p.options.any_link (is_safe schemes a) off refl)
+
+-- the address of a footnote is relative
+relative-call : (identifier : List ℕ) → is_safe link_schemes (codes "#user-content-fn-" ++ identifier) ≡ true
+unfolding is_safe scheme_of
+relative-call identifier = refl
+
+pub call-address : (any : Bool) (identifier : List ℕ) → IsAddress any link_schemes (addressed (codes "#user-content-fn-" ++ identifier))
+call-address true identifier = (addressed_quiet (codes "#user-content-fn-" ++ identifier), refl)
+call-address false identifier =
+    let a = codes "#user-content-fn-" ++ identifier in
+    (addressed_quiet a, written-safe link_schemes a false true refl (relative-call identifier))

@@ -1,19 +1,21 @@
 -- The HTML of a tree is the writer's own markup.
-use Rattle.std.proofs.Common.{◌≡◌, ◌∙◌, sym, ap, refl, subst, ℕ, Bool, true, false, if◌then◌else◌, List, [], ◌∷◌, ◌++◌, append-nil, append_assoc, codes, Option, None, Some}
+use Rattle.std.proofs.Common.{◌≡◌, ◌∙◌, sym, ap, refl, subst, ℕ, decimal, Bool, true, false, if◌then◌else◌, List, [], ◌∷◌, ◌++◌, append-nil, append_assoc, codes, Option, None, Some}
 use Rattle.markdown_engine_content.specs.Codes.{stop_of, document_start}
 use Rattle.markdown_engine_content.specs.Tree.{Forest, empty, leaf_then, group_then, start_of}
 use Rattle.markdown_engine_content.specs.declared.event.Name.{Name}
 use Rattle.markdown_engine_content.specs.declared.event.Point.{Point}
-use Rattle.markdown_html_text.specs.Escaped.{escaped}
+use Rattle.markdown_html_text.specs.Escaped.{addressed, escaped}
 use Rattle.markdown_html_text.specs.Resolved.{resolved}
 use Rattle.markdown_html_text.specs.Schemes.{link_schemes, image_schemes}
-use Rattle.markdown_html_text.proofs.NoMarkup.{escaped_quiet}
-use Rattle.markdown_html_model.specs.Html.{Page, Parts, Target, address, bytes_from, check_html, group_html, html, image_html, innermost, leaf_html, link_html, own_link, own_link_outside, raw_html, span_html, span_text, tag, target_of, text_between, text_html, title_attribute, within_of, written}
+use Rattle.markdown_html_text.proofs.NoMarkup.{addressed_quiet, escaped_quiet}
+use Rattle.markdown_html_model.specs.Html.{Page, Parts, Target, Written, address, around, beside, bytes_from, call_html, call_identifier, call_link, call_suffix, check_html, footnote_number, group_html, html, image_html}
+use Rattle.markdown_html_model.specs.Html.{innermost, leaf_html, line_end, line_ending, link_html, own_link, own_link_outside, raw_html, span_html, span_text, tag, target_of, text_between, text_html, times_called, title_attribute, within_of, written}
 use Rattle.markdown_html_model.specs.Roles.{role_of}
+use Rattle.markdown_html_model.specs.declared.options.LineEnds.{LineEnds}
 use Rattle.markdown_html_model.specs.declared.role.Role.{Role}
 use Rattle.markdown_html_model.specs.declared.role.Within.{Within}
-use Rattle.markdown_html_laws.specs.OwnMarkup.{emphasis, strong, deleted, code, math, link, line_break, unchecked, checked, image, element_bytes, title_bytes, IsAddress, IsOwnMarkup, IsQuiet}
-use Rattle.markdown_html_laws.proofs.Addresses.{any-address, safe-address}
+use Rattle.markdown_html_laws.specs.OwnMarkup.{emphasis, strong, deleted, code, math, superscript, link, call, line_break, unchecked, checked, image, element_bytes, title_bytes, IsAddress, IsOwnMarkup, IsQuiet}
+use Rattle.markdown_html_laws.proofs.Addresses.{any-address, call-address, safe-address}
 use Rattle.markdown_html_laws.proofs.Markups.{own-nothing, own-text, own-void, own-element, own-append}
 
 -- where tags are written, what is written is the writer's own
@@ -46,11 +48,6 @@ in-text : (any : Bool) (within : Within) (text : List ℕ) → IsOwnIn any withi
 in-text any Within.InText text = tt
 in-text any Within.Outside text = own-text any (escaped text) (escaped_quiet text)
 in-text any Within.InLink text = own-text any (escaped text) (escaped_quiet text)
-
-in-quiet : (any : Bool) (within : Within) (text : List ℕ) → IsQuiet text → IsOwnIn any within text
-in-quiet any Within.InText text h = tt
-in-quiet any Within.Outside text h = own-text any text h
-in-quiet any Within.InLink text h = own-text any text h
 
 -- Innermost things.
 
@@ -89,9 +86,19 @@ in-break any Within.InText = tt
 in-break any Within.Outside = own-void any line_break tt
 in-break any Within.InLink = own-void any line_break tt
 
+quiet-line_ending : (ends : LineEnds) (text : List ℕ) → IsQuiet (line_ending ends text)
+quiet-line_ending LineEnds.Kept text = escaped_quiet text
+quiet-line_ending LineEnds.Lf text = refl
+quiet-line_ending LineEnds.CrLf text = refl
+
+in-line_end : (any : Bool) (p : Page) (within : Within) (text : List ℕ) → IsOwnIn any within (line_end p within text)
+in-line_end any p Within.InText text = tt
+in-line_end any p Within.Outside text = own-text any _ (quiet-line_ending p.options.line_ends text)
+in-line_end any p Within.InLink text = own-text any _ (quiet-line_ending p.options.line_ends text)
+
 in-leaf : (any : Bool) (p : Page) → IsBounded any p → (within : Within) (role : Role) (text : List ℕ) → IsOwnIn any within (leaf_html p within role text)
 in-leaf any p b within Role.Plain text = in-text any within text
-in-leaf any p b within Role.LineEnd text = in-quiet any within _ refl
+in-leaf any p b within Role.LineEnd text = in-line_end any p within text
 in-leaf any p b within Role.Break text = in-break any within
 in-leaf any p b within Role.Raw text = in-raw any p b within text
 in-leaf any p b within Role.Uri text = in-own_link any p b within [] text
@@ -146,55 +153,81 @@ in-check any Within.Outside (b ∷ bs) = own-void any checked tt
 in-check any Within.InLink [] = own-void any unchecked tt
 in-check any Within.InLink (b ∷ bs) = own-void any checked tt
 
-in-group : (any : Bool) (p : Page) → IsBounded any p → (within : Within) (role : Role) (a z : Point) (inside : List ℕ) (parts : Parts)
-    → IsOwnIn any (within_of within role) inside → IsOwnIn any within (group_html p within role a z inside parts)
-in-group any p b within Role.Code a z inside parts h = in-span any within (codes "<code>") (span_text inside) (λ x own. own-element any code x tt own)
-in-group any p b within Role.Math a z inside parts h =
+own-call : (any : Bool) (identifier : List ℕ) (number times : ℕ) → IsOwnMarkup any (codes "<sup>" ++ call_link identifier number times ++ codes "</sup>")
+own-call any identifier number times =
+    own-element any superscript (call_link identifier number times) tt
+    (own-element any (call (addressed (codes "#user-content-fn-" ++ identifier)) (addressed (codes "user-content-fnref-" ++ identifier ++ call_suffix times))) (escaped (decimal number))
+    (call-address any identifier, addressed_quiet _)
+    (own-text any (escaped (decimal number)) (escaped_quiet (decimal number))))
+
+in-call : (any : Bool) (within : Within) (identifier : List ℕ) (before : List (List ℕ)) → IsOwnIn any within (call_html within identifier before)
+in-call any Within.InText identifier before = tt
+in-call any Within.Outside identifier before = own-call any identifier (footnote_number identifier before) (times_called identifier before)
+in-call any Within.InLink identifier before = own-call any identifier (footnote_number identifier before) (times_called identifier before)
+
+in-group : (any : Bool) (p : Page) → IsBounded any p → (before : List (List ℕ)) (within : Within) (role : Role) (a z : Point) (inside : List ℕ) (parts : Parts)
+    → IsOwnIn any (within_of within role) inside → IsOwnIn any within (group_html p before within role a z inside parts)
+in-group any p b before within Role.Code a z inside parts h = in-span any within (codes "<code>") (span_text inside) (λ x own. own-element any code x tt own)
+in-group any p b before within Role.Math a z inside parts h =
     in-span any within (codes "<code class=\"language-math math-inline\">") (span_text inside) (λ x own. own-element any math x tt own)
-in-group any p b within Role.Reference a z inside parts h = in-text any within (resolved (bytes_from p.bytes a.index z.index))
-in-group any p b within Role.Footnote a z inside parts h = in-text any within (bytes_from p.bytes a.index z.index)
-in-group any p b within Role.Link a z inside parts h = in-link any p b within (target_of p parts) inside h
-in-group any p b within Role.Image a z inside parts h = in-image any p b within (target_of p parts) inside
-in-group any p b within Role.Check a z inside parts h = in-check any within inside
-in-group any p b within Role.Destination a z inside parts h = in-nothing any within
-in-group any p b within Role.TitleText a z inside parts h = in-nothing any within
-in-group any p b within Role.Resource a z inside parts h = in-nothing any within
-in-group any p b within Role.Tail a z inside parts h = in-nothing any within
-in-group any p b within Role.Emphasis a z inside parts h = in-element any within (codes "<em>") (codes "</em>") inside h (own-element any emphasis inside tt)
-in-group any p b within Role.Strong a z inside parts h = in-element any within (codes "<strong>") (codes "</strong>") inside h (own-element any strong inside tt)
-in-group any p b within Role.Strikethrough a z inside parts h = in-element any within (codes "<del>") (codes "</del>") inside h (own-element any deleted inside tt)
-in-group any p b within role a z inside parts h = in-kept any within inside h
+in-group any p b before within Role.Reference a z inside parts h = in-text any within (resolved (bytes_from p.bytes a.index z.index))
+in-group any p b before within Role.Footnote a z inside parts h = in-call any within (call_identifier p parts.label) before
+in-group any p b before within Role.Link a z inside parts h = in-link any p b within (target_of p parts) inside h
+in-group any p b before within Role.Image a z inside parts h = in-image any p b within (target_of p parts) inside
+in-group any p b before within Role.Check a z inside parts h = in-check any within inside
+in-group any p b before within Role.Destination a z inside parts h = in-nothing any within
+in-group any p b before within Role.TitleText a z inside parts h = in-nothing any within
+in-group any p b before within Role.Resource a z inside parts h = in-nothing any within
+in-group any p b before within Role.Tail a z inside parts h = in-nothing any within
+in-group any p b before within Role.Emphasis a z inside parts h = in-element any within (codes "<em>") (codes "</em>") inside h (own-element any emphasis inside tt)
+in-group any p b before within Role.Strong a z inside parts h = in-element any within (codes "<strong>") (codes "</strong>") inside h (own-element any strong inside tt)
+in-group any p b before within Role.Strikethrough a z inside parts h = in-element any within (codes "<del>") (codes "</del>") inside h (own-element any deleted inside tt)
+in-group any p b before within role a z inside parts h = in-kept any within inside h
 
 -- Trees.
 
-in-innermost : (any : Bool) (p : Page) → IsBounded any p → (within : Within) (role : Role) (a z : Point) (more : List ℕ) → IsOwnIn any within more
-    → (let w = innermost p within role a z in IsOwnIn any within (w.html ++ more))
-in-innermost any p b within role a z more h =
-    let inner = within_of within role in
-    in-append any within _ more
-    (in-group any p b within role a z _ _ (in-leaf any p b inner role (text_between p.bytes a z)))
-    h
+abbrev pub IsOwnHtml : Bool → Within → Written → Type 0
+IsOwnHtml any within w = IsOwnIn any within w.html
+
+own-innermost : (any : Bool) (p : Page) → IsBounded any p → (before : List (List ℕ)) (within : Within) (role : Role) (a z : Point) → IsOwnHtml any within (innermost p before within role a z)
+own-innermost any p b before within role a z =
+    in-group any p b before within role a z _ _ (in-leaf any p b (within_of within role) role (text_between p.bytes a z))
+
+own-around : (any : Bool) (p : Page) → IsBounded any p → (before : List (List ℕ)) (within : Within) (role : Role) (a z : Point) (w : Written)
+    → IsOwnHtml any (within_of within role) w → IsOwnHtml any within (around p before within role a z w)
+own-around any p b before within role a z w h = in-group any p b (w.calls ++ before) within role a z w.html w.parts h
 
 -- the HTML of trees is the writer's own
 abbrev pub AreOwn : Bool → Page → Forest → Type 0
-AreOwn any p t = (within : Within) → (let w = written p within t in IsOwnIn any within w.html)
+AreOwn any p t = (before : List (List ℕ)) (within : Within) → IsOwnHtml any within (written p before within t)
+
+-- and with what stands before them
+own-then : (any : Bool) (p : Page) (before : List (List ℕ)) (within : Within) (w : Written) (t : Forest) → IsOwnHtml any within w → AreOwn any p t
+    → IsOwnHtml any within (beside w (written p (w.calls ++ before) within t))
+own-then any p before within w t h later = in-append any within w.html _ h (later (w.calls ++ before) within)
 
 in-around : (any : Bool) (p : Page) → IsBounded any p → (name : Name) (a z : Point) (inside t : Forest) → AreOwn any p inside → AreOwn any p t → AreOwn any p (group_then name a z inside t)
-in-around any p b name a z empty t inner later within = in-innermost any p b within (role_of name) a z _ (later within)
-in-around any p b name a z (leaf_then x l cs more) t inner later within =
-    in-append any within _ _ (in-group any p b within (role_of name) a z _ _ (inner (within_of within (role_of name)))) (later within)
-in-around any p b name a z (group_then x c d more others) t inner later within =
-    in-append any within _ _ (in-group any p b within (role_of name) a z _ _ (inner (within_of within (role_of name)))) (later within)
+in-around any p b name a z empty t inner later before within =
+    own-then any p before within (innermost p before within (role_of name) a z) t (own-innermost any p b before within (role_of name) a z) later
+in-around any p b name a z (leaf_then x l cs more) t inner later before within =
+    let w = written p before (within_of within (role_of name)) (leaf_then x l cs more) in
+    own-then any p before within (around p before within (role_of name) a z w) t (own-around any p b before within (role_of name) a z w (inner before (within_of within (role_of name)))) later
+in-around any p b name a z (group_then x c d more others) t inner later before within =
+    let w = written p before (within_of within (role_of name)) (group_then x c d more others) in
+    own-then any p before within (around p before within (role_of name) a z w) t (own-around any p b before within (role_of name) a z w (inner before (within_of within (role_of name)))) later
 
 in-trees : (any : Bool) (p : Page) → IsBounded any p → (t : Forest) → AreOwn any p t
-in-trees any p b empty within = in-nothing any within
-in-trees any p b (leaf_then name l cs t) within = in-innermost any p b within (role_of name) (start_of cs) (stop_of document_start cs) _ (in-trees any p b t within)
-in-trees any p b (group_then name a z inside t) within = in-around any p b name a z inside t (in-trees any p b inside) (in-trees any p b t) within
+in-trees any p b empty before within = in-nothing any within
+in-trees any p b (leaf_then name l cs t) before within =
+    let a = start_of cs in
+    let z = stop_of document_start cs in
+    own-then any p before within (innermost p before within (role_of name) a z) t (own-innermost any p b before within (role_of name) a z) (in-trees any p b t)
+in-trees any p b (group_then name a z inside t) before within = in-around any p b name a z inside t (in-trees any p b inside) (in-trees any p b t) before within
 
-pub html-is-own : (p : Page) (t : Forest) → p.options.raw_html ≡ false → IsOwnMarkup true (html p t)
+pub html-is-own : (p : Page) (before : List (List ℕ)) (t : Forest) → p.options.raw_html ≡ false → IsOwnMarkup true (html p before t)
 unfolding html
-html-is-own p t off = in-trees true p (off, any-address p link_schemes, any-address p image_schemes) t Within.Outside
+html-is-own p before t off = in-trees true p (off, any-address p link_schemes, any-address p image_schemes) t before Within.Outside
 
-pub html-is-safe : (p : Page) (t : Forest) → p.options.raw_html ≡ false → p.options.any_link ≡ false → IsOwnMarkup false (html p t)
+pub html-is-safe : (p : Page) (before : List (List ℕ)) (t : Forest) → p.options.raw_html ≡ false → p.options.any_link ≡ false → IsOwnMarkup false (html p before t)
 unfolding html
-html-is-safe p t off safe = in-trees false p (off, safe-address p safe link_schemes, safe-address p safe image_schemes) t Within.Outside
+html-is-safe p before t off safe = in-trees false p (off, safe-address p safe link_schemes, safe-address p safe image_schemes) t before Within.Outside

@@ -11,7 +11,9 @@ pub data Element : Type 0 where
   deleted : Element
   code : Element
   math : Element
+  superscript : Element
   link : List ℕ → Option (List ℕ) → Element
+  call : List ℕ → List ℕ → Element
 
 -- elements that hold nothing
 pub data Void : Type 0 where
@@ -38,7 +40,10 @@ element_bytes strong inside = codes "<strong>" ++ inside ++ codes "</strong>"
 element_bytes deleted inside = codes "<del>" ++ inside ++ codes "</del>"
 element_bytes code inside = codes "<code>" ++ inside ++ codes "</code>"
 element_bytes math inside = codes "<code class=\"language-math math-inline\">" ++ inside ++ codes "</code>"
+element_bytes superscript inside = codes "<sup>" ++ inside ++ codes "</sup>"
 element_bytes (link href title) inside = codes "<a href=\"" ++ href ++ codes "\"" ++ title_bytes title ++ codes ">" ++ inside ++ codes "</a>"
+element_bytes (call href id) inside =
+    codes "<a href=\"" ++ href ++ codes "\" id=\"" ++ id ++ codes "\" data-footnote-ref=\"\" aria-describedby=\"footnote-label\">" ++ inside ++ codes "</a>"
 
 abbrev pub void_bytes : Void → List ℕ
 void_bytes line_break = codes "<br />"
@@ -66,6 +71,7 @@ IsAddress any schemes value = IsQuiet value × ((any || is_safe_value schemes va
 
 abbrev pub IsOwnElement : Bool → Element → Type 0
 IsOwnElement any (link href title) = IsAddress any link_schemes href × IsQuietTitle title
+IsOwnElement any (call href id) = IsAddress any link_schemes href × IsQuiet id
 IsOwnElement any element = Unit {0}
 
 abbrev pub IsOwnVoid : Bool → Void → Type 0

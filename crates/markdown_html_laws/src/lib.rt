@@ -8,7 +8,7 @@ ghost use Rattle.markdown_html_laws.specs.HtmlLaws.{NoMarkupFromText, NoScriptFr
 /// No text of a document becomes markup. With raw HTML off the HTML of any tree, over any document and definitions, is a sequence of text without
 /// `<`, `>` and `"` and of elements of a list, balanced and nested.
 ///
-/// The elements are `em`, `strong`, `del`, `code`, `a`, `br`, `img` and `input`, each with the attributes that the list gives it. The value of an
+/// The elements are `em`, `strong`, `del`, `code`, `sup`, `a`, `br`, `img` and `input`, each with the attributes that the list gives it. The value of an
 /// attribute holds no `<`, `>` or `"`. An `a` may stand in an `a`, since an autolink may stand in the text of a link; a browser ends the outer one early.
 pub fn no_markup_from_text()
     ensures { NoMarkupFromText }

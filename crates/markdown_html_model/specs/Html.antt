@@ -1,5 +1,5 @@
 -- The HTML of an inline tree (CommonMark 0.31, chapter 6; GFM's strikethrough, literals, task checks and footnote calls; math spans).
-use Rattle.std.specs.Prelude.{ℕ, ◌-◌, Bool, true, false, not, ◌&&◌, ◌||◌, ◌==◌, if◌then◌else◌, List, [], ◌∷◌, ◌++◌, length, map, take, drop, replicate, codes, Option, None, Some}
+use Rattle.std.specs.Prelude.{ℕ, zero, suc, ◌-◌, Bool, true, false, not, ◌&&◌, ◌||◌, ◌==◌, if◌then◌else◌, List, [], ◌∷◌, ◌++◌, length, map, take, drop, replicate, codes, decimal, Option, None, Some}
 use Rattle.std.specs.List.{list_any}
 use Rattle.std.specs.Str.{byte, bytes_eq, is_utf8}
 use Rattle.markdown_engine_content.specs.Codes.{stop_of, document_start}
@@ -12,6 +12,7 @@ use Rattle.markdown_html_text.specs.Resolved.{resolved}
 use Rattle.markdown_html_text.specs.Schemes.{is_safe, link_schemes, image_schemes}
 use Rattle.markdown_html_model.specs.Roles.{role_of}
 use Rattle.markdown_html_model.specs.declared.options.HtmlOptions.{HtmlOptions}
+use Rattle.markdown_html_model.specs.declared.options.LineEnds.{LineEnds}
 use Rattle.markdown_html_model.specs.declared.role.Role.{Role}
 use Rattle.markdown_html_model.specs.declared.role.Within.{Within}
 
@@ -130,6 +131,40 @@ target_of p parts =
       | None ↦ reference_target p parts.label parts.reference
     ]
 
+-- Footnote calls (GFM). Each is known by the identifier of its label. Of those so far the latest comes first.
+
+-- they call the footnote
+abbrev pub is_called : List ℕ → List (List ℕ) → Bool
+is_called identifier [] = false
+is_called identifier (call ∷ before) = bytes_eq call identifier || is_called identifier before
+
+-- how often they call the footnote
+abbrev pub times_called : List ℕ → List (List ℕ) → ℕ
+times_called identifier [] = 0
+times_called identifier (call ∷ before) = if bytes_eq call identifier then suc (times_called identifier before) else times_called identifier before
+
+-- how many footnotes they call
+abbrev pub footnotes_called : List (List ℕ) → ℕ
+footnotes_called [] = 0
+footnotes_called (call ∷ before) = if is_called call before then footnotes_called before else suc (footnotes_called before)
+
+-- the number of a footnote: how many are called up to its first call, which comes next where they call it not
+abbrev pub footnote_number : List ℕ → List (List ℕ) → ℕ
+footnote_number identifier [] = 1
+footnote_number identifier (call ∷ before) =
+    if is_called identifier (call ∷ before) then footnote_number identifier before
+    else suc (footnotes_called (call ∷ before))
+
+-- the identifier of a call, by its label
+abbrev pub call_identifier : Page → Option (ℕ × ℕ) → List ℕ
+call_identifier p None = []
+call_identifier p (Some place) = text_identifier (bytes_from p.bytes place.0 place.1)
+
+-- the calls that something is
+abbrev pub own_calls : Page → Role → Parts → List (List ℕ)
+own_calls p Role.Footnote parts = call_identifier p parts.label ∷ []
+own_calls p role parts = []
+
 -- Tags and text.
 
 -- what is written of a text: escaped, or as it is where it is escaped later
@@ -165,10 +200,20 @@ abbrev pub raw_html : Page → Within → List ℕ → List ℕ
 raw_html p Within.InText text = text
 raw_html p within text = if p.options.raw_html then text else escaped text
 
+-- a line ending of the text; one line feed where text alone is written
+abbrev pub line_ending : LineEnds → List ℕ → List ℕ
+line_ending LineEnds.Kept text = escaped text
+line_ending LineEnds.Lf text = codes "\n"
+line_ending LineEnds.CrLf text = codes "\r\n"
+
+abbrev pub line_end : Page → Within → List ℕ → List ℕ
+line_end p Within.InText text = codes "\n"
+line_end p within text = line_ending p.options.line_ends text
+
 -- Innermost things, by the text of the document that they cover.
 abbrev pub leaf_html : Page → Within → Role → List ℕ → List ℕ
 leaf_html p within Role.Plain text = text_html within text
-leaf_html p within Role.LineEnd text = byte "\n" ∷ []
+leaf_html p within Role.LineEnd text = line_end p within text
 leaf_html p within Role.Break text = tag within (codes "<br />")
 leaf_html p within Role.Raw text = raw_html p within text
 leaf_html p within Role.Uri text = own_link p within [] text
@@ -239,60 +284,89 @@ abbrev pub check_html : Within → List ℕ → List ℕ
 check_html within [] = tag within (codes "<input type=\"checkbox\" disabled=\"\" />")
 check_html within (b ∷ bs) = tag within (codes "<input type=\"checkbox\" disabled=\"\" checked=\"\" />")
 
--- what is from one place to another, by what is inside. A footnote call is its own text, since its number is known to the document alone.
-abbrev pub group_html : Page → Within → Role → Point → Point → List ℕ → Parts → List ℕ
-group_html p within Role.Code a b inside parts = span_html within (codes "<code>") (span_text inside)
-group_html p within Role.Math a b inside parts = span_html within (codes "<code class=\"language-math math-inline\">") (span_text inside)
-group_html p within Role.Reference a b inside parts = text_html within (resolved (bytes_from p.bytes a.index b.index))
-group_html p within Role.Footnote a b inside parts = text_html within (bytes_from p.bytes a.index b.index)
-group_html p within Role.Link a b inside parts = link_html p within (target_of p parts) inside
-group_html p within Role.Image a b inside parts = image_html p within (target_of p parts) inside
-group_html p within Role.Check a b inside parts = check_html within inside
-group_html p within Role.Destination a b inside parts = []
-group_html p within Role.TitleText a b inside parts = []
-group_html p within Role.Resource a b inside parts = []
-group_html p within Role.Tail a b inside parts = []
-group_html p within role a b inside parts = opening within role ++ inside ++ closing within role
+-- behind the id of a footnote's second call and of later ones
+abbrev pub call_suffix : ℕ → List ℕ
+call_suffix zero = []
+call_suffix times = codes "-" ++ decimal (suc times)
+
+-- the link from a call to its footnote. It has an id, so that the footnote can lead back.
+abbrev pub call_link : List ℕ → ℕ → ℕ → List ℕ
+call_link identifier number times =
+    codes "<a href=\"" ++ addressed (codes "#user-content-fn-" ++ identifier) ++ codes "\" id=\""
+    ++ addressed (codes "user-content-fnref-" ++ identifier ++ call_suffix times)
+    ++ codes "\" data-footnote-ref=\"\" aria-describedby=\"footnote-label\">" ++ escaped (decimal number) ++ codes "</a>"
+
+-- a footnote call behind these calls
+abbrev pub call_html : Within → List ℕ → List (List ℕ) → List ℕ
+call_html within identifier before = tag within (codes "<sup>" ++ call_link identifier (footnote_number identifier before) (times_called identifier before) ++ codes "</sup>")
+
+-- what is from one place to another, by what is inside, behind these calls
+abbrev pub group_html : Page → List (List ℕ) → Within → Role → Point → Point → List ℕ → Parts → List ℕ
+group_html p before within Role.Code a b inside parts = span_html within (codes "<code>") (span_text inside)
+group_html p before within Role.Math a b inside parts = span_html within (codes "<code class=\"language-math math-inline\">") (span_text inside)
+group_html p before within Role.Reference a b inside parts = text_html within (resolved (bytes_from p.bytes a.index b.index))
+group_html p before within Role.Footnote a b inside parts = call_html within (call_identifier p parts.label) before
+group_html p before within Role.Link a b inside parts = link_html p within (target_of p parts) inside
+group_html p before within Role.Image a b inside parts = image_html p within (target_of p parts) inside
+group_html p before within Role.Check a b inside parts = check_html within inside
+group_html p before within Role.Destination a b inside parts = []
+group_html p before within Role.TitleText a b inside parts = []
+group_html p before within Role.Resource a b inside parts = []
+group_html p before within Role.Tail a b inside parts = []
+group_html p before within role a b inside parts = opening within role ++ inside ++ closing within role
 
 -- Trees.
 
--- what is written of trees, and what they give of a link or an image around them
+-- what is written of trees, what they give of a link or an image around them, and the calls in them
 pub record Written : Type 0 where
   pub html : List ℕ
   pub parts : Parts
+  pub calls : List (List ℕ)
 
 abbrev pub nothing : Written
-nothing = record { html = []; parts = no_parts }
+nothing = record { html = []; parts = no_parts; calls = [] }
 
 abbrev pub beside : Written → Written → Written
-beside x y = record { html = x.html ++ y.html; parts = joined_parts x.parts y.parts }
+beside x y = record { html = x.html ++ y.html; parts = joined_parts x.parts y.parts; calls = y.calls ++ x.calls }
 
--- something from one place to another, around this
-abbrev pub around : Page → Within → Role → Point → Point → Written → Written
-around p within role a b inside = record {
-  html = group_html p within role a b inside.html inside.parts;
+-- something from one place to another, around this, behind these calls
+abbrev pub around : Page → List (List ℕ) → Within → Role → Point → Point → Written → Written
+around p before within role a b inside = record {
+  html = group_html p (inside.calls ++ before) within role a b inside.html inside.parts;
   parts = own_parts role a b (string_of role inside.html) inside.parts;
+  calls = own_calls p role inside.parts ++ inside.calls;
 }
 
 -- something innermost: its inside is what the text of the document gives
-abbrev pub innermost : Page → Within → Role → Point → Point → Written
-innermost p within role a b = around p within role a b (record { html = leaf_html p (within_of within role) role (text_between p.bytes a b); parts = no_parts })
+abbrev pub innermost : Page → List (List ℕ) → Within → Role → Point → Point → Written
+innermost p before within role a b =
+    around p before within role a b (record { html = leaf_html p (within_of within role) role (text_between p.bytes a b); parts = no_parts; calls = [] })
 
--- sibling trees; a leaf and a group around nothing are alike
-abbrev pub written : Page → Within → Forest → Written
-written p within empty = nothing
-written p within (leaf_then name link cs rest) = beside (innermost p within (role_of name) (start_of cs) (stop_of document_start cs)) (written p within rest)
-written p within (group_then name a b empty rest) = beside (innermost p within (role_of name) a b) (written p within rest)
-written p within (group_then name a b inside rest) = beside (around p within (role_of name) a b (written p (within_of within (role_of name)) inside)) (written p within rest)
+-- sibling trees behind these calls; a leaf and a group around nothing are alike
+abbrev pub written : Page → List (List ℕ) → Within → Forest → Written
+written p before within empty = nothing
+written p before within (leaf_then name link cs rest) =
+    let w = innermost p before within (role_of name) (start_of cs) (stop_of document_start cs) in
+    beside w (written p (w.calls ++ before) within rest)
+written p before within (group_then name a b empty rest) =
+    let w = innermost p before within (role_of name) a b in
+    beside w (written p (w.calls ++ before) within rest)
+written p before within (group_then name a b inside rest) =
+    let w = around p before within (role_of name) a b (written p before (within_of within (role_of name)) inside) in
+    beside w (written p (w.calls ++ before) within rest)
 
--- the HTML of a tree
-unfoldable pub html : Page → Forest → List ℕ
-html p tree = let w = written p Within.Outside tree in w.html
+-- the HTML of a tree of a document, behind the calls of the trees before it
+unfoldable pub html : Page → List (List ℕ) → Forest → List ℕ
+html p before tree = let w = written p before Within.Outside tree in w.html
+
+-- the calls of a document up to the end of a tree, where these stand before the tree
+unfoldable pub calls_behind : Page → List (List ℕ) → Forest → List (List ℕ)
+calls_behind p before tree = let w = written p before Within.Outside tree in w.calls ++ before
 
 -- a document alone: text asks for nothing else
 abbrev pub text_page : List ℕ → Page
-text_page bytes = record { bytes = bytes; footnotes_on = false; definitions = []; options = record { raw_html = false; any_link = false } }
+text_page bytes = record { bytes = bytes; footnotes_on = false; definitions = []; options = record { raw_html = false; any_link = false; line_ends = LineEnds.Kept } }
 
 -- the text of trees over a document, as the description of an image has it
 unfoldable pub plain_text : List ℕ → Forest → List ℕ
-plain_text bytes trees = let w = written (text_page bytes) Within.InText trees in w.html
+plain_text bytes trees = let w = written (text_page bytes) [] Within.InText trees in w.html

@@ -1,19 +1,25 @@
-use Rattle.std.proofs.Common.{◌≡◌, IfOk, subst, sym, true, false, None}
+use Rattle.std.proofs.Common.{rules, ◌≡◌, ◌∙◌, subst, sym, ap, ℕ, List, true, false, None}
 use Rattle.markdown_engine_content.specs.Tree.{Forest, events_of}
-use Rattle.markdown_html_model.specs.Html.{html}
+use Rattle.markdown_html_model.specs.Html.{html, calls_behind}
 use Rattle.markdown_html_laws.specs.OwnMarkup.{IsOwnMarkup}
 use Rattle.markdown_html_laws.proofs.HtmlIsOwn.{html-is-own, html-is-safe}
 use Rattle.markdown_html.specs.View.{page_from}
-use Rattle.markdown_html.proofs.EventLoop.{if_ok_more}
+use Rattle.markdown_html_model.specs.declared.role.Within.{Within}
+use Rattle.markdown_html.proofs.WalkTree.{html_within, calls_within}
 use Rattle.markdown_html.proofs.writer.to_html.Goals as goal
 
 pub returns : goal.returns
-unfolding html
+unfolding html calls_behind
 returns c =
     let page = page_from c.args.parse_state.now c.args.definitions.now c.args.options in
-    let exact : (t : Forest) → c.args.events.now ≡ events_of t → IfOk c.written.result (λ v. v.items ≡ html page t) = λ t is. c.written.ensures 0 None t is
-    in record {
+    let earlier : List (List ℕ) = c.args.calls.now in
+    let same : c.replace-before.result ≡ earlier = search rules in
+    let exact : (t : Forest) → c.args.events.now ≡ events_of t → c.in_ok-writer.writer.out.items ≡ html page earlier t =
+    λ t is. let w = c.in_ok-writer.ensures 0 None t is in w.0 ∙ ap (λ b. html_within page b Within.Outside t) same in
+    record {
       exact = exact;
-      own = λ t is raw. if_ok_more c.written.result _ _ (λ v e. subst (IsOwnMarkup true) (sym e) (html-is-own page t raw)) (exact t is);
-      safe = λ t is raw any. if_ok_more c.written.result _ _ (λ v e. subst (IsOwnMarkup false) (sym e) (html-is-safe page t raw any)) (exact t is);
+      calls = λ t is. let w = c.in_ok-writer.ensures 0 None t is in w.1 ∙ ap (λ b. calls_within page b Within.Outside t) same;
+      err = tt;
+      own = λ t is raw. subst (IsOwnMarkup true) (sym (exact t is)) (html-is-own page earlier t raw);
+      safe = λ t is raw any. subst (IsOwnMarkup false) (sym (exact t is)) (html-is-safe page earlier t raw any);
     }

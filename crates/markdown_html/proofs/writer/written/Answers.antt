@@ -15,6 +15,10 @@ loop-event-preserved c =
       places = later_in_order bytes event rest (subst (λ es. All (IsInOrder bytes) (innermost es)) c.in-Some.ensures.cases.0 c.loop-event.invariant.places);
     }
 
+pub step-requires-clause-places : goal.step-requires-clause-places
+step-requires-clause-places c =
+    subst (λ es. All (IsInOrder c.args.given.now.bytes.now) (innermost es)) c.in-Some.ensures.cases.0 c.loop-event.invariant.places
+
 pub returns : goal.returns
 returns c = λ n previous t is.
-    walked_end (page_of c.args.given.now) c.args.within n previous t c.args.events.now (state_of c.loop-event.writer) c.loop-event.left.now c.loop-event.invariant.whole c.in_default.ensures.cases is
+    walked_end (page_of c.args.given.now) c.args.calls c.args.within n previous t c.args.events.now (state_of c.loop-event.writer) c.loop-event.left.now c.loop-event.invariant.whole c.in_default.ensures.cases is

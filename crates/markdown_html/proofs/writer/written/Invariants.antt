@@ -7,7 +7,7 @@ use Rattle.markdown_html.proofs.writer.written.Given as goal
 -- the rest of the walk gives what the whole walk gives
 abbrev pub invariant-loop-event : goal.invariant-loop-event
 invariant-loop-event l = record {
-  whole : walked (page_of l.given) (state_of l.writer) l.left ≡ walked (page_of l.given) (beginning l.fn.within) l.events;
+  whole : walked (page_of l.given) (state_of l.writer) l.left ≡ walked (page_of l.given) (beginning l.fn.calls l.fn.within) l.events;
   places : All (IsInOrder l.given.bytes.now) (innermost l.left);
 }
 
