@@ -10,10 +10,10 @@ import tempfile
 
 HERE = os.path.dirname(os.path.dirname(os.path.abspath(__file__)))
 MDINLINE = os.path.join(HERE, 'crates', 'mdinline', 'out', 'mdinline')
-FOLDER = os.path.join(HERE, 'crates', 'mdinline_contents')
-CONTENTS = os.path.join(FOLDER, 'out', 'mdinline_contents')
-# The function of `mdinline_contents` that a run over a whole document is called in.
-COUNTED = 'mdinline_contents::count_runs'
+FOLDER = os.path.join(HERE, 'crates', 'mdinline_example')
+CONTENTS = os.path.join(FOLDER, 'out', 'mdinline_example')
+# The function of `mdinline_example` that a run over a whole document is called in.
+COUNTED = 'mdinline_example::counts::count_runs'
 TIME = '/usr/bin/time'
 # How often memory is measured: what a run holds varies by some pages.
 RUNS = 9

@@ -4,12 +4,12 @@ ghost use Rattle.markdown_engine_content.specs.Content.{IsContent, IsTextContent
 ghost use Rattle.markdown_engine.specs.StateRuns.{settled};
 ghost use Rattle.markdown_run.specs.Layer.{ready_of};
 
+use crate::paths;
 use markdown_engine::run::resume;
 use markdown_engine::state::{State, StateName};
 use markdown_engine::tokenizer::{Attempt, TokenizeState, Tokenizer};
 use markdown_engine_content::event::{Event, Kind, Name};
 use markdown_engine_content::parser::{ParseState, Piece};
-use markdown_inline::state;
 use markdown_lists::seq::Stack;
 use std::alloc::{AllocError, Global};
 
@@ -179,7 +179,7 @@ fn print_from(
             State::Next(name) | State::Retry(name) => {
                 let from = tokenizer.events.len();
                 let found = sought.is_met(name, tokenizer)?;
-                state = state::call(name, tokenizer)?;
+                state = paths::call(name, tokenizer)?;
                 if found {
                     return print_call(state, tokenizer, from, out);
                 }

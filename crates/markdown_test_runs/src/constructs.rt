@@ -249,11 +249,12 @@ fn read_gfm(tokenizer: &mut Tokenizer, reading: &str) -> Result<bool, AllocError
     }
 }
 
-// Reads a construct that asks for nothing but scratch fields at rest.
+// Reads a construct that asks for no scratch fields but those at rest.
 fn read_plain(tokenizer: &mut Tokenizer, reading: &str) -> Result<bool, AllocError>
     requires alone { tokenizer.old.attempts ≡ [] }
     requires rest { tokenizer.old.tokenize_state ≡ at_rest }
     requires fits { codes_left tokenizer.old ≤ most }
+    requires text { ReadsText tokenizer.old }
 {
     match reading {
         "escape" => construct(StateName::CharacterEscapeStart, tokenizer),

@@ -18,6 +18,7 @@ use markdown_engine_content::event::{Event, Kind, Link, Name, Point};
 use markdown_engine_content::parser::{ParseState, Piece};
 use markdown_engine_content::walk::walk_to;
 use markdown_engine_events::events::Events;
+use markdown_inline::attention::runs::{Runs, Sequence};
 use markdown_inline::state::Inline;
 use markdown_inline::{gfm_autolink_literal, partial_data, partial_whitespace, resolve};
 use markdown_lists::seq::Seq;
@@ -217,6 +218,36 @@ pub(crate) fn are_of_text(
         Err(AllocError) => Err(AllocError),
     };
     are_left(&mut tokenizer, outcome, how, events)
+}
+
+// The runs that the pass of runs is handed by the passes before it; none where it is not registered.
+fn runs_left(tokenizer: &mut Tokenizer) -> Result<Vec<Sequence>, AllocError>
+    requires { MayResolve may_resolve_of resolves_of tokenizer.old.resolvers (unregistered tokenizer.old) }
+{
+    if !resolve_named(tokenizer, Pairing::BySimpleWalk)? {
+        return Ok(Vec::new(tokenizer.alloc));
+    }
+    let runs = Runs::new(tokenizer)?;
+    Ok(runs.finish())
+}
+
+/// The runs that the pass of runs is handed where the states of a text and the passes before it are done.
+pub(crate) fn runs_of_text(
+    alloc: Global,
+    parse_state: &ParseState,
+    pieces: &[Piece],
+    first_of_item: bool,
+) -> Result<Vec<Sequence>, AllocError>
+    requires { IsTextContent parse_state.now.bytes.now pieces.now }
+{
+    let mut tokenizer = Tokenizer::new(alloc, parse_state, pieces);
+    tokenizer
+        .tokenize_state
+        .document_at_first_paragraph_of_list_item = first_of_item;
+    match tokenizer.run_state::<Inline>(StateName::TextStart) {
+        Ok(_) => runs_left(&mut tokenizer),
+        Err(AllocError) => Err(AllocError),
+    }
 }
 
 // Whether these events are those of a string after its states and its passes.

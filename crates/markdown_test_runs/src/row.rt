@@ -1,7 +1,7 @@
 // Cases: a content, and what it is read with.
 use crate::calls::Sought;
 use crate::fakes::error_kind;
-use markdown_engine_content::configuration::{Constructs, ParseOptions};
+use markdown_engine_content::configuration::{CONSTRUCTS, DEFAULT_BITS, ParseOptions, SETTINGS};
 use markdown_inline::run::Piece;
 use std::alloc::{AllocError, Global};
 use std::io::ErrorKind;
@@ -10,6 +10,7 @@ use std::io::ErrorKind;
 #[derive(Drop)]
 pub(crate) struct Row {
     pub(crate) options: ParseOptions,
+    bits: u32,
     pub(crate) definitions: Vec<String>,
     pub(crate) footnotes: Vec<String>,
     pub(crate) document: String,
@@ -45,6 +46,7 @@ impl Row {
     pub(crate) fn new(alloc: Global) -> Row {
         Row {
             options: ParseOptions::default(),
+            bits: DEFAULT_BITS,
             definitions: Vec::new(alloc),
             footnotes: Vec::new(alloc),
             document: String::new(alloc),
@@ -89,14 +91,16 @@ impl Row {
 
     // Turns a switch of the options on or off, or something that is asked.
     fn switch(&mut self, name: &str, on: bool) -> bool {
-        if switch_construct(&mut self.options.constructs, name, on) {
+        if let Some(bit) = bit_of(name) {
+            self.bits = if on {
+                self.bits | bit
+            } else {
+                self.bits & !bit
+            };
+            self.options = ParseOptions::of_bits(self.bits);
             return true;
         }
         match name {
-            "gfm_strikethrough_single_tilde" => self.options.gfm_strikethrough_single_tilde = on,
-            "math_text_single_dollar" => self.options.math_text_single_dollar = on,
-            "attention_first_lengths" => self.options.attention_first_lengths = on,
-            "label_shortcut_before_bracket" => self.options.label_shortcut_before_bracket = on,
             "first_of_item" => self.asked.first_of_item = on,
             "leaves" => self.asked.leaves = on,
             "flushes" => self.asked.flushes = on,
@@ -161,28 +165,10 @@ impl Row {
     }
 }
 
-// Turns a construct on or off, and answers whether there is one of this name.
-fn switch_construct(constructs: &mut Constructs, name: &str, on: bool) -> bool {
-    match name {
-        "attention" => constructs.attention = on,
-        "autolink" => constructs.autolink = on,
-        "character_escape" => constructs.character_escape = on,
-        "character_reference" => constructs.character_reference = on,
-        "code_text" => constructs.code_text = on,
-        "gfm_autolink_literal" => constructs.gfm_autolink_literal = on,
-        "gfm_label_start_footnote" => constructs.gfm_label_start_footnote = on,
-        "gfm_strikethrough" => constructs.gfm_strikethrough = on,
-        "gfm_task_list_item" => constructs.gfm_task_list_item = on,
-        "hard_break_escape" => constructs.hard_break_escape = on,
-        "hard_break_trailing" => constructs.hard_break_trailing = on,
-        "html_text" => constructs.html_text = on,
-        "label_start_image" => constructs.label_start_image = on,
-        "label_start_link" => constructs.label_start_link = on,
-        "label_end" => constructs.label_end = on,
-        "math_text" => constructs.math_text = on,
-        _ => return false,
-    }
-    true
+// The bit of the switch of this name, if there is one.
+fn bit_of(name: &str) -> Option<u32> {
+    let mut switches = CONSTRUCTS.iter().chain(SETTINGS.iter());
+    switches.find(|row| row.0 == name).map(|row| row.1)
 }
 
 // A byte, and the codes of its tab before the place.

@@ -1,6 +1,7 @@
 // What is found in a case.
 use crate::calls::{Sought, print_string_call, print_text_call};
 use crate::constructs::print_construct;
+use crate::counted::print_counts;
 use crate::lines::{print_events, print_leaf, print_probes};
 use crate::met::print_met;
 use crate::moved::is_found_again;
@@ -87,6 +88,7 @@ fn print_read(
         "text" => print_text(alloc, parse_state, pieces, asked, out),
         "string" => print_string(alloc, parse_state, pieces, asked, out),
         "equal" | "count" => print_pairs(alloc, reading, parse_state, pieces, asked, out),
+        "counts" | "looks" => print_counted(alloc, reading, parse_state, pieces, asked, out),
         "steady" => print_steady(alloc, parse_state, pieces, out),
         "value" => print_value(alloc, parse_state.bytes, out),
         _ if !is_content(parse_state.bytes, pieces) => out.push_str(" no content"),
@@ -191,4 +193,20 @@ fn print_pairs(
         write!(out, ", {count} events")?;
     }
     Ok(())
+}
+
+// Prints how many runs of markers a text has, and how many pairs.
+fn print_counted(
+    alloc: Global,
+    reading: &str,
+    parse_state: &ParseState,
+    pieces: &[Piece],
+    asked: Asked,
+    out: &mut String,
+) -> Result<(), AllocError> {
+    if is_text(parse_state.bytes, pieces) {
+        print_counts(alloc, reading, parse_state, pieces, asked, out)
+    } else {
+        out.push_str(" no text")
+    }
 }

@@ -214,6 +214,7 @@ fn is_begun(alloc: Global) -> bool {
 
 // Calls each law.
 fn cite_laws() {
+    laws::chains_are_unbroken();
     laws::counts_suffice();
     laws::data_is_tight();
     laws::destinations_are_found();
@@ -228,6 +229,7 @@ fn cite_laws() {
     laws::identifier();
     laws::labels_are_found();
     laws::labels_match();
+    laws::leaves_are_contents();
     laws::leaves_are_stretches();
     laws::leaves_are_texts();
     laws::leaves_cover();

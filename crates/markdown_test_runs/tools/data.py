@@ -22,6 +22,8 @@ ESCAPES = {'\\': '\\\\', '\n': '\\n', '\r': '\\r', '\t': '\\t', '\0': '\\0'}
 REFUSED = [' no text', ' no content']
 # How texts are read whose runs are paired in two ways.
 RUNS = ['gfm_autolink_literal', 'gfm_label_start_footnote', 'gfm_strikethrough']
+# Of what the counts of a case are, beside its bound on the probes.
+COUNTED = {'counts': ('runs', 'pairs'), 'looks': ('open', 'close')}
 DEFINED = ['definition=a', 'footnote=*a*']
 CHOICES = [[], RUNS, RUNS + ['lengths'], RUNS + ['no-single-tilde']]
 
@@ -114,22 +116,20 @@ def run_case(kind, words, document, pieces, answer):
     """A whole run."""
     data = examples.plain(document).encode()
     at = examples.points(data)
-    counted = kind in ('counts', 'looks')
-    reading = 'text' if counted else kind
     asked = [w for w in words if w != 'leaves' and not w.startswith('probes=')]
-    fields = word_fields(asked) + ['+leaves'] * ('leaves' in words) + ['depth=0'] * counted
+    fields = word_fields(asked) + ['+leaves'] * ('leaves' in words)
     fields += bound_fields(kind, words, answer) + piece_fields(pieces, data) + list(document_fields(document))
-    if reading == 'text' and has_blank_line(data, pieces):
+    if kind == 'text' and has_blank_line(data, pieces):
         answer = REFUSED[0]
     if answer in REFUSED:
         found = answer
-    elif counted:
-        found = ' within'
+    elif kind in COUNTED:
+        found = ' %s %s, %s %s, within' % (answer.split()[0], COUNTED[kind][0], answer.split()[1], COUNTED[kind][1])
     elif 'leaves' in words:
         found = ''.join(printed_leaf(leaf, at) for leaf in answer.split(','))
     else:
         found = printed_events(answer, at) + ' within' * any(w.startswith('probes=') for w in words)
-    return [reading] + fields, found
+    return [kind] + fields, found
 
 
 def construct_case(kind, words, document, pieces, answer):
@@ -237,7 +237,7 @@ def own_cases(line):
         yield program_case(kind, words, document, answer)
     else:
         yield run_case(kind, words, document, pieces, answer)
-        if 'leaves' not in words and answer not in REFUSED:
+        if 'leaves' not in words and answer not in REFUSED and kind not in COUNTED:
             yield from passes_cases(kind, words, document, pieces, answer)
 
 

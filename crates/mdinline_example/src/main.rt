@@ -1,76 +1,86 @@
-//! Lists what stands in a paragraph of two lines behind the prefix of a block quote.
+//! The library in use: prints the events of paragraphs, or counts them.
+//!
+//! The first word says what is printed. It may be several with commas between; where there is no word it is `events`.
+//!
+//! | Word | What it prints |
+//! |---|---|
+//! | `quote` | the events of a paragraph that stands behind the prefix of a block quote: `quote.rt` |
+//! | `events` | the events of each paragraph of the Markdown file in standard input: `paragraphs.rt` |
+//! | `run`, `documents`, `document`, `prepare` | how many events its contents have, to measure what each way of reading costs: `counts.rt` |
+//!
+//! The other words are definitions, which are counted with. The status is 0, 3 where the file is not UTF-8, 5 where memory is refused, and 6
+//! where reading or writing fails.
 #![tactic(auto)]
 
-ghost use Rattle.std.specs.Prelude.{◌≡◌, false, None, IfOk, IfSome};
-ghost use Rattle.markdown_engine_content.specs.Content.{IsTextContent};
-ghost use Rattle.markdown_run_text.specs.RunSetting.{text_setting_of};
-ghost use Rattle.markdown_model.specs.InlineTree.{text_events};
+mod counts;
+mod fault;
+mod paragraphs;
+mod quote;
 
-use markdown_inline::configuration::ParseOptions;
-use markdown_inline::event::Event;
-use markdown_inline::parser::{ParseState, Piece};
-use markdown_inline::run;
-use markdown_inline::util::normalize_identifier::normalize_identifier;
+use crate::fault::{Fault, fault_of};
 use std::alloc::{AllocError, Global};
+use std::env;
+use std::io::{Read, Write};
 use std::process::ExitCode;
 
-/// The events of the paragraph that these pieces of the document make up; none where they are no text.
-pub fn events_of(
+// The words after the program's name, or none if they cannot be read.
+fn words(rt: &HostRuntime, alloc: Global) -> Vec<String> {
+    match env::args(rt) {
+        Ok(args) => args.skip(1).collect(alloc).unwrap_or(Vec::new(alloc)),
+        Err(_) => Vec::new(alloc),
+    }
+}
+
+// The number of events, as a line.
+fn counted(alloc: Global, bytes: &[u8], way: &str, rest: &[String]) -> Result<String, AllocError> {
+    let events = counts::count(alloc, bytes, way, rest)?;
+    format!(in alloc; "{events}\n")
+}
+
+// Prints what one word asks for.
+fn print<W: Write>(
     alloc: Global,
-    parse_state: &ParseState,
-    pieces: &[Piece],
-) -> Result<Option<Vec<Event>>, AllocError>
-    ensures found { IfOk result (λ found. IfSome found (λ events. events.items ≡ text_events (text_setting_of parse_state.now false) pieces.now)) }
-    ensures none { IfOk result (λ found. found ≡ None → IsTextContent parse_state.now.bytes.now pieces.now → ⊥) }
-{
-    if !run::is_text(parse_state.bytes, pieces) {
-        return Ok(None);
-    }
-    Ok(Some(run::text(alloc, parse_state, pieces, false)?.events))
-}
-
-// The events, a line each: whether it begins or ends, its name, line, column and byte.
-fn lines_of(alloc: Global, events: &[Event]) -> Result<String, AllocError> {
-    let mut lines = String::new(alloc);
-    for event in events {
-        let point = event.point;
-        writeln!(
-            lines,
-            "{:?} {:?} {} {} {}",
-            event.kind, event.name, point.line, point.column, point.index
-        )?;
-    }
-    Ok(lines)
-}
-
-// What is listed: the paragraph stands in a block quote, and `[D]` is defined elsewhere in the document.
-fn listed(alloc: Global) -> Result<String, AllocError> {
-    let options = ParseOptions::default();
-    let mut definitions = Vec::new(alloc);
-    definitions.push(normalize_identifier(alloc, "D")?)?;
-    let parse_state = ParseState {
-        bytes: b"> a *b\n> c* [d]",
-        options: &options,
-        definitions,
-        gfm_footnote_definitions: Vec::new(alloc),
+    bytes: &[u8],
+    way: &str,
+    rest: &[String],
+    out: &mut W,
+) -> Result<(), Fault> {
+    let text = match way {
+        "events" => return paragraphs::print(alloc, bytes, out),
+        "quote" => quote::listed(alloc)?,
+        _ => counted(alloc, bytes, way, rest)?,
     };
-    let pieces = [
-        Piece {
-            start: (2, 0),
-            end: (7, 0),
-        },
-        Piece {
-            start: (9, 0),
-            end: (15, 0),
-        },
-    ];
-    let events = events_of(alloc, &parse_state, &pieces)?.unwrap_or(Vec::new(alloc));
-    lines_of(alloc, events.as_slice())
+    out.write_all(text.as_bytes()).map_err(fault_of)
+}
+
+// Reads the file, and prints what the first word asks for.
+fn run<R: Read, W: Write>(
+    alloc: Global,
+    words: &[String],
+    reader: &mut R,
+    out: &mut W,
+) -> Result<(), Fault> {
+    let mut bytes = Vec::new(alloc);
+    reader.read_to_end(&mut bytes).map_err(fault_of)?;
+    let (ways, rest) = match words.split_first() {
+        Some((ways, rest)) => (ways.as_str(), rest),
+        None => ("events", words),
+    };
+    for way in ways.split(',') {
+        print(alloc, bytes.as_slice(), way, rest, out)?;
+    }
+    out.flush().map_err(fault_of)
 }
 
 fn main(rt: HostRuntime) -> ExitCode {
-    match listed(rt.alloc()) {
-        Ok(lines) if print!(rt; "{lines}").is_ok() => ExitCode::SUCCESS,
-        _ => ExitCode::FAILURE,
-    }
+    let words = words(&rt, rt.alloc());
+    let (mut reader, mut out) = (rt.stdin(), rt.stdout());
+    ExitCode::from(
+        match run(rt.alloc(), words.as_slice(), &mut reader, &mut out) {
+            Ok(()) => 0,
+            Err(Fault::NotText) => 3,
+            Err(Fault::OutOfMemory) => 5,
+            Err(Fault::Io) => 6,
+        },
+    )
 }

@@ -25,7 +25,7 @@ pub(crate) fn plain(alloc: Global, field: &str) -> Result<String, AllocError> {
         text.push(match c {
             '␊' => '\n',
             '␍' => '\r',
-            '␉' => '\t',
+            '␉' | '→' => '\t',
             '␀' => '\0',
             '␠' => ' ',
             _ => c,

@@ -1,20 +1,14 @@
-//! Counts the events of the contents of a text that it reads from standard input, to measure what each costs: runs alone, with all constructs on,
-//! without the printing of their events.
-//!
-//! A content is a paragraph: what stands between blank lines. The first word says how they are read: `run`, as pieces of one document by
-//! `run::is_text` and `run::text`; `documents`, each as a document by itself; `document`, as contents of one `Document`; `prepare`, where a
-//! `Document` is made and no content is read. It may be several with commas between: then each prints a line. Of the other words `made=N` makes N
-//! definitions, `definition 0` and so on, and each other word is the identifier of one.
-#![tactic(auto)]
-
+// Counts the events of the contents of a text, to measure what each costs: runs alone, with all constructs on, without the printing of their events.
+//
+// A content is what stands between two line endings in a row and two others. A word says how they are read: `run`, as pieces of one document by
+// `run::is_text` and `run::text`; `documents`, each as a document by itself; `prepare`, where a `Document` is made and no content is read; any
+// other, as `document`, as contents of one `Document`. Of the other words `made=N` makes N definitions, `definition 0` and so on, and each other
+// word is the identifier of one.
 use markdown_engine_content::parser::ParseState;
 use markdown_inline::document::Document;
 use markdown_inline::options::ALL_CONSTRUCTS;
 use markdown_inline::run::{self, Piece};
 use std::alloc::{AllocError, Global};
-use std::env;
-use std::io::{self, Read};
-use std::process::ExitCode;
 
 // Appends so many made definitions.
 fn make(alloc: Global, found: &mut Vec<String>, count: usize) -> Result<(), AllocError> {
@@ -36,8 +30,8 @@ fn definitions(alloc: Global, words: &[String]) -> Result<Vec<String>, AllocErro
     Ok(found)
 }
 
-// The paragraphs of a text, each as its first index and the one past its last.
-fn paragraphs(alloc: Global, bytes: &[u8]) -> Result<Vec<(usize, usize)>, AllocError> {
+// The contents of a text, each as its first index and the one past its last.
+fn contents(alloc: Global, bytes: &[u8]) -> Result<Vec<(usize, usize)>, AllocError> {
     let mut found = Vec::new(alloc);
     let mut from = 0;
     for at in 0..bytes.len() {
@@ -91,20 +85,20 @@ fn count_content(
     }
 }
 
-// The number of events of these paragraphs, each a document by itself or all pieces of one. It is no part of its caller when it runs, nor is
+// The number of events of these contents, each a document by itself or all pieces of one. It is no part of its caller when it runs, nor is
 // the next function, so that their work can be told.
 #[inline(never)]
 fn count_runs(
     alloc: Global,
     parse_state: ParseState,
-    paragraphs: &[(usize, usize)],
+    contents: &[(usize, usize)],
     apart: bool,
 ) -> Result<usize, AllocError> {
     let bytes = parse_state.bytes;
     let mut parse_state = parse_state;
     let mut total = 0usize;
-    for paragraph in paragraphs {
-        let (mut from, mut to) = *paragraph;
+    for content in contents {
+        let (mut from, mut to) = *content;
         if apart {
             parse_state.bytes = bytes.get(from..to).unwrap_or(b"");
             (from, to) = (0, parse_state.bytes.len());
@@ -114,71 +108,43 @@ fn count_runs(
     Ok(total)
 }
 
-// The number of events of these paragraphs as contents of one document.
+// The number of events of these contents as contents of one document.
 #[inline(never)]
 fn count_contents(
     alloc: Global,
     parse_state: ParseState,
-    paragraphs: &[(usize, usize)],
+    contents: &[(usize, usize)],
 ) -> Result<usize, AllocError> {
     let Some(document) = Document::new(alloc, parse_state)? else {
         return Ok(0);
     };
     let mut total = 0usize;
-    for paragraph in paragraphs {
-        let (from, to) = *paragraph;
+    for content in contents {
+        let (from, to) = *content;
         total = total.saturating_add(count_content(alloc, &document, from, to)?);
     }
     Ok(total)
 }
 
-// The number of events of all paragraphs, read in this way, with the definitions that words ask for.
-fn count(alloc: Global, bytes: &[u8], way: &str, words: &[String]) -> Result<usize, AllocError> {
-    let paragraphs = paragraphs(alloc, bytes)?;
+// The number of events of all contents, read in this way, with the definitions that words ask for.
+pub(crate) fn count(
+    alloc: Global,
+    bytes: &[u8],
+    way: &str,
+    words: &[String],
+) -> Result<usize, AllocError> {
+    let contents = contents(alloc, bytes)?;
     let parse_state = ParseState {
         bytes,
         options: &ALL_CONSTRUCTS,
         definitions: definitions(alloc, words)?,
         gfm_footnote_definitions: Vec::new(alloc),
     };
-    let read = paragraphs.as_slice();
+    let read = contents.as_slice();
     match way {
         "run" => count_runs(alloc, parse_state, read, false),
         "documents" => count_runs(alloc, parse_state, read, true),
         "prepare" => count_contents(alloc, parse_state, &[]),
         _ => count_contents(alloc, parse_state, read),
-    }
-}
-
-// The words after the program's name, or none if they cannot be read.
-fn words(rt: &HostRuntime, alloc: Global) -> Vec<String> {
-    match env::args(rt) {
-        Ok(args) => args.skip(1).collect(alloc).unwrap_or(Vec::new(alloc)),
-        Err(_) => Vec::new(alloc),
-    }
-}
-
-// Prints the number of events of each way of reading that the first word names.
-fn print(rt: &HostRuntime, bytes: &[u8], words: &[String]) -> io::Result<()> {
-    let Some((ways, rest)) = words.split_first() else {
-        return Ok(());
-    };
-    for way in ways.as_str().split(',') {
-        let events = count(rt.alloc(), bytes, way, rest)?;
-        println!(rt; "{events}")?;
-    }
-    Ok(())
-}
-
-fn main(rt: HostRuntime) -> ExitCode {
-    let alloc = rt.alloc();
-    let words = words(&rt, alloc);
-    let mut bytes = Vec::new(alloc);
-    if rt.stdin().read_to_end(&mut bytes).is_err() {
-        return ExitCode::FAILURE;
-    }
-    match print(&rt, bytes.as_slice(), words.as_slice()) {
-        Ok(()) => ExitCode::SUCCESS,
-        Err(_) => ExitCode::FAILURE,
     }
 }

@@ -1,6 +1,6 @@
 // Numbers, texts, options and documents that are drawn by a seed.
 use crate::rows::Rows;
-use markdown_engine_content::configuration::{Constructs, ParseOptions};
+use markdown_engine_content::configuration::{CONSTRUCTS, Constructs, ParseOptions};
 use markdown_inline::options::ALL_CONSTRUCTS;
 use std::alloc::{AllocError, Global};
 
@@ -182,24 +182,13 @@ fn constructs(drawing: &mut Drawing) -> Constructs {
     if drawing.mostly() {
         return ALL_CONSTRUCTS.constructs;
     }
-    Constructs {
-        attention: drawing.mostly(),
-        autolink: drawing.mostly(),
-        character_escape: drawing.mostly(),
-        character_reference: drawing.mostly(),
-        code_text: drawing.mostly(),
-        gfm_autolink_literal: drawing.mostly(),
-        gfm_label_start_footnote: drawing.mostly(),
-        gfm_strikethrough: drawing.mostly(),
-        gfm_task_list_item: drawing.mostly(),
-        hard_break_escape: drawing.mostly(),
-        hard_break_trailing: drawing.mostly(),
-        html_text: drawing.mostly(),
-        label_start_image: drawing.mostly(),
-        label_start_link: drawing.mostly(),
-        label_end: drawing.mostly(),
-        math_text: drawing.mostly(),
+    let mut bits = 0;
+    for (_, bit) in CONSTRUCTS {
+        if drawing.mostly() {
+            bits |= bit;
+        }
     }
+    Constructs::of_bits(bits)
 }
 
 // What a document is read with.

@@ -1,24 +1,19 @@
-//! Prints the HTML of rows of Markdown that it reads from standard input, and texts as descriptions of images have them.
-//!
-//! A line of the input is a row: a word, a text, and definitions, with a tab between each two. `html` reads the text as CommonMark has it, and lets raw HTML and
-//! any address be written, as the specification does; `gfm` reads it with GitHub's extensions, and lets neither be. `text` prints its plain text. A definition
-//! is `LABEL: DESTINATION`, perhaps with a title behind a space. `␊` stands for a line ending and `→` for a tab, in what is printed too, and `␠` for a space
-//! in a destination. A line that begins with `#` is no row. The first rows, by sections, have the HTML that cmark 0.30.2 gives them; the last are the
-//! specification's examples, with its HTML, as `tools/spec-examples` has written them.
-//!
-//! Where memory is refused, the answers end there, and the status is 3.
-#![tactic(auto)]
-
+// Prints the HTML of texts, and texts as descriptions of images have them.
+//
+// A row is a word, a text, and definitions, with a tab between each two. `html` reads the text as CommonMark has it, and lets raw HTML and any address be
+// written, as the specification does; `gfm` reads it with GitHub's extensions, and lets neither be; `then` does the same behind the footnote calls of the
+// row before. `text` prints its plain text. A definition is `LABEL: DESTINATION`, perhaps with a title behind a space, or `note LABEL` for a footnote; `␠`
+// stands for a space in a destination. Answers have `␊`, `␍` and `→` for LF, CR and TAB.
+use crate::rows::plain;
+use markdown_html::footnotes::FootnoteCalls;
 use markdown_html::targets::Targets;
 use markdown_html::{text_of, to_html};
-use markdown_html_model::options::{Definition, HtmlOptions};
+use markdown_html_model::options::{Definition, HtmlOptions, LineEnds};
 use markdown_inline::configuration::ParseOptions;
 use markdown_inline::parser::{ParseState, Piece};
 use markdown_inline::run;
 use markdown_inline::util::normalize_identifier::normalize_identifier;
 use std::alloc::{AllocError, Global};
-use std::io;
-use std::process::ExitCode;
 
 // A row, with its signs read.
 #[derive(Drop)]
@@ -26,20 +21,7 @@ struct Row<'a> {
     word: &'a str,
     text: String,
     definitions: Vec<Definition>,
-}
-
-// The text with what its signs stand for.
-fn meant(alloc: Global, written: &str) -> Result<String, AllocError> {
-    let mut text = String::new(alloc);
-    for c in written.chars() {
-        text.push(match c {
-            '␊' => '\n',
-            '→' => '\t',
-            '␠' => ' ',
-            _ => c,
-        })?;
-    }
-    Ok(text)
+    footnotes: Vec<String>,
 }
 
 // Appends a text with its signs.
@@ -47,6 +29,7 @@ fn push_shown(out: &mut String, text: &str) -> Result<(), AllocError> {
     for c in text.chars() {
         out.push(match c {
             '\n' => '␊',
+            '\r' => '␍',
             '\t' => '→',
             _ => c,
         })?;
@@ -59,12 +42,12 @@ fn definition(alloc: Global, field: &str) -> Result<Definition, AllocError> {
     let (label, rest) = field.split_once(": ").unwrap_or((field, ""));
     let (destination, title) = rest.split_once(' ').unwrap_or((rest, ""));
     Ok(Definition {
-        identifier: normalize_identifier(alloc, meant(alloc, label)?.as_str())?,
-        destination: meant(alloc, destination)?,
+        identifier: normalize_identifier(alloc, plain(alloc, label)?.as_str())?,
+        destination: plain(alloc, destination)?,
         title: if title.is_empty() {
             None
         } else {
-            Some(meant(alloc, title)?)
+            Some(plain(alloc, title)?)
         },
     })
 }
@@ -73,21 +56,26 @@ impl<'a> Row<'a> {
     // The row that a line says.
     fn read(alloc: Global, line: &'a str) -> Result<Row<'a>, AllocError> {
         let mut definitions = Vec::new(alloc);
+        let mut footnotes = Vec::new(alloc);
         for field in line.split('\t').skip(2) {
-            definitions.push(definition(alloc, field)?)?;
+            match field.strip_prefix("note ") {
+                Some(label) => footnotes.push(normalize_identifier(alloc, label)?)?,
+                None => definitions.push(definition(alloc, field)?)?,
+            }
         }
         let (word, rest) = line.split_once('\t').unwrap_or((line, ""));
         let (text, _) = rest.split_once('\t').unwrap_or((rest, ""));
-        let text = meant(alloc, text)?;
+        let text = plain(alloc, text)?;
         Ok(Row {
             word,
             text,
             definitions,
+            footnotes,
         })
     }
 
     fn is_gfm(&self) -> bool {
-        self.word == "gfm"
+        matches!(self.word, "gfm" | "then")
     }
 
     // What is looked for.
@@ -105,6 +93,7 @@ impl<'a> Row<'a> {
         HtmlOptions {
             raw_html: !self.is_gfm(),
             any_link: !self.is_gfm(),
+            line_ends: LineEnds::Kept,
         }
     }
 
@@ -125,8 +114,8 @@ fn targets(alloc: Global, definitions: Vec<Definition>) -> Result<Targets, Alloc
     Ok(targets)
 }
 
-// What a row asks for; nothing where its text is none.
-fn written(alloc: Global, row: Row) -> Result<Vec<u8>, AllocError> {
+// What a row asks for, behind these footnote calls; nothing where its text is none.
+fn written(alloc: Global, row: Row, calls: &mut FootnoteCalls) -> Result<Vec<u8>, AllocError> {
     let options = row.parse_options();
     let html_options = row.html_options();
     let identifiers = row.identifiers(alloc)?;
@@ -134,13 +123,14 @@ fn written(alloc: Global, row: Row) -> Result<Vec<u8>, AllocError> {
         word,
         text,
         definitions,
+        footnotes,
     } = row;
     let bytes = text.as_bytes();
     let parse_state = ParseState {
         bytes,
         options: &options,
         definitions: identifiers,
-        gfm_footnote_definitions: Vec::new(alloc),
+        gfm_footnote_definitions: footnotes,
     };
     let pieces = [Piece {
         start: (0, 0),
@@ -159,37 +149,23 @@ fn written(alloc: Global, row: Row) -> Result<Vec<u8>, AllocError> {
         &parse_state,
         found.events.as_slice(),
         &targets,
+        calls,
         html_options,
     )
 }
 
-// Appends the answer to a row.
-fn answer(alloc: Global, line: &str, out: &mut String) -> Result<(), AllocError> {
-    let bytes = written(alloc, Row::read(alloc, line)?)?;
+// Appends the answer to a row, behind these footnote calls if it goes on.
+pub(crate) fn answer(
+    alloc: Global,
+    line: &str,
+    calls: &mut FootnoteCalls,
+    out: &mut String,
+) -> Result<(), AllocError> {
+    let row = Row::read(alloc, line)?;
+    if row.word != "then" {
+        *calls = FootnoteCalls::new(alloc);
+    }
+    let bytes = written(alloc, row, calls)?;
     push_shown(out, str::from_utf8(bytes.as_slice()).unwrap_or(""))?;
     out.push('\n')
-}
-
-// Appends the answers to all rows.
-fn answer_all(alloc: Global, input: &str, out: &mut String) -> Result<(), AllocError> {
-    for line in input.lines() {
-        if !line.is_empty() && !line.starts_with('#') {
-            answer(alloc, line, out)?;
-        }
-    }
-    Ok(())
-}
-
-// Reads the rows, and prints their answers.
-fn print_all(rt: &(impl Input + AllocGlobal), out: &mut String) -> io::Result<()> {
-    let input = io::read_to_string(rt.alloc(), rt.reader())?;
-    answer_all(rt.alloc(), input.as_str(), out)?;
-    Ok(())
-}
-
-fn main(rt: HostRuntime) -> io::Result<ExitCode> {
-    let mut out = String::new(rt.alloc());
-    let is_whole = print_all(&rt, &mut out).is_ok();
-    print!(rt; "{out}")?;
-    Ok(ExitCode::from(if is_whole { 0 } else { 3 }))
 }

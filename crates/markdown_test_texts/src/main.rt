@@ -1,6 +1,8 @@
-//! Draws documents by a seed, and counts how often runs over them keep the laws that hold of every run.
+//! Reads texts: draws documents by a seed, and counts how often runs over them keep the laws that hold of every run; and prints the HTML of rows of Markdown.
 //!
-//! Each line of the standard input is a name and fields, with tabs between them. In a field ␊ ␍ ␉ ␀ ␠ stand for LF, CR, TAB, NUL and a space.
+//! Each line of the standard input is a name and fields, with tabs between them. In a field ␊ ␍ ␉ ␀ ␠ stand for LF, CR, TAB, NUL and a space, and → for
+//! TAB too. An empty line and one that begins with `#` are no rows. Of the rows of HTML the first, by sections, have what cmark 0.30.2 gives them; the
+//! last are the specification's examples, with its HTML, as `tools/spec-examples` has written them.
 //!
 //! | Line | What it does |
 //! |---|---|
@@ -11,10 +13,12 @@
 //! | `repeat SEED COUNT` | the same with each part so many times in each of four lines, for each ending |
 //! | `names` | prints how many names of events were seen in drawn documents so far, and whether one of them is `AttentionSequence` |
 //! | `balanced`, `covers`, `alike`, `same` | asks one law of events that are written out: see `laws.rt` |
+//! | `html`, `gfm`, `then`, `text` | prints the HTML of a text, or its plain text: see `html.rt` |
 #![tactic(auto)]
 
 mod corpus;
 mod drawing;
+mod html;
 mod kept;
 mod laws;
 mod layout;
@@ -23,14 +27,16 @@ mod rows;
 use crate::corpus::{NONE, Names, Seen};
 use crate::drawing::Drawing;
 use crate::rows::Rows;
+use markdown_html::footnotes::FootnoteCalls;
 use std::alloc::{AllocError, Global};
 use std::io;
 
-// The rows so far, the names of events that were seen, and what is printed.
+// The rows so far, the names of events that were seen, the footnote calls of the last row of HTML, and what is printed.
 #[derive(Drop)]
 struct Session {
     rows: Rows,
     names: Names,
+    calls: FootnoteCalls,
     out: String,
 }
 
@@ -70,6 +76,9 @@ impl Session {
             "balanced" | "covers" | "alike" | "same" => {
                 laws::ask(alloc, name, first, second, &mut self.out)
             }
+            "html" | "gfm" | "then" | "text" => {
+                html::answer(alloc, line, &mut self.calls, &mut self.out)
+            }
             _ if self.rows.add(alloc, name, first, second)? => Ok(()),
             _ => writeln!(self.out, "not understood: {line}"),
         }
@@ -81,10 +90,13 @@ fn printed(alloc: Global, input: &str) -> Result<String, AllocError> {
     let mut session = Session {
         rows: Rows::new(alloc),
         names: NONE,
+        calls: FootnoteCalls::new(alloc),
         out: String::new(alloc),
     };
     for line in input.lines() {
-        session.take(alloc, line)?;
+        if !line.is_empty() && !line.starts_with('#') {
+            session.take(alloc, line)?;
+        }
     }
     Ok(session.out)
 }

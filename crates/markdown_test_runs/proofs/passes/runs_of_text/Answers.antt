@@ -1,0 +1,15 @@
+use Rattle.std.proofs.Common.{None}
+use Rattle.markdown_run.proofs.WholeRun.{begun-starts}
+use Rattle.markdown_run.proofs.TextRun.{none-lent, started, text-ready}
+use Rattle.markdown_test_runs.proofs.TextByStates.{states-may}
+use Rattle.markdown_test_runs.proofs.passes.runs_of_text.Goals as goal
+
+pub run_state-requires-clause-ready : goal.run_state-requires-clause-ready
+run_state-requires-clause-ready c =
+    let start = begun-starts c.args.alloc c.args.parse_state c.args.pieces.now c.new-tokenizer.result c.new-tokenizer.ensures in
+    text-ready c.args.parse_state.now c.args.pieces.now None c.args.first_of_item _ c.requires (none-lent c.args.parse_state.now) (started c.args.parse_state.now c.args.pieces.now c.args.first_of_item c.new-tokenizer.result start)
+
+pub runs_left-requires : goal.runs_left-requires
+runs_left-requires c =
+    let start = begun-starts c.args.alloc c.args.parse_state c.args.pieces.now c.new-tokenizer.result c.new-tokenizer.ensures in
+    states-may c.args.parse_state.now c.args.pieces.now c.args.first_of_item c.requires.is_content _ c.run_state.new.self (started c.args.parse_state.now c.args.pieces.now c.args.first_of_item c.new-tokenizer.result start) c.in-Ok.field-0 c.in-Ok.ensures.ends

@@ -1,0 +1,44 @@
+// How many runs of markers a text has, and how many pairs are made of them.
+ghost use Rattle.markdown_engine_content.specs.Content.{IsTextContent};
+
+use crate::lines::print_probes;
+use crate::passes::runs_of_text;
+use crate::row::Asked;
+use markdown_engine_content::event::{Event, Kind, Name};
+use markdown_engine_content::parser::{ParseState, Piece};
+use markdown_inline::run::text;
+use std::alloc::{AllocError, Global};
+
+// Whether a group of two runs begins here.
+fn opens_pair(event: &Event) -> bool {
+    let groups = matches!(
+        event.name,
+        Name::Emphasis | Name::Strong | Name::GfmStrikethrough
+    );
+    event.kind == Kind::Enter && groups
+}
+
+/// Prints how many runs a text has and how many pairs are made of them, or how many runs may open and how many may close; and whether the probes are
+/// within their bounds.
+pub(crate) fn print_counts(
+    alloc: Global,
+    reading: &str,
+    parse_state: &ParseState,
+    pieces: &[Piece],
+    asked: Asked,
+    out: &mut String,
+) -> Result<(), AllocError>
+    requires { IsTextContent parse_state.now.bytes.now pieces.now }
+{
+    let run = text(alloc, parse_state, pieces, asked.first_of_item)?;
+    let runs = runs_of_text(alloc, parse_state, pieces, asked.first_of_item)?;
+    if reading == "looks" {
+        let opening = runs.iter().filter(|run| run.may_open).count();
+        let closing = runs.iter().filter(|run| run.may_close).count();
+        write!(out, " {opening} open, {closing} close,")?;
+    } else {
+        let pairs = run.events.iter().filter(|event| opens_pair(event)).count();
+        write!(out, " {} runs, {pairs} pairs,", runs.len())?;
+    }
+    print_probes(run.probes, asked, out)
+}
