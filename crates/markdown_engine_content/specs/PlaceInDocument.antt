@@ -63,6 +63,12 @@ followed bytes piece p (here ∷ rest) =
 abbrev pub content_place : List ℕ → List Piece → ℕ → Place
 content_place bytes pieces n = record (start_of_content bytes pieces) { at = n }
 
+-- a place in a content of this document
+pub record IsPlaceOf (bytes : List ℕ) (p : Place) : Type 0 where
+  pub pieces : List Piece
+  pub content : IsContent bytes pieces
+  pub place : p ≡ content_place bytes pieces p.at
+
 -- what a cursor keeps: where it stands, the code before it and where an event that ends there stands
 pub record IsCursor (bytes : List ℕ) (pieces : List Piece) (piece : ℕ) (point exit : Point) (previous : Option ℕ) (passed : ℕ) : Type 0 where
   pub standing : IsStanding bytes pieces (drop piece pieces) point passed

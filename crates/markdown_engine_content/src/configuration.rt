@@ -197,12 +197,6 @@ impl Default for ParseOptions {
 
     /// CommonMark's constructs; one tilde or dollar is enough where those constructs are switched on.
     fn default() -> ParseOptions {
-        ParseOptions {
-            constructs: Constructs::default(),
-            gfm_strikethrough_single_tilde: true,
-            math_text_single_dollar: true,
-            attention_first_lengths: false,
-            label_shortcut_before_bracket: false,
-        }
+        ParseOptions::of_bits(DEFAULT_BITS)
     }
 }

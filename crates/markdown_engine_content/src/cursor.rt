@@ -3,7 +3,7 @@ ghost use Rattle.std.specs.Prelude.{◌≡◌, ◌∷◌, [], ℕ, List, drop, l
 ghost use Rattle.markdown_engine_content.specs.Codes.{count_among, line_feed, place_of};
 ghost use Rattle.markdown_engine_content.specs.Content.{IsContent, has_no_blank_line};
 ghost use Rattle.markdown_engine_content.specs.Place.{start_of_content, ahead_at, code_at, code_before, point_of, exit_point, moved};
-ghost use Rattle.markdown_engine_content.specs.PlaceInDocument.{is_open, first_point, followed};
+ghost use Rattle.markdown_engine_content.specs.PlaceInDocument.{is_open, first_point, followed, IsPlaceOf};
 ghost use Rattle.markdown_engine_content.specs.PlainBytes.{ArePlain, spares_words};
 ghost use Rattle.markdown_engine_content.specs.Stretch.{is_free, past_stretch};
 ghost use Rattle.markdown_engine_content.specs.DocumentWalk.{IsPoint};
@@ -135,6 +135,13 @@ impl<'a> Cursor<'a> {
         } else {
             self.pieces[self.pieces.len() - 1].end.0
         }
+    }
+
+    /// Answers the bytes of the document that it reads.
+    pub fn document(&self) -> &'a [u8]
+        ensures { IsPlaceOf result.now self.now }
+    {
+        self.bytes
     }
 
     /// Answers how many codes are passed.

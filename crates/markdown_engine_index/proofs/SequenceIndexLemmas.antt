@@ -12,7 +12,7 @@ use Rattle.markdown_engine_index.specs.SequenceIndex.{begins_at, begun_at, close
 use Rattle.markdown_engine_content.specs.declared.event.Point.{Point}
 use Rattle.markdown_engine_index.specs.declared.sequence_index.LastBegins.{LastBegins}
 use Rattle.markdown_engine_index.specs.declared.sequence_index.Sequence.{Sequence}
-use Rattle.markdown_engine_index.specs.declared.sequence_index.Sequence.TheVariants.{CommentEnd, SectionEnd, InstructionEnd, DeclarationEnd, ResourceEnd, ProtocolSlash, WwwDot, SpanMark}
+use Rattle.markdown_engine_index.specs.declared.sequence_index.Sequence.TheVariants.{CommentEnd, SectionEnd, InstructionEnd, DeclarationEnd, ResourceEnd, WwwDot, SpanMark}
 use Rattle.markdown_engine_content.proofs.PlaceRules.{IsAhead, ahead_some, ahead_none, ahead_moved, at_moved, codes_moved}
 use Rattle.markdown_engine_content.specs.Stretch.{past_stretch}
 use Rattle.markdown_engine_content.proofs.StretchLemmas.{kept}
@@ -119,7 +119,6 @@ shows_by SectionEnd v = v == 93
 shows_by InstructionEnd v = v == 63
 shows_by DeclarationEnd v = v == 62
 shows_by ResourceEnd v = v == 41
-shows_by ProtocolSlash v = v == 58
 shows_by WwwDot v = v == 46
 shows_by SpanMark v = v == 96 || v == 36
 
@@ -130,7 +129,6 @@ silent SectionEnd p v h e = next-other 93 (93 ∷ 62 ∷ []) p v h e
 silent InstructionEnd p v h e = next-other 63 (62 ∷ []) p v h e
 silent DeclarationEnd p v h e = next-other 62 [] p v h e
 silent ResourceEnd p v h e = twice-other p v h e
-silent ProtocolSlash p v h e = next-other 58 (47 ∷ []) p v h e
 silent WwwDot p v h e =
     and_right (is_behind_w (code_before p)) (stand_next (46 ∷ []) (ahead_at p)) (next-other 46 [] p v h e)
 silent SpanMark p v h e =
@@ -174,7 +172,7 @@ nothing-before (Some k) = ap (λ n. Some n) (omega arith)
 nothing-before None = refl
 
 abbrev nothing : LastBegins
-nothing = record { comment_end = None; section_end = None; instruction_end = None; declaration_end = None; resource_end = None; protocol_slash = None; www_dot = None; span_mark = None }
+nothing = record { comment_end = None; section_end = None; instruction_end = None; declaration_end = None; resource_end = None; www_dot = None; span_mark = None }
 
 nothing-in : (s : Sequence) → last_in nothing s ≡ None
 nothing-in CommentEnd = refl
@@ -182,7 +180,6 @@ nothing-in SectionEnd = refl
 nothing-in InstructionEnd = refl
 nothing-in DeclarationEnd = refl
 nothing-in ResourceEnd = refl
-nothing-in ProtocolSlash = refl
 nothing-in WwwDot = refl
 nothing-in SpanMark = refl
 
@@ -192,7 +189,6 @@ open-start SectionEnd = refl
 open-start InstructionEnd = refl
 open-start DeclarationEnd = refl
 open-start ResourceEnd = refl
-open-start ProtocolSlash = refl
 open-start WwwDot = refl
 open-start SpanMark = refl
 
@@ -283,8 +279,6 @@ found-past cs p q v last next h e step k =
         settled (begins_at DeclarationEnd) (last_where (begins_at DeclarationEnd) cs) last.declaration_end next.declaration_end p v h
     each ResourceEnd =
         settled (begins_at ResourceEnd) (last_where (begins_at ResourceEnd) cs) last.resource_end next.resource_end p v h
-    each ProtocolSlash =
-        settled (begins_at ProtocolSlash) (last_where (begins_at ProtocolSlash) cs) last.protocol_slash next.protocol_slash p v h
     each WwwDot = dot-settles cs p.codes p.at v p.end last next h
     each SpanMark =
         settled (begins_at SpanMark) (last_where (begins_at SpanMark) cs) last.span_mark next.span_mark p v h
@@ -301,8 +295,7 @@ none-shows s v e =
     let instruction = or_parts (v == 63) _ section.1 in
     let declaration = or_parts (v == 62) _ instruction.1 in
     let resource = or_parts (v == 41) _ declaration.1 in
-    let slash = or_parts (v == 58) _ resource.1 in
-    let dot = or_parts (v == 46) _ slash.1 in
+    let dot = or_parts (v == 46) _ resource.1 in
     let backtick = or_parts (v == 96) _ dot.1 in
     let dollar = or_parts (v == 36) _ backtick.1 in
     elim s as (λ x. shows_by x v ≡ false) [
@@ -311,7 +304,6 @@ none-shows s v e =
       | InstructionEnd ↦ instruction.0
       | DeclarationEnd ↦ declaration.0
       | ResourceEnd ↦ resource.0
-      | ProtocolSlash ↦ slash.0
       | WwwDot ↦ dot.0
       | SpanMark ↦ or_from (v == 96) (v == 36) backtick.0 dollar.0
     ]
@@ -340,7 +332,7 @@ pub found-all : (cs : List Code) (p : Place) (last : LastBegins) → code_at p �
     last ≡ last_begins cs
 unfolding ahead_at
 found-all cs p last h k =
-    λ i. record { comment_end = all CommentEnd i; section_end = all SectionEnd i; instruction_end = all InstructionEnd i; declaration_end = all DeclarationEnd i; resource_end = all ResourceEnd i; protocol_slash = all ProtocolSlash i; www_dot = all WwwDot i; span_mark = all SpanMark i }
+    λ i. record { comment_end = all CommentEnd i; section_end = all SectionEnd i; instruction_end = all InstructionEnd i; declaration_end = all DeclarationEnd i; resource_end = all ResourceEnd i; www_dot = all WwwDot i; span_mark = all SpanMark i }
   where
     none-left : (s : Sequence) → last_where (begins_at s) (ahead_at (open_from s p)) ≡ None
     none-left WwwDot = dot-none p.codes p.at p.end h
@@ -357,7 +349,6 @@ last-is cs SectionEnd = refl
 last-is cs InstructionEnd = refl
 last-is cs DeclarationEnd = refl
 last-is cs ResourceEnd = refl
-last-is cs ProtocolSlash = refl
 last-is cs WwwDot = refl
 last-is cs SpanMark = refl
 

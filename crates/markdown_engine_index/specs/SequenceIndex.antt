@@ -6,7 +6,7 @@ use Rattle.markdown_engine_content.specs.Place.{Place, ahead_at, code_before}
 use Rattle.markdown_engine_index.specs.RunIndex.{later_or, begins_before}
 use Rattle.markdown_engine_index.specs.declared.sequence_index.LastBegins.{LastBegins}
 use Rattle.markdown_engine_index.specs.declared.sequence_index.Sequence.{Sequence}
-use Rattle.markdown_engine_index.specs.declared.sequence_index.Sequence.TheVariants.{CommentEnd, SectionEnd, InstructionEnd, DeclarationEnd, ResourceEnd, ProtocolSlash, WwwDot, SpanMark}
+use Rattle.markdown_engine_index.specs.declared.sequence_index.Sequence.TheVariants.{CommentEnd, SectionEnd, InstructionEnd, DeclarationEnd, ResourceEnd, WwwDot, SpanMark}
 
 -- codes of these values come next, one after another
 abbrev pub stand_next : List ℕ → List Code → Bool
@@ -48,7 +48,6 @@ begins_at SectionEnd = stand_next (codes "]]>")
 begins_at InstructionEnd = stand_next (codes "?>")
 begins_at DeclarationEnd = stand_next (codes ">")
 begins_at ResourceEnd = closes_twice
-begins_at ProtocolSlash = stand_next (codes ":/")
 begins_at WwwDot = dots_behind_w
 begins_at SpanMark = marks_span
 
@@ -59,7 +58,7 @@ last_where p (c ∷ cs) = later_or (last_where p cs) (p (c ∷ cs))
 
 -- A walk that looks for the sequences stops at their first codes, but for `w.`, which it finds at its dot: `w` is too frequent.
 abbrev pub stop_bytes : List ℕ
-stop_bytes = codes "-]?>):.`$"
+stop_bytes = codes "-]?>).`$"
 
 -- the code before is a `w`
 abbrev pub is_behind_w : Option ℕ → Bool
@@ -73,7 +72,6 @@ shows_at SectionEnd p = begins_at SectionEnd (ahead_at p)
 shows_at InstructionEnd p = begins_at InstructionEnd (ahead_at p)
 shows_at DeclarationEnd p = begins_at DeclarationEnd (ahead_at p)
 shows_at ResourceEnd p = begins_at ResourceEnd (ahead_at p)
-shows_at ProtocolSlash p = begins_at ProtocolSlash (ahead_at p)
 shows_at WwwDot p = is_behind_w (code_before p) && stand_next (codes ".") (ahead_at p)
 shows_at SpanMark p = begins_at SpanMark (ahead_at p)
 
@@ -84,7 +82,6 @@ begun_at SectionEnd at = at
 begun_at InstructionEnd at = at
 begun_at DeclarationEnd at = at
 begun_at ResourceEnd at = at
-begun_at ProtocolSlash at = at
 begun_at WwwDot at = at - 1
 begun_at SpanMark at = at
 
@@ -95,7 +92,6 @@ last_in last SectionEnd = last.section_end
 last_in last InstructionEnd = last.instruction_end
 last_in last DeclarationEnd = last.declaration_end
 last_in last ResourceEnd = last.resource_end
-last_in last ProtocolSlash = last.protocol_slash
 last_in last WwwDot = last.www_dot
 last_in last SpanMark = last.span_mark
 
@@ -107,7 +103,6 @@ last_begins cs = record {
   instruction_end = last_where (begins_at InstructionEnd) cs;
   declaration_end = last_where (begins_at DeclarationEnd) cs;
   resource_end = last_where (begins_at ResourceEnd) cs;
-  protocol_slash = last_where (begins_at ProtocolSlash) cs;
   www_dot = last_where (begins_at WwwDot) cs;
   span_mark = last_where (begins_at SpanMark) cs;
 }

@@ -24,8 +24,6 @@ pub enum Sequence {
     DeclarationEnd,
     /// `)`, and another one behind it, past spaces, tabs and line endings: a title in parentheses ends, and its resource.
     ResourceEnd,
-    /// `:/`, as behind the protocol of a literal.
-    ProtocolSlash,
     /// `w.` or `W.`, as in the `www.` of a literal.
     WwwDot,
     /// A backtick or a dollar sign, with which a span begins and ends.
@@ -45,8 +43,6 @@ pub struct LastBegins {
     pub declaration_end: Option<usize>,
     /// Of two `)` with nothing but whitespace between them.
     pub resource_end: Option<usize>,
-    /// Of `:/`.
-    pub protocol_slash: Option<usize>,
     /// Of `w.` and `W.`.
     pub www_dot: Option<usize>,
     /// Of a backtick and a dollar sign.
@@ -64,7 +60,6 @@ impl LastBegins {
             Sequence::InstructionEnd => self.instruction_end,
             Sequence::DeclarationEnd => self.declaration_end,
             Sequence::ResourceEnd => self.resource_end,
-            Sequence::ProtocolSlash => self.protocol_slash,
             Sequence::WwwDot => self.www_dot,
             Sequence::SpanMark => self.span_mark,
         }
@@ -106,7 +101,6 @@ impl SequenceIndex {
             instruction_end: None,
             declaration_end: None,
             resource_end: None,
-            protocol_slash: None,
             www_dot: None,
             span_mark: None,
         };
@@ -160,10 +154,6 @@ fn found_at(place: &Cursor, code: u8, last: LastBegins) -> LastBegins
             resource_end: at_or(closes_twice(place), at, last.resource_end),
             ..last
         },
-        b':' => LastBegins {
-            protocol_slash: at_or(stand_next(place, b":/"), at, last.protocol_slash),
-            ..last
-        },
         b'.' => LastBegins {
             www_dot: before_dot(place, last.www_dot),
             ..last
@@ -199,7 +189,7 @@ fn is_behind_w(previous: Option<u8>) -> bool
 fn stop_bytes() -> ByteSet
     ensures { result ≡ stop_bytes }
 {
-    byte_set!(b'-', b']', b'?', b'>', b')', b':', b'.', b'`', b'$')
+    byte_set!(b'-', b']', b'?', b'>', b')', b'.', b'`', b'$')
 }
 
 // This place where the test holds, else the earlier one.

@@ -1,6 +1,7 @@
 -- The laws of the states of a character reference.
-use Rattle.std.proofs.Common.{◌≡◌, ◌≢◌, ℕ, ◌+◌, ◌≤◌, ◌<◌, ◌==◌, ◌&&◌, ◌||◌, nat_lt, Bool, true, false, List, [], ◌∷◌, ◌++◌, drop, length, Some, refl, sym, ap, subst, ◌∙◌, arith, append-nil, inl, inr}
+use Rattle.std.proofs.Common.{◌≡◌, ◌≢◌, ℕ, ◌+◌, ◌≤◌, ◌<◌, ◌==◌, ◌&&◌, ◌||◌, nat_lt, Bool, true, false, List, [], ◌∷◌, ◌++◌, drop, length, Some, refl, sym, ap, subst, ◌∙◌, arith, append-nil, length-append, inl, inr}
 use Rattle.std.specs.Prelude.{codes}
+use Rattle.std.specs.List.{list_all}
 use Rattle.std.proofs.Math.Bool.{or-false, and-false}
 use Rattle.std.proofs.lemmas.Grind.{common_steps}
 use Rattle.markdown_engine_content.specs.Codes.{Code}
@@ -26,9 +27,7 @@ use Rattle.markdown_util.specs.Reference.{html_5_rows, IsMarker, value_size_max,
 use Rattle.markdown_leaf.specs.CharacterReference.{IsAtRest, IsOpened, IsValue, is_on, marked, sized, rested, opening, number_sign, hexadecimal_sign, value_start, closing, is_known, is_taken, read_of, start_at, start_step, named_step, open_at, decimal_step}
 use Rattle.markdown_leaf.specs.CharacterReference.{numeric_at, value_at, reference_here, value_plan, numeric_plan, open_plan, start_ends, open_ends, numeric_ends, value_ends, states, numeric_words, open_words, start_words, value_words}
 use Rattle.markdown_plan.specs.Plan.{Plan, preceded, plan_of, DoesAs, KeepsAs}
-use Rattle.markdown_plan.specs.Characters.{ReadsText}
-use Rattle.markdown_plan.proofs.CharactersAlongContent.{text-moved, text-scratched}
-use Rattle.markdown_leaf.proofs.CharacterReferenceBytes.{index-more, read-more, read-none, read-size}
+use Rattle.markdown_leaf.proofs.CharacterReferenceBytes.{read-more, read-none}
 use Rattle.markdown_leaf.proofs.CharacterReferenceReadings.{reference-start, no-reference, value-close, value-more, value-end, value-stop}
 use Rattle.markdown_plan.proofs.PlanSteps.{EndsAs-plan, no-codes}
 use Rattle.markdown_model.proofs.GrammarSteps.{and-left, and-right, if-true, if-false}
@@ -95,30 +94,13 @@ rested-same : (s : TokenizeState) → s.marker ≡ 0 → s.size ≡ 0 → rested
 rested-same s e h =
     subst (λ m. record s { marker = m; size = 0 } ≡ s) e (subst (λ n. record s { marker = s.marker; size = n } ≡ s) h refl)
 
--- no operation but a code that is passed changes what is read as characters
-opening-text : (T : Tokenizer) → ReadsText T → ReadsText (done opening T)
-unfolding applied
-opening-text T k = text-moved _ T.cursor k
-
-number-text : (T : Tokenizer) → ReadsText T → ReadsText (done number_sign T)
-unfolding applied
-number-text T k = text-moved _ T.cursor k
-
-sign-text : (T : Tokenizer) → ReadsText T → ReadsText (done hexadecimal_sign T)
-unfolding applied
-sign-text T k = text-moved _ T.cursor k
-
-start-text : (T : Tokenizer) → ReadsText T → ReadsText (done value_start T)
-unfolding applied
-start-text T k = k
-
 opened-done : (T : Tokenizer) → IsAtRest T → IsOpened (done opening T)
 opened-done T r =
-    record { text = opening-text T r.text; whole = grind (arith, law_rules); marker = ap (λ (s : TokenizeState). s.marker) (scratch-done opening T) ∙ r.marker; size = ap (λ (s : TokenizeState). s.size) (scratch-done opening T) ∙ r.size }
+    record { whole = grind (arith, law_rules); marker = ap (λ (s : TokenizeState). s.marker) (scratch-done opening T) ∙ r.marker; size = ap (λ (s : TokenizeState). s.size) (scratch-done opening T) ∙ r.size }
 
 numbered-done : (T : Tokenizer) → IsOpened T → IsOpened (done number_sign T)
 numbered-done T o =
-    record { text = number-text T o.text; whole = grind (arith, law_rules, o.whole); marker = ap (λ (s : TokenizeState). s.marker) (scratch-done number_sign T) ∙ o.marker; size = ap (λ (s : TokenizeState). s.size) (scratch-done number_sign T) ∙ o.size }
+    record { whole = grind (arith, law_rules, o.whole); marker = ap (λ (s : TokenizeState). s.marker) (scratch-done number_sign T) ∙ o.marker; size = ap (λ (s : TokenizeState). s.size) (scratch-done number_sign T) ∙ o.size }
 
 -- on in the value, of this kind
 value-from : (m : ℕ) (os : List Op) (T : Tokenizer) → IsOpened T → (ok : Bool) (U : Tokenizer) →
@@ -132,14 +114,15 @@ value-from m os T o ok U k =
     (subst (λ (s : TokenizeState). DoesAs 2 (value_plan s.marker (read_of V)) (rested s) V ok U) now k)
 
 -- in a value of this kind
-is-value : (m : ℕ) (V : Tokenizer) (s : TokenizeState) (more : List Name) → ReadsText V →
+is-value : (m : ℕ) (V : Tokenizer) (s : TokenizeState) (more : List Name) →
     V.stack ≡ N.CharacterReferenceValue ∷ N.CharacterReference ∷ more → V.tokenize_state ≡ marked m s → s.size ≡ 0 →
     IsMarker m → IsValue V
-is-value m V s more text e now z k =
+is-value m V s more e now z k =
     let size : V.tokenize_state.size ≡ 0 = ap (λ (q : TokenizeState). q.size) now ∙ z in
+    let none : read_of V ≡ [] = read-none V size in
     record {
-      text = text;
-      begins = omega (arith, size);
+      count = ap length none ∙ sym size;
+      passed = ap (list_all (is_value_byte V.tokenize_state.marker)) none;
       value = e ∙ ap (λ ns. N.CharacterReferenceValue ∷ rest_of ns) (sym e);
       whole = ap rest_of e ∙ ap (λ ns. N.CharacterReference ∷ rest_of (rest_of ns)) (sym e);
       marker = subst (λ (q : TokenizeState). IsMarker q.marker) (sym now) k;
@@ -161,24 +144,15 @@ taken-room : (m n c : ℕ) → is_taken m n c ≡ true → n + 1 ≤ value_size_
 unfolding is_taken
 taken-room m n c e = less-more n (value_size_max m) (and-left _ _ e)
 
--- a code of a value is above the space
-value-high : (m c : ℕ) → IsMarker m → is_value_byte m c ≡ true → 32 < c
-value-high m c (inl e) h = name-high c (subst (λ k. is_value_byte k c ≡ true) e h)
-  where
-    name-high : (c : ℕ) → is_value_byte 38 c ≡ true → 32 < c
-    name-high c h = grind (arith, common_steps)
-value-high m c (inr (inl e)) h = decimal-high c (subst (λ k. is_value_byte k c ≡ true) e h)
-  where
-    decimal-high : (c : ℕ) → is_value_byte 35 c ≡ true → 32 < c
-    decimal-high c h = grind (arith, common_steps)
-value-high m c (inr (inr e)) h = hexadecimal-high c (subst (λ k. is_value_byte k c ≡ true) e h)
-  where
-    hexadecimal-high : (c : ℕ) → is_value_byte 120 c ≡ true → 32 < c
-    hexadecimal-high c h = grind (arith, common_steps)
+all-more : (m : ℕ) (xs : List ℕ) (c : ℕ) → list_all (is_value_byte m) xs ≡ true → is_value_byte m c ≡ true →
+    list_all (is_value_byte m) (xs ++ c ∷ []) ≡ true
+all-more m [] c e h = ap (λ b. b && true) h
+all-more m (x ∷ xs) c e h =
+    ap (λ b. b && list_all (is_value_byte m) (xs ++ c ∷ [])) (and-left _ _ e) ∙ all-more m xs c (and-right _ _ e) h
 
-taken-high : (m n c : ℕ) → IsMarker m → is_taken m n c ≡ true → 32 < c
+taken-byte : (m n c : ℕ) → is_taken m n c ≡ true → is_value_byte m c ≡ true
 unfolding is_taken
-taken-high m n c k e = value-high m c k (and-right _ _ e)
+taken-byte m n c e = and-right _ _ e
 
 -- one code further on in the value
 value-on : (T : Tokenizer) → IsValue T → (c : ℕ) → current_of T ≡ Some c →
@@ -186,13 +160,15 @@ value-on : (T : Tokenizer) → IsValue T → (c : ℕ) → current_of T ≡ Some
     IsValue (scratched (sized (T.tokenize_state.size + 1) T.tokenize_state) (done (Consume ∷ []) T))
 unfolding scratched applied
 value-on T v c here e =
+    let s : TokenizeState = T.tokenize_state in
+    let more : read_of (scratched (sized (s.size + 1) s) (done (Consume ∷ []) T)) ≡ read_of T ++ c ∷ [] = read-more T c here in
     record {
-      text = text-moved _ T.cursor v.text;
-      begins = omega (arith, v.begins, index-more (sized (T.tokenize_state.size + 1) T.tokenize_state) T c v.text here (taken-high T.tokenize_state.marker T.tokenize_state.size c v.marker e));
+      count = ap length more ∙ length-append (read_of T) (c ∷ []) ∙ ap (λ n. n + 1) v.count;
+      passed = ap (list_all (is_value_byte s.marker)) more ∙ all-more s.marker (read_of T) c v.passed (taken-byte s.marker s.size c e);
       value = v.value;
       whole = v.whole;
       marker = v.marker;
-      size = taken-room T.tokenize_state.marker T.tokenize_state.size c e;
+      size = taken-room s.marker s.size c e;
     }
 
 sign-test : (c : Code) → is_among (codes "xX") c ≡ (c.value == 120) || (c.value == 88)
@@ -226,7 +202,7 @@ module _ (W : Words) (within : Within states W) where
       let V : Tokenizer = scratched (marked 38 T.tokenize_state) (done value_start T) in
       Goes-on W 3 1 open_plan (value_plan 38 []) value_start (rested T.tokenize_state) (marked 38 T.tokenize_state) T (Retry CharacterReferenceValue) (within CharacterReferenceValue) alone refl (no-codes T) (omega arith)
       (if-false _ _ _ none)
-      (is-value 38 V T.tokenize_state (rest_of T.stack) (text-scratched _ (done value_start T) (start-text T o.text)) (started 38 T o) (scratch-scratched _ _) o.size (inl refl))
+      (is-value 38 V T.tokenize_state (rest_of T.stack) (started 38 T o) (scratch-scratched _ _) o.size (inl refl))
       (λ ok U k. value-from 38 value_start T o ok U k)
 
   pub open-law : Law W open_words
@@ -249,7 +225,7 @@ module _ (W : Words) (within : Within states W) where
       let V : Tokenizer = scratched (marked 35 T.tokenize_state) (done value_start T) in
       Goes-on W 2 1 numeric_plan (value_plan 35 []) value_start (rested T.tokenize_state) (marked 35 T.tokenize_state) T (Retry CharacterReferenceValue) (within CharacterReferenceValue) alone refl (no-codes T) (omega arith)
       (if-false _ _ _ none)
-      (is-value 35 V T.tokenize_state (rest_of T.stack) (text-scratched _ (done value_start T) (start-text T o.text)) (started 35 T o) (scratch-scratched _ _) o.size (inr (inl refl)))
+      (is-value 35 V T.tokenize_state (rest_of T.stack) (started 35 T o) (scratch-scratched _ _) o.size (inr (inl refl)))
       (λ ok U k. value-from 35 value_start T o ok U k)
 
   pub numeric-law : Law W numeric_words
@@ -262,7 +238,7 @@ module _ (W : Words) (within : Within states W) where
       if-step P ((c == 120) || (c == 88)) _ _
       (λ h. Goes-on W 2 1 numeric_plan (value_plan 120 []) hexadecimal_sign (rested T.tokenize_state) (marked 120 T.tokenize_state) T (Next CharacterReferenceValue) (within CharacterReferenceValue) alone refl (some-codes T c e) (omega arith)
       (ap numeric_plan b.whole ∙ if-true _ _ _ (sign-test b.code ∙ ap (λ v. (v == 120) || (v == 88)) b.value ∙ h) ∙ ap (λ cs. preceded hexadecimal_sign (value_plan 120 [] (drop 1 cs))) (sym b.whole))
-      (is-value 120 V T.tokenize_state (rest_of T.stack) (text-scratched _ (done hexadecimal_sign T) (sign-text T o.text)) (signed T o) (scratch-scratched _ _) o.size (inr (inr refl)))
+      (is-value 120 V T.tokenize_state (rest_of T.stack) (signed T o) (scratch-scratched _ _) o.size (inr (inr refl)))
       (λ ok U k. value-from 120 hexadecimal_sign T o ok U k))
       (λ h. decimal-law T alone o (ap (next_is (is_among (codes "xX"))) b.whole ∙ sign-test b.code ∙ ap (λ v. (v == 120) || (v == 88)) b.value ∙ h)))
 
@@ -276,8 +252,8 @@ module _ (W : Words) (within : Within states W) where
       let p : Plan = value_plan s.marker read in
       let V : Tokenizer = scratched (sized (s.size + 1) s) (done (Consume ∷ []) T) in
       let b = ahead-some T c e in
-      let taken : is_taken s.marker (length read) b.code.value ≡ true = ap (λ n. is_taken s.marker n b.code.value) (read-size T v) ∙ ap (is_taken s.marker s.size) b.value ∙ t in
-      let more : read_of V ≡ read ++ b.code.value ∷ [] = read-more T c v e (taken-high s.marker s.size c v.marker t) ∙ ap (λ x. read ++ x ∷ []) (sym b.value) in
+      let taken : is_taken s.marker (length read) b.code.value ≡ true = ap (λ n. is_taken s.marker n b.code.value) v.count ∙ ap (is_taken s.marker s.size) b.value ∙ t in
+      let more : read_of V ≡ read ++ b.code.value ∷ [] = read-more T c e ∙ ap (λ x. read ++ x ∷ []) (sym b.value) in
       let now : V.tokenize_state ≡ sized (s.size + 1) s = scratch-scratched (sized (s.size + 1) s) (done (Consume ∷ []) T) in
       Goes-on W 1 2 p (value_plan s.marker (read ++ b.code.value ∷ [])) (Consume ∷ []) (rested s) (sized (s.size + 1) s) T (Next CharacterReferenceValue) (within CharacterReferenceValue) alone refl (some-codes T c e) (omega arith)
       (ap p b.whole ∙ value-more s.marker read b.code (rest_of (ahead T)) taken ∙ ap (λ cs. preceded (Consume ∷ []) (value_plan s.marker (read ++ b.code.value ∷ []) (drop 1 cs))) (sym b.whole))
@@ -290,7 +266,7 @@ module _ (W : Words) (within : Within states W) where
       let read : List ℕ = read_of T in
       let p : Plan = value_plan s.marker read in
       let P : Stepped → Type 0 = GoesIn W (weight_at 1 T) (value_ends T) in
-      let size : s.size ≡ length read = sym (read-size T v) in
+      let size : s.size ≡ length read = sym v.count in
       code-step P (current_of T) (λ x. value_at x T)
       (λ e. Goes-nok W 1 2 p (rested s) T alone (ap p (ahead-none T e) ∙ value-end s.marker read))
       (λ c e. let b = ahead-some T c e in

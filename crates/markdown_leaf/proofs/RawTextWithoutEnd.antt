@@ -4,7 +4,7 @@ use Rattle.std.proofs.lemmas.List.{drop-drop}
 use Rattle.std.proofs.Common.{◌≡◌, ℕ, zero, suc, ◌+◌, ◌≤◌, ◌==◌, Bool, true, false, ◌&&◌, ◌||◌, not, if◌then◌else◌, Option, Some, None, List, [], ◌∷◌, ◌++◌, length, drop, refl, sym, ap, subst, ◌∙◌, arith}
 use Rattle.markdown_engine_content.specs.Codes.{Code, is_line_ending}
 use Rattle.markdown_engine_content.specs.ListFunctions.{rest_of}
-use Rattle.markdown_engine.specs.Operations.{Enter, Exit, Consume, ahead, current_of}
+use Rattle.markdown_engine.specs.Operations.{Op, Enter, Exit, Consume, ahead, current_of}
 use Rattle.markdown_engine_content.specs.Place.{ahead_at}
 use Rattle.markdown_engine_content.specs.declared.event.Name.TheVariants as N
 use Rattle.markdown_engine_index.specs.RunIndex.{leading, last_run_from, last_run, begins_before, rules_out}
@@ -210,36 +210,32 @@ opening-ruled m names T e right b h =
     opening-none (single_dollar T) m names b.code (rest_of (ahead T)) e (ap (λ v. v == m) b.value ∙ eq-eqb m m refl)
     (subst (λ cs. last_run m (leading m cs) (drop (leading m cs) cs) ≡ None) b.whole (none-follows m T right (and-right (not (is_barred m T)) _ h)))
 
+-- no span of a marker: where it is off none is read, and where it is on the opening run is all that is there
+ruled-out-span : (m : ℕ) (names : SpanNames) (on : Bool) (opening : List Op) (T : Tokenizer) → (m == 10) ≡ false → IsIndexed T →
+    (b : Begins m (ahead T)) → is_ruled_out m T ≡ true
+    → (on ≡ true → plan_of (span_at T) (b.code ∷ rest_of (ahead T)) ≡ preceded opening (opening_plan (single_dollar T) m names 1 (rest_of (ahead T))))
+    → (on ≡ false → plan_of (span_at T) (b.code ∷ rest_of (ahead T)) ≡ None) → span_at T (ahead T) ≡ None
+ruled-out-span m names on opening T e right b h opens closed =
+    none-read (span_at T (ahead T)) (ap (plan_of (span_at T)) b.whole ∙ by_switch on refl)
+  where
+    by_switch : (o : Bool) → on ≡ o → plan_of (span_at T) (b.code ∷ rest_of (ahead T)) ≡ None
+    by_switch true k = opens k ∙ ap (preceded opening) (opening-ruled m names T e right b h)
+    by_switch false k = closed k
+
 pub code-ruled-out : (T : Tokenizer) → IsIndexed T → current_of T ≡ Some 96 → is_ruled_out 96 T ≡ true →
     span_at T (ahead T) ≡ None
-code-ruled-out T right here h = none-read (span_at T (ahead T)) (by_switch (code_is_on T) refl)
-  where
-    b : Begins 96 (ahead T)
-    b = ahead-some T 96 here
-
-    by_switch : (on : Bool) → code_is_on T ≡ on → plan_of (span_at T) (ahead T) ≡ None
-    by_switch true on =
-        ap (plan_of (span_at T)) b.whole
-        ∙ code-opens (code_is_on T) (math_is_on T) (single_dollar T) (follows_escape T.events) (code_just_before T) b.code (rest_of (ahead T)) (ap (λ v. v == 96) b.value) on (free-so 96 T h)
-        ∙ ap (preceded (Enter N.CodeText ∷ Enter N.CodeTextSequence ∷ Consume ∷ [])) (opening-ruled 96 code_names T refl right b h)
-    by_switch false off =
-        ap (plan_of (span_at T)) b.whole
-        ∙ no-span (code_is_on T) (math_is_on T) (single_dollar T) (follows_escape T.events) (code_just_before T) (b.code ∷ rest_of (ahead T))
-        (and-off (b.code.value == 96) (code_is_on T) _ off) (ap (λ v. (v == 36) && (math_is_on T && (follows_escape T.events || not (is_some_code (is_value 36) (code_just_before T))))) b.value)
+code-ruled-out T right here h =
+    let b : Begins 96 (ahead T) = ahead-some T 96 here in
+    ruled-out-span 96 code_names (code_is_on T) (Enter N.CodeText ∷ Enter N.CodeTextSequence ∷ Consume ∷ []) T refl right b h
+    (λ on. code-opens (code_is_on T) (math_is_on T) (single_dollar T) (follows_escape T.events) (code_just_before T) b.code (rest_of (ahead T)) (ap (λ v. v == 96) b.value) on (free-so 96 T h))
+    (λ off. no-span (code_is_on T) (math_is_on T) (single_dollar T) (follows_escape T.events) (code_just_before T) (b.code ∷ rest_of (ahead T))
+    (and-off (b.code.value == 96) (code_is_on T) _ off) (ap (λ v. (v == 36) && (math_is_on T && (follows_escape T.events || not (is_some_code (is_value 36) (code_just_before T))))) b.value))
 
 pub math-ruled-out : (T : Tokenizer) → IsIndexed T → current_of T ≡ Some 36 → is_ruled_out 36 T ≡ true →
     span_at T (ahead T) ≡ None
-math-ruled-out T right here h = none-read (span_at T (ahead T)) (by_switch (math_is_on T) refl)
-  where
-    b : Begins 36 (ahead T)
-    b = ahead-some T 36 here
-
-    by_switch : (on : Bool) → math_is_on T ≡ on → plan_of (span_at T) (ahead T) ≡ None
-    by_switch true on =
-        ap (plan_of (span_at T)) b.whole
-        ∙ math-opens-here (code_is_on T) (math_is_on T) (single_dollar T) (follows_escape T.events) (code_just_before T) b.code (rest_of (ahead T)) (ap (λ v. v == 36) b.value) on (free-so 36 T h)
-        ∙ ap (preceded (Enter N.MathText ∷ Enter N.MathTextSequence ∷ Consume ∷ [])) (opening-ruled 36 math_names T refl right b h)
-    by_switch false off =
-        ap (plan_of (span_at T)) b.whole
-        ∙ no-span (code_is_on T) (math_is_on T) (single_dollar T) (follows_escape T.events) (code_just_before T) (b.code ∷ rest_of (ahead T))
-        (ap (λ v. (v == 96) && (code_is_on T && (follows_escape T.events || not (is_some_code (is_value 96) (code_just_before T))))) b.value) (and-off (b.code.value == 36) (math_is_on T) _ off)
+math-ruled-out T right here h =
+    let b : Begins 36 (ahead T) = ahead-some T 36 here in
+    ruled-out-span 36 math_names (math_is_on T) (Enter N.MathText ∷ Enter N.MathTextSequence ∷ Consume ∷ []) T refl right b h
+    (λ on. math-opens-here (code_is_on T) (math_is_on T) (single_dollar T) (follows_escape T.events) (code_just_before T) b.code (rest_of (ahead T)) (ap (λ v. v == 36) b.value) on (free-so 36 T h))
+    (λ off. no-span (code_is_on T) (math_is_on T) (single_dollar T) (follows_escape T.events) (code_just_before T) (b.code ∷ rest_of (ahead T))
+    (ap (λ v. (v == 96) && (code_is_on T && (follows_escape T.events || not (is_some_code (is_value 96) (code_just_before T))))) b.value) (and-off (b.code.value == 36) (math_is_on T) _ off))

@@ -1,9 +1,8 @@
 -- What the states of a character reference do, and how runs from them end.
-use Rattle.std.specs.Prelude.{◌≡◌, ℕ, ◌+◌, ◌-◌, ◌≤◌, Bool, not, ◌&&◌, ◌||◌, ◌==◌, nat_lt, if◌then◌else◌, Option, Some, None, is_some, List, [], ◌∷◌, ◌++◌, length, codes}
-use Rattle.std.specs.List.{slice_range}
+use Rattle.std.specs.Prelude.{◌≡◌, ℕ, ◌+◌, ◌-◌, ◌≤◌, Bool, true, not, ◌&&◌, ◌||◌, ◌==◌, nat_lt, if◌then◌else◌, Option, Some, None, is_some, List, [], ◌∷◌, ◌++◌, length, codes}
+use Rattle.std.specs.List.{list_all, slice_range}
 use Rattle.markdown_engine_content.specs.Codes.{Code}
 use Rattle.markdown_engine_content.specs.ListFunctions.{rest_of}
-use Rattle.markdown_engine_content.specs.Place.{point_of}
 use Rattle.markdown_engine.specs.Operations.{Op, Enter, Exit, Consume, done, current_of, IsOpen, scratched}
 use Rattle.markdown_engine.specs.PastTree.{EndsAs, TreeReading}
 use Rattle.markdown_engine.specs.StateRuns.{Stepped, stepped}
@@ -12,7 +11,6 @@ use Rattle.markdown_model.specs.CodeTests.{is_value, is_among, is_between, next_
 use Rattle.markdown_model.specs.Grammar.{span}
 use Rattle.markdown_model.specs.SingleConstructs as SingleConstructs
 use Rattle.markdown_util.specs.Reference.{Table, IsMarker, html_5_rows, named_value, value_size_max, is_value_byte}
-use Rattle.markdown_plan.specs.Characters.{bytes_of, ReadsText}
 use Rattle.markdown_plan.specs.Plan.{Plan, preceded, DoesAs}
 use Rattle.markdown_engine_content.specs.declared.event.Name.TheVariants as N
 use Rattle.markdown_engine.specs.declared.state.State.TheVariants.{Next, Retry, Nok}
@@ -36,29 +34,23 @@ abbrev pub rested : TokenizeState → TokenizeState
 rested s = record s { marker = 0; size = 0 }
 
 pub record IsAtRest (T : Tokenizer) : Type 0 where
-  pub text : ReadsText T
   pub marker : T.tokenize_state.marker ≡ 0
   pub size : T.tokenize_state.size ≡ 0
 
 -- after the `&`
 pub record IsOpened (T : Tokenizer) : Type 0 where
-  pub text : ReadsText T
   pub whole : IsOpen N.CharacterReference T
   pub marker : T.tokenize_state.marker ≡ 0
   pub size : T.tokenize_state.size ≡ 0
 
--- how many bytes of the document stand before the place
-abbrev pub index_of : Tokenizer → ℕ
-index_of T = (point_of T.cursor).index
-
--- the bytes of the value that are passed: so many as are counted, just before the place
+-- the codes of the value that are passed: so many as are counted, just before the place
 abbrev pub read_of : Tokenizer → List ℕ
-read_of T = slice_range (bytes_of T) (index_of T - T.tokenize_state.size) (index_of T)
+read_of T = slice_range (values_of T.cursor.codes) (T.cursor.at - T.tokenize_state.size) T.cursor.at
 
--- in the value
+-- in the value: so many codes are passed, each of them one of its kind
 pub record IsValue (T : Tokenizer) : Type 0 where
-  pub text : ReadsText T
-  pub begins : T.tokenize_state.size ≤ index_of T
+  pub count : length (read_of T) ≡ T.tokenize_state.size
+  pub passed : list_all (is_value_byte T.tokenize_state.marker) (read_of T) ≡ true
   pub value : IsOpen N.CharacterReferenceValue T
   pub whole : rest_of T.stack ≡ N.CharacterReference ∷ rest_of (rest_of T.stack)
   pub marker : IsMarker T.tokenize_state.marker
@@ -155,11 +147,11 @@ start_ends T ok U = EndsAs (reference_here T) None T.tokenize_state T ok U
 abbrev pub is_value_code : ℕ → Code → Bool
 is_value_code marker c = is_value_byte marker c.value
 
--- so many bytes as a value of this kind has, which may be one
+-- so many codes as a value of this kind has, which may be one
 abbrev pub is_whole : ℕ → List ℕ → Bool
 is_whole marker value = is_between 1 (value_size_max marker) (length value) && is_known marker value
 
--- the rest of a value of this kind behind these bytes of it: the codes that go on with it, and a `;`
+-- the rest of a value of this kind behind these codes of it: those that go on with it, and a `;`
 abbrev pub value_of : ℕ → List ℕ → List Code × List Code → Option (List Op)
 value_of marker read s =
     if is_whole marker (read ++ values_of s.0) && next_is (is_value (byte ";")) s.1 then Some (consumes s.0 ++ closing) else None

@@ -150,9 +150,10 @@ fn is_known(tokenizer: &Tokenizer) -> bool
     requires { IsValue tokenizer.now }
     ensures { result ≡ is_known tokenizer.now.tokenize_state.marker (read_of tokenizer.now) }
 {
+    let bytes = tokenizer.cursor.document();
     let end = tokenizer.point().index;
     let start = end - tokenizer.tokenize_state.size;
-    let value = Slice::from_indices(tokenizer.parse_state.bytes, start, end);
+    let value = Slice::from_indices(bytes, start, end);
     tokenizer.tokenize_state.marker != b'&' || is_name(value.bytes)
 }
 

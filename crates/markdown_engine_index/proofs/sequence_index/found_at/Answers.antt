@@ -2,7 +2,7 @@
 use Rattle.std.proofs.Common.{◌≡◌, ◌||◌, ◌==◌, cond, false, inl, inr, Some, ap, refl, sym, ◌∙◌, arith}
 use Rattle.std.proofs.lemmas.Bool.{ne_eqb}
 use Rattle.std.proofs.lemmas.Bool.Decides.{nat_tests}
-use Rattle.markdown_engine_index.specs.declared.sequence_index.Sequence.TheVariants.{CommentEnd, SectionEnd, InstructionEnd, DeclarationEnd, ResourceEnd, ProtocolSlash, WwwDot, SpanMark}
+use Rattle.markdown_engine_index.specs.declared.sequence_index.Sequence.TheVariants.{CommentEnd, SectionEnd, InstructionEnd, DeclarationEnd, ResourceEnd, WwwDot, SpanMark}
 use Rattle.markdown_engine_index.proofs.SequenceIndexLemmas.{next-is, span-here, unmoved}
 use Rattle.markdown_engine_index.proofs.sequence_index.found_at.Goals as goal
 
@@ -26,10 +26,6 @@ returns-in-62 c s = unmoved s c.args.place.now 62 c.args.last (c.requires ∙ ap
 pub returns-in-41 : goal.returns-in-41
 returns-in-41 c ResourceEnd = cc
 returns-in-41 c s = unmoved s c.args.place.now 41 c.args.last (c.requires ∙ ap (λ n. Some n) c.in-41.is) refl
-
-pub returns-in-58 : goal.returns-in-58
-returns-in-58 c ProtocolSlash = cc
-returns-in-58 c s = unmoved s c.args.place.now 58 c.args.last (c.requires ∙ ap (λ n. Some n) c.in-58.is) refl
 
 pub returns-in-46 : goal.returns-in-46
 returns-in-46 c WwwDot = cc
@@ -57,8 +53,6 @@ returns-in_default c DeclarationEnd =
     unmoved DeclarationEnd c.args.place.now c.args.code c.args.last c.requires (ne_eqb c.args.code 62 (λ e. omega arith))
 returns-in_default c ResourceEnd =
     unmoved ResourceEnd c.args.place.now c.args.code c.args.last c.requires (ne_eqb c.args.code 41 (λ e. omega arith))
-returns-in_default c ProtocolSlash =
-    unmoved ProtocolSlash c.args.place.now c.args.code c.args.last c.requires (ne_eqb c.args.code 58 (λ e. omega arith))
 returns-in_default c WwwDot =
     unmoved WwwDot c.args.place.now c.args.code c.args.last c.requires (ne_eqb c.args.code 46 (λ e. omega arith))
 returns-in_default c SpanMark = unmoved SpanMark c.args.place.now c.args.code c.args.last c.requires (not-span c)
