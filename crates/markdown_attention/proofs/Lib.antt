@@ -10,6 +10,7 @@ pub mod RunNumbers
 pub mod PairScanIsPairList
 pub mod AttentionLaws
 pub mod RunsReadLemmas
+pub mod RunSearch
 pub mod RunsOfTreeLemmas
 pub mod BracketEventsOfGroups
 pub mod PairsInRunOrder

@@ -17,3 +17,4 @@ pub mod RunsInOrder
 -- What serves proofs: what functions and proofs promise each other.
 pub mod PairSizes
 pub mod SizeNodes
+pub mod RunSteps

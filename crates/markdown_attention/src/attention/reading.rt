@@ -1,7 +1,8 @@
 //! Reading the runs of markers off the events.
 
-ghost use Rattle.std.specs.Prelude.{◌≡◌, ◌+◌, ◌<◌, ◌^◌, ◌++◌, length, drop, count_by, IfOk, OnOk, IsUtf8, None};
+ghost use Rattle.std.specs.Prelude.{◌≡◌, ℕ, ◌+◌, ◌<◌, ◌≤◌, ◌^◌, ◌++◌, length, drop, slice_index_or, count_by, false, IfOk, OnOk, IsUtf8, None};
 ghost use Rattle.markdown_attention.specs.RunsRead.{opens_run, opens_text, is_beside_marker, is_flanking, may_act, sequence_at, where_after, outermost, first_run, runs_from, IsRunPlace, FirstHasPlaces, HaveRunPlaces};
+ghost use Rattle.markdown_attention.specs.RunSteps.{changes_reading};
 ghost use Rattle.markdown_attention.specs.PairScan.{Numbered};
 ghost use Rattle.markdown_model.specs.GfmAutolinkLiteral.{is_other};
 ghost use Rattle.markdown_util.specs.Neighbours.{class_of};
@@ -162,6 +163,58 @@ fn read_event(
     Ok(())
 }
 
+// Whether the event changes what is read: the Enter of a run, or one of the text of a label. The name is looked at first, since most events have
+// another.
+#[inline(always)]
+fn changes_reading(event: &Event) -> bool
+    ensures { result ≡ changes_reading event.now }
+{
+    match event.name {
+        Name::LabelText => true,
+        Name::AttentionSequence => matches!(event.kind, Kind::Enter),
+        _ => false,
+    }
+}
+
+// How many events are looked at with no other look between.
+const FOUR: usize = 4;
+
+// How many of the four events from this index on come before the first that changes what is read.
+#[inline(always)]
+fn others_among_four(events: &Events, at: usize) -> usize
+    requires within { at + FOUR ≤ length events.now }
+    requires counted { length events.now < 2 ^ 64 }
+    ensures within { result ≤ FOUR }
+    ensures none { (i : ℕ) (e : Event) → at ≤ i → i < at + result → changes_reading (slice_index_or events.now i e) ≡ false }
+{
+    for count in 0..FOUR {
+        if changes_reading(&events.bare_at(at + count)) {
+            return count;
+        }
+    }
+    FOUR
+}
+
+// The number of the first event from an event on that changes what is read, or of one before it, where fewer than four are left.
+#[inline(always)]
+fn next_change(events: &Events, from: usize) -> usize
+    requires { from ≤ length events.now }
+    ensures from { from ≤ result }
+    ensures within { result ≤ length events.now }
+    ensures none { (i : ℕ) (e : Event) → from ≤ i → i < result → changes_reading (slice_index_or events.now i e) ≡ false }
+{
+    let count = events.len();
+    let mut at = from;
+    while count - at >= FOUR {
+        let others = others_among_four(events, at);
+        at += others;
+        if others < FOUR {
+            return at;
+        }
+    }
+    at
+}
+
 /// The runs of the events, in order, and how many texts of labels there are.
 #[derive(Drop)]
 pub(crate) struct Found {
@@ -188,9 +241,12 @@ pub(crate) fn read(
         outer: Stack::new(alloc),
         texts: 0,
     };
-    for index in 0..events.len() {
+    let count = events.len();
+    let mut index = next_change(events, 0);
+    while index < count {
         read_event(bytes, tildes, events, index, &place, &mut list)?;
         place.pass(index, events.bare_at(index))?;
+        index = next_change(events, index + 1);
     }
     Ok(Found {
         list,

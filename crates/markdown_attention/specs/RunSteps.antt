@@ -1,0 +1,8 @@
+-- Which events change what is read of the runs.
+use Rattle.std.specs.Prelude.{Bool, ◌||◌}
+use Rattle.markdown_engine_content.specs.declared.event.Event.{Event}
+use Rattle.markdown_attention.specs.RunsRead.{is_text, opens_run}
+
+-- the Enter of a run, or an event of the text of a label
+abbrev pub changes_reading : Event → Bool
+changes_reading e = opens_run e || is_text e.name
