@@ -1,5 +1,5 @@
 -- What a construct that is tried in a text leads to, and data.
-use Rattle.std.proofs.Common.{◌≡◌, ◌≢◌, ℕ, ◌<◌, ◌≤◌, ◌==◌, ◌||◌, Bool, true, false, Some, None, List, [], ◌∷◌, refl, sym, ap, subst, ◌∙◌, arith}
+use Rattle.std.proofs.Common.{◌≡◌, ◌≢◌, ℕ, ◌<◌, ◌≤◌, ◌==◌, ◌||◌, Bool, true, false, Option, Some, None, List, [], ◌∷◌, refl, sym, ap, subst, ◌∙◌, arith}
 use Rattle.std.specs.List.{list_any}
 use Rattle.std.proofs.lemmas.Bool.{eqb-true, ne_eqb}
 use Rattle.std.specs.Prelude.{is_some, ◌&&◌}
@@ -10,9 +10,11 @@ use Rattle.markdown_engine_content.specs.Place.{code_at, moved}
 use Rattle.markdown_engine_content.proofs.PlaceRules.{ahead-moved}
 use Rattle.markdown_engine.specs.Operations.{HasCode, ahead, current_of, scratched}
 use Rattle.markdown_engine.specs.PastTree.{past, Reads, TreeReading}
+use Rattle.markdown_engine.specs.StateWords.{StateWords, words_in}
 use Rattle.markdown_engine.specs.Weights.{codes_left}
+use Rattle.markdown_engine.specs.declared.state.StateName.{StateName}
 use Rattle.markdown_engine_index.specs.RunIndex.{is_asked}
-use Rattle.markdown_engine.specs.declared.state.StateName.TheVariants.{AttentionStart, AutolinkStart, CharacterEscapeStart, CharacterReferenceStart, GfmAutolinkLiteralProtocolStart, GfmAutolinkLiteralWwwStart, GfmLabelStartFootnoteStart}
+use Rattle.markdown_engine.specs.declared.state.StateName.TheVariants.{AttentionStart, AutolinkStart, CharacterEscapeStart, GfmAutolinkLiteralWwwStart, GfmLabelStartFootnoteStart}
 use Rattle.markdown_engine.specs.declared.state.StateName.TheVariants.{HardBreakEscapeStart, HtmlTextStart, LabelEndStart, LabelStartImageStart, LabelStartLinkStart, RawTextStart}
 use Rattle.markdown_engine.specs.declared.tokenizer.TokenizeState.{TokenizeState}
 use Rattle.markdown_engine.specs.declared.tokenizer.Tokenizer.{Tokenizer}
@@ -25,7 +27,6 @@ use Rattle.markdown_label.proofs.NextCodeTests.{at-none, at-value}
 use Rattle.markdown_label.proofs.BegunStartPlaces.{link-within, footnote-within, image-within}
 use Rattle.markdown_leaf.specs.Autolink.{link_here}
 use Rattle.markdown_leaf.specs.CharacterEscape.{escape_here}
-use Rattle.markdown_leaf.specs.CharacterReference.{reference_here}
 use Rattle.markdown_leaf.specs.HardBreakEscape.{break_here}
 use Rattle.markdown_leaf.specs.RawText as RawText
 use Rattle.markdown_leaf.proofs.RawTextWithoutEnd.{code-ruled-out, math-ruled-out}
@@ -35,7 +36,7 @@ use Rattle.markdown_leaf_gfm.specs.GfmAutolinkLiteral as GfmAutolinkLiteral
 use Rattle.markdown_leaf_gfm.specs.GfmTaskListItemCheck as GfmTaskListItemCheck
 use Rattle.markdown_leaf_html.specs.HtmlText as HtmlText
 use Rattle.markdown_model.specs.CodeTests.{is_value, next_is}
-use Rattle.markdown_model.specs.GfmAutolinkLiteral.{schemes, www, first_letters}
+use Rattle.markdown_model.specs.GfmAutolinkLiteral.{www, first_letters}
 use Rattle.markdown_model.specs.TextLines.{data_up_to}
 use Rattle.markdown_model.proofs.PlainConstructs.{ReadsPlain, plain_constructs}
 use Rattle.markdown_plan.specs.Characters.{bytes_of}
@@ -44,15 +45,16 @@ use Rattle.markdown_run_row.specs.RunOverElements.{AreSingle, Advances, DataFini
 use Rattle.markdown_run_row.proofs.ConstructNodes.{node-of}
 use Rattle.markdown_run_row.proofs.ElementSteps.{some-ahead, advances-finishes, data-advances, node-advances, run-advances}
 use Rattle.markdown_run_row.proofs.RowFields.{lost-within}
-use Rattle.markdown_run_text.specs.TextContent.{StandsAlone, span_markers, text_choice_of, text_markers, text_passed}
-use Rattle.markdown_run_text.proofs.TextContentLaws.{angle-row, slash-row}
+use Rattle.markdown_run_text.specs.TextContent.{StandsAlone, other_markers, sole_try, span_markers, text_choice_of, text_passed, tried_reading}
+use Rattle.markdown_run_text.proofs.TextContentLaws.{SoleBy, SoleOrAlone, sole-or-alone, states_and_called, angle-row, slash-row}
 use Rattle.markdown_run_text.proofs.TextElements.{is_marker}
 use Rattle.markdown_run_text.proofs.TextLabelTries.{image-advances, image-alone, footnote-advances, link-advances, bracket-alone, made-advances, failed-advances, end-alone}
 use Rattle.markdown_run_text.proofs.TextSteps.{IsSame, same-row, choice-same, indexed-past, domains-past, ready-past, no-check-past, tree-kept, registered-kept, made-kept, some-none, ends-on, lost-there, not-lost, lost-left, lost-current, same-lost}
-use Rattle.markdown_run_text.proofs.TextTries.{ReadsElements, single-ahead, first-reads, second-reads, second-alone, reference-reads, reference-alone, span-reads, span-alone, run-reads, run-alone, run-leaf, protocol-reads, protocol-alone, www-reads, www-alone, other-alone}
+use Rattle.markdown_run_text.proofs.TextTries.{ReadsElements, single-ahead, first-reads, second-reads, second-alone, span-reads, span-alone, run-reads, run-alone, run-leaf, www-reads, www-alone}
 use Rattle.markdown_run_readers.specs.TextStops.{text_stops}
 use Rattle.markdown_run.specs.ElementsOfText.{indexed, data_stops, MayTry, IsReady, EndsAt, EndsByData, LeadsTo, Passes, Stays, ReadsElement}
-use Rattle.markdown_run.specs.RunConstruct.{ConstructEnds}
+use Rattle.markdown_run.specs.Layer.{inline, text-within}
+use Rattle.markdown_run.specs.RunConstruct.{Asks, IsConstruct, EndsBy, ConstructEnds}
 use Rattle.markdown_run_readers.specs.ReaderEnds.{ReadsOrStays}
 use Rattle.markdown_run.proofs.IndexedRows.{advances-indexed, mark-indexed, row-alone}
 use Rattle.markdown_run.proofs.StartsAndEnds.{image-begun, link-begun, footnote-begun, image-fails, link-fails, footnote-fails, end-made}
@@ -149,15 +151,33 @@ span-ruled T v r here h k = by_marker (v == 96) refl
         let there : current_of T ≡ Some 36 = here ∙ ap (λ n. Some n) math in
         alone-stays T T 36 r there refl (span-alone T 36 there refl (math-ruled-out T r.may_try.runs there (ap (λ n. RawText.is_ruled_out n T) (sym math) ∙ k)))
 
-pub reference-ends : (T U : Tokenizer) (ok : Bool) → IsReady T → current_of T ≡ Some (byte "&") →
-    ConstructEnds CharacterReferenceStart T ok U → ReadsElement T ok U
-reference-ends T U ok r here k =
-    plain-ends T U ok (byte "&") (reference_here T) r here k (search plain_constructs) (reference-reads T here) (reference-alone T here)
+-- what alone is tried at the code at hand
 
-pub protocol-ends : (T U : Tokenizer) (ok : Bool) (v : ℕ) → IsReady T → current_of T ≡ Some v →
-    list_any (λ n. v == n) (first_letters schemes) ≡ true → ConstructEnds GfmAutolinkLiteralProtocolStart T ok U → ReadsElement T ok U
-protocol-ends T U ok v r here h k =
-    plain-ends T U ok v (GfmAutolinkLiteral.protocol_here T) r here k (search plain_constructs) (protocol-reads T v r.may_try.start.last here h) (protocol-alone T v r.may_try.start.last here h)
+sole-ends-by : (o : Option (Tokenizer → TreeReading)) (w : StateWords) (name : StateName) (T U : Tokenizer) (ok : Bool) (v : ℕ) → IsReady T →
+    current_of T ≡ Some v → SoleBy T w o → EndsBy o name T ok U → ReadsElement T ok U
+sole-ends-by None w name T U ok v r here h k = absurd h
+sole-ends-by (Some reading) w name T U ok v r here h k = plain-ends T U ok v (reading T) r here k h.own h.reads h.alone
+
+-- a code at which nothing else is tried
+module _ (T : Tokenizer) (v : ℕ) (r : IsReady T) (here : current_of T ≡ Some v) (other : list_any (λ n. v == n) other_markers ≡ false) where
+  sole-here : SoleOrAlone inline T (sole_try v)
+  sole-here = sole-or-alone inline T r.may_try.start v here other
+
+  pub sole-asks : (name : StateName) → sole_try v ≡ Some name → IsConstruct name T
+  sole-asks name e =
+      asks-by (tried_reading name) (subst (λ (o : Option StateName). SoleOrAlone inline T o) e sole-here)
+    where
+      asks-by : (o : Option (Tokenizer → TreeReading)) → SoleBy T (states_and_called (words_in inline) name) o → Asks o name T
+      asks-by None h = absurd h
+      asks-by (Some reading) h = subst (λ (w : StateWords). w.ready T) (sym (text-within name)) h.ready
+
+  pub sole-ends : (name : StateName) (U : Tokenizer) (ok : Bool) → sole_try v ≡ Some name → ConstructEnds name T ok U →
+      ReadsElement T ok U
+  sole-ends name U ok e k =
+      sole-ends-by (tried_reading name) (states_and_called (words_in inline) name) name T U ok v r here (subst (λ (o : Option StateName). SoleOrAlone inline T o) e sole-here) k
+
+  pub none-tried : sole_try v ≡ None → Stays T T
+  none-tried e = alone-stays T T v r here refl (subst (λ (o : Option StateName). SoleOrAlone inline T o) e sole-here)
 
 pub www-ends : (T U : Tokenizer) (ok : Bool) (v : ℕ) → IsReady T → current_of T ≡ Some v →
     list_any (λ n. v == n) (first_letters (www ∷ [])) ≡ true → ConstructEnds GfmAutolinkLiteralWwwStart T ok U → ReadsElement T ok U
@@ -344,7 +364,3 @@ or-none false b e h = h
 pub none-among : (v : ℕ) (ns : List ℕ) → IsNone v ns → list_any (λ n. v == n) ns ≡ false
 none-among v [] h = refl
 none-among v (n ∷ ns) h = or-none (v == n) (list_any (λ m. v == m) ns) (ne_eqb v n h.0) (none-among v ns h.1)
-
--- nothing is tried here
-pub nothing-tried : (T : Tokenizer) (v : ℕ) → IsReady T → current_of T ≡ Some v → list_any (λ n. v == n) text_markers ≡ false → Stays T T
-nothing-tried T v r here h = alone-stays T T v r here refl (other-alone T v here h)

@@ -3,12 +3,12 @@ use Rattle.std.proofs.Common.{◌≡◌, ◌-◌, ℕ, Bool, true, false, List, 
 use Rattle.markdown_engine_content.specs.Codes.{Code}
 use Rattle.markdown_engine.specs.FailedRun.{Grown}
 use Rattle.markdown_engine.specs.Operations.{ahead, frame_of}
-use Rattle.markdown_engine.specs.PastTree.{TreeReading, Refuses}
+use Rattle.markdown_engine.specs.PastTree.{TreeReading, Refuses, EndsAs}
 use Rattle.markdown_engine.specs.StateRuns.{restored}
 use Rattle.markdown_engine.specs.declared.state.State.TheVariants as State
 use Rattle.markdown_engine.specs.declared.state.StateName.{StateName}
-use Rattle.markdown_engine.specs.declared.state.StateName.TheVariants.{AttentionStart, AutolinkStart, CharacterEscapeStart, CharacterReferenceStart, DataStart, DestinationStart, LabelStart, TitleStart, GfmAutolinkLiteralProtocolStart, GfmAutolinkLiteralWwwStart}
-use Rattle.markdown_engine.specs.declared.state.StateName.TheVariants.{GfmLabelStartFootnoteStart, GfmTaskListItemCheckStart, HardBreakEscapeStart, HtmlTextStart, LabelEndStart, LabelStartImageStart, LabelStartLinkStart, RawTextStart, SpaceOrTabStart, SpaceOrTabEolStart}
+use Rattle.markdown_engine.specs.declared.state.StateName.TheVariants.{AttentionStart, DataStart, DestinationStart, LabelStart, TitleStart, GfmLabelStartFootnoteStart}
+use Rattle.markdown_engine.specs.declared.state.StateName.TheVariants.{LabelEndStart, LabelStartImageStart, LabelStartLinkStart, SpaceOrTabStart, SpaceOrTabEolStart}
 use Rattle.markdown_engine.specs.declared.tokenizer.TokenizeState.{TokenizeState}
 use Rattle.markdown_engine.specs.declared.tokenizer.Tokenizer.{Tokenizer}
 use Rattle.markdown_engine.proofs.ReadingSequences.{scratched-same}
@@ -20,9 +20,10 @@ use Rattle.markdown_model.specs.Grammar.{Reading}
 use Rattle.markdown_model.specs.LabelEnd.{Element}
 use Rattle.markdown_run_readers.specs.ReaderEnds.{ReadsOrStays, BeginsOrStays}
 use Rattle.markdown_run_row.specs.Row.{past_mark}
-use Rattle.markdown_run.specs.RunConstruct.{IsConstruct, chain_before, fields_after, start_reading, EndsOrLoses, ConstructEnds}
+use Rattle.markdown_run_text.specs.TextContent.{tried_reading}
+use Rattle.markdown_run.specs.RunConstruct.{IsConstruct, OtherAsks, Asks, chain_before, fields_after, start_reading, EndsOrLoses, OtherEnds, EndsBy, ConstructEnds}
 use Rattle.markdown_run_readers.proofs.LabelStartConstructs.{image-begins, link-begins, footnote-begins, image-not, link-not, footnote-not}
-use Rattle.markdown_run.specs.Layer.{ends_of}
+use Rattle.markdown_run.specs.Layer.{ends_of, ready_of}
 
 -- U with the events, the edits, the open names and the place of T
 abbrev pub put_back : Tokenizer → Tokenizer → Tokenizer
@@ -47,39 +48,70 @@ ends-not : (T U V : Tokenizer) → EndFails T U → V ≡ put_back T U → EndsO
 unfolding restored frame_of
 ends-not T U V k e = (k.refused, e ∙ restored-fails false State.Ok State.Nok (lost_fields T) T U k.fails)
 
-refused-stays : (name : StateName) (T U V : Tokenizer) → IsConstruct name T → ends_of name T false U →
-    V ≡ put_back T U → ConstructEnds name T false V
-refused-stays CharacterEscapeStart T U V c k e = refuses-stays _ None T.tokenize_state T U V k e
-refused-stays CharacterReferenceStart T U V c k e = refuses-stays _ None T.tokenize_state T U V k e
-refused-stays HardBreakEscapeStart T U V c k e = refuses-stays _ None T.tokenize_state T U V k e
-refused-stays AttentionStart T U V c k e = refuses-stays _ None T.tokenize_state T U V k e
-refused-stays AutolinkStart T U V c k e = refuses-stays _ None T.tokenize_state T U V k e
-refused-stays DestinationStart T U V c k e = refuses-stays _ None T.tokenize_state T U V k e
-refused-stays TitleStart T U V c k e = refuses-stays _ None T.tokenize_state T U V k e
-refused-stays LabelStart T U V c k e = refuses-stays _ None T.tokenize_state T U V k e
-refused-stays HtmlTextStart T U V c k e = refuses-stays _ None T.tokenize_state T U V k e
-refused-stays RawTextStart T U V c k e = refuses-stays _ None T.tokenize_state T U V k e
-refused-stays DataStart T U V c k e = refuses-stays _ None T.tokenize_state T U V k e
-refused-stays GfmTaskListItemCheckStart T U V c k e = refuses-stays _ None T.tokenize_state T U V k e
-refused-stays GfmAutolinkLiteralProtocolStart T U V c k e = refuses-stays _ None T.tokenize_state T U V k e
-refused-stays GfmAutolinkLiteralWwwStart T U V c k e = refuses-stays _ None T.tokenize_state T U V k e
-refused-stays SpaceOrTabStart T U V c k e =
+-- how runs of the states of a construct end, by what it reads where it is tried in a text
+abbrev TriedEnds : Option (Tokenizer → TreeReading) → StateName → Tokenizer → Bool → Tokenizer → Type 0
+TriedEnds None name T ok U = ends_of name T ok U
+TriedEnds (Some reading) name T ok U = EndsAs (reading T) None T.tokenize_state T ok U
+
+tried-ends : (name : StateName) (T U : Tokenizer) (ok : Bool) → ends_of name T ok U →
+    TriedEnds (tried_reading name) name T ok U
+tried-ends AttentionStart T U ok k = k
+tried-ends _ T U ok k = k
+
+-- what a construct asks, the state that starts it asks
+
+other-ready : (name : StateName) (T : Tokenizer) → OtherAsks name T → ready_of name T
+other-ready AttentionStart T c = c
+other-ready DestinationStart T c = c
+other-ready TitleStart T c = c
+other-ready LabelStart T c = c
+other-ready DataStart T c = c
+other-ready SpaceOrTabStart T c = c
+other-ready SpaceOrTabEolStart T c = c
+other-ready LabelStartImageStart T c = c
+other-ready LabelStartLinkStart T c = c
+other-ready GfmLabelStartFootnoteStart T c = c
+other-ready LabelEndStart T c = c
+other-ready _ T c = absurd c
+
+asks-ready : (o : Option (Tokenizer → TreeReading)) (name : StateName) (T : Tokenizer) → Asks o name T → ready_of name T
+asks-ready None name T c = other-ready name T c
+asks-ready (Some reading) name T c = c
+
+pub construct-ready : (name : StateName) (T : Tokenizer) → IsConstruct name T → ready_of name T
+construct-ready name T c = asks-ready (tried_reading name) name T c
+
+-- a construct that is refused
+
+refused-other : (name : StateName) (T U V : Tokenizer) → OtherAsks name T → ends_of name T false U → V ≡ put_back T U →
+    OtherEnds name T false V
+refused-other AttentionStart T U V c k e = refuses-stays _ None T.tokenize_state T U V k e
+refused-other DestinationStart T U V c k e = refuses-stays _ None T.tokenize_state T U V k e
+refused-other TitleStart T U V c k e = refuses-stays _ None T.tokenize_state T U V k e
+refused-other LabelStart T U V c k e = refuses-stays _ None T.tokenize_state T U V k e
+refused-other DataStart T U V c k e = refuses-stays _ None T.tokenize_state T U V k e
+refused-other SpaceOrTabStart T U V c k e =
     refuses-stays _ (chain_before SpaceOrTabStart T) (fields_after SpaceOrTabStart T.tokenize_state) T U V k e
-refused-stays SpaceOrTabEolStart T U V c k e =
+refused-other SpaceOrTabEolStart T U V c k e =
     refuses-stays _ (chain_before SpaceOrTabEolStart T) (fields_after SpaceOrTabEolStart T.tokenize_state) T U V k e
-refused-stays LabelStartImageStart T U V c k e =
+refused-other LabelStartImageStart T U V c k e =
     begins-not (start_reading LabelStartImageStart T) 0 (image_test T) T U V refl (image-not T) k e
-refused-stays LabelStartLinkStart T U V c k e =
+refused-other LabelStartLinkStart T U V c k e =
     begins-not (start_reading LabelStartLinkStart T) 0 (link_test T) T U V refl (link-not T) k e
-refused-stays GfmLabelStartFootnoteStart T U V c k e =
+refused-other GfmLabelStartFootnoteStart T U V c k e =
     begins-not (start_reading GfmLabelStartFootnoteStart T) 0 (footnote_test T) T U V refl (footnote-not T) k e
-refused-stays LabelEndStart T U V c k e = ends-not T U V k e
-refused-stays _ T U V c k e = absurd c
+refused-other LabelEndStart T U V c k e = ends-not T U V k e
+refused-other _ T U V c k e = absurd c
+
+refused-stays : (o : Option (Tokenizer → TreeReading)) (name : StateName) (T U V : Tokenizer) → Asks o name T →
+    TriedEnds o name T false U → V ≡ put_back T U → EndsBy o name T false V
+refused-stays None name T U V c k e = refused-other name T U V c k e
+refused-stays (Some reading) name T U V c k e = refuses-stays (reading T) None T.tokenize_state T U V k e
 
 pub construct-stays : (name : StateName) (T U V : Tokenizer) (ok : Bool) → IsConstruct name T → ok ≡ false →
     ends_of name T ok U → V ≡ put_back T U → ConstructEnds name T ok V
 construct-stays name T U V true c h k e = cc
-construct-stays name T U V false c h k e = refused-stays name T U V c k e
+construct-stays name T U V false c h k e = refused-stays (tried_reading name) name T U V c (tried-ends name T U false k) e
 
 -- an end of a label that is read
 pub ends-made : (T U : Tokenizer) → Ends T U → EndsOrLoses T true U
@@ -88,31 +120,27 @@ ends-made T U k =
     (k.back, (k.kind, (k.tail, (k.holds ∙ ap (λ xs. Some ((k.back, (k.kind, k.tail)), xs)) (sym k.after), k.left))))
 
 -- a construct that holds
-read-so : (name : StateName) (T U : Tokenizer) → IsConstruct name T → ends_of name T true U →
-    ConstructEnds name T true U
-read-so AttentionStart T U c k = let r : ReadsRun T U = k in (r.there, (r.reads, r.left))
-read-so CharacterEscapeStart T U c k = k
-read-so CharacterReferenceStart T U c k = k
-read-so HardBreakEscapeStart T U c k = k
-read-so AutolinkStart T U c k = k
-read-so DestinationStart T U c k = k
-read-so TitleStart T U c k = k
-read-so LabelStart T U c k = k
-read-so HtmlTextStart T U c k = k
-read-so RawTextStart T U c k = k
-read-so DataStart T U c k = k
-read-so GfmTaskListItemCheckStart T U c k = k
-read-so GfmAutolinkLiteralProtocolStart T U c k = k
-read-so GfmAutolinkLiteralWwwStart T U c k = k
-read-so SpaceOrTabStart T U c k = k
-read-so SpaceOrTabEolStart T U c k = k
-read-so LabelStartImageStart T U c k = image-begins T U k
-read-so LabelStartLinkStart T U c k = link-begins T U k
-read-so GfmLabelStartFootnoteStart T U c k = footnote-begins T U k
-read-so LabelEndStart T U c k = ends-made T U k
-read-so _ T U c k = absurd c
+
+other-reads : (name : StateName) (T U : Tokenizer) → OtherAsks name T → ends_of name T true U → OtherEnds name T true U
+other-reads AttentionStart T U c k = let r : ReadsRun T U = k in (r.there, (r.reads, r.left))
+other-reads DestinationStart T U c k = k
+other-reads TitleStart T U c k = k
+other-reads LabelStart T U c k = k
+other-reads DataStart T U c k = k
+other-reads SpaceOrTabStart T U c k = k
+other-reads SpaceOrTabEolStart T U c k = k
+other-reads LabelStartImageStart T U c k = image-begins T U k
+other-reads LabelStartLinkStart T U c k = link-begins T U k
+other-reads GfmLabelStartFootnoteStart T U c k = footnote-begins T U k
+other-reads LabelEndStart T U c k = ends-made T U k
+other-reads _ T U c k = absurd c
+
+read-so : (o : Option (Tokenizer → TreeReading)) (name : StateName) (T U : Tokenizer) → Asks o name T →
+    TriedEnds o name T true U → EndsBy o name T true U
+read-so None name T U c k = other-reads name T U c k
+read-so (Some reading) name T U c k = k
 
 pub construct-reads : (name : StateName) (T U : Tokenizer) (ok : Bool) → IsConstruct name T → ok ≡ true →
     ends_of name T ok U → ConstructEnds name T ok U
-construct-reads name T U true c h k = read-so name T U c k
+construct-reads name T U true c h k = read-so (tried_reading name) name T U c (tried-ends name T U true k)
 construct-reads name T U false c h k = cc

@@ -36,7 +36,6 @@ use Rattle.markdown_run.proofs.TreesWithoutRuns.{paired-runless, probes-none}
 use Rattle.markdown_run.proofs.WholeRun.{Starts, start-with, AreFresh, IsFound, finished-may, finished-left, finished-elements}
 use Rattle.markdown_run.proofs.StringTree.{string-finished, string-labels, string-still}
 use Rattle.markdown_run.proofs.RowsWithoutRuns.{row-still}
-use Rattle.markdown_run.proofs.ConstructsAtStart.{start-reads}
 use Rattle.markdown_run.proofs.DataInDocument.{HasLines-HasCodes}
 use Rattle.markdown_run_row.proofs.CutDataLemmas.{merged-same}
 use Rattle.markdown_model.proofs.StringTreeIsElements.{row_of}
@@ -50,11 +49,10 @@ marked-start p pieces T k =
     subst (λ (s : TokenizeState). Starts p pieces (record s { markers = string_markers }) (string_marked T)) k.fields m
 
 -- its fields are at rest
-pub string-ready : (p : ParseState) (pieces : List Piece) (T : Tokenizer) → IsContent p.bytes.now pieces →
-    Starts p pieces at_rest T → StartReady T
-string-ready p pieces T content k =
+pub string-ready : (p : ParseState) (pieces : List Piece) (T : Tokenizer) → Starts p pieces at_rest T → StartReady T
+string-ready p pieces T k =
     record {
-      rest = record { text = start-reads p.bytes.now pieces T content (ap (λ (x : ParseState). x.bytes.now) k.input) k.place; marker = ap (λ (s : TokenizeState). s.marker) k.fields; size = ap (λ (s : TokenizeState). s.size) k.fields };
+      rest = record { marker = ap (λ (s : TokenizeState). s.marker) k.fields; size = ap (λ (s : TokenizeState). s.size) k.fields };
       ends = record { end = ap (λ (s : TokenizeState). s.end) k.fields; seen = ap (λ (s : TokenizeState). s.seen) k.fields };
     }
 

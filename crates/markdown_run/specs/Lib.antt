@@ -4,6 +4,5 @@ pub mod Layer
 pub mod RunConstruct
 pub mod ContentOfDocument
 -- What serves proofs: what functions and proofs promise each other.
-pub mod LayerLaws
 pub mod RunWithPasses
 pub mod ElementsOfText

@@ -1,34 +1,29 @@
 -- Single constructs: what is read at a tokenizer's place, by the name of the state that starts it.
-use Rattle.std.specs.Prelude.{◌≡◌, ℕ, Bool, true, false, List, Option, Some, None, is_none}
+use Rattle.std.specs.Prelude.{◌≡◌, ℕ, Bool, true, false, List, Option, Some, None}
 use Rattle.markdown_engine_content.specs.Codes.{Code}
-use Rattle.markdown_engine.specs.Operations.{ahead, previous_of, scratched}
+use Rattle.markdown_engine.specs.Operations.{ahead, scratched}
 use Rattle.markdown_engine.specs.PastTree.{TreeReading, link_before}
-use Rattle.markdown_engine_content.specs.Place.{last_of}
 use Rattle.markdown_engine_content.specs.Tree.{Forest}
 use Rattle.markdown_engine.specs.declared.resolve.ResolveName.{ResolveName}
 use Rattle.markdown_engine.specs.declared.resolve.ResolveName.TheVariants as R
 use Rattle.markdown_engine.specs.declared.state.StateName.{StateName}
-use Rattle.markdown_engine.specs.declared.state.StateName.TheVariants.{AttentionStart, AutolinkStart, CharacterEscapeStart, CharacterReferenceStart, DataStart, DestinationStart, LabelStart, TitleStart, GfmAutolinkLiteralProtocolStart, GfmAutolinkLiteralWwwStart}
-use Rattle.markdown_engine.specs.declared.state.StateName.TheVariants.{GfmLabelStartFootnoteStart, GfmTaskListItemCheckStart, HardBreakEscapeStart, HtmlTextStart, LabelEndStart, LabelStartImageStart, LabelStartLinkStart, RawTextStart, SpaceOrTabStart, SpaceOrTabEolStart}
+use Rattle.markdown_engine.specs.declared.state.StateName.TheVariants.{AttentionStart, DataStart, DestinationStart, LabelStart, TitleStart, GfmLabelStartFootnoteStart}
+use Rattle.markdown_engine.specs.declared.state.StateName.TheVariants.{LabelEndStart, LabelStartImageStart, LabelStartLinkStart, SpaceOrTabStart, SpaceOrTabEolStart}
 use Rattle.markdown_engine_content.specs.declared.label_kind.LabelKind.{LabelKind}
 use Rattle.markdown_engine.specs.declared.tokenizer.TokenizeState.{TokenizeState}
 use Rattle.markdown_engine.specs.declared.tokenizer.Tokenizer.{Tokenizer}
 use Rattle.markdown_attention.specs.Attention as Attention
-use Rattle.markdown_leaf_gfm.specs.GfmAutolinkLiteral as GfmAutolinkLiteral
-use Rattle.markdown_leaf_gfm.specs.GfmTaskListItemCheck as GfmTaskListItemCheck
-use Rattle.markdown_leaf_html.specs.HtmlText as HtmlText
 use Rattle.markdown_label.specs.LabelEnd as LabelEnd
-use Rattle.markdown_leaf.specs.CharacterReference as CharacterReference
-use Rattle.markdown_leaf.specs.RawText as RawText
 use Rattle.markdown_model.specs.Grammar.{Reading}
 use Rattle.markdown_label.specs.LabelEnd.{last_start, lost_fields}
 use Rattle.markdown_run_readers.specs.ReaderEnds.{options_here, ReadsOrStays, BeginsOrStays}
 use Rattle.markdown_run_text.specs.RunSetting.{setting_of}
+use Rattle.markdown_run_text.specs.TextContent.{tried_reading}
+use Rattle.markdown_run.specs.Layer.{ready_of}
 use Rattle.markdown_model.specs.LabelEnd.{Element}
 use Rattle.markdown_model.specs.TextLines.{data_up_to}
 use Rattle.markdown_partial.specs.PartialData.{stops_of}
 use Rattle.markdown_model.specs.Resource.{DestinationNames, StringNames, destination, title, label}
-use Rattle.markdown_model.specs.SingleConstructs.{follows_escape}
 use Rattle.markdown_model.specs.SingleConstructs as SingleConstructs
 use Rattle.markdown_model.specs.Whitespace.{space_or_tab, space_or_tab_eol}
 use Rattle.markdown_partial.specs.PartialSpaceOrTabEol as PartialSpaceOrTabEol
@@ -37,54 +32,35 @@ use Rattle.markdown_run_row.specs.Row.{makes, past_mark}
 use Rattle.markdown_partial_link.specs.PartialDestination as PartialDestination
 use Rattle.markdown_partial_link.specs.PartialTitle as PartialTitle
 use Rattle.markdown_partial_link.specs.PartialLabel as PartialLabel
-use Rattle.markdown_util.specs.Reference.{html_5_rows}
 
--- The states that start a construct, each with what it asks for: the scratch fields that it counts in are at rest. A span, whitespace with a
--- line ending, and a literal ask that fewer codes are left than a `usize` counts, which holds over every content; an end of a label also that
--- what is known of the ends of resources and of the names that are defined is right, and a literal and a
--- reference that the content is read as characters, as every content is. Whitespace has the fields of what it reads as
+-- The states that start a construct, each with what it asks for. One that is tried in a text and reads one tree (`tried_reading`) asks what its
+-- first state does: that the scratch fields that it counts in are at rest, for a span and a literal also that fewer codes are left than a
+-- `usize` counts, which holds over every content, and for a literal that the content is read as characters, as every content is. Of the
+-- others, whitespace with a line ending asks for so many codes too; an end of a label also that
+-- what is known of the ends of resources and of the names that are defined is right. Whitespace has the fields of what it reads as
 -- its setter leaves them: where it is to go on with a chain, a linked event stands just before, and where whitespace with a line ending is
 -- linked, no blank code is at hand.
+
+abbrev pub OtherAsks : StateName → Tokenizer → Type 0
+OtherAsks DestinationStart T = PartialDestination.StartReady T
+OtherAsks TitleStart T = PartialTitle.StartReady T
+OtherAsks LabelStart T = PartialLabel.StartReady T
+OtherAsks DataStart T = Unit {0}
+OtherAsks AttentionStart T = Attention.StartReady T
+OtherAsks LabelStartImageStart T = Unit {0}
+OtherAsks LabelStartLinkStart T = Unit {0}
+OtherAsks GfmLabelStartFootnoteStart T = Unit {0}
+OtherAsks LabelEndStart T = LabelEnd.StartReady T
+OtherAsks SpaceOrTabStart T = PartialSpaceOrTab.StartReady T
+OtherAsks SpaceOrTabEolStart T = PartialSpaceOrTabEol.StartReady T
+OtherAsks _ T = ⊥
+
+abbrev pub Asks : Option (Tokenizer → TreeReading) → StateName → Tokenizer → Type 0
+Asks None name T = OtherAsks name T
+Asks (Some reading) name T = ready_of name T
+
 abbrev pub IsConstruct : StateName → Tokenizer → Type 0
-IsConstruct CharacterEscapeStart T = Unit {0}
-IsConstruct CharacterReferenceStart T = CharacterReference.IsAtRest T
-IsConstruct HardBreakEscapeStart T = Unit {0}
-IsConstruct AutolinkStart T = T.tokenize_state.size ≡ 0
-IsConstruct DestinationStart T = PartialDestination.StartReady T
-IsConstruct TitleStart T = PartialTitle.StartReady T
-IsConstruct LabelStart T = PartialLabel.StartReady T
-IsConstruct HtmlTextStart T = HtmlText.StartReady T
-IsConstruct RawTextStart T = RawText.StartReady T
-IsConstruct DataStart T = Unit {0}
-IsConstruct AttentionStart T = Attention.StartReady T
-IsConstruct GfmTaskListItemCheckStart T = GfmTaskListItemCheck.MayLook T
-IsConstruct GfmAutolinkLiteralProtocolStart T = GfmAutolinkLiteral.StartReady T
-IsConstruct GfmAutolinkLiteralWwwStart T = GfmAutolinkLiteral.StartReady T
-IsConstruct LabelStartImageStart T = Unit {0}
-IsConstruct LabelStartLinkStart T = Unit {0}
-IsConstruct GfmLabelStartFootnoteStart T = Unit {0}
-IsConstruct LabelEndStart T = LabelEnd.StartReady T
-IsConstruct SpaceOrTabStart T = PartialSpaceOrTab.StartReady T
-IsConstruct SpaceOrTabEolStart T = PartialSpaceOrTabEol.StartReady T
-IsConstruct _ T = ⊥
-
--- What a reading takes of a tokenizer beside the options: whether an escape ends right before the place, the code before it, whether that is the
--- content's first place, the document, and where the content ends.
-
-abbrev pub escaped_here : Tokenizer → Bool
-escaped_here T = follows_escape T.events
-
-abbrev pub before_here : Tokenizer → Option Code
-before_here T = last_of T.cursor.codes T.cursor.at
-
-abbrev pub is_first_here : Tokenizer → Bool
-is_first_here T = is_none (previous_of T)
-
-abbrev pub bytes_here : Tokenizer → List ℕ
-bytes_here T = T.parse_state.now.bytes.now
-
-abbrev pub end_here : Tokenizer → ℕ
-end_here T = T.cursor.end.index
+IsConstruct name T = Asks (tried_reading name) name T
 
 -- the names that are asked for, of a destination and of another text
 abbrev pub destination_names : TokenizeState → DestinationNames
@@ -93,23 +69,13 @@ destination_names s = record { whole = s.token_1; literal = s.token_2; marker = 
 abbrev pub string_names : TokenizeState → StringNames
 string_names s = record { whole = s.token_1; marker = s.token_2; text = s.token_3 }
 
--- what is read: what stands in the standard under the construct's name, where it is looked for; data up to where it stops; or the
--- whitespace that is asked for
+-- what others read: data up to where it stops, a run of markers, or the destination, the title, the label or the whitespace that is asked for
 abbrev pub construct_reading : StateName → Tokenizer → TreeReading
-construct_reading CharacterEscapeStart T = SingleConstructs.character_escape_here (options_here T)
-construct_reading CharacterReferenceStart T = SingleConstructs.character_reference_here (options_here T) html_5_rows
-construct_reading HardBreakEscapeStart T = SingleConstructs.hard_break_escape_here (options_here T)
-construct_reading AutolinkStart T = SingleConstructs.autolink_here (options_here T)
 construct_reading DestinationStart T = destination T.tokenize_state.size_b (destination_names T.tokenize_state)
 construct_reading TitleStart T = title (string_names T.tokenize_state)
 construct_reading LabelStart T = label (string_names T.tokenize_state)
-construct_reading HtmlTextStart T = SingleConstructs.html_text_here (options_here T)
-construct_reading RawTextStart T = SingleConstructs.raw_text_here (options_here T) (escaped_here T) (before_here T)
 construct_reading AttentionStart T = SingleConstructs.attention_here (options_here T)
 construct_reading DataStart T = data_up_to (stops_of T.tokenize_state)
-construct_reading GfmTaskListItemCheckStart T = SingleConstructs.gfm_task_list_item_check_here (options_here T) T.tokenize_state.document_at_first_paragraph_of_list_item (is_first_here T)
-construct_reading GfmAutolinkLiteralProtocolStart T = SingleConstructs.gfm_autolink_literal_protocol_here (options_here T) (bytes_here T) (end_here T) (before_here T)
-construct_reading GfmAutolinkLiteralWwwStart T = SingleConstructs.gfm_autolink_literal_www_here (options_here T) (bytes_here T) (end_here T) (before_here T)
 construct_reading SpaceOrTabStart T =
     let s : TokenizeState = T.tokenize_state in
     space_or_tab s.space_or_tab_token s.space_or_tab_content s.space_or_tab_min s.space_or_tab_max
@@ -151,10 +117,19 @@ EndsOrLoses T true U =
     (back : List Code) × ((kind : LabelKind) × ((tail : Forest) × ((end_reading T (ahead T) ≡ Some ((back, (kind, tail)), ahead U)) × (U ≡ past_mark (makes back kind tail) T))))
 EndsOrLoses T false U = (end_reading T (ahead T) ≡ None) × (U ≡ scratched (lost_fields T) T)
 
--- how a construct ends
+-- How a construct ends.
+
+abbrev pub OtherEnds : StateName → Tokenizer → Bool → Tokenizer → Type 0
+OtherEnds LabelStartImageStart T ok U = BeginsOrStays (start_reading LabelStartImageStart T) T ok U
+OtherEnds LabelStartLinkStart T ok U = BeginsOrStays (start_reading LabelStartLinkStart T) T ok U
+OtherEnds GfmLabelStartFootnoteStart T ok U = BeginsOrStays (start_reading GfmLabelStartFootnoteStart T) T ok U
+OtherEnds LabelEndStart T ok U = EndsOrLoses T ok U
+OtherEnds name T ok U = ReadsOrStays (pass_after name) (construct_reading name T) (chain_before name T) (fields_after name T.tokenize_state) T ok U
+
+-- one that is tried in a text and reads one tree: what stands in the standard under its name, where it is looked for
+abbrev pub EndsBy : Option (Tokenizer → TreeReading) → StateName → Tokenizer → Bool → Tokenizer → Type 0
+EndsBy None name T ok U = OtherEnds name T ok U
+EndsBy (Some reading) name T ok U = ReadsOrStays None (reading T) None T.tokenize_state T ok U
+
 abbrev pub ConstructEnds : StateName → Tokenizer → Bool → Tokenizer → Type 0
-ConstructEnds LabelStartImageStart T ok U = BeginsOrStays (start_reading LabelStartImageStart T) T ok U
-ConstructEnds LabelStartLinkStart T ok U = BeginsOrStays (start_reading LabelStartLinkStart T) T ok U
-ConstructEnds GfmLabelStartFootnoteStart T ok U = BeginsOrStays (start_reading GfmLabelStartFootnoteStart T) T ok U
-ConstructEnds LabelEndStart T ok U = EndsOrLoses T ok U
-ConstructEnds name T ok U = ReadsOrStays (pass_after name) (construct_reading name T) (chain_before name T) (fields_after name T.tokenize_state) T ok U
+ConstructEnds name T ok U = EndsBy (tried_reading name) name T ok U

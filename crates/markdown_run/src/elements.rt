@@ -6,14 +6,15 @@
 //! Each function answers the error where a growth is refused; then `failed` is true.
 #![tactic(auto)]
 
-ghost use Rattle.std.specs.Prelude.{◌≡◌, [], ◌∷◌, None, Some, IfOk, OnOk, OnErr, IsTrue};
+ghost use Rattle.std.specs.Prelude.{◌≡◌, ◌==◌, false, [], ◌∷◌, None, Some, IfOk, OnOk, OnErr, IsTrue};
+ghost use Rattle.std.specs.List.{list_any};
 ghost use Rattle.std.specs.Str.{byte};
 ghost use Rattle.markdown_engine.specs.Operations.{HasCode, ahead, current_of};
 ghost use Rattle.markdown_engine_content.specs.ListFunctions.{rest_of};
 ghost use Rattle.markdown_engine_index.specs.RunIndex.{is_asked};
 ghost use Rattle.markdown_model.specs.CodeTests.{is_value, next_is};
 ghost use Rattle.markdown_model.specs.GfmAutolinkLiteral.{first_letters, www};
-ghost use Rattle.markdown_run_text.specs.TextContent.{StartReady, span_markers, text_passed};
+ghost use Rattle.markdown_run_text.specs.TextContent.{StartReady, other_markers, span_markers, text_passed};
 ghost use Rattle.markdown_run.specs.ElementsOfText.{EndsAt, GoesOn, IsReady, KnowsNothing, Learns, MayTry, PassesData, ReadsElement, Passes, forgotten, text_named};
 
 use crate::run::construct;
@@ -158,6 +159,20 @@ fn read_www(tokenizer: &mut Tokenizer, letter: u8) -> Result<bool, AllocError>
     construct(StateName::GfmAutolinkLiteralWwwStart, tokenizer)
 }
 
+// Tries what alone may begin with the byte at hand, which is given, and with which nothing else begins.
+fn read_sole(tokenizer: &mut Tokenizer, byte: u8) -> Result<bool, AllocError>
+    requires ready { IsReady tokenizer.old }
+    requires here { current_of tokenizer.old ≡ Some byte }
+    requires sole { list_any (λ n. byte == n) other_markers ≡ false }
+    ensures reads { IfOk result (λ ok. ReadsElement tokenizer.old ok tokenizer.new) }
+    ensures err { OnErr result (IsTrue tokenizer.new.failed) }
+{
+    match text::sole_try(byte) {
+        Some(start) => construct(start, tokenizer),
+        None => Ok(false),
+    }
+}
+
 // Tries what may begin with the byte at hand, which is given, and answers whether it does.
 fn read_construct(tokenizer: &mut Tokenizer, byte: u8) -> Result<bool, AllocError>
     requires ready { IsReady tokenizer.old }
@@ -171,12 +186,10 @@ fn read_construct(tokenizer: &mut Tokenizer, byte: u8) -> Result<bool, AllocErro
         b'[' => read_bracket(tokenizer),
         b'!' => read_bang(tokenizer),
         b'\\' => read_backslash(tokenizer),
-        b'&' => construct(StateName::CharacterReferenceStart, tokenizer),
         b'<' => read_angle(tokenizer),
         b']' => read_end(tokenizer),
-        b'H' | b'h' => construct(StateName::GfmAutolinkLiteralProtocolStart, tokenizer),
         b'W' | b'w' => read_www(tokenizer, byte),
-        _ => Ok(false),
+        _ => read_sole(tokenizer, byte),
     }
 }
 

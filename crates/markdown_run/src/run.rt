@@ -182,8 +182,8 @@ fn put_back<'a>(
     tokenizer.cursor = cursor;
 }
 
-/// Reads one construct at the tokenizer's place, by the name of the state that starts it: one of those that `IsConstruct` of `specs/RunConstruct`
-/// lists, as `AutolinkStart`, or `RawTextStart` (a code span, or a math span);
+/// Reads one construct at the tokenizer's place, by the name of the state that starts it: one that `IsConstruct` of `specs/RunConstruct`
+/// knows, as `AutolinkStart`, or `RawTextStart` (a code span, or a math span);
 /// `LabelStartLinkStart`, `LabelStartImageStart` and `GfmLabelStartFootnoteStart`, which are kept; `LabelEndStart`, which makes a label of the last
 /// start kept, with the resource or reference behind it (CommonMark 6.3 and 6.4, and footnote calls);
 /// `AttentionStart` (a run of markers, past which the pass that pairs runs is registered);
@@ -192,8 +192,8 @@ fn put_back<'a>(
 /// everywhere (where the scratch field `passes_letters` is set, it goes on past letters with which no literal begins, GFM 6.9, as an `h` before
 /// no `t`); `SpaceOrTabStart` or `SpaceOrTabEolStart`, after the setter that asks for it.
 ///
-/// `ConstructEnds` of `specs/RunConstruct` says what each reads: `construct_reading` names its definition, `start_reading` that of a start of a
-/// label, `end_reading` that of an end. These take the options, the code before, whether an escape ends right before, whether this is the content's
+/// `ConstructEnds` of `specs/RunConstruct` says what each reads: `tried_reading` of `markdown_run_text` names the definition of one that is tried
+/// in a text and reads one tree, `construct_reading` that of others, `start_reading` that of a start of a label, `end_reading` that of an end. These take the options, the code before, whether an escape ends right before, whether this is the content's
 /// first place, the document, and the last start kept.
 ///
 /// Where the construct holds, its events are appended, and the tokenizer stands at its end; otherwise it is as before. The scratch fields are
@@ -204,7 +204,7 @@ fn put_back<'a>(
 /// The scratch fields that a construct counts in are at rest before, as they are in a new tokenizer. Where a construct counts codes, or reads
 /// whitespace, it asks that fewer are left than a `usize` counts, which holds over every content: it has at most four codes for each byte.
 /// `LabelEndStart` also asks that the scratch fields `sequences` and `titles` are right for the content, and `names` for what is defined; in a new
-/// tokenizer nothing is known there. A literal and a character reference ask that the codes of the content are those of its characters, which holds over every content. Whitespace that is to be connected asks
+/// tokenizer nothing is known there. A literal asks that the codes of the content are those of its characters, which holds over every content. Whitespace that is to be connected asks
 /// for a linked event just before, and with a line ending for a content too; and where whitespace with a line ending has a content, no blank
 /// code is at hand. An end of a label asks that the starts kept end between characters, as each does that was read.
 pub fn construct(name: StateName, tokenizer: &mut Tokenizer) -> Result<bool, AllocError>

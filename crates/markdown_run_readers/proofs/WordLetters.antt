@@ -1,16 +1,16 @@
 -- A word that stands at a place, letter by letter.
-use Rattle.std.proofs.Common.{◌≡◌, ℕ, ◌==◌, Bool, true, false, not, ◌||◌, arith, List, [], ◌∷◌, Option, None, Some, refl, ap, ◌∙◌}
-use Rattle.std.specs.Prelude.{codes, is_none}
-use Rattle.std.proofs.lemmas.Bool.Decides.{nat_tests}
+use Rattle.std.proofs.Common.{◌≡◌, ℕ, Bool, true, false, not, ◌||◌, ◌&&◌, List, [], ◌∷◌, ◌++◌, Option, None, Some, refl, sym, ap, ◌∙◌}
+use Rattle.std.specs.Prelude.{is_none}
+use Rattle.std.specs.List.{list_any}
+use Rattle.std.proofs.lemmas.Bool.{or_parts}
 use Rattle.markdown_engine_content.specs.Codes.{Code}
 use Rattle.markdown_engine_content.specs.Place.{Place, ahead_at, code_at, moved}
 use Rattle.markdown_engine_content.proofs.PlaceRules.{IsAhead, ahead_none, ahead_some}
 use Rattle.markdown_leaf_gfm.proofs.LettersOfWords.{letters-more, letters-nil, letters-none}
 use Rattle.markdown_model.specs.Grammar.{either, with_first}
 use Rattle.markdown_model.specs.GfmAutolinkLiteral.{letters, literal_words, one_word_of}
-use Rattle.markdown_partial.specs.PartialData.{is_some_mark}
-use Rattle.markdown_run_text.specs.TextContent.{literal_letters}
-use Rattle.markdown_run_readers.specs.PlacesPassed.{is_some_letter, is_word, letter_is}
+use Rattle.markdown_run_readers.specs.TextStops.{begins_word}
+use Rattle.markdown_run_readers.specs.PlacesPassed.{begins_as, is_some_letter, is_word, letter_is, may_begin, one_stands}
 
 none-first : (c : Code) (o : Option (List Code × List Code)) → is_none (with_first c o) ≡ is_none o
 none-first c None = refl
@@ -58,35 +58,42 @@ either-some-of a b cs = by_first (a cs) refl
     by_first None e = refl
     by_first (Some r) e = refl
 
--- the words of literals
-pub one-of-words : (p : Place) → not (is_none (one_word_of literal_words (ahead_at p))) ≡ (is_word (codes "https://") p || (is_word (codes "http://") p || is_word (codes "www.") p))
+-- the first of these words that stands at a place
+pub one-read : (words : List (List ℕ)) (p : Place) → one_stands words p ≡ not (is_none (one_word_of words (ahead_at p)))
 unfolding one_word_of
-one-of-words p =
-    either-some-of (letters (codes "https://")) (one_word_of (codes "http://" ∷ codes "www." ∷ [])) (ahead_at p)
-    ∙ ap (λ b. is_word (codes "https://") p || b) (either-some-of (letters (codes "http://")) (one_word_of (codes "www." ∷ [])) (ahead_at p)
-    ∙ ap (λ b. is_word (codes "http://") p || b) (either-some-of (letters (codes "www.")) (one_word_of []) (ahead_at p) ∙ or-false (is_word (codes "www.") p)))
+one-read [] p = refl
+one-read (word ∷ words) p =
+    ap (λ b. is_word word p || b) (one-read words p) ∙ sym (either-some-of (letters word) (one_word_of words) (ahead_at p))
+
+or-false : (b : Bool) → (b || false) ≡ b
+or-false true = refl
+or-false false = refl
+
+or-again : (a b c : Bool) → (a || (b || c)) ≡ ((a || b) || c)
+or-again true b c = refl
+or-again false b c = refl
+
+-- and where one is added behind these
+pub one-behind : (words : List (List ℕ)) (word : List ℕ) (p : Place) → one_stands (words ++ word ∷ []) p ≡ (one_stands words p || is_word word p)
+one-behind [] word p = or-false (is_word word p)
+one-behind (w ∷ ws) word p = ap (λ b. is_word w p || b) (one-behind ws word p) ∙ or-again (is_word w p) (one_stands ws p) (is_word word p)
+
+-- where no word may begin, none stands
+
+not-as : (word : List ℕ) (p : Place) → begins_as word (code_at p) (code_at (moved p)) ≡ false → is_word word p ≡ false
+not-as [] p h = cc
+not-as (n ∷ []) p h = word-stops n [] p h
+not-as (n ∷ m ∷ ns) p h = by_first (is_some_letter n (code_at p)) refl h
   where
-    or-false : (b : Bool) → (b || false) ≡ b
-    or-false true = refl
-    or-false false = refl
+    by_first : (b : Bool) → is_some_letter n (code_at p) ≡ b → b && is_some_letter m (code_at (moved p)) ≡ false → is_word (n ∷ m ∷ ns) p ≡ false
+    by_first true e k = word-goes n (m ∷ ns) p e ∙ word-stops m ns (moved p) k
+    by_first false e k = word-stops n (m ∷ ns) p e
 
--- elsewhere than at a first letter none of them stands
-not-h : (v : ℕ) → ((v == 72) || ((v == 104) || ((v == 87) || ((v == 119) || false)))) ≡ false → letter_is 104 v ≡ false
-not-h v h = grind (arith, nat_tests)
+none-of : (words : List (List ℕ)) (p : Place) → list_any (λ word. begins_as word (code_at p) (code_at (moved p))) words ≡ false → one_stands words p ≡ false
+none-of [] p h = refl
+none-of (word ∷ words) p h =
+    let k = or_parts (begins_as word (code_at p) (code_at (moved p))) (list_any (λ w. begins_as w (code_at p) (code_at (moved p))) words) h in
+    ap (λ b. b || one_stands words p) (not-as word p k.0) ∙ none-of words p k.1
 
-not-w : (v : ℕ) → ((v == 72) || ((v == 104) || ((v == 87) || ((v == 119) || false)))) ≡ false → letter_is 119 v ≡ false
-not-w v h = grind (arith, nat_tests)
-
-pub no-first : (p : Place) → is_some_mark literal_letters (code_at p) ≡ false → not (is_none (one_word_of literal_words (ahead_at p))) ≡ false
-no-first p h = by_code (code_at p) refl h
-  where
-    none-of : is_some_letter 104 (code_at p) ≡ false → is_some_letter 119 (code_at p) ≡ false → not (is_none (one_word_of literal_words (ahead_at p))) ≡ false
-    none-of k l =
-        one-of-words p
-        ∙ ap (λ b. b || (is_word (codes "http://") p || is_word (codes "www.") p)) (word-stops 104 (codes "ttps://") p k)
-        ∙ ap (λ b. b || is_word (codes "www.") p) (word-stops 104 (codes "ttp://") p k)
-        ∙ word-stops 119 (codes "ww.") p l
-
-    by_code : (o : Option ℕ) → code_at p ≡ o → is_some_mark literal_letters o ≡ false → not (is_none (one_word_of literal_words (ahead_at p))) ≡ false
-    by_code None e k = none-of (ap (is_some_letter 104) e) (ap (is_some_letter 119) e)
-    by_code (Some v) e k = none-of (ap (is_some_letter 104) e ∙ not-h v k) (ap (is_some_letter 119) e ∙ not-w v k)
+pub no-first : (p : Place) → may_begin p ≡ false → begins_word (ahead_at p) ≡ false
+no-first p h = sym (one-read literal_words p) ∙ none-of literal_words p h

@@ -1,5 +1,6 @@
 -- What readers pass, and how they see where it ends.
 use Rattle.std.specs.Prelude.{ℕ, ◌+◌, Bool, true, false, ◌&&◌, ◌||◌, not, ◌==◌, if◌then◌else◌, List, [], ◌∷◌, ◌++◌, Option, Some, None, codes, is_none}
+use Rattle.std.specs.List.{list_any}
 use Rattle.std.specs.Str.{byte}
 use Rattle.markdown_engine_content.specs.Codes.{Code}
 use Rattle.markdown_engine_content.specs.Place.{Place, ahead_at, code_at, code_before, moved}
@@ -14,7 +15,7 @@ use Rattle.markdown_engine.specs.PastTree.{moved_by}
 use Rattle.markdown_engine.specs.declared.tokenizer.Tokenizer.{Tokenizer}
 use Rattle.markdown_leaf.specs.CharacterEscape.{is_on, is_punctuation}
 use Rattle.markdown_model.specs.CodeTests.{is_between, is_value}
-use Rattle.markdown_model.specs.GfmAutolinkLiteral.{letters}
+use Rattle.markdown_model.specs.GfmAutolinkLiteral.{letters, literal_words}
 use Rattle.markdown_model.specs.Grammar.{span, until}
 use Rattle.markdown_partial.specs.PartialData.{ending, opening, ends_stretch, is_some_mark}
 use Rattle.markdown_run_readers.specs.TextStops.{text_stops}
@@ -68,6 +69,21 @@ is_some_letter letter (Some v) = letter_is letter v
 -- the word stands at the place, its letters in either case
 abbrev pub is_word : List ℕ → Place → Bool
 is_word word p = not (is_none (letters word (ahead_at p)))
+
+-- one of these words stands at the place
+abbrev pub one_stands : List (List ℕ) → Place → Bool
+one_stands [] p = false
+one_stands (word ∷ words) p = is_word word p || one_stands words p
+
+-- a word may begin with these two codes
+abbrev pub begins_as : List ℕ → Option ℕ → Option ℕ → Bool
+begins_as [] first second = true
+begins_as (n ∷ []) first second = is_some_letter n first
+begins_as (n ∷ m ∷ ns) first second = is_some_letter n first && is_some_letter m second
+
+-- a word of literals may begin with the code at the place and the one behind it
+abbrev pub may_begin : Place → Bool
+may_begin p = list_any (λ word. begins_as word (code_at p) (code_at (moved p))) literal_words
 
 -- the signs that words of literals hold behind their letters
 abbrev pub signs : List ℕ

@@ -4,16 +4,16 @@
 //! sign: a `.` behind a `w`, or a `:` before a `/`. So letters are looked at only in a stretch that ends at such a sign.
 #![tactic(auto, using(markdown_engine::proofs::OperationFields::op_rules))]
 
-ghost use Rattle.std.specs.Prelude.{◌≡◌, ◌<◌, ◌==◌, ◌||◌, ◌&&◌, length, true, false, OnOk, OnErr, IsTrue, None};
+ghost use Rattle.std.specs.Prelude.{◌≡◌, ◌<◌, ◌==◌, ◌||◌, ◌&&◌, length, map, true, false, OnOk, OnErr, IsTrue, None};
 ghost use Rattle.std.specs.List.{list_any};
 ghost use Rattle.markdown_engine.specs.Operations.{HasCode, done};
 ghost use Rattle.markdown_engine.specs.PastTree.{Reads};
 ghost use Rattle.markdown_engine_content.specs.Place.{ahead_at, code_at, moved};
 ghost use Rattle.markdown_model.specs.TextLines.{data_up_to};
 ghost use Rattle.markdown_partial.specs.PartialData.{ending, is_some_mark};
-ghost use Rattle.markdown_run_readers.specs.PlacesPassed.{past_data, goes_on, goes_in_line, is_some_letter, is_word, signs, markers_and_signs, sign_at, data_read, line_read};
+ghost use Rattle.markdown_run_readers.specs.PlacesPassed.{past_data, goes_on, goes_in_line, is_some_letter, is_word, may_begin, one_stands, signs, markers_and_signs, sign_at, data_read, line_read};
 ghost use Rattle.markdown_run_readers.specs.TextStops.{begins_word, text_stops};
-ghost use Rattle.markdown_run_text.specs.TextContent.{literal_letters, plain_markers};
+ghost use Rattle.markdown_run_text.specs.TextContent.{plain_markers};
 
 use crate::events::append_leaf;
 use markdown_engine::tokenizer::Tokenizer;
@@ -21,17 +21,32 @@ use markdown_engine_content::byte_set;
 use markdown_engine_content::bytes::ByteSet;
 use markdown_engine_content::cursor::Cursor;
 use markdown_engine_content::event::Name;
+use markdown_partial::literal_letters;
+use markdown_partial::literal_words::SCHEMES;
 use markdown_plan::bytes::is_letter;
+use markdown_run_text::plain_tries;
 use std::alloc::AllocError;
+
+// The bytes of all lines.
+macro_rules! bytes_of {
+    ($($kind:ident { $([$($of_row:literal)*] $construct:ident $(, $otherwise:ident)?;)* })*) => {
+        byte_set!($($($($of_row),*),*),*)
+    };
+}
+
+// The same, and the signs in words of literals.
+macro_rules! bytes_and_signs_of {
+    ($($kind:ident { $([$($of_row:literal)*] $construct:ident $(, $otherwise:ident)?;)* })*) => {
+        byte_set!($($($($of_row),*),*),*, b'.', b':')
+    };
+}
 
 // The bytes at which data stops, but for the letters of literals.
 #[inline(always)]
 fn markers() -> ByteSet
     ensures { result ≡ plain_markers }
 {
-    byte_set!(
-        b'!', b'$', b'`', b'&', b'*', b'_', b'~', b'<', b'[', b'\\', b']'
-    )
+    plain_tries!(bytes_of)
 }
 
 // These, and the signs in words of literals.
@@ -39,9 +54,7 @@ fn markers() -> ByteSet
 fn markers_and_signs() -> ByteSet
     ensures { result ≡ markers_and_signs }
 {
-    byte_set!(
-        b'!', b'$', b'`', b'&', b'*', b'_', b'~', b'<', b'[', b'\\', b']', b'.', b':'
-    )
+    plain_tries!(bytes_and_signs_of)
 }
 
 // Whether the code is this letter, in either case, or this other byte. The letter is given in lower case.
@@ -68,33 +81,51 @@ fn stands(cursor: &Cursor, word: &[u8]) -> bool
     true
 }
 
+// Whether one of these words stands at the place.
+fn one_of(cursor: &Cursor, mut words: &[&[u8]]) -> bool
+    ensures { result ≡ one_stands (map (λ w. w.now) words.entry.now) cursor.now }
+{
+    while let [word, rest @ ..] = words {
+        if stands(cursor, word) {
+            return true;
+        }
+        words = rest;
+    }
+    false
+}
+
 // Whether one of the words stands at the place with which literals begin.
 #[inline(never)]
 fn one_stands(cursor: &Cursor) -> bool
     ensures { result ≡ begins_word (ahead_at cursor.now) }
 {
-    if stands(cursor, b"https://") {
-        return true;
-    }
-    if stands(cursor, b"http://") {
-        return true;
-    }
-    stands(cursor, b"www.")
+    one_of(cursor, &SCHEMES) || stands(cursor, b"www.")
 }
 
-// Whether the code is a first letter of these words.
-fn is_first_letter(code: Option<u8>) -> bool
-    ensures { result ≡ is_some_mark literal_letters code }
+// Whether a letter of literals is at the place, and behind it one with which they go on.
+macro_rules! may_begin_with {
+    ($cursor:ident $($literals:ident { $([$($first:literal)*] then [$($second:literal)*];)* })*) => {
+        match $cursor.current() {
+            $($(Some($($first)|*) => matches!($cursor.next(), Some($($second)|*)),)*)*
+            _ => false,
+        }
+    };
+}
+
+// Whether the code at the place and the one behind it are the first of a word with which literals begin.
+#[inline(always)]
+fn may_begin(cursor: &Cursor) -> bool
+    ensures { result ≡ may_begin cursor.now }
 {
-    matches!(code, Some(b'H' | b'h' | b'W' | b'w'))
+    literal_letters!(may_begin_with cursor)
 }
 
-// Whether a word stands at the place with which literals begin. Only at a first letter the words are looked for.
+// Whether a word stands at the place with which literals begin. Words are looked for only where their first two letters are.
 #[inline(always)]
 fn begins_word(cursor: &Cursor) -> bool
     ensures { result ≡ begins_word (ahead_at cursor.now) }
 {
-    if !is_first_letter(cursor.current()) {
+    if !may_begin(cursor) {
         return false;
     }
     one_stands(cursor)

@@ -66,7 +66,7 @@ passed-attempts T alone = attempts-registered R.String (registered R.Data T) ∙
 marked-ready : (T : Tokenizer) → StartReady T → BeforeReady (string_marked T)
 unfolding scratched
 marked-ready T r =
-    record { marked = refl; rest = record { text = r.rest.text; marker = r.rest.marker; size = r.rest.size }; ends = record { end = r.ends.end; seen = r.ends.seen } }
+    record { marked = refl; rest = record { marker = r.rest.marker; size = r.rest.size }; ends = record { end = r.ends.end; seen = r.ends.seen } }
 
 module _ (W : Words) (within : Within states_and_called W) where
   -- past an element the run goes on before the next

@@ -18,8 +18,8 @@ use Rattle.markdown_run_text.specs.StringContent.{string_markers, string_passed,
 use Rattle.markdown_run_row.proofs.ElementSteps.{advances-finishes, node-advances, data-advances, some-ahead}
 use Rattle.markdown_run_row.proofs.ConstructNodes.{node-of}
 use Rattle.markdown_model.proofs.PlainConstructs.{plain_constructs}
-use Rattle.markdown_plan.specs.Characters.{bytes_of, ReadsText}
-use Rattle.markdown_run_row.proofs.RowFields.{relisted, row-fields, row-input, row-text}
+use Rattle.markdown_plan.specs.Characters.{bytes_of}
+use Rattle.markdown_run_row.proofs.RowFields.{relisted, row-fields, row-input}
 use Rattle.markdown_run_text.proofs.TryTableLemmas.{one-of}
 use Rattle.markdown_run_text.proofs.StringElements.{escaped-element, referenced-element, single-element, unmarked-element}
 
@@ -37,18 +37,17 @@ same-fields : (T U : Tokenizer) → Passes T U → BeforeReady T →
 same-fields T U p r =
     subst (λ (x : Tokenizer). x.tokenize_state ≡ relisted x.tokenize_state T.tokenize_state) (sym p.left) (row-fields (kinds_of T) p.row T refl p.is_row r.ends)
 
-ready-past : (T U : Tokenizer) → U.tokenize_state ≡ relisted U.tokenize_state T.tokenize_state → ReadsText U →
-    BeforeReady T → BeforeReady U
-ready-past T U e text r =
+ready-past : (T U : Tokenizer) → U.tokenize_state ≡ relisted U.tokenize_state T.tokenize_state → BeforeReady T →
+    BeforeReady U
+ready-past T U e r =
     record {
       marked = ap (λ (s : TokenizeState). s.markers) e ∙ r.marked;
-      rest = record { text = text; marker = ap (λ (s : TokenizeState). s.marker) e ∙ r.rest.marker; size = ap (λ (s : TokenizeState). s.size) e ∙ r.rest.size };
+      rest = record { marker = ap (λ (s : TokenizeState). s.marker) e ∙ r.rest.marker; size = ap (λ (s : TokenizeState). s.size) e ∙ r.rest.size };
       ends = record { end = ap (λ (s : TokenizeState). s.end) e ∙ r.ends.end; seen = ap (λ (s : TokenizeState). s.seen) e ∙ r.ends.seen };
     }
 
 pub passes-ready : (T U : Tokenizer) → Passes T U → BeforeReady T → BeforeReady U
-passes-ready T U p r =
-    ready-past T U (same-fields T U p r) (subst ReadsText (sym p.left) (row-text (kinds_of T) p.row T p.is_row r.rest.text)) r
+passes-ready T U p r = ready-past T U (same-fields T U p r) r
 
 -- what follows some elements, follows from before them
 pub passes-ends : (T U : Tokenizer) → Passes T U → (ok : Bool) (V : Tokenizer) → before_ends U ok V → before_ends T ok V

@@ -3,6 +3,9 @@ use Rattle.std.proofs.Common.{◌≡◌, ◌≢◌, ℕ, ◌*◌, ◌<◌, ◌==
 use Rattle.std.specs.List.{list_any}
 use Rattle.std.specs.Prelude.{codes}
 use Rattle.std.specs.Str.{byte}
+use Rattle.std.proofs.lemmas.Bool.{or_from}
+use Rattle.std.proofs.lemmas.List.Folds.{list_any-append}
+use Rattle.markdown_util.specs.Reference.{html_5_rows}
 use Rattle.markdown_engine_content.specs.Codes.{Code}
 use Rattle.markdown_engine.specs.Operations.{ahead, current_of, scratched}
 use Rattle.markdown_engine.specs.PastTree.{past, EndsAs, Reads, Refuses, TreeReading}
@@ -49,15 +52,17 @@ use Rattle.markdown_run_row.specs.RunOverElements.{Advances, DataFinishes, Finis
 use Rattle.markdown_run_row.specs.Row.{loses, row_end, past_mark, kinds_of}
 use Rattle.markdown_run_row.proofs.RowFields.{row-cursor, tree-within, lost-within}
 use Rattle.markdown_run_text.specs.StringContent.{is_on}
-use Rattle.markdown_run_text.specs.TextContent.{states, text_tries, text_markers, marked_fields, text_marked, text_passed, attempt_step, start_step, first_try, tries_at, before_at, before_step, text_choice_of, IsMarked, BeforeReady, StandsAlone, before_ends, data_ends, start_words, before_words, before_html_words, before_hard_break_escape_words, before_label_start_link_words, before_data_words}
-use Rattle.markdown_run_text.proofs.TryTableLemmas.{EachOf, each-among, by-row}
+use Rattle.markdown_run_text.specs.TryTable.{Table, codes_in}
+use Rattle.markdown_run_text.specs.TextContent.{states, StartReady, sole_tries, other_tries, or_data, other_markers, sole_try, tried_reading, text_tries, text_markers, marked_fields, text_marked, text_passed, attempt_step, start_step}
+use Rattle.markdown_run_text.specs.TextContent.{first_try, tries_at, before_at, before_step, text_choice_of, IsMarked, BeforeReady, StandsAlone, before_ends, data_ends, start_words, before_words, before_html_words, before_hard_break_escape_words, before_label_start_link_words, before_data_words}
+use Rattle.markdown_run_text.proofs.TryTableLemmas.{EachOf, each-among, each-weaker, EachRow, by-row, rows-append}
 use Rattle.markdown_run_row.proofs.ConstructNodes.{node-of}
 use Rattle.markdown_model.proofs.PlainConstructs.{ReadsPlain, plain_constructs}
 use Rattle.markdown_model.specs.Elements.{tries, tried}
-use Rattle.markdown_model.specs.LeafConstructs.{character_escape, hard_break_escape, autolink}
+use Rattle.markdown_model.specs.LeafConstructs.{character_escape, hard_break_escape, character_reference, autolink}
 use Rattle.markdown_model.specs.HtmlText.{html_text}
 use Rattle.markdown_run_text.proofs.TextElements.{is_marker, data-holds}
-use Rattle.markdown_run_text.proofs.TextTries.{ReadsElements, AreTriedAt, first-reads, second-reads, second-alone, reference-reads, reference-alone, span-reads, span-alone, run-reads, run-alone, run-leaf, protocol-reads, protocol-alone, www-reads, www-alone, other-alone}
+use Rattle.markdown_run_text.proofs.TextTries.{ReadsElements, AreTriedAt, first-reads, second-reads, second-alone, IsTriedAt, OrStandsAlone, only-reads, only-alone, span-reads, span-alone, run-reads, run-alone, run-leaf, protocol-reads, protocol-alone, www-reads, www-alone, other-alone}
 use Rattle.markdown_run_row.proofs.ElementSteps.{DataRead, data-read, some-ahead, advances-finishes, node-advances, run-advances}
 use Rattle.markdown_run_text.proofs.TextLabelTries.{image-advances, image-alone, footnote-advances, link-advances, bracket-alone, made-advances, failed-advances, end-alone}
 use Rattle.markdown_run_text.proofs.TextSteps.{IsSame, same-row, choice-same, stops-same, marked-past, no-check-behind, no-check-past, advances-ends, alone-ends, tree-kept, registered-kept, made-kept}
@@ -89,6 +94,73 @@ states_and_called other s = states (called other) s
 -- what is said of a construct that is tried: it ends with its reading
 abbrev EndsOf : StateWords → TreeReading → Tokenizer → Type 0
 EndsOf w reading T = (ok : Bool) (U : Tokenizer) → w.ends T ok U → EndsAs reading None T.tokenize_state T ok U
+
+-- What alone is tried at its codes.
+
+-- what is said of a construct of this start and this reading, at the code at hand: it may be tried, and ends as its reading says, which reads the
+-- element there; where it does not hold, the code is one by itself
+pub record IsSole (T : Tokenizer) (w : StateWords) (reading : TreeReading) : Type 0 where
+  pub ready : w.ready T
+  pub light : w.rank T < 8
+  pub ends : EndsOf w reading T
+  pub own : ReadsPlain (bytes_of T) reading
+  pub reads : ReadsElements reading T
+  pub alone : OrStandsAlone reading T
+
+abbrev pub SoleBy : Tokenizer → StateWords → Option (Tokenizer → TreeReading) → Type 0
+SoleBy T w None = ⊥
+SoleBy T w (Some reading) = IsSole T w (reading T)
+
+-- of what is said of a code
+abbrev pub SoleOrAlone : Words → Tokenizer → Option StateName → Type 0
+SoleOrAlone W T None = StandsAlone T
+SoleOrAlone W T (Some name) = SoleBy T (states_and_called (words_in W) name) (tried_reading name)
+
+abbrev pub IsSoleAt : Words → Tokenizer → ℕ → Option StateName → Type 0
+IsSoleAt W T v o = current_of T ≡ Some v → SoleOrAlone W T o
+
+reference-row : (T : Tokenizer) →
+    IsTriedAt T (byte "&") (is_on T).character_reference (character_reference html_5_rows)
+unfolding tries tried
+reference-row T earlier previous = (refl, (refl, refl))
+
+module _ (T : Tokenizer) (ready : StartReady T) where
+  sole-protocol : (v : ℕ) → list_any (λ n. v == n) (first_letters schemes) ≡ true → current_of T ≡ Some v →
+      IsSole T GfmAutolinkLiteral.protocol_start_words (GfmAutolinkLiteral.protocol_here T)
+  sole-protocol v h e =
+      record { ready = ready.literals; light = omega arith; ends = λ ok U g. g; own = search plain_constructs; reads = protocol-reads T v ready.last e h; alone = protocol-alone T v ready.last e h }
+
+  sole-www : (v : ℕ) → list_any (λ n. v == n) (first_letters (www ∷ [])) ≡ true → current_of T ≡ Some v →
+      IsSole T GfmAutolinkLiteral.www_start_words (GfmAutolinkLiteral.www_here T)
+  sole-www v h e =
+      record { ready = ready.literals; light = omega arith; ends = λ ok U g. g; own = search plain_constructs; reads = www-reads T v ready.last e h; alone = www-alone T v ready.last e h }
+
+  sole-span : (v : ℕ) → (v == byte "$" || v == byte "`") ≡ true → current_of T ≡ Some v →
+      IsSole T RawText.start_words (RawText.span_at T)
+  sole-span v h e =
+      record { ready = ready.spans; light = omega arith; ends = λ ok U g. g; own = search plain_constructs; reads = span-reads T v e h; alone = span-alone T v e h }
+
+  sole-reference : current_of T ≡ Some (byte "&") → IsSole T CharacterReference.start_words (reference_here T)
+  sole-reference e =
+      record { ready = at-rest-reference T ready.spans; light = omega arith; ends = λ ok U g. g; own = search plain_constructs; reads = only-reads T (byte "&") _ _ (reference-row T) e; alone = only-alone T (byte "&") _ _ (reference-row T) e }
+
+  -- by the rows of the table
+  pub soles : (W : Words) → EachRow (IsSoleAt W T) sole_tries
+  soles W = (
+    each-among (λ v. IsSoleAt W T v (Some GfmAutolinkLiteralProtocolStart)) (first_letters schemes) sole-protocol,
+    (
+      each-among (λ v. IsSoleAt W T v (Some GfmAutolinkLiteralWwwStart)) (first_letters (www ∷ [])) sole-www,
+      ((sole-span (byte "$") refl, (sole-span (byte "`") refl, tt)), ((sole-reference, tt), tt)),
+    ),
+  )
+
+-- and nothing begins where neither that nor anything else is tried
+pub sole-or-alone : (W : Words) (T : Tokenizer) → StartReady T → (v : ℕ) → current_of T ≡ Some v →
+    list_any (λ n. v == n) other_markers ≡ false → SoleOrAlone W T (sole_try v)
+sole-or-alone W T ready v here other =
+    by-row (IsSoleAt W T) sole_tries v (soles T ready W)
+    (λ h e. other-alone T v e (list_any-append (λ n. v == n) (codes_in sole_tries) other_markers ∙ or_from (list_any (λ n. v == n) (codes_in sole_tries)) (list_any (λ n. v == n) other_markers) h other))
+    here
 
 -- An autolink or HTML, and an escape or a hard break.
 
@@ -142,18 +214,22 @@ module _ (W : Words) (within : Within states_and_called W) where
     abbrev Before : Stepped → Type 0
     Before r = GoesIn W (weight_at 8 T) (before_ends T) r
 
-    tries-span : (v : ℕ) → current_of T ≡ Some v → (v == byte "$" || v == byte "`") ≡ true →
-        Before (attempt_step RawTextStart TextBeforeData T)
-    tries-span v e h =
-        try-law 8 T RawTextStart TextBeforeData (within RawTextStart) (RawText.span_at T) alone ready.marked.spans (omega arith) ready.marked (λ ok U g. g) (search plain_constructs) (span-reads T v e h) (λ none. to-data 8 T v (omega arith) ready e (span-alone T v e h none))
+    -- what alone is tried at the code at hand
+    tries-sole : (v : ℕ) → current_of T ≡ Some v → (name : StateName) (o : Option (Tokenizer → TreeReading)) →
+        SoleBy T (states_and_called (words_in W) name) o → Before (attempt_step name TextBeforeData T)
+    tries-sole v e name None h = absurd h
+    tries-sole v e name (Some reading) h =
+        try-law 8 T name TextBeforeData {w = states_and_called (words_in W) name} (within name) (reading T) alone h.ready (omega (arith, h.light)) ready.marked h.ends h.own h.reads (λ none. to-data 8 T v (omega arith) ready e (h.alone none))
 
-    tries-reference : current_of T ≡ Some (byte "&") → Before (attempt_step CharacterReferenceStart TextBeforeData T)
-    tries-reference d =
-        try-law 8 T CharacterReferenceStart TextBeforeData (within CharacterReferenceStart) (reference_here T) alone (at-rest-reference T ready.marked.literals.text ready.marked.spans) (omega arith) ready.marked (λ ok U g. g) (search plain_constructs) (reference-reads T d) (λ none. to-data 8 T (byte "&") (omega arith) ready d (reference-alone T d none))
+    each-sole : (rows : Table StateName) → EachRow (IsSoleAt W T) rows →
+        EachRow (λ (v : ℕ) (o : Option (StateName × StateName)). current_of T ≡ Some v → Before (tries_at o T)) (or_data rows)
+    each-sole [] h = tt
+    each-sole (row ∷ rows) h =
+        (each-weaker (λ v. IsSoleAt W T v (Some row.1)) (λ v. current_of T ≡ Some v → Before (attempt_step row.1 TextBeforeData T)) (λ v k e. tries-sole v e row.1 (tried_reading row.1) (k e)) row.0 h.0, each-sole rows h.1)
 
     tries-autolink : current_of T ≡ Some (byte "<") → Before (attempt_step AutolinkStart TextBeforeHtml T)
     tries-autolink d =
-        try-law 8 T AutolinkStart TextBeforeHtml (within AutolinkStart) (link_here T) alone (at-rest-reference T ready.marked.literals.text ready.marked.spans).size (omega arith) ready.marked (λ ok U g. g) (search plain_constructs) (first-reads T (byte "<") _ _ _ _ (angle-row T) d)
+        try-law 8 T AutolinkStart TextBeforeHtml (within AutolinkStart) (link_here T) alone (at-rest-reference T ready.marked.spans).size (omega arith) ready.marked (λ ok U g. g) (search plain_constructs) (first-reads T (byte "<") _ _ _ _ (angle-row T) d)
         (λ none. follows W (weight_at 8 T) (before_ends T) (Next TextBeforeHtml) (within TextBeforeHtml) T (record { before = ready; angle = d; no_autolink = none }) (omega arith) (λ ok V h. h))
 
     tries-escape : current_of T ≡ Some (byte "\\") →
@@ -173,20 +249,6 @@ module _ (W : Words) (within : Within states_and_called W) where
         (run-advances (text_choice_of T) (run_tree T) T U r.there r.reads r.left (run-leaf T v r.reads.tree r.reads.rest e h r.reads.holds) (run-reads T v e h r.reads.tree r.reads.rest r.reads.holds)))
         (λ U now k. let r : Refuses (run_tree T) T.tokenize_state T U = k in
         rw (restored-fails false (Next TextBefore) (Next TextBeforeData) T.tokenize_state T U r.fails, scratched-same T) (to-data 8 T v (omega arith) ready e (run-alone T v e h r.refused)))
-
-    tries-protocol : (v : ℕ) → current_of T ≡ Some v → list_any (λ n. v == n) (first_letters schemes) ≡ true →
-        Before (attempt_step GfmAutolinkLiteralProtocolStart TextBeforeData T)
-    tries-protocol v e h =
-        try-law 8 T GfmAutolinkLiteralProtocolStart TextBeforeData (within GfmAutolinkLiteralProtocolStart) (GfmAutolinkLiteral.protocol_here T) alone ready.marked.literals (omega arith) ready.marked (λ ok U g. g)
-        (search plain_constructs) (protocol-reads T v ready.marked.last e h)
-        (λ none. to-data 8 T v (omega arith) ready e (protocol-alone T v ready.marked.last e h none))
-
-    tries-www : (v : ℕ) → current_of T ≡ Some v → list_any (λ n. v == n) (first_letters (www ∷ [])) ≡ true →
-        Before (attempt_step GfmAutolinkLiteralWwwStart TextBeforeData T)
-    tries-www v e h =
-        try-law 8 T GfmAutolinkLiteralWwwStart TextBeforeData (within GfmAutolinkLiteralWwwStart) (GfmAutolinkLiteral.www_here T) alone ready.marked.literals (omega arith) ready.marked (λ ok U g. g)
-        (search plain_constructs) (www-reads T v ready.marked.last e h)
-        (λ none. to-data 8 T v (omega arith) ready e (www-alone T v ready.marked.last e h none))
 
     tries-image : current_of T ≡ Some (byte "!") → Before (attempt_step LabelStartImageStart TextBeforeData T)
     tries-image d =
@@ -255,23 +317,14 @@ module _ (W : Words) (within : Within states_and_called W) where
     abbrev IsTried : StateName → StateName → ℕ → Type 0
     IsTried construct otherwise v = current_of T ≡ Some v → Before (attempt_step construct otherwise T)
 
-    at-spans : EachOf (IsTried RawTextStart TextBeforeData) (codes "$`")
-    at-spans = (λ e. tries-span (byte "$") e refl, (λ e. tries-span (byte "`") e refl, tt))
-
     at-runs : EachOf (IsTried AttentionStart TextBeforeData) (codes "*_~")
     at-runs = (λ e. tries-run (byte "*") e refl, (λ e. tries-run (byte "_") e refl, (λ e. tries-run (byte "~") e refl, tt)))
-
-    at-protocols : EachOf (IsTried GfmAutolinkLiteralProtocolStart TextBeforeData) (first_letters schemes)
-    at-protocols =
-        each-among (IsTried GfmAutolinkLiteralProtocolStart TextBeforeData) (first_letters schemes) (λ v h e. tries-protocol v e h)
-
-    at-www : EachOf (IsTried GfmAutolinkLiteralWwwStart TextBeforeData) (first_letters (www ∷ []))
-    at-www = each-among (IsTried GfmAutolinkLiteralWwwStart TextBeforeData) (first_letters (www ∷ [])) (λ v h e. tries-www v e h)
 
     tries-by-code : (v : ℕ) → current_of T ≡ Some v → Before (tries_at (first_try v) T)
     tries-by-code v =
         by-row (λ (n : ℕ) (o : Option (StateName × StateName)). current_of T ≡ Some n → Before (tries_at o T)) text_tries v
-        ((tries-image, tt), (at-spans, ((tries-reference, tt), (at-runs, ((tries-autolink, tt), (at-protocols, (at-www, ((tries-footnote, tt), ((tries-escape, tt), ((tries-end, tt), tt))))))))))
+        (rows-append (λ (n : ℕ) (o : Option (StateName × StateName)). current_of T ≡ Some n → Before (tries_at o T)) (or_data sole_tries) other_tries (each-sole sole_tries (soles T (marked-ready T ready.marked) W))
+        ((tries-image, tt), (at-runs, ((tries-autolink, tt), ((tries-footnote, tt), ((tries-escape, tt), ((tries-end, tt), tt)))))))
         (λ h e. tries-none v e h)
 
     before-goes : GoesIn W (weight_at 8 T) (before_ends T) (before_step T)

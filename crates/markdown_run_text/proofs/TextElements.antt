@@ -18,12 +18,12 @@ use Rattle.markdown_model.specs.Grammar.{Reading, ◌>>◌, ◌>>=◌, provided,
 use Rattle.markdown_model.specs.LabelEnd.{Element, plain, label_end}
 use Rattle.markdown_model.specs.TextLines.{data_up_to, code_leaf}
 use Rattle.markdown_model.specs.GfmAutolinkLiteral.{schemes, www, first_letters, gfm_autolink_literal_protocol, gfm_autolink_literal_www}
-use Rattle.markdown_model.specs.LeafConstructs.{character_reference, gfm_task_list_item_check, span_here, code_names, math_names}
+use Rattle.markdown_model.specs.LeafConstructs.{gfm_task_list_item_check, span_here, code_names, math_names}
 use Rattle.markdown_model.specs.Setting.{Setting}
 use Rattle.markdown_run_row.specs.RunOverElements.{StandsAfter}
 use Rattle.markdown_run_text.specs.TryTable.{codes_in}
 use Rattle.markdown_run_text.specs.TextContent.{text_markers}
-use Rattle.markdown_run_text.proofs.TryTableLemmas.{one-of, none-of, none-passes, not-in-row}
+use Rattle.markdown_run_text.proofs.TryTableLemmas.{one-of, none-of, none-passes, none-within, not-in-row}
 use Rattle.markdown_model.proofs.GrammarSteps.{bind-some, bind-none, one-here, one-other, either-first, either-second, either-some, switched-on, switched-off}
 
 -- the element of what a construct reads here, or of the code by itself
@@ -195,13 +195,15 @@ module _ (s : Setting) (end : ℕ) (earlier : List Element) (previous : Option C
       by_test false k f =
           let v = eqb-true c.value (byte "`") f in code-element c cs o v (sym (only-code s.options (ends_escaped earlier) previous c cs v) ∙ given)
 
-  -- References.
+  -- A row of one construct.
 
-  pub reference-element : (c : Code) (cs : List Code) (o : Option (Forest × List Code)) → c.value ≡ byte "&"
-      → (provided s.options.constructs.character_reference >> character_reference s.references) (c ∷ cs) ≡ o → text_element s end earlier previous (c ∷ cs) ≡ element_here c cs o
-  unfolding tries tried
-  reference-element c cs o e h =
-      one-row (byte "&") s.options.constructs.character_reference (character_reference s.references) c cs o e refl refl refl h
+  abbrev pub IsRowOfOne : ℕ → Bool → Reading Forest → Type 0
+  IsRowOfOne v on a =
+      ((v == byte "\n") ≡ false) × (((v == byte "[") ≡ false) × (tried (tries s end earlier previous) v ≡ switched on (as_plain a)))
+
+  pub only-element : (v : ℕ) (on : Bool) (a : Reading Forest) → IsRowOfOne v on a → (c : Code) (cs : List Code) → c.value ≡ v →
+      (o : Option (Forest × List Code)) → (provided on >> a) (c ∷ cs) ≡ o → text_element s end earlier previous (c ∷ cs) ≡ element_here c cs o
+  only-element v on a row c cs e o h = one-row v on a c cs o e row.0 row.1.0 row.1.1 h
 
   -- A row of two constructs: the first, and the second where that does not hold.
 
@@ -347,7 +349,8 @@ module _ (s : Setting) (end : ℕ) (earlier : List Element) (previous : Option C
       tried (tries s end earlier previous) v ≡ data_code
   unfolding tries
   plain-tried v e h =
-      tried-data (tries s end earlier previous) v (or_from (v == byte "\n") (list_any (λ n. v == n) text_markers) e h)
+      tried-data (tries s end earlier previous) v
+      (none-within (codes_in (tries s end earlier previous)) (byte "\n" ∷ text_markers) refl v (or_from (v == byte "\n") (list_any (λ n. v == n) text_markers) e h))
 
   ending-at : (c : Code) (cs : List Code) → is_line_ending c ≡ true →
       text_element s end earlier previous (c ∷ cs) ≡ Some (plain (code_leaf c), cs)

@@ -242,9 +242,9 @@ pub weight-marked : (T : Tokenizer) → weight_at 9 (text_marked T) ≡ weight_a
 weight-marked T =
     ap (λ n. 256 * n + 9 + 1) (left-scratched (marked_fields T.cursor T.parse_state.now T.tokenize_state) T)
 
-pub at-rest-reference : (T : Tokenizer) → ReadsText T → RawText.StartReady T → IsAtRest T
-at-rest-reference T text r =
-    record { text = text; marker = ap (λ (s : TokenizeState). s.marker) r.rest; size = ap (λ (s : TokenizeState). s.size) r.rest }
+pub at-rest-reference : (T : Tokenizer) → RawText.StartReady T → IsAtRest T
+at-rest-reference T r =
+    record { marker = ap (λ (s : TokenizeState). s.marker) r.rest; size = ap (λ (s : TokenizeState). s.size) r.rest }
 
 pub run-ready : (T : Tokenizer) → RawText.StartReady T → Attention.StartReady T
 run-ready T r = r.rest ∙ ap (Attention.with_marker 0) (sym r.rest)

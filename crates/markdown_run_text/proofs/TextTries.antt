@@ -17,7 +17,6 @@ use Rattle.markdown_engine.proofs.OperationFields.{Begins, ahead-some, current-a
 use Rattle.markdown_plan.specs.Characters.{bytes_of}
 use Rattle.markdown_leaf_gfm.specs.GfmAutolinkLiteral.{is_on, end_of, protocol_here, www_here}
 use Rattle.markdown_leaf_gfm.specs.GfmTaskListItemCheck.{check_here, may_begin}
-use Rattle.markdown_leaf.specs.CharacterReference.{reference_here}
 use Rattle.markdown_leaf.specs.RawText.{span_at, code_just_before}
 use Rattle.markdown_model.specs.TextLines.{code_leaf}
 use Rattle.markdown_model.specs.CodeTests.{is_value}
@@ -34,7 +33,7 @@ use Rattle.markdown_attention.specs.Attention.{switches_of, run_tree}
 use Rattle.markdown_model.specs.SingleConstructs.{begins_run}
 use Rattle.markdown_attention.proofs.AttentionLaws.{run-some, run-none, run-at, run-ahead}
 use Rattle.markdown_run_row.proofs.ConstructNodes.{run-node}
-use Rattle.markdown_run_text.proofs.TextElements.{is_marker, run_markers, run-element, run-off, plain_of, plain-switched, off-or-none, check-element, span-element, IsRowOfTwo, first-element, second-element, reference-element, other-element, protocol-element, www-element}
+use Rattle.markdown_run_text.proofs.TextElements.{is_marker, run_markers, run-element, run-off, plain_of, plain-switched, off-or-none, check-element, span-element, IsRowOfOne, only-element, IsRowOfTwo, first-element, second-element, other-element, protocol-element, www-element}
 use Rattle.markdown_model.proofs.GrammarSteps.{bind-none}
 
 -- what a construct reads is the element at hand
@@ -68,15 +67,20 @@ alone-at : (reading : TreeReading) (T : Tokenizer) (v : ℕ) → current_of T �
 alone-at reading T v e h none earlier previous c cs stands w =
     h c cs (value-here T v c cs e w) (ap reading (sym w) ∙ none) earlier previous stands
 
--- References.
+-- One construct at a code.
 
-pub reference-reads : (T : Tokenizer) → current_of T ≡ Some (byte "&") → ReadsElements (reference_here T) T
-reference-reads T e =
-    at-hand (reference_here T) T (byte "&") e (λ c cs t rest v holds earlier previous stands. reference-element (text_setting T) (end_in T) earlier previous c cs (Some (t, rest)) v holds)
+abbrev pub IsTriedAt : Tokenizer → ℕ → Bool → Reading Forest → Type 0
+IsTriedAt T v on a =
+    (earlier : List Element) (previous : Option Code) → IsRowOfOne (text_setting T) (end_in T) earlier previous v on a
 
-pub reference-alone : (T : Tokenizer) → current_of T ≡ Some (byte "&") → OrStandsAlone (reference_here T) T
-reference-alone T e =
-    alone-at (reference_here T) T (byte "&") e (λ c cs v none earlier previous stands. reference-element (text_setting T) (end_in T) earlier previous c cs None v none)
+module _ (T : Tokenizer) (v : ℕ) (on : Bool) (a : Reading Forest) (row : IsTriedAt T v on a) (e : current_of T ≡ Some v) where
+  pub only-reads : ReadsElements (provided on >> a) T
+  only-reads =
+      at-hand (provided on >> a) T v e (λ c cs t rest k holds earlier previous stands. only-element (text_setting T) (end_in T) earlier previous v on a (row earlier previous) c cs k (Some (t, rest)) holds)
+
+  pub only-alone : OrStandsAlone (provided on >> a) T
+  only-alone =
+      alone-at (provided on >> a) T v e (λ c cs k none earlier previous stands. only-element (text_setting T) (end_in T) earlier previous v on a (row earlier previous) c cs k None none)
 
 -- Two constructs at one code.
 

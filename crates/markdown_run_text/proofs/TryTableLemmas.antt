@@ -1,5 +1,5 @@
 -- What holds of each row of a table, at each of its codes, holds of what the table says.
-use Rattle.std.proofs.Common.{◌≡◌, ℕ, Bool, true, false, ◌||◌, ◌==◌, if◌then◌else◌, List, [], ◌∷◌, Option, Some, None, refl, sym, ap, subst, ◌∙◌, arith}
+use Rattle.std.proofs.Common.{◌≡◌, ℕ, Bool, true, false, not, ◌||◌, ◌==◌, if◌then◌else◌, List, [], ◌∷◌, ◌++◌, Option, Some, None, refl, sym, ap, subst, ◌∙◌, arith}
 use Rattle.std.specs.List.{list_any}
 use Rattle.std.proofs.lemmas.Bool.{eqb-true, or_from, or_parts}
 use Rattle.std.proofs.lemmas.Bool.Decides.{nat_tests}
@@ -21,6 +21,11 @@ one-of P (n ∷ ns) v h e = by_test (v == n) refl e (one-of P ns v h.1)
     by_test true k f more = subst P (sym (eqb-true v n k)) h.0
     by_test false k f more = more f
 
+-- what holds of each implies what it implies
+pub each-weaker : (P Q : ℕ → Type 0) → ((v : ℕ) → P v → Q v) → (ns : List ℕ) → EachOf P ns → EachOf Q ns
+each-weaker P Q h [] k = tt
+each-weaker P Q h (n ∷ ns) k = (h n k.0, each-weaker P Q h ns k.1)
+
 -- and it holds of each, if it holds of what is among them
 pub each-among : (P : ℕ → Type 0) (ns : List ℕ) → ((v : ℕ) → list_any (λ n. v == n) ns ≡ true → P v) → EachOf P ns
 each-among P [] h = tt
@@ -41,6 +46,20 @@ none-passes p ns h v e = one-of (λ n. p n ≡ false) ns v (each ns h) e
     each : (ms : List ℕ) → list_any p ms ≡ false → EachOf (λ n. p n ≡ false) ms
     each [] k = tt
     each (m ∷ ms) k = let r = or_parts (p m) (list_any p ms) k in (r.0, each ms r.1)
+
+-- a code that is none of these is none of those that are all among them
+pub none-within : (ns known : List ℕ) → list_any (λ n. not (list_any (λ m. n == m) known)) ns ≡ false → (v : ℕ) →
+    list_any (λ n. v == n) known ≡ false → list_any (λ n. v == n) ns ≡ false
+none-within ns known within v e = by_test (list_any (λ n. v == n) ns) refl
+  where
+    both : (b : Bool) → b ≡ false → not b ≡ false → ⊥
+    both true h k = cc
+    both false h k = cc
+
+    by_test : (b : Bool) → list_any (λ n. v == n) ns ≡ b → b ≡ false
+    by_test false h = refl
+    by_test true h =
+        absurd (both (list_any (λ m. v == m) known) e (none-passes (λ n. not (list_any (λ m. n == m) known)) ns within v h))
 
 -- a code that is not among these is none of them
 pub none-of : (ns : List ℕ) (v n : ℕ) → list_any (λ m. v == m) ns ≡ false → list_any (λ m. n == m) ns ≡ true →
@@ -77,3 +96,7 @@ module _ {A : Type 0} (P : ℕ → Option A → Type 0) where
           (list_any (λ n. v == n) row.0 ≡ false → P v (said_at rows v)) → P v (if b then Some row.1 else said_at rows v)
       by_test true e other = one-of (λ n. P n (Some row.1)) row.0 v each.0 e
       by_test false e other = other e
+
+  pub rows-append : (front back : Table A) → EachRow front → EachRow back → EachRow (front ++ back)
+  rows-append [] back h k = k
+  rows-append (row ∷ front) back h k = (h.0, rows-append front back h.1 k)

@@ -1,5 +1,5 @@
 -- What the states of a text do, and how runs from them end.
-use Rattle.std.specs.Prelude.{◌≡◌, ◌≢◌, ℕ, Bool, true, false, nat_le, ◌==◌, ◌&&◌, ◌||◌, not, if◌then◌else◌, List, [], ◌∷◌, Option, Some, None, length, map, filter, codes, string_bytes, String}
+use Rattle.std.specs.Prelude.{◌≡◌, ◌≢◌, ℕ, Bool, true, false, nat_le, ◌==◌, ◌&&◌, ◌||◌, not, if◌then◌else◌, List, [], ◌∷◌, ◌++◌, Option, Some, None, length, map, filter, codes, string_bytes, String}
 use Rattle.std.specs.Str.{byte}
 use Rattle.markdown_engine_content.specs.Codes.{Code, count_among, stop_of, document_start}
 use Rattle.markdown_engine_index.specs.NameIndex.{names_in_order}
@@ -8,6 +8,7 @@ use Rattle.markdown_engine_content.specs.Place.{Place, point_of}
 use Rattle.std.specs.List.{list_any}
 use Rattle.markdown_engine_index.specs.BracketIndex.{BracketPlaces, brackets_between}
 use Rattle.markdown_engine_index.specs.RunIndex.{last_runs}
+use Rattle.markdown_engine.specs.PastTree.{TreeReading}
 use Rattle.markdown_engine.specs.StateRuns.{Stepped, stepped}
 use Rattle.markdown_engine.specs.StateWords.{StateWords}
 use Rattle.markdown_engine_index.specs.SequenceIndex.{last_begins, holds}
@@ -26,11 +27,14 @@ use Rattle.markdown_engine.specs.declared.tokenizer.TokenizeState.{TokenizeState
 use Rattle.markdown_engine.specs.declared.tokenizer.Tokenizer.{Tokenizer}
 use Rattle.markdown_leaf_gfm.specs.GfmAutolinkLiteral as GfmAutolinkLiteral
 use Rattle.markdown_leaf_gfm.specs.GfmTaskListItemCheck as GfmTaskListItemCheck
+use Rattle.markdown_leaf_html.specs.HtmlText as HtmlText
 use Rattle.markdown_label.specs.LabelEnd as LabelEnd
 use Rattle.markdown_leaf_gfm.specs.DomainOutlook.{openings, no_domains}
 use Rattle.markdown_label.specs.LabelStarts.{footnote_test}
 use Rattle.markdown_leaf.specs.Autolink.{link_here}
 use Rattle.markdown_leaf.specs.CharacterEscape.{escape_here}
+use Rattle.markdown_leaf.specs.CharacterReference.{reference_here}
+use Rattle.markdown_leaf.specs.HardBreakEscape.{break_here}
 use Rattle.markdown_leaf.specs.RawText as RawText
 use Rattle.markdown_model.specs.Elements.{Choice, text_choice}
 use Rattle.markdown_model.specs.GfmAutolinkLiteral.{schemes, www, literal_words, first_letters}
@@ -42,20 +46,32 @@ use Rattle.markdown_run_row.specs.RunOverElements.{AreSingle, DataFinishes, Fini
 use Rattle.markdown_run_text.specs.RunSetting.{text_setting_of}
 use Rattle.markdown_run_text.specs.TryTable.{Table, codes_in, said_at}
 
--- what is tried at which codes: the start of what is tried first, and the state to go on with where that does not hold
-abbrev pub text_tries : Table (StateName × StateName)
-text_tries =
+-- what alone is tried at its codes, and reads one tree: the start of it
+abbrev pub sole_tries : Table StateName
+sole_tries =
+    (first_letters schemes, GfmAutolinkLiteralProtocolStart)
+    ∷ (first_letters (www ∷ []), GfmAutolinkLiteralWwwStart)
+    ∷ (codes "$`", RawTextStart)
+    ∷ (codes "&", CharacterReferenceStart)
+    ∷ []
+
+-- what is tried at other codes: the start of what is tried first, and the state to go on with where that does not hold
+abbrev pub other_tries : Table (StateName × StateName)
+other_tries =
     (codes "!", (LabelStartImageStart, TextBeforeData))
-    ∷ (codes "$`", (RawTextStart, TextBeforeData))
-    ∷ (codes "&", (CharacterReferenceStart, TextBeforeData))
     ∷ (codes "*_~", (AttentionStart, TextBeforeData))
     ∷ (codes "<", (AutolinkStart, TextBeforeHtml))
-    ∷ (first_letters schemes, (GfmAutolinkLiteralProtocolStart, TextBeforeData))
-    ∷ (first_letters (www ∷ []), (GfmAutolinkLiteralWwwStart, TextBeforeData))
     ∷ (codes "[", (GfmLabelStartFootnoteStart, TextBeforeLabelStartLink))
     ∷ (codes "\\", (CharacterEscapeStart, TextBeforeHardBreakEscape))
     ∷ (codes "]", (LabelEndStart, TextBeforeData))
     ∷ []
+
+-- where what alone is tried does not hold, data is read
+abbrev pub or_data : Table StateName → Table (StateName × StateName)
+or_data rows = map (λ (row : List ℕ × StateName). (row.0, (row.1, TextBeforeData))) rows
+
+abbrev pub text_tries : Table (StateName × StateName)
+text_tries = or_data sole_tries ++ other_tries
 
 -- the codes at which something is tried
 abbrev pub text_markers : List ℕ
@@ -68,6 +84,27 @@ data_markers = byte "{" ∷ text_markers
 -- what is tried first at a code, if anything is
 abbrev pub first_try : ℕ → Option (StateName × StateName)
 first_try = said_at text_tries
+
+-- what alone is tried at a code, if anything is
+abbrev pub sole_try : ℕ → Option StateName
+sole_try = said_at sole_tries
+
+-- the codes at which other things are tried
+abbrev pub other_markers : List ℕ
+other_markers = codes_in other_tries
+
+-- what a construct that is tried reads, where that is one tree
+abbrev pub tried_reading : StateName → Option (Tokenizer → TreeReading)
+tried_reading GfmTaskListItemCheckStart = Some GfmTaskListItemCheck.check_here
+tried_reading GfmAutolinkLiteralProtocolStart = Some GfmAutolinkLiteral.protocol_here
+tried_reading GfmAutolinkLiteralWwwStart = Some GfmAutolinkLiteral.www_here
+tried_reading RawTextStart = Some RawText.span_at
+tried_reading CharacterReferenceStart = Some reference_here
+tried_reading AutolinkStart = Some link_here
+tried_reading HtmlTextStart = Some HtmlText.html_here
+tried_reading CharacterEscapeStart = Some escape_here
+tried_reading HardBreakEscapeStart = Some break_here
+tried_reading _ = None
 
 -- Codes at which something is tried, apart from literals.
 

@@ -23,7 +23,8 @@ ghost use Rattle.markdown_engine_index.specs.RunIndex.{last_runs};
 ghost use Rattle.markdown_engine_index.specs.SequenceIndex.{last_begins};
 ghost use Rattle.markdown_plan.specs.Characters.{ReadsText};
 ghost use Rattle.markdown_run_text.specs.ContentPasses.{MayFinish, FinishesText};
-ghost use Rattle.markdown_run_text.specs.TextContent.{indexed_fields, named_fields, names_for, names_change, names_in, names_pay, order_pays, brackets_in, brackets_pay, titles_for, titles_pay, domains_for, domains_pay, span_markers, data_markers, first_try, attempt_step, start_step, before_step, before_html_step, before_hard_break_escape_step, before_label_start_link_step, before_data_step};
+ghost use Rattle.markdown_run_text.specs.TextContent.{indexed_fields, named_fields, names_for, names_change, names_in, names_pay, order_pays, brackets_in, brackets_pay, titles_for, titles_pay, domains_for};
+ghost use Rattle.markdown_run_text.specs.TextContent.{domains_pay, span_markers, data_markers, first_try, sole_try, attempt_step, start_step, before_step, before_html_step, before_hard_break_escape_step, before_label_start_link_step, before_data_step};
 
 use markdown_engine::resolve::ResolveName;
 use markdown_engine::state::{State, StateName};
@@ -50,45 +51,80 @@ const MANY: usize = 16;
 // Where a name has so many bytes, labels are read past their first front, so that an order of the names pays.
 const LONG: usize = 64;
 
-// What is tried at which bytes: the start of what is tried first, and the state to go on with where that does not hold. The lines are
-// handed to the macro that is named, behind the words that come after its name.
+/// Hands what is tried at which bytes, apart from literals, to the macro that is named, behind the words that come after its name. First the
+/// lines of what alone is tried at its bytes, and reads one tree: the state that starts it. Then those of other bytes: the start of what is tried
+/// first, and the state to go on with where that does not hold.
+#[macro_export]
+macro_rules! plain_tries {
+    ($of_rows:ident $($more:tt)*) => {
+        $of_rows! {
+            $($more)*
+            sole {
+                [b'$' b'`'] RawTextStart;
+                [b'&'] CharacterReferenceStart;
+            }
+            other {
+                [b'!'] LabelStartImageStart, TextBeforeData;
+                [b'*' b'_' b'~'] AttentionStart, TextBeforeData;
+                [b'<'] AutolinkStart, TextBeforeHtml;
+                [b'['] GfmLabelStartFootnoteStart, TextBeforeLabelStartLink;
+                [b'\\'] CharacterEscapeStart, TextBeforeHardBreakEscape;
+                [b']'] LabelEndStart, TextBeforeData;
+            }
+        }
+    };
+}
+
+// The same, with literals before.
 macro_rules! tries {
     ($of_rows:ident $($more:tt)*) => { literal_letters!(tries_with ($of_rows $($more)*)) };
 }
 
-// The same, with the first letters of literals.
 macro_rules! tries_with {
     (($of_rows:ident $($more:tt)*)
         schemes { $([$($of_scheme:literal)*] then $scheme_next:tt;)* }
         www { $([$($of_www:literal)*] then $www_next:tt;)* }) => {
-        $of_rows! {
-            $($more)*
-            [b'!'] LabelStartImageStart, TextBeforeData;
-            [b'$' b'`'] RawTextStart, TextBeforeData;
-            [b'&'] CharacterReferenceStart, TextBeforeData;
-            [b'*' b'_' b'~'] AttentionStart, TextBeforeData;
-            [b'<'] AutolinkStart, TextBeforeHtml;
-            [$($($of_scheme)*)*] GfmAutolinkLiteralProtocolStart, TextBeforeData;
-            [$($($of_www)*)*] GfmAutolinkLiteralWwwStart, TextBeforeData;
-            [b'['] GfmLabelStartFootnoteStart, TextBeforeLabelStartLink;
-            [b'\\'] CharacterEscapeStart, TextBeforeHardBreakEscape;
-            [b']'] LabelEndStart, TextBeforeData;
+        plain_tries! {
+            $of_rows $($more)*
+            literals {
+                [$($($of_scheme)*)*] GfmAutolinkLiteralProtocolStart;
+                [$($($of_www)*)*] GfmAutolinkLiteralWwwStart;
+            }
         }
     };
 }
 
 // The bytes at which data stops: those of all lines, and that at which an expression of MDX may be tried.
 macro_rules! stops_of {
-    ($([$($of_row:literal)*] $construct:ident, $otherwise:ident;)*) => {
-        byte_set!(b'{', $($($of_row),*),*)
+    ($($kind:ident { $([$($of_row:literal)*] $construct:ident $(, $otherwise:ident)?;)* })*) => {
+        byte_set!(b'{', $($($($of_row),*),*),*)
     };
 }
 
-// What the line of a byte says, if it has one.
-macro_rules! row_of {
-    ($byte:ident $([$($of_row:literal)*] $construct:ident, $otherwise:ident;)*) => {
+// What is tried first at a byte, if its line says so.
+macro_rules! first_of {
+    ($byte:ident
+        literals { $([$($of_literal:literal)*] $literal:ident;)* }
+        sole { $([$($of_sole:literal)*] $sole:ident;)* }
+        other { $([$($of_row:literal)*] $construct:ident, $otherwise:ident;)* }) => {
         match $byte {
+            $($($of_literal)|* => Some((StateName::$literal, StateName::TextBeforeData)),)*
+            $($($of_sole)|* => Some((StateName::$sole, StateName::TextBeforeData)),)*
             $($($of_row)|* => Some((StateName::$construct, StateName::$otherwise)),)*
+            _ => None,
+        }
+    };
+}
+
+// What alone is tried at a byte, if its line says so.
+macro_rules! sole_of {
+    ($byte:ident
+        literals { $([$($of_literal:literal)*] $literal:ident;)* }
+        sole { $([$($of_sole:literal)*] $sole:ident;)* }
+        other { $($of_others:tt)* }) => {
+        match $byte {
+            $($($of_literal)|* => Some(StateName::$literal),)*
+            $($($of_sole)|* => Some(StateName::$sole),)*
             _ => None,
         }
     };
@@ -105,7 +141,14 @@ fn markers() -> ByteSet
 fn first_try(byte: u8) -> Option<(StateName, StateName)>
     ensures { result ≡ first_try byte }
 {
-    tries!(row_of byte)
+    tries!(first_of byte)
+}
+
+/// Answers the start of what alone is tried at this byte and reads one tree, if anything is.
+pub fn sole_try(byte: u8) -> Option<StateName>
+    ensures { result ≡ sole_try byte }
+{
+    tries!(sole_of byte)
 }
 
 // Tries a construct from this state, and goes on with another where it does not hold.

@@ -1,7 +1,11 @@
 use Rattle.std.proofs.Common.{◌≡◌, sym, ◌∙◌}
 use Rattle.markdown_engine.specs.declared.tokenizer.Tokenizer.{Tokenizer}
-use Rattle.markdown_run.proofs.RunConstructLemmas.{put_back, construct-stays, construct-reads}
+use Rattle.markdown_run.proofs.RunConstructLemmas.{put_back, construct-ready, construct-stays, construct-reads}
 use Rattle.markdown_run.proofs.run.construct.Goals as goal
+
+pub run_state-requires-clause-ready : goal.run_state-requires-clause-ready
+run_state-requires-clause-ready c =
+    construct-ready c.args.name c.args.tokenizer.now (c.requires.construct (sym c.failed.ensures ∙ c.if-failed.false))
 
 pub returns-then-not-held-clause-reads : goal.returns-then-not-held-clause-reads
 returns-then-not-held-clause-reads c =

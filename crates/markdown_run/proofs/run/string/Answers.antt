@@ -8,7 +8,7 @@ use Rattle.markdown_run.proofs.run.string.Goals as goal
 
 pub run_through-requires-clause-ready : goal.run_through-requires-clause-ready
 run_through-requires-clause-ready c =
-    string-ready c.args.parse_state.now c.args.pieces.now c.new-tokenizer.result c.requires (begun-starts c.args.alloc c.args.parse_state c.args.pieces.now c.new-tokenizer.result c.new-tokenizer.ensures)
+    string-ready c.args.parse_state.now c.args.pieces.now c.new-tokenizer.result (begun-starts c.args.alloc c.args.parse_state c.args.pieces.now c.new-tokenizer.result c.new-tokenizer.ensures)
 
 pub run_through-requires-clause-passes : goal.run_through-requires-clause-passes
 run_through-requires-clause-passes c = λ held left ends.

@@ -5,17 +5,10 @@ use Rattle.markdown_engine_content.specs.Content.{IsContent}
 use Rattle.markdown_engine_content.specs.Place.{start_of_content}
 use Rattle.markdown_run.specs.ContentOfDocument.{ContentOf}
 use Rattle.markdown_run.proofs.WholeRun.{Starts, content-starts}
-use Rattle.markdown_run.proofs.StringRun.{string-ready, string-may, string-probes, string-run}
+use Rattle.markdown_run.proofs.StringRun.{string-may, string-probes, string-run}
 use Rattle.markdown_run_text.specs.RunSetting.{setting_of}
 use Rattle.markdown_run_leaves.proofs.LeavesAreStretches.{string-in-order, string-covers}
 use Rattle.markdown_run.proofs.document.Content.string.Goals as goal
-
-pub run_through-requires-clause-ready : goal.run_through-requires-clause-ready
-run_through-requires-clause-ready c =
-    let v : ContentOf = c.args.self.now in
-    let content : IsContent v.parse_state.bytes.now v.pieces = subst (λ (x : ContentOf). IsContent x.parse_state.bytes.now x.pieces) c.self.view_is c.self.invariant.0 in
-    let start : Starts v.parse_state v.pieces at_rest c.starting_at-tokenizer.result = content-starts _ _ v.parse_state v.pieces _ c.starting_at-tokenizer.result c.starting_at-tokenizer.ensures (c.document.view_is ∙ ap (λ (x : ContentOf). x.parse_state) c.self.view_is) (c.save.ensures ∙ c.self.invariant.1 ∙ ap (λ (x : ContentOf). start_of_content x.parse_state.bytes.now x.pieces) c.self.view_is) in
-    string-ready v.parse_state v.pieces c.starting_at-tokenizer.result content start
 
 pub run_through-requires-clause-passes : goal.run_through-requires-clause-passes
 run_through-requires-clause-passes c = λ held left ends.
