@@ -1,6 +1,8 @@
 -- What one more call changes of what is known of footnotes.
-use Rattle.std.proofs.Common.{◌≡◌, ◌∙◌, sym, ap, refl, ℕ, zero, suc, ◌+◌, ◌≤◌, arith, Bool, true, false, ◌||◌, cond, if◌then◌else◌, List, [], ◌∷◌, length, Option, None, Some}
+use Rattle.std.proofs.Common.{◌≡◌, ◌∙◌, sym, ap, refl, ℕ, zero, suc, ◌+◌, ◌≤◌, arith, Bool, true, false, ◌||◌, cond, if◌then◌else◌, List, [], ◌∷◌, ◌++◌, map, reverse, length, Option, None, Some, string_bytes}
+use Rattle.std.specs.Prelude.{String}
 use Rattle.std.specs.Str.{bytes_eq}
+use Rattle.std.proofs.lemmas.List.{map-append, reverse-append}
 use Rattle.std.proofs.lemmas.Slice.Eq.{bytes_eq-Decides}
 use Rattle.markdown_html_model.specs.Html.{footnote_number, footnotes_called, is_called, times_called}
 use Rattle.markdown_html.specs.KnownFootnotes.{footnote_of, known_of}
@@ -98,12 +100,22 @@ footnotes-bounded [] = omega arith
 footnotes-bounded (call ∷ before) = at-most-else (is_called call before) (footnotes_called before) (length before) (footnotes-bounded before)
 
 -- what a map finds where the footnote of a call is set in it
-pub known-set : (x key q : List ℕ) (calls all : List (List ℕ)) (set : Footnote) (old new : Option Footnote) → key ≡ x → all ≡ x ∷ calls
-    → set ≡ footnote_with (footnote_number x calls) (times_called x calls + 1) → old ≡ known_of q calls → new ≡ cond (bytes_eq key q) (Some set) old → new ≡ known_of q all
-known-set x key q calls all set old new is more counted before after =
+pub known-set : (x key q : List ℕ) (calls all : List (List ℕ)) (number times : ℕ) (old new : Option Footnote) → key ≡ x → all ≡ x ∷ calls
+    → number ≡ footnote_number x calls → times ≡ times_called x calls → old ≡ known_of q calls
+    → new ≡ cond (bytes_eq key q) (Some (footnote_with number (times + 1))) old → new ≡ known_of q all
+known-set x key q calls all number times old new is more numbered counted before after =
     after
-    ∙ ap (λ k. cond (bytes_eq k q) (Some set) old) is
-    ∙ ap (λ f. cond (bytes_eq x q) (Some f) old) (counted ∙ ap (λ n. footnote_with (footnote_number x calls) n) (plus-one (times_called x calls)))
+    ∙ ap (λ k. cond (bytes_eq k q) (Some (footnote_with number (times + 1))) old) is
+    ∙ ap (λ n. cond (bytes_eq x q) (Some (footnote_with n (times + 1))) old) numbered
+    ∙ ap (λ n. cond (bytes_eq x q) (Some (footnote_with (footnote_number x calls) n)) old) (plus-one times ∙ ap suc counted)
     ∙ ap (λ o. cond (bytes_eq x q) (Some (footnote_with (footnote_number x calls) (suc (times_called x calls)))) o) before
     ∙ known-after x q calls
     ∙ ap (known_of q) (sym more)
+
+-- the identifiers of calls behind one more, the latest first
+pub one-later : {Z : Type 0} (calls more : List (String Z)) (call : String Z) → more ≡ calls ++ call ∷ []
+    → reverse (map string_bytes more) ≡ string_bytes call ∷ reverse (map string_bytes calls)
+one-later calls more call is =
+    ap (λ xs. reverse (map string_bytes xs)) is
+    ∙ ap reverse (map-append string_bytes calls (call ∷ []))
+    ∙ reverse-append (map string_bytes calls) (string_bytes call ∷ [])

@@ -39,7 +39,8 @@ enum Fault {
 impl Fault {
     // The status that the program ends with.
     fn status(self) -> u8
-        ensures { result ≡ status_of self }
+        ensures status { result ≡ status_of self }
+        ensures listed { (2 ≤ result) × (result ≤ 6) }
     {
         match self {
             Fault::Usage => 2,
@@ -336,6 +337,7 @@ pub fn run<R: Read, W: Write, E: Write>(
     ensures blank_line { result ≡ 4 → (reads_text words.now ≡ true) × IfSome (R.remaining reader.old) (λ bytes. IsTextDocument (without_line_ending bytes) → ⊥) }
     ensures quiet { (result ≡ 2) ⊎ ((result ≡ 3) ⊎ (result ≡ 4)) → out.new ≡ out.old }
     ensures silent { result ≡ 0 → err.new ≡ err.old }
+    ensures listed { (result ≡ 0) ⊎ ((2 ≤ result) × (result ≤ 6)) }
 {
     match print_output(alloc, words, reader, out) {
         Ok(()) => 0,
@@ -353,7 +355,8 @@ pub fn run_without_words<E: Write>(error: &io::Error, err: &mut E) -> u8
 
 // Tells what went wrong, and answers the status that the program ends with.
 fn end_with<E: Write>(fault: Fault, err: &mut E) -> u8
-    ensures { result ≡ status_of fault }
+    ensures status { result ≡ status_of fault }
+    ensures listed { (2 ≤ result) × (result ≤ 6) }
 {
     let _ = writeln!(err, "mdinline: {}", fault.message());
     fault.status()

@@ -1,19 +1,21 @@
 -- The passes keep rows of linked leaves as they are, so the inline tree of each content has linked leaves in groups of their own.
-use Rattle.std.proofs.Common.{◌≡◌, ℕ, suc, Bool, true, false, ◌&&◌, ◌||◌, List, Some, None, refl, inl, inr}
+use Rattle.std.proofs.Common.{◌≡◌, ℕ, suc, Bool, true, false, ◌&&◌, ◌||◌, List, Some, None, refl, sym, subst, inl, inr}
+use Rattle.markdown_engine_content.specs.declared.event.Name.{Name}
 use Rattle.markdown_engine_content.specs.declared.event.Name.TheVariants as N
+use Rattle.markdown_engine_content.specs.declared.event.Content.{Content}
 use Rattle.markdown_engine_content.specs.Codes.{Code}
 use Rattle.markdown_engine_content.specs.Tree.{Forest, empty, leaf_then, group_then, leaf}
-use Rattle.markdown_model.specs.Elements.{elements_of, string_elements_of}
 use Rattle.markdown_model.specs.GfmEmailLiteral.{with_emails}
 use Rattle.markdown_model.specs.BracketGroups.{Token, run_tokens, assembled, tokens_of, paired}
-use Rattle.markdown_model.specs.InlineTree.{raw_tree, finished_text, finished_string, text_tree, string_tree}
+use Rattle.markdown_model.specs.InlineTree.{text_tree, string_tree}
 use Rattle.markdown_model.specs.Pairs.{Pair, pair_list}
-use Rattle.markdown_model.specs.Passes.{data_onto, merged, begins_line_ending, is_nothing, trimmed_data, trimmed, with_emails_apart, labels_of}
+use Rattle.markdown_model.specs.Passes.{data_onto, merged, begins_line_ending, is_nothing, trimmed_data, trimmed, with_emails_apart}
 use Rattle.markdown_model.specs.Runs.{Run, run_of, runs_of}
 use Rattle.markdown_model.specs.Setting.{Setting}
 use Rattle.markdown_model.proofs.BracketGroupFacts.{word-append}
 use Rattle.markdown_model.proofs.PairGroupFacts.{Any, any-parts, HasWord, run-has, assembled-has}
 use Rattle.markdown_model.proofs.PassedTrees.{trimmed_data-has, with_emails-has}
+use Rattle.markdown_model_laws.proofs.EachPass.{labels_in, trees-have}
 use Rattle.markdown_model_laws.proofs.ChainTrees.{AreLinked, HasChains, row, one-leaf, text-labels, string-labels}
 
 -- Pairs.
@@ -54,16 +56,28 @@ module _ (s : Setting) (pairs_of : List Run → List Pair) where
   paired-chains f h =
       assembled-chains (tokens_of s pairs_of f (pairs_of (runs_of s f)) 0) (tokens-chains f (pairs_of (runs_of s f)) 0 h)
 
+-- Linked leaves.
+
+-- what keeps each linked leaf, and nothing else, keeps a row of them
+linked-kept : (f : Forest → Forest) → f empty ≡ empty
+    → ((name : Name) (link : Content) (cs : List Code) (rest : Forest) → f (leaf_then name (Some link) cs rest) ≡ leaf_then name (Some link) cs (f rest))
+    → (t : Forest) → AreLinked t → AreLinked (f t)
+linked-kept f none keeps empty h = subst AreLinked (sym none) tt
+linked-kept f none keeps (leaf_then name None cs rest) h = absurd h
+linked-kept f none keeps (leaf_then name (Some link) cs rest) h =
+    subst AreLinked (sym (keeps name link cs rest)) (h.0, linked-kept f none keeps rest h.1)
+linked-kept f none keeps (group_then name a b inside rest) h = absurd h
+
 -- Merging.
 
 linked-merged : (t : Forest) → AreLinked t → AreLinked (merged t)
 unfolding merged
-linked-merged empty h = tt
-linked-merged (leaf_then N.Data None cs rest) h = absurd h
-linked-merged (leaf_then N.Data (Some link) cs rest) h = (h.0, linked-merged rest h.1)
-linked-merged (leaf_then name None cs rest) h = absurd h
-linked-merged (leaf_then name (Some link) cs rest) h = (h.0, linked-merged rest h.1)
-linked-merged (group_then name a b inside rest) h = absurd h
+linked-merged = linked-kept merged refl keeps
+  where
+    keeps : (name : Name) (link : Content) (cs : List Code) (rest : Forest) →
+        merged (leaf_then name (Some link) cs rest) ≡ leaf_then name (Some link) cs (merged rest)
+    keeps N.Data link cs rest = refl
+    keeps name link cs rest = refl
 
 onto-chains : (cs : List Code) (t : Forest) → HasChains t → HasChains (data_onto cs t)
 onto-chains cs (leaf_then N.Data None more rest) h = h
@@ -109,12 +123,12 @@ emails-chains cs = with_emails-has HasChains row (λ ds. one-leaf N.Data ds) (λ
 
 linked-mailed : (t : Forest) → AreLinked t → AreLinked (with_emails_apart t)
 unfolding with_emails_apart
-linked-mailed empty h = tt
-linked-mailed (leaf_then N.Data None cs rest) h = absurd h
-linked-mailed (leaf_then N.Data (Some link) cs rest) h = (h.0, linked-mailed rest h.1)
-linked-mailed (leaf_then name None cs rest) h = absurd h
-linked-mailed (leaf_then name (Some link) cs rest) h = (h.0, linked-mailed rest h.1)
-linked-mailed (group_then name a b inside rest) h = absurd h
+linked-mailed = linked-kept with_emails_apart refl keeps
+  where
+    keeps : (name : Name) (link : Content) (cs : List Code) (rest : Forest) →
+        with_emails_apart (leaf_then name (Some link) cs rest) ≡ leaf_then name (Some link) cs (with_emails_apart rest)
+    keeps N.Data link cs rest = refl
+    keeps name link cs rest = refl
 
 mailed-chains : (t : Forest) → HasChains t → HasChains (with_emails_apart t)
 unfolding with_emails_apart
@@ -129,21 +143,6 @@ mailed-chains (group_then name a b inside rest) (inr h, more) = (inr (linked-mai
 -- The inline trees.
 
 pub trees-have-chains : (s : Setting) (cs : List Code) → HasChains (text_tree s cs) × HasChains (string_tree s cs)
-unfolding text_tree string_tree finished_text finished_string raw_tree
 trees-have-chains s cs =
-    (by_test s.options.constructs.gfm_autolink_literal, trimmed-chains false false false (merged (labels_of (string_elements_of s cs))) (merged-chains (labels_of (string_elements_of s cs)) (string-labels s cs)))
-  where
-    labels : Forest
-    labels = labels_of (elements_of s cs)
-
-    done : Forest
-    done = trimmed s.options.constructs.hard_break_trailing true true (merged (paired s (pair_list s) labels))
-
-    chains : HasChains done
-    chains =
-        trimmed-chains s.options.constructs.hard_break_trailing true true (merged (paired s (pair_list s) labels))
-        (merged-chains (paired s (pair_list s) labels) (paired-chains s (pair_list s) labels (text-labels s cs)))
-
-    by_test : (b : Bool) → HasChains (elim b [ true ↦ with_emails_apart done | false ↦ done ])
-    by_test true = mailed-chains done chains
-    by_test false = chains
+    trees-have HasChains (record { merging = merged-chains; trimming = trimmed-chains; mailing = mailed-chains }) s cs
+    (paired-chains s (pair_list s) (labels_in s cs) (text-labels s cs)) (string-labels s cs)

@@ -17,7 +17,7 @@ use Rattle.markdown_model.specs.GfmAutolinkLiteral.{schemes, letters, one_word_o
 use Rattle.markdown_model.specs.HtmlText.{html_codes, html_text, open_tag, closing_tag, comment, instruction, declaration, cdata}
 use Rattle.markdown_model.specs.LabelEnd.{full_reference, collapsed_reference, shortcut, shortcut_before_bracket, reference_after_label, after_label}
 use Rattle.markdown_model.specs.Laws.{is_run}
-use Rattle.markdown_model.specs.LeafConstructs.{character_escape, hard_break_escape, Parts, named_parts, decimal_parts, hexadecimal_parts, reference_tree, character_reference, joined_codes, closing_run, closing, SpanNames, code_names, math_names, span_of, span_here, scheme, is_local_code, uri, email_address, in_angle_brackets, autolink, gfm_task_list_item_check}
+use Rattle.markdown_model.specs.LeafConstructs.{Parts, named_parts, decimal_parts, hexadecimal_parts, reference_tree, character_reference, joined_codes, closing_run, closing, SpanNames, code_names, math_names, span_of, span_here, scheme, is_local_code, uri, email_address, in_angle_brackets, autolink, gfm_task_list_item_check}
 use Rattle.markdown_model.specs.Resource.{string_group, StringNames, between_markers, label, title_between, title, title_names, literal_destination, raw_destination, destination, resource_names, spaced_title, destination_and_title, resource, reference_names}
 use Rattle.markdown_model.specs.Setting.{Setting}
 use Rattle.markdown_model.specs.TextLines.{joins, onto_stretch, stretches, lines_of, linked_leaf, line_leaf, line_leaves, lines_from, lines}
@@ -194,13 +194,13 @@ abbrev pub ReadsLeads : Reading Forest → Type 0
 ReadsLeads a = Reads true true Leads a
 
 -- one ASCII code at hand
-a-one : (p : Code → Bool) → IsLowTest p → Reads true true Lows (one p)
+pub a-one : (p : Code → Bool) → IsLowTest p → Reads true true Lows (one p)
 a-one p test = reads_anywhere Lows true true (one p) (reads_one p test)
 
 a-some : (p : Code → Bool) → IsLowTest p → Reads true true Lows (some p)
 a-some p test = reads_anywhere Lows true true (some p) (reads_some_low p test)
 
-punctuation-low : (c : Code) → is_ascii_punctuation c ≡ true → is_low c ≡ true
+pub punctuation-low : (c : Code) → is_ascii_punctuation c ≡ true → is_low c ≡ true
 punctuation-low c h = grind (arith, nat_tests)
 
 digit-low : (c : Code) → is_digit c ≡ true → is_low c ≡ true
@@ -217,17 +217,6 @@ alphanumeric-low c h = grind (arith, nat_tests)
 
 pub either-low : (p q : Code → Bool) → IsLowTest p → IsLowTest q → IsLowTest (λ c. p c || q c)
 either-low p q h k c e = elim (or_cases (p c) (q c) e) [ inl x ↦ h c x | inr x ↦ k c x ]
-
-pub leads_character_escape : ReadsLeads character_escape
-unfolding character_escape
-leads_character_escape =
-    reads_bind true true true Lows Leads _ _ (a-one _ (value-low 92 refl)) λ slash h. reads_bind true true true Lows Leads _ _ (a-one _ punctuation-low) λ value k. reads_gives Leads true _
-    (leads-row (leaf N.CharacterEscapeMarker slash) (leaf N.CharacterEscapeValue value) (marker-leaf N.CharacterEscapeMarker slash refl h) (marker-leaf N.CharacterEscapeValue value refl k), tt)
-
-pub leads_hard_break_escape : ReadsLeads hard_break_escape
-unfolding hard_break_escape
-leads_hard_break_escape =
-    reads_bind true true true Lows Leads _ _ (reads_before Lows true true _ _ (a-one _ (value-low 92 refl))) λ slash h. reads_gives Leads true _ (marker-leaf N.HardBreakEscape slash refl h)
 
 record ArePartsLow (p : Parts) : Type 0 where
   front : Lows p.front
@@ -641,20 +630,6 @@ module _ (bytes : List ℕ) (end : ℕ) where
     where
       here : (cs : List Code) → ReadsLeads (provided (may_precede_www previous && begins_with_www cs) >> www_from_here bytes end)
       here cs = reads_passed Leads true true _ _ leads_www_from_here
-
--- All of them.
-pub ruleset leads_constructs = (
-  leads_character_escape,
-  leads_hard_break_escape,
-  leads_character_reference,
-  leads_autolink,
-  leads_code_text,
-  leads_math_text,
-  leads_html_text,
-  leads_gfm_task_list_item_check,
-  leads_gfm_autolink_literal_protocol,
-  leads_gfm_autolink_literal_www,
-)
 
 -- What follows a label.
 

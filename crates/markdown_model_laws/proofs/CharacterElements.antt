@@ -27,8 +27,9 @@ use Rattle.markdown_model.proofs.OneElementList.{text_elements, string_elements}
 use Rattle.markdown_model.proofs.PassesKeepCodes.{codes-run_of}
 use Rattle.markdown_model.proofs.ReadingsCover.{takes_word_of}
 use Rattle.markdown_model_laws.proofs.CharacterRows.{low-early, Early, IsSound, AllLow, Lows, lows-all, value-low, Goes, Reads, reads_bind, reads_gives, reads_passed, reads_either, reads_before, reads_anywhere, reads_lows, reads_one, reads_some_low}
-use Rattle.markdown_model_laws.proofs.EachRow.{EachRow, OfConstructs}
-use Rattle.markdown_model_laws.proofs.CharacterConstructs.{Leads, leads-row, low-leaf, ReadsLeads, AllBelow, word-lows, leads_character_escape, leads_character_reference, leads_gfm_task_list_item_check, leads_after_label, leads_constructs}
+use Rattle.markdown_model_laws.proofs.EachRow.{EachRow, OfConstructs, tried-has}
+use Rattle.markdown_model_laws.proofs.CharacterConstructs.{Leads, leads-row, low-leaf, ReadsLeads, AllBelow, word-lows, leads_character_reference, leads_gfm_task_list_item_check, leads_after_label}
+use Rattle.markdown_model_laws.proofs.ConstructLaws.{leads_character_escape, leads_constructs}
 
 -- Rows: `f` says that unlinked data stands before.
 
@@ -189,18 +190,6 @@ module _ (c : Code) (cs : List Code) (s : IsSound (c ∷ cs)) where
   here-data : Here data_code
   here-data = gone-data c cs s
 
-  abbrev EachHere : Tries → Type 0
-  EachHere rows = EachRow Here rows
-
-  tried-here : (rows : Tries) (v : ℕ) → EachHere rows → Here (tried rows v)
-  unfolding tried
-  tried-here [] v h = here-data
-  tried-here (line ∷ rows) v h = by_test (list_any (λ n. v == n) line.0) (tried-here rows v h.1)
-    where
-      by_test : (b : Bool) → Here (tried rows v) → Here (elim b as (λ _. Reading Element) [ true ↦ line.1 | false ↦ tried rows v ])
-      by_test true k = h.0
-      by_test false k = k
-
   -- where the code at hand begins a character
   module _ (w : is_later_byte c ≡ false) where
     here : (a : Reading Element) → Have a → Here a
@@ -217,7 +206,7 @@ module _ (c : Code) (cs : List Code) (s : IsSound (c ∷ cs)) where
       unfolding tries code_text math_text
       rows-have H r = search (r.ending, r.on, r.own, r.both, r.image, r.footnote, r.link, r.stars, r.underscores, r.tildes, r.last, leads_constructs) parts 20 depth 30 fits 5000
 
-      each-here : EachHere (tries set end earlier previous)
+      each-here : EachRow Here (tries set end earlier previous)
       each-here = rows-have Here (record {
         ending = here line_ending ending;
         on = λ b a h. gone-switched (c ∷ cs) b a h;
@@ -235,7 +224,7 @@ module _ (c : Code) (cs : List Code) (s : IsSound (c ∷ cs)) where
       text-first : Here (text_element set end earlier previous)
       unfolding text_element first_check
       text-first =
-          both _ _ (own _ _ leads_gfm_task_list_item_check) (both _ _ (tried-here (tries set end earlier previous) c.value each-here) here-data)
+          both _ _ (own _ _ leads_gfm_task_list_item_check) (both _ _ (tried-has Here (tries set end earlier previous) c.value each-here here-data) here-data)
 
     string-first : (set : Setting) → Here (string_element set)
     unfolding string_element

@@ -8,12 +8,11 @@ use Rattle.markdown_engine_content.specs.declared.event.Name.TheVariants as N
 use Rattle.markdown_engine_content.specs.Codes.{Code, is_blank}
 use Rattle.markdown_engine_content.specs.Tree.{Forest, empty, leaf_then, group_then, leaf, leaf_codes, ◌⊕◌}
 use Rattle.markdown_engine_content.proofs.TreeCodes.{leaf_codes-row}
-use Rattle.markdown_model.specs.BracketGroups.{paired}
 use Rattle.markdown_model.specs.CodeTests.{is_value, is_among, is_alphanumeric, is_empty, next_is}
 use Rattle.markdown_model.specs.Elements.{elements_of, string_elements_of}
 use Rattle.markdown_model.specs.GfmEmailLiteral.{is_local, is_word, email_protocol, is_xmpp, email_domain, is_email_domain, email_at, email_leaves, with_emails}
 use Rattle.markdown_model.specs.Grammar.{span}
-use Rattle.markdown_model.specs.InlineTree.{raw_tree, finished_text, finished_string, text_tree, string_tree}
+use Rattle.markdown_model.specs.InlineTree.{finished_string, text_tree, string_tree}
 use Rattle.markdown_model.specs.Pairs.{pair_list}
 use Rattle.markdown_model.specs.Passes.{data_onto, merged, trimmed_data, trimmed, with_emails_apart, labels_of, blank_name}
 use Rattle.markdown_model.specs.Setting.{Setting}
@@ -24,6 +23,7 @@ use Rattle.markdown_model.proofs.LiteralCodes.{found, IsFound, reverse-first}
 use Rattle.markdown_model.proofs.OneTree.{codes-finished_text, codes-finished_string, leaves_cover}
 use Rattle.markdown_model.proofs.PassedTrees.{Walks, walks-row, walks-trimmed, walks-mailed}
 use Rattle.markdown_model.proofs.PassesKeepCodes.{codes-merged, codes-paired, codes-trimmed_data}
+use Rattle.markdown_model_laws.proofs.EachPass.{pairs_in, unmailed, text-has}
 use Rattle.markdown_model_laws.proofs.CharacterRows.{is_low, Early, IsSound, AllLow, Lows, Starts, all-early, lows-all, early-front, sound-back, sound-front, low-behind, lows-behind, all-join, low-list, value-low, among-low, IsLowTest}
 use Rattle.markdown_model_laws.proofs.CharacterConstructs.{blank-low, alphanumeric-low, either-low}
 use Rattle.markdown_model_laws.proofs.CharacterElements.{Lead, Flagged, text-labels-fit, string-labels-fit, paired-fits}
@@ -259,26 +259,18 @@ module _ (s : Setting) (cs : List Code) (starts : Starts cs) where
   codes-text = codes-labels_of (elements_of s cs) ∙ sym (codes-finished_text s (pair_list s) (elements_of s cs)) ∙ (leaves_cover s cs).0
 
   abbrev Pairs : Forest
-  Pairs = paired s (pair_list s) Labels
+  Pairs = pairs_in s cs
 
   merged-text : AreWhole (merged Pairs)
   merged-text =
       led-whole (merged Pairs) (merged-led false Pairs (paired-fits s (pair_list s) Labels (text-labels-fit s cs starts.1 starts.0)))
       (subst IsSound (sym (codes-merged Pairs ∙ codes-paired s (pair_list s) Labels ∙ codes-text)) starts.1)
 
-  abbrev Done : Forest
-  Done = trimmed s.options.constructs.hard_break_trailing true true (merged Pairs)
-
   pub text-whole : AreWhole (text_tree s cs)
-  unfolding text_tree finished_text raw_tree
-  text-whole = by_test s.options.constructs.gfm_autolink_literal
+  text-whole = text-has AreWhole s cs (mailed-whole (unmailed s cs) done) done
     where
-      done : AreWhole Done
+      done : AreWhole (unmailed s cs)
       done = trimmed-whole s.options.constructs.hard_break_trailing true true (merged Pairs) merged-text
-
-      by_test : (b : Bool) → AreWhole (elim b as (λ _. Forest) [ true ↦ with_emails_apart Done | false ↦ Done ])
-      by_test true = mailed-whole Done done
-      by_test false = done
 
   abbrev Plain : Forest
   Plain = labels_of (string_elements_of s cs)

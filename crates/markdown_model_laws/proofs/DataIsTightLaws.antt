@@ -9,11 +9,10 @@ use Rattle.markdown_engine_content.specs.Codes.{Code, is_blank}
 use Rattle.markdown_engine_content.specs.Tree.{Forest, empty, leaf_then, group_then, leaf, ◌⊕◌, leaf_codes}
 use Rattle.markdown_model.specs.CodeTests.{is_empty, next_is, is_some_code, last_code}
 use Rattle.markdown_model.specs.Grammar.{span}
-use Rattle.markdown_model.specs.Elements.{elements_of, string_elements_of}
-use Rattle.markdown_model.specs.Pairs.{pair_list}
+use Rattle.markdown_model.specs.Elements.{string_elements_of}
 use Rattle.markdown_model.specs.Passes.{begins_line_ending, is_nothing, blank_name, trimmed_data, trimmed, merged, with_emails_apart, labels_of}
 use Rattle.markdown_model.specs.GfmEmailLiteral.{email_at, email_leaves, with_emails}
-use Rattle.markdown_model.specs.InlineTree.{raw_tree, finished_text, finished_string, text_tree, string_tree}
+use Rattle.markdown_model.specs.InlineTree.{finished_string, string_tree}
 use Rattle.markdown_model.specs.Laws.{begins_data, IsDataApart}
 use Rattle.markdown_model.proofs.LeafCodes.{span-append}
 use Rattle.markdown_model.proofs.LiteralCodes.{IsFound, found, reverse-first}
@@ -21,6 +20,7 @@ use Rattle.markdown_model.proofs.MergedDataIsApart.{merged_data_is_apart}
 use Rattle.markdown_model.proofs.DefinitionSteps.{span-stops}
 use Rattle.markdown_model_laws.specs.EmailsInData.{is_email}
 use Rattle.markdown_model_laws.specs.DataIsTight.{IsTight, DataIsTight}
+use Rattle.markdown_model_laws.proofs.EachPass.{pairs_in, unmailed, text-has}
 use Rattle.markdown_model_laws.proofs.EmailLeaves.{IsEmailLeaf, AnswerIsEmail, answer-email}
 
 -- Last codes.
@@ -290,18 +290,10 @@ tight-mailed front whole (group_then name enter exit inside rest) h =
     (tight-mailed false false inside h.0, tight-mailed false whole rest h.1)
 
 pub data_is_tight : DataIsTight
-unfolding text_tree string_tree finished_text finished_string
-data_is_tight s cs = (by_test s.options.constructs.gfm_autolink_literal, tight-trimmed false false false (merged (labels_of (string_elements_of s cs))) (merged_data_is_apart (labels_of (string_elements_of s cs))))
+unfolding string_tree finished_string
+data_is_tight s cs =
+    (text-has (IsTight true true) s cs (tight-mailed true true (unmailed s cs) is_tight) is_tight, tight-trimmed false false false (merged (labels_of (string_elements_of s cs))) (merged_data_is_apart (labels_of (string_elements_of s cs))))
   where
-    row : Forest
-    row = raw_tree s (pair_list s) (elements_of s cs)
-
-    done : Forest
-    done = trimmed s.options.constructs.hard_break_trailing true true (merged row)
-
-    is_tight : IsTight true true done
-    is_tight = tight-trimmed s.options.constructs.hard_break_trailing true true (merged row) (merged_data_is_apart row)
-
-    by_test : (b : Bool) → IsTight true true (elim b [ true ↦ with_emails_apart done | false ↦ done ])
-    by_test true = tight-mailed true true done is_tight
-    by_test false = is_tight
+    is_tight : IsTight true true (unmailed s cs)
+    is_tight =
+        tight-trimmed s.options.constructs.hard_break_trailing true true (merged (pairs_in s cs)) (merged_data_is_apart (pairs_in s cs))

@@ -23,7 +23,7 @@ use Rattle.markdown_engine_content.proofs.DocumentPlaces.{chain-document}
 use Rattle.markdown_model.specs.Elements.{elements_of, string_elements_of}
 use Rattle.markdown_model.specs.GfmEmailLiteral.{with_emails}
 use Rattle.markdown_model.specs.BracketGroups.{paired}
-use Rattle.markdown_model.specs.InlineTree.{label_tree, raw_tree, finished_text, finished_string, text_tree, string_tree, text_events, string_events}
+use Rattle.markdown_model.specs.InlineTree.{label_tree, finished_string, text_tree, string_tree, text_events, string_events}
 use Rattle.markdown_model.specs.LabelEnd.{Element}
 use Rattle.markdown_model.specs.Pairs.{pair_list}
 use Rattle.markdown_model.specs.Passes.{data_onto, merged, begins_line_ending, is_nothing, trimmed_data, trimmed, with_emails_apart, labels_of}
@@ -34,6 +34,7 @@ use Rattle.markdown_model.proofs.LiteralCodes.{codes-with_emails}
 use Rattle.markdown_model.proofs.OneTree.{codes-finished_text, codes-finished_string, leaves_cover}
 use Rattle.markdown_model_laws.specs.EventOrder.{NeverGoBack, EventsNeverGoBack}
 use Rattle.markdown_model_laws.specs.TreesFilled.{IsFilled}
+use Rattle.markdown_model_laws.proofs.EachPass.{unmailed, text-has}
 use Rattle.markdown_model_laws.proofs.TreesFilledLaws.{trees_are_filled}
 use Rattle.markdown_model_laws.proofs.MadeElements.{good-text, good-string}
 use Rattle.markdown_model_laws.proofs.PairPlaces.{paired-allows}
@@ -245,20 +246,12 @@ module _ (s : Setting) (pieces : List Piece) (content : IsContent s.bytes pieces
       (allows-then (ends_of (leaf_codes Labels)) (places_of Labels) (places_of Pairs) (fit-labels Elements (good-text s all))
       (paired-allows s (pair_list s) Labels (flat-row s Labels stripes (λ _. unlinked)) (ready-row s Labels stripes)))
 
-  abbrev Trimmed : Forest
-  Trimmed = trimmed s.options.constructs.hard_break_trailing true true (merged Pairs)
-
-  trimmed-same : places_of Trimmed ≡ places_of Pairs
+  trimmed-same : places_of (unmailed s all) ≡ places_of Pairs
   trimmed-same = trimmed-places s.options.constructs.hard_break_trailing true true (merged Pairs) ∙ merged-places Pairs
 
   text-same : places_of (text_tree s all) ≡ places_of Pairs
-  unfolding text_tree finished_text raw_tree
-  text-same = by_test s.options.constructs.gfm_autolink_literal
-    where
-      by_test : (b : Bool) →
-          places_of (elim b as (λ _. Forest) [ true ↦ with_emails_apart Trimmed | false ↦ Trimmed ]) ≡ places_of Pairs
-      by_test true = mailed-places Trimmed ∙ trimmed-same
-      by_test false = trimmed-same
+  text-same =
+      text-has (λ t. places_of t ≡ places_of Pairs) s all (mailed-places (unmailed s all) ∙ trimmed-same) trimmed-same
 
   text-back : NeverGoBack (text_events s pieces)
   text-back = tree-back (text_tree s all) (trees_are_filled s all).0 (subst (Allows (ends_of all)) (sym text-same) pairs-allow)

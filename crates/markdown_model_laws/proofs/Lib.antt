@@ -38,7 +38,9 @@ pub mod ReferenceBytes
 pub mod ReferenceLaws
 pub mod CharacterRows
 pub mod CharacterConstructs
+pub mod ConstructLaws
 pub mod EachRow
+pub mod EachPass
 pub mod CharacterElements
 pub mod CharacterPasses
 pub mod CharacterLaws

@@ -7,11 +7,11 @@ use Rattle.markdown_engine_content.specs.declared.event.Point.{Point}
 use Rattle.markdown_engine_content.specs.Codes.{Code}
 use Rattle.markdown_engine_content.specs.Tree.{Forest, empty, leaf_then, group_then, leaf, ◌⊕◌}
 use Rattle.markdown_model.specs.CodeTests.{is_empty}
-use Rattle.markdown_model.specs.Elements.{elements_of, string_elements_of}
+use Rattle.markdown_model.specs.Elements.{string_elements_of}
 use Rattle.markdown_model.specs.GfmEmailLiteral.{with_emails}
 use Rattle.markdown_model.specs.BracketGroups.{Token, nested, loose, pair_names, pair_group, run_tokens, assembled, tokens_of, paired}
 use Rattle.markdown_model.specs.Laws.{is_run}
-use Rattle.markdown_model.specs.InlineTree.{raw_tree, finished_text, finished_string, text_tree, string_tree}
+use Rattle.markdown_model.specs.InlineTree.{finished_string, string_tree}
 use Rattle.markdown_model.specs.Pairs.{Pair, pair_list}
 use Rattle.markdown_model.specs.Passes.{merged, trimmed, with_emails_apart, labels_of}
 use Rattle.markdown_model.specs.Runs.{Run, run_of, runs_of}
@@ -20,6 +20,7 @@ use Rattle.markdown_model_laws.specs.EmailsInData.{is_email, holds_email, HasPla
 use Rattle.markdown_model_laws.specs.TreesFilled.{is_label_text}
 use Rattle.markdown_model_laws.specs.MarkersHeld.{is_data}
 use Rattle.markdown_model_laws.specs.PairGroups.{is_pair}
+use Rattle.markdown_model_laws.proofs.EachPass.{labels_in, pairs_in, unmailed, text-has}
 use Rattle.markdown_model_laws.proofs.MadeConstructs.{is_autolink, is_sealed, is_shut, is_single, reaches, made}
 use Rattle.markdown_model_laws.proofs.MadeElements.{made-text-labels, made-string-labels}
 use Rattle.markdown_model.proofs.PairGroupFacts.{Any, any-parts, HasWord, run-has, assembled-has}
@@ -245,23 +246,14 @@ links-plain (group_then name enter exit inside rest) h =
     let p = group-parts name enter exit inside rest h in (links-plain inside p.1, links-plain rest p.2)
 
 pub links_hold_no_email : LinksHoldNoEmail
-unfolding text_tree string_tree finished_text finished_string raw_tree
-links_hold_no_email s cs = (by_test s.options.constructs.gfm_autolink_literal, (plain-trimmed false false false (merged plain) (plain-merged plain (plain-made plain (made-string-labels s cs)))).0)
+unfolding string_tree finished_string
+links_hold_no_email s cs =
+    (text-has HasPlainLinks s cs (links-mailed (unmailed s cs) is_plain) (links-plain (unmailed s cs) is_plain), (plain-trimmed false false false (merged plain) (plain-merged plain (plain-made plain (made-string-labels s cs)))).0)
   where
-    labels : Forest
-    labels = labels_of (elements_of s cs)
-
     plain : Forest
     plain = labels_of (string_elements_of s cs)
 
-    done : Forest
-    done = trimmed s.options.constructs.hard_break_trailing true true (merged (paired s (pair_list s) labels))
-
-    is_plain : IsPlain done
+    is_plain : IsPlain (unmailed s cs)
     is_plain =
-        plain-trimmed s.options.constructs.hard_break_trailing true true (merged (paired s (pair_list s) labels))
-        (plain-merged (paired s (pair_list s) labels) (plain-paired s (pair_list s) labels (plain-made labels (made-text-labels s cs))))
-
-    by_test : (b : Bool) → HasPlainLinks (elim b [ true ↦ with_emails_apart done | false ↦ done ])
-    by_test true = links-mailed done is_plain
-    by_test false = links-plain done is_plain
+        plain-trimmed s.options.constructs.hard_break_trailing true true (merged (pairs_in s cs))
+        (plain-merged (pairs_in s cs) (plain-paired s (pair_list s) (labels_in s cs) (plain-made (labels_in s cs) (made-text-labels s cs))))

@@ -19,15 +19,15 @@ use Rattle.markdown_model.specs.GfmEmailLiteral.{with_emails}
 use Rattle.markdown_model.specs.Setting.{Setting}
 use Rattle.markdown_model.specs.Runs.{Run, run_of, runs_of, marker_of}
 use Rattle.markdown_model.specs.Pairs.{Pair, pair_list}
-use Rattle.markdown_model.specs.Elements.{elements_of}
 use Rattle.markdown_model.specs.BracketGroups.{Token, pair_names, pair_group, run_tokens, assembled, tokens_of, paired}
-use Rattle.markdown_model.specs.Passes.{data_onto, merged, begins_line_ending, is_nothing, blank_name, trimmed_data, trimmed, with_emails_apart, labels_of}
-use Rattle.markdown_model.specs.InlineTree.{label_tree, raw_tree, finished_text, text_tree}
+use Rattle.markdown_model.specs.Passes.{data_onto, merged, begins_line_ending, is_nothing, blank_name, trimmed_data, trimmed, with_emails_apart}
+use Rattle.markdown_model.specs.InlineTree.{label_tree}
 use Rattle.markdown_model.specs.Laws.{is_run}
 use Rattle.markdown_model.proofs.PassesKeepCodes.{codes-trimmed_data, codes-run_of}
 use Rattle.markdown_model.proofs.LiteralCodes.{codes-with_emails}
 use Rattle.markdown_model.proofs.DefinitionSteps.{span-all}
 use Rattle.markdown_model_laws.specs.MarkersHeld.{by_code, may_hold_marker, AreAlso, EachMarkerIsHeld}
+use Rattle.markdown_model_laws.proofs.EachPass.{labels_in, pairs_in, unmailed, text-has}
 use Rattle.markdown_model_laws.proofs.LabelTreeRuns.{is_marker, HasApartRuns, apart-text-labels}
 
 -- Codes with a mark.
@@ -349,17 +349,19 @@ kept-mailed (group_then name enter exit inside rest) =
     kept-append (held inside) (held (with_emails_apart inside)) (held rest) (held (with_emails_apart rest)) (kept-mailed inside) (kept-mailed rest)
 
 pub each_marker_is_held : EachMarkerIsHeld
-unfolding text_tree finished_text raw_tree label_tree
-each_marker_is_held s cs = by_test s.options.constructs.gfm_autolink_literal
+unfolding label_tree
+each_marker_is_held s cs =
+    text-has (λ f. AreAlso (by_code is_run labels) (by_code may_hold_marker f)) s cs
+    (also (with_emails_apart done) (held-kept (runs_marked labels) (held done) (held (with_emails_apart done)) kept (kept-mailed done))) (also done kept)
   where
     labels : Forest
-    labels = labels_of (elements_of s cs)
+    labels = labels_in s cs
 
     pairs : Forest
-    pairs = paired s (pair_list s) labels
+    pairs = pairs_in s cs
 
     done : Forest
-    done = trimmed s.options.constructs.hard_break_trailing true true (merged pairs)
+    done = unmailed s cs
 
     kept : AreHeld (runs_marked labels) (held done)
     kept =
@@ -369,9 +371,3 @@ each_marker_is_held s cs = by_test s.options.constructs.gfm_autolink_literal
     also : (f : Forest) → AreHeld (runs_marked labels) (held f) →
         AreAlso (by_code is_run labels) (by_code may_hold_marker f)
     also f h = subst (λ x. AreAlso (by_code is_run labels) x) (by-code may_hold_marker f) (subst (λ x. AreAlso x (map (λ y. y.0) (held f))) (by-code is_run labels) (marks-held (runs_marked labels) (held f) h))
-
-    by_test : (b : Bool) →
-        AreAlso (by_code is_run labels) (by_code may_hold_marker (elim b as (λ _. Forest) [ true ↦ with_emails_apart done | false ↦ done ]))
-    by_test true =
-        also (with_emails_apart done) (held-kept (runs_marked labels) (held done) (held (with_emails_apart done)) kept (kept-mailed done))
-    by_test false = also done kept

@@ -7,15 +7,13 @@ use Rattle.markdown_engine_content.specs.Codes.{Code}
 use Rattle.markdown_engine_content.specs.Tree.{Forest, empty, leaf_then, group_then, leaf, ◌⊕◌}
 use Rattle.markdown_model.specs.CodeTests.{is_empty}
 use Rattle.markdown_model.specs.GfmEmailLiteral.{with_emails}
-use Rattle.markdown_model.specs.Elements.{elements_of}
-use Rattle.markdown_model.specs.BracketGroups.{paired}
-use Rattle.markdown_model.specs.Pairs.{pair_list}
-use Rattle.markdown_model.specs.Passes.{data_onto, merged, begins_line_ending, is_nothing, trimmed_data, trimmed, with_emails_apart, labels_of}
-use Rattle.markdown_model.specs.InlineTree.{label_tree, raw_tree, finished_text, text_tree, pair_count}
+use Rattle.markdown_model.specs.Passes.{data_onto, merged, begins_line_ending, is_nothing, trimmed_data, trimmed, with_emails_apart}
+use Rattle.markdown_model.specs.InlineTree.{label_tree, text_tree, pair_count}
 use Rattle.markdown_model.proofs.PassedTrees.{walks-merged, walks-trimmed, walks-mailed, trimmed_data-has, with_emails-has}
 use Rattle.markdown_model_laws.specs.EmailsInData.{is_email}
 use Rattle.markdown_model_laws.specs.TreesFilled.{is_label_text}
 use Rattle.markdown_model_laws.specs.PairGroups.{is_pair, is_sequence, pair_groups, HasSides, EachPairHas, AreOfPair, EachPairIsAGroup, PairsAreEven, PairsTakeTheirMarkers}
+use Rattle.markdown_model_laws.proofs.EachPass.{labels_in, pairs_in, unmailed, text-has}
 use Rattle.markdown_model_laws.proofs.FilledTrees.{made-filled}
 use Rattle.markdown_model_laws.proofs.MadeConstructs.{is_shut, is_single, reaches, made}
 use Rattle.markdown_model_laws.proofs.MadeElements.{made-text-labels}
@@ -87,25 +85,15 @@ no-groups (group_then name enter exit inside rest) h =
     omega (arith, not-pair (is_pair name) (and_parts (not (is_pair name)) (is_shut name inside) q.0).0, no-groups inside r.0, no-groups rest r.1)
 
 pub each_pair_is_a_group : EachPairIsAGroup
-unfolding text_tree finished_text raw_tree label_tree
-each_pair_is_a_group s cs = by_test s.options.constructs.gfm_autolink_literal ∙ kept
+unfolding label_tree
+each_pair_is_a_group s cs =
+    text-has (λ t. pair_groups t ≡ pair_count s (labels_in s cs)) s cs (groups-mailed (unmailed s cs) ∙ kept) kept
   where
-    labels : Forest
-    labels = labels_of (elements_of s cs)
-
-    done : Forest
-    done = trimmed s.options.constructs.hard_break_trailing true true (merged (raw_tree s (pair_list s) (elements_of s cs)))
-
-    kept : pair_groups done ≡ pair_count s labels
+    kept : pair_groups (unmailed s cs) ≡ pair_count s (labels_in s cs)
     kept =
-        groups-trimmed s.options.constructs.hard_break_trailing true true (merged (raw_tree s (pair_list s) (elements_of s cs)))
-        ∙ groups-merged (raw_tree s (pair_list s) (elements_of s cs))
-        ∙ omega (arith, groups-paired s labels, no-groups labels (made-text-labels s cs))
-
-    by_test : (b : Bool) →
-        pair_groups (elim b as (λ _. Forest) [ true ↦ with_emails_apart done | false ↦ done ]) ≡ pair_groups done
-    by_test true = groups-mailed done
-    by_test false = refl
+        groups-trimmed s.options.constructs.hard_break_trailing true true (merged (pairs_in s cs))
+        ∙ groups-merged (pairs_in s cs)
+        ∙ omega (arith, groups-paired s (labels_in s cs), no-groups (labels_in s cs) (made-text-labels s cs))
 
 -- The passes keep the sides of pairs.
 
@@ -215,26 +203,19 @@ module _ (P : List Code → List Code → Type 0) where
       (λ name a b inside _ g e. sides-kept with_emails_apart mailed-keeps inside (g e)) f h
 
 pub pairs_take_their_markers : PairsTakeTheirMarkers
-unfolding text_tree finished_text raw_tree label_tree
-pairs_take_their_markers s cs = by_test s.options.constructs.gfm_autolink_literal
+unfolding label_tree
+pairs_take_their_markers s cs = text-has (EachPairHas P) s cs (pairs-mailed P (unmailed s cs) kept) kept
   where
     labels : Forest
-    labels = labels_of (elements_of s cs)
+    labels = labels_in s cs
 
     P : List Code → List Code → Type 0
     P front back = AreOfPair s labels front back
 
-    done : Forest
-    done = trimmed s.options.constructs.hard_break_trailing true true (merged (paired s (pair_list s) labels))
-
-    kept : EachPairHas P done
+    kept : EachPairHas P (unmailed s cs)
     kept =
-        pairs-trimmed P s.options.constructs.hard_break_trailing true true (merged (paired s (pair_list s) labels))
-        (pairs-merged P (paired s (pair_list s) labels) (right-paired s labels (no-groups labels (made-text-labels s cs)) (made-filled labels (made-text-labels s cs)) (apart-text-labels s cs)).0)
-
-    by_test : (b : Bool) → EachPairHas P (elim b as (λ _. Forest) [ true ↦ with_emails_apart done | false ↦ done ])
-    by_test true = pairs-mailed P done kept
-    by_test false = kept
+        pairs-trimmed P s.options.constructs.hard_break_trailing true true (merged (pairs_in s cs))
+        (pairs-merged P (pairs_in s cs) (right-paired s labels (no-groups labels (made-text-labels s cs)) (made-filled labels (made-text-labels s cs)) (apart-text-labels s cs)).0)
 
 -- What is said of the sides of pairs may be weakened.
 

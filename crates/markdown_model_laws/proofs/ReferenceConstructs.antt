@@ -14,7 +14,7 @@ use Rattle.markdown_model.specs.CodeTests.{is_empty, is_among, is_digit, is_hex_
 use Rattle.markdown_model.specs.Grammar.{Reading, ◌>>◌, provided, some, span, optional_tree}
 use Rattle.markdown_model.specs.GfmAutolinkLiteral.{gfm_autolink_literal_protocol, www_from_here, gfm_autolink_literal_www, may_precede_www, begins_with_www}
 use Rattle.markdown_model.specs.HtmlText.{html_text}
-use Rattle.markdown_model.specs.LeafConstructs.{character_escape, hard_break_escape, Parts, named_parts, decimal_parts, hexadecimal_parts, character_reference, SpanNames, code_names, math_names, span_of, span_here, in_angle_brackets, autolink, gfm_task_list_item_check}
+use Rattle.markdown_model.specs.LeafConstructs.{Parts, named_parts, decimal_parts, hexadecimal_parts, character_reference, SpanNames, code_names, math_names, span_of, span_here, in_angle_brackets, autolink, gfm_task_list_item_check}
 use Rattle.markdown_model.specs.LabelEnd.{full_reference, collapsed_reference, shortcut, shortcut_before_bracket, reference_after_label, after_label}
 use Rattle.markdown_model.specs.Resource.{string_group, StringNames, between_markers, label, title_between, title, title_names, literal_destination, raw_destination, destination, resource_names, spaced_title, destination_and_title, resource, reference_names}
 use Rattle.markdown_model.specs.Setting.{Setting}
@@ -116,16 +116,6 @@ refers_character_reference table =
 
 -- What else stands by itself.
 
-pub refers_character_escape : Refers character_escape
-unfolding character_escape
-refers_character_escape =
-    then_any _ _ _ λ slash. then_any _ _ _ λ value. yields_gives _ _
-    (free-group N.CharacterEscape _ refl (row (leaf N.CharacterEscapeMarker slash) _ (free-leaf N.CharacterEscapeMarker slash refl) (free-leaf N.CharacterEscapeValue value refl)))
-
-pub refers_hard_break_escape : Refers hard_break_escape
-unfolding hard_break_escape
-refers_hard_break_escape = then_any _ _ _ λ slash. yields_gives _ _ (free-leaf N.HardBreakEscape slash refl)
-
 refers_in_angle_brackets : (inside : Reading (List Code)) (name : Name) → is_free name ≡ true →
     Refers (in_angle_brackets inside name)
 unfolding in_angle_brackets
@@ -194,20 +184,6 @@ module _ (bytes : List ℕ) (end : ℕ) (previous : Option Code) where
     where
       here : (cs : List Code) → Refers (provided (may_precede_www previous && begins_with_www cs) >> www_from_here bytes end)
       here cs = yields_passed _ _ _ refers_www_from_here
-
--- All of them.
-pub ruleset refers_constructs = (
-  refers_character_escape,
-  refers_hard_break_escape,
-  refers_character_reference,
-  refers_autolink,
-  refers_code_text,
-  refers_math_text,
-  refers_html_text,
-  refers_gfm_task_list_item_check,
-  refers_gfm_autolink_literal_protocol,
-  refers_gfm_autolink_literal_www,
-)
 
 -- What follows a label.
 

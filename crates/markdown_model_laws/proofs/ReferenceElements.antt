@@ -1,6 +1,5 @@
 -- The tree of labels of a content has references as they are read.
-use Rattle.std.proofs.Common.{◌≡◌, ◌==◌, ℕ, Bool, true, false, List, [], ◌∷◌, length, take, drop, Option, Some, None, refl}
-use Rattle.std.specs.List.{list_any}
+use Rattle.std.proofs.Common.{◌≡◌, ℕ, Bool, true, List, [], ◌∷◌, length, take, drop, Option, Some, None, refl}
 use Rattle.markdown_engine_content.specs.declared.event.Name.TheVariants as N
 use Rattle.markdown_engine_content.specs.declared.label_kind.LabelKind.{LabelKind}
 use Rattle.markdown_engine_content.specs.Codes.{Code, stop_of, document_start}
@@ -8,7 +7,7 @@ use Rattle.markdown_engine_content.specs.Tree.{Forest, leaf, group, text_group, 
 use Rattle.markdown_model.specs.Grammar.{Reading, either}
 use Rattle.markdown_model.specs.Setting.{Setting}
 use Rattle.markdown_model.specs.LabelEnd.{Element, plain, starts, ends, label_before, label_end}
-use Rattle.markdown_model.specs.Elements.{as_plain, switched, line_ending, data_code, attention_run, label_start_image, gfm_label_start_footnote, label_start_link, code_text, math_text, Tries, tries, tried, first_check, text_element, string_element, text_choice, string_choice, elements_of, string_elements_of}
+use Rattle.markdown_model.specs.Elements.{as_plain, switched, line_ending, data_code, attention_run, label_start_image, gfm_label_start_footnote, label_start_link, code_text, math_text, tries, first_check, text_element, string_element, text_choice, string_choice, elements_of, string_elements_of}
 use Rattle.markdown_model.specs.Passes.{start_marker, start_tree, label_name, label_group, labels_of}
 use Rattle.markdown_model.proofs.ElementCases.{AllAre, all_are, outcome_yields}
 use Rattle.markdown_model.proofs.LabelTreeFacts.{labels-have}
@@ -16,8 +15,9 @@ use Rattle.markdown_model.proofs.NoLinkInConstructs.{Passes, Yields, yields_bind
 use Rattle.markdown_model.proofs.OneElementList.{text_elements, string_elements}
 use Rattle.markdown_model_laws.proofs.ReferenceTrees.{is_free, HasReferences}
 use Rattle.markdown_model_laws.proofs.ReferenceRows.{row, free-leaf, free-group, free-between}
-use Rattle.markdown_model_laws.proofs.EachRow.{EachRow, OfConstructs}
-use Rattle.markdown_model_laws.proofs.ReferenceConstructs.{Refers, refers_character_reference, refers_character_escape, refers_gfm_task_list_item_check, refers_after_label, refers_constructs}
+use Rattle.markdown_model_laws.proofs.EachRow.{EachRow, OfConstructs, tried-has}
+use Rattle.markdown_model_laws.proofs.ReferenceConstructs.{Refers, refers_character_reference, refers_gfm_task_list_item_check, refers_after_label}
+use Rattle.markdown_model_laws.proofs.ConstructLaws.{refers_character_escape, refers_constructs}
 
 -- Elements.
 
@@ -76,19 +76,6 @@ end-read s earlier =
     (yields_bind HasOutcome _ _ _ (outcome_yields HasReferences tt s (refers_after_label s) (label_before earlier) back) λ outcome k. yields_gives _ (ends back (Some outcome)) k)
     (yields_gives _ (ends back None) tt)
 
-abbrev EachHas : Tries → Type 0
-EachHas rows = EachRow Have rows
-
-tried-has : (rows : Tries) (v : ℕ) → EachHas rows → Have (tried rows v)
-unfolding tried
-tried-has [] v h = data-read
-tried-has (line ∷ rows) v h = by_test (list_any (λ n. v == n) line.0) (tried-has rows v h.1)
-  where
-    by_test : (b : Bool) → Have (tried rows v) →
-        Have (elim b as (λ _. Reading Element) [ true ↦ line.1 | false ↦ tried rows v ])
-    by_test true more = h.0
-    by_test false more = more
-
 both : (a b : Reading Element) → Have a → Have b → Have (either a b)
 both a b h k = yields_either _ a b h k
 
@@ -97,7 +84,7 @@ module _ (s : Setting) (end : ℕ) (earlier : List Element) (previous : Option C
   unfolding tries code_text math_text
   rows-have H r = search (r.ending, r.on, r.own, r.both, r.image, r.footnote, r.link, r.stars, r.underscores, r.tildes, r.last, refers_constructs) parts 20 depth 30 fits 5000
 
-  each-has : EachHas (tries s end earlier previous)
+  each-has : EachRow Have (tries s end earlier previous)
   each-has = rows-have Have (record {
     ending = ending;
     on = on;
@@ -116,7 +103,7 @@ module _ (s : Setting) (end : ℕ) (earlier : List Element) (previous : Option C
   unfolding text_element first_check
   text-has [] = tt
   text-has (c ∷ cs) =
-      (both _ _ (own _ _ refers_gfm_task_list_item_check) (both _ _ (tried-has (tries s end earlier previous) c.value each-has) data-read)).at (c ∷ cs)
+      (both _ _ (own _ _ refers_gfm_task_list_item_check) (both _ _ (tried-has Have (tries s end earlier previous) c.value each-has data-read) data-read)).at (c ∷ cs)
 
 string-has : (s : Setting) → Have (string_element s)
 unfolding string_element

@@ -1,5 +1,5 @@
 -- What is lent for the value of a reference is decodable.
-use Rattle.std.proofs.Common.{◌≡◌, ℕ, true, List, [], ◌∷◌, ◌++◌, map, refl, sym, ap, subst, inl, inr, append_assoc, append-nil}
+use Rattle.std.proofs.Common.{◌≡◌, ◌≢◌, ℕ, true, List, [], ◌∷◌, ◌++◌, map, refl, sym, ap, subst, inl, inr, append_assoc, append-nil}
 use Rattle.std.specs.Str.{IsUtf8}
 use Rattle.std.proofs.lemmas.Bool.{both_ways}
 use Rattle.markdown_engine_content.specs.Codes.{Code, document_start, stop_of}
@@ -9,7 +9,7 @@ use Rattle.markdown_engine_content.specs.Tree.{Forest, empty, leaf_then, group_t
 use Rattle.markdown_engine_content.specs.declared.event.Name.{Name}
 use Rattle.markdown_engine_content.specs.declared.event.Name.TheVariants as N
 use Rattle.markdown_engine_content.specs.declared.event.Point.{Point}
-use Rattle.markdown_util.specs.Reference.{IsNumber}
+use Rattle.markdown_util.specs.Reference.{IsMarker, IsNumber, radix_of}
 use Rattle.markdown_util.proofs.WholeReference.{number_from_value}
 use Rattle.markdown_model.specs.CodeTests.{values_of}
 use Rattle.markdown_model.specs.InlineTree.{text_tree, string_tree}
@@ -29,32 +29,29 @@ module _ (bytes : List ℕ) where
   spelled : (cs : List Code) → IsPart bytes cs → AreLetters cs → lent_of cs ≡ values_of cs
   spelled cs part h = lent-letters bytes cs part.before part.after part.whole h
 
+  -- what stands for a marker, and behind another than `&` for a number
+  fits : (marker : ℕ) (cs : List Code) → IsPart bytes cs → AreLetters cs → IsMarker marker
+      → (marker ≢ 38 → IsNumber (radix_of marker) (values_of cs)) → IsDecodable marker (lent_of cs)
+  fits marker cs part h known number =
+      let same : lent_of cs ≡ values_of cs = spelled cs part h in
+      record {
+        known = known;
+        text = subst IsUtf8 (sym same) (letters-text cs h);
+        number = λ off. subst (IsNumber (radix_of marker)) (sym same) (number off);
+      }
+
   named-fits : (cs : List Code) → IsPart bytes cs → AreLetters cs → IsDecodable 38 (lent_of cs)
-  named-fits cs part h = record {
-    known = inl refl;
-    text = subst IsUtf8 (sym (spelled cs part h)) (letters-text cs h);
-    number = λ off. absurd (off refl);
-  }
+  named-fits cs part h = fits 38 cs part h (inl refl) (λ off. absurd (off refl))
 
   decimal-fits : (t : Forest) (h : IsDecimal t) → IsPart bytes h.value → IsDecodable 35 (lent_of h.value)
   decimal-fits t h part =
-      let letters = decimal-letters h.value h.digits in
-      let same : lent_of h.value ≡ values_of h.value = spelled h.value part letters in
-      record {
-        known = inr (inl refl);
-        text = subst IsUtf8 (sym same) (letters-text h.value letters);
-        number = λ off. subst (IsNumber 10) (sym same) (number_from_value 35 (values_of h.value) (inr (inl refl)) (decimal-value h.value h.some h.few h.digits) off);
-      }
+      fits 35 h.value part (decimal-letters h.value h.digits) (inr (inl refl))
+      (number_from_value 35 (values_of h.value) (inr (inl refl)) (decimal-value h.value h.some h.few h.digits))
 
   hexadecimal-fits : (t : Forest) (h : IsHexadecimal t) → IsPart bytes h.value → IsDecodable 120 (lent_of h.value)
   hexadecimal-fits t h part =
-      let letters = hexadecimal-letters h.value h.digits in
-      let same : lent_of h.value ≡ values_of h.value = spelled h.value part letters in
-      record {
-        known = inr (inr refl);
-        text = subst IsUtf8 (sym same) (letters-text h.value letters);
-        number = λ off. subst (IsNumber 16) (sym same) (number_from_value 120 (values_of h.value) (inr (inr refl)) (hexadecimal-value h.value h.some h.few h.digits) off);
-      }
+      fits 120 h.value part (hexadecimal-letters h.value h.digits) (inr (inr refl))
+      (number_from_value 120 (values_of h.value) (inr (inr refl)) (hexadecimal-value h.value h.some h.few h.digits))
 
   -- Spans.
 

@@ -3,18 +3,17 @@ use Rattle.std.proofs.Common.{◌≡◌, ℕ, suc, Bool, true, false, ◌&&◌, 
 use Rattle.markdown_engine_content.specs.declared.event.Name.TheVariants as N
 use Rattle.markdown_engine_content.specs.Codes.{Code}
 use Rattle.markdown_engine_content.specs.Tree.{Forest, empty, leaf_then, group_then, leaf}
-use Rattle.markdown_model.specs.Elements.{elements_of, string_elements_of}
 use Rattle.markdown_model.specs.GfmEmailLiteral.{with_emails}
 use Rattle.markdown_model.specs.BracketGroups.{Token, run_tokens, assembled, tokens_of, paired}
-use Rattle.markdown_model.specs.InlineTree.{raw_tree, finished_text, finished_string, text_tree, string_tree}
 use Rattle.markdown_model.specs.Pairs.{Pair, pair_list}
-use Rattle.markdown_model.specs.Passes.{data_onto, merged, begins_line_ending, is_nothing, trimmed_data, trimmed, with_emails_apart, labels_of}
+use Rattle.markdown_model.specs.Passes.{data_onto, merged, begins_line_ending, is_nothing, trimmed_data, trimmed, with_emails_apart}
 use Rattle.markdown_model.specs.Runs.{Run, run_of, runs_of}
 use Rattle.markdown_model.specs.Setting.{Setting}
 use Rattle.markdown_model.proofs.BracketGroupFacts.{word-append}
 use Rattle.markdown_model.proofs.GivenNames.{pair-named, email-named}
 use Rattle.markdown_model.proofs.PairGroupFacts.{Any, any-parts, HasWord, run-has, assembled-has}
 use Rattle.markdown_model.proofs.PassedTrees.{trimmed_data-has, with_emails-has}
+use Rattle.markdown_model_laws.proofs.EachPass.{labels_in, trees-have}
 use Rattle.markdown_model_laws.proofs.ReferenceTrees.{is_free, named_row, decimal_row, hexadecimal_row, IsReference, HasReferences, ReferencesAreKnown}
 use Rattle.markdown_model_laws.proofs.ReferenceRows.{row, free-leaf, free-between}
 use Rattle.markdown_model_laws.proofs.ReferenceElements.{text-labels, string-labels}
@@ -136,21 +135,6 @@ mailed-refers (group_then N.Link a b inside rest) h = (refl, (h.1.0, mailed-refe
 mailed-refers (group_then name a b inside rest) h = (h.0, (mailed-refers inside h.1.0, mailed-refers rest h.1.1))
 
 pub references-known : ReferencesAreKnown
-unfolding text_tree string_tree finished_text finished_string raw_tree
 references-known s cs =
-    (by_test s.options.constructs.gfm_autolink_literal, trimmed-refers false false false (merged (labels_of (string_elements_of s cs))) (merged-refers (labels_of (string_elements_of s cs)) (string-labels s cs)))
-  where
-    labels : Forest
-    labels = labels_of (elements_of s cs)
-
-    done : Forest
-    done = trimmed s.options.constructs.hard_break_trailing true true (merged (paired s (pair_list s) labels))
-
-    refers : HasReferences done
-    refers =
-        trimmed-refers s.options.constructs.hard_break_trailing true true (merged (paired s (pair_list s) labels))
-        (merged-refers (paired s (pair_list s) labels) (paired-refers s (pair_list s) labels (text-labels s cs)))
-
-    by_test : (b : Bool) → HasReferences (elim b [ true ↦ with_emails_apart done | false ↦ done ])
-    by_test true = mailed-refers done refers
-    by_test false = refers
+    trees-have HasReferences (record { merging = merged-refers; trimming = trimmed-refers; mailing = mailed-refers }) s cs
+    (paired-refers s (pair_list s) (labels_in s cs) (text-labels s cs)) (string-labels s cs)

@@ -6,14 +6,12 @@ use Rattle.markdown_engine_content.specs.Codes.{Code}
 use Rattle.markdown_engine_content.specs.Tree.{Forest, empty, leaf_then, group_then, ◌⊕◌}
 use Rattle.markdown_model.specs.CodeTests.{is_empty}
 use Rattle.markdown_model.specs.GfmEmailLiteral.{email_leaves, with_emails}
-use Rattle.markdown_model.specs.Elements.{elements_of, string_elements_of}
-use Rattle.markdown_model.specs.BracketGroups.{paired}
-use Rattle.markdown_model.specs.Pairs.{pair_list}
+use Rattle.markdown_model.specs.Elements.{string_elements_of}
 use Rattle.markdown_model.specs.Passes.{data_onto, merged, begins_line_ending, is_nothing, trimmed_data, trimmed, with_emails_apart, labels_of}
-use Rattle.markdown_model.specs.InlineTree.{raw_tree, finished_text, finished_string, text_tree, string_tree}
 use Rattle.markdown_model.proofs.PassesKeepCodes.{codes-trimmed_data}
 use Rattle.markdown_model.proofs.PassedTrees.{walks-merged, walks-trimmed, walks-mailed, trimmed_data-has, with_emails-has}
 use Rattle.markdown_model_laws.specs.TreesFilled.{IsFilled, TreesAreFilled}
+use Rattle.markdown_model_laws.proofs.EachPass.{labels_in, trees-have}
 use Rattle.markdown_model_laws.proofs.FilledTrees.{filled, filled-leaf, filled-join, made-filled, nothing-codes}
 use Rattle.markdown_model_laws.proofs.PairSides.{right-paired}
 use Rattle.markdown_model_laws.proofs.LabelTreeRuns.{apart-text-labels}
@@ -86,21 +84,9 @@ filled-mailed f h =
     walks-mailed filled (λ cs _. with_emails-has IsFilled filled-join (filled-leaf Name.Data) (λ before ds. filled-leaf _ ds) cs) (λ name a b inside k g e. g (nothing-mailed inside k e)) f h
 
 pub trees_are_filled : TreesAreFilled
-unfolding text_tree string_tree finished_text finished_string raw_tree
 trees_are_filled s cs =
-    (by_test s.options.constructs.gfm_autolink_literal, filled-trimmed false false false (merged (labels_of (string_elements_of s cs))) (filled-merged (labels_of (string_elements_of s cs)) (made-filled (labels_of (string_elements_of s cs)) (made-string-labels s cs))))
-  where
-    labels : Forest
-    labels = labels_of (elements_of s cs)
-
-    done : Forest
-    done = trimmed s.options.constructs.hard_break_trailing true true (merged (paired s (pair_list s) labels))
-
-    is_filled : IsFilled done
-    is_filled =
-        filled-trimmed s.options.constructs.hard_break_trailing true true (merged (paired s (pair_list s) labels))
-        (filled-merged (paired s (pair_list s) labels) (right-paired s labels (no-groups labels (made-text-labels s cs)) (made-filled labels (made-text-labels s cs)) (apart-text-labels s cs)).1)
-
-    by_test : (b : Bool) → IsFilled (elim b [ true ↦ with_emails_apart done | false ↦ done ])
-    by_test true = filled-mailed done is_filled
-    by_test false = is_filled
+    let labels : Forest = labels_in s cs in
+    let text = made-text-labels s cs in
+    trees-have IsFilled (record { merging = filled-merged; trimming = filled-trimmed; mailing = filled-mailed }) s cs
+    (right-paired s labels (no-groups labels text) (made-filled labels text) (apart-text-labels s cs)).1
+    (made-filled (labels_of (string_elements_of s cs)) (made-string-labels s cs))
