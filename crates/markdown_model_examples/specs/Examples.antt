@@ -1,4 +1,4 @@
--- Worked examples, written by tools/examples.py from tools/examples.txt.
+-- Worked examples, written by tools/examples.py from tools/rules.
 pub mod Escapes
 pub mod CharacterReferences
 pub mod Whitespace

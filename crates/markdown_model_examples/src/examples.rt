@@ -1,4 +1,4 @@
-// Worked examples, written by tools/examples.py from tools/examples.txt.
+// Worked examples, written by tools/examples.py from tools/rules.
 ghost use Rattle.markdown_model_examples.specs.Examples.Autolinks.{Examples as AutolinksExamples};
 ghost use Rattle.markdown_model_examples.specs.Examples.CharacterReferences.{Examples as CharacterReferencesExamples};
 ghost use Rattle.markdown_model_examples.specs.Examples.Choices.{Examples as ChoicesExamples};
@@ -18,92 +18,92 @@ ghost use Rattle.markdown_model_examples.specs.Examples.Switches.{Examples as Sw
 ghost use Rattle.markdown_model_examples.specs.Examples.TaskListItemChecks.{Examples as TaskListItemChecksExamples};
 ghost use Rattle.markdown_model_examples.specs.Examples.Whitespace.{Examples as WhitespaceExamples};
 
-/// The examples of `tools/examples.txt` under `Escapes` hold.
+/// The examples of `tools/rules/Escapes.txt` hold.
 pub fn escapes()
     ensures { EscapesExamples }
 {}
 
-/// The examples of `tools/examples.txt` under `CharacterReferences` hold.
+/// The examples of `tools/rules/CharacterReferences.txt` hold.
 pub fn character_references()
     ensures { CharacterReferencesExamples }
 {}
 
-/// The examples of `tools/examples.txt` under `Whitespace` hold.
+/// The examples of `tools/rules/Whitespace.txt` hold.
 pub fn whitespace()
     ensures { WhitespaceExamples }
 {}
 
-/// The examples of `tools/examples.txt` under `RawText` hold.
+/// The examples of `tools/rules/RawText.txt` hold.
 pub fn raw_text()
     ensures { RawTextExamples }
 {}
 
-/// The examples of `tools/examples.txt` under `Autolinks` hold.
+/// The examples of `tools/rules/Autolinks.txt` hold.
 pub fn autolinks()
     ensures { AutolinksExamples }
 {}
 
-/// The examples of `tools/examples.txt` under `HtmlText` hold.
+/// The examples of `tools/rules/HtmlText.txt` hold.
 pub fn html_text()
     ensures { HtmlTextExamples }
 {}
 
-/// The examples of `tools/examples.txt` under `HtmlTags` hold.
+/// The examples of `tools/rules/HtmlTags.txt` hold.
 pub fn html_tags()
     ensures { HtmlTagsExamples }
 {}
 
-/// The examples of `tools/examples.txt` under `TaskListItemChecks` hold.
+/// The examples of `tools/rules/TaskListItemChecks.txt` hold.
 pub fn task_list_item_checks()
     ensures { TaskListItemChecksExamples }
 {}
 
-/// The examples of `tools/examples.txt` under `Emphasis` hold.
+/// The examples of `tools/rules/Emphasis.txt` hold.
 pub fn emphasis()
     ensures { EmphasisExamples }
 {}
 
-/// The examples of `tools/examples.txt` under `Links` hold.
+/// The examples of `tools/rules/Links.txt` hold.
 pub fn links()
     ensures { LinksExamples }
 {}
 
-/// The examples of `tools/examples.txt` under `Labels` hold.
+/// The examples of `tools/rules/Labels.txt` hold.
 pub fn labels()
     ensures { LabelsExamples }
 {}
 
-/// The examples of `tools/examples.txt` under `References` hold.
+/// The examples of `tools/rules/References.txt` hold.
 pub fn references()
     ensures { ReferencesExamples }
 {}
 
-/// The examples of `tools/examples.txt` under `Footnotes` hold.
+/// The examples of `tools/rules/Footnotes.txt` hold.
 pub fn footnotes()
     ensures { FootnotesExamples }
 {}
 
-/// The examples of `tools/examples.txt` under `GfmAutolinkLiterals` hold.
+/// The examples of `tools/rules/GfmAutolinkLiterals.txt` hold.
 pub fn gfm_autolink_literals()
     ensures { GfmAutolinkLiteralsExamples }
 {}
 
-/// The examples of `tools/examples.txt` under `Emails` hold.
+/// The examples of `tools/rules/Emails.txt` hold.
 pub fn emails()
     ensures { EmailsExamples }
 {}
 
-/// The examples of `tools/examples.txt` under `Resources` hold.
+/// The examples of `tools/rules/Resources.txt` hold.
 pub fn resources()
     ensures { ResourcesExamples }
 {}
 
-/// The examples of `tools/examples.txt` under `Switches` hold.
+/// The examples of `tools/rules/Switches.txt` hold.
 pub fn switches()
     ensures { SwitchesExamples }
 {}
 
-/// The examples of `tools/examples.txt` under `Choices` hold.
+/// The examples of `tools/rules/Choices.txt` hold.
 pub fn choices()
     ensures { ChoicesExamples }
 {}

@@ -1,12 +1,34 @@
 #!/usr/bin/env python3
-"""Writes the theorems of tools/examples.txt: specs/Examples/, proofs/examples/ and src/examples.rt. In proofs/Computed.antt it names the unfoldable
+"""Writes the theorems of the files in tools/rules: specs/Examples/, proofs/examples/ and src/examples.rt. In proofs/Computed.antt it names the unfoldable
 definitions of `markdown_model`.
 
-Run it in the crate's folder. It computes lines, columns and link numbers by itself, from the documents."""
+Run it in the crate's folder. It computes lines, columns and link numbers by itself, from the documents. A file of tools/rules has rows, each a worked example:
+
+    text|string [words] «document» [pieces]: answer
+    label|title|destination|spacing|bounded|data [min=N] [max=N] [linked] [upto=MARKERS] «document»: answer, or no
+    counts [words] «document»: runs, pairs, bound
+    looks [words] «document»: runs that may open, runs that may close, sharper bound
+
+The second form is one construct, read at the document's start: the answer shows it alone; `linked` says that it is part of a text that is read later. The
+last two say how many runs and pairs all containers of a text have, and the bounds on its probes. A row that begins with another word is read by
+tools/data.py of markdown_test_runs alone.
+
+The words turn options on or off: gfm, math, first (the first paragraph of a list item), shortcut, lengths, no-single-tilde, no-single-dollar, no-SWITCH for
+each switch, definition=IDENTIFIER, footnote=IDENTIFIER, and outer: the answer shows the outermost events alone. In a document ␊ ␍ ␉ ␋ ␀ stand for LF, CR, TAB,
+U+000B and NUL, ␠ for a space at an end, ⟦x×n⟧ for x written n times, and ⟦U+n⟧ for the character with that number. A piece is START-END; without one the
+content is the whole document. An index is a byte, or a byte and the codes of its tab before the place, as 0.2.
+
+An answer lists events: a name, the place of its Enter and that of its Exit, and in brackets those inside it. Raw stands for a destination without angle
+brackets and all events inside it; LabelLink and LabelEnd hold a LabelMarker of the same place. The linked leaves in the text of a reference, a title or a
+destination are one chain.
+
+Behind the rows stand changes of the rules, which the rows refuse; tools/definitions-are-pinned of the repository says how they are written."""
 import os, re
 
 HERE = os.path.dirname(os.path.dirname(os.path.abspath(__file__)))
 SYMBOLS = {'␊': '\n', '␍': '\r', '␉': '\t', '␀': '\0', '␠': ' ', '␋': '\v'}
+RULES = os.path.join(HERE, 'tools', 'rules')
+RUNS = {'text', 'string', 'counts', 'looks'}
 READINGS = {'label', 'title', 'destination', 'spacing', 'bounded', 'data'}
 CHAINED = {'ReferenceString', 'ResourceTitleString', 'ResourceDestinationString'}
 GFM = ['gfm_autolink_literal', 'gfm_label_start_footnote', 'gfm_strikethrough', 'gfm_task_list_item']
@@ -204,6 +226,32 @@ def groups_of(path):
     return groups
 
 
+def rules():
+    """The blocks of each file of rules, by its name: those that are theorems, in the order of these, and then new ones."""
+    with open(os.path.join(HERE, 'specs/Examples.antt'), encoding='utf-8') as file:
+        order = re.findall(r'pub mod (\w+)', file.read())
+    names = sorted(name[:-4] for name in os.listdir(RULES) if name.endswith('.txt'))
+    found = {}
+    for name in [name for name in order if name in names] + [name for name in names if name not in order]:
+        with open(os.path.join(RULES, name + '.txt'), encoding='utf-8') as file:
+            found[name] = [[line for line in block.split('\n') if line] for block in file.read().split('\n\n')]
+    return found
+
+
+def is_change(block):
+    return any(line.startswith('file:') for line in block)
+
+
+def rows():
+    """The rows of each file of rules, by its name."""
+    return {name: [line for block in blocks if not is_change(block) for line in block if not line.startswith('#')] for name, blocks in rules().items()}
+
+
+def worked_examples():
+    """The rows that are theorems."""
+    return {name: [line for line in lines if divided(line)[0] in RUNS | READINGS] for name, lines in rows().items()}
+
+
 def snake(name):
     return re.sub('(?<!^)([A-Z])', r'_\1', name).lower()
 
@@ -233,7 +281,7 @@ def computed():
 
 def main():
     computed()
-    groups = groups_of(HERE + '/tools/examples.txt')
+    groups = worked_examples()
     for name, lines in groups.items():
         spec = ['', 'abbrev pub Examples : Type 0', 'Examples =']
         for number, line in enumerate(lines, 1):
@@ -245,7 +293,7 @@ def main():
                'pub returns : goal.returns', 'unfolding computed', 'returns c = (%s)' % ', '.join(['refl'] * len(lines))])
     write('specs/Examples.antt', ['pub mod %s' % name for name in groups])
     write('src/examples.rt', ['ghost use Rattle.markdown_model_examples.specs.Examples.%s.{Examples as %sExamples};' % (name, name) for name in sorted(groups)]
-          + [line for name in groups for line in ['', '/// The examples of `tools/examples.txt` under `%s` hold.' % name,
+          + [line for name in groups for line in ['', '/// The examples of `tools/rules/%s.txt` hold.' % name,
              'pub fn %s()' % snake(name), '    ensures { %sExamples }' % name, '{}']], '//')
 
 
@@ -273,7 +321,7 @@ def write(path, lines, comment='--'):
     path = os.path.join(HERE, path)
     os.makedirs(os.path.dirname(path), exist_ok=True)
     with open(path, 'w', encoding='utf-8') as file:
-        file.write('\n'.join([comment + ' Worked examples, written by tools/examples.py from tools/examples.txt.'] + lines) + '\n')
+        file.write('\n'.join([comment + ' Worked examples, written by tools/examples.py from tools/rules.'] + lines) + '\n')
 
 
 if __name__ == '__main__':

@@ -1,4 +1,4 @@
--- Worked examples, written by tools/examples.py from tools/examples.txt.
+-- Worked examples, written by tools/examples.py from tools/rules.
 use Rattle.std.specs.Prelude.{◌≡◌, true, [], ◌∷◌, codes, None}
 use Rattle.markdown_engine_content.specs.DefaultOptions.{default_constructs, default_options}
 use Rattle.markdown_engine_content.specs.declared.event.Name.{Name}

@@ -1,4 +1,4 @@
--- Worked examples, written by tools/examples.py from tools/examples.txt.
+-- Worked examples, written by tools/examples.py from tools/rules.
 use Rattle.std.specs.Prelude.{◌≡◌, [], ◌∷◌, codes, Some, None}
 use Rattle.markdown_engine_content.specs.declared.event.Name.{Name}
 use Rattle.markdown_model_examples.specs.ExampleNotation.{default, piece, enter, exit, chained, text_answer, text_outline}

@@ -1,4 +1,4 @@
--- Worked examples, written by tools/examples.py from tools/examples.txt.
+-- Worked examples, written by tools/examples.py from tools/rules.
 use Rattle.std.proofs.Common.{refl}
 use Rattle.markdown_model_examples.proofs.Computed.{computed}
 use Rattle.markdown_model_examples.proofs.examples.whitespace.Goals as goal
