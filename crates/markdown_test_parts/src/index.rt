@@ -77,7 +77,6 @@ fn sequence_of(name: &str) -> Sequence {
         "InstructionEnd" => Sequence::InstructionEnd,
         "DeclarationEnd" => Sequence::DeclarationEnd,
         "ResourceEnd" => Sequence::ResourceEnd,
-        "ProtocolSlash" => Sequence::ProtocolSlash,
         "WwwDot" => Sequence::WwwDot,
         _ => Sequence::SpanMark,
     }

@@ -10,6 +10,7 @@ use markdown_engine::state::{State, StateName};
 use markdown_engine::tokenizer::{Attempt, TokenizeState, Tokenizer};
 use markdown_engine_content::event::{Event, Kind, Name};
 use markdown_engine_content::parser::{ParseState, Piece};
+use markdown_inline::state;
 use markdown_lists::seq::Stack;
 use std::alloc::{AllocError, Global};
 
@@ -162,7 +163,7 @@ fn hand_over<'a>(
     waiting.append(&mut tokenizer.attempts)
 }
 
-// Calls state after state from this one, as a run does, up to the call that is sought, and prints that.
+// Calls state after state from this one, as a run does, up to the call that is sought; calls that by its public path, and prints it.
 fn print_from(
     start: StateName,
     tokenizer: &mut Tokenizer,
@@ -178,11 +179,11 @@ fn print_from(
         let ok = match state {
             State::Next(name) | State::Retry(name) => {
                 let from = tokenizer.events.len();
-                let found = sought.is_met(name, tokenizer)?;
-                state = paths::call(name, tokenizer)?;
-                if found {
-                    return print_call(state, tokenizer, from, out);
+                if sought.is_met(name, tokenizer)? {
+                    let answer = paths::call_public(name, tokenizer)?;
+                    return print_call(answer, tokenizer, from, out);
                 }
+                state = state::call(name, tokenizer)?;
                 hand_over(&mut waiting, tokenizer)?;
                 continue;
             }

@@ -11,6 +11,7 @@ ghost use Rattle.markdown_run.specs.RunConstruct.{IsConstruct};
 
 use crate::ends::read_end;
 use crate::lines::print_events;
+use crate::paths::read_plain;
 use crate::row::Asked;
 use markdown_engine::resolve::ResolveName;
 use markdown_engine::state::StateName;
@@ -246,26 +247,6 @@ fn read_gfm(tokenizer: &mut Tokenizer, reading: &str) -> Result<bool, AllocError
         "protocol" => construct(StateName::GfmAutolinkLiteralProtocolStart, tokenizer),
         "www" => construct(StateName::GfmAutolinkLiteralWwwStart, tokenizer),
         _ => construct(StateName::GfmLabelStartFootnoteStart, tokenizer),
-    }
-}
-
-// Reads a construct that asks for no scratch fields but those at rest.
-fn read_plain(tokenizer: &mut Tokenizer, reading: &str) -> Result<bool, AllocError>
-    requires alone { tokenizer.old.attempts ≡ [] }
-    requires rest { tokenizer.old.tokenize_state ≡ at_rest }
-    requires fits { codes_left tokenizer.old ≤ most }
-    requires text { ReadsText tokenizer.old }
-{
-    match reading {
-        "escape" => construct(StateName::CharacterEscapeStart, tokenizer),
-        "reference" => construct(StateName::CharacterReferenceStart, tokenizer),
-        "break" => construct(StateName::HardBreakEscapeStart, tokenizer),
-        "autolink" => construct(StateName::AutolinkStart, tokenizer),
-        "html" => construct(StateName::HtmlTextStart, tokenizer),
-        "span" => construct(StateName::RawTextStart, tokenizer),
-        "attention" => construct(StateName::AttentionStart, tokenizer),
-        "link" => construct(StateName::LabelStartLinkStart, tokenizer),
-        _ => construct(StateName::LabelStartImageStart, tokenizer),
     }
 }
 

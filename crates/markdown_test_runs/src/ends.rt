@@ -52,13 +52,8 @@ fn start_kept(tokenizer: &mut Tokenizer) -> Result<(), AllocError>
     ensures alone { IfOk result (λ _. tokenizer.new.attempts ≡ []) }
     ensures construct { IfOk result (λ _. IsConstruct LabelEndStart tokenizer.new) }
 {
-    match keep_start(tokenizer) {
-        Ok(()) => Ok(()),
-        Err(AllocError) => {
-            tokenizer.fail();
-            Err(AllocError)
-        }
-    }
+    let kept = keep_start(tokenizer);
+    tokenizer.noted(kept)
 }
 
 /// Reads the end of a label whose start stands before it, by its states or by its reader.

@@ -8,8 +8,8 @@
 //! - `counts` and `looks`: a text, how many runs of markers it has and how many pairs are made of them, or how many may open and how many may close.
 //! - `steady`: a text, behind whose run memory is asked for once more in vain; then the calls that take none are to answer as ever.
 //! - `value`: what the references in the document stand for.
-//! - A single construct at the start of the content: `escape`, `reference`, `break`, `autolink`, `html`, `span` (of code, or of math), `attention`,
-//!   `task`, `protocol`, `www`, `link`, `image`, `footnote`, `end` (of the label of a link that starts before the content), `destination`, `title`,
+//! - A single construct at the start of the content: by a word of `paths.rt` as `break`, where `span` is of code or of math; `task`, `protocol`,
+//!   `www`, `footnote`, `end` (of the label of a link that starts before the content), `destination`, `title`,
 //!   `label`; `data`, which stops at `*` and `h`; `letters`, the same data with `H`, `W` and `w`, which goes on past letters with which no literal
 //!   begins; `space`, at least and at most so many blank codes on one line; `spacing`, blank codes with a line ending behind the first code;
 //!   `linked`, the same at the start, linked where they begin with the line ending; `state`, the same by their first state, which puts no event back.

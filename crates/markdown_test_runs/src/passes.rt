@@ -140,10 +140,8 @@ fn resolve_all(tokenizer: &mut Tokenizer, how: Pairing) -> Result<bool, AllocErr
     requires { MayResolve may_resolve_of resolves_of tokenizer.old.resolvers (unregistered tokenizer.old) }
 {
     if resolve_named(tokenizer, how)? {
-        if pairing::resolve(tokenizer).is_err() {
-            tokenizer.fail();
-            return Err(AllocError);
-        }
+        let paired = pairing::resolve(tokenizer);
+        tokenizer.noted(paired)?;
         return resolve_behind(tokenizer);
     }
     Ok(true)

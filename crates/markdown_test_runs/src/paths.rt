@@ -1,9 +1,13 @@
-// Each state by its public path.
-ghost use Rattle.std.specs.Prelude.{◌≡◌, IfOk};
-ghost use Rattle.markdown_run.specs.Layer.{ready_of, step_of};
+// Constructs by their words, and each state by its public path.
+ghost use Rattle.std.specs.Prelude.{◌≡◌, ◌≤◌, []};
+ghost use Rattle.markdown_engine.specs.RestingFields.{at_rest};
+ghost use Rattle.markdown_engine.specs.Weights.{codes_left};
+ghost use Rattle.markdown_partial.specs.PartialSpaceOrTab.{most};
+ghost use Rattle.markdown_run.specs.Layer.{ready_of};
 
 use markdown_engine::state::{State, StateName};
 use markdown_engine::tokenizer::Tokenizer;
+use markdown_inline::run::construct;
 use markdown_inline::{
     attention, autolink, character_escape, character_reference, gfm_autolink_literal,
     gfm_label_start_footnote, gfm_task_list_item_check, hard_break_escape, html_text, label_end,
@@ -12,10 +16,28 @@ use markdown_inline::{
 };
 use std::alloc::AllocError;
 
-/// Calls the state of this name.
-pub(crate) fn call(name: StateName, tokenizer: &mut Tokenizer) -> Result<State, AllocError>
+/// Reads the construct of this word, which asks for nothing but scratch fields at rest.
+pub(crate) fn read_plain(tokenizer: &mut Tokenizer, reading: &str) -> Result<bool, AllocError>
+    requires alone { tokenizer.old.attempts ≡ [] }
+    requires rest { tokenizer.old.tokenize_state ≡ at_rest }
+    requires fits { codes_left tokenizer.old ≤ most }
+{
+    match reading {
+        "escape" => construct(StateName::CharacterEscapeStart, tokenizer),
+        "reference" => construct(StateName::CharacterReferenceStart, tokenizer),
+        "break" => construct(StateName::HardBreakEscapeStart, tokenizer),
+        "autolink" => construct(StateName::AutolinkStart, tokenizer),
+        "html" => construct(StateName::HtmlTextStart, tokenizer),
+        "span" => construct(StateName::RawTextStart, tokenizer),
+        "attention" => construct(StateName::AttentionStart, tokenizer),
+        "link" => construct(StateName::LabelStartLinkStart, tokenizer),
+        _ => construct(StateName::LabelStartImageStart, tokenizer),
+    }
+}
+
+/// Calls the state of this name by its public path.
+pub(crate) fn call_public(name: StateName, tokenizer: &mut Tokenizer) -> Result<State, AllocError>
     requires { ready_of name tokenizer.old }
-    ensures { IfOk result (λ s. step_of name tokenizer.old ≡ record { state = s; left = tokenizer.new }) }
 {
     match name {
         StateName::CharacterEscapeStart => character_escape::start(tokenizer),

@@ -1,7 +1,7 @@
 #!/usr/bin/env python3
 """Writes stdin and stdout: the cases of this crate and the worked examples, and what has to be found in each.
 
-Run it in the crate's folder. What it reads are tools/cases.txt, tools/calls.txt and markdown_model_examples/tools/examples.txt; src/main.rt says what
+Run it in the crate's folder. What it reads are tools/cases.txt, tools/calls.txt and the rows of markdown_model_examples/tools/rules; src/main.rt says what
 it writes."""
 import os, re, sys
 
@@ -11,8 +11,6 @@ sys.path.insert(0, WORKED)
 sys.dont_write_bytecode = True
 import examples
 
-CONSTRUCTS = ['escape', 'reference', 'break', 'autolink', 'html', 'span', 'attention', 'task', 'protocol', 'www', 'link', 'image', 'footnote', 'end',
-              'destination', 'title', 'label', 'data', 'letters', 'space', 'spacing', 'linked', 'state', 'wholedata', 'wholeend']
 # What a reader reads too.
 READ_WHOLE = ['escape', 'attention', 'link']
 PROGRAMS = ['program', 'broken', 'slow', 'narrow', 'mute', 'wordless']
@@ -218,11 +216,7 @@ def program_case(kind, words, document, answer):
 def own_cases(line):
     """The cases of a line of this crate's list."""
     kind, words, document, pieces, answer = examples.divided(line)
-    if kind in CONSTRUCTS:
-        yield construct_case(kind, words, document, pieces, answer)
-        if kind in READ_WHOLE:
-            yield construct_case('whole' + kind, words, document, pieces, answer)
-    elif kind == 'pairs':
+    if kind == 'pairs':
         yield from pair_cases(words, document, pieces)
     elif kind == 'passes':
         yield passes_case(words, document, pieces, answer)
@@ -235,10 +229,14 @@ def own_cases(line):
         yield [kind] + piece_fields(pieces, examples.plain(document).encode()) + list(document_fields(document)), answer
     elif kind in PROGRAMS:
         yield program_case(kind, words, document, answer)
-    else:
+    elif kind in examples.RUNS:
         yield run_case(kind, words, document, pieces, answer)
         if 'leaves' not in words and answer not in REFUSED and kind not in COUNTED:
             yield from passes_cases(kind, words, document, pieces, answer)
+    else:
+        yield construct_case(kind, words, document, pieces, answer)
+        if kind in READ_WHOLE:
+            yield construct_case('whole' + kind, words, document, pieces, answer)
 
 
 def worked_cases(line):
@@ -274,8 +272,9 @@ def write(cases):
 
 def main():
     own = examples.groups_of(os.path.join(HERE, 'tools', 'cases.txt'))
-    worked = examples.groups_of(os.path.join(WORKED, 'examples.txt'))
+    worked = examples.worked_examples()
     cases = [case for group in worked.values() for line in group for case in worked_cases(line)]
+    cases += [case for name, group in examples.rows().items() for line in group if line not in worked[name] for case in own_cases(line)]
     states = examples.groups_of(os.path.join(HERE, 'tools', 'calls.txt'))
     calls = [call_case(state, line) for state, lines in states.items() for line in lines]
     write(cases + [case for group in own.values() for line in group for case in own_cases(line)] + calls)

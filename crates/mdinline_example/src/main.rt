@@ -5,6 +5,7 @@
 //! | Word | What it prints |
 //! |---|---|
 //! | `quote` | the events of a paragraph that stands behind the prefix of a block quote: `quote.rt` |
+//! | `nodes` | its nodes: what each stands in, the first inside it and the next beside it, and the pieces that its leaves are: `nodes.rt` |
 //! | `events` | the events of each paragraph of the Markdown file in standard input: `paragraphs.rt` |
 //! | `run`, `documents`, `document`, `prepare` | how many events its contents have, to measure what each way of reading costs: `counts.rt` |
 //!
@@ -14,6 +15,7 @@
 
 mod counts;
 mod fault;
+mod nodes;
 mod paragraphs;
 mod quote;
 
@@ -48,6 +50,7 @@ fn print<W: Write>(
     let text = match way {
         "events" => return paragraphs::print(alloc, bytes, out),
         "quote" => quote::listed(alloc)?,
+        "nodes" => nodes::listed(alloc)?,
         _ => counted(alloc, bytes, way, rest)?,
     };
     out.write_all(text.as_bytes()).map_err(fault_of)

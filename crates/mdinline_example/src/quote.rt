@@ -40,8 +40,8 @@ fn lines_of(alloc: Global, events: &[Event]) -> Result<String, AllocError> {
     Ok(lines)
 }
 
-// What is listed: the paragraph stands in a block quote, and `[D]` is defined elsewhere in the document.
-pub(crate) fn listed(alloc: Global) -> Result<String, AllocError> {
+// The events of the paragraph: it stands in a block quote, and `[D]` is defined elsewhere in the document.
+pub(crate) fn paragraph(alloc: Global) -> Result<Vec<Event>, AllocError> {
     let options = ParseOptions::default();
     let mut definitions = Vec::new(alloc);
     definitions.push(normalize_identifier(alloc, "D")?)?;
@@ -61,6 +61,11 @@ pub(crate) fn listed(alloc: Global) -> Result<String, AllocError> {
             end: (15, 0),
         },
     ];
-    let events = events_of(alloc, &parse_state, &pieces)?.unwrap_or(Vec::new(alloc));
+    Ok(events_of(alloc, &parse_state, &pieces)?.unwrap_or(Vec::new(alloc)))
+}
+
+// What is listed.
+pub(crate) fn listed(alloc: Global) -> Result<String, AllocError> {
+    let events = paragraph(alloc)?;
     lines_of(alloc, events.as_slice())
 }

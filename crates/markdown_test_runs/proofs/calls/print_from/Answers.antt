@@ -3,16 +3,20 @@ use Rattle.markdown_engine.proofs.CallsWithAttemptsLemmas.{answer}
 use Rattle.markdown_engine.proofs.AttemptLemmas.{settled-alone, going_in-alone, ready-next}
 use Rattle.markdown_engine.proofs.SteadyLemmas.{onward-here}
 use Rattle.markdown_engine.proofs.TurnLemmas.{Turned, goes-now, turned-call, turned-out}
-use Rattle.markdown_run.specs.Layer.{ready_of, step_of, ends_of, weight_of}
-use Rattle.markdown_run.specs.LayerLaws.{laws_of}
+use Rattle.markdown_run.specs.Layer.{ready_of, step_of, ends_of, weight_of, laws_of}
 use Rattle.markdown_test_runs.proofs.calls.print_from.Goals.{in-Ok, in-Nok}
 use Rattle.markdown_test_runs.proofs.calls.print_from.Goals as goal
 
 -- the state that is called may be
+pub call_public-requires : goal.call_public-requires
+call_public-requires c =
+    let now = goes-now ready_of ends_of weight_of (suc (weight_of c.args.start c.args.tokenizer.now)) (ends_of c.args.start c.args.tokenizer.now) c.loop-state.waiting c.loop-state.state c.loop-state.tokenizer c.loop-state.invariant.goes in
+    ready-next ready_of c.loop-state.state c.in-Next.name c.loop-state.tokenizer c.in-Next.is now.goes_on
+
 pub call-requires : goal.call-requires
 call-requires c =
     let now = goes-now ready_of ends_of weight_of (suc (weight_of c.args.start c.args.tokenizer.now)) (ends_of c.args.start c.args.tokenizer.now) c.loop-state.waiting c.loop-state.state c.loop-state.tokenizer c.loop-state.invariant.goes in
-    ready-next ready_of c.loop-state.state c.in-Next.name c.loop-state.tokenizer c.in-Next.is now.goes_on
+    λ _. ready-next ready_of c.loop-state.state c.in-Next.name c.loop-state.tokenizer c.in-Next.is now.goes_on
 
 -- the turn that calls a state
 turned : (c : goal.In_ok-hand_over-in-Next) →
@@ -23,7 +27,7 @@ turned c =
     let now = goes-now ready_of ends_of weight_of n (ends_of c.args.start c.args.tokenizer.now) c.loop-state.waiting c.loop-state.state c.loop-state.tokenizer c.loop-state.invariant.goes in
     let ready = ready-next ready_of c.loop-state.state c.in-Next.name c.loop-state.tokenizer c.in-Next.is now.goes_on in
     rw (end.waits, end.left)
-    (turned-call ready_of step_of ends_of weight_of laws_of n (ends_of c.args.start c.args.tokenizer.now) c.loop-state.waiting c.loop-state.state c.in-Next.name c.loop-state.tokenizer c.loop-state.tokenizer c.in_ok-state-in-Next.state c.call.new.tokenizer c.in-Next.is (onward-here ready_of step_of ends_of weight_of c.in-Next.name c.loop-state.tokenizer c.loop-state.invariant.alone ready) c.in_ok-state-in-Next.ensures c.loop-state.invariant.goes)
+    (turned-call ready_of step_of ends_of weight_of laws_of n (ends_of c.args.start c.args.tokenizer.now) c.loop-state.waiting c.loop-state.state c.in-Next.name c.loop-state.tokenizer c.loop-state.tokenizer c.in_ok-state-in-Next.state c.call.new.tokenizer c.in-Next.is (onward-here ready_of step_of ends_of weight_of c.in-Next.name c.loop-state.tokenizer c.loop-state.invariant.alone ready) c.in_ok-state-in-Next.ensures.ok c.loop-state.invariant.goes)
 
 pub loop-state-smaller-in-Next : goal.loop-state-smaller-in-Next
 loop-state-smaller-in-Next c = (turned c).fewer

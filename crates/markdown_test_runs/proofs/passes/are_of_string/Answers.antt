@@ -1,11 +1,6 @@
 use Rattle.markdown_run.proofs.WholeRun.{begun-starts}
-use Rattle.markdown_run.proofs.StringRun.{string-may, string-ready}
+use Rattle.markdown_run.proofs.StringRun.{string-may}
 use Rattle.markdown_test_runs.proofs.passes.are_of_string.Goals as goal
-
-pub run_state-requires-clause-ready : goal.run_state-requires-clause-ready
-run_state-requires-clause-ready c =
-    let start = begun-starts c.args.alloc c.args.parse_state c.args.pieces.now c.new-tokenizer.result c.new-tokenizer.ensures in
-    string-ready c.args.parse_state.now c.args.pieces.now _ c.requires start
 
 pub resolve_all-outcome-requires : goal.resolve_all-outcome-requires
 resolve_all-outcome-requires c =
