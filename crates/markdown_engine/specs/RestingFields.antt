@@ -16,7 +16,6 @@ at_rest = record {
   seen = false;
   connect = false;
   markers = [];
-  passes_letters = false;
   token_1 = N.Data;
   token_2 = N.Data;
   token_3 = N.Data;

@@ -52,7 +52,7 @@ pub struct Label {
 }
 
 /// The scratch fields of the states: what one state leaves for another. Each is at rest between two constructs, but for the lists of
-/// labels, `markers`, `passes_letters`, `probes`, `runs`, `sequences`, `titles`, `no_domains`, `names` and
+/// labels, `markers`, `probes`, `runs`, `sequences`, `titles`, `no_domains`, `names` and
 /// `document_at_first_paragraph_of_list_item`.
 ///
 /// Some of them mean one thing in one construct, and another in the next:
@@ -102,9 +102,6 @@ pub struct TokenizeState<'a> {
     pub connect: bool,
     /// The bytes at which data stops.
     pub markers: ByteSet,
-    /// Whether data goes on past a marker that is an `h` before no `t` or a `w` before no other, with which no literal begins (GFM 6.9); false at
-    /// rest.
-    pub passes_letters: bool,
     /// A name for a partial construct; `Data` at rest, as the four below.
     pub token_1: Name,
     /// The second name.
@@ -170,7 +167,6 @@ impl<'a> TokenizeState<'a> {
             seen: false,
             connect: false,
             markers: byte_set!(),
-            passes_letters: false,
             token_1: Name::Data,
             token_2: Name::Data,
             token_3: Name::Data,

@@ -1,9 +1,8 @@
 -- the laws of the states of data
-use Rattle.std.proofs.Common.{◌≡◌, ℕ, ◌+◌, ◌≤◌, ◌==◌, ◌||◌, if◌then◌else◌, Bool, true, false, not, ◌&&◌, Option, Some, None, List, [], ◌∷◌, ◌++◌, length, refl, sym, ap, subst, ◌∙◌, arith, append-nil}
+use Rattle.std.proofs.Common.{◌≡◌, ℕ, ◌+◌, ◌≤◌, ◌==◌, ◌||◌, if◌then◌else◌, Bool, true, false, Option, Some, None, List, [], ◌∷◌, ◌++◌, length, refl, sym, ap, subst, ◌∙◌, arith, append-nil}
 use Rattle.markdown_engine_content.specs.Codes.{Code, is_line_ending}
-use Rattle.markdown_engine_content.specs.ListFunctions.{first_of, rest_of}
+use Rattle.markdown_engine_content.specs.ListFunctions.{rest_of}
 use Rattle.markdown_engine.specs.Operations.{current_of, ahead, exited, consumed, applied, IsOpen, done, Enter, Exit, Consume}
-use Rattle.markdown_engine_content.specs.Place.{value_of}
 use Rattle.markdown_engine_content.specs.Stretch.{is_free}
 use Rattle.markdown_engine.specs.PastTree.{EndsAs, past, passed, behind, last_link}
 use Rattle.markdown_engine.specs.StateRuns.{Stepped, stepped}
@@ -20,11 +19,11 @@ use Rattle.markdown_engine.specs.declared.tokenizer.Tokenizer.{Tokenizer}
 use Rattle.markdown_engine.proofs.ReadingSequences.{EndsAs-then, scratched-same}
 use Rattle.markdown_engine.proofs.LawSteps.{if-step, code-step}
 use Rattle.markdown_engine.proofs.SteadyLemmas.{steady-at}
-use Rattle.markdown_engine.proofs.OperationFields.{Begins, ahead-consumed, ahead-none, ahead-some, current-ahead, some-codes}
+use Rattle.markdown_engine.proofs.OperationFields.{Begins, ahead-consumed, ahead-none, ahead-some, some-codes}
 use Rattle.markdown_engine.proofs.OperationLemmas.{ahead-done, left-done, scratch-done}
 use Rattle.markdown_engine.proofs.TreeEvents.{done-leaf, leaf-past, ahead-past}
 use Rattle.markdown_model.specs.TextLines.{data_up_to}
-use Rattle.markdown_partial.specs.PartialData.{inside_step, inside_stops, marks, begins_none, stops_at, stops_of, next_of, stops_here, ending, opening, entering, passing, rank_at, start_at, at_break_at, leaving, inside_at, more_data, ends_stretch, stretch_of, past_stretch, start_ends, at_break_ends, inside_ends, states, at_break_words, inside_words, start_words}
+use Rattle.markdown_partial.specs.PartialData.{inside_step, inside_stops, marks, stops_of, stops_here, ending, opening, entering, passing, rank_at, start_at, at_break_at, leaving, inside_at, more_data, ends_stretch, stretch_of, past_stretch, start_ends, at_break_ends, inside_ends, states, at_break_words, inside_words, start_words}
 use Rattle.markdown_partial.proofs.EndLemmas.{EndsAs-same, EndsAs-here}
 use Rattle.markdown_partial.proofs.LineCuts.{up_to_break, data-then, ending-then, more-goes, more-stops, break-stops, break-goes}
 use Rattle.markdown_model.proofs.LeafCodes.{until-append}
@@ -33,16 +32,10 @@ use Rattle.markdown_plan.proofs.PassedCodes.{passed-none, passed-one}
 use Rattle.markdown_plan.proofs.LawStepsOfLayer.{Goes-plain, Goes-end, Goes-ops}
 use Rattle.markdown_plan.specs.LayerEquation.{Within, AreLawful}
 
--- the value behind the code at hand
-next-ahead : (T : Tokenizer) → next_of T ≡ value_of (first_of (rest_of (ahead T)))
-unfolding applied
-next-ahead T = current-ahead (consumed T) ∙ ap (λ cs. value_of (first_of cs)) (ahead-consumed T)
-
 -- whether data stops at the codes ahead, by the value at hand
 stops-is : (T : Tokenizer) (v : ℕ) → (e : current_of T ≡ Some v) →
     stops_of T.tokenize_state ((ahead-some T v e).code ∷ rest_of (ahead T)) ≡ stops_here T v
-stops-is T v e =
-    λ i. stops_at T.tokenize_state.passes_letters T.tokenize_state.markers ((ahead-some T v e).value i) (sym (next-ahead T) i)
+stops-is T v e = ap (marks T.tokenize_state.markers) (ahead-some T v e).value
 
 breaks-is : (T : Tokenizer) (v : ℕ) → (e : current_of T ≡ Some v) →
     (let c : Code = (ahead-some T v e).code in is_line_ending c || stops_of T.tokenize_state (c ∷ rest_of (ahead T))) ≡ ((v == 10) || stops_here T v)
@@ -148,9 +141,6 @@ more-here : (T : Tokenizer) (v : ℕ) → current_of T ≡ Some v → stops_here
 more-here T v e h ok U k =
     EndsAs-same (more_data (stops_of T.tokenize_state)) (data_up_to (stops_of T.tokenize_state)) None T.tokenize_state T (reads-more T v e h) ok U k
 
-no-marker : (T : Tokenizer) (v : ℕ) → marks T.tokenize_state.markers v ≡ false → stops_here T v ≡ false
-no-marker T v h = ap (λ x. x && not (T.tokenize_state.passes_letters && begins_none v (next_of T))) h
-
 pub start-law : (W : Words) → Within states W → Law W start_words
 start-law W within T alone _ =
     let n : ℕ = weight_at 4 T in
@@ -162,7 +152,7 @@ start-law W within T alone _ =
     (λ e. on (nothing-more T (ahead-none T e) ∙ sym (nothing-read T (ahead-none T e))))
     (λ v e. if-step P (marks T.tokenize_state.markers v) (passing v T) (stepped (Retry DataAtBreak) T)
     (λ h. passing-law W within 4 T alone v e)
-    (λ h. on (reads-more T v e (no-marker T v h))))
+    (λ h. on (reads-more T v e h)))
 
 stop-here : (T : Tokenizer) (v : ℕ) → current_of T ≡ Some v → stops_here T v ≡ true →
     more_data (stops_of T.tokenize_state) (ahead T) ≡ Some (empty, ahead T)
@@ -301,7 +291,7 @@ pub inside-steady : (T : Tokenizer) (set : List ℕ) → inside_stops T.tokenize
 inside-steady T set known free =
     steady-at set T inside_at (stepped (Next DataInside) (consumed T)) free (λ v a b.
     let same : T.tokenize_state.markers ≡ set = cc in
-    let other : stops_here T v ≡ false = ap (λ x. x && not (T.tokenize_state.passes_letters && begins_none v (next_of T))) (ap (λ (m : List ℕ). marks m v) same ∙ b) in
+    let other : stops_here T v ≡ false = ap (λ (m : List ℕ). marks m v) same ∙ b in
     rw (a, other) refl)
 
 -- of these states, and of any other as it is given

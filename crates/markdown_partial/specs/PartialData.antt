@@ -1,14 +1,11 @@
 -- What the states of data do, and how runs from them end.
-use Rattle.std.specs.Prelude.{ℕ, Bool, ◌||◌, ◌&&◌, false, not, ◌==◌, if◌then◌else◌, Option, Some, None, List, [], ◌∷◌}
+use Rattle.std.specs.Prelude.{ℕ, Bool, ◌||◌, false, ◌==◌, if◌then◌else◌, Option, Some, None, List, [], ◌∷◌}
 use Rattle.std.specs.List.{list_any}
 use Rattle.markdown_engine_content.specs.Codes.{Code, is_line_ending}
-use Rattle.markdown_engine_content.specs.ListFunctions.{first_of}
 use Rattle.markdown_engine.specs.Operations.{Op, Enter, Exit, Consume, done, current_of, ahead, exited, IsOpen}
 use Rattle.markdown_engine.specs.PastTree.{EndsAs, TreeReading, passed}
-use Rattle.markdown_engine_content.specs.Place.{code_at, moved, value_of}
 use Rattle.markdown_engine.specs.StateRuns.{Stepped, stepped}
-use Rattle.markdown_model.specs.CodeTests.{next_is}
-use Rattle.markdown_model.specs.GfmAutolinkLiteral.{literal_words, first_letters, in_both_cases}
+use Rattle.markdown_model.specs.CodeTests.{is_among, next_is}
 use Rattle.markdown_model.specs.Grammar.{until}
 use Rattle.markdown_model.specs.TextLines.{data_up_to, line_leaves, lines_of}
 use Rattle.markdown_engine_content.specs.declared.event.Name.TheVariants as N
@@ -29,35 +26,14 @@ abbrev pub is_some_mark : List ℕ → Option ℕ → Bool
 is_some_mark markers None = false
 is_some_mark markers (Some v) = marks markers v
 
--- Where data stops.
+-- Data stops at its markers.
 
--- the word begins with this value and the next
-abbrev pub begins_with : List ℕ → ℕ → Option ℕ → Bool
-begins_with (n ∷ m ∷ ns) v next = marks (in_both_cases n) v && is_some_mark (in_both_cases m) next
-begins_with _ v next = false
-
--- a letter with which a literal may begin, behind which none goes on (GFM 6.9), as an `h` before no `t`
-abbrev pub begins_none : ℕ → Option ℕ → Bool
-begins_none v next = marks (first_letters literal_words) v && not (list_any (λ word. begins_with word v next) literal_words)
-
--- data stops at its markers, by the value at hand and the one behind it; but it may pass the letters with which no literal begins
-abbrev pub stops_at : Bool → List ℕ → ℕ → Option ℕ → Bool
-stops_at passes markers v next = marks markers v && not (passes && begins_none v next)
-
-abbrev pub stops_by : Bool → List ℕ → List Code → Bool
-stops_by passes markers [] = false
-stops_by passes markers (c ∷ cs) = stops_at passes markers c.value (value_of (first_of cs))
-
--- what comes, where data stops: at each of its markers, but where it is told to pass such letters, as in a text, not at those
 abbrev pub stops_of : TokenizeState → List Code → Bool
-stops_of s = stops_by s.passes_letters s.markers
+stops_of s = next_is (is_among s.markers)
 
--- the value behind the code at hand
-abbrev pub next_of : Tokenizer → Option ℕ
-next_of T = code_at (moved T.cursor)
-
+-- the same, by the value at hand
 abbrev pub stops_here : Tokenizer → ℕ → Bool
-stops_here T v = stops_at T.tokenize_state.passes_letters T.tokenize_state.markers v (next_of T)
+stops_here T v = marks T.tokenize_state.markers v
 
 -- What the states do.
 

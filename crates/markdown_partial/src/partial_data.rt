@@ -2,8 +2,7 @@
 //
 //     data ::= (code (code - stop)*)?
 //
-// The first code belongs to data, whatever it is. `stop` is one of the bytes in the scratch field `markers`; where `passes_letters` is set, a
-// first letter of `literal_words` stops only before a letter with which one goes on, as an `h` before a `t`, in either case.
+// The first code belongs to data, whatever it is. `stop` is one of the bytes in the scratch field `markers`.
 //
 // Events of the states:
 //
@@ -27,11 +26,10 @@ ghost use Rattle.markdown_engine_events.specs.Edits.{edited};
 ghost use Rattle.markdown_engine.specs.PastTree.{appended_from};
 ghost use Rattle.markdown_engine_content.specs.Tree.{Forest};
 ghost use Rattle.markdown_model.specs.Passes.{merged};
-ghost use Rattle.markdown_partial.specs.PartialData.{begins_none, next_of, stops_here, passing, entering, start_step, at_break_step, inside_step, inside_stops};
+ghost use Rattle.markdown_partial.specs.PartialData.{stops_here, passing, entering, start_step, at_break_step, inside_step, inside_stops};
 ghost use Rattle.markdown_partial.specs.MergedEvents.{opens_data, closes_data, joint, marked, joints, HasData};
 ghost use Rattle.markdown_plan.specs.StateCalls.{Steps};
 
-use crate::literal_letters;
 use markdown_engine::state::{State, StateName};
 use markdown_engine::tokenizer::{TokenizeState, Tokenizer};
 use markdown_engine_content::bytes::ByteSet;
@@ -41,29 +39,11 @@ use markdown_engine_events::subtokenize::Subresult;
 use markdown_engine_events::util::edit_map::EditMap;
 use std::alloc::AllocError;
 
-// Whether a literal may begin with this byte, but does not go on with the code that is given.
-macro_rules! begins_none_of {
-    ($byte:ident ($next:expr) $($literals:ident { $([$($first:literal)*] then [$($second:literal)*];)* })*) => {
-        match $byte {
-            $($($($first)|* => !matches!($next, Some($($second)|*)),)*)*
-            _ => false,
-        }
-    };
-}
-
-// Whether the code at hand is a letter with which a literal may begin, and the one behind it not that with which it goes on.
-fn begins_none(tokenizer: &Tokenizer, byte: u8) -> bool
-    ensures { result ≡ begins_none byte (next_of tokenizer.now) }
-{
-    literal_letters!(begins_none_of byte (tokenizer.cursor.next()))
-}
-
-// Whether data stops at the code at hand, line endings aside: at a marker, but where it is to pass them, at no letter with which no literal begins.
+// Whether data stops at this byte, line endings aside.
 fn stops(tokenizer: &Tokenizer, byte: u8) -> bool
     ensures { result ≡ stops_here tokenizer.now byte }
 {
-    let fields = &tokenizer.tokenize_state;
-    fields.markers.contains(byte) && !(fields.passes_letters && begins_none(tokenizer, byte))
+    tokenizer.tokenize_state.markers.contains(byte)
 }
 
 // Passes a line ending, or enters a stretch at the code at hand.
@@ -107,7 +87,7 @@ pub fn start(tokenizer: &mut Tokenizer) -> Result<State, AllocError>
     ensures { Steps start_step tokenizer.old result tokenizer.new }
 {
     match tokenizer.current() {
-        Some(byte) if tokenizer.tokenize_state.markers.contains(byte) => pass(tokenizer, byte),
+        Some(byte) if stops(tokenizer, byte) => pass(tokenizer, byte),
         _ => Ok(State::Retry(StateName::DataAtBreak)),
     }
 }
@@ -128,9 +108,6 @@ pub fn at_break(tokenizer: &mut Tokenizer) -> Result<State, AllocError>
 }
 
 /// In a stretch of data, which ends before a line ending, a marker or the end.
-///
-/// Where the scratch field `passes_letters` is set, as in a text, it goes on past some letters with which a literal may begin (GFM 6.9).
-/// These are such as an `h` before no `t`: no literal begins there.
 ///
 ///     > | plain *
 ///         ^^^^^^^

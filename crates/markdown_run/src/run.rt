@@ -189,8 +189,7 @@ fn put_back<'a>(
 /// `AttentionStart` (a run of markers, past which the pass that pairs runs is registered);
 /// `DestinationStart`, `TitleStart` and `LabelStart`, which take their names from the scratch fields `token_1` to `token_5`, and a destination
 /// the depth of its parentheses from `size_b`; `DataStart`, which takes the bytes at which it stops from the scratch field `markers`, and holds
-/// everywhere (where the scratch field `passes_letters` is set, it goes on past letters with which no literal begins, GFM 6.9, as an `h` before
-/// no `t`); `SpaceOrTabStart` or `SpaceOrTabEolStart`, after the setter that asks for it.
+/// everywhere; `SpaceOrTabStart` or `SpaceOrTabEolStart`, after the setter that asks for it.
 ///
 /// `ConstructEnds` of `specs/RunConstruct` says what each reads: `tried_reading` of `markdown_run_text` names the definition of one that is tried
 /// in a text and reads one tree, `construct_reading` that of others, `start_reading` that of a start of a label, `end_reading` that of an end. These take the options, the code before, whether an escape ends right before, whether this is the content's

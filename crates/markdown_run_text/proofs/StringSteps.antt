@@ -1,16 +1,15 @@
 -- From one element of a string to the next.
-use Rattle.std.proofs.Common.{◌≡◌, ◌≢◌, ℕ, Bool, true, false, not, ◌&&◌, List, ◌∷◌, Option, None, refl, sym, ap, subst, ◌∙◌}
-use Rattle.markdown_engine_content.specs.ListFunctions.{first_of}
+use Rattle.std.proofs.Common.{◌≡◌, ◌≢◌, ℕ, Bool, true, false, List, None, refl, sym, ap, subst, ◌∙◌}
 use Rattle.markdown_engine.specs.Operations.{ahead, current_of}
-use Rattle.markdown_engine_content.specs.Place.{value_of}
 use Rattle.markdown_engine.specs.PastTree.{Reads}
 use Rattle.markdown_engine.specs.declared.tokenizer.TokenizeState.{TokenizeState}
 use Rattle.markdown_engine.specs.declared.tokenizer.Tokenizer.{Tokenizer}
 use Rattle.markdown_leaf.specs.CharacterEscape.{escape_here}
 use Rattle.markdown_leaf.specs.CharacterReference.{reference_here}
+use Rattle.markdown_model.specs.CodeTests.{is_among}
 use Rattle.markdown_model.specs.Elements.{string_choice}
 use Rattle.markdown_model.specs.TextLines.{data_up_to}
-use Rattle.markdown_partial.specs.PartialData.{begins_none, marks, stops_at, stops_by, stops_of}
+use Rattle.markdown_partial.specs.PartialData.{stops_of}
 use Rattle.markdown_run_row.specs.RunOverElements.{Advances, Finishes}
 use Rattle.markdown_run_row.specs.Row.{kinds_of}
 use Rattle.markdown_run_text.specs.RunSetting.{setting_of}
@@ -20,7 +19,6 @@ use Rattle.markdown_run_row.proofs.ConstructNodes.{node-of}
 use Rattle.markdown_model.proofs.PlainConstructs.{plain_constructs}
 use Rattle.markdown_plan.specs.Characters.{bytes_of}
 use Rattle.markdown_run_row.proofs.RowFields.{relisted, row-fields, row-input}
-use Rattle.markdown_run_text.proofs.TryTableLemmas.{one-of}
 use Rattle.markdown_run_text.proofs.StringElements.{escaped-element, referenced-element, single-element, unmarked-element}
 
 -- U stands past the first elements of the codes from T on
@@ -66,21 +64,6 @@ reference-past T U none k =
     let node = node-of (bytes_of T) (reference_here T) (search plain_constructs) (ahead T) k.tree k.rest k.holds in
     node-advances (string_here T) (reference_here T) T U k node.0 node.1 (λ earlier previous stands. referenced-element (setting_of T.parse_state.now) (ahead T) k.tree k.rest none k.holds)
 
--- no marker of strings is a letter of literals, so data stops at each of them
-marker-stops : (passes : Bool) (v : ℕ) (next : Option ℕ) → stops_at passes string_markers v next ≡ false →
-    marks string_markers v ≡ false
-marker-stops passes v next h = by_mark (marks string_markers v) refl h
-  where
-    stops : (b : Bool) → not (b && false) ≡ false → true ≡ false
-    stops true k = k
-    stops false k = k
-
-    by_mark : (b : Bool) → marks string_markers v ≡ b → (b && not (passes && begins_none v next)) ≡ false → b ≡ false
-    by_mark false e k = refl
-    by_mark true e k =
-        let none : begins_none v next ≡ false = one-of (λ n. begins_none n next ≡ false) string_markers v (refl, (refl, tt)) e in
-        stops passes (ap (λ b. not (passes && b)) (sym none) ∙ k)
-
 pub data-past : (T U : Tokenizer) → T.tokenize_state.markers ≡ string_markers → current_of T ≢ None →
     escape_here T (ahead T) ≡ None → reference_here T (ahead T) ≡ None →
     Reads (data_up_to (stops_of T.tokenize_state)) None T.tokenize_state T U → Passes T U
@@ -88,5 +71,4 @@ data-past T U marked some none plain_code k =
     let a = some-ahead T (ahead T) refl some in
     data-advances (string_here T) (stops_of T.tokenize_state) T U a.0 a.1.0 a.1.1 k
     (λ earlier previous stands. single-element (setting_of T.parse_state.now) a.0 a.1.0 (ap (escape_here T) (sym a.1.1) ∙ none) (ap (reference_here T) (sym a.1.1) ∙ plain_code))
-    (λ front earlier previous c cs w free. unmarked-element T.parse_state.now c cs
-    (marker-stops T.tokenize_state.passes_letters c.value (value_of (first_of cs)) (ap (λ (ms : List ℕ). stops_by T.tokenize_state.passes_letters ms (c ∷ cs)) (sym marked) ∙ free)))
+    (λ front earlier previous c cs w free. unmarked-element T.parse_state.now c cs (ap (λ (ms : List ℕ). is_among ms c) (sym marked) ∙ free))

@@ -166,24 +166,23 @@ domains_pay cs p = (p.options.now.constructs.gfm_autolink_literal && holds WwwDo
 abbrev pub domains_for : List Code → ℕ → ParseState → Option (List ℕ)
 domains_for cs end p = if domains_pay cs p then Some (no_domains p.bytes.now end cs) else None
 
--- These scratch fields, which know of the content what rules constructs out: where the last runs begin at which spans may close, and where the
--- sequences last begin that end HTML and resources; where titles may end, and where no domain begins.
+-- These scratch fields, which know of these codes where the sequences last begin that end HTML and resources, and where titles may end.
+abbrev pub ended_fields : List Code → TokenizeState → TokenizeState
+ended_fields cs s = record s { sequences = Some (last_begins cs); titles = titles_for cs }
+
+-- and these, which know of the content all that rules constructs out: also where the last runs begin at which spans may close, and where no
+-- domain begins
 abbrev pub indexed_fields : Place → ParseState → TokenizeState → TokenizeState
 indexed_fields c p s =
-    record s {
-      runs = last_runs span_markers c.codes;
-      sequences = Some (last_begins c.codes);
-      titles = titles_for c.codes;
-      no_domains = domains_for c.codes c.end.index p;
-    }
+    record (ended_fields c.codes s) { runs = last_runs span_markers c.codes; no_domains = domains_for c.codes c.end.index p }
 
 -- and these, with the names of what is defined
 abbrev pub named_fields : Place → ParseState → TokenizeState → TokenizeState
 named_fields c p s = record s { names = names_for s.names c p }
 
--- The scratch fields of a text of this content: where data stops, with all that is known of the content.
+-- The scratch fields of a text of this content that is read by its states: where data stops, where a resource may end, and what is defined.
 abbrev pub marked_fields : Place → ParseState → TokenizeState → TokenizeState
-marked_fields c p s = record (named_fields c p (indexed_fields c p s)) { markers = data_markers; passes_letters = false }
+marked_fields c p s = record (named_fields c p (ended_fields c.codes s)) { markers = data_markers }
 
 abbrev pub text_marked : Tokenizer → Tokenizer
 text_marked T = scratched (marked_fields T.cursor T.parse_state.now T.tokenize_state) T

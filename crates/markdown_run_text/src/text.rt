@@ -23,7 +23,7 @@ ghost use Rattle.markdown_engine_index.specs.RunIndex.{last_runs};
 ghost use Rattle.markdown_engine_index.specs.SequenceIndex.{last_begins};
 ghost use Rattle.markdown_plan.specs.Characters.{ReadsText};
 ghost use Rattle.markdown_run_text.specs.ContentPasses.{MayFinish, FinishesText};
-ghost use Rattle.markdown_run_text.specs.TextContent.{indexed_fields, named_fields, names_for, names_change, names_in, names_pay, order_pays, brackets_in, brackets_pay, titles_for, titles_pay, domains_for};
+ghost use Rattle.markdown_run_text.specs.TextContent.{ended_fields, indexed_fields, named_fields, names_for, names_change, names_in, names_pay, order_pays, brackets_in, brackets_pay, titles_for, titles_pay, domains_for};
 ghost use Rattle.markdown_run_text.specs.TextContent.{domains_pay, span_markers, data_markers, first_try, sole_try, attempt_step, start_step, before_step, before_html_step, before_hard_break_escape_step, before_label_start_link_step, before_data_step};
 
 use markdown_engine::resolve::ResolveName;
@@ -368,6 +368,16 @@ fn index_domains(tokenizer: &mut Tokenizer) -> Result<(), AllocError>
     }
 }
 
+// Makes known where the sequences last begin that end HTML and resources, and where titles in parentheses may end.
+#[tactic(auto, unfolding(markdown_engine::specs::Operations::scratched))]
+fn index_ends(tokenizer: &mut Tokenizer) -> Result<(), AllocError>
+    ensures ok { OnOk result (tokenizer.new ≡ scratched (ended_fields tokenizer.old.cursor.codes tokenizer.old.tokenize_state) tokenizer.old) }
+    ensures err { OnErr result (IsTrue tokenizer.new.failed) }
+{
+    tokenizer.tokenize_state.sequences = SequenceIndex::over(&tokenizer.cursor);
+    index_titles(tokenizer)
+}
+
 /// Makes known what rules constructs out in the content.
 ///
 /// One walk over it finds the sequences that end HTML and resources, so that none is looked for in vain, and whether literals from `www.` on
@@ -382,16 +392,16 @@ pub fn index(tokenizer: &mut Tokenizer) -> Result<(), AllocError>
     ensures ok { OnOk result (tokenizer.new ≡ scratched (indexed_fields tokenizer.old.cursor tokenizer.old.parse_state.now tokenizer.old.tokenize_state) tokenizer.old) }
     ensures err { OnErr result (IsTrue tokenizer.new.failed) }
 {
-    tokenizer.tokenize_state.sequences = SequenceIndex::over(&tokenizer.cursor);
-    index_titles(tokenizer)?;
+    index_ends(tokenizer)?;
     index_runs(tokenizer)?;
     index_domains(tokenizer)
 }
 
 /// At the start of a text, where the check of a task may stand.
 ///
-/// What rules constructs out is made known, by `index`; of it the states ask alone where a resource may end. Where many names are defined and many labels may end, the names are put in order, so
-/// that each is found by a search; names that are lent, as those of a `document::Document`, are in order already.
+/// Where a resource may end is made known, which the states ask; of what else rules constructs out they ask nothing. Where many names are
+/// defined and many labels may end, the names are put in order, so that each is found by a search; names that are lent, as those of a
+/// `document::Document`, are in order already.
 ///
 ///     > | [ ] do *it*
 ///         ^
@@ -401,9 +411,8 @@ pub fn start(tokenizer: &mut Tokenizer) -> Result<State, AllocError>
     ensures ok { IfOk result (λ s. start_step tokenizer.old ≡ record { state = s; left = tokenizer.new }) }
     ensures err { OnErr result (IsTrue tokenizer.new.failed) }
 {
-    index(tokenizer)?;
+    index_ends(tokenizer)?;
     tokenizer.tokenize_state.markers = markers();
-    tokenizer.tokenize_state.passes_letters = false;
     index_names(tokenizer)?;
     attempt(
         tokenizer,

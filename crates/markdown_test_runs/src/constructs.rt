@@ -205,17 +205,11 @@ fn read_part(tokenizer: &mut Tokenizer, reading: &str) -> Result<bool, AllocErro
     }
 }
 
-// Reads data, which stops at an asterisk and an `h`, whatever comes behind; or also at a `w`, and at both in either case, but goes on past letters with
-// which no literal begins.
-fn read_data(tokenizer: &mut Tokenizer, reading: &str) -> Result<bool, AllocError>
+// Reads data, which stops at an asterisk and an `h`.
+fn read_data(tokenizer: &mut Tokenizer) -> Result<bool, AllocError>
     requires alone { tokenizer.old.attempts ≡ [] }
 {
-    tokenizer.tokenize_state.passes_letters = reading == "letters";
-    tokenizer.tokenize_state.markers = if reading == "data" {
-        byte_set!(b'*', b'h')
-    } else {
-        byte_set!(b'*', b'H', b'W', b'h', b'w')
-    };
+    tokenizer.tokenize_state.markers = byte_set!(b'*', b'h');
     tokenizer.tokenize_state.sequences = SequenceIndex::over(&tokenizer.cursor);
     construct(StateName::DataStart, tokenizer)
 }
@@ -280,7 +274,7 @@ fn read_one(tokenizer: &mut Tokenizer, reading: &str, asked: Asked) -> Result<bo
     requires text { ReadsText tokenizer.old }
 {
     match reading {
-        "data" | "letters" => read_data(tokenizer, reading),
+        "data" => read_data(tokenizer),
         "space" | "spacing" | "linked" => read_blank(tokenizer, reading, asked),
         "state" => run_spacing(tokenizer),
         "destination" | "title" | "label" => read_part(tokenizer, reading),

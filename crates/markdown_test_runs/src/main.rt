@@ -10,8 +10,7 @@
 //! - `value`: what the references in the document stand for.
 //! - A single construct at the start of the content: by a word of `paths.rt` as `break`, where `span` is of code or of math; `task`, `protocol`,
 //!   `www`, `footnote`, `end` (of the label of a link that starts before the content), `destination`, `title`,
-//!   `label`; `data`, which stops at `*` and `h`; `letters`, the same data with `H`, `W` and `w`, which goes on past letters with which no literal
-//!   begins; `space`, at least and at most so many blank codes on one line; `spacing`, blank codes with a line ending behind the first code;
+//!   `label`; `data`, which stops at `*` and `h`; `space`, at least and at most so many blank codes on one line; `spacing`, blank codes with a line ending behind the first code;
 //!   `linked`, the same at the start, linked where they begin with the line ending; `state`, the same by their first state, which puts no event back.
 //! - The same by its reader: `wholeescape`, `wholelink`, `wholeattention`, `wholedata`, `wholeend`.
 //! - A single call of a state, in the run of a text or a string: `text-call`, `string-call`. The call is the first of the state named `state=NAME`
