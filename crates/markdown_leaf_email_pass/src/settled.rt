@@ -3,12 +3,13 @@
 // No data that carries no link loses a blank code, and none has an `@`: then neither pass changes an event. Most texts are so.
 #![tactic(auto)]
 
-ghost use Rattle.std.specs.Prelude.{◌≡◌, ◌≤◌, Bool, None, IsTrue, length};
+ghost use Rattle.std.specs.Prelude.{◌≡◌, ◌≤◌, Bool, None, IsTrue, false, length};
 ghost use Rattle.markdown_engine_content.specs.Content.{document_limit};
 ghost use Rattle.markdown_engine.specs.PastTree.{appended_from};
 ghost use Rattle.markdown_engine_content.specs.Tree.{Forest};
 ghost use Rattle.markdown_model.specs.Passes.{trimmed, with_emails_apart};
 ghost use Rattle.markdown_partial.specs.TrimmedEvents.{HasPlaces, HasParts};
+ghost use Rattle.markdown_leaf_email_pass.specs.OpenData.{HasOpenData};
 
 use crate::email::begins_signed;
 use markdown_engine_events::events::Events;
@@ -23,7 +24,8 @@ use markdown_partial::partial_whitespace::loses_first;
 pub fn is_settled(bytes: &[u8], events: &Events, whole: bool) -> bool
     requires fits { length bytes.now ≤ document_limit }
     requires places { HasPlaces bytes.now events.now }
-    ensures { (hard : Bool) (t : Forest) → HasParts bytes.now t → events.now ≡ appended_from 0 None t → IsTrue result → events.now ≡ appended_from 0 None (with_emails_apart (trimmed hard whole whole t)) }
+    ensures settled { (hard : Bool) (t : Forest) → HasParts bytes.now t → events.now ≡ appended_from 0 None t → IsTrue result → events.now ≡ appended_from 0 None (with_emails_apart (trimmed hard whole whole t)) }
+    ensures open { result ≡ false → HasOpenData bytes.now whole events.now }
 {
     let count = events.len();
     let mut index = next_data(events, 0);

@@ -20,6 +20,6 @@ loop-index-preserved c =
     let here : c.loop-index.index < length c.args.events.now = omega (arith, c.loop-index-test.true, c.len-count.ensures) in
     settles-next c.args.bytes.now c.args.whole c.args.events.now c.loop-index.index r.result here (sym c.loses_first.ensures ∙ c.if-loses_first.false) (sym c.begins_signed.ensures ∙ c.if-begins_signed.false) r.ensures.from r.ensures.within r.ensures.none c.loop-index.invariant
 
-pub returns : goal.returns
-returns c = λ hard t h e yes.
+pub returns-clause-settled : goal.returns-clause-settled
+returns-clause-settled c = λ hard t h e yes.
     settles-end c.args.bytes.now c.args.whole c.args.events.now c.loop-index.index (omega (arith, c.loop-index-test.false, c.len-count.ensures)) c.loop-index.invariant hard t h e
