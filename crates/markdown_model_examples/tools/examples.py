@@ -1,6 +1,6 @@
 #!/usr/bin/env python3
-"""Writes the theorems of the files in tools/rules: specs/Examples/, proofs/examples/ and src/examples.rt. In proofs/Computed.antt it names the unfoldable
-definitions of `markdown_model`.
+"""Writes the theorems of the files in tools/rules: specs/Examples.antt, and their proof. In proofs/Computed.antt it names the unfoldable definitions of
+`markdown_model`.
 
 Run it in the crate's folder. It computes lines, columns and link numbers by itself, from the documents. A file of tools/rules has rows, each a worked example:
 
@@ -229,7 +229,7 @@ def groups_of(path):
 def rules():
     """The blocks of each file of rules, by its name: those that are theorems, in the order of these, and then new ones."""
     with open(os.path.join(HERE, 'specs/Examples.antt'), encoding='utf-8') as file:
-        order = re.findall(r'pub mod (\w+)', file.read())
+        order = re.findall(r'(?m)^abbrev pub (\w+) : Type 0', file.read())
     names = sorted(name[:-4] for name in os.listdir(RULES) if name.endswith('.txt'))
     found = {}
     for name in [name for name in order if name in names] + [name for name in names if name not in order]:
@@ -281,20 +281,19 @@ def computed():
 
 def main():
     computed()
-    groups = worked_examples()
+    groups, spec, proof = worked_examples(), [], []
     for name, lines in groups.items():
-        spec = ['', 'abbrev pub Examples : Type 0', 'Examples =']
+        spec += ['', 'abbrev pub %s : Type 0' % name, '%s =' % name]
         for number, line in enumerate(lines, 1):
             spec += ['    -- ' + line, '    (%s)%s' % (statement(line), ' ×' if number < len(lines) else '')]
-        write('specs/Examples/%s.antt' % name, imports(SPEC_USES, spec) + spec)
-        write('proofs/examples/%s/Answers.antt' % snake(name),
-              ['use Rattle.std.proofs.Common.{refl}', 'use Rattle.markdown_model_examples.proofs.Computed.{computed}',
-               'use Rattle.markdown_model_examples.proofs.examples.%s.Goals as goal' % snake(name), '', '-- Both sides of each example compute to one list.',
-               'pub returns : goal.returns', 'unfolding computed', 'returns c = (%s)' % ', '.join(['refl'] * len(lines))])
-    write('specs/Examples.antt', ['pub mod %s' % name for name in groups])
-    write('src/examples.rt', ['ghost use Rattle.markdown_model_examples.specs.Examples.%s.{Examples as %sExamples};' % (name, name) for name in sorted(groups)]
-          + [line for name in groups for line in ['', '/// The examples of `tools/rules/%s.txt` hold.' % name,
-             'pub fn %s()' % snake(name), '    ensures { %sExamples }' % name, '{}']], '//')
+        proof += ['', '%s : %s' % (snake(name), name), 'unfolding computed', '%s = (%s)' % (snake(name), ', '.join(['refl'] * len(lines)))]
+    spec += ['', '-- all of them', 'abbrev pub Examples : Type 0', 'Examples =', '    ' + ' ×\n    '.join(groups)]
+    write('specs/Examples.antt', imports(SPEC_USES, spec) + spec)
+    write('proofs/examples/Answers.antt',
+          ['use Rattle.std.proofs.Common.{refl}', 'use Rattle.markdown_model_examples.proofs.Computed.{computed}',
+           'use Rattle.markdown_model_examples.specs.Examples.{%s}' % ', '.join(groups), 'use Rattle.markdown_model_examples.proofs.examples.Goals as goal', '',
+           '-- Both sides of each example compute to one list.'] + proof[1:]
+          + ['', 'pub returns : goal.returns', 'returns c = (%s)' % ', '.join(map(snake, groups))])
 
 
 SPEC_USES = [
@@ -317,11 +316,11 @@ def imports(uses, lines):
     return out
 
 
-def write(path, lines, comment='--'):
+def write(path, lines):
     path = os.path.join(HERE, path)
     os.makedirs(os.path.dirname(path), exist_ok=True)
     with open(path, 'w', encoding='utf-8') as file:
-        file.write('\n'.join([comment + ' Worked examples, written by tools/examples.py from tools/rules.'] + lines) + '\n')
+        file.write('\n'.join(['-- Worked examples, written by tools/examples.py from tools/rules.'] + lines) + '\n')
 
 
 if __name__ == '__main__':
