@@ -135,7 +135,7 @@ extern "C" {
     X(GFM_AUTOLINK_LITERAL_EMAIL, "GfmAutolinkLiteralEmail") \
     /* An email address with `mailto:` before it. */ \
     X(GFM_AUTOLINK_LITERAL_MAILTO, "GfmAutolinkLiteralMailto") \
-    /* `http://` or `https://` with what belongs to it. */ \
+    /* A scheme, as `https://`, with what belongs to it. */ \
     X(GFM_AUTOLINK_LITERAL_PROTOCOL, "GfmAutolinkLiteralProtocol") \
     /* `www.` with what belongs to it. */ \
     X(GFM_AUTOLINK_LITERAL_WWW, "GfmAutolinkLiteralWww") \

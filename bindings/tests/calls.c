@@ -48,7 +48,7 @@ static void want_status(const char *what, const markdown_inline_input *input, in
 static void test_statuses(void) {
     markdown_inline_piece one = {0, 0, 1, 0}, two = {0, 0, 2, 0}, four = {0, 0, 4, 0};
     markdown_inline_input input = input_of("a", &one);
-    input.options |= 1u << 21;
+    input.options |= 1u << 31;
     want_status("an unknown option of a text", &input, 1, MARKDOWN_INLINE_UNKNOWN_OPTION);
     want_status("an unknown option of a string", &input, 0, MARKDOWN_INLINE_UNKNOWN_OPTION);
     input = input_of("\xff", &one);
@@ -224,7 +224,7 @@ static void test_texts(void) {
     want("no UTF-8 before definitions", markdown_inline_texts(&input, contents, 4, events, 128, ends, 6, &count) == MARKDOWN_INLINE_NOT_UTF8);
     input.bytes_len = (SIZE_MAX >> 3) + 1;
     want("too long for texts", markdown_inline_texts(&input, NULL, 0, events, 128, ends, 6, &count) == MARKDOWN_INLINE_TOO_LONG);
-    input.options |= 1u << 21;
+    input.options |= 1u << 31;
     want("an unknown option of texts", markdown_inline_texts(&input, NULL, 0, events, 128, ends, 6, &count) == MARKDOWN_INLINE_UNKNOWN_OPTION && count == 77);
     memset(&input, 0, sizeof input);
     want("no texts", markdown_inline_texts(&input, NULL, 0, NULL, 0, NULL, 0, &count) == MARKDOWN_INLINE_DONE && count == 0);

@@ -51,7 +51,7 @@ pub enum Name {
     GfmAutolinkLiteralEmail,
     /// An email address with `mailto:` before it.
     GfmAutolinkLiteralMailto,
-    /// `http://` or `https://` with what belongs to it.
+    /// A scheme, as `https://`, with what belongs to it.
     GfmAutolinkLiteralProtocol,
     /// `www.` with what belongs to it.
     GfmAutolinkLiteralWww,
