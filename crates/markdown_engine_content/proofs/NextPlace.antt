@@ -1,7 +1,7 @@
 -- The place after a code, by the byte there.
 use Rattle.std.proofs.Common.{ℕ, ◌+◌, ◌-◌, ◌%◌, ◌<◌, ◌≤◌, ◌^◌, true, false, nat_lt, ◌≡◌, arith, List, length, drop, get_or, refl, sym, ap, subst, ◌∙◌, ◌⊎◌, inl, inr, Some, slice_get, if◌then◌else◌}
 use Rattle.std.specs.Option.{option_map}
-use Rattle.std.proofs.lemmas.Bool.{eq-eqb, ne_eqb, lt-ltb, le-ltb, cases_eq}
+use Rattle.std.proofs.lemmas.Bool.{eq-eqb, ne_eqb, lt-ltb, le-ltb, cases_eq, cases_lt, cases_Bool}
 use Rattle.std.proofs.lemmas.Bool.Decides.{nat_tests}
 use Rattle.markdown_engine_content.specs.declared.event.Point.{Point}
 use Rattle.markdown_engine_content.specs.Codes.{Code, space_value, line_start, next_column, tab_value, is_line_ending_byte, line_ending_len}
@@ -103,3 +103,23 @@ pub next_is_point : (bytes : List ℕ) (p q : Point) → IsPoint bytes p → p.i
 next_is_point bytes p q h lt e =
     let one : IsNext bytes p = next bytes p h lt in
     subst (λ (x : Point). IsPoint bytes x) (sym (e ∙ one.next)) one.point
+
+-- the same, of any value that is right where the byte is of a line ending, a later column of a tab, or another one
+pub value_control : (bytes : List ℕ) (p : Point) (v : ℕ) → IsPoint bytes p → p.index < length bytes →
+    (is_line_ending_byte (get_or bytes p.index 0) ≡ true → v ≡ 10) →
+    (get_or bytes p.index 0 ≡ tab_value → 0 < p.vs → v ≡ 32) →
+    (is_line_ending_byte (get_or bytes p.index 0) ≡ false → (get_or bytes p.index 0 ≡ tab_value → p.vs ≤ 0) → v ≡ get_or bytes p.index 0) →
+    value_from bytes p ≡ Some v
+value_control bytes p v h lt ending space same =
+    let b : ℕ = get_or bytes p.index 0 in
+    let some : (w : ℕ) → v ≡ w → value_from bytes p ≡ Some w → value_from bytes p ≡ Some v = λ w e k. k ∙ ap (λ (n : ℕ). Some n) (sym e) in
+    elim (cases_Bool (is_line_ending_byte b)) [
+      | inl e ↦ some 10 (ending e) (value_ending bytes p h lt e)
+      | inr e ↦ elim (cases_eq b tab_value) [
+        | inl tab ↦ elim (cases_lt 0 p.vs) [
+          | inl inside ↦ some 32 (space tab inside) (value_space bytes p h lt tab inside)
+          | inr first ↦ some b (same e (λ _. first)) (value_byte bytes p h lt e (λ _. first))
+        ]
+        | inr other ↦ some b (same e (λ tab. absurd (other tab))) (value_byte bytes p h lt e (λ tab. absurd (other tab)))
+      ]
+    ]

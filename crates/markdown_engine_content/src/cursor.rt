@@ -289,6 +289,7 @@ impl<'a> Cursor<'a> {
     }
 
     /// Moves past the codes at the place up to a line ending, one of these bytes or the end, as that many calls of `consume` would.
+    #[inline(always)]
     pub fn consume_stretch(&mut self, stops: &ByteSet)
         ensures { self.new ≡ past_stretch stops.now self.old }
     {

@@ -275,12 +275,12 @@ pub struct Link {
 /// The beginning or the end of something in a document.
 #[derive(Clone, Copy, Debug, PartialEq, Eq)]
 pub struct Event {
+    /// Where: the place of the first code at an Enter, the place after the last one at an Exit.
+    pub point: Point,
     /// Whether it begins or ends.
     pub kind: Kind,
     /// What begins or ends.
     pub name: Name,
-    /// Where: the place of the first code at an Enter, the place after the last one at an Exit.
-    pub point: Point,
     /// The chain it stands on. Only an Enter carries one.
     pub link: Option<Link>,
 }

@@ -1,6 +1,6 @@
 // Walks over the codes of a document.
-ghost use Rattle.std.specs.Prelude.{◌≡◌, ◌<◌, ◌≤◌, ◌+◌, ◌^◌, length, IsTrue, slice_index, drop};
-ghost use Rattle.markdown_engine_content.specs.Codes.{line_ending_len, place_of, point_at, is_at_or_after};
+ghost use Rattle.std.specs.Prelude.{◌≡◌, ◌<◌, ◌≤◌, ◌+◌, ◌^◌, length, true, false, IsTrue, slice_index, drop};
+ghost use Rattle.markdown_engine_content.specs.Codes.{line_ending_len, line_feed, space_value, tab_value, is_line_ending_byte, place_of, point_at, is_at_or_after};
 ghost use Rattle.markdown_engine_content.specs.Content.{document_limit, is_place};
 ghost use Rattle.markdown_engine_content.specs.DocumentWalk.{IsPoint, next_point, value_from};
 
@@ -55,15 +55,32 @@ pub fn past_code(bytes: &[u8], point: Point) -> Point
 /// Answers the code that begins at a place: a line feed for each line ending, a space for each column of a tab but its first.
 ///
 /// The point is a place of the document before its end.
+#[inline(always)]
 pub fn code_from(bytes: &[u8], point: Point) -> u8
     requires is_point { IsPoint bytes.now point }
     requires begins { point.index < length bytes.now }
     ensures { value_from bytes.now point ≡ Some result }
 {
     let byte = bytes[point.index];
+    if byte > b'\r' {
+        return byte;
+    }
+    if byte == b'\n' {
+        return b'\n';
+    }
+    control_from(byte, point.vs)
+}
+
+// The code that begins with a byte, of which so many codes stand before, where it is a tab. It is kept out of line, since few bytes are controls.
+#[inline(never)]
+fn control_from(byte: u8, vs: usize) -> u8
+    ensures ending { is_line_ending_byte byte ≡ true → result ≡ line_feed }
+    ensures space { byte ≡ tab_value → 0 < vs → result ≡ space_value }
+    ensures same { is_line_ending_byte byte ≡ false → (byte ≡ tab_value → vs ≤ 0) → result ≡ byte }
+{
     if byte == b'\n' || byte == b'\r' {
         b'\n'
-    } else if byte == b'\t' && point.vs > 0 {
+    } else if byte == b'\t' && vs > 0 {
         b' '
     } else {
         byte

@@ -174,6 +174,7 @@ fn read_sole(tokenizer: &mut Tokenizer, byte: u8) -> Result<bool, AllocError>
 }
 
 // Tries what may begin with the byte at hand, which is given, and answers whether it does.
+#[inline(always)]
 fn read_construct(tokenizer: &mut Tokenizer, byte: u8) -> Result<bool, AllocError>
     requires ready { IsReady tokenizer.old }
     requires here { current_of tokenizer.old ≡ Some byte }
@@ -207,6 +208,7 @@ fn may_be_ruled_out(tokenizer: &Tokenizer, byte: u8) -> bool {
 
 // Makes known what rules constructs out in the content, where it is not yet, and what begins with this byte, which is at hand, has failed and may
 // be ruled out the next time. `is_indexed` says whether it is known.
+#[inline(always)]
 fn learn(tokenizer: &mut Tokenizer, byte: u8, is_indexed: &mut bool) -> Result<(), AllocError>
     requires { IsReady tokenizer.old }
     ensures ok { OnOk result (Learns tokenizer.old tokenizer.new) }
@@ -232,6 +234,7 @@ fn forget(tokenizer: &mut Tokenizer)
 }
 
 // Reads data from the code at hand on, up to where another element may begin.
+#[inline(always)]
 fn read_data(tokenizer: &mut Tokenizer) -> Result<(), AllocError>
     requires ready { IsReady tokenizer.old }
     requires some_code { HasCode tokenizer.old }
@@ -247,6 +250,7 @@ fn read_data(tokenizer: &mut Tokenizer) -> Result<(), AllocError>
 }
 
 // Reads an element, or the data from the byte at hand on, which is given. `is_indexed` says whether what rules constructs out is known.
+#[inline(always)]
 fn read_element(
     tokenizer: &mut Tokenizer,
     byte: u8,

@@ -1,12 +1,12 @@
 -- What data passes, code by code and by stretches.
-use Rattle.std.proofs.Common.{◌≡◌, ℕ, ◌+◌, ◌<◌, ◌&&◌, ◌||◌, ◌==◌, Bool, true, false, not, List, [], ◌∷◌, length, Option, None, Some, refl, sym, ap, subst, ◌∙◌, arith}
+use Rattle.std.proofs.Common.{◌≡◌, ℕ, ◌+◌, ◌<◌, ◌&&◌, ◌||◌, ◌==◌, Bool, true, false, not, if◌then◌else◌, List, [], ◌∷◌, length, Option, None, Some, refl, sym, ap, subst, ◌∙◌, arith}
 use Rattle.std.specs.Prelude.{codes}
 use Rattle.std.specs.List.{list_any}
 use Rattle.std.specs.Option.{is_some}
 use Rattle.std.proofs.lemmas.Bool.{or_parts, or_from, not-false}
 use Rattle.std.proofs.lemmas.List.Folds.{list_any-append}
 use Rattle.markdown_engine_content.specs.Codes.{Code, is_line_ending, line_feed}
-use Rattle.markdown_engine_content.specs.Place.{Place, ahead_at, code_at, moved}
+use Rattle.markdown_engine_content.specs.Place.{Place, ahead_at, code_at, code_before, moved}
 use Rattle.markdown_engine_content.specs.Stretch.{is_free, past_stretch, stops, stretch, walked}
 use Rattle.markdown_engine_content.proofs.PlaceRules.{IsAhead, ahead_some, ahead_none, ahead_moved, code_at_ahead, code_at_end, left_moved}
 use Rattle.markdown_engine_content.proofs.StretchLemmas.{past-none, past-one, left-behind, stretch-goes, stretch-stops}
@@ -16,7 +16,7 @@ use Rattle.markdown_model.specs.Grammar.{until}
 use Rattle.markdown_model.proofs.GrammarSteps.{until-goes, until-stops}
 use Rattle.markdown_partial.specs.PartialData.{ends_stretch, is_some_mark}
 use Rattle.markdown_run_readers.proofs.WordsAndSigns.{no-word}
-use Rattle.markdown_run_readers.specs.PlacesPassed.{goes_in_line, goes_on, markers_and_signs, past_data, sign_at, signs}
+use Rattle.markdown_run_readers.specs.PlacesPassed.{goes_in_line, goes_on, holds_sign, markers_and_signs, past_data, sign_at, signs}
 use Rattle.markdown_run_readers.specs.TextStops.{begins_word, text_stops}
 use Rattle.markdown_run_text.specs.TextContent.{plain_markers}
 use Rattle.markdown_run_text.proofs.TryTableLemmas.{none-passes}
@@ -271,3 +271,22 @@ part-ends p q r false end none is goes stays =
       stops = λ e. subst (λ x. past_data true x ≡ x) (sym here) (other-stops p q end none (sym is));
       on = λ e. cc;
     }
+
+-- a sign in a word of literals is a sign
+no-sign : (before here next : Option ℕ) → is_some_mark signs here ≡ false → holds_sign before here next ≡ false
+no-sign before None next h = refl
+no-sign before (Some v) next h = by_tests (v == 46) (v == 58) h
+  where
+    by_tests : (dot colon : Bool) → (dot || (colon || false)) ≡ false →
+        (if dot then is_some_mark (codes "Ww") before else (colon && is_some_mark (codes "/") next)) ≡ false
+    by_tests true colon k = cc
+    by_tests false true k = cc
+    by_tests false false k = refl
+
+-- a reader of a part that finds no sign behind the stretch, and one that goes past a sign in no word
+pub part-stops : (p q : Place) → q ≡ stretch_end p → is_some_mark signs (code_at q) ≡ false → PartEnds p q false
+part-stops p q end none =
+    part-ends p q q false end (no-sign (code_before q) (code_at q) (code_at (moved q)) none) (sym none) (λ e. cc) (λ _. refl)
+
+pub part-goes : (p q r : Place) → q ≡ stretch_end p → is_some_mark signs (code_at q) ≡ true → sign_at q ≡ false → r ≡ moved q → PartEnds p r true
+part-goes p q r end is none goes = part-ends p q r true end none (sym is) (λ _. goes) (λ e. cc)

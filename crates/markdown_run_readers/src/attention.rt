@@ -38,6 +38,7 @@ fn is_at(cursor: &Cursor, code: u8) -> bool
 }
 
 // Moves past the codes at the place that are this marker.
+#[inline(always)]
 pub(crate) fn pass_markers(cursor: &mut Cursor, marker: u8)
     ensures { cursor.new ≡ past_run marker cursor.old }
 {

@@ -95,6 +95,7 @@ pub(crate) fn append_string(tokenizer: &mut Tokenizer, from: Point) -> Result<()
 }
 
 // Reads the code at hand as a leaf.
+#[inline(always)]
 #[tactic(auto, unfolding(markdown_engine::specs::Operations::applied))]
 pub(crate) fn read_marker(tokenizer: &mut Tokenizer, name: Name) -> Result<(), AllocError>
     requires { HasCode tokenizer.old }

@@ -172,6 +172,14 @@ fn is_at_sign(cursor: &Cursor) -> bool
     }
 }
 
+// Whether a sign is at the place, in a word or not.
+#[inline(always)]
+fn is_at_any_sign(cursor: &Cursor) -> bool
+    ensures { result ≡ is_some_mark signs (code_at cursor.now) }
+{
+    matches!(cursor.current(), Some(b'.' | b':'))
+}
+
 // Moves past the sign at the place. Answers whether one is there.
 #[inline(always)]
 fn pass_sign(cursor: &mut Cursor) -> bool
@@ -179,7 +187,7 @@ fn pass_sign(cursor: &mut Cursor) -> bool
     ensures past { result ≡ true → cursor.new ≡ moved cursor.old }
     ensures stays { result ≡ false → cursor.new ≡ cursor.old }
 {
-    let found = matches!(cursor.current(), Some(b'.' | b':'));
+    let found = is_at_any_sign(cursor);
     if found {
         cursor.consume();
     }
@@ -212,11 +220,15 @@ fn pass_part(cursor: &mut Cursor) -> bool
 {
     let start = cursor.save();
     cursor.consume_stretch(&markers_and_signs());
+    if !is_at_any_sign(cursor) {
+        return false;
+    }
     if is_at_sign(cursor) {
         *cursor = start;
         return pass_codes(cursor);
     }
-    pass_sign(cursor)
+    cursor.consume();
+    true
 }
 
 // Moves past data of the line at hand, where literals are on.

@@ -391,6 +391,7 @@ impl EditMap {
     }
 
     // Adds an edit.
+    #[inline(always)]
     fn push(
         &mut self,
         at: usize,
@@ -455,6 +456,7 @@ impl EditMap {
     /// As `add`, with events that are lent: nothing is asked for but room in the map.
     ///
     /// `Err` only if memory is refused; the edits are then as they were.
+    #[inline(always)]
     pub fn add_slice(
         &mut self,
         at: usize,
