@@ -104,7 +104,7 @@ next_is_point bytes p q h lt e =
     let one : IsNext bytes p = next bytes p h lt in
     subst (λ (x : Point). IsPoint bytes x) (sym (e ∙ one.next)) one.point
 
--- the same, of any value that is right where the byte is of a line ending, a later column of a tab, or another one
+-- the value of a code, where it is right for a byte of a line ending, for a later column of a tab, and for any other byte
 pub value_control : (bytes : List ℕ) (p : Point) (v : ℕ) → IsPoint bytes p → p.index < length bytes →
     (is_line_ending_byte (get_or bytes p.index 0) ≡ true → v ≡ 10) →
     (get_or bytes p.index 0 ≡ tab_value → 0 < p.vs → v ≡ 32) →
