@@ -9,3 +9,4 @@ pub mod AtSignSearch
 pub mod EmailEditLemmas
 pub mod EmailPassLaw
 pub mod SettledEvents
+pub mod FinalEvents

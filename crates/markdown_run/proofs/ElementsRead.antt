@@ -1,5 +1,5 @@
 -- What a construct that is tried in a text leads to, and data.
-use Rattle.std.proofs.Common.{◌≡◌, ◌≢◌, ℕ, ◌<◌, ◌≤◌, ◌==◌, ◌||◌, Bool, true, false, Option, Some, None, List, [], ◌∷◌, refl, sym, ap, subst, ◌∙◌, arith}
+use Rattle.std.proofs.Common.{◌≡◌, ◌≢◌, ℕ, ◌<◌, ◌≤◌, ◌==◌, ◌||◌, not, Bool, true, false, Option, Some, None, List, [], ◌∷◌, refl, sym, ap, subst, ◌∙◌, arith}
 use Rattle.std.specs.List.{list_any}
 use Rattle.std.proofs.lemmas.Bool.{eqb-true, ne_eqb}
 use Rattle.std.specs.Prelude.{is_some, ◌&&◌}
@@ -51,6 +51,7 @@ use Rattle.markdown_run_text.proofs.TextElements.{is_marker}
 use Rattle.markdown_run_text.proofs.TextLabelTries.{image-advances, image-alone, footnote-advances, link-advances, bracket-alone, made-advances, failed-advances, end-alone}
 use Rattle.markdown_run_text.proofs.TextSteps.{IsSame, same-row, choice-same, indexed-past, domains-past, ready-past, no-check-past, tree-kept, registered-kept, made-kept, some-none, ends-on, lost-there, not-lost, lost-left, lost-current, same-lost}
 use Rattle.markdown_run_text.proofs.TextTries.{ReadsElements, single-ahead, first-reads, second-reads, second-alone, span-reads, span-alone, run-reads, run-alone, run-leaf, www-reads, www-alone}
+use Rattle.markdown_run_readers.specs.PlacesPassed.{goes_on}
 use Rattle.markdown_run_readers.specs.TextStops.{text_stops}
 use Rattle.markdown_run.specs.ElementsOfText.{indexed, data_stops, MayTry, IsReady, EndsAt, EndsByData, LeadsTo, Passes, Stays, ReadsElement}
 use Rattle.markdown_run.specs.Layer.{inline, text-within}
@@ -150,6 +151,19 @@ span-ruled T v r here h k = by_marker (v == 96) refl
         let math : v ≡ 36 = eqb-true v 36 (sym (other (v == 36)) ∙ ap (λ b. b || ((v == 36) || false)) (sym e) ∙ h) in
         let there : current_of T ≡ Some 36 = here ∙ ap (λ n. Some n) math in
         alone-stays T T 36 r there refl (span-alone T 36 there refl (math-ruled-out T r.may_try.runs there (ap (λ n. RawText.is_ruled_out n T) (sym math) ∙ k)))
+
+-- data goes on at the code at hand
+
+not-true : (b : Bool) → not b ≡ true → b ≡ false
+not-true true e = cc
+not-true false e = refl
+
+pub data-stays : (T : Tokenizer) (v : ℕ) → IsReady T → current_of T ≡ Some v →
+    goes_on T.parse_state.now.options.now.constructs.gfm_autolink_literal (ahead T) ≡ true → Stays T T
+data-stays T v r here on =
+    let literals : Bool = T.parse_state.now.options.now.constructs.gfm_autolink_literal in
+    alone-stays T T v r here refl
+    (λ earlier previous c cs stands w. single-ahead (text_choice_of T) (data_stops T) T r.may_try.single [] earlier previous c cs w (not-true (text_stops literals (c ∷ cs)) (sym (ap (goes_on literals) w) ∙ on)))
 
 -- what alone is tried at the code at hand
 

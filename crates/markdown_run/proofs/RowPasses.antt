@@ -22,7 +22,8 @@ use Rattle.markdown_run_row.proofs.RowTreeFacts.{grouped-lines, grouped-codes, g
 use Rattle.markdown_run_row.proofs.RowScratch.{past-rest}
 use Rattle.markdown_run_row.proofs.RowWithoutLabels.{flat-grouped}
 use Rattle.markdown_run_row.specs.RowTreeNames.{IsRunless}
-use Rattle.markdown_run_text.specs.ContentPasses.{GroupsLabels, may_resolve_of, resolves_of}
+use Rattle.markdown_run_text.specs.ContentPasses.{GroupsLabels, resolves_of}
+use Rattle.markdown_run.specs.RunWithPasses.{may_end_of}
 use Rattle.markdown_run.proofs.PassesAfterRun.{passes_first, labels_first, IsTrimming, IsRead, IsGiven, IsStart, IsResolved, codes-ahead, first-may, first-leaves}
 
 module _ (p : ParseState) (pieces : List Piece) (s : Setting) (given : IsGiven s p) (row : Row) (last : ResolveName) (finish : ParseState → Forest → Forest) (S U : Tokenizer) (t : IsTrimming last finish) (start : IsStart p pieces S) (fresh : IsFresh S)
@@ -101,15 +102,15 @@ module _ (p : ParseState) (pieces : List Piece) (s : Setting) (given : IsGiven s
   unfolding unregistered
   grouped-probes Y g = ap (λ (x : Tokenizer). x.tokenize_state.probes) g.same ∙ probes
 
-  labels-may : (a : Bool) → row_registers row ≡ a → MayResolve may_resolve_of resolves_of (labels_first a Others) X
+  labels-may : (a : Bool) → row_registers row ≡ a → MayResolve may_end_of resolves_of (labels_first a Others) X
   labels-may true e =
       (may-group, λ Y g. first-may p pieces tree s given last finish Y t (read-grouped Y g) (row_has_run row) good)
   labels-may false e = first-may p pieces tree s given last finish X t (read-plain e) (row_has_run row) good
 
   -- after the run the passes may be run
-  pub row-may : MayResolve may_resolve_of resolves_of U.resolvers (unregistered U)
+  pub row-may : MayResolve may_end_of resolves_of U.resolvers (unregistered U)
   unfolding unregistered
-  row-may = subst (λ (x : Tokenizer). MayResolve may_resolve_of resolves_of x.resolvers (unregistered x)) (sym left-is) (labels-may (row_registers row) refl)
+  row-may = subst (λ (x : Tokenizer). MayResolve may_end_of resolves_of x.resolvers (unregistered x)) (sym left-is) (labels-may (row_registers row) refl)
 
   labels-leave : (a : Bool) → row_registers row ≡ a → (V : Tokenizer) →
       Resolves resolves_of (labels_first a Others) X V → IsResolved s (finish p) tree V

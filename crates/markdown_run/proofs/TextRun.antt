@@ -27,7 +27,8 @@ use Rattle.markdown_model.specs.Elements.{AreElements, AreElementsFrom, text_cho
 use Rattle.markdown_model.specs.InlineTree.{text_events, label_tree}
 use Rattle.markdown_model.specs.Setting.{Setting}
 use Rattle.markdown_run_row.specs.RunOverElements.{Finishes}
-use Rattle.markdown_run_text.specs.ContentPasses.{may_resolve_of, resolves_of}
+use Rattle.markdown_run_text.specs.ContentPasses.{resolves_of}
+use Rattle.markdown_run.specs.RunWithPasses.{may_end_of}
 use Rattle.markdown_run_text.specs.RunSetting.{text_setting_of}
 use Rattle.markdown_run_text.specs.TextContent.{StartReady, named_fields, text_passed, text_choice_of}
 use Rattle.markdown_run.specs.ElementsOfText.{KnowsNothing, text_named, with_indexes}
@@ -47,7 +48,7 @@ use Rattle.markdown_run_row.specs.Row.{row_has_run}
 use Rattle.markdown_run_row.proofs.RowTreeFacts.{grouped-runless}
 use Rattle.markdown_run.proofs.MayPairOfCutData.{good-alike}
 use Rattle.markdown_run.proofs.TreesWithoutRuns.{probes-none}
-use Rattle.markdown_run.proofs.WholeRun.{Starts, start-with, AreFresh, IsFound, finished-may, finished-left, finished-events, finished-probes, finished-elements}
+use Rattle.markdown_run.proofs.WholeRun.{Starts, start-with, AreFresh, IsFound, finished-may-end, finished-left, finished-events, finished-probes, finished-elements}
 use Rattle.markdown_run.proofs.ConstructsAtStart.{start-fits, start-last, start-literals, start-reads}
 use Rattle.markdown_run.proofs.TextTree.{text-labels, text-still, text-finished}
 use Rattle.markdown_run.proofs.RowsWithoutRuns.{row-still}
@@ -193,8 +194,8 @@ module _ (p : ParseState) (pieces : List Piece) (lent : Option Names) (first : B
         good-alike p.bytes.now Tree (labels_of found.elements) found.trees
         (subst (λ t. IsGood p.bytes.now t) labels (good-tree p.bytes.now Given all_codes (singles-content p.bytes.now pieces content.in_order)))
 
-    pub text-may : MayResolve may_resolve_of resolves_of U.resolvers (unregistered U)
-    text-may = finished-may R.Text text_finish text-trims (text_choice_of M) p pieces content Given Is _ F M U S E good
+    pub text-may : MayResolve may_end_of resolves_of U.resolvers (unregistered U)
+    text-may = finished-may-end R.Text text_finish text-trims (text_choice_of M) p pieces content Given Is _ F M U S E good
 
     module _ (V : Tokenizer) (r : Resolves resolves_of U.resolvers (unregistered U) V) where
       -- the looks that pairing took are within the bounds of the content's tree of labels

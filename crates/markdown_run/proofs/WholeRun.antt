@@ -39,6 +39,8 @@ use Rattle.markdown_run_row.specs.Row.{Row, row_has_run, IsRowAt, split_row, row
 use Rattle.markdown_run_row.proofs.RowElements.{grouped-alike}
 use Rattle.markdown_run_row.proofs.RowTreeFacts.{grouped-lines, codes-labels}
 use Rattle.markdown_run_text.specs.ContentPasses.{may_resolve_of, resolves_of}
+use Rattle.markdown_run.specs.RunWithPasses.{may_end_of}
+use Rattle.markdown_run.proofs.PassesAfterRun.{may-weaker}
 use Rattle.markdown_run.proofs.DataInDocument.{HasLines-HasCodes}
 use Rattle.markdown_run.proofs.PassesAfterRun.{IsTrimming, IsStart, IsGiven, IsResolved, codes-ahead}
 use Rattle.markdown_run.proofs.ProbeBoundsOfCutData.{probes-alike}
@@ -153,9 +155,12 @@ module _ (last : ResolveName) (finish : ParseState → Forest → Forest) (trims
       }
 
   module _ (good : row_has_run k.row ≡ true → IsGood p.bytes.now Grouped) where
-    pub finished-may : MayResolve may_resolve_of resolves_of U.resolvers (unregistered U)
-    finished-may =
+    pub finished-may-end : MayResolve may_end_of resolves_of U.resolvers (unregistered U)
+    finished-may-end =
         row-may p pieces setting is_given k.row last finish T U trims begins (fresh-start p pieces s T fresh start) is_row k.whole good k.left
+
+    pub finished-may : MayResolve may_resolve_of resolves_of U.resolvers (unregistered U)
+    finished-may = may-weaker U.resolvers (unregistered U) finished-may-end
 
     pub finished-left : (V : Tokenizer) → Resolves resolves_of U.resolvers (unregistered U) V →
         IsResolved setting (finish p) Grouped V

@@ -8,10 +8,11 @@ use Rattle.markdown_engine.specs.RunStart.{begun_at}
 use Rattle.markdown_engine_content.specs.Place.{Place}
 use Rattle.markdown_engine_content.specs.declared.parser.ParseState.{ParseState}
 use Rattle.markdown_engine.specs.PassesInOrder.{MayResolve, Resolves, unregistered}
+use Rattle.markdown_engine.specs.declared.resolve.ResolveName.{ResolveName}
 use Rattle.markdown_engine.specs.declared.resolve.ResolveName.TheVariants as R
 use Rattle.markdown_engine.specs.declared.state.StateName.{StateName}
 use Rattle.markdown_engine.specs.declared.tokenizer.Tokenizer.{Tokenizer}
-use Rattle.markdown_run_text.specs.ContentPasses.{may_resolve_of, resolves_of}
+use Rattle.markdown_run_text.specs.ContentPasses.{MayTrim, may_resolve_of, resolves_of}
 use Rattle.markdown_run.specs.ElementsOfText.{EndsAt, forgotten, text_named}
 use Rattle.markdown_run.specs.Layer.{ends_of}
 use Rattle.markdown_run.specs.declared.run.Run.{Run}
@@ -36,8 +37,13 @@ pub record IsFoundFrom (name : StateName) (T : Tokenizer) (run : Run) : Type 0 w
 
 -- the same of a text whose elements are read from T on
 
+-- where the passes of a text are called, data stands at places of the document already where it is merged
+abbrev pub may_end_of : ResolveName → Tokenizer → Type 0
+may_end_of R.Data T = MayTrim T
+may_end_of n T = may_resolve_of n T
+
 abbrev pub MayPassText : Tokenizer → Type 0
-MayPassText T = (left : Tokenizer) → EndsAt (text_named T) left → MayResolve may_resolve_of resolves_of left.resolvers (unregistered left)
+MayPassText T = (left : Tokenizer) → EndsAt (text_named T) left → MayResolve may_end_of resolves_of left.resolvers (unregistered left)
 
 -- at the start of a text, where nothing is known of the names
 abbrev pub begun_text : Global → Bor ParseState → Place → Bool → Tokenizer
@@ -51,4 +57,4 @@ pub record IsFoundInText (T : Tokenizer) (run : Run) : Type 0 where
 
 -- the passes that end a text may be called behind elements that have registered none, whatever is known of the content
 abbrev pub MayFinishPlain : Tokenizer → Type 0
-MayFinishPlain T = MayResolve may_resolve_of resolves_of (R.Data ∷ R.Text ∷ []) (forgotten T)
+MayFinishPlain T = MayResolve may_end_of resolves_of (R.Data ∷ R.Text ∷ []) (forgotten T)

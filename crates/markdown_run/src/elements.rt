@@ -14,7 +14,8 @@ ghost use Rattle.markdown_engine_content.specs.ListFunctions.{rest_of};
 ghost use Rattle.markdown_engine_index.specs.RunIndex.{is_asked};
 ghost use Rattle.markdown_model.specs.CodeTests.{is_value, next_is};
 ghost use Rattle.markdown_model.specs.GfmAutolinkLiteral.{first_letters, www};
-ghost use Rattle.markdown_run_text.specs.TextContent.{StartReady, other_markers, span_markers, text_passed};
+ghost use Rattle.markdown_run_readers.specs.PlacesPassed.{goes_on};
+ghost use Rattle.markdown_run_text.specs.TextContent.{StartReady, other_markers, sole_try, span_markers, text_passed};
 ghost use Rattle.markdown_run.specs.ElementsOfText.{EndsAt, GoesOn, IsReady, KnowsNothing, Learns, MayTry, PassesData, ReadsElement, Passes, forgotten, text_named};
 
 use crate::run::construct;
@@ -24,9 +25,10 @@ use markdown_engine::tokenizer::Tokenizer;
 use markdown_engine_index::run_index::RunIndex;
 use markdown_engine_index::sequence_index::SequenceIndex;
 use markdown_leaf_gfm::gfm_autolink_literal;
-use markdown_leaf_html::html_text;
+use markdown_leaf_html::html_text as html_states;
 use markdown_run_readers::{
-    attention, character_escape, label_end, label_start_link, partial_data, raw_text,
+    attention, autolink, character_escape, character_reference, html_text, label_end,
+    label_start_link, partial_data, raw_text,
 };
 use markdown_run_text::text;
 use std::alloc::AllocError;
@@ -56,18 +58,22 @@ fn comes_next(tokenizer: &Tokenizer, byte: u8) -> bool
     }
 }
 
-// Tries an autolink, and then HTML, unless it is known that this does not end.
+// Tries an autolink, then a plain tag, and then other HTML, unless it is known that this does not end.
 fn read_angle(tokenizer: &mut Tokenizer) -> Result<bool, AllocError>
     requires ready { IsReady tokenizer.old }
     requires here { current_of tokenizer.old ≡ Some (byte "<") }
     ensures reads { IfOk result (λ ok. ReadsElement tokenizer.old ok tokenizer.new) }
     ensures err { OnErr result (IsTrue tokenizer.new.failed) }
 {
-    let held = construct(StateName::AutolinkStart, tokenizer)?;
+    let held = autolink::read(tokenizer)?;
     if held {
         return Ok(true);
     }
-    if html_text::is_ruled_out(tokenizer) {
+    let held = html_text::read(tokenizer)?;
+    if held {
+        return Ok(true);
+    }
+    if html_states::is_ruled_out(tokenizer) {
         return Ok(false);
     }
     construct(StateName::HtmlTextStart, tokenizer)
@@ -131,7 +137,8 @@ fn read_end(tokenizer: &mut Tokenizer) -> Result<bool, AllocError>
     construct(StateName::LabelEndStart, tokenizer)
 }
 
-// Tries a span of the marker at hand, which is given, unless it is known that none closes.
+// Tries a span of the marker at hand, which is given: at once where its text is a single stretch of one line, and else by its states, unless it is
+// known that none closes. The codes up to the next run of the marker are passed once more where the reader does not read them.
 fn read_span(tokenizer: &mut Tokenizer, marker: u8) -> Result<bool, AllocError>
     requires ready { IsReady tokenizer.old }
     requires here { current_of tokenizer.old ≡ Some marker }
@@ -139,13 +146,30 @@ fn read_span(tokenizer: &mut Tokenizer, marker: u8) -> Result<bool, AllocError>
     ensures reads { IfOk result (λ ok. ReadsElement tokenizer.old ok tokenizer.new) }
     ensures err { OnErr result (IsTrue tokenizer.new.failed) }
 {
+    let held = raw_text::read(tokenizer, marker)?;
+    if held {
+        return Ok(true);
+    }
     if raw_text::is_ruled_out(tokenizer, marker) {
         return Ok(false);
     }
     construct(StateName::RawTextStart, tokenizer)
 }
 
-// Tries a literal from `www.` on, unless it is known that no domain begins at its first letter, which is given.
+// Whether data goes on at the code at hand, so that nothing else begins there.
+#[inline(always)]
+fn is_in_data(tokenizer: &Tokenizer) -> bool
+    ensures { result ≡ goes_on tokenizer.now.parse_state.now.options.now.constructs.gfm_autolink_literal (ahead tokenizer.now) }
+{
+    let literals = tokenizer
+        .parse_state
+        .options
+        .constructs
+        .gfm_autolink_literal;
+    partial_data::goes_on(&tokenizer.cursor, literals)
+}
+
+// Tries a literal from `www.` on, where its word stands, unless it is known that no domain begins at its first letter, which is given.
 fn read_www(tokenizer: &mut Tokenizer, letter: u8) -> Result<bool, AllocError>
     requires ready { IsReady tokenizer.old }
     requires here { current_of tokenizer.old ≡ Some letter }
@@ -153,13 +177,34 @@ fn read_www(tokenizer: &mut Tokenizer, letter: u8) -> Result<bool, AllocError>
     ensures reads { IfOk result (λ ok. ReadsElement tokenizer.old ok tokenizer.new) }
     ensures err { OnErr result (IsTrue tokenizer.new.failed) }
 {
+    if is_in_data(tokenizer) {
+        return Ok(false);
+    }
     if gfm_autolink_literal::is_ruled_out(tokenizer) {
         return Ok(false);
     }
     construct(StateName::GfmAutolinkLiteralWwwStart, tokenizer)
 }
 
+// Tries by this state what alone may begin with the byte at hand, which is given, and with which nothing else begins; a literal where its word
+// stands.
+#[inline(never)]
+fn try_sole(tokenizer: &mut Tokenizer, byte: u8, start: StateName) -> Result<bool, AllocError>
+    requires ready { IsReady tokenizer.old }
+    requires here { current_of tokenizer.old ≡ Some byte }
+    requires sole { list_any (λ n. byte == n) other_markers ≡ false }
+    requires tried { sole_try byte ≡ Some start }
+    ensures reads { IfOk result (λ ok. ReadsElement tokenizer.old ok tokenizer.new) }
+    ensures err { OnErr result (IsTrue tokenizer.new.failed) }
+{
+    if is_in_data(tokenizer) {
+        return Ok(false);
+    }
+    construct(start, tokenizer)
+}
+
 // Tries what alone may begin with the byte at hand, which is given, and with which nothing else begins.
+#[inline(always)]
 fn read_sole(tokenizer: &mut Tokenizer, byte: u8) -> Result<bool, AllocError>
     requires ready { IsReady tokenizer.old }
     requires here { current_of tokenizer.old ≡ Some byte }
@@ -168,9 +213,23 @@ fn read_sole(tokenizer: &mut Tokenizer, byte: u8) -> Result<bool, AllocError>
     ensures err { OnErr result (IsTrue tokenizer.new.failed) }
 {
     match text::sole_try(byte) {
-        Some(start) => construct(start, tokenizer),
+        Some(start) => try_sole(tokenizer, byte, start),
         None => Ok(false),
     }
+}
+
+// Tries a character reference: at once where one plainly stands.
+fn read_ampersand(tokenizer: &mut Tokenizer) -> Result<bool, AllocError>
+    requires ready { IsReady tokenizer.old }
+    requires here { current_of tokenizer.old ≡ Some (byte "&") }
+    ensures reads { IfOk result (λ ok. ReadsElement tokenizer.old ok tokenizer.new) }
+    ensures err { OnErr result (IsTrue tokenizer.new.failed) }
+{
+    let held = character_reference::read(tokenizer)?;
+    if held {
+        return Ok(true);
+    }
+    read_sole(tokenizer, b'&')
 }
 
 // Tries what may begin with the byte at hand, which is given, and answers whether it does.
@@ -189,6 +248,7 @@ fn read_construct(tokenizer: &mut Tokenizer, byte: u8) -> Result<bool, AllocErro
         b'\\' => read_backslash(tokenizer),
         b'<' => read_angle(tokenizer),
         b']' => read_end(tokenizer),
+        b'&' => read_ampersand(tokenizer),
         b'W' | b'w' => read_www(tokenizer, byte),
         _ => read_sole(tokenizer, byte),
     }

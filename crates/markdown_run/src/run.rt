@@ -7,7 +7,7 @@ ghost use Rattle.markdown_run.specs.RunWithPasses.{MayFinishPlain, MayPass, IsFo
 ghost use Rattle.markdown_run.specs.ElementsOfText.{KnowsNothing, forgotten};
 ghost use Rattle.markdown_engine_events.specs.EventChains.{chained};
 ghost use Rattle.markdown_engine.specs.PassesInOrder.{MayResolve, unregistered};
-ghost use Rattle.markdown_run_text.specs.ContentPasses.{may_resolve_of, resolves_of};
+ghost use Rattle.markdown_run_text.specs.ContentPasses.{may_resolve_of, resolves_of, FinishesText, MayTrim, MergesData};
 ghost use Rattle.markdown_run_text.specs.TextContent.{StartReady, text_passed};
 ghost use Rattle.markdown_engine_content.specs.Content.{IsContent, IsTextContent, content_of};
 ghost use Rattle.markdown_run_text.specs.RunSetting.{setting_of, text_setting_of};
@@ -25,6 +25,7 @@ use markdown_engine_content::event::Event;
 use markdown_engine_content::parser::ParseState;
 pub use markdown_engine_content::parser::Piece;
 use markdown_engine_events::events::Events;
+use markdown_leaf_email_pass::settled;
 use markdown_partial::partial_data;
 pub use markdown_run_leaves::leaf::{Leaf, Leaves};
 pub use markdown_run_leaves::leaves;
@@ -62,6 +63,20 @@ fn finish(tokenizer: &mut Tokenizer) -> Result<Run, AllocError>
     Ok(found_in(tokenizer))
 }
 
+// Whether the passes of data and of a text find nothing: one look in place of one for each. Emails are looked for where it is said so.
+fn is_final(tokenizer: &Tokenizer) -> bool
+    requires { MayTrim tokenizer.now }
+    ensures merges { IsTrue result → MergesData tokenizer.now tokenizer.now }
+    ensures finishes { IsTrue result → FinishesText tokenizer.now tokenizer.now }
+{
+    let emails = tokenizer
+        .parse_state
+        .options
+        .constructs
+        .gfm_autolink_literal;
+    emails && settled::is_final(tokenizer.parse_state.bytes, &tokenizer.events)
+}
+
 // Runs the passes of a text that has registered none, and takes what is found out of the tokenizer. They are called at once and not registered,
 // so that no list is made for them; and what is known of the content, at which they do not look, need not be forgotten.
 fn finish_plain(tokenizer: &mut Tokenizer) -> Result<Run, AllocError>
@@ -69,6 +84,9 @@ fn finish_plain(tokenizer: &mut Tokenizer) -> Result<Run, AllocError>
     requires passes { MayFinishPlain tokenizer.old }
     ensures { IfOk result (λ run. IsFoundBehind (text_passed (forgotten tokenizer.old)) run) }
 {
+    if is_final(tokenizer) {
+        return Ok(found_in(tokenizer));
+    }
     partial_data::resolve(tokenizer)?;
     text::resolve(tokenizer)?;
     Ok(found_in(tokenizer))

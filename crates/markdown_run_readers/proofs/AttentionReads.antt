@@ -30,7 +30,7 @@ use Rattle.markdown_run_readers.specs.ReaderEnds.{ReadsWith, options_here}
 
 -- Marker by marker.
 
-marker-here : (m : ℕ) (o : Option ℕ) → is_some_value m o ≡ true → o ≡ Some m
+pub marker-here : (m : ℕ) (o : Option ℕ) → is_some_value m o ≡ true → o ≡ Some m
 marker-here m None h = cc
 marker-here m (Some v) h = ap (λ n. Some n) (eqb-true v m h)
 
@@ -75,7 +75,7 @@ run-codes m on c cs e h =
     switched-on (attention_run m) on (c ∷ cs) e
     ∙ bind-some _ _ _ _ _ _ (some-span (is_value m) (c ∷ cs) c (span (is_value m) cs).0 (span (is_value m) cs).1 (span-takes (is_value m) c cs h)) refl
 
-span-parts : (p : Code → Bool) (cs : List Code) → (span p cs).0 ++ (span p cs).1 ≡ cs
+pub span-parts : (p : Code → Bool) (cs : List Code) → (span p cs).0 ++ (span p cs).1 ≡ cs
 span-parts p [] = refl
 span-parts p (c ∷ cs) = by_test (p c) refl (span-parts p cs)
   where

@@ -8,3 +8,10 @@ pub mod LabelStartConstructs
 pub mod LinkStarts
 pub mod WordLetters
 pub mod PlainResourceReads
+pub mod PlainSpanReads
+pub mod AutolinkNames
+pub mod AutolinkReads
+pub mod TagSteps
+pub mod TagReads
+pub mod BytesOfReferences
+pub mod ReferenceReads

@@ -21,7 +21,7 @@ clash true h k = cc
 clash false h k = cc
 
 -- the code before the place behind a code is that code
-before-moved : (p : Place) → code_before (moved p) ≡ code_at p
+pub before-moved : (p : Place) → code_before (moved p) ≡ code_at p
 unfolding code_before code_at moved
 before-moved p = rw add-one refl
 

@@ -5,3 +5,7 @@ pub mod TextStops
 pub mod PlainResource
 -- What serves proofs: what functions and proofs promise each other.
 pub mod PlacesPassed
+pub mod PlainSpan
+pub mod AutolinkPlaces
+pub mod PlainTag
+pub mod ReferencePassed

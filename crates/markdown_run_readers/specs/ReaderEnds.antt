@@ -26,6 +26,11 @@ abbrev pub ReadsOrStays : Option ResolveName → TreeReading → Option ℕ → 
 ReadsOrStays pass reading previous s T true U = ReadsWith pass reading previous s T U
 ReadsOrStays pass reading previous s T false U = (reading (ahead T) ≡ None) × (U ≡ scratched s T)
 
+-- either they are read so, with the scratch fields as they are, or U is T, whatever stands there
+abbrev pub ReadsOrLeaves : TreeReading → Tokenizer → Bool → Tokenizer → Type 0
+ReadsOrLeaves reading T true U = Reads reading None T.tokenize_state T U
+ReadsOrLeaves reading T false U = U ≡ T
+
 -- either a start of a label is read so, and U is T past it, which is kept; or none is, and U is T
 abbrev pub BeginsOrStays : Reading Element → Tokenizer → Bool → Tokenizer → Type 0
 BeginsOrStays reading T true U = (kind : LabelKind) × ((marker : List Code) × ((reading (ahead T) ≡ Some (starts kind marker, ahead U)) × (U ≡ past_mark (begins kind marker) T)))

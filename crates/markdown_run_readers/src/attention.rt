@@ -28,7 +28,7 @@ fn begins_run(constructs: Constructs, byte: u8) -> bool
 }
 
 // Whether this code is at the place.
-fn is_at(cursor: &Cursor, code: u8) -> bool
+pub(crate) fn is_at(cursor: &Cursor, code: u8) -> bool
     ensures { result ≡ is_some_value code (code_at cursor.now) }
 {
     match cursor.current() {

@@ -7,6 +7,7 @@ ghost use Rattle.std.specs.Prelude.{◌≡◌, ◌++◌, ◌∷◌, [], OnOk, On
 ghost use Rattle.markdown_engine.specs.Operations.{HasCode, done};
 ghost use Rattle.markdown_engine_events.specs.EventChains.{IsFresh};
 ghost use Rattle.markdown_run_readers.specs.PlacesPassed.{marker_ops, with_enter, with_exit, with_leaf, with_string};
+ghost use Rattle.markdown_run_readers.specs.PlainSpan.{with_exit_at};
 
 use markdown_engine::tokenizer::Tokenizer;
 use markdown_engine_content::event::{Content, Event, Kind, Link, Name, Point};
@@ -59,6 +60,25 @@ pub(crate) fn append_exit(tokenizer: &mut Tokenizer, name: Name) -> Result<(), A
         kind: Kind::Exit,
         name,
         point: tokenizer.cursor.exit_point(),
+        link: None,
+    };
+    append(tokenizer, exit)
+}
+
+// Appends an Exit at this point.
+#[inline(always)]
+pub(crate) fn append_exit_at(
+    tokenizer: &mut Tokenizer,
+    name: Name,
+    point: Point,
+) -> Result<(), AllocError>
+    ensures ok { OnOk result (tokenizer.new ≡ with_exit_at name point tokenizer.old) }
+    ensures err { OnErr result (IsTrue tokenizer.new.failed) }
+{
+    let exit = Event {
+        kind: Kind::Exit,
+        name,
+        point,
         link: None,
     };
     append(tokenizer, exit)

@@ -2,8 +2,11 @@
 #![tactic(auto)]
 
 pub mod attention;
+pub mod autolink;
 pub mod character_escape;
+pub mod character_reference;
 mod events;
+pub mod html_text;
 pub mod label_end;
 pub mod label_start_link;
 pub mod partial_data;

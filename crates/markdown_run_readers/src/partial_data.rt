@@ -139,9 +139,9 @@ fn stops(cursor: &Cursor, byte: u8, literals: bool) -> bool
     markers().contains(byte) || (literals && begins_word(cursor))
 }
 
-// Whether a code is at the place at which data does not stop.
+/// Whether a code is at the place at which data does not stop, where `literals` says whether those are on: then nothing but data begins there.
 #[inline(always)]
-fn goes_on(cursor: &Cursor, literals: bool) -> bool
+pub fn goes_on(cursor: &Cursor, literals: bool) -> bool
     ensures { result ≡ goes_on literals (ahead_at cursor.now) }
 {
     match cursor.current() {

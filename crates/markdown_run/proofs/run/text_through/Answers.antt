@@ -3,6 +3,8 @@ use Rattle.std.proofs.lemmas.Result.{IfOk-weaker}
 use Rattle.markdown_engine.specs.declared.tokenizer.Tokenizer.{Tokenizer}
 use Rattle.markdown_run_text.specs.TextContent.{text_passed}
 use Rattle.markdown_run.specs.ElementsOfText.{EndsAt, forgotten, text_named}
+use Rattle.markdown_engine.specs.PassesInOrder.{unregistered}
+use Rattle.markdown_run.proofs.PassesAfterRun.{may-weaker}
 use Rattle.markdown_run.proofs.PlainEnds.{none-there, plain-passes}
 use Rattle.markdown_run.proofs.run.text_through.Goals as goal
 
@@ -16,7 +18,8 @@ finish_plain-requires-clause-passes c =
 
 pub finish-requires : goal.finish-requires
 finish-requires c =
-    c.requires.passes c.end_text.new.tokenizer (subst (λ (x : Tokenizer). EndsAt (text_named c.args.tokenizer.now) x) (sym c.in_ok-end_text.ensures.ok) c.in_ok-read_text.ensures.ok)
+    may-weaker c.end_text.new.tokenizer.resolvers (unregistered c.end_text.new.tokenizer)
+    (c.requires.passes c.end_text.new.tokenizer (subst (λ (x : Tokenizer). EndsAt (text_named c.args.tokenizer.now) x) (sym c.in_ok-end_text.ensures.ok) c.in_ok-read_text.ensures.ok))
 
 pub returns-then-is_empty : goal.returns-then-is_empty
 returns-then-is_empty c =
