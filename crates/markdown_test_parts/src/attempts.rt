@@ -6,7 +6,7 @@
 ghost use Rattle.std.specs.Prelude.{◌≡◌, OnOk};
 ghost use Rattle.markdown_engine.specs.Operations.{LinkedBefore};
 
-use crate::document::{push_count, push_state};
+use crate::answers::Answers;
 use markdown_engine::resolve::ResolveName;
 use markdown_engine::run::resume;
 use markdown_engine::state::{State, StateName};
@@ -15,16 +15,13 @@ use markdown_engine_content::event::{Content, Event, Link, Name};
 use std::alloc::AllocError;
 
 // Appends what a call answers.
-pub(crate) fn answer(
-    tokenizer: &mut Tokenizer,
-    call: &str,
-    out: &mut String,
-) -> Result<(), AllocError> {
-    match call {
+pub(crate) fn answer(tokenizer: &mut Tokenizer, call: &str, out: &mut Answers) {
+    let outcome = match call {
         "fail" => fail_both(tokenizer, out),
         "register" => register_twice(tokenizer, out),
-        _ => out.push_str(" no such call"),
-    }
+        _ => return out.say(" no such call"),
+    };
+    out.keep(outcome);
 }
 
 // Passes a code, with linked content over it. It is an error as well where there is no code.
@@ -82,45 +79,44 @@ fn next_of(events: &[Event]) -> Option<usize> {
 }
 
 // Appends a state, how many events there are, and where the first is linked on to.
-fn push_row(out: &mut String, state: State, events: &[Event]) -> Result<(), AllocError> {
-    push_state(out, state)?;
-    push_count(out, events.len())?;
-    write!(out, " {:?},", next_of(events))
+fn push_row(out: &mut Answers, state: State, events: &[Event]) {
+    out.show(state);
+    out.show(events.len());
+    out.show(next_of(events));
+    out.say(",");
 }
 
 // A check inside the attempt, with a link from the one across to what stood before: it fails.
-fn fail_inner(tokenizer: &mut Tokenizer, out: &mut String) -> Result<(), AllocError>
+fn fail_inner(tokenizer: &mut Tokenizer, out: &mut Answers) -> Result<(), AllocError>
     requires { LinkedBefore tokenizer.old }
 {
     pass_connected(tokenizer)?;
     let inner = checked(tokenizer, StateName::DataInside)?;
     tokenizer.enter(Name::LineEnding)?;
     let after = resume(tokenizer, &inner, false);
-    push_row(out, after, tokenizer.events.as_slice())
-}
-
-// Appends the codes at and before the place.
-fn push_codes(out: &mut String, tokenizer: &Tokenizer) -> Result<(), AllocError> {
-    write!(out, " {:?}", tokenizer.current().map(char::from))?;
-    write!(out, " {:?}", tokenizer.previous().map(char::from))
+    push_row(out, after, tokenizer.events.as_slice());
+    Ok(())
 }
 
 // A check inside an attempt: both fail.
-fn fail_both(tokenizer: &mut Tokenizer, out: &mut String) -> Result<(), AllocError> {
+fn fail_both(tokenizer: &mut Tokenizer, out: &mut Answers) -> Result<(), AllocError> {
     pass_linked(tokenizer)?;
     let outer = opened(tokenizer, StateName::DataStart)?;
     fail_inner(tokenizer, out)?;
     let after = resume(tokenizer, &outer, false);
-    push_row(out, after, tokenizer.events.as_slice())?;
-    push_codes(out, tokenizer)
+    push_row(out, after, tokenizer.events.as_slice());
+    out.show(tokenizer.current().map(char::from));
+    out.show(tokenizer.previous().map(char::from));
+    Ok(())
 }
 
 // Whichever call asks for it.
-fn register_twice(tokenizer: &mut Tokenizer, out: &mut String) -> Result<(), AllocError> {
+fn register_twice(tokenizer: &mut Tokenizer, out: &mut Answers) -> Result<(), AllocError> {
     tokenizer.register_resolver(ResolveName::Data)?;
     tokenizer.register_resolver(ResolveName::String)?;
     tokenizer.register_resolver_before(ResolveName::Label)?;
     tokenizer.register_resolver(ResolveName::Data)?;
     tokenizer.register_resolver_before(ResolveName::String)?;
-    write!(out, " {:?}", tokenizer.resolvers.as_slice())
+    out.show(tokenizer.resolvers.as_slice());
+    Ok(())
 }

@@ -6,42 +6,36 @@
 // An index is no end of a character where `no boundary` is printed.
 ghost use Rattle.std.specs.Prelude.{◌≡◌};
 
+use crate::answers::Answers;
 use crate::case::Case;
-use markdown_util::util::char::{Kind, after_index, before_index, classify_opt, kind_after_index};
-use std::alloc::AllocError;
+use markdown_util::util::char::{after_index, before_index, classify_opt, kind_after_index};
 
 // Appends what a case answers.
-pub(crate) fn answer(case: &Case, out: &mut String) -> Result<(), AllocError> {
+pub(crate) fn answer(case: &Case, out: &mut Answers) {
     match case.call {
         "beside" => beside(case.characters(), case.number(0), out),
         "class" => classes(case.characters(), out),
-        _ => out.push_str(" no such call"),
+        _ => out.say(" no such call"),
     }
-}
-
-// Appends a class.
-fn push_class(out: &mut String, class: Kind) -> Result<(), AllocError> {
-    write!(out, " {class:?}")
 }
 
 // The neighbours of an index.
-fn beside(text: &str, index: usize, out: &mut String) -> Result<(), AllocError> {
+fn beside(text: &str, index: usize, out: &mut Answers) {
     if !text.is_char_boundary(index) {
-        return out.push_str(" no boundary");
+        return out.say(" no boundary");
     }
     let bytes = text.as_bytes();
-    write!(out, " {:?}", before_index(bytes, index))?;
-    write!(out, " {:?}", after_index(bytes, index))?;
-    push_class(out, kind_after_index(bytes, index))
+    out.show(before_index(bytes, index));
+    out.show(after_index(bytes, index));
+    out.show(kind_after_index(bytes, index));
 }
 
 // The classes of the characters of a text.
-fn classes(text: &str, out: &mut String) -> Result<(), AllocError> {
+fn classes(text: &str, out: &mut Answers) {
     if text.is_empty() {
-        return push_class(out, classify_opt(None));
+        out.show(classify_opt(None));
     }
     for c in text.chars() {
-        push_class(out, classify_opt(Some(c)))?;
+        out.show(classify_opt(Some(c)));
     }
-    Ok(())
 }

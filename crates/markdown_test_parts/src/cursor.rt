@@ -10,25 +10,18 @@
 // A place is printed as its line, column, index and codes of the tab there.
 ghost use Rattle.std.specs.Prelude.{◌≡◌, ◌≤◌, codes};
 
+use crate::answers::Answers;
 use crate::case::Case;
 use crate::content::push_place;
-use crate::document::{push_count, push_flag};
 use markdown_engine_content::byte_set;
 use markdown_engine_content::content::is_content;
 use markdown_engine_content::cursor::Cursor;
 use markdown_engine_content::parser::Piece;
-use std::alloc::{AllocError, Global};
-
-// Appends what a case answers.
-pub(crate) fn answer(alloc: Global, case: &Case, out: &mut String) -> Result<(), AllocError> {
-    let pieces = case.pieces(alloc)?;
-    answer_on(case, pieces.as_slice(), out)
-}
 
 // Appends what a case answers that has these pieces.
-fn answer_on(case: &Case, pieces: &[Piece], out: &mut String) -> Result<(), AllocError> {
+pub(crate) fn answer(case: &Case, pieces: &[Piece], out: &mut Answers) {
     if !is_content(&case.text, pieces) {
-        return out.push_str(" no content");
+        return out.say(" no content");
     }
     let mut cursor = Cursor::new(&case.text, pieces);
     match case.call {
@@ -36,13 +29,13 @@ fn answer_on(case: &Case, pieces: &[Piece], out: &mut String) -> Result<(), Allo
         "stretch" => stretch(&mut cursor, out),
         "holds" => holds(&mut cursor, case.word(0), case.number(1), out),
         "restart" => restart(&mut cursor, out),
-        _ => out.push_str(" no such call"),
+        _ => out.say(" no such call"),
     }
 }
 
 // Appends a code as a character.
-fn push_code(out: &mut String, code: Option<u8>) -> Result<(), AllocError> {
-    write!(out, " {:?}", code.map(char::from))
+fn push_code(out: &mut Answers, code: Option<u8>) {
+    out.show(code.map(char::from));
 }
 
 // Passes a code, if there is one.
@@ -58,74 +51,73 @@ fn most_codes(cursor: &Cursor) -> usize {
 }
 
 // Appends what is known at a place.
-fn push_row(cursor: &Cursor, out: &mut String) -> Result<(), AllocError> {
+fn push_row(cursor: &Cursor, out: &mut Answers) {
     let end = cursor.exit_point();
-    out.push_str("\n   ")?;
-    push_code(out, cursor.current())?;
-    push_place(out, cursor.point())?;
-    out.push(',')?;
-    push_count(out, end.column)?;
-    push_count(out, end.index)?;
-    out.push(',')?;
-    push_code(out, cursor.previous())?;
-    push_code(out, cursor.save().current())
+    out.say("\n   ");
+    push_code(out, cursor.current());
+    push_place(out, cursor.point());
+    out.say(",");
+    out.show(end.column);
+    out.show(end.index);
+    out.say(",");
+    push_code(out, cursor.previous());
+    push_code(out, cursor.save().current());
 }
 
 // Reads a content, a line for each code.
-fn read(cursor: &mut Cursor, out: &mut String) -> Result<(), AllocError> {
+fn read(cursor: &mut Cursor, out: &mut Answers) {
     for _ in 0..most_codes(cursor) {
         if cursor.current().is_none() {
             break;
         }
-        push_row(cursor, out)?;
+        push_row(cursor, out);
         pass(cursor);
     }
-    push_row(cursor, out)
+    push_row(cursor, out);
 }
 
 // Appends what is known where a stretch stops.
-fn push_stop(cursor: &Cursor, out: &mut String) -> Result<(), AllocError> {
-    out.push_str("\n   ")?;
-    push_count(out, cursor.passed())?;
-    push_count(out, cursor.point().column)?;
-    push_code(out, cursor.previous())?;
-    push_code(out, cursor.current())
+fn push_stop(cursor: &Cursor, out: &mut Answers) {
+    out.say("\n   ");
+    out.show(cursor.passed());
+    out.show(cursor.point().column);
+    push_code(out, cursor.previous());
+    push_code(out, cursor.current());
 }
 
 // Reads a content, a line for each stretch.
-fn stretch(cursor: &mut Cursor, out: &mut String) -> Result<(), AllocError> {
+fn stretch(cursor: &mut Cursor, out: &mut Answers) {
     let stops = byte_set!(b'-');
-    push_count(out, cursor.end_index())?;
+    out.show(cursor.end_index());
     for _ in 0..most_codes(cursor) {
         cursor.consume_stretch(&stops);
-        push_stop(cursor, out)?;
+        push_stop(cursor, out);
         if cursor.current().is_none() {
             break;
         }
         pass(cursor);
     }
-    Ok(())
 }
 
 // Counts codes in a set.
-fn holds(cursor: &mut Cursor, set: &str, times: usize, out: &mut String) -> Result<(), AllocError> {
+fn holds(cursor: &mut Cursor, set: &str, times: usize, out: &mut Answers) {
     pass(cursor);
     let set = if set == "]" {
         byte_set!(b']')
     } else {
         byte_set!(b'a', b'b', b'c')
     };
-    push_flag(out, cursor.holds(&set, times))
+    out.show(cursor.holds(&set, times));
 }
 
 // Passes all codes, and starts over.
-fn restart(cursor: &mut Cursor, out: &mut String) -> Result<(), AllocError> {
+fn restart(cursor: &mut Cursor, out: &mut Answers) {
     for _ in 0..most_codes(cursor) {
         pass(cursor);
     }
     let again = cursor.restart();
     let first = again.current();
-    push_count(out, cursor.passed())?;
-    push_count(out, again.passed())?;
-    push_code(out, first)
+    out.show(cursor.passed());
+    out.show(again.passed());
+    push_code(out, first);
 }

@@ -3,14 +3,14 @@
 ghost use Rattle.markdown_engine_content.specs.Content.{IsContent};
 ghost use Rattle.std.specs.Prelude.{◌≡◌, []};
 
+use crate::answers::Answers;
 use crate::case::{Case, whole};
 use crate::{attempts, emphasis, mail, parts, spaces};
-use markdown_engine::state::State;
 use markdown_engine::tokenizer::Tokenizer;
 use markdown_engine_content::configuration::{Constructs, ParseOptions};
 use markdown_engine_content::content::is_content;
 use markdown_engine_content::parser::{ParseState, Piece};
-use std::alloc::{AllocError, Global};
+use std::alloc::Global;
 
 // With strikethrough; the rule of three reads whole lengths where it is asked to.
 pub(crate) fn options(attention_first_lengths: bool) -> ParseOptions {
@@ -41,15 +41,10 @@ pub(crate) fn document<'a>(
 }
 
 // Appends what a case of this part answers.
-pub(crate) fn answer(
-    alloc: Global,
-    part: &str,
-    case: &Case,
-    out: &mut String,
-) -> Result<(), AllocError> {
+pub(crate) fn answer(alloc: Global, part: &str, case: &Case, out: &mut Answers) {
     let pieces = whole(&case.text);
     if !is_content(&case.text, &pieces) {
-        return out.push_str(" no content");
+        return out.say(" no content");
     }
     let options = options(case.word(0) == "first");
     let parse_state = document(alloc, &case.text, &options);
@@ -63,8 +58,8 @@ fn answer_at(
     pieces: &[Piece],
     part: &str,
     case: &Case,
-    out: &mut String,
-) -> Result<(), AllocError>
+    out: &mut Answers,
+)
     requires { IsContent parse_state.now.bytes.now pieces.now }
 {
     let mut tokenizer = Tokenizer::new(alloc, parse_state, pieces);
@@ -72,12 +67,7 @@ fn answer_at(
 }
 
 // Makes the call.
-fn answer_by(
-    tokenizer: &mut Tokenizer,
-    part: &str,
-    case: &Case,
-    out: &mut String,
-) -> Result<(), AllocError>
+fn answer_by(tokenizer: &mut Tokenizer, part: &str, case: &Case, out: &mut Answers)
     requires map { tokenizer.old.map ≡ [] }
     requires events { tokenizer.old.events ≡ [] }
 {
@@ -88,19 +78,4 @@ fn answer_by(
         "mail" => mail::find(tokenizer, case.word(0), out),
         _ => emphasis::answer_at(tokenizer, part, case, out),
     }
-}
-
-// Appends a state.
-pub(crate) fn push_state(out: &mut String, state: State) -> Result<(), AllocError> {
-    write!(out, " {state:?}")
-}
-
-// Appends a number.
-pub(crate) fn push_count(out: &mut String, count: usize) -> Result<(), AllocError> {
-    write!(out, " {count}")
-}
-
-// Appends whether something holds.
-pub(crate) fn push_flag(out: &mut String, holds: bool) -> Result<(), AllocError> {
-    write!(out, " {holds}")
 }

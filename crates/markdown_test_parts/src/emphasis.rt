@@ -19,8 +19,9 @@ ghost use Rattle.markdown_engine_content.specs.declared.event.Name.TheVariants.{
 ghost use Rattle.markdown_attention.specs.AttentionPass.{IsSmall};
 ghost use Rattle.markdown_test_parts.specs.Fixtures.{HaveRuns};
 
+use crate::answers::Answers;
 use crate::case::{Case, ask_in_vain, is_held, whole};
-use crate::document::{self, push_count, push_flag, push_state};
+use crate::document;
 use markdown_attention::attention::runs::{Runs, Sequence};
 use markdown_attention::attention::{inside, resolve, resolve_counted, start};
 use markdown_engine::tokenizer::Tokenizer;
@@ -34,39 +35,38 @@ use std::alloc::{AllocError, Global};
 enum How {
     Counted,
     ByName,
+    // What leaves no pair.
+    InVain,
     // One pair, as it takes it.
     Taken,
 }
 
 // Appends what a case answers.
-pub(crate) fn answer(alloc: Global, case: &Case, out: &mut String) -> Result<(), AllocError> {
+pub(crate) fn answer(alloc: Global, case: &Case, out: &mut Answers) {
     match case.call {
         "pass" => {
-            document::answer(alloc, "counted", case, out)?;
-            document::answer(alloc, "named", case, out)
+            document::answer(alloc, "counted", case, out);
+            document::answer(alloc, "named", case, out);
         }
         "steady" | "none" | "run" => document::answer(alloc, case.call, case, out),
-        _ => out.push_str(" no such call"),
+        _ => out.say(" no such call"),
     }
 }
 
 // Makes the call.
-pub(crate) fn answer_at(
-    tokenizer: &mut Tokenizer,
-    call: &str,
-    case: &Case,
-    out: &mut String,
-) -> Result<(), AllocError>
+pub(crate) fn answer_at(tokenizer: &mut Tokenizer, call: &str, case: &Case, out: &mut Answers)
     requires map { tokenizer.old.map ≡ [] }
     requires events { tokenizer.old.events ≡ [] }
 {
-    match call {
-        "counted" => pass(tokenizer, case, How::Counted, out),
-        "named" => pass(tokenizer, case, How::ByName, out),
-        "steady" => take(tokenizer, out),
-        "none" => find_none(tokenizer, case, out),
-        _ => pass_run(tokenizer, out),
-    }
+    let how = match call {
+        "counted" => How::Counted,
+        "named" => How::ByName,
+        "none" => How::InVain,
+        "steady" => How::Taken,
+        _ => return pass_run(tokenizer, out),
+    };
+    let outcome = pass(tokenizer, case, how, out);
+    out.keep(outcome);
 }
 
 // The place before the byte at an index of a text of one line.
@@ -177,16 +177,35 @@ fn are_small(list: &[Sequence]) -> bool
 }
 
 // Appends events, each with its name and the index of its place, as `(Data 0 1)`.
-fn push_events(out: &mut String, events: &[Event]) -> Result<(), AllocError> {
+fn push_events(out: &mut Answers, events: &[Event]) {
     for event in events {
-        let index = event.point.index;
         if event.kind == Kind::Enter {
-            write!(out, "({:?} {index}", event.name)?;
+            out.say("(");
+            out.print_name(event.name);
+            out.show(event.point.index);
         } else {
-            write!(out, " {index})")?;
+            out.show(event.point.index);
+            out.say(")");
         }
     }
-    Ok(())
+}
+
+// Whether a pair has this event between its markers.
+fn is_text(event: &Event) -> bool {
+    matches!(
+        event.name,
+        Name::EmphasisText | Name::StrongText | Name::GfmStrikethroughText
+    )
+}
+
+// Appends what the pass leaves, or whether it leaves no pair.
+fn push_left(out: &mut Answers, how: How, events: &[Event]) {
+    if matches!(how, How::InVain) {
+        out.show(!events.iter().any(is_text));
+    } else {
+        out.say("\n    ");
+        push_events(out, events);
+    }
 }
 
 // Whether the first two runs of three markers, of a text with no other, lose one each where one is taken of both.
@@ -219,7 +238,7 @@ struct Count {
 
 // Appends the leaves of the text, calls the pass, and prints what it leaves. Answers the numbers of runs and looks, and none where there are too
 // many runs.
-fn pair(tokenizer: &mut Tokenizer, how: How, out: &mut String) -> Result<Option<Count>, AllocError>
+fn pair(tokenizer: &mut Tokenizer, how: How, out: &mut Answers) -> Result<Option<Count>, AllocError>
     requires ascii { IsAscii tokenizer.old.parse_state.now.bytes.now }
     requires utf8 { IsUtf8 tokenizer.old.parse_state.now.bytes.now }
     requires fits { length tokenizer.old.parse_state.now.bytes.now + 1 < 2 ^ 64 }
@@ -232,7 +251,7 @@ fn pair(tokenizer: &mut Tokenizer, how: How, out: &mut String) -> Result<Option<
     if matches!(how, How::Taken) {
         let held = ask_in_vain(tokenizer.alloc, bytes);
         let are_taken = are_taken(runs);
-        push_flag(out, are_taken && is_held(held.as_slice(), bytes))?;
+        out.show(are_taken && is_held(held.as_slice(), bytes));
         return Ok(None);
     }
     let runs = runs.finish();
@@ -240,13 +259,13 @@ fn pair(tokenizer: &mut Tokenizer, how: How, out: &mut String) -> Result<Option<
         return Ok(None);
     }
     let mut probes = 0;
-    if matches!(how, How::Counted) {
-        resolve_counted(tokenizer, &mut probes)?;
-    } else {
+    if matches!(how, How::ByName) {
         resolve(tokenizer)?;
         probes = tokenizer.tokenize_state.probes;
+    } else {
+        resolve_counted(tokenizer, &mut probes)?;
     }
-    push_events(out, tokenizer.events.as_slice())?;
+    push_left(out, how, tokenizer.events.as_slice());
     Ok(Some(Count {
         runs: runs.len(),
         probes,
@@ -254,7 +273,11 @@ fn pair(tokenizer: &mut Tokenizer, how: How, out: &mut String) -> Result<Option<
 }
 
 // Appends what the pass leaves of a text. Answers the numbers of runs and looks, and none where the text is not in ASCII, or has too many runs.
-fn group(tokenizer: &mut Tokenizer, how: How, out: &mut String) -> Result<Option<Count>, AllocError>
+fn group(
+    tokenizer: &mut Tokenizer,
+    how: How,
+    out: &mut Answers,
+) -> Result<Option<Count>, AllocError>
     requires map { tokenizer.old.map ≡ [] }
     requires events { tokenizer.old.events ≡ [] }
 {
@@ -266,48 +289,30 @@ fn group(tokenizer: &mut Tokenizer, how: How, out: &mut String) -> Result<Option
 }
 
 // Appends how many runs there are, and whether there are as many looks as pairs at least, and no more than the bound.
-fn push_found(out: &mut String, found: Option<Count>, case: &Case) -> Result<(), AllocError> {
+fn push_found(out: &mut Answers, found: Option<Count>, case: &Case) {
     let Some(count) = found else {
-        return out.push_str(" too many");
+        return out.say(" too many");
     };
     let (pairs, bound) = (case.number(1) as u128, case.number(2) as u128);
-    push_count(out, count.runs)?;
-    push_flag(out, pairs <= count.probes && count.probes <= bound)
+    out.show(count.runs);
+    out.show(pairs <= count.probes && count.probes <= bound);
 }
 
-// What the pass leaves of a text, by itself or by its name, on a line of its own.
+// What the pass leaves of a text, and how many runs and looks there are.
 fn pass(
     tokenizer: &mut Tokenizer,
     case: &Case,
     how: How,
-    out: &mut String,
+    out: &mut Answers,
 ) -> Result<(), AllocError>
     requires map { tokenizer.old.map ≡ [] }
     requires events { tokenizer.old.events ≡ [] }
 {
-    out.push_str("\n    ")?;
     let found = group(tokenizer, how, out)?;
-    push_found(out, found, case)
-}
-
-// Whether one pair is taken.
-fn take(tokenizer: &mut Tokenizer, out: &mut String) -> Result<(), AllocError>
-    requires map { tokenizer.old.map ≡ [] }
-    requires events { tokenizer.old.events ≡ [] }
-{
-    let _ = group(tokenizer, How::Taken, out)?;
+    if !matches!(how, How::Taken) {
+        push_found(out, found, case);
+    }
     Ok(())
-}
-
-// Whether the pass leaves no pair in a text: each has a text between its markers.
-fn find_none(tokenizer: &mut Tokenizer, case: &Case, out: &mut String) -> Result<(), AllocError>
-    requires map { tokenizer.old.map ≡ [] }
-    requires events { tokenizer.old.events ≡ [] }
-{
-    let mut events = String::new(tokenizer.alloc);
-    let found = group(tokenizer, How::Counted, &mut events)?;
-    push_flag(out, !events.contains("Text"))?;
-    push_found(out, found, case)
 }
 
 // Whether the innermost open event is a run.
@@ -321,14 +326,15 @@ fn is_in_run(tokenizer: &Tokenizer) -> bool
 }
 
 // Calls the states of a run over two markers and a letter.
-fn pass_run(tokenizer: &mut Tokenizer, out: &mut String) -> Result<(), AllocError> {
-    push_state(out, start(tokenizer)?)?;
+fn pass_run(tokenizer: &mut Tokenizer, out: &mut Answers) {
+    out.show_found(start(tokenizer));
     for _ in 0..3 {
         if !is_in_run(tokenizer) {
-            return out.push_str(" no run");
+            return out.say(" no run");
         }
-        push_state(out, inside(tokenizer)?)?;
+        out.show_found(inside(tokenizer));
     }
-    write!(out, " {:?} ", tokenizer.resolvers.as_slice())?;
-    push_events(out, tokenizer.events.as_slice())
+    out.show(tokenizer.resolvers.as_slice());
+    out.say(" ");
+    push_events(out, tokenizer.events.as_slice());
 }

@@ -11,9 +11,9 @@
 ghost use Rattle.std.specs.Prelude.{◌≡◌, [], Some, None};
 ghost use Rattle.markdown_engine_content.specs.declared.event.Kind.TheVariants as Kind;
 
+use crate::answers::Answers;
 use crate::case::{Case, ask_in_vain, is_held};
 use crate::content::{DOCUMENT_START, push_place};
-use crate::document::{push_count, push_flag};
 use markdown_engine_content::event::{Content, Event, Kind, Link, Name, Point};
 use markdown_engine_content::util::skip::to_back;
 use markdown_engine_content::util::slice::Position;
@@ -23,35 +23,37 @@ use markdown_engine_events::util::edit_map::EditMap;
 use std::alloc::{AllocError, Global};
 
 // Appends what a case answers.
-pub(crate) fn answer(alloc: Global, case: &Case, out: &mut String) -> Result<(), AllocError> {
-    match case.call {
-        "to_back" => find_names(out),
-        "own_enter" => find_enters(out),
+pub(crate) fn answer(alloc: Global, case: &Case, out: &mut Answers) {
+    let outcome = match case.call {
+        "to_back" => return find_names(out),
+        "own_enter" => return find_enters(out),
         "steady" => truncate(alloc, case, out),
         "linked" => push_linked(alloc, out),
         "edits" => edit(alloc, out),
-        _ => out.push_str(" no such call"),
-    }
+        _ => return out.say(" no such call"),
+    };
+    out.keep(outcome);
 }
 
 // Appends a link.
-fn push_link(out: &mut String, link: Link) -> Result<(), AllocError> {
-    write!(out, " link {:?}", link.content)?;
-    write!(out, " {:?}", link.previous)?;
-    write!(out, " {:?}", link.next)
+fn push_link(out: &mut Answers, link: Link) {
+    out.say(" link");
+    out.show(link.content);
+    out.show(link.previous);
+    out.show(link.next);
 }
 
 // Appends events, a line each.
-fn push_events(out: &mut String, events: &[Event]) -> Result<(), AllocError> {
+fn push_events(out: &mut Answers, events: &[Event]) {
     for event in events {
-        write!(out, "\n    {:?}", event.kind)?;
-        write!(out, " {:?}", event.name)?;
-        push_place(out, event.point)?;
+        out.say("\n   ");
+        out.show(event.kind);
+        out.show(event.name);
+        push_place(out, event.point);
         if let Some(link) = event.link {
-            push_link(out, link)?;
+            push_link(out, link);
         }
     }
-    Ok(())
 }
 
 // An event without a link.
@@ -109,7 +111,7 @@ fn at(column: usize, kind: Kind) -> Event
     }
 }
 
-fn find_names(out: &mut String) -> Result<(), AllocError> {
+fn find_names(out: &mut Answers) {
     let events = [
         plain(Kind::Enter, Name::Label),
         plain(Kind::Enter, Name::Data),
@@ -119,12 +121,12 @@ fn find_names(out: &mut String) -> Result<(), AllocError> {
     let names = [Name::Label, Name::Resource];
     let nearest = to_back(events.as_slice(), 3, names.as_slice());
     let other = to_back(events.as_slice(), 1, names.as_slice());
-    push_count(out, nearest)?;
-    push_count(out, other)
+    out.show(nearest);
+    out.show(other);
 }
 
 // An emphasis in an emphasis, and one beside it.
-fn find_enters(out: &mut String) -> Result<(), AllocError> {
+fn find_enters(out: &mut Answers) {
     let events = [
         at(1, Kind::Enter),
         at(2, Kind::Enter),
@@ -135,11 +137,11 @@ fn find_enters(out: &mut String) -> Result<(), AllocError> {
     ];
     let outer = Position::from_exit_event(events.as_slice(), 5);
     let second = Position::from_exit_event(events.as_slice(), 4);
-    push_count(out, outer.start.column)?;
-    push_count(out, outer.end.column)?;
-    out.push(',')?;
-    push_count(out, second.start.column)?;
-    push_count(out, second.end.column)
+    out.show(outer.start.column);
+    out.show(outer.end.column);
+    out.say(",");
+    out.show(second.start.column);
+    out.show(second.end.column);
 }
 
 // A chain of three events, which are linked behind a request for room for these bytes.
@@ -158,30 +160,34 @@ fn chain(alloc: Global, events: &mut Events, bytes: &[u8]) -> Result<Vec<u8>, Al
 }
 
 // What is left of so many events.
-fn push_first(out: &mut String, events: &mut Events, count: usize) -> Result<(), AllocError> {
+fn push_first(out: &mut Answers, events: &mut Events, count: usize) {
     events.truncate(count);
-    write!(out, "\n    of {count}:")?;
-    push_events(out, events.as_slice())
+    out.say("\n    of");
+    out.show(count);
+    out.say(":");
+    push_events(out, events.as_slice());
 }
 
 // The link on to an event goes with it.
-fn truncate(alloc: Global, case: &Case, out: &mut String) -> Result<(), AllocError> {
+fn truncate(alloc: Global, case: &Case, out: &mut Answers) -> Result<(), AllocError> {
     let mut events = Events::new(alloc);
     let bytes = case.text.as_slice();
     let held = chain(alloc, &mut events, bytes)?;
-    push_flag(out, is_held(held.as_slice(), bytes))?;
-    push_events(out, events.as_slice())?;
-    push_first(out, &mut events, 4)?;
-    push_first(out, &mut events, 1)
+    out.show(is_held(held.as_slice(), bytes));
+    push_events(out, events.as_slice());
+    push_first(out, &mut events, 4);
+    push_first(out, &mut events, 1);
+    Ok(())
 }
 
 // An event that comes with its link back; an event of another chain stands between.
-fn push_linked(alloc: Global, out: &mut String) -> Result<(), AllocError> {
+fn push_linked(alloc: Global, out: &mut Answers) -> Result<(), AllocError> {
     let mut events = Events::new(alloc);
     events.push(linked(Name::Data, None, Content::Text))?;
     events.push(linked(Name::Data, None, Content::Text))?;
     events.push_linked(linked(Name::Data, Some(0), Content::Text))?;
-    push_events(out, events.as_slice())
+    push_events(out, events.as_slice());
+    Ok(())
 }
 
 // Two linked leaves and whitespace between them, which gives way to other events.
@@ -204,17 +210,13 @@ fn edit_one_place(alloc: Global, events: &mut Events, map: &mut EditMap) -> Resu
     map.consume(events)
 }
 
-// Appends whether no edit is left, and the events.
-fn push_edited(out: &mut String, events: &Events, map: &EditMap) -> Result<(), AllocError> {
-    push_flag(out, map.is_empty())?;
-    push_events(out, events.as_slice())
-}
-
-fn edit(alloc: Global, out: &mut String) -> Result<(), AllocError> {
+fn edit(alloc: Global, out: &mut Answers) -> Result<(), AllocError> {
     let mut events = Events::new(alloc);
     let mut map = EditMap::new(alloc);
-    match edit_one_place(alloc, &mut events, &mut map) {
-        Ok(()) => push_edited(out, &events, &map),
-        Err(AllocError) => Err(AllocError),
+    let outcome = edit_one_place(alloc, &mut events, &mut map);
+    if outcome.is_ok() {
+        out.show(map.is_empty());
+        push_events(out, events.as_slice());
     }
+    outcome
 }

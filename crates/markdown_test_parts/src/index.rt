@@ -12,8 +12,8 @@
 //     bytes BYTE                         the set of `-` and the tab, whether the byte, given by its number, is in it, and whether it is plain
 ghost use Rattle.std.specs.Prelude.{◌≡◌};
 
+use crate::answers::Answers;
 use crate::case::{Case, number_of, whole};
-use crate::document::{push_count, push_flag};
 use markdown_engine_content::byte_set;
 use markdown_engine_content::content::is_content;
 use markdown_engine_content::cursor::Cursor;
@@ -26,31 +26,32 @@ use markdown_lists::place_index::PlaceIndex;
 use std::alloc::{AllocError, Global};
 
 // Appends what a case answers.
-pub(crate) fn answer(alloc: Global, case: &Case, out: &mut String) -> Result<(), AllocError> {
-    match case.call {
+pub(crate) fn answer(alloc: Global, case: &Case, out: &mut Answers) {
+    let outcome = match case.call {
         "brackets" => brackets(alloc, case, out),
-        "names" => names(alloc, case, out),
-        "names_with" => names_with(alloc, case, out),
+        "names" | "names_with" => names(alloc, case, out),
         "names_of" => names_of(alloc, case, out),
         "places" => places(alloc, case, out),
-        "bytes" => bytes(case, out),
-        _ => answer_over(alloc, case, out),
-    }
+        "bytes" => return bytes(case, out),
+        _ => return answer_over(alloc, case, out),
+    };
+    out.keep(outcome);
 }
 
 // Appends what an index over a content answers.
-fn answer_over(alloc: Global, case: &Case, out: &mut String) -> Result<(), AllocError> {
+fn answer_over(alloc: Global, case: &Case, out: &mut Answers) {
     let pieces = whole(&case.text);
     if !is_content(&case.text, &pieces) {
-        return out.push_str(" no content");
+        return out.say(" no content");
     }
     let cursor = Cursor::new(&case.text, &pieces);
-    match case.call {
+    let outcome = match case.call {
         "runs" => runs(alloc, &cursor, case, out),
-        "sequence" => sequence(&cursor, case, out),
         "title" => title(alloc, &cursor, case, out),
-        _ => out.push_str(" no such call"),
-    }
+        "sequence" => return sequence(&cursor, case, out),
+        _ => return out.say(" no such call"),
+    };
+    out.keep(outcome);
 }
 
 // The index that is asked for.
@@ -63,10 +64,11 @@ fn runs_of(alloc: Global, cursor: &Cursor, how: &str) -> Result<RunIndex, AllocE
 }
 
 // The last run of each size.
-fn runs(alloc: Global, cursor: &Cursor, case: &Case, out: &mut String) -> Result<(), AllocError> {
+fn runs(alloc: Global, cursor: &Cursor, case: &Case, out: &mut Answers) -> Result<(), AllocError> {
     let runs = runs_of(alloc, cursor, case.word(0))?;
     let byte = case.word(1).bytes().next().unwrap_or(0);
-    push_flag(out, runs.rules_out(byte, case.number(2), case.number(3)))
+    out.show(runs.rules_out(byte, case.number(2), case.number(3)));
+    Ok(())
 }
 
 // The sequence of a name.
@@ -83,77 +85,74 @@ fn sequence_of(name: &str) -> Sequence {
 }
 
 // Where the last of each sequence begins.
-fn sequence(cursor: &Cursor, case: &Case, out: &mut String) -> Result<(), AllocError> {
+fn sequence(cursor: &Cursor, case: &Case, out: &mut Answers) {
     let index = if case.word(0) == "over" {
         SequenceIndex::over(cursor)
     } else {
         SequenceIndex::new()
     };
-    push_flag(
-        out,
-        index.rules_out(sequence_of(case.word(1)), case.number(2)),
-    )
+    out.show(index.rules_out(sequence_of(case.word(1)), case.number(2)));
 }
 
 // Where titles in parentheses may end, and resources behind them.
-fn title(alloc: Global, cursor: &Cursor, case: &Case, out: &mut String) -> Result<(), AllocError> {
+fn title(alloc: Global, cursor: &Cursor, case: &Case, out: &mut Answers) -> Result<(), AllocError> {
     let index = TitleIndex::over(alloc, cursor)?;
     for word in case.words(0, alloc)? {
         let (from, to) = word.split_once('-').unwrap_or((word, word));
-        push_kept(&index, number_of(from), number_of(to), out)?;
+        push_kept(&index, number_of(from), number_of(to), out);
     }
     Ok(())
 }
 
 // The places from one to another that are not ruled out.
-fn push_kept(
-    index: &TitleIndex,
-    from: usize,
-    to: usize,
-    out: &mut String,
-) -> Result<(), AllocError> {
+fn push_kept(index: &TitleIndex, from: usize, to: usize, out: &mut Answers) {
     for at in from..=to {
         if !index.rules_out(at) {
-            push_count(out, at)?;
+            out.show(at);
         }
     }
-    Ok(())
 }
 
 // Where opening brackets stand.
-fn brackets(alloc: Global, case: &Case, out: &mut String) -> Result<(), AllocError> {
+fn brackets(alloc: Global, case: &Case, out: &mut Answers) -> Result<(), AllocError> {
     let index = BracketIndex::over(alloc, &case.text, case.number(0), case.number(1))?;
-    let count = index.between(case.number(2), case.number(3));
-    write!(out, " {count:?}")
+    out.show(index.between(case.number(2), case.number(3)));
+    Ok(())
+}
+
+// Appends a word as a name.
+fn push_name(alloc: Global, names: &mut Vec<String>, word: &str) -> Result<(), AllocError> {
+    names.push(String::from_str(alloc, word)?)?;
+    Ok(())
 }
 
 // The words from this number on, as names.
-fn names_from(alloc: Global, case: &Case, from: usize) -> Result<NameIndex, AllocError> {
+fn names_from(alloc: Global, case: &Case, from: usize) -> Result<Vec<String>, AllocError> {
     let mut names = Vec::new(alloc);
     for word in case.words(from, alloc)? {
-        names.push(String::from_str(alloc, word)?)?;
+        push_name(alloc, &mut names, word)?;
     }
-    NameIndex::over(alloc, names.as_slice())
+    Ok(names)
 }
 
-// Names in the order of their bytes.
-fn names(alloc: Global, case: &Case, out: &mut String) -> Result<(), AllocError> {
-    let index = names_from(alloc, case, 0)?;
-    let front = case.characters();
-    push_flag(out, index.has(front))?;
-    push_flag(out, index.begins(front))
-}
-
-// How many brackets names have.
-fn names_with(alloc: Global, case: &Case, out: &mut String) -> Result<(), AllocError> {
-    let index = names_from(alloc, case, 1)?;
-    push_flag(out, index.has_brackets(case.number(0)))
+// Names in the order of their bytes, or how many brackets they have.
+fn names(alloc: Global, case: &Case, out: &mut Answers) -> Result<(), AllocError> {
+    let is_counted = case.call == "names_with";
+    let names = names_from(alloc, case, usize::from(is_counted))?;
+    let index = NameIndex::over(alloc, names.as_slice())?;
+    if is_counted {
+        out.show(index.has_brackets(case.number(0)));
+    } else {
+        out.show(index.has(case.characters()));
+        out.show(index.begins(case.characters()));
+    }
+    Ok(())
 }
 
 // A word, as the only name.
 fn only(alloc: Global, word: &str) -> Result<Vec<String>, AllocError> {
     let mut names = Vec::new(alloc);
-    names.push(String::from_str(alloc, word)?)?;
+    push_name(alloc, &mut names, word)?;
     Ok(names)
 }
 
@@ -166,42 +165,38 @@ fn names_in<'a>(alloc: Global, case: &Case) -> Result<Names<'a>, AllocError> {
 }
 
 // Appends which of the first two words are names.
-fn push_names(out: &mut String, names: &Listed, case: &Case) -> Result<(), AllocError> {
-    let has = (names.has(case.word(0)), names.has(case.word(1)));
-    write!(out, " {has:?}")
+fn push_names(out: &mut Answers, names: &Listed, case: &Case) {
+    out.show((names.has(case.word(0)), names.has(case.word(1))));
 }
 
 // The names of definitions and of footnotes, and the brackets of a text.
-fn names_of(alloc: Global, case: &Case, out: &mut String) -> Result<(), AllocError> {
+fn names_of(alloc: Global, case: &Case, out: &mut Answers) -> Result<(), AllocError> {
     let names = names_in(alloc, case)?;
-    push_all(out, &names, case)
-}
-
-// Appends how many brackets the text has, and which of the first two words are names.
-fn push_all(out: &mut String, names: &Names, case: &Case) -> Result<(), AllocError> {
-    write!(out, " {:?}", names.brackets.between(0, case.text.len()))?;
-    push_names(out, &names.definitions, case)?;
-    push_names(out, &names.footnotes, case)
+    out.show(names.brackets.between(0, case.text.len()));
+    push_names(out, &names.definitions, case);
+    push_names(out, &names.footnotes, case);
+    Ok(())
 }
 
 // Some places of a content.
-fn places(alloc: Global, case: &Case, out: &mut String) -> Result<(), AllocError> {
+fn places(alloc: Global, case: &Case, out: &mut Answers) -> Result<(), AllocError> {
     let mut places = Vec::new(alloc);
     for word in case.words(1, alloc)? {
         places.push(number_of(word))?;
     }
     places.sort_unstable();
     let index = PlaceIndex::new(places);
-    push_flag(out, index.holds(case.number(0)))
+    out.show(index.holds(case.number(0)));
+    Ok(())
 }
 
 // A set of bytes.
-fn bytes(case: &Case, out: &mut String) -> Result<(), AllocError> {
+fn bytes(case: &Case, out: &mut Answers) {
     let set = byte_set!(b'-', b'\t');
     let Ok(byte) = u8::try_from(case.number(0)) else {
-        return out.push_str(" no byte");
+        return out.say(" no byte");
     };
-    write!(out, " {:?}", set.as_slice())?;
-    push_flag(out, set.contains(byte))?;
-    push_flag(out, set.again().is_plain(byte))
+    out.show(set.as_slice());
+    out.show(set.contains(byte));
+    out.show(set.again().is_plain(byte));
 }

@@ -4,30 +4,28 @@
 //     stacks   whether a stack is empty that another one, of 1, took 2 and 3 from, and what that one answers
 ghost use Rattle.std.specs.Prelude.{◌≡◌, ◌∷◌, [], OnOk};
 
+use crate::answers::Answers;
 use crate::case::Case;
 use markdown_lists::seq::{Seq, Stack};
 use std::alloc::{AllocError, Global};
 
 // Appends what a case answers.
-pub(crate) fn answer(alloc: Global, case: &Case, out: &mut String) -> Result<(), AllocError> {
-    match case.call {
+pub(crate) fn answer(alloc: Global, case: &Case, out: &mut Answers) {
+    let outcome = match case.call {
         "list" => grow_list(alloc, out),
         "stacks" => stacks(alloc, out),
-        _ => out.push_str(" no such call"),
-    }
+        _ => return out.say(" no such call"),
+    };
+    out.keep(outcome);
 }
 
-// Appends an item, if it is one.
-fn push_item(out: &mut String, item: Option<u8>) -> Result<(), AllocError> {
-    write!(out, " {item:?}")
-}
-
-fn grow_list(alloc: Global, out: &mut String) -> Result<(), AllocError> {
+fn grow_list(alloc: Global, out: &mut Answers) -> Result<(), AllocError> {
     let mut list = Seq::new(alloc);
     list.push(1u8)?;
     list.extend_from_slice(&[2, 3])?;
-    write!(out, " {:?}", list.as_slice())?;
-    push_item(out, list.pop())
+    out.show(list.as_slice());
+    out.show(list.pop());
+    Ok(())
 }
 
 fn fill_stacks(low: &mut Stack<u8>, high: &mut Stack<u8>) -> Result<(), AllocError>
@@ -43,25 +41,31 @@ fn fill_stacks(low: &mut Stack<u8>, high: &mut Stack<u8>) -> Result<(), AllocErr
 
 // The top, the items at two depths, the items once 4 is written in the middle, the top, which is taken off, and the items and the top once
 // all but one are given up and both are taken off.
-fn empty_stack(low: &mut Stack<u8>, out: &mut String) -> Result<(), AllocError>
+fn empty_stack(low: &mut Stack<u8>, out: &mut Answers)
     requires { low.old ≡ 3 ∷ 2 ∷ 1 ∷ [] }
 {
-    push_item(out, low.top().copied())?;
-    write!(out, " {} {}", *low.at(0), *low.at(2))?;
+    out.show(low.top().copied());
+    out.show(*low.at(0));
+    out.show(*low.at(2));
     low.put(1, 4);
-    write!(out, ", {} {} {},", *low.at(0), *low.at(1), *low.at(2))?;
-    push_item(out, low.pop())?;
+    out.say(",");
+    out.show(*low.at(0));
+    out.show(*low.at(1));
+    out.show(*low.at(2));
+    out.say(",");
+    out.show(low.pop());
     low.truncate(1);
-    out.push(',')?;
-    push_item(out, low.pop())?;
-    push_item(out, low.pop())?;
-    push_item(out, low.top().copied())
+    out.say(",");
+    out.show(low.pop());
+    out.show(low.pop());
+    out.show(low.top().copied());
 }
 
-fn stacks(alloc: Global, out: &mut String) -> Result<(), AllocError> {
+fn stacks(alloc: Global, out: &mut Answers) -> Result<(), AllocError> {
     let mut low = Stack::new(alloc);
     let mut high = Stack::new(alloc);
     fill_stacks(&mut low, &mut high)?;
-    write!(out, " {}", high.is_empty())?;
-    empty_stack(&mut low, out)
+    out.show(high.is_empty());
+    empty_stack(&mut low, out);
+    Ok(())
 }

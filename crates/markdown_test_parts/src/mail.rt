@@ -14,9 +14,10 @@ ghost use Rattle.markdown_engine_content.specs.declared.event.Kind.{Kind};
 ghost use Rattle.markdown_partial.specs.MergedEvents.{is_data};
 ghost use Rattle.markdown_partial.specs.TrimmedEvents.{HasPlaces};
 
+use crate::answers::Answers;
 use crate::case::Case;
 use crate::content::DOCUMENT_START;
-use crate::document::{self, push_count};
+use crate::document;
 use markdown_engine::tokenizer::Tokenizer;
 use markdown_engine_content::content::is_content;
 use markdown_engine_content::event::{Content, Event, Kind, Link, Name, Point};
@@ -29,11 +30,11 @@ use markdown_run_leaves::leaves;
 use std::alloc::{AllocError, Global};
 
 // Appends what a case answers.
-pub(crate) fn answer(alloc: Global, case: &Case, out: &mut String) -> Result<(), AllocError> {
+pub(crate) fn answer(alloc: Global, case: &Case, out: &mut Answers) {
     match case.call {
         "find" => document::answer(alloc, "mail", case, out),
         "leaves" => lend_leaves(&case.text, out),
-        _ => out.push_str(" no such call"),
+        _ => out.say(" no such call"),
     }
 }
 
@@ -91,15 +92,16 @@ fn data_in(
 }
 
 // Appends the innermost events.
-fn push_innermost(out: &mut String, events: &[Event]) -> Result<(), AllocError> {
+fn push_innermost(out: &mut Answers, events: &[Event]) {
     for index in 1..events.len() {
         let (enter, exit) = (&events[index - 1], &events[index]);
         if matches!((enter.kind, exit.kind), (Kind::Enter, Kind::Exit)) {
-            let (from, to) = (enter.point.index, exit.point.index);
-            write!(out, " {:?} {from}-{to}", enter.name)?;
+            out.show(enter.name);
+            out.show(enter.point.index);
+            out.say("-");
+            out.print(exit.point.index);
         }
     }
-    Ok(())
 }
 
 // The group of a name, and the content that is linked in it.
@@ -115,11 +117,7 @@ fn group_of(word: &str) -> (Name, Option<Content>)
 }
 
 // What the pass leaves of data that is the whole document, in such a group.
-pub(crate) fn find(
-    tokenizer: &mut Tokenizer,
-    word: &str,
-    out: &mut String,
-) -> Result<(), AllocError>
+pub(crate) fn find(tokenizer: &mut Tokenizer, word: &str, out: &mut Answers)
     requires { tokenizer.old.map ≡ [] }
 {
     let bytes = tokenizer.parse_state.bytes;
@@ -128,27 +126,31 @@ pub(crate) fn find(
         end: (bytes.len(), 0),
     }];
     if !is_content(bytes, &pieces) {
-        return out.push_str(" no content");
+        return out.say(" no content");
     }
     let (group, content) = group_of(word);
-    tokenizer.events = data_in(tokenizer.alloc, bytes, group, content)?;
-    resolve(tokenizer)?;
-    push_innermost(out, tokenizer.events.as_slice())
+    match data_in(tokenizer.alloc, bytes, group, content) {
+        Ok(events) => tokenizer.events = events,
+        Err(AllocError) => return out.end(),
+    }
+    out.keep(resolve(tokenizer));
+    push_innermost(out, tokenizer.events.as_slice());
 }
 
 // Appends what is lent for an innermost event.
-fn push_leaf(out: &mut String, leaf: &Leaf) -> Result<(), AllocError> {
-    write!(out, " {:?}", leaf.name)?;
-    push_count(out, leaf.slice.before)?;
-    push_count(out, leaf.start.index)?;
-    write!(out, "-{}", leaf.end.index)?;
-    push_count(out, leaf.slice.after)?;
-    out.push(',')
+fn push_leaf(out: &mut Answers, leaf: &Leaf) {
+    out.show(leaf.name);
+    out.show(leaf.slice.before);
+    out.show(leaf.start.index);
+    out.say("-");
+    out.print(leaf.end.index);
+    out.show(leaf.slice.after);
+    out.say(",");
 }
 
 // What is lent for the events of an emphasis, where data is on both sides of the empty text of a label.
 #[tactic(auto, using(markdown_engine_content::proofs::DocumentPlaces::point_start))]
-fn lend_leaves(bytes: &[u8], out: &mut String) -> Result<(), AllocError> {
+fn lend_leaves(bytes: &[u8], out: &mut Answers) {
     let pieces = [Piece {
         start: (0, 0),
         end: (1, 2),
@@ -158,7 +160,7 @@ fn lend_leaves(bytes: &[u8], out: &mut String) -> Result<(), AllocError> {
         end: (3, 0),
     }];
     if !is_content(bytes, &pieces) || !is_content(bytes, &rest) {
-        return out.push_str(" no content");
+        return out.say(" no content");
     }
     let inside = walk_to(bytes, DOCUMENT_START, (1, 2));
     let end = walk_to(bytes, inside, (3, 0));
@@ -173,7 +175,6 @@ fn lend_leaves(bytes: &[u8], out: &mut String) -> Result<(), AllocError> {
         exit(Name::Emphasis, end),
     ];
     for leaf in leaves(bytes, &events) {
-        push_leaf(out, &leaf)?;
+        push_leaf(out, &leaf);
     }
-    Ok(())
 }

@@ -14,8 +14,8 @@ ghost use Rattle.std.specs.Prelude.{◌≡◌, ◌≢◌, ◌⊎◌, IsTrue};
 ghost use Rattle.std.specs.Str.{byte};
 ghost use Rattle.markdown_util.specs.Reference.{IsMarker, IsNumber, radix_of};
 
+use crate::answers::Answers;
 use crate::case::Case;
-use crate::document::{push_count, push_flag};
 use markdown_util::util::character_reference::{
     decode, decode_named, decode_numeric, parse, value_max, value_test,
 };
@@ -23,47 +23,64 @@ use markdown_util::util::normalize_identifier::normalize_identifier;
 use std::alloc::{AllocError, Global};
 
 // Appends what a case answers.
-pub(crate) fn answer(alloc: Global, case: &Case, out: &mut String) -> Result<(), AllocError> {
-    match case.call {
+pub(crate) fn answer(alloc: Global, case: &Case, out: &mut Answers) {
+    let outcome = match case.call {
         "named" => named(alloc, case, out),
-        "numeric" => numeric(case, out),
+        "numeric" => return numeric(case, out),
         "decode" => decoded(alloc, case, out),
-        "parse" => push_text(out, &parse(alloc, case.characters())?),
-        "value" => value(case, out),
-        "identifier" => push_text(out, &normalize_identifier(alloc, case.characters())?),
-        _ => out.push_str(" no such call"),
-    }
+        "parse" => push_parsed(alloc, case, out),
+        "value" => return value(case, out),
+        "identifier" => push_identifier(alloc, case, out),
+        _ => return out.say(" no such call"),
+    };
+    out.keep(outcome);
 }
 
 // Appends a text between quotation marks.
-fn push_text(out: &mut String, text: &String) -> Result<(), AllocError> {
-    write!(out, " \"{text}\"")
+fn push_text(out: &mut Answers, text: &str) {
+    out.say(" \"");
+    out.say(text);
+    out.say("\"");
+}
+
+// A text with its references decoded.
+fn push_parsed(alloc: Global, case: &Case, out: &mut Answers) -> Result<(), AllocError> {
+    let text = parse(alloc, case.characters())?;
+    push_text(out, text.as_str());
+    Ok(())
+}
+
+// The identifier that a text is.
+fn push_identifier(alloc: Global, case: &Case, out: &mut Answers) -> Result<(), AllocError> {
+    let text = normalize_identifier(alloc, case.characters())?;
+    push_text(out, text.as_str());
+    Ok(())
 }
 
 // Appends the numbers of the characters of a text, if there is one.
-fn push_codes(out: &mut String, text: Option<&str>) -> Result<(), AllocError> {
-    let mut mark = ' ';
+fn push_codes(out: &mut Answers, text: Option<&str>) {
+    let mut is_first = true;
     for c in text.unwrap_or("").chars() {
-        write!(out, "{mark}{:X}", c as u32)?;
-        mark = '+';
+        out.say(if is_first { " " } else { "+" });
+        out.print_hex(c);
+        is_first = false;
     }
     if text.is_none() {
-        out.push_str(" -")
-    } else {
-        Ok(())
+        out.say(" -");
     }
 }
 
 // A name, the name without its last byte, and the name with a digit more.
-fn named(alloc: Global, case: &Case, out: &mut String) -> Result<(), AllocError> {
+fn named(alloc: Global, case: &Case, out: &mut Answers) -> Result<(), AllocError> {
     let html5 = case.word(0) == "html5";
     let name = case.word(1);
-    push_codes(out, decode_named(name, html5))?;
+    push_codes(out, decode_named(name, html5));
     let mut letters = name.chars();
     let _ = letters.next_back();
-    push_codes(out, decode_named(letters.as_str(), html5))?;
+    push_codes(out, decode_named(letters.as_str(), html5));
     let longer = format!(in alloc; "{name}0")?;
-    push_codes(out, decode_named(longer.as_str(), html5))
+    push_codes(out, decode_named(longer.as_str(), html5));
+    Ok(())
 }
 
 // Whether a word is a number of 32 bits in a radix.
@@ -78,13 +95,14 @@ fn is_number(digits: &str, radix: u32) -> bool
 }
 
 // The character that a number stands for.
-fn numeric(case: &Case, out: &mut String) -> Result<(), AllocError> {
+fn numeric(case: &Case, out: &mut Answers) {
     let radix = if case.word(0) == "16" { 16 } else { 10 };
     let digits = case.word(1);
     if !is_number(digits, radix) {
-        return out.push_str(" no number");
+        return out.say(" no number");
     }
-    write!(out, " {:X}", decode_numeric(digits, radix) as u32)
+    out.say(" ");
+    out.print_hex(decode_numeric(digits, radix));
 }
 
 // The marker that a word is.
@@ -110,23 +128,23 @@ fn is_value(marker: u8, value: &str) -> bool
 }
 
 // What the value of a reference stands for.
-fn decoded(alloc: Global, case: &Case, out: &mut String) -> Result<(), AllocError> {
+fn decoded(alloc: Global, case: &Case, out: &mut Answers) -> Result<(), AllocError> {
     let marker = marker_of(case.word(1));
     let value = case.word(2);
     if !is_value(marker, value) {
-        return out.push_str(" no number");
+        out.say(" no number");
+        return Ok(());
     }
-    match decode(alloc, value, marker, case.word(0) == "html5")? {
-        Some(text) => push_codes(out, Some(text.as_str())),
-        None => push_codes(out, None),
-    }
+    let text = decode(alloc, value, marker, case.word(0) == "html5")?;
+    push_codes(out, text.as_deref());
+    Ok(())
 }
 
 // How long values may be, or what may stand in them.
-fn value(case: &Case, out: &mut String) -> Result<(), AllocError> {
+fn value(case: &Case, out: &mut Answers) {
     let marker = marker_of(case.word(0));
     match case.word(1).as_bytes() {
-        [byte] => push_flag(out, value_test(marker, *byte)),
-        _ => push_count(out, value_max(marker)),
+        [byte] => out.show(value_test(marker, *byte)),
+        _ => out.show(value_max(marker)),
     }
 }

@@ -4,11 +4,12 @@ ghost use Rattle.markdown_engine_content.specs.Content.{IsContent, IsTextContent
 ghost use Rattle.markdown_engine.specs.StateRuns.{settled};
 ghost use Rattle.markdown_run.specs.Layer.{ready_of};
 
+use crate::answers::Answers;
 use crate::paths;
 use markdown_engine::run::resume;
 use markdown_engine::state::{State, StateName};
 use markdown_engine::tokenizer::{Attempt, TokenizeState, Tokenizer};
-use markdown_engine_content::event::{Event, Kind, Name};
+use markdown_engine_content::event::{Content, Event, Kind, Name};
 use markdown_engine_content::parser::{ParseState, Piece};
 use markdown_inline::state;
 use markdown_lists::seq::Stack;
@@ -40,115 +41,135 @@ impl Sought {
         if point.index != self.place.0 || point.vs != self.place.1 {
             return Ok(false);
         }
-        let mut here = String::new(tokenizer.alloc);
-        write!(here, "{name:?}")?;
-        print_fields(&tokenizer.tokenize_state, &mut here)?;
-        let Some(rest) = here.as_str().strip_prefix(self.state.as_str()) else {
+        let mut here = Answers::new(tokenizer.alloc);
+        here.show(name);
+        print_fields(&tokenizer.tokenize_state, &mut here);
+        if !here.is_whole() {
+            return Err(AllocError);
+        }
+        let Some(rest) = here.text().strip_prefix(self.state.as_str()) else {
             return Ok(false);
         };
         Ok(rest.strip_prefix(" ").unwrap_or(rest) == self.fields.as_str())
     }
 }
 
-// Prints the numbers among the scratch fields that are not 0.
-fn print_numbers(fields: &TokenizeState, out: &mut String) -> Result<(), AllocError> {
-    let numbers = [
-        ("marker", fields.marker as usize),
-        ("marker_b", fields.marker_b as usize),
-        ("size", fields.size),
-        ("size_b", fields.size_b),
-        ("start", fields.start),
-        ("end", fields.end),
-        ("seen", fields.seen as usize),
-        ("connect", fields.connect as usize),
-        ("space_or_tab_connect", fields.space_or_tab_connect as usize),
-        ("space_or_tab_min", fields.space_or_tab_min),
-        ("space_or_tab_max", fields.space_or_tab_max),
-        ("space_or_tab_size", fields.space_or_tab_size),
-        (
-            "space_or_tab_eol_connect",
-            fields.space_or_tab_eol_connect as usize,
-        ),
-        ("space_or_tab_eol_ok", fields.space_or_tab_eol_ok as usize),
-        ("label_starts", fields.label_starts.len()),
-        ("label_starts_loose", fields.label_starts_loose.len()),
-        ("labels", fields.labels.len()),
-    ];
-    for (name, number) in numbers {
-        if number != 0 {
-            write!(out, " {name}={number}")?;
-        }
+// Prints a number among the scratch fields, if it is not 0.
+fn print_number(field: &str, number: usize, out: &mut Answers) {
+    if number != 0 {
+        out.count(field, number);
     }
-    Ok(())
+}
+
+// Prints the sizes and places among the scratch fields that are not 0.
+fn print_sizes(fields: &TokenizeState, out: &mut Answers) {
+    print_number(" marker=", fields.marker as usize, out);
+    print_number(" marker_b=", fields.marker_b as usize, out);
+    print_number(" size=", fields.size, out);
+    print_number(" size_b=", fields.size_b, out);
+    print_number(" start=", fields.start, out);
+    print_number(" end=", fields.end, out);
+    print_number(" seen=", fields.seen as usize, out);
+    print_number(" connect=", fields.connect as usize, out);
+}
+
+// Prints the numbers of whitespace and of labels among the scratch fields that are not 0.
+fn print_more_sizes(fields: &TokenizeState, out: &mut Answers) {
+    let connect = fields.space_or_tab_connect as usize;
+    let eol_connect = fields.space_or_tab_eol_connect as usize;
+    print_number(" space_or_tab_connect=", connect, out);
+    print_number(" space_or_tab_min=", fields.space_or_tab_min, out);
+    print_number(" space_or_tab_max=", fields.space_or_tab_max, out);
+    print_number(" space_or_tab_size=", fields.space_or_tab_size, out);
+    print_number(" space_or_tab_eol_connect=", eol_connect, out);
+    print_number(
+        " space_or_tab_eol_ok=",
+        fields.space_or_tab_eol_ok as usize,
+        out,
+    );
+    print_number(" label_starts=", fields.label_starts.len(), out);
+    print_number(" label_starts_loose=", fields.label_starts_loose.len(), out);
+    print_number(" labels=", fields.labels.len(), out);
+}
+
+// Prints a name among the scratch fields, if it is not that of a field at rest.
+fn print_name(field: &str, name: Name, rest: Name, out: &mut Answers) {
+    if name != rest {
+        out.say(field);
+        out.show(name);
+    }
+}
+
+// Prints a kind of content among the scratch fields, if there is one.
+fn print_content(field: &str, content: Option<Content>, out: &mut Answers) {
+    if let Some(content) = content {
+        out.say(field);
+        out.show(content);
+    }
 }
 
 // Prints the names and contents among the scratch fields that are not at rest.
-fn print_names(fields: &TokenizeState, out: &mut String) -> Result<(), AllocError> {
-    let names = [
-        ("token_1", fields.token_1),
-        ("token_2", fields.token_2),
-        ("token_3", fields.token_3),
-        ("token_4", fields.token_4),
-        ("token_5", fields.token_5),
-    ];
-    for (field, name) in names {
-        if name != Name::Data {
-            write!(out, " {field}={name:?}")?;
-        }
-    }
-    if fields.space_or_tab_token != Name::SpaceOrTab {
-        write!(out, " space_or_tab_token={:?}", fields.space_or_tab_token)?;
-    }
-    if let Some(content) = fields.space_or_tab_content {
-        write!(out, " space_or_tab_content={content:?}")?;
-    }
-    if let Some(content) = fields.space_or_tab_eol_content {
-        write!(out, " space_or_tab_eol_content={content:?}")?;
-    }
-    Ok(())
+fn print_names(fields: &TokenizeState, out: &mut Answers) {
+    print_name(" token_1=", fields.token_1, Name::Data, out);
+    print_name(" token_2=", fields.token_2, Name::Data, out);
+    print_name(" token_3=", fields.token_3, Name::Data, out);
+    print_name(" token_4=", fields.token_4, Name::Data, out);
+    print_name(" token_5=", fields.token_5, Name::Data, out);
+    let blank = fields.space_or_tab_token;
+    print_name(" space_or_tab_token=", blank, Name::SpaceOrTab, out);
+    print_content(" space_or_tab_content=", fields.space_or_tab_content, out);
+    let content = fields.space_or_tab_eol_content;
+    print_content(" space_or_tab_eol_content=", content, out);
 }
 
 // Prints the scratch fields that are not at rest, but those for indexes, the markers of data, and whether a text is the first of an item.
-fn print_fields(fields: &TokenizeState, out: &mut String) -> Result<(), AllocError> {
-    print_numbers(fields, out)?;
-    print_names(fields, out)
+fn print_fields(fields: &TokenizeState, out: &mut Answers) {
+    print_sizes(fields, out);
+    print_more_sizes(fields, out);
+    print_names(fields, out);
 }
 
 // Prints the events from this one on, each by its name.
-fn print_entered(events: &[Event], from: usize, out: &mut String) -> Result<(), AllocError> {
+fn print_entered(events: &[Event], from: usize, out: &mut Answers) {
     for event in events.iter().skip(from) {
-        let sign = if event.kind == Kind::Enter { '+' } else { '-' };
-        write!(out, " {sign}{:?}", event.name)?;
+        out.say(if event.kind == Kind::Enter {
+            " +"
+        } else {
+            " -"
+        });
+        out.show(event.name);
     }
-    Ok(())
 }
 
 // Prints an attempt: how it goes on, and whether it is a check, which is undone in any case.
-fn print_attempt(attempt: &Attempt, out: &mut String) -> Result<(), AllocError> {
-    let kind = if attempt.restores { "check" } else { "attempt" };
-    write!(out, " {kind} {:?} {:?}", attempt.ok, attempt.nok)
+fn print_attempt(attempt: &Attempt, out: &mut Answers) {
+    out.say(if attempt.restores {
+        " check "
+    } else {
+        " attempt "
+    });
+    out.show(attempt.ok);
+    out.say(" ");
+    out.show(attempt.nok);
 }
 
 // Prints what a call answers, where it stands behind it, the events that it adds, the scratch fields, and the attempts that it opens, the
 // innermost first.
-fn print_call(
-    answer: State,
-    tokenizer: &mut Tokenizer,
-    from: usize,
-    out: &mut String,
-) -> Result<(), AllocError> {
+fn print_call(answer: State, tokenizer: &mut Tokenizer, from: usize, out: &mut Answers) {
     let point = tokenizer.point();
-    write!(out, " {answer:?} at {}.{}", point.index, point.vs)?;
-    print_entered(tokenizer.events.as_slice(), from, out)?;
-    out.push(';')?;
-    print_fields(&tokenizer.tokenize_state, out)?;
-    out.push(';')?;
+    out.say(" ");
+    out.show(answer);
+    out.count(" at ", point.index);
+    out.count(".", point.vs);
+    print_entered(tokenizer.events.as_slice(), from, out);
+    out.say(";");
+    print_fields(&tokenizer.tokenize_state, out);
+    out.say(";");
     for _ in 0..tokenizer.attempts.len() {
         if let Some(attempt) = tokenizer.attempts.pop() {
-            print_attempt(&attempt, out)?;
+            print_attempt(&attempt, out);
         }
     }
-    Ok(())
 }
 
 // Puts the attempts that a call opened on top of those that wait.
@@ -168,7 +189,7 @@ fn print_from(
     start: StateName,
     tokenizer: &mut Tokenizer,
     sought: &Sought,
-    out: &mut String,
+    out: &mut Answers,
 ) -> Result<(), AllocError>
     requires ready { ready_of start tokenizer.old }
     requires alone { tokenizer.old.attempts ≡ [] }
@@ -181,7 +202,8 @@ fn print_from(
                 let from = tokenizer.events.len();
                 if sought.is_met(name, tokenizer)? {
                     let answer = paths::call_public(name, tokenizer)?;
-                    return print_call(answer, tokenizer, from, out);
+                    print_call(answer, tokenizer, from, out);
+                    return Ok(());
                 }
                 state = state::call(name, tokenizer)?;
                 hand_over(&mut waiting, tokenizer)?;
@@ -191,7 +213,8 @@ fn print_from(
             State::Nok => false,
         };
         let Some(attempt) = waiting.top() else {
-            return out.push_str(" not reached");
+            out.say(" not reached");
+            return Ok(());
         };
         state = resume(tokenizer, attempt, ok);
         let _ = waiting.pop();
@@ -205,7 +228,7 @@ pub(crate) fn print_text_call(
     pieces: &[Piece],
     first_of_item: bool,
     sought: &Sought,
-    out: &mut String,
+    out: &mut Answers,
 ) -> Result<(), AllocError>
     requires { IsTextContent parse_state.now.bytes.now pieces.now }
 {
@@ -222,7 +245,7 @@ pub(crate) fn print_string_call(
     parse_state: &ParseState,
     pieces: &[Piece],
     sought: &Sought,
-    out: &mut String,
+    out: &mut Answers,
 ) -> Result<(), AllocError>
     requires { IsContent parse_state.now.bytes.now pieces.now }
 {

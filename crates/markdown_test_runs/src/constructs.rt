@@ -9,6 +9,7 @@ ghost use Rattle.markdown_engine.specs.declared.state.StateName.TheVariants.{Des
 ghost use Rattle.markdown_partial.specs.PartialSpaceOrTab.{most};
 ghost use Rattle.markdown_run.specs.RunConstruct.{IsConstruct};
 
+use crate::answers::Answers;
 use crate::ends::read_end;
 use crate::lines::print_events;
 use crate::paths::read_plain;
@@ -297,16 +298,35 @@ fn is_at_rest(tokenizer: &Tokenizer) -> bool {
 }
 
 // Prints what a construct left: whether it holds, the events, how many starts of labels are open, and where the tokenizer stands.
-fn print_left(tokenizer: &Tokenizer, held: bool, out: &mut String) -> Result<(), AllocError> {
-    out.push_str(if held { " holds" } else { " no" })?;
-    print_events(tokenizer.events.as_slice(), usize::MAX, out)?;
-    let starts = tokenizer.tokenize_state.label_starts.len();
-    write!(out, "; starts {starts} at {}", tokenizer.point().index)?;
-    out.push_str(if is_at_rest(tokenizer) {
-        ""
-    } else {
-        ", not at rest"
-    })
+fn print_left(tokenizer: &Tokenizer, held: bool, out: &mut Answers) {
+    out.say(if held { " holds" } else { " no" });
+    print_events(tokenizer.events.as_slice(), usize::MAX, out);
+    out.count("; starts ", tokenizer.tokenize_state.label_starts.len());
+    out.count(" at ", tokenizer.point().index);
+    if !is_at_rest(tokenizer) {
+        out.say(", not at rest");
+    }
+}
+
+// Reads one construct, and prints what it leaves.
+fn print_one(
+    tokenizer: &mut Tokenizer,
+    reading: &str,
+    asked: Asked,
+    out: &mut Answers,
+) -> Result<(), AllocError>
+    requires alone { tokenizer.old.attempts ≡ [] }
+    requires events { tokenizer.old.events ≡ [] }
+    requires rest { tokenizer.old.tokenize_state ≡ at_rest }
+    requires fits { codes_left tokenizer.old ≤ most }
+    requires text { ReadsText tokenizer.old }
+{
+    let held = match read_one(tokenizer, reading, asked) {
+        Ok(held) => held,
+        Err(AllocError) => answer_again(tokenizer)?,
+    };
+    print_left(tokenizer, held, out);
+    Ok(())
 }
 
 /// Prints what a construct leaves that is read at the start of a content.
@@ -316,14 +336,10 @@ pub(crate) fn print_construct(
     parse_state: &ParseState,
     pieces: &[Piece],
     asked: Asked,
-    out: &mut String,
+    out: &mut Answers,
 ) -> Result<(), AllocError>
     requires { IsContent parse_state.now.bytes.now pieces.now }
 {
     let mut tokenizer = at_start(alloc, parse_state, pieces);
-    let held = match read_one(&mut tokenizer, reading, asked) {
-        Ok(held) => held,
-        Err(AllocError) => answer_again(&mut tokenizer)?,
-    };
-    print_left(&tokenizer, held, out)
+    print_one(&mut tokenizer, reading, asked, out)
 }

@@ -1,6 +1,7 @@
 // How many runs of markers a text has, and how many pairs are made of them.
 ghost use Rattle.markdown_engine_content.specs.Content.{IsTextContent};
 
+use crate::answers::Answers;
 use crate::lines::print_probes;
 use crate::passes::runs_of_text;
 use crate::row::Asked;
@@ -26,7 +27,7 @@ pub(crate) fn print_counts(
     parse_state: &ParseState,
     pieces: &[Piece],
     asked: Asked,
-    out: &mut String,
+    out: &mut Answers,
 ) -> Result<(), AllocError>
     requires { IsTextContent parse_state.now.bytes.now pieces.now }
 {
@@ -35,10 +36,15 @@ pub(crate) fn print_counts(
     if reading == "looks" {
         let opening = runs.iter().filter(|run| run.may_open).count();
         let closing = runs.iter().filter(|run| run.may_close).count();
-        write!(out, " {opening} open, {closing} close,")?;
+        out.count(" ", opening);
+        out.count(" open, ", closing);
+        out.say(" close,");
     } else {
         let pairs = run.events.iter().filter(|event| opens_pair(event)).count();
-        write!(out, " {} runs, {pairs} pairs,", runs.len())?;
+        out.count(" ", runs.len());
+        out.count(" runs, ", pairs);
+        out.say(" pairs,");
     }
-    print_probes(run.probes, asked, out)
+    print_probes(run.probes, asked, out);
+    Ok(())
 }

@@ -46,6 +46,7 @@
 //! Where memory is refused, the answers end there, and the status is 3.
 #![tactic(auto)]
 
+mod answers;
 mod calls;
 mod constructs;
 mod counted;
@@ -63,27 +64,28 @@ mod row;
 mod run;
 mod steady;
 
+use crate::answers::Answers;
 use crate::row::Row;
 use std::alloc::{AllocError, Global};
 use std::io;
 use std::process::ExitCode;
 
 // Prints what is found in a case, or that it is not understood.
-fn print_answer(alloc: Global, line: &str, out: &mut String) -> Result<(), AllocError> {
+fn print_answer(alloc: Global, line: &str, out: &mut Answers) -> Result<(), AllocError> {
     let (reading, fields) = line.split_once('\t').unwrap_or((line, ""));
-    out.push_str(reading)?;
+    out.say(reading);
     let mut row = Row::new(alloc);
-    for field in fields.split('\t') {
-        if !row.read_field(alloc, field)? {
-            return out.push_str(" not understood\n");
-        }
+    if row.read_fields(alloc, fields)? {
+        run::print_found(alloc, reading, row, out)?;
+    } else {
+        out.say(" not understood");
     }
-    run::print_found(alloc, reading, row, out)?;
-    out.push('\n')
+    out.say("\n");
+    Ok(())
 }
 
 // Prints the answers of all cases.
-fn print_answers(alloc: Global, input: &str, out: &mut String) -> Result<(), AllocError> {
+fn print_answers(alloc: Global, input: &str, out: &mut Answers) -> Result<(), AllocError> {
     for line in input.lines() {
         print_answer(alloc, line, out)?;
     }
@@ -91,16 +93,16 @@ fn print_answers(alloc: Global, input: &str, out: &mut String) -> Result<(), All
 }
 
 // Reads the cases, and prints their answers. There is room for some from the start, so that those can be told apart where memory is refused.
-fn print_all(rt: &(impl Input + AllocGlobal), out: &mut String) -> io::Result<()> {
-    out.reserve(1 << 16)?;
+fn print_all(rt: &(impl Input + AllocGlobal), out: &mut Answers) -> io::Result<()> {
+    out.reserve(1 << 16);
     let input = io::read_to_string(rt.alloc(), rt.reader())?;
     print_answers(rt.alloc(), input.as_str(), out)?;
     Ok(())
 }
 
 fn main(rt: HostRuntime) -> io::Result<ExitCode> {
-    let mut out = String::new(rt.alloc());
-    let is_whole = print_all(&rt, &mut out).is_ok();
-    print!(rt; "{out}")?;
+    let mut out = Answers::new(rt.alloc());
+    let is_whole = print_all(&rt, &mut out).is_ok() && out.is_whole();
+    print!(rt; "{}", out.text())?;
     Ok(ExitCode::from(if is_whole { 0 } else { 3 }))
 }

@@ -1,4 +1,5 @@
 // Which definitions links and images refer to, and which footnotes calls.
+use crate::answers::Answers;
 use crate::row::Row;
 use markdown_engine_content::event::{Event, Kind, Name};
 use markdown_engine_content::parser::ParseState;
@@ -28,7 +29,7 @@ fn print_numbers(
     alloc: Global,
     labels: &Labels,
     events: &[Event],
-    out: &mut String,
+    out: &mut Answers,
 ) -> Result<(), AllocError> {
     let tree = Tree::new(alloc, events)?;
     for number in 0..events.len() {
@@ -36,36 +37,62 @@ fn print_numbers(
         if !may_refer(event) {
             continue;
         }
-        write!(out, " {:?} {}", event.name, event.point.index)?;
+        out.say(" ");
+        out.show(event.name);
+        out.count(" ", event.point.index);
         match labels.met(&tree, number)? {
-            Some(met) => write!(out, " {met}")?,
-            None => out.push_str(" -")?,
+            Some(met) => out.count(" ", met),
+            None => out.say(" -"),
         }
     }
     Ok(())
 }
 
-/// Prints what the links, images and footnote calls of a text refer to, where the row defines these labels.
-pub(crate) fn print_met(alloc: Global, row: &Row, out: &mut String) -> Result<(), AllocError> {
-    let bytes = row.document.as_bytes();
-    let definitions = defined(alloc, row.definitions.as_slice())?;
-    let footnotes = defined(alloc, row.footnotes.as_slice())?;
+// The events of a text that these labels are defined for.
+fn events_of(
+    alloc: Global,
+    row: &Row,
+    definitions: &Definitions,
+    footnotes: &Definitions,
+) -> Result<Vec<Event>, AllocError> {
     let parse_state = ParseState {
-        bytes,
+        bytes: row.document.as_bytes(),
         options: &row.options,
         definitions: definitions.identifiers()?,
         gfm_footnote_definitions: footnotes.identifiers()?,
     };
     let pieces = row.pieces.as_slice();
-    if !is_text(bytes, pieces) {
-        return out.push_str(" no text");
+    if !is_text(parse_state.bytes, pieces) {
+        return Ok(Vec::new(alloc));
     }
-    let run = text(alloc, &parse_state, pieces, row.asked.first_of_item)?;
+    Ok(text(alloc, &parse_state, pieces, row.asked.first_of_item)?.events)
+}
+
+// Prints what the links, images and footnote calls of a text refer to.
+fn print_met_among(
+    alloc: Global,
+    row: &Row,
+    definitions: &Definitions,
+    footnotes: &Definitions,
+    out: &mut Answers,
+) -> Result<(), AllocError> {
+    let events = events_of(alloc, row, definitions, footnotes)?;
     let labels = Labels {
-        bytes,
+        bytes: row.document.as_bytes(),
         options: &row.options,
-        definitions: &definitions,
-        footnotes: &footnotes,
+        definitions,
+        footnotes,
     };
-    print_numbers(alloc, &labels, run.events.as_slice(), out)
+    print_numbers(alloc, &labels, events.as_slice(), out)
+}
+
+/// Prints what the links, images and footnote calls of a text refer to, where the row defines these labels.
+pub(crate) fn print_met(alloc: Global, row: &Row, out: &mut Answers) -> Result<(), AllocError> {
+    if !is_text(row.document.as_bytes(), row.pieces.as_slice()) {
+        out.say(" no text");
+        return Ok(());
+    }
+    let definitions = defined(alloc, row.definitions.as_slice())?;
+    let footnotes = defined(alloc, row.footnotes.as_slice())?;
+    print_met_among(alloc, row, &definitions, &footnotes, out)
 }

@@ -13,6 +13,13 @@ const LINES: usize = 7;
 // What stands behind it. Runs of markers and literals look at the character behind a content, which is whitespace as at the end of a document.
 const BEHIND: &str = "\r*]`</a>\n";
 
+// So many bytes and lines further on.
+#[derive(Clone, Copy)]
+struct Move {
+    bytes: usize,
+    lines: usize,
+}
+
 // These pieces so many bytes further on.
 fn moved_pieces(alloc: Global, pieces: &[Piece], by: usize) -> Result<Vec<Piece>, AllocError> {
     let mut moved = Vec::new(alloc);
@@ -72,6 +79,60 @@ fn read(
     }
 }
 
+// Gives a document the definitions of another one.
+fn redefine(
+    alloc: Global,
+    document: &mut Document,
+    parse_state: &ParseState,
+) -> Result<(), AllocError> {
+    let definitions = copied(alloc, parse_state.definitions.as_slice())?;
+    let footnotes = copied(alloc, parse_state.gfm_footnote_definitions.as_slice())?;
+    document.redefine(alloc, definitions, footnotes)
+}
+
+// Whether a content of a prepared document has what was found, moved so.
+fn is_read_again(
+    alloc: Global,
+    document: &Document,
+    pieces: &[Piece],
+    by: Move,
+    first_of_item: Option<bool>,
+    found: &Option<Run>,
+) -> Result<bool, AllocError> {
+    let pieces = moved_pieces(alloc, pieces, by.bytes)?;
+    let again = read(alloc, document, pieces.as_slice(), first_of_item)?;
+    Ok(match (found, &again) {
+        (Some(run), Some(again)) => is_moved(run, again, by.bytes, by.lines),
+        (None, None) => true,
+        _ => false,
+    })
+}
+
+// Whether what was found stands, moved so, in this text as a prepared document, which learns its definitions later.
+fn is_found_in(
+    alloc: Global,
+    bytes: &[u8],
+    parse_state: &ParseState,
+    pieces: &[Piece],
+    by: Move,
+    first_of_item: Option<bool>,
+    found: &Option<Run>,
+) -> Result<bool, AllocError> {
+    let given = ParseState {
+        bytes,
+        options: parse_state.options,
+        definitions: Vec::new(alloc),
+        gfm_footnote_definitions: Vec::new(alloc),
+    };
+    let Some(mut document) = Document::new(alloc, given)? else {
+        return Ok(false);
+    };
+    match redefine(alloc, &mut document, parse_state) {
+        Ok(()) => is_read_again(alloc, &document, pieces, by, first_of_item, found),
+        Err(AllocError) => Err(AllocError),
+    }
+}
+
 /// Whether what is found in a content is also found in it as one of a prepared document, with text before and behind it, which learns its definitions later. Where nothing is found,
 /// none stands there.
 pub(crate) fn is_found_again(
@@ -87,27 +148,19 @@ pub(crate) fn is_found_again(
     } else {
         (BEFORE, BEHIND, LINES)
     };
+    let by = Move {
+        bytes: before.len(),
+        lines,
+    };
     let text = str::from_utf8(parse_state.bytes).unwrap_or("");
     let text = format!(in alloc; "{before}{text}{behind}")?;
-    let pieces = moved_pieces(alloc, pieces, before.len())?;
-    let given = ParseState {
-        bytes: text.as_bytes(),
-        options: parse_state.options,
-        definitions: Vec::new(alloc),
-        gfm_footnote_definitions: Vec::new(alloc),
-    };
-    let Some(mut document) = Document::new(alloc, given)? else {
-        return Ok(false);
-    };
-    document.redefine(
+    is_found_in(
         alloc,
-        copied(alloc, parse_state.definitions.as_slice())?,
-        copied(alloc, parse_state.gfm_footnote_definitions.as_slice())?,
-    )?;
-    let again = read(alloc, &document, pieces.as_slice(), first_of_item)?;
-    Ok(match (found, &again) {
-        (Some(run), Some(again)) => is_moved(run, again, before.len(), lines),
-        (None, None) => true,
-        _ => false,
-    })
+        text.as_bytes(),
+        parse_state,
+        pieces,
+        by,
+        first_of_item,
+        found,
+    )
 }

@@ -331,6 +331,20 @@ fn listed(alloc: Global, events: &[Event]) -> Result<Events, AllocError> {
     Ok(list)
 }
 
+// The events of a text whose runs are paired.
+fn paired(
+    alloc: Global,
+    events: &[Event],
+    bytes: &[u8],
+    options: &ParseOptions,
+) -> Result<Vec<Event>, AllocError> {
+    let mut rows = rows_in(alloc, events, bytes)?;
+    let document = str::from_utf8(bytes).unwrap_or("");
+    set_sides(rows.as_mut_slice(), document, options.constructs);
+    let pairs = all_pairs(alloc, rows.as_mut_slice(), options)?;
+    grouped(alloc, events, rows.as_slice(), pairs.as_slice())
+}
+
 // The simple pass of runs. Links from event to event are lost.
 pub(crate) fn resolve(tokenizer: &mut Tokenizer) -> Result<(), AllocError>
     ensures { OnOk result (tokenizer.new.map ≡ tokenizer.old.map) }
@@ -338,12 +352,7 @@ pub(crate) fn resolve(tokenizer: &mut Tokenizer) -> Result<(), AllocError>
     let alloc = tokenizer.alloc;
     let bytes = tokenizer.parse_state.bytes;
     let options = tokenizer.parse_state.options;
-    let events = tokenizer.events.as_slice();
-    let mut rows = rows_in(alloc, events, bytes)?;
-    let document = str::from_utf8(bytes).unwrap_or("");
-    set_sides(rows.as_mut_slice(), document, options.constructs);
-    let pairs = all_pairs(alloc, rows.as_mut_slice(), options)?;
-    let grouped = grouped(alloc, events, rows.as_slice(), pairs.as_slice())?;
-    tokenizer.events = listed(alloc, grouped.as_slice())?;
+    let paired = paired(alloc, tokenizer.events.as_slice(), bytes, options)?;
+    tokenizer.events = listed(alloc, paired.as_slice())?;
     Ok(())
 }

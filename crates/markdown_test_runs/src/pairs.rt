@@ -1,10 +1,33 @@
 // The events of a run, and those that its passes leave where they are called one by one.
 ghost use Rattle.markdown_engine_content.specs.Content.{IsContent, IsTextContent};
 
+use crate::answers::Answers;
 use crate::passes::{Pairing, are_of_string, are_of_text};
+use markdown_engine_content::event::Event;
 use markdown_engine_content::parser::{ParseState, Piece};
 use markdown_inline::run::{string, text};
 use std::alloc::{AllocError, Global};
+
+// How these events of a text are alike by its passes, and with the simple pass.
+fn likeness(
+    alloc: Global,
+    parse_state: &ParseState,
+    pieces: &[Piece],
+    first_of_item: bool,
+    events: &[Event],
+) -> Result<&'static str, AllocError>
+    requires { IsTextContent parse_state.now.bytes.now pieces.now }
+{
+    let lists = Pairing::ByLists;
+    if !are_of_text(alloc, parse_state, pieces, first_of_item, lists, events)? {
+        return Ok(" the run and its passes differ");
+    }
+    let walk = Pairing::BySimpleWalk;
+    if are_of_text(alloc, parse_state, pieces, first_of_item, walk, events)? {
+        return Ok(" equal");
+    }
+    Ok(" the pairs differ")
+}
 
 /// Prints whether the events of a text are equal by a whole run, by its passes, and with the simple pass. Answers how many there are.
 pub(crate) fn print_likeness(
@@ -12,24 +35,13 @@ pub(crate) fn print_likeness(
     parse_state: &ParseState,
     pieces: &[Piece],
     first_of_item: bool,
-    out: &mut String,
+    out: &mut Answers,
 ) -> Result<usize, AllocError>
     requires { IsTextContent parse_state.now.bytes.now pieces.now }
 {
     let run = text(alloc, parse_state, pieces, first_of_item)?;
     let events = run.events.as_slice();
-    let lists = Pairing::ByLists;
-    if !are_of_text(alloc, parse_state, pieces, first_of_item, lists, events)? {
-        out.push_str(" the run and its passes differ")?;
-        return Ok(events.len());
-    }
-    let walk = Pairing::BySimpleWalk;
-    let are_equal = are_of_text(alloc, parse_state, pieces, first_of_item, walk, events)?;
-    out.push_str(if are_equal {
-        " equal"
-    } else {
-        " the pairs differ"
-    })?;
+    out.say(likeness(alloc, parse_state, pieces, first_of_item, events)?);
     Ok(events.len())
 }
 
@@ -38,14 +50,17 @@ pub(crate) fn print_string_likeness(
     alloc: Global,
     parse_state: &ParseState,
     pieces: &[Piece],
-    out: &mut String,
+    out: &mut Answers,
 ) -> Result<(), AllocError>
     requires { IsContent parse_state.now.bytes.now pieces.now }
 {
     let run = string(alloc, parse_state, pieces)?;
     let events = run.events.as_slice();
     if !are_of_string(alloc, parse_state, pieces, events)? {
-        return out.push_str(" the run and its passes differ");
+        out.say(" the run and its passes differ");
+        return Ok(());
     }
-    write!(out, " equal, {} events", events.len())
+    out.count(" equal, ", events.len());
+    out.say(" events");
+    Ok(())
 }

@@ -12,7 +12,7 @@ use markdown_inline::{
     attention, autolink, character_escape, character_reference, gfm_autolink_literal,
     gfm_label_start_footnote, gfm_task_list_item_check, hard_break_escape, html_text, label_end,
     label_start_image, label_start_link, partial_data, partial_destination, partial_label,
-    partial_space_or_tab, partial_space_or_tab_eol, partial_title, raw_text, string, text,
+    partial_space_or_tab, partial_space_or_tab_eol, partial_title, raw_text, state, string, text,
 };
 use std::alloc::AllocError;
 
@@ -48,6 +48,29 @@ pub(crate) fn call_public(name: StateName, tokenizer: &mut Tokenizer) -> Result<
         StateName::CharacterReferenceValue => character_reference::value(tokenizer),
         StateName::HardBreakEscapeStart => hard_break_escape::start(tokenizer),
         StateName::HardBreakEscapeAfter => hard_break_escape::after(tokenizer),
+        StateName::DataStart => partial_data::start(tokenizer),
+        StateName::DataAtBreak => partial_data::at_break(tokenizer),
+        StateName::DataInside => partial_data::inside(tokenizer),
+        StateName::StringStart => string::start(tokenizer),
+        StateName::StringBefore => string::before(tokenizer),
+        StateName::StringBeforeData => string::before_data(tokenizer),
+        StateName::TextStart => text::start(tokenizer),
+        StateName::TextBefore => text::before(tokenizer),
+        StateName::TextBeforeHtml => text::before_html(tokenizer),
+        StateName::TextBeforeHardBreakEscape => text::before_hard_break_escape(tokenizer),
+        StateName::TextBeforeLabelStartLink => text::before_label_start_link(tokenizer),
+        StateName::TextBeforeData => text::before_data(tokenizer),
+        StateName::AttentionStart => attention::start(tokenizer),
+        StateName::AttentionInside => attention::inside(tokenizer),
+        _ => call_autolink(name, tokenizer),
+    }
+}
+
+// Calls the state of an autolink, of a construct in raw text, or of another construct.
+fn call_autolink(name: StateName, tokenizer: &mut Tokenizer) -> Result<State, AllocError>
+    requires { ready_of name tokenizer.old }
+{
+    match name {
         StateName::AutolinkStart => autolink::start(tokenizer),
         StateName::AutolinkOpen => autolink::open(tokenizer),
         StateName::AutolinkSchemeOrEmailAtext => autolink::scheme_or_email_atext(tokenizer),
@@ -59,6 +82,26 @@ pub(crate) fn call_public(name: StateName, tokenizer: &mut Tokenizer) -> Result<
         StateName::AutolinkEmailAtSignOrDot => autolink::email_at_sign_or_dot(tokenizer),
         StateName::AutolinkEmailLabel => autolink::email_label(tokenizer),
         StateName::AutolinkEmailValue => autolink::email_value(tokenizer),
+        StateName::RawTextStart => raw_text::start(tokenizer),
+        StateName::RawTextSequenceOpen => raw_text::sequence_open(tokenizer),
+        StateName::RawTextBetween => raw_text::between(tokenizer),
+        StateName::RawTextData => raw_text::data(tokenizer),
+        StateName::RawTextSequenceClose => raw_text::sequence_close(tokenizer),
+        StateName::GfmTaskListItemCheckStart => gfm_task_list_item_check::start(tokenizer),
+        StateName::GfmTaskListItemCheckInside => gfm_task_list_item_check::inside(tokenizer),
+        StateName::GfmTaskListItemCheckClose => gfm_task_list_item_check::close(tokenizer),
+        StateName::GfmTaskListItemCheckAfter => gfm_task_list_item_check::after(tokenizer),
+        StateName::GfmTaskListItemCheckAfterSpaceOrTab =>
+            gfm_task_list_item_check::after_space_or_tab(tokenizer),
+        _ => call_html(name, tokenizer),
+    }
+}
+
+// Calls the state of HTML, or of another construct.
+fn call_html(name: StateName, tokenizer: &mut Tokenizer) -> Result<State, AllocError>
+    requires { ready_of name tokenizer.old }
+{
+    match name {
         StateName::HtmlTextStart => html_text::start(tokenizer),
         StateName::HtmlTextOpen => html_text::open(tokenizer),
         StateName::HtmlTextDeclarationOpen => html_text::declaration_open(tokenizer),
@@ -94,18 +137,15 @@ pub(crate) fn call_public(name: StateName, tokenizer: &mut Tokenizer) -> Result<
         StateName::HtmlTextLineEndingBefore => html_text::line_ending_before(tokenizer),
         StateName::HtmlTextLineEndingAfter => html_text::line_ending_after(tokenizer),
         StateName::HtmlTextLineEndingAfterPrefix => html_text::line_ending_after_prefix(tokenizer),
-        StateName::RawTextStart => raw_text::start(tokenizer),
-        StateName::RawTextSequenceOpen => raw_text::sequence_open(tokenizer),
-        StateName::RawTextBetween => raw_text::between(tokenizer),
-        StateName::RawTextData => raw_text::data(tokenizer),
-        StateName::RawTextSequenceClose => raw_text::sequence_close(tokenizer),
-        StateName::GfmTaskListItemCheckStart => gfm_task_list_item_check::start(tokenizer),
-        StateName::GfmTaskListItemCheckInside => gfm_task_list_item_check::inside(tokenizer),
-        StateName::GfmTaskListItemCheckClose => gfm_task_list_item_check::close(tokenizer),
-        StateName::GfmTaskListItemCheckAfter => gfm_task_list_item_check::after(tokenizer),
-        StateName::GfmTaskListItemCheckAfterSpaceOrTab => {
-            gfm_task_list_item_check::after_space_or_tab(tokenizer)
-        }
+        _ => call_blank(name, tokenizer),
+    }
+}
+
+// Calls the state of whitespace, of a destination, or of another construct.
+fn call_blank(name: StateName, tokenizer: &mut Tokenizer) -> Result<State, AllocError>
+    requires { ready_of name tokenizer.old }
+{
+    match name {
         StateName::SpaceOrTabStart => partial_space_or_tab::start(tokenizer),
         StateName::SpaceOrTabInside => partial_space_or_tab::inside(tokenizer),
         StateName::SpaceOrTabAfter => partial_space_or_tab::after(tokenizer),
@@ -120,6 +160,15 @@ pub(crate) fn call_public(name: StateName, tokenizer: &mut Tokenizer) -> Result<
         StateName::DestinationEnclosedEscape => partial_destination::enclosed_escape(tokenizer),
         StateName::DestinationRaw => partial_destination::raw(tokenizer),
         StateName::DestinationRawEscape => partial_destination::raw_escape(tokenizer),
+        _ => call_part(name, tokenizer),
+    }
+}
+
+// Calls the state of a title, a label, or of another construct.
+fn call_part(name: StateName, tokenizer: &mut Tokenizer) -> Result<State, AllocError>
+    requires { ready_of name tokenizer.old }
+{
+    match name {
         StateName::TitleStart => partial_title::start(tokenizer),
         StateName::TitleBegin => partial_title::begin(tokenizer),
         StateName::TitleAtBreak => partial_title::at_break(tokenizer),
@@ -136,22 +185,31 @@ pub(crate) fn call_public(name: StateName, tokenizer: &mut Tokenizer) -> Result<
         StateName::GfmLabelStartFootnoteStart => gfm_label_start_footnote::start(tokenizer),
         StateName::LabelStartImageStart => label_start_image::start(tokenizer),
         StateName::LabelStartLinkStart => label_start_link::start(tokenizer),
-        StateName::LabelEndStart => label_end::start(tokenizer),
         StateName::GfmLabelStartFootnoteOpen => gfm_label_start_footnote::open(tokenizer),
         StateName::LabelStartImageOpen => label_start_image::open(tokenizer),
         StateName::LabelStartImageAfter => label_start_image::after(tokenizer),
+        _ => call_label_end(name, tokenizer),
+    }
+}
+
+// Calls the state of the end of a label, or of another construct.
+fn call_label_end(name: StateName, tokenizer: &mut Tokenizer) -> Result<State, AllocError>
+    requires { ready_of name tokenizer.old }
+{
+    match name {
+        StateName::LabelEndStart => label_end::start(tokenizer),
         StateName::LabelEndAfter => label_end::after(tokenizer),
         StateName::LabelEndOk => label_end::ok(tokenizer),
         StateName::LabelEndNok => label_end::nok(tokenizer),
         StateName::LabelEndResourceStart => label_end::resource_start(tokenizer),
         StateName::LabelEndResourceBefore => label_end::resource_before(tokenizer),
         StateName::LabelEndResourceOpen => label_end::resource_open(tokenizer),
-        StateName::LabelEndResourceDestinationAfter => {
-            label_end::resource_destination_after(tokenizer)
-        }
-        StateName::LabelEndResourceDestinationMissing => {
-            label_end::resource_destination_missing(tokenizer)
-        }
+        StateName::LabelEndResourceDestinationAfter => label_end::resource_destination_after(
+            tokenizer,
+        ),
+        StateName::LabelEndResourceDestinationMissing => label_end::resource_destination_missing(
+            tokenizer,
+        ),
         StateName::LabelEndResourceBetween => label_end::resource_between(tokenizer),
         StateName::LabelEndResourceTitleAfter => label_end::resource_title_after(tokenizer),
         StateName::LabelEndResourceEnd => label_end::resource_end(tokenizer),
@@ -161,20 +219,15 @@ pub(crate) fn call_public(name: StateName, tokenizer: &mut Tokenizer) -> Result<
         StateName::LabelEndReferenceNotFull => label_end::reference_not_full(tokenizer),
         StateName::LabelEndReferenceCollapsed => label_end::reference_collapsed(tokenizer),
         StateName::LabelEndReferenceCollapsedOpen => label_end::reference_collapsed_open(tokenizer),
-        StateName::DataStart => partial_data::start(tokenizer),
-        StateName::DataAtBreak => partial_data::at_break(tokenizer),
-        StateName::DataInside => partial_data::inside(tokenizer),
-        StateName::StringStart => string::start(tokenizer),
-        StateName::StringBefore => string::before(tokenizer),
-        StateName::StringBeforeData => string::before_data(tokenizer),
-        StateName::TextStart => text::start(tokenizer),
-        StateName::TextBefore => text::before(tokenizer),
-        StateName::TextBeforeHtml => text::before_html(tokenizer),
-        StateName::TextBeforeHardBreakEscape => text::before_hard_break_escape(tokenizer),
-        StateName::TextBeforeLabelStartLink => text::before_label_start_link(tokenizer),
-        StateName::TextBeforeData => text::before_data(tokenizer),
-        StateName::AttentionStart => attention::start(tokenizer),
-        StateName::AttentionInside => attention::inside(tokenizer),
+        _ => call_literal(name, tokenizer),
+    }
+}
+
+// Calls the state of an autolink literal. There is no other name here; one is called as a run calls it.
+fn call_literal(name: StateName, tokenizer: &mut Tokenizer) -> Result<State, AllocError>
+    requires { ready_of name tokenizer.old }
+{
+    match name {
         StateName::GfmAutolinkLiteralProtocolStart => gfm_autolink_literal::protocol_start(
             tokenizer,
         ),
@@ -210,5 +263,6 @@ pub(crate) fn call_public(name: StateName, tokenizer: &mut Tokenizer) -> Result<
             gfm_autolink_literal::trail_char_ref_start(tokenizer),
         StateName::GfmAutolinkLiteralTrailCharRefInside =>
             gfm_autolink_literal::trail_char_ref_inside(tokenizer),
+        _ => state::call(name, tokenizer),
     }
 }

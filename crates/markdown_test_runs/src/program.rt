@@ -1,4 +1,5 @@
 // Runs of the program by its call, with readers and writers that read little, take little or fail.
+use crate::answers::Answers;
 use crate::fakes::{Narrow, Slow};
 use crate::row::Row;
 use markdown_inline::program::{run, run_without_words};
@@ -10,40 +11,34 @@ pub(crate) fn print_program(
     alloc: Global,
     reading: &str,
     row: &Row,
-    out: &mut String,
+    out: &mut Answers,
 ) -> Result<(), AllocError> {
     match reading {
-        "program" => read(alloc, row, &mut row.document.as_bytes(), out),
-        "broken" => broken(alloc, row, out),
-        "slow" => slow(alloc, row, row.document.as_bytes(), out),
+        "program" => return read(alloc, row, &mut row.document.as_bytes(), out),
+        "broken" => return broken(alloc, row, out),
+        "slow" => return slow(alloc, row, row.document.as_bytes(), out),
         "narrow" => narrow(alloc, row, out),
         "mute" => mute(alloc, row, out),
         _ => wordless(alloc, row, out),
     }
-}
-
-// Prints a number behind what it counts.
-fn print_count(what: &str, count: usize, out: &mut String) -> Result<(), AllocError> {
-    out.push_str(what)?;
-    write!(out, " {count}")
-}
-
-// Prints bytes as text, with `;` for each line ending.
-fn print_text(bytes: &[u8], out: &mut String) -> Result<(), AllocError> {
-    for c in str::from_utf8(bytes).unwrap_or("not UTF-8").chars() {
-        out.push(if c == '\n' { ';' } else { c })?;
-    }
     Ok(())
 }
 
+// Prints bytes as text, with `;` for each line ending.
+fn print_text(bytes: &[u8], out: &mut Answers) {
+    for c in str::from_utf8(bytes).unwrap_or("not UTF-8").chars() {
+        out.print(if c == '\n' { ';' } else { c });
+    }
+}
+
 // Prints how a run of the program ended, and what it wrote.
-fn tell(status: u8, written: &[u8], told: &[u8], out: &mut String) -> Result<(), AllocError> {
-    print_count(" status", usize::from(status), out)?;
-    print_count(" bytes", written.len(), out)?;
-    print_count(" errors", told.len(), out)?;
-    out.push(' ')?;
-    print_text(written, out)?;
-    print_text(told, out)
+fn tell(status: u8, written: &[u8], told: &[u8], out: &mut Answers) {
+    out.count(" status ", usize::from(status));
+    out.count(" bytes ", written.len());
+    out.count(" errors ", told.len());
+    out.say(" ");
+    print_text(written, out);
+    print_text(told, out);
 }
 
 // Runs the program with a reader. There is room for its line from the start.
@@ -51,28 +46,30 @@ fn read<R: Read>(
     alloc: Global,
     row: &Row,
     reader: &mut R,
-    out: &mut String,
+    out: &mut Answers,
 ) -> Result<(), AllocError> {
     let (mut written, mut told) = (Vec::new(alloc), Vec::new(alloc));
     told.reserve(128)?;
     let status = run(alloc, row.words.as_slice(), reader, &mut written, &mut told);
-    tell(status, written.as_slice(), told.as_slice(), out)
+    tell(status, written.as_slice(), told.as_slice(), out);
+    Ok(())
 }
 
 // Runs it with a slow reader of these bytes. Prints also how many it has left, and whether it was read.
-fn slow(alloc: Global, row: &Row, bytes: &[u8], out: &mut String) -> Result<(), AllocError> {
+fn slow(alloc: Global, row: &Row, bytes: &[u8], out: &mut Answers) -> Result<(), AllocError> {
     let mut reader = Slow::new(bytes, row.fault);
     read(alloc, row, &mut reader, out)?;
-    print_count(" left", reader.left.len(), out)?;
-    out.push_str(if reader.reads > 0 {
+    out.count(" left ", reader.left.len());
+    out.say(if reader.reads > 0 {
         " read"
     } else {
         " not read"
-    })
+    });
+    Ok(())
 }
 
 // Runs it with a slow reader of a document, and behind it a byte that is not UTF-8.
-fn broken(alloc: Global, row: &Row, out: &mut String) -> Result<(), AllocError> {
+fn broken(alloc: Global, row: &Row, out: &mut Answers) -> Result<(), AllocError> {
     let mut bytes = row.document.as_bytes().to_vec(alloc)?;
     bytes.push(0xFF)?;
     slow(alloc, row, bytes.as_slice(), out)
@@ -85,7 +82,7 @@ fn narrow_writer(alloc: Global, row: &Row) -> Narrow {
 }
 
 // Runs it with a narrow writer.
-fn narrow(alloc: Global, row: &Row, out: &mut String) -> Result<(), AllocError> {
+fn narrow(alloc: Global, row: &Row, out: &mut Answers) {
     let mut reader = row.document.as_bytes();
     let mut written = narrow_writer(alloc, row);
     let mut told = Vec::new(alloc);
@@ -96,11 +93,11 @@ fn narrow(alloc: Global, row: &Row, out: &mut String) -> Result<(), AllocError> 
         &mut written,
         &mut told,
     );
-    tell(status, written.passed.as_slice(), told.as_slice(), out)
+    tell(status, written.passed.as_slice(), told.as_slice(), out);
 }
 
 // Runs it with a narrow writer for what goes wrong.
-fn mute(alloc: Global, row: &Row, out: &mut String) -> Result<(), AllocError> {
+fn mute(alloc: Global, row: &Row, out: &mut Answers) {
     let mut reader = b"a".as_slice();
     let mut written = Vec::new(alloc);
     let mut told = narrow_writer(alloc, row);
@@ -111,13 +108,13 @@ fn mute(alloc: Global, row: &Row, out: &mut String) -> Result<(), AllocError> {
         &mut written,
         &mut told,
     );
-    tell(status, written.as_slice(), told.passed.as_slice(), out)
+    tell(status, written.as_slice(), told.passed.as_slice(), out);
 }
 
 // Ends it where its words cannot be read.
-fn wordless(alloc: Global, row: &Row, out: &mut String) -> Result<(), AllocError> {
+fn wordless(alloc: Global, row: &Row, out: &mut Answers) {
     let error = io::Error::from(row.fault.unwrap_or(ErrorKind::Other));
     let mut told = Vec::new(alloc);
     let status = run_without_words(&error, &mut told);
-    tell(status, b"", told.as_slice(), out)
+    tell(status, b"", told.as_slice(), out);
 }

@@ -66,8 +66,18 @@ impl Row {
         }
     }
 
-    /// Reads a field, and answers whether it is understood.
-    pub(crate) fn read_field(&mut self, alloc: Global, field: &str) -> Result<bool, AllocError> {
+    /// Reads all fields, and answers whether they are understood.
+    pub(crate) fn read_fields(&mut self, alloc: Global, fields: &str) -> Result<bool, AllocError> {
+        for field in fields.split('\t') {
+            if !self.read_field(alloc, field)? {
+                return Ok(false);
+            }
+        }
+        Ok(true)
+    }
+
+    // Reads a field, and answers whether it is understood.
+    fn read_field(&mut self, alloc: Global, field: &str) -> Result<bool, AllocError> {
         if let Some(name) = field.strip_prefix("+") {
             return Ok(self.switch(name, true));
         }

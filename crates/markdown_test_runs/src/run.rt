@@ -1,4 +1,5 @@
 // What is found in a case.
+use crate::answers::Answers;
 use crate::calls::{Sought, print_string_call, print_text_call};
 use crate::constructs::print_construct;
 use crate::counted::print_counts;
@@ -10,7 +11,7 @@ use crate::program::print_program;
 use crate::row::{Asked, Row};
 use crate::steady::print_steady;
 use markdown_engine_content::parser::{ParseState, Piece};
-use markdown_inline::run::{Leaves, Run, is_content, is_text, leaves, string, text};
+use markdown_inline::run::{Leaves, is_content, is_text, leaves, string, text};
 use markdown_inline::util::character_reference::parse;
 use std::alloc::{AllocError, Global};
 
@@ -19,17 +20,24 @@ pub(crate) fn print_found(
     alloc: Global,
     reading: &str,
     row: Row,
-    out: &mut String,
+    out: &mut Answers,
 ) -> Result<(), AllocError> {
-    if matches!(
-        reading,
-        "program" | "broken" | "slow" | "narrow" | "mute" | "wordless"
-    ) {
-        return print_program(alloc, reading, &row, out);
+    match reading {
+        "program" | "broken" | "slow" | "narrow" | "mute" | "wordless" => {
+            print_program(alloc, reading, &row, out)
+        }
+        "met" => print_met(alloc, &row, out),
+        _ => print_content(alloc, reading, row, out),
     }
-    if reading == "met" {
-        return print_met(alloc, &row, out);
-    }
+}
+
+// Prints what is found in a content.
+fn print_content(
+    alloc: Global,
+    reading: &str,
+    row: Row,
+    out: &mut Answers,
+) -> Result<(), AllocError> {
     let Row {
         options,
         definitions,
@@ -63,26 +71,27 @@ fn print_call(
     pieces: &[Piece],
     asked: Asked,
     sought: &Sought,
-    out: &mut String,
+    out: &mut Answers,
 ) -> Result<(), AllocError> {
     let bytes = parse_state.bytes;
     if reading == "text-call" && is_text(bytes, pieces) {
-        print_text_call(alloc, parse_state, pieces, asked.first_of_item, sought, out)
-    } else if reading == "string-call" && is_content(bytes, pieces) {
-        print_string_call(alloc, parse_state, pieces, sought, out)
-    } else {
-        out.push_str(" no content")
+        return print_text_call(alloc, parse_state, pieces, asked.first_of_item, sought, out);
     }
+    if reading == "string-call" && is_content(bytes, pieces) {
+        return print_string_call(alloc, parse_state, pieces, sought, out);
+    }
+    out.say(" no content");
+    Ok(())
 }
 
-// Prints what is found in a content.
+// Prints what is found in a content that is read as a whole, or by a construct.
 fn print_read(
     alloc: Global,
     reading: &str,
     parse_state: &ParseState,
     pieces: &[Piece],
     asked: Asked,
-    out: &mut String,
+    out: &mut Answers,
 ) -> Result<(), AllocError> {
     match reading {
         "text" => print_text(alloc, parse_state, pieces, asked, out),
@@ -91,16 +100,21 @@ fn print_read(
         "counts" | "looks" => print_counted(alloc, reading, parse_state, pieces, asked, out),
         "steady" => print_steady(alloc, parse_state, pieces, out),
         "value" => print_value(alloc, parse_state.bytes, out),
-        _ if !is_content(parse_state.bytes, pieces) => out.push_str(" no content"),
+        _ if !is_content(parse_state.bytes, pieces) => {
+            out.say(" no content");
+            Ok(())
+        }
         "passes" => print_string_likeness(alloc, parse_state, pieces, out),
         _ => print_construct(alloc, reading, parse_state, pieces, asked, out),
     }
 }
 
 // Prints what the references of a text stand for.
-fn print_value(alloc: Global, bytes: &[u8], out: &mut String) -> Result<(), AllocError> {
+fn print_value(alloc: Global, bytes: &[u8], out: &mut Answers) -> Result<(), AllocError> {
     let value = parse(alloc, str::from_utf8(bytes).unwrap_or(""))?;
-    write!(out, " {value}")
+    out.say(" ");
+    out.say(value.as_str());
+    Ok(())
 }
 
 // Prints what is found in a text.
@@ -109,23 +123,30 @@ fn print_text(
     parse_state: &ParseState,
     pieces: &[Piece],
     asked: Asked,
-    out: &mut String,
+    out: &mut Answers,
 ) -> Result<(), AllocError> {
+    let bytes = parse_state.bytes;
     let first = asked.first_of_item;
-    let found = if is_text(parse_state.bytes, pieces) {
+    let found = if is_text(bytes, pieces) {
         Some(text(alloc, parse_state, pieces, first)?)
     } else {
         None
     };
-    print_again(alloc, parse_state, pieces, Some(first), &found, out)?;
+    print_again(
+        is_found_again(alloc, parse_state, pieces, Some(first), &found)?,
+        out,
+    );
     let Some(run) = found else {
-        return out.push_str(" no text");
+        out.say(" no text");
+        return Ok(());
     };
     if asked.leaves {
-        return print_leaves(leaves(parse_state.bytes, &run.events), out);
+        print_leaves(leaves(bytes, &run.events), out);
+    } else {
+        print_events(run.events.as_slice(), asked.depth, out);
+        print_probes(run.probes, asked, out);
     }
-    print_events(run.events.as_slice(), asked.depth, out)?;
-    print_probes(run.probes, asked, out)
+    Ok(())
 }
 
 // Prints what is found in a string.
@@ -134,44 +155,42 @@ fn print_string(
     parse_state: &ParseState,
     pieces: &[Piece],
     asked: Asked,
-    out: &mut String,
+    out: &mut Answers,
 ) -> Result<(), AllocError> {
-    let found = if is_content(parse_state.bytes, pieces) {
+    let bytes = parse_state.bytes;
+    let found = if is_content(bytes, pieces) {
         Some(string(alloc, parse_state, pieces)?)
     } else {
         None
     };
-    print_again(alloc, parse_state, pieces, None, &found, out)?;
+    print_again(
+        is_found_again(alloc, parse_state, pieces, None, &found)?,
+        out,
+    );
     let Some(run) = found else {
-        return out.push_str(" no content");
+        out.say(" no content");
+        return Ok(());
     };
     if asked.leaves {
-        return print_leaves(leaves(parse_state.bytes, &run.events), out);
+        print_leaves(leaves(bytes, &run.events), out);
+    } else {
+        print_events(run.events.as_slice(), asked.depth, out);
     }
-    print_events(run.events.as_slice(), asked.depth, out)
+    Ok(())
 }
 
 // Says where a content of a prepared document has something else.
-fn print_again(
-    alloc: Global,
-    parse_state: &ParseState,
-    pieces: &[Piece],
-    first_of_item: Option<bool>,
-    found: &Option<Run>,
-    out: &mut String,
-) -> Result<(), AllocError> {
-    if is_found_again(alloc, parse_state, pieces, first_of_item, found)? {
-        return Ok(());
+fn print_again(is_same: bool, out: &mut Answers) {
+    if !is_same {
+        out.say(" another in a document:");
     }
-    out.push_str(" another in a document:")
 }
 
 // Prints leaves, one after another.
-fn print_leaves(leaves: Leaves, out: &mut String) -> Result<(), AllocError> {
+fn print_leaves(leaves: Leaves, out: &mut Answers) {
     for leaf in leaves {
-        print_leaf(&leaf, out)?;
+        print_leaf(&leaf, out);
     }
-    Ok(())
 }
 
 // Prints how the events of a text are alike by its run and by its passes, and, where that is asked, how many they are.
@@ -181,16 +200,17 @@ fn print_pairs(
     parse_state: &ParseState,
     pieces: &[Piece],
     asked: Asked,
-    out: &mut String,
+    out: &mut Answers,
 ) -> Result<(), AllocError> {
     let mut count = 0;
     if is_text(parse_state.bytes, pieces) {
         count = print_likeness(alloc, parse_state, pieces, asked.first_of_item, out)?;
     } else {
-        out.push_str(" no text")?;
+        out.say(" no text");
     }
     if reading == "count" {
-        write!(out, ", {count} events")?;
+        out.count(", ", count);
+        out.say(" events");
     }
     Ok(())
 }
@@ -202,11 +222,11 @@ fn print_counted(
     parse_state: &ParseState,
     pieces: &[Piece],
     asked: Asked,
-    out: &mut String,
+    out: &mut Answers,
 ) -> Result<(), AllocError> {
     if is_text(parse_state.bytes, pieces) {
-        print_counts(alloc, reading, parse_state, pieces, asked, out)
-    } else {
-        out.push_str(" no text")
+        return print_counts(alloc, reading, parse_state, pieces, asked, out);
     }
+    out.say(" no text");
+    Ok(())
 }

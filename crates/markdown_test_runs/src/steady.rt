@@ -1,6 +1,7 @@
 // The calls that take no memory: they answer as ever where it is refused.
 ghost use Rattle.std.specs.Prelude.{◌≡◌, None};
 
+use crate::answers::Answers;
 use markdown_engine::state::StateName;
 use markdown_engine::tokenizer::Tokenizer;
 use markdown_engine_content::configuration::ParseOptions;
@@ -196,6 +197,11 @@ fn is_passed(tokenizer: &mut Tokenizer) -> bool {
     is_behind && was_well && tokenizer.failed()
 }
 
+// Whether a tokenizer is asked for whitespace, and passes its first code.
+fn is_sound(tokenizer: &mut Tokenizer) -> bool {
+    is_space_asked(tokenizer) && is_spacing_asked(tokenizer) && is_passed(tokenizer)
+}
+
 // Whether a new tokenizer stands at its first code.
 fn is_begun(alloc: Global) -> bool {
     let parse_state = ParseState {
@@ -209,7 +215,7 @@ fn is_begun(alloc: Global) -> bool {
         return false;
     }
     let mut tokenizer = Tokenizer::new(alloc, &parse_state, &pieces);
-    is_space_asked(&mut tokenizer) && is_spacing_asked(&mut tokenizer) && is_passed(&mut tokenizer)
+    is_sound(&mut tokenizer)
 }
 
 // Calls each law.
@@ -274,25 +280,24 @@ fn are_leaves(leaves: Leaves, size: usize) -> bool {
 }
 
 // Prints the name of what answers as it should.
-fn print_if(holds: bool, name: &str, out: &mut String) -> Result<(), AllocError> {
+fn print_if(holds: bool, name: &str, out: &mut Answers) {
     if holds {
-        out.push(' ')?;
-        out.push_str(name)?;
+        out.say(" ");
+        out.say(name);
     }
-    Ok(())
 }
 
 // Prints which calls answer as they should that ask for nothing.
-fn print_steady_calls(alloc: Global, out: &mut String) -> Result<(), AllocError> {
+fn print_steady_calls(alloc: Global, out: &mut Answers) {
     cite_laws();
-    print_if(are_options(), "options", out)?;
-    print_if(are_limits(), "limits", out)?;
-    print_if(are_decoded(), "references", out)?;
-    print_if(are_classified(), "characters", out)?;
-    print_if(are_contents(), "contents", out)?;
-    print_if(are_found(), "events", out)?;
-    print_if(are_lent() && is_tab_lent(), "slices", out)?;
-    print_if(is_begun(alloc), "tokenizer", out)
+    print_if(are_options(), "options", out);
+    print_if(are_limits(), "limits", out);
+    print_if(are_decoded(), "references", out);
+    print_if(are_classified(), "characters", out);
+    print_if(are_contents(), "contents", out);
+    print_if(are_found(), "events", out);
+    print_if(are_lent() && is_tab_lent(), "slices", out);
+    print_if(is_begun(alloc), "tokenizer", out);
 }
 
 /// Prints which calls answer as they should, also those that lend what stands in a text, behind a request for memory that may be refused.
@@ -300,16 +305,18 @@ pub(crate) fn print_steady(
     alloc: Global,
     parse_state: &ParseState,
     pieces: &[Piece],
-    out: &mut String,
+    out: &mut Answers,
 ) -> Result<(), AllocError> {
     let bytes = parse_state.bytes;
     if !is_text(bytes, pieces) {
-        return out.push_str(" no text");
+        out.say(" no text");
+        return Ok(());
     }
     let run = text(alloc, parse_state, pieces, false)?;
     let held = ask_in_vain(alloc, bytes);
     let are_lent = are_leaves(leaves(bytes, &run.events), bytes.len());
-    print_if(are_lent, "leaves", out)?;
-    print_steady_calls(alloc, out)?;
-    print_if(held.is_empty() || held.as_slice() == bytes, "held", out)
+    print_if(are_lent, "leaves", out);
+    print_steady_calls(alloc, out);
+    print_if(held.is_empty() || held.as_slice() == bytes, "held", out);
+    Ok(())
 }

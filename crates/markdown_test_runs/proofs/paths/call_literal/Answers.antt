@@ -3,7 +3,7 @@ use Rattle.markdown_engine.specs.declared.state.StateName.{StateName}
 use Rattle.markdown_leaf_gfm.specs.GfmAutolinkLiteral.{LiteralReady, PathReady, CodeReady, LookReady}
 use Rattle.markdown_leaf_gfm.proofs.TrailChecks.{may-class, may-count, trail-ready}
 use Rattle.markdown_run.specs.Layer.{ready_of}
-use Rattle.markdown_test_runs.proofs.paths.call_public.Goals as goal
+use Rattle.markdown_test_runs.proofs.paths.call_literal.Goals as goal
 
 pub domain_inside-requires : goal.domain_inside-requires
 domain_inside-requires c =
