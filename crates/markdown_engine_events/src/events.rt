@@ -5,7 +5,7 @@ ghost use Rattle.markdown_engine_events.specs.Edits.{edited, edits_of, AreBrough
 ghost use Rattle.std.specs.List.{All};
 
 use crate::util::edit_map::Kept;
-use crate::util::edits_in_place::{apply, growth, stand_apart};
+use crate::util::edits_in_place::{apply, fit_of};
 use markdown_engine_content::event::{Event, Link};
 use markdown_lists::seq::Seq;
 use std::alloc::{AllocError, Global};
@@ -186,8 +186,9 @@ fn alone_front(items: &[Event], chains: bool) -> usize
     }
 }
 
-// How many events are added at once, at the most: what is copied is then in the nearest cache.
-const AT_ONCE: usize = 32;
+// How many events are added at once, at the most: what is copied is then in the nearest cache. So many events take just less than 4,096 bytes, from
+// which on the C library copies in another way.
+const AT_ONCE: usize = 46;
 
 // Adds so many events at the end, whichever they are: some of the first of those that are given, again and again.
 fn add_room(items: &mut Seq<Event>, given: &[Event], more: usize) -> Result<(), AllocError>
@@ -284,7 +285,8 @@ impl Events {
     }
 
     // Applies edits in the list itself, where that can be: no event is linked to another, and the edits stand apart. The answer is whether they are
-    // applied.
+    // applied. It is kept out of line, since it is called from two places.
+    #[inline(never)]
     pub(crate) fn edit_in_place(&mut self, edits: &Kept) -> Result<bool, AllocError>
         requires { AreBrought edits.now.comes.now edits.now.entries.now }
         ensures done { IfOk result (λ done. IsTrue done → self.new ≡ edited (edits_of edits.now) self.old) }
@@ -292,13 +294,13 @@ impl Events {
         ensures err { OnErr result (self.new ≡ self.old) }
     {
         let count = self.items.len();
-        if self.chains || !stand_apart(edits, count) {
+        if self.chains {
             return Ok(false);
         }
-        match growth(edits) {
-            Some(more) if more <= edits.comes.len() => {
-                add_room(&mut self.items, edits.comes, more)?;
-                apply(&mut self.items, edits, count);
+        match fit_of(edits, count) {
+            Some(fit) if fit.more <= edits.comes.len() => {
+                add_room(&mut self.items, edits.comes, fit.more)?;
+                apply(&mut self.items, edits, count, fit.growing);
                 Ok(true)
             }
             _ => Ok(false),

@@ -532,12 +532,27 @@ impl EditMap {
         Ok(done)
     }
 
-    // Applies all edits in the list itself, where that can be. The answer is whether they are applied.
+    // The edits as they were added.
+    fn as_added<'a>(&'a self) -> Kept<'a>
+        ensures edits { edits_of result ≡ self.now }
+        ensures brought { AreBrought result.comes.now result.entries.now }
+    {
+        Kept {
+            entries: self.log.as_slice(),
+            comes: self.comes.as_slice(),
+        }
+    }
+
+    // Applies all edits in the list itself, where that can be: as they were added, or else in the order of their places. The answer is whether they
+    // are applied.
     fn applied_in_place(&self, events: &mut Events) -> Result<bool, AllocError>
         ensures done { IfOk result (λ done. IsTrue done → events.new ≡ edited self.now events.old) }
         ensures stays { IfOk result (λ done. IsFalse done → events.new ≡ events.old) }
         ensures err { OnErr result (events.new ≡ events.old) }
     {
+        if events.edit_in_place(&self.as_added())? {
+            return Ok(true);
+        }
         let mut sorted = Vec::new(self.alloc);
         let edits = self.in_order(&mut sorted)?;
         let done = events.edit_in_place(&edits)?;

@@ -8,55 +8,49 @@ use crate::util::edit_map::{Kept, brought};
 use markdown_engine_content::event::Event;
 use markdown_lists::seq::Seq;
 
-// Whether edits stand apart in a list of so many events.
-pub(crate) fn stand_apart(edits: &Kept, count: usize) -> bool
+// How edits that stand apart in a list fit into it.
+#[derive(Clone, Copy)]
+pub(crate) struct Fit {
+    // How much they bring beyond what they remove, where an edit that removes more counts as none.
+    pub(crate) more: usize,
+    // Whether each brings as many events as it removes or more.
+    pub(crate) growing: bool,
+}
+
+// How edits fit into a list of so many events. None where they do not stand apart, or bring more than the largest number.
+pub(crate) fn fit_of(edits: &Kept, count: usize) -> Option<Fit>
     requires { AreBrought edits.now.comes.now edits.now.entries.now }
-    ensures { IsTrue result → StandApart 0 count (edits_of edits.now) }
+    ensures apart { MatchOption result (Unit {0}) (λ fit. StandApart 0 count (edits_of edits.now)) }
+    ensures more { MatchOption result (Unit {0}) (λ fit. fit.more ≡ grown (edits_of edits.now)) }
+    ensures growing { MatchOption result (Unit {0}) (λ fit. IsTrue fit.growing → AreGrowing (edits_of edits.now)) }
 {
+    let mut fit = Fit {
+        more: 0,
+        growing: true,
+    };
     let mut next = usize::MAX;
     for index in (0..edits.entries.len()).rev() {
         let edit = &edits.entries[index];
         if edit.at > count || edit.remove > count - edit.at {
-            return false;
+            return None;
         }
         if edit.at >= next || edit.at + edit.remove > next {
-            return false;
+            return None;
         }
         next = edit.at;
-    }
-    true
-}
-
-// How much the edits bring beyond what they remove, where an edit that removes more counts as none. None past the largest number.
-pub(crate) fn growth(edits: &Kept) -> Option<usize>
-    requires { AreBrought edits.now.comes.now edits.now.entries.now }
-    ensures { MatchOption result (Unit {0}) (λ more. more ≡ grown (edits_of edits.now)) }
-{
-    let mut more = 0usize;
-    for index in (0..edits.entries.len()).rev() {
-        let edit = &edits.entries[index];
         let comes = brought(edits.comes, edit).len();
-        more = more.checked_add(comes.saturating_sub(edit.remove))?;
-    }
-    Some(more)
-}
-
-// Whether each edit brings as many events as it removes or more.
-fn is_growing(edits: &Kept) -> bool
-    requires { AreBrought edits.now.comes.now edits.now.entries.now }
-    ensures { IsTrue result → AreGrowing (edits_of edits.now) }
-{
-    for index in (0..edits.entries.len()).rev() {
-        let edit = &edits.entries[index];
-        if brought(edits.comes, edit).len() < edit.remove {
-            return false;
+        if comes < edit.remove {
+            fit.growing = false;
+        } else {
+            fit.more = fit.more.checked_add(comes - edit.remove)?;
         }
     }
-    true
+    Some(fit)
 }
 
 // Applies edits that bring as many events as they remove or more: the list has room for all at its end, behind the events that are
-// edited, and is filled from there.
+// edited, and is filled from there. Out of line, its loop has the registers to itself.
+#[inline(never)]
 fn spread(items: &mut Seq<Event>, edits: &Kept, count: usize)
     requires brought { AreBrought edits.now.comes.now edits.now.entries.now }
     requires apart { StandApart 0 count (edits_of edits.now) }
@@ -65,14 +59,18 @@ fn spread(items: &mut Seq<Event>, edits: &Kept, count: usize)
     requires plain { All NamesNone (take count items.old) }
     ensures { items.new ≡ edited (edits_of edits.now) (take count items.old) }
 {
+    let Kept {
+        entries,
+        comes: all,
+    } = *edits;
     let mut read = count;
     let mut end = items.len();
-    for index in (0..edits.entries.len()).rev() {
-        let edit = &edits.entries[index];
+    for index in (0..entries.len()).rev() {
+        let edit = &entries[index];
         let from = edit.at + edit.remove;
         end -= read - from;
         items.move_within(from, read, end);
-        let comes = brought(edits.comes, edit);
+        let comes = brought(all, edit);
         end -= comes.len();
         items.write(end, comes);
         read = edit.at;
@@ -92,7 +90,8 @@ fn move_to_end(items: &mut Seq<Event>, count: usize)
 }
 
 // Applies edits of the last `count` events of a list, which has room before them for what they bring beyond what they remove: it is filled from its
-// front.
+// front. Out of line, its loop has the registers to itself.
+#[inline(never)]
 fn fill(items: &mut Seq<Event>, edits: &Kept, count: usize)
     requires brought { AreBrought edits.now.comes.now edits.now.entries.now }
     requires apart { StandApart 0 count (edits_of edits.now) }
@@ -116,16 +115,17 @@ fn fill(items: &mut Seq<Event>, edits: &Kept, count: usize)
     items.truncate(end + (count - read));
 }
 
-// Applies edits of the first `count` events of a list, which has room for what they bring beyond what they remove. Where all grow, the events
+// Applies edits of the first `count` events of a list, which has room for what they bring beyond what they remove. Where all are known to grow, the events
 // before the first edit stay where they are.
-pub(crate) fn apply(items: &mut Seq<Event>, edits: &Kept, count: usize)
+pub(crate) fn apply(items: &mut Seq<Event>, edits: &Kept, count: usize, growing: bool)
     requires brought { AreBrought edits.now.comes.now edits.now.entries.now }
     requires apart { StandApart 0 count (edits_of edits.now) }
+    requires growing { IsTrue growing → AreGrowing (edits_of edits.now) }
     requires room { length items.old ≡ count + grown (edits_of edits.now) }
     requires plain { All NamesNone (take count items.old) }
     ensures { items.new ≡ edited (edits_of edits.now) (take count items.old) }
 {
-    if is_growing(edits) {
+    if growing {
         spread(items, edits, count);
     } else {
         move_to_end(items, count);
