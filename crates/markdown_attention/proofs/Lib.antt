@@ -27,6 +27,7 @@ pub mod RunEventEnds
 pub mod BracketAppends
 pub mod PairSizeSteps
 pub mod SizeNodeLemmas
+pub mod SolePairLemmas
 pub mod MarkerCodes
 pub mod AttentionTreeLabels
 pub mod ElementsHaveMarkerRuns

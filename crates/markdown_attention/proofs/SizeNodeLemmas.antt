@@ -1,7 +1,7 @@
 -- Sizes put into one list of nodes, and read from it.
 use Rattle.std.proofs.Common.{◌≡◌, ℕ, zero, suc, ◌+◌, ◌<◌, ◌≤◌, ◌==◌, Bool, true, false, if◌then◌else◌, List, [], ◌∷◌, length, map, replicate, get_or, set, refl, sym, ap, ◌∙◌, arith}
 use Rattle.std.proofs.lemmas.Bool.{ne_eqb, eq-eqb}
-use Rattle.std.proofs.lemmas.List.{get_or-map, map-set}
+use Rattle.std.proofs.lemmas.List.{get_or-map, map-set, length-map}
 use Rattle.std.proofs.lemmas.List.Elements.{All-head, All-tail}
 use Rattle.std.specs.List.{All}
 use Rattle.markdown_attention.specs.SizeNodes.{sizes_from, AreLinked}
@@ -39,6 +39,14 @@ put-first x xs ns run d l h e =
     let rest : sizes_from xs x.next ≡ get_or (map (sizes_from xs) ns) run [] = ap (sizes_from xs) e ∙ sym (get_or-map (sizes_from xs) ns run d [] l) in
     let first : sizes_from (x ∷ xs) (suc (length xs)) ≡ x.size ∷ get_or (map (sizes_from xs) ns) run [] = from-newest x xs (suc (length xs)) refl ∙ ap (λ ys. x.size ∷ ys) rest in
     map-set (sizes_from (x ∷ xs)) ns run (suc (length xs)) ∙ (λ i. set (all-older x xs ns h i) run (first i))
+
+-- the sizes of a run, whose first node is d
+pub sizes-of-run : (xs : List SizeNode) (ns : List ℕ) (lists : List (List ℕ)) (run d : ℕ) → map (sizes_from xs) ns ≡ lists → run < length lists → d ≡ get_or ns run d
+    → get_or lists run [] ≡ sizes_from xs d
+sizes-of-run xs ns lists run d v l e =
+    let seen : length (map (sizes_from xs) ns) ≡ length lists = ap length v in
+    let within : run < length ns = omega (arith, l, seen, length-map ns (sizes_from xs)) in
+    sym (ap (λ (ls : List (List ℕ)). get_or ls run []) v) ∙ get_or-map (sizes_from xs) ns run d [] within ∙ ap (sizes_from xs) (sym e)
 
 pub record Follows (xs : List SizeNode) (n : ℕ) (x : SizeNode) : Type 0 where
   pub sizes : sizes_from xs n ≡ x.size ∷ sizes_from xs x.next

@@ -17,4 +17,5 @@ pub mod RunsInOrder
 -- What serves proofs: what functions and proofs promise each other.
 pub mod PairSizes
 pub mod SizeNodes
+pub mod SolePairs
 pub mod RunSteps

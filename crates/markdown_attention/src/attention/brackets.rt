@@ -58,17 +58,51 @@ fn shifted(point: Point, by: usize) -> Point
     }
 }
 
-// Appends an event without a link.
-fn push(events: &mut Vec<Event>, kind: Kind, name: Name, point: Point) -> Result<(), AllocError>
-    ensures { OnOk result (events.new.items ≡ events.old.items ++ event kind name point ∷ []) }
+// An event without a link.
+#[inline(always)]
+fn event(kind: Kind, name: Name, point: Point) -> Event
+    ensures { result ≡ event kind name point }
 {
-    events.push(Event {
+    Event {
         kind,
         name,
         point,
         link: None,
-    })?;
-    Ok(())
+    }
+}
+
+/// The events of a closing bracket.
+#[inline(always)]
+pub(crate) fn closing(marker: u8, from: Point, size: usize) -> [Event; 4]
+    requires column { from.column + size < 2 ^ 64 }
+    requires index { from.index + size < 2 ^ 64 }
+    ensures { result ≡ closing_at marker from size }
+{
+    let names = pair_names(marker, size);
+    let to = shifted(from, size);
+    [
+        event(Kind::Exit, names.text, from),
+        event(Kind::Enter, names.sequence, from),
+        event(Kind::Exit, names.sequence, to),
+        event(Kind::Exit, names.group, to),
+    ]
+}
+
+/// The events of an opening bracket.
+#[inline(always)]
+pub(crate) fn opening(marker: u8, from: Point, size: usize) -> [Event; 4]
+    requires column { from.column + size < 2 ^ 64 }
+    requires index { from.index + size < 2 ^ 64 }
+    ensures { result ≡ opening_at marker from size }
+{
+    let names = pair_names(marker, size);
+    let to = shifted(from, size);
+    [
+        event(Kind::Enter, names.group, from),
+        event(Kind::Enter, names.sequence, from),
+        event(Kind::Exit, names.sequence, to),
+        event(Kind::Enter, names.text, to),
+    ]
 }
 
 // Appends the events of a closing bracket, and answers where it ends.
@@ -83,13 +117,8 @@ fn push_closing(
     ensures end { IfOk result (λ p. p ≡ shifted from size) }
     ensures events { OnOk result (events.new.items ≡ events.old.items ++ closing_at marker from size) }
 {
-    let names = pair_names(marker, size);
-    let to = shifted(from, size);
-    push(events, Kind::Exit, names.text, from)?;
-    push(events, Kind::Enter, names.sequence, from)?;
-    push(events, Kind::Exit, names.sequence, to)?;
-    push(events, Kind::Exit, names.group, to)?;
-    Ok(to)
+    events.extend_from_slice(&closing(marker, from, size))?;
+    Ok(shifted(from, size))
 }
 
 // Appends the events of an opening bracket, and answers where it ends.
@@ -104,13 +133,8 @@ fn push_opening(
     ensures end { IfOk result (λ p. p ≡ shifted from size) }
     ensures events { OnOk result (events.new.items ≡ events.old.items ++ opening_at marker from size) }
 {
-    let names = pair_names(marker, size);
-    let to = shifted(from, size);
-    push(events, Kind::Enter, names.group, from)?;
-    push(events, Kind::Enter, names.sequence, from)?;
-    push(events, Kind::Exit, names.sequence, to)?;
-    push(events, Kind::Enter, names.text, to)?;
-    Ok(to)
+    events.extend_from_slice(&opening(marker, from, size))?;
+    Ok(shifted(from, size))
 }
 
 // Appends the events of markers that no pair takes, and answers where they end.
@@ -122,8 +146,8 @@ fn push_data(events: &mut Vec<Event>, from: Point, size: usize) -> Result<Point,
 {
     let to = shifted(from, size);
     if size > 0 {
-        push(events, Kind::Enter, Name::Data, from)?;
-        push(events, Kind::Exit, Name::Data, to)?;
+        events.push(event(Kind::Enter, Name::Data, from))?;
+        events.push(event(Kind::Exit, Name::Data, to))?;
     }
     Ok(to)
 }

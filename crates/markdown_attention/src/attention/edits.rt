@@ -1,22 +1,109 @@
 // The edits of the pass: one for each run.
 #![tactic(auto)]
 
-ghost use Rattle.std.specs.Prelude.{◌≡◌, ◌<◌, [], OnOk, true, false, ℕ, length};
+ghost use Rattle.std.specs.Prelude.{◌≡◌, ◌<◌, ◌++◌, ◌∷◌, [], OnOk, true, false, ℕ, length, slice_index_or};
 ghost use Rattle.std.specs.List.{All};
 ghost use Rattle.markdown_attention.specs.NumberedPairs.{run_at};
 ghost use Rattle.markdown_engine_events.specs.Edits.{CanEdit, edited};
 ghost use Rattle.markdown_attention.specs.RunEdits.{edits_by, run_edits, point_in};
 ghost use Rattle.markdown_attention.specs.PairSizes.{side_of, HasRoom, HasRoomFor, added_for};
+ghost use Rattle.markdown_attention.specs.SolePairs.{IsSole, HasRoomFrom, edit_from};
 
-use crate::attention::brackets::run_events;
+use crate::attention::brackets::{closing, opening, run_events};
 use crate::attention::pairing::Pair;
 use crate::attention::runs::Sequence;
 use crate::attention::sizes::Sizes;
+use markdown_engine_content::event::{Event, Point};
 use markdown_engine_events::events::Events;
 use markdown_engine_events::util::edit_map::EditMap;
 use std::alloc::{AllocError, Global};
 
-// Adds an edit for each run: its events go, and those that its pairs make of it come.
+// How one pair takes all markers of a run.
+#[derive(Clone, Copy)]
+enum Sole {
+    // The run is its closer; the size.
+    Closing(usize),
+    // The run is its opener; the size.
+    Opening(usize),
+    // Markers are left, or there are more pairs.
+    Neither,
+}
+
+// Whether one pair takes all markers of a run.
+fn sole_pair(run: &Sequence, fronts: &Sizes, backs: &Sizes) -> Sole
+    requires front { run.now.number < length fronts.now }
+    requires back { run.now.number < length backs.now }
+    ensures { IsSole result (slice_index_or fronts.now run.now.number []) run.now.remaining (slice_index_or backs.now run.now.number []) }
+{
+    if run.remaining > 0 {
+        return Sole::Neither;
+    }
+    if backs.is_none(run.number) {
+        return match fronts.sole(run.number) {
+            Some(size) => Sole::Closing(size),
+            None => Sole::Neither,
+        };
+    }
+    match backs.sole(run.number) {
+        Some(size) if fronts.is_none(run.number) => Sole::Opening(size),
+        _ => Sole::Neither,
+    }
+}
+
+// Lists that the edits of runs are made in, one after another, so that each takes no memory of its own.
+#[derive(Drop)]
+struct Lists {
+    added: Vec<Event>,
+    front: Vec<usize>,
+    back: Vec<usize>,
+}
+
+// Adds the edit of a run, whatever pairs take of it. It is kept out of line, so that the runs that one pair takes whole do not pay for it.
+#[inline(never)]
+fn edit_any(
+    map: &mut EditMap,
+    lists: &mut Lists,
+    run: &Sequence,
+    from: Point,
+    fronts: &Sizes,
+    backs: &Sizes,
+) -> Result<(), AllocError>
+    requires { HasRoomFrom from fronts.now backs.now run.now }
+    ensures { OnOk result (map.new ≡ map.old ++ edit_from from fronts.now backs.now run.now ∷ []) }
+{
+    fronts.read(run.number, &mut lists.front)?;
+    backs.read(run.number, &mut lists.back)?;
+    run_events(
+        &mut lists.added,
+        run.marker,
+        from,
+        &lists.front,
+        run.remaining,
+        &lists.back,
+    )?;
+    map.add_slice(run.event, 2, &lists.added)
+}
+
+// Adds the edit of a run: its events go, and those that its pairs make of it come. One pair takes most runs whole; its events need no list.
+fn edit_run(
+    map: &mut EditMap,
+    lists: &mut Lists,
+    run: &Sequence,
+    from: Point,
+    fronts: &Sizes,
+    backs: &Sizes,
+) -> Result<(), AllocError>
+    requires { HasRoomFrom from fronts.now backs.now run.now }
+    ensures { OnOk result (map.new ≡ map.old ++ edit_from from fronts.now backs.now run.now ∷ []) }
+{
+    match sole_pair(run, fronts, backs) {
+        Sole::Closing(size) => map.add_slice(run.event, 2, &closing(run.marker, from, size)),
+        Sole::Opening(size) => map.add_slice(run.event, 2, &opening(run.marker, from, size)),
+        Sole::Neither => edit_any(map, lists, run, from, fronts, backs),
+    }
+}
+
+// Adds an edit for each run.
 fn edit_runs(
     alloc: Global,
     events: &Events,
@@ -29,22 +116,14 @@ fn edit_runs(
     requires room { (i : ℕ) → i < length runs.now → HasRoom events.now fronts.now backs.now (run_at runs.now i) }
     ensures { OnOk result (map.new ≡ edits_by (added_for events.now fronts.now backs.now) runs.now) }
 {
-    let mut added = Vec::new(alloc);
-    let mut front = Vec::new(alloc);
-    let mut back = Vec::new(alloc);
+    let mut lists = Lists {
+        added: Vec::new(alloc),
+        front: Vec::new(alloc),
+        back: Vec::new(alloc),
+    };
     for run in runs {
-        let enter = events.bare_at(run.event);
-        fronts.read(run.number, &mut front)?;
-        backs.read(run.number, &mut back)?;
-        run_events(
-            &mut added,
-            run.marker,
-            enter.point,
-            &front,
-            run.remaining,
-            &back,
-        )?;
-        map.add_slice(run.event, 2, &added)?;
+        let from = events.bare_at(run.event).point;
+        edit_run(map, &mut lists, run, from, fronts, backs)?;
     }
     Ok(())
 }

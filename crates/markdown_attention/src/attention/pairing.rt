@@ -306,10 +306,10 @@ pub fn pair_runs(
     ensures half { IfOk result (λ pairs. 2 * length pairs.items ≤ markers_left runs.old.list) }
 {
     let rows = row_count(runs)?;
-    let mut pairs = Vec::new(alloc);
+    let mut pairs = Vec::with_capacity(alloc, runs.len() / 2)?;
     let mut heads = empty_lists(alloc, rows)?;
     let mut marks = zeros(alloc, rows, 18)?;
-    let mut older = Vec::new(alloc);
+    let mut older = Vec::with_capacity(alloc, runs.len())?;
     while let Some(closer) = runs.closer() {
         let row = row_number(closer.text);
         let list = list_of(closer);

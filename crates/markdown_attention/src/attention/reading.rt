@@ -1,10 +1,9 @@
 //! Reading the runs of markers off the events.
 
-ghost use Rattle.std.specs.Prelude.{◌≡◌, ℕ, ◌+◌, ◌<◌, ◌≤◌, ◌^◌, ◌++◌, length, drop, slice_index_or, count_by, false, IfOk, OnOk, IsUtf8, None};
+ghost use Rattle.std.specs.Prelude.{◌≡◌, ℕ, ◌+◌, ◌<◌, ◌≤◌, ◌^◌, ◌++◌, length, drop, slice_index_or, count_by, false, IfOk, OnOk, IsUtf8, Option, None};
 ghost use Rattle.markdown_attention.specs.RunsRead.{opens_run, opens_text, is_beside_marker, is_flanking, may_act, sequence_at, where_after, outermost, first_run, runs_from, IsRunPlace, FirstHasPlaces, HaveRunPlaces};
 ghost use Rattle.markdown_attention.specs.RunSteps.{changes_reading};
 ghost use Rattle.markdown_attention.specs.PairScan.{Numbered};
-ghost use Rattle.markdown_model.specs.GfmAutolinkLiteral.{is_other};
 ghost use Rattle.markdown_util.specs.Neighbours.{class_of};
 
 use crate::attention::runs::Sequence;
@@ -13,13 +12,6 @@ use markdown_engine_events::events::Events;
 use markdown_lists::seq::Stack;
 use markdown_util::util::char::{self, Kind as CharacterKind};
 use std::alloc::{AllocError, Global};
-
-// Whether a character is of class other.
-fn is_other(beside: Option<char>) -> bool
-    ensures { result ≡ is_other (class_of beside) }
-{
-    matches!(char::classify_opt(beside), CharacterKind::Other)
-}
 
 // Whether another marker stands beside a run of `*` or `_`.
 fn is_beside_marker(tildes: bool, marker: u8, beside: Option<char>) -> bool
@@ -32,23 +24,30 @@ fn is_beside_marker(tildes: bool, marker: u8, beside: Option<char>) -> bool
     }
 }
 
-// Whether a run is left-flanking, by the characters before and after it; with these exchanged, right-flanking.
-fn is_flanking(tildes: bool, marker: u8, before: Option<char>, after: Option<char>) -> bool
-    ensures { result ≡ is_flanking tildes marker before after }
+// Whether a run is left-flanking, by the classes of the characters before and after it, and the character after it; with before and after
+// exchanged, right-flanking.
+fn is_flanking(
+    tildes: bool,
+    marker: u8,
+    before: CharacterKind,
+    after: CharacterKind,
+    beside: Option<char>,
+) -> bool
+    ensures { (b : Option ℕ) → before ≡ class_of b → after ≡ class_of beside → result ≡ is_flanking tildes marker b beside }
 {
-    let flanks = match char::classify_opt(after) {
+    let flanks = match after {
         CharacterKind::Other => true,
-        CharacterKind::Punctuation => !is_other(before),
+        CharacterKind::Punctuation => !matches!(before, CharacterKind::Other),
         CharacterKind::Whitespace => false,
     };
-    flanks || is_beside_marker(tildes, marker, after)
+    flanks || is_beside_marker(tildes, marker, beside)
 }
 
 // Whether a run may open or close: a run of `_` that is flanking on both sides needs a character beside it that is not of class other.
-fn may_act(marker: u8, beside: Option<char>, here: bool, there: bool) -> bool
-    ensures { result ≡ may_act marker beside here there }
+fn may_act(marker: u8, beside: CharacterKind, here: bool, there: bool) -> bool
+    ensures { (b : Option ℕ) → beside ≡ class_of b → result ≡ may_act marker b here there }
 {
-    here && (marker != b'_' || !is_other(beside) || !there)
+    here && (marker != b'_' || !matches!(beside, CharacterKind::Other) || !there)
 }
 
 // The text of a label: the number of its Enter event, and its number among the texts, which are counted from 0 in the order in which they
@@ -76,8 +75,10 @@ fn sequence_at(
     let marker = bytes[from.index];
     let before = char::before_index(bytes, from.index);
     let after = char::after_index(bytes, to.index);
-    let left = is_flanking(tildes, marker, before, after);
-    let right = is_flanking(tildes, marker, after, before);
+    let kind_before = char::classify_opt(before);
+    let kind_after = char::classify_opt(after);
+    let left = is_flanking(tildes, marker, kind_before, kind_after, after);
+    let right = is_flanking(tildes, marker, kind_after, kind_before, before);
     let size = to.index - from.index;
     Sequence {
         number,
@@ -87,8 +88,8 @@ fn sequence_at(
         marker,
         size,
         remaining: size,
-        may_open: may_act(marker, before, left, right),
-        may_close: may_act(marker, after, right, left),
+        may_open: may_act(marker, kind_before, left, right),
+        may_close: may_act(marker, kind_after, right, left),
     }
 }
 
@@ -163,17 +164,17 @@ fn read_event(
     Ok(())
 }
 
-// Whether the event changes what is read: the Enter of a run, or one of the text of a label. The name is looked at first, since most events have
-// another.
+// The number of the name of a label's text. The name of a run has the number 0, and no other name has a multiple of this one.
+const STEP: u8 = Name::LabelText as u8;
+
+// Whether the event changes what is read: the Enter of a run, or one of the text of a label. Most events have another name, and one test of its
+// number passes them, which is faster than a test for each name.
 #[inline(always)]
 fn changes_reading(event: &Event) -> bool
     ensures { result ≡ changes_reading event.now }
 {
-    match event.name {
-        Name::LabelText => true,
-        Name::AttentionSequence => matches!(event.kind, Kind::Enter),
-        _ => false,
-    }
+    let number = event.name as u8;
+    number % STEP == 0 && (number > 0 || matches!(event.kind, Kind::Enter))
 }
 
 // How many events are looked at with no other look between.

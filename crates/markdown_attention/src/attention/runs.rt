@@ -92,6 +92,13 @@ impl Runs {
         }
     }
 
+    /// How many runs there are.
+    pub(crate) fn len(&self) -> usize
+        ensures { result ≡ length self.now.list }
+    {
+        self.list.len()
+    }
+
     /// How many texts of labels there are: each run stands in one of them, or in none.
     pub fn texts(&self) -> usize
         ensures is { result ≡ self.now.texts }

@@ -1,7 +1,7 @@
 // The sizes of the pairs of each run.
 #![tactic(auto)]
 
-ghost use Rattle.std.specs.Prelude.{◌≡◌, ◌<◌, ◌∷◌, [], IfOk, OnOk, length, replicate, slice_index_or, slice_set};
+ghost use Rattle.std.specs.Prelude.{◌≡◌, ◌<◌, ◌∷◌, [], IfOk, IfSome, IsTrue, OnOk, length, replicate, slice_index_or, slice_set};
 ghost use Rattle.std.specs.List.{All};
 ghost use Rattle.markdown_attention.specs.PairSizes.{side_of, AreSizes};
 
@@ -79,6 +79,31 @@ impl Sizes {
             sizes.push_first(side_of(pair, closers), pair.size)?;
         }
         Ok(sizes)
+    }
+
+    /// Whether a run has no sizes.
+    pub(crate) fn is_none(&self, run: usize) -> bool
+        requires { run < length self.now }
+        ensures { IsTrue result → slice_index_or self.now run [] ≡ [] }
+    {
+        self.firsts[run] == 0
+    }
+
+    /// The size of a run that has one, and no other.
+    pub(crate) fn sole(&self, run: usize) -> Option<usize>
+        requires { run < length self.now }
+        ensures { IfSome result (λ k. slice_index_or self.now run [] ≡ k ∷ []) }
+    {
+        let at = self.firsts[run];
+        if at == 0 {
+            return None;
+        }
+        let node = *self.nodes.at(self.nodes.len() - at);
+        if node.next == 0 {
+            Some(node.size)
+        } else {
+            None
+        }
     }
 
     /// Puts the sizes of a run in place of those that a list had.

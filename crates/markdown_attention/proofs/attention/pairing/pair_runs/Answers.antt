@@ -15,7 +15,7 @@ pub loop-closer-init : goal.loop-closer-init
 loop-closer-init c =
     let hs = c.in_ok-heads.ensures in
     let ms = c.in_ok-marks.ensures in
-    rw (hs, ms, c.new-older.ensures.items, c.new-pairs.ensures.items, c.requires.start, c.requires.unread)
+    rw (hs, ms, c.in_ok-older.ensures.items, c.in_ok-pairs.ensures.items, c.requires.start, c.requires.unread)
     (record {
       inv = inv_start c.args.options c.args.runs.now.list _ _ c.requires.whole (zeros (c.in_ok-rows.rows * 3)) (zeros (c.in_ok-rows.rows * 18));
       heads_length = length-replicate (c.in_ok-rows.rows * 3) 0;

@@ -1,0 +1,31 @@
+-- The edit of one run, by its sizes; and the runs that one pair takes whole.
+use Rattle.std.specs.Prelude.{◌≡◌, ℕ, ◌+◌, ◌<◌, ◌^◌, List, [], ◌∷◌, length, slice_index_or, false}
+use Rattle.markdown_engine_content.specs.declared.event.Point.{Point}
+use Rattle.markdown_engine_events.specs.declared.util.edit_map.Edit.{Edit}
+use Rattle.markdown_attention.specs.declared.attention.edits.Sole.{Sole}
+use Rattle.markdown_attention.specs.declared.attention.edits.Sole.TheVariants as S
+use Rattle.markdown_attention.specs.declared.attention.runs.Sequence.{Sequence}
+use Rattle.markdown_attention.specs.RunEvents.{total, marker_events}
+
+-- of the sizes that pairs take of a run as their closer, of the markers that are left, and of the sizes that pairs take of it as their opener
+abbrev pub IsSole : Sole → List ℕ → ℕ → List ℕ → Type 0
+IsSole (S.Closing k) fronts kept backs = (fronts ≡ k ∷ []) × ((kept ≡ 0) × (backs ≡ []))
+IsSole (S.Opening k) fronts kept backs = (fronts ≡ []) × ((kept ≡ 0) × (backs ≡ k ∷ []))
+IsSole S.Neither fronts kept backs = Unit {0}
+
+-- there is room for a run's markers from this place on
+pub record HasRoomFrom (p : Point) (fronts backs : List (List ℕ)) (r : Sequence) : Type 0 where
+  pub front : r.number < length fronts
+  pub back : r.number < length backs
+  pub column : p.column + (total (slice_index_or fronts r.number []) + r.remaining + total (slice_index_or backs r.number [])) < 2 ^ 64
+  pub index : p.index + (total (slice_index_or fronts r.number []) + r.remaining + total (slice_index_or backs r.number [])) < 2 ^ 64
+
+-- the edit of a run that stands at this place
+abbrev pub edit_from : Point → List (List ℕ) → List (List ℕ) → Sequence → Edit
+edit_from p fronts backs r =
+    record {
+      at = r.event;
+      remove = 2;
+      events = marker_events r.marker p (slice_index_or fronts r.number []) r.remaining (slice_index_or backs r.number []);
+      before = false;
+    }
