@@ -1,7 +1,6 @@
 -- Events in which no data stands right behind other data: merging makes no edit.
-use Rattle.std.proofs.Common.{◌≡◌, ℕ, zero, suc, ◌+◌, ◌-◌, ◌<◌, ◌≤◌, ◌&&◌, ◌||◌, Bool, true, false, List, [], ◌∷◌, length, drop, get_or, None, refl, sym, ap, ◌∙◌, arith, inl, inr}
+use Rattle.std.proofs.Common.{◌≡◌, ℕ, zero, suc, ◌+◌, ◌-◌, ◌<◌, ◌≤◌, ◌&&◌, ◌||◌, nat_le, Bool, true, false, List, [], ◌∷◌, length, drop, get_or, None, refl, sym, ap, ◌∙◌, arith}
 use Rattle.std.proofs.Math.Bool.{and-false}
-use Rattle.std.proofs.lemmas.Bool.{cases_lt}
 use Rattle.std.proofs.lemmas.List.{drop_more}
 use Rattle.markdown_engine.specs.PastTree.{appended_from}
 use Rattle.markdown_engine_content.specs.Tree.{Forest}
@@ -9,9 +8,9 @@ use Rattle.markdown_engine_content.specs.declared.event.Event.{Event}
 use Rattle.markdown_engine_events.specs.Edits.{edited}
 use Rattle.markdown_engine_events.proofs.EditRules.{edited-nil}
 use Rattle.markdown_model.specs.Passes.{merged}
-use Rattle.markdown_partial.specs.MergedEvents.{opens_data, closes_data, opening, joint, marked, joints, HasData}
+use Rattle.markdown_partial.specs.MergedEvents.{opens_data, closes_data, opening, joint, ends_joint, marked, joints, HasData}
 use Rattle.markdown_partial.proofs.DataSearch.{BeginsNone, event-at}
-use Rattle.markdown_partial.proofs.MergeEdits.{marks-begin, marks-on, marks-end}
+use Rattle.markdown_partial.proofs.MergeEdits.{ends-few, marks-begin, marks-past, marks-end}
 use Rattle.markdown_partial.proofs.MergePassLaw.{merged-events}
 use Rattle.markdown_partial.specs.TrimmedEvents.{flag, loses_first}
 use Rattle.markdown_leaf_email_pass.specs.EmailEdits.{begins_signed}
@@ -32,12 +31,12 @@ no-joint (suc j) [] h = refl
 no-joint (suc j) (e ∷ es) h = no-joint j es h
 
 -- where no Exit of data stands before the event, none ends there
-unmarked : (i : ℕ) (es : List Event) → 2 ≤ i → follows_data i es ≡ false → marked (joint (drop (i - 2) es)) (i - 1) ≡ []
-unmarked zero es l h = absurd (omega (arith, l))
-unmarked (suc zero) es l h = absurd (omega (arith, l))
-unmarked (suc (suc j)) es l h =
+none-ends : (i : ℕ) (es : List Event) → follows_data i es ≡ false → ends_joint i es ≡ false
+none-ends zero es h = sym (ends-few zero es (omega arith))
+none-ends (suc zero) es h = sym (ends-few (suc zero) es (omega arith))
+none-ends (suc (suc j)) es h =
     let same : suc (suc j) - 2 ≡ j = omega arith in
-    ap (λ n. marked (joint (drop n es)) (suc (suc j) - 1)) same ∙ ap (λ b. marked b (suc (suc j) - 1)) (no-joint j es h)
+    ap (λ n. nat_le 2 (suc (suc j)) && joint (drop n es)) same ∙ ap (λ b. nat_le 2 (suc (suc j)) && b) (no-joint j es h) ∙ and-false (nat_le 2 (suc (suc j)))
 
 pub unjoined-start : (k : ℕ) (es : List Event) → k ≤ length es → BeginsNone es 0 k → IsUnjoined es k
 unjoined-start k es l none = marks-begin 0 k es [] (omega arith) (omega arith) l none refl
@@ -45,10 +44,7 @@ unjoined-start k es l none = marks-begin 0 k es [] (omega arith) (omega arith) l
 pub unjoined-next : (i k : ℕ) (es : List Event) → i < length es → follows_data i es ≡ false → i + 1 ≤ k → k ≤ length es →
     BeginsNone es (i + 1) k → IsUnjoined es i → IsUnjoined es k
 unjoined-next i k es here apart l within none h =
-    elim (cases_lt i 2) [
-      | inl few ↦ marks-begin (i + 1) k es [] (omega (arith, few)) l within none refl
-      | inr two ↦ marks-on i k es [] [] two here l within none (sym (unmarked i es two apart)) h
-    ]
+    marks-past i k es [] [] here l within none (ap (λ b. marked b (i - 1)) (sym (none-ends i es apart))) h
 
 -- then merging leaves them
 pub unjoined-end : (i : ℕ) (es : List Event) → length es ≤ i → IsUnjoined es i → (t : Forest) → HasData t →

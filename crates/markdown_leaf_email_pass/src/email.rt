@@ -19,11 +19,12 @@
 // Definition: `with_emails_apart` in `markdown_model/specs/Passes.antt`, by `with_emails` in `GfmEmailLiteral.antt`.
 #![tactic(auto)]
 
-ghost use Rattle.std.specs.Prelude.{◌≡◌, ◌<◌, ◌≤◌, ◌+◌, ◌^◌, ◌++◌, [], None, length, drop, OnOk, OnErr, IsTrue, IsFalse};
+ghost use Rattle.std.specs.Prelude.{◌≡◌, ◌<◌, ◌≤◌, ◌+◌, ◌^◌, ◌++◌, [], None, length, drop, OnOk, OnErr, IsTrue, IsFalse, true, slice_index_or};
 ghost use Rattle.markdown_engine_content.specs.Content.{document_limit};
 ghost use Rattle.markdown_engine.specs.PastTree.{appended_from};
 ghost use Rattle.markdown_engine_content.specs.Tree.{Forest};
 ghost use Rattle.markdown_model.specs.Passes.{with_emails_apart};
+ghost use Rattle.markdown_partial.specs.MergedEvents.{opens_data};
 ghost use Rattle.markdown_partial.specs.TrimmedEvents.{FirstHasPlaces, HasPlaces, HasParts};
 ghost use Rattle.markdown_leaf_email_pass.specs.EmailEdits.{begins_signed, links_after, mail_first, mails};
 
@@ -76,20 +77,18 @@ fn mail_first(
     Ok(())
 }
 
-// Whether data with an `@` begins at this event.
+// Whether data that begins at this event has an `@`.
 pub(crate) fn begins_signed(bytes: &[u8], events: &Events, index: usize) -> bool
     requires fits { length bytes.now ≤ document_limit }
     requires within { index < length events.now }
     requires counted { length events.now < 2 ^ 64 }
     requires places { FirstHasPlaces bytes.now (drop index events.now) }
+    requires opens { (e : Event) → opens_data (slice_index_or events.now index e) ≡ true }
     ensures { result ≡ begins_signed bytes.now (drop index events.now) }
 {
     let enter = events.bare_at(index);
-    if opens_data(&enter) {
-        let exit = events.bare_at(index + 1);
-        return has_sign(bytes, enter.point, exit.point);
-    }
-    false
+    let exit = events.bare_at(index + 1);
+    has_sign(bytes, enter.point, exit.point)
 }
 
 // Whether there is data with an `@`: where there is none, no edit is made.

@@ -17,7 +17,7 @@ use crate::email::begins_signed;
 use markdown_engine_content::event::{Event, Kind, Name};
 use markdown_engine_events::events::Events;
 use markdown_partial::partial_data::next_data;
-use markdown_partial::partial_whitespace::loses_first;
+use markdown_partial::partial_whitespace::data_loses;
 
 /// Whether no data loses blank codes, and none has an `@`. Then trimming and setting emails apart leave the events as they are, whether or not
 /// hard breaks are looked for; `whole` says that the start and the end of the whole are trimmed too.
@@ -33,7 +33,7 @@ pub fn is_settled(bytes: &[u8], events: &Events, whole: bool) -> bool
     let count = events.len();
     let mut index = next_data(events, 0);
     while index < count {
-        if loses_first(bytes, events, index, whole) || begins_signed(bytes, events, index) {
+        if data_loses(bytes, events, index, whole) || begins_signed(bytes, events, index) {
             return false;
         }
         index = next_data(events, index + 1);
@@ -80,7 +80,7 @@ pub fn is_final(bytes: &[u8], events: &Events) -> bool
     let mut index = next_data(events, 0);
     while index < count {
         if follows_data(events, index)
-            || loses_first(bytes, events, index, true)
+            || data_loses(bytes, events, index, true)
             || begins_signed(bytes, events, index)
         {
             break;

@@ -1,7 +1,7 @@
 -- the edits of neighbouring data, one by one
-use Rattle.std.proofs.Common.{◌≡◌, ◌≢◌, ℕ, zero, suc, ◌+◌, ◌-◌, ◌<◌, ◌≤◌, ◌&&◌, ◌||◌, not, nat_lt, Bool, true, false, List, [], ◌∷◌, ◌++◌, length, drop, get_or, refl, sym, ap, ◌∙◌, arith, append_assoc, append-nil, length-drop, inl, inr}
+use Rattle.std.proofs.Common.{◌≡◌, ◌≢◌, ℕ, zero, suc, ◌+◌, ◌-◌, ◌<◌, ◌≤◌, ◌&&◌, ◌||◌, not, nat_lt, nat_le, Bool, true, false, List, [], ◌∷◌, ◌++◌, length, drop, get_or, refl, sym, ap, ◌∙◌, arith, append_assoc, append-nil, length-drop, inl, inr}
 use Rattle.std.proofs.Math.Bool.{or-false, and-false}
-use Rattle.std.proofs.lemmas.Bool.{both_ways, cases_lt, eq-eqb, ne_eqb}
+use Rattle.std.proofs.lemmas.Bool.{both_ways, cases_lt, eq-eqb, le-leb, ne_eqb}
 use Rattle.std.proofs.lemmas.List.{drop_more}
 use Rattle.std.proofs.lemmas.List.Elements.{All-nil, All-cons}
 use Rattle.std.proofs.lemmas.Bool.Decides.{nat_tests}
@@ -11,7 +11,7 @@ use Rattle.markdown_engine_content.specs.ListFunctions.{rest_of}
 use Rattle.std.specs.List.{All}
 use Rattle.markdown_engine_content.specs.declared.event.Event.{Event}
 use Rattle.markdown_engine_events.specs.declared.util.edit_map.Edit.{Edit}
-use Rattle.markdown_partial.specs.MergedEvents.{is_enter, is_data, opens_data, closes_data, opening, closing, joint, joints, marked, removal}
+use Rattle.markdown_partial.specs.MergedEvents.{is_enter, is_data, opens_data, closes_data, opening, closing, joint, ends_joint, joints, marked, removal}
 use Rattle.markdown_engine_content.proofs.PlaceRules.{drop-more}
 use Rattle.markdown_partial.proofs.DataSearch.{BeginsNone, event-at}
 
@@ -97,14 +97,6 @@ joints-next i es h l = next (drop (i - 2) es) (drop (i + 1 - 2) es) (i - 2) (i -
     rest-drop-next : (n k : ℕ) (xs : List Event) → k ≡ n + 1 → drop k xs ≡ drop 1 (drop n xs)
     rest-drop-next n k xs e = let same : k ≡ suc n = omega (arith, e) in ap (λ m. drop m xs) same ∙ drop-more n xs
 
-marks-more : (i : ℕ) (es : List Event) (old new : List Edit) → 2 ≤ i → i < length es →
-    new ≡ old ++ marked (joint (drop (i - 2) es)) (i - 1) → old ++ joints (i - 2) (drop (i - 2) es) ≡ joints 0 es →
-    new ++ joints (i + 1 - 2) (drop (i + 1 - 2) es) ≡ joints 0 es
-marks-more i es old new h l e k =
-    let here : List Edit = marked (joint (drop (i - 2) es)) (i - 1) in
-    let more : List Edit = joints (i + 1 - 2) (drop (i + 1 - 2) es) in
-    ap (λ x. x ++ more) e ∙ append_assoc old here more ∙ ap (λ x. old ++ x) (sym (joints-next i es h l)) ∙ k
-
 -- where no data begins from a place up to another, no joint ends there
 joints-pass : (d i k : ℕ) (es : List Event) → k ≡ i + d → k ≤ length es → BeginsNone es i k →
     joints (i - 2) (drop (i - 2) es) ≡ joints (k - 2) (drop (k - 2) es)
@@ -129,11 +121,54 @@ marks-begin first k es log few l h none e =
     ∙ sym (joints-pass (k - first) first k es (omega (arith, l)) h none)
     ∙ ap (λ n. joints n (drop n es)) (sym zeroth)
 
-pub marks-on : (i k : ℕ) (es : List Event) (old new : List Edit) → 2 ≤ i → i < length es → i + 1 ≤ k → k ≤ length es → BeginsNone es (i + 1) k →
-    new ≡ old ++ marked (joint (drop (i - 2) es)) (i - 1) → old ++ joints (i - 2) (drop (i - 2) es) ≡ joints 0 es →
+-- none ends at the first two events
+pub ends-few : (i : ℕ) (es : List Event) → i < 2 → false ≡ ends_joint i es
+ends-few i es l = ap (λ b. b && joint (drop (i - 2) es)) (sym (low i l))
+  where
+    low : (i : ℕ) → i < 2 → nat_le 2 i ≡ false
+    low i l = grind (arith, nat_tests)
+
+ends-late : (i : ℕ) (es : List Event) → 2 ≤ i → joint (drop (i - 2) es) ≡ ends_joint i es
+ends-late i es l = ap (λ b. b && joint (drop (i - 2) es)) (sym (le-leb 2 i l))
+
+-- where data begins, one ends by the two events before
+pub ends-is : (i j k : ℕ) (es : List Event) (a b : Event) (x y : Bool) → 2 ≤ k → i ≡ k - 2 → j ≡ k - 1 → k < length es → ((e : Event) → opens_data (get_or es k e) ≡ true)
+    → a ≡ get_or es i a → b ≡ get_or es j b → x ≡ opens_data a → y ≡ closes_data b → x && y ≡ ends_joint k es
+ends-is i j k es a b x y two p q l o e f u v =
+    let at = event-at k es l in
+    joint-two es i j k a b at.0 x y true (omega (arith, two, p, q)) (omega (arith, two, p)) l e f at.1 u v (sym (ap opens_data at.1 ∙ o at.0)) refl
+    ∙ ap (λ n. joint (drop n es)) p
+    ∙ ends-late k es two
+
+-- and none without an Exit of data before it
+pub ends-not : (j k : ℕ) (es : List Event) (b : Event) (y : Bool) → 2 ≤ k → j ≡ k - 1 → k < length es → ((e : Event) → opens_data (get_or es k e) ≡ true)
+    → b ≡ get_or es j b → y ≡ closes_data b → y ≡ false → false ≡ ends_joint k es
+ends-not j k es b y two q l o f v off =
+    let at = event-at (k - 2) es (omega (arith, two, l)) in
+    sym (and-false (opens_data at.0)) ∙ ap (λ z. opens_data at.0 && z) (sym off) ∙ ends-is (k - 2) j k es at.0 b (opens_data at.0) y two refl q l o at.1 f refl v
+
+joints-step : (i : ℕ) (es : List Event) → i < length es →
+    joints (i - 2) (drop (i - 2) es) ≡ marked (ends_joint i es) (i - 1) ++ joints (i + 1 - 2) (drop (i + 1 - 2) es)
+joints-step i es l =
+    let rest : List Edit = joints (i + 1 - 2) (drop (i + 1 - 2) es) in
+    elim (cases_lt i 2) [
+      | inl low ↦
+          let same : i - 2 ≡ i + 1 - 2 = omega (arith, low) in
+          ap (λ n. joints n (drop n es)) same ∙ ap (λ b. marked b (i - 1) ++ rest) (ends-few i es low)
+      | inr two ↦ joints-next i es two l ∙ ap (λ b. marked b (i - 1) ++ rest) (ends-late i es two)
+    ]
+
+-- past one event at which data begins, and others at which none does
+pub marks-past : (i k : ℕ) (es : List Event) (old new : List Edit) → i < length es → i + 1 ≤ k → k ≤ length es → BeginsNone es (i + 1) k →
+    new ≡ old ++ marked (ends_joint i es) (i - 1) → old ++ joints (i - 2) (drop (i - 2) es) ≡ joints 0 es →
     new ++ joints (k - 2) (drop (k - 2) es) ≡ joints 0 es
-marks-on i k es old new two here l h none e all =
-    ap (λ x. new ++ x) (sym (joints-pass (k - (i + 1)) (i + 1) k es (omega (arith, l)) h none)) ∙ marks-more i es old new two here e all
+marks-past i k es old new here l h none e all =
+    let more : List Edit = joints (i + 1 - 2) (drop (i + 1 - 2) es) in
+    ap (λ x. new ++ x) (sym (joints-pass (k - (i + 1)) (i + 1) k es (omega (arith, l)) h none))
+    ∙ ap (λ x. x ++ more) e
+    ∙ append_assoc old (marked (ends_joint i es) (i - 1)) more
+    ∙ ap (λ x. old ++ x) (sym (joints-step i es here))
+    ∙ all
 
 pub marks-end : (i : ℕ) (es : List Event) (log : List Edit) → length es ≤ i →
     log ++ joints (i - 2) (drop (i - 2) es) ≡ joints 0 es → log ≡ joints 0 es

@@ -19,7 +19,7 @@ use Rattle.markdown_engine.specs.declared.tokenizer.Tokenizer.{Tokenizer}
 use Rattle.markdown_engine.proofs.ReadingSequences.{EndsAs-then, scratched-same}
 use Rattle.markdown_engine.proofs.LawSteps.{if-step, code-step}
 use Rattle.markdown_engine.proofs.SteadyLemmas.{steady-at}
-use Rattle.markdown_engine.proofs.OperationFields.{Begins, ahead-consumed, ahead-none, ahead-some, some-codes}
+use Rattle.markdown_engine.proofs.OperationFields.{Begins, ahead-none, ahead-some, some-codes}
 use Rattle.markdown_engine.proofs.OperationLemmas.{ahead-done, left-done, scratch-done}
 use Rattle.markdown_engine.proofs.TreeEvents.{done-leaf, leaf-past, ahead-past}
 use Rattle.markdown_model.specs.TextLines.{data_up_to}

@@ -1,5 +1,5 @@
 -- Neighbouring data become one: which events go, and of which trees this is said.
-use Rattle.std.specs.Prelude.{◌≡◌, ◌≢◌, ℕ, suc, ◌+◌, Bool, true, false, ◌&&◌, not, List, [], ◌∷◌, ◌++◌, if◌then◌else◌, None}
+use Rattle.std.specs.Prelude.{◌≡◌, ◌≢◌, ℕ, suc, ◌+◌, ◌-◌, nat_le, drop, Bool, true, false, ◌&&◌, not, List, [], ◌∷◌, ◌++◌, if◌then◌else◌, None}
 use Rattle.markdown_engine_events.specs.EventChains.{has_link}
 use Rattle.markdown_engine_content.specs.Tree.{Forest, empty, leaf_then, group_then}
 use Rattle.markdown_engine_content.specs.declared.event.Event.{Event}
@@ -38,6 +38,10 @@ closing (e ∷ es) = closes_data e && opening es
 abbrev pub joint : List Event → Bool
 joint [] = false
 joint (e ∷ es) = opens_data e && closing es
+
+-- data without a link begins two events before that of this number, and such data stands behind it
+abbrev pub ends_joint : ℕ → List Event → Bool
+ends_joint i es = nat_le 2 i && joint (drop (i - 2) es)
 
 -- an Exit and the Enter behind it go
 abbrev pub removal : ℕ → Edit

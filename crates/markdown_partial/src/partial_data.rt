@@ -27,7 +27,7 @@ ghost use Rattle.markdown_engine.specs.PastTree.{appended_from};
 ghost use Rattle.markdown_engine_content.specs.Tree.{Forest};
 ghost use Rattle.markdown_model.specs.Passes.{merged};
 ghost use Rattle.markdown_partial.specs.PartialData.{stops_here, passing, entering, start_step, at_break_step, inside_step, inside_stops};
-ghost use Rattle.markdown_partial.specs.MergedEvents.{opens_data, closes_data, joint, marked, joints, HasData};
+ghost use Rattle.markdown_partial.specs.MergedEvents.{opens_data, closes_data, ends_joint, marked, joints, HasData};
 ghost use Rattle.markdown_plan.specs.StateCalls.{Steps};
 
 use markdown_engine::state::{State, StateName};
@@ -143,23 +143,23 @@ pub fn opens_data(event: &Event) -> bool
 }
 
 // How many events are looked at with no other look between.
-const FOUR: usize = 4;
+const EIGHT: usize = 8;
 
-// How many of the four events from this index on come before the first Enter of data without a link.
+// How many of the eight events from this index on come before the first Enter of data without a link.
 #[inline(always)]
-fn others_among_four(events: &Events, at: usize) -> usize
-    requires within { at + FOUR ≤ length events.now }
+fn others_among_eight(events: &Events, at: usize) -> usize
+    requires within { at + EIGHT ≤ length events.now }
     requires counted { length events.now < 2 ^ 64 }
-    ensures within { result ≤ FOUR }
+    ensures within { result ≤ EIGHT }
     ensures none { (i : ℕ) (e : Event) → at ≤ i → i < at + result → opens_data (slice_index_or events.now i e) ≡ false }
-    ensures here { (e : Event) → result < FOUR → opens_data (slice_index_or events.now (at + result) e) ≡ true }
+    ensures here { (e : Event) → result < EIGHT → opens_data (slice_index_or events.now (at + result) e) ≡ true }
 {
-    for count in 0..FOUR {
+    for count in 0..EIGHT {
         if opens_data(&events.bare_at(at + count)) {
             return count;
         }
     }
-    FOUR
+    EIGHT
 }
 
 // As `next_data`, where few events are left.
@@ -192,51 +192,44 @@ pub fn next_data(events: &Events, from: usize) -> usize
 {
     let count = events.len();
     let mut at = from;
-    while count - at >= FOUR {
-        let others = others_among_four(events, at);
+    while count - at >= EIGHT {
+        let others = others_among_eight(events, at);
         at += others;
-        if others < FOUR {
+        if others < EIGHT {
             return at;
         }
     }
     next_of_few(events, at)
 }
 
-// Whether this is the Exit of data.
+// Whether this is the Exit of data. The name is looked at first, since most events have another.
 fn closes_data(event: &Event) -> bool
     ensures { result ≡ closes_data event.now }
 {
-    matches!(
-        event,
-        Event {
-            kind: Kind::Exit,
-            name: Name::Data,
-            link: None,
-            ..
-        }
-    )
+    matches!(event.name, Name::Data) && matches!(event.kind, Kind::Exit) && event.link.is_none()
 }
 
-// Whether data without a link begins two events before this one, and such data stands behind it.
+// Whether data without a link stands right before this event, where such data begins. Its Exit is looked for first, since most of these events
+// have another before them.
 fn is_joint(events: &Events, index: usize) -> bool
-    requires from_two { 2 ≤ index }
     requires within { index < length events.now }
-    ensures { result ≡ joint (drop (index - 2) events.now) }
+    requires opens { (e : Event) → opens_data (slice_index_or events.now index e) ≡ true }
+    ensures { result ≡ ends_joint index events.now }
 {
-    let third = events.bare_at(index);
-    if !opens_data(&third) {
+    if index < 2 {
         return false;
     }
-    let first = events.bare_at(index - 2);
-    let second = events.bare_at(index - 1);
-    opens_data(&first) & closes_data(&second)
+    if !closes_data(&events.bare_at(index - 1)) {
+        return false;
+    }
+    opens_data(&events.bare_at(index - 2))
 }
 
-// Where data stands behind data: marks the Exit of the one and the Enter of the other to go.
+// Where data without a link stands right before this event, at which such data begins: marks the Exit of the one and the Enter of the other to go.
 fn mark(events: &Events, map: &mut EditMap, index: usize) -> Result<(), AllocError>
-    requires from_two { 2 ≤ index }
     requires within { index < length events.now }
-    ensures { OnOk result (map.new ≡ map.old ++ marked (joint (drop (index - 2) events.now)) (index - 1)) }
+    requires opens { (e : Event) → opens_data (slice_index_or events.now index e) ≡ true }
+    ensures { OnOk result (map.new ≡ map.old ++ marked (ends_joint index events.now) (index - 1)) }
 {
     if is_joint(events, index) {
         map.add_slice(index - 1, 2, &[])?;
@@ -250,7 +243,7 @@ fn mark_joints(events: &Events, map: &mut EditMap) -> Result<(), AllocError>
     ensures { OnOk result (map.new ≡ joints 0 events.now) }
 {
     let count = events.len();
-    let mut index = next_data(events, count.min(2));
+    let mut index = next_data(events, 0);
     while index < count {
         mark(events, map, index)?;
         index = next_data(events, index + 1);

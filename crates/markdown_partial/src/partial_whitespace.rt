@@ -18,13 +18,14 @@
 // Definition: `trimmed` in `markdown_model/specs/Passes.antt`.
 #![tactic(auto)]
 
-ghost use Rattle.std.specs.Prelude.{◌≡◌, false, ◌^◌, ◌<◌, ◌≤◌, ◌==◌, ◌&&◌, not, ◌++◌, IfOk, OnOk, OnErr, IsTrue, IsSome, Some, None, [], length, drop};
+ghost use Rattle.std.specs.Prelude.{◌≡◌, false, ◌^◌, ◌<◌, ◌≤◌, ◌==◌, ◌&&◌, not, ◌++◌, IfOk, OnOk, OnErr, IsTrue, IsSome, Some, None, [], length, drop, true, slice_index_or};
 ghost use Rattle.std.specs.List.{All};
 ghost use Rattle.markdown_engine_events.specs.EventChains.{IsUnlinked};
 ghost use Rattle.markdown_engine_content.specs.Content.{document_limit};
 ghost use Rattle.markdown_engine_content.specs.DocumentWalk.{value_from, IsPoint};
 ghost use Rattle.markdown_partial.specs.PartialSpaceOrTab.{at_blank};
 ghost use Rattle.markdown_partial.specs.TrimmedData.{between, IsStretch, end_of_kept, end_of_lead, at_real_space, starts_blank, ends_blank, is_same_place, leaf_events, trimmed_events};
+ghost use Rattle.markdown_partial.specs.MergedEvents.{opens_data};
 ghost use Rattle.markdown_partial.specs.TrimmedEvents.{opens_ending, closes_ending, flag, goes_before, loses, loses_first, trim_first, trims, FirstHasPlaces, HasPlaces, HasParts};
 ghost use Rattle.markdown_engine.specs.PastTree.{appended_from};
 ghost use Rattle.markdown_engine_content.specs.Tree.{Forest};
@@ -297,6 +298,20 @@ pub fn loses_first(bytes: &[u8], events: &Events, index: usize, whole: bool) -> 
     if !opens_data(&enter) {
         return false;
     }
+    data_loses(bytes, events, index, whole)
+}
+
+/// The same, where data that carries no link is known to begin at this event.
+#[inline(always)]
+pub fn data_loses(bytes: &[u8], events: &Events, index: usize, whole: bool) -> bool
+    requires fits { length bytes.now ≤ document_limit }
+    requires within { index < length events.now }
+    requires counted { length events.now < 2 ^ 64 }
+    requires places { FirstHasPlaces bytes.now (drop index events.now) }
+    requires opens { (e : Event) → opens_data (slice_index_or events.now index e) ≡ true }
+    ensures { result ≡ loses_first bytes.now whole (flag index whole events.now) (drop index events.now) }
+{
+    let enter = events.bare_at(index);
     let front = front_goes(events, index, whole);
     let back = goes_before(events, index + 2, whole);
     if !front && !back {

@@ -3,7 +3,7 @@ use Rattle.std.proofs.lemmas.Bool.{or_left, or_right, both_ways, leb-true, le-le
 use Rattle.markdown_leaf_email_pass.proofs.EmailEditLemmas.{places-first}
 use Rattle.markdown_leaf_email_pass.proofs.SettledEvents.{settles-start, settles-next, settles-end}
 use Rattle.markdown_leaf_email_pass.proofs.FinalEvents.{unjoined-start, unjoined-next, unjoined-end, loose-found}
-use Rattle.markdown_leaf_email_pass.proofs.settled.is_final.Goals.{else-loop-index-test, then-loop-index-test+then-follows_data, then-follows_data-via-then-follows_data, then-follows_data-via-else-follows_data+then-loses_first, then-follows_data-via-else-follows_data+else-loses_first+then-begins_signed}
+use Rattle.markdown_leaf_email_pass.proofs.settled.is_final.Goals.{else-loop-index-test, then-loop-index-test+then-follows_data, then-follows_data-via-then-follows_data, then-follows_data-via-else-follows_data+then-data_loses, then-follows_data-via-else-follows_data+else-data_loses+then-begins_signed}
 use Rattle.markdown_leaf_email_pass.proofs.settled.is_final.Goals as goal
 
 pub loop-index-init : goal.loop-index-init
@@ -15,8 +15,14 @@ loop-index-init c =
       opens = r.ensures.here;
     }
 
-pub loses_first-requires-clause-places : goal.loses_first-requires-clause-places
-loses_first-requires-clause-places c = places-first _ _ c.loop-index.invariant.settles.mails.places
+pub data_loses-requires-clause-places : goal.data_loses-requires-clause-places
+data_loses-requires-clause-places c = places-first _ _ c.loop-index.invariant.settles.mails.places
+
+pub data_loses-requires-clause-opens : goal.data_loses-requires-clause-opens
+data_loses-requires-clause-opens c = λ e. c.loop-index.invariant.opens e (omega (arith, c.loop-index-test.true, c.len-count.ensures))
+
+pub begins_signed-requires-clause-opens : goal.begins_signed-requires-clause-opens
+begins_signed-requires-clause-opens c = λ e. c.loop-index.invariant.opens e (omega (arith, c.loop-index-test.true, c.len-count.ensures))
 
 pub begins_signed-requires-clause-places : goal.begins_signed-requires-clause-places
 begins_signed-requires-clause-places c = places-first _ _ c.loop-index.invariant.settles.mails.places
@@ -26,7 +32,7 @@ loop-index-preserved c =
     let r = c.next_data-index-in-loop-index in
     let here : c.loop-index.index < length c.args.events.now = omega (arith, c.loop-index-test.true, c.len-count.ensures) in
     record {
-      settles = settles-next c.args.bytes.now true c.args.events.now c.loop-index.index r.result here (sym c.loses_first.ensures ∙ c.if-loses_first.false) (sym c.begins_signed.ensures ∙ c.if-begins_signed.false) r.ensures.from r.ensures.within r.ensures.none c.loop-index.invariant.settles;
+      settles = settles-next c.args.bytes.now true c.args.events.now c.loop-index.index r.result here (sym c.data_loses.ensures ∙ c.if-data_loses.false) (sym c.begins_signed.ensures ∙ c.if-begins_signed.false) r.ensures.from r.ensures.within r.ensures.none c.loop-index.invariant.settles;
       unjoined = unjoined-next c.loop-index.index r.result c.args.events.now here (sym c.follows_data.ensures ∙ c.if-follows_data.false) r.ensures.from r.ensures.within r.ensures.none c.loop-index.invariant.unjoined;
       opens = r.ensures.here;
     }
@@ -41,8 +47,8 @@ returns-clause-loose c = λ no.
           loose-found c.args.bytes.now c.loop-index.index c.args.events.now here (λ e. c.loop-index.invariant.opens e here)
           (elim w.then-follows_data.branch [
             | then-follows_data-via-then-follows_data v ↦ or_left _ _ (sym w.follows_data.ensures ∙ v.if-follows_data.true)
-            | then-follows_data-via-else-follows_data+then-loses_first v ↦ or_right _ _ (or_left _ _ (sym v.loses_first.ensures ∙ v.if-loses_first.true))
-            | then-follows_data-via-else-follows_data+else-loses_first+then-begins_signed v ↦ or_right _ _ (or_right _ _ (sym v.begins_signed.ensures ∙ v.if-begins_signed.true))
+            | then-follows_data-via-else-follows_data+then-data_loses v ↦ or_right _ _ (or_left _ _ (sym v.data_loses.ensures ∙ v.if-data_loses.true))
+            | then-follows_data-via-else-follows_data+else-data_loses+then-begins_signed v ↦ or_right _ _ (or_right _ _ (sym v.begins_signed.ensures ∙ v.if-begins_signed.true))
           ])
     ]
 

@@ -6,20 +6,32 @@ use Rattle.markdown_leaf_email_pass.proofs.settled.is_settled.Goals as goal
 pub loop-index-init : goal.loop-index-init
 loop-index-init c =
     let r = c.next_data-index in
-    settles-start c.args.bytes.now c.args.whole c.args.events.now r.result r.ensures.within r.ensures.none c.requires.places
+    record {
+      settles = settles-start c.args.bytes.now c.args.whole c.args.events.now r.result r.ensures.within r.ensures.none c.requires.places;
+      opens = r.ensures.here;
+    }
 
-pub loses_first-requires-clause-places : goal.loses_first-requires-clause-places
-loses_first-requires-clause-places c = places-first _ _ c.loop-index.invariant.mails.places
+pub data_loses-requires-clause-places : goal.data_loses-requires-clause-places
+data_loses-requires-clause-places c = places-first _ _ c.loop-index.invariant.settles.mails.places
+
+pub data_loses-requires-clause-opens : goal.data_loses-requires-clause-opens
+data_loses-requires-clause-opens c = λ e. c.loop-index.invariant.opens e (omega (arith, c.loop-index-test.true, c.len-count.ensures))
 
 pub begins_signed-requires-clause-places : goal.begins_signed-requires-clause-places
-begins_signed-requires-clause-places c = places-first _ _ c.loop-index.invariant.mails.places
+begins_signed-requires-clause-places c = places-first _ _ c.loop-index.invariant.settles.mails.places
+
+pub begins_signed-requires-clause-opens : goal.begins_signed-requires-clause-opens
+begins_signed-requires-clause-opens c = λ e. c.loop-index.invariant.opens e (omega (arith, c.loop-index-test.true, c.len-count.ensures))
 
 pub loop-index-preserved : goal.loop-index-preserved
 loop-index-preserved c =
     let r = c.next_data-index-in-loop-index in
     let here : c.loop-index.index < length c.args.events.now = omega (arith, c.loop-index-test.true, c.len-count.ensures) in
-    settles-next c.args.bytes.now c.args.whole c.args.events.now c.loop-index.index r.result here (sym c.loses_first.ensures ∙ c.if-loses_first.false) (sym c.begins_signed.ensures ∙ c.if-begins_signed.false) r.ensures.from r.ensures.within r.ensures.none c.loop-index.invariant
+    record {
+      settles = settles-next c.args.bytes.now c.args.whole c.args.events.now c.loop-index.index r.result here (sym c.data_loses.ensures ∙ c.if-data_loses.false) (sym c.begins_signed.ensures ∙ c.if-begins_signed.false) r.ensures.from r.ensures.within r.ensures.none c.loop-index.invariant.settles;
+      opens = r.ensures.here;
+    }
 
 pub returns-clause-settled : goal.returns-clause-settled
 returns-clause-settled c = λ hard t h e yes.
-    settles-end c.args.bytes.now c.args.whole c.args.events.now c.loop-index.index (omega (arith, c.loop-index-test.false, c.len-count.ensures)) c.loop-index.invariant hard t h e
+    settles-end c.args.bytes.now c.args.whole c.args.events.now c.loop-index.index (omega (arith, c.loop-index-test.false, c.len-count.ensures)) c.loop-index.invariant.settles hard t h e

@@ -1,12 +1,13 @@
-use Rattle.std.proofs.Common.{◌≡◌, ◌≤◌, ◌-◌, ◌++◌, drop, length, min}
-use Rattle.markdown_partial.specs.MergedEvents.{joints}
+use Rattle.std.proofs.Common.{◌≡◌, ◌<◌, ◌≤◌, ◌-◌, ◌++◌, drop, get_or, length, true}
+use Rattle.markdown_engine_content.specs.declared.event.Event.{Event}
+use Rattle.markdown_partial.specs.MergedEvents.{joints, opens_data}
 use Rattle.markdown_partial.proofs.partial_data.mark_joints.Given as goal
 
 -- the joints so far, and those that are still to come
 abbrev pub invariant-loop-index : goal.invariant-loop-index
 invariant-loop-index l = record {
-  from : min (length l.events) 2 ≤ l.index;
   within : l.index ≤ length l.events;
+  opens : (e : Event) → l.index < length l.events → opens_data (get_or l.events l.index e) ≡ true;
   joints : l.map ++ joints (l.index - 2) (drop (l.index - 2) l.events) ≡ joints 0 l.events;
 }
 

@@ -1,23 +1,13 @@
-use Rattle.std.proofs.Common.{arith, sym, ap, ◌∙◌}
-use Rattle.markdown_partial.specs.TrimmedEvents.{flag, loses}
-use Rattle.markdown_partial.proofs.TrimEdits.{next-within, closes-first, loses-none, loses-is, loses-other}
+use Rattle.std.proofs.Common.{sym, ap, ◌∙◌}
+use Rattle.markdown_partial.specs.MergedEvents.{opens_data}
+use Rattle.markdown_partial.proofs.DataSearch.{event-same}
+use Rattle.markdown_partial.proofs.TrimEdits.{loses-other}
 use Rattle.markdown_partial.proofs.partial_whitespace.loses_first.Goals as goal
 
-pub overflow_add-index : goal.overflow_add-index
-overflow_add-index c =
-    omega (arith, c.requires.counted, next-within c.args.bytes.now c.args.index c.args.events.now c.bare_at-enter.result (closes-first c.args.bytes.now c.args.index c.args.events.now c.bare_at-enter.result c.requires.within c.bare_at-enter.ensures.event (sym c.opens_data.ensures ∙ c.if-not-opens_data.false) c.requires.places))
+pub data_loses-requires-clause-opens : goal.data_loses-requires-clause-opens
+data_loses-requires-clause-opens c = λ e.
+    ap opens_data (event-same c.args.index c.args.events.now e c.bare_at-enter.result c.requires.within c.bare_at-enter.ensures.event) ∙ sym c.opens_data.ensures ∙ c.if-not-opens_data.false
 
 pub returns-then-not-opens_data : goal.returns-then-not-opens_data
 returns-then-not-opens_data c =
     sym (loses-other c.args.bytes.now c.args.whole _ c.args.index c.args.events.now c.bare_at-enter.result c.requires.within c.bare_at-enter.ensures.event (sym c.opens_data.ensures ∙ c.if-not-opens_data.true))
-
-pub returns-then-not-back : goal.returns-then-not-back
-returns-then-not-back c =
-    sym (loses-none c.args.bytes.now c.args.whole _ c.args.index c.args.events.now (sym c.front_goes-front.ensures ∙ c.if-not-front.true) (sym c.goes_before-back.ensures ∙ c.if-not-back.true))
-
-pub returns : goal.returns
-returns c =
-    c.loses_blank.ensures
-    ∙ ap (λ f. loses f c.goes_before-back.result c.args.bytes.now c.bare_at-enter.result.point c.bare_at-exit.result.point) c.front_goes-front.ensures
-    ∙ ap (λ b. loses (flag c.args.index c.args.whole c.args.events.now) b c.args.bytes.now c.bare_at-enter.result.point c.bare_at-exit.result.point) c.goes_before-back.ensures
-    ∙ sym (loses-is c.args.bytes.now c.args.whole _ c.args.index c.args.events.now c.bare_at-enter.result c.bare_at-exit.result (next-within c.args.bytes.now c.args.index c.args.events.now c.bare_at-enter.result (closes-first c.args.bytes.now c.args.index c.args.events.now c.bare_at-enter.result c.requires.within c.bare_at-enter.ensures.event (sym c.opens_data.ensures ∙ c.if-not-opens_data.false) c.requires.places)) c.bare_at-enter.ensures.event c.bare_at-exit.ensures.event (sym c.opens_data.ensures ∙ c.if-not-opens_data.false))

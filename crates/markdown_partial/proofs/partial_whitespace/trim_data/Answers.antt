@@ -1,4 +1,4 @@
-use Rattle.std.proofs.Common.{◌<◌, ◌+◌, ◌∷◌, ◌++◌, [], List, false, length, drop, arith, ap, sym, ◌∙◌}
+use Rattle.std.proofs.Common.{◌<◌, ◌+◌, ◌∷◌, ◌++◌, [], List, false, length, drop, ap, sym, ◌∙◌}
 use Rattle.markdown_engine_content.specs.declared.event.Event.{Event}
 use Rattle.markdown_partial.specs.TrimmedData.{trimmed_events}
 use Rattle.markdown_partial.specs.TrimmedEvents.{ClosesAt, flag, goes_before}

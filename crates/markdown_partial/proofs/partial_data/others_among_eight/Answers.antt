@@ -1,7 +1,7 @@
 use Rattle.std.proofs.Common.{◌<◌, ◌+◌, length, arith, sym, ap, ◌∙◌}
 use Rattle.markdown_partial.specs.MergedEvents.{opens_data}
 use Rattle.markdown_partial.proofs.DataSearch.{event-same, none-more}
-use Rattle.markdown_partial.proofs.partial_data.others_among_four.Goals as goal
+use Rattle.markdown_partial.proofs.partial_data.others_among_eight.Goals as goal
 
 pub loop-count-preserved : goal.loop-count-preserved
 loop-count-preserved c =
