@@ -1,5 +1,5 @@
 // A place in a content, which hides the pieces, the tabs and what is left out of the lines.
-ghost use Rattle.std.specs.Prelude.{◌≡◌, ◌∷◌, [], ℕ, List, drop, length, nat_le, ◌<◌, ◌≤◌, true, false, IsSome, IsTrue};
+ghost use Rattle.std.specs.Prelude.{◌≡◌, ◌∷◌, [], ℕ, List, drop, length, nat_le, ◌<◌, ◌≤◌, true, false, IsSome, IfSome, IsTrue};
 ghost use Rattle.markdown_engine_content.specs.Codes.{count_among, line_feed, place_of};
 ghost use Rattle.markdown_engine_content.specs.Content.{IsContent, has_no_blank_line};
 ghost use Rattle.markdown_engine_content.specs.Place.{start_of_content, ahead_at, code_at, code_before, point_of, exit_point, moved};
@@ -206,6 +206,18 @@ impl<'a> Cursor<'a> {
         requires { IsSome (code_at self.old) }
         ensures { self.new ≡ moved self.old }
     {
+        if !self.pass_ordinary() {
+            self.consume_rare();
+        }
+    }
+
+    // Moves past the code at the place where that is a byte above 13 that is not the last of its piece, and answers whether it is.
+    #[inline(always)]
+    fn pass_ordinary(&mut self) -> bool
+        requires { IsSome (code_at self.old) }
+        ensures passed { IsTrue result → self.new ≡ moved self.old }
+        ensures stays { result ≡ false → self.new ≡ self.old }
+    {
         let index = self.point.index;
         let byte = self.bytes[index];
         if byte > b'\r' && index + 1 < self.pieces[self.piece].end.0 {
@@ -219,9 +231,28 @@ impl<'a> Cursor<'a> {
             self.exit = point;
             self.previous = Some(byte);
             self.passed += 1;
-        } else {
-            self.consume_rare();
+            return true;
         }
+        false
+    }
+
+    /// Answers a second cursor past the code at the place and past the codes behind it, up to a line ending or one of these bytes. `None` where a
+    /// look at the bytes of one piece does not tell.
+    #[inline(always)]
+    pub fn past_ordinary(&self, stops: &ByteSet) -> Option<Cursor<'a>>
+        requires { IsSome (code_at self.now) }
+        ensures past { IfSome result (λ end. end ≡ past_stretch stops.now (moved self.now)) }
+        ensures stop { IfSome result (λ end. is_free stops.now (code_at end) ≡ false) }
+    {
+        let mut end = self.save();
+        if !end.pass_ordinary() {
+            return None;
+        }
+        end.pass_plain(stops);
+        if !end.stands_at_stop(stops) {
+            return None;
+        }
+        Some(end)
     }
 
     // The code behind the code at the place, whatever both are, and wherever in their pieces.

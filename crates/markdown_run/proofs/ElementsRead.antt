@@ -22,7 +22,7 @@ use Rattle.markdown_engine.proofs.ReadingSequences.{scratched-same}
 use Rattle.markdown_attention.specs.Attention.{run_tree}
 use Rattle.markdown_label.specs.LabelEnd.{AreWithin}
 use Rattle.markdown_label.specs.LabelEnd as LabelEnd
-use Rattle.markdown_label.specs.LabelStarts.{footnotes_on, footnote_test, image_after_test, images_on, image_ends, link_ends, footnote_ends}
+use Rattle.markdown_label.specs.LabelStarts.{footnotes_on, footnote_test, image_ends, link_ends, footnote_ends}
 use Rattle.markdown_label.proofs.NextCodeTests.{at-none, at-value}
 use Rattle.markdown_label.proofs.BegunStartPlaces.{link-within, footnote-within, image-within}
 use Rattle.markdown_leaf.specs.Autolink.{link_here}
@@ -255,11 +255,6 @@ run-ends T U false v r here h k = alone-stays T U v r here (k.1 ∙ scratched-sa
 -- Starts of labels.
 
 -- a later test that fails
-later-fails : (a b c : Bool) → b ≡ false → a && (b && c) ≡ false
-later-fails true true c e = cc
-later-fails true false c e = refl
-later-fails false b c e = refl
-
 last-fails : (a b : Bool) → b ≡ false → a && b ≡ false
 last-fails true b e = e
 last-fails false b e = refl
@@ -273,12 +268,6 @@ next-some T v n e =
 pub next-none : (T : Tokenizer) (v : ℕ) → code_at (moved T.cursor) ≡ None → false ≡ next_is (is_value v) (rest_of (ahead T))
 next-none T v e =
     sym (at-none (record T { cursor = moved T.cursor }) v e) ∙ ap (next_is (is_value v)) (ahead-moved T.cursor)
-
--- where no `[` comes next, no image begins
-pub image-not-next : (T : Tokenizer) → IsReady T → current_of T ≡ Some (byte "!") →
-    next_is (is_value (byte "[")) (rest_of (ahead T)) ≡ false → Stays T T
-image-not-next T r here none =
-    alone-stays T T (byte "!") r here refl (image-alone T here (later-fails (images_on T && next_is (is_value (byte "!")) (ahead T)) (next_is (is_value (byte "[")) (rest_of (ahead T))) (image_after_test T (rest_of (rest_of (ahead T)))) none))
 
 -- where no `^` comes next, no footnote call does
 no-caret : (T : Tokenizer) → next_is (is_value (byte "^")) (rest_of (ahead T)) ≡ false → footnote_test T (ahead T) ≡ false

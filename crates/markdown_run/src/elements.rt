@@ -28,7 +28,7 @@ use markdown_leaf_gfm::gfm_autolink_literal;
 use markdown_leaf_html::html_text as html_states;
 use markdown_run_readers::{
     attention, autolink, character_escape, character_reference, html_text, label_end,
-    label_start_link, partial_data, raw_text,
+    label_start_image, label_start_link, partial_data, raw_text,
 };
 use markdown_run_text::text;
 use std::alloc::AllocError;
@@ -93,17 +93,14 @@ fn read_backslash(tokenizer: &mut Tokenizer) -> Result<bool, AllocError>
     construct(StateName::HardBreakEscapeStart, tokenizer)
 }
 
-// Tries the start of an image, where a `[` comes next.
+// Tries the start of an image.
 fn read_bang(tokenizer: &mut Tokenizer) -> Result<bool, AllocError>
     requires ready { IsReady tokenizer.old }
     requires here { current_of tokenizer.old ≡ Some (byte "!") }
     ensures reads { IfOk result (λ ok. ReadsElement tokenizer.old ok tokenizer.new) }
     ensures err { OnErr result (IsTrue tokenizer.new.failed) }
 {
-    if !comes_next(tokenizer, b'[') {
-        return Ok(false);
-    }
-    construct(StateName::LabelStartImageStart, tokenizer)
+    label_start_image::read(tokenizer)
 }
 
 // Tries the start of a footnote call, where a `^` comes next, and then that of a link.

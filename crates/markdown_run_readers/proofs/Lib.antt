@@ -6,6 +6,7 @@ pub mod EscapeReads
 pub mod AttentionReads
 pub mod LabelStartConstructs
 pub mod LinkStarts
+pub mod ImageStarts
 pub mod WordLetters
 pub mod PlainResourceReads
 pub mod PlainSpanReads

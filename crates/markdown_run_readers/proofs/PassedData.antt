@@ -3,7 +3,7 @@ use Rattle.std.proofs.Common.{◌≡◌, ℕ, ◌+◌, ◌<◌, ◌&&◌, ◌||�
 use Rattle.std.specs.Prelude.{codes}
 use Rattle.std.specs.List.{list_any}
 use Rattle.std.specs.Option.{is_some}
-use Rattle.std.proofs.lemmas.Bool.{or_parts, or_from, not-false}
+use Rattle.std.proofs.lemmas.Bool.{eqb-true, or_parts, or_from, not-false}
 use Rattle.std.proofs.lemmas.List.Folds.{list_any-append}
 use Rattle.markdown_engine_content.specs.Codes.{Code, is_line_ending, line_feed}
 use Rattle.markdown_engine_content.specs.Place.{Place, ahead_at, code_at, code_before, moved}
@@ -12,11 +12,13 @@ use Rattle.markdown_engine_content.proofs.PlaceRules.{IsAhead, ahead_some, ahead
 use Rattle.markdown_engine_content.proofs.StretchLemmas.{past-none, past-one, left-behind, stretch-goes, stretch-stops}
 use Rattle.markdown_engine.specs.PastTree.{moved_by}
 use Rattle.markdown_model.specs.CodeTests.{is_among}
+use Rattle.markdown_model.specs.GfmAutolinkLiteral.{literal_words}
 use Rattle.markdown_model.specs.Grammar.{until}
 use Rattle.markdown_model.proofs.GrammarSteps.{until-goes, until-stops}
 use Rattle.markdown_partial.specs.PartialData.{ends_stretch, is_some_mark}
+use Rattle.markdown_run_readers.proofs.WordLetters.{no-first}
 use Rattle.markdown_run_readers.proofs.WordsAndSigns.{no-word}
-use Rattle.markdown_run_readers.specs.PlacesPassed.{goes_in_line, goes_on, holds_sign, markers_and_signs, past_data, sign_at, signs}
+use Rattle.markdown_run_readers.specs.PlacesPassed.{begins_as, goes_in_line, goes_on, holds_sign, line_stops, markers_and_signs, past_data, sign_at, signs}
 use Rattle.markdown_run_readers.specs.TextStops.{begins_word, text_stops}
 use Rattle.markdown_run_text.specs.TextContent.{plain_markers}
 use Rattle.markdown_run_text.proofs.TryTableLemmas.{none-passes}
@@ -122,18 +124,18 @@ pub data-skips : (p : Place) → sign_at (stretch_end p) ≡ false → past_data
 data-skips p none = skips-from (ahead_at p) p refl none
 
 -- the end of a stretch is not free
-end-from : (cs : List Code) (p : Place) → ahead_at p ≡ cs → is_free markers_and_signs (code_at (stretch_end p)) ≡ false
-end-from [] p e =
-    let out : is_free markers_and_signs (code_at p) ≡ false = ap (is_free markers_and_signs) (code_at_end p e) in
-    ap (λ q. is_free markers_and_signs (code_at q)) (past-none markers_and_signs p out) ∙ out
-end-from (c ∷ cs) p e =
-    by_test (is_free markers_and_signs (code_at p)) refl (end-from cs (moved p) (ahead_moved p c cs e))
+end-from : (ms : List ℕ) (cs : List Code) (p : Place) → ahead_at p ≡ cs → is_free ms (code_at (past_stretch ms p)) ≡ false
+end-from ms [] p e =
+    let out : is_free ms (code_at p) ≡ false = ap (is_free ms) (code_at_end p e) in
+    ap (λ q. is_free ms (code_at q)) (past-none ms p out) ∙ out
+end-from ms (c ∷ cs) p e =
+    by_test (is_free ms (code_at p)) refl (end-from ms cs (moved p) (ahead_moved p c cs e))
   where
-    by_test : (b : Bool) → is_free markers_and_signs (code_at p) ≡ b →
-        is_free markers_and_signs (code_at (stretch_end (moved p))) ≡ false →
-        is_free markers_and_signs (code_at (stretch_end p)) ≡ false
-    by_test true h more = ap (λ q. is_free markers_and_signs (code_at q)) (past-one markers_and_signs p h) ∙ more
-    by_test false h more = ap (λ q. is_free markers_and_signs (code_at q)) (past-none markers_and_signs p h) ∙ h
+    by_test : (b : Bool) → is_free ms (code_at p) ≡ b →
+        is_free ms (code_at (past_stretch ms (moved p))) ≡ false →
+        is_free ms (code_at (past_stretch ms p)) ≡ false
+    by_test true h more = ap (λ q. is_free ms (code_at q)) (past-one ms p h) ∙ more
+    by_test false h more = ap (λ q. is_free ms (code_at q)) (past-none ms p h) ∙ h
 
 -- a code that stops, and is no sign, is a line ending or a marker
 without : (a b s x : Bool) → (a || (b || s)) ≡ true → s ≡ false → (a || (b || x)) ≡ true
@@ -149,7 +151,7 @@ module _ (p q : Place) (end : q ≡ stretch_end p) (none : sign_at q ≡ false) 
   part-past = ap (past_data true) end ∙ sym (data-skips p (ap sign_at (sym end) ∙ none))
 
   held : is_free markers_and_signs (code_at q) ≡ false
-  held = ap (λ x. is_free markers_and_signs (code_at x)) end ∙ end-from (ahead_at p) p refl
+  held = ap (λ x. is_free markers_and_signs (code_at x)) end ∙ end-from markers_and_signs (ahead_at p) p refl
 
   -- at another sign data goes on
   pub sign-goes : is_some_mark signs (code_at q) ≡ true → past_data true (moved q) ≡ past_data true q
@@ -239,6 +241,85 @@ goes-some literals p v e =
     ∙ ap (λ x. not (list_any (λ n. x == n) plain_markers || (literals && begins_word (a.code ∷ ahead_at (moved p))))) (sym a.value)
     ∙ ap (goes_on literals) (sym a.codes)
 
+-- a sign in a word of literals is a sign
+no-sign : (before here next : Option ℕ) → is_some_mark signs here ≡ false → holds_sign before here next ≡ false
+no-sign before None next h = refl
+no-sign before (Some v) next h = by_tests (v == 46) (v == 58) h
+  where
+    by_tests : (dot colon : Bool) → (dot || (colon || false)) ≡ false →
+        (if dot then is_some_mark (codes "Ww") before else (colon && is_some_mark (codes "/") next)) ≡ false
+    by_tests true colon k = cc
+    by_tests false true k = cc
+    by_tests false false k = refl
+
+-- What ends a line that is passed at once.
+
+neither : (a b : Bool) → b ≡ false → (a && b) ≡ false
+neither true b e = e
+neither false b e = refl
+
+-- data goes on at a line ending
+ending-goes : (literals : Bool) (p : Place) → code_at p ≡ Some line_feed → goes_on literals (ahead_at p) ≡ true
+ending-goes literals p e =
+    sym (goes-some literals p line_feed e)
+    ∙ ap not
+    (or_from (list_any (λ n. line_feed == n) plain_markers) (literals && begins_word (ahead_at p)) refl
+    (neither literals (begins_word (ahead_at p)) (no-first p (ap (λ o. list_any (λ word. begins_as word o (code_at (moved p))) literal_words) e))))
+
+second : (a b : Bool) → (a || b) ≡ true → a ≡ false → b ≡ true
+second true b e f = cc
+second false b e f = e
+
+first : (a b : Bool) → (a || b) ≡ true → b ≡ false → a ≡ true
+first true b e f = refl
+first false true e f = cc
+first false false e f = e
+
+-- a code that stops, and is no line ending and no sign, is a marker
+marked : (literals : Bool) (v : ℕ) → stops (line_stops literals) v ≡ true → (v == line_feed) ≡ false → list_any (λ n. v == n) signs ≡ false →
+    list_any (λ n. v == n) plain_markers ≡ true
+marked false v h line none = second (v == line_feed) (list_any (λ n. v == n) plain_markers) h line
+marked true v h line none =
+    first (list_any (λ n. v == n) plain_markers) (list_any (λ n. v == n) signs)
+    (sym (list_any-append (λ n. v == n) plain_markers signs) ∙ second (v == line_feed) (list_any (λ n. v == n) markers_and_signs) h line) none
+
+-- where a code stops that is no sign, data goes on at a line ending alone
+goes-behind : (literals : Bool) (q : Place) → is_free (line_stops literals) (code_at q) ≡ false →
+    is_some_mark signs (code_at q) ≡ false → at_ending q ≡ goes_on literals (ahead_at q)
+goes-behind literals q held none = by_code (code_at q) refl held none
+  where
+    by_line : (v : ℕ) → code_at q ≡ Some v → stops (line_stops literals) v ≡ true → list_any (λ n. v == n) signs ≡ false →
+        (b : Bool) → (v == line_feed) ≡ b → b ≡ goes_on literals (ahead_at q)
+    by_line v e h k true line = sym (ending-goes literals q (e ∙ ap Some (eqb-true v line_feed line)))
+    by_line v e h k false line =
+        sym (ap (λ b. not (b || (literals && begins_word (ahead_at q)))) (marked literals v h line k)) ∙ goes-some literals q v e
+
+    by_code : (o : Option ℕ) → code_at q ≡ o → is_free (line_stops literals) o ≡ false → is_some_mark signs o ≡ false →
+        is_some_mark (codes "\n") o ≡ goes_on literals (ahead_at q)
+    by_code None e h k = sym (goes-none literals q e)
+    by_code (Some v) e h k =
+        or-false (v == line_feed) ∙ by_line v e (not-false (stops (line_stops literals) v) h) k (v == line_feed) refl
+
+pub line-goes-on : (literals : Bool) (p q : Place) → q ≡ past_stretch (line_stops literals) p → is_some_mark signs (code_at q) ≡ false →
+    at_ending q ≡ goes_on literals (ahead_at q)
+line-goes-on literals p q end none =
+    goes-behind literals q
+    (ap (λ x. is_free (line_stops literals) (code_at x)) end ∙ end-from (line_stops literals) (ahead_at p) p refl) none
+
+-- a stretch that ends at no sign is the data of the line
+pub line-passed : (literals : Bool) (p q : Place) → q ≡ past_stretch (line_stops literals) p → is_some_mark signs (code_at q) ≡ false →
+    q ≡ past_data literals p
+line-passed true p q end none =
+    let at : sign_at q ≡ false = no-sign (code_before q) (code_at q) (code_at (moved q)) none in
+    sym (other-stops p q end at none) ∙ part-past p q end at
+line-passed false p q end none = end ∙ plain-stretch p
+
+-- data goes on past a sign in no word
+pub sign-passed : (literals : Bool) (p q : Place) → literals ≡ true → q ≡ past_stretch (line_stops literals) p →
+    is_some_mark signs (code_at q) ≡ true → sign_at q ≡ false → past_data literals (moved q) ≡ past_data literals p
+sign-passed true p q on end is none = sign-goes p q end none is ∙ part-past p q end none
+sign-passed false p q on end is none = cc
+
 -- fewer codes are left behind a sign that stands at the end of a stretch
 pub fewer-behind : (p q : Place) → q ≡ stretch_end p → is_some_mark signs (code_at q) ≡ true →
     length (ahead_at (moved q)) < length (ahead_at p)
@@ -271,17 +352,6 @@ part-ends p q r false end none is goes stays =
       stops = λ e. subst (λ x. past_data true x ≡ x) (sym here) (other-stops p q end none (sym is));
       on = λ e. cc;
     }
-
--- a sign in a word of literals is a sign
-no-sign : (before here next : Option ℕ) → is_some_mark signs here ≡ false → holds_sign before here next ≡ false
-no-sign before None next h = refl
-no-sign before (Some v) next h = by_tests (v == 46) (v == 58) h
-  where
-    by_tests : (dot colon : Bool) → (dot || (colon || false)) ≡ false →
-        (if dot then is_some_mark (codes "Ww") before else (colon && is_some_mark (codes "/") next)) ≡ false
-    by_tests true colon k = cc
-    by_tests false true k = cc
-    by_tests false false k = refl
 
 -- a reader of a part that finds no sign behind the stretch, and one that goes past a sign in no word
 pub part-stops : (p q : Place) → q ≡ stretch_end p → is_some_mark signs (code_at q) ≡ false → PartEnds p q false

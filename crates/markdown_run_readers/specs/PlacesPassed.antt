@@ -13,6 +13,7 @@ use Rattle.markdown_engine_content.specs.declared.event.Point.{Point}
 use Rattle.markdown_engine.specs.Operations.{Op, Enter, Exit, Consume, current_of, done, exit_event, exited, link_back}
 use Rattle.markdown_engine.specs.PastTree.{moved_by}
 use Rattle.markdown_engine.specs.declared.tokenizer.Tokenizer.{Tokenizer}
+use Rattle.markdown_label.specs.LabelStarts.{footnotes_on, images_on}
 use Rattle.markdown_leaf.specs.CharacterEscape.{is_on, is_punctuation}
 use Rattle.markdown_model.specs.CodeTests.{is_between, is_value}
 use Rattle.markdown_model.specs.GfmAutolinkLiteral.{letters, literal_words}
@@ -42,6 +43,20 @@ begins_escape p = is_some_mark (codes "\\") (code_at p) && is_some_punctuation (
 -- escapes are on, and one is at the place
 abbrev pub escapes_here : Tokenizer → Bool
 escapes_here T = is_on T && begins_escape T.cursor
+
+-- Starts of images.
+
+-- a `![` is at the place
+abbrev pub bang_at : Place → Bool
+bang_at p = is_some_value (byte "!") (code_at p) && is_some_value (byte "[") (code_at (moved p))
+
+-- footnote calls are on, and behind the two codes at the place a caret stands
+abbrev pub calls_here : Tokenizer → Bool
+calls_here T = footnotes_on T && is_some_value (byte "^") (code_at (moved (moved T.cursor)))
+
+-- starts of images are on, and one is at the place
+abbrev pub image_here : Tokenizer → Bool
+image_here T = images_on T && (bang_at T.cursor && not (calls_here T))
 
 -- Data.
 
@@ -92,6 +107,10 @@ signs = codes ".:"
 -- where data may stop, and signs
 abbrev pub markers_and_signs : List ℕ
 markers_and_signs = plain_markers ++ signs
+
+-- where data of a line may stop, as far as the code at hand tells; and signs where literals are on
+abbrev pub line_stops : Bool → List ℕ
+line_stops literals = if literals then markers_and_signs else plain_markers
 
 -- a sign that a word of literals may hold: a `.` behind a `w`, or a `:` before a `/`
 abbrev pub holds_sign : Option ℕ → Option ℕ → Option ℕ → Bool

@@ -8,6 +8,7 @@ pub mod character_reference;
 mod events;
 pub mod html_text;
 pub mod label_end;
+pub mod label_start_image;
 pub mod label_start_link;
 pub mod partial_data;
 pub mod raw_text;

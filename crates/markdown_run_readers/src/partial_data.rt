@@ -4,14 +4,14 @@
 //! sign: a `.` behind a `w`, or a `:` before a `/`. So letters are looked at only in a stretch that ends at such a sign.
 #![tactic(auto, using(markdown_engine::proofs::OperationFields::op_rules))]
 
-ghost use Rattle.std.specs.Prelude.{◌≡◌, ◌<◌, ◌==◌, ◌||◌, ◌&&◌, length, map, true, false, OnOk, OnErr, IsTrue, None};
+ghost use Rattle.std.specs.Prelude.{◌≡◌, ◌<◌, ◌==◌, ◌||◌, ◌&&◌, length, map, true, false, codes, IfOk, OnOk, OnErr, IsSome, IsTrue, None};
 ghost use Rattle.std.specs.List.{list_any};
-ghost use Rattle.markdown_engine.specs.Operations.{HasCode, done};
+ghost use Rattle.markdown_engine.specs.Operations.{HasCode, ahead, done};
 ghost use Rattle.markdown_engine.specs.PastTree.{Reads};
 ghost use Rattle.markdown_engine_content.specs.Place.{ahead_at, code_at, moved};
 ghost use Rattle.markdown_model.specs.TextLines.{data_up_to};
 ghost use Rattle.markdown_partial.specs.PartialData.{ending, is_some_mark};
-ghost use Rattle.markdown_run_readers.specs.PlacesPassed.{past_data, goes_on, goes_in_line, is_some_letter, is_word, may_begin, one_stands, signs, markers_and_signs, sign_at, data_read, line_read};
+ghost use Rattle.markdown_run_readers.specs.PlacesPassed.{past_data, goes_on, goes_in_line, is_some_letter, is_word, line_stops, may_begin, one_stands, signs, markers_and_signs, sign_at, data_read, line_read};
 ghost use Rattle.markdown_run_readers.specs.TextStops.{begins_word, text_stops};
 ghost use Rattle.markdown_run_text.specs.TextContent.{plain_markers};
 
@@ -250,41 +250,110 @@ fn pass_data(cursor: &mut Cursor, literals: bool)
     }
 }
 
-// Reads the line ending at hand.
+// Whether a line ending is at the place.
+#[inline(always)]
+fn is_at_ending(cursor: &Cursor) -> bool
+    ensures { result ≡ is_some_mark (codes "\n") (code_at cursor.now) }
+{
+    matches!(cursor.current(), Some(b'\n'))
+}
+
+// Whether a `.` is at the place that no word of literals holds.
+#[inline(always)]
+fn is_at_plain_dot(cursor: &Cursor) -> bool
+    ensures { result ≡ true → sign_at cursor.now ≡ false }
+{
+    match cursor.current() {
+        Some(b'.') => !matches!(cursor.previous(), Some(b'W' | b'w')),
+        _ => false,
+    }
+}
+
+// The bytes at which data stops, but for the letters of literals, and where those are on, the signs in words of theirs.
+#[inline(always)]
+fn stops_of(literals: bool) -> ByteSet
+    ensures { result ≡ line_stops literals }
+{
+    if literals {
+        markers_and_signs()
+    } else {
+        markers()
+    }
+}
+
+// Moves past the code at hand and data of the line behind it. Answers whether data goes on.
+#[inline(never)]
+fn pass_any_line(cursor: &mut Cursor, literals: bool) -> bool
+    requires { IsSome (code_at cursor.old) }
+    ensures past { cursor.new ≡ past_data literals (moved cursor.old) }
+    ensures on { result ≡ goes_on literals (ahead_at cursor.new) }
+{
+    cursor.consume();
+    pass_data(cursor, literals);
+    goes_on(cursor, literals)
+}
+
+// The same, at once where the codes are ordinary and no sign is among them: then data goes on at a line ending alone. A first `.` that no word
+// holds is where the rest is passed from.
+#[inline(always)]
+fn pass_line(cursor: &mut Cursor, literals: bool) -> bool
+    requires { IsSome (code_at cursor.old) }
+    ensures past { cursor.new ≡ past_data literals (moved cursor.old) }
+    ensures on { result ≡ goes_on literals (ahead_at cursor.new) }
+{
+    let Some(end) = cursor.past_ordinary(&stops_of(literals)) else {
+        return pass_any_line(cursor, literals);
+    };
+    if !is_at_any_sign(&end) {
+        *cursor = end;
+        return is_at_ending(cursor);
+    }
+    if !literals || !is_at_plain_dot(&end) {
+        return pass_any_line(cursor, literals);
+    }
+    *cursor = end;
+    pass_any_line(cursor, literals)
+}
+
+// Reads the line ending at hand. Answers whether data goes on.
 #[tactic(auto, unfolding(markdown_engine::specs::Operations::applied))]
-fn read_ending(tokenizer: &mut Tokenizer) -> Result<(), AllocError>
+fn read_ending(tokenizer: &mut Tokenizer, literals: bool) -> Result<bool, AllocError>
     requires { HasCode tokenizer.old }
     ensures ok { OnOk result (tokenizer.new ≡ done ending tokenizer.old) }
+    ensures on { IfOk result (λ on. on ≡ goes_on literals (ahead tokenizer.new)) }
     ensures err { OnErr result (IsTrue tokenizer.new.failed) }
 {
     let from = tokenizer.point();
     tokenizer.consume();
-    append_leaf(tokenizer, Name::LineEnding, from)
+    append_leaf(tokenizer, Name::LineEnding, from)?;
+    Ok(goes_on(&tokenizer.cursor, literals))
 }
 
-// Reads data of one line from the code at hand on.
+// Reads data of one line from the code at hand on. Answers whether data goes on.
 #[inline(always)]
 #[tactic(auto, unfolding(markdown_engine::specs::Operations::applied))]
-fn read_stretch(tokenizer: &mut Tokenizer, literals: bool) -> Result<(), AllocError>
+fn read_stretch(tokenizer: &mut Tokenizer, literals: bool) -> Result<bool, AllocError>
     requires { HasCode tokenizer.old }
     ensures ok { OnOk result (tokenizer.new ≡ data_read literals tokenizer.old) }
+    ensures on { IfOk result (λ on. on ≡ goes_on literals (ahead tokenizer.new)) }
     ensures err { OnErr result (IsTrue tokenizer.new.failed) }
 {
     let from = tokenizer.point();
-    tokenizer.consume();
-    pass_data(&mut tokenizer.cursor, literals);
-    append_leaf(tokenizer, Name::Data, from)
+    let on = pass_line(&mut tokenizer.cursor, literals);
+    append_leaf(tokenizer, Name::Data, from)?;
+    Ok(on)
 }
 
-// Reads the line ending at hand, or data of one line.
+// Reads the line ending at hand, or data of one line. Answers whether data goes on.
 #[inline(always)]
-fn read_line(tokenizer: &mut Tokenizer, literals: bool) -> Result<(), AllocError>
+fn read_line(tokenizer: &mut Tokenizer, literals: bool) -> Result<bool, AllocError>
     requires { HasCode tokenizer.old }
     ensures ok { OnOk result (tokenizer.new ≡ line_read literals tokenizer.old) }
+    ensures on { IfOk result (λ on. on ≡ goes_on literals (ahead tokenizer.new)) }
     ensures err { OnErr result (IsTrue tokenizer.new.failed) }
 {
     match tokenizer.current() {
-        Some(b'\n') => read_ending(tokenizer),
+        Some(b'\n') => read_ending(tokenizer, literals),
         _ => read_stretch(tokenizer, literals),
     }
 }
@@ -301,8 +370,8 @@ pub fn read(tokenizer: &mut Tokenizer, literals: bool) -> Result<(), AllocError>
     ensures err { OnErr result (IsTrue tokenizer.new.failed) }
 {
     loop {
-        read_line(tokenizer, literals)?;
-        if !goes_on(&tokenizer.cursor, literals) {
+        let on = read_line(tokenizer, literals)?;
+        if !on {
             return Ok(());
         }
     }

@@ -4,10 +4,10 @@ use Rattle.markdown_run_readers.proofs.DataReads.{Continues}
 use Rattle.markdown_run_readers.proofs.partial_data.read.Given as goal
 
 -- what is read from here on goes on with what is read
-abbrev pub invariant-loop : goal.invariant-loop
-invariant-loop l =
+abbrev pub invariant-loop-on : goal.invariant-loop-on
+invariant-loop-on l =
     Continues l.literals l.fn.tokenizer l.tokenizer
     × ((l.tokenizer.tokenize_state ≡ l.fn.tokenizer.tokenize_state) × HasCode l.tokenizer)
 
-abbrev pub decreases-loop : goal.decreases-loop
-decreases-loop l = length (ahead l.tokenizer)
+abbrev pub decreases-loop-on : goal.decreases-loop-on
+decreases-loop-on l = length (ahead l.tokenizer)

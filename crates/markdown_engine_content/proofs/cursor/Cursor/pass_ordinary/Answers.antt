@@ -3,7 +3,7 @@ use Rattle.markdown_engine_content.specs.Place.{moved}
 use Rattle.markdown_engine_content.proofs.CursorSteps.{at_some, moved_is}
 use Rattle.markdown_engine_content.proofs.NextPlace.{Fits_point, point_fits}
 use Rattle.markdown_engine_content.proofs.PlainByteLemmas.{plain_next}
-use Rattle.markdown_engine_content.proofs.cursor.Cursor.consume.Goals as goal
+use Rattle.markdown_engine_content.proofs.cursor.Cursor.pass_ordinary.Goals as goal
 
 pub bounds-self-inside-index : goal.bounds-self-inside-index
 bounds-self-inside-index c = (at_some c.args.self.now c.self.invariant c.self.view_is c.requires).in_bytes
@@ -27,6 +27,6 @@ pub invariant_of-self : goal.invariant_of-self
 invariant_of-self c =
     plain_next c.self.invariant (record { start = (0, 0); end = (0, 0) }) (at_some c.args.self.now c.self.invariant c.self.view_is c.requires).in_pieces c.if-index-self.true c.if-byte-gt13.true
 
-pub returns-then-index-self : goal.returns-then-index-self
-returns-then-index-self c =
-    sym (ap moved (sym c.self.view_is) ∙ moved_is c.self.inside.bytes.now c.self.inside.pieces.now c.self.inside.passed)
+pub returns-then-index-self-clause-passed : goal.returns-then-index-self-clause-passed
+returns-then-index-self-clause-passed c =
+    λ _. sym (ap moved (sym c.self.view_is) ∙ moved_is c.self.inside.bytes.now c.self.inside.pieces.now c.self.inside.passed)
