@@ -21,6 +21,24 @@ pub struct Blocks {
     pub targets: Vec<Target>,
 }
 
+impl Blocks {
+    // Takes the definition that a line of a document is. Answers whether it is one.
+    fn take_definition(
+        &mut self,
+        alloc: Global,
+        bytes: &[u8],
+        line: Piece,
+    ) -> Result<bool, AllocError> {
+        let Some(Definition { label, target }) = definition_at(alloc, bytes, line)? else {
+            return Ok(false);
+        };
+        if matches!(self.definitions.add(label.as_str())?, Added::First(_)) {
+            self.targets.push(target)?;
+        }
+        Ok(true)
+    }
+}
+
 // What is known between two lines.
 #[derive(Drop)]
 struct Splitter<'a> {
@@ -49,33 +67,40 @@ impl<'a> Splitter<'a> {
         line.end.saturating_sub(rest.bytes.len())
     }
 
-    // Ends the paragraph that is open: takes the definitions at its front, and keeps what is left as a text.
-    fn finish(&mut self) -> Result<(), AllocError> {
-        let mut pieces = Vec::new(self.alloc);
-        let mut end = 0;
-        for line in &self.text {
-            let (piece, next) = *line;
-            if pieces.is_empty() {
-                if let Some(Definition { label, target }) = definition_at(
-                    self.alloc, self.bytes, piece,
-                )? {
-                    if matches!(self.found.definitions.add(label.as_str())?, Added::First(_)) {
-                        self.found.targets.push(target)?;
-                    }
-                    continue;
-                }
+    // Takes the definitions at the front of the paragraph that is open, and counts them.
+    fn take_definitions(&mut self) -> Result<usize, AllocError> {
+        let mut count = 0usize;
+        for (line, _) in &self.text {
+            if !self.found.take_definition(self.alloc, self.bytes, *line)? {
+                break;
             }
-            end = piece.end.0;
+            count = count.saturating_add(1);
+        }
+        Ok(count)
+    }
+
+    // The pieces of the paragraph that is open, behind so many lines: each a line with its line ending, the last without.
+    fn pieces_behind(&self, count: usize) -> Result<Vec<Piece>, AllocError> {
+        let mut pieces = Vec::new(self.alloc);
+        for number in count..self.text.len() {
+            let (line, next) = self.text[number];
+            let is_last = number + 1 == self.text.len();
             pieces.push(Piece {
-                start: piece.start,
-                end: (next, 0),
+                start: line.start,
+                end: if is_last { line.end } else { (next, 0) },
             })?;
         }
-        self.text.clear();
-        if let Some(last) = pieces.last_mut() {
-            last.end = (end, 0);
+        Ok(pieces)
+    }
+
+    // Ends the paragraph that is open: takes the definitions at its front, and keeps what is left as a text.
+    fn finish(&mut self) -> Result<(), AllocError> {
+        let count = self.take_definitions()?;
+        if count < self.text.len() {
+            let pieces = self.pieces_behind(count)?;
             self.found.texts.push(pieces)?;
         }
+        self.text.clear();
         Ok(())
     }
 

@@ -40,8 +40,8 @@ pub fn parse_state<'a>(
     })
 }
 
-/// The events of a text of the document; none where the pieces are no text.
-pub fn events_of(
+// The events of a text of the document; none where the pieces are no text.
+fn events_of(
     alloc: Global,
     document: &Document,
     pieces: &[Piece],
@@ -155,8 +155,8 @@ fn push_line(
     Ok(())
 }
 
-/// Adds a line for each link of a text.
-pub fn push_lines(
+// Adds a line for each link among the events of a text.
+fn push_lines(
     alloc: Global,
     lines: &mut String,
     labels: &Labels,
@@ -174,4 +174,17 @@ pub fn push_lines(
         }
     }
     Ok(())
+}
+
+/// Adds a line for each link of a text of the document.
+pub fn push_text(
+    alloc: Global,
+    lines: &mut String,
+    document: &Document,
+    labels: &Labels,
+    text: &[Piece],
+    targets: &[Target],
+) -> Result<(), AllocError> {
+    let events = events_of(alloc, document, text)?;
+    push_lines(alloc, lines, labels, events.as_slice(), targets)
 }

@@ -10,6 +10,7 @@ mod links;
 mod rest;
 mod strings;
 
+use crate::blocks::Blocks;
 use markdown_inline::definitions::Definitions;
 use markdown_inline::document::Document;
 use markdown_inline::labels::Labels;
@@ -17,32 +18,42 @@ use std::alloc::{AllocError, Global};
 use std::io::Read;
 use std::process::ExitCode;
 
+// The lines of these texts of a document.
+fn lines_of(
+    alloc: Global,
+    document: &Document,
+    labels: &Labels,
+    blocks: &Blocks,
+) -> Result<String, AllocError> {
+    let mut lines = String::new(alloc);
+    for text in &blocks.texts {
+        let targets = blocks.targets.as_slice();
+        links::push_text(
+            alloc,
+            &mut lines,
+            document,
+            labels,
+            text.as_slice(),
+            targets,
+        )?;
+    }
+    Ok(lines)
+}
+
 // The lines of all texts of a document; none where it is not UTF-8.
 fn listed(alloc: Global, bytes: &[u8]) -> Result<Option<String>, AllocError> {
     let blocks = blocks::of(alloc, bytes)?;
-    let footnotes = Definitions::new(alloc);
-    let labels = Labels {
-        bytes,
-        options: &links::OPTIONS,
-        definitions: &blocks.definitions,
-        footnotes: &footnotes,
-    };
     let parse_state = links::parse_state(alloc, bytes, &blocks.definitions)?;
     let Some(document) = Document::new(alloc, parse_state)? else {
         return Ok(None);
     };
-    let mut lines = String::new(alloc);
-    for text in &blocks.texts {
-        let events = links::events_of(alloc, &document, text.as_slice())?;
-        links::push_lines(
-            alloc,
-            &mut lines,
-            &labels,
-            events.as_slice(),
-            blocks.targets.as_slice(),
-        )?;
-    }
-    Ok(Some(lines))
+    let labels = Labels {
+        bytes,
+        options: &links::OPTIONS,
+        definitions: &blocks.definitions,
+        footnotes: &Definitions::new(alloc),
+    };
+    Ok(Some(lines_of(alloc, &document, &labels, &blocks)?))
 }
 
 fn main(rt: HostRuntime) -> ExitCode {

@@ -1,6 +1,6 @@
 // What is answered to cases: a text that grows, and ends where memory is refused.
 use std::alloc::{AllocError, Global};
-use std::fmt::{Debug, Display};
+use std::fmt::Debug;
 
 /// A text that ends where memory is refused.
 #[derive(Drop)]
@@ -47,10 +47,18 @@ impl Answers {
         }
     }
 
-    /// Appends a value.
-    pub(crate) fn print<T: Display + Drop>(&mut self, value: T) {
+    /// Appends a character.
+    pub(crate) fn sign(&mut self, sign: char) {
         if self.is_whole {
-            let outcome = write!(self.text, "{value}");
+            let outcome = self.text.push(sign);
+            self.keep(outcome);
+        }
+    }
+
+    /// Appends a number.
+    pub(crate) fn number(&mut self, number: u128) {
+        if self.is_whole {
+            let outcome = write!(self.text, "{number}");
             self.keep(outcome);
         }
     }
@@ -66,6 +74,6 @@ impl Answers {
     /// Appends a word and a number.
     pub(crate) fn count(&mut self, word: &str, number: usize) {
         self.say(word);
-        self.print(number);
+        self.number(number as u128);
     }
 }

@@ -81,6 +81,6 @@ pub(crate) fn print_probes(probes: u128, asked: Asked, out: &mut Answers) {
         out.say(" within");
     } else {
         out.say(" ");
-        out.print(probes);
+        out.number(probes);
     }
 }

@@ -27,7 +27,7 @@ pub(crate) fn print_program(
 // Prints bytes as text, with `;` for each line ending.
 fn print_text(bytes: &[u8], out: &mut Answers) {
     for c in str::from_utf8(bytes).unwrap_or("not UTF-8").chars() {
-        out.print(if c == '\n' { ';' } else { c });
+        out.sign(if c == '\n' { ';' } else { c });
     }
 }
 
