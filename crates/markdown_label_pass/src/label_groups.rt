@@ -182,7 +182,7 @@ fn mark_link(label: &Label, events: &Events, map: &mut EditMap) -> Result<(), Al
     let start = place(events, first);
     let marker_end = place(events, first + 2);
     let comes = link_opened(start, marker_end);
-    map.add_slice(first, behind(events, last) - first, &comes)
+    map.add_array(first, behind(events, last) - first, comes)
 }
 
 // The same for a link whose text begins with the caret of a footnote start.
@@ -197,7 +197,7 @@ fn mark_caret(label: &Label, events: &Events, map: &mut EditMap) -> Result<(), A
     let marker_end = place(events, first + 2);
     let second = place(events, first + 3);
     let comes = caret_opened(start, marker_end, second, place(events, last));
-    map.add_slice(first, behind(events, last) - first, &comes)
+    map.add_array(first, behind(events, last) - first, comes)
 }
 
 // The same for an image.
@@ -212,7 +212,7 @@ fn mark_image(label: &Label, events: &Events, map: &mut EditMap) -> Result<(), A
     let marker_end = place(events, first + 2);
     let second = place(events, first + 3);
     let comes = image_opened(start, marker_end, second, place(events, last));
-    map.add_slice(first, behind(events, last) - first, &comes)
+    map.add_array(first, behind(events, last) - first, comes)
 }
 
 // The same for a footnote call.
@@ -227,7 +227,7 @@ fn mark_call(label: &Label, events: &Events, map: &mut EditMap) -> Result<(), Al
     let marker_end = place(events, first + 2);
     let second = place(events, first + 3);
     let comes = call_opened(start, marker_end, second, place(events, last));
-    map.add_slice(first, behind(events, last) - first, &comes)
+    map.add_array(first, behind(events, last) - first, comes)
 }
 
 // Marks the start of a label.
@@ -251,7 +251,7 @@ fn mark_end(label: &Label, events: &Events, map: &mut EditMap) -> Result<(), All
 {
     let (first, _last) = label.end;
     let comes = ended(place(events, first), place(events, first + 3));
-    map.add_slice(first, 4, &comes)
+    map.add_array(first, 4, comes)
 }
 
 // Marks where a label's group ends.
@@ -261,7 +261,7 @@ fn mark_close(label: &Label, events: &Events, map: &mut EditMap) -> Result<(), A
 {
     let last = label.end.1;
     let comes = [exit(group_name(label.kind), place(events, last))];
-    map.add_slice(behind(events, last), 0, &comes)
+    map.add_array(behind(events, last), 0, comes)
 }
 
 // Marks what a label changes.
@@ -295,7 +295,7 @@ fn mark_loose(start: (usize, usize), events: &Events, map: &mut EditMap) -> Resu
         enter(Name::Data, place(events, first)),
         exit(Name::Data, place(events, last)),
     ];
-    map.add_slice(first, behind(events, last) - first, &comes)
+    map.add_array(first, behind(events, last) - first, comes)
 }
 
 // Marks the starts whose ends failed.

@@ -97,8 +97,8 @@ fn edit_run(
     ensures { OnOk result (map.new ≡ map.old ++ edit_from from fronts.now backs.now run.now ∷ []) }
 {
     match sole_pair(run, fronts, backs) {
-        Sole::Closing(size) => map.add_slice(run.event, 2, &closing(run.marker, from, size)),
-        Sole::Opening(size) => map.add_slice(run.event, 2, &opening(run.marker, from, size)),
+        Sole::Closing(size) => map.add_array(run.event, 2, closing(run.marker, from, size)),
+        Sole::Opening(size) => map.add_array(run.event, 2, opening(run.marker, from, size)),
         Sole::Neither => edit_any(map, lists, run, from, fronts, backs),
     }
 }

@@ -7,13 +7,13 @@ use Rattle.markdown_attention.proofs.attention.edits.edit_run.Goals as goal
 pub returns-in-Closing : goal.returns-in-Closing
 returns-in-Closing c =
     let r : Sequence = c.args.run.now in
-    subst (λ (es : List Event). OnOk c.add_slice.result (c.add_slice.new.self ≡ c.args.map.now ++ (record { at = r.event; remove = 2; events = es; before = false }) ∷ []))
+    subst (λ (es : List Event). OnOk c.add_array.result (c.add_array.new.self ≡ c.args.map.now ++ (record { at = r.event; remove = 2; events = es; before = false }) ∷ []))
     (c.closing.ensures ∙ closing-alone r.marker c.args.from (get_or c.args.fronts.now r.number []) (get_or c.args.backs.now r.number []) r.remaining c.in-Closing.size c.in-Closing.ensures)
-    c.add_slice.ensures.ok
+    c.add_array.ensures.ok
 
 pub returns-in-Opening : goal.returns-in-Opening
 returns-in-Opening c =
     let r : Sequence = c.args.run.now in
-    subst (λ (es : List Event). OnOk c.add_slice-in-Opening.result (c.add_slice-in-Opening.new.self ≡ c.args.map.now ++ (record { at = r.event; remove = 2; events = es; before = false }) ∷ []))
+    subst (λ (es : List Event). OnOk c.add_array-in-Opening.result (c.add_array-in-Opening.new.self ≡ c.args.map.now ++ (record { at = r.event; remove = 2; events = es; before = false }) ∷ []))
     (c.opening.ensures ∙ opening-alone r.marker c.args.from (get_or c.args.fronts.now r.number []) (get_or c.args.backs.now r.number []) r.remaining c.in-Opening.size c.in-Opening.ensures)
-    c.add_slice-in-Opening.ensures.ok
+    c.add_array-in-Opening.ensures.ok
