@@ -3,6 +3,7 @@ pub mod RemainingSizes
 pub mod ProbePotential
 pub mod RefusalClasses
 pub mod OpenRunLists
+pub mod TextLines
 pub mod OpenRunWalks
 pub mod PairScanByLists
 pub mod PairScanTurns

@@ -11,6 +11,11 @@ use Rattle.markdown_attention.specs.OpenRuns.{IsMarker, HaveMarkers, kind_of, ke
 use Rattle.markdown_attention.proofs.PairScanInvariant.{in_own, in_other}
 use Rattle.markdown_attention.proofs.RemainingSizes.{shut_push, taken_push, takes_opener, takes_closer, takes_other, length_taking, taking_opener, taking_closer, taking_other}
 
+-- which line each row has: no two have one
+pub record Layout : Type 0 where
+  pub line : ℕ → ℕ
+  pub apart : (a b : ℕ) → line a ≡ line b → a ≡ b
+
 -- two markers have one list only if they are equal
 abbrev pub ListsByMarker : List Sequence → Type 0
 ListsByMarker runs =
@@ -66,34 +71,34 @@ kinds m =
       | inr a ↦ elim (cases_Bool (eqb m 95)) [ inl b ↦ rw (a, b) (omega arith) | inr b ↦ rw (a, b) (omega arith) ]
     ]
 
-pub same_container : (a b : Sequence) → key_of a ≡ key_of b → (row_of a.text) ≡ (row_of b.text)
-same_container a b e = let k = kinds a.marker in let k' = kinds b.marker in omega arith
+pub same_container : (layout : Layout) (a b : Sequence) → key_of layout.line a ≡ key_of layout.line b → (row_of a.text) ≡ (row_of b.text)
+same_container layout a b e = let k = kinds a.marker in let k' = kinds b.marker in layout.apart (row_of a.text) (row_of b.text) (omega arith)
 
-same_kind : (a b : Sequence) → key_of a ≡ key_of b → kind_of a.marker ≡ kind_of b.marker
-same_kind a b e = let k = kinds a.marker in let k' = kinds b.marker in omega arith
+same_kind : (layout : Layout) (a b : Sequence) → key_of layout.line a ≡ key_of layout.line b → kind_of a.marker ≡ kind_of b.marker
+same_kind layout a b e = let k = kinds a.marker in let k' = kinds b.marker in omega arith
 
-pub same_marker : (runs : List Sequence) (i j : ℕ) → ListsByMarker runs → i < length runs → j < length runs
-    → key_of (run_at runs i) ≡ key_of (run_at runs j) → (run_at runs i).marker ≡ (run_at runs j).marker
-same_marker runs i j by l l' e = by i j l l' (same_kind (run_at runs i) (run_at runs j) e)
+pub same_marker : (layout : Layout) (runs : List Sequence) (i j : ℕ) → ListsByMarker runs → i < length runs → j < length runs
+    → key_of layout.line (run_at runs i) ≡ key_of layout.line (run_at runs j) → (run_at runs i).marker ≡ (run_at runs j).marker
+same_marker layout runs i j by l l' e = by i j l l' (same_kind layout (run_at runs i) (run_at runs j) e)
 
-pub same_key : (a b : Sequence) → (row_of a.text) ≡ (row_of b.text) → a.marker ≡ b.marker → key_of a ≡ key_of b
-same_key a b c m = rw (c, m) refl
+pub same_key : (layout : Layout) (a b : Sequence) → (row_of a.text) ≡ (row_of b.text) → a.marker ≡ b.marker → key_of layout.line a ≡ key_of layout.line b
+same_key layout a b c m = rw (c, m) refl
 
 -- an open run of the closer's list that fits is eligible, and no other is
-pub eligible_open : (options : ParseOptions) (runs : List Sequence) (pairs : List Pair) (o c : ℕ) → ListsByMarker runs → o < c → c < length runs
-    → key_of (run_at runs o) ≡ key_of (run_at runs c) → is_open runs pairs o ≡ true → IsTrue (run_at runs c).may_close → 0 < left runs (own runs pairs c) c
+pub eligible_open : (layout : Layout) (options : ParseOptions) (runs : List Sequence) (pairs : List Pair) (o c : ℕ) → ListsByMarker runs → o < c → c < length runs
+    → key_of layout.line (run_at runs o) ≡ key_of layout.line (run_at runs c) → is_open runs pairs o ≡ true → IsTrue (run_at runs c).may_close → 0 < left runs (own runs pairs c) c
     → sizes_fit options (run_at runs o) (run_at runs c) (left runs (own runs pairs o) o) (left runs (own runs pairs c) c) ≡ true
     → Eligible options runs (row_of (run_at runs c).text) (own runs pairs c) o c
-eligible_open options runs pairs o c by below inside key e closes some fit =
+eligible_open layout options runs pairs o c by below inside key e closes some fit =
     let p = open_parts runs pairs o e in
-    let one : (row_of (run_at runs o).text) ≡ (row_of (run_at runs c).text) = same_container (run_at runs o) (run_at runs c) key in
+    let one : (row_of (run_at runs o).text) ≡ (row_of (run_at runs c).text) = same_container layout (run_at runs o) (run_at runs c) key in
     let same : own runs pairs o ≡ own runs pairs c = ap (λ k. pairs_in runs k pairs) one in
     record {
       before = below;
       within = inside;
       opener_in = one;
       closer_in = refl;
-      one_marker = same_marker runs o c by (omega arith) inside key;
+      one_marker = same_marker layout runs o c by (omega arith) inside key;
       may_open = p.may_open;
       may_close = closes;
       opener_left = subst (λ x. 0 < left runs x o) same p.some_left;
@@ -102,17 +107,17 @@ eligible_open options runs pairs o c by below inside key e closes some fit =
       fit = subst (λ x. sizes_fit options (run_at runs o) (run_at runs c) (left runs x o) (left runs (own runs pairs c) c) ≡ true) same fit;
     }
 
-pub record OpenFit (options : ParseOptions) (runs : List Sequence) (pairs : List Pair) (o c : ℕ) : Type 0 where
-  pub key : key_of (run_at runs o) ≡ key_of (run_at runs c)
+pub record OpenFit (layout : Layout) (options : ParseOptions) (runs : List Sequence) (pairs : List Pair) (o c : ℕ) : Type 0 where
+  pub key : key_of layout.line (run_at runs o) ≡ key_of layout.line (run_at runs c)
   pub is_open : is_open runs pairs o ≡ true
   pub fit : sizes_fit options (run_at runs o) (run_at runs c) (left runs (own runs pairs o) o) (left runs (own runs pairs c) c) ≡ true
 
-pub open_eligible : (options : ParseOptions) (runs : List Sequence) (pairs : List Pair) (o c : ℕ)
-    → Eligible options runs (row_of (run_at runs c).text) (own runs pairs c) o c → OpenFit options runs pairs o c
-open_eligible options runs pairs o c e =
+pub open_eligible : (layout : Layout) (options : ParseOptions) (runs : List Sequence) (pairs : List Pair) (o c : ℕ)
+    → Eligible options runs (row_of (run_at runs c).text) (own runs pairs c) o c → OpenFit layout options runs pairs o c
+open_eligible layout options runs pairs o c e =
     let same : own runs pairs o ≡ own runs pairs c = ap (λ k. pairs_in runs k pairs) e.opener_in in
     record {
-      key = same_key (run_at runs o) (run_at runs c) e.opener_in e.one_marker;
+      key = same_key layout (run_at runs o) (run_at runs c) e.opener_in e.one_marker;
       is_open = open_from runs pairs o (record {
         may_open = e.may_open;
         some_left = subst (λ x. 0 < left runs x o) (sym same) e.opener_left;
@@ -243,10 +248,10 @@ module _ (runs : List Sequence) (turn : ℕ) (pairs : List Pair) (q : Pair) (at 
       }
 
   -- the lists after a pair: its container's are cut behind the opener, and a used-up opener leaves its own
-  pub newest_other : (k h : ℕ) → Newest (list_of runs) (is_open runs pairs) k turn h
-      → ((r : ℕ) → r < turn → key_of (run_at runs r) ≡ k → (row_of (run_at runs r).text) ≡ (row_of (run_at runs turn).text) → ⊥)
-      → Newest (list_of runs) (is_open runs pairs') k turn h
-  newest_other k h n apart =
+  pub newest_other : (layout : Layout) (k h : ℕ) → Newest (list_of layout.line runs) (is_open runs pairs) k turn h
+      → ((r : ℕ) → r < turn → key_of layout.line (run_at runs r) ≡ k → (row_of (run_at runs r).text) ≡ (row_of (run_at runs turn).text) → ⊥)
+      → Newest (list_of layout.line runs) (is_open runs pairs') k turn h
+  newest_other layout k h n apart =
       record {
         none_above = λ r low high key. shut_from runs pairs' r (λ p.
             both_ways (is_open runs pairs r) (n.none_above r low high key) (still_open r high (open_from runs pairs' r p)).0);
@@ -261,11 +266,11 @@ module _ (runs : List Sequence) (turn : ℕ) (pairs : List Pair) (q : Pair) (at 
             subst (λ x. 0 < left runs x (h - 1)) (sym (apart_same (h - 1) far)) p);
       }
 
-  pub newest_cut : (k h : ℕ) → Newest (list_of runs) (is_open runs pairs) k (q.opener + 1) h
-      → ((r : ℕ) → r < turn → key_of (run_at runs r) ≡ k → (row_of (run_at runs r).text) ≡ (row_of (run_at runs turn).text))
+  pub newest_cut : (layout : Layout) (k h : ℕ) → Newest (list_of layout.line runs) (is_open runs pairs) k (q.opener + 1) h
+      → ((r : ℕ) → r < turn → key_of layout.line (run_at runs r) ≡ k → (row_of (run_at runs r).text) ≡ (row_of (run_at runs turn).text))
       → (h ≡ q.opener + 1 → 0 < left runs (own runs pairs' q.opener) q.opener)
-      → Newest (list_of runs) (is_open runs pairs') k turn h
-  newest_cut k h n in_it opener_left =
+      → Newest (list_of layout.line runs) (is_open runs pairs') k turn h
+  newest_cut layout k h n in_it opener_left =
       record {
         none_above = λ r low high key. shut_from runs pairs' r (λ p.
             let s = still_open r high (open_from runs pairs' r p) in
@@ -286,11 +291,11 @@ module _ (runs : List Sequence) (turn : ℕ) (pairs : List Pair) (q : Pair) (at 
             ]);
       }
 
-  pub newest_used : (k h : ℕ) → Newest (list_of runs) (is_open runs pairs) k q.opener h
-      → ((r : ℕ) → r < turn → key_of (run_at runs r) ≡ k → (row_of (run_at runs r).text) ≡ (row_of (run_at runs turn).text))
+  pub newest_used : (layout : Layout) (k h : ℕ) → Newest (list_of layout.line runs) (is_open runs pairs) k q.opener h
+      → ((r : ℕ) → r < turn → key_of layout.line (run_at runs r) ≡ k → (row_of (run_at runs r).text) ≡ (row_of (run_at runs turn).text))
       → left runs (own runs pairs' q.opener) q.opener ≡ 0
-      → Newest (list_of runs) (is_open runs pairs') k turn h
-  newest_used k h n in_it none =
+      → Newest (list_of layout.line runs) (is_open runs pairs') k turn h
+  newest_used layout k h n in_it none =
       record {
         none_above = λ r low high key. shut_from runs pairs' r (λ p.
             let s = still_open r high (open_from runs pairs' r p) in
@@ -309,10 +314,10 @@ module _ (runs : List Sequence) (turn : ℕ) (pairs : List Pair) (q : Pair) (at 
       }
 
   -- the older run of an open one
-  pub newest_older : (r h : ℕ) → r < turn → is_open runs pairs' r ≡ true
-      → Newest (list_of runs) (is_open runs pairs) (list_of runs r) r h
-      → Newest (list_of runs) (is_open runs pairs') (list_of runs r) r h
-  newest_older r h l e n =
+  pub newest_older : (layout : Layout) (r h : ℕ) → r < turn → is_open runs pairs' r ≡ true
+      → Newest (list_of layout.line runs) (is_open runs pairs) (list_of layout.line runs r) r h
+      → Newest (list_of layout.line runs) (is_open runs pairs') (list_of layout.line runs r) r h
+  newest_older layout r h l e n =
       record {
         none_above = λ s low high key. shut_from runs pairs' s (λ p.
             both_ways (is_open runs pairs s) (n.none_above s low high key) (still_open s (omega arith) (open_from runs pairs' s p)).0);
@@ -322,7 +327,7 @@ module _ (runs : List Sequence) (turn : ℕ) (pairs : List Pair) (q : Pair) (at 
             let w = n.within some in
             let o = n.is_open some in
             let up = (still_open r l e).1 in
-            let same : row_of (run_at runs (h - 1)).text ≡ row_of (run_at runs r).text = same_container (run_at runs (h - 1)) (run_at runs r) (n.listed some) in
+            let same : row_of (run_at runs (h - 1)).text ≡ row_of (run_at runs r).text = same_container layout (run_at runs (h - 1)) (run_at runs r) (n.listed some) in
             elim (cases_eq (row_of (run_at runs r).text) (row_of (run_at runs turn).text)) [
               | inl mine ↦
                   let u = up mine in

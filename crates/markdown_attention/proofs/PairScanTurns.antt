@@ -12,20 +12,20 @@ use Rattle.markdown_attention.proofs.ProbePotential.{counted-all, openers, close
 use Rattle.std.specs.Prelude.{count_by}
 use Rattle.markdown_attention.specs.NumberedPairs.{PairsFrom, row_of, left, run_at, pairs_in, size_of_pair, after_taking, markers_left, no_run}
 use Rattle.markdown_attention.specs.OpenRuns.{key_of, class_of, list_of, is_open, IsCut, WalkFound, WalkEnded, mark_of, IsClosing}
-use Rattle.markdown_attention.proofs.OpenRunLists.{ListsByMarker}
+use Rattle.markdown_attention.proofs.OpenRunLists.{Layout, ListsByMarker}
 use Rattle.markdown_attention.specs.PairScan.{standing, Whole, AreSmall}
 use Rattle.std.proofs.lemmas.List.Sums.{get_or-le-sum_by}
 use Rattle.markdown_attention.proofs.RefusalClasses.{class_small}
 use Rattle.markdown_attention.proofs.OpenRunLists.{own, open_parts, kinds}
 use Rattle.markdown_attention.proofs.PairScanByLists.{Inv, inv_idle, inv_walked, inv_pair, open_turn, taking_fits}
 
-module _ (options : ParseOptions) (runs list : List Sequence) (turn : ℕ) (pairs : List Pair) (probes : ℕ) (heads older marks : List ℕ)
-    (h : Inv options runs list turn pairs probes heads older marks) (here : turn < length runs) (by : ListsByMarker runs)
-    (keys : (r : ℕ) → r < length runs → list_of runs r < length heads)
+module _ (layout : Layout) (options : ParseOptions) (runs list : List Sequence) (turn : ℕ) (pairs : List Pair) (probes : ℕ) (heads older marks : List ℕ)
+    (h : Inv layout.line options runs list turn pairs probes heads older marks) (here : turn < length runs) (by : ListsByMarker runs)
+    (keys : (r : ℕ) → r < length runs → list_of layout.line runs r < length heads)
     (marks_length : length marks ≡ length heads * 6)
     (closer : Sequence) (e : closer ≡ run_at list turn) where
   abbrev k : ℕ
-  k = list_of runs turn
+  k = list_of layout.line runs turn
 
   abbrev class : ℕ
   class = class_of options (run_at list turn) (run_at list turn).remaining
@@ -33,8 +33,8 @@ module _ (options : ParseOptions) (runs list : List Sequence) (turn : ℕ) (pair
   closer_is : closer ≡ standing runs pairs turn
   closer_is = e ∙ h.stands.stands turn here
 
-  pub key_is : key_of closer ≡ k
-  key_is = ap key_of closer_is
+  pub key_is : key_of layout.line closer ≡ k
+  key_is = ap (key_of layout.line) closer_is
 
   head_set : (heads' : List ℕ) → heads' ≡ cond (closer.may_open && ltb 0 closer.remaining) (set heads k (turn + 1)) heads
       → (length heads' ≡ length heads)
@@ -76,7 +76,7 @@ module _ (options : ParseOptions) (runs list : List Sequence) (turn : ℕ) (pair
       → ((IsClosing closer → ⊥) → probes' ≡ probes)
       → (IsClosing closer → WalkEnded options list older (mark_of marks k class) turn head (probes' - probes))
       → probes ≤ probes' → probes' ≤ probes + turn
-      → Inv options runs list (turn + 1) pairs probes' heads' (older ++ head ∷ []) marks'
+      → Inv layout.line options runs list (turn + 1) pairs probes' heads' (older ++ head ∷ []) marks'
   end_turn probes' head heads' marks' head_is heads_is marks_is idle walked low high =
       let hs = head_set heads' heads_is in
       let small = class_small options (run_at list turn) (run_at list turn).remaining in
@@ -88,8 +88,8 @@ module _ (options : ParseOptions) (runs list : List Sequence) (turn : ℕ) (pair
             let w : WalkEnded options list older (mark_of marks k class) turn (get_or heads k 0) (probes' - probes) =
             subst (λ x. WalkEnded options list older (mark_of marks k class) turn x (probes' - probes)) head_is (walked (p.0, ltb-true 0 closer.remaining p.1)) in
             let sum : probes + (probes' - probes) ≡ probes' = omega arith in
-            subst (λ x. Inv options runs list (turn + 1) pairs x heads' (older ++ get_or heads k 0 ∷ []) marks') sum
-            (inv_walked options runs list turn pairs probes heads older marks h here by keys (probes' - probes) heads' marks' closes w (omega arith)
+            subst (λ x. Inv layout.line options runs list (turn + 1) pairs x heads' (older ++ get_or heads k 0 ∷ []) marks') sum
+            (inv_walked layout options runs list turn pairs probes heads older marks h here by keys (probes' - probes) heads' marks' closes w (omega arith)
             (rw is' (get_or-set_same marks (k * 6 + class) turn 0 mark_inside))
             (λ c lc ne. rw is' (get_or-set_other marks (k * 6 + class) (k * 6 + c) turn 0 (λ x. ne (omega arith))))
             (λ i c lc ne. rw is' (get_or-set_other marks (k * 6 + class) (i * 6 + c) turn 0 (λ x. ne (omega arith))))
@@ -98,7 +98,7 @@ module _ (options : ParseOptions) (runs list : List Sequence) (turn : ℕ) (pair
             let is' : marks' ≡ marks = marks_is ∙ rw f refl in
             let off : IsClosing closer → ⊥ = (λ x. both_ways _ f (and_from closer.may_close (ltb 0 closer.remaining) x.0 (lt-ltb 0 closer.remaining x.1))) in
             rw (idle off, is')
-            (inv_idle options runs list turn pairs probes heads older marks h here by keys heads'
+            (inv_idle layout options runs list turn pairs probes heads older marks h here by keys heads'
             (λ a b. off (ap (λ r. r.may_close) closer_is ∙ a, subst (λ r. 0 < r.remaining) (sym closer_is) b))
             hs.0 hs.1 hs.2 hs.3)
       ])
@@ -119,25 +119,25 @@ module _ (options : ParseOptions) (runs list : List Sequence) (turn : ℕ) (pair
     is_size' = is_size ∙ ap (λ r. size_of_pair r.remaining closer.remaining) opener_is ∙ ap (λ r. size_of_pair (run_at list o).remaining r.remaining) e
 
     pub fits : (0 < size) × (size ≤ (run_at list o).remaining) × (size ≤ (run_at list turn).remaining)
-    fits = taking_fits options runs list turn pairs probes heads older marks h here by keys o (probes' - probes) size walk' closes some is_size'
+    fits = taking_fits layout options runs list turn pairs probes heads older marks h here by keys o (probes' - probes) size walk' closes some is_size'
 
     pub pair_turn : (heads' marks' : List ℕ) → probes ≤ probes' → probes' ≤ probes + turn → length heads' ≡ length heads
-        → ((i : ℕ) → (row_of closer.text) * 3 ≤ i → i < (row_of closer.text) * 3 + 3 → (i ≡ k → ⊥) → IsCut older o (get_or heads i 0) (get_or heads' i 0))
-        → (IsFalse (eqb opener.remaining size) → (row_of closer.text) * 3 ≤ k → k < (row_of closer.text) * 3 + 3 → IsCut older o (get_or heads k 0) (get_or heads' k 0))
+        → ((i : ℕ) → layout.line (row_of closer.text) * 3 ≤ i → i < layout.line (row_of closer.text) * 3 + 3 → (i ≡ k → ⊥) → IsCut older o (get_or heads i 0) (get_or heads' i 0))
+        → (IsFalse (eqb opener.remaining size) → layout.line (row_of closer.text) * 3 ≤ k → k < layout.line (row_of closer.text) * 3 + 3 → IsCut older o (get_or heads k 0) (get_or heads' k 0))
         → (IsTrue (eqb opener.remaining size) → get_or heads' k 0 ≡ get_or older o 0)
-        → ((i : ℕ) → (i < (row_of closer.text) * 3) ⊎ ((row_of closer.text) * 3 + 3 ≤ i) → (i ≡ k → ⊥) → get_or heads' i 0 ≡ get_or heads i 0)
+        → ((i : ℕ) → (i < layout.line (row_of closer.text) * 3) ⊎ (layout.line (row_of closer.text) * 3 + 3 ≤ i) → (i ≡ k → ⊥) → get_or heads' i 0 ≡ get_or heads i 0)
         → ((i : ℕ) → k * 6 ≤ i → i < k * 6 + 6 → get_or marks i 0 ≤ o → get_or marks' i 0 ≡ get_or marks i 0)
         → ((i : ℕ) → k * 6 ≤ i → i < k * 6 + 6 → o < get_or marks i 0 → get_or marks' i 0 ≡ o)
         → ((i : ℕ) → (i < k * 6) ⊎ (k * 6 + 6 ≤ i) → get_or marks' i 0 ≡ get_or marks i 0)
-        → Inv options runs (after_taking list o turn size) turn (pairs ++ record { opener = o; closer = turn; size = size } ∷ []) probes' heads' older marks'
+        → Inv layout.line options runs (after_taking list o turn size) turn (pairs ++ record { opener = o; closer = turn; size = size } ∷ []) probes' heads' older marks'
     pair_turn heads' marks' low high same cut own used others m_low m_high m_others =
-        let in_container : (row_of closer.text) ≡ (row_of (run_at runs turn).text) = ap (λ r. (row_of r.text)) closer_is in
+        let in_container : layout.line (row_of closer.text) ≡ layout.line (row_of (run_at runs turn).text) = ap (λ r. layout.line (row_of r.text)) closer_is in
         let z = kinds (run_at runs turn).marker in
         let f = fits in
         let rem : opener.remaining ≡ (run_at list o).remaining = ap (λ r. r.remaining) opener_is in
         let sum : probes + (probes' - probes) ≡ probes' = omega arith in
-        subst (λ x. Inv options runs (after_taking list o turn size) turn (pairs ++ record { opener = o; closer = turn; size = size } ∷ []) x heads' older marks') sum
-        (inv_pair options runs list turn pairs probes heads older marks h here by keys o (probes' - probes) size walk' closes some is_size' heads' marks'
+        subst (λ x. Inv layout.line options runs (after_taking list o turn size) turn (pairs ++ record { opener = o; closer = turn; size = size } ∷ []) x heads' older marks') sum
+        (inv_pair layout options runs list turn pairs probes heads older marks h here by keys o (probes' - probes) size walk' closes some is_size' heads' marks'
         (omega arith) same
         (λ i li far. elim far [
           | inl below ↦ others i (inl (omega arith)) (λ x. omega arith)
@@ -153,9 +153,9 @@ module _ (options : ParseOptions) (runs list : List Sequence) (turn : ℕ) (pair
           | inr above ↦ m_others (i * 6 + c) (inr (let x : k < i = (elim (cases_eq i k) [ inl q ↦ absurd (ne q) | inr q ↦ omega arith ]) in omega arith))
         ]))
 
-pub small_runs : (options : ParseOptions) (runs list : List Sequence) (turn : ℕ) (pairs : List Pair) (probes : ℕ) (heads older marks : List ℕ)
-    → Inv options runs list turn pairs probes heads older marks → Whole runs → markers_left runs < 2 ^ 63 → AreSmall list
-small_runs options runs list turn pairs probes heads older marks h whole small = λ i inside.
+pub small_runs : (layout : Layout) (options : ParseOptions) (runs list : List Sequence) (turn : ℕ) (pairs : List Pair) (probes : ℕ) (heads older marks : List ℕ)
+    → Inv layout.line options runs list turn pairs probes heads older marks → Whole runs → markers_left runs < 2 ^ 63 → AreSmall list
+small_runs layout options runs list turn pairs probes heads older marks h whole small = λ i inside.
     let fits : i < length runs = (let e = h.stands.same_length in omega arith) in
     let is : run_at list i ≡ standing runs pairs i = h.stands.stands i fits in
     let part : (run_at runs i).remaining ≤ markers_left runs = get_or-le-sum_by (λ r. r.remaining) runs i no_run fits in
@@ -164,9 +164,9 @@ small_runs options runs list turn pairs probes heads older marks h whole small =
     let b : (run_at list i).remaining ≡ left runs (own runs pairs i) i = ap (λ r. r.remaining) is in
     (omega arith, omega arith)
 
-pub some_key : (runs : List Sequence) (n : ℕ) (heads : List ℕ) → length heads ≡ n * 3 → ((r : ℕ) → r < length runs → (row_of (run_at runs r).text) < n)
-    → (r : ℕ) → r < length runs → list_of runs r < length heads
-some_key runs n heads l h r inside = let a = h r inside in let z = kinds (run_at runs r).marker in omega arith
+pub some_key : (layout : Layout) (runs : List Sequence) (n : ℕ) (heads : List ℕ) → length heads ≡ n * 3 → ((r : ℕ) → r < length runs → layout.line (row_of (run_at runs r).text) < n)
+    → (r : ℕ) → r < length runs → list_of layout.line runs r < length heads
+some_key layout runs n heads l h r inside = let a = h r inside in let z = kinds (run_at runs r).marker in omega arith
 
 pub zeros : (n i : ℕ) → ◌≡◌ {A = ℕ} (get_or (replicate n 0) i 0) 0
 zeros n i =
@@ -183,24 +183,24 @@ pub less : (k a b s : ℕ) → a + 2 * s ≡ b → 0 < s → k + a < k + b
 less k a b s e f = omega arith
 
 -- after the last turn the scan has found the pair lists
-pub scanned-all : (options : ParseOptions) (runs list : List Sequence) (turn : ℕ) (pairs : List Pair) (probes : ℕ) (heads older marks : List ℕ)
-    → Inv options runs list turn pairs probes heads older marks → length list ≤ turn → ArePairLists options runs pairs
-scanned-all options runs list turn pairs probes heads older marks h last =
+pub scanned-all : (layout : Layout) (options : ParseOptions) (runs list : List Sequence) (turn : ℕ) (pairs : List Pair) (probes : ℕ) (heads older marks : List ℕ)
+    → Inv layout.line options runs list turn pairs probes heads older marks → length list ≤ turn → ArePairLists options runs pairs
+scanned-all layout options runs list turn pairs probes heads older marks h last =
     let all : turn ≡ length runs = (let a = h.within in let b = h.stands.same_length in omega arith) in
     are-pair-lists options runs pairs (λ k. subst (λ n. PairsFrom options runs k n [] 0 (pairs_in runs k pairs)) all (h.scanned.lists k))
 
-pub paid-all : (options : ParseOptions) (runs list : List Sequence) (turn : ℕ) (pairs : List Pair) (probes : ℕ) (heads older marks : List ℕ)
-    → Inv options runs list turn pairs probes heads older marks → length list ≤ turn
+pub paid-all : (layout : Layout) (options : ParseOptions) (runs list : List Sequence) (turn : ℕ) (pairs : List Pair) (probes : ℕ) (heads older marks : List ℕ)
+    → Inv layout.line options runs list turn pairs probes heads older marks → length list ≤ turn
     → probes ≤ 6 * count_by (λ r. r.may_open) runs + count_by (λ r. r.may_close) runs + 7 * length pairs
-paid-all options runs list turn pairs probes heads older marks h last =
+paid-all layout options runs list turn pairs probes heads older marks h last =
     let all : turn ≡ length runs = (let a = h.within in let b = h.stands.same_length in omega arith) in
     let o : openers runs turn ≡ count_by (λ r. r.may_open) runs = ap (openers runs) all ∙ counted-all (λ r. r.may_open) runs in
     let c : closers runs turn ≡ count_by (λ r. r.may_close) runs = ap (closers runs) all ∙ counted-all (λ r. r.may_close) runs in
     let p = h.paid in
     omega (arith, o, c, p)
 
-pub looks-all : (options : ParseOptions) (runs list : List Sequence) (turn : ℕ) (pairs : List Pair) (probes : ℕ) (heads older marks : List ℕ)
-    → Inv options runs list turn pairs probes heads older marks → length list ≤ turn → probes ≤ (length runs + length pairs) * length runs
-looks-all options runs list turn pairs probes heads older marks h last =
+pub looks-all : (layout : Layout) (options : ParseOptions) (runs list : List Sequence) (turn : ℕ) (pairs : List Pair) (probes : ℕ) (heads older marks : List ℕ)
+    → Inv layout.line options runs list turn pairs probes heads older marks → length list ≤ turn → probes ≤ (length runs + length pairs) * length runs
+looks-all layout options runs list turn pairs probes heads older marks h last =
     let all : turn ≡ length runs = (let a = h.within in let b = h.stands.same_length in omega arith) in
     subst (λ n. probes ≤ (n + length pairs) * length runs) all h.most

@@ -6,7 +6,7 @@ use Rattle.markdown_attention.specs.declared.attention.runs.Sequence.{Sequence}
 use Rattle.markdown_attention.specs.declared.attention.pairing.Pair.{Pair}
 use Rattle.markdown_engine_content.specs.declared.configuration.ParseOptions.{ParseOptions}
 
--- the line of a container in a table: the first for the whole content, and one for each text of a label, by its number among the texts
+-- the row of a container: the first for the whole content, and one for each text of a label, by its number among the texts
 abbrev pub row_of : Option ℕ → ℕ
 row_of None = 0
 row_of (Some text) = text + 1

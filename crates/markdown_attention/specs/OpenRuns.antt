@@ -10,9 +10,14 @@ use Rattle.markdown_attention.specs.NumberedPairs.{row_of, run_at, left, is_shut
 abbrev pub kind_of : ℕ → ℕ
 kind_of marker = if marker == byte "*" then 0 else (if marker == byte "_" then 1 else 2)
 
--- the list of a run
-abbrev pub key_of : Sequence → ℕ
-key_of r = row_of r.text * 3 + kind_of r.marker
+-- of each row the table has one more than its line, or 0 where it has none; there are so many lines, and no two rows have one
+pub record AreLines (table : List ℕ) (count : ℕ) : Type 0 where
+  pub within : (a : ℕ) → slice_index table a ≤ count
+  pub apart : (a b : ℕ) → 0 < slice_index table a → slice_index table a ≡ slice_index table b → a ≡ b
+
+-- the list of a run, where `line` says which line each row has
+abbrev pub key_of : (ℕ → ℕ) → Sequence → ℕ
+key_of line r = line (row_of r.text) * 3 + kind_of r.marker
 
 -- what of a closer, of which y markers are left, decides who may open it
 unfoldable pub class_of : ParseOptions → Sequence → ℕ → ℕ
@@ -28,8 +33,8 @@ pub record Newest (key : ℕ → ℕ) (open_at : ℕ → Bool) (q n h : ℕ) : T
   pub is_open : 0 < h → open_at (h - 1) ≡ true
 
 -- the list of run r
-abbrev pub list_of : List Sequence → ℕ → ℕ
-list_of runs r = key_of (run_at runs r)
+abbrev pub list_of : (ℕ → ℕ) → List Sequence → ℕ → ℕ
+list_of line runs r = key_of line (run_at runs r)
 
 -- a look at run r, not marked, that was refused
 pub record Refused (options : ParseOptions) (list : List Sequence) (mark c r : ℕ) : Type 0 where

@@ -6,7 +6,7 @@
 ghost use Rattle.std.specs.Prelude.{◌≡◌, ℕ, ◌+◌, ◌-◌, ◌*◌, ◌^◌, ◌<◌, ◌≤◌, ◌⊎◌, ◌&&◌, length, slice_index, slice_set, nat_lt, if◌then◌else◌, IfSome, IfNone, IfOk, IsTrue, IsFalse, count_by, replicate};
 ghost use Rattle.markdown_attention.specs.NumberedPairs.{run_at, markers_left, sizes_fit, ruled_size, is_refused_by_three, is_tilde_pair, size_of_pair, row_of};
 ghost use Rattle.markdown_attention.specs.PairScan.{Stands, Whole, AreSmall};
-ghost use Rattle.markdown_attention.specs.OpenRuns.{key_of, kind_of, class_of, WalkFound, WalkEnded, IsCut, HaveMarkers, IsClosing};
+ghost use Rattle.markdown_attention.specs.OpenRuns.{AreLines, kind_of, class_of, WalkFound, WalkEnded, IsCut, HaveMarkers, IsClosing};
 ghost use Rattle.markdown_attention.specs.RunContainers.{ArePairLists, AreWithin, AreTakenOnce};
 
 use crate::attention::newest::Newest;
@@ -74,7 +74,7 @@ fn do_sizes_fit(options: ParseOptions, a: Sequence, b: Sequence) -> bool
     }
 }
 
-// The line that the tables have for the text of a label, or for the whole content.
+// The row of the text of a label, or of the whole content.
 fn row_number(text: Option<usize>) -> usize
     requires { row_of text < 2 ^ 64 }
     ensures { result ≡ row_of text }
@@ -97,12 +97,46 @@ fn kind_number(marker: u8) -> usize
     }
 }
 
-// The list of a run.
-fn list_of(run: Sequence) -> usize
-    requires { key_of run < 2 ^ 64 }
-    ensures { result ≡ key_of run }
+// Which line of the tables each row has: one more than its number, or 0 where the row has none. There are lines only for the rows that hold a run.
+#[derive(Drop)]
+struct Lines {
+    of_rows: Vec<usize>,
+    count: usize,
+}
+
+// Gives a row the next line, if it has none.
+#[inline(always)]
+fn give_line(lines: &mut Lines, row: usize)
+    requires within { row < length lines.old.of_rows.items }
+    requires room { lines.old.count + 1 < 2 ^ 64 }
+    requires are { AreLines lines.old.of_rows.items lines.old.count }
+    ensures are { AreLines lines.new.of_rows.items lines.new.count }
+    ensures some { 0 < slice_index lines.new.of_rows.items row }
+    ensures kept { (a : ℕ) → 0 < slice_index lines.old.of_rows.items a → 0 < slice_index lines.new.of_rows.items a }
+    ensures same { length lines.new.of_rows.items ≡ length lines.old.of_rows.items }
+    ensures count { lines.new.count ≤ lines.old.count + 1 }
 {
-    row_number(run.text) * 3 + kind_number(run.marker)
+    if lines.of_rows[row] == 0 {
+        lines.count += 1;
+        lines.of_rows[row] = lines.count;
+    }
+}
+
+// The line of the text of a label, or of the whole content.
+fn line_of(lines: &Lines, text: Option<usize>) -> usize
+    requires row { row_of text < length lines.now.of_rows.items }
+    requires some { 0 < slice_index lines.now.of_rows.items (row_of text) }
+    ensures { result + 1 ≡ slice_index lines.now.of_rows.items (row_of text) }
+{
+    lines.of_rows[row_number(text)] - 1
+}
+
+// The list of a run, whose text has this line.
+fn list_of(line: usize, run: Sequence) -> usize
+    requires { line * 3 + 3 < 2 ^ 64 }
+    ensures { result ≡ line * 3 + kind_of run.marker }
+{
+    line * 3 + kind_number(run.marker)
 }
 
 // What of a closer decides who refuses it.
@@ -260,7 +294,7 @@ fn list_end(heads: &mut Vec<Newest>, list: usize, closer: Sequence)
     }
 }
 
-// How many lines the tables have: one for the whole content, and one for the text of each label.
+// How many rows there are: one for the whole content, and one for the text of each label.
 fn row_count(runs: &Runs) -> Result<usize, AllocError>
     ensures is { IfOk result (λ rows. rows ≡ runs.now.texts + 1) }
     ensures within { IfOk result (λ rows. (r : ℕ) → r < length runs.now.list → row_of (run_at runs.now.list r).text < rows) }
@@ -284,6 +318,23 @@ fn zeros(alloc: Global, rows: usize, each: usize) -> Result<Vec<usize>, AllocErr
     vec![in alloc; 0usize; size]
 }
 
+// The lines of the rows that hold a run.
+fn lines_of(alloc: Global, runs: &Runs) -> Result<Lines, AllocError>
+    ensures are { IfOk result (λ lines. AreLines lines.of_rows.items lines.count) }
+    ensures within { IfOk result (λ lines. (r : ℕ) → r < length runs.now.list → row_of (run_at runs.now.list r).text < length lines.of_rows.items) }
+    ensures some { IfOk result (λ lines. (r : ℕ) → r < length runs.now.list → 0 < slice_index lines.of_rows.items (row_of (run_at runs.now.list r).text)) }
+{
+    let rows = row_count(runs)?;
+    let mut lines = Lines {
+        of_rows: zeros(alloc, rows, 1)?,
+        count: 0,
+    };
+    for index in 0..runs.len() {
+        give_line(&mut lines, row_number(runs.text_of(index)));
+    }
+    Ok(lines)
+}
+
 /// Pairs the runs of all containers in one scan.
 pub fn pair_runs(
     alloc: Global,
@@ -305,14 +356,14 @@ pub fn pair_runs(
     ensures scan { IfOk result (λ pairs. runs.new.probes ≤ (length runs.old.list + length pairs.items) * length runs.old.list) }
     ensures half { IfOk result (λ pairs. 2 * length pairs.items ≤ markers_left runs.old.list) }
 {
-    let rows = row_count(runs)?;
+    let lines = lines_of(alloc, runs)?;
     let mut pairs = Vec::with_capacity(alloc, runs.len() / 2)?;
-    let mut heads = empty_lists(alloc, rows)?;
-    let mut marks = zeros(alloc, rows, 18)?;
+    let mut heads = empty_lists(alloc, lines.count)?;
+    let mut marks = zeros(alloc, lines.count, 18)?;
     let mut older = Vec::with_capacity(alloc, runs.len())?;
     while let Some(closer) = runs.closer() {
-        let row = row_number(closer.text);
-        let list = list_of(closer);
+        let line = line_of(&lines, closer.text);
+        let list = list_of(line, closer);
         let class = class_number(options, closer);
         let at = list * 6 + class;
         let head = heads[list];
@@ -327,7 +378,7 @@ pub fn pair_runs(
                 let size = pair_size(opener.remaining, closer.remaining);
                 runs.take(opener.number, size);
                 let used = opener.remaining == size;
-                cut_for_pair(&mut heads, &older, row * 3, list, opener.number, used);
+                cut_for_pair(&mut heads, &older, line * 3, list, opener.number, used);
                 lower_marks(&mut marks, list * 6, opener.number);
                 pairs.push(Pair {
                     opener: opener.number,

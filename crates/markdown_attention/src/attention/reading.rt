@@ -178,25 +178,25 @@ fn changes_reading(event: &Event) -> bool
 }
 
 // How many events are looked at with no other look between.
-const FOUR: usize = 4;
+const EIGHT: usize = 8;
 
-// How many of the four events from this index on come before the first that changes what is read.
+// How many of the eight events from this index on come before the first that changes what is read.
 #[inline(always)]
-fn others_among_four(events: &Events, at: usize) -> usize
-    requires within { at + FOUR ≤ length events.now }
+fn others_among_eight(events: &Events, at: usize) -> usize
+    requires within { at + EIGHT ≤ length events.now }
     requires counted { length events.now < 2 ^ 64 }
-    ensures within { result ≤ FOUR }
+    ensures within { result ≤ EIGHT }
     ensures none { (i : ℕ) (e : Event) → at ≤ i → i < at + result → changes_reading (slice_index_or events.now i e) ≡ false }
 {
-    for count in 0..FOUR {
+    for count in 0..EIGHT {
         if changes_reading(&events.bare_at(at + count)) {
             return count;
         }
     }
-    FOUR
+    EIGHT
 }
 
-// The number of the first event from an event on that changes what is read, or of one before it, where fewer than four are left.
+// The number of the first event from an event on that changes what is read, or of one before it, where fewer than eight are left.
 #[inline(always)]
 fn next_change(events: &Events, from: usize) -> usize
     requires { from ≤ length events.now }
@@ -206,10 +206,10 @@ fn next_change(events: &Events, from: usize) -> usize
 {
     let count = events.len();
     let mut at = from;
-    while count - at >= FOUR {
-        let others = others_among_four(events, at);
+    while count - at >= EIGHT {
+        let others = others_among_eight(events, at);
         at += others;
-        if others < FOUR {
+        if others < EIGHT {
             return at;
         }
     }

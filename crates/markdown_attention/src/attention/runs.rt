@@ -107,6 +107,14 @@ impl Runs {
         self.texts
     }
 
+    /// Which text of a label a run stands in, if any: no more of the run is answered, so this is no look.
+    pub(crate) fn text_of(&self, run: usize) -> Option<usize>
+        requires { run < length self.now.list }
+        ensures { result ≡ (run_at self.now.list run).text }
+    {
+        self.list[run].text
+    }
+
     /// The run in turn: at first the first, and none after the last.
     pub fn closer(&self) -> Option<Sequence>
         ensures within { IsSome result ↔ (self.now.turn < length self.now.list) }

@@ -2,8 +2,10 @@ use Rattle.std.proofs.Common.{◌≡◌, ℕ, ◌+◌, ◌-◌, ◌*◌, ◌<◌
 use Rattle.std.proofs.lemmas.Bool.{cases_lt}
 use Rattle.std.proofs.lemmas.List.{get_or_read, length-replicate}
 use Rattle.markdown_attention.specs.NumberedPairs.{row_of, run_at, markers_left, after_taking}
-use Rattle.markdown_attention.specs.OpenRuns.{class_of, list_of, mark_of, WalkFound, WalkEnded, IsCut, IsClosing}
+use Rattle.markdown_attention.specs.declared.attention.runs.Sequence.{Sequence}
+use Rattle.markdown_attention.specs.OpenRuns.{class_of, kind_of, list_of, mark_of, WalkFound, WalkEnded, IsCut, IsClosing}
 use Rattle.markdown_attention.proofs.OpenRunLists.{by-marker}
+use Rattle.markdown_attention.proofs.TextLines.{layout_of, line_in, line-some}
 use Rattle.markdown_attention.proofs.RemainingSizes.{markers_taking, length_taking}
 use Rattle.markdown_attention.proofs.PairScanByLists.{inv_start}
 use Rattle.markdown_attention.proofs.PairScanInvariant.{all-within, all-once}
@@ -17,9 +19,9 @@ loop-closer-init c =
     let ms = c.in_ok-marks.ensures in
     rw (hs, ms, c.in_ok-older.ensures.items, c.in_ok-pairs.ensures.items, c.requires.start, c.requires.unread)
     (record {
-      inv = inv_start c.args.options c.args.runs.now.list _ _ c.requires.whole (zeros (c.in_ok-rows.rows * 3)) (zeros (c.in_ok-rows.rows * 18));
-      heads_length = length-replicate (c.in_ok-rows.rows * 3) 0;
-      marks_length = length-replicate (c.in_ok-rows.rows * 18) 0;
+      inv = inv_start (layout_of c.in_ok-lines.lines.of_rows.items c.in_ok-lines.lines.count c.in_ok-lines.ensures.are) c.args.options c.args.runs.now.list _ _ c.requires.whole (zeros (c.in_ok-lines.lines.count * 3)) (zeros (c.in_ok-lines.lines.count * 18));
+      heads_length = length-replicate (c.in_ok-lines.lines.count * 3) 0;
+      marks_length = length-replicate (c.in_ok-lines.lines.count * 18) 0;
     })
 
 here : (c : After-row_known-1) → c.loop-closer.runs.turn < length c.args.runs.now.list
@@ -28,18 +30,39 @@ here c =
     let w = c.in-Some.ensures.within.0 refl in
     omega (arith, e, w)
 
+-- the line of each run is one of those
+below : (c : After-row_known-1) → (r : ℕ) → r < length c.args.runs.now.list →
+    line_in c.in_ok-lines.lines.of_rows.items c.in_ok-lines.lines.count (row_of (run_at c.args.runs.now.list r).text) < c.in_ok-lines.lines.count
+below c r inside =
+    let row : ℕ = row_of (run_at c.args.runs.now.list r).text in
+    let s = line-some c.in_ok-lines.lines.of_rows.items c.in_ok-lines.lines.count row (c.in_ok-lines.ensures.some r inside) in
+    let w = c.in_ok-lines.ensures.are.within row in
+    omega arith
+
 keys : (c : After-row_known-1) → (r : ℕ) → r < length c.args.runs.now.list →
-    list_of c.args.runs.now.list r < length c.loop-closer.heads.items
-keys c = some_key c.args.runs.now.list c.in_ok-rows.rows c.loop-closer.heads.items c.loop-closer.invariant.heads_length c.in_ok-rows.ensures.within
+    list_of (line_in c.in_ok-lines.lines.of_rows.items c.in_ok-lines.lines.count) c.args.runs.now.list r < length c.loop-closer.heads.items
+keys c = some_key (layout_of c.in_ok-lines.lines.of_rows.items c.in_ok-lines.lines.count c.in_ok-lines.ensures.are) c.args.runs.now.list c.in_ok-lines.lines.count c.loop-closer.heads.items c.loop-closer.invariant.heads_length (below c)
 
 marks_six : (c : After-row_known-1) → length c.loop-closer.marks.items ≡ length c.loop-closer.heads.items * 6
 marks_six c =
     let a = c.loop-closer.invariant.heads_length in let b = c.loop-closer.invariant.marks_length in omega arith
 
-list_is : (c : After-row_known-1) → c.list_of-list.result ≡ list_of c.args.runs.now.list c.loop-closer.runs.turn
+-- the run in turn has the text that it began with
+text_is : (c : After-row_known-1) → c.in-Some.closer.text ≡ (run_at c.args.runs.now.list c.loop-closer.runs.turn).text
+text_is c =
+    ap (λ (r : Sequence). r.text) (c.in-Some.ensures.run ∙ c.loop-closer.invariant.inv.stands.stands c.loop-closer.runs.turn (here c))
+
+line_is : (c : After-row_known-1) → c.line_of-line.result ≡ line_in c.in_ok-lines.lines.of_rows.items c.in_ok-lines.lines.count (row_of c.in-Some.closer.text)
+line_is c =
+    let some : 0 < get_or c.in_ok-lines.lines.of_rows.items (row_of c.in-Some.closer.text) 0 = omega (arith, c.line_of-line.ensures) in
+    let s = line-some c.in_ok-lines.lines.of_rows.items c.in_ok-lines.lines.count (row_of c.in-Some.closer.text) some in
+    omega (arith, s, c.line_of-line.ensures)
+
+list_is : (c : After-row_known-1) → c.list_of-list.result ≡ list_of (line_in c.in_ok-lines.lines.of_rows.items c.in_ok-lines.lines.count) c.args.runs.now.list c.loop-closer.runs.turn
 list_is c =
     c.list_of-list.ensures
-    ∙ key_is c.args.options c.args.runs.now.list c.loop-closer.runs.list c.loop-closer.runs.turn c.loop-closer.pairs.items c.loop-closer.runs.probes
+    ∙ ap (λ x. x * 3 + kind_of c.in-Some.closer.marker) (line_is c)
+    ∙ key_is (layout_of c.in_ok-lines.lines.of_rows.items c.in_ok-lines.lines.count c.in_ok-lines.ensures.are) c.args.options c.args.runs.now.list c.loop-closer.runs.list c.loop-closer.runs.turn c.loop-closer.pairs.items c.loop-closer.runs.probes
     c.loop-closer.heads.items c.loop-closer.older.items c.loop-closer.marks.items c.loop-closer.invariant.inv (here c) (by-marker c.args.runs.now.list c.requires.markers) (keys c) (marks_six c)
     c.in-Some.closer c.in-Some.ensures.run
 
@@ -48,14 +71,14 @@ class_is : (c : After-row_known-1) → c.class_number-class.result
 class_is c = c.class_number-class.ensures.is ∙ ap (λ r. class_of c.args.options r r.remaining) c.in-Some.ensures.run
 
 head_is : (c : After-row_known-1) →
-    c.index-head.result.now ≡ get_or c.loop-closer.heads.items (list_of c.args.runs.now.list c.loop-closer.runs.turn) 0
+    c.index-head.result.now ≡ get_or c.loop-closer.heads.items (list_of (line_in c.in_ok-lines.lines.of_rows.items c.in_ok-lines.lines.count) c.args.runs.now.list c.loop-closer.runs.turn) 0
 head_is c =
     let inside : c.list_of-list.result < length c.loop-closer.heads.items = rw (list_is c) (keys c c.loop-closer.runs.turn (here c)) in
     get_or_read c.loop-closer.heads.items c.list_of-list.result c.index-head.result.now inside c.index-head.ensures 0
     ∙ ap (λ x. get_or c.loop-closer.heads.items x 0) (list_is c)
 
 mark_is : (c : After-row_known-1) → c.index.result.now
-    ≡ mark_of c.loop-closer.marks.items (list_of c.args.runs.now.list c.loop-closer.runs.turn)
+    ≡ mark_of c.loop-closer.marks.items (list_of (line_in c.in_ok-lines.lines.of_rows.items c.in_ok-lines.lines.count) c.args.runs.now.list c.loop-closer.runs.turn)
     (class_of c.args.options (run_at c.loop-closer.runs.list c.loop-closer.runs.turn) (run_at c.loop-closer.runs.list c.loop-closer.runs.turn).remaining)
 mark_is c =
     let inside : c.list_of-list.result < length c.loop-closer.heads.items = rw (list_is c) (keys c c.loop-closer.runs.turn (here c)) in
@@ -64,21 +87,37 @@ mark_is c =
     let in_marks : c.list_of-list.result * 6 + c.class_number-class.result < length c.loop-closer.marks.items = omega arith in
     get_or_read c.loop-closer.marks.items (c.list_of-list.result * 6 + c.class_number-class.result) c.index.result.now in_marks c.index.ensures 0
     ∙ ap (λ x. get_or c.loop-closer.marks.items (x * 6 + c.class_number-class.result) 0) (list_is c)
-    ∙ ap (λ x. get_or c.loop-closer.marks.items (list_of c.args.runs.now.list c.loop-closer.runs.turn * 6 + x) 0) (class_is c)
+    ∙ ap (λ x. get_or c.loop-closer.marks.items (list_of (line_in c.in_ok-lines.lines.of_rows.items c.in_ok-lines.lines.count) c.args.runs.now.list c.loop-closer.runs.turn * 6 + x) 0) (class_is c)
+
+pub line_of-line-requires-clause-row : goal.line_of-line-requires-clause-row
+line_of-line-requires-clause-row c =
+    let e = c.loop-closer.invariant.inv.stands.same_length in
+    let w = c.in-Some.ensures.within.0 refl in
+    let here : c.loop-closer.runs.turn < length c.args.runs.now.list = omega (arith, e, w) in
+    let text = ap (λ (r : Sequence). r.text) (c.in-Some.ensures.run ∙ c.loop-closer.invariant.inv.stands.stands c.loop-closer.runs.turn here) in
+    subst (λ x. row_of x < length c.in_ok-lines.lines.of_rows.items) (sym text) (c.in_ok-lines.ensures.within c.loop-closer.runs.turn here)
+
+pub line_of-line-requires-clause-some : goal.line_of-line-requires-clause-some
+line_of-line-requires-clause-some c =
+    let e = c.loop-closer.invariant.inv.stands.same_length in
+    let w = c.in-Some.ensures.within.0 refl in
+    let here : c.loop-closer.runs.turn < length c.args.runs.now.list = omega (arith, e, w) in
+    let text = ap (λ (r : Sequence). r.text) (c.in-Some.ensures.run ∙ c.loop-closer.invariant.inv.stands.stands c.loop-closer.runs.turn here) in
+    subst (λ x. 0 < get_or c.in_ok-lines.lines.of_rows.items (row_of x) 0) (sym text) (c.in_ok-lines.ensures.some c.loop-closer.runs.turn here)
 
 pub walk-requires-clause-head : goal.walk-requires-clause-head
 walk-requires-clause-head c =
-    rw (head_is c) (c.loop-closer.invariant.inv.lists.heads_le (list_of c.args.runs.now.list c.loop-closer.runs.turn) (keys c c.loop-closer.runs.turn (here c)))
+    rw (head_is c) (c.loop-closer.invariant.inv.lists.heads_le (list_of (line_in c.in_ok-lines.lines.of_rows.items c.in_ok-lines.lines.count) c.args.runs.now.list c.loop-closer.runs.turn) (keys c c.loop-closer.runs.turn (here c)))
 
 pub walk-requires-clause-small : goal.walk-requires-clause-small
 walk-requires-clause-small c =
-    small_runs c.args.options c.args.runs.now.list c.loop-closer.runs.list c.loop-closer.runs.turn c.loop-closer.pairs.items c.loop-closer.runs.probes
+    small_runs (layout_of c.in_ok-lines.lines.of_rows.items c.in_ok-lines.lines.count c.in_ok-lines.ensures.are) c.args.options c.args.runs.now.list c.loop-closer.runs.list c.loop-closer.runs.turn c.loop-closer.pairs.items c.loop-closer.runs.probes
     c.loop-closer.heads.items c.loop-closer.older.items c.loop-closer.marks.items c.loop-closer.invariant.inv c.requires.whole c.requires.small
 
 pub loop-closer-preserved-in-None : goal.loop-closer-preserved-in-None
 loop-closer-preserved-in-None c =
     let b = (goal.at.loop-closer-preserved-in-None c).After-walk.before in
-    let k : ℕ = list_of c.args.runs.now.list c.loop-closer.runs.turn in
+    let k : ℕ = list_of (line_in c.in_ok-lines.lines.of_rows.items c.in_ok-lines.lines.count) c.args.runs.now.list c.loop-closer.runs.turn in
     let class : ℕ = class_of c.args.options (run_at c.loop-closer.runs.list c.loop-closer.runs.turn) (run_at c.loop-closer.runs.list c.loop-closer.runs.turn).remaining in
     let heads' : c.list_end.new.heads.items
     ≡ cond (c.in-Some.closer.may_open && ltb 0 c.in-Some.closer.remaining) (set c.loop-closer.heads.items k (c.loop-closer.runs.turn + 1)) c.loop-closer.heads.items =
@@ -102,7 +141,7 @@ loop-closer-preserved-in-None c =
     c.loop-closer.runs.turn c.index-head.result.now (c.walk.new.runs.probes - c.loop-closer.runs.probes)) (mark_is b)
     (subst (λ o. WalkEnded c.args.options c.loop-closer.runs.list o c.index.result.now
     c.loop-closer.runs.turn c.index-head.result.now (c.walk.new.runs.probes - c.loop-closer.runs.probes)) c.deref.ensures.value (c.in-None.ensures.none x)) in
-    let inv' = end_turn c.args.options c.args.runs.now.list c.loop-closer.runs.list c.loop-closer.runs.turn c.loop-closer.pairs.items c.loop-closer.runs.probes
+    let inv' = end_turn (layout_of c.in_ok-lines.lines.of_rows.items c.in_ok-lines.lines.count c.in_ok-lines.ensures.are) c.args.options c.args.runs.now.list c.loop-closer.runs.list c.loop-closer.runs.turn c.loop-closer.pairs.items c.loop-closer.runs.probes
     c.loop-closer.heads.items c.loop-closer.older.items c.loop-closer.marks.items c.loop-closer.invariant.inv (here b) (by-marker c.args.runs.now.list c.requires.markers) (keys b) (marks_six b)
     c.in-Some.closer c.in-Some.ensures.run c.walk.new.runs.probes c.index-head.result.now c.list_end.new.heads.items c.mark_end.new.marks.items
     (head_is b) heads' marks' c.in-None.ensures.idle walked c.in-None.ensures.at_least c.in-None.ensures.at_most in
@@ -117,7 +156,7 @@ loop-closer-preserved-in-None c =
 pub take-requires-clause-opener_has : goal.take-requires-clause-opener_has
 take-requires-clause-opener_has c =
     let b = (goal.at.take-requires-clause-opener_has c).After-walk.before in
-    let k : ℕ = list_of c.args.runs.now.list c.loop-closer.runs.turn in
+    let k : ℕ = list_of (line_in c.in_ok-lines.lines.of_rows.items c.in_ok-lines.lines.count) c.args.runs.now.list c.loop-closer.runs.turn in
     let class : ℕ = class_of c.args.options (run_at c.loop-closer.runs.list c.loop-closer.runs.turn) (run_at c.loop-closer.runs.list c.loop-closer.runs.turn).remaining in
     let o : ℕ = c.in-Some-walk.opener.number in
     let walk : WalkFound c.args.options c.loop-closer.runs.list c.loop-closer.older.items (mark_of c.loop-closer.marks.items k class)
@@ -126,7 +165,7 @@ take-requires-clause-opener_has c =
     c.loop-closer.runs.turn c.index-head.result.now o (c.walk.new.runs.probes - c.loop-closer.runs.probes)) (mark_is b)
     (subst (λ l. WalkFound c.args.options c.loop-closer.runs.list l c.index.result.now
     c.loop-closer.runs.turn c.index-head.result.now o (c.walk.new.runs.probes - c.loop-closer.runs.probes)) c.deref.ensures.value c.in-Some-walk.ensures.found) in
-    let f = fits c.args.options c.args.runs.now.list c.loop-closer.runs.list c.loop-closer.runs.turn c.loop-closer.pairs.items c.loop-closer.runs.probes
+    let f = fits (layout_of c.in_ok-lines.lines.of_rows.items c.in_ok-lines.lines.count c.in_ok-lines.ensures.are) c.args.options c.args.runs.now.list c.loop-closer.runs.list c.loop-closer.runs.turn c.loop-closer.pairs.items c.loop-closer.runs.probes
     c.loop-closer.heads.items c.loop-closer.older.items c.loop-closer.marks.items c.loop-closer.invariant.inv (here b) (by-marker c.args.runs.now.list c.requires.markers) (keys b) (marks_six b)
     c.in-Some.closer c.in-Some.ensures.run o c.pair_size-size.result c.walk.new.runs.probes c.index-head.result.now c.in-Some-walk.opener
     c.in-Some-walk.ensures.run (head_is b) c.in-Some-walk.ensures.closes walk c.pair_size-size.ensures in
@@ -135,7 +174,7 @@ take-requires-clause-opener_has c =
 pub loop-closer-smaller : goal.loop-closer-smaller
 loop-closer-smaller c =
     let b = (goal.at.loop-closer-smaller c).After-walk.before in
-    let k : ℕ = list_of c.args.runs.now.list c.loop-closer.runs.turn in
+    let k : ℕ = list_of (line_in c.in_ok-lines.lines.of_rows.items c.in_ok-lines.lines.count) c.args.runs.now.list c.loop-closer.runs.turn in
     let class : ℕ = class_of c.args.options (run_at c.loop-closer.runs.list c.loop-closer.runs.turn) (run_at c.loop-closer.runs.list c.loop-closer.runs.turn).remaining in
     let o : ℕ = c.in-Some-walk.opener.number in
     let walk : WalkFound c.args.options c.loop-closer.runs.list c.loop-closer.older.items (mark_of c.loop-closer.marks.items k class)
@@ -144,7 +183,7 @@ loop-closer-smaller c =
     c.loop-closer.runs.turn c.index-head.result.now o (c.walk.new.runs.probes - c.loop-closer.runs.probes)) (mark_is b)
     (subst (λ l. WalkFound c.args.options c.loop-closer.runs.list l c.index.result.now
     c.loop-closer.runs.turn c.index-head.result.now o (c.walk.new.runs.probes - c.loop-closer.runs.probes)) c.deref.ensures.value c.in-Some-walk.ensures.found) in
-    let f = fits c.args.options c.args.runs.now.list c.loop-closer.runs.list c.loop-closer.runs.turn c.loop-closer.pairs.items c.loop-closer.runs.probes
+    let f = fits (layout_of c.in_ok-lines.lines.of_rows.items c.in_ok-lines.lines.count c.in_ok-lines.ensures.are) c.args.options c.args.runs.now.list c.loop-closer.runs.list c.loop-closer.runs.turn c.loop-closer.pairs.items c.loop-closer.runs.probes
     c.loop-closer.heads.items c.loop-closer.older.items c.loop-closer.marks.items c.loop-closer.invariant.inv (here b) (by-marker c.args.runs.now.list c.requires.markers) (keys b) (marks_six b)
     c.in-Some.closer c.in-Some.ensures.run o c.pair_size-size.result c.walk.new.runs.probes c.index-head.result.now c.in-Some-walk.opener
     c.in-Some-walk.ensures.run (head_is b) c.in-Some-walk.ensures.closes walk c.pair_size-size.ensures in
@@ -163,7 +202,7 @@ loop-closer-smaller c =
 pub loop-closer-preserved : goal.loop-closer-preserved
 loop-closer-preserved c =
     let b = (goal.at.loop-closer-preserved c).After-walk.before in
-    let k : ℕ = list_of c.args.runs.now.list c.loop-closer.runs.turn in
+    let k : ℕ = list_of (line_in c.in_ok-lines.lines.of_rows.items c.in_ok-lines.lines.count) c.args.runs.now.list c.loop-closer.runs.turn in
     let class : ℕ = class_of c.args.options (run_at c.loop-closer.runs.list c.loop-closer.runs.turn) (run_at c.loop-closer.runs.list c.loop-closer.runs.turn).remaining in
     let o : ℕ = c.in-Some-walk.opener.number in
     let walk : WalkFound c.args.options c.loop-closer.runs.list c.loop-closer.older.items (mark_of c.loop-closer.marks.items k class)
@@ -176,21 +215,21 @@ loop-closer-preserved c =
     let hs' : List ℕ = c.cut_for_pair.new.heads.items in
     let ms : List ℕ = c.loop-closer.marks.items in
     let ms' : List ℕ = c.lower_marks.new.marks.items in
-    let row : ℕ = row_of c.in-Some.closer.text in
+    let row : ℕ = line_in c.in_ok-lines.lines.of_rows.items c.in_ok-lines.lines.count (row_of c.in-Some.closer.text) in
     let old : List ℕ = c.loop-closer.older.items in
     let cut : (i : ℕ) → row * 3 ≤ i → i < row * 3 + 3 → (i ≡ k → ⊥) → IsCut old o (get_or hs i 0) (get_or hs' i 0) =
-    subst (λ f. (i : ℕ) → f * 3 ≤ i → i < f * 3 + 3 → (i ≡ k → ⊥) → IsCut old o (get_or hs i 0) (get_or hs' i 0)) c.row_number-row.ensures
+    subst (λ f. (i : ℕ) → f * 3 ≤ i → i < f * 3 + 3 → (i ≡ k → ⊥) → IsCut old o (get_or hs i 0) (get_or hs' i 0)) (line_is b)
     (λ i low high ne. subst (λ x. IsCut x o (get_or hs i 0) (get_or hs' i 0)) c.deref-in-Some-walk.ensures.value
     (c.cut_for_pair.ensures.cut i low high (λ e. ne (e ∙ list_is b)))) in
     let own : eqb c.in-Some-walk.opener.remaining c.pair_size-size.result ≡ false → row * 3 ≤ k → k < row * 3 + 3 → IsCut old o (get_or hs k 0) (get_or hs' k 0) =
-    subst (λ f. eqb c.in-Some-walk.opener.remaining c.pair_size-size.result ≡ false → f * 3 ≤ k → k < f * 3 + 3 → IsCut old o (get_or hs k 0) (get_or hs' k 0)) c.row_number-row.ensures
+    subst (λ f. eqb c.in-Some-walk.opener.remaining c.pair_size-size.result ≡ false → f * 3 ≤ k → k < f * 3 + 3 → IsCut old o (get_or hs k 0) (get_or hs' k 0)) (line_is b)
     (λ e low high. subst (λ x. IsCut x o (get_or hs k 0) (get_or hs' k 0)) c.deref-in-Some-walk.ensures.value
-    (subst (λ x. c.row_number-row.result * 3 ≤ x → x < c.row_number-row.result * 3 + 3 → IsCut c.deref-in-Some-walk.result.now o (get_or hs x 0) (get_or hs' x 0)) (list_is b)
+    (subst (λ x. c.line_of-line.result * 3 ≤ x → x < c.line_of-line.result * 3 + 3 → IsCut c.deref-in-Some-walk.result.now o (get_or hs x 0) (get_or hs' x 0)) (list_is b)
     (c.cut_for_pair.ensures.own e) low high)) in
     let used : eqb c.in-Some-walk.opener.remaining c.pair_size-size.result ≡ true → get_or hs' k 0 ≡ get_or old o 0 =
     λ e. ap (λ x. get_or hs' x 0) (sym (list_is b)) ∙ c.cut_for_pair.ensures.used e ∙ ap (λ x. get_or x o 0) c.deref-in-Some-walk.ensures.value in
     let others : (i : ℕ) → (i < row * 3) ⊎ (row * 3 + 3 ≤ i) → (i ≡ k → ⊥) → get_or hs' i 0 ≡ get_or hs i 0 =
-    subst (λ f. (i : ℕ) → (i < f * 3) ⊎ (f * 3 + 3 ≤ i) → (i ≡ k → ⊥) → get_or hs' i 0 ≡ get_or hs i 0) c.row_number-row.ensures
+    subst (λ f. (i : ℕ) → (i < f * 3) ⊎ (f * 3 + 3 ≤ i) → (i ≡ k → ⊥) → get_or hs' i 0 ≡ get_or hs i 0) (line_is b)
     (λ i far ne. c.cut_for_pair.ensures.others i far (λ e. ne (e ∙ list_is b))) in
     let low : (i : ℕ) → k * 6 ≤ i → i < k * 6 + 6 → get_or ms i 0 ≤ o → get_or ms' i 0 ≡ get_or ms i 0 =
     subst (λ x. (i : ℕ) → x * 6 ≤ i → i < x * 6 + 6 → get_or ms i 0 ≤ o → get_or ms' i 0 ≡ get_or ms i 0) (list_is b) c.lower_marks.ensures.low in
@@ -198,7 +237,7 @@ loop-closer-preserved c =
     subst (λ x. (i : ℕ) → x * 6 ≤ i → i < x * 6 + 6 → o < get_or ms i 0 → get_or ms' i 0 ≡ o) (list_is b) c.lower_marks.ensures.high in
     let rest : (i : ℕ) → (i < k * 6) ⊎ (k * 6 + 6 ≤ i) → get_or ms' i 0 ≡ get_or ms i 0 =
     subst (λ x. (i : ℕ) → (i < x * 6) ⊎ (x * 6 + 6 ≤ i) → get_or ms' i 0 ≡ get_or ms i 0) (list_is b) c.lower_marks.ensures.others in
-    let inv' = pair_turn c.args.options c.args.runs.now.list c.loop-closer.runs.list c.loop-closer.runs.turn c.loop-closer.pairs.items c.loop-closer.runs.probes
+    let inv' = pair_turn (layout_of c.in_ok-lines.lines.of_rows.items c.in_ok-lines.lines.count c.in_ok-lines.ensures.are) c.args.options c.args.runs.now.list c.loop-closer.runs.list c.loop-closer.runs.turn c.loop-closer.pairs.items c.loop-closer.runs.probes
     c.loop-closer.heads.items c.loop-closer.older.items c.loop-closer.marks.items c.loop-closer.invariant.inv (here b) (by-marker c.args.runs.now.list c.requires.markers) (keys b) (marks_six b)
     c.in-Some.closer c.in-Some.ensures.run o c.pair_size-size.result c.walk.new.runs.probes c.index-head.result.now c.in-Some-walk.opener
     c.in-Some-walk.ensures.run (head_is b) c.in-Some-walk.ensures.closes walk c.pair_size-size.ensures
@@ -220,15 +259,15 @@ returns c =
     ] in
     let inv = c.loop-closer.invariant.inv in
     record {
-      lists = scanned-all c.args.options c.args.runs.now.list c.loop-closer.runs.list c.loop-closer.runs.turn c.loop-closer.pairs.items c.loop-closer.runs.probes
+      lists = scanned-all (layout_of c.in_ok-lines.lines.of_rows.items c.in_ok-lines.lines.count c.in_ok-lines.ensures.are) c.args.options c.args.runs.now.list c.loop-closer.runs.list c.loop-closer.runs.turn c.loop-closer.pairs.items c.loop-closer.runs.probes
           c.loop-closer.heads.items c.loop-closer.older.items c.loop-closer.marks.items inv last;
       within = all-within c.args.options c.args.runs.now.list c.loop-closer.runs.turn c.loop-closer.pairs.items inv.scanned;
       once = all-once c.args.options c.args.runs.now.list c.loop-closer.runs.turn c.loop-closer.pairs.items inv.scanned;
       left = inv.stands;
-      at_most = paid-all c.args.options c.args.runs.now.list c.loop-closer.runs.list c.loop-closer.runs.turn c.loop-closer.pairs.items c.loop-closer.runs.probes
+      at_most = paid-all (layout_of c.in_ok-lines.lines.of_rows.items c.in_ok-lines.lines.count c.in_ok-lines.ensures.are) c.args.options c.args.runs.now.list c.loop-closer.runs.list c.loop-closer.runs.turn c.loop-closer.pairs.items c.loop-closer.runs.probes
           c.loop-closer.heads.items c.loop-closer.older.items c.loop-closer.marks.items inv last;
       at_least = inv.least;
-      scan = looks-all c.args.options c.args.runs.now.list c.loop-closer.runs.list c.loop-closer.runs.turn c.loop-closer.pairs.items c.loop-closer.runs.probes
+      scan = looks-all (layout_of c.in_ok-lines.lines.of_rows.items c.in_ok-lines.lines.count c.in_ok-lines.ensures.are) c.args.options c.args.runs.now.list c.loop-closer.runs.list c.loop-closer.runs.turn c.loop-closer.pairs.items c.loop-closer.runs.probes
           c.loop-closer.heads.items c.loop-closer.older.items c.loop-closer.marks.items inv last;
       half = omega (arith, inv.half);
     }

@@ -1,13 +1,14 @@
 use Rattle.std.proofs.Common.{◌≡◌, ◌+◌, ◌-◌, ◌*◌, length}
 use Rattle.markdown_attention.specs.NumberedPairs.{markers_left}
 use Rattle.markdown_attention.proofs.PairScanByLists.{Inv}
+use Rattle.markdown_attention.proofs.TextLines.{line_in}
 use Rattle.markdown_attention.proofs.attention.pairing.pair_runs.Given as goal
 
 abbrev pub invariant-loop-closer : goal.invariant-loop-closer
 invariant-loop-closer l = record {
-  inv : Inv l.options l.fn.runs.list l.runs.list l.runs.turn l.pairs.items l.runs.probes l.heads.items l.older.items l.marks.items;
-  heads_length : length l.heads.items ≡ l.rows * 3;
-  marks_length : length l.marks.items ≡ l.rows * 18;
+  inv : Inv (line_in l.lines.of_rows.items l.lines.count) l.options l.fn.runs.list l.runs.list l.runs.turn l.pairs.items l.runs.probes l.heads.items l.older.items l.marks.items;
+  heads_length : length l.heads.items ≡ l.lines.count * 3;
+  marks_length : length l.marks.items ≡ l.lines.count * 18;
 }
 
 abbrev pub decreases-loop-closer : goal.decreases-loop-closer

@@ -4,7 +4,7 @@ use Rattle.markdown_attention.proofs.attention.reading.next_change.Goals as goal
 
 pub loop-at-preserved : goal.loop-at-preserved
 loop-at-preserved c =
-    let o = c.others_among_four-others.ensures in
+    let o = c.others_among_eight-others.ensures in
     record {
       from = omega (arith, c.loop-at.invariant.from);
       within = omega (arith, c.loop-at-test.true, o.within, c.len-count.ensures);

@@ -1,6 +1,6 @@
 use Rattle.std.proofs.Common.{◌<◌, ◌+◌, length, arith, sym, ◌∙◌}
 use Rattle.markdown_attention.proofs.RunSearch.{others-more}
-use Rattle.markdown_attention.proofs.attention.reading.others_among_four.Goals as goal
+use Rattle.markdown_attention.proofs.attention.reading.others_among_eight.Goals as goal
 
 pub loop-count-preserved : goal.loop-count-preserved
 loop-count-preserved c =
