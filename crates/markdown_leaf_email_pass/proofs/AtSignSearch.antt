@@ -94,7 +94,7 @@ later-index a b c d h = grind (arith, nat_tests)
 
 -- By the bytes.
 
-sign-at : (bytes : List ℕ) (i : ℕ) (cs : List Code) (p q : Point) → IsStretch bytes p q → between bytes p q ≡ cs →
+pub sign-at : (bytes : List ℕ) (i : ℕ) (cs : List Code) (p q : Point) → IsStretch bytes p q → between bytes p q ≡ cs →
     p.index ≤ i → i < q.index → get_or bytes i 0 ≡ 64 → has_sign bytes p q ≡ true
 sign-at bytes i [] p q s e low high sign =
     elim (stretch-cases bytes p q s) [
@@ -128,10 +128,10 @@ tab-other bytes p q h before le e =
     clash : (x : ℕ) → x ≡ 64 → x ≡ 9 → ⊥
     clash x k l = omega (arith, k, l)
 
-abbrev NoSign : List ℕ → ℕ → ℕ → Type 0
+abbrev pub NoSign : List ℕ → ℕ → ℕ → Type 0
 NoSign bytes from to = (i : ℕ) → from ≤ i → i < to → get_or bytes i 0 ≢ 64
 
-sign-not : (bytes : List ℕ) (cs : List Code) (p q : Point) → IsStretch bytes p q → between bytes p q ≡ cs →
+pub sign-not : (bytes : List ℕ) (cs : List Code) (p q : Point) → IsStretch bytes p q → between bytes p q ≡ cs →
     NoSign bytes p.index q.index → has_sign bytes p q ≡ false
 sign-not bytes [] p q s e none =
     elim (stretch-cases bytes p q s) [
@@ -155,11 +155,11 @@ sign-not bytes (c ∷ cs) p q s e none =
 
 -- In a slice of the bytes.
 
-in-slice : (bytes : List ℕ) (a b k : ℕ) → b ≤ length bytes → a + k < b →
+pub in-slice : (bytes : List ℕ) (a b k : ℕ) → b ≤ length bytes → a + k < b →
     get_or (slice_range bytes a b) k 0 ≡ get_or bytes (a + k) 0
 in-slice bytes a b k within lt = get_or-take (b - a) (drop a bytes) k 0 (omega (arith, lt)) ∙ get_or-drop a bytes k 0
 
-slice-length : (bytes : List ℕ) (a b : ℕ) → a ≤ b → b ≤ length bytes → length (slice_range bytes a b) ≡ b - a
+pub slice-length : (bytes : List ℕ) (a b : ℕ) → a ≤ b → b ≤ length bytes → length (slice_range bytes a b) ≡ b - a
 slice-length bytes a b order within =
     let left : length (drop a bytes) ≡ length bytes - a = length-drop a bytes in
     length-take-le (b - a) (drop a bytes) (omega (arith, left, order, within))

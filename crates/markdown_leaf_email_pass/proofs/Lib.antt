@@ -9,4 +9,6 @@ pub mod AtSignSearch
 pub mod EmailEditLemmas
 pub mod EmailPassLaw
 pub mod SettledEvents
-pub mod FinalEvents
+pub mod ClearBytes
+pub mod StillEvents
+pub mod StillTrees

@@ -1,28 +1,32 @@
--- Data that a last pass of a text changes, or may change.
-use Rattle.std.specs.Prelude.{◌≡◌, ◌<◌, ◌||◌, ◌&&◌, ℕ, zero, suc, Bool, true, false, List, [], ◌∷◌, length, drop}
+-- Data that a last pass of a text changes, or may change, and data that none does.
+use Rattle.std.specs.Prelude.{◌≡◌, ◌≢◌, ◌<◌, ◌≤◌, ◌||◌, ℕ, Bool, true, false, List, [], ◌∷◌, length, drop, slice_index_or}
+use Rattle.std.specs.Str.{byte}
 use Rattle.markdown_engine_content.specs.declared.event.Event.{Event}
-use Rattle.markdown_partial.specs.MergedEvents.{closes_data, opening}
-use Rattle.markdown_partial.specs.TrimmedEvents.{flag, loses_first}
+use Rattle.markdown_partial.specs.TrimmedEvents.{closes_ending, flag, loses_first}
 use Rattle.markdown_leaf_email_pass.specs.EmailEdits.{begins_signed}
+use Rattle.markdown_leaf_email_pass.specs.declared.settled.Clear.{Clear}
+
+-- these events begin with data that carries no link, and loses blank codes or has an `@`; `front` says that blank codes behind what stands
+-- before them go, and `whole` that those at the end of the whole do
+abbrev pub is_open : List ℕ → Bool → Bool → List Event → Bool
+is_open bytes whole front es = loses_first bytes whole front es || begins_signed bytes es
+
+-- such data begins at the event of this number
+abbrev pub is_open_at : List ℕ → Bool → List Event → ℕ → Bool
+is_open_at bytes whole es i = is_open bytes whole (flag i whole es) (drop i es)
 
 -- data that carries no link loses blank codes, or has an `@`
 pub record HasOpenData (bytes : List ℕ) (whole : Bool) (es : List Event) : Type 0 where
   pub at : ℕ
   pub within : at < length es
-  pub found : loses_first bytes whole (flag at whole es) (drop at es) || begins_signed bytes (drop at es) ≡ true
+  pub found : is_open_at bytes whole es at ≡ true
 
--- the first is the Exit of data
-abbrev pub closes_first : List Event → Bool
-closes_first [] = false
-closes_first (e ∷ es) = closes_data e
+-- no such data begins at any of these events
+abbrev pub IsStill : List ℕ → Bool → Bool → List Event → Type 0
+IsStill bytes whole front [] = Unit {0}
+IsStill bytes whole front (e ∷ es) = (is_open bytes whole front (e ∷ es) ≡ false) × IsStill bytes whole (closes_ending e) es
 
--- the event before that of this number is the Exit of data
-abbrev pub follows_data : ℕ → List Event → Bool
-follows_data zero es = false
-follows_data (suc i) es = closes_first (drop i es)
-
--- data that carries no link stands right behind other data, or such data loses blank codes, at the ends of the whole too, or has an `@`
-pub record HasLooseData (bytes : List ℕ) (es : List Event) : Type 0 where
-  pub at : ℕ
-  pub within : at < length es
-  pub found : (follows_data at es && opening (drop at es)) || (loses_first bytes true (flag at true es) (drop at es) || begins_signed bytes (drop at es)) ≡ true
+-- no `@` stands among these bytes, and the end up to which it is looked for is one of the document
+pub record IsClear (bytes : List ℕ) (clear : Clear) : Type 0 where
+  pub none : (i : ℕ) → clear.from ≤ i → i < clear.to → slice_index_or bytes i 0 ≢ byte "@"
+  pub within : clear.end ≤ length bytes

@@ -1,23 +1,29 @@
-// Whether the last passes of a text find nothing: one walk in place of one for merging, one for trimming and one for emails.
+// Whether the last passes of a text find nothing: one walk in place of one for trimming and one for emails, and the same beside merging.
 //
-// No data that carries no link loses a blank code, and none has an `@`: then neither trimming nor emails change an event. Where none stands right
-// behind other data either, merging changes none. Most texts are so.
+// No data that carries no link loses a blank code, and none has an `@`: then neither trimming nor emails change an event, nor do they once
+// neighbouring data is merged. Most texts are so.
 #![tactic(auto)]
 
-ghost use Rattle.std.specs.Prelude.{◌≡◌, ◌<◌, ◌≤◌, Bool, None, IsTrue, true, false, length};
+ghost use Rattle.std.specs.Prelude.{◌≡◌, ◌≢◌, ◌<◌, ◌≤◌, ◌^◌, ◌&&◌, ◌||◌, not, Bool, ℕ, None, IfOk, OnOk, OnErr, IsTrue, [], true, false, length, drop, slice_index_or};
+ghost use Rattle.std.specs.Str.{byte};
 ghost use Rattle.markdown_engine_content.specs.Content.{document_limit};
 ghost use Rattle.markdown_engine.specs.PastTree.{appended_from};
 ghost use Rattle.markdown_engine_content.specs.Tree.{Forest};
 ghost use Rattle.markdown_model.specs.Passes.{merged, trimmed, with_emails_apart};
-ghost use Rattle.markdown_partial.specs.MergedEvents.{closes_data, HasData};
-ghost use Rattle.markdown_partial.specs.TrimmedEvents.{HasPlaces, HasParts};
-ghost use Rattle.markdown_leaf_email_pass.specs.OpenData.{follows_data, HasOpenData, HasLooseData};
+ghost use Rattle.markdown_partial.specs.MergedEvents.{joints, opens_data, HasData};
+ghost use Rattle.markdown_partial.specs.TrimmedData.{IsStretch};
+ghost use Rattle.markdown_partial.specs.TrimmedEvents.{FirstHasPlaces, HasPlaces, HasParts};
+ghost use Rattle.markdown_leaf_email_pass.specs.EmailScan.{has_sign};
+ghost use Rattle.markdown_leaf_email_pass.specs.OpenData.{is_open_at, HasOpenData, IsClear, IsStill};
 
 use crate::email::begins_signed;
-use markdown_engine_content::event::{Event, Kind, Name};
+use markdown_engine_content::event::{Event, Point};
 use markdown_engine_events::events::Events;
-use markdown_partial::partial_data::next_data;
+use markdown_engine_events::util::edit_map::EditMap;
+use markdown_partial::partial_data::{mark, next_data};
 use markdown_partial::partial_whitespace::data_loses;
+use memchr::memchr;
+use std::alloc::AllocError;
 
 /// Whether no data loses blank codes, and none has an `@`. Then trimming and setting emails apart leave the events as they are, whether or not
 /// hard breaks are looked for; `whole` says that the start and the end of the whole are trimmed too.
@@ -41,51 +47,125 @@ pub fn is_settled(bytes: &[u8], events: &Events, whole: bool) -> bool
     true
 }
 
-// Whether this is the Exit of data.
-fn closes_data(event: &Event) -> bool
-    ensures { result ≡ closes_data event.now }
-{
-    matches!(
-        event,
-        Event {
-            kind: Kind::Exit,
-            name: Name::Data,
-            link: None,
-            ..
-        }
-    )
+// A stretch of bytes in which no `@` stands, and how far it is looked for.
+#[derive(Clone, Copy)]
+struct Clear {
+    // Where the stretch begins.
+    from: usize,
+    // Where it ends: at an `@`, or where the search did.
+    to: usize,
+    // Where searches end, if data does not reach past it.
+    end: usize,
 }
 
-// Whether the event before this one is the Exit of data.
-fn follows_data(events: &Events, index: usize) -> bool
-    requires { index < length events.now }
-    ensures { result ≡ follows_data index events.now }
+// The bytes from a place on before the first `@`; it is looked for up to the end.
+#[inline(never)]
+fn clear_from(bytes: &[u8], from: usize, end: usize) -> Clear
+    requires order { from ≤ end }
+    requires within { end ≤ length bytes.now }
+    ensures clear { IsClear bytes.now result }
+    ensures from { result.from ≡ from }
+    ensures end { result.end ≡ end }
+    ensures low { from ≤ result.to }
+    ensures sign { result.to < end → slice_index_or bytes.now result.to 0 ≡ byte "@" }
 {
-    index > 0 && closes_data(&events.bare_at(index - 1))
+    let to = match memchr(b'@', &bytes[from..end]) {
+        Some(before) => from + before,
+        None => end,
+    };
+    Clear { from, to, end }
 }
 
-/// Whether no data stands right behind other data, none loses blank codes, and none has an `@`. Then merging, trimming the whole and setting
-/// emails apart leave the events as they are, whether or not hard breaks are looked for.
-///
-/// The document has at most `usize::MAX / 8` bytes, and each data stands at places of it. The work is that of the events and of the bytes of
-/// the data. Takes no memory.
-pub fn is_final(bytes: &[u8], events: &Events) -> bool
+// Whether an `@` stands in a stretch. As a rule the stretch is known to be clear, since the bytes up to the next `@` were looked through before.
+#[inline(always)]
+fn has_sign(bytes: &[u8], clear: &mut Clear, from: Point, to: Point) -> bool
+    requires clear { IsClear bytes.now clear.old }
+    requires stretch { IsStretch bytes.now from to }
+    ensures value { result ≡ has_sign bytes.now from to }
+    ensures clear { IsClear bytes.now clear.new }
+{
+    if clear.from <= from.index && to.index <= clear.to {
+        return false;
+    }
+    *clear = clear_from(bytes, from.index, clear.end.max(to.index));
+    clear.to < to.index
+}
+
+// Whether all data so far is still, and this data too: it loses no blank codes, at the ends of the whole neither, and has no `@`.
+#[inline(always)]
+fn stays_still(bytes: &[u8], events: &Events, clear: &mut Clear, index: usize, still: bool) -> bool
+    requires fits { length bytes.now ≤ document_limit }
+    requires clear { IsClear bytes.now clear.old }
+    requires within { index < length events.now }
+    requires counted { length events.now < 2 ^ 64 }
+    requires places { FirstHasPlaces bytes.now (drop index events.now) }
+    requires opens { (e : Event) → opens_data (slice_index_or events.now index e) ≡ true }
+    ensures value { result ≡ still && not (is_open_at bytes.now true events.now index) }
+    ensures clear { IsClear bytes.now clear.new }
+{
+    if !still || data_loses(bytes, events, index, true) {
+        return false;
+    }
+    let enter = events.bare_at(index);
+    let exit = events.bare_at(index + 1);
+    !has_sign(bytes, clear, enter.point, exit.point)
+}
+
+// Nothing is known to be clear. An `@` is looked for up to where the last event stands.
+fn clear_at_first(bytes: &[u8], events: &Events) -> Clear
+    ensures { IsClear bytes.now result }
+{
+    let count = events.len();
+    let end = if count == 0 {
+        0
+    } else {
+        events.bare_at(count - 1).point.index
+    };
+    Clear {
+        from: 0,
+        to: 0,
+        end: end.min(bytes.len()),
+    }
+}
+
+// Marks what is to go where data stands behind data. The answer is whether all data is still.
+fn mark_each(bytes: &[u8], events: &Events, map: &mut EditMap) -> Result<bool, AllocError>
     requires fits { length bytes.now ≤ document_limit }
     requires places { HasPlaces bytes.now events.now }
-    ensures merged { (t : Forest) → HasData t → events.now ≡ appended_from 0 None t → IsTrue result → events.now ≡ appended_from 0 None (merged t) }
-    ensures settled { (hard : Bool) (t : Forest) → HasParts bytes.now t → events.now ≡ appended_from 0 None t → IsTrue result → events.now ≡ appended_from 0 None (with_emails_apart (trimmed hard true true t)) }
-    ensures loose { result ≡ false → HasLooseData bytes.now events.now }
+    requires empty { map.old ≡ [] }
+    ensures map { OnOk result (map.new ≡ joints 0 events.now) }
+    ensures still { IfOk result (λ still. IsTrue still → IsStill bytes.now true true events.now) }
+    ensures open { IfOk result (λ still. still ≡ false → HasOpenData bytes.now true events.now) }
 {
+    let mut clear = clear_at_first(bytes, events);
+    let mut still = true;
     let count = events.len();
     let mut index = next_data(events, 0);
     while index < count {
-        if follows_data(events, index)
-            || data_loses(bytes, events, index, true)
-            || begins_signed(bytes, events, index)
-        {
-            break;
-        }
+        mark(events, map, index)?;
+        still = stays_still(bytes, events, &mut clear, index, still);
         index = next_data(events, index + 1);
     }
-    index >= count
+    Ok(still)
+}
+
+/// Merges neighbouring data, and tells whether trimming the whole and setting emails apart would then leave the events as they are, whether or
+/// not hard breaks are looked for: no data loses blank codes, and none has an `@`.
+///
+/// The document has at most `usize::MAX / 8` bytes, each data stands at places of it, and no edits are given; none is left. The work is that of
+/// the events and of the bytes from the first data to the last event. The error comes where memory is refused; the events are then as they were.
+#[inline(never)]
+pub fn merge(bytes: &[u8], events: &mut Events, map: &mut EditMap) -> Result<bool, AllocError>
+    requires fits { length bytes.now ≤ document_limit }
+    requires places { HasPlaces bytes.now events.old }
+    requires empty { map.old ≡ [] }
+    ensures merged { (t : Forest) → HasData t → events.old ≡ appended_from 0 None t → OnOk result (events.new ≡ appended_from 0 None (merged t)) }
+    ensures settled { (hard : Bool) (t u : Forest) → HasParts bytes.now t → HasParts bytes.now (merged t) → events.old ≡ appended_from 0 None t → HasParts bytes.now u → IfOk result (λ still. IsTrue still → events.new ≡ appended_from 0 None u → events.new ≡ appended_from 0 None (with_emails_apart (trimmed hard true true u))) }
+    ensures open { IfOk result (λ still. still ≡ false → HasOpenData bytes.now true events.old) }
+    ensures map { OnOk result (map.new ≡ []) }
+    ensures err { OnErr result (events.new ≡ events.old) }
+{
+    let still = mark_each(bytes, events, map)?;
+    map.consume(events)?;
+    Ok(still)
 }

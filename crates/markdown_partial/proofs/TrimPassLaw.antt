@@ -82,11 +82,11 @@ leaf-alone : (name : Name) (cs : List Code) → leaf name cs ⊕ empty ≡ leaf 
 leaf-alone name [] = refl
 leaf-alone name (c ∷ cs) = refl
 
-leaf-some : (name : Name) (cs : List Code) (rest : Forest) → cs ≢ [] → leaf name cs ⊕ rest ≡ leaf_then name None cs rest
+pub leaf-some : (name : Name) (cs : List Code) (rest : Forest) → cs ≢ [] → leaf name cs ⊕ rest ≡ leaf_then name None cs rest
 leaf-some name [] rest h = absurd (h refl)
 leaf-some name (c ∷ cs) rest h = refl
 
-trimmed-none : (front back hard : Bool) (cs : List Code) → loses_blank front back cs ≡ false →
+pub trimmed-none : (front back hard : Bool) (cs : List Code) → loses_blank front back cs ≡ false →
     trimmed_data front back hard cs ≡ leaf N.Data cs
 trimmed-none front back hard cs h =
     let parts = or_parts (front && starts_blank cs) (back && ends_blank cs) h in
@@ -111,7 +111,7 @@ and-one : (w : Bool) → w ≡ w && true
 and-one true = refl
 and-one false = refl
 
-before-row : (bytes : List ℕ) (whole w : Bool) (n : ℕ) (previous : Option ℕ) (row : Forest) (tail : List Event) →
+pub before-row : (bytes : List ℕ) (whole w : Bool) (n : ℕ) (previous : Option ℕ) (row : Forest) (tail : List Event) →
     HasParts bytes row → w ≡ goes_before whole tail →
     goes_before whole (appended_from n previous row ++ tail) ≡ begins_line_ending row || (w && is_nothing row)
 before-row bytes whole w n previous empty tail h e = sym e ∙ and-one w

@@ -225,11 +225,15 @@ fn is_joint(events: &Events, index: usize) -> bool
     opens_data(&events.bare_at(index - 2))
 }
 
-// Where data without a link stands right before this event, at which such data begins: marks the Exit of the one and the Enter of the other to go.
-fn mark(events: &Events, map: &mut EditMap, index: usize) -> Result<(), AllocError>
+/// Where data without a link stands right before this event, at which such data begins: marks the Exit of the one and the Enter of the other to go.
+///
+/// The error comes where memory is refused; the edits are then as they were.
+#[inline(always)]
+pub fn mark(events: &Events, map: &mut EditMap, index: usize) -> Result<(), AllocError>
     requires within { index < length events.now }
     requires opens { (e : Event) → opens_data (slice_index_or events.now index e) ≡ true }
-    ensures { OnOk result (map.new ≡ map.old ++ marked (ends_joint index events.now) (index - 1)) }
+    ensures ok { OnOk result (map.new ≡ map.old ++ marked (ends_joint index events.now) (index - 1)) }
+    ensures err { OnErr result (map.new ≡ map.old) }
 {
     if is_joint(events, index) {
         map.add_slice(index - 1, 2, &[])?;

@@ -19,3 +19,4 @@ pub mod ReadyTexts
 pub mod ElementsRead
 pub mod TextEnds
 pub mod PlainEnds
+pub mod MergedEnds

@@ -31,8 +31,8 @@ use Rattle.markdown_partial.specs.TrimmedEvents.{HasParts}
 use Rattle.markdown_partial.proofs.TrimPassLaw.{places-of}
 use Rattle.markdown_run_row.specs.RowStart.{passes_of}
 use Rattle.markdown_run_row.specs.RowTreeNames.{HasLines, IsRunless}
-use Rattle.markdown_run_text.specs.ContentPasses.{MayPair, PairsRuns, MergesData, MayTrim, MayFinish, mailed_where, may_resolve_of, resolves_of}
-use Rattle.markdown_run.specs.RunWithPasses.{may_end_of}
+use Rattle.markdown_run_text.specs.ContentPasses.{MayPair, PairsRuns, MergesData, MayFinish, mailed_where, may_resolve_of, resolves_of}
+use Rattle.markdown_run.specs.RunWithPasses.{may_end_of, MayMerge}
 use Rattle.markdown_run.proofs.DataInDocument.{parts-of, HasLines-merged, HasLines-HasData}
 use Rattle.markdown_run.proofs.PairsKeepLines.{HasLines-paired}
 use Rattle.markdown_run.proofs.TreesWithoutRuns.{paired-runless, unprobed}
@@ -150,22 +150,22 @@ may-finish p pieces tree X V h m =
       tree = (merged tree, (merged-there p pieces tree X V h k.input, k.events));
     }
 
--- its data stands at places of the document before it is merged too
-may-trim : (p : ParseState) (pieces : List Piece) (tree : Forest) (X : Tokenizer) → IsRead p pieces tree X → MayTrim X
-may-trim p pieces tree X h =
+-- its data is part of the document before it is merged too
+may-merge : (p : ParseState) (pieces : List Piece) (tree : Forest) (X : Tokenizer) → IsRead p pieces tree X → MayMerge X
+may-merge p pieces tree X h =
     let there : HasParts X.parse_state.now.bytes.now tree =
     subst (λ (x : ParseState). HasParts x.bytes.now tree) (sym h.input) (parts-of p.bytes.now pieces tree h.content h.codes h.has_lines) in
     record {
       map = h.map;
       fits = subst (λ (x : ParseState). length x.bytes.now ≤ document_limit) (sym h.input) h.content.fits;
-      places = places-of X.parse_state.now.bytes.now tree X.events there h.events;
+      tree = (tree, (there, (merged-there p pieces tree X X h h.input, h.events)));
     }
 
 -- the passes may be run
 pub passes-may : (p : ParseState) (pieces : List Piece) (tree : Forest) (last : ResolveName) (finish : ParseState → Forest → Forest) (X : Tokenizer) →
     IsTrimming last finish → IsRead p pieces tree X → MayResolve may_end_of resolves_of (R.Data ∷ last ∷ []) X
 passes-may p pieces tree last finish X t h =
-    (may-trim p pieces tree X h, λ V m. (t.may V (may-finish p pieces tree X V h m), λ W l. tt))
+    (may-merge p pieces tree X h, λ V m. (t.may V (may-finish p pieces tree X V h m), λ W l. tt))
 
 -- what they leave
 pub passes-leave : (p : ParseState) (pieces : List Piece) (tree : Forest) (last : ResolveName) (finish : ParseState → Forest → Forest) (X V : Tokenizer) →

@@ -8,10 +8,10 @@ use Rattle.markdown_engine.specs.PassesInOrder.{MayResolve, unregistered}
 use Rattle.markdown_engine.specs.declared.resolve.ResolveName.{ResolveName}
 use Rattle.markdown_engine.specs.declared.resolve.ResolveName.TheVariants as R
 use Rattle.markdown_engine.specs.declared.tokenizer.Tokenizer.{Tokenizer}
-use Rattle.markdown_run_text.specs.ContentPasses.{FinishesText, MayFinish, MayTrim, MergesData, resolves_of}
+use Rattle.markdown_run_text.specs.ContentPasses.{FinishesText, MayFinish, MergesData, resolves_of}
 use Rattle.markdown_run_text.specs.TextContent.{text_passed}
 use Rattle.markdown_run.specs.ElementsOfText.{forgotten}
-use Rattle.markdown_run.specs.RunWithPasses.{may_end_of, IsFoundBehind, MayFinishPlain}
+use Rattle.markdown_run.specs.RunWithPasses.{may_end_of, IsFoundBehind, MayFinishPlain, MayMerge}
 use Rattle.markdown_run.specs.declared.run.Run.{Run}
 
 -- both hold of what a call leaves
@@ -38,13 +38,9 @@ may-finish : (T : Tokenizer) → MayFinish (forgotten T) → MayFinish T
 unfolding scratched
 may-finish T m = record { map = m.map; fits = m.fits; tree = m.tree }
 
-pub plain-map : (T : Tokenizer) → MayFinishPlain T → T.map ≡ []
+pub plain-merge : (T : Tokenizer) → MayFinishPlain T → MayMerge T
 unfolding scratched
-plain-map T may = may.0.map
-
-pub plain-trim : (T : Tokenizer) → MayFinishPlain T → MayTrim T
-unfolding scratched
-plain-trim T may = record { map = may.0.map; fits = may.0.fits; places = may.0.places }
+plain-merge T may = record { map = may.0.map; fits = may.0.fits; tree = may.0.tree }
 
 pub plain-may : (T U : Tokenizer) → MayFinishPlain T → MergesData T U → MayFinish U
 plain-may T U may m = may-finish U (may.1 (forgotten U) (merges-forgotten T U m)).0

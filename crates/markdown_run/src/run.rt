@@ -1,13 +1,13 @@
 //! Runs over a content.
-ghost use Rattle.std.specs.Prelude.{◌≡◌, ◌-◌, false, [], take, drop, map, length, IfOk, IsErr, OnErr, IsTrue};
+ghost use Rattle.std.specs.Prelude.{◌≡◌, ◌-◌, false, [], take, drop, map, length, IfOk, IsErr, OnErr, OnOk, IsTrue};
 ghost use Rattle.std.specs.List.{All};
 ghost use Rattle.markdown_run.specs.RunConstruct.{IsConstruct, ConstructEnds};
 ghost use Rattle.markdown_run.specs.Layer.{ready_of};
-ghost use Rattle.markdown_run.specs.RunWithPasses.{MayFinishPlain, MayPass, IsFoundFrom, MayPassText, IsFoundInText, IsFoundBehind, begun_text};
+ghost use Rattle.markdown_run.specs.RunWithPasses.{may_end_of, MayFinishPlain, MayMerge, MayPass, IsFoundFrom, MayPassText, IsFoundInText, IsFoundBehind, begun_text};
 ghost use Rattle.markdown_run.specs.ElementsOfText.{KnowsNothing, forgotten};
 ghost use Rattle.markdown_engine_events.specs.EventChains.{chained};
-ghost use Rattle.markdown_engine.specs.PassesInOrder.{MayResolve, unregistered};
-ghost use Rattle.markdown_run_text.specs.ContentPasses.{may_resolve_of, resolves_of, FinishesText, MayTrim, MergesData};
+ghost use Rattle.markdown_engine.specs.PassesInOrder.{MayResolve, Resolves, unregistered};
+ghost use Rattle.markdown_run_text.specs.ContentPasses.{may_resolve_of, resolves_of, FinishesText, MergesData};
 ghost use Rattle.markdown_run_text.specs.TextContent.{StartReady, text_passed};
 ghost use Rattle.markdown_engine_content.specs.Content.{IsContent, IsTextContent, content_of};
 ghost use Rattle.markdown_run_text.specs.RunSetting.{setting_of, text_setting_of};
@@ -16,7 +16,9 @@ ghost use Rattle.markdown_run_leaves.specs.InnermostEvents.{IsInOrder, covered, 
 ghost use Rattle.markdown_model.specs.InlineTree.{label_tree, string_events, text_events};
 
 use crate::elements::{end_text, read_text};
+use crate::resolve;
 use crate::state::Inline;
+use markdown_engine::resolve::ResolveName;
 use markdown_engine::state::StateName;
 use markdown_engine::tokenizer::Tokenizer;
 pub use markdown_engine_content::content::{is_content, is_text};
@@ -26,6 +28,7 @@ use markdown_engine_content::parser::ParseState;
 pub use markdown_engine_content::parser::Piece;
 use markdown_engine_events::events::Events;
 use markdown_leaf_email_pass::settled;
+use markdown_lists::seq::Seq;
 use markdown_partial::partial_data;
 pub use markdown_run_leaves::leaf::{Leaf, Leaves};
 pub use markdown_run_leaves::leaves;
@@ -63,18 +66,68 @@ fn finish(tokenizer: &mut Tokenizer) -> Result<Run, AllocError>
     Ok(found_in(tokenizer))
 }
 
-// Whether the passes of data and of a text find nothing: one look in place of one for each. Emails are looked for where it is said so.
-fn is_final(tokenizer: &Tokenizer) -> bool
-    requires { MayTrim tokenizer.now }
-    ensures merges { IsTrue result → MergesData tokenizer.now tokenizer.now }
-    ensures finishes { IsTrue result → FinishesText tokenizer.now tokenizer.now }
+// Merges neighbouring data, and tells whether the pass of a text is known to find nothing then: one walk for both, where emails are looked for.
+fn merge_data(tokenizer: &mut Tokenizer) -> Result<bool, AllocError>
+    requires { MayMerge tokenizer.old }
+    ensures merges { OnOk result (MergesData tokenizer.old tokenizer.new) }
+    ensures settled { IfOk result (λ settled. IsTrue settled → FinishesText tokenizer.new tokenizer.new) }
 {
     let emails = tokenizer
         .parse_state
         .options
         .constructs
         .gfm_autolink_literal;
-    emails && settled::is_final(tokenizer.parse_state.bytes, &tokenizer.events)
+    if !emails {
+        partial_data::resolve(tokenizer)?;
+        return Ok(false);
+    }
+    let bytes = tokenizer.parse_state.bytes;
+    let settled = settled::merge(bytes, &mut tokenizer.events, &mut tokenizer.map)?;
+    Ok(settled)
+}
+
+// Calls the pass of this name, and tells whether the pass of a text is known to find nothing then; it is left out where that is known before.
+fn pass_of_text(
+    name: ResolveName,
+    tokenizer: &mut Tokenizer,
+    settled: bool,
+) -> Result<bool, AllocError>
+    requires may { may_end_of name tokenizer.old }
+    requires settled { IsTrue settled → FinishesText tokenizer.old tokenizer.old }
+    ensures ok { OnOk result (resolves_of name tokenizer.old tokenizer.new) }
+    ensures settled { IfOk result (λ settled. IsTrue settled → FinishesText tokenizer.new tokenizer.new) }
+{
+    if name == ResolveName::Data {
+        return merge_data(tokenizer);
+    }
+    if settled && name == ResolveName::Text {
+        return Ok(true);
+    }
+    resolve::call(name, tokenizer)?;
+    Ok(false)
+}
+
+// Calls the passes of a text that are registered, in order, after which none is registered.
+#[tactic(auto, unfolding(markdown_engine::specs::PassesInOrder::unregistered))]
+fn resolve_text(tokenizer: &mut Tokenizer) -> Result<(), AllocError>
+    requires { MayResolve may_end_of resolves_of tokenizer.old.resolvers (unregistered tokenizer.old) }
+    ensures { OnOk result (Resolves resolves_of tokenizer.old.resolvers (unregistered tokenizer.old) tokenizer.new) }
+{
+    let names = mem::replace(&mut tokenizer.resolvers, Seq::new(tokenizer.alloc));
+    let mut settled = false;
+    for name in names.as_slice() {
+        settled = pass_of_text(*name, tokenizer, settled)?;
+    }
+    Ok(())
+}
+
+// Runs the passes of a text that are registered, and takes what is found out of the tokenizer.
+fn finish_text(tokenizer: &mut Tokenizer) -> Result<Run, AllocError>
+    requires { MayResolve may_end_of resolves_of tokenizer.old.resolvers (unregistered tokenizer.old) }
+    ensures { IfOk result (λ run. IsFoundBehind tokenizer.old run) }
+{
+    resolve_text(tokenizer)?;
+    Ok(found_in(tokenizer))
 }
 
 // Runs the passes of a text that has registered none, and takes what is found out of the tokenizer. They are called at once and not registered,
@@ -84,10 +137,9 @@ fn finish_plain(tokenizer: &mut Tokenizer) -> Result<Run, AllocError>
     requires passes { MayFinishPlain tokenizer.old }
     ensures { IfOk result (λ run. IsFoundBehind (text_passed (forgotten tokenizer.old)) run) }
 {
-    if is_final(tokenizer) {
+    if merge_data(tokenizer)? {
         return Ok(found_in(tokenizer));
     }
-    partial_data::resolve(tokenizer)?;
     text::resolve(tokenizer)?;
     Ok(found_in(tokenizer))
 }
@@ -116,7 +168,7 @@ pub(crate) fn text_through(tokenizer: &mut Tokenizer) -> Result<Run, AllocError>
         return finish_plain(tokenizer);
     }
     end_text(tokenizer)?;
-    finish(tokenizer)
+    finish_text(tokenizer)
 }
 
 // Reads a text from its start, where a cursor stands. The cursor is made before, so that the room of the tokenizer is filled once.

@@ -21,7 +21,7 @@ loop-index-preserved c =
     record {
       within = r.ensures.within;
       opens = r.ensures.here;
-      joints = marks-past c.loop-index.index r.result c.args.events.now c.loop-index.map c.mark.new.map here r.ensures.from r.ensures.within r.ensures.none c.in_ok-mark.ensures c.loop-index.invariant.joints;
+      joints = marks-past c.loop-index.index r.result c.args.events.now c.loop-index.map c.mark.new.map here r.ensures.from r.ensures.within r.ensures.none c.in_ok-mark.ensures.ok c.loop-index.invariant.joints;
     }
 
 pub returns : goal.returns

@@ -3,8 +3,6 @@ use Rattle.std.proofs.lemmas.Result.{IfOk-weaker}
 use Rattle.markdown_engine.specs.declared.tokenizer.Tokenizer.{Tokenizer}
 use Rattle.markdown_run_text.specs.TextContent.{text_passed}
 use Rattle.markdown_run.specs.ElementsOfText.{EndsAt, forgotten, text_named}
-use Rattle.markdown_engine.specs.PassesInOrder.{unregistered}
-use Rattle.markdown_run.proofs.PassesAfterRun.{may-weaker}
 use Rattle.markdown_run.proofs.PlainEnds.{none-there, plain-passes}
 use Rattle.markdown_run.proofs.run.text_through.Goals as goal
 
@@ -16,10 +14,9 @@ pub finish_plain-requires-clause-passes : goal.finish_plain-requires-clause-pass
 finish_plain-requires-clause-passes c =
     plain-passes c.read_text.new.tokenizer (finish_plain-requires-clause-none c) (c.requires.passes (text_passed (forgotten c.read_text.new.tokenizer)) c.in_ok-read_text.ensures.ok)
 
-pub finish-requires : goal.finish-requires
-finish-requires c =
-    may-weaker c.end_text.new.tokenizer.resolvers (unregistered c.end_text.new.tokenizer)
-    (c.requires.passes c.end_text.new.tokenizer (subst (λ (x : Tokenizer). EndsAt (text_named c.args.tokenizer.now) x) (sym c.in_ok-end_text.ensures.ok) c.in_ok-read_text.ensures.ok))
+pub finish_text-requires : goal.finish_text-requires
+finish_text-requires c =
+    c.requires.passes c.end_text.new.tokenizer (subst (λ (x : Tokenizer). EndsAt (text_named c.args.tokenizer.now) x) (sym c.in_ok-end_text.ensures.ok) c.in_ok-read_text.ensures.ok)
 
 pub returns-then-is_empty : goal.returns-then-is_empty
 returns-then-is_empty c =
@@ -27,4 +24,4 @@ returns-then-is_empty c =
 
 pub returns : goal.returns
 returns c =
-    IfOk-weaker c.finish.result _ _ (λ run found. record { left = c.end_text.new.tokenizer; ends = subst (λ (x : Tokenizer). EndsAt (text_named c.args.tokenizer.now) x) (sym c.in_ok-end_text.ensures.ok) c.in_ok-read_text.ensures.ok; found = found }) c.finish.ensures
+    IfOk-weaker c.finish_text.result _ _ (λ run found. record { left = c.end_text.new.tokenizer; ends = subst (λ (x : Tokenizer). EndsAt (text_named c.args.tokenizer.now) x) (sym c.in_ok-end_text.ensures.ok) c.in_ok-read_text.ensures.ok; found = found }) c.finish_text.ensures
