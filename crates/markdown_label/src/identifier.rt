@@ -1,4 +1,4 @@
-// Identifiers of labels.
+//! Identifiers of labels.
 #![tactic(auto)]
 
 ghost use Rattle.std.specs.Prelude.{◌≡◌, map, slice_range, ◌&&◌, string_bytes, IfOk, OnOk, OnErr, IsTrue};
@@ -13,7 +13,7 @@ ghost use Rattle.markdown_label.specs.LabelSetting.{setting_in, IsListed};
 ghost use Rattle.markdown_model.specs.LabelEnd.{is_footnote, link_identifier};
 ghost use Rattle.markdown_model.specs.Setting.{is_defined};
 
-use crate::lookup::is_ruled_out;
+use crate::lookup::{is_ruled_out, letters_end};
 use markdown_engine::tokenizer::{LabelKind, Tokenizer};
 use markdown_engine_content::util::slice::Slice;
 use markdown_util::util::normalize_identifier::normalize_identifier;
@@ -153,6 +153,44 @@ pub(crate) fn name_between(
     tokenizer.noted(name)
 }
 
+// Whether the identifier of the document's bytes from an index to another is that of a definition. One of lowercase letters alone is looked up where it
+// stands, and takes no memory.
+fn is_defined_within(tokenizer: &Tokenizer, start: usize, end: usize) -> Result<bool, AllocError>
+    requires cuts { AreCuts (bytes_of tokenizer.now) start end }
+    requires listed { IsListed tokenizer.now }
+    ensures { IfOk result (λ defined. defined ≡ is_defined (setting_in tokenizer.now).definitions (identifier_of (slice_range (bytes_of tokenizer.now) start end))) }
+{
+    let bytes = tokenizer.parse_state.bytes;
+    if letters_end(bytes, start, end) == end {
+        let letters = Slice::from_indices(bytes, start, end);
+        return Ok(names_definition(tokenizer, letters.as_str()));
+    }
+    if is_ruled_out(tokenizer, LabelKind::Link, start, end)? {
+        return Ok(false);
+    }
+    let name = identifier_of(tokenizer, start, end)?;
+    Ok(names_definition(tokenizer, name.as_str()))
+}
+
+/// Answers whether the identifier of the document's bytes from an index to another is that of a definition.
+///
+/// The bytes are read at most about twice as far as they begin like the identifier of a definition. The error comes where memory is refused; then
+/// `failed` is true.
+pub fn is_defined_from(
+    tokenizer: &mut Tokenizer,
+    start: usize,
+    end: usize,
+) -> Result<bool, AllocError>
+    requires cuts { AreCuts (bytes_of tokenizer.old) start end }
+    requires listed { IsListed tokenizer.old }
+    ensures defined { IfOk result (λ defined. defined ≡ is_defined (setting_in tokenizer.old).definitions (identifier_of (slice_range (bytes_of tokenizer.old) start end))) }
+    ensures same { OnOk result (tokenizer.new ≡ tokenizer.old) }
+    ensures err { OnErr result (IsTrue tokenizer.new.failed) }
+{
+    let defined = is_defined_within(tokenizer, start, end);
+    tokenizer.noted(defined)
+}
+
 // Whether the identifier between two events is that of a definition.
 pub(crate) fn is_defined_between(
     tokenizer: &mut Tokenizer,
@@ -164,10 +202,10 @@ pub(crate) fn is_defined_between(
     ensures same { OnOk result (tokenizer.new ≡ tokenizer.old) }
     ensures err { OnErr result (IsTrue tokenizer.new.failed) }
 {
-    match name_between(tokenizer, LabelKind::Link, from, to)? {
-        Some(name) => Ok(names_definition(tokenizer, name.as_str())),
-        None => Ok(false),
-    }
+    let start = tokenizer.events.at(from).point.index;
+    // as in `identifier_between`
+    let end = tokenizer.events.at(to).point.index.max(start);
+    is_defined_from(tokenizer, start, end)
 }
 
 // As `is_link_defined`; refused memory is kept in mind.

@@ -2,10 +2,10 @@
 #![tactic(auto)]
 
 pub mod gfm_label_start_footnote;
-pub(crate) mod identifier;
+pub mod identifier;
 pub mod label_end;
 pub mod label_start_image;
 pub mod label_start_link;
 mod lookup;
 pub mod resource;
-mod starts;
+pub mod starts;

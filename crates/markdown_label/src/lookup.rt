@@ -124,7 +124,7 @@ fn brackets_rule_out(tokenizer: &Tokenizer, kind: LabelKind, start: usize, end: 
 }
 
 // Where the lowercase ASCII letters end that a part of a text begins with. They are their own identifier.
-fn letters_end(bytes: &[u8], start: usize, end: usize) -> usize
+pub(crate) fn letters_end(bytes: &[u8], start: usize, end: usize) -> usize
     requires { AreCuts bytes.now start end }
     ensures before { result ≤ end }
     ensures cuts { AreCuts bytes.now start result }

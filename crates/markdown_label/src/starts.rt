@@ -1,4 +1,4 @@
-// What all starts of labels share.
+//! What all starts of labels share.
 ghost use Rattle.std.specs.Prelude.{◌≡◌, ◌≤◌, length, OnOk, OnErr, IsTrue};
 ghost use Rattle.markdown_label.specs.LabelStarts.{kept_start};
 
@@ -6,13 +6,11 @@ use markdown_engine::resolve::ResolveName;
 use markdown_engine::tokenizer::{LabelKind, LabelStart, Tokenizer};
 use std::alloc::AllocError;
 
-// Keeps a start of this kind whose last events these are, so many, and registers the pass of labels before all others.
+/// Keeps a start of this kind, whose events are the last ones, so many, and registers the pass of labels before all others.
+///
+/// The error comes where a growth is refused; then `failed` is true.
 #[tactic(auto, using(markdown_engine::proofs::OperationFields::law_rules), unfolding(markdown_engine::specs::Operations::scratched))]
-pub(crate) fn keep_start(
-    tokenizer: &mut Tokenizer,
-    kind: LabelKind,
-    size: usize,
-) -> Result<(), AllocError>
+pub fn keep_start(tokenizer: &mut Tokenizer, kind: LabelKind, size: usize) -> Result<(), AllocError>
     requires some { 1 ≤ size }
     requires within { size ≤ length tokenizer.old.events }
     ensures ok { OnOk result (kept_start kind size tokenizer.old ≡ tokenizer.new) }

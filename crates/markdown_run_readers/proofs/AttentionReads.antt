@@ -59,7 +59,7 @@ run-stops m p h = by_code (code_at p) refl h
 
 -- The whole run.
 
-at-moved : (cs : List Code) (p : Place) → (moved_by cs p).at ≡ p.at + length cs
+pub at-moved : (cs : List Code) (p : Place) → (moved_by cs p).at ≡ p.at + length cs
 unfolding moved
 at-moved [] p = omega arith
 at-moved (c ∷ cs) p = let more : (moved_by cs (moved p)).at ≡ (moved p).at + length cs = at-moved cs (moved p) in omega (arith, more)

@@ -23,7 +23,7 @@ use Rattle.markdown_run_readers.specs.ReaderEnds.{BeginsOrStays, options_here}
 
 -- The code at a place, and those behind it.
 
-first-at : (v : ℕ) (p : Place) → is_some_value v (code_at p) ≡ next_is (is_value v) (ahead_at p)
+pub first-at : (v : ℕ) (p : Place) → is_some_value v (code_at p) ≡ next_is (is_value v) (ahead_at p)
 first-at v p = by_code (code_at p) refl
   where
     by_code : (o : Option ℕ) → code_at p ≡ o → is_some_value v o ≡ next_is (is_value v) (ahead_at p)
@@ -38,7 +38,7 @@ second-at v p = first-at v (moved p) ∙ ap (next_is (is_value v)) (ahead-moved 
 third-at : (v : ℕ) (p : Place) → is_some_value v (code_at (moved (moved p))) ≡ next_is (is_value v) (rest_of (rest_of (ahead_at p)))
 third-at v p = second-at v (moved p) ∙ ap (λ cs. next_is (is_value v) (rest_of cs)) (ahead-moved p)
 
-some-value : (v : ℕ) (o : Option ℕ) → is_some_value v o ≡ true → is_some o ≡ true
+pub some-value : (v : ℕ) (o : Option ℕ) → is_some_value v o ≡ true → is_some o ≡ true
 some-value v None e = cc
 some-value v (Some c) e = refl
 

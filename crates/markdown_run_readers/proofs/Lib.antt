@@ -8,7 +8,9 @@ pub mod LabelStartConstructs
 pub mod LinkStarts
 pub mod ImageStarts
 pub mod WordLetters
+pub mod LabelEndReads
 pub mod PlainResourceReads
+pub mod PlainReferenceReads
 pub mod PlainSpanReads
 pub mod AutolinkNames
 pub mod AutolinkReads

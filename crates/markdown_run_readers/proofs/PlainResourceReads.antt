@@ -12,7 +12,6 @@ use Rattle.markdown_engine_content.specs.Tree.{Forest, leaf, linked, group, leaf
 use Rattle.markdown_engine_content.specs.declared.event.Content.TheVariants as Content
 use Rattle.markdown_engine_content.specs.declared.event.Name.{Name}
 use Rattle.markdown_engine_content.specs.declared.event.Name.TheVariants as N
-use Rattle.markdown_engine_content.specs.declared.label_kind.LabelKind.{LabelKind}
 use Rattle.markdown_engine_content.proofs.PlaceRules.{IsAhead, ahead_some, code_at_ahead}
 use Rattle.markdown_engine_content.proofs.StretchLemmas.{stretch-goes, stretch-stops}
 use Rattle.markdown_engine.specs.Operations.{Op, Enter, EnterLink, Exit, ahead, applied, current_of, done, scratched}
@@ -23,26 +22,21 @@ use Rattle.markdown_engine.specs.declared.tokenizer.TokenizeState.{TokenizeState
 use Rattle.markdown_engine.specs.declared.tokenizer.Tokenizer.{Tokenizer}
 use Rattle.markdown_engine.proofs.OperationLemmas.{ahead-done}
 use Rattle.markdown_engine.proofs.PlaceAfterCodes.{ahead-moved_by}
-use Rattle.markdown_engine.proofs.ReadingSequences.{scratched-same}
-use Rattle.markdown_engine.proofs.SolidTrees.{IsSolid-group, IsSolid-leaf}
-use Rattle.markdown_engine.proofs.TreeEvents.{ahead-past, done-append, done-consumes, ops-past}
-use Rattle.markdown_label.specs.LabelEnd.{Ends, end_made, end_ops, end_tree, ended, is_on, kind_set, made, made_here, outcome_by, place_at, starts_set}
-use Rattle.markdown_label.specs.LabelFields.{AreOrdered, bars, with_kind}
+use Rattle.markdown_engine.proofs.TreeEvents.{ahead-past, done-append, done-consumes}
+use Rattle.markdown_label.specs.LabelEnd.{Ends, end_ops, ended, is_on, made_here}
+use Rattle.markdown_label.specs.LabelFields.{AreOrdered}
 use Rattle.markdown_label.specs.LabelSetting.{setting_in}
 use Rattle.markdown_label.specs.Resource.{after_destination, after_destination_of, after_title, and_then, closes, inside, opened, or_without}
-use Rattle.markdown_label.proofs.LabelEndLemmas.{ahead-made}
-use Rattle.markdown_label.proofs.LabelEndReadings.{after-paren, outcome-tail}
-use Rattle.markdown_label.proofs.LabelEndStartLaw.{reading-at}
+use Rattle.markdown_label.proofs.LabelEndReadings.{after-paren}
 use Rattle.markdown_label.proofs.ResourceReadings.{grouped, resource-inside}
 use Rattle.markdown_model.specs.CodeTests.{is_among, is_between, is_control, is_value, is_whitespace_code, next_is}
 use Rattle.markdown_model.specs.Grammar.{escaped_from, gives, one, span, up_to, with_first}
-use Rattle.markdown_model.specs.LabelEnd.{after_label, bytes_between, is_footnote, is_image, link_identifier, link_kind, shortcut}
+use Rattle.markdown_model.specs.LabelEnd.{shortcut}
 use Rattle.markdown_model.specs.Resource.{begins_title, destination, literal_destination, raw_destination, raw_from, resource, resource_names, string_group, title, title_between, title_names}
-use Rattle.markdown_model.specs.Setting.{Setting, is_defined}
-use Rattle.markdown_model.specs.SingleConstructs.{outcome}
+use Rattle.markdown_model.specs.Setting.{Setting}
 use Rattle.markdown_model.specs.TextLines.{linked_leaf, lines}
 use Rattle.markdown_model.specs.Whitespace.{space_or_tab_eol}
-use Rattle.markdown_model.proofs.GrammarSteps.{after-some, bind-none, bind-some, either-second, either-some, if-false, if-true, one-here, one-other, provided-true, span-none, span-takes, switched-on}
+use Rattle.markdown_model.proofs.GrammarSteps.{after-some, bind-none, bind-some, either-second, either-some, if-false, if-true, one-here, one-other, provided-true, span-none, span-takes}
 use Rattle.markdown_partial.proofs.WhitespaceReadings.{ending-none, spacing-none, spacing-then}
 use Rattle.markdown_partial.specs.PartialSpaceOrTabEol.{at_ending}
 use Rattle.markdown_partial_link.specs.LinkedText.{line_of, string}
@@ -54,10 +48,10 @@ use Rattle.markdown_partial_link.proofs.LinkedTextLines.{lines-data}
 use Rattle.markdown_partial_link.proofs.LinkedTreeLemmas.{CoversRow, Row-group, Row-last, Row-leaf, Row-linked, Row-whole, linked-past}
 use Rattle.markdown_partial_link.proofs.PartialDestinationReadings.{if-here, if-other, raw-next, raw-stop}
 use Rattle.markdown_plan.proofs.ByteTestLemmas.{no-control}
-use Rattle.markdown_util.specs.Identifier.{identifier_of}
 use Rattle.markdown_run_readers.specs.PlacesPassed.{is_some_value, marker_ops, with_enter, with_exit}
 use Rattle.markdown_run_readers.specs.PlainResource.{begins_enclosed, between_read, closes_at, closes_behind, destination_at, destination_read, enclosed_read, is_quote, is_some_blank, may_make, past_between, past_destination, past_quoted, past_title}
-use Rattle.markdown_run_readers.specs.PlainResource.{plain_at, plain_here, quoted_at, quoted_read, raw_read, resource_read, stands_between, tail_at, tail_read, takes_resource, text_read, title_at, title_read, title_stops}
+use Rattle.markdown_run_readers.specs.PlainResource.{plain_at, plain_here, quoted_at, quoted_read, raw_read, resource_read, stands_between, tail_at, tail_read, text_read, title_at, title_read, title_stops}
+use Rattle.markdown_run_readers.proofs.LabelEndReads.{Follows, asks-nothing, ends-where}
 
 -- What a stretch passes.
 
@@ -81,7 +75,7 @@ pub walked-moved : (cs : List Code) (p : Place) → walked cs p ≡ moved_by cs 
 walked-moved [] p = refl
 walked-moved (c ∷ cs) p = walked-moved cs (moved p)
 
-text-passed : (ms : List ℕ) (p : Place) → past_stretch ms p ≡ moved_by (stretch ms (ahead_at p)) p
+pub text-passed : (ms : List ℕ) (p : Place) → past_stretch ms p ≡ moved_by (stretch ms (ahead_at p)) p
 unfolding past_stretch
 text-passed ms p = walked-moved (stretch ms (ahead_at p)) p
 
@@ -106,7 +100,7 @@ on-line ms (c ∷ cs) = by_test (stops ms c.value) refl (on-line ms cs)
 line-filled : (d : Code) → is_line_ending d ≡ false → has_no_blank_line true (d ∷ []) ≡ true
 line-filled d h = ap (λ b. elim b as (λ _. Bool) [ true ↦ has_no_blank_line false [] | false ↦ has_no_blank_line true [] ]) h
 
-no-blank-line : (ms : List ℕ) (cs : List Code) (d : Code) → is_line_ending d ≡ false →
+pub no-blank-line : (ms : List ℕ) (cs : List Code) (d : Code) → is_line_ending d ≡ false →
     has_no_blank_line true (stretch ms cs ++ d ∷ []) ≡ true
 no-blank-line ms [] d h = line-filled d h
 no-blank-line ms (c ∷ cs) d h = by_test (stops ms c.value) refl (line-filled d h) (no-blank-line ms cs d h)
@@ -120,12 +114,12 @@ no-blank-line ms (c ∷ cs) d h = by_test (stops ms c.value) refl (line-filled d
 
 -- A text that these bytes stop, its first code, and the codes behind it.
 
-record IsStretch (ms : List ℕ) (t : Code) (ts rest : List Code) : Type 0 where
-  text : stretch ms ((t ∷ ts) ++ rest) ≡ t ∷ ts
-  first : stops ms t.value ≡ false
+pub record IsStretch (ms : List ℕ) (t : Code) (ts rest : List Code) : Type 0 where
+  pub text : stretch ms ((t ∷ ts) ++ rest) ≡ t ∷ ts
+  pub first : stops ms t.value ≡ false
 
 -- its leaf is data
-one-line : (ms : List ℕ) (t : Code) (ts rest : List Code) → IsStretch ms t ts rest →
+pub one-line : (ms : List ℕ) (t : Code) (ts rest : List Code) → IsStretch ms t ts rest →
     lines N.Data string (t ∷ ts) ≡ linked N.Data (t ∷ ts)
 one-line ms t ts rest k =
     let line : line_of (t ∷ ts) ≡ (t ∷ ts, []) = subst (λ xs. line_of xs ≡ (xs, [])) k.text (on-line ms ((t ∷ ts) ++ rest)) in
@@ -159,7 +153,7 @@ module _ (stop takes refuses : Code → Bool) (ms : List ℕ) (free : (c : Code)
           ∙ ap (with_first c) (more tail)
           ∙ ap (λ xs. Some (xs, b ∷ rest)) (sym goes)
 
-  text-is : (t : Code) (ts : List Code) (b : Code) (rest : List Code) → IsStretch ms t ts (b ∷ rest) → stop b ≡ true →
+  pub text-is : (t : Code) (ts : List Code) (b : Code) (rest : List Code) → IsStretch ms t ts (b ∷ rest) → stop b ≡ true →
       up_to stop takes refuses ((t ∷ ts) ++ b ∷ rest) ≡ Some (t ∷ ts, b ∷ rest)
   unfolding up_to
   text-is t ts b rest k h =
@@ -167,10 +161,10 @@ module _ (stop takes refuses : Code → Bool) (ms : List ℕ) (free : (c : Code)
 
 -- The trees, and the operations that pass them.
 
-abbrev between_row : Name → Name → Code → List Code → Code → Forest
+abbrev pub between_row : Name → Name → Code → List Code → Code → Forest
 between_row marker text f w b = leaf marker (f ∷ []) ⊕ (group text (linked N.Data w) ⊕ leaf marker (b ∷ []))
 
-abbrev between_tree : Name → Name → Name → Code → List Code → Code → Forest
+abbrev pub between_tree : Name → Name → Name → Code → List Code → Code → Forest
 between_tree whole marker text f w b = group whole (between_row marker text f w b)
 
 abbrev raw_tree : List Code → Forest
@@ -188,7 +182,7 @@ between-row marker text f t ts b =
     Row-leaf marker (f ∷ []) (f ∷ []) ((t ∷ ts) ++ b ∷ []) (group text (linked N.Data (t ∷ ts)) ⊕ leaf marker (b ∷ [])) refl
     (Row-group text (t ∷ ts) (b ∷ []) (linked N.Data (t ∷ ts)) (leaf marker (b ∷ [])) (λ e. cc) (Row-linked N.Data (t ∷ ts) (t ∷ ts) refl) (Row-last marker (b ∷ []) (b ∷ []) refl))
 
-between-covers : (whole marker text : Name) (f t : Code) (ts : List Code) (b : Code) →
+pub between-covers : (whole marker text : Name) (f t : Code) (ts : List Code) (b : Code) →
     CoversRow (between_tree whole marker text f (t ∷ ts) b) (f ∷ ((t ∷ ts) ++ b ∷ []))
 between-covers whole marker text f t ts b =
     Row-whole whole (f ∷ ((t ∷ ts) ++ b ∷ [])) (between_row marker text f (t ∷ ts) b) (λ e. cc) (between-row marker text f t ts b)
@@ -224,7 +218,7 @@ three-done : (xs ys zs : List Op) (T U V : Tokenizer) → U ≡ done xs T → V 
 three-done xs ys zs T U V e h =
     ap (done zs) (h ∙ ap (done ys) e) ∙ sym (done-append xs (ys ++ zs) T ∙ done-append ys zs (done xs T))
 
-between-reads : (whole marker text : Name) (ms : List ℕ) (f t : Code) (ts : List Code) (b : Code) (rest : List Code) (T : Tokenizer) →
+pub between-reads : (whole marker text : Name) (ms : List ℕ) (f t : Code) (ts : List Code) (b : Code) (rest : List Code) (T : Tokenizer) →
     IsStretch ms t ts (b ∷ rest) → ahead T ≡ f ∷ ((t ∷ ts) ++ b ∷ rest) →
     between_read whole marker text ms T ≡ done (linked_ops false (between_tree whole marker text f (t ∷ ts) b)) T
 between-reads whole marker text ms f t ts b rest T k e =
@@ -577,16 +571,6 @@ stack-free : (n : Name) (t : Forest) (T : Tokenizer) →
 unfolding past applied
 stack-free n t T = refl
 
--- what follows a `]`, where the end makes a label of it whatever is defined
-record Follows (s : Setting) (read : Tokenizer → Tokenizer) (cs : List Code) : Type 0 where
-  tree : Forest
-  codes : List Code
-  rest : List Code
-  whole : cs ≡ codes ++ rest
-  holds : (defined : Bool) → after_label s defined cs ≡ Some (tree, rest)
-  covers : CoversRow tree codes
-  reads : (T : Tokenizer) → ahead T ≡ cs → read T ≡ done (linked_ops false tree) T
-
 module _ (a : Code) (cs behind_it : List Code) (front : is_value 40 a ≡ true) (target : IsTarget cs behind_it) (tail : IsTail behind_it) where
   abbrev destination_tree : Forest
   destination_tree = group N.ResourceDestination target.tree
@@ -648,132 +632,45 @@ module _ (a : Code) (cs behind_it : List Code) (front : is_value 40 a ≡ true) 
       ∙ ap (applied (Exit N.Resource)) (sym (linked-past false row tail.rest E row-covers.0 (there ∙ row-codes)))
       ∙ group-reads N.Resource row T (done (linked_ops false row) E) refl
 
-  resource-follows-by : (s : Setting) → Follows s resource_read (a ∷ cs)
+  resource-follows-by : (s : Setting) → Follows s false resource_read (a ∷ cs)
   resource-follows-by s = record {
     tree = group N.Resource row;
     codes = a ∷ (target.codes ++ tail.codes);
     rest = tail.rest;
     whole = ap (λ xs. a ∷ xs) (target.whole ∙ ap (λ xs. target.codes ++ xs) tail.whole ∙ sym (append_assoc target.codes tail.codes tail.rest));
-    holds = λ (defined : Bool). after-paren s defined (a ∷ cs) front ∙ either-some resource (shortcut defined) (a ∷ cs) (group N.Resource row, tail.rest) resource-is;
+    holds = λ (defined : Bool) none. after-paren s defined (a ∷ cs) front ∙ either-some resource (shortcut defined) (a ∷ cs) (group N.Resource row, tail.rest) resource-is;
     covers = resource-covers;
     reads = resource-reads;
   }
 
--- The end of the label.
-
--- where the last start keeps its kind
-kept-kind : (M : Tokenizer) (l : Kept.LabelStart) (ls : List Kept.LabelStart) → M.tokenize_state.label_starts ≡ l ∷ ls →
-    link_kind l.kind ≡ l.kind → kind_set (link_kind l.kind) M ≡ M
-kept-kind M l ls e same =
-    ap (λ y. scratched (starts_set y M.tokenize_state) M) (ap (with_kind (link_kind l.kind)) e ∙ ap (λ q. record l { kind = q } ∷ ls) same ∙ sym e)
-    ∙ scratched-same M
-
--- such a start is not barred, and its label is a link's or an image's
-record Takes (l : Kept.LabelStart) : Type 0 where
-  active : bars l ≡ false
-  plain : is_footnote l.kind ≡ false
-  same : link_kind l.kind ≡ l.kind
-
-takes-by : (kind : LabelKind) (inactive : Bool) → takes_resource kind inactive ≡ true →
-    ((not (is_image kind) && inactive) ≡ false) × ((is_footnote kind ≡ false) × (link_kind kind ≡ kind))
-takes-by LabelKind.Image inactive h = (refl, (refl, refl))
-takes-by LabelKind.Link inactive h = (not-true inactive h, (refl, refl))
-takes-by LabelKind.GfmUndefinedFootnote inactive h = (not-true inactive h, (refl, refl))
-takes-by LabelKind.GfmFootnote inactive h = cc
-
-takes : (l : Kept.LabelStart) → takes_resource l.kind l.inactive ≡ true → Takes l
-takes l h = let p = takes-by l.kind l.inactive h in record { active = p.0; plain = p.1.0; same = p.1.1 }
-
-module _ (T : Tokenizer) (read : Tokenizer → Tokenizer) (x : Code) (later : List Code) (on : is_on T ≡ true) (bracket : is_value 93 x ≡ true) (codes : ahead T ≡ x ∷ later) (k : Follows (setting_in T) read later) where
-  -- past the end's own events
-  abbrev P : Tokenizer
-  P = past None (end_tree (x ∷ [])) (ended T)
-
-  end-past : done end_ops (ended T) ≡ P
-  unfolding scratched
-  end-past =
-      ops-past (end_tree (x ∷ [])) later (ended T) (IsSolid-group N.LabelEnd (leaf N.LabelMarker (x ∷ [])) (λ e. cc) (IsSolid-leaf N.LabelMarker (x ∷ []))) codes
-
-  ahead-there : ahead P ≡ later
-  unfolding scratched
-  ahead-there = ahead-past None (end_tree (x ∷ [])) (ended T) later codes
-
-  tree-codes : later ≡ leaf_codes k.tree ++ k.rest
-  tree-codes = k.whole ∙ ap (λ xs. xs ++ k.rest) (sym k.covers.1)
-
-  tail-past : read P ≡ past None k.tree P
-  tail-past = k.reads P ahead-there ∙ linked-past false k.tree k.rest P k.covers.0 (ahead-there ∙ tree-codes)
-
-  module _ (l : Kept.LabelStart) (ls : List Kept.LabelStart) (top : T.tokenize_state.label_starts ≡ l ∷ ls) (takes : Takes l) where
-    abbrev s : Setting
-    s = setting_in T
-
-    abbrev name : List ℕ
-    name = identifier_of (bytes_between s (place_at T.events l.start.1) x.start)
-
-    outcome-is : outcome_by T.tokenize_state.label_starts T (x ∷ []) later ≡ Some ((link_kind l.kind, k.tree), k.rest)
-    outcome-is =
-        ap (λ y. outcome_by y T (x ∷ []) later) top
-        ∙ switched-on (outcome s l.kind name) (not (bars l)) later (ap not takes.active)
-        ∙ outcome-tail s l.kind name later k.tree k.rest (ap (λ z. z && is_defined s.footnotes name) takes.plain)
-        (k.holds (is_defined s.definitions (link_identifier l.kind name)))
-
-    starts-there : P.tokenize_state.label_starts ≡ l ∷ ls
-    unfolding past scratched
-    starts-there = top
-
-    ends-by : (U : Tokenizer) → U ≡ made_here (read (done end_ops (ended T))) → Ends T U
-    unfolding end_made made gives
-    ends-by U e =
-        let there : read (done end_ops (ended T)) ≡ past None k.tree P = ap read end-past ∙ tail-past in
-        record {
-          back = x ∷ [];
-          kind = link_kind l.kind;
-          tail = k.tree;
-          rest = k.rest;
-          holds = reading-at T x later on codes bracket ∙ bind-some (outcome_by T.tokenize_state.label_starts T (x ∷ [])) _ later (link_kind l.kind, k.tree) k.rest _ outcome-is refl;
-          left = e ∙ ap made_here (there ∙ ap (past None k.tree) (sym (kept-kind P l ls starts-there takes.same)));
-          whole = codes ∙ ap (λ xs. x ∷ xs) tree-codes;
-          after = ap ahead (e ∙ ap made_here there) ∙ ahead-made (past None k.tree P) ∙ ahead-past None k.tree P k.rest (ahead-there ∙ tree-codes);
-        }
-
-  -- so where the last start may make a label
-  ends-where : (U : Tokenizer) → may_make T.tokenize_state.label_starts ≡ true →
-      U ≡ made_here (read (done end_ops (ended T))) → Ends T U
-  ends-where U h e = by-starts T.tokenize_state.label_starts refl h
-    where
-      by-starts : (ls : List Kept.LabelStart) → T.tokenize_state.label_starts ≡ ls → may_make ls ≡ true → Ends T U
-      by-starts [] top h = cc
-      by-starts (l ∷ ls) top h = ends-by l ls top (takes l h) U e
-
 -- By what stands at the place.
 
-value-here : (n : ℕ) (o : Option ℕ) → is_some_value n o ≡ true → o ≡ Some n
+pub value-here : (n : ℕ) (o : Option ℕ) → is_some_value n o ≡ true → o ≡ Some n
 value-here n None h = cc
 value-here n (Some v) h = ap (λ m. Some m) (eqb-true v n h)
 
 -- the code at the place has this value
-code-here : (n : ℕ) (p : Place) → is_some_value n (code_at p) ≡ true → IsAhead p n
+pub code-here : (n : ℕ) (p : Place) → is_some_value n (code_at p) ≡ true → IsAhead p n
 code-here n p h = ahead_some p n (value-here n (code_at p) h)
 
-record IsFree (ms : List ℕ) (o : Option ℕ) : Type 0 where
-  value : ℕ
-  is : o ≡ Some value
-  free : stops ms value ≡ false
+pub record IsFree (ms : List ℕ) (o : Option ℕ) : Type 0 where
+  pub value : ℕ
+  pub is : o ≡ Some value
+  pub free : stops ms value ≡ false
 
-free-here : (ms : List ℕ) (o : Option ℕ) → is_free ms o ≡ true → IsFree ms o
+pub free-here : (ms : List ℕ) (o : Option ℕ) → is_free ms o ≡ true → IsFree ms o
 free-here ms None h = cc
 free-here ms (Some v) h = record { value = v; is = refl; free = not-true (stops ms v) h }
 
 -- text stands at the place
-record TextAt (ms : List ℕ) (p : Place) : Type 0 where
-  first : Code
-  more : List Code
-  codes : ahead_at p ≡ (first ∷ more) ++ ahead_at (past_stretch ms p)
-  text : stretch ms (ahead_at p) ≡ first ∷ more
-  free : stops ms first.value ≡ false
+pub record TextAt (ms : List ℕ) (p : Place) : Type 0 where
+  pub first : Code
+  pub more : List Code
+  pub codes : ahead_at p ≡ (first ∷ more) ++ ahead_at (past_stretch ms p)
+  pub text : stretch ms (ahead_at p) ≡ first ∷ more
+  pub free : stops ms first.value ≡ false
 
-text-at : (ms : List ℕ) (p : Place) → is_free ms (code_at p) ≡ true → TextAt ms p
+pub text-at : (ms : List ℕ) (p : Place) → is_free ms (code_at p) ≡ true → TextAt ms p
 text-at ms p h =
     let f : IsFree ms (code_at p) = free-here ms (code_at p) h in
     let a : IsAhead p f.value = ahead_some p f.value f.is in
@@ -789,16 +686,16 @@ text-at ms p h =
     }
 
 -- the text at the place ends at a code with this value
-record EndsText (ms : List ℕ) (v : ℕ) (p : Place) : Type 0 where
-  first : Code
-  more : List Code
-  back : Code
-  behind : ahead_at (past_stretch ms p) ≡ back ∷ ahead_at (moved (past_stretch ms p))
-  codes : ahead_at p ≡ (first ∷ more) ++ back ∷ ahead_at (moved (past_stretch ms p))
-  text : IsStretch ms first more (back ∷ ahead_at (moved (past_stretch ms p)))
-  closes : back.value ≡ v
+pub record EndsText (ms : List ℕ) (v : ℕ) (p : Place) : Type 0 where
+  pub first : Code
+  pub more : List Code
+  pub back : Code
+  pub behind : ahead_at (past_stretch ms p) ≡ back ∷ ahead_at (moved (past_stretch ms p))
+  pub codes : ahead_at p ≡ (first ∷ more) ++ back ∷ ahead_at (moved (past_stretch ms p))
+  pub text : IsStretch ms first more (back ∷ ahead_at (moved (past_stretch ms p)))
+  pub closes : back.value ≡ v
 
-ends-text : (ms : List ℕ) (v : ℕ) (p : Place) → is_free ms (code_at p) ≡ true → code_at (past_stretch ms p) ≡ Some v → EndsText ms v p
+pub ends-text : (ms : List ℕ) (v : ℕ) (p : Place) → is_free ms (code_at p) ≡ true → code_at (past_stretch ms p) ≡ Some v → EndsText ms v p
 ends-text ms v p h e =
     let t : TextAt ms p = text-at ms p h in
     let b : IsAhead (past_stretch ms p) v = ahead_some (past_stretch ms p) v e in
@@ -813,7 +710,7 @@ ends-text ms v p h e =
       closes = b.value;
     }
 
-value-is : (c : Code) (n : ℕ) → c.value ≡ n → is_value n c ≡ true
+pub value-is : (c : Code) (n : ℕ) → c.value ≡ n → is_value n c ≡ true
 value-is c n e = eq-eqb c.value n e
 
 -- a code with which what stands behind a destination begins
@@ -924,12 +821,12 @@ tail-here p h = by_test (closes_at p) refl h
 
 -- a resource stands at the place
 resource-here : (s : Setting) (p : Place) → is_some_value 40 (code_at p) ≡ true → closes_behind (moved p) ≡ true →
-    Follows s resource_read (ahead_at p)
+    Follows s false resource_read (ahead_at p)
 resource-here s p front h =
     let a : IsAhead p 40 = code-here 40 p front in
     let q : Place = past_destination (moved p) in
     let tail : tail_at q ≡ true = and-right (destination_at (moved p)) _ h in
-    subst (Follows s resource_read) (sym a.codes)
+    subst (Follows s false resource_read) (sym a.codes)
     (resource-follows-by a.code (ahead_at (moved p)) (ahead_at q) (value-is a.code 40 a.value) (target-at (moved p) (and-left _ _ h) (tail-begins q tail)) (tail-here q tail) s)
 
 -- where one stands, it is read
@@ -940,8 +837,8 @@ plain-ends T U h left =
     let there : plain_at p ≡ true = and-right (may_make T.tokenize_state.label_starts) _ may in
     let x : IsAhead p 93 = code-here 93 p (and-left _ _ there) in
     let behind : is_some_value 40 (code_at (moved p)) && closes_behind (moved (moved p)) ≡ true = and-right (is_some_value 93 (code_at p)) _ there in
-    ends-where T resource_read x.code (ahead_at (moved p)) (and-left (is_on T) _ h) (value-is x.code 93 x.value) x.codes
-    (resource-here (setting_in T) (moved p) (and-left _ _ behind) (and-right (is_some_value 40 (code_at (moved p))) _ behind)) U (and-left (may_make T.tokenize_state.label_starts) _ may) left
+    ends-where T false resource_read x.code (ahead_at (moved p)) (and-left (is_on T) _ h) (value-is x.code 93 x.value) x.codes
+    (resource-here (setting_in T) (moved p) (and-left _ _ behind) (and-right (is_some_value 40 (code_at (moved p))) _ behind)) U (and-left (may_make T.tokenize_state.label_starts) _ may) (asks-nothing T x.code T.tokenize_state.label_starts) left
 
 -- so with the number of the end's first event as the call gives it
 pub ended-is : (T U : Tokenizer) (n : ℕ) → n ≡ length T.events →

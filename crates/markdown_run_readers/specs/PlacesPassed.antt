@@ -13,7 +13,7 @@ use Rattle.markdown_engine_content.specs.declared.event.Point.{Point}
 use Rattle.markdown_engine.specs.Operations.{Op, Enter, Exit, Consume, current_of, done, exit_event, exited, link_back}
 use Rattle.markdown_engine.specs.PastTree.{moved_by}
 use Rattle.markdown_engine.specs.declared.tokenizer.Tokenizer.{Tokenizer}
-use Rattle.markdown_label.specs.LabelStarts.{footnotes_on, images_on}
+use Rattle.markdown_label.specs.LabelStarts.{footnotes_on, images_on, links_on}
 use Rattle.markdown_leaf.specs.CharacterEscape.{is_on, is_punctuation}
 use Rattle.markdown_model.specs.CodeTests.{is_between, is_value}
 use Rattle.markdown_model.specs.GfmAutolinkLiteral.{letters, literal_words}
@@ -44,7 +44,11 @@ begins_escape p = is_some_mark (codes "\\") (code_at p) && is_some_punctuation (
 abbrev pub escapes_here : Tokenizer → Bool
 escapes_here T = is_on T && begins_escape T.cursor
 
--- Starts of images.
+-- Starts of links and images.
+
+-- starts of links are on, and one is at the place
+abbrev pub link_here : Tokenizer → Bool
+link_here T = links_on T && is_some_value (byte "[") (code_at T.cursor)
 
 -- a `![` is at the place
 abbrev pub bang_at : Place → Bool

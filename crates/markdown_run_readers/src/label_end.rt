@@ -1,4 +1,4 @@
-//! Ends of labels with a plain resource (CommonMark 6.3), read whole.
+//! Ends of labels with a plain resource or a plain reference (CommonMark 6.3), read whole; of references `label_end_reference` says more.
 //!
 //! A plain resource stands on one line. It has a destination, and maybe a title in quotes behind one space, or a tab of one column. None of its
 //! texts is empty. No backslash stands in them, no parenthesis in a destination without brackets, and no `<` in one with brackets.
@@ -8,16 +8,18 @@
 //! as the content.
 #![tactic(auto, using(markdown_engine::proofs::OperationFields::op_rules))]
 
-ghost use Rattle.std.specs.Prelude.{◌≡◌, ◌&&◌, true, IfOk, OnOk, OnErr, IsTrue, is_some};
+ghost use Rattle.std.specs.Prelude.{◌≡◌, ◌&&◌, ◌||◌, true, IfOk, OnOk, OnErr, IsTrue, is_some};
 ghost use Rattle.markdown_engine.specs.Operations.{HasCode, current_of, done};
 ghost use Rattle.markdown_engine_content.specs.Place.{code_at, moved};
 ghost use Rattle.markdown_engine_content.specs.Stretch.{is_free};
-ghost use Rattle.markdown_label.specs.LabelEnd.{StartReady, end_ops};
+ghost use Rattle.markdown_label.specs.LabelEnd.{Ends, StartReady, end_ops};
 ghost use Rattle.markdown_partial_link.specs.PartialDestination.{enclosed_stops, raw_stops};
 ghost use Rattle.markdown_run_readers.specs.PlacesPassed.{is_some_value};
+ghost use Rattle.markdown_run_readers.specs.PlainReference.{reference_here};
 ghost use Rattle.markdown_run_readers.specs.PlainResource.{EndsOrStays, between_read, closes_behind, destination_at, destination_read, enclosed_read, has_markers, may_make, past_between, past_destination, past_title, plain_at, plain_here, raw_read, resource_read, stands_between, tail_at, tail_read, takes_resource, text_read, title_at, title_read, title_stops};
 
 use crate::events::{append_enter, append_exit, append_string, read_marker};
+use crate::label_end_reference;
 use markdown_engine::tokenizer::{LabelKind, LabelStart, Tokenizer};
 use markdown_engine_content::byte_set;
 use markdown_engine_content::bytes::ByteSet;
@@ -55,7 +57,7 @@ fn title_stops(quote: u8) -> ByteSet
 }
 
 // Whether the code is this one.
-fn is_same(code: Option<u8>, byte: u8) -> bool
+pub(crate) fn is_same(code: Option<u8>, byte: u8) -> bool
     ensures { result ≡ is_some_value byte code }
 {
     match code {
@@ -65,7 +67,7 @@ fn is_same(code: Option<u8>, byte: u8) -> bool
 }
 
 // Whether there is a code that is neither a line ending nor one of these bytes.
-fn is_free(code: Option<u8>, stops: &ByteSet) -> bool
+pub(crate) fn is_free(code: Option<u8>, stops: &ByteSet) -> bool
     ensures { result ≡ is_free stops.now code }
 {
     match code {
@@ -76,6 +78,7 @@ fn is_free(code: Option<u8>, stops: &ByteSet) -> bool
 
 // Moves from the marker at the place past the text behind it, and past the code that ends the text. Answers whether text stands there, up to
 // this code.
+#[inline(always)]
 fn pass_between(cursor: &mut Cursor, stops: &ByteSet, closer: u8) -> bool
     requires { is_some (code_at cursor.old) ≡ true }
     ensures holds { result ≡ stands_between stops.now closer cursor.old }
@@ -156,7 +159,7 @@ fn takes_resource(start: LabelStart) -> bool
 }
 
 // Whether the last start is such a one.
-fn may_make(tokenizer: &Tokenizer) -> bool
+pub(crate) fn may_make(tokenizer: &Tokenizer) -> bool
     ensures { result ≡ may_make tokenizer.now.tokenize_state.label_starts }
 {
     match tokenizer.tokenize_state.label_starts.top() {
@@ -175,8 +178,9 @@ fn is_here(tokenizer: &Tokenizer) -> bool
 }
 
 // Reads the `]` at hand.
+#[inline(always)]
 #[tactic(auto, unfolding(markdown_engine::specs::Operations::applied))]
-fn read_end(tokenizer: &mut Tokenizer) -> Result<(), AllocError>
+pub(crate) fn read_end(tokenizer: &mut Tokenizer) -> Result<(), AllocError>
     requires { HasCode tokenizer.old }
     ensures ok { OnOk result (tokenizer.new ≡ done end_ops tokenizer.old) }
     ensures err { OnErr result (IsTrue tokenizer.new.failed) }
@@ -187,6 +191,7 @@ fn read_end(tokenizer: &mut Tokenizer) -> Result<(), AllocError>
 }
 
 // Reads the text at hand up to where it stops, as a string under this name.
+#[inline(always)]
 #[tactic(auto, unfolding(markdown_engine::specs::Operations::applied))]
 fn read_text(tokenizer: &mut Tokenizer, name: Name, stops: &ByteSet) -> Result<(), AllocError>
     ensures ok { OnOk result (tokenizer.new ≡ text_read name stops.now tokenizer.old) }
@@ -200,8 +205,9 @@ fn read_text(tokenizer: &mut Tokenizer, name: Name, stops: &ByteSet) -> Result<(
 }
 
 // Reads the text at hand with the markers around it, under these names.
+#[inline(always)]
 #[tactic(auto, unfolding(markdown_engine::specs::Operations::applied))]
-fn read_between(
+pub(crate) fn read_between(
     tokenizer: &mut Tokenizer,
     whole: Name,
     marker: Name,
@@ -308,26 +314,38 @@ fn read_resource(tokenizer: &mut Tokenizer) -> Result<(), AllocError>
     append_exit(tokenizer, Name::Resource)
 }
 
-/// Reads the end of a label at hand, where a plain resource stands behind its `]`. Answers whether one is read: where `label_end` is on, and the
-/// last start that no end has used is a link's without a link behind it, or an image's.
-///
-/// Its events are a `LabelEnd` with a `LabelMarker`, and a `Resource` with its `ResourceDestination` and, if there is one, its `ResourceTitle`. The
-/// start makes a label. After a link the starts before it are barred. The pass of labels is registered before all others.
-///
-/// Where none is read, the tokenizer is as before, and another end of a label may stand there. The error comes where a growth is refused; then
-/// `failed` is true.
-pub fn read(tokenizer: &mut Tokenizer) -> Result<bool, AllocError>
-    requires { StartReady tokenizer.old }
-    ensures here { IfOk result (λ ok. ok ≡ plain_here tokenizer.old) }
-    ensures reads { IfOk result (λ ok. EndsOrStays tokenizer.old ok tokenizer.new) }
+// Reads the end at hand, and the plain resource behind it. The last start makes a label.
+fn read_here(tokenizer: &mut Tokenizer) -> Result<(), AllocError>
+    requires ready { StartReady tokenizer.old }
+    requires here { plain_here tokenizer.old ≡ true }
+    ensures ok { OnOk result (Ends tokenizer.old tokenizer.new) }
     ensures err { OnErr result (IsTrue tokenizer.new.failed) }
 {
-    if !is_here(tokenizer) {
-        return Ok(false);
-    }
     tokenizer.tokenize_state.end = tokenizer.events.len();
     read_end(tokenizer)?;
     read_resource(tokenizer)?;
     let _made = label_end::ok(tokenizer)?;
+    Ok(())
+}
+
+/// Reads the end of a label at hand, where a plain resource or a plain reference stands behind its `]`, or the label is a shortcut. Answers whether
+/// one is read: where `label_end` is on, and the last start that no end has used is a link's without a link behind it, or an image's.
+///
+/// Its events are a `LabelEnd` with a `LabelMarker`, and a `Resource` with its `ResourceDestination` and, if there is one, its `ResourceTitle`, or
+/// a `Reference` with its `ReferenceString`; behind a shortcut none. The start makes a label. After a link the starts before it are barred. The
+/// pass of labels is registered before all others.
+///
+/// Where none is read, the tokenizer is as before, and another end of a label may stand there. The error comes where memory is refused; then
+/// `failed` is true.
+pub fn read(tokenizer: &mut Tokenizer) -> Result<bool, AllocError>
+    requires { StartReady tokenizer.old }
+    ensures here { IfOk result (λ ok. ok ≡ (plain_here tokenizer.old || reference_here tokenizer.old)) }
+    ensures reads { IfOk result (λ ok. EndsOrStays tokenizer.old ok tokenizer.new) }
+    ensures err { OnErr result (IsTrue tokenizer.new.failed) }
+{
+    if !is_here(tokenizer) {
+        return label_end_reference::read(tokenizer);
+    }
+    read_here(tokenizer)?;
     Ok(true)
 }

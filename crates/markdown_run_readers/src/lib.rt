@@ -8,6 +8,7 @@ pub mod character_reference;
 mod events;
 pub mod html_text;
 pub mod label_end;
+mod label_end_reference;
 pub mod label_start_image;
 pub mod label_start_link;
 pub mod partial_data;

@@ -1,12 +1,17 @@
-use Rattle.markdown_run_readers.proofs.LinkStarts.{link-read, no-link}
+use Rattle.std.proofs.Common.{sym, ◌∙◌}
+use Rattle.markdown_engine.specs.declared.tokenizer.Tokenizer.{Tokenizer}
+use Rattle.markdown_run_readers.proofs.LinkStarts.{link-code, link-long, link-reads, no-link}
 use Rattle.markdown_run_readers.proofs.label_start_link.read.Goals as goal
 
-pub returns-in-Ok-clause-reads : goal.returns-in-Ok-clause-reads
-returns-in-Ok-clause-reads c =
-    link-read c.args.tokenizer.now c.start.new.tokenizer c.in_ok-state.state c.in_ok-state.ensures.ok c.in-Ok.is
+pub returns-then-not-is_here-clause-reads : goal.returns-then-not-is_here-clause-reads
+returns-then-not-is_here-clause-reads c = no-link c.args.tokenizer.now (sym c.is_here.ensures ∙ c.if-not-is_here.true)
 
-pub returns-in_default : goal.returns-in_default
-returns-in_default c = record {
-  reads = no-link c.args.tokenizer.now c.start.new.tokenizer c.in_ok-state.state c.in_ok-state.ensures.ok c.in_default.not-Ok;
-  err = tt;
-}
+pub read_front-requires : goal.read_front-requires
+read_front-requires c = link-code c.args.tokenizer.now (sym c.is_here.ensures ∙ c.if-not-is_here.false)
+
+pub keep_start-requires-clause-within : goal.keep_start-requires-clause-within
+keep_start-requires-clause-within c = link-long c.args.tokenizer.now c.read_front.new.tokenizer c.in_ok-read_front.ensures.ok
+
+pub returns-clause-reads : goal.returns-clause-reads
+returns-clause-reads c =
+    link-reads c.args.tokenizer.now c.read_front.new.tokenizer c.keep_start.new.tokenizer (sym c.is_here.ensures ∙ c.if-not-is_here.false) c.in_ok-read_front.ensures.ok c.in_ok-keep_start.ensures.ok
