@@ -4,7 +4,6 @@ use Rattle.std.specs.List.{list_any}
 use Rattle.std.proofs.lemmas.Bool.{eqb-true, ne_eqb}
 use Rattle.std.specs.Prelude.{is_some, ◌&&◌}
 use Rattle.std.specs.Str.{byte}
-use Rattle.markdown_engine_content.specs.Codes.{Code}
 use Rattle.markdown_engine_content.specs.ListFunctions.{rest_of}
 use Rattle.markdown_engine_content.specs.Place.{code_at, moved}
 use Rattle.markdown_engine_content.proofs.PlaceRules.{ahead-moved}
@@ -41,18 +40,20 @@ use Rattle.markdown_model.specs.TextLines.{data_up_to}
 use Rattle.markdown_model.proofs.PlainConstructs.{ReadsPlain, plain_constructs}
 use Rattle.markdown_plan.specs.Characters.{bytes_of}
 use Rattle.markdown_run_row.specs.Row.{loses, past_mark}
-use Rattle.markdown_run_row.specs.RunOverElements.{AreSingle, Advances, DataFinishes, Finishes}
+use Rattle.markdown_run_row.specs.RunOverElements.{AreReadAsData, Advances, DataFinishes, Finishes}
 use Rattle.markdown_run_row.proofs.ConstructNodes.{node-of}
 use Rattle.markdown_run_row.proofs.ElementSteps.{some-ahead, advances-finishes, data-advances, node-advances, run-advances}
 use Rattle.markdown_run_row.proofs.RowFields.{lost-within}
-use Rattle.markdown_run_text.specs.TextContent.{StandsAlone, other_markers, sole_try, span_markers, text_choice_of, text_passed, tried_reading}
+use Rattle.markdown_run_text.specs.TextContent.{StandsAlone, other_markers, sole_try, span_markers, text_choice_of, text_passed, text_setting, tried_reading}
 use Rattle.markdown_run_text.proofs.TextContentLaws.{SoleBy, SoleOrAlone, sole-or-alone, states_and_called, angle-row, slash-row}
 use Rattle.markdown_run_text.proofs.TextElements.{is_marker}
 use Rattle.markdown_run_text.proofs.TextLabelTries.{image-advances, image-alone, footnote-advances, link-advances, bracket-alone, made-advances, failed-advances, end-alone}
 use Rattle.markdown_run_text.proofs.TextSteps.{IsSame, same-row, choice-same, indexed-past, domains-past, ready-past, no-check-past, tree-kept, registered-kept, made-kept, some-none, ends-on, lost-there, not-lost, lost-left, lost-current, same-lost}
-use Rattle.markdown_run_text.proofs.TextTries.{ReadsElements, single-ahead, first-reads, second-reads, second-alone, span-reads, span-alone, run-reads, run-alone, run-leaf, www-reads, www-alone}
+use Rattle.markdown_run_text.proofs.TextTries.{ReadsElements, read-ahead, single-ahead, first-reads, second-reads, second-alone, span-reads, span-alone, run-reads, run-alone, run-leaf, www-reads, www-alone}
 use Rattle.markdown_run_readers.specs.PlacesPassed.{goes_on}
-use Rattle.markdown_run_readers.specs.TextStops.{text_stops}
+use Rattle.markdown_run_readers.proofs.InnerUnderscores.{text-read}
+use Rattle.markdown_run_readers.proofs.TextDataElements.{text-single}
+use Rattle.markdown_run_readers.specs.TextStops.{reader_stops, text_stops}
 use Rattle.markdown_run.specs.ElementsOfText.{indexed, data_stops, MayTry, IsReady, EndsAt, EndsByData, LeadsTo, Passes, Stays, ReadsElement}
 use Rattle.markdown_run.specs.Layer.{inline, text-within}
 use Rattle.markdown_run.specs.RunConstruct.{Asks, IsConstruct, EndsBy, ConstructEnds}
@@ -63,17 +64,16 @@ use Rattle.markdown_run.proofs.StartsAndEnds.{image-begun, link-begun, footnote-
 -- An element is read.
 
 data-stops-same : (T U : Tokenizer) → IsSame T U → data_stops U ≡ data_stops T
-data-stops-same T U e i = text_stops (e.input i).now.options.now.constructs.gfm_autolink_literal
+data-stops-same T U e i = reader_stops (e.codes i) (e.input i).now.options.now.constructs.gfm_autolink_literal
 
-single-past : (T U : Tokenizer) → IsSame T U → AreSingle (text_choice_of T) (data_stops T) T.cursor.codes →
-    AreSingle (text_choice_of U) (data_stops U) U.cursor.codes
-single-past T U e single front earlier previous c cs w free =
-    (λ i. choice-same T U e i earlier previous (c ∷ cs)) ∙ single front earlier previous c cs (sym e.codes ∙ w) (ap (λ (stop : List Code → Bool). stop (c ∷ cs)) (sym (data-stops-same T U e)) ∙ free)
+-- each code of the content where data does not stop is read as data
+as-data : (T : Tokenizer) → MayTry T → AreReadAsData (bytes_of T) (text_choice_of T) (data_stops T) T.cursor.codes
+as-data T r = text-read (text_setting T) T.cursor T.parse_state.now.options.now.constructs.gfm_autolink_literal r.start.ends.text refl
 
 pub may-past : (T U : Tokenizer) → IsSame T U → codes_left U ≤ codes_left T → AreWithin U U.tokenize_state.label_starts →
     U.attempts ≡ [] → MayTry T → MayTry U
 may-past T U e l within alone r =
-    record { start = ready-past T U e l within r.start; runs = indexed-past T U e r.runs; domains = domains-past T U e r.domains; single = single-past T U e r.single; alone = alone }
+    record { start = ready-past T U e l within r.start; runs = indexed-past T U e r.runs; domains = domains-past T U e r.domains; alone = alone }
 
 pub element-passes : (T U : Tokenizer) → MayTry T → AreWithin U U.tokenize_state.label_starts →
     Advances (text_choice_of T) T U → Passes T U
@@ -93,13 +93,13 @@ element-passes T U r within a =
 
 -- None is, and the code at hand is data.
 
-alone-ends : (T : Tokenizer) → AreSingle (text_choice_of T) (data_stops T) T.cursor.codes → current_of T ≢ None → StandsAlone T →
-    (V : Tokenizer) → EndsByData T V → EndsAt T V
-alone-ends T single some alone V k =
+alone-ends : (T : Tokenizer) → AreReadAsData (bytes_of T) (text_choice_of T) (data_stops T) T.cursor.codes → current_of T ≢ None →
+    StandsAlone T → (V : Tokenizer) → EndsByData T V → EndsAt T V
+alone-ends T read some alone V k =
     let a = some-ahead T (ahead T) refl some in
     advances-finishes (text_choice_of T) text_passed T k.behind V
     (data-advances (text_choice_of T) (data_stops T) T k.behind a.0 a.1.0 a.1.1 k.data_read (λ earlier previous stands. alone earlier previous a.0 a.1.0 stands a.1.1)
-    (subst (λ xs. AreSingle (text_choice_of T) (data_stops T) xs) a.1.1 (single-ahead (text_choice_of T) (data_stops T) T single)))
+    (subst (λ xs. AreReadAsData (bytes_of T) (text_choice_of T) (data_stops T) xs) a.1.1 (read-ahead (bytes_of T) (text_choice_of T) (data_stops T) T read)))
     k.finishes
 
 has-code : (T : Tokenizer) (v : ℕ) → current_of T ≡ Some v → HasCode T
@@ -111,7 +111,7 @@ alone-stays T U v r here same alone = subst (λ (x : Tokenizer). Stays T x) (sym
   where
     leads : (s : TokenizeState) (V : Tokenizer) → EndsByData (indexed s T) V → EndsAt (indexed s T) V
     leads s V k =
-        alone-ends (indexed s T) r.may_try.single (some-none (current_of T) v here) (λ earlier previous c cs stands w. alone earlier previous c cs (record { escaped = stands.escaped; before = stands.before; keeps = stands.keeps }) w) V k
+        alone-ends (indexed s T) (as-data T r.may_try) (some-none (current_of T) v here) (λ earlier previous c cs stands w. alone earlier previous c cs (record { escaped = stands.escaped; before = stands.before; keeps = stands.keeps }) w) V k
 
     there : Stays T T
     there = record { ready = r; some_code = has-code T v here; left = omega arith; leads = leads }
@@ -163,7 +163,7 @@ pub data-stays : (T : Tokenizer) (v : ℕ) → IsReady T → current_of T ≡ So
 data-stays T v r here on =
     let literals : Bool = T.parse_state.now.options.now.constructs.gfm_autolink_literal in
     alone-stays T T v r here refl
-    (λ earlier previous c cs stands w. single-ahead (text_choice_of T) (data_stops T) T r.may_try.single [] earlier previous c cs w (not-true (text_stops literals (c ∷ cs)) (sym (ap (goes_on literals) w) ∙ on)))
+    (λ earlier previous c cs stands w. single-ahead (text_choice_of T) (text_stops literals) T (text-single (text_setting T) literals T.cursor.codes refl) [] earlier previous c cs w (not-true (text_stops literals (c ∷ cs)) (sym (ap (goes_on literals) w) ∙ on)))
 
 -- what alone is tried at the code at hand
 
@@ -309,13 +309,13 @@ link-behind T U V ok r here k h =
 -- Ends of labels.
 
 lost-ends : (T : Tokenizer) → current_of T ≡ Some (byte "]") → LabelEnd.is_on T ≡ true → LabelEnd.end_reading T (ahead T) ≡ None →
-    AreSingle (text_choice_of T) (data_stops T) T.cursor.codes → (F : Tokenizer) → F ≡ past_mark loses T → text_choice_of F ≡ text_choice_of T →
-    data_stops F ≡ data_stops T → (V : Tokenizer) → EndsByData F V → EndsAt T V
-lost-ends T here on none single F left choice stops V k =
+    AreReadAsData (bytes_of T) (text_choice_of T) (data_stops T) T.cursor.codes → (F : Tokenizer) → F ≡ past_mark loses T →
+    text_choice_of F ≡ text_choice_of T → data_stops F ≡ data_stops T → (V : Tokenizer) → EndsByData F V → EndsAt T V
+lost-ends T here on none read F left choice stops V k =
     let there : DataFinishes (text_choice_of T) (data_up_to (data_stops T)) text_passed F V =
     subst (λ c. DataFinishes c (data_up_to (data_stops T)) text_passed F V) choice (subst (λ stop. DataFinishes (text_choice_of F) (data_up_to stop) text_passed F V) stops k) in
     advances-finishes (text_choice_of T) text_passed T there.behind V
-    (failed-advances T here on (data_stops T) there.behind single none (subst (λ (x : Tokenizer). Reads (data_up_to (data_stops T)) None x.tokenize_state x there.behind) left there.data_read)) there.finishes
+    (failed-advances T here on (data_stops T) there.behind read none (subst (λ (x : Tokenizer). Reads (data_up_to (data_stops T)) None x.tokenize_state x there.behind) left there.data_read)) there.finishes
 
 lost-stays : (T : Tokenizer) → IsReady T → current_of T ≡ Some (byte "]") → LabelEnd.is_on T ≡ true → LabelEnd.end_reading T (ahead T) ≡ None →
     Stays T (past_mark loses T)
@@ -340,7 +340,7 @@ lost-stays T r here on none =
 
     leads : IsSame T (past_mark loses T) → (s : TokenizeState) (V : Tokenizer) → EndsByData (indexed s (past_mark loses T)) V → EndsAt (indexed s T) V
     leads e s V k =
-        lost-ends (indexed s T) here on none r.may_try.single (indexed s (past_mark loses T)) (sym (mark-indexed s loses T)) (choice-same T (past_mark loses T) e) (data-stops-same T (past_mark loses T) e) V k
+        lost-ends (indexed s T) here on none (as-data T r.may_try) (indexed s (past_mark loses T)) (sym (mark-indexed s loses T)) (choice-same T (past_mark loses T) e) (data-stops-same T (past_mark loses T) e) V k
 
 pub end-ends : (T U : Tokenizer) (ok : Bool) → IsReady T → current_of T ≡ Some (byte "]") → ConstructEnds LabelEndStart T ok U →
     ReadsElement T ok U

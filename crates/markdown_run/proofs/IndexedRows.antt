@@ -93,5 +93,5 @@ advances-indexed s choice T U a =
       less = a.less;
       elements = λ earlier previous stands.
           let e = a.elements earlier previous (stands-indexed s earlier previous T stands) in
-          record { elements = e.elements; later = e.later; last = e.last; stands = indexed-stands s e.later e.last U e.stands; follow = e.follow; have_codes = e.have_codes; alike = e.alike };
+          record { elements = e.elements; later = e.later; last = e.last; stands = indexed-stands s e.later e.last U e.stands; follow = e.follow; read = e.read; read_as = e.read_as; have_codes = e.have_codes; alike = e.alike };
     }

@@ -10,6 +10,7 @@ pub mod ProbeBoundsOfCutData
 pub mod PassesAfterRun
 pub mod TextTree
 pub mod WholeRun
+pub mod FoundTexts
 pub mod TextRun
 pub mod RowPasses
 pub mod RowsWithoutRuns

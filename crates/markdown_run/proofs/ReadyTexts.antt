@@ -13,8 +13,7 @@ use Rattle.markdown_leaf_gfm.proofs.DomainOutlookLemmas.{right-unknown}
 use Rattle.markdown_leaf_gfm.specs.GfmAutolinkLiteral as GfmAutolinkLiteral
 use Rattle.markdown_plan.specs.Characters.{bytes_of}
 use Rattle.markdown_plan.proofs.CharactersAlongContent.{text-scratched}
-use Rattle.markdown_run_text.specs.TextContent.{StartReady, domains_pay, indexed_fields, named_fields, text_setting, titles_pay}
-use Rattle.markdown_run_readers.proofs.TextDataElements.{text-single}
+use Rattle.markdown_run_text.specs.TextContent.{StartReady, domains_pay, indexed_fields, named_fields, titles_pay}
 use Rattle.markdown_run_text.proofs.TextSteps.{made-known, names-known}
 use Rattle.markdown_run.proofs.ConstructsAtStart.{unknown-runs}
 use Rattle.markdown_run.specs.ElementsOfText.{indexed, KnowsNothing, text_named, MayTry, IsReady, EndsAt, LeadsTo, Learns}
@@ -52,7 +51,6 @@ learned T U r e = subst (λ (x : Tokenizer). Learns T x) (sym e) there
               start = ready-indexed T r.may_try.start;
               runs = refl;
               domains = λ places. made-known (domains_pay T.cursor.codes T.parse_state.now) (no_domains (bytes_of T) (GfmAutolinkLiteral.end_of T) T.cursor.codes) places;
-              single = r.may_try.single;
               alone = r.may_try.alone;
             };
             unchecked = r.unchecked;
@@ -90,7 +88,12 @@ unfolding scratched
 named-ready T U r unknown alone e = subst MayTry (sym e) there
   where
     there : MayTry (text_named T)
-    there = record { start = ready-named T r; runs = unknown-runs T.tokenize_state T.cursor.codes (ap (λ (s : TokenizeState). s.runs) unknown); domains = right-unknown (bytes_of T) (GfmAutolinkLiteral.end_of T) T.cursor.codes T.tokenize_state.no_domains (ap (λ (s : TokenizeState). s.no_domains) unknown); single = text-single (text_setting T) T.parse_state.now.options.now.constructs.gfm_autolink_literal T.cursor.codes refl; alone = alone }
+    there = record {
+      start = ready-named T r;
+      runs = unknown-runs T.tokenize_state T.cursor.codes (ap (λ (s : TokenizeState). s.runs) unknown);
+      domains = right-unknown (bytes_of T) (GfmAutolinkLiteral.end_of T) T.cursor.codes T.tokenize_state.no_domains (ap (λ (s : TokenizeState). s.no_domains) unknown);
+      alone = alone;
+    }
 
 -- it leads to where it stands
 pub named-leads : (T U : Tokenizer) → U ≡ text_named T → LeadsTo (text_named T) U

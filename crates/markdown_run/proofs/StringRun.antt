@@ -13,6 +13,7 @@ use Rattle.markdown_engine.specs.declared.tokenizer.TokenizeState.{TokenizeState
 use Rattle.markdown_engine.specs.declared.tokenizer.Tokenizer.{Tokenizer}
 use Rattle.markdown_model.specs.Elements.{AreElementsFrom, AreStringElements, string_choice}
 use Rattle.markdown_model.specs.InlineTree.{string_events}
+use Rattle.markdown_model.specs.LabelEnd.{Element}
 use Rattle.markdown_model.specs.Passes.{trimmed}
 use Rattle.markdown_run_row.specs.RunOverElements.{Finishes}
 use Rattle.markdown_run_text.specs.ContentPasses.{may_resolve_of, resolves_of}
@@ -28,8 +29,9 @@ use Rattle.markdown_model.specs.BracketGroups.{paired}
 use Rattle.markdown_model.specs.Pairs.{pair_list}
 use Rattle.markdown_model.specs.Passes.{labels_of, merged}
 use Rattle.markdown_run_row.specs.OpenStarts.{brackets_of}
-use Rattle.markdown_run_row.specs.Row.{row_has_run}
+use Rattle.markdown_run_row.specs.Row.{row_has_run, row_of_elements}
 use Rattle.markdown_run_row.specs.RowTreeNames.{IsRunless}
+use Rattle.markdown_run_row.proofs.PairsAsRead.{read-runless}
 use Rattle.markdown_run_row.proofs.RowTreeFacts.{grouped-lines, grouped-runless}
 use Rattle.markdown_run.proofs.PassesAfterRun.{IsGiven, IsResolved}
 use Rattle.markdown_run.proofs.TreesWithoutRuns.{paired-runless, probes-none}
@@ -85,18 +87,25 @@ module _ (p : ParseState) (pieces : List Piece) (content : IsContent p.bytes.now
     abbrev Tree : Forest
     Tree = grouped (brackets_of E.row)
 
-    found : IsFound (string_here M) (content_of p.bytes.now pieces) E.row
+    found : IsFound p.bytes.now (string_here M) (content_of p.bytes.now pieces) E.row
     found = finished-elements R.String string_finish string-trims (string_here M) p pieces content (setting_of p) G _ F M U S E
 
     are : AreStringElements (setting_of p) (content_of p.bytes.now pieces) found.elements
     are = subst (λ c. AreElementsFrom c [] None (content_of p.bytes.now pieces) found.elements) choice-is found.are
 
-    labels : labels_of found.elements ≡ row_of found.elements
-    labels = string-labels (setting_of p) (content_of p.bytes.now pieces) found.elements are
+    -- no run is among the elements, so that each is read as it is
+    still : row_has_run (row_of_elements found.elements) ≡ false
+    still = string-still (setting_of p) found.elements [] None (content_of p.bytes.now pieces) are
+
+    as_they_are : found.read ≡ found.elements
+    as_they_are = read-runless p.bytes.now found.elements found.read found.read_as still
+
+    labels : labels_of found.read ≡ row_of found.elements
+    labels = ap labels_of as_they_are ∙ string-labels (setting_of p) (content_of p.bytes.now pieces) found.elements are
 
     -- no run stands in it
     none : row_has_run E.row ≡ false
-    none = row-still E.row found.elements found.alike (string-still (setting_of p) found.elements [] None (content_of p.bytes.now pieces) are)
+    none = row-still E.row found.read found.alike (ap (λ (es : List Element). row_has_run (row_of_elements es)) as_they_are ∙ still)
 
     good : row_has_run E.row ≡ true → IsGood p.bytes.now Tree
     good e = absurd (both_ways (row_has_run E.row) none e)
@@ -121,6 +130,6 @@ module _ (p : ParseState) (pieces : List Piece) (content : IsContent p.bytes.now
           ap chained left.events
           ∙ chained-whole (trimmed false false false (merged (paired (setting_of p) (pair_list (setting_of p)) Tree)))
           ∙ ap (λ t. events_of (trimmed false false false (merged t))) (paired-runless (setting_of p) (pair_list (setting_of p)) Tree runless)
-          ∙ ap (λ t. events_of (trimmed false false false t)) (merged-same Tree (labels_of found.elements) (HasLines-HasCodes Tree (grouped-lines E.row found.is_row)) found.have_codes found.trees)
+          ∙ ap (λ t. events_of (trimmed false false false t)) (merged-same Tree (labels_of found.read) (HasLines-HasCodes Tree (grouped-lines E.row found.is_row)) found.have_codes found.trees)
           ∙ ap (λ t. events_of (trimmed false false false (merged t))) labels
           ∙ ap events_of (sym (string-finished (setting_of p) (content_of p.bytes.now pieces) found.elements are))

@@ -1,7 +1,7 @@
 -- A whole run over a text.
 use Rattle.markdown_partial.specs.PartialSpaceOrTab.{most}
 use Rattle.markdown_engine.specs.Weights.{codes_left}
-use Rattle.std.proofs.Common.{◌≡◌, ℕ, Bool, true, false, List, [], Option, Some, None, map, string_bytes, refl, sym, ap, subst, ◌∙◌, arith, ◌≤◌}
+use Rattle.std.proofs.Common.{◌≡◌, ℕ, Bool, true, false, List, Option, Some, None, map, string_bytes, refl, sym, ap, subst, ◌∙◌, arith, ◌≤◌}
 use Rattle.markdown_engine_events.specs.EventChains.{chained}
 use Rattle.markdown_engine_content.specs.Content.{IsContent, IsTextContent, content_of}
 use Rattle.markdown_engine.specs.Operations.{scratched}
@@ -23,7 +23,7 @@ use Rattle.markdown_engine_index.specs.declared.name_index.Names.{Names}
 use Rattle.markdown_leaf_gfm.specs.GfmAutolinkLiteral as GfmAutolinkLiteral
 use Rattle.markdown_leaf.specs.RawText as RawText
 use Rattle.markdown_partial.specs.PartialSpaceOrTab as PartialSpaceOrTab
-use Rattle.markdown_model.specs.Elements.{AreElements, AreElementsFrom, text_choice}
+use Rattle.markdown_model.specs.Elements.{text_choice}
 use Rattle.markdown_model.specs.InlineTree.{text_events, label_tree}
 use Rattle.markdown_model.specs.Setting.{Setting}
 use Rattle.markdown_run_row.specs.RunOverElements.{Finishes}
@@ -40,18 +40,16 @@ use Rattle.markdown_partial.specs.PartialSpaceOrTabEol as PartialSpaceOrTabEol
 use Rattle.markdown_label.specs.AfterLabelParts as AfterLabelParts
 use Rattle.markdown_attention.specs.AttentionPass.{IsProbed}
 use Rattle.markdown_attention.proofs.AttentionTreeLabels.{IsGood}
-use Rattle.markdown_attention.proofs.MarkerCodes.{singles-content}
-use Rattle.markdown_attention.proofs.ElementsHaveMarkerRuns.{good-tree}
-use Rattle.markdown_model.specs.Passes.{labels_of}
+use Rattle.markdown_attention.proofs.MarkerCodes.{AreSingles, singles-content}
+use Rattle.markdown_model.specs.Passes.{labels_of, merged}
 use Rattle.markdown_run_row.specs.OpenStarts.{brackets_of}
 use Rattle.markdown_run_row.specs.Row.{row_has_run}
 use Rattle.markdown_run_row.proofs.RowTreeFacts.{grouped-runless}
-use Rattle.markdown_run.proofs.MayPairOfCutData.{good-alike}
+use Rattle.markdown_run.proofs.FoundTexts.{found-good, found-pairs, found-probed, found-still}
 use Rattle.markdown_run.proofs.TreesWithoutRuns.{probes-none}
 use Rattle.markdown_run.proofs.WholeRun.{Starts, start-with, AreFresh, IsFound, finished-may-end, finished-left, finished-events, finished-probes, finished-elements}
 use Rattle.markdown_run.proofs.ConstructsAtStart.{start-fits, start-last, start-literals, start-reads}
-use Rattle.markdown_run.proofs.TextTree.{text-labels, text-still, text-finished}
-use Rattle.markdown_run.proofs.RowsWithoutRuns.{row-still}
+use Rattle.markdown_run.proofs.TextTree.{text-finished}
 
 -- Runs.
 
@@ -177,22 +175,16 @@ module _ (p : ParseState) (pieces : List Piece) (lent : Option Names) (first : B
     abbrev Tree : Forest
     Tree = grouped (brackets_of E.row)
 
-    abbrev Found : Type 0
-    Found = IsFound (text_choice_of M) all_codes E.row
+    found : IsFound p.bytes.now (text_choice Given all_codes) all_codes E.row
+    found =
+        subst (λ c. IsFound p.bytes.now c all_codes E.row) choice-is
+        (finished-elements R.Text text_finish text-trims (text_choice_of M) p pieces content Given Is _ F M U S E)
 
-    found : Found
-    found = finished-elements R.Text text_finish text-trims (text_choice_of M) p pieces content Given Is _ F M U S E
-
-    are : AreElements Given all_codes found.elements
-    are = subst (λ c. AreElementsFrom c [] None all_codes found.elements) choice-is found.are
-
-    labels : label_tree Given all_codes ≡ labels_of found.elements
-    labels = text-labels Given all_codes found.elements are
+    singles : AreSingles p.bytes.now all_codes
+    singles = singles-content p.bytes.now pieces content.in_order
 
     good : row_has_run E.row ≡ true → IsGood p.bytes.now Tree
-    good e =
-        good-alike p.bytes.now Tree (labels_of found.elements) found.trees
-        (subst (λ t. IsGood p.bytes.now t) labels (good-tree p.bytes.now Given all_codes (singles-content p.bytes.now pieces content.in_order)))
+    good e = found-good Given all_codes E.row found singles
 
     pub text-may : MayResolve may_end_of resolves_of U.resolvers (unregistered U)
     text-may = finished-may-end R.Text text_finish text-trims (text_choice_of M) p pieces content Given Is _ F M U S E good
@@ -201,18 +193,18 @@ module _ (p : ParseState) (pieces : List Piece) (lent : Option Names) (first : B
       -- the looks that pairing took are within the bounds of the content's tree of labels
       pub text-probes : IsProbed Given (label_tree Given all_codes) V.tokenize_state.probes
       text-probes =
-          subst (λ t. IsProbed Given t V.tokenize_state.probes) (sym labels)
-          (finished-probes R.Text text_finish text-trims (text_choice_of M) p pieces content Given Is _ F M U S E good V (labels_of found.elements) found.trees r)
+          found-probed Given all_codes E.row found singles V.tokenize_state.probes
+          (finished-probes R.Text text_finish text-trims (text_choice_of M) p pieces content Given Is _ F M U S E good V (labels_of found.read) found.trees r)
 
       -- where runs are not looked for none is taken
       pub text-no-probes : Given.options.constructs.attention ≡ false →
           Given.options.constructs.gfm_strikethrough ≡ false → V.tokenize_state.probes ≡ 0
       text-no-probes off none =
-          let still : row_has_run E.row ≡ false = row-still E.row found.elements found.alike (text-still Given all_codes found.elements are off none) in
-          probes-none Given Tree V.tokenize_state.probes (grouped-runless E.row found.is_row still) (finished-left R.Text text_finish text-trims (text_choice_of M) p pieces content Given Is _ F M U S E good V r).probed
+          probes-none Given Tree V.tokenize_state.probes (grouped-runless E.row found.is_row (found-still Given all_codes E.row found off none)) (finished-left R.Text text_finish text-trims (text_choice_of M) p pieces content Given Is _ F M U S E good V r).probed
 
       -- the events after a run over a text and its passes
       pub text-run : chained V.events ≡ text_events Given pieces
       text-run =
-          finished-events R.Text text_finish text-trims (text_choice_of M) p pieces content Given Is _ F M U S E good V (labels_of found.elements) found.have_codes found.trees r
-          ∙ ap events_of (sym (text-finished Given all_codes found.elements are))
+          finished-events R.Text text_finish text-trims (text_choice_of M) p pieces content Given Is _ F M U S E good V (labels_of found.read) found.have_codes found.trees r
+          ∙ ap (λ t. events_of (text_finish p (merged t))) (found-pairs Given all_codes E.row found singles)
+          ∙ ap events_of (sym (text-finished Given all_codes found.elements found.are))

@@ -1,5 +1,5 @@
 -- A whole run over the elements of a content, from its start to what the passes leave.
-use Rattle.std.proofs.Common.{◌≡◌, true, false, List, [], map, None, refl, sym, ap, subst, ◌∙◌}
+use Rattle.std.proofs.Common.{◌≡◌, ℕ, true, false, List, [], map, None, refl, sym, ap, subst, ◌∙◌}
 use Rattle.std.specs.Borrow.{Bor}
 use Rattle.std.specs.declared.alloc.Global.{Global}
 use Rattle.markdown_engine.specs.RunStart.{begun, begun_at}
@@ -32,6 +32,8 @@ use Rattle.markdown_model.specs.LabelEnd.{Element}
 use Rattle.markdown_model.specs.Pairs.{pair_list}
 use Rattle.markdown_model.specs.Passes.{labels_of, merged}
 use Rattle.markdown_model.specs.Setting.{Setting}
+use Rattle.markdown_plan.specs.Characters.{bytes_of}
+use Rattle.markdown_run_row.specs.ElementsAsRead.{AreReadAs}
 use Rattle.markdown_run_row.specs.RunOverElements.{AllElements, Finishes, StandsAfter}
 use Rattle.markdown_run_row.specs.RowStart.{IsFresh}
 use Rattle.markdown_run_row.specs.OpenStarts.{brackets_of}
@@ -121,14 +123,16 @@ fresh-start p pieces s T h k = record {
   seen = ap (λ (x : TokenizeState). x.seen) k.fields ∙ h.seen;
 }
 
--- the elements of these codes, after which a row with its labels grouped is the tree of labels but for how data is cut
-pub record IsFound (choice : Choice) (cs : List Code) (row : Row) : Type 0 where
+-- the elements of these codes, and how they are read: a row with its labels grouped is the tree of their labels but for how data is cut
+pub record IsFound (bytes : List ℕ) (choice : Choice) (cs : List Code) (row : Row) : Type 0 where
   pub elements : List Element
   pub are : AreElementsFrom choice [] None cs elements
-  pub have_codes : HasCodes (labels_of elements)
-  pub alike : split_row row ≡ split_row (row_of_elements elements)
+  pub read : List Element
+  pub read_as : AreReadAs bytes elements read
+  pub have_codes : HasCodes (labels_of read)
+  pub alike : split_row row ≡ split_row (row_of_elements read)
   pub is_row : IsRowAt [] row
-  pub trees : split (grouped (brackets_of row)) ≡ split (labels_of elements)
+  pub trees : split (grouped (brackets_of row)) ≡ split (labels_of read)
 
 module _ (last : ResolveName) (finish : ParseState → Forest → Forest) (trims : IsTrimming last finish) (choice : Choice) (p : ParseState) (pieces : List Piece) (content : IsContent p.bytes.now pieces) (setting : Setting) (is_given : IsGiven setting p) (s : TokenizeState) (fresh : AreFresh s) (T U : Tokenizer) (start : Starts p pieces s T) (k : Finishes choice (λ X. registered last (registered R.Data X)) T U) where
   -- the row with its labels grouped
@@ -142,16 +146,18 @@ module _ (last : ResolveName) (finish : ParseState → Forest → Forest) (trims
   is_row : IsRowAt [] k.row
   is_row = subst (λ ks. IsRowAt ks k.row) (ap (λ (x : TokenizeState). map (λ (l : LabelStart). l.kind) x.label_starts) start.fields ∙ ap (map (λ (l : LabelStart). l.kind)) fresh.starts) k.is_row
 
-  pub finished-elements : IsFound choice (content_of p.bytes.now pieces) k.row
+  pub finished-elements : IsFound p.bytes.now choice (content_of p.bytes.now pieces) k.row
   finished-elements =
-      let all : AllElements choice [] None k.row (ahead T) = k.elements [] None (start-stands p pieces s T fresh.starts start) in
+      let all : AllElements (bytes_of T) choice [] None k.row (ahead T) = k.elements [] None (start-stands p pieces s T fresh.starts start) in
       record {
         elements = all.elements;
         are = subst (λ cs. AreElementsFrom choice [] None cs all.elements) (start-ahead p pieces s T start) all.are;
-        have_codes = codes-labels all.elements all.have_codes;
+        read = all.read;
+        read_as = subst (λ bytes. AreReadAs bytes all.elements all.read) (ap (λ (x : ParseState). x.bytes.now) start.input) all.read_as;
+        have_codes = codes-labels all.read all.have_codes;
         alike = all.alike;
         is_row = is_row;
-        trees = grouped-alike k.row all.elements is_row all.alike;
+        trees = grouped-alike k.row all.read is_row all.alike;
       }
 
   module _ (good : row_has_run k.row ≡ true → IsGood p.bytes.now Grouped) where

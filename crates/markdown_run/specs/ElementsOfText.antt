@@ -10,8 +10,8 @@ use Rattle.markdown_leaf.specs.RawText as RawText
 use Rattle.markdown_leaf_gfm.specs.GfmAutolinkLiteral as GfmAutolinkLiteral
 use Rattle.markdown_leaf_gfm.specs.GfmTaskListItemCheck.{check_here}
 use Rattle.markdown_model.specs.TextLines.{data_up_to}
-use Rattle.markdown_run_readers.specs.TextStops.{text_stops}
-use Rattle.markdown_run_row.specs.RunOverElements.{AreSingle, DataFinishes, Finishes}
+use Rattle.markdown_run_readers.specs.TextStops.{reader_stops}
+use Rattle.markdown_run_row.specs.RunOverElements.{DataFinishes, Finishes}
 use Rattle.markdown_run_text.specs.TextContent.{StartReady, named_fields, text_choice_of, text_passed}
 
 -- these scratch fields, with what those know of the content
@@ -33,17 +33,15 @@ KnowsNothing T = T.tokenize_state ≡ with_indexes at_rest T.tokenize_state
 abbrev pub text_named : Tokenizer → Tokenizer
 text_named T = scratched (named_fields T.cursor T.parse_state.now T.tokenize_state) T
 
--- where data stops
+-- where the reader of data stops
 abbrev pub data_stops : Tokenizer → List Code → Bool
-data_stops T = text_stops T.parse_state.now.options.now.constructs.gfm_autolink_literal
+data_stops T = reader_stops T.cursor.codes T.parse_state.now.options.now.constructs.gfm_autolink_literal
 
--- constructs may be tried, what is known of runs and domains is right, and each code of the content where data does not stop is an element by
--- itself
+-- constructs may be tried, and what is known of runs and domains is right
 pub record MayTry (T : Tokenizer) : Type 0 where
   pub start : StartReady T
   pub runs : RawText.IsIndexed T
   pub domains : GfmAutolinkLiteral.KnowsDomains T
-  pub single : AreSingle (text_choice_of T) (data_stops T) T.cursor.codes
   pub alone : T.attempts ≡ []
 
 -- besides, no check of a list item stands here

@@ -1,7 +1,9 @@
 pub mod WordsAndSigns
 pub mod PassedData
+pub mod InnerPassed
 pub mod DataReads
 pub mod TextDataElements
+pub mod InnerUnderscores
 pub mod EscapeReads
 pub mod AttentionReads
 pub mod LabelStartConstructs

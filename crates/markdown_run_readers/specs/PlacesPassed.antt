@@ -19,7 +19,8 @@ use Rattle.markdown_model.specs.CodeTests.{is_between, is_value}
 use Rattle.markdown_model.specs.GfmAutolinkLiteral.{letters, literal_words}
 use Rattle.markdown_model.specs.Grammar.{span, until}
 use Rattle.markdown_partial.specs.PartialData.{ending, opening, ends_stretch, is_some_mark}
-use Rattle.markdown_run_readers.specs.TextStops.{text_stops}
+use Rattle.markdown_plan.specs.ByteTests.{alphanumeric_value}
+use Rattle.markdown_run_readers.specs.TextStops.{reader_stops, text_stops}
 use Rattle.markdown_run_text.specs.TextContent.{plain_markers}
 
 -- Runs and escapes.
@@ -72,6 +73,20 @@ past_data literals p = moved_by (until (ends_stretch (text_stops literals)) (ahe
 abbrev pub goes_on : Bool → List Code → Bool
 goes_on literals [] = false
 goes_on literals (c ∷ cs) = not (text_stops literals (c ∷ cs))
+
+-- an ASCII letter or digit
+abbrev pub is_some_alphanumeric : Option ℕ → Bool
+is_some_alphanumeric None = false
+is_some_alphanumeric (Some v) = alphanumeric_value v
+
+-- past data of the line at hand, and past inner underscores
+abbrev pub past_inner : Bool → Place → Place
+past_inner literals p = moved_by (until (ends_stretch (reader_stops p.codes literals)) (ahead_at p)).0 p
+
+-- where these codes of a content are left, one is at hand, and the reader of data does not stop there
+abbrev pub goes_past : List Code → Bool → List Code → Bool
+goes_past whole literals [] = false
+goes_past whole literals (c ∷ cs) = not (reader_stops whole literals (c ∷ cs))
 
 -- a code is at the place that is no line ending, and data does not stop there
 abbrev pub goes_in_line : Place → Bool
@@ -146,7 +161,7 @@ marker_ops n = Enter n ∷ Consume ∷ Exit n ∷ []
 
 -- past data of one line from the code at hand on, with its events
 abbrev pub data_read : Bool → Tokenizer → Tokenizer
-data_read literals T = let U : Tokenizer = done opening T in exited N.Data (record U { cursor = past_data literals U.cursor })
+data_read literals T = let U : Tokenizer = done opening T in exited N.Data (record U { cursor = past_inner literals U.cursor })
 
 -- past the line ending at hand, or data of one line
 abbrev pub line_read : Bool → Tokenizer → Tokenizer

@@ -2,17 +2,21 @@
 //!
 //! Data goes on past letters with which literals begin (GFM 6.9), but where a whole word of theirs stands. Such a word is letters and then a
 //! sign: a `.` behind a `w`, or a `:` before a `/`. So letters are looked at only in a stretch that ends at such a sign.
+//!
+//! It also goes on past an *inner* underscore, one between two ASCII letters or digits, which may neither open nor close emphasis
+//! (CommonMark 6.2).
 #![tactic(auto, using(markdown_engine::proofs::OperationFields::op_rules))]
 
-ghost use Rattle.std.specs.Prelude.{◌≡◌, ◌<◌, ◌==◌, ◌||◌, ◌&&◌, length, map, true, false, codes, IfOk, OnOk, OnErr, IsSome, IsTrue, None};
+ghost use Rattle.std.specs.Prelude.{◌≡◌, ◌<◌, ◌==◌, ◌||◌, ◌&&◌, length, map, true, false, codes, not, IfOk, OnOk, OnErr, IsSome, IsTrue, None};
 ghost use Rattle.std.specs.List.{list_any};
+ghost use Rattle.std.specs.Str.{byte};
 ghost use Rattle.markdown_engine.specs.Operations.{HasCode, ahead, done};
 ghost use Rattle.markdown_engine.specs.PastTree.{Reads};
-ghost use Rattle.markdown_engine_content.specs.Place.{ahead_at, code_at, moved};
+ghost use Rattle.markdown_engine_content.specs.Place.{ahead_at, code_at, code_before, moved};
 ghost use Rattle.markdown_model.specs.TextLines.{data_up_to};
 ghost use Rattle.markdown_partial.specs.PartialData.{ending, is_some_mark};
-ghost use Rattle.markdown_run_readers.specs.PlacesPassed.{past_data, goes_on, goes_in_line, is_some_letter, is_word, line_stops, may_begin, one_stands, signs, markers_and_signs, sign_at, data_read, line_read};
-ghost use Rattle.markdown_run_readers.specs.TextStops.{begins_word, text_stops};
+ghost use Rattle.markdown_run_readers.specs.PlacesPassed.{past_data, past_inner, goes_on, goes_past, goes_in_line, is_some_alphanumeric, is_some_letter, is_some_value, is_word, line_stops, may_begin, one_stands, signs, markers_and_signs, sign_at, data_read, line_read};
+ghost use Rattle.markdown_run_readers.specs.TextStops.{begins_word, is_inner_underscore, reader_stops};
 ghost use Rattle.markdown_run_text.specs.TextContent.{plain_markers};
 
 use crate::events::append_leaf;
@@ -23,7 +27,7 @@ use markdown_engine_content::cursor::Cursor;
 use markdown_engine_content::event::Name;
 use markdown_partial::literal_letters;
 use markdown_partial::literal_words::SCHEMES;
-use markdown_plan::bytes::is_letter;
+use markdown_plan::bytes::{is_alphanumeric, is_letter};
 use markdown_run_text::plain_tries;
 use std::alloc::AllocError;
 
@@ -139,7 +143,8 @@ fn stops(cursor: &Cursor, byte: u8, literals: bool) -> bool
     markers().contains(byte) || (literals && begins_word(cursor))
 }
 
-/// Whether a code is at the place at which data does not stop, where `literals` says whether those are on: then nothing but data begins there.
+/// Whether a code is at the place at which nothing but data begins, where `literals` says whether those are on. An underscore is no such code,
+/// though `read` goes past one between two ASCII letters or digits.
 #[inline(always)]
 pub fn goes_on(cursor: &Cursor, literals: bool) -> bool
     ensures { result ≡ goes_on literals (ahead_at cursor.now) }
@@ -315,6 +320,76 @@ fn pass_line(cursor: &mut Cursor, literals: bool) -> bool
     pass_any_line(cursor, literals)
 }
 
+// Whether the code is an ASCII letter or digit.
+fn is_some_alphanumeric(code: Option<u8>) -> bool
+    ensures { result ≡ is_some_alphanumeric code }
+{
+    match code {
+        Some(byte) => is_alphanumeric(byte),
+        None => false,
+    }
+}
+
+// Whether an underscore is at the place.
+#[inline(always)]
+fn is_at_underscore(cursor: &Cursor) -> bool
+    ensures { result ≡ is_some_value (byte "_") (code_at cursor.now) }
+{
+    matches!(cursor.current(), Some(b'_'))
+}
+
+// Whether an ASCII letter or digit is before the code at the place, and one behind it.
+fn is_between_alphanumerics(cursor: &Cursor) -> bool
+    ensures { result ≡ is_some_alphanumeric (code_before cursor.now) && is_some_alphanumeric (code_at (moved cursor.now)) }
+{
+    is_some_alphanumeric(cursor.previous()) && is_some_alphanumeric(cursor.next())
+}
+
+// Whether an inner underscore is at the place.
+#[inline(always)]
+fn is_inner_underscore(cursor: &Cursor) -> bool
+    ensures { result ≡ is_inner_underscore cursor.now.codes (ahead_at cursor.now) }
+{
+    is_at_underscore(cursor) && is_between_alphanumerics(cursor)
+}
+
+// Whether data has stopped at an inner underscore, where `on` says whether it goes on.
+#[inline(always)]
+fn stops_at_inner(cursor: &Cursor, on: bool) -> bool
+    ensures { result ≡ not on && is_inner_underscore cursor.now.codes (ahead_at cursor.now) }
+{
+    !on && is_inner_underscore(cursor)
+}
+
+// Moves past the code at hand, data of the line behind it, and inner underscores. Answers whether data goes on.
+#[inline(never)]
+fn pass_more_inner(cursor: &mut Cursor, literals: bool) -> bool
+    requires { IsSome (code_at cursor.old) }
+    ensures past { cursor.new ≡ past_inner literals (moved cursor.old) }
+    ensures on { result ≡ goes_past cursor.new.codes literals (ahead_at cursor.new) }
+{
+    loop {
+        let on = pass_line(cursor, literals);
+        if !stops_at_inner(cursor, on) {
+            return on;
+        }
+    }
+}
+
+// The same, at once where no inner underscore is behind the first data.
+#[inline(always)]
+fn pass_inner(cursor: &mut Cursor, literals: bool) -> bool
+    requires { IsSome (code_at cursor.old) }
+    ensures past { cursor.new ≡ past_inner literals (moved cursor.old) }
+    ensures on { result ≡ goes_past cursor.new.codes literals (ahead_at cursor.new) }
+{
+    let first = pass_line(cursor, literals);
+    if !stops_at_inner(cursor, first) {
+        return first;
+    }
+    pass_more_inner(cursor, literals)
+}
+
 // Reads the line ending at hand. Answers whether data goes on.
 #[tactic(auto, unfolding(markdown_engine::specs::Operations::applied))]
 fn read_ending(tokenizer: &mut Tokenizer, literals: bool) -> Result<bool, AllocError>
@@ -335,11 +410,11 @@ fn read_ending(tokenizer: &mut Tokenizer, literals: bool) -> Result<bool, AllocE
 fn read_stretch(tokenizer: &mut Tokenizer, literals: bool) -> Result<bool, AllocError>
     requires { HasCode tokenizer.old }
     ensures ok { OnOk result (tokenizer.new ≡ data_read literals tokenizer.old) }
-    ensures on { IfOk result (λ on. on ≡ goes_on literals (ahead tokenizer.new)) }
+    ensures on { IfOk result (λ on. on ≡ goes_past tokenizer.new.cursor.codes literals (ahead tokenizer.new)) }
     ensures err { OnErr result (IsTrue tokenizer.new.failed) }
 {
     let from = tokenizer.point();
-    let on = pass_line(&mut tokenizer.cursor, literals);
+    let on = pass_inner(&mut tokenizer.cursor, literals);
     append_leaf(tokenizer, Name::Data, from)?;
     Ok(on)
 }
@@ -349,7 +424,7 @@ fn read_stretch(tokenizer: &mut Tokenizer, literals: bool) -> Result<bool, Alloc
 fn read_line(tokenizer: &mut Tokenizer, literals: bool) -> Result<bool, AllocError>
     requires { HasCode tokenizer.old }
     ensures ok { OnOk result (tokenizer.new ≡ line_read literals tokenizer.old) }
-    ensures on { IfOk result (λ on. on ≡ goes_on literals (ahead tokenizer.new)) }
+    ensures on { IfOk result (λ on. on ≡ goes_past tokenizer.new.cursor.codes literals (ahead tokenizer.new)) }
     ensures err { OnErr result (IsTrue tokenizer.new.failed) }
 {
     match tokenizer.current() {
@@ -360,13 +435,14 @@ fn read_line(tokenizer: &mut Tokenizer, literals: bool) -> Result<bool, AllocErr
 
 /// Reads data from the code at hand on: that code, whatever it is, and all up to the next at which another element of a text may begin.
 ///
-/// Data stops at the codes at which something is tried, but at letters only where a word stands with which a literal begins, and where
-/// `literals` says that these are on. It goes on past line endings. Its events are a `Data` for each line and a `LineEnding` for each line ending.
+/// Data stops at the codes at which something is tried. At a letter it stops only where a word stands with which a literal begins, and where
+/// `literals` says that these are on. At an underscore it stops unless an ASCII letter or digit is on both sides. It goes on past line endings.
+/// Its events are a `Data` for each line and a `LineEnding` for each line ending.
 ///
 /// The error comes where a growth is refused; then `failed` is true.
 pub fn read(tokenizer: &mut Tokenizer, literals: bool) -> Result<(), AllocError>
     requires { HasCode tokenizer.old }
-    ensures ok { OnOk result (Reads (data_up_to (text_stops literals)) None tokenizer.old.tokenize_state tokenizer.old tokenizer.new) }
+    ensures ok { OnOk result (Reads (data_up_to (reader_stops tokenizer.old.cursor.codes literals)) None tokenizer.old.tokenize_state tokenizer.old tokenizer.new) }
     ensures err { OnErr result (IsTrue tokenizer.new.failed) }
 {
     loop {

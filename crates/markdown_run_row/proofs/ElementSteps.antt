@@ -1,7 +1,7 @@
 -- From one element of a content to the next.
-use Rattle.std.proofs.Common.{◌≡◌, ◌≢◌, ℕ, ◌+◌, ◌<◌, ◌≤◌, Bool, true, false, not, ◌&&◌, ◌||◌, List, [], ◌∷◌, ◌++◌, length, slice_get, Option, None, Some, refl, sym, ap, subst, ◌∙◌, arith, length-append, append_assoc, add-one, append-nil}
+use Rattle.std.proofs.Common.{◌≡◌, ◌≢◌, ℕ, ◌+◌, ◌<◌, ◌≤◌, Bool, true, false, not, ◌&&◌, ◌||◌, List, [], ◌∷◌, ◌++◌, length, slice_get, Option, None, Some, refl, sym, ap, subst, ◌∙◌, arith, length-append, append_assoc, add-one, append-nil, inl, inr}
 use Rattle.std.specs.Prelude.{map}
-use Rattle.markdown_run_row.proofs.RowScratch.{kinds-row}
+use Rattle.markdown_run_row.proofs.RowScratch.{kinds-row, row-input}
 use Rattle.std.specs.List.{list_any}
 use Rattle.markdown_engine_content.specs.Codes.{Code, is_line_ending, document_start, stop_of}
 use Rattle.markdown_engine_content.specs.ListFunctions.{first_of, rest_of}
@@ -31,7 +31,9 @@ use Rattle.markdown_model.specs.TextLines.{linked_leaf, data_up_to, line_leaf, l
 use Rattle.markdown_model.proofs.StringTreeIsElements.{code_leaves}
 use Rattle.markdown_model.proofs.DefinitionSteps.{code_before-append}
 use Rattle.markdown_model.proofs.LeafCodes.{until-append}
-use Rattle.markdown_run_row.specs.RunOverElements.{AreSingle, StandsAfter, Elements, Advances, AllElements, Finishes}
+use Rattle.markdown_plan.specs.Characters.{bytes_of}
+use Rattle.markdown_run_row.specs.ElementsAsRead.{IsReadAs, AreReadAs}
+use Rattle.markdown_run_row.specs.RunOverElements.{AreSingle, AreReadAsData, StandsAfter, Elements, Advances, AllElements, Finishes}
 use Rattle.markdown_run_row.specs.Row.{Row, row_end, row_then, loses, tree_onto, joined_rows, past_tree, past_row, row_codes, kinds_of, split_row, row_of_elements, element_onto, HasElementCodes, HaveCodes, IsRowAt}
 use Rattle.markdown_run_row.specs.RowTreeNames.{makes_data, HasLines, HasOuterRuns, IsPart, IsRunless, IsRunLeaf, IsSingle, IsNode}
 use Rattle.markdown_run_row.proofs.ConstructNodes.{quiet-lines-of, quiet-node-unlinked}
@@ -65,17 +67,26 @@ have-append : (es fs : List Element) → HaveCodes es → HaveCodes fs → HaveC
 have-append [] fs h k = k
 have-append (e ∷ es) fs h k = (h.0, have-append es fs h.1 k)
 
+read-append : (bytes : List ℕ) (es fs gs hs : List Element) → AreReadAs bytes es fs → AreReadAs bytes gs hs →
+    AreReadAs bytes (es ++ gs) (fs ++ hs)
+read-append bytes [] [] gs hs h k = k
+read-append bytes (e ∷ es) (f ∷ fs) gs hs h k = (h.0, read-append bytes es fs gs hs h.1 k)
+read-append bytes [] (f ∷ fs) gs hs h k = absurd h
+read-append bytes (e ∷ es) [] gs hs h k = absurd h
+
 -- After an advance.
 
 elements-all : (choice : Choice) (earlier : List Element) (previous : Option Code) (r q : Row) (T U : Tokenizer) →
-    (k : Elements choice earlier previous r T U) → AllElements choice k.later k.last q (ahead U) →
-    AllElements choice earlier previous (joined_rows r q) (ahead T)
+    (k : Elements choice earlier previous r T U) → AllElements (bytes_of T) choice k.later k.last q (ahead U) →
+    AllElements (bytes_of T) choice earlier previous (joined_rows r q) (ahead T)
 elements-all choice earlier previous r q T U k a =
     record {
       elements = k.elements ++ a.elements;
       are = k.follow a.elements a.are;
-      have_codes = have-append k.elements a.elements k.have_codes a.have_codes;
-      alike = split-joined r q ∙ (λ i. joined_rows (k.alike i) (a.alike i)) ∙ sym (split-joined (row_of_elements k.elements) (row_of_elements a.elements)) ∙ ap split_row (sym (elements-append k.elements a.elements));
+      read = k.read ++ a.read;
+      read_as = read-append (bytes_of T) k.elements k.read a.elements a.read k.read_as a.read_as;
+      have_codes = have-append k.read a.read k.have_codes a.have_codes;
+      alike = split-joined r q ∙ (λ i. joined_rows (k.alike i) (a.alike i)) ∙ sym (split-joined (row_of_elements k.read) (row_of_elements a.read)) ∙ ap split_row (sym (elements-append k.read a.read));
     }
 
 -- what follows an advance, follows from before it
@@ -89,7 +100,8 @@ advances-finishes choice passed T U V p k =
       left = k.left ∙ ap (λ (x : Tokenizer). passed (past_row k.row x)) p.left ∙ ap passed (past-joined (kinds_of T) p.row k.row T p.is_row);
       elements = λ earlier previous s.
           let e = p.elements earlier previous s in
-          elements-all choice earlier previous p.row k.row T U e (k.elements e.later e.last e.stands);
+          let same : bytes_of U ≡ bytes_of T = ap (λ (x : Tokenizer). bytes_of x) p.left ∙ ap (λ x. x.now.bytes.now) (row-input p.row T) in
+          elements-all choice earlier previous p.row k.row T U e (subst (λ (bs : List ℕ). AllElements bs choice e.later e.last k.row (ahead U)) same (k.elements e.later e.last e.stands));
     }
 
 -- at the content's end
@@ -101,7 +113,7 @@ finishes-end choice passed T U e left =
       is_row = record { lines = tt; outer = tt; apart = λ n. refl };
       whole = sym (ahead-none T e);
       left = left ∙ ap passed (past_tree-empty T);
-      elements = λ earlier previous s. record { elements = []; are = ahead-none T e; have_codes = tt; alike = refl };
+      elements = λ earlier previous s. record { elements = []; are = ahead-none T e; read = []; read_as = tt; have_codes = tt; alike = refl };
     }
 
 -- Places past a tree.
@@ -147,42 +159,63 @@ events-past t T U e = ap (λ (x : Tokenizer). x.events) e
 pub leaf_elements : List Code → List Element
 leaf_elements cs = map (λ (c : Code). plain (code_leaf c)) cs
 
--- the elements before and the code before, past these codes
-pub past_leaves : List Element → List Code → List Element
-past_leaves earlier [] = earlier
-past_leaves earlier (c ∷ cs) = past_leaves (plain (code_leaf c) ∷ earlier) cs
+-- the elements before, past these elements, and the code before, past these codes
+pub past_elements : List Element → List Element → List Element
+past_elements earlier [] = earlier
+past_elements earlier (e ∷ es) = past_elements (e ∷ earlier) es
 
 pub past_code : Option Code → List Code → Option Code
 past_code previous [] = previous
 past_code previous (c ∷ cs) = past_code (Some c) cs
 
 -- one more code
-data-next : (choice : Choice) (earlier : List Element) (previous : Option Code) (c : Code) (cs : List Code) (es : List Element) →
-    choice earlier previous (c ∷ cs) ≡ Some (plain (code_leaf c), cs) →
-    AreElementsFrom choice (plain (code_leaf c) ∷ earlier) (Some c) cs es →
-    AreElementsFrom choice earlier previous (c ∷ cs) (plain (code_leaf c) ∷ es)
-data-next choice earlier previous c cs es e h =
-    (cs, e, subst (λ o. AreElementsFrom choice (plain (code_leaf c) ∷ earlier) o cs es) (sym (code_before-append (c ∷ []) cs)) h)
+pub data-next : (choice : Choice) (earlier : List Element) (previous : Option Code) (e : Element) (c : Code) (cs : List Code) (es : List Element) →
+    choice earlier previous (c ∷ cs) ≡ Some (e, cs) → AreElementsFrom choice (e ∷ earlier) (Some c) cs es →
+    AreElementsFrom choice earlier previous (c ∷ cs) (e ∷ es)
+data-next choice earlier previous e c cs es h k =
+    (cs, h, subst (λ o. AreElementsFrom choice (e ∷ earlier) o cs es) (sym (code_before-append (c ∷ []) cs)) k)
+
+-- an element by itself is read as itself
+pub single-read : (bytes : List ℕ) (choice : Choice) (stops : List Code → Bool) (whole : List Code) → AreSingle choice stops whole → AreReadAsData bytes choice stops whole
+single-read bytes choice stops whole single front earlier previous c cs e free =
+    (plain (code_leaf c), (single front earlier previous c cs e free, inl refl))
 
 -- what is said of each code, is said of those behind the first
-single-behind : (choice : Choice) (stops : List Code → Bool) (c : Code) (cs : List Code) →
-    AreSingle choice stops (c ∷ cs) → AreSingle choice stops cs
-single-behind choice stops c cs others front earlier previous d ds e free =
+read-behind : (bytes : List ℕ) (choice : Choice) (stops : List Code → Bool) (c : Code) (cs : List Code) →
+    AreReadAsData bytes choice stops (c ∷ cs) → AreReadAsData bytes choice stops cs
+read-behind bytes choice stops c cs others front earlier previous d ds e free =
     others (c ∷ front) earlier previous d ds (ap (λ xs. c ∷ xs) e) free
 
-data-others : (choice : Choice) (stops : List Code → Bool) (earlier : List Element) (previous : Option Code) (cs : List Code) →
-    AreSingle choice stops cs → (es : List Element) →
-    AreElementsFrom choice (past_leaves earlier (until stops cs).0) (past_code previous (until stops cs).0) (until stops cs).1 es →
-    AreElementsFrom choice earlier previous cs (leaf_elements (until stops cs).0 ++ es)
-unfolding leaf_elements past_leaves past_code
-data-others choice stops earlier previous [] others es h = h
-data-others choice stops earlier previous (c ∷ cs) others es h =
+-- the elements of these codes, each read as data, and those that follow behind them, where these codes are left
+pub record ElementsOfData (bytes : List ℕ) (choice : Choice) (earlier : List Element) (previous : Option Code) (cs these left : List Code) : Type 0 where
+  pub elements : List Element
+  pub read_as : AreReadAs bytes elements (leaf_elements these)
+  pub follow : (es : List Element) → AreElementsFrom choice (past_elements earlier elements) (past_code previous these) left es → AreElementsFrom choice earlier previous cs (elements ++ es)
+
+no-data : (bytes : List ℕ) (choice : Choice) (earlier : List Element) (previous : Option Code) (cs : List Code) →
+    ElementsOfData bytes choice earlier previous cs [] cs
+unfolding leaf_elements past_elements past_code
+no-data bytes choice earlier previous cs = record { elements = []; read_as = tt; follow = λ es h. h }
+
+more-data : (bytes : List ℕ) (choice : Choice) (earlier : List Element) (previous : Option Code) (e : Element) (c : Code) (cs these left : List Code) → choice earlier previous (c ∷ cs) ≡ Some (e, cs) → IsReadAs bytes e (plain (code_leaf c))
+    → ElementsOfData bytes choice (e ∷ earlier) (Some c) cs these left → ElementsOfData bytes choice earlier previous (c ∷ cs) (c ∷ these) left
+unfolding leaf_elements past_elements past_code
+more-data bytes choice earlier previous e c cs these left h a k =
+    record { elements = e ∷ k.elements; read_as = (a, k.read_as); follow = λ es f. data-next choice earlier previous e c cs (k.elements ++ es) h (k.follow es f) }
+
+data-others : (bytes : List ℕ) (choice : Choice) (stops : List Code → Bool) (earlier : List Element) (previous : Option Code) (cs : List Code) →
+    AreReadAsData bytes choice stops cs →
+    ElementsOfData bytes choice earlier previous cs (until stops cs).0 (until stops cs).1
+data-others bytes choice stops earlier previous [] others = no-data bytes choice earlier previous []
+data-others bytes choice stops earlier previous (c ∷ cs) others =
     let s : List Code × List Code = until stops cs in
     let cut : Bool → List Code × List Code = λ b. elim b [ true ↦ ([], c ∷ cs) | false ↦ (c ∷ s.0, s.1) ] in
-    elim (stops (c ∷ cs)) as (λ b. stops (c ∷ cs) ≡ b → AreElementsFrom choice (past_leaves earlier (cut b).0) (past_code previous (cut b).0) (cut b).1 es → AreElementsFrom choice earlier previous (c ∷ cs) (leaf_elements (cut b).0 ++ es)) [
-      | true ↦ λ e k. k
-      | false ↦ λ e k. data-next choice earlier previous c cs (leaf_elements s.0 ++ es) (others [] earlier previous c cs refl e) (data-others choice stops (plain (code_leaf c) ∷ earlier) (Some c) cs (single-behind choice stops c cs others) es k)
-    ] refl h
+    elim (stops (c ∷ cs)) as (λ b. stops (c ∷ cs) ≡ b → ElementsOfData bytes choice earlier previous (c ∷ cs) (cut b).0 (cut b).1) [
+      | true ↦ λ e. no-data bytes choice earlier previous (c ∷ cs)
+      | false ↦ λ e.
+          let here = others [] earlier previous c cs refl e in
+          more-data bytes choice earlier previous here.0 c cs s.0 s.1 here.1.0 here.1.1 (data-others bytes choice stops (here.0 ∷ earlier) (Some c) cs (read-behind bytes choice stops c cs others))
+    ] refl
 
 -- no escape stands before, past a code
 unescaped-leaf : (b : Bool) (c : Code) (earlier : List Element) →
@@ -190,12 +223,21 @@ unescaped-leaf : (b : Bool) (c : Code) (earlier : List Element) →
 unescaped-leaf true c earlier = refl
 unescaped-leaf false c earlier = refl
 
-unescaped-leaves : (earlier : List Element) (cs : List Code) → ends_escaped earlier ≡ false →
-    ends_escaped (past_leaves earlier cs) ≡ false
-unfolding past_leaves
-unescaped-leaves earlier [] e = e
-unescaped-leaves earlier (c ∷ cs) e =
-    unescaped-leaves (plain (code_leaf c) ∷ earlier) cs (unescaped-leaf (is_line_ending c) c earlier)
+unescaped-read : (bytes : List ℕ) (e : Element) (c : Code) (earlier : List Element) → IsReadAs bytes e (plain (code_leaf c)) →
+    ends_escaped (e ∷ earlier) ≡ false
+unescaped-read bytes e c earlier (inl h) =
+    ap (λ x. ends_escaped (x ∷ earlier)) h ∙ unescaped-leaf (is_line_ending c) c earlier
+unescaped-read bytes e c earlier (inr h) = ap (λ x. ends_escaped (x ∷ earlier)) h.1.1.0
+
+-- nor past elements that are read as data
+unescaped-past : (bytes : List ℕ) (earlier es : List Element) (cs : List Code) → AreReadAs bytes es (leaf_elements cs) →
+    ends_escaped earlier ≡ false → ends_escaped (past_elements earlier es) ≡ false
+unfolding leaf_elements past_elements
+unescaped-past bytes earlier [] [] h e = e
+unescaped-past bytes earlier (x ∷ es) (c ∷ cs) h e =
+    unescaped-past bytes (x ∷ earlier) es cs h.1 (unescaped-read bytes x c earlier h.0)
+unescaped-past bytes earlier [] (c ∷ cs) h e = absurd h
+unescaped-past bytes earlier (x ∷ es) [] h e = absurd h
 
 -- The leaf of a stretch, by what its first code is.
 
@@ -373,16 +415,25 @@ unfolding past past_tree
 kept-tree t T U left earlier k =
     subst (λ (x : Tokenizer). StandFor x.events (unused_starts earlier) x.tokenize_state.label_starts) (sym left) (starts-plain earlier t T.events _ T.tokenize_state.label_starts k)
 
-leaves-starts : (earlier : List Element) (cs : List Code) →
-    unused_starts (past_leaves earlier cs) ≡ unused_starts earlier
-unfolding past_leaves
-leaves-starts earlier [] = refl
-leaves-starts earlier (c ∷ cs) = leaves-starts (plain (code_leaf c) ∷ earlier) cs
+-- the starts that no end has used are those before data
+read-starts : (bytes : List ℕ) (e : Element) (c : Code) (earlier : List Element) → IsReadAs bytes e (plain (code_leaf c)) →
+    unused_starts (e ∷ earlier) ≡ unused_starts earlier
+read-starts bytes e c earlier (inl h) = ap (λ x. unused_starts (x ∷ earlier)) h
+read-starts bytes e c earlier (inr h) = ap (λ x. unused_starts (x ∷ earlier)) h.1.1.0
 
-kept-leaves : (earlier : List Element) (cs : List Code) (U : Tokenizer) → KeepsStarts earlier U →
-    KeepsStarts (past_leaves earlier cs) U
-kept-leaves earlier cs U k =
-    subst (λ us. StandFor U.events us U.tokenize_state.label_starts) (sym (leaves-starts earlier cs)) k
+past-starts : (bytes : List ℕ) (earlier es : List Element) (cs : List Code) → AreReadAs bytes es (leaf_elements cs) →
+    unused_starts (past_elements earlier es) ≡ unused_starts earlier
+unfolding leaf_elements past_elements
+past-starts bytes earlier [] [] h = refl
+past-starts bytes earlier (x ∷ es) (c ∷ cs) h =
+    past-starts bytes (x ∷ earlier) es cs h.1 ∙ read-starts bytes x c earlier h.0
+past-starts bytes earlier [] (c ∷ cs) h = absurd h
+past-starts bytes earlier (x ∷ es) [] h = absurd h
+
+kept-past : (bytes : List ℕ) (earlier es : List Element) (cs : List Code) (U : Tokenizer) → AreReadAs bytes es (leaf_elements cs) →
+    KeepsStarts earlier U → KeepsStarts (past_elements earlier es) U
+kept-past bytes earlier es cs U h k =
+    subst (λ us. StandFor U.events us U.tokenize_state.label_starts) (sym (past-starts bytes earlier es cs h)) k
 
 -- Data that is read where a run stands: the code at hand, and those up to where data stops.
 pub record DataRead (stops : List Code → Bool) (T U : Tokenizer) (c : Code) (cs : List Code) : Type 0 where
@@ -418,33 +469,32 @@ data-read stops T U c cs whole k =
     }
 
 -- what stands before the place behind data that begins with this element
-pub stands-behind : (stops : List Code → Bool) (T U : Tokenizer) (c : Code) (cs : List Code) (d : DataRead stops T U c cs) (next : List Element) →
+pub stands-behind : (stops : List Code → Bool) (T U : Tokenizer) (c : Code) (cs : List Code) (d : DataRead stops T U c cs) (bytes : List ℕ) (next es : List Element) → AreReadAs bytes es (leaf_elements (until stops cs).0) →
     ends_escaped next ≡ false → KeepsStarts next U →
-    StandsAfter (past_leaves next (until stops cs).0) (past_code (Some c) (until stops cs).0) U
-unfolding past_leaves past_code
-stands-behind stops T U c cs d next plainly keeps =
+    StandsAfter (past_elements next es) (past_code (Some c) (until stops cs).0) U
+unfolding past_code
+stands-behind stops T U c cs d bytes next es read plainly keeps =
     let s : List Code × List Code = until stops cs in
     record {
       escaped =
           ap follows_escape (events-past d.tree T U d.left)
           ∙ ap (λ x. follows_escape (T.events ++ appended_from (length T.events) None x)) d.alike
           ∙ data-unescaped T.events (length T.events) c s.0
-          ∙ sym (unescaped-leaves next s.0 plainly);
+          ∙ sym (unescaped-past bytes next es s.0 read plainly);
       before = before-past d.tree (ahead U) T U d.some d.whole d.left ∙ same-last (ahead T) (leaf_codes d.tree) (c ∷ s.0) (ahead U) d.whole d.cut ∙ sym (past-last c s.0 None);
-      keeps = kept-leaves next s.0 U keeps;
+      keeps = kept-past bytes next es s.0 U read keeps;
     }
 
 -- the elements behind the first of data, and those that follow
-pub follow-behind : (choice : Choice) (stops : List Code → Bool) (T U : Tokenizer) (c : Code) (cs : List Code) (d : DataRead stops T U c cs) (next : List Element) → AreSingle choice stops (c ∷ cs)
-    → (es : List Element) → AreElementsFrom choice (past_leaves next (until stops cs).0) (past_code (Some c) (until stops cs).0) (ahead U) es → AreElementsFrom choice next (Some c) cs (leaf_elements (until stops cs).0 ++ es)
-follow-behind choice stops T U c cs d next others es h =
-    let s : List Code × List Code = until stops cs in
-    data-others choice stops next (Some c) cs (single-behind choice stops c cs others) es (subst (λ xs. AreElementsFrom choice (past_leaves next s.0) (past_code (Some c) s.0) xs es) (sym d.rest) h)
+pub follow-behind : (bytes : List ℕ) (choice : Choice) (stops : List Code → Bool) (T U : Tokenizer) (c : Code) (cs : List Code) (d : DataRead stops T U c cs) (next : List Element) → AreReadAsData bytes choice stops (c ∷ cs)
+    → ElementsOfData bytes choice next (Some c) cs (until stops cs).0 (ahead U)
+follow-behind bytes choice stops T U c cs d next others =
+    subst (λ xs. ElementsOfData bytes choice next (Some c) cs (until stops cs).0 xs) d.rest (data-others bytes choice stops next (Some c) cs (read-behind bytes choice stops c cs others))
 
--- past data: the code at hand and those up to where data stops, each an element by itself
+-- past data: the code at hand and those up to where data stops, each read as data by itself
 pub data-advances : (choice : Choice) (stops : List Code → Bool) (T U : Tokenizer) (c : Code) (cs : List Code) → ahead T ≡ c ∷ cs → Reads (data_up_to stops) None T.tokenize_state T U
     → ((earlier : List Element) (previous : Option Code) → StandsAfter earlier previous T → choice earlier previous (c ∷ cs) ≡ Some (plain (code_leaf c), cs))
-    → AreSingle choice stops (c ∷ cs) → Advances choice T U
+    → AreReadAsData (bytes_of T) choice stops (c ∷ cs) → Advances choice T U
 unfolding leaf_elements
 data-advances choice stops T U c cs whole k first others =
     let d : DataRead stops T U c cs = data-read stops T U c cs whole k in
@@ -456,15 +506,19 @@ data-advances choice stops T U c cs whole k first others =
       whole = d.whole;
       less = d.less;
       elements = λ earlier previous stands.
-          let next : List Element = plain (code_leaf c) ∷ earlier in
+          let one : Element = plain (code_leaf c) in
+          let next : List Element = one ∷ earlier in
+          let more : ElementsOfData (bytes_of T) choice next (Some c) cs s.0 (ahead U) = follow-behind (bytes_of T) choice stops T U c cs d next others in
           record {
-            elements = leaf_elements (c ∷ s.0);
-            later = past_leaves next s.0;
+            elements = one ∷ more.elements;
+            later = past_elements next more.elements;
             last = past_code (Some c) s.0;
-            stands = stands-behind stops T U c cs d next (unescaped-leaf (is_line_ending c) c earlier) (kept-tree d.tree T U d.left earlier stands.keeps);
+            stands = stands-behind stops T U c cs d (bytes_of T) next more.elements more.read_as (unescaped-leaf (is_line_ending c) c earlier) (kept-tree d.tree T U d.left earlier stands.keeps);
             follow = λ es h.
-                subst (λ xs. AreElementsFrom choice earlier previous xs (leaf_elements (c ∷ s.0) ++ es)) (sym whole)
-                (data-next choice earlier previous c cs (leaf_elements s.0 ++ es) (first earlier previous stands) (follow-behind choice stops T U c cs d next others es h));
+                subst (λ xs. AreElementsFrom choice earlier previous xs ((one ∷ more.elements) ++ es)) (sym whole)
+                (data-next choice earlier previous one c cs (more.elements ++ es) (first earlier previous stands) (more.follow es h));
+            read = leaf_elements (c ∷ s.0);
+            read_as = (inl refl, more.read_as);
             have_codes = have-leaves (c ∷ s.0);
             alike = ap (λ x. split_row (row_end x)) d.alike ∙ data-alike (c ∷ s.0);
           };
@@ -511,6 +565,8 @@ one-element choice earlier previous row T U e ws some covers before escaped keep
       last = code_before (ahead T) (ahead U);
       stands = record { escaped = escaped; before = before ∙ sym (ap (λ xs. code_before xs (ahead U)) covers ∙ code_before-append ws (ahead U)); keeps = keeps };
       follow = λ es h. (ahead U, here, h);
+      read = e ∷ [];
+      read_as = (inl refl, tt);
       have_codes = (has, tt);
       alike = alike;
     }

@@ -1,5 +1,5 @@
 -- Past the start of a label, past an end that makes one, and past one that makes none, with the data behind it.
-use Rattle.std.proofs.Common.{◌≡◌, ◌≢◌, ℕ, ◌+◌, ◌-◌, ◌<◌, ◌≤◌, Bool, true, false, if◌then◌else◌, List, [], ◌∷◌, ◌++◌, length, slice_get, Option, None, Some, refl, sym, ap, subst, ◌∙◌, arith, length-append, append_assoc, append-nil}
+use Rattle.std.proofs.Common.{◌≡◌, ◌≢◌, ℕ, ◌+◌, ◌-◌, ◌<◌, ◌≤◌, Bool, true, false, if◌then◌else◌, List, [], ◌∷◌, ◌++◌, length, slice_get, Option, None, Some, refl, sym, ap, subst, ◌∙◌, arith, length-append, append_assoc, append-nil, inl}
 use Rattle.markdown_run_row.proofs.OpenStartKinds.{rest-lost}
 use Rattle.markdown_engine_content.specs.Codes.{Code, is_line_ending, document_start, stop_of}
 use Rattle.markdown_engine_content.specs.ListFunctions.{rest_of}
@@ -26,7 +26,6 @@ use Rattle.markdown_label.proofs.LabelEndLemmas.{cursor-before, events-before, s
 use Rattle.markdown_label.proofs.KeptStartStack.{starts-start, starts-made, starts-lost}
 use Rattle.markdown_leaf.specs.RawText.{code_just_before}
 use Rattle.markdown_model.specs.SingleConstructs.{is_escape, follows_escape}
-use Rattle.markdown_model.proofs.DefinitionSteps.{code_before-append}
 use Rattle.markdown_model.specs.CodeTests.{last_code}
 use Rattle.markdown_model.specs.Elements.{Choice, AreElementsFrom, ends_escaped}
 use Rattle.markdown_model.specs.LabelEnd.{Element, starts, ends, is_image}
@@ -36,10 +35,11 @@ use Rattle.markdown_model.specs.TextLines.{data_up_to, line_leaves, lines_of, co
 use Rattle.markdown_model.specs.Passes.{start_tree}
 use Rattle.markdown_partial.specs.DataOnLines.{HasLines}
 use Rattle.markdown_label.specs.AfterLabel.{IsTail}
-use Rattle.markdown_run_row.specs.RunOverElements.{AreSingle, StandsAfter, Advances}
+use Rattle.markdown_plan.specs.Characters.{bytes_of}
+use Rattle.markdown_run_row.specs.RunOverElements.{AreReadAsData, StandsAfter, Advances}
 use Rattle.markdown_run_row.specs.Row.{Mark, begins, makes, loses, row_end, row_then, tree_onto, past_tree, past_mark, past_row, mark_codes, kinds_of, IsFront, IsStart, IsMade, IsMarkAt, split_row, row_of_elements, HasElementCodes}
 use Rattle.markdown_run_row.specs.RowTreeNames.{IsPart}
-use Rattle.markdown_run_row.proofs.ElementSteps.{DataRead, data-read, group-escaped, last-some, fewer-left, one-element, kept-tree, leaf_elements, have-leaves, past_leaves, past_code, stands-behind, follow-behind, data-alike, leaves-first}
+use Rattle.markdown_run_row.proofs.ElementSteps.{DataRead, data-read, group-escaped, last-some, fewer-left, one-element, kept-tree, leaf_elements, have-leaves, data-next, past_elements, past_code, ElementsOfData, stands-behind, follow-behind, data-alike, leaves-first}
 use Rattle.markdown_run_row.proofs.PastTrees.{past_tree-empty}
 
 pub empty-part : IsPart empty
@@ -269,12 +269,6 @@ lost-keeps back T earlier keeps =
     subst (λ ls. StandFor T.events (unused_starts (ends back None ∷ earlier)) ls) (sym (lost-starts T))
     (subst (λ es. StandFor es (unused_starts (ends back None ∷ earlier)) (rest_of T.tokenize_state.label_starts)) (append-nil T.events) (starts-lost earlier back T.events [] T.tokenize_state.label_starts keeps))
 
-first-next : (choice : Choice) (earlier : List Element) (previous : Option Code) (e : Element) (c : Code) (cs : List Code) (es : List Element) →
-    choice earlier previous (c ∷ cs) ≡ Some (e, cs) → AreElementsFrom choice (e ∷ earlier) (Some c) cs es →
-    AreElementsFrom choice earlier previous (c ∷ cs) (e ∷ es)
-first-next choice earlier previous e c cs es h k =
-    (cs, h, subst (λ o. AreElementsFrom choice (e ∷ earlier) o cs es) (sym (code_before-append (c ∷ []) cs)) k)
-
 lost-alike : (c : Code) (cs : List Code) (t : Forest) → is_line_ending c ≡ false → t ≡ line_leaves N.Data (lines_of (c ∷ cs))
     → split_row (row_then empty loses (row_end t)) ≡ split_row (row_of_elements (ends (c ∷ []) None ∷ leaf_elements cs))
 lost-alike c cs t plainly e =
@@ -284,7 +278,7 @@ lost-alike c cs t plainly e =
 -- past the `]` of an end that makes none, and the data that it begins
 pub lost-advances : (choice : Choice) (stops : List Code → Bool) (T U : Tokenizer) (c : Code) (cs : List Code) → ahead T ≡ c ∷ cs → is_line_ending c ≡ false → (let L : Tokenizer = past_mark loses T in Reads (data_up_to stops) None L.tokenize_state L U)
     → ((earlier : List Element) (previous : Option Code) → StandsAfter earlier previous T → choice earlier previous (c ∷ cs) ≡ Some (ends (c ∷ []) None, cs))
-    → AreSingle choice stops (c ∷ cs) → Advances choice T U
+    → AreReadAsData (bytes_of T) choice stops (c ∷ cs) → Advances choice T U
 lost-advances choice stops T U c cs whole plainly k first others =
     let L : Tokenizer = past_mark loses T in
     let d : DataRead stops L U c cs = data-read stops L U c cs (lost-ahead T ∙ whole) k in
@@ -299,14 +293,17 @@ lost-advances choice stops T U c cs whole plainly k first others =
       elements = λ earlier previous stands.
           let lost : Element = ends (c ∷ []) None in
           let next : List Element = lost ∷ earlier in
+          let more : ElementsOfData (bytes_of T) choice next (Some c) cs s.0 (ahead U) = follow-behind (bytes_of T) choice stops L U c cs d next others in
           record {
-            elements = lost ∷ leaf_elements s.0;
-            later = past_leaves next s.0;
+            elements = lost ∷ more.elements;
+            later = past_elements next more.elements;
             last = past_code (Some c) s.0;
-            stands = stands-behind stops L U c cs d next refl (kept-tree d.tree L U d.left next (lost-keeps (c ∷ []) T earlier stands.keeps));
+            stands = stands-behind stops L U c cs d (bytes_of T) next more.elements more.read_as refl (kept-tree d.tree L U d.left next (lost-keeps (c ∷ []) T earlier stands.keeps));
             follow = λ es h.
-                subst (λ xs. AreElementsFrom choice earlier previous xs ((lost ∷ leaf_elements s.0) ++ es)) (sym whole)
-                (first-next choice earlier previous lost c cs (leaf_elements s.0 ++ es) (first earlier previous stands) (follow-behind choice stops L U c cs d next others es h));
+                subst (λ xs. AreElementsFrom choice earlier previous xs ((lost ∷ more.elements) ++ es)) (sym whole)
+                (data-next choice earlier previous lost c cs (more.elements ++ es) (first earlier previous stands) (more.follow es h));
+            read = lost ∷ leaf_elements s.0;
+            read_as = (inl refl, more.read_as);
             have_codes = ((λ e. cc), have-leaves s.0);
             alike = lost-alike c s.0 d.tree plainly d.alike;
           };

@@ -19,3 +19,8 @@ pub mod LinesCutAlike
 pub mod PairsOfCutData
 pub mod PairsLeaveNoEmptyData
 pub mod RunsOfCutData
+pub mod NeutralRunPairs
+pub mod NeutralRuns
+pub mod NeutralRunCounts
+pub mod LabelsAsRead
+pub mod PairsAsRead

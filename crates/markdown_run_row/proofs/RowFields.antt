@@ -1,6 +1,6 @@
 -- What a row leaves of the fields of a tokenizer: its place is behind the row's codes, and of the scratch fields only the lists of labels change.
 use Rattle.std.proofs.Common.{◌≡◌, ℕ, List, [], ◌∷◌, ◌++◌, refl, sym, ap, subst, ◌∙◌, append-nil}
-use Rattle.markdown_run_row.proofs.RowScratch.{kinds-mark, kinds-tree}
+use Rattle.markdown_run_row.proofs.RowScratch.{kinds-mark, kinds-tree, mark-input, row-input}
 use Rattle.markdown_plan.proofs.ContentCharacters.{text-moved_by}
 use Rattle.markdown_engine_content.specs.Codes.{Code}
 use Rattle.markdown_engine.specs.Operations.{scratched}
@@ -16,7 +16,7 @@ use Rattle.markdown_engine.proofs.PlaceAfterCodes.{moved_by-append}
 use Rattle.markdown_plan.specs.Characters.{bytes_of, IsText, ReadsText}
 use Rattle.markdown_label.specs.LabelFields.{with_kind, labelled}
 use Rattle.markdown_label.specs.LabelEnd.{AreWithin, end_made, made, lost_by}
-use Rattle.markdown_label.proofs.LabelEndLemmas.{scratch-before, input-before}
+use Rattle.markdown_label.proofs.LabelEndLemmas.{scratch-before}
 use Rattle.markdown_label.proofs.KeptStartPlaces.{within-grown, within-rest, within-barred}
 use Rattle.markdown_run_row.specs.Row.{EndsRest, Mark, begins, makes, loses, Row, row_end, row_then, past_tree, past_mark, past_row, mark_codes, row_codes, kinds_of, kinds_past, IsMarkAt, IsRowAt}
 use Rattle.markdown_run_row.proofs.OpenStartKinds.{kinds_in}
@@ -46,21 +46,6 @@ row-cursor ks (row_then t mark rest) T h =
     ∙ sym (moved_by-append (leaf_codes t) (mark_codes mark ++ row_codes rest) T.cursor)
 
 -- What is read.
-
-mark-input : (mark : Mark) (T : Tokenizer) → (past_mark mark T).parse_state ≡ T.parse_state
-unfolding past_mark end_made made past scratched
-mark-input (begins kind marker) T = input-before R.Label _
-mark-input (makes back kind tail) T = input-before R.Label _
-mark-input loses T = refl
-
-tree-input : (t : Forest) (T : Tokenizer) → (past_tree t T).parse_state ≡ T.parse_state
-unfolding past_tree past
-tree-input t T = refl
-
-pub row-input : (row : Row) (T : Tokenizer) → (past_row row T).parse_state ≡ T.parse_state
-row-input (row_end t) T = tree-input t T
-row-input (row_then t mark rest) T =
-    row-input rest (past_mark mark (past_tree t T)) ∙ mark-input mark (past_tree t T) ∙ tree-input t T
 
 -- behind a row the content is as before
 pub row-text : (ks : List LabelKind) (row : Row) (T : Tokenizer) → IsRowAt ks row → ReadsText T →

@@ -17,7 +17,7 @@ use Rattle.markdown_engine.proofs.PlaceAfterCodes.{moved_by-append}
 use Rattle.markdown_attention.specs.RunsOfTree.{has_run}
 use Rattle.markdown_label.specs.LabelFields.{bars, with_kind, as_link, marked, labelled, loosened}
 use Rattle.markdown_label.specs.LabelEnd.{end_tree, ended_at, starts_set, made, end_made, lost_by}
-use Rattle.markdown_label.proofs.LabelEndLemmas.{scratch-before}
+use Rattle.markdown_label.proofs.LabelEndLemmas.{scratch-before, input-before}
 use Rattle.markdown_label_pass.specs.LabelsHandedOver.{unlabelled}
 use Rattle.markdown_engine_content.specs.ListFunctions.{rest_of}
 use Rattle.markdown_model.specs.LabelEnd.{is_image}
@@ -144,6 +144,23 @@ pub kinds-row : (row : Row) (T : Tokenizer) → kinds_of (past_row row T) ≡ ki
 kinds-row (row_end t) T = kinds-tree t T
 kinds-row (row_then t mark rest) T =
     kinds-row rest (past_mark mark (past_tree t T)) ∙ ap (kinds_after rest) (kinds-mark mark (past_tree t T) ∙ ap (kinds_past mark) (kinds-tree t T))
+
+-- What is read.
+
+pub mark-input : (mark : Mark) (T : Tokenizer) → (past_mark mark T).parse_state ≡ T.parse_state
+unfolding past_mark end_made made past scratched
+mark-input (begins kind marker) T = input-before R.Label _
+mark-input (makes back kind tail) T = input-before R.Label _
+mark-input loses T = refl
+
+tree-input : (t : Forest) (T : Tokenizer) → (past_tree t T).parse_state ≡ T.parse_state
+unfolding past_tree past
+tree-input t T = refl
+
+pub row-input : (row : Row) (T : Tokenizer) → (past_row row T).parse_state ≡ T.parse_state
+row-input (row_end t) T = tree-input t T
+row-input (row_then t mark rest) T =
+    row-input rest (past_mark mark (past_tree t T)) ∙ mark-input mark (past_tree t T) ∙ tree-input t T
 
 -- A mark.
 

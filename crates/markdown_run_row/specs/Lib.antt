@@ -3,6 +3,7 @@
 pub mod Row
 -- What serves proofs: what functions and proofs promise each other.
 pub mod RowTreeNames
+pub mod ElementsAsRead
 pub mod RunOverElements
 pub mod OpenStarts
 pub mod RowStart

@@ -1,5 +1,5 @@
 -- From one element of a string to the next.
-use Rattle.std.proofs.Common.{◌≡◌, ◌≢◌, ℕ, Bool, true, false, List, None, refl, sym, ap, subst, ◌∙◌}
+use Rattle.std.proofs.Common.{◌≡◌, ◌≢◌, ℕ, Bool, true, false, List, ◌∷◌, None, refl, sym, ap, subst, ◌∙◌}
 use Rattle.markdown_engine.specs.Operations.{ahead, current_of}
 use Rattle.markdown_engine.specs.PastTree.{Reads}
 use Rattle.markdown_engine.specs.declared.tokenizer.TokenizeState.{TokenizeState}
@@ -14,11 +14,12 @@ use Rattle.markdown_run_row.specs.RunOverElements.{Advances, Finishes}
 use Rattle.markdown_run_row.specs.Row.{kinds_of}
 use Rattle.markdown_run_text.specs.RunSetting.{setting_of}
 use Rattle.markdown_run_text.specs.StringContent.{string_markers, string_passed, string_here, BeforeReady, before_ends}
-use Rattle.markdown_run_row.proofs.ElementSteps.{advances-finishes, node-advances, data-advances, some-ahead}
+use Rattle.markdown_run_row.proofs.ElementSteps.{advances-finishes, node-advances, data-advances, some-ahead, single-read}
 use Rattle.markdown_run_row.proofs.ConstructNodes.{node-of}
 use Rattle.markdown_model.proofs.PlainConstructs.{plain_constructs}
 use Rattle.markdown_plan.specs.Characters.{bytes_of}
-use Rattle.markdown_run_row.proofs.RowFields.{relisted, row-fields, row-input}
+use Rattle.markdown_run_row.proofs.RowFields.{relisted, row-fields}
+use Rattle.markdown_run_row.proofs.RowScratch.{row-input}
 use Rattle.markdown_run_text.proofs.StringElements.{escaped-element, referenced-element, single-element, unmarked-element}
 
 -- U stands past the first elements of the codes from T on
@@ -71,4 +72,4 @@ data-past T U marked some none plain_code k =
     let a = some-ahead T (ahead T) refl some in
     data-advances (string_here T) (stops_of T.tokenize_state) T U a.0 a.1.0 a.1.1 k
     (λ earlier previous stands. single-element (setting_of T.parse_state.now) a.0 a.1.0 (ap (escape_here T) (sym a.1.1) ∙ none) (ap (reference_here T) (sym a.1.1) ∙ plain_code))
-    (λ front earlier previous c cs w free. unmarked-element T.parse_state.now c cs (ap (λ (ms : List ℕ). is_among ms c) (sym marked) ∙ free))
+    (single-read (bytes_of T) (string_here T) (stops_of T.tokenize_state) (a.0 ∷ a.1.0) (λ front earlier previous c cs w free. unmarked-element T.parse_state.now c cs (ap (λ (ms : List ℕ). is_among ms c) (sym marked) ∙ free)))

@@ -63,7 +63,7 @@ use Rattle.markdown_model.specs.LeafConstructs.{character_escape, hard_break_esc
 use Rattle.markdown_model.specs.HtmlText.{html_text}
 use Rattle.markdown_run_text.proofs.TextElements.{is_marker, data-holds}
 use Rattle.markdown_run_text.proofs.TextTries.{ReadsElements, AreTriedAt, first-reads, second-reads, second-alone, IsTriedAt, OrStandsAlone, only-reads, only-alone, span-reads, span-alone, run-reads, run-alone, run-leaf, protocol-reads, protocol-alone, www-reads, www-alone, other-alone}
-use Rattle.markdown_run_row.proofs.ElementSteps.{DataRead, data-read, some-ahead, advances-finishes, node-advances, run-advances}
+use Rattle.markdown_run_row.proofs.ElementSteps.{DataRead, data-read, some-ahead, advances-finishes, node-advances, run-advances, single-read}
 use Rattle.markdown_run_text.proofs.TextLabelTries.{image-advances, image-alone, footnote-advances, link-advances, bracket-alone, made-advances, failed-advances, end-alone}
 use Rattle.markdown_run_text.proofs.TextSteps.{IsSame, same-row, choice-same, stops-same, marked-past, no-check-behind, no-check-past, advances-ends, alone-ends, tree-kept, registered-kept, made-kept}
 use Rattle.markdown_run_text.proofs.TextSteps.{some-none, weight-marked, at-rest-reference, run-ready, passed-attempts, at-end, ends-on, lost-there, not-lost, lost-left, lost-current, same-lost, html-ready, marked-ready, marked-start, check-elements}
@@ -287,7 +287,7 @@ module _ (W : Words) (within : Within states_and_called W) where
             let stops : List Code → Bool = stops_of T.tokenize_state in
             let there : DataFinishes (text_choice_of T) (data_up_to stops) text_passed F V =
             subst (λ c. DataFinishes c (data_up_to stops) text_passed F V) (choice-same T F e) (subst (λ stop. DataFinishes (text_choice_of F) (data_up_to stop) text_passed F V) (stops-same T F e) k) in
-            advances-finishes (text_choice_of T) text_passed T there.behind V (failed-advances T d on stops there.behind ready.marked.stops none there.data_read) there.finishes
+            advances-finishes (text_choice_of T) text_passed T there.behind V (failed-advances T d on stops there.behind (single-read (bytes_of T) (text_choice_of T) stops T.cursor.codes ready.marked.stops) none there.data_read) there.finishes
         lost-ends e false V k = k
 
     tries-end : current_of T ≡ Some (byte "]") → Before (attempt_step LabelEndStart TextBeforeData T)

@@ -34,7 +34,7 @@ use Rattle.markdown_plan.proofs.CharactersAlongContent.{text-scratched}
 use Rattle.markdown_label.specs.LabelEnd as LabelEnd
 use Rattle.markdown_label.specs.LabelEnd.{AreWithin}
 use Rattle.markdown_model.specs.Setting.{Setting}
-use Rattle.markdown_label.specs.LabelSetting.{setting_of, setting_in, AreListed, IsListed}
+use Rattle.markdown_label.specs.LabelSetting.{setting_of, AreListed, IsListed}
 use Rattle.markdown_label.proofs.KeptStartPlaces.{within-grown}
 use Rattle.markdown_partial.specs.PartialSpaceOrTabEol as PartialSpaceOrTabEol
 use Rattle.markdown_label.specs.AfterLabelParts as AfterLabelParts
@@ -45,11 +45,12 @@ use Rattle.markdown_leaf.specs.CharacterReference.{IsAtRest}
 use Rattle.markdown_leaf.specs.RawText as RawText
 use Rattle.markdown_model.specs.Elements.{text_choice}
 use Rattle.markdown_partial.specs.PartialData.{stops_of}
-use Rattle.markdown_run_row.specs.RunOverElements.{AreSingle, Advances, Finishes}
+use Rattle.markdown_run_row.specs.RunOverElements.{AreReadAsData, Advances, Finishes}
 use Rattle.markdown_run_row.specs.Row.{EndsRest, Row, loses, row_end, row_then, past_mark, past_row, row_codes, kinds_of, IsRowAt}
 use Rattle.markdown_run_row.proofs.LabelSteps.{empty-part, mark-alone}
-use Rattle.markdown_run_row.proofs.RowFields.{relisted, row-cursor, row-input, row-text, row-fields, made-within}
-use Rattle.markdown_run_text.specs.TextContent.{order_pays, names_for, brackets_pay, titles_pay, marked_fields, text_marked, text_passed, text_choice_of, EndsWithCodes, StartReady, IsMarked, StandsAlone, before_ends, data_ends, text_setting, StopsAtElements, domains_pay, names_in}
+use Rattle.markdown_run_row.proofs.RowFields.{relisted, row-cursor, row-text, row-fields, made-within}
+use Rattle.markdown_run_row.proofs.RowScratch.{row-input}
+use Rattle.markdown_run_text.specs.TextContent.{order_pays, names_for, brackets_pay, titles_pay, marked_fields, text_marked, text_passed, text_choice_of, EndsWithCodes, StartReady, IsMarked, StandsAlone, before_ends, data_ends, text_setting, StopsAtElements, names_in}
 use Rattle.markdown_run_text.proofs.TextDataStops.{stops-where}
 use Rattle.markdown_run_text.proofs.TextTries.{end_in, ReadsElements, none-valued, check-reads, no-check-at-end, other-data}
 use Rattle.markdown_run_row.proofs.ElementSteps.{last-some, some-ahead, advances-finishes, finishes-end, data-advances}
@@ -199,7 +200,7 @@ alone-ends T stops some alone true V k =
     let a = some-ahead T (ahead T) refl some in
     advances-finishes (text_choice_of T) text_passed T k.behind V
     (data-advances (text_choice_of T) (stops_of T.tokenize_state) T k.behind a.0 a.1.0 a.1.1 k.data_read (λ earlier previous stands. alone earlier previous a.0 a.1.0 stands a.1.1)
-    (subst (λ xs. AreSingle (text_choice_of T) (stops_of T.tokenize_state) xs) a.1.1 (other-data T stops)))
+    (subst (λ xs. AreReadAsData (bytes_of T) (text_choice_of T) (stops_of T.tokenize_state) xs) a.1.1 (other-data T stops)))
     k.finishes
 alone-ends T stops some alone false V k = k
 

@@ -25,7 +25,7 @@ use Rattle.markdown_model.specs.GfmAutolinkLiteral.{schemes, www, first_letters,
 use Rattle.markdown_model.specs.LabelEnd.{Element, plain}
 use Rattle.markdown_model.specs.Setting.{Setting}
 use Rattle.markdown_partial.specs.PartialData.{stops_of}
-use Rattle.markdown_run_row.specs.RunOverElements.{AreSingle, StandsAfter}
+use Rattle.markdown_run_row.specs.RunOverElements.{AreSingle, AreReadAsData, StandsAfter}
 use Rattle.markdown_run_row.specs.RowTreeNames.{IsRunLeaf}
 use Rattle.markdown_run_text.proofs.TryTableLemmas.{one-of}
 use Rattle.markdown_run_text.specs.TextContent.{text_markers, text_setting, text_choice_of, EndsWithCodes, StandsAlone, StopsAtElements}
@@ -33,6 +33,7 @@ use Rattle.markdown_attention.specs.Attention.{switches_of, run_tree}
 use Rattle.markdown_model.specs.SingleConstructs.{begins_run}
 use Rattle.markdown_attention.proofs.AttentionLaws.{run-some, run-none, run-at, run-ahead}
 use Rattle.markdown_run_row.proofs.ConstructNodes.{run-node}
+use Rattle.markdown_run_row.proofs.ElementSteps.{single-read}
 use Rattle.markdown_run_text.proofs.TextElements.{is_marker, run_markers, run-element, run-off, plain_of, plain-switched, off-or-none, check-element, span-element, IsRowOfOne, only-element, IsRowOfTwo, first-element, second-element, other-element, protocol-element, www-element}
 use Rattle.markdown_model.proofs.GrammarSteps.{bind-none}
 
@@ -255,13 +256,24 @@ other-alone T v e h earlier previous c cs stands w =
     other-element (text_setting T) (end_in T) earlier previous c cs (ap (λ x. list_any (λ n. x == n) text_markers) (value-here T v c cs e w) ∙ h)
 
 -- each other code of data
+
+whole-ahead : (T : Tokenizer) (front : List Code) (c : Code) (cs : List Code) → ahead T ≡ front ++ c ∷ cs →
+    T.cursor.codes ≡ (take T.cursor.at T.cursor.codes ++ front) ++ c ∷ cs
+unfolding ahead_at
+whole-ahead T front c cs w =
+    sym (take-append-drop T.cursor.at T.cursor.codes) ∙ ap (λ xs. take T.cursor.at T.cursor.codes ++ xs) w ∙ sym (append_assoc (take T.cursor.at T.cursor.codes) front (c ∷ cs))
+
 pub single-ahead : (choice : Choice) (stops : List Code → Bool) (T : Tokenizer) → AreSingle choice stops T.cursor.codes →
     AreSingle choice stops (ahead T)
-unfolding ahead_at
 single-ahead choice stops T single front earlier previous c cs w free =
-    single (take T.cursor.at T.cursor.codes ++ front) earlier previous c cs
-    (sym (take-append-drop T.cursor.at T.cursor.codes) ∙ ap (λ xs. take T.cursor.at T.cursor.codes ++ xs) w ∙ sym (append_assoc (take T.cursor.at T.cursor.codes) front (c ∷ cs))) free
+    single (take T.cursor.at T.cursor.codes ++ front) earlier previous c cs (whole-ahead T front c cs w) free
+
+pub read-ahead : (bytes : List ℕ) (choice : Choice) (stops : List Code → Bool) (T : Tokenizer) →
+    AreReadAsData bytes choice stops T.cursor.codes → AreReadAsData bytes choice stops (ahead T)
+read-ahead bytes choice stops T others front earlier previous c cs w free =
+    others (take T.cursor.at T.cursor.codes ++ front) earlier previous c cs (whole-ahead T front c cs w) free
 
 pub other-data : (T : Tokenizer) → StopsAtElements T →
-    AreSingle (text_choice_of T) (stops_of T.tokenize_state) (ahead T)
-other-data T stops = single-ahead (text_choice_of T) (stops_of T.tokenize_state) T stops
+    AreReadAsData (bytes_of T) (text_choice_of T) (stops_of T.tokenize_state) (ahead T)
+other-data T stops =
+    single-read (bytes_of T) (text_choice_of T) (stops_of T.tokenize_state) (ahead T) (single-ahead (text_choice_of T) (stops_of T.tokenize_state) T stops)

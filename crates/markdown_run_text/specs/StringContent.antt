@@ -82,7 +82,7 @@ is_on T = T.parse_state.now.options.now.constructs
 abbrev pub string_here : Tokenizer → Choice
 string_here T = string_choice (setting_of T.parse_state.now)
 
--- the codes from T on are those of a row, which is that of their elements but for how data is cut, and U is T past it, with the passes of a
+-- the codes from T on are those of a row, which is that of their elements as read, but for how data is cut, and U is T past it, with the passes of a
 -- string registered
 abbrev pub before_ends : Tokenizer → Bool → Tokenizer → Type 0
 before_ends T true U = Finishes (string_here T) string_passed T U

@@ -294,7 +294,7 @@ pub record BeforeLinkReady (T : Tokenizer) : Type 0 where
 
 -- How runs end.
 
--- the codes from T on are those of a row, which is that of their elements but for how data is cut, and U is T past it, with the passes of a
+-- the codes from T on are those of a row, which is that of their elements as read, but for how data is cut, and U is T past it, with the passes of a
 -- text registered
 abbrev pub before_ends : Tokenizer → Bool → Tokenizer → Type 0
 before_ends T true U = Finishes (text_choice_of T) text_passed T U

@@ -1,9 +1,8 @@
 -- A run over a text by its states alone: its passes may be called.
-use Rattle.std.proofs.Common.{◌≡◌, Bool, true, false, List, [], None, refl, sym, ap, subst, ◌∙◌}
+use Rattle.std.proofs.Common.{◌≡◌, Bool, true, false, List, None, refl, ap, subst, ◌∙◌}
 use Rattle.markdown_engine_content.specs.Codes.{Code}
 use Rattle.markdown_engine_content.specs.Content.{IsContent, content_of}
 use Rattle.markdown_engine_content.specs.Place.{Place, start_of_content}
-use Rattle.markdown_engine_content.specs.Tree.{Forest}
 use Rattle.markdown_engine_content.specs.declared.parser.ParseState.{ParseState}
 use Rattle.markdown_engine_content.specs.declared.parser.Piece.{Piece}
 use Rattle.markdown_engine.specs.Operations.{scratched}
@@ -12,12 +11,9 @@ use Rattle.markdown_engine.specs.declared.resolve.ResolveName.TheVariants as R
 use Rattle.markdown_engine.specs.declared.tokenizer.TokenizeState.{TokenizeState}
 use Rattle.markdown_engine.specs.declared.tokenizer.Tokenizer.{Tokenizer}
 use Rattle.markdown_attention.proofs.AttentionTreeLabels.{IsGood}
-use Rattle.markdown_attention.proofs.ElementsHaveMarkerRuns.{good-tree}
 use Rattle.markdown_attention.proofs.MarkerCodes.{singles-content}
 use Rattle.markdown_label_pass.specs.Brackets.{grouped}
-use Rattle.markdown_model.specs.Elements.{AreElements, AreElementsFrom, text_choice}
-use Rattle.markdown_model.specs.InlineTree.{label_tree}
-use Rattle.markdown_model.specs.Passes.{labels_of}
+use Rattle.markdown_model.specs.Elements.{text_choice}
 use Rattle.markdown_model.specs.Setting.{Setting}
 use Rattle.markdown_run_row.specs.OpenStarts.{brackets_of}
 use Rattle.markdown_run_row.specs.Row.{row_has_run}
@@ -25,10 +21,9 @@ use Rattle.markdown_run_row.specs.RunOverElements.{Finishes}
 use Rattle.markdown_run_text.specs.ContentPasses.{may_resolve_of, resolves_of}
 use Rattle.markdown_run_text.specs.RunSetting.{text_setting_of}
 use Rattle.markdown_run_text.specs.TextContent.{marked_fields, text_choice_of, text_marked, text_passed, start_ends}
-use Rattle.markdown_run.proofs.MayPairOfCutData.{good-alike}
+use Rattle.markdown_run.proofs.FoundTexts.{found-good}
 use Rattle.markdown_run.proofs.PassesAfterRun.{text_finish, text-trims, IsGiven}
 use Rattle.markdown_run.proofs.TextRun.{text_fields, text_start}
-use Rattle.markdown_run.proofs.TextTree.{text-labels}
 use Rattle.markdown_run.proofs.WholeRun.{Starts, start-with, AreFresh, IsFound, finished-elements, finished-may}
 
 fresh : (first : Bool) (c : Place) (p : ParseState) → AreFresh (marked_fields c p (text_fields None first))
@@ -66,19 +61,13 @@ module _ (p : ParseState) (pieces : List Piece) (first : Bool) (content : IsCont
     F : AreFresh Fields
     F = fresh first T.cursor T.parse_state.now
 
-    found : IsFound (text_choice_of M) all_codes E.row
-    found = finished-elements R.Text text_finish text-trims (text_choice_of M) p pieces content Given Is Fields F M U marked E
-
-    are : AreElements Given all_codes found.elements
-    are = subst (λ c. AreElementsFrom c [] None all_codes found.elements) choice-is found.are
-
-    labels : label_tree Given all_codes ≡ labels_of found.elements
-    labels = text-labels Given all_codes found.elements are
+    found : IsFound p.bytes.now (text_choice Given all_codes) all_codes E.row
+    found =
+        subst (λ c. IsFound p.bytes.now c all_codes E.row) choice-is
+        (finished-elements R.Text text_finish text-trims (text_choice_of M) p pieces content Given Is Fields F M U marked E)
 
     good : row_has_run E.row ≡ true → IsGood p.bytes.now (grouped (brackets_of E.row))
-    good e =
-        good-alike p.bytes.now (grouped (brackets_of E.row)) (labels_of found.elements) found.trees
-        (subst (λ t. IsGood p.bytes.now t) labels (good-tree p.bytes.now Given all_codes (singles-content p.bytes.now pieces content.in_order)))
+    good e = found-good Given all_codes E.row found (singles-content p.bytes.now pieces content.in_order)
 
     may : MayResolve may_resolve_of resolves_of U.resolvers (unregistered U)
     may = finished-may R.Text text_finish text-trims (text_choice_of M) p pieces content Given Is Fields F M U marked E good

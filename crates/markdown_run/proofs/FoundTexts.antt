@@ -1,0 +1,50 @@
+-- The elements of a text that a run has found, some of which are read otherwise: they pair as the text's tree of labels does.
+use Rattle.std.proofs.Common.{◌≡◌, ℕ, false, List, refl, sym, ap, subst, ◌∙◌}
+use Rattle.markdown_engine_content.specs.Codes.{Code}
+use Rattle.markdown_attention.specs.AttentionPass.{IsProbed}
+use Rattle.markdown_attention.proofs.AttentionTreeLabels.{IsGood, IsSound}
+use Rattle.markdown_attention.proofs.ElementsHaveMarkerRuns.{sound-elements}
+use Rattle.markdown_attention.proofs.MarkerCodes.{AreSingles}
+use Rattle.markdown_label_pass.specs.Brackets.{grouped}
+use Rattle.markdown_model.specs.BracketGroups.{paired}
+use Rattle.markdown_model.specs.Elements.{text_choice}
+use Rattle.markdown_model.specs.InlineTree.{label_tree}
+use Rattle.markdown_model.specs.LabelEnd.{Element}
+use Rattle.markdown_model.specs.Pairs.{pair_list}
+use Rattle.markdown_model.specs.Passes.{labels_of}
+use Rattle.markdown_model.specs.Setting.{Setting}
+use Rattle.markdown_model.proofs.ElementCases.{AllAre}
+use Rattle.markdown_run_row.specs.OpenStarts.{brackets_of}
+use Rattle.markdown_run_row.specs.Row.{Row, row_has_run, row_of_elements}
+use Rattle.markdown_run_row.proofs.PairsAsRead.{good-read, paired-read, probed-read, read-runless}
+use Rattle.markdown_run.proofs.MayPairOfCutData.{good-alike}
+use Rattle.markdown_run.proofs.RowsWithoutRuns.{row-still}
+use Rattle.markdown_run.proofs.TextTree.{text-labels, text-still}
+use Rattle.markdown_run.proofs.WholeRun.{IsFound}
+
+module _ (s : Setting) (cs : List Code) (row : Row) (found : IsFound s.bytes (text_choice s cs) cs row) where
+  -- where runs are not looked for none stands in the row
+  pub found-still : s.options.constructs.attention ≡ false → s.options.constructs.gfm_strikethrough ≡ false → row_has_run row ≡ false
+  found-still off none =
+      let still : row_has_run (row_of_elements found.elements) ≡ false = text-still s cs found.elements found.are off none in
+      let same : found.read ≡ found.elements = read-runless s.bytes found.elements found.read found.read_as still in
+      row-still row found.read found.alike (ap (λ (es : List Element). row_has_run (row_of_elements es)) same ∙ still)
+
+  module _ (singles : AreSingles s.bytes cs) where
+    sound : AllAre (IsSound s.bytes) found.elements
+    sound = sound-elements s.bytes s cs found.elements singles found.are
+
+    -- the runs of the row with its labels grouped are such as may be paired
+    pub found-good : IsGood s.bytes (grouped (brackets_of row))
+    found-good =
+        good-alike s.bytes (grouped (brackets_of row)) (labels_of found.read) found.trees (good-read s.bytes found.elements found.read found.read_as sound)
+
+    -- what is read is paired as the elements are
+    pub found-pairs : paired s (pair_list s) (labels_of found.read) ≡ paired s (pair_list s) (labels_of found.elements)
+    found-pairs = paired-read s.bytes found.elements found.read found.read_as s refl sound
+
+    -- looks within the bounds of what is read are within those of the content's tree of labels
+    pub found-probed : (n : ℕ) → IsProbed s (labels_of found.read) n → IsProbed s (label_tree s cs) n
+    found-probed n k =
+        subst (λ t. IsProbed s t n) (sym (text-labels s cs found.elements found.are))
+        (probed-read s.bytes found.elements found.read found.read_as s refl sound n k)
