@@ -96,7 +96,7 @@ fn print_read(
     match reading {
         "text" => print_text(alloc, parse_state, pieces, asked, out),
         "string" => print_string(alloc, parse_state, pieces, asked, out),
-        "equal" | "count" => print_pairs(alloc, reading, parse_state, pieces, asked, out),
+        "equal" | "count" | "drawn" => print_pairs(alloc, reading, parse_state, pieces, asked, out),
         "counts" | "looks" => print_counted(alloc, reading, parse_state, pieces, asked, out),
         "steady" => print_steady(alloc, parse_state, pieces, out),
         "value" => print_value(alloc, parse_state.bytes, out),

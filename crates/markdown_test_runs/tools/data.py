@@ -1,12 +1,13 @@
 #!/usr/bin/env python3
 """Writes stdin and stdout: the cases of this crate and the worked examples, and what has to be found in each.
 
-Run it in the crate's folder. What it reads are tools/cases.txt, tools/calls.txt and the rows of markdown_model_examples/tools/rules; src/main.rt says what
-it writes."""
+Run it in the crate's folder. What it reads are tools/cases.txt, tools/calls.txt, the rows of markdown_model_examples/tools/rules, and the parts that
+texts are drawn from in markdown_test_texts/stdin; src/main.rt says what it writes."""
 import os, re, sys
 
 HERE = os.path.dirname(os.path.dirname(os.path.abspath(__file__)))
 WORKED = os.path.join(HERE, '..', 'markdown_model_examples', 'tools')
+PARTS = os.path.join(HERE, '..', 'markdown_test_texts', 'stdin')
 sys.path.insert(0, WORKED)
 sys.dont_write_bytecode = True
 import examples
@@ -24,7 +25,11 @@ RUNS = ['gfm_autolink_literal', 'gfm_label_start_footnote', 'gfm_strikethrough']
 COUNTED = {'counts': ('runs', 'pairs'), 'looks': ('open', 'close')}
 DEFINED = ['definition=a', 'footnote=*a*']
 CHOICES = [[], RUNS, RUNS + ['lengths'], RUNS + ['no-single-tilde']]
-
+# How many texts are drawn, by which seed, of fewer than how many steps each, what they are read with, and what is drawn beside the parts.
+DRAWN, SEED, STEPS = 2_400, 1, 32
+DRAWN_WITH = [[], RUNS, RUNS + ['math_text'], RUNS + ['math_text', 'gfm_task_list_item', 'first'], RUNS + ['lengths']]
+DRAWN_DEFINED = ['definition=a', 'definition=é', 'footnote=a', 'footnote=é']
+WORDS = ['a_b', 'a_b_c', '_a_b', 'a_b_', 'a__b_c', '1_é', 'www.a_b']
 
 def escaped(text):
     return ''.join(ESCAPES.get(c, c) for c in text)
@@ -255,6 +260,58 @@ def worked_cases(line):
             yield ['equal'] + fields[1:], found.partition(',')[0]
 
 
+def parts_to_draw():
+    """What texts are drawn from, by what it is. No part holds a line ending."""
+    found = {'part': [[word] for word in WORDS]}
+    with open(PARTS, encoding='utf-8', newline='') as file:
+        for line in file.read().split('\n'):
+            kind, *fields = line.split('\t')
+            if kind in ('pair', 'part', 'more', 'check', 'ending'):
+                found.setdefault(kind, []).append([examples.plain(field) for field in fields])
+    return found
+
+
+def numbers(seed):
+    """Numbers of 31 bits without an order, the same for a seed wherever this runs."""
+    while True:
+        seed = (seed * 6364136223846793005 + 1442695040888963407) % 2**64
+        yield seed >> 33
+
+
+def drawn_text(draw, parts):
+    """A text whose constructs may be opened, closed, cut short and mixed. No line of it is blank: an ending stands between two letters."""
+    def below(bound):
+        return next(draw) % bound
+
+    def one_of(kind):
+        return parts[kind][below(len(parts[kind]))]
+
+    text, closers = one_of('check')[0] if below(8) == 0 else '', []
+    for _ in range(below(STEPS)):
+        step = below(16)
+        if step < 3:
+            opening, closing = one_of('pair')
+            text, closers = text + opening, closers + [closing]
+        elif step < 6 and closers:
+            text += closers.pop(below(len(closers)) if step == 5 else -1)
+        elif step == 6:
+            text += 'a' + one_of('ending')[0] + 'b'
+        elif step < 9:
+            text += one_of('more')[0]
+        else:
+            text += one_of('part')[0]
+    return text if text.strip(' \t') else 'a' + text
+
+
+def drawn_cases():
+    """Different texts that are drawn, each of which is to be read alike by its run and by its passes."""
+    draw, parts, texts = numbers(SEED), parts_to_draw(), {}
+    while len(texts) < DRAWN:
+        texts.setdefault(drawn_text(draw, parts), DRAWN_WITH[next(draw) % len(DRAWN_WITH)])
+    for text, words in texts.items():
+        yield ['drawn'] + word_fields(words + DRAWN_DEFINED) + ['piece=0.0-%d.0' % len(text.encode()), 'document=' + escaped(text)], ' equal'
+
+
 def call_case(state, line):
     """A single call, and what is answered here."""
     kind, *fields = line.split('\t')
@@ -277,7 +334,7 @@ def main():
     cases += [case for name, group in examples.rows().items() for line in group if line not in worked[name] for case in own_cases(line)]
     states = examples.groups_of(os.path.join(HERE, 'tools', 'calls.txt'))
     calls = [call_case(state, line) for state, lines in states.items() for line in lines]
-    write(cases + [case for group in own.values() for line in group for case in own_cases(line)] + calls)
+    write(cases + [case for group in own.values() for line in group for case in own_cases(line)] + calls + list(drawn_cases()))
 
 
 if __name__ == '__main__':
