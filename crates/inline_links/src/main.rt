@@ -18,8 +18,8 @@ use std::alloc::{AllocError, Global};
 use std::io::Read;
 use std::process::ExitCode;
 
-// The lines of these texts of a document.
-fn lines_of(
+// The lines of the texts of these blocks, where the labels say where links lead.
+fn lines_by_labels(
     alloc: Global,
     document: &Document,
     labels: &Labels,
@@ -40,20 +40,40 @@ fn lines_of(
     Ok(lines)
 }
 
-// The lines of all texts of a document; none where it is not UTF-8.
-fn listed(alloc: Global, bytes: &[u8]) -> Result<Option<String>, AllocError> {
-    let blocks = blocks::of(alloc, bytes)?;
-    let parse_state = links::parse_state(alloc, bytes, &blocks.definitions)?;
-    let Some(document) = Document::new(alloc, parse_state)? else {
-        return Ok(None);
-    };
+// The same, where the definitions of the blocks are all that is defined.
+fn lines_by_definitions(
+    alloc: Global,
+    document: &Document,
+    bytes: &[u8],
+    blocks: &Blocks,
+) -> Result<String, AllocError> {
+    let footnotes = Definitions::new(alloc);
     let labels = Labels {
         bytes,
         options: &links::OPTIONS,
         definitions: &blocks.definitions,
-        footnotes: &Definitions::new(alloc),
+        footnotes: &footnotes,
     };
-    Ok(Some(lines_of(alloc, &document, &labels, &blocks)?))
+    lines_by_labels(alloc, document, &labels, blocks)
+}
+
+// The same, of the blocks of these bytes; none where these are not UTF-8.
+fn lines_of_bytes(
+    alloc: Global,
+    bytes: &[u8],
+    blocks: &Blocks,
+) -> Result<Option<String>, AllocError> {
+    let parse_state = links::parse_state(alloc, bytes, &blocks.definitions)?;
+    match Document::new(alloc, parse_state)? {
+        Some(document) => lines_by_definitions(alloc, &document, bytes, blocks).map(Some),
+        None => Ok(None),
+    }
+}
+
+// The lines of all texts of a document; none where it is not UTF-8.
+fn listed(alloc: Global, bytes: &[u8]) -> Result<Option<String>, AllocError> {
+    let blocks = blocks::of(alloc, bytes)?;
+    lines_of_bytes(alloc, bytes, &blocks)
 }
 
 fn main(rt: HostRuntime) -> ExitCode {
