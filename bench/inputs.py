@@ -265,6 +265,8 @@ PATTERNS = [
         ('`*****a `', again('*****a ')),
         ('`*a* `', again('*a* ')),
         ('`*a **a `', again('*a **a ')),
+        ('`a_`', again('a_')),
+        ('`a_w.`', again('a_w.')),
         ('`a_ `', again('a_ ')),
         ('`_a `', again('_a ')),
         ('`*a_ `', again('*a_ ')),
