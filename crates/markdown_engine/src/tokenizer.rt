@@ -416,6 +416,20 @@ impl<'a> Tokenizer<'a> {
         self.cursor.consume();
     }
 
+    /// Enters, moves past the code at the place, and exits: two events around one code.
+    ///
+    /// The error comes where a growth is refused; then `failed` is true.
+    #[tactic(auto, using(crate::proofs::OperationFields::law_rules))]
+    pub fn take(&mut self, name: Name) -> Result<(), AllocError>
+        requires { HasCode self.old }
+        ensures ok { OnOk result (self.new ≡ applied (Exit name) (applied Consume (applied (Enter name) self.old))) }
+        ensures err { OnErr result (IsTrue self.new.failed) }
+    {
+        self.enter(name)?;
+        self.consume();
+        self.exit(name)
+    }
+
     // Opens an attempt; a refused growth is kept in mind.
     #[tactic(auto, unfolding(crate::specs::Operations::attempted, crate::specs::Operations::frame_of))]
     fn try_with(&mut self, restores: bool, ok: State, nok: State) -> Result<(), AllocError>

@@ -18,15 +18,15 @@ use crate::walk::{DOCUMENT_START, code_from, past_code};
 /// The longest document, in bytes: an eighth of what a `usize` holds, so that the columns of its tabs can be counted.
 pub const DOCUMENT_LIMIT: usize = usize::MAX / 8;
 
-// A stretch of codes.
+/// A stretch of codes.
 #[derive(Clone, Copy)]
-pub(crate) struct Stretch {
-    // Where it ends.
-    pub(crate) point: Point,
-    // Whether a code of it is a line ending.
-    has_line_ending: bool,
-    // Whether the last code of it is a line ending.
-    ends_line: bool,
+pub struct Stretch {
+    /// Where it ends.
+    pub point: Point,
+    /// Whether a code of it is a line ending.
+    pub has_line_ending: bool,
+    /// Whether the last code of it is a line ending.
+    pub ends_line: bool,
 }
 
 // Whether the first place stands before the second.
@@ -97,9 +97,9 @@ fn walk_on(bytes: &[u8], point: Point, place: (usize, usize)) -> Option<Stretch>
     }
 }
 
-// Walks forward to a place, if it is one of the document: mostly it is the point.
+/// Walks forward from a point to a place not before it, if that is one of the document, over the stretch between: mostly it is the point.
 #[inline(always)]
-pub(crate) fn reach(bytes: &[u8], point: Point, place: (usize, usize)) -> Option<Stretch>
+pub fn reach(bytes: &[u8], point: Point, place: (usize, usize)) -> Option<Stretch>
     requires fits { length bytes.now ≤ document_limit }
     requires is_point { IsPoint bytes.now point }
     requires forward { IsTrue (is_at_or_after (place_of point) place) }
@@ -200,8 +200,8 @@ fn are_pieces(bytes: &[u8], pieces: &[Piece]) -> bool
     are_pieces_from(bytes, DOCUMENT_START, pieces)
 }
 
-// Whether the pieces, which do not start before a point, are in order, each a piece of the document.
-pub(crate) fn are_pieces_from(bytes: &[u8], point: Point, pieces: &[Piece]) -> bool
+/// Whether the pieces, which do not start before a point, are in order, each a piece of the document.
+pub fn are_pieces_from(bytes: &[u8], point: Point, pieces: &[Piece]) -> bool
     requires fits { length bytes.now ≤ document_limit }
     requires is_point { IsPoint bytes.now point }
     requires forward { IsTrue (is_at_or_after (place_of point) (first_place (place_of point) pieces.now)) }
@@ -236,8 +236,8 @@ fn is_char_boundary(bytes: &[u8], index: usize) -> bool
     }
 }
 
-// Whether both ends of each piece stand between characters.
-pub(crate) fn are_between_characters(bytes: &[u8], pieces: &[Piece]) -> bool
+/// Whether both ends of each piece stand between characters, or at an end of the document.
+pub fn are_between_characters(bytes: &[u8], pieces: &[Piece]) -> bool
     ensures { IsTrue result ↔ All (IsBetweenCharacters bytes.now) pieces.now }
 {
     pieces.iter().all(|piece| {

@@ -7,7 +7,7 @@ use crate::bytes::ByteSet;
 use std::simd::prelude::*;
 
 /// How many bytes are looked at together.
-pub(crate) const LANES: usize = 16;
+pub const LANES: usize = 16;
 
 /// How many bytes are looked at one by one, with no other look between.
 pub(crate) const EIGHT: usize = 8;
@@ -35,9 +35,9 @@ pub(crate) fn ordinary_among(bytes: &[u8], at: usize) -> usize
     first_set(lanes.simd_le(u8x16::splat(b'\r')).to_bitmask())
 }
 
-// How many of the sixteen bytes from this index on are line feeds or above 13, from the first, and which are line feeds: a bit for each.
+/// How many of the sixteen bytes from this index on are line feeds or above 13, from the first, and which are line feeds: a bit for each.
 #[inline(always)]
-pub(crate) fn feeds_among(bytes: &[u8], at: usize) -> (usize, u64)
+pub fn feeds_among(bytes: &[u8], at: usize) -> (usize, u64)
     requires { at + LANES ≤ length bytes.now }
     ensures within { result.0 ≤ LANES }
     ensures of_lines { (i : ℕ) → at ≤ i → i < at + result.0 → is_of_line (slice_index bytes.now i) ≡ true }

@@ -10,7 +10,7 @@ use crate::event::Point;
 pub const TAB_SIZE: usize = 4;
 
 /// The place before all codes of a document.
-pub(crate) const DOCUMENT_START: Point = Point {
+pub const DOCUMENT_START: Point = Point {
     line: 1,
     column: 1,
     index: 0,

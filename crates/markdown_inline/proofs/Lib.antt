@@ -1,3 +1,1 @@
-pub mod WholeDocument
-pub mod DefiningWords
 pub mod LastPieceLemmas

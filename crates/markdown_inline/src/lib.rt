@@ -5,10 +5,10 @@
 pub mod laws;
 pub mod options;
 pub mod pieces;
-pub mod program;
 pub mod util;
 
 pub use markdown_definitions::{definitions, labels};
+pub use markdown_document::document;
 pub use markdown_engine::{events, subtokenize, tokenizer};
 pub use markdown_engine_content::{configuration, content, event, parser};
 pub use markdown_inline_lines::lines;
@@ -22,6 +22,7 @@ pub use markdown_partial::{
     partial_data, partial_space_or_tab, partial_space_or_tab_eol, partial_whitespace,
 };
 pub use markdown_partial_link::{partial_destination, partial_label, partial_title};
-pub use markdown_run::{attention, document, gfm_autolink_literal, label_end, resolve, run, state};
+pub use markdown_program::program;
+pub use markdown_run::{attention, gfm_autolink_literal, label_end, resolve, run, state};
 pub use markdown_run_text::{string, text};
 pub use markdown_tree::{node, tree};

@@ -2,7 +2,6 @@
 -- What has to be believed: what public contracts and the theorem cite.
 pub mod Layer
 pub mod RunConstruct
-pub mod ContentOfDocument
 -- What serves proofs: what functions and proofs promise each other.
 pub mod RunWithPasses
 pub mod ElementsOfText

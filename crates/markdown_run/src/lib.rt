@@ -1,7 +1,6 @@
 //! The layer: the states and passes of inline content by name, with the laws of all states, and runs over a content.
 #![tactic(auto)]
 
-pub mod document;
 mod elements;
 pub mod gfm_autolink_literal;
 pub mod label_end;

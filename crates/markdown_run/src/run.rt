@@ -144,8 +144,12 @@ fn finish_plain(tokenizer: &mut Tokenizer) -> Result<Run, AllocError>
     Ok(found_in(tokenizer))
 }
 
-// Runs the states from this one and then the passes that they registered, and takes what is found out of the tokenizer.
-pub(crate) fn run_through(name: StateName, tokenizer: &mut Tokenizer) -> Result<Run, AllocError>
+/// Runs the states from this one and then the passes that they registered, and takes what is found out of the tokenizer.
+///
+/// `StringStart` from the start of a content is a run of `string`. The tokenizer tries nothing yet, and the passes may be called behind the states.
+///
+/// The error comes only where memory is refused.
+pub fn run_through(name: StateName, tokenizer: &mut Tokenizer) -> Result<Run, AllocError>
     requires ready { ready_of name tokenizer.old }
     requires alone { tokenizer.old.attempts ≡ [] }
     requires passes { MayPass name tokenizer.old }
@@ -155,8 +159,12 @@ pub(crate) fn run_through(name: StateName, tokenizer: &mut Tokenizer) -> Result<
     finish(tokenizer)
 }
 
-// Reads the elements of a text and then runs the passes that it registers, and takes what is found out of the tokenizer.
-pub(crate) fn text_through(tokenizer: &mut Tokenizer) -> Result<Run, AllocError>
+/// Reads the elements of a text and then runs the passes that it registers, and takes what is found out of the tokenizer.
+///
+/// From the start of a content it is a run of `text`. Of the content nothing is known yet but the names of what is defined, where they are given.
+///
+/// The error comes only where memory is refused.
+pub fn text_through(tokenizer: &mut Tokenizer) -> Result<Run, AllocError>
     requires ready { StartReady tokenizer.old }
     requires alone { tokenizer.old.attempts ≡ [] }
     requires unknown { KnowsNothing tokenizer.old }

@@ -1,6 +1,0 @@
-use Rattle.std.proofs.Common.{◌≡◌, map, string_bytes, take}
-use Rattle.markdown_inline.specs.ProgramWords.{defined_by}
-use Rattle.markdown_inline.proofs.program.defined_by.Given as goal
-
-abbrev pub invariant-loop-word : goal.invariant-loop-word
-invariant-loop-word l = map string_bytes l.found.items ≡ defined_by l.prefix (take l.word-index l.words)

@@ -1,0 +1,3 @@
+-- The proofs of the program.
+pub mod WholeDocument
+pub mod DefiningWords

@@ -1,0 +1,363 @@
+//! The program: it reads a content, and prints the events of its inline tree.
+ghost use Rattle.std.specs.Prelude.{◌≡◌, ◌↔◌, ◌≤◌, ◌⊎◌, ◌∷◌, [], false, true, length, IfOk, IfErr, IfSome, OnOk, IsErrOf, IsUtf8, map, string_bytes, Some, None};
+ghost use Rattle.std.specs.IoError.{error_kind};
+ghost use Rattle.std.specs.List.{list_all};
+ghost use Rattle.std.specs.Option.{option_map};
+ghost use Rattle.markdown_engine_content.specs.Content.{IsContent, document_limit};
+ghost use Rattle.markdown_program.specs.declared.program.Fault.TheVariants.{OutOfMemory, Read, Write, Usage, NotText, BlankLine};
+ghost use Rattle.markdown_program.specs.ProgramStatuses.{status_of, fault_of};
+ghost use Rattle.markdown_program.specs.ProgramWords.{is_option, is_mode, are_known, reads_text, MayRead, IsTextDocument, whole_piece, without_line_ending, has_word, options_of, defined_word, defined_by};
+ghost use Rattle.markdown_program.specs.ProgramOutput.{found_events, printed};
+ghost use Rattle.std.specs.Io.KnownBytes.{Appends};
+
+use markdown_engine_content::configuration::{Constructs, ParseOptions};
+use markdown_engine_content::content::DOCUMENT_LIMIT;
+use markdown_engine_content::parser::{ParseState, Piece};
+use markdown_inline_lines::lines::lines_of;
+use markdown_run::run::{self, Run};
+use markdown_util::util::normalize_identifier::normalize_identifier;
+use std::alloc::{AllocError, Global};
+use std::io::{self, ErrorKind, Read, Write};
+
+/// Why a run of the program ends without its output, or without all of it.
+#[derive(Clone, Copy)]
+enum Fault {
+    /// The first word is missing, or a word is not known.
+    Usage,
+    /// The input is not UTF-8.
+    NotText,
+    /// A line of a text is blank.
+    BlankLine,
+    /// Memory was refused.
+    OutOfMemory,
+    /// The input cannot be read, or is too long.
+    Read,
+    /// The output cannot be written.
+    Write,
+}
+
+impl Fault {
+    // The status that the program ends with.
+    fn status(self) -> u8
+        ensures status { result ≡ status_of self }
+        ensures listed { (2 ≤ result) × (result ≤ 6) }
+    {
+        match self {
+            Fault::Usage => 2,
+            Fault::NotText => 3,
+            Fault::BlankLine => 4,
+            Fault::OutOfMemory => 5,
+            Fault::Read | Fault::Write => 6,
+        }
+    }
+
+    // What is printed about it.
+    fn message(self) -> &'static str {
+        match self {
+            Fault::Usage => {
+                "usage: mdinline text|string [gfm] [math] [task] [label=TEXT].. [note=TEXT].."
+            }
+            Fault::NotText => "input is not UTF-8",
+            Fault::BlankLine => "blank line in text",
+            Fault::OutOfMemory => "out of memory",
+            Fault::Read => "read failed",
+            Fault::Write => "write failed",
+        }
+    }
+}
+
+impl From<AllocError> for Fault {
+    ghost from_gives = { λ _ e. e ≡ OutOfMemory };
+
+    fn from(_error: AllocError) -> Fault {
+        Fault::OutOfMemory
+    }
+}
+
+// The fault that an error of a reader or a writer is: refused memory is that wherever it comes.
+fn fault_of(error: &io::Error, otherwise: Fault) -> Fault
+    ensures { result ≡ fault_of (error_kind error.now) otherwise }
+{
+    match error.kind() {
+        ErrorKind::OutOfMemory => Fault::OutOfMemory,
+        _ => otherwise,
+    }
+}
+
+// Whether the word is one that may follow the mode.
+fn is_option(word: &str) -> bool
+    ensures { result ≡ is_option word.now }
+{
+    word == "gfm"
+        || word == "math"
+        || word == "task"
+        || word == "cm-lengths"
+        || word == "cm-shortcut"
+        || word.as_bytes().starts_with(b"label=")
+        || word.as_bytes().starts_with(b"note=")
+}
+
+// Whether all words may follow the mode.
+fn are_options(words: &[String]) -> bool
+    ensures { result ≡ list_all (λ word. is_option (string_bytes word)) words.now }
+{
+    words.iter().all(|word| is_option(word.as_str()))
+}
+
+// Whether the word says how the content is read.
+fn is_mode(word: &str) -> bool
+    ensures { result ≡ is_mode word.now }
+{
+    word == "text" || word == "string"
+}
+
+// Whether the words are a mode and options.
+fn are_known(words: &[String]) -> bool
+    ensures { result ≡ are_known words.now }
+{
+    let Some((mode, options)) = words.split_first() else {
+        return false;
+    };
+    is_mode(mode.as_str()) && are_options(options)
+}
+
+// Whether the content is to be read as text.
+fn reads_text(words: &[String]) -> bool
+    ensures { result ≡ reads_text words.now }
+{
+    matches!(words.first(), Some(mode) if mode.as_str() == "text")
+}
+
+// The bytes without one final line ending.
+fn without_line_ending(bytes: &[u8]) -> &[u8]
+    ensures { result.now ≡ without_line_ending bytes.now }
+{
+    if bytes.ends_with(b"\r\n") {
+        &bytes[..bytes.len() - 2]
+    } else if bytes.ends_with(b"\n") || bytes.ends_with(b"\r") {
+        &bytes[..bytes.len() - 1]
+    } else {
+        bytes
+    }
+}
+
+// Whether the word is among the words.
+fn has(words: &[String], word: &str) -> bool
+    ensures { result ≡ has_word word.now words.now }
+{
+    words.iter().any(|w| w.as_str() == word)
+}
+
+// The options that the words ask for.
+fn options_of(words: &[String]) -> ParseOptions
+    ensures { result ≡ options_of words.now }
+{
+    let gfm = has(words, "gfm");
+    let constructs = Constructs {
+        gfm_autolink_literal: gfm,
+        gfm_label_start_footnote: gfm,
+        gfm_strikethrough: gfm,
+        gfm_task_list_item: gfm,
+        math_text: has(words, "math"),
+        ..Constructs::default()
+    };
+    ParseOptions {
+        constructs,
+        attention_first_lengths: has(words, "cm-lengths"),
+        label_shortcut_before_bracket: has(words, "cm-shortcut"),
+        ..ParseOptions::default()
+    }
+}
+
+// The identifier of what follows the prefix, if the word has it.
+fn defined_word(alloc: Global, prefix: &str, word: &str) -> Result<Option<String>, AllocError>
+    ensures { IfOk result (λ found. option_map string_bytes found ≡ defined_word prefix.now word.now) }
+{
+    match word.strip_prefix(prefix) {
+        Some(text) => Ok(Some(normalize_identifier(alloc, text)?)),
+        None => Ok(None),
+    }
+}
+
+// The identifiers that the words with this prefix define.
+fn defined_by(alloc: Global, prefix: &str, words: &[String]) -> Result<Vec<String>, AllocError>
+    ensures { IfOk result (λ found. map string_bytes found.items ≡ defined_by prefix.now words.now) }
+{
+    let mut found = Vec::new(alloc);
+    for word in words {
+        if let Some(identifier) = defined_word(alloc, prefix, word.as_str())? {
+            found.push(identifier)?;
+        }
+    }
+    Ok(found)
+}
+
+// Drops one final line ending.
+fn drop_line_ending(bytes: &mut Vec<u8>)
+    ensures { bytes.new.items ≡ without_line_ending bytes.old.items }
+{
+    let len = without_line_ending(bytes.as_slice()).len();
+    bytes.truncate(len);
+}
+
+// Reads all that there is.
+fn read_all<R: Read>(alloc: Global, reader: &mut R) -> Result<Vec<u8>, Fault>
+    ensures bytes { IfOk result (λ bytes. IfSome (R.remaining reader.old) (λ xs. bytes.items ≡ xs)) }
+    ensures faults { IfErr result (λ fault. (fault ≡ OutOfMemory) ⊎ (fault ≡ Read)) }
+{
+    let mut bytes = Vec::new(alloc);
+    match reader.read_to_end(&mut bytes) {
+        Ok(_) => Ok(bytes),
+        Err(error) => Err(fault_of(&error, Fault::Read)),
+    }
+}
+
+// Reads a document, and drops one final line ending.
+fn read_document<R: Read>(alloc: Global, reader: &mut R) -> Result<Vec<u8>, Fault>
+    ensures fits { IfOk result (λ bytes. length bytes.items ≤ document_limit) }
+    ensures bytes { IfOk result (λ bytes. IfSome (R.remaining reader.old) (λ xs. bytes.items ≡ without_line_ending xs)) }
+    ensures faults { IfErr result (λ fault. (fault ≡ OutOfMemory) ⊎ (fault ≡ Read)) }
+{
+    let mut bytes = read_all(alloc, reader)?;
+    drop_line_ending(&mut bytes);
+    if bytes.len() > DOCUMENT_LIMIT {
+        return Err(Fault::Read);
+    }
+    Ok(bytes)
+}
+
+// The piece of a whole document, which is a content.
+fn whole_document(bytes: &[u8]) -> Piece
+    requires text { IsUtf8 bytes.now }
+    requires fits { length bytes.now ≤ document_limit }
+    ensures whole { result ≡ whole_piece bytes.now }
+    ensures content { IsContent bytes.now (result ∷ []) }
+{
+    Piece {
+        start: (0, 0),
+        end: (bytes.len(), 0),
+    }
+}
+
+// What is found in this document, which is UTF-8.
+fn found_in(alloc: Global, words: &[String], bytes: &[u8]) -> Result<Run, Fault>
+    requires text { IsUtf8 bytes.now }
+    requires fits { length bytes.now ≤ document_limit }
+    ensures events { IfOk result (λ run. run.events.items ≡ found_events words.now bytes.now) }
+    ensures text { IfOk result (λ _. reads_text words.now ≡ true → IsTextDocument bytes.now) }
+    ensures faults { IfErr result (λ fault. (fault ≡ OutOfMemory) ⊎ (fault ≡ BlankLine)) }
+    ensures blank_line { IfErr result (λ fault. fault ≡ BlankLine → (reads_text words.now ≡ true) × (IsTextDocument bytes.now → ⊥)) }
+{
+    let options = options_of(words);
+    let parse_state = ParseState {
+        bytes,
+        options: &options,
+        definitions: defined_by(alloc, "label=", words)?,
+        gfm_footnote_definitions: defined_by(alloc, "note=", words)?,
+    };
+    let pieces = [whole_document(bytes)];
+    if !reads_text(words) {
+        return Ok(run::string(alloc, &parse_state, &pieces)?);
+    }
+    if !run::is_text(bytes, &pieces) {
+        return Err(Fault::BlankLine);
+    }
+    Ok(run::text(alloc, &parse_state, &pieces, has(words, "task"))?)
+}
+
+// Reads, runs, and makes the whole output.
+fn make_output<R: Read>(alloc: Global, words: &[String], reader: &mut R) -> Result<Vec<u8>, Fault>
+    ensures usage { IsErrOf result Usage ↔ are_known words.now ≡ false }
+    ensures lines { IfOk result (λ text. IfSome (R.remaining reader.old) (λ xs. text.items ≡ printed words.now xs)) }
+    ensures reads { IfOk result (λ _. IfSome (R.remaining reader.old) (λ xs. MayRead words.now (without_line_ending xs))) }
+    ensures not_text { IfErr result (λ fault. fault ≡ NotText → IfSome (R.remaining reader.old) (λ xs. IsUtf8 (without_line_ending xs) → ⊥)) }
+    ensures blank_line { IfErr result (λ fault. fault ≡ BlankLine → (reads_text words.now ≡ true) × IfSome (R.remaining reader.old) (λ xs. IsTextDocument (without_line_ending xs) → ⊥)) }
+{
+    if !are_known(words) {
+        return Err(Fault::Usage);
+    }
+    let bytes = read_document(alloc, reader)?;
+    if str::from_utf8(bytes.as_slice()).is_err() {
+        return Err(Fault::NotText);
+    }
+    let found = found_in(alloc, words, bytes.as_slice())?;
+    Ok(lines_of(alloc, found.events.as_slice())?)
+}
+
+// Writes all of a text, and hands it on.
+fn write_text<W: Write>(out: &mut W, text: &[u8]) -> Result<(), Fault>
+    ensures written { OnOk result (Appends (W.contents out.old) (W.contents out.new) text.now) }
+    ensures faults { IfErr result (λ fault. (fault ≡ OutOfMemory) ⊎ (fault ≡ Write)) }
+{
+    let mut written = out.write_all(text);
+    if written.is_ok() {
+        written = out.flush();
+    }
+    match &written {
+        Ok(()) => Ok(()),
+        Err(error) => Err(fault_of(error, Fault::Write)),
+    }
+}
+
+// Makes the output, and writes it.
+fn print_output<R: Read, W: Write>(
+    alloc: Global,
+    words: &[String],
+    reader: &mut R,
+    out: &mut W,
+) -> Result<(), Fault>
+    ensures usage { IsErrOf result Usage ↔ are_known words.now ≡ false }
+    ensures lines { OnOk result (IfSome (R.remaining reader.old) (λ xs. Appends (W.contents out.old) (W.contents out.new) (printed words.now xs))) }
+    ensures reads { IfOk result (λ _. IfSome (R.remaining reader.old) (λ xs. MayRead words.now (without_line_ending xs))) }
+    ensures not_text { IfErr result (λ fault. fault ≡ NotText → IfSome (R.remaining reader.old) (λ xs. IsUtf8 (without_line_ending xs) → ⊥)) }
+    ensures blank_line { IfErr result (λ fault. fault ≡ BlankLine → (reads_text words.now ≡ true) × IfSome (R.remaining reader.old) (λ xs. IsTextDocument (without_line_ending xs) → ⊥)) }
+    ensures quiet { IfErr result (λ fault. (fault ≡ Usage) ⊎ ((fault ≡ NotText) ⊎ (fault ≡ BlankLine)) → out.new ≡ out.old) }
+{
+    let text = make_output(alloc, words, reader)?;
+    write_text(out, text.as_slice())
+}
+
+/// Runs the program: reads a document, and prints the events of its inline tree, a line an event. Answers the status that it ends with.
+///
+/// The words are a mode, `text` or `string`, and any of `gfm`, `math`, `task`, `cm-lengths`, `cm-shortcut`, `label=TEXT` and `note=TEXT`. One
+/// final line ending of the document is dropped. The status is 0, or 2 for words that are not known, 3 for a document that is not UTF-8, 4 for
+/// a text with a blank line, 5 where memory is refused, 6 where reading or writing fails or the document is longer than an eighth of
+/// `usize::MAX`; a line on `err` says which. The whole output is made before any of it is written.
+pub fn run<R: Read, W: Write, E: Write>(
+    alloc: Global,
+    words: &[String],
+    reader: &mut R,
+    out: &mut W,
+    err: &mut E,
+) -> u8
+    ensures usage { result ≡ 2 ↔ are_known words.now ≡ false }
+    ensures lines { result ≡ 0 → IfSome (R.remaining reader.old) (λ bytes. Appends (W.contents out.old) (W.contents out.new) (printed words.now bytes)) }
+    ensures reads { result ≡ 0 → IfSome (R.remaining reader.old) (λ bytes. MayRead words.now (without_line_ending bytes)) }
+    ensures not_text { result ≡ 3 → IfSome (R.remaining reader.old) (λ bytes. IsUtf8 (without_line_ending bytes) → ⊥) }
+    ensures blank_line { result ≡ 4 → (reads_text words.now ≡ true) × IfSome (R.remaining reader.old) (λ bytes. IsTextDocument (without_line_ending bytes) → ⊥) }
+    ensures quiet { (result ≡ 2) ⊎ ((result ≡ 3) ⊎ (result ≡ 4)) → out.new ≡ out.old }
+    ensures silent { result ≡ 0 → err.new ≡ err.old }
+    ensures listed { (result ≡ 0) ⊎ ((2 ≤ result) × (result ≤ 6)) }
+{
+    match print_output(alloc, words, reader, out) {
+        Ok(()) => 0,
+        Err(fault) => end_with(fault, err),
+    }
+}
+
+/// Ends the program where its words cannot be read, by the error that came. Answers the status: 5 where memory was refused, or else 2; a line
+/// on `err` says which.
+pub fn run_without_words<E: Write>(error: &io::Error, err: &mut E) -> u8
+    ensures { result ≡ status_of (fault_of (error_kind error.now) Usage) }
+{
+    end_with(fault_of(error, Fault::Usage), err)
+}
+
+// Tells what went wrong, and answers the status that the program ends with.
+fn end_with<E: Write>(fault: Fault, err: &mut E) -> u8
+    ensures status { result ≡ status_of fault }
+    ensures listed { (2 ≤ result) × (result ≤ 6) }
+{
+    let _ = writeln!(err, "mdinline: {}", fault.message());
+    fault.status()
+}
