@@ -8,7 +8,7 @@ use markdown_engine_content::event_names;
 use std::alloc::{AllocError, Global};
 use std::marker::Model;
 
-// The most bytes of the words of an event: as many are copied of all. A line has 84 more of its place, 54 of its link, and its line ending.
+// The bytes of the words of an event that are copied: at least as many as count. A line has 84 more of its place, 54 of its link, and its line ending.
 const WORDS: usize = 48;
 
 // The most bytes of a line.
@@ -20,20 +20,27 @@ const MOSTLY: usize = 40;
 // How many bytes of lines are collected before they are added to the output.
 const COLLECTED: usize = 4096;
 
-// The words of the events of one kind, by the numbers of their names, and how long they are. Spaces stand behind them, so that all are as long
-// as what a line copies.
-macro_rules! words_of {
+// The words of the events of one kind, by the numbers of their names. Spaces stand behind them, so that all are as long as what a line copies.
+macro_rules! padded {
     ($kind:literal $($of_all:ident)*) => {
-        [$((
-            concat!($kind, " ", stringify!($of_all), "                                                "),
-            concat!($kind, " ", stringify!($of_all)).len(),
-        ),)*]
+        [$(concat!($kind, " ", stringify!($of_all), "                                       "),)*]
     };
 }
 
-static ENTERS: [(&str, usize); NAMES] = event_names!(words_of "Enter");
+static ENTERS: [&str; NAMES] = event_names!(padded "Enter");
 
-static EXITS: [(&str, usize); NAMES] = event_names!(words_of "Exit");
+static EXITS: [&str; NAMES] = event_names!(padded "Exit");
+
+// How long these words are, without the spaces.
+macro_rules! lengths {
+    ($kind:literal $($of_all:ident)*) => {
+        [$(concat!($kind, " ", stringify!($of_all)).len(),)*]
+    };
+}
+
+static ENTER_LENGTHS: [usize; NAMES] = event_names!(lengths "Enter");
+
+static EXIT_LENGTHS: [usize; NAMES] = event_names!(lengths "Exit");
 
 // Whether an event begins or ends, its name, and spaces, at least 48 bytes; and how many bytes the words are, without the spaces behind them.
 fn words_of(kind: Kind, name: Name) -> (&'static str, usize)
@@ -42,9 +49,10 @@ fn words_of(kind: Kind, name: Name) -> (&'static str, usize)
     ensures length { result.1 ≡ length (words_text kind name) }
     ensures words { take (length (words_text kind name)) result.0.now ≡ words_text kind name }
 {
+    let number = name as usize;
     match kind {
-        Kind::Enter => ENTERS[name as usize],
-        Kind::Exit => EXITS[name as usize],
+        Kind::Enter => (ENTERS[number], ENTER_LENGTHS[number]),
+        Kind::Exit => (EXITS[number], EXIT_LENGTHS[number]),
     }
 }
 
