@@ -547,16 +547,21 @@ impl EditMap {
         })
     }
 
-    // The events after all edits.
-    fn applied(&self, events: &Events) -> Result<Events, AllocError>
-        requires { CanEdit self.now events.now }
-        ensures { IfOk result (λ done. done ≡ edited self.now events.now) }
+    // Adds the events after all edits to an empty list.
+    #[inline(always)]
+    fn add_all(
+        &self,
+        done: &mut Events,
+        edits: &Kept,
+        events: &Events,
+    ) -> Result<(), AllocError>
+        requires can { CanEdit self.now events.now }
+        requires rest { IsRest 0 self.now (edits_of edits.now) }
+        requires brought { AreBrought edits.now.comes.now edits.now.entries.now }
+        requires empty { done.old ≡ [] }
+        ensures { OnOk result (done.new ≡ edited self.now events.now) }
     {
-        let mut sorted = Vec::new(self.alloc);
-        let edits = self.in_order(&mut sorted)?;
         let count = events.len();
-        let room = count_after(count, self.comes.len(), self.log.as_slice());
-        let mut done = Events::with_capacity(self.alloc, room)?;
         let mut notes = Stack::new(self.alloc);
         let mut passed = Passed {
             edits: 0,
@@ -564,21 +569,45 @@ impl EditMap {
         };
         let mut index = 0;
         while index < count {
-            passed = pass_place(&mut done, &edits, passed, index)?;
+            passed = pass_place(done, edits, passed, index)?;
             if passed.removed_to > index {
-                index = next_place(&edits, passed.edits, passed.removed_to.min(count));
+                index = next_place(edits, passed.edits, passed.removed_to.min(count));
                 continue;
             }
-            let alone_to = pass_alone(&mut done, events, &edits, passed.edits, index)?;
+            let alone_to = pass_alone(done, events, edits, passed.edits, index)?;
             if alone_to > index {
                 index = alone_to;
             } else {
-                keep(&mut done, &mut notes, events.bare_at(index), index)?;
+                keep(done, &mut notes, events.bare_at(index), index)?;
                 index += 1;
             }
         }
-        pass_place(&mut done, &edits, passed, count)?;
+        pass_place(done, edits, passed, count)?;
+        Ok(())
+    }
+
+    // The events after all edits, which are given in the order of their places.
+    #[inline(always)]
+    fn applied_by(&self, edits: &Kept, events: &Events) -> Result<Events, AllocError>
+        requires can { CanEdit self.now events.now }
+        requires rest { IsRest 0 self.now (edits_of edits.now) }
+        requires brought { AreBrought edits.now.comes.now edits.now.entries.now }
+        ensures { IfOk result (λ done. done ≡ edited self.now events.now) }
+    {
+        let room = count_after(events.len(), edits.comes.len(), edits.entries);
+        let mut done = Events::with_capacity(self.alloc, room)?;
+        self.add_all(&mut done, edits, events)?;
         Ok(done)
+    }
+
+    // The events after all edits.
+    fn applied(&self, events: &Events) -> Result<Events, AllocError>
+        requires { CanEdit self.now events.now }
+        ensures { IfOk result (λ done. done ≡ edited self.now events.now) }
+    {
+        let mut sorted = Vec::new(self.alloc);
+        let edits = self.in_order(&mut sorted)?;
+        self.applied_by(&edits, events)
     }
 
     // The edits as they were added.

@@ -1,7 +1,7 @@
 use Rattle.std.proofs.Common.{◌≡◌, ◌≤◌, ◌-◌, ◌++◌, length, drop}
 use Rattle.markdown_engine_events.specs.Edits.{edited, edited_from, edits_of, IsRest}
 use Rattle.markdown_engine_events.proofs.EditLemmas.{Notes, EndsAt}
-use Rattle.markdown_engine_events.proofs.util.edit_map.EditMap.applied.Given as goal
+use Rattle.markdown_engine_events.proofs.util.edit_map.EditMap.add_all.Given as goal
 
 abbrev pub invariant-loop-index : goal.invariant-loop-index
 invariant-loop-index l = record {
