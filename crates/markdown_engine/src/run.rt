@@ -61,23 +61,28 @@ fn hand_over<'a>(
     tokenizer.noted(moved)
 }
 
-// Runs states from this answer until Ok or Nok with no attempt open. The attempts that are open wait in a list of their own.
-fn run_from<L: Layer>(start: State, tokenizer: &mut Tokenizer) -> Result<bool, AllocError>
+// Runs states from this answer until Ok or Nok with no attempt open. The attempts that are open wait in a list of their own, empty at the start.
+#[inline(always)]
+fn run_from<'a, L: Layer>(
+    start: State,
+    waiting: &mut Stack<Attempt<'a>>,
+    tokenizer: &mut Tokenizer<'a>,
+) -> Result<bool, AllocError>
     requires ready { ready_state L.ready start tokenizer.old }
     requires alone { tokenizer.old.attempts ≡ [] }
+    requires empty { waiting.old ≡ [] }
     ensures alone { IfOk result (λ _. tokenizer.new.attempts ≡ []) }
     ensures calls { IfOk result (λ ok. Reaches L.ready L.step [] start tokenizer.old ok tokenizer.new) }
     ensures ends { IfOk result (λ ok. ends_state L.ends start tokenizer.old ok tokenizer.new) }
     ensures err { OnErr result (IsTrue tokenizer.new.failed) }
 {
-    let mut waiting = Stack::new(tokenizer.alloc);
     let mut state = start;
     loop {
         let ok = match state {
             State::Next(name) | State::Retry(name) => {
                 pass_stretch::<L>(name, tokenizer);
                 state = L::call(name, tokenizer)?;
-                hand_over(&mut waiting, tokenizer)?;
+                hand_over(waiting, tokenizer)?;
                 continue;
             }
             State::Ok => true,
@@ -101,7 +106,8 @@ impl<'a> Tokenizer<'a> {
         ensures ends { IfOk result (λ ok. L.ends name self.old ok self.new) }
         ensures err { OnErr result (IsTrue self.new.failed) }
     {
-        run_from::<L>(State::Retry(name), self)
+        let mut waiting = Stack::new(self.alloc);
+        run_from::<L>(State::Retry(name), &mut waiting, self)
     }
 
     /// Runs the registered passes in order, after which none is registered.
