@@ -3,7 +3,7 @@ use Rattle.std.proofs.Common.{◌≡◌, ◌≢◌, ℕ, ◌+◌, ◌&&◌, ◌|
 use Rattle.std.specs.List.{list_any}
 use Rattle.std.specs.Str.{byte}
 use Rattle.std.proofs.Math.Bool.{and-false}
-use Rattle.std.proofs.lemmas.Bool.{or_parts}
+use Rattle.std.proofs.lemmas.Bool.{both_ways, or_parts}
 use Rattle.std.proofs.lemmas.List.{reverse-append, reverse-reverse}
 use Rattle.std.proofs.lemmas.List.Folds.{list_any-append}
 use Rattle.markdown_engine_content.specs.Codes.{Code, is_blank, stop_of, document_start}
@@ -179,7 +179,7 @@ module _ (bytes : List ℕ) (whole : Bool) where
         kept = sym (here-lost front w n previous cs rest tail h e) ∙ parts.0;
         unsigned = sym (here-signed cs rest h) ∙ parts.1;
       }
-  leaf-still _ front w n previous cs rest tail h e s d = cc
+  leaf-still _ front w n previous cs rest tail h e s d = absurd (both_ways false refl d)
 
   pub still-row : (row : Forest) (n : ℕ) (previous : Option ℕ) (front w : Bool) (tail : List Event) → HasParts bytes row → w ≡ goes_before whole tail →
       IsStill bytes whole front (appended_from n previous row ++ tail) → Parted front w row tail
