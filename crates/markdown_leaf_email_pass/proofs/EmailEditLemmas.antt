@@ -11,10 +11,10 @@ use Rattle.markdown_engine_content.specs.declared.event.Point.{Point}
 use Rattle.markdown_engine_events.specs.declared.util.edit_map.Edit.{Edit}
 use Rattle.markdown_engine_events.proofs.EditRules.{stays-where, goes-where}
 use Rattle.markdown_partial.specs.MergedEvents.{is_enter, is_data, opens_data}
-use Rattle.markdown_partial.specs.TrimmedData.{between}
+use Rattle.markdown_partial.specs.TrimmedData.{between, IsStretch}
 use Rattle.markdown_partial.specs.TrimmedEvents.{FirstHasPlaces, HasPlaces}
 use Rattle.markdown_partial.proofs.DataSearch.{BeginsNone, event-at}
-use Rattle.markdown_partial.proofs.TrimEdits.{head-drop, places-on, places-pass, no-front, linked-drop, yes-back, opens-unlinked}
+use Rattle.markdown_partial.proofs.TrimEdits.{head-drop, closes-first, next-within, stretch-first, places-on, places-pass, no-front, linked-drop, yes-back, opens-unlinked}
 use Rattle.markdown_leaf_email_pass.specs.EmailEdits.{begins_signed, links_after, may_mail, mail, mail_first, mails}
 use Rattle.markdown_leaf_email_pass.specs.EmailScan.{has_sign, mail_events}
 use Rattle.markdown_leaf_email_pass.proofs.UnlinkedLeaves.{plain-emails, plain-unlinked}
@@ -105,6 +105,45 @@ places-first bytes (e ∷ es) p = p.0
 pub mail-unlinked : (bytes : List ℕ) (p q : Point) (es : List Event) → es ≡ mail_events bytes p q → All IsUnlinked es
 unfolding mail_events
 mail-unlinked bytes p q es e = subst (All IsUnlinked) (sym e) (plain-unlinked 0 _ _ (plain-emails (between bytes p q)))
+
+-- The edit at an event of a list.
+
+module _ (bytes : List ℕ) (i links : ℕ) (es : List Event) (e : Event) (within : i < length es) (is : e ≡ get_or es i e) where
+  -- the places of data, which begins with this event
+  pub stretch-at : (x : Event) → x ≡ get_or es (i + 1) x → opens_data e ≡ true → FirstHasPlaces bytes (drop i es) → IsStretch bytes e.point x.point
+  stretch-at x k o p = let c = closes-first bytes i es e within is o p in stretch-first bytes i es e x (next-within bytes i es e c) k c
+
+  edit-at : (x : Event) (b : Bool) → x ≡ get_or es (i + 1) x → opens_data e ≡ true → FirstHasPlaces bytes (drop i es) → links ≡ 0 →
+      has_sign bytes e.point x.point ≡ b → mail_first bytes i links (drop i es) ≡ (if b then mail bytes i e x ∷ [] else [])
+  edit-at x b k o p none sign =
+      let more : i + 1 < length es = next-within bytes i es e (closes-first bytes i es e within is o p) in
+      let may : may_mail bytes links e x ≡ b =
+      ap (λ n. (n == 0 && opens_data e) && has_sign bytes e.point x.point) none ∙ ap (λ a. a && has_sign bytes e.point x.point) o ∙ sign in
+      ap (mail_first bytes i links) (head-drop i es e within is ∙ ap (λ ys. e ∷ ys) (head-drop (i + 1) es x more k))
+      ∙ ap (λ a. if a then mail bytes i e x ∷ [] else []) may
+
+  -- data with an `@`
+  pub mailed-at : (x : Event) (ds : List Event) (old new : List Edit) → x ≡ get_or es (i + 1) x → opens_data e ≡ true →
+      FirstHasPlaces bytes (drop i es) → links ≡ 0 → has_sign bytes e.point x.point ≡ true → ds ≡ mail_events bytes e.point x.point →
+      new ≡ old ++ (record { at = i; remove = 2; events = ds; before = false }) ∷ [] → new ≡ old ++ mail_first bytes i links (drop i es)
+  mailed-at x ds old new k o p none sign comes add =
+      add
+      ∙ ap (λ xs. old ++ (record { at = i; remove = 2; events = xs; before = false }) ∷ []) comes
+      ∙ ap (λ xs. old ++ xs) (sym (edit-at x true k o p none sign))
+
+  -- data without one
+  pub unsigned-at : (x : Event) (log : List Edit) → x ≡ get_or es (i + 1) x → opens_data e ≡ true → FirstHasPlaces bytes (drop i es) → links ≡ 0 →
+      has_sign bytes e.point x.point ≡ false → log ≡ log ++ mail_first bytes i links (drop i es)
+  unsigned-at x log k o p none sign = sym (append-nil log) ∙ ap (λ xs. log ++ xs) (sym (edit-at x false k o p none sign))
+
+  -- an event that is not the start of data outside links
+  pub other-at : (log : List Edit) → (links == 0) && opens_data e ≡ false → log ≡ log ++ mail_first bytes i links (drop i es)
+  other-at log h =
+      sym (append-nil log) ∙ ap (λ xs. log ++ xs) (sym (ap (mail_first bytes i links) (head-drop i es e within is) ∙ none (drop (i + 1) es)))
+    where
+      none : (ys : List Event) → mail_first bytes i links (e ∷ ys) ≡ []
+      none [] = refl
+      none (x ∷ ys) = ap (λ b. if b && has_sign bytes e.point x.point then mail bytes i e x ∷ [] else []) h
 
 -- What the edits collect at a place.
 
