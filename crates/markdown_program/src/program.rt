@@ -1,13 +1,15 @@
 //! The program: it reads a content, and prints the events of its inline tree.
-ghost use Rattle.std.specs.Prelude.{◌≡◌, ◌↔◌, ◌≤◌, ◌⊎◌, ◌∷◌, [], false, true, length, IfOk, IfErr, IfSome, OnOk, IsErrOf, IsUtf8, map, string_bytes, Some, None};
+ghost use Rattle.std.specs.Prelude.{◌≡◌, ◌↔◌, ◌≤◌, ◌⊎◌, ◌∷◌, [], false, true, length, IfOk, IfErr, IfSome, OnOk, IsErrOf, IsUtf8, map, string_bytes, Some, None, codes, nat_eq, ◌||◌};
 ghost use Rattle.std.specs.IoError.{error_kind};
-ghost use Rattle.std.specs.List.{list_all};
+ghost use Rattle.std.specs.List.{list_all, starts_with};
 ghost use Rattle.std.specs.Option.{option_map};
+ghost use Rattle.std.specs.Str.{bytes_eq};
 ghost use Rattle.markdown_engine_content.specs.Content.{IsContent, document_limit};
 ghost use Rattle.markdown_program.specs.declared.program.Fault.TheVariants.{OutOfMemory, Read, Write, Usage, NotText, BlankLine};
 ghost use Rattle.markdown_program.specs.ProgramStatuses.{status_of, fault_of};
 ghost use Rattle.markdown_program.specs.ProgramWords.{is_option, is_mode, are_known, reads_text, MayRead, IsTextDocument, whole_piece, without_line_ending, has_word, options_of, defined_word, defined_by};
 ghost use Rattle.markdown_program.specs.ProgramOutput.{found_events, printed};
+ghost use Rattle.markdown_inline_lines.specs.PrintedLines.{lines_of};
 ghost use Rattle.std.specs.Io.KnownBytes.{Appends};
 
 use markdown_engine_content::configuration::{Constructs, ParseOptions};
@@ -84,17 +86,21 @@ fn fault_of(error: &io::Error, otherwise: Fault) -> Fault
     }
 }
 
+// Whether the word sets an option, or defines a label or a footnote.
+fn sets_or_defines(word: &str) -> bool
+    ensures { result ≡ (bytes_eq word.now (codes "cm-lengths") || bytes_eq word.now (codes "cm-shortcut") || starts_with nat_eq word.now (codes "label=") || starts_with nat_eq word.now (codes "note=")) }
+{
+    word == "cm-lengths"
+        || word == "cm-shortcut"
+        || word.as_bytes().starts_with(b"label=")
+        || word.as_bytes().starts_with(b"note=")
+}
+
 // Whether the word is one that may follow the mode.
 fn is_option(word: &str) -> bool
     ensures { result ≡ is_option word.now }
 {
-    word == "gfm"
-        || word == "math"
-        || word == "task"
-        || word == "cm-lengths"
-        || word == "cm-shortcut"
-        || word.as_bytes().starts_with(b"label=")
-        || word.as_bytes().starts_with(b"note=")
+    word == "gfm" || word == "math" || word == "task" || sets_or_defines(word)
 }
 
 // Whether all words may follow the mode.
@@ -239,6 +245,28 @@ fn whole_document(bytes: &[u8]) -> Piece
     }
 }
 
+// What is found in the document of this parse state, which is UTF-8. The parse state is what the words ask for.
+fn found_by(alloc: Global, words: &[String], parse_state: &ParseState) -> Result<Run, Fault>
+    requires text { IsUtf8 parse_state.now.bytes.now }
+    requires fits { length parse_state.now.bytes.now ≤ document_limit }
+    requires options { parse_state.now.options.now ≡ options_of words.now }
+    requires labels { map string_bytes parse_state.now.definitions.items ≡ defined_by (codes "label=") words.now }
+    requires notes { map string_bytes parse_state.now.gfm_footnote_definitions.items ≡ defined_by (codes "note=") words.now }
+    ensures events { IfOk result (λ run. run.events.items ≡ found_events words.now parse_state.now.bytes.now) }
+    ensures text { IfOk result (λ _. reads_text words.now ≡ true → IsTextDocument parse_state.now.bytes.now) }
+    ensures faults { IfErr result (λ fault. (fault ≡ OutOfMemory) ⊎ (fault ≡ BlankLine)) }
+    ensures blank_line { IfErr result (λ fault. fault ≡ BlankLine → (reads_text words.now ≡ true) × (IsTextDocument parse_state.now.bytes.now → ⊥)) }
+{
+    let pieces = [whole_document(parse_state.bytes)];
+    if !reads_text(words) {
+        return Ok(run::string(alloc, parse_state, &pieces)?);
+    }
+    if !run::is_text(parse_state.bytes, &pieces) {
+        return Err(Fault::BlankLine);
+    }
+    Ok(run::text(alloc, parse_state, &pieces, has(words, "task"))?)
+}
+
 // What is found in this document, which is UTF-8.
 fn found_in(alloc: Global, words: &[String], bytes: &[u8]) -> Result<Run, Fault>
     requires text { IsUtf8 bytes.now }
@@ -255,14 +283,23 @@ fn found_in(alloc: Global, words: &[String], bytes: &[u8]) -> Result<Run, Fault>
         definitions: defined_by(alloc, "label=", words)?,
         gfm_footnote_definitions: defined_by(alloc, "note=", words)?,
     };
-    let pieces = [whole_document(bytes)];
-    if !reads_text(words) {
-        return Ok(run::string(alloc, &parse_state, &pieces)?);
+    found_by(alloc, words, &parse_state)
+}
+
+// Makes the whole output for a document of these bytes.
+fn output_of(alloc: Global, words: &[String], bytes: &[u8]) -> Result<Vec<u8>, Fault>
+    requires fits { length bytes.now ≤ document_limit }
+    ensures lines { IfOk result (λ text. text.items ≡ lines_of (found_events words.now bytes.now)) }
+    ensures reads { IfOk result (λ _. MayRead words.now bytes.now) }
+    ensures usage { IfErr result (λ fault. fault ≡ Usage → ⊥) }
+    ensures not_text { IfErr result (λ fault. fault ≡ NotText → IsUtf8 bytes.now → ⊥) }
+    ensures blank_line { IfErr result (λ fault. fault ≡ BlankLine → (reads_text words.now ≡ true) × (IsTextDocument bytes.now → ⊥)) }
+{
+    if str::from_utf8(bytes).is_err() {
+        return Err(Fault::NotText);
     }
-    if !run::is_text(bytes, &pieces) {
-        return Err(Fault::BlankLine);
-    }
-    Ok(run::text(alloc, &parse_state, &pieces, has(words, "task"))?)
+    let found = found_in(alloc, words, bytes)?;
+    Ok(lines_of(alloc, found.events.as_slice())?)
 }
 
 // Reads, runs, and makes the whole output.
@@ -277,11 +314,7 @@ fn make_output<R: Read>(alloc: Global, words: &[String], reader: &mut R) -> Resu
         return Err(Fault::Usage);
     }
     let bytes = read_document(alloc, reader)?;
-    if str::from_utf8(bytes.as_slice()).is_err() {
-        return Err(Fault::NotText);
-    }
-    let found = found_in(alloc, words, bytes.as_slice())?;
-    Ok(lines_of(alloc, found.events.as_slice())?)
+    output_of(alloc, words, bytes.as_slice())
 }
 
 // Writes all of a text, and hands it on.
