@@ -549,12 +549,7 @@ impl EditMap {
 
     // Adds the events after all edits to an empty list.
     #[inline(always)]
-    fn add_all(
-        &self,
-        done: &mut Events,
-        edits: &Kept,
-        events: &Events,
-    ) -> Result<(), AllocError>
+    fn add_all(&self, done: &mut Events, edits: &Kept, events: &Events) -> Result<(), AllocError>
         requires can { CanEdit self.now events.now }
         requires rest { IsRest 0 self.now (edits_of edits.now) }
         requires brought { AreBrought edits.now.comes.now edits.now.entries.now }
