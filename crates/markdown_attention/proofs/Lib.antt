@@ -7,6 +7,7 @@ pub mod TextLines
 pub mod OpenRunWalks
 pub mod PairScanByLists
 pub mod PairScanTurns
+pub mod PairTables
 pub mod RunNumbers
 pub mod PairScanIsPairList
 pub mod AttentionLaws

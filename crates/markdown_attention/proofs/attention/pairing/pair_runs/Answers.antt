@@ -10,8 +10,9 @@ use Rattle.markdown_attention.proofs.RemainingSizes.{markers_taking, length_taki
 use Rattle.markdown_attention.proofs.PairScanByLists.{inv_start}
 use Rattle.markdown_attention.proofs.PairScanInvariant.{all-within, all-once}
 use Rattle.markdown_attention.proofs.PairScanTurns.{scanned-all, paid-all, looks-all, end_turn, pair_turn, fits, key_is, small_runs, some_key, zeros, length_if, less}
+use Rattle.markdown_attention.proofs.PairTables.{InTables, line-small, in-tables, len-below, list-small, mark-small, lists-small, probes-room, number-small, still-in-turn, still-earlier, fewer-turns, lent-long, lent-down, lent-down-all, lent-has, lent-above}
 use Rattle.markdown_attention.proofs.attention.pairing.pair_runs.Goals as goal
-use Rattle.markdown_attention.proofs.attention.pairing.pair_runs.Goals.{After-walk, After-row_known-1}
+use Rattle.markdown_attention.proofs.attention.pairing.pair_runs.Goals.{After-walk, After-row_known-1, After-class_number-class}
 
 pub loop-closer-init : goal.loop-closer-init
 loop-closer-init c =
@@ -105,6 +106,43 @@ line_of-line-requires-clause-some c =
     let text = ap (λ (r : Sequence). r.text) (c.in-Some.ensures.run ∙ c.loop-closer.invariant.inv.stands.stands c.loop-closer.runs.turn here) in
     subst (λ x. 0 < get_or c.in_ok-lines.lines.of_rows.items (row_of x) 0) (sym text) (c.in_ok-lines.ensures.some c.loop-closer.runs.turn here)
 
+pub list_of-list-requires : goal.list_of-list-requires
+list_of-list-requires c =
+    line-small c.line_of-line.result c.in_ok-lines.lines.count (get_or c.in_ok-lines.lines.of_rows.items (row_of c.in-Some.closer.text) 0) (length c.loop-closer.marks.items) c.loop-closer.marks.len c.loop-closer.marks.cap c.line_of-line.ensures (c.in_ok-lines.ensures.are.within (row_of c.in-Some.closer.text)) c.loop-closer.invariant.marks_length c.loop-closer.marks.ok c.loop-closer.marks.small
+
+-- the run in turn has its lists and its mark in the tables
+tables : (c : After-class_number-class) → InTables c.line_of-line.result c.list_of-list.result c.class_number-class.result (length c.loop-closer.heads.items) (length c.loop-closer.marks.items)
+tables c =
+    in-tables c.line_of-line.result c.list_of-list.result c.class_number-class.result c.in_ok-lines.lines.count (get_or c.in_ok-lines.lines.of_rows.items (row_of c.in-Some.closer.text) 0) c.in-Some.closer.marker (length c.loop-closer.heads.items) (length c.loop-closer.marks.items) c.loop-closer.marks.len c.loop-closer.marks.cap c.line_of-line.ensures (c.in_ok-lines.ensures.are.within (row_of c.in-Some.closer.text)) c.list_of-list.ensures c.class_number-class.ensures.small c.loop-closer.invariant.heads_length c.loop-closer.invariant.marks_length c.loop-closer.marks.ok c.loop-closer.marks.small
+
+pub overflow_mul-at : goal.overflow_mul-at
+overflow_mul-at c = list-small _ _ _ _ _ (tables c)
+
+pub overflow_add-at : goal.overflow_add-at
+overflow_add-at c = mark-small _ _ _ _ _ (tables c)
+
+pub index-head-requires : goal.index-head-requires
+index-head-requires c =
+    len-below c.list_of-list.result (length c.loop-closer.heads.items) c.loop-closer.heads.len (tables (goal.at.index-head-requires c).After-class_number-class).list_in c.loop-closer.heads.ok.0
+
+pub index-requires : goal.index-requires
+index-requires c =
+    len-below (c.list_of-list.result * 6 + c.class_number-class.result) (length c.loop-closer.marks.items) c.loop-closer.marks.len (tables (goal.at.index-requires c).After-class_number-class).mark_in c.loop-closer.marks.ok.0
+
+pub walk-requires-clause-run : goal.walk-requires-clause-run
+walk-requires-clause-run c = c.in-Some.ensures.run
+
+pub walk-requires-clause-in_turn : goal.walk-requires-clause-in_turn
+walk-requires-clause-in_turn c = c.in-Some.ensures.within.0 refl
+
+pub walk-requires-clause-older : goal.walk-requires-clause-older
+walk-requires-clause-older c =
+    lent-long c.loop-closer.older.items c.deref.result.now c.loop-closer.runs.turn c.deref.ensures.value c.loop-closer.invariant.inv.lists.older_length
+
+pub walk-requires-clause-down : goal.walk-requires-clause-down
+walk-requires-clause-down c =
+    lent-down c.loop-closer.older.items c.deref.result.now c.loop-closer.runs.turn c.deref.ensures.value c.loop-closer.invariant.inv.lists.older_length c.loop-closer.invariant.inv.lists.older_down
+
 pub walk-requires-clause-head : goal.walk-requires-clause-head
 walk-requires-clause-head c =
     rw (head_is c) (c.loop-closer.invariant.inv.lists.heads_le (list_of (line_in c.in_ok-lines.lines.of_rows.items c.in_ok-lines.lines.count) c.args.runs.now.list c.loop-closer.runs.turn) (keys c c.loop-closer.runs.turn (here c)))
@@ -113,6 +151,28 @@ pub walk-requires-clause-small : goal.walk-requires-clause-small
 walk-requires-clause-small c =
     small_runs (layout_of c.in_ok-lines.lines.of_rows.items c.in_ok-lines.lines.count c.in_ok-lines.ensures.are) c.args.options c.args.runs.now.list c.loop-closer.runs.list c.loop-closer.runs.turn c.loop-closer.pairs.items c.loop-closer.runs.probes
     c.loop-closer.heads.items c.loop-closer.older.items c.loop-closer.marks.items c.loop-closer.invariant.inv c.requires.whole c.requires.small
+
+pub walk-requires-clause-room : goal.walk-requires-clause-room
+walk-requires-clause-room c =
+    let inv = c.loop-closer.invariant.inv in
+    probes-room c.loop-closer.runs.probes c.loop-closer.runs.turn (length c.loop-closer.pairs.items) (length c.args.runs.now.list) (markers_left c.loop-closer.runs.list) (markers_left c.args.runs.now.list) inv.most inv.within c.requires.count inv.half c.requires.small
+
+pub mark_end-requires : goal.mark_end-requires
+mark_end-requires c = (tables (goal.at.mark_end-requires c).After-class_number-class).mark_in
+
+pub list_end-requires-clause-list : goal.list_end-requires-clause-list
+list_end-requires-clause-list c = (tables (goal.at.list_end-requires-clause-list c).After-class_number-class).list_in
+
+pub list_end-requires-clause-number : goal.list_end-requires-clause-number
+list_end-requires-clause-number c =
+    number-small c.in-Some.closer.number c.loop-closer.runs.turn (length c.args.runs.now.list) c.in-Some.ensures.number c.loop-closer.invariant.inv.within c.requires.count
+
+pub advance-requires : goal.advance-requires
+advance-requires c = still-in-turn c.loop-closer.runs c.walk.new.runs c.walk.ensures.list c.walk.ensures.turn (c.in-Some.ensures.within.0 refl)
+
+pub loop-closer-smaller-in-None : goal.loop-closer-smaller-in-None
+loop-closer-smaller-in-None c =
+    fewer-turns c.loop-closer.runs c.walk.new.runs c.walk.ensures.list c.walk.ensures.turn c.advance.new.self (c.in-Some.ensures.within.0 refl) c.advance.ensures
 
 pub loop-closer-preserved-in-None : goal.loop-closer-preserved-in-None
 loop-closer-preserved-in-None c =
@@ -170,6 +230,59 @@ take-requires-clause-opener_has c =
     c.in-Some.closer c.in-Some.ensures.run o c.pair_size-size.result c.walk.new.runs.probes c.index-head.result.now c.in-Some-walk.opener
     c.in-Some-walk.ensures.run (head_is b) c.in-Some-walk.ensures.closes walk c.pair_size-size.ensures in
     rw c.walk.ensures.list f.1
+
+pub take-requires-clause-closer_has : goal.take-requires-clause-closer_has
+take-requires-clause-closer_has c =
+    let b = (goal.at.take-requires-clause-closer_has c).After-walk.before in
+    let k : ℕ = list_of (line_in c.in_ok-lines.lines.of_rows.items c.in_ok-lines.lines.count) c.args.runs.now.list c.loop-closer.runs.turn in
+    let class : ℕ = class_of c.args.options (run_at c.loop-closer.runs.list c.loop-closer.runs.turn) (run_at c.loop-closer.runs.list c.loop-closer.runs.turn).remaining in
+    let o : ℕ = c.in-Some-walk.opener.number in
+    let walk : WalkFound c.args.options c.loop-closer.runs.list c.loop-closer.older.items (mark_of c.loop-closer.marks.items k class)
+    c.loop-closer.runs.turn c.index-head.result.now o (c.walk.new.runs.probes - c.loop-closer.runs.probes) =
+    subst (λ m. WalkFound c.args.options c.loop-closer.runs.list c.loop-closer.older.items m
+    c.loop-closer.runs.turn c.index-head.result.now o (c.walk.new.runs.probes - c.loop-closer.runs.probes)) (mark_is b)
+    (subst (λ l. WalkFound c.args.options c.loop-closer.runs.list l c.index.result.now
+    c.loop-closer.runs.turn c.index-head.result.now o (c.walk.new.runs.probes - c.loop-closer.runs.probes)) c.deref.ensures.value c.in-Some-walk.ensures.found) in
+    let f = fits (layout_of c.in_ok-lines.lines.of_rows.items c.in_ok-lines.lines.count c.in_ok-lines.ensures.are) c.args.options c.args.runs.now.list c.loop-closer.runs.list c.loop-closer.runs.turn c.loop-closer.pairs.items c.loop-closer.runs.probes
+    c.loop-closer.heads.items c.loop-closer.older.items c.loop-closer.marks.items c.loop-closer.invariant.inv (here b) (by-marker c.args.runs.now.list c.requires.markers) (keys b) (marks_six b)
+    c.in-Some.closer c.in-Some.ensures.run o c.pair_size-size.result c.walk.new.runs.probes c.index-head.result.now c.in-Some-walk.opener
+    c.in-Some-walk.ensures.run (head_is b) c.in-Some-walk.ensures.closes walk c.pair_size-size.ensures in
+    rw (c.walk.ensures.list, c.walk.ensures.turn) f.2
+
+pub take-requires-clause-in_turn : goal.take-requires-clause-in_turn
+take-requires-clause-in_turn c =
+    still-in-turn c.loop-closer.runs c.walk.new.runs c.walk.ensures.list c.walk.ensures.turn (c.in-Some.ensures.within.0 refl)
+
+pub take-requires-clause-earlier : goal.take-requires-clause-earlier
+take-requires-clause-earlier c =
+    still-earlier c.loop-closer.runs c.walk.new.runs c.walk.ensures.list c.walk.ensures.turn c.in-Some-walk.opener.number c.in-Some-walk.ensures.before
+
+pub overflow_mul-line : goal.overflow_mul-line
+overflow_mul-line c = lists-small _ _ _ _ _ (tables (goal.at.overflow_mul-line c).After-class_number-class) (sym (marks_six (goal.at.overflow_mul-line c).After-walk.before))
+
+pub cut_for_pair-requires-clause-lists : goal.cut_for_pair-requires-clause-lists
+cut_for_pair-requires-clause-lists c = (tables (goal.at.cut_for_pair-requires-clause-lists c).After-class_number-class).lists_in
+
+pub cut_for_pair-requires-clause-list : goal.cut_for_pair-requires-clause-list
+cut_for_pair-requires-clause-list c = (tables (goal.at.cut_for_pair-requires-clause-list c).After-class_number-class).list_in
+
+pub cut_for_pair-requires-clause-opener : goal.cut_for_pair-requires-clause-opener
+cut_for_pair-requires-clause-opener c =
+    lent-has c.loop-closer.older.items c.deref-in-Some-walk.result.now c.loop-closer.runs.turn c.deref-in-Some-walk.ensures.value c.loop-closer.invariant.inv.lists.older_length c.in-Some-walk.opener.number c.in-Some-walk.ensures.before
+
+pub cut_for_pair-requires-clause-down : goal.cut_for_pair-requires-clause-down
+cut_for_pair-requires-clause-down c =
+    lent-down-all c.loop-closer.older.items c.deref-in-Some-walk.result.now c.loop-closer.runs.turn c.deref-in-Some-walk.ensures.value c.loop-closer.invariant.inv.lists.older_length c.loop-closer.invariant.inv.lists.older_down
+
+pub cut_for_pair-requires-clause-heads : goal.cut_for_pair-requires-clause-heads
+cut_for_pair-requires-clause-heads c =
+    lent-above c.loop-closer.older.items c.deref-in-Some-walk.result.now c.loop-closer.runs.turn c.deref-in-Some-walk.ensures.value c.loop-closer.invariant.inv.lists.older_length c.loop-closer.heads.items c.loop-closer.invariant.inv.lists.heads_le
+
+pub overflow_mul-list : goal.overflow_mul-list
+overflow_mul-list c = list-small _ _ _ _ _ (tables (goal.at.overflow_mul-list c).After-class_number-class)
+
+pub lower_marks-requires : goal.lower_marks-requires
+lower_marks-requires c = (tables (goal.at.lower_marks-requires c).After-class_number-class).marks_in
 
 pub loop-closer-smaller : goal.loop-closer-smaller
 loop-closer-smaller c =
