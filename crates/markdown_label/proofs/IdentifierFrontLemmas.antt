@@ -1,7 +1,6 @@
 -- The identifier of a text begins with the identifier of what the text begins with.
-use Rattle.std.proofs.Common.{◌≡◌, ◌∙◌, sym, ap, refl, subst, ℕ, Bool, true, false, ◌&&◌, ◌==◌, List, [], ◌∷◌, ◌++◌, length, drop, append-nil, append_assoc, length-take, length-drop, ◌≤◌, ◌+◌, ◌-◌, take, Option, Some, None, arith}
+use Rattle.std.proofs.Common.{◌≡◌, ◌∙◌, sym, ap, refl, subst, ℕ, Bool, true, false, ◌&&◌, ◌==◌, List, [], ◌∷◌, ◌++◌, length, drop, append-nil, append_assoc, length-take, length-drop, ◌≤◌, ◌+◌, ◌-◌, take, arith}
 use Rattle.std.specs.List.{flat_map, filter, join_with_byte, onto_first, slice_split, starts_with, slice_range}
-use Rattle.std.specs.Prelude.{String, string_bytes}
 use Rattle.std.proofs.Math.Bool.{and-false}
 use Rattle.std.specs.Str.{IsUtf8, bytes_eq, chars, encode_utf8_all, IsCharBoundary}
 use Rattle.std.proofs.lemmas.Bool.{false≢true, or_parts, or_from}
@@ -18,7 +17,7 @@ use Rattle.markdown_util.specs.Identifier.{separates_words, is_nonempty, joined_
 use Rattle.markdown_engine_content.specs.declared.label_kind.LabelKind.{LabelKind}
 use Rattle.markdown_model.specs.LabelEnd.{is_footnote, link_identifier}
 use Rattle.markdown_model.specs.Setting.{Setting, is_defined}
-use Rattle.markdown_label.specs.IdentifierFronts.{AreCuts, IsKnownName, IsUnknown, begins_one, begins_defined}
+use Rattle.markdown_label.specs.IdentifierFronts.{AreCuts, IsUnknown, begins_one, begins_defined}
 
 -- the second begins with the first
 abbrev pub Begins : List ℕ → List ℕ → Type 0
@@ -203,13 +202,3 @@ pub unknown-nothing : (s : Setting) (kind : LabelKind) (name : List ℕ) → s.d
     IsUnknown s kind name
 unknown-nothing s kind name d f =
     record { call = ap (λ fs. is_footnote kind && is_defined fs name) f ∙ and-false (is_footnote kind); link = ap (λ ds. is_defined ds (link_identifier kind name)) d }
-
--- what is found of a label
-pub unknown : {Z : Type 0} (s : Setting) (kind : LabelKind) (name : List ℕ) (found : Option (String Z)) → found ≡ None →
-    IsKnownName s kind name found → IsUnknown s kind name
-unknown s kind name None e h = h
-unknown s kind name (Some t) e h = cc
-
-pub known : {Z : Type 0} (s : Setting) (kind : LabelKind) (name : List ℕ) (found : Option (String Z)) (text : String Z) →
-    found ≡ Some text → IsKnownName s kind name found → string_bytes text ≡ name
-known s kind name found text e h = subst (IsKnownName s kind name) e h

@@ -25,7 +25,7 @@ use Rattle.markdown_model.specs.CodeTests.{is_value, next_is}
 use Rattle.markdown_model.specs.Grammar.{Reading, either}
 use Rattle.markdown_model.specs.LabelEnd.{is_footnote, bytes_between, full_reference, collapsed_reference, shortcut, link_identifier}
 use Rattle.markdown_model.specs.Resource.{label, reference_names}
-use Rattle.markdown_model.specs.Setting.{is_defined}
+use Rattle.markdown_model.specs.Setting.{Setting, is_defined}
 use Rattle.markdown_model.specs.SingleConstructs.{Start, outcome, outcome_at, label_end_here}
 use Rattle.markdown_label.specs.AfterLabelParts.{names_rested, PartReady}
 use Rattle.markdown_label.specs.Resource as Resource
@@ -35,6 +35,11 @@ use Rattle.markdown_label.specs.LabelFields.{AreOrdered, bars, with_kind, as_lin
 use Rattle.markdown_label.specs.LabelSetting.{setting_in, IsListed}
 
 -- Identifiers.
+
+-- whether a label of this kind with this identifier is defined as a link's, and none where it is a footnote call
+abbrev pub link_as : Setting → LabelKind → List ℕ → Option Bool
+link_as s kind name =
+    if is_footnote kind && is_defined s.footnotes name then None else Some (is_defined s.definitions (link_identifier kind name))
 
 abbrev pub point_or : Option Event → Point
 point_or None = document_start

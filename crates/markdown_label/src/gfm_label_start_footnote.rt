@@ -21,6 +21,7 @@
 ghost use Rattle.std.specs.Prelude.{◌≡◌, IfOk, OnErr, IsTrue};
 ghost use Rattle.markdown_label.specs.LabelStarts.{footnote_step, footnote_open_step, FootnoteOpenReady};
 
+use crate::parts;
 use crate::starts::keep_start;
 use markdown_engine::state::{State, StateName};
 use markdown_engine::tokenizer::{LabelKind, Tokenizer};
@@ -42,11 +43,13 @@ pub fn start(tokenizer: &mut Tokenizer) -> Result<State, AllocError>
         .gfm_label_start_footnote
         && tokenizer.current() == Some(b'[')
     {
-        tokenizer.enter(Name::GfmFootnoteCallLabel)?;
-        tokenizer.enter(Name::LabelMarker)?;
-        tokenizer.consume();
-        tokenizer.exit(Name::LabelMarker)?;
-        Ok(State::Next(StateName::GfmLabelStartFootnoteOpen))
+        let next = StateName::GfmLabelStartFootnoteOpen;
+        parts::open(
+            tokenizer,
+            Name::GfmFootnoteCallLabel,
+            Name::LabelMarker,
+            next,
+        )
     } else {
         Ok(State::Nok)
     }
@@ -63,10 +66,11 @@ pub fn open(tokenizer: &mut Tokenizer) -> Result<State, AllocError>
 {
     match tokenizer.current() {
         Some(b'^') => {
-            tokenizer.enter(Name::GfmFootnoteCallMarker)?;
-            tokenizer.consume();
-            tokenizer.exit(Name::GfmFootnoteCallMarker)?;
-            tokenizer.exit(Name::GfmFootnoteCallLabel)?;
+            parts::close(
+                tokenizer,
+                Name::GfmFootnoteCallLabel,
+                Name::GfmFootnoteCallMarker,
+            )?;
             keep_start(tokenizer, LabelKind::GfmFootnote, 6)?;
             Ok(State::Ok)
         }

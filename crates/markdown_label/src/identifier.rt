@@ -8,7 +8,7 @@ ghost use Rattle.markdown_plan.specs.Characters.{bytes_of};
 ghost use Rattle.markdown_util.specs.Identifier.{identifier_of};
 ghost use Rattle.markdown_label.specs.LabelEnd.{AreAround};
 ghost use Rattle.markdown_label.specs.IdentifierFronts.{AreCuts, IsKnownName};
-ghost use Rattle.markdown_label.specs.LabelEnd.{identifier_between};
+ghost use Rattle.markdown_label.specs.LabelEnd.{identifier_between, link_as};
 ghost use Rattle.markdown_label.specs.LabelSetting.{setting_in, IsListed};
 ghost use Rattle.markdown_model.specs.LabelEnd.{is_footnote, link_identifier};
 ghost use Rattle.markdown_model.specs.Setting.{is_defined};
@@ -92,14 +92,6 @@ pub(crate) fn link_identifier(
     Ok(text)
 }
 
-// Whether a label of this kind with this identifier is a footnote call.
-pub(crate) fn is_call(tokenizer: &Tokenizer, kind: LabelKind, name: &str) -> bool
-    requires { IsListed tokenizer.now }
-    ensures { result ≡ (is_footnote kind && is_defined (setting_in tokenizer.now).footnotes name.now) }
-{
-    is_footnote(kind) && names_footnote(tokenizer, name)
-}
-
 // Whether the identifier is that of a footnote: by a search, where the names are known in order.
 fn names_footnote(tokenizer: &Tokenizer, name: &str) -> bool
     requires { IsListed tokenizer.now }
@@ -125,32 +117,51 @@ fn names_definition(tokenizer: &Tokenizer, name: &str) -> bool
     }
 }
 
-// Whether the identifier of a label of this kind is defined, as a link's.
-fn is_link_defined(tokenizer: &Tokenizer, kind: LabelKind, name: &str) -> Result<bool, AllocError>
+// Whether a label of this kind with this identifier is defined as a link's. `None` where it is a footnote call.
+fn link_as(tokenizer: &Tokenizer, kind: LabelKind, name: &str) -> Result<Option<bool>, AllocError>
     requires { IsListed tokenizer.now }
-    ensures { IfOk result (λ defined. defined ≡ is_defined (setting_in tokenizer.now).definitions (link_identifier kind name.now)) }
+    ensures { IfOk result (λ link. link ≡ link_as (setting_in tokenizer.now) kind name.now) }
 {
     if !is_footnote(kind) {
-        return Ok(names_definition(tokenizer, name));
+        return Ok(Some(names_definition(tokenizer, name)));
+    }
+    if names_footnote(tokenizer, name) {
+        return Ok(None);
     }
     let text = link_identifier(tokenizer.alloc, kind, name)?;
-    Ok(names_definition(tokenizer, text.as_str()))
+    Ok(Some(names_definition(tokenizer, text.as_str())))
 }
 
-// As `identifier_between`; refused memory is kept in mind.
-pub(crate) fn name_between(
+// As `link_as`, of the label between two events, given by their numbers.
+fn link_within(
+    tokenizer: &Tokenizer,
+    kind: LabelKind,
+    from: usize,
+    to: usize,
+) -> Result<Option<bool>, AllocError>
+    requires { AreAround tokenizer.now from to }
+    ensures { IfOk result (λ link. link ≡ link_as (setting_in tokenizer.now) kind (identifier_between tokenizer.now from to)) }
+{
+    match identifier_between(tokenizer, kind, from, to)? {
+        None => Ok(Some(false)),
+        Some(name) => link_as(tokenizer, kind, name.as_str()),
+    }
+}
+
+// As `link_within`; refused memory is kept in mind.
+pub(crate) fn link_between(
     tokenizer: &mut Tokenizer,
     kind: LabelKind,
     from: usize,
     to: usize,
-) -> Result<Option<String>, AllocError>
+) -> Result<Option<bool>, AllocError>
     requires { AreAround tokenizer.old from to }
-    ensures name { IfOk result (λ name. IsKnownName (setting_in tokenizer.old) kind (identifier_between tokenizer.old from to) name) }
+    ensures link { IfOk result (λ link. link ≡ link_as (setting_in tokenizer.old) kind (identifier_between tokenizer.old from to)) }
     ensures same { OnOk result (tokenizer.new ≡ tokenizer.old) }
     ensures err { OnErr result (IsTrue tokenizer.new.failed) }
 {
-    let name = identifier_between(tokenizer, kind, from, to);
-    tokenizer.noted(name)
+    let link = link_within(tokenizer, kind, from, to);
+    tokenizer.noted(link)
 }
 
 // Whether the identifier of the document's bytes from an index to another is that of a definition. One of lowercase letters alone is looked up where it
@@ -206,19 +217,4 @@ pub(crate) fn is_defined_between(
     // as in `identifier_between`
     let end = tokenizer.events.at(to).point.index.max(start);
     is_defined_from(tokenizer, start, end)
-}
-
-// As `is_link_defined`; refused memory is kept in mind.
-pub(crate) fn is_link(
-    tokenizer: &mut Tokenizer,
-    kind: LabelKind,
-    name: &str,
-) -> Result<bool, AllocError>
-    requires { IsListed tokenizer.old }
-    ensures defined { IfOk result (λ defined. defined ≡ is_defined (setting_in tokenizer.old).definitions (link_identifier kind name.now)) }
-    ensures same { OnOk result (tokenizer.new ≡ tokenizer.old) }
-    ensures err { OnErr result (IsTrue tokenizer.new.failed) }
-{
-    let defined = is_link_defined(tokenizer, kind, name);
-    tokenizer.noted(defined)
 }

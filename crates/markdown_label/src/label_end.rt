@@ -35,7 +35,8 @@ ghost use Rattle.markdown_label.specs.AfterLabelParts.{names_rested};
 ghost use Rattle.markdown_label.specs.LabelFields.{bars, as_link, marked, AreOrdered};
 ghost use Rattle.markdown_label.specs.LabelEnd.{LabelIsAround, ReferenceIsAround, start_step, tail_at, after_step, ok_step, nok_step, names_set, reference_full_step, reference_full_after_step, reference_full_missing_step, reference_not_full_step, reference_collapsed_step, reference_collapsed_open_step};
 
-use crate::identifier::{is_call, is_defined_between, is_link, name_between};
+use crate::identifier::{is_defined_between, link_between};
+use crate::parts;
 pub use crate::resource::{
     resource_before, resource_between, resource_destination_after, resource_destination_missing,
     resource_end, resource_open, resource_start, resource_title_after,
@@ -141,11 +142,7 @@ pub fn start(tokenizer: &mut Tokenizer) -> Result<State, AllocError>
     if bars(start) {
         return Ok(State::Retry(StateName::LabelEndNok));
     }
-    tokenizer.enter(Name::LabelEnd)?;
-    tokenizer.enter(Name::LabelMarker)?;
-    tokenizer.consume();
-    tokenizer.exit(Name::LabelMarker)?;
-    tokenizer.exit(Name::LabelEnd)?;
+    parts::whole_of_one(tokenizer, Name::LabelEnd, Name::LabelMarker)?;
     Ok(State::Next(StateName::LabelEndAfter))
 }
 
@@ -161,8 +158,12 @@ fn tail(tokenizer: &mut Tokenizer, defined: bool) -> Result<State, AllocError>
     };
     match tokenizer.current() {
         Some(b'(') => {
-            tokenizer.attempt(State::Next(StateName::LabelEndOk), State::Next(otherwise))?;
-            Ok(State::Retry(StateName::LabelEndResourceStart))
+            parts::attempt(
+                tokenizer,
+                StateName::LabelEndResourceStart,
+                StateName::LabelEndOk,
+                otherwise,
+            )
         }
         Some(b'[') => {
             let no_full = if defined {
@@ -170,8 +171,12 @@ fn tail(tokenizer: &mut Tokenizer, defined: bool) -> Result<State, AllocError>
             } else {
                 StateName::LabelEndNok
             };
-            tokenizer.attempt(State::Next(StateName::LabelEndOk), State::Next(no_full))?;
-            Ok(State::Retry(StateName::LabelEndReferenceFull))
+            parts::attempt(
+                tokenizer,
+                StateName::LabelEndReferenceFull,
+                StateName::LabelEndOk,
+                no_full,
+            )
         }
         _ => Ok(State::Retry(otherwise)),
     }
@@ -194,14 +199,9 @@ pub fn after(tokenizer: &mut Tokenizer) -> Result<State, AllocError>
     };
     let start = *top;
     let end = tokenizer.tokenize_state.end;
-    let Some(name) = name_between(tokenizer, start.kind, start.start.1, end)? else {
-        try_last(&mut tokenizer.tokenize_state.label_starts);
-        return tail(tokenizer, false);
-    };
-    if is_call(tokenizer, start.kind, name.as_str()) {
+    let Some(defined) = link_between(tokenizer, start.kind, start.start.1, end)? else {
         return Ok(State::Retry(StateName::LabelEndOk));
-    }
-    let defined = is_link(tokenizer, start.kind, name.as_str())?;
+    };
     try_last(&mut tokenizer.tokenize_state.label_starts);
     tail(tokenizer, defined)
 }
@@ -289,11 +289,12 @@ pub fn reference_full(tokenizer: &mut Tokenizer) -> Result<State, AllocError>
     ensures err { OnErr result (IsTrue tokenizer.new.failed) }
 {
     ask_for_names(&mut tokenizer.tokenize_state);
-    tokenizer.attempt(
-        State::Next(StateName::LabelEndReferenceFullAfter),
-        State::Next(StateName::LabelEndReferenceFullMissing),
-    )?;
-    Ok(State::Retry(StateName::LabelStart))
+    parts::attempt(
+        tokenizer,
+        StateName::LabelStart,
+        StateName::LabelEndReferenceFullAfter,
+        StateName::LabelEndReferenceFullMissing,
+    )
 }
 
 /// No label stands there.
@@ -319,15 +320,17 @@ pub fn reference_not_full(tokenizer: &mut Tokenizer) -> Result<State, AllocError
     let shortcut = tokenizer.parse_state.options.label_shortcut_before_bracket
         && !tokenizer.tokenize_state.seen;
     tokenizer.tokenize_state.seen = false;
-    tokenizer.attempt(
-        State::Next(StateName::LabelEndOk),
-        State::Next(if shortcut {
-            StateName::LabelEndOk
-        } else {
-            StateName::LabelEndNok
-        }),
-    )?;
-    Ok(State::Retry(StateName::LabelEndReferenceCollapsed))
+    let otherwise = if shortcut {
+        StateName::LabelEndOk
+    } else {
+        StateName::LabelEndNok
+    };
+    parts::attempt(
+        tokenizer,
+        StateName::LabelEndReferenceCollapsed,
+        StateName::LabelEndOk,
+        otherwise,
+    )
 }
 
 /// At a `[` where no full reference stands: a collapsed reference may begin.
@@ -340,11 +343,8 @@ pub fn reference_collapsed(tokenizer: &mut Tokenizer) -> Result<State, AllocErro
 {
     match tokenizer.current() {
         Some(b'[') => {
-            tokenizer.enter(Name::Reference)?;
-            tokenizer.enter(Name::ReferenceMarker)?;
-            tokenizer.consume();
-            tokenizer.exit(Name::ReferenceMarker)?;
-            Ok(State::Next(StateName::LabelEndReferenceCollapsedOpen))
+            let next = StateName::LabelEndReferenceCollapsedOpen;
+            parts::open(tokenizer, Name::Reference, Name::ReferenceMarker, next)
         }
         _ => Ok(State::Nok),
     }
@@ -361,10 +361,7 @@ pub fn reference_collapsed_open(tokenizer: &mut Tokenizer) -> Result<State, Allo
 {
     match tokenizer.current() {
         Some(b']') => {
-            tokenizer.enter(Name::ReferenceMarker)?;
-            tokenizer.consume();
-            tokenizer.exit(Name::ReferenceMarker)?;
-            tokenizer.exit(Name::Reference)?;
+            parts::close(tokenizer, Name::Reference, Name::ReferenceMarker)?;
             Ok(State::Ok)
         }
         _ => Ok(State::Nok),

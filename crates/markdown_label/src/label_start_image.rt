@@ -22,6 +22,7 @@
 ghost use Rattle.std.specs.Prelude.{◌≡◌, IfOk, OnErr, IsTrue};
 ghost use Rattle.markdown_label.specs.LabelStarts.{image_step, image_open_step, image_after_step, ImageOpenReady, ImageAfterReady};
 
+use crate::parts;
 use crate::starts::keep_start;
 use markdown_engine::state::{State, StateName};
 use markdown_engine::tokenizer::{LabelKind, Tokenizer};
@@ -39,11 +40,8 @@ pub fn start(tokenizer: &mut Tokenizer) -> Result<State, AllocError>
     if tokenizer.parse_state.options.constructs.label_start_image
         && tokenizer.current() == Some(b'!')
     {
-        tokenizer.enter(Name::LabelImage)?;
-        tokenizer.enter(Name::LabelImageMarker)?;
-        tokenizer.consume();
-        tokenizer.exit(Name::LabelImageMarker)?;
-        Ok(State::Next(StateName::LabelStartImageOpen))
+        let next = StateName::LabelStartImageOpen;
+        parts::open(tokenizer, Name::LabelImage, Name::LabelImageMarker, next)
     } else {
         Ok(State::Nok)
     }
@@ -60,10 +58,7 @@ pub fn open(tokenizer: &mut Tokenizer) -> Result<State, AllocError>
 {
     match tokenizer.current() {
         Some(b'[') => {
-            tokenizer.enter(Name::LabelMarker)?;
-            tokenizer.consume();
-            tokenizer.exit(Name::LabelMarker)?;
-            tokenizer.exit(Name::LabelImage)?;
+            parts::close(tokenizer, Name::LabelImage, Name::LabelMarker)?;
             Ok(State::Next(StateName::LabelStartImageAfter))
         }
         _ => Ok(State::Nok),

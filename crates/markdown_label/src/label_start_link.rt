@@ -20,6 +20,7 @@
 ghost use Rattle.std.specs.Prelude.{◌≡◌, IfOk, OnErr, IsTrue};
 ghost use Rattle.markdown_label.specs.LabelStarts.{link_step};
 
+use crate::parts::whole_of_one;
 use crate::starts::keep_start;
 use markdown_engine::state::State;
 use markdown_engine::tokenizer::{LabelKind, Tokenizer};
@@ -37,11 +38,7 @@ pub fn start(tokenizer: &mut Tokenizer) -> Result<State, AllocError>
     if tokenizer.parse_state.options.constructs.label_start_link
         && tokenizer.current() == Some(b'[')
     {
-        tokenizer.enter(Name::LabelLink)?;
-        tokenizer.enter(Name::LabelMarker)?;
-        tokenizer.consume();
-        tokenizer.exit(Name::LabelMarker)?;
-        tokenizer.exit(Name::LabelLink)?;
+        whole_of_one(tokenizer, Name::LabelLink, Name::LabelMarker)?;
         keep_start(tokenizer, LabelKind::Link, 4)?;
         Ok(State::Ok)
     } else {

@@ -7,5 +7,6 @@ pub mod label_end;
 pub mod label_start_image;
 pub mod label_start_link;
 mod lookup;
+mod parts;
 pub mod resource;
 pub mod starts;

@@ -25,13 +25,16 @@
 // Each state answers the error where a growth is refused; then `failed` is true.
 #![tactic(auto, using(markdown_engine::proofs::OperationFields::law_rules), unfolding(markdown_engine::specs::Operations::scratched, markdown_engine::specs::Operations::attempted, markdown_engine::specs::Operations::frame_of))]
 
-ghost use Rattle.std.specs.Prelude.{◌≡◌, IfOk, OnErr, IsTrue};
-ghost use Rattle.markdown_engine.specs.Operations.{IsOpen};
+ghost use Rattle.std.specs.Prelude.{◌≡◌, if◌then◌else◌, IfOk, OnErr, IsTrue};
+ghost use Rattle.markdown_engine.specs.Operations.{IsOpen, current_of};
+ghost use Rattle.markdown_engine.specs.StateRuns.{stepped};
+ghost use Rattle.markdown_engine.specs.declared.state.State.TheVariants.{Retry};
 ghost use Rattle.markdown_engine_index.specs.TitleIndex as Titles;
 ghost use Rattle.markdown_engine_content.specs.declared.event.Name.TheVariants.{Resource};
 ghost use Rattle.markdown_label.specs.AfterLabelParts.{names_rested};
-ghost use Rattle.markdown_label.specs.Resource.{destination_asked, destination_rested, title_asked, start_step, before_step, open_step, destination_after_step, missing_step, is_hopeless, between_step, title_after_step, end_step};
+ghost use Rattle.markdown_label.specs.Resource.{destination_asked, destination_rested, title_asked, at_space, spaced, start_step, before_step, open_step, destination_after_step, missing_step, is_hopeless, between_step, title_after_step, end_step};
 
+use crate::parts;
 use markdown_engine::state::{State, StateName};
 use markdown_engine::tokenizer::{TokenizeState, Tokenizer};
 use markdown_engine_content::event::Name;
@@ -83,6 +86,25 @@ fn rest_title(state: &mut TokenizeState)
     state.token_3 = Name::Data;
 }
 
+// Where whitespace may stand: tries it, and goes on with `behind`. Where none stands there, goes on with `otherwise`.
+#[inline(always)]
+fn past_space(
+    tokenizer: &mut Tokenizer,
+    behind: StateName,
+    otherwise: StateName,
+) -> Result<State, AllocError>
+    ensures ok { IfOk result (λ s. (if at_space (current_of tokenizer.old) then spaced behind otherwise tokenizer.old else stepped (Retry otherwise) tokenizer.old) ≡ record { state = s; left = tokenizer.new }) }
+    ensures err { OnErr result (IsTrue tokenizer.new.failed) }
+{
+    match tokenizer.current() {
+        Some(b'\t' | b'\n' | b' ') => {
+            let space = space_or_tab_eol(tokenizer);
+            parts::attempt(tokenizer, space, behind, otherwise)
+        }
+        _ => Ok(State::Retry(otherwise)),
+    }
+}
+
 /// At the start of a resource: its opening parenthesis.
 ///
 ///     > | [x]( y 'z' )
@@ -93,11 +115,8 @@ pub fn resource_start(tokenizer: &mut Tokenizer) -> Result<State, AllocError>
 {
     match tokenizer.current() {
         Some(b'(') => {
-            tokenizer.enter(Name::Resource)?;
-            tokenizer.enter(Name::ResourceMarker)?;
-            tokenizer.consume();
-            tokenizer.exit(Name::ResourceMarker)?;
-            Ok(State::Next(StateName::LabelEndResourceBefore))
+            let next = StateName::LabelEndResourceBefore;
+            parts::open(tokenizer, Name::Resource, Name::ResourceMarker, next)
         }
         _ => Ok(State::Nok),
     }
@@ -111,17 +130,8 @@ pub fn resource_before(tokenizer: &mut Tokenizer) -> Result<State, AllocError>
     ensures ok { IfOk result (λ s. before_step tokenizer.old ≡ record { state = s; left = tokenizer.new }) }
     ensures err { OnErr result (IsTrue tokenizer.new.failed) }
 {
-    match tokenizer.current() {
-        Some(b'\t' | b'\n' | b' ') => {
-            let space = space_or_tab_eol(tokenizer);
-            tokenizer.attempt(
-                State::Next(StateName::LabelEndResourceOpen),
-                State::Next(StateName::LabelEndResourceOpen),
-            )?;
-            Ok(State::Retry(space))
-        }
-        _ => Ok(State::Retry(StateName::LabelEndResourceOpen)),
-    }
+    let open = StateName::LabelEndResourceOpen;
+    past_space(tokenizer, open, open)
 }
 
 /// Behind the whitespace after the opening parenthesis: at the closing one, or at a destination.
@@ -136,11 +146,12 @@ pub fn resource_open(tokenizer: &mut Tokenizer) -> Result<State, AllocError>
         Some(b')') => Ok(State::Retry(StateName::LabelEndResourceEnd)),
         _ => {
             ask_for_destination(&mut tokenizer.tokenize_state);
-            tokenizer.attempt(
-                State::Next(StateName::LabelEndResourceDestinationAfter),
-                State::Next(StateName::LabelEndResourceDestinationMissing),
-            )?;
-            Ok(State::Retry(StateName::DestinationStart))
+            parts::attempt(
+                tokenizer,
+                StateName::DestinationStart,
+                StateName::LabelEndResourceDestinationAfter,
+                StateName::LabelEndResourceDestinationMissing,
+            )
         }
     }
 }
@@ -154,17 +165,8 @@ pub fn resource_destination_after(tokenizer: &mut Tokenizer) -> Result<State, Al
     ensures err { OnErr result (IsTrue tokenizer.new.failed) }
 {
     rest_destination(&mut tokenizer.tokenize_state);
-    match tokenizer.current() {
-        Some(b'\t' | b'\n' | b' ') => {
-            let space = space_or_tab_eol(tokenizer);
-            tokenizer.attempt(
-                State::Next(StateName::LabelEndResourceBetween),
-                State::Next(StateName::LabelEndResourceEnd),
-            )?;
-            Ok(State::Retry(space))
-        }
-        _ => Ok(State::Retry(StateName::LabelEndResourceEnd)),
-    }
+    let behind = StateName::LabelEndResourceBetween;
+    past_space(tokenizer, behind, StateName::LabelEndResourceEnd)
 }
 
 /// No destination stands there, or no title where one has to stand: all names are put to rest.
@@ -219,9 +221,13 @@ pub fn resource_between(tokenizer: &mut Tokenizer) -> Result<State, AllocError>
     match tokenizer.current() {
         Some(b'"' | b'\'' | b'(') => {
             ask_for_title(&mut tokenizer.tokenize_state);
-            let missing = State::Next(StateName::LabelEndResourceDestinationMissing);
-            tokenizer.attempt(State::Next(StateName::LabelEndResourceTitleAfter), missing)?;
-            Ok(State::Retry(StateName::TitleStart))
+            let missing = StateName::LabelEndResourceDestinationMissing;
+            parts::attempt(
+                tokenizer,
+                StateName::TitleStart,
+                StateName::LabelEndResourceTitleAfter,
+                missing,
+            )
         }
         _ => Ok(State::Retry(StateName::LabelEndResourceEnd)),
     }
@@ -236,17 +242,8 @@ pub fn resource_title_after(tokenizer: &mut Tokenizer) -> Result<State, AllocErr
     ensures err { OnErr result (IsTrue tokenizer.new.failed) }
 {
     rest_title(&mut tokenizer.tokenize_state);
-    match tokenizer.current() {
-        Some(b'\t' | b'\n' | b' ') => {
-            let space = space_or_tab_eol(tokenizer);
-            tokenizer.attempt(
-                State::Next(StateName::LabelEndResourceEnd),
-                State::Next(StateName::LabelEndResourceEnd),
-            )?;
-            Ok(State::Retry(space))
-        }
-        _ => Ok(State::Retry(StateName::LabelEndResourceEnd)),
-    }
+    let end = StateName::LabelEndResourceEnd;
+    past_space(tokenizer, end, end)
 }
 
 /// At the closing parenthesis.
@@ -260,10 +257,7 @@ pub fn resource_end(tokenizer: &mut Tokenizer) -> Result<State, AllocError>
 {
     match tokenizer.current() {
         Some(b')') => {
-            tokenizer.enter(Name::ResourceMarker)?;
-            tokenizer.consume();
-            tokenizer.exit(Name::ResourceMarker)?;
-            tokenizer.exit(Name::Resource)?;
+            parts::close(tokenizer, Name::Resource, Name::ResourceMarker)?;
             Ok(State::Ok)
         }
         _ => Ok(State::Nok),
