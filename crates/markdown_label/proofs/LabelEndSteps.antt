@@ -1,13 +1,11 @@
 -- What is done behind a `]`, by what its label is.
-use Rattle.std.proofs.Common.{◌≡◌, ℕ, Bool, true, false, ◌&&◌, Option, Some, None, List, ◌∷◌, if◌then◌else◌, refl, sym, ap, ◌∙◌}
+use Rattle.std.proofs.Common.{◌≡◌, Bool, true, false, Option, Some, None, List, ◌∷◌, if◌then◌else◌, refl, sym, ap, ◌∙◌}
 use Rattle.markdown_engine.specs.Operations.{current_of, scratched}
 use Rattle.markdown_engine.specs.StateRuns.{Stepped, stepped}
 use Rattle.markdown_engine.specs.declared.state.State.TheVariants.{Retry}
 use Rattle.markdown_engine.specs.declared.state.StateName.TheVariants.{LabelEndOk}
 use Rattle.markdown_engine.specs.declared.tokenizer.LabelStart as Kept
 use Rattle.markdown_engine.specs.declared.tokenizer.Tokenizer.{Tokenizer}
-use Rattle.markdown_model.specs.LabelEnd.{is_footnote, link_identifier}
-use Rattle.markdown_model.specs.Setting.{is_defined}
 use Rattle.markdown_label.specs.LabelFields.{as_link}
 use Rattle.markdown_label.specs.LabelEnd.{identifier_between, link_as, link_tried, tail_at, after_by, after_step}
 use Rattle.markdown_label.specs.LabelSetting.{setting_in}
@@ -29,6 +27,7 @@ module _ (T N : Tokenizer) (l : Kept.LabelStart) (ls : List Kept.LabelStart) (fo
       ∙ if-found _ _ T
       ∙ sym (ap (λ xs. after_by xs T) top)
 
+  -- what follows is tried
   pub after-tries : (defined : Bool) (starts : List Kept.LabelStart) → found ≡ Some defined → starts ≡ as_link N.tokenize_state.label_starts
       → tail_at defined (current_of N) (record N { tokenize_state = record N.tokenize_state { label_starts = starts } }) ≡ after_step T
   unfolding scratched
