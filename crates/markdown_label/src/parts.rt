@@ -4,7 +4,7 @@
 #![tactic(auto, using(markdown_engine::proofs::OperationFields::law_rules), unfolding(markdown_engine::specs::Operations::attempted, markdown_engine::specs::Operations::frame_of))]
 
 ghost use Rattle.std.specs.Prelude.{◌≡◌, ◌∷◌, [], false, IfOk, OnOk, OnErr, IsTrue};
-ghost use Rattle.markdown_engine.specs.Operations.{Enter, Exit, Consume, HasCode, IsOpen, applied, attempted, done};
+ghost use Rattle.markdown_engine.specs.Operations.{Enter, Exit, Consume, HasCode, IsOpen, attempted, done};
 ghost use Rattle.markdown_engine.specs.StateRuns.{stepped};
 ghost use Rattle.markdown_engine.specs.declared.state.State.TheVariants.{Next, Retry};
 
@@ -12,18 +12,6 @@ use markdown_engine::state::{State, StateName};
 use markdown_engine::tokenizer::Tokenizer;
 use markdown_engine_content::event::Name;
 use std::alloc::AllocError;
-
-// Enters, moves past the code at the place, and exits: two events around one code.
-#[inline(always)]
-fn take(tokenizer: &mut Tokenizer, name: Name) -> Result<(), AllocError>
-    requires { HasCode tokenizer.old }
-    ensures ok { OnOk result (tokenizer.new ≡ applied (Exit name) (applied Consume (applied (Enter name) tokenizer.old))) }
-    ensures err { OnErr result (IsTrue tokenizer.new.failed) }
-{
-    tokenizer.enter(name)?;
-    tokenizer.consume();
-    tokenizer.exit(name)
-}
 
 // Enters a whole, takes the code at the place as its first marker, and goes on with a state.
 #[inline(always)]
@@ -38,7 +26,7 @@ pub(crate) fn open(
     ensures err { OnErr result (IsTrue tokenizer.new.failed) }
 {
     tokenizer.enter(whole)?;
-    take(tokenizer, marker)?;
+    tokenizer.take(marker)?;
     Ok(State::Next(next))
 }
 
@@ -50,7 +38,7 @@ pub(crate) fn close(tokenizer: &mut Tokenizer, whole: Name, marker: Name) -> Res
     ensures ok { OnOk result (tokenizer.new ≡ done (Enter marker ∷ Consume ∷ Exit marker ∷ Exit whole ∷ []) tokenizer.old) }
     ensures err { OnErr result (IsTrue tokenizer.new.failed) }
 {
-    take(tokenizer, marker)?;
+    tokenizer.take(marker)?;
     tokenizer.exit(whole)
 }
 
