@@ -15,6 +15,7 @@ use Rattle.markdown_plan.specs.Plan.{Plan, preceded, DoesAs}
 use Rattle.markdown_engine_content.specs.declared.event.Name.TheVariants as N
 use Rattle.markdown_engine.specs.declared.state.State.TheVariants.{Next, Retry, Nok}
 use Rattle.markdown_engine.specs.declared.state.State.TheVariants as State
+use Rattle.markdown_engine.specs.declared.state.State.{State as StateType}
 use Rattle.markdown_engine.specs.declared.state.StateName.TheVariants.{CharacterReferenceOpen, CharacterReferenceNumeric, CharacterReferenceValue, CharacterReferenceStart}
 use Rattle.markdown_engine.specs.declared.tokenizer.TokenizeState.{TokenizeState}
 use Rattle.markdown_engine.specs.declared.tokenizer.Tokenizer.{Tokenizer}
@@ -95,6 +96,10 @@ start_at on (Some c) T = if on && (c == byte "&") then stepped (Next CharacterRe
 
 abbrev pub start_step : Tokenizer → Stepped
 start_step T = start_at (is_on T) (current_of T) T
+
+-- the value is entered, which is of this kind, and this state follows
+abbrev pub value_begun : ℕ → StateType → Tokenizer → Stepped
+value_begun marker state T = stepped state (scratched (marked marker T.tokenize_state) (done value_start T))
 
 abbrev pub named_step : Tokenizer → Stepped
 named_step T = stepped (Retry CharacterReferenceValue) (scratched (marked (byte "&") T.tokenize_state) (done value_start T))

@@ -29,6 +29,7 @@ ghost use Rattle.markdown_plan.specs.ScratchFields.{AreOpen};
 ghost use Rattle.markdown_leaf.specs.Autolink.{scheme_value, local_value, uri_stops, uri_value, refused, finished, start_step, open_step, scheme_or_step, scheme_inside_step, url_inside_step, email_atext_step, email_at_sign_or_dot_step, in_label_at, email_value_step, email_label_step, InsideReady, FreshReady, SchemeReady, LabelReady};
 ghost use Rattle.markdown_plan.specs.StateCalls.{Steps};
 
+use crate::marks::{close, take};
 use crate::renaming::rename_entered;
 use markdown_engine::state::{State, StateName};
 use markdown_engine::tokenizer::Tokenizer;
@@ -53,11 +54,7 @@ fn finish(tokenizer: &mut Tokenizer, name: Name) -> Result<State, AllocError>
     requires code { HasCode tokenizer.old }
     ensures { Steps (finished name) tokenizer.old result tokenizer.new }
 {
-    tokenizer.exit(name)?;
-    tokenizer.enter(Name::AutolinkMarker)?;
-    tokenizer.consume();
-    tokenizer.exit(Name::AutolinkMarker)?;
-    tokenizer.exit(Name::Autolink)?;
+    close(tokenizer, name, Name::AutolinkMarker, Name::Autolink)?;
     tokenizer.tokenize_state.size = 0;
     Ok(State::Ok)
 }
@@ -71,9 +68,7 @@ pub fn start(tokenizer: &mut Tokenizer) -> Result<State, AllocError>
 {
     if tokenizer.parse_state.options.constructs.autolink && tokenizer.current() == Some(b'<') {
         tokenizer.enter(Name::Autolink)?;
-        tokenizer.enter(Name::AutolinkMarker)?;
-        tokenizer.consume();
-        tokenizer.exit(Name::AutolinkMarker)?;
+        take(tokenizer, Name::AutolinkMarker)?;
         tokenizer.enter(Name::AutolinkProtocol)?;
         Ok(State::Next(StateName::AutolinkOpen))
     } else {
@@ -125,22 +120,19 @@ pub fn scheme_inside_or_email_atext(tokenizer: &mut Tokenizer) -> Result<State, 
     ensures { Steps scheme_inside_step tokenizer.old result tokenizer.new }
 {
     let passed = tokenizer.tokenize_state.size;
-    match tokenizer.current() {
-        Some(b':') => {
-            tokenizer.consume();
-            tokenizer.tokenize_state.size = 0;
-            Ok(State::Next(StateName::AutolinkUrlInside))
-        }
+    let (size, next) = match tokenizer.current() {
+        Some(b':') => (0, StateName::AutolinkUrlInside),
         Some(code) if is_scheme(code) && passed < AUTOLINK_SCHEME_SIZE_MAX => {
-            tokenizer.consume();
-            tokenizer.tokenize_state.size = passed + 1;
-            Ok(State::Next(StateName::AutolinkSchemeInsideOrEmailAtext))
+            (passed + 1, StateName::AutolinkSchemeInsideOrEmailAtext)
         }
         _ => {
             tokenizer.tokenize_state.size = 0;
-            Ok(State::Retry(StateName::AutolinkEmailAtext))
+            return Ok(State::Retry(StateName::AutolinkEmailAtext));
         }
-    }
+    };
+    tokenizer.consume();
+    tokenizer.tokenize_state.size = size;
+    Ok(State::Next(next))
 }
 
 /// After the colon of a URI.
@@ -176,17 +168,13 @@ pub fn email_atext(tokenizer: &mut Tokenizer) -> Result<State, AllocError>
     requires { FreshReady tokenizer.old }
     ensures { Steps email_atext_step tokenizer.old result tokenizer.new }
 {
-    match tokenizer.current() {
-        Some(b'@') => {
-            tokenizer.consume();
-            Ok(State::Next(StateName::AutolinkEmailAtSignOrDot))
-        }
-        Some(code) if is_local(code) => {
-            tokenizer.consume();
-            Ok(State::Next(StateName::AutolinkEmailAtext))
-        }
-        _ => Ok(refuse(tokenizer)),
-    }
+    let next = match tokenizer.current() {
+        Some(b'@') => StateName::AutolinkEmailAtSignOrDot,
+        Some(code) if is_local(code) => StateName::AutolinkEmailAtext,
+        _ => return Ok(refuse(tokenizer)),
+    };
+    tokenizer.consume();
+    Ok(State::Next(next))
 }
 
 /// After the `@` or a dot: a label, which starts with a letter or a digit.
@@ -209,19 +197,16 @@ fn in_label(tokenizer: &mut Tokenizer) -> State
     ensures { in_label_at (current_of tokenizer.old) tokenizer.old ≡ record { state = result; left = tokenizer.new } }
 {
     let size = tokenizer.tokenize_state.size;
-    match tokenizer.current() {
+    let next = match tokenizer.current() {
         Some(code) if size < AUTOLINK_DOMAIN_SIZE_MAX && is_alphanumeric(code) => {
-            tokenizer.consume();
-            tokenizer.tokenize_state.size = size + 1;
-            State::Next(StateName::AutolinkEmailLabel)
+            StateName::AutolinkEmailLabel
         }
-        Some(b'-') if size < AUTOLINK_DOMAIN_SIZE_MAX => {
-            tokenizer.consume();
-            tokenizer.tokenize_state.size = size + 1;
-            State::Next(StateName::AutolinkEmailValue)
-        }
-        _ => refuse(tokenizer),
-    }
+        Some(b'-') if size < AUTOLINK_DOMAIN_SIZE_MAX => StateName::AutolinkEmailValue,
+        _ => return refuse(tokenizer),
+    };
+    tokenizer.consume();
+    tokenizer.tokenize_state.size = size + 1;
+    State::Next(next)
 }
 
 /// In a label, after a letter or a digit: the label may end.

@@ -24,9 +24,10 @@
 ghost use Rattle.std.specs.Prelude.{◌≡◌, ◌<◌, IsTrue};
 ghost use Rattle.markdown_engine.specs.Operations.{scratched};
 ghost use Rattle.markdown_util.specs.Reference.{html_5_rows, IsMarker, value_size_max};
-ghost use Rattle.markdown_leaf.specs.CharacterReference.{has_value, is_known, IsValue, is_taken, read_of, rested, start_step, open_step, numeric_step, value_step};
+ghost use Rattle.markdown_leaf.specs.CharacterReference.{has_value, is_known, IsValue, is_taken, value_begun, read_of, rested, start_step, open_step, numeric_step, value_step};
 ghost use Rattle.markdown_plan.specs.StateCalls.{Steps};
 
+use crate::marks::{close, take};
 use markdown_engine::state::{State, StateName};
 use markdown_engine::tokenizer::Tokenizer;
 use markdown_engine_content::event::Name;
@@ -46,13 +47,20 @@ pub fn start(tokenizer: &mut Tokenizer) -> Result<State, AllocError>
         && tokenizer.current() == Some(b'&')
     {
         tokenizer.enter(Name::CharacterReference)?;
-        tokenizer.enter(Name::CharacterReferenceMarker)?;
-        tokenizer.consume();
-        tokenizer.exit(Name::CharacterReferenceMarker)?;
+        take(tokenizer, Name::CharacterReferenceMarker)?;
         Ok(State::Next(StateName::CharacterReferenceOpen))
     } else {
         Ok(State::Nok)
     }
+}
+
+// Enters the value, which is of this kind, and goes on with this state.
+fn begin_value(tokenizer: &mut Tokenizer, marker: u8, state: State) -> Result<State, AllocError>
+    ensures { Steps (value_begun marker state) tokenizer.old result tokenizer.new }
+{
+    tokenizer.enter(Name::CharacterReferenceValue)?;
+    tokenizer.tokenize_state.marker = marker;
+    Ok(state)
 }
 
 /// After the `&`: a `#`, or the first letter or digit of a name.
@@ -63,14 +71,14 @@ pub fn open(tokenizer: &mut Tokenizer) -> Result<State, AllocError>
     ensures { Steps open_step tokenizer.old result tokenizer.new }
 {
     if tokenizer.current() == Some(b'#') {
-        tokenizer.enter(Name::CharacterReferenceMarkerNumeric)?;
-        tokenizer.consume();
-        tokenizer.exit(Name::CharacterReferenceMarkerNumeric)?;
+        take(tokenizer, Name::CharacterReferenceMarkerNumeric)?;
         Ok(State::Next(StateName::CharacterReferenceNumeric))
     } else {
-        tokenizer.enter(Name::CharacterReferenceValue)?;
-        tokenizer.tokenize_state.marker = b'&';
-        Ok(State::Retry(StateName::CharacterReferenceValue))
+        begin_value(
+            tokenizer,
+            b'&',
+            State::Retry(StateName::CharacterReferenceValue),
+        )
     }
 }
 
@@ -82,16 +90,18 @@ pub fn numeric(tokenizer: &mut Tokenizer) -> Result<State, AllocError>
     ensures { Steps numeric_step tokenizer.old result tokenizer.new }
 {
     if let Some(b'x' | b'X') = tokenizer.current() {
-        tokenizer.enter(Name::CharacterReferenceMarkerHexadecimal)?;
-        tokenizer.consume();
-        tokenizer.exit(Name::CharacterReferenceMarkerHexadecimal)?;
-        tokenizer.enter(Name::CharacterReferenceValue)?;
-        tokenizer.tokenize_state.marker = b'x';
-        Ok(State::Next(StateName::CharacterReferenceValue))
+        take(tokenizer, Name::CharacterReferenceMarkerHexadecimal)?;
+        begin_value(
+            tokenizer,
+            b'x',
+            State::Next(StateName::CharacterReferenceValue),
+        )
     } else {
-        tokenizer.enter(Name::CharacterReferenceValue)?;
-        tokenizer.tokenize_state.marker = b'#';
-        Ok(State::Retry(StateName::CharacterReferenceValue))
+        begin_value(
+            tokenizer,
+            b'#',
+            State::Retry(StateName::CharacterReferenceValue),
+        )
     }
 }
 
@@ -105,25 +115,26 @@ pub fn value(tokenizer: &mut Tokenizer) -> Result<State, AllocError>
 {
     let marker = tokenizer.tokenize_state.marker;
     let size = tokenizer.tokenize_state.size;
-    let Some(byte) = tokenizer.current() else {
-        put_to_rest(tokenizer);
-        return Ok(State::Nok);
-    };
-    if byte == b';' && size > 0 && is_known(tokenizer) {
-        tokenizer.exit(Name::CharacterReferenceValue)?;
-        tokenizer.enter(Name::CharacterReferenceMarkerSemi)?;
-        tokenizer.consume();
-        tokenizer.exit(Name::CharacterReferenceMarkerSemi)?;
-        tokenizer.exit(Name::CharacterReference)?;
-        put_to_rest(tokenizer);
-        Ok(State::Ok)
-    } else if takes(marker, size, byte) {
-        tokenizer.consume();
-        tokenizer.tokenize_state.size = size + 1;
-        Ok(State::Next(StateName::CharacterReferenceValue))
-    } else {
-        put_to_rest(tokenizer);
-        Ok(State::Nok)
+    match tokenizer.current() {
+        Some(b';') if size > 0 && is_known(tokenizer) => {
+            close(
+                tokenizer,
+                Name::CharacterReferenceValue,
+                Name::CharacterReferenceMarkerSemi,
+                Name::CharacterReference,
+            )?;
+            put_to_rest(tokenizer);
+            Ok(State::Ok)
+        }
+        Some(byte) if takes(marker, size, byte) => {
+            tokenizer.consume();
+            tokenizer.tokenize_state.size = size + 1;
+            Ok(State::Next(StateName::CharacterReferenceValue))
+        }
+        _ => {
+            put_to_rest(tokenizer);
+            Ok(State::Nok)
+        }
     }
 }
 

@@ -5,5 +5,6 @@ pub mod autolink;
 pub mod character_escape;
 pub mod character_reference;
 pub mod hard_break_escape;
+mod marks;
 pub mod raw_text;
 mod renaming;

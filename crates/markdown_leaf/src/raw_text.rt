@@ -28,6 +28,7 @@ ghost use Rattle.markdown_leaf.specs.RawText.{start_step, sequence_open_step, be
 ghost use Rattle.markdown_model.specs.SingleConstructs.{ends_escape, follows_escape};
 ghost use Rattle.markdown_plan.specs.StateCalls.{Steps};
 
+use crate::marks::take;
 use crate::renaming::rename_entered;
 use markdown_engine::state::{State, StateName};
 use markdown_engine::tokenizer::{TokenizeState, Tokenizer};
@@ -171,18 +172,18 @@ pub fn between(tokenizer: &mut Tokenizer) -> Result<State, AllocError>
             Ok(State::Nok)
         }
         Some(b'\n') => {
-            tokenizer.enter(Name::LineEnding)?;
-            tokenizer.consume();
-            tokenizer.exit(Name::LineEnding)?;
+            take(tokenizer, Name::LineEnding)?;
             Ok(State::Next(StateName::RawTextBetween))
         }
-        Some(code) if code == tokenizer.tokenize_state.marker => {
-            tokenizer.enter(tokenizer.tokenize_state.token_2)?;
-            Ok(State::Retry(StateName::RawTextSequenceClose))
-        }
-        Some(_) => {
-            tokenizer.enter(tokenizer.tokenize_state.token_3)?;
-            Ok(State::Retry(StateName::RawTextData))
+        Some(code) => {
+            let fields = &tokenizer.tokenize_state;
+            let (part, state) = if code == fields.marker {
+                (fields.token_2, StateName::RawTextSequenceClose)
+            } else {
+                (fields.token_3, StateName::RawTextData)
+            };
+            tokenizer.enter(part)?;
+            Ok(State::Retry(state))
         }
     }
 }

@@ -1,0 +1,40 @@
+// Markers: events around one code.
+#![tactic(auto, using(markdown_engine::proofs::OperationFields::op_rules))]
+
+ghost use Rattle.std.specs.Prelude.{◌≡◌, OnOk, OnErr, IsTrue};
+ghost use Rattle.markdown_engine.specs.Operations.{applied, Enter, Exit, Consume, HasCode};
+ghost use Rattle.markdown_plan.specs.ScratchFields.{AreOpen};
+
+use markdown_engine::tokenizer::Tokenizer;
+use markdown_engine_content::event::Name;
+use std::alloc::AllocError;
+
+// Enters, moves past the code at the place, and exits.
+//
+// Here and below, the error comes where a growth is refused; then `failed` is true.
+pub(crate) fn take(tokenizer: &mut Tokenizer, name: Name) -> Result<(), AllocError>
+    requires { HasCode tokenizer.old }
+    ensures ok { OnOk result (tokenizer.new ≡ applied (Exit name) (applied Consume (applied (Enter name) tokenizer.old))) }
+    ensures err { OnErr result (IsTrue tokenizer.new.failed) }
+{
+    tokenizer.enter(name)?;
+    tokenizer.consume();
+    tokenizer.exit(name)
+}
+
+// Exits what stands in the whole, takes the marker that ends it, and exits the whole.
+pub(crate) fn close(
+    tokenizer: &mut Tokenizer,
+    inner: Name,
+    marker: Name,
+    whole: Name,
+) -> Result<(), AllocError>
+    requires open { AreOpen inner whole tokenizer.old }
+    requires code { HasCode tokenizer.old }
+    ensures ok { OnOk result (tokenizer.new ≡ applied (Exit whole) (applied (Exit marker) (applied Consume (applied (Enter marker) (applied (Exit inner) tokenizer.old))))) }
+    ensures err { OnErr result (IsTrue tokenizer.new.failed) }
+{
+    tokenizer.exit(inner)?;
+    take(tokenizer, marker)?;
+    tokenizer.exit(whole)
+}
