@@ -23,10 +23,10 @@
 // Each state answers the error where a growth is refused; then `failed` is true.
 #![tactic(auto, using(markdown_engine::proofs::OperationFields::law_rules), unfolding(markdown_engine::specs::Operations::scratched, markdown_engine::specs::Operations::attempted, markdown_engine::specs::Operations::frame_of))]
 
-ghost use Rattle.std.specs.Prelude.{◌≡◌, ◌<◌, Some, IfOk, OnErr, IsTrue};
+ghost use Rattle.std.specs.Prelude.{◌≡◌, ◌<◌, Some, IfOk, OnOk, OnErr, IsTrue};
 ghost use Rattle.std.specs.Str.{byte};
 ghost use Rattle.markdown_engine_content.specs.Place.{code_at, moved};
-ghost use Rattle.markdown_engine.specs.Operations.{HasCode, current_of};
+ghost use Rattle.markdown_engine.specs.Operations.{HasCode, current_of, applied, Enter, Exit, Consume};
 ghost use Rattle.markdown_engine_content.specs.declared.event.Name.TheVariants.{HtmlText, HtmlTextData};
 ghost use Rattle.markdown_plan.specs.ScratchFields.{AreOpen};
 ghost use Rattle.markdown_leaf_html.specs.HtmlByteTests.{name_value, attribute_first_value, attribute_rest_value, after_value};
@@ -77,13 +77,16 @@ fn is_after_value(code: u8) -> bool
 pub fn stop_bytes(name: StateName, fields: &TokenizeState) -> Option<ByteSet>
     ensures { result ≡ stops_in name fields.now }
 {
-    match (name, fields.marker) {
-        (StateName::HtmlTextComment, _) => Some(byte_set!(b'-')),
-        (StateName::HtmlTextCdata, _) => Some(byte_set!(b']')),
-        (StateName::HtmlTextDeclaration, _) => Some(byte_set!(b'>')),
-        (StateName::HtmlTextInstruction, _) => Some(byte_set!(b'?')),
-        (StateName::HtmlTextTagOpenAttributeValueQuoted, b'"') => Some(byte_set!(b'"')),
-        (StateName::HtmlTextTagOpenAttributeValueQuoted, b'\'') => Some(byte_set!(b'\'')),
+    match name {
+        StateName::HtmlTextComment => Some(byte_set!(b'-')),
+        StateName::HtmlTextCdata => Some(byte_set!(b']')),
+        StateName::HtmlTextDeclaration => Some(byte_set!(b'>')),
+        StateName::HtmlTextInstruction => Some(byte_set!(b'?')),
+        StateName::HtmlTextTagOpenAttributeValueQuoted => match fields.marker {
+            b'"' => Some(byte_set!(b'"')),
+            b'\'' => Some(byte_set!(b'\'')),
+            _ => None,
+        },
         _ => None,
     }
 }
@@ -138,15 +141,24 @@ fn break_line(tokenizer: &mut Tokenizer, state: StateName) -> Result<State, Allo
     Ok(State::Retry(StateName::HtmlTextLineEndingBefore))
 }
 
+// Enters, moves past the code at the place, and exits.
+fn take(tokenizer: &mut Tokenizer, name: Name) -> Result<(), AllocError>
+    requires { HasCode tokenizer.old }
+    ensures ok { OnOk result (tokenizer.new ≡ applied (Exit name) (applied Consume (applied (Enter name) tokenizer.old))) }
+    ensures err { OnErr result (IsTrue tokenizer.new.failed) }
+{
+    tokenizer.enter(name)?;
+    tokenizer.consume();
+    tokenizer.exit(name)
+}
+
 // Passes the line ending at hand.
 fn pass_line_ending(tokenizer: &mut Tokenizer) -> Result<State, AllocError>
     requires { HasCode tokenizer.old }
     ensures ok { IfOk result (λ s. ending_passed tokenizer.old ≡ record { state = s; left = tokenizer.new }) }
     ensures err { OnErr result (IsTrue tokenizer.new.failed) }
 {
-    tokenizer.enter(Name::LineEnding)?;
-    tokenizer.consume();
-    tokenizer.exit(Name::LineEnding)?;
+    take(tokenizer, Name::LineEnding)?;
     Ok(State::Next(StateName::HtmlTextLineEndingAfter))
 }
 
@@ -176,25 +188,15 @@ pub fn open(tokenizer: &mut Tokenizer) -> Result<State, AllocError>
     ensures ok { IfOk result (λ s. open_step tokenizer.old ≡ record { state = s; left = tokenizer.new }) }
     ensures err { OnErr result (IsTrue tokenizer.new.failed) }
 {
-    match tokenizer.current() {
-        Some(b'!') => {
-            tokenizer.consume();
-            Ok(State::Next(StateName::HtmlTextDeclarationOpen))
-        }
-        Some(b'/') => {
-            tokenizer.consume();
-            Ok(State::Next(StateName::HtmlTextTagCloseStart))
-        }
-        Some(b'?') => {
-            tokenizer.consume();
-            Ok(State::Next(StateName::HtmlTextInstruction))
-        }
-        Some(code) if is_letter(code) => {
-            tokenizer.consume();
-            Ok(State::Next(StateName::HtmlTextTagOpen))
-        }
-        _ => Ok(State::Nok),
-    }
+    let next = match tokenizer.current() {
+        Some(b'!') => StateName::HtmlTextDeclarationOpen,
+        Some(b'/') => StateName::HtmlTextTagCloseStart,
+        Some(b'?') => StateName::HtmlTextInstruction,
+        Some(code) if is_letter(code) => StateName::HtmlTextTagOpen,
+        _ => return Ok(State::Nok),
+    };
+    tokenizer.consume();
+    Ok(State::Next(next))
 }
 
 /// After `<!`: a comment, a declaration or a CDATA section.
@@ -205,21 +207,14 @@ pub fn declaration_open(tokenizer: &mut Tokenizer) -> Result<State, AllocError>
     ensures ok { IfOk result (λ s. declaration_open_step tokenizer.old ≡ record { state = s; left = tokenizer.new }) }
     ensures err { OnErr result (IsTrue tokenizer.new.failed) }
 {
-    match tokenizer.current() {
-        Some(b'-') => {
-            tokenizer.consume();
-            Ok(State::Next(StateName::HtmlTextCommentOpenInside))
-        }
-        Some(code) if is_letter(code) => {
-            tokenizer.consume();
-            Ok(State::Next(StateName::HtmlTextDeclaration))
-        }
-        Some(b'[') => {
-            tokenizer.consume();
-            Ok(State::Next(StateName::HtmlTextCdataOpenInside))
-        }
-        _ => Ok(State::Nok),
-    }
+    let next = match tokenizer.current() {
+        Some(b'-') => StateName::HtmlTextCommentOpenInside,
+        Some(code) if is_letter(code) => StateName::HtmlTextDeclaration,
+        Some(b'[') => StateName::HtmlTextCdataOpenInside,
+        _ => return Ok(State::Nok),
+    };
+    tokenizer.consume();
+    Ok(State::Next(next))
 }
 
 /// After `<!-`: another hyphen.
@@ -246,18 +241,14 @@ pub fn comment(tokenizer: &mut Tokenizer) -> Result<State, AllocError>
     ensures ok { IfOk result (λ s. comment_step tokenizer.old ≡ record { state = s; left = tokenizer.new }) }
     ensures err { OnErr result (IsTrue tokenizer.new.failed) }
 {
-    match tokenizer.current() {
-        None => Ok(State::Nok),
-        Some(b'\n') => break_line(tokenizer, StateName::HtmlTextComment),
-        Some(b'-') => {
-            tokenizer.consume();
-            Ok(State::Next(StateName::HtmlTextCommentClose))
-        }
-        Some(_) => {
-            tokenizer.consume();
-            Ok(State::Next(StateName::HtmlTextComment))
-        }
-    }
+    let next = match tokenizer.current() {
+        None => return Ok(State::Nok),
+        Some(b'\n') => return break_line(tokenizer, StateName::HtmlTextComment),
+        Some(b'-') => StateName::HtmlTextCommentClose,
+        Some(_) => StateName::HtmlTextComment,
+    };
+    tokenizer.consume();
+    Ok(State::Next(next))
 }
 
 /// In a comment, after a hyphen.
@@ -322,18 +313,14 @@ pub fn cdata(tokenizer: &mut Tokenizer) -> Result<State, AllocError>
     ensures ok { IfOk result (λ s. cdata_step tokenizer.old ≡ record { state = s; left = tokenizer.new }) }
     ensures err { OnErr result (IsTrue tokenizer.new.failed) }
 {
-    match tokenizer.current() {
-        None => Ok(State::Nok),
-        Some(b'\n') => break_line(tokenizer, StateName::HtmlTextCdata),
-        Some(b']') => {
-            tokenizer.consume();
-            Ok(State::Next(StateName::HtmlTextCdataClose))
-        }
-        Some(_) => {
-            tokenizer.consume();
-            Ok(State::Next(StateName::HtmlTextCdata))
-        }
-    }
+    let next = match tokenizer.current() {
+        None => return Ok(State::Nok),
+        Some(b'\n') => return break_line(tokenizer, StateName::HtmlTextCdata),
+        Some(b']') => StateName::HtmlTextCdataClose,
+        Some(_) => StateName::HtmlTextCdata,
+    };
+    tokenizer.consume();
+    Ok(State::Next(next))
 }
 
 /// In a CDATA section, after `]`.
@@ -392,18 +379,14 @@ pub fn instruction(tokenizer: &mut Tokenizer) -> Result<State, AllocError>
     ensures ok { IfOk result (λ s. instruction_step tokenizer.old ≡ record { state = s; left = tokenizer.new }) }
     ensures err { OnErr result (IsTrue tokenizer.new.failed) }
 {
-    match tokenizer.current() {
-        None => Ok(State::Nok),
-        Some(b'\n') => break_line(tokenizer, StateName::HtmlTextInstruction),
-        Some(b'?') => {
-            tokenizer.consume();
-            Ok(State::Next(StateName::HtmlTextInstructionClose))
-        }
-        Some(_) => {
-            tokenizer.consume();
-            Ok(State::Next(StateName::HtmlTextInstruction))
-        }
-    }
+    let next = match tokenizer.current() {
+        None => return Ok(State::Nok),
+        Some(b'\n') => return break_line(tokenizer, StateName::HtmlTextInstruction),
+        Some(b'?') => StateName::HtmlTextInstructionClose,
+        Some(_) => StateName::HtmlTextInstruction,
+    };
+    tokenizer.consume();
+    Ok(State::Next(next))
 }
 
 /// In an instruction, after `?`.
@@ -499,22 +482,15 @@ pub fn tag_open_between(tokenizer: &mut Tokenizer) -> Result<State, AllocError>
     ensures ok { IfOk result (λ s. tag_open_between_step tokenizer.old ≡ record { state = s; left = tokenizer.new }) }
     ensures err { OnErr result (IsTrue tokenizer.new.failed) }
 {
-    match tokenizer.current() {
-        Some(b'\n') => break_line(tokenizer, StateName::HtmlTextTagOpenBetween),
-        Some(b' ' | b'\t') => {
-            tokenizer.consume();
-            Ok(State::Next(StateName::HtmlTextTagOpenBetween))
-        }
-        Some(b'/') => {
-            tokenizer.consume();
-            Ok(State::Next(StateName::HtmlTextEnd))
-        }
-        Some(code) if is_attribute_first(code) => {
-            tokenizer.consume();
-            Ok(State::Next(StateName::HtmlTextTagOpenAttributeName))
-        }
-        _ => Ok(State::Retry(StateName::HtmlTextEnd)),
-    }
+    let next = match tokenizer.current() {
+        Some(b'\n') => return break_line(tokenizer, StateName::HtmlTextTagOpenBetween),
+        Some(b' ' | b'\t') => StateName::HtmlTextTagOpenBetween,
+        Some(b'/') => StateName::HtmlTextEnd,
+        Some(code) if is_attribute_first(code) => StateName::HtmlTextTagOpenAttributeName,
+        _ => return Ok(State::Retry(StateName::HtmlTextEnd)),
+    };
+    tokenizer.consume();
+    Ok(State::Next(next))
 }
 
 /// In the name of an attribute.
@@ -542,18 +518,14 @@ pub fn tag_open_attribute_name_after(tokenizer: &mut Tokenizer) -> Result<State,
     ensures ok { IfOk result (λ s. tag_open_attribute_name_after_step tokenizer.old ≡ record { state = s; left = tokenizer.new }) }
     ensures err { OnErr result (IsTrue tokenizer.new.failed) }
 {
-    match tokenizer.current() {
-        Some(b'\n') => break_line(tokenizer, StateName::HtmlTextTagOpenAttributeNameAfter),
-        Some(b' ' | b'\t') => {
-            tokenizer.consume();
-            Ok(State::Next(StateName::HtmlTextTagOpenAttributeNameAfter))
-        }
-        Some(b'=') => {
-            tokenizer.consume();
-            Ok(State::Next(StateName::HtmlTextTagOpenAttributeValueBefore))
-        }
-        _ => Ok(State::Retry(StateName::HtmlTextTagOpenBetween)),
-    }
+    let next = match tokenizer.current() {
+        Some(b'\n') => return break_line(tokenizer, StateName::HtmlTextTagOpenAttributeNameAfter),
+        Some(b' ' | b'\t') => StateName::HtmlTextTagOpenAttributeNameAfter,
+        Some(b'=') => StateName::HtmlTextTagOpenAttributeValueBefore,
+        _ => return Ok(State::Retry(StateName::HtmlTextTagOpenBetween)),
+    };
+    tokenizer.consume();
+    Ok(State::Next(next))
 }
 
 /// Before the value of an attribute, after its `=`.
@@ -564,23 +536,21 @@ pub fn tag_open_attribute_value_before(tokenizer: &mut Tokenizer) -> Result<Stat
     ensures ok { IfOk result (λ s. tag_open_attribute_value_before_step tokenizer.old ≡ record { state = s; left = tokenizer.new }) }
     ensures err { OnErr result (IsTrue tokenizer.new.failed) }
 {
-    match tokenizer.current() {
-        None | Some(b'<' | b'=' | b'>' | b'`') => Ok(State::Nok),
-        Some(b'\n') => break_line(tokenizer, StateName::HtmlTextTagOpenAttributeValueBefore),
-        Some(b' ' | b'\t') => {
-            tokenizer.consume();
-            Ok(State::Next(StateName::HtmlTextTagOpenAttributeValueBefore))
+    let next = match tokenizer.current() {
+        None | Some(b'<' | b'=' | b'>' | b'`') => return Ok(State::Nok),
+        Some(b'\n') => {
+            return break_line(tokenizer, StateName::HtmlTextTagOpenAttributeValueBefore);
         }
         Some(code @ (b'"' | b'\'')) => {
             tokenizer.consume();
             tokenizer.tokenize_state.marker = code;
-            Ok(State::Next(StateName::HtmlTextTagOpenAttributeValueQuoted))
+            return Ok(State::Next(StateName::HtmlTextTagOpenAttributeValueQuoted));
         }
-        Some(_) => {
-            tokenizer.consume();
-            Ok(State::Next(StateName::HtmlTextTagOpenAttributeValueUnquoted))
-        }
-    }
+        Some(b' ' | b'\t') => StateName::HtmlTextTagOpenAttributeValueBefore,
+        Some(_) => StateName::HtmlTextTagOpenAttributeValueUnquoted,
+    };
+    tokenizer.consume();
+    Ok(State::Next(next))
 }
 
 /// In a quoted value.
