@@ -29,7 +29,7 @@ ghost use Rattle.markdown_plan.specs.ScratchFields.{AreOpen};
 ghost use Rattle.markdown_leaf.specs.Autolink.{scheme_value, local_value, uri_stops, uri_value, refused, finished, start_step, open_step, scheme_or_step, scheme_inside_step, url_inside_step, email_atext_step, email_at_sign_or_dot_step, in_label_at, email_value_step, email_label_step, InsideReady, FreshReady, SchemeReady, LabelReady};
 ghost use Rattle.markdown_plan.specs.StateCalls.{Steps};
 
-use crate::marks::{close, take};
+use crate::marks::close;
 use crate::renaming::rename_entered;
 use markdown_engine::state::{State, StateName};
 use markdown_engine::tokenizer::Tokenizer;
@@ -68,7 +68,7 @@ pub fn start(tokenizer: &mut Tokenizer) -> Result<State, AllocError>
 {
     if tokenizer.parse_state.options.constructs.autolink && tokenizer.current() == Some(b'<') {
         tokenizer.enter(Name::Autolink)?;
-        take(tokenizer, Name::AutolinkMarker)?;
+        tokenizer.take(Name::AutolinkMarker)?;
         tokenizer.enter(Name::AutolinkProtocol)?;
         Ok(State::Next(StateName::AutolinkOpen))
     } else {

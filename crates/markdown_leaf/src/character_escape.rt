@@ -22,7 +22,6 @@ ghost use Rattle.markdown_engine_content.specs.declared.event.Name.TheVariants.{
 ghost use Rattle.markdown_leaf.specs.CharacterEscape.{start_step, inside_step};
 ghost use Rattle.markdown_plan.specs.StateCalls.{Steps};
 
-use crate::marks::take;
 use markdown_engine::state::{State, StateName};
 use markdown_engine::tokenizer::Tokenizer;
 use markdown_engine_content::event::Name;
@@ -39,7 +38,7 @@ pub fn start(tokenizer: &mut Tokenizer) -> Result<State, AllocError>
         && tokenizer.current() == Some(b'\\')
     {
         tokenizer.enter(Name::CharacterEscape)?;
-        take(tokenizer, Name::CharacterEscapeMarker)?;
+        tokenizer.take(Name::CharacterEscapeMarker)?;
         Ok(State::Next(StateName::CharacterEscapeInside))
     } else {
         Ok(State::Nok)
@@ -56,7 +55,7 @@ pub fn inside(tokenizer: &mut Tokenizer) -> Result<State, AllocError>
 {
     match tokenizer.current() {
         Some(b'!'..=b'/' | b':'..=b'@' | b'['..=b'`' | b'{'..=b'~') => {
-            take(tokenizer, Name::CharacterEscapeValue)?;
+            tokenizer.take(Name::CharacterEscapeValue)?;
             tokenizer.exit(Name::CharacterEscape)?;
             Ok(State::Ok)
         }

@@ -27,7 +27,7 @@ ghost use Rattle.markdown_util.specs.Reference.{html_5_rows, IsMarker, value_siz
 ghost use Rattle.markdown_leaf.specs.CharacterReference.{has_value, is_known, IsValue, is_taken, value_begun, read_of, rested, start_step, open_step, numeric_step, value_step};
 ghost use Rattle.markdown_plan.specs.StateCalls.{Steps};
 
-use crate::marks::{close, take};
+use crate::marks::close;
 use markdown_engine::state::{State, StateName};
 use markdown_engine::tokenizer::Tokenizer;
 use markdown_engine_content::event::Name;
@@ -47,7 +47,7 @@ pub fn start(tokenizer: &mut Tokenizer) -> Result<State, AllocError>
         && tokenizer.current() == Some(b'&')
     {
         tokenizer.enter(Name::CharacterReference)?;
-        take(tokenizer, Name::CharacterReferenceMarker)?;
+        tokenizer.take(Name::CharacterReferenceMarker)?;
         Ok(State::Next(StateName::CharacterReferenceOpen))
     } else {
         Ok(State::Nok)
@@ -71,7 +71,7 @@ pub fn open(tokenizer: &mut Tokenizer) -> Result<State, AllocError>
     ensures { Steps open_step tokenizer.old result tokenizer.new }
 {
     if tokenizer.current() == Some(b'#') {
-        take(tokenizer, Name::CharacterReferenceMarkerNumeric)?;
+        tokenizer.take(Name::CharacterReferenceMarkerNumeric)?;
         Ok(State::Next(StateName::CharacterReferenceNumeric))
     } else {
         begin_value(
@@ -90,7 +90,7 @@ pub fn numeric(tokenizer: &mut Tokenizer) -> Result<State, AllocError>
     ensures { Steps numeric_step tokenizer.old result tokenizer.new }
 {
     if let Some(b'x' | b'X') = tokenizer.current() {
-        take(tokenizer, Name::CharacterReferenceMarkerHexadecimal)?;
+        tokenizer.take(Name::CharacterReferenceMarkerHexadecimal)?;
         begin_value(
             tokenizer,
             b'x',

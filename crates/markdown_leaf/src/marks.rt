@@ -1,4 +1,4 @@
-// Markers: events around one code.
+// Leaves that a marker ends.
 #![tactic(auto, using(markdown_engine::proofs::OperationFields::op_rules))]
 
 ghost use Rattle.std.specs.Prelude.{◌≡◌, OnOk, OnErr, IsTrue};
@@ -9,20 +9,9 @@ use markdown_engine::tokenizer::Tokenizer;
 use markdown_engine_content::event::Name;
 use std::alloc::AllocError;
 
-// Enters, moves past the code at the place, and exits.
-//
-// Here and below, the error comes where a growth is refused; then `failed` is true.
-pub(crate) fn take(tokenizer: &mut Tokenizer, name: Name) -> Result<(), AllocError>
-    requires { HasCode tokenizer.old }
-    ensures ok { OnOk result (tokenizer.new ≡ applied (Exit name) (applied Consume (applied (Enter name) tokenizer.old))) }
-    ensures err { OnErr result (IsTrue tokenizer.new.failed) }
-{
-    tokenizer.enter(name)?;
-    tokenizer.consume();
-    tokenizer.exit(name)
-}
-
 // Exits what stands in the whole, takes the marker that ends it, and exits the whole.
+//
+// The error comes where a growth is refused; then `failed` is true.
 pub(crate) fn close(
     tokenizer: &mut Tokenizer,
     inner: Name,
@@ -35,6 +24,6 @@ pub(crate) fn close(
     ensures err { OnErr result (IsTrue tokenizer.new.failed) }
 {
     tokenizer.exit(inner)?;
-    take(tokenizer, marker)?;
+    tokenizer.take(marker)?;
     tokenizer.exit(whole)
 }

@@ -28,7 +28,6 @@ ghost use Rattle.markdown_leaf.specs.RawText.{start_step, sequence_open_step, be
 ghost use Rattle.markdown_model.specs.SingleConstructs.{ends_escape, follows_escape};
 ghost use Rattle.markdown_plan.specs.StateCalls.{Steps};
 
-use crate::marks::take;
 use crate::renaming::rename_entered;
 use markdown_engine::state::{State, StateName};
 use markdown_engine::tokenizer::{TokenizeState, Tokenizer};
@@ -172,7 +171,7 @@ pub fn between(tokenizer: &mut Tokenizer) -> Result<State, AllocError>
             Ok(State::Nok)
         }
         Some(b'\n') => {
-            take(tokenizer, Name::LineEnding)?;
+            tokenizer.take(Name::LineEnding)?;
             Ok(State::Next(StateName::RawTextBetween))
         }
         Some(code) => {

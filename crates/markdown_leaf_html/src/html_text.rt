@@ -23,10 +23,10 @@
 // Each state answers the error where a growth is refused; then `failed` is true.
 #![tactic(auto, using(markdown_engine::proofs::OperationFields::law_rules), unfolding(markdown_engine::specs::Operations::scratched, markdown_engine::specs::Operations::attempted, markdown_engine::specs::Operations::frame_of))]
 
-ghost use Rattle.std.specs.Prelude.{◌≡◌, ◌<◌, Some, IfOk, OnOk, OnErr, IsTrue};
+ghost use Rattle.std.specs.Prelude.{◌≡◌, ◌<◌, Some, IfOk, OnErr, IsTrue};
 ghost use Rattle.std.specs.Str.{byte};
 ghost use Rattle.markdown_engine_content.specs.Place.{code_at, moved};
-ghost use Rattle.markdown_engine.specs.Operations.{HasCode, current_of, applied, Enter, Exit, Consume};
+ghost use Rattle.markdown_engine.specs.Operations.{HasCode, current_of};
 ghost use Rattle.markdown_engine_content.specs.declared.event.Name.TheVariants.{HtmlText, HtmlTextData};
 ghost use Rattle.markdown_plan.specs.ScratchFields.{AreOpen};
 ghost use Rattle.markdown_leaf_html.specs.HtmlByteTests.{name_value, attribute_first_value, attribute_rest_value, after_value};
@@ -141,24 +141,13 @@ fn break_line(tokenizer: &mut Tokenizer, state: StateName) -> Result<State, Allo
     Ok(State::Retry(StateName::HtmlTextLineEndingBefore))
 }
 
-// Enters, moves past the code at the place, and exits.
-fn take(tokenizer: &mut Tokenizer, name: Name) -> Result<(), AllocError>
-    requires { HasCode tokenizer.old }
-    ensures ok { OnOk result (tokenizer.new ≡ applied (Exit name) (applied Consume (applied (Enter name) tokenizer.old))) }
-    ensures err { OnErr result (IsTrue tokenizer.new.failed) }
-{
-    tokenizer.enter(name)?;
-    tokenizer.consume();
-    tokenizer.exit(name)
-}
-
 // Passes the line ending at hand.
 fn pass_line_ending(tokenizer: &mut Tokenizer) -> Result<State, AllocError>
     requires { HasCode tokenizer.old }
     ensures ok { IfOk result (λ s. ending_passed tokenizer.old ≡ record { state = s; left = tokenizer.new }) }
     ensures err { OnErr result (IsTrue tokenizer.new.failed) }
 {
-    take(tokenizer, Name::LineEnding)?;
+    tokenizer.take(Name::LineEnding)?;
     Ok(State::Next(StateName::HtmlTextLineEndingAfter))
 }
 
