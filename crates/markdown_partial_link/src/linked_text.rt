@@ -1,8 +1,8 @@
 // The leaves of a text that is read as a string, all of one chain.
-#![tactic(auto, using(markdown_engine::proofs::OperationFields::law_rules), unfolding(markdown_engine::specs::Operations::scratched))]
+#![tactic(auto, using(markdown_engine::proofs::OperationFields::op_rules), unfolding(markdown_engine::specs::Operations::scratched))]
 
 ghost use Rattle.std.specs.Prelude.{◌≡◌, OnOk, OnErr, IsTrue, true};
-ghost use Rattle.markdown_engine.specs.Operations.{LinkedBefore};
+ghost use Rattle.markdown_engine.specs.Operations.{Enter, Exit, Consume, HasCode, LinkedBefore, applied};
 ghost use Rattle.markdown_engine.specs.declared.state.StateName.TheVariants.{SpaceOrTabEolStart};
 ghost use Rattle.markdown_engine.specs.Operations.{scratched};
 ghost use Rattle.markdown_partial_link.specs.LinkedText.{text_entered, eol_asked_for};
@@ -13,6 +13,25 @@ use markdown_engine_content::event::{Content, Link, Name};
 use markdown_partial::partial_space_or_tab_eol::{Options, space_or_tab_eol_with_options};
 use std::alloc::AllocError;
 
+// The link of text that is read as a string, the first of its chain.
+pub(crate) const FIRST: Link = Link {
+    previous: None,
+    next: None,
+    content: Content::String,
+};
+
+// Enters, moves past the code at the place, and exits.
+#[inline(always)]
+pub(crate) fn take(tokenizer: &mut Tokenizer, name: Name) -> Result<(), AllocError>
+    requires { HasCode tokenizer.old }
+    ensures ok { OnOk result (tokenizer.new ≡ applied (Exit name) (applied Consume (applied (Enter name) tokenizer.old))) }
+    ensures err { OnErr result (IsTrue tokenizer.new.failed) }
+{
+    tokenizer.enter(name)?;
+    tokenizer.consume();
+    tokenizer.exit(name)
+}
+
 // Enters data, the next of the chain, or its first where `connect` says that there is none yet.
 pub(crate) fn enter_text(tokenizer: &mut Tokenizer) -> Result<(), AllocError>
     requires { tokenizer.old.tokenize_state.connect ≡ true → LinkedBefore tokenizer.old }
@@ -22,12 +41,7 @@ pub(crate) fn enter_text(tokenizer: &mut Tokenizer) -> Result<(), AllocError>
     if tokenizer.tokenize_state.connect {
         tokenizer.enter_connected(Name::Data, Content::String)?;
     } else {
-        let first = Link {
-            previous: None,
-            next: None,
-            content: Content::String,
-        };
-        tokenizer.enter_link(Name::Data, first)?;
+        tokenizer.enter_link(Name::Data, FIRST)?;
     }
     tokenizer.tokenize_state.connect = true;
     Ok(())

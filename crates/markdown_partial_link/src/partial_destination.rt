@@ -22,25 +22,18 @@
 // Example: `<b c>` and `b(c)`. Definition: `destination` in `markdown_model/specs/Resource.antt`.
 //
 // Each state answers the error where a growth is refused; then `failed` is true.
-#![tactic(auto, using(markdown_engine::proofs::OperationFields::law_rules), unfolding(markdown_engine::specs::Operations::scratched))]
+#![tactic(auto, using(markdown_engine::proofs::OperationFields::op_rules), unfolding(markdown_engine::specs::Operations::scratched))]
 
 ghost use Rattle.std.specs.Prelude.{◌≡◌, IfOk, OnErr, IsTrue};
-ghost use Rattle.markdown_engine.specs.Operations.{HasCode};
-ghost use Rattle.markdown_partial_link.specs.PartialDestination.{start_step, enclosed_before_step, enclosed_step, enclosed_escape_step, raw_step, raw_escape_step, closed, refused, finished, stops_in, BeforeReady, EnclosedReady, RawReady};
+ghost use Rattle.markdown_partial_link.specs.PartialDestination.{start_step, enclosed_before_step, enclosed_step, enclosed_escape_step, raw_step, raw_escape_step, finished, stops_in, BeforeReady, EnclosedReady, RawReady};
 
+use crate::linked_text::{FIRST, take};
 use markdown_engine::state::{State, StateName};
 use markdown_engine::tokenizer::Tokenizer;
 use markdown_engine_content::byte_set;
 use markdown_engine_content::bytes::ByteSet;
-use markdown_engine_content::event::{Content, Link, Name};
+use markdown_engine_content::event::Name;
 use std::alloc::AllocError;
-
-// The link of text that is read as a string, the first of its chain.
-const STRING: Link = Link {
-    previous: None,
-    next: None,
-    content: Content::String,
-};
 
 /// The bytes at which a state that passes code after code stops, line endings aside; none for the other states. Takes no memory.
 pub fn stop_bytes(name: StateName) -> Option<ByteSet>
@@ -61,39 +54,21 @@ pub fn start(tokenizer: &mut Tokenizer) -> Result<State, AllocError>
     ensures ok { IfOk result (λ s. start_step tokenizer.old ≡ record { state = s; left = tokenizer.new }) }
     ensures err { OnErr result (IsTrue tokenizer.new.failed) }
 {
-    match tokenizer.current() {
-        Some(b'<') => {
-            tokenizer.enter(tokenizer.tokenize_state.token_1)?;
-            tokenizer.enter(tokenizer.tokenize_state.token_2)?;
-            tokenizer.enter(tokenizer.tokenize_state.token_3)?;
-            tokenizer.consume();
-            tokenizer.exit(tokenizer.tokenize_state.token_3)?;
-            Ok(State::Next(StateName::DestinationEnclosedBefore))
-        }
-        None | Some(0x01..=0x1F | b' ' | b')' | 0x7F) => Ok(State::Nok),
-        Some(_) => {
-            tokenizer.enter(tokenizer.tokenize_state.token_1)?;
-            tokenizer.enter(tokenizer.tokenize_state.token_4)?;
-            tokenizer.enter(tokenizer.tokenize_state.token_5)?;
-            tokenizer.enter_link(Name::Data, STRING)?;
-            Ok(State::Retry(StateName::DestinationRaw))
-        }
+    let code = match tokenizer.current() {
+        None | Some(0x01..=0x1F | b' ' | b')' | 0x7F) => return Ok(State::Nok),
+        Some(code) => code,
+    };
+    tokenizer.enter(tokenizer.tokenize_state.token_1)?;
+    if code == b'<' {
+        tokenizer.enter(tokenizer.tokenize_state.token_2)?;
+        take(tokenizer, tokenizer.tokenize_state.token_3)?;
+        Ok(State::Next(StateName::DestinationEnclosedBefore))
+    } else {
+        tokenizer.enter(tokenizer.tokenize_state.token_4)?;
+        tokenizer.enter(tokenizer.tokenize_state.token_5)?;
+        tokenizer.enter_link(Name::Data, FIRST)?;
+        Ok(State::Retry(StateName::DestinationRaw))
     }
-}
-
-// Passes the closing bracket, and the destination holds.
-fn close(tokenizer: &mut Tokenizer) -> Result<State, AllocError>
-    requires ready { BeforeReady tokenizer.old }
-    requires code { HasCode tokenizer.old }
-    ensures ok { IfOk result (λ s. closed tokenizer.old ≡ record { state = s; left = tokenizer.new }) }
-    ensures err { OnErr result (IsTrue tokenizer.new.failed) }
-{
-    tokenizer.enter(tokenizer.tokenize_state.token_3)?;
-    tokenizer.consume();
-    tokenizer.exit(tokenizer.tokenize_state.token_3)?;
-    tokenizer.exit(tokenizer.tokenize_state.token_2)?;
-    tokenizer.exit(tokenizer.tokenize_state.token_1)?;
-    Ok(State::Ok)
 }
 
 /// After the opening bracket: the text, or the closing bracket. Also at the closing bracket behind the text.
@@ -106,10 +81,15 @@ pub fn enclosed_before(tokenizer: &mut Tokenizer) -> Result<State, AllocError>
     ensures err { OnErr result (IsTrue tokenizer.new.failed) }
 {
     match tokenizer.current() {
-        Some(b'>') => close(tokenizer),
+        Some(b'>') => {
+            take(tokenizer, tokenizer.tokenize_state.token_3)?;
+            tokenizer.exit(tokenizer.tokenize_state.token_2)?;
+            tokenizer.exit(tokenizer.tokenize_state.token_1)?;
+            Ok(State::Ok)
+        }
         _ => {
             tokenizer.enter(tokenizer.tokenize_state.token_5)?;
-            tokenizer.enter_link(Name::Data, STRING)?;
+            tokenizer.enter_link(Name::Data, FIRST)?;
             Ok(State::Retry(StateName::DestinationEnclosed))
         }
     }
@@ -160,14 +140,6 @@ pub fn enclosed_escape(tokenizer: &mut Tokenizer) -> Result<State, AllocError>
     }
 }
 
-// The destination does not hold.
-fn refuse(tokenizer: &mut Tokenizer) -> State
-    ensures { refused tokenizer.old ≡ record { state = result; left = tokenizer.new } }
-{
-    tokenizer.tokenize_state.size = 0;
-    State::Nok
-}
-
 // The destination ends before the code at hand.
 fn finish(tokenizer: &mut Tokenizer) -> Result<State, AllocError>
     requires { RawReady tokenizer.old }
@@ -204,7 +176,10 @@ pub fn raw(tokenizer: &mut Tokenizer) -> Result<State, AllocError>
             tokenizer.tokenize_state.size = depth - 1;
             Ok(State::Next(StateName::DestinationRaw))
         }
-        None | Some(0x01..=0x1F | b' ' | b'(' | 0x7F) => Ok(refuse(tokenizer)),
+        None | Some(0x01..=0x1F | b' ' | b'(' | 0x7F) => {
+            tokenizer.tokenize_state.size = 0;
+            Ok(State::Nok)
+        }
         Some(b'\\') => {
             tokenizer.consume();
             Ok(State::Next(StateName::DestinationRawEscape))

@@ -17,13 +17,13 @@
 // Definition: `label` in `markdown_model/specs/Resource.antt`.
 //
 // Each state answers the error where a growth is refused; then `failed` is true.
-#![tactic(auto, using(markdown_engine::proofs::OperationFields::law_rules), unfolding(markdown_engine::specs::Operations::scratched, markdown_engine::specs::Operations::attempted, markdown_engine::specs::Operations::frame_of))]
+#![tactic(auto, using(markdown_engine::proofs::OperationFields::op_rules), unfolding(markdown_engine::specs::Operations::scratched, markdown_engine::specs::Operations::attempted, markdown_engine::specs::Operations::frame_of))]
 
 ghost use Rattle.std.specs.Prelude.{◌≡◌, ◌≤◌, IfOk, OnErr, IsTrue, true};
 ghost use Rattle.markdown_engine.specs.Operations.{HasCode};
 ghost use Rattle.markdown_partial_link.specs.PartialLabel.{start_step, closed, at_break_step, eol_after_step, nok_step, passing, inside_step, escape_step, BreakReady, InsideReady, EscapeReady};
 
-use crate::linked_text::{ask_for_ending, enter_text};
+use crate::linked_text::{ask_for_ending, enter_text, take};
 use markdown_engine::state::{State, StateName};
 use markdown_engine::tokenizer::Tokenizer;
 use markdown_engine_content::event::Name;
@@ -41,9 +41,7 @@ pub fn start(tokenizer: &mut Tokenizer) -> Result<State, AllocError>
     match tokenizer.current() {
         Some(b'[') => {
             tokenizer.enter(tokenizer.tokenize_state.token_1)?;
-            tokenizer.enter(tokenizer.tokenize_state.token_2)?;
-            tokenizer.consume();
-            tokenizer.exit(tokenizer.tokenize_state.token_2)?;
+            take(tokenizer, tokenizer.tokenize_state.token_2)?;
             tokenizer.enter(tokenizer.tokenize_state.token_3)?;
             Ok(State::Next(StateName::LabelAtBreak))
         }
@@ -59,9 +57,7 @@ fn close(tokenizer: &mut Tokenizer) -> Result<State, AllocError>
     ensures err { OnErr result (IsTrue tokenizer.new.failed) }
 {
     tokenizer.exit(tokenizer.tokenize_state.token_3)?;
-    tokenizer.enter(tokenizer.tokenize_state.token_2)?;
-    tokenizer.consume();
-    tokenizer.exit(tokenizer.tokenize_state.token_2)?;
+    take(tokenizer, tokenizer.tokenize_state.token_2)?;
     tokenizer.exit(tokenizer.tokenize_state.token_1)?;
     tokenizer.tokenize_state.connect = false;
     tokenizer.tokenize_state.seen = false;

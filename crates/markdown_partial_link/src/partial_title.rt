@@ -18,33 +18,19 @@
 // Definition: `title` in `markdown_model/specs/Resource.antt`.
 //
 // Each state answers the error where a growth is refused; then `failed` is true.
-#![tactic(auto, using(markdown_engine::proofs::OperationFields::law_rules), unfolding(markdown_engine::specs::Operations::scratched, markdown_engine::specs::Operations::attempted, markdown_engine::specs::Operations::frame_of))]
+#![tactic(auto, using(markdown_engine::proofs::OperationFields::op_rules), unfolding(markdown_engine::specs::Operations::scratched, markdown_engine::specs::Operations::attempted, markdown_engine::specs::Operations::frame_of))]
 
 ghost use Rattle.std.specs.Prelude.{◌≡◌, IfOk, OnErr, IsTrue, true};
-ghost use Rattle.markdown_engine.specs.Operations.{HasCode, IsOpen, LinkedBefore, current_of};
-ghost use Rattle.markdown_partial_link.specs.PartialTitle.{opened, start_step, closed, begin_step, at_break_step, after_eol_step, nok_step, passing, inside_step, inside_stops, escape_step, BreakReady, InsideReady};
+ghost use Rattle.markdown_engine.specs.Operations.{IsOpen, LinkedBefore, current_of};
+ghost use Rattle.markdown_partial_link.specs.PartialTitle.{start_step, begin_step, at_break_step, after_eol_step, nok_step, inside_step, inside_stops, escape_step, BreakReady, InsideReady};
 
-use crate::linked_text::{ask_for_ending, enter_text};
+use crate::linked_text::{ask_for_ending, enter_text, take};
 use markdown_engine::state::{State, StateName};
 use markdown_engine::tokenizer::{TokenizeState, Tokenizer};
 use markdown_engine_content::byte_set;
 use markdown_engine_content::bytes::ByteSet;
 use markdown_engine_content::event::Name;
 use std::alloc::AllocError;
-
-// Passes the opening marker of a title that this code ends.
-fn open(tokenizer: &mut Tokenizer, closer: u8) -> Result<State, AllocError>
-    requires { HasCode tokenizer.old }
-    ensures ok { IfOk result (λ s. opened closer tokenizer.old ≡ record { state = s; left = tokenizer.new }) }
-    ensures err { OnErr result (IsTrue tokenizer.new.failed) }
-{
-    tokenizer.enter(tokenizer.tokenize_state.token_1)?;
-    tokenizer.enter(tokenizer.tokenize_state.token_2)?;
-    tokenizer.consume();
-    tokenizer.exit(tokenizer.tokenize_state.token_2)?;
-    tokenizer.tokenize_state.marker = closer;
-    Ok(State::Next(StateName::TitleBegin))
-}
 
 /// At the start of a title: its opening marker.
 ///
@@ -54,28 +40,16 @@ pub fn start(tokenizer: &mut Tokenizer) -> Result<State, AllocError>
     ensures ok { IfOk result (λ s. start_step tokenizer.old ≡ record { state = s; left = tokenizer.new }) }
     ensures err { OnErr result (IsTrue tokenizer.new.failed) }
 {
-    match tokenizer.current() {
-        Some(b'"') => open(tokenizer, b'"'),
-        Some(b'\'') => open(tokenizer, b'\''),
-        Some(b'(') => open(tokenizer, b')'),
-        _ => Ok(State::Nok),
-    }
-}
-
-// Passes the closing marker, and the title holds.
-fn close(tokenizer: &mut Tokenizer) -> Result<State, AllocError>
-    requires open { IsOpen tokenizer.old.tokenize_state.token_1 tokenizer.old }
-    requires code { HasCode tokenizer.old }
-    ensures ok { IfOk result (λ s. closed tokenizer.old ≡ record { state = s; left = tokenizer.new }) }
-    ensures err { OnErr result (IsTrue tokenizer.new.failed) }
-{
-    tokenizer.enter(tokenizer.tokenize_state.token_2)?;
-    tokenizer.consume();
-    tokenizer.exit(tokenizer.tokenize_state.token_2)?;
-    tokenizer.exit(tokenizer.tokenize_state.token_1)?;
-    tokenizer.tokenize_state.marker = 0;
-    tokenizer.tokenize_state.connect = false;
-    Ok(State::Ok)
+    let closer = match tokenizer.current() {
+        Some(b'"') => b'"',
+        Some(b'\'') => b'\'',
+        Some(b'(') => b')',
+        _ => return Ok(State::Nok),
+    };
+    tokenizer.enter(tokenizer.tokenize_state.token_1)?;
+    take(tokenizer, tokenizer.tokenize_state.token_2)?;
+    tokenizer.tokenize_state.marker = closer;
+    Ok(State::Next(StateName::TitleBegin))
 }
 
 /// After the opening marker: the text, or the closing marker. Also at the closing marker behind the text.
@@ -88,25 +62,18 @@ pub fn begin(tokenizer: &mut Tokenizer) -> Result<State, AllocError>
     ensures err { OnErr result (IsTrue tokenizer.new.failed) }
 {
     match tokenizer.current() {
-        Some(code) if code == tokenizer.tokenize_state.marker => close(tokenizer),
+        Some(code) if code == tokenizer.tokenize_state.marker => {
+            take(tokenizer, tokenizer.tokenize_state.token_2)?;
+            tokenizer.exit(tokenizer.tokenize_state.token_1)?;
+            tokenizer.tokenize_state.marker = 0;
+            tokenizer.tokenize_state.connect = false;
+            Ok(State::Ok)
+        }
         _ => {
             tokenizer.enter(tokenizer.tokenize_state.token_3)?;
             Ok(State::Retry(StateName::TitleAtBreak))
         }
     }
-}
-
-// Passes a code of the text.
-fn pass(tokenizer: &mut Tokenizer, code: u8) -> State
-    requires { HasCode tokenizer.old }
-    ensures { passing code tokenizer.old ≡ record { state = result; left = tokenizer.new } }
-{
-    tokenizer.consume();
-    State::Next(if code == b'\\' {
-        StateName::TitleEscape
-    } else {
-        StateName::TitleInside
-    })
 }
 
 /// Between two stretches of the text: at the closing marker, a line ending or the end, or where data starts.
@@ -190,7 +157,12 @@ pub fn inside(tokenizer: &mut Tokenizer) -> Result<State, AllocError>
 {
     match tokenizer.current() {
         Some(code) if code != b'\n' && code != tokenizer.tokenize_state.marker => {
-            Ok(pass(tokenizer, code))
+            tokenizer.consume();
+            Ok(State::Next(if code == b'\\' {
+                StateName::TitleEscape
+            } else {
+                StateName::TitleInside
+            }))
         }
         _ => {
             tokenizer.exit(Name::Data)?;
