@@ -1,6 +1,7 @@
 -- What pairs take of a run, and edits run by run.
-use Rattle.std.proofs.Common.{◌≡◌, ℕ, zero, suc, ◌+◌, ◌<◌, ◌^◌, ◌==◌, Bool, true, false, if◌then◌else◌, List, [], ◌∷◌, ◌++◌, length, take, get_or, reverse, refl, sym, ap, subst, ◌∙◌, arith}
-use Rattle.std.proofs.lemmas.List.{take_more}
+use Rattle.std.proofs.Common.{◌≡◌, ℕ, zero, suc, ◌+◌, ◌-◌, ◌<◌, ◌≤◌, ◌^◌, ◌==◌, Bool, true, false, if◌then◌else◌, List, [], ◌∷◌, ◌++◌, length, take, drop, get_or, set, length-set, reverse, inl, inr, refl, sym, ap, subst, ◌∙◌, arith}
+use Rattle.std.proofs.lemmas.Bool.{cases_eq, eq-eqb, ne_eqb}
+use Rattle.std.proofs.lemmas.List.{take_more, drop_more, get_or-set_same, get_or-set_other}
 use Rattle.std.proofs.lemmas.List.Elements.{All-nil, All-cons, All-append}
 use Rattle.std.specs.List.{All}
 use Rattle.markdown_engine_events.specs.EventChains.{IsUnlinked}
@@ -15,7 +16,7 @@ use Rattle.markdown_attention.specs.declared.attention.pairing.Pair.{Pair}
 use Rattle.markdown_attention.specs.declared.attention.runs.Sequence.{Sequence}
 use Rattle.markdown_attention.specs.RunEvents.{shifted, total, closing_at, opening_at, closings_from, openings_from, data_at, marker_events}
 use Rattle.markdown_attention.specs.RunEdits.{edits_by, run_edits, grouped_events, point_in, closed_sizes, opened_sizes}
-use Rattle.markdown_attention.specs.PairSizes.{sizes_at, AreSizes, added_for, HasRoom, HasRoomFor}
+use Rattle.markdown_attention.specs.PairSizes.{side_of, sizes_at, AreSizes, added_for, HasRoom, HasRoomFor}
 
 -- the same as lists of their own
 pub closed-are : (g : ℕ) (ps : List Pair) → sizes_at true g ps ≡ closed_sizes g ps
@@ -35,6 +36,45 @@ opened-are g (p ∷ ps) = by-test (p.opener == g) (opened-are g ps)
         (if b then p.size ∷ [] else []) ++ sizes_at false g ps ≡ (if b then p.size ∷ opened_sizes g ps else opened_sizes g ps)
     by-test true e = ap (λ xs. p.size ∷ xs) e
     by-test false e = e
+
+-- The sizes of the runs, with those of one pair more before them.
+
+module _ (closers : Bool) (pairs : List Pair) (count i : ℕ) (d : Pair) (sizes new : List (List ℕ)) (run : ℕ) (some : 0 < i) (within : i ≤ length pairs)
+    (side : run ≡ side_of closers (get_or pairs (i - 1) d)) (few : All (λ p. side_of closers p < count) pairs) (long : length sizes ≡ count)
+    (is : new ≡ set sizes run ((get_or pairs (i - 1) d).size ∷ get_or sizes run [])) where
+  abbrev before : Pair
+  before = get_or pairs (i - 1) d
+
+  next : drop (i - 1) pairs ≡ before ∷ drop i pairs
+  next =
+      let same : (i - 1) + 1 ≡ i = omega arith in
+      drop_more pairs (i - 1) d (omega arith) ∙ ap (λ j. before ∷ drop j pairs) same
+
+  pub sizes-long : length new ≡ count
+  sizes-long = ap length is ∙ length-set sizes run (before.size ∷ get_or sizes run []) ∙ long
+
+  run-in : run < length sizes
+  run-in = let f : side_of closers before < count = few (i - 1) d (omega arith) in omega (arith, side, long, f)
+
+  pub sizes-before : ((g : ℕ) → get_or sizes g [] ≡ sizes_at closers g (drop i pairs)) → (g : ℕ) → get_or new g [] ≡ sizes_at closers g (drop (i - 1) pairs)
+  sizes-before h g =
+      let more : List ℕ = before.size ∷ get_or sizes run [] in
+      elim (cases_eq g run) [
+        | inl own ↦
+            ap (λ (xs : List (List ℕ)). get_or xs g []) is
+            ∙ ap (λ j. get_or (set sizes run more) j []) own
+            ∙ get_or-set_same sizes run more [] run-in
+            ∙ ap (λ xs. before.size ∷ xs) (h run)
+            ∙ ap (λ b. (if b then before.size ∷ [] else []) ++ sizes_at closers run (drop i pairs)) (sym (eq-eqb (side_of closers before) run (sym side)))
+            ∙ ap (sizes_at closers run) (sym next)
+            ∙ ap (λ j. sizes_at closers j (drop (i - 1) pairs)) (sym own)
+        | inr other ↦
+            ap (λ (xs : List (List ℕ)). get_or xs g []) is
+            ∙ get_or-set_other sizes run g more [] other
+            ∙ h g
+            ∙ ap (λ b. (if b then before.size ∷ [] else []) ++ sizes_at closers g (drop i pairs)) (sym (ne_eqb (side_of closers before) g (λ e. other (sym e ∙ sym side))))
+            ∙ ap (sizes_at closers g) (sym next)
+      ]
 
 -- No event that comes is linked.
 

@@ -1,4 +1,4 @@
-use Rattle.std.proofs.Common.{◌≡◌, ◌&&◌, ◌==◌, true, false, sym, ap, ◌∙◌}
+use Rattle.std.proofs.Common.{◌≡◌, ◌&&◌, ◌==◌, true, false, sym, ap, ◌∙◌, arith}
 use Rattle.std.proofs.Math.Bool.{and-false}
 use Rattle.std.proofs.lemmas.Bool.{ne_eqb}
 use Rattle.markdown_partial.specs.MergedEvents.{opens_data}
@@ -19,7 +19,8 @@ add-requires c = mail-unlinked c.args.bytes.now _ _ _ c.in_ok-mailed.ensures
 
 pub returns-in_ok-add : goal.returns-in_ok-add
 returns-in_ok-add c =
-    mailed-at c.args.bytes.now c.args.index c.args.links c.args.events.now c.bare_at-enter.result c.requires.within c.bare_at-enter.ensures.event c.bare_at-exit.result c.in_ok-mailed.mailed.items c.args.map.now c.add.new.self c.bare_at-exit.ensures.event (sym c.opens_data.ensures ∙ c.if-opens_data.true) c.requires.places c.if-links-eq0.true (sym c.has_sign.ensures ∙ c.if-has_sign.true) c.in_ok-mailed.ensures c.in_ok-add.ensures.ok
+    let none : c.args.links ≡ 0 = omega arith in
+    mailed-at c.args.bytes.now c.args.index c.args.links c.args.events.now c.bare_at-enter.result c.requires.within c.bare_at-enter.ensures.event c.bare_at-exit.result c.in_ok-mailed.mailed.items c.args.map.now c.add.new.self c.bare_at-exit.ensures.event (sym c.opens_data.ensures ∙ c.if-opens_data.true) c.requires.places none (sym c.has_sign.ensures ∙ c.if-has_sign.true) c.in_ok-mailed.ensures c.in_ok-add.ensures.ok
 
 pub returns-else-has_sign : goal.returns-else-has_sign
 returns-else-has_sign c =
