@@ -1,4 +1,3 @@
-use Rattle.std.proofs.Common.{◌-◌, get_or}
 use Rattle.markdown_attention.specs.declared.attention.pairing.Pair.{Pair}
 use Rattle.markdown_attention.proofs.PairSizeSteps.{sizes-before, sizes-long}
 use Rattle.markdown_attention.proofs.attention.sizes.Sizes.over.Goals as goal
