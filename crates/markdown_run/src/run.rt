@@ -179,6 +179,10 @@ pub fn text_through(tokenizer: &mut Tokenizer) -> Result<Run, AllocError>
     finish_text(tokenizer)
 }
 
+// Gives up a tokenizer that has run.
+#[inline(always)]
+fn discard(_tokenizer: Tokenizer) {}
+
 // Reads a text from its start, where a cursor stands. The cursor is made before, so that the room of the tokenizer is filled once.
 fn text_from<'a>(
     alloc: Global,
@@ -195,7 +199,9 @@ fn text_from<'a>(
     tokenizer
         .tokenize_state
         .document_at_first_paragraph_of_list_item = first_of_item;
-    text_through(&mut tokenizer)
+    let found = text_through(&mut tokenizer);
+    discard(tokenizer);
+    found
 }
 
 /// The events of the inline tree of a content that is read as a string: of its escapes, character references and data.
@@ -213,7 +219,9 @@ pub fn string(alloc: Global, parse_state: &ParseState, pieces: &[Piece]) -> Resu
     ensures probes { IfOk result (λ run. run.probes ≡ 0) }
 {
     let mut tokenizer = Tokenizer::new(alloc, parse_state, pieces);
-    run_through(StateName::StringStart, &mut tokenizer)
+    let found = run_through(StateName::StringStart, &mut tokenizer);
+    discard(tokenizer);
+    found
 }
 
 /// The events of the inline tree of a content that is read as text: of the inside of a paragraph, a heading or a table's cell. `first_of_item`

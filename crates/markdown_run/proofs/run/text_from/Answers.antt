@@ -8,10 +8,10 @@ use Rattle.markdown_run.proofs.run.text_from.Goals as goal
 abbrev told : Bool → Tokenizer → Tokenizer
 told first T = record T { tokenize_state = record T.tokenize_state { document_at_first_paragraph_of_list_item = first } }
 
-pub text_through-requires-clause-passes : goal.text_through-requires-clause-passes
-text_through-requires-clause-passes c =
+pub text_through-found-requires-clause-passes : goal.text_through-found-requires-clause-passes
+text_through-found-requires-clause-passes c =
     subst MayPassText (sym (ap (told c.args.first_of_item) c.starting_at-tokenizer.ensures)) c.requires.passes
 
 pub returns : goal.returns
 returns c =
-    subst (λ (T : Tokenizer). IfOk c.text_through.result (λ run. IsFoundInText T run)) (ap (told c.args.first_of_item) c.starting_at-tokenizer.ensures) c.text_through.ensures
+    subst (λ (T : Tokenizer). IfOk c.text_through-found.result (λ run. IsFoundInText T run)) (ap (told c.args.first_of_item) c.starting_at-tokenizer.ensures) c.text_through-found.ensures
