@@ -1,6 +1,6 @@
 use Rattle.std.proofs.Common.{◌≡◌, ◌∙◌, ◌==◌, ◌++◌, List, [], length, true, sym, ap}
 use Rattle.std.proofs.lemmas.Bool.{eqb-true}
-use Rattle.std.proofs.lemmas.List.{append-nil, nil_from_length}
+use Rattle.std.proofs.lemmas.List.{nil_from_length}
 use Rattle.markdown_engine.specs.StateRuns.{settled}
 use Rattle.markdown_engine.specs.declared.tokenizer.Attempt.{Attempt}
 use Rattle.markdown_engine.proofs.run.hand_over.Goals as goal
@@ -15,16 +15,5 @@ returns-then-is_empty c =
     record {
       waits = ap (λ (fs : List Attempt). fs ++ c.args.waiting.now) (sym empty);
       left = ap (λ (fs : List Attempt). record c.args.tokenizer.now { attempts = fs }) empty;
-      err = tt;
-    }
-
-pub returns-then-is_empty-2 : goal.returns-then-is_empty-2
-unfolding settled
-returns-then-is_empty-2 c =
-    let fs = c.args.tokenizer.now.attempts in
-    let empty = none c.args.waiting.now (sym c.is_empty-2.ensures ∙ c.if-is_empty-2.true) in
-    record {
-      waits = c.swap.ensures.x_after ∙ sym (append-nil fs) ∙ ap (λ (gs : List Attempt). fs ++ gs) (sym empty);
-      left = ap (λ (gs : List Attempt). record c.args.tokenizer.now { attempts = gs }) (c.swap.ensures.y_after ∙ empty);
       err = tt;
     }
