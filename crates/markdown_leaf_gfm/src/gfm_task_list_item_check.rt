@@ -20,8 +20,8 @@
 // Each state answers the error where a growth is refused; then `failed` is true.
 #![tactic(auto, using(markdown_engine::proofs::OperationFields::op_rules), unfolding(markdown_engine::specs::Operations::scratched))]
 
-ghost use Rattle.std.specs.Prelude.{◌≡◌, IfOk, OnOk, OnErr, IsTrue};
-ghost use Rattle.markdown_engine.specs.Operations.{Enter, Exit, Consume, HasCode, IsOpen, applied};
+ghost use Rattle.std.specs.Prelude.{◌≡◌, IfOk, OnErr, IsTrue};
+ghost use Rattle.markdown_engine.specs.Operations.{IsOpen};
 ghost use Rattle.markdown_engine_content.specs.declared.event.Name.TheVariants.{GfmTaskListItemCheck};
 ghost use Rattle.markdown_leaf_gfm.specs.GfmTaskListItemCheck.{start_step, inside_step, close_step, after_step, after_space_or_tab_step};
 
@@ -30,18 +30,6 @@ use markdown_engine::tokenizer::Tokenizer;
 use markdown_engine_content::event::Name;
 use markdown_partial::partial_space_or_tab::space_or_tab;
 use std::alloc::AllocError;
-
-// Enters, moves past the code at the place, and exits.
-#[inline(always)]
-fn take(tokenizer: &mut Tokenizer, name: Name) -> Result<(), AllocError>
-    requires { HasCode tokenizer.old }
-    ensures ok { OnOk result (tokenizer.new ≡ applied (Exit name) (applied Consume (applied (Enter name) tokenizer.old))) }
-    ensures err { OnErr result (IsTrue tokenizer.new.failed) }
-{
-    tokenizer.enter(name)?;
-    tokenizer.consume();
-    tokenizer.exit(name)
-}
 
 /// At the start of a check: the opening bracket, with no code before it in the content.
 ///
@@ -59,7 +47,7 @@ pub fn start(tokenizer: &mut Tokenizer) -> Result<State, AllocError>
         && tokenizer.current() == Some(b'[')
     {
         tokenizer.enter(Name::GfmTaskListItemCheck)?;
-        take(tokenizer, Name::GfmTaskListItemMarker)?;
+        tokenizer.take(Name::GfmTaskListItemMarker)?;
         Ok(State::Next(StateName::GfmTaskListItemCheckInside))
     } else {
         Ok(State::Nok)
@@ -79,7 +67,7 @@ pub fn inside(tokenizer: &mut Tokenizer) -> Result<State, AllocError>
         Some(b' ' | b'\t' | b'\n') => Name::GfmTaskListItemValueUnchecked,
         _ => return Ok(State::Nok),
     };
-    take(tokenizer, value)?;
+    tokenizer.take(value)?;
     Ok(State::Next(StateName::GfmTaskListItemCheckClose))
 }
 
@@ -93,7 +81,7 @@ pub fn close(tokenizer: &mut Tokenizer) -> Result<State, AllocError>
     ensures err { OnErr result (IsTrue tokenizer.new.failed) }
 {
     if tokenizer.current() == Some(b']') {
-        take(tokenizer, Name::GfmTaskListItemMarker)?;
+        tokenizer.take(Name::GfmTaskListItemMarker)?;
         tokenizer.exit(Name::GfmTaskListItemCheck)?;
         Ok(State::Next(StateName::GfmTaskListItemCheckAfter))
     } else {

@@ -20,7 +20,7 @@
 #![tactic(auto, using(markdown_engine::proofs::OperationFields::op_rules))]
 
 ghost use Rattle.std.specs.Prelude.{◌≡◌, ◌+◌, ◌-◌, ◌^◌, ◌<◌, ◌≤◌, ◌++◌, ℕ, IfOk, OnOk, OnErr, IsTrue, Some, None, [], drop, length, slice_index_or, true, false};
-ghost use Rattle.markdown_engine.specs.Operations.{Enter, Exit, Consume, HasCode, IsOpen, applied, current_of};
+ghost use Rattle.markdown_engine.specs.Operations.{IsOpen, current_of};
 ghost use Rattle.markdown_engine_content.specs.declared.event.Name.TheVariants.{Data};
 ghost use Rattle.markdown_engine_events.specs.Edits.{edited};
 ghost use Rattle.markdown_engine.specs.PastTree.{appended_from};
@@ -46,25 +46,13 @@ fn stops(tokenizer: &Tokenizer, byte: u8) -> bool
     tokenizer.tokenize_state.markers.contains(byte)
 }
 
-// Enters, moves past the code at the place, and exits.
-#[inline(always)]
-fn take(tokenizer: &mut Tokenizer, name: Name) -> Result<(), AllocError>
-    requires { HasCode tokenizer.old }
-    ensures ok { OnOk result (tokenizer.new ≡ applied (Exit name) (applied Consume (applied (Enter name) tokenizer.old))) }
-    ensures err { OnErr result (IsTrue tokenizer.new.failed) }
-{
-    tokenizer.enter(name)?;
-    tokenizer.consume();
-    tokenizer.exit(name)
-}
-
 // Passes a line ending, or enters a stretch at the code at hand.
 fn enter(tokenizer: &mut Tokenizer, byte: u8) -> Result<State, AllocError>
     requires { current_of tokenizer.old ≡ Some byte }
     ensures { Steps (entering byte) tokenizer.old result tokenizer.new }
 {
     if byte == b'\n' {
-        take(tokenizer, Name::LineEnding)?;
+        tokenizer.take(Name::LineEnding)?;
         Ok(State::Next(StateName::DataAtBreak))
     } else {
         tokenizer.enter(Name::Data)?;
@@ -78,7 +66,7 @@ fn pass(tokenizer: &mut Tokenizer, byte: u8) -> Result<State, AllocError>
     ensures { Steps (passing byte) tokenizer.old result tokenizer.new }
 {
     if byte == b'\n' {
-        take(tokenizer, Name::LineEnding)?;
+        tokenizer.take(Name::LineEnding)?;
         Ok(State::Next(StateName::DataAtBreak))
     } else {
         tokenizer.enter(Name::Data)?;

@@ -2,7 +2,7 @@
 #![tactic(auto, using(markdown_engine::proofs::OperationFields::op_rules), unfolding(markdown_engine::specs::Operations::scratched))]
 
 ghost use Rattle.std.specs.Prelude.{◌≡◌, OnOk, OnErr, IsTrue, true};
-ghost use Rattle.markdown_engine.specs.Operations.{Enter, Exit, Consume, HasCode, LinkedBefore, applied};
+ghost use Rattle.markdown_engine.specs.Operations.{LinkedBefore};
 ghost use Rattle.markdown_engine.specs.declared.state.StateName.TheVariants.{SpaceOrTabEolStart};
 ghost use Rattle.markdown_engine.specs.Operations.{scratched};
 ghost use Rattle.markdown_partial_link.specs.LinkedText.{text_entered, eol_asked_for};
@@ -19,18 +19,6 @@ pub(crate) const FIRST: Link = Link {
     next: None,
     content: Content::String,
 };
-
-// Enters, moves past the code at the place, and exits.
-#[inline(always)]
-pub(crate) fn take(tokenizer: &mut Tokenizer, name: Name) -> Result<(), AllocError>
-    requires { HasCode tokenizer.old }
-    ensures ok { OnOk result (tokenizer.new ≡ applied (Exit name) (applied Consume (applied (Enter name) tokenizer.old))) }
-    ensures err { OnErr result (IsTrue tokenizer.new.failed) }
-{
-    tokenizer.enter(name)?;
-    tokenizer.consume();
-    tokenizer.exit(name)
-}
 
 // Enters data, the next of the chain, or its first where `connect` says that there is none yet.
 pub(crate) fn enter_text(tokenizer: &mut Tokenizer) -> Result<(), AllocError>

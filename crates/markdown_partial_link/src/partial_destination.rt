@@ -27,7 +27,7 @@
 ghost use Rattle.std.specs.Prelude.{◌≡◌, IfOk, OnErr, IsTrue};
 ghost use Rattle.markdown_partial_link.specs.PartialDestination.{start_step, enclosed_before_step, enclosed_step, enclosed_escape_step, raw_step, raw_escape_step, finished, stops_in, BeforeReady, EnclosedReady, RawReady};
 
-use crate::linked_text::{FIRST, take};
+use crate::linked_text::FIRST;
 use markdown_engine::state::{State, StateName};
 use markdown_engine::tokenizer::Tokenizer;
 use markdown_engine_content::byte_set;
@@ -61,7 +61,7 @@ pub fn start(tokenizer: &mut Tokenizer) -> Result<State, AllocError>
     tokenizer.enter(tokenizer.tokenize_state.token_1)?;
     if code == b'<' {
         tokenizer.enter(tokenizer.tokenize_state.token_2)?;
-        take(tokenizer, tokenizer.tokenize_state.token_3)?;
+        tokenizer.take(tokenizer.tokenize_state.token_3)?;
         Ok(State::Next(StateName::DestinationEnclosedBefore))
     } else {
         tokenizer.enter(tokenizer.tokenize_state.token_4)?;
@@ -82,7 +82,7 @@ pub fn enclosed_before(tokenizer: &mut Tokenizer) -> Result<State, AllocError>
 {
     match tokenizer.current() {
         Some(b'>') => {
-            take(tokenizer, tokenizer.tokenize_state.token_3)?;
+            tokenizer.take(tokenizer.tokenize_state.token_3)?;
             tokenizer.exit(tokenizer.tokenize_state.token_2)?;
             tokenizer.exit(tokenizer.tokenize_state.token_1)?;
             Ok(State::Ok)

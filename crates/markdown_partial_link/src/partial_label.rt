@@ -23,7 +23,7 @@ ghost use Rattle.std.specs.Prelude.{◌≡◌, ◌≤◌, IfOk, OnErr, IsTrue, t
 ghost use Rattle.markdown_engine.specs.Operations.{HasCode};
 ghost use Rattle.markdown_partial_link.specs.PartialLabel.{start_step, closed, at_break_step, eol_after_step, nok_step, passing, inside_step, escape_step, BreakReady, InsideReady, EscapeReady};
 
-use crate::linked_text::{ask_for_ending, enter_text, take};
+use crate::linked_text::{ask_for_ending, enter_text};
 use markdown_engine::state::{State, StateName};
 use markdown_engine::tokenizer::Tokenizer;
 use markdown_engine_content::event::Name;
@@ -41,7 +41,7 @@ pub fn start(tokenizer: &mut Tokenizer) -> Result<State, AllocError>
     match tokenizer.current() {
         Some(b'[') => {
             tokenizer.enter(tokenizer.tokenize_state.token_1)?;
-            take(tokenizer, tokenizer.tokenize_state.token_2)?;
+            tokenizer.take(tokenizer.tokenize_state.token_2)?;
             tokenizer.enter(tokenizer.tokenize_state.token_3)?;
             Ok(State::Next(StateName::LabelAtBreak))
         }
@@ -57,7 +57,7 @@ fn close(tokenizer: &mut Tokenizer) -> Result<State, AllocError>
     ensures err { OnErr result (IsTrue tokenizer.new.failed) }
 {
     tokenizer.exit(tokenizer.tokenize_state.token_3)?;
-    take(tokenizer, tokenizer.tokenize_state.token_2)?;
+    tokenizer.take(tokenizer.tokenize_state.token_2)?;
     tokenizer.exit(tokenizer.tokenize_state.token_1)?;
     tokenizer.tokenize_state.connect = false;
     tokenizer.tokenize_state.seen = false;

@@ -24,7 +24,7 @@ ghost use Rattle.std.specs.Prelude.{◌≡◌, IfOk, OnErr, IsTrue, true};
 ghost use Rattle.markdown_engine.specs.Operations.{IsOpen, LinkedBefore, current_of};
 ghost use Rattle.markdown_partial_link.specs.PartialTitle.{start_step, begin_step, at_break_step, after_eol_step, nok_step, inside_step, inside_stops, escape_step, BreakReady, InsideReady};
 
-use crate::linked_text::{ask_for_ending, enter_text, take};
+use crate::linked_text::{ask_for_ending, enter_text};
 use markdown_engine::state::{State, StateName};
 use markdown_engine::tokenizer::{TokenizeState, Tokenizer};
 use markdown_engine_content::byte_set;
@@ -47,7 +47,7 @@ pub fn start(tokenizer: &mut Tokenizer) -> Result<State, AllocError>
         _ => return Ok(State::Nok),
     };
     tokenizer.enter(tokenizer.tokenize_state.token_1)?;
-    take(tokenizer, tokenizer.tokenize_state.token_2)?;
+    tokenizer.take(tokenizer.tokenize_state.token_2)?;
     tokenizer.tokenize_state.marker = closer;
     Ok(State::Next(StateName::TitleBegin))
 }
@@ -63,7 +63,7 @@ pub fn begin(tokenizer: &mut Tokenizer) -> Result<State, AllocError>
 {
     match tokenizer.current() {
         Some(code) if code == tokenizer.tokenize_state.marker => {
-            take(tokenizer, tokenizer.tokenize_state.token_2)?;
+            tokenizer.take(tokenizer.tokenize_state.token_2)?;
             tokenizer.exit(tokenizer.tokenize_state.token_1)?;
             tokenizer.tokenize_state.marker = 0;
             tokenizer.tokenize_state.connect = false;
