@@ -37,8 +37,8 @@ use Rattle.markdown_model.proofs.GrammarSteps.{bind-some, one-here, if-true, if-
 use Rattle.markdown_plan.specs.LayerEquation.{Within}
 use Rattle.markdown_plan.proofs.LawStepsOfLayer.{FollowsIn, follows, GoesOn-map, Goes-attempt, Goes-end, Goes-plain}
 use Rattle.markdown_partial.specs.PartialSpaceOrTabEol.{WhitespaceAtRest}
-use Rattle.markdown_partial_link.specs.PartialDestination as PartialDestination
-use Rattle.markdown_partial_link.specs.PartialTitle as PartialTitle
+use Rattle.markdown_partial.specs.PartialDestination as PartialDestination
+use Rattle.markdown_partial.specs.PartialTitle as PartialTitle
 use Rattle.markdown_label.specs.AfterLabelParts.{PartReady, rested, names_rested}
 use Rattle.markdown_label.specs.Resource.{destination_asked, destination_rested, title_asked, front_ops, at_space, at_close, at_title, at_parenthesis, is_hopeless, spaced, destination_put, destination_after_step, title_put, title_after_step, RowReads, RowEnds, closes, or_without, and_then, after_title, between}
 use Rattle.markdown_label.specs.Resource.{after_destination_of, after_destination, opened, InReady, open_ends, destination_after_ends, missing_ends, between_ends, title_after_ends, end_ends, open_words, destination_after_words, missing_words, between_words, title_after_words, end_words, states_and_called}

@@ -1,6 +1,6 @@
 -- A resource, read part by part.
 use Rattle.std.proofs.Common.{ℕ, inl, inr, ◌≡◌, ◌==◌, Bool, true, false, ◌||◌, if◌then◌else◌, Option, Some, None, List, [], ◌∷◌, refl, sym, ap, ◌∙◌}
-use Rattle.markdown_partial_link.proofs.PartialDestinationReadings.{if-here, if-other}
+use Rattle.markdown_partial.proofs.PartialDestinationReadings.{if-here, if-other}
 use Rattle.markdown_partial.proofs.WhitespaceReadings.{behind-empty}
 use Rattle.std.proofs.lemmas.Bool.{eqb-true, or_cases}
 use Rattle.markdown_engine_content.specs.Codes.{Code}

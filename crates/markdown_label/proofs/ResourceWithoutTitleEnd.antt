@@ -16,7 +16,7 @@ use Rattle.markdown_model.specs.Grammar.{Reading, with_first, ◌>>=◌, ◌>>�
 use Rattle.markdown_model.specs.Resource.{begins_title, title, title_between, title_names}
 use Rattle.markdown_model.specs.Whitespace.{space_or_tab_eol, spaces_across, spaces_on_line, begins_filled_line}
 use Rattle.markdown_model.proofs.GrammarSteps.{if-true, and-left}
-use Rattle.markdown_partial_link.proofs.EscapedTextReadings.{text-end, text-next, text-stops, text-taken}
+use Rattle.markdown_partial.proofs.EscapedTextReadings.{text-end, text-next, text-stops, text-taken}
 use Rattle.markdown_label.specs.Resource.{closes, or_without, and_then, after_title, between}
 use Rattle.markdown_label.proofs.ResourceReadings.{closes-none}
 

@@ -29,7 +29,7 @@ use Rattle.markdown_model.specs.Setting.{Setting, is_defined}
 use Rattle.markdown_model.specs.SingleConstructs.{Start, outcome, outcome_at, label_end_here}
 use Rattle.markdown_label.specs.AfterLabelParts.{names_rested, PartReady}
 use Rattle.markdown_label.specs.Resource as Resource
-use Rattle.markdown_partial_link.specs.PartialLabel as PartialLabel
+use Rattle.markdown_partial.specs.PartialLabel as PartialLabel
 use Rattle.markdown_util.specs.Identifier.{identifier_of}
 use Rattle.markdown_label.specs.LabelFields.{AreOrdered, bars, with_kind, as_link, labelled, loosened}
 use Rattle.markdown_label.specs.LabelSetting.{setting_in, IsListed}

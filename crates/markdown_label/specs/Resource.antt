@@ -23,8 +23,8 @@ use Rattle.markdown_model.specs.Resource.{begins_title, destination, resource, r
 use Rattle.markdown_model.specs.Whitespace.{space_or_tab_eol}
 use Rattle.markdown_partial.specs.PartialSpaceOrTabEol as PartialSpaceOrTabEol
 use Rattle.markdown_partial.specs.PartialSpaceOrTabEol.{eol_asked}
-use Rattle.markdown_partial_link.specs.PartialDestination as PartialDestination
-use Rattle.markdown_partial_link.specs.PartialTitle as PartialTitle
+use Rattle.markdown_partial.specs.PartialDestination as PartialDestination
+use Rattle.markdown_partial.specs.PartialTitle as PartialTitle
 use Rattle.markdown_label.specs.AfterLabelParts.{names_rested, PartReady}
 
 -- The scratch fields.

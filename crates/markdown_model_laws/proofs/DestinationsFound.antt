@@ -1,6 +1,6 @@
 -- Destinations: where their reading holds.
 use Rattle.std.proofs.Common.{◌≡◌, inl, inr, ℕ, not, Bool, true, false, Some, List, [], ◌∷◌, ◌++◌, refl, sym, ap, subst, ◌∙◌, arith}
-use Rattle.markdown_partial_link.proofs.PartialDestinationReadings.{if-here, if-other}
+use Rattle.markdown_partial.proofs.PartialDestinationReadings.{if-here, if-other}
 use Rattle.std.proofs.lemmas.Bool.{not-true}
 use Rattle.markdown_engine_content.specs.Codes.{Code}
 use Rattle.markdown_engine_content.specs.Tree.{Forest, leaf_codes}

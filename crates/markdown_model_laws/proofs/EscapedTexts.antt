@@ -5,7 +5,7 @@ use Rattle.std.proofs.lemmas.List.{reverse-append, reverse-reverse}
 use Rattle.markdown_engine_content.specs.Codes.{Code}
 use Rattle.markdown_model.specs.CodeTests.{is_value, next_is}
 use Rattle.markdown_model.specs.Grammar.{with_first, escaped_from, span}
-use Rattle.markdown_partial_link.proofs.EscapedTextReadings.{Behind, first-some, text-end, text-taken, text-stops, text-refused, text-next, text}
+use Rattle.markdown_partial.proofs.EscapedTextReadings.{Behind, first-some, text-end, text-taken, text-stops, text-refused, text-next, text}
 use Rattle.markdown_model_laws.specs.LinkParts.{is_odd, escapes_next}
 
 -- Whether a code is escaped, from the front: after a code, by whether that one was.

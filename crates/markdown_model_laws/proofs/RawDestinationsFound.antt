@@ -9,8 +9,8 @@ use Rattle.markdown_model.specs.CodeTests.{is_value, is_among, next_is, is_white
 use Rattle.markdown_model.specs.Grammar.{with_first}
 use Rattle.markdown_model.specs.Resource.{raw_from}
 use Rattle.markdown_model.proofs.GrammarSteps.{and-left, and-right}
-use Rattle.markdown_partial_link.proofs.PartialDestinationReadings.{raw-end, raw-open-end, raw-taken, raw-bare, raw-stop, raw-space, raw-control, raw-open, raw-deep, raw-close, raw-next}
-use Rattle.markdown_partial_link.proofs.EscapedTextReadings.{Behind, first-some}
+use Rattle.markdown_partial.proofs.PartialDestinationReadings.{raw-end, raw-open-end, raw-taken, raw-bare, raw-stop, raw-space, raw-control, raw-open, raw-deep, raw-close, raw-next}
+use Rattle.markdown_partial.proofs.EscapedTextReadings.{Behind, first-some}
 use Rattle.markdown_model_laws.specs.LinkParts.{bare_after}
 use Rattle.markdown_model_laws.proofs.BoolParts.{or-parts, or-last, other}
 use Rattle.markdown_model_laws.proofs.EscapedTexts.{turned, slash_after, after-last, escapes-after, taken-turned, next-turned}

@@ -1,6 +1,6 @@
 -- Resources: where their reading holds.
 use Rattle.std.proofs.Common.{◌≡◌, ◌==◌, ◌⊎◌, inl, inr, ◌+◌, ◌≤◌, ◌&&◌, ◌||◌, Bool, true, false, if◌then◌else◌, Some, None, List, [], ◌∷◌, ◌++◌, refl, sym, ap, subst, ◌∙◌, arith, codes}
-use Rattle.markdown_partial_link.proofs.PartialDestinationReadings.{if-here, if-other}
+use Rattle.markdown_partial.proofs.PartialDestinationReadings.{if-here, if-other}
 use Rattle.std.proofs.lemmas.Bool.{eqb-true, or_parts}
 use Rattle.markdown_engine_content.specs.Codes.{Code}
 use Rattle.markdown_engine_content.specs.Tree.{Forest, empty, ◌⊕◌, leaf, group, leaf_codes}

@@ -17,3 +17,6 @@ pub mod TrimEdits
 pub mod TrimPassLaw
 pub mod DataOnLinesLemmas
 pub mod TrimmedDataInDocument
+pub mod EscapedTextReadings
+pub mod LinkedTreeLemmas
+pub mod PartialDestinationReadings

@@ -8,3 +8,8 @@ pub mod TrimmedData
 pub mod TrimmedEvents
 -- What serves proofs: what functions and proofs promise each other.
 pub mod DataOnLines
+pub mod LinkedText
+pub mod LinkedTreeOps
+pub mod PartialDestination
+pub mod PartialTitle
+pub mod PartialLabel

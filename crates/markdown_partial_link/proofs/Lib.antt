@@ -1,7 +1,4 @@
 pub mod BoolLemmas
-pub mod LinkedTreeLemmas
-pub mod EscapedTextReadings
-pub mod PartialDestinationReadings
 pub mod PartialDestinationLaws
 pub mod LinkedTextLines
 pub mod LinkedTextReadings

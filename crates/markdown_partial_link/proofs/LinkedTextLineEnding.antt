@@ -34,9 +34,9 @@ use Rattle.markdown_partial.specs.PartialSpaceOrTab.{at_blank}
 use Rattle.markdown_partial.proofs.WhitespaceAttempts.{eol-asked-ready, eol-asked-ends}
 use Rattle.markdown_partial.proofs.BlankCodes.{blank-ahead}
 use Rattle.markdown_partial.proofs.WhitespaceReadings.{ending-here, spacing-none}
-use Rattle.markdown_partial_link.specs.LinkedTreeOps.{linked_ops}
-use Rattle.markdown_partial_link.specs.LinkedText.{string, eol_asked_for, TextReady}
-use Rattle.markdown_partial_link.proofs.LinkedTreeLemmas.{linked-past}
+use Rattle.markdown_partial.specs.LinkedTreeOps.{linked_ops}
+use Rattle.markdown_partial.specs.LinkedText.{string, eol_asked_for, TextReady}
+use Rattle.markdown_partial.proofs.LinkedTreeLemmas.{linked-past}
 use Rattle.markdown_partial_link.proofs.LinkedTextLines.{ending_leaves, Row-ending}
 use Rattle.markdown_partial_link.proofs.BoolLemmas.{same-value}
 use Rattle.markdown_model.proofs.LeafCodes.{span-append}

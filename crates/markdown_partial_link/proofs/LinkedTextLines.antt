@@ -13,9 +13,9 @@ use Rattle.markdown_model.specs.TextLines.{joins, lines_of, linked_leaf, line_le
 use Rattle.markdown_model.specs.Resource.{string_group}
 use Rattle.markdown_plan.proofs.FirstStretch.{stretch-span}
 use Rattle.markdown_model.proofs.ReadingsCover.{codes-lines}
-use Rattle.markdown_partial_link.specs.LinkedTreeOps.{enter_op, linked_ops, IsRow}
-use Rattle.markdown_partial_link.specs.LinkedText.{string, enter_text, break_ops, line_of, inside_ops}
-use Rattle.markdown_partial_link.proofs.LinkedTreeLemmas.{CoversRow}
+use Rattle.markdown_partial.specs.LinkedTreeOps.{enter_op, linked_ops, IsRow}
+use Rattle.markdown_partial.specs.LinkedText.{string, enter_text, break_ops, line_of, inside_ops}
+use Rattle.markdown_partial.proofs.LinkedTreeLemmas.{CoversRow}
 use Rattle.markdown_model.proofs.DefinitionSteps.{lines_of-ending}
 use Rattle.markdown_model.proofs.GrammarSteps.{span-takes, span-none}
 

@@ -14,7 +14,7 @@ use Rattle.markdown_engine.proofs.OperationFields.{left-scratched}
 use Rattle.markdown_engine.proofs.OperationLemmas.{left-done}
 use Rattle.markdown_plan.specs.Plan.{Plan, depth_after, DoesAs}
 use Rattle.markdown_partial.specs.PartialSpaceOrTabEol.{WhitespaceAtRest}
-use Rattle.markdown_partial_link.specs.LinkedText.{joined, enter_text, ends_open, TextReady}
+use Rattle.markdown_partial.specs.LinkedText.{joined, enter_text, ends_open, TextReady}
 
 -- Links.
 

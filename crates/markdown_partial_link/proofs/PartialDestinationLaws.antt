@@ -22,12 +22,12 @@ use Rattle.markdown_model.specs.Resource.{DestinationNames, destination, raw_fro
 use Rattle.markdown_plan.specs.Plan.{Plan, preceded, DoesAs, KeepsAs}
 use Rattle.markdown_plan.specs.ScratchFields.{with_size}
 use Rattle.markdown_plan.proofs.PlanSteps.{preceded-nil, no-codes}
-use Rattle.markdown_partial_link.specs.PartialDestination.{refused, raw_on, raw_plain, raw_opens, nested, finished, names_in, control_value, bars_value, stops_value, opening, raw_opening, text_opening, closing, leaving, raw_ending, start_at, start_step, entering, enclosed_before_at, enclosed_at, escapes_enclosed, enclosed_escape_at, raw_at, escapes_raw, raw_escape_at}
-use Rattle.markdown_partial_link.specs.PartialDestination.{before_rank, StartReady, BeforeReady, EnclosedReady, RawReady, start_ends, text_then, enclosed_plan, before_plan, raw_plan, enclosed_before_ends, enclosed_ends, enclosed_escape_ends, raw_ends, raw_escape_ends, states, enclosed_before_words, enclosed_escape_words, enclosed_words, raw_escape_words, raw_words, start_words}
-use Rattle.markdown_partial_link.specs.LinkedTreeOps.{plan_of}
-use Rattle.markdown_partial_link.proofs.PartialDestinationReadings.{enclosed-none, enclosed-close, enclosed-refused, enclosed-next, enclosed-taken, enclosed-bare, text-first, destination-bracket, raw-end, raw-open-end, raw-taken, raw-bare, stops}
-use Rattle.markdown_partial_link.proofs.PartialDestinationReadings.{raw-stop, raw-space, raw-control, raw-open, raw-deep, raw-close, raw-next, destination-raw, destination-end, destination-stops, destination-control, destination-covers}
-use Rattle.markdown_partial_link.proofs.LinkedTreeLemmas.{EndsAs-linked}
+use Rattle.markdown_partial.specs.PartialDestination.{refused, raw_on, raw_plain, raw_opens, nested, finished, names_in, control_value, bars_value, stops_value, opening, raw_opening, text_opening, closing, leaving, raw_ending, start_at, start_step, entering, enclosed_before_at, enclosed_at, escapes_enclosed, enclosed_escape_at, raw_at, escapes_raw, raw_escape_at}
+use Rattle.markdown_partial.specs.PartialDestination.{before_rank, StartReady, BeforeReady, EnclosedReady, RawReady, start_ends, text_then, enclosed_plan, before_plan, raw_plan, enclosed_before_ends, enclosed_ends, enclosed_escape_ends, raw_ends, raw_escape_ends, states, enclosed_before_words, enclosed_escape_words, enclosed_words, raw_escape_words, raw_words, start_words}
+use Rattle.markdown_partial.specs.LinkedTreeOps.{plan_of}
+use Rattle.markdown_partial.proofs.PartialDestinationReadings.{enclosed-none, enclosed-close, enclosed-refused, enclosed-next, enclosed-taken, enclosed-bare, text-first, destination-bracket, raw-end, raw-open-end, raw-taken, raw-bare, stops}
+use Rattle.markdown_partial.proofs.PartialDestinationReadings.{raw-stop, raw-space, raw-control, raw-open, raw-deep, raw-close, raw-next, destination-raw, destination-end, destination-stops, destination-control, destination-covers}
+use Rattle.markdown_partial.proofs.LinkedTreeLemmas.{EndsAs-linked}
 use Rattle.markdown_partial_link.proofs.BoolLemmas.{same-value}
 use Rattle.markdown_model.proofs.GrammarSteps.{if-true, if-false, right-true}
 use Rattle.markdown_engine.specs.StateWords.{StateWords, Words, Law, GoesIn}

@@ -24,11 +24,11 @@ use Rattle.markdown_plan.specs.Plan.{Plan, preceded, DoesAs, KeepsAs}
 use Rattle.markdown_plan.specs.ScratchFields.{with_size}
 use Rattle.markdown_plan.proofs.PlanSteps.{preceded-nil, preceded-twice, no-codes}
 use Rattle.markdown_partial.specs.PartialSpaceOrTabEol.{WhitespaceAtRest}
-use Rattle.markdown_partial_link.specs.LinkedTreeOps.{plan_of}
-use Rattle.markdown_partial_link.specs.LinkedText.{ending, names_in, joined, enter_text, text_entered, TextReady, break_ops, inside_ops}
-use Rattle.markdown_partial_link.specs.PartialLabel.{rested, sized, opening, start_at, start_step, closed, refused, passing, is_short, at_break_at, leaving, inside_at, escapes, escape_at, StartReady, BreakReady, EolAfterReady, InsideReady, EscapeReady, break_rank, start_ends}
-use Rattle.markdown_partial_link.specs.PartialLabel.{text_from, fits, inside_plan, break_plan, at_break_ends, nok_ends, inside_ends, escape_ends, states_and_called, at_break_words, eol_after_words, escape_words, inside_words, nok_words, start_words, states}
-use Rattle.markdown_partial_link.proofs.LinkedTreeLemmas.{EndsAs-linked}
+use Rattle.markdown_partial.specs.LinkedTreeOps.{plan_of}
+use Rattle.markdown_partial.specs.LinkedText.{ending, names_in, joined, enter_text, text_entered, TextReady, break_ops, inside_ops}
+use Rattle.markdown_partial.specs.PartialLabel.{rested, sized, opening, start_at, start_step, closed, refused, passing, is_short, at_break_at, leaving, inside_at, escapes, escape_at, StartReady, BreakReady, EolAfterReady, InsideReady, EscapeReady, break_rank, start_ends}
+use Rattle.markdown_partial.specs.PartialLabel.{text_from, fits, inside_plan, break_plan, at_break_ends, nok_ends, inside_ends, escape_ends, states_and_called, at_break_words, eol_after_words, escape_words, inside_words, nok_words, start_words, states}
+use Rattle.markdown_partial.proofs.LinkedTreeLemmas.{EndsAs-linked}
 use Rattle.markdown_partial_link.proofs.PartialLabelReadings.{label-plain, fits-data, fits-ending, fits-none, fits-long, fits-seen, fits-unseen, label-here, label-none, label-covers}
 use Rattle.markdown_partial_link.proofs.LinkedTextLineEnding.{Passed, DoesAs-ending, ending-law}
 use Rattle.markdown_partial_link.proofs.LinkedTextReadings.{answer-none, breaks-end, breaks-stop, breaks-unfit, breaks-refused, breaks-data, breaks-ending, breaks-blank, insides-end, insides-next, insides-taken, insides-bare, leave-end, leave-stop, leave-refused, leave-ending}

@@ -15,11 +15,11 @@ use Rattle.markdown_model.specs.TextLines.{lines}
 use Rattle.markdown_model.specs.Resource.{StringNames, counted, label, between_markers, string_group}
 use Rattle.markdown_plan.specs.Plan.{preceded}
 use Rattle.markdown_plan.proofs.PassedByReadings.{Gives, IsSome, IsNothing, Gives-bind, Gives-after, Gives-test, Gives-gives, Gives-one, some-first}
-use Rattle.markdown_partial_link.specs.LinkedTreeOps.{tree_ops, plan_of}
-use Rattle.markdown_partial_link.specs.LinkedText.{ending, string, break_ops, ends_filled, answer}
-use Rattle.markdown_partial_link.specs.PartialLabel.{opening, text_from, fits, break_plan}
-use Rattle.markdown_partial_link.proofs.EscapedTextReadings.{text, Gives-text}
-use Rattle.markdown_partial_link.proofs.LinkedTreeLemmas.{CoversRow, Row-leaf, Row-last, Row-string, Row-whole}
+use Rattle.markdown_partial.specs.LinkedTreeOps.{tree_ops, plan_of}
+use Rattle.markdown_partial.specs.LinkedText.{ending, string, break_ops, ends_filled, answer}
+use Rattle.markdown_partial.specs.PartialLabel.{opening, text_from, fits, break_plan}
+use Rattle.markdown_partial.proofs.EscapedTextReadings.{text, Gives-text}
+use Rattle.markdown_partial.proofs.LinkedTreeLemmas.{CoversRow, Row-leaf, Row-last, Row-string, Row-whole}
 use Rattle.markdown_partial_link.proofs.LinkedTextLines.{Begins, AreBlank, Row-lines}
 use Rattle.markdown_partial_link.proofs.LinkedTextReadings.{filled-data, filled-ending, filled-none}
 use Rattle.markdown_partial_link.proofs.PartialTitleReadings.{of-white, filled-back, between-ops}

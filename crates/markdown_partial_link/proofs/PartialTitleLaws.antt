@@ -20,11 +20,11 @@ use Rattle.markdown_model.specs.Resource.{StringNames, title}
 use Rattle.markdown_plan.specs.Plan.{Plan, preceded, DoesAs, KeepsAs}
 use Rattle.markdown_plan.proofs.PlanSteps.{preceded-nil, preceded-twice, no-codes}
 use Rattle.markdown_partial.specs.PartialSpaceOrTabEol.{WhitespaceAtRest}
-use Rattle.markdown_partial_link.specs.LinkedTreeOps.{plan_of}
-use Rattle.markdown_partial_link.specs.LinkedText.{closing, ending, names_in, joined, enter_text, text_entered, TextReady, ends_filled}
-use Rattle.markdown_partial_link.specs.PartialTitle.{begun, rested, opening, opened, start_at, start_step, beginning, begin_at, passing, at_break_at, leaving, inside_at, escapes, escape_at, is_closer, begin_rank, break_rank, StartReady, BeginReady, BreakReady, AfterEolReady, InsideReady, start_ends}
-use Rattle.markdown_partial_link.specs.PartialTitle.{inside_plan, break_plan, begin_plan, begin_ends, at_break_ends, nok_ends, inside_ends, escape_ends, states_and_called, after_eol_words, at_break_words, begin_words, escape_words, inside_words, nok_words, start_words, states}
-use Rattle.markdown_partial_link.proofs.LinkedTreeLemmas.{EndsAs-linked}
+use Rattle.markdown_partial.specs.LinkedTreeOps.{plan_of}
+use Rattle.markdown_partial.specs.LinkedText.{closing, ending, names_in, joined, enter_text, text_entered, TextReady, ends_filled}
+use Rattle.markdown_partial.specs.PartialTitle.{begun, rested, opening, opened, start_at, start_step, beginning, begin_at, passing, at_break_at, leaving, inside_at, escapes, escape_at, is_closer, begin_rank, break_rank, StartReady, BeginReady, BreakReady, AfterEolReady, InsideReady, start_ends}
+use Rattle.markdown_partial.specs.PartialTitle.{inside_plan, break_plan, begin_plan, begin_ends, at_break_ends, nok_ends, inside_ends, escape_ends, states_and_called, after_eol_words, at_break_words, begin_words, escape_words, inside_words, nok_words, start_words, states}
+use Rattle.markdown_partial.proofs.LinkedTreeLemmas.{EndsAs-linked}
 use Rattle.markdown_partial_link.proofs.LinkedTextLineEnding.{Passed, DoesAs-ending, ending-law}
 use Rattle.markdown_partial_link.proofs.LinkedTextReadings.{filled-data, filled-ending, filled-none, breaks-end, breaks-stop, breaks-data, breaks-ending, breaks-blank, insides-end, insides-next, insides-taken, insides-bare, leave-end, leave-stop, leave-ending}
 use Rattle.markdown_partial_link.proofs.LinkedTextSteps.{open-append, open-closed, open-rest, open-second, text-after, text-same, text-kept, rest-joined, DoesAs-fails, state-by, stays-data, moves-data, depth-data}

@@ -13,11 +13,11 @@ use Rattle.markdown_model.specs.TextLines.{lines}
 use Rattle.markdown_model.specs.Resource.{StringNames, title, title_between, between_markers, string_group}
 use Rattle.markdown_plan.specs.Plan.{preceded}
 use Rattle.markdown_plan.proofs.PassedByReadings.{Gives, IsSome, IsNothing, Gives-bind, Gives-after, Gives-either, Gives-test, Gives-gives, Gives-one, some-first}
-use Rattle.markdown_partial_link.specs.LinkedTreeOps.{linked_ops, tree_ops, plan_of}
-use Rattle.markdown_partial_link.specs.LinkedText.{closing, ending, string, break_ops, ends_filled, answer}
-use Rattle.markdown_partial_link.specs.PartialTitle.{opening, is_closer, text_from, begin_plan}
-use Rattle.markdown_partial_link.proofs.EscapedTextReadings.{Text, text-stops, text, Gives-text}
-use Rattle.markdown_partial_link.proofs.LinkedTreeLemmas.{CoversRow, Row-leaf, Row-last, Row-string, Row-whole}
+use Rattle.markdown_partial.specs.LinkedTreeOps.{linked_ops, tree_ops, plan_of}
+use Rattle.markdown_partial.specs.LinkedText.{closing, ending, string, break_ops, ends_filled, answer}
+use Rattle.markdown_partial.specs.PartialTitle.{opening, is_closer, text_from, begin_plan}
+use Rattle.markdown_partial.proofs.EscapedTextReadings.{Text, text-stops, text, Gives-text}
+use Rattle.markdown_partial.proofs.LinkedTreeLemmas.{CoversRow, Row-leaf, Row-last, Row-string, Row-whole}
 use Rattle.markdown_partial_link.proofs.LinkedTextLines.{text-group, Row-lines}
 use Rattle.markdown_partial_link.proofs.BoolLemmas.{same-value}
 use Rattle.markdown_model.proofs.GrammarSteps.{bind-some, bind-none, after-some, after-none, one-here, one-not, provided-true, provided-false, either-first, either-second}

@@ -1,7 +1,2 @@
 -- The definitions of this crate.
 -- What has to be believed: what public contracts and the theorem cite.
-pub mod LinkedTreeOps
-pub mod PartialDestination
-pub mod LinkedText
-pub mod PartialTitle
-pub mod PartialLabel

@@ -5,7 +5,7 @@ ghost use Rattle.std.specs.Prelude.{◌≡◌, OnOk, OnErr, IsTrue, true};
 ghost use Rattle.markdown_engine.specs.Operations.{LinkedBefore};
 ghost use Rattle.markdown_engine.specs.declared.state.StateName.TheVariants.{SpaceOrTabEolStart};
 ghost use Rattle.markdown_engine.specs.Operations.{scratched};
-ghost use Rattle.markdown_partial_link.specs.LinkedText.{text_entered, eol_asked_for};
+ghost use Rattle.markdown_partial.specs.LinkedText.{text_entered, eol_asked_for};
 
 use markdown_engine::state::StateName;
 use markdown_engine::tokenizer::Tokenizer;

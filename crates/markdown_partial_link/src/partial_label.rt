@@ -21,7 +21,7 @@
 
 ghost use Rattle.std.specs.Prelude.{◌≡◌, ◌≤◌, IfOk, OnErr, IsTrue, true};
 ghost use Rattle.markdown_engine.specs.Operations.{HasCode};
-ghost use Rattle.markdown_partial_link.specs.PartialLabel.{start_step, closed, at_break_step, eol_after_step, nok_step, passing, inside_step, escape_step, BreakReady, InsideReady, EscapeReady};
+ghost use Rattle.markdown_partial.specs.PartialLabel.{start_step, closed, at_break_step, eol_after_step, nok_step, passing, inside_step, escape_step, BreakReady, InsideReady, EscapeReady};
 
 use crate::linked_text::{ask_for_ending, enter_text};
 use markdown_engine::state::{State, StateName};

@@ -22,7 +22,7 @@
 
 ghost use Rattle.std.specs.Prelude.{◌≡◌, IfOk, OnErr, IsTrue, true};
 ghost use Rattle.markdown_engine.specs.Operations.{IsOpen, LinkedBefore, current_of};
-ghost use Rattle.markdown_partial_link.specs.PartialTitle.{start_step, begin_step, at_break_step, after_eol_step, nok_step, inside_step, inside_stops, escape_step, BreakReady, InsideReady};
+ghost use Rattle.markdown_partial.specs.PartialTitle.{start_step, begin_step, at_break_step, after_eol_step, nok_step, inside_step, inside_stops, escape_step, BreakReady, InsideReady};
 
 use crate::linked_text::{ask_for_ending, enter_text};
 use markdown_engine::state::{State, StateName};

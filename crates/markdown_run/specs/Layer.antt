@@ -17,9 +17,9 @@ use Rattle.markdown_attention.specs.Attention as Attention
 use Rattle.markdown_label.specs.LabelEnd as LabelEnd
 use Rattle.markdown_label.specs.LabelStarts as LabelStarts
 use Rattle.markdown_leaf.specs.Autolink as Autolink
-use Rattle.markdown_partial_link.specs.PartialDestination as PartialDestination
-use Rattle.markdown_partial_link.specs.PartialTitle as PartialTitle
-use Rattle.markdown_partial_link.specs.PartialLabel as PartialLabel
+use Rattle.markdown_partial.specs.PartialDestination as PartialDestination
+use Rattle.markdown_partial.specs.PartialTitle as PartialTitle
+use Rattle.markdown_partial.specs.PartialLabel as PartialLabel
 use Rattle.markdown_leaf.specs.CharacterEscape as CharacterEscape
 use Rattle.markdown_leaf.specs.CharacterReference as CharacterReference
 use Rattle.markdown_leaf.specs.HardBreakEscape as HardBreakEscape

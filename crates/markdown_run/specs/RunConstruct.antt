@@ -29,9 +29,9 @@ use Rattle.markdown_model.specs.Whitespace.{space_or_tab, space_or_tab_eol}
 use Rattle.markdown_partial.specs.PartialSpaceOrTabEol as PartialSpaceOrTabEol
 use Rattle.markdown_partial.specs.PartialSpaceOrTab as PartialSpaceOrTab
 use Rattle.markdown_run_row.specs.Row.{makes, past_mark}
-use Rattle.markdown_partial_link.specs.PartialDestination as PartialDestination
-use Rattle.markdown_partial_link.specs.PartialTitle as PartialTitle
-use Rattle.markdown_partial_link.specs.PartialLabel as PartialLabel
+use Rattle.markdown_partial.specs.PartialDestination as PartialDestination
+use Rattle.markdown_partial.specs.PartialTitle as PartialTitle
+use Rattle.markdown_partial.specs.PartialLabel as PartialLabel
 
 -- The states that start a construct, each with what it asks for. One that is tried in a text and reads one tree (`tried_reading`) asks what its
 -- first state does: that the scratch fields that it counts in are at rest, for a span and a literal also that fewer codes are left than a

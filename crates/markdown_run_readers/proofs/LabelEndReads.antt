@@ -24,8 +24,8 @@ use Rattle.markdown_model.specs.LabelEnd.{after_label, bytes_between, is_footnot
 use Rattle.markdown_model.specs.Setting.{Setting, is_defined}
 use Rattle.markdown_model.specs.SingleConstructs.{outcome}
 use Rattle.markdown_model.proofs.GrammarSteps.{bind-some, switched-on}
-use Rattle.markdown_partial_link.specs.LinkedTreeOps.{linked_ops}
-use Rattle.markdown_partial_link.proofs.LinkedTreeLemmas.{CoversRow, linked-past}
+use Rattle.markdown_partial.specs.LinkedTreeOps.{linked_ops}
+use Rattle.markdown_partial.proofs.LinkedTreeLemmas.{CoversRow, linked-past}
 use Rattle.markdown_util.specs.Identifier.{identifier_of}
 use Rattle.markdown_run_readers.specs.PlainResource.{may_make, takes_resource}
 

@@ -32,9 +32,9 @@ use Rattle.markdown_model.specs.LabelEnd.{after_label, bytes_between, full_refer
 use Rattle.markdown_model.specs.Resource.{counted, label, reference_names, string_group}
 use Rattle.markdown_model.specs.Setting.{Setting, is_defined}
 use Rattle.markdown_model.proofs.GrammarSteps.{after-some, bind-some, if-false, if-true, one-here, provided-true, switched-on}
-use Rattle.markdown_partial_link.specs.LinkedTreeOps.{linked_ops}
+use Rattle.markdown_partial.specs.LinkedTreeOps.{linked_ops}
 use Rattle.markdown_partial_link.proofs.BoolLemmas.{same-value}
-use Rattle.markdown_partial_link.proofs.LinkedTreeLemmas.{CoversRow}
+use Rattle.markdown_partial.proofs.LinkedTreeLemmas.{CoversRow}
 use Rattle.markdown_plan.specs.Characters.{ReadsText, bytes_of}
 use Rattle.markdown_plan.proofs.CharacterPlaces.{code-begins, text-places}
 use Rattle.markdown_plan.proofs.CharactersAlongContent.{text-moved}

@@ -39,14 +39,14 @@ use Rattle.markdown_model.specs.Whitespace.{space_or_tab_eol}
 use Rattle.markdown_model.proofs.GrammarSteps.{after-some, bind-none, bind-some, either-second, either-some, if-false, if-true, one-here, one-other, provided-true, span-none, span-takes}
 use Rattle.markdown_partial.proofs.WhitespaceReadings.{ending-none, spacing-none, spacing-then}
 use Rattle.markdown_partial.specs.PartialSpaceOrTabEol.{at_ending}
-use Rattle.markdown_partial_link.specs.LinkedText.{line_of, string}
-use Rattle.markdown_partial_link.specs.LinkedTreeOps.{linked_ops}
-use Rattle.markdown_partial_link.specs.PartialDestination.{enclosed_stops, raw_stops}
+use Rattle.markdown_partial.specs.LinkedText.{line_of, string}
+use Rattle.markdown_partial.specs.LinkedTreeOps.{linked_ops}
+use Rattle.markdown_partial.specs.PartialDestination.{enclosed_stops, raw_stops}
 use Rattle.markdown_partial_link.proofs.BoolLemmas.{same-value}
-use Rattle.markdown_partial_link.proofs.EscapedTextReadings.{text-next, text-stops}
+use Rattle.markdown_partial.proofs.EscapedTextReadings.{text-next, text-stops}
 use Rattle.markdown_partial_link.proofs.LinkedTextLines.{lines-data}
-use Rattle.markdown_partial_link.proofs.LinkedTreeLemmas.{CoversRow, Row-group, Row-last, Row-leaf, Row-linked, Row-whole, linked-past}
-use Rattle.markdown_partial_link.proofs.PartialDestinationReadings.{if-here, if-other, raw-next, raw-stop}
+use Rattle.markdown_partial.proofs.LinkedTreeLemmas.{CoversRow, Row-group, Row-last, Row-leaf, Row-linked, Row-whole, linked-past}
+use Rattle.markdown_partial.proofs.PartialDestinationReadings.{if-here, if-other, raw-next, raw-stop}
 use Rattle.markdown_plan.proofs.ByteTestLemmas.{no-control}
 use Rattle.markdown_run_readers.specs.PlacesPassed.{is_some_value, marker_ops, with_enter, with_exit}
 use Rattle.markdown_run_readers.specs.PlainResource.{begins_enclosed, between_read, closes_at, closes_behind, destination_at, destination_read, enclosed_read, is_quote, is_some_blank, may_make, past_between, past_destination, past_quoted, past_title}

@@ -12,7 +12,7 @@ use Rattle.markdown_engine.specs.Operations.{Enter, EnterLink, Exit, applied, cu
 use Rattle.markdown_engine.specs.declared.tokenizer.LabelStart as Kept
 use Rattle.markdown_engine.specs.declared.tokenizer.Tokenizer.{Tokenizer}
 use Rattle.markdown_label.specs.LabelEnd.{Ends, is_on}
-use Rattle.markdown_partial_link.specs.PartialDestination.{enclosed_stops, raw_stops}
+use Rattle.markdown_partial.specs.PartialDestination.{enclosed_stops, raw_stops}
 use Rattle.markdown_run_readers.specs.PlacesPassed.{is_some_value, marker_ops, with_enter, with_exit}
 
 -- Where one stands.

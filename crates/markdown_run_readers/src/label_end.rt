@@ -13,7 +13,7 @@ ghost use Rattle.markdown_engine.specs.Operations.{HasCode, current_of, done};
 ghost use Rattle.markdown_engine_content.specs.Place.{code_at, moved};
 ghost use Rattle.markdown_engine_content.specs.Stretch.{is_free};
 ghost use Rattle.markdown_label.specs.LabelEnd.{Ends, StartReady, end_ops};
-ghost use Rattle.markdown_partial_link.specs.PartialDestination.{enclosed_stops, raw_stops};
+ghost use Rattle.markdown_partial.specs.PartialDestination.{enclosed_stops, raw_stops};
 ghost use Rattle.markdown_run_readers.specs.PlacesPassed.{is_some_value};
 ghost use Rattle.markdown_run_readers.specs.PlainReference.{reference_here};
 ghost use Rattle.markdown_run_readers.specs.PlainResource.{EndsOrStays, between_read, closes_behind, destination_at, destination_read, enclosed_read, has_markers, may_make, past_between, past_destination, past_title, plain_at, plain_here, raw_read, resource_read, stands_between, tail_at, tail_read, takes_resource, text_read, title_at, title_read, title_stops};

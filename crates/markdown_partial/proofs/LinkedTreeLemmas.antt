@@ -18,7 +18,7 @@ use Rattle.markdown_plan.specs.Plan.{DoesAs}
 use Rattle.markdown_plan.proofs.PassedByReadings.{Gives, some-first}
 use Rattle.markdown_model.specs.Resource.{string_group}
 use Rattle.markdown_plan.proofs.PlanSteps.{ahead-scratched}
-use Rattle.markdown_partial_link.specs.LinkedTreeOps.{enter_op, has_content, linked_ops, tree_ops, plan_of, IsRow}
+use Rattle.markdown_partial.specs.LinkedTreeOps.{enter_op, has_content, linked_ops, tree_ops, plan_of, IsRow}
 
 -- One leaf.
 

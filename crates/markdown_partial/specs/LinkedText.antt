@@ -15,7 +15,7 @@ use Rattle.markdown_model.specs.TextLines.{lines}
 use Rattle.markdown_model.specs.Resource.{StringNames}
 use Rattle.markdown_partial.specs.PartialSpaceOrTabEol.{eol_asked, WhitespaceAtRest}
 use Rattle.markdown_partial.specs.PartialSpaceOrTab.{most}
-use Rattle.markdown_partial_link.specs.LinkedTreeOps.{enter_op, linked_ops}
+use Rattle.markdown_partial.specs.LinkedTreeOps.{enter_op, linked_ops}
 
 -- What the states share.
 

@@ -15,7 +15,7 @@ use Rattle.markdown_model.specs.Grammar.{escaped_from}
 use Rattle.markdown_model.specs.Resource.{StringNames, title}
 use Rattle.markdown_plan.specs.Plan.{Plan, preceded, DoesAs}
 use Rattle.markdown_plan.specs.ScratchFields.{AreOpen}
-use Rattle.markdown_partial_link.specs.LinkedText.{names_in, joined, text_entered, closing, ending, eol_asked_for, ends_open, TextReady, break_ops, inside_ops, ends_filled, answer}
+use Rattle.markdown_partial.specs.LinkedText.{names_in, joined, text_entered, closing, ending, eol_asked_for, ends_open, TextReady, break_ops, inside_ops, ends_filled, answer}
 use Rattle.markdown_engine.specs.StateWords.{StateWords}
 use Rattle.markdown_partial.specs.PartialSpaceOrTabEol as PartialSpaceOrTabEol
 use Rattle.markdown_engine.specs.declared.state.StateName.{StateName}

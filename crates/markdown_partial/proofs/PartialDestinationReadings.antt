@@ -11,10 +11,10 @@ use Rattle.markdown_model.specs.Grammar.{Reading, ◌>>=◌, gives, provided, if
 use Rattle.markdown_model.specs.Resource.{DestinationNames, destination, literal_destination, raw_destination, raw_from, string_group}
 use Rattle.markdown_plan.specs.Plan.{preceded}
 use Rattle.markdown_plan.proofs.PassedByReadings.{Gives, Read, IsSome, Gives-bind, Gives-after, Gives-provided, Gives-gives, Gives-one, some-first}
-use Rattle.markdown_partial_link.specs.PartialDestination.{opening, raw_opening, text_opening, closing, ending, raw_ending, text_then, bracketed, enclosed_plan, before_plan, raw_plan}
-use Rattle.markdown_partial_link.specs.LinkedTreeOps.{linked_ops, tree_ops, plan_of}
-use Rattle.markdown_partial_link.proofs.EscapedTextReadings.{Behind, first-some, Text, text-end, text-taken, text-stops, text-refused, text-next, text-bare, text, Gives-text}
-use Rattle.markdown_partial_link.proofs.LinkedTreeLemmas.{CoversRow, Row-leaf, Row-last, Row-linked, Row-string, Row-whole}
+use Rattle.markdown_partial.specs.PartialDestination.{opening, raw_opening, text_opening, closing, ending, raw_ending, text_then, bracketed, enclosed_plan, before_plan, raw_plan}
+use Rattle.markdown_partial.specs.LinkedTreeOps.{linked_ops, tree_ops, plan_of}
+use Rattle.markdown_partial.proofs.EscapedTextReadings.{Behind, first-some, Text, text-end, text-taken, text-stops, text-refused, text-next, text-bare, text, Gives-text}
+use Rattle.markdown_partial.proofs.LinkedTreeLemmas.{CoversRow, Row-leaf, Row-last, Row-linked, Row-string, Row-whole}
 use Rattle.markdown_model.proofs.GrammarSteps.{bind-some, bind-none, after-some, after-none, one-here, provided-true, provided-false}
 
 -- Between the brackets.
