@@ -41,12 +41,8 @@ fn append(tokenizer: &mut Tokenizer) -> Result<(), AllocError>
     ensures err { OnErr result (IsTrue tokenizer.new.failed) }
 {
     tokenizer.enter(Name::CharacterEscape)?;
-    tokenizer.enter(Name::CharacterEscapeMarker)?;
-    tokenizer.consume();
-    tokenizer.exit(Name::CharacterEscapeMarker)?;
-    tokenizer.enter(Name::CharacterEscapeValue)?;
-    tokenizer.consume();
-    tokenizer.exit(Name::CharacterEscapeValue)?;
+    tokenizer.take(Name::CharacterEscapeMarker)?;
+    tokenizer.take(Name::CharacterEscapeValue)?;
     tokenizer.exit(Name::CharacterEscape)
 }
 
