@@ -55,7 +55,7 @@ use Rattle.markdown_run_readers.proofs.InnerUnderscores.{text-read}
 use Rattle.markdown_run_readers.proofs.TextDataElements.{text-single}
 use Rattle.markdown_run_readers.specs.TextStops.{reader_stops, text_stops}
 use Rattle.markdown_run.specs.ElementsOfText.{indexed, data_stops, MayTry, IsReady, EndsAt, EndsByData, LeadsTo, Passes, Stays, ReadsElement}
-use Rattle.markdown_run.specs.Layer.{inline, text-within}
+use Rattle.markdown_run_states.specs.Layer.{inline, text-within}
 use Rattle.markdown_run.specs.RunConstruct.{Asks, IsConstruct, EndsBy, ConstructEnds}
 use Rattle.markdown_run_readers.specs.ReaderEnds.{ReadsOrStays}
 use Rattle.markdown_run.proofs.IndexedRows.{advances-indexed, mark-indexed, row-alone}

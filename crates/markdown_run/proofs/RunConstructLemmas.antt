@@ -23,7 +23,7 @@ use Rattle.markdown_run_row.specs.Row.{past_mark}
 use Rattle.markdown_run_text.specs.TextContent.{tried_reading}
 use Rattle.markdown_run.specs.RunConstruct.{IsConstruct, OtherAsks, Asks, chain_before, fields_after, start_reading, EndsOrLoses, OtherEnds, EndsBy, ConstructEnds}
 use Rattle.markdown_run_readers.proofs.LabelStartConstructs.{image-begins, link-begins, footnote-begins, image-not, link-not, footnote-not}
-use Rattle.markdown_run.specs.Layer.{ends_of, ready_of}
+use Rattle.markdown_run_states.specs.Layer.{ends_of, ready_of}
 
 -- U with the events, the edits, the open names and the place of T
 abbrev pub put_back : Tokenizer → Tokenizer → Tokenizer

@@ -2,7 +2,7 @@
 ghost use Rattle.std.specs.Prelude.{◌≡◌, ◌-◌, false, [], take, drop, map, length, IfOk, IsErr, OnErr, OnOk, IsTrue};
 ghost use Rattle.std.specs.List.{All};
 ghost use Rattle.markdown_run.specs.RunConstruct.{IsConstruct, ConstructEnds};
-ghost use Rattle.markdown_run.specs.Layer.{ready_of};
+ghost use Rattle.markdown_run_states.specs.Layer.{ready_of};
 ghost use Rattle.markdown_run.specs.RunWithPasses.{may_end_of, MayFinishPlain, MayMerge, MayPass, IsFoundFrom, MayPassText, IsFoundInText, IsFoundBehind, begun_text};
 ghost use Rattle.markdown_run.specs.ElementsOfText.{KnowsNothing, forgotten};
 ghost use Rattle.markdown_engine_events.specs.EventChains.{chained};
@@ -16,8 +16,6 @@ ghost use Rattle.markdown_run_leaves.specs.InnermostEvents.{IsInOrder, covered, 
 ghost use Rattle.markdown_model.specs.InlineTree.{label_tree, string_events, text_events};
 
 use crate::elements::{end_text, read_text};
-use crate::resolve;
-use crate::state::Inline;
 use markdown_engine::resolve::ResolveName;
 use markdown_engine::state::StateName;
 use markdown_engine::tokenizer::Tokenizer;
@@ -32,6 +30,8 @@ use markdown_lists::seq::Seq;
 use markdown_partial::partial_data;
 pub use markdown_run_leaves::leaf::{Leaf, Leaves};
 pub use markdown_run_leaves::leaves;
+use markdown_run_states::resolve;
+use markdown_run_states::state::Inline;
 use markdown_run_text::text;
 use std::alloc::{AllocError, Global};
 use std::mem;

@@ -12,7 +12,7 @@ use Rattle.markdown_model.specs.Setting.{Setting}
 use Rattle.markdown_label_pass.specs.Brackets.{Brackets, grouped}
 use Rattle.markdown_label_pass.specs.LabelsHandedOver.{HasBrackets, unlabelled}
 use Rattle.markdown_run_text.specs.ContentPasses.{GroupsLabels, PairsRuns, resolves_of}
-use Rattle.markdown_run.proofs.resolve.dispatch.Goals as goal
+use Rattle.markdown_run_states.proofs.resolve.dispatch.Goals as goal
 
 -- what the pass of runs ensures, put together
 pairs-runs : {A E : Type 0} (o : Result A E) (T U : Tokenizer) → OnOk o (U ≡ record T { events = U.events; tokenize_state = record T.tokenize_state { probes = U.tokenize_state.probes } })

@@ -1,7 +1,7 @@
 //! The states of inline content by name.
 ghost use Rattle.std.specs.Prelude.{◌≡◌, false, IfOk, IsErr, OnErr, IsTrue};
-ghost use Rattle.markdown_run.specs.Layer.{ready_of, step_of, ends_of, weight_of, stops_of, laws_of};
-ghost use Rattle.markdown_run.specs.Layer.Steady.{steady_of};
+ghost use Rattle.markdown_run_states.specs.Layer.{ready_of, step_of, ends_of, weight_of, stops_of, laws_of};
+ghost use Rattle.markdown_run_states.specs.Layer.Steady.{steady_of};
 ghost use Rattle.markdown_run_text.specs.ContentPasses.{may_resolve_of, resolves_of};
 
 use crate::{attention, label_end, resolve};

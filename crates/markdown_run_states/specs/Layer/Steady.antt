@@ -7,7 +7,7 @@ use Rattle.markdown_leaf.proofs.AutolinkLaws as AutolinkLaws
 use Rattle.markdown_leaf.proofs.RawTextLaws as RawTextLaws
 use Rattle.markdown_partial.proofs.PartialDataLaws as PartialDataLaws
 use Rattle.markdown_partial_link.proofs.LinkSteadyLaws as StringSteady
-use Rattle.markdown_run.specs.Layer.{ready_of, step_of, stops_of}
+use Rattle.markdown_run_states.specs.Layer.{ready_of, step_of, stops_of}
 
 no-bytes : (set : List ℕ) → None ≡ Some set → ⊥
 no-bytes set e = cc

@@ -2,8 +2,8 @@ use Rattle.std.proofs.Common.{subst}
 use Rattle.markdown_engine.specs.declared.state.StateName.{StateName}
 use Rattle.markdown_leaf_gfm.specs.GfmAutolinkLiteral.{LiteralReady, PathReady, CodeReady, LookReady}
 use Rattle.markdown_leaf_gfm.proofs.TrailChecks.{may-class, may-count, trail-ready}
-use Rattle.markdown_run.specs.Layer.{ready_of}
-use Rattle.markdown_run.proofs.state.dispatch.Goals as goal
+use Rattle.markdown_run_states.specs.Layer.{ready_of}
+use Rattle.markdown_run_states.proofs.state.dispatch.Goals as goal
 
 pub domain_inside-requires : goal.domain_inside-requires
 domain_inside-requires c =
