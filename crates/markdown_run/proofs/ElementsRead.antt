@@ -44,12 +44,12 @@ use Rattle.markdown_run_row.specs.RunOverElements.{AreReadAsData, Advances, Data
 use Rattle.markdown_run_row.proofs.ConstructNodes.{node-of}
 use Rattle.markdown_run_row.proofs.ElementSteps.{some-ahead, advances-finishes, data-advances, node-advances, run-advances}
 use Rattle.markdown_run_row.proofs.RowFields.{lost-within}
-use Rattle.markdown_run_text.specs.TextContent.{StandsAlone, other_markers, sole_try, span_markers, text_choice_of, text_passed, text_setting, tried_reading}
+use Rattle.markdown_run_row.specs.TextContent.{StandsAlone, other_markers, sole_try, span_markers, text_choice_of, text_passed, text_setting, tried_reading}
 use Rattle.markdown_run_text.proofs.TextContentLaws.{SoleBy, SoleOrAlone, sole-or-alone, states_and_called, angle-row, slash-row}
-use Rattle.markdown_run_text.proofs.TextElements.{is_marker}
-use Rattle.markdown_run_text.proofs.TextLabelTries.{image-advances, image-alone, footnote-advances, link-advances, bracket-alone, made-advances, failed-advances, end-alone}
+use Rattle.markdown_run_row.proofs.TextElements.{is_marker}
+use Rattle.markdown_run_row.proofs.TextLabelTries.{image-advances, image-alone, footnote-advances, link-advances, bracket-alone, made-advances, failed-advances, end-alone}
 use Rattle.markdown_run_text.proofs.TextSteps.{IsSame, same-row, choice-same, indexed-past, domains-past, ready-past, no-check-past, tree-kept, registered-kept, made-kept, some-none, ends-on, lost-there, not-lost, lost-left, lost-current, same-lost}
-use Rattle.markdown_run_text.proofs.TextTries.{ReadsElements, read-ahead, single-ahead, first-reads, second-reads, second-alone, span-reads, span-alone, run-reads, run-alone, run-leaf, www-reads, www-alone}
+use Rattle.markdown_run_row.proofs.TextTries.{ReadsElements, read-ahead, single-ahead, first-reads, second-reads, second-alone, span-reads, span-alone, run-reads, run-alone, run-leaf, www-reads, www-alone}
 use Rattle.markdown_run_readers.specs.PlacesPassed.{goes_on}
 use Rattle.markdown_run_readers.proofs.InnerUnderscores.{text-read}
 use Rattle.markdown_run_readers.proofs.TextDataElements.{text-single}

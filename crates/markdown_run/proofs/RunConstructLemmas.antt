@@ -20,7 +20,7 @@ use Rattle.markdown_model.specs.Grammar.{Reading}
 use Rattle.markdown_model.specs.LabelEnd.{Element}
 use Rattle.markdown_run_readers.specs.ReaderEnds.{ReadsOrStays, BeginsOrStays}
 use Rattle.markdown_run_row.specs.Row.{past_mark}
-use Rattle.markdown_run_text.specs.TextContent.{tried_reading}
+use Rattle.markdown_run_row.specs.TextContent.{tried_reading}
 use Rattle.markdown_run.specs.RunConstruct.{IsConstruct, OtherAsks, Asks, chain_before, fields_after, start_reading, EndsOrLoses, OtherEnds, EndsBy, ConstructEnds}
 use Rattle.markdown_run_readers.proofs.LabelStartConstructs.{image-begins, link-begins, footnote-begins, image-not, link-not, footnote-not}
 use Rattle.markdown_run_states.specs.Layer.{ends_of, ready_of}

@@ -17,7 +17,7 @@ use Rattle.markdown_model.specs.LabelEnd.{Element}
 use Rattle.markdown_model.specs.Passes.{trimmed}
 use Rattle.markdown_run_row.specs.RunOverElements.{Finishes}
 use Rattle.markdown_run_text.specs.ContentPasses.{may_resolve_of, resolves_of}
-use Rattle.markdown_run_text.specs.RunSetting.{setting_of}
+use Rattle.markdown_run_row.specs.RunSetting.{setting_of}
 use Rattle.markdown_run_text.specs.StringContent.{string_markers, string_marked, string_passed, string_here, StartReady, start_ends}
 use Rattle.markdown_run.proofs.PassesAfterRun.{string_finish, string-trims}
 use Rattle.std.proofs.lemmas.Bool.{both_ways}

@@ -29,8 +29,8 @@ use Rattle.markdown_model.specs.Setting.{Setting}
 use Rattle.markdown_run_row.specs.RunOverElements.{Finishes}
 use Rattle.markdown_run_text.specs.ContentPasses.{resolves_of}
 use Rattle.markdown_run.specs.RunWithPasses.{may_end_of}
-use Rattle.markdown_run_text.specs.RunSetting.{text_setting_of}
-use Rattle.markdown_run_text.specs.TextContent.{StartReady, named_fields, text_passed, text_choice_of}
+use Rattle.markdown_run_row.specs.RunSetting.{text_setting_of}
+use Rattle.markdown_run_row.specs.TextContent.{StartReady, named_fields, text_passed, text_choice_of}
 use Rattle.markdown_run.specs.ElementsOfText.{KnowsNothing, text_named, with_indexes}
 use Rattle.markdown_run.proofs.PassesAfterRun.{text_finish, text-trims, IsGiven}
 use Rattle.markdown_engine_content.specs.Codes.{Code}

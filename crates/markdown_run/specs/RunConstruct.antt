@@ -17,8 +17,8 @@ use Rattle.markdown_label.specs.LabelEnd as LabelEnd
 use Rattle.markdown_model.specs.Grammar.{Reading}
 use Rattle.markdown_label.specs.LabelEnd.{last_start, lost_fields}
 use Rattle.markdown_run_readers.specs.ReaderEnds.{options_here, ReadsOrStays, BeginsOrStays}
-use Rattle.markdown_run_text.specs.RunSetting.{setting_of}
-use Rattle.markdown_run_text.specs.TextContent.{tried_reading}
+use Rattle.markdown_run_row.specs.RunSetting.{setting_of}
+use Rattle.markdown_run_row.specs.TextContent.{tried_reading}
 use Rattle.markdown_run_states.specs.Layer.{ready_of}
 use Rattle.markdown_model.specs.LabelEnd.{Element}
 use Rattle.markdown_model.specs.TextLines.{data_up_to}

@@ -15,7 +15,7 @@ ghost use Rattle.markdown_engine_index.specs.RunIndex.{is_asked};
 ghost use Rattle.markdown_model.specs.CodeTests.{is_value, next_is};
 ghost use Rattle.markdown_model.specs.GfmAutolinkLiteral.{first_letters, www};
 ghost use Rattle.markdown_run_readers.specs.PlacesPassed.{goes_on};
-ghost use Rattle.markdown_run_text.specs.TextContent.{StartReady, other_markers, sole_try, span_markers, text_passed};
+ghost use Rattle.markdown_run_row.specs.TextContent.{StartReady, other_markers, sole_try, span_markers, text_passed};
 ghost use Rattle.markdown_run.specs.ElementsOfText.{EndsAt, GoesOn, IsReady, KnowsNothing, Learns, MayTry, PassesData, ReadsElement, Passes, forgotten, text_named};
 
 use crate::run::construct;

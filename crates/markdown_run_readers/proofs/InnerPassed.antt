@@ -21,7 +21,7 @@ use Rattle.markdown_partial.specs.PartialData.{ends_stretch}
 use Rattle.markdown_run_readers.proofs.PassedData.{data-goes, data-stops}
 use Rattle.markdown_run_readers.specs.PlacesPassed.{goes_on, goes_past, is_some_alphanumeric, is_some_value, past_data, past_inner}
 use Rattle.markdown_run_readers.specs.TextStops.{begins_word, is_inner_underscore, reader_stops, text_stops}
-use Rattle.markdown_run_text.specs.TextContent.{plain_markers}
+use Rattle.markdown_run_row.specs.TextContent.{plain_markers}
 
 -- The code before a place.
 

@@ -19,7 +19,7 @@ use Rattle.markdown_run_readers.proofs.TextDataElements.{text-single}
 use Rattle.markdown_run_readers.specs.TextStops.{is_inner_underscore, reader_stops, text_stops}
 use Rattle.markdown_run_row.specs.ElementsAsRead.{IsIntraword, IsReadAs}
 use Rattle.markdown_run_row.specs.RunOverElements.{AreReadAsData}
-use Rattle.markdown_run_text.proofs.TextElements.{run-element, run-off}
+use Rattle.markdown_run_row.proofs.TextElements.{run-element, run-off}
 use Rattle.markdown_model.specs.GfmAutolinkLiteral.{is_other}
 use Rattle.markdown_model.specs.Grammar.{gives, some}
 use Rattle.markdown_model.specs.LabelEnd.{Element, plain}

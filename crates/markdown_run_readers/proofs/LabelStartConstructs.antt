@@ -15,7 +15,7 @@ use Rattle.markdown_model.specs.LabelEnd.{Element, starts}
 use Rattle.markdown_model.specs.SingleConstructs.{gfm_label_start_footnote_here, label_start_image_here, label_start_link_here}
 use Rattle.markdown_run_row.proofs.LabelMarks.{PastStart, link-past, footnote-past, image-past}
 use Rattle.markdown_run_readers.specs.ReaderEnds.{BeginsOrStays, options_here}
-use Rattle.markdown_run_text.proofs.TextLabelTries.{later-tests, right-test, on-some, on-none, footnote-some, footnote-none, link-some, link-none, image-some, image-none}
+use Rattle.markdown_run_row.proofs.TextLabelTries.{later-tests, right-test, on-some, on-none, footnote-some, footnote-none, link-some, link-none, image-some, image-none}
 
 begun : (reading : Reading Element) (kind : LabelKind) (marker rest : List Code) (T U : Tokenizer) →
     PastStart kind marker rest T U → reading (ahead T) ≡ Some (starts kind marker, rest) →

@@ -20,8 +20,8 @@ use Rattle.markdown_run_readers.proofs.WordLetters.{no-first}
 use Rattle.markdown_run_readers.proofs.WordsAndSigns.{no-word}
 use Rattle.markdown_run_readers.specs.PlacesPassed.{begins_as, goes_in_line, goes_on, holds_sign, line_stops, markers_and_signs, past_data, sign_at, signs}
 use Rattle.markdown_run_readers.specs.TextStops.{begins_word, text_stops}
-use Rattle.markdown_run_text.specs.TextContent.{plain_markers}
-use Rattle.markdown_run_text.proofs.TryTableLemmas.{none-passes}
+use Rattle.markdown_run_row.specs.TextContent.{plain_markers}
+use Rattle.markdown_run_row.proofs.TryTableLemmas.{none-passes}
 
 -- One code.
 

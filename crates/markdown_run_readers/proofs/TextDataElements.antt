@@ -17,9 +17,9 @@ use Rattle.markdown_model.specs.TextLines.{code_leaf}
 use Rattle.markdown_model.proofs.GrammarSteps.{bind-none, either-second, either-some, switched-off}
 use Rattle.markdown_run_readers.specs.TextStops.{begins_word, text_stops}
 use Rattle.markdown_run_row.specs.RunOverElements.{AreSingle}
-use Rattle.markdown_run_text.proofs.TextElements.{off-or-none, other-element, protocol-element, www-element}
-use Rattle.markdown_run_text.proofs.TryTableLemmas.{none-passes}
-use Rattle.markdown_run_text.specs.TextContent.{literal_letters, plain_markers, text_markers}
+use Rattle.markdown_run_row.proofs.TextElements.{off-or-none, other-element, protocol-element, www-element}
+use Rattle.markdown_run_row.proofs.TryTableLemmas.{none-passes}
+use Rattle.markdown_run_row.specs.TextContent.{literal_letters, plain_markers, text_markers}
 
 -- Words.
 

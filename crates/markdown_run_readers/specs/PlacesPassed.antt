@@ -21,7 +21,7 @@ use Rattle.markdown_model.specs.Grammar.{span, until}
 use Rattle.markdown_partial.specs.PartialData.{ending, opening, ends_stretch, is_some_mark}
 use Rattle.markdown_plan.specs.ByteTests.{alphanumeric_value}
 use Rattle.markdown_run_readers.specs.TextStops.{reader_stops, text_stops}
-use Rattle.markdown_run_text.specs.TextContent.{plain_markers}
+use Rattle.markdown_run_row.specs.TextContent.{plain_markers}
 
 -- Runs and escapes.
 

@@ -6,7 +6,7 @@ use Rattle.markdown_engine_content.specs.ListFunctions.{rest_of}
 use Rattle.markdown_model.specs.CodeTests.{is_among, is_value, is_alphanumeric, is_some_code, next_is}
 use Rattle.markdown_model.specs.Elements.{code_before}
 use Rattle.markdown_model.specs.GfmAutolinkLiteral.{literal_words, one_word_of}
-use Rattle.markdown_run_text.specs.TextContent.{plain_markers}
+use Rattle.markdown_run_row.specs.TextContent.{plain_markers}
 
 -- a word stands here with which literals begin (GFM 6.9)
 abbrev pub begins_word : List Code → Bool

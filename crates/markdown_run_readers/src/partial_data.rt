@@ -17,7 +17,7 @@ ghost use Rattle.markdown_model.specs.TextLines.{data_up_to};
 ghost use Rattle.markdown_partial.specs.PartialData.{ending, is_some_mark};
 ghost use Rattle.markdown_run_readers.specs.PlacesPassed.{past_data, past_inner, goes_on, goes_past, goes_in_line, is_some_alphanumeric, is_some_letter, is_some_value, is_word, line_stops, may_begin, one_stands, signs, markers_and_signs, sign_at, data_read, line_read};
 ghost use Rattle.markdown_run_readers.specs.TextStops.{begins_word, is_inner_underscore, reader_stops};
-ghost use Rattle.markdown_run_text.specs.TextContent.{plain_markers};
+ghost use Rattle.markdown_run_row.specs.TextContent.{plain_markers};
 
 use crate::events::append_leaf;
 use markdown_engine::tokenizer::Tokenizer;
@@ -28,7 +28,7 @@ use markdown_engine_content::event::Name;
 use markdown_partial::literal_letters;
 use markdown_partial::literal_words::SCHEMES;
 use markdown_plan::bytes::{is_alphanumeric, is_letter};
-use markdown_run_text::plain_tries;
+use markdown_run_row::plain_tries;
 use std::alloc::AllocError;
 
 // The bytes of all lines.

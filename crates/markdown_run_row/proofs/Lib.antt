@@ -24,3 +24,7 @@ pub mod NeutralRuns
 pub mod NeutralRunCounts
 pub mod LabelsAsRead
 pub mod PairsAsRead
+pub mod TextElements
+pub mod TextLabelTries
+pub mod TextTries
+pub mod TryTableLemmas

@@ -8,3 +8,6 @@ pub mod RunOverElements
 pub mod OpenStarts
 pub mod RowStart
 pub mod CutData
+pub mod TextContent
+pub mod RunSetting
+pub mod TryTable

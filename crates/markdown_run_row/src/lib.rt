@@ -1,2 +1,27 @@
-//! Rows: what a run over a text leaves behind, trees with starts and ends of labels between them. Definitions and laws alone.
+//! Rows: what a run over a text leaves behind, trees with starts and ends of labels between them; and the table of what is tried at which bytes.
+//! Definitions and laws, but for the table.
 #![tactic(auto)]
+
+/// Hands what is tried at which bytes, apart from literals, to the macro that is named, behind the words that come after its name. First the
+/// lines of what alone is tried at its bytes, and reads one tree: the state that starts it. Then those of other bytes: the start of what is tried
+/// first, and the state to go on with where that does not hold.
+#[macro_export]
+macro_rules! plain_tries {
+    ($of_rows:ident $($more:tt)*) => {
+        $of_rows! {
+            $($more)*
+            sole {
+                [b'$' b'`'] RawTextStart;
+                [b'&'] CharacterReferenceStart;
+            }
+            other {
+                [b'!'] LabelStartImageStart, TextBeforeData;
+                [b'*' b'_' b'~'] AttentionStart, TextBeforeData;
+                [b'<'] AutolinkStart, TextBeforeHtml;
+                [b'['] GfmLabelStartFootnoteStart, TextBeforeLabelStartLink;
+                [b'\\'] CharacterEscapeStart, TextBeforeHardBreakEscape;
+                [b']'] LabelEndStart, TextBeforeData;
+            }
+        }
+    };
+}

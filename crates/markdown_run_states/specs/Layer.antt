@@ -29,7 +29,7 @@ use Rattle.markdown_partial.specs.PartialSpaceOrTabEol as PartialSpaceOrTabEol
 use Rattle.markdown_partial.specs.PartialSpaceOrTab as PartialSpaceOrTab
 use Rattle.markdown_label.specs.Resource as Resource
 use Rattle.markdown_run_text.specs.StringContent as StringContent
-use Rattle.markdown_run_text.specs.TextContent as TextContent
+use Rattle.markdown_run_row.specs.TextContent as TextContent
 use Rattle.std.proofs.Common.{◌≡◌, refl, sym, subst}
 use Rattle.markdown_plan.specs.LayerEquation.{Within, AreLawful}
 use Rattle.markdown_plan.proofs.LawStepsOfLayer.{no-laws}

@@ -1,12 +1,8 @@
 pub mod TextPassLaw
-pub mod TryTableLemmas
 pub mod RawTextRuledOut
-pub mod TextElements
 pub mod StringElements
 pub mod TextDataStops
 pub mod StringSteps
-pub mod TextTries
-pub mod TextLabelTries
 pub mod TextSteps
 pub mod StringContentLaws
 pub mod TextContentLaws

@@ -12,7 +12,7 @@ use Rattle.markdown_model.specs.TextLines.{data_up_to}
 use Rattle.markdown_partial.specs.PartialData.{stops_of}
 use Rattle.markdown_run_row.specs.RunOverElements.{Advances, Finishes}
 use Rattle.markdown_run_row.specs.Row.{kinds_of}
-use Rattle.markdown_run_text.specs.RunSetting.{setting_of}
+use Rattle.markdown_run_row.specs.RunSetting.{setting_of}
 use Rattle.markdown_run_text.specs.StringContent.{string_markers, string_passed, string_here, BeforeReady, before_ends}
 use Rattle.markdown_run_row.proofs.ElementSteps.{advances-finishes, node-advances, data-advances, some-ahead, single-read}
 use Rattle.markdown_run_row.proofs.ConstructNodes.{node-of}

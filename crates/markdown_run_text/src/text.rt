@@ -23,8 +23,8 @@ ghost use Rattle.markdown_engine_index.specs.RunIndex.{last_runs};
 ghost use Rattle.markdown_engine_index.specs.SequenceIndex.{last_begins};
 ghost use Rattle.markdown_plan.specs.Characters.{ReadsText};
 ghost use Rattle.markdown_run_text.specs.ContentPasses.{MayFinish, FinishesText};
-ghost use Rattle.markdown_run_text.specs.TextContent.{ended_fields, indexed_fields, named_fields, names_for, names_change, names_in, names_pay, order_pays, brackets_in, brackets_pay, titles_for, titles_pay, domains_for};
-ghost use Rattle.markdown_run_text.specs.TextContent.{domains_pay, span_markers, data_markers, first_try, sole_try, attempt_step, start_step, before_step, before_html_step, before_hard_break_escape_step, before_label_start_link_step, before_data_step};
+ghost use Rattle.markdown_run_row.specs.TextContent.{ended_fields, indexed_fields, named_fields, names_for, names_change, names_in, names_pay, order_pays, brackets_in, brackets_pay, titles_for, titles_pay, domains_for};
+ghost use Rattle.markdown_run_row.specs.TextContent.{domains_pay, span_markers, data_markers, first_try, sole_try, attempt_step, start_step, before_step, before_html_step, before_hard_break_escape_step, before_label_start_link_step, before_data_step};
 
 use markdown_engine::resolve::ResolveName;
 use markdown_engine::state::{State, StateName};
@@ -42,6 +42,7 @@ use markdown_leaf_email_pass::email;
 use markdown_leaf_email_pass::settled::is_settled;
 use markdown_leaf_gfm::domain_outlook;
 use markdown_partial::{literal_letters, partial_whitespace};
+use markdown_run_row::plain_tries;
 use std::alloc::AllocError;
 
 // Where so many names are defined, and so many labels may end, an order of the names pays. Where so many titles may begin, it pays to note
@@ -51,31 +52,7 @@ const MANY: usize = 16;
 // Where a name has so many bytes, labels are read past their first front, so that an order of the names pays.
 const LONG: usize = 64;
 
-/// Hands what is tried at which bytes, apart from literals, to the macro that is named, behind the words that come after its name. First the
-/// lines of what alone is tried at its bytes, and reads one tree: the state that starts it. Then those of other bytes: the start of what is tried
-/// first, and the state to go on with where that does not hold.
-#[macro_export]
-macro_rules! plain_tries {
-    ($of_rows:ident $($more:tt)*) => {
-        $of_rows! {
-            $($more)*
-            sole {
-                [b'$' b'`'] RawTextStart;
-                [b'&'] CharacterReferenceStart;
-            }
-            other {
-                [b'!'] LabelStartImageStart, TextBeforeData;
-                [b'*' b'_' b'~'] AttentionStart, TextBeforeData;
-                [b'<'] AutolinkStart, TextBeforeHtml;
-                [b'['] GfmLabelStartFootnoteStart, TextBeforeLabelStartLink;
-                [b'\\'] CharacterEscapeStart, TextBeforeHardBreakEscape;
-                [b']'] LabelEndStart, TextBeforeData;
-            }
-        }
-    };
-}
-
-// The same, with literals before.
+// What is tried at which bytes, as `plain_tries` hands it on, with literals before.
 macro_rules! tries {
     ($of_rows:ident $($more:tt)*) => { literal_letters!(tries_with ($of_rows $($more)*)) };
 }

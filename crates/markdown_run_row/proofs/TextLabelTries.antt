@@ -27,9 +27,9 @@ use Rattle.markdown_run_row.specs.RunOverElements.{AreReadAsData, Advances, Stan
 use Rattle.markdown_run_row.specs.Row.{loses, past_mark}
 use Rattle.markdown_run_row.proofs.LabelSteps.{start-advances, end-advances, lost-advances}
 use Rattle.markdown_run_row.proofs.LabelMarks.{PastStart, link-past, footnote-past, image-past, end-made-of}
-use Rattle.markdown_run_text.specs.TextContent.{text_setting, text_choice_of, StandsAlone}
-use Rattle.markdown_run_text.proofs.TextElements.{image-element, no-image-element, bracket-element, no-bracket-element, end-element, no-end-element}
-use Rattle.markdown_run_text.proofs.TextTries.{end_in, first-none, read-ahead, value-here}
+use Rattle.markdown_run_row.specs.TextContent.{text_setting, text_choice_of, StandsAlone}
+use Rattle.markdown_run_row.proofs.TextElements.{image-element, no-image-element, bracket-element, no-bracket-element, end-element, no-end-element}
+use Rattle.markdown_run_row.proofs.TextTries.{end_in, first-none, read-ahead, value-here}
 
 -- Tests, where the first of them holds.
 

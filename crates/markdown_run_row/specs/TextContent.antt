@@ -43,8 +43,8 @@ use Rattle.markdown_model.specs.TextLines.{data_up_to, code_leaf}
 use Rattle.markdown_model.specs.Setting.{Setting}
 use Rattle.markdown_partial.specs.PartialData.{stops_of}
 use Rattle.markdown_run_row.specs.RunOverElements.{AreSingle, DataFinishes, Finishes, StandsAfter}
-use Rattle.markdown_run_text.specs.RunSetting.{text_setting_of}
-use Rattle.markdown_run_text.specs.TryTable.{Table, codes_in, said_at}
+use Rattle.markdown_run_row.specs.RunSetting.{text_setting_of}
+use Rattle.markdown_run_row.specs.TryTable.{Table, codes_in, said_at}
 
 -- what alone is tried at its codes, and reads one tree: the start of it
 abbrev pub sole_tries : Table StateName

@@ -4,7 +4,7 @@ use Rattle.std.specs.List.{list_any}
 use Rattle.std.proofs.lemmas.Bool.{eqb-true, or_from, or_parts}
 use Rattle.std.proofs.lemmas.Bool.Decides.{nat_tests}
 use Rattle.std.proofs.lemmas.List.Folds.{list_any-append}
-use Rattle.markdown_run_text.specs.TryTable.{Table, codes_in, said_at}
+use Rattle.markdown_run_row.specs.TryTable.{Table, codes_in, said_at}
 
 -- it holds of each of these
 abbrev pub EachOf : (ℕ → Type 0) → List ℕ → Type 0

@@ -27,14 +27,14 @@ use Rattle.markdown_model.specs.Setting.{Setting}
 use Rattle.markdown_partial.specs.PartialData.{stops_of}
 use Rattle.markdown_run_row.specs.RunOverElements.{AreSingle, AreReadAsData, StandsAfter}
 use Rattle.markdown_run_row.specs.RowTreeNames.{IsRunLeaf}
-use Rattle.markdown_run_text.proofs.TryTableLemmas.{one-of}
-use Rattle.markdown_run_text.specs.TextContent.{text_markers, text_setting, text_choice_of, EndsWithCodes, StandsAlone, StopsAtElements}
+use Rattle.markdown_run_row.proofs.TryTableLemmas.{one-of}
+use Rattle.markdown_run_row.specs.TextContent.{text_markers, text_setting, text_choice_of, EndsWithCodes, StandsAlone, StopsAtElements}
 use Rattle.markdown_attention.specs.Attention.{switches_of, run_tree}
 use Rattle.markdown_model.specs.SingleConstructs.{begins_run}
 use Rattle.markdown_attention.proofs.AttentionLaws.{run-some, run-none, run-at, run-ahead}
 use Rattle.markdown_run_row.proofs.ConstructNodes.{run-node}
 use Rattle.markdown_run_row.proofs.ElementSteps.{single-read}
-use Rattle.markdown_run_text.proofs.TextElements.{is_marker, run_markers, run-element, run-off, plain_of, plain-switched, off-or-none, check-element, span-element, IsRowOfOne, only-element, IsRowOfTwo, first-element, second-element, other-element, protocol-element, www-element}
+use Rattle.markdown_run_row.proofs.TextElements.{is_marker, run_markers, run-element, run-off, plain_of, plain-switched, off-or-none, check-element, span-element, IsRowOfOne, only-element, IsRowOfTwo, first-element, second-element, other-element, protocol-element, www-element}
 use Rattle.markdown_model.proofs.GrammarSteps.{bind-none}
 
 -- what a construct reads is the element at hand

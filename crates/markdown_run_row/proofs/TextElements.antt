@@ -21,9 +21,9 @@ use Rattle.markdown_model.specs.GfmAutolinkLiteral.{schemes, www, first_letters,
 use Rattle.markdown_model.specs.LeafConstructs.{gfm_task_list_item_check, span_here, code_names, math_names}
 use Rattle.markdown_model.specs.Setting.{Setting}
 use Rattle.markdown_run_row.specs.RunOverElements.{StandsAfter}
-use Rattle.markdown_run_text.specs.TryTable.{codes_in}
-use Rattle.markdown_run_text.specs.TextContent.{text_markers}
-use Rattle.markdown_run_text.proofs.TryTableLemmas.{one-of, none-of, none-passes, none-within, not-in-row}
+use Rattle.markdown_run_row.specs.TryTable.{codes_in}
+use Rattle.markdown_run_row.specs.TextContent.{text_markers}
+use Rattle.markdown_run_row.proofs.TryTableLemmas.{one-of, none-of, none-passes, none-within, not-in-row}
 use Rattle.markdown_model.proofs.GrammarSteps.{bind-some, bind-none, one-here, one-other, either-first, either-second, either-some, switched-on, switched-off}
 
 -- the element of what a construct reads here, or of the code by itself
