@@ -2,9 +2,9 @@
 use Rattle.std.proofs.Common.{◌≡◌, sym, subst, ℕ, suc, List, ◌∷◌, map, arith}
 use Rattle.std.specs.List.{All}
 use Rattle.std.specs.Str.{IsUtf8}
-use Rattle.markdown_engine_content.specs.declared.event.Event.{Event}
-use Rattle.markdown_engine_content.specs.declared.event.Name.{Name}
-use Rattle.markdown_engine_content.specs.declared.event.Name.TheVariants as N
+use Rattle.markdown_event.specs.declared.event.Event.{Event}
+use Rattle.markdown_event.specs.declared.event.Name.{Name}
+use Rattle.markdown_event.specs.declared.event.Name.TheVariants as N
 use Rattle.markdown_run_leaves.specs.InnermostEvents.{Lent, innermost, lent}
 use Rattle.markdown_model_laws.specs.DecodableValues.{EventsHaveValues, HaveValues, IsDecodable, marker_of}
 use Rattle.markdown_model_laws.specs.LentTexts.{LendTexts}

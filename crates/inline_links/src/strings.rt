@@ -3,7 +3,7 @@
 ghost use Rattle.std.specs.Prelude.{◌≡◌, ◌≤◌, length, IsUtf8};
 ghost use Rattle.std.specs.List.{All};
 ghost use Rattle.markdown_engine_content.specs.Content.{document_limit};
-ghost use Rattle.markdown_engine_content.specs.declared.event.Name.TheVariants as N;
+ghost use Rattle.markdown_event.specs.declared.event.Name.TheVariants as N;
 ghost use Rattle.markdown_run_leaves.specs.InnermostEvents.{IsInOrder, innermost};
 ghost use Rattle.markdown_model_laws.specs.LentTexts.{LendTexts};
 ghost use Rattle.markdown_model_laws.specs.DecodableValues.{EventsHaveValues, IsDecodable, marker_of};

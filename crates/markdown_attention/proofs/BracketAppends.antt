@@ -1,8 +1,8 @@
 -- Brackets appended one after another.
 use Rattle.std.proofs.Common.{◌≡◌, ℕ, ◌+◌, ◌<◌, ◌≤◌, List, [], ◌∷◌, ◌++◌, length, take, drop, get_or, reverse, refl, sym, ap, ◌∙◌, arith, append_assoc, append-nil}
 use Rattle.std.proofs.lemmas.List.{take_more, take-append-drop, drop_all, drop_more, reverse-append}
-use Rattle.markdown_engine_content.specs.declared.event.Event.{Event}
-use Rattle.markdown_engine_content.specs.declared.event.Point.{Point}
+use Rattle.markdown_event.specs.declared.event.Event.{Event}
+use Rattle.markdown_event.specs.declared.event.Point.{Point}
 use Rattle.markdown_attention.specs.RunEvents.{shifted, total, closing_at, opening_at, closings_from, openings_from, data_at, marker_events}
 
 pub shift-shift : (p : Point) (a b : ℕ) → shifted (shifted p a) b ≡ shifted p (a + b)

@@ -8,8 +8,8 @@ use Rattle.std.proofs.lemmas.List.Sums.{sum_by-append, sum_by-cons}
 use Rattle.markdown_engine_content.specs.Codes.{stop_of, document_start}
 use Rattle.markdown_engine_content.specs.Tree.{Forest, empty, leaf_then, group_then, event_count, start_of}
 use Rattle.markdown_engine_content.specs.declared.configuration.ParseOptions.{ParseOptions}
-use Rattle.markdown_engine_content.specs.declared.event.Name.{Name}
-use Rattle.markdown_engine_content.specs.declared.event.Point.{Point}
+use Rattle.markdown_event.specs.declared.event.Name.{Name}
+use Rattle.markdown_event.specs.declared.event.Point.{Point}
 use Rattle.markdown_model.specs.InlineTree.{pair_count}
 use Rattle.markdown_model.specs.Laws.{shape_of}
 use Rattle.markdown_model.specs.Pairs.{pair_list}

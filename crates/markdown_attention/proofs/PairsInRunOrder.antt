@@ -1,7 +1,7 @@
 -- The pairs of a container in the order of its runs: which are open before a run, which it closes and opens.
 use Rattle.std.proofs.Common.{◌≡◌, ℕ, suc, ◌+◌, ◌<◌, ◌≤◌, Bool, true, false, ◌&&◌, ◌||◌, ◌==◌, nat_lt, nat_le, if◌then◌else◌, List, [], ◌∷◌, ◌++◌, length, refl, sym, ap, ◌∙◌, arith, inl, inr, ◌⊎◌, sum_by}
 use Rattle.markdown_model.proofs.PairListFacts.{within_push}
-use Rattle.markdown_engine_content.proofs.AndParts.{and-left, and-right}
+use Rattle.markdown_event.proofs.AndParts.{and-left, and-right}
 use Rattle.std.proofs.lemmas.List.Sums.{sum_by-cons}
 use Rattle.std.proofs.lemmas.Bool.{cases_lt, ltb-true, eqb-true, false_from_ne_true, both_ways, and_right, and_left, and_from, ne_eqb, eq-eqb, lt-leb, le-leb, le-ltb, lt-ltb}
 use Rattle.std.specs.List.{list_any}

@@ -4,8 +4,8 @@ use Rattle.markdown_attention.proofs.BracketAppends.{total-reverse}
 use Rattle.std.proofs.lemmas.Bool.{eq-eqb, both_ways, cases_Bool, or_parts}
 use Rattle.markdown_engine_content.specs.Codes.{Code, stop_of, document_start}
 use Rattle.markdown_engine_content.specs.Tree.{Forest, empty, leaf_then, group_then, event_count, start_of}
-use Rattle.markdown_engine_content.specs.declared.event.Event.{Event}
-use Rattle.markdown_engine_content.specs.declared.event.Point.{Point}
+use Rattle.markdown_event.specs.declared.event.Event.{Event}
+use Rattle.markdown_event.specs.declared.event.Point.{Point}
 use Rattle.markdown_model.specs.BracketGroups.{closing_sizes, opening_sizes}
 use Rattle.markdown_model.specs.Laws.{Shape, shape_of}
 use Rattle.markdown_model.specs.Pairs as Model

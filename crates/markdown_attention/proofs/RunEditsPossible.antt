@@ -5,7 +5,7 @@ use Rattle.std.proofs.lemmas.List.Elements.{All-nil, All-cons}
 use Rattle.std.specs.List.{All}
 use Rattle.markdown_engine_events.specs.EventChains.{has_link, linked_at}
 use Rattle.markdown_engine_events.specs.Edits.{added_at, is_removed, CanEdit}
-use Rattle.markdown_engine_content.specs.declared.event.Event.{Event}
+use Rattle.markdown_event.specs.declared.event.Event.{Event}
 use Rattle.markdown_engine_events.specs.declared.util.edit_map.Edit.{Edit}
 use Rattle.markdown_attention.specs.RunsRead.{outermost, opens_run, sequence_at, runs_from, first_run, where_after, Around, HaveRunPlaces}
 use Rattle.markdown_attention.specs.declared.attention.runs.Sequence.{Sequence}

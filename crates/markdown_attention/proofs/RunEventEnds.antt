@@ -4,10 +4,10 @@ use Rattle.std.proofs.lemmas.Bool.{both_ways}
 use Rattle.markdown_engine_content.specs.Codes.{Code, stop_of, document_start}
 use Rattle.markdown_engine.specs.PastTree.{appended_from}
 use Rattle.markdown_engine_content.specs.Tree.{Forest, empty, leaf_then, group_then, event, event_count, start_of}
-use Rattle.markdown_engine_content.specs.declared.event.Content.{Content}
-use Rattle.markdown_engine_content.specs.declared.event.Event.{Event}
-use Rattle.markdown_engine_content.specs.declared.event.Kind.TheVariants as Kind
-use Rattle.markdown_engine_content.specs.declared.event.Point.{Point}
+use Rattle.markdown_event.specs.declared.event.Content.{Content}
+use Rattle.markdown_event.specs.declared.event.Event.{Event}
+use Rattle.markdown_event.specs.declared.event.Kind.TheVariants as Kind
+use Rattle.markdown_event.specs.declared.event.Point.{Point}
 use Rattle.markdown_model.specs.Runs.{marker_of}
 use Rattle.markdown_attention.specs.RunsRead.{opens_run}
 use Rattle.markdown_attention.specs.RunEvents.{IsStripe, shifted}

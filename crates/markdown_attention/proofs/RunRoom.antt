@@ -3,8 +3,8 @@ use Rattle.std.proofs.Common.{◌≡◌, ℕ, zero, suc, ◌+◌, ◌-◌, ◌^�
 use Rattle.std.proofs.lemmas.Bool.{cases_Bool}
 use Rattle.std.specs.List.{All}
 use Rattle.std.proofs.lemmas.List.Elements.{All-nil, All-cons}
-use Rattle.markdown_engine_content.specs.declared.event.Event.{Event}
-use Rattle.markdown_engine_content.specs.declared.event.Point.{Point}
+use Rattle.markdown_event.specs.declared.event.Event.{Event}
+use Rattle.markdown_event.specs.declared.event.Point.{Point}
 use Rattle.markdown_attention.specs.RunContainers.{AreWithin, AreTakenOnce}
 use Rattle.markdown_attention.specs.NumberedPairs.{run_at}
 use Rattle.markdown_attention.specs.RunsRead.{opens_run, sequence_at, first_run, runs_from, outermost, Around, where_after, HaveRunPlaces}

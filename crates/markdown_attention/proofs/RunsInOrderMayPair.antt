@@ -10,8 +10,8 @@ use Rattle.markdown_engine_content.specs.Codes.{Code, place_of, point_at}
 use Rattle.markdown_engine_content.specs.Content.{document_limit}
 use Rattle.markdown_engine_content.specs.Slices.{codes_between}
 use Rattle.markdown_engine_content.specs.DocumentWalk.{IsPoint}
-use Rattle.markdown_engine_content.specs.declared.event.Event.{Event}
-use Rattle.markdown_engine_content.specs.declared.event.Point.{Point}
+use Rattle.markdown_event.specs.declared.event.Event.{Event}
+use Rattle.markdown_event.specs.declared.event.Point.{Point}
 use Rattle.markdown_engine.specs.declared.tokenizer.Tokenizer.{Tokenizer}
 use Rattle.markdown_engine_content.proofs.CodesBetween.{codes_to, first-to, IsFirstTo}
 use Rattle.markdown_engine_content.proofs.AdjacentCodes.{head_same, tail_same, cons≢nil}

@@ -9,7 +9,7 @@ use Rattle.std.specs.List.{count_by}
 use Rattle.std.specs.Prelude.{All}
 use Rattle.markdown_engine_content.specs.ListFunctions.{rest_of}
 use Rattle.markdown_attention.specs.OpenRuns.{IsMarker}
-use Rattle.markdown_engine_content.specs.declared.event.Event.{Event}
+use Rattle.markdown_event.specs.declared.event.Event.{Event}
 use Rattle.markdown_attention.specs.NumberedPairs.{row_of, run_at, no_run}
 use Rattle.markdown_attention.specs.RunsRead.{Container, row_around, is_text, is_enter, left_to, opens_run, opens_text, sequence_at, into_text, out_of_text, where_after, outermost, first_run, runs_from, IsRunPlace, EndsRun, FirstHasPlaces, HaveRunPlaces}
 use Rattle.markdown_attention.specs.PairScan.{Numbered}

@@ -4,9 +4,9 @@ use Rattle.markdown_attention.proofs.BracketAppends.{shift-shift}
 use Rattle.std.proofs.lemmas.List.{length-take-le, length-drop}
 use Rattle.markdown_engine_content.specs.Codes.{Code, stop_of, document_start}
 use Rattle.markdown_engine_content.specs.Tree.{start_of, event}
-use Rattle.markdown_engine_content.specs.declared.event.Kind.TheVariants as Kind
-use Rattle.markdown_engine_content.specs.declared.event.Name.{Name}
-use Rattle.markdown_engine_content.specs.declared.event.Point.{Point}
+use Rattle.markdown_event.specs.declared.event.Kind.TheVariants as Kind
+use Rattle.markdown_event.specs.declared.event.Name.{Name}
+use Rattle.markdown_event.specs.declared.event.Point.{Point}
 use Rattle.markdown_model.specs.BracketGroups.{cut_front, pair_names}
 use Rattle.markdown_attention.specs.RunEvents.{shifted, total, closing_at, opening_at, closings_from, openings_from, data_at, marker_events, IsStripe, AreSome}
 use Rattle.markdown_attention.specs.TokenWord.{names_of, closed_events, opened_events, closed_all, opened_all, left_over, cut_events, sized_events, HasMarker}

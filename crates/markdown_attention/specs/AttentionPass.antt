@@ -4,8 +4,8 @@ use Rattle.std.specs.List.{count_by}
 use Rattle.markdown_engine_events.specs.Edits.{edited}
 use Rattle.markdown_engine_content.specs.Tree.{Forest}
 use Rattle.markdown_engine_content.specs.declared.configuration.ParseOptions.{ParseOptions}
-use Rattle.markdown_engine_content.specs.declared.event.Event.{Event}
-use Rattle.markdown_engine_content.specs.declared.event.Point.{Point}
+use Rattle.markdown_event.specs.declared.event.Event.{Event}
+use Rattle.markdown_event.specs.declared.event.Point.{Point}
 use Rattle.markdown_engine.specs.declared.tokenizer.Tokenizer.{Tokenizer}
 use Rattle.markdown_engine_events.specs.declared.util.edit_map.Edit.{Edit}
 use Rattle.markdown_model.specs.InlineTree.{pair_count, probe_bound, list_probe_bound}

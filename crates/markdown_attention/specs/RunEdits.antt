@@ -1,8 +1,8 @@
 -- The edits of the pass: one for each run, and of which events they can be made.
 use Rattle.std.specs.Prelude.{◌≡◌, ℕ, zero, suc, ◌-◌, ◌^◌, ◌<◌, true, false, ◌==◌, if◌then◌else◌, List, [], ◌∷◌, None}
 use Rattle.markdown_engine_content.specs.Codes.{document_start}
-use Rattle.markdown_engine_content.specs.declared.event.Event.{Event}
-use Rattle.markdown_engine_content.specs.declared.event.Point.{Point}
+use Rattle.markdown_event.specs.declared.event.Event.{Event}
+use Rattle.markdown_event.specs.declared.event.Point.{Point}
 use Rattle.markdown_engine_events.specs.declared.util.edit_map.Edit.{Edit}
 use Rattle.markdown_attention.specs.NumberedPairs.{row_of, run_at, left, pairs_in}
 use Rattle.markdown_attention.specs.RunsRead.{opens_run}

@@ -1,6 +1,6 @@
 -- Which events change what is read of the runs.
 use Rattle.std.specs.Prelude.{Bool, ◌||◌}
-use Rattle.markdown_engine_content.specs.declared.event.Event.{Event}
+use Rattle.markdown_event.specs.declared.event.Event.{Event}
 use Rattle.markdown_attention.specs.RunsRead.{is_text, opens_run}
 
 -- the Enter of a run, or an event of the text of a label

@@ -2,11 +2,11 @@
 use Rattle.std.specs.Prelude.{◌≡◌, ℕ, suc, ◌+◌, ◌-◌, ◌<◌, ◌≤◌, Bool, true, false, ◌&&◌, ◌||◌, not, ◌==◌, if◌then◌else◌, List, [], ◌∷◌, ◌++◌, length, slice_index_or, Option, Some, None}
 use Rattle.std.specs.Str.{IsCharBoundary, byte}
 use Rattle.markdown_engine_content.specs.ListFunctions.{rest_of}
-use Rattle.markdown_engine_content.specs.declared.event.Event.{Event}
-use Rattle.markdown_engine_content.specs.declared.event.Kind.{Kind}
-use Rattle.markdown_engine_content.specs.declared.event.Name.{Name}
-use Rattle.markdown_engine_content.specs.declared.event.Name.TheVariants as N
-use Rattle.markdown_engine_content.specs.declared.event.Point.{Point}
+use Rattle.markdown_event.specs.declared.event.Event.{Event}
+use Rattle.markdown_event.specs.declared.event.Kind.{Kind}
+use Rattle.markdown_event.specs.declared.event.Name.{Name}
+use Rattle.markdown_event.specs.declared.event.Name.TheVariants as N
+use Rattle.markdown_event.specs.declared.event.Point.{Point}
 use Rattle.markdown_model.specs.GfmAutolinkLiteral.{is_other}
 use Rattle.markdown_model.specs.Runs.{is_punctuation_class}
 use Rattle.markdown_util.specs.Neighbours.{class_of, before_index, after_index}

@@ -1,6 +1,6 @@
 -- The edit of one run, by its sizes; and the runs that one pair takes whole.
 use Rattle.std.specs.Prelude.{◌≡◌, ℕ, ◌+◌, ◌<◌, ◌^◌, List, [], ◌∷◌, length, slice_index_or, false}
-use Rattle.markdown_engine_content.specs.declared.event.Point.{Point}
+use Rattle.markdown_event.specs.declared.event.Point.{Point}
 use Rattle.markdown_engine_events.specs.declared.util.edit_map.Edit.{Edit}
 use Rattle.markdown_attention.specs.declared.attention.edits.Sole.{Sole}
 use Rattle.markdown_attention.specs.declared.attention.edits.Sole.TheVariants as S

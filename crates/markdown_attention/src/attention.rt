@@ -31,7 +31,7 @@ ghost use Rattle.std.specs.Prelude.{◌≡◌};
 ghost use Rattle.markdown_attention.specs.Attention.{start_step, inside_step, leaving};
 ghost use Rattle.markdown_model.specs.SingleConstructs.{begins_run};
 ghost use Rattle.markdown_engine.specs.Operations.{IsOpen, scratched};
-ghost use Rattle.markdown_engine_content.specs.declared.event.Name.TheVariants.{AttentionSequence};
+ghost use Rattle.markdown_event.specs.declared.event.Name.TheVariants.{AttentionSequence};
 ghost use Rattle.markdown_plan.specs.StateCalls.{Steps};
 
 pub use crate::attention::grouping::{resolve, resolve_counted};
@@ -39,7 +39,7 @@ use markdown_engine::resolve::ResolveName;
 use markdown_engine::state::{State, StateName};
 use markdown_engine::tokenizer::Tokenizer;
 use markdown_engine_content::configuration::Constructs;
-use markdown_engine_content::event::Name;
+use markdown_event::event::Name;
 use std::alloc::AllocError;
 
 // Whether a run may begin with this byte.

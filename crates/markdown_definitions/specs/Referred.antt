@@ -3,8 +3,8 @@ use Rattle.std.specs.Prelude.{ℕ, Bool, ◌&&◌, ◌==◌, nat_le, if◌then�
 use Rattle.std.specs.List.{starts_with}
 use Rattle.std.specs.Option.{option_and_then}
 use Rattle.std.specs.Str.{byte, is_utf8}
-use Rattle.markdown_engine_content.specs.declared.event.Event.{Event}
-use Rattle.markdown_engine_content.specs.declared.event.Name.{Name}
+use Rattle.markdown_event.specs.declared.event.Event.{Event}
+use Rattle.markdown_event.specs.declared.event.Name.{Name}
 use Rattle.markdown_util.specs.Identifier.{identifier_of}
 use Rattle.markdown_tree.specs.declared.node.Node.{Node}
 use Rattle.markdown_tree.specs.Nodes.{first_child_at, next_sibling_at, node_at}

@@ -7,7 +7,7 @@ ghost use Rattle.markdown_definitions.specs.Referred.{behind, bytes_of, definiti
 
 use crate::definitions::Definitions;
 use markdown_engine_content::configuration::ParseOptions;
-use markdown_engine_content::event::Name;
+use markdown_event::event::Name;
 use markdown_tree::node::Node;
 use markdown_tree::tree::Tree;
 use std::alloc::AllocError;

@@ -13,7 +13,7 @@ ghost use Rattle.markdown_model.specs.InlineTree.{label_tree, string_events, tex
 use crate::places::Places;
 use markdown_engine::state::StateName;
 use markdown_engine::tokenizer::Tokenizer;
-use markdown_engine_content::content::has_text_lines;
+use markdown_engine_pieces::content::has_text_lines;
 use markdown_engine_content::cursor::Cursor;
 use markdown_engine_content::parser::{ParseState, Piece};
 use markdown_engine_index::name_index::{NameIndex, Names};

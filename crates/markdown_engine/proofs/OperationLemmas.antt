@@ -6,10 +6,10 @@ use Rattle.markdown_engine_content.specs.ListFunctions.{rest_of}
 use Rattle.markdown_engine.specs.Operations.{Op, Enter, Exit, EnterLink, EnterConnected, Consume, applied, op_events, op_stack, op_moves, op_stays, op_depth, done, moves, stays, ahead, scratched}
 use Rattle.markdown_engine.specs.FailedRun.{Grown, unwound}
 use Rattle.markdown_engine.specs.Weights.{codes_left}
-use Rattle.markdown_engine_content.proofs.AndParts.{and-left, and-right}
+use Rattle.markdown_event.proofs.AndParts.{and-left, and-right}
 use Rattle.markdown_engine.proofs.LawSteps.{Grown-refl}
 use Rattle.markdown_engine.proofs.OperationFields.{extended-append, attempts-applied, scratch-applied, input-applied, ahead-applied, left-ahead}
-use Rattle.markdown_engine_content.specs.declared.event.Name.{Name}
+use Rattle.markdown_event.specs.declared.event.Name.{Name}
 use Rattle.markdown_engine.specs.declared.tokenizer.TokenizeState.{TokenizeState}
 use Rattle.markdown_engine.specs.declared.tokenizer.Tokenizer.{Tokenizer}
 

@@ -4,7 +4,7 @@ use Rattle.markdown_engine_content.specs.Codes.{Code, stop_of}
 use Rattle.markdown_engine_content.specs.ListFunctions.{rest_of}
 use Rattle.markdown_engine.specs.PastTree.{moved_by}
 use Rattle.markdown_engine_content.specs.Place.{Place, moved, ahead_at, exit_point}
-use Rattle.markdown_engine_content.specs.declared.event.Point.{Point}
+use Rattle.markdown_event.specs.declared.event.Point.{Point}
 use Rattle.markdown_engine_content.proofs.PlaceRules.{ahead-moved}
 use Rattle.markdown_engine_content.proofs.PlaceRules.{exit_moved}
 

@@ -1,6 +1,6 @@
 -- How many codes there are, and how large their places.
 use Rattle.std.proofs.Common.{ℕ, ◌+◌, ◌*◌, ◌<◌, ◌≤◌, ◌^◌, true, false, ◌≡◌, arith, List, [], ◌∷◌, length, refl, sym, ap, subst, ◌∙◌, inl, inr, append-nil, length-append}
-use Rattle.markdown_engine_content.specs.declared.event.Point.{Point}
+use Rattle.markdown_event.specs.declared.event.Point.{Point}
 use Rattle.markdown_engine_content.specs.declared.parser.Piece.{Piece}
 use Rattle.markdown_engine_content.specs.Codes.{Code, codes_of, document_start, place_of, point_at}
 use Rattle.markdown_engine_content.specs.Content.{IsContent, content_of, are_pieces, piece_codes}

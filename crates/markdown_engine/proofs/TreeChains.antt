@@ -5,8 +5,8 @@ use Rattle.markdown_engine_events.specs.EventChains.{chained, chained_from, foll
 use Rattle.markdown_engine_content.specs.Codes.{stop_of, document_start}
 use Rattle.markdown_engine.specs.PastTree.{appended_from}
 use Rattle.markdown_engine_content.specs.Tree.{Forest, empty, leaf_then, group_then, event_count, event, events_from, events_of, next_linked, start_of}
-use Rattle.markdown_engine_content.specs.declared.event.Event.{Event}
-use Rattle.markdown_engine_content.specs.declared.event.Kind.TheVariants as Kind
+use Rattle.markdown_event.specs.declared.event.Event.{Event}
+use Rattle.markdown_event.specs.declared.event.Kind.TheVariants as Kind
 
 -- a number before n, or none
 abbrev pub IsBefore : ℕ → Option ℕ → Type 0

@@ -5,11 +5,11 @@ use Rattle.markdown_engine.specs.FailedRun.{Fails}
 use Rattle.markdown_engine.specs.Operations.{ahead, applied, Enter, EnterLink, EnterConnected, link_back, scratched}
 use Rattle.markdown_engine_content.specs.Place.{Place, moved}
 use Rattle.markdown_engine_content.specs.Tree.{Forest, empty, leaf_then, group_then, ◌⊕◌, event_count, event, start_of, leaf_codes}
-use Rattle.markdown_engine_content.specs.declared.event.Content.{Content}
-use Rattle.markdown_engine_content.specs.declared.event.Event.{Event}
-use Rattle.markdown_engine_content.specs.declared.event.Kind.TheVariants as Kind
-use Rattle.markdown_engine_content.specs.declared.event.Link.{Link}
-use Rattle.markdown_engine_content.specs.declared.event.Name.{Name}
+use Rattle.markdown_event.specs.declared.event.Content.{Content}
+use Rattle.markdown_event.specs.declared.event.Event.{Event}
+use Rattle.markdown_event.specs.declared.event.Kind.TheVariants as Kind
+use Rattle.markdown_event.specs.declared.event.Link.{Link}
+use Rattle.markdown_event.specs.declared.event.Name.{Name}
 use Rattle.markdown_engine.specs.declared.tokenizer.TokenizeState.{TokenizeState}
 use Rattle.markdown_engine.specs.declared.tokenizer.Tokenizer.{Tokenizer}
 

@@ -1,7 +1,7 @@
 -- The scratch fields at rest.
 use Rattle.std.specs.Prelude.{false, [], None}
 use Rattle.markdown_engine_index.specs.RunIndex.{no_runs}
-use Rattle.markdown_engine_content.specs.declared.event.Name.TheVariants as N
+use Rattle.markdown_event.specs.declared.event.Name.TheVariants as N
 use Rattle.markdown_engine.specs.declared.tokenizer.TokenizeState.{TokenizeState}
 
 -- all at rest, with no labels, no markers, no probes, no known runs, sequences, titles and domains, and no names

@@ -8,8 +8,9 @@ pub mod state;
 pub mod tokenizer;
 pub mod util;
 
-pub use markdown_engine_content::{bytes, configuration, content, cursor, event, parser, walk};
+pub use markdown_engine_content::{bytes, configuration, cursor, parser, walk};
 pub use markdown_engine_events::{events, subtokenize};
 pub use markdown_engine_index::{
     bracket_index, name_index, run_index, sequence_index, title_index,
 };
+pub use markdown_event::event;

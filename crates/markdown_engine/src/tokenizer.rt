@@ -14,7 +14,7 @@ use crate::state::State;
 use markdown_engine_content::byte_set;
 use markdown_engine_content::bytes::ByteSet;
 use markdown_engine_content::cursor::Cursor;
-use markdown_engine_content::event::{Content, Event, Kind, Link, Name, Point};
+use markdown_event::event::{Content, Event, Kind, Link, Name, Point};
 pub use markdown_engine_content::label_kind::LabelKind;
 use markdown_engine_content::parser::{ParseState, Piece};
 use markdown_engine_events::events::Events;

@@ -1,7 +1,7 @@
 -- Codes that stand one after another, each at a later place.
 use Rattle.std.proofs.Common.{ℕ, Bool, true, false, not, ◌≡◌, List, [], ◌∷◌, ◌++◌, filter, refl, sym, ap, subst, ◌∙◌}
 use Rattle.std.proofs.lemmas.Bool.{both_ways}
-use Rattle.markdown_engine_content.specs.declared.event.Point.{Point}
+use Rattle.markdown_event.specs.declared.event.Point.{Point}
 use Rattle.markdown_engine_content.specs.Codes.{Code, stop_of, is_code_before, place_of}
 use Rattle.markdown_engine_content.proofs.PlaceOrder.{is_before, before-self, not_before-later, not_before-trans, before-asym, before-reach}
 

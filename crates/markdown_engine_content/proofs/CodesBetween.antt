@@ -3,7 +3,7 @@ use Rattle.std.proofs.Common.{ℕ, ◌+◌, ◌-◌, ◌*◌, ◌%◌, ◌<◌, 
 use Rattle.std.proofs.lemmas.List.Sums.{sum_by-cons}
 use Rattle.std.proofs.lemmas.Bool.{cases_Bool, cases_lt, eq-eqb, ltb-true, and_parts}
 use Rattle.std.proofs.lemmas.Bool.Decides.{nat_tests}
-use Rattle.markdown_engine_content.specs.declared.event.Point.{Point}
+use Rattle.markdown_event.specs.declared.event.Point.{Point}
 use Rattle.markdown_engine_content.specs.Codes.{Code, tab_value, is_line_ending_byte, line_ending_len, line_start, next_column, place_of, is_code_before}
 use Rattle.markdown_engine_content.specs.DocumentWalk.{codes_after, IsPoint}
 use Rattle.markdown_engine_content.specs.Slices.{is_virtual_space, virtual_spaces}

@@ -2,7 +2,7 @@
 use Rattle.std.proofs.Common.{ℕ, Bool, true, false, not, ◌&&◌, ◌==◌, ◌≡◌, arith, List, [], ◌∷◌, ◌++◌, filter, refl, sym, ap, subst, ◌∙◌, IsTrue}
 use Rattle.std.proofs.lemmas.Bool.{both_ways, and_parts, eqb-true, not-false}
 use Rattle.std.proofs.lemmas.Bool.Decides.{nat_tests}
-use Rattle.markdown_engine_content.specs.declared.event.Point.{Point}
+use Rattle.markdown_event.specs.declared.event.Point.{Point}
 use Rattle.markdown_engine_content.specs.declared.parser.Piece.{Piece}
 use Rattle.markdown_engine_content.specs.Codes.{Code, codes_of, place_of, point_at, is_at_or_after, is_code_before, is_line_ending}
 use Rattle.markdown_engine_content.specs.Content.{content_of, content_end, piece_codes, is_place, is_piece, are_pieces, ends_line, is_one_line}

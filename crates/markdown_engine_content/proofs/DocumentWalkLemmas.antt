@@ -3,7 +3,7 @@ use Rattle.std.proofs.Common.{ℕ, zero, suc, ◌+◌, ◌*◌, ◌<◌, ◌≤�
 use Rattle.std.proofs.lemmas.List.{drop_all}
 use Rattle.std.proofs.lemmas.Bool.{eqb-true, cases_lt, lt-ltb, le-ltb, and_right}
 use Rattle.std.proofs.lemmas.Bool.Decides.{nat_tests}
-use Rattle.markdown_engine_content.specs.declared.event.Point.{Point}
+use Rattle.markdown_event.specs.declared.event.Point.{Point}
 use Rattle.markdown_engine_content.specs.Codes.{Code, tab_value, line_feed, space_value, line_start, document_start, next_column, is_line_ending_byte, line_ending_len, codes_from, place_of}
 use Rattle.markdown_engine_content.proofs.PlaceOrder.{is_before}
 use Rattle.markdown_engine_content.proofs.AdjacentCodes.{IsChain, head_same, tail_same}

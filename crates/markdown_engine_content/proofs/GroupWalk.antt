@@ -5,11 +5,11 @@ use Rattle.std.proofs.lemmas.Nat.{ones_le_self, and_mask}
 use Rattle.std.proofs.lemmas.Bool.Decides.{nat_tests}
 use Rattle.std.proofs.lemmas.Simd.{ones-mask_l_cons, length-chunk, get_or-chunk}
 use lib.Lanes.{mask_l, chunk}
-use Rattle.markdown_engine_content.specs.declared.event.Point.{Point}
+use Rattle.markdown_event.specs.declared.event.Point.{Point}
 use Rattle.markdown_engine_content.specs.Codes.{line_start, next_column}
 use Rattle.markdown_engine_content.specs.DocumentWalk.{IsPoint}
 use Rattle.markdown_engine_content.specs.PlainBytes.{is_of_line, feed_bits}
-use Rattle.markdown_engine_content.proofs.KnownPlacesLemmas.{byte_on, feed_on}
+use Rattle.markdown_engine_content.proofs.NextPlace.{byte_on, feed_on}
 
 -- The bits of line feeds.
 

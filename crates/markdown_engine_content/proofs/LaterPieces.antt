@@ -2,7 +2,7 @@
 use Rattle.std.proofs.Common.{ℕ, zero, suc, ◌+◌, ◌<◌, ◌≤◌, Bool, true, false, ◌==◌, ◌≡◌, arith, List, [], ◌∷◌, length, drop, get_or, refl, sym, ap, ◌∙◌, IsTrue}
 use Rattle.std.proofs.lemmas.List.{length-drop, drop_more}
 use Rattle.std.proofs.lemmas.Bool.{both_ways}
-use Rattle.markdown_engine_content.specs.declared.event.Point.{Point}
+use Rattle.markdown_event.specs.declared.event.Point.{Point}
 use Rattle.markdown_engine_content.specs.declared.parser.Piece.{Piece}
 use Rattle.markdown_engine_content.specs.Codes.{place_of, point_at, is_at_or_after}
 use Rattle.markdown_engine_content.specs.Content.{are_pieces, is_place}

@@ -1,8 +1,6 @@
 pub mod ContentLines
 pub mod VirtualSpaces
-pub mod WalkTargets
 pub mod PlaceRules
-pub mod PieceTests
 pub mod CodesBetween
 pub mod PlaceOrder
 pub mod AdjacentCodes
@@ -15,7 +13,6 @@ pub mod ContentCodes
 pub mod CursorInvariant
 pub mod ContentEnd
 pub mod LaterPieces
-pub mod KnownPlacesLemmas
 pub mod CursorSteps
 pub mod NestingLemmas
 pub mod ByteCounts
@@ -24,6 +21,4 @@ pub mod LaneLemmas
 pub mod GroupWalk
 pub mod PlainByteLemmas
 pub mod StretchLemmas
-pub mod AndParts
 pub mod TreeCodes
-pub mod BytePlaces

@@ -1,9 +1,9 @@
 -- The place after a code, by the byte there.
-use Rattle.std.proofs.Common.{ℕ, ◌+◌, ◌-◌, ◌%◌, ◌<◌, ◌≤◌, ◌^◌, true, false, nat_lt, ◌≡◌, arith, List, length, drop, get_or, refl, sym, ap, subst, ◌∙◌, ◌⊎◌, inl, inr, Some, slice_get, if◌then◌else◌}
+use Rattle.std.proofs.Common.{ℕ, suc, ◌+◌, ◌-◌, ◌%◌, ◌<◌, ◌≤◌, ◌^◌, true, false, nat_lt, ◌≡◌, arith, List, [], ◌∷◌, length, drop, get_or, refl, sym, ap, subst, ◌∙◌, ◌⊎◌, inl, inr, Some, slice_get, if◌then◌else◌}
 use Rattle.std.specs.Option.{option_map}
 use Rattle.std.proofs.lemmas.Bool.{eq-eqb, ne_eqb, lt-ltb, le-ltb, cases_eq, cases_lt, cases_Bool}
 use Rattle.std.proofs.lemmas.Bool.Decides.{nat_tests}
-use Rattle.markdown_engine_content.specs.declared.event.Point.{Point}
+use Rattle.markdown_event.specs.declared.event.Point.{Point}
 use Rattle.markdown_engine_content.specs.Codes.{Code, space_value, line_start, next_column, tab_value, is_line_ending_byte, line_ending_len}
 use Rattle.markdown_engine_content.specs.Content.{document_limit}
 use Rattle.markdown_engine_content.specs.DocumentWalk.{IsPoint, next_point, value_from}
@@ -123,3 +123,18 @@ value_control bytes p v h lt ending space same =
         | inr other ↦ some b (same e (λ tab. absurd (other tab))) (value_byte bytes p h lt e (λ tab. absurd (other tab)))
       ]
     ]
+
+-- past a byte above 13
+pub byte_on : (bytes : List ℕ) (p : Point) → IsPoint bytes p → p.index < length bytes → 13 < get_or bytes p.index 0 → IsPoint bytes (next_column p (p.index + 1) 0)
+byte_on bytes p h lt k =
+    next_is_point bytes p _ h lt (next_byte bytes p h lt (other_byte (get_or bytes p.index 0) (λ e. omega (arith, e, k)) (λ e. omega (arith, e, k))) (λ e. absurd (omega (arith, e, k))))
+
+feed-len : (b : ℕ) (rest : List ℕ) → b ≡ 10 → line_ending_len b rest ≡ 1
+feed-len b [] e = refl
+feed-len b (c ∷ rest) e = rw e refl
+
+-- past a line feed
+pub feed_on : (bytes : List ℕ) (p : Point) → IsPoint bytes p → p.index < length bytes → get_or bytes p.index 0 ≡ 10 → IsPoint bytes (line_start (p.line + 1) (p.index + 1))
+feed_on bytes p h lt e =
+    next_is_point bytes p _ h lt
+    (ap (λ (n : ℕ). line_start (p.line + 1) (p.index + n)) (sym (feed-len (get_or bytes p.index 0) (drop (p.index + 1) bytes) e)) ∙ next_ending bytes p h lt (ending_byte (get_or bytes p.index 0) (inl e)))

@@ -2,7 +2,7 @@
 use Rattle.std.proofs.Common.{ℕ, ◌+◌, ◌-◌, ◌%◌, ◌<◌, ◌≤◌, ◌^◌, true, false, ◌&&◌, nat_lt, ◌==◌, ◌≡◌, arith, List, length, refl, sym, ap, ◌∙◌, if◌then◌else◌, ◌⊎◌, inl, inr, IsTrue}
 use Rattle.std.proofs.lemmas.Bool.{cases_lt, cases_eq, eq-eqb, ne_eqb, lt-ltb, le-ltb}
 use Rattle.std.proofs.lemmas.Bool.Decides.{nat_tests}
-use Rattle.markdown_engine_content.specs.declared.event.Point.{Point}
+use Rattle.markdown_event.specs.declared.event.Point.{Point}
 use Rattle.markdown_engine_content.specs.Codes.{tab_width, place_of, is_at_or_after}
 use Rattle.markdown_engine_content.specs.Content.{document_limit}
 use Rattle.markdown_engine_content.specs.DocumentWalk.{IsPoint}

@@ -2,7 +2,7 @@
 use Rattle.std.proofs.Common.{ℕ, ◌+◌, ◌-◌, ◌*◌, ◌<◌, ◌≤◌, Bool, true, false, not, ◌&&◌, ◌==◌, ◌≡◌, arith, List, length, sym, ap, subst, ◌∙◌, IsTrue, inl, inr}
 use Rattle.std.proofs.lemmas.Bool.{cases_Bool, not-true, not_from_false}
 use Rattle.std.proofs.lemmas.Bool.Decides.{nat_tests}
-use Rattle.markdown_engine_content.specs.declared.event.Point.{Point}
+use Rattle.markdown_event.specs.declared.event.Point.{Point}
 use Rattle.markdown_engine_content.specs.Codes.{place_of, point_at, is_at_or_after}
 use Rattle.markdown_engine_content.specs.Content.{is_place}
 use Rattle.markdown_engine_content.specs.DocumentWalk.{IsPoint, next_point}

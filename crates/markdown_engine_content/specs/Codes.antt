@@ -1,7 +1,7 @@
 -- The codes of a document, each with its places.
 use Rattle.std.specs.Prelude.{ℕ, zero, suc, ◌+◌, ◌-◌, ◌%◌, Bool, true, false, ◌&&◌, ◌||◌, nat_lt, nat_le, ◌==◌, List, [], ◌∷◌, ◌++◌, if◌then◌else◌, filter}
 use Rattle.std.specs.List.{count_by, list_any}
-use Rattle.markdown_engine_content.specs.declared.event.Point.{Point}
+use Rattle.markdown_event.specs.declared.event.Point.{Point}
 
 -- A code is what the rules of Markdown read one of: a byte, or the line feed that stands for a line
 -- ending (CommonMark 2.1: LF, CR, or CR LF), or a column of a tab (CommonMark 2.2). It stands from the

@@ -1,6 +1,6 @@
 -- Walks over the codes of a document.
 use Rattle.std.specs.Prelude.{◌≡◌, ℕ, not, List, take, filter, slice_get, Option, option_map}
-use Rattle.markdown_engine_content.specs.declared.event.Point.{Point}
+use Rattle.markdown_event.specs.declared.event.Point.{Point}
 use Rattle.markdown_engine_content.specs.Codes.{Code, codes_of, stop_of, is_code_before, place_of, point_at}
 
 -- the codes from a place on

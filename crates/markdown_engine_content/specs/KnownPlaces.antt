@@ -1,6 +1,6 @@
 -- A document with some of its places.
 use Rattle.std.specs.Prelude.{◌≡◌, ℕ, ◌*◌, ◌<◌, ◌≤◌, List, [], ◌∷◌, length, get_or, Option, MatchOption, IsTrue, IsUtf8}
-use Rattle.markdown_engine_content.specs.declared.event.Point.{Point}
+use Rattle.markdown_event.specs.declared.event.Point.{Point}
 use Rattle.markdown_engine_content.specs.declared.parser.Piece.{Piece}
 use Rattle.markdown_engine_content.specs.Codes.{place_of, is_at_or_after}
 use Rattle.markdown_engine_content.specs.Content.{document_limit, are_pieces}

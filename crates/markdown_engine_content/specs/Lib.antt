@@ -1,7 +1,6 @@
 -- The definitions of this crate.
 -- What has to be believed: what public contracts and the theorem cite.
 pub mod DefaultOptions
-pub mod EventNames
 pub mod Codes
 pub mod Content
 pub mod DocumentWalk
@@ -14,5 +13,4 @@ pub mod Nesting
 pub mod Stretch
 pub mod PlainBytes
 -- What serves proofs: what functions and proofs promise each other.
-pub mod ContentTest
 pub mod PlaceInDocument

@@ -1,6 +1,6 @@
 -- A place in a content, as contracts see it.
 use Rattle.std.specs.Prelude.{ℕ, zero, suc, ◌+◌, List, drop, slice_get, Option, Some, None, option_map}
-use Rattle.markdown_engine_content.specs.declared.event.Point.{Point}
+use Rattle.markdown_event.specs.declared.event.Point.{Point}
 use Rattle.markdown_engine_content.specs.declared.parser.Piece.{Piece}
 use Rattle.markdown_engine_content.specs.Codes.{Code}
 use Rattle.markdown_engine_content.specs.Content.{content_of, content_end}

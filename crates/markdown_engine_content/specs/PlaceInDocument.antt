@@ -1,6 +1,6 @@
 -- How a place in the document stands for a place in a content.
 use Rattle.std.specs.Prelude.{◌≡◌, ℕ, ◌+◌, ◌*◌, ◌≤◌, Bool, false, not, ◌&&◌, ◌==◌, List, [], ◌∷◌, ◌++◌, drop, filter, IsTrue, if◌then◌else◌, Option, Some}
-use Rattle.markdown_engine_content.specs.declared.event.Point.{Point}
+use Rattle.markdown_event.specs.declared.event.Point.{Point}
 use Rattle.markdown_engine_content.specs.declared.parser.Piece.{Piece}
 use Rattle.markdown_engine_content.specs.Codes.{Code, line_feed, document_start, is_at_or_after, is_code_before, place_of, point_at}
 use Rattle.markdown_engine_content.specs.Content.{IsContent, content_of, content_end, are_pieces, ends_line}

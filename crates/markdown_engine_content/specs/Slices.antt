@@ -1,6 +1,6 @@
 -- What is lent of a document for a position: bytes, and virtual spaces of tabs on either side.
 use Rattle.std.specs.Prelude.{ℕ, ◌+◌, Bool, ◌&&◌, ◌==◌, nat_lt, List, if◌then◌else◌, count_by, slice_range}
-use Rattle.markdown_engine_content.specs.declared.event.Point.{Point}
+use Rattle.markdown_event.specs.declared.event.Point.{Point}
 use Rattle.markdown_engine_content.specs.Codes.{Code, codes_of, is_at_or_after, place_of}
 use Rattle.markdown_engine_content.specs.Content.{piece_codes}
 

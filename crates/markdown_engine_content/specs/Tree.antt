@@ -1,10 +1,10 @@
 -- Trees of the inline layer, and their events.
 use Rattle.std.specs.Prelude.{ℕ, ◌+◌, List, [], ◌∷◌, ◌++◌, Option, Some, None}
-use Rattle.markdown_engine_content.specs.declared.event.Point.{Point}
-use Rattle.markdown_engine_content.specs.declared.event.Name.{Name}
-use Rattle.markdown_engine_content.specs.declared.event.Content.{Content}
-use Rattle.markdown_engine_content.specs.declared.event.Event.{Event}
-use Rattle.markdown_engine_content.specs.declared.event.Kind.{Kind}
+use Rattle.markdown_event.specs.declared.event.Point.{Point}
+use Rattle.markdown_event.specs.declared.event.Name.{Name}
+use Rattle.markdown_event.specs.declared.event.Content.{Content}
+use Rattle.markdown_event.specs.declared.event.Event.{Event}
+use Rattle.markdown_event.specs.declared.event.Kind.{Kind}
 use Rattle.markdown_engine_content.specs.Codes.{Code, stop_of, document_start}
 
 -- Sibling trees. A leaf covers codes, and may be linked with the other linked leaves among its siblings.

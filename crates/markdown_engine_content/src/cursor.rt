@@ -10,10 +10,10 @@ ghost use Rattle.markdown_engine_content.specs.DocumentWalk.{IsPoint};
 
 use crate::byte_set;
 use crate::bytes::ByteSet;
-use crate::event::Point;
 use crate::lanes::{EIGHT, LANES, ordinary_among, others_among, plain_among, plain_among_eight};
 use crate::parser::Piece;
 use crate::walk::{DOCUMENT_START, code_from, past_code, walk_to};
+use markdown_event::event::Point;
 use std::marker::Model;
 
 /// A place in a content: its codes, how many of them are passed, and where it ends.
@@ -386,9 +386,9 @@ impl<'a> Cursor<'a> {
         false
     }
 
-    // Whether the piece goes on with a byte that is neither a control nor the space: so the line at the place is filled.
+    /// Whether the piece goes on with a byte that is neither a control nor the space: so the line at the place is filled.
     #[inline(always)]
-    pub(crate) fn stands_at_ink(&self) -> bool
+    pub fn stands_at_ink(&self) -> bool
         ensures { IsTrue result → has_no_blank_line false (ahead_at self.now) ≡ has_no_blank_line true (ahead_at self.now) }
     {
         if self.pieces.len() <= self.piece || self.point.index >= self.pieces[self.piece].end.0 {
@@ -397,9 +397,9 @@ impl<'a> Cursor<'a> {
         self.bytes[self.point.index] > b' '
     }
 
-    // Whether the place is that of the last code, and that is a byte above 13.
+    /// Whether the place is that of the last code, and that is a byte above 13.
     #[inline(always)]
-    pub(crate) fn stands_at_last_byte(&self) -> bool
+    pub fn stands_at_last_byte(&self) -> bool
         ensures { IsTrue result → IsTrue (has_no_blank_line true (ahead_at self.now)) }
     {
         if self.pieces.len() <= self.piece || self.piece + 1 < self.pieces.len() {
@@ -412,10 +412,10 @@ impl<'a> Cursor<'a> {
         self.bytes[self.point.index] > b'\r'
     }
 
-    // Moves past the rest of a line that is filled and past such lines behind it, as far as they are told by a look at few bytes, and
-    // answers whether the line there is filled.
+    /// Moves past the rest of a line that is filled and past such lines behind it, as far as they are told by a look at few bytes, and
+    /// answers whether the line there is filled.
     #[inline(always)]
-    pub(crate) fn pass_filled_lines(&mut self) -> bool
+    pub fn pass_filled_lines(&mut self) -> bool
         ensures lines { has_no_blank_line result (ahead_at self.new) ≡ has_no_blank_line true (ahead_at self.old) }
         ensures left { length (ahead_at self.new) ≤ length (ahead_at self.old) }
     {
@@ -550,9 +550,9 @@ fn plain_groups_end(bytes: &[u8], from: usize, to: usize, stops: &ByteSet) -> us
     }
 }
 
-// Where the ordinary bytes from this index on end, not past `to`.
+/// Where the ordinary bytes from this index on end, not past `to`.
 #[inline(always)]
-pub(crate) fn plain_end(bytes: &[u8], from: usize, to: usize, stops: &ByteSet) -> usize
+pub fn plain_end(bytes: &[u8], from: usize, to: usize, stops: &ByteSet) -> usize
     requires order { from ≤ to }
     requires within { to ≤ length bytes.now }
     ensures from { from ≤ result }

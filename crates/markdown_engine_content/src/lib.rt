@@ -1,12 +1,9 @@
-//! What the inline layer reads: a document as codes with their places, the pieces that are one content, a cursor over them, the kinds of events, and
-//! trees.
+//! What the inline layer reads: a document as codes with their places, the pieces that are one content, a cursor over them, and trees.
 #![tactic(auto)]
 
 pub mod bytes;
 pub mod configuration;
-pub mod content;
 pub mod cursor;
-pub mod event;
 pub mod label_kind;
 pub mod lanes;
 pub mod parser;

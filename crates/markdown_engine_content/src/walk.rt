@@ -4,7 +4,7 @@ ghost use Rattle.markdown_engine_content.specs.Codes.{line_ending_len, line_feed
 ghost use Rattle.markdown_engine_content.specs.Content.{document_limit, is_place};
 ghost use Rattle.markdown_engine_content.specs.DocumentWalk.{IsPoint, next_point, value_from};
 
-use crate::event::Point;
+use markdown_event::event::Point;
 
 /// How many columns apart tab stops are.
 pub const TAB_SIZE: usize = 4;

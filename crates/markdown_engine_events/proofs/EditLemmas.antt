@@ -6,8 +6,8 @@ use Rattle.std.proofs.lemmas.List.{length-append, append-nil, drop_more}
 use Rattle.std.proofs.lemmas.Option.{get_or_from_slice_get, slice_get_within, slice_get-get_or, same_Some}
 use Rattle.std.proofs.lemmas.Bool.{false≢true, le-ltb, eq-eqb, cases_Bool}
 use Rattle.std.proofs.lemmas.Bool.Decides.{nat_tests, eqb_tells, leb_tells}
-use Rattle.markdown_engine_content.specs.declared.event.Event.{Event}
-use Rattle.markdown_engine_content.specs.declared.event.Link.{Link}
+use Rattle.markdown_event.specs.declared.event.Event.{Event}
+use Rattle.markdown_event.specs.declared.event.Link.{Link}
 use Rattle.markdown_engine_events.specs.declared.util.edit_map.Edit.{Edit}
 use Rattle.markdown_engine_events.specs.EventChains.{previous_link, with_previous, link_previous, previous_of, has_link, previous_at, linked_at, MayLink, OnlyEnters, EndsChain, IsLinked, IsUnlinked}
 use Rattle.markdown_engine_events.specs.Edits.{removed_at, front_at, back_at, added_at, removed_by, is_removed, added_up_to, removed_before, moved_number, moved, edited_from, edited, number_of, renumbered, noted, AddsUnlinked, CanEdit}

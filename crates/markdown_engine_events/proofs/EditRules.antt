@@ -5,14 +5,14 @@ use Rattle.std.specs.Option.{option_map}
 use Rattle.std.proofs.lemmas.List.{length-append, length-drop, append-nil}
 use Rattle.std.proofs.lemmas.Bool.{ne_eqb, false≢true, or_left, or_right, leb-true, lt-ltb, le-ltb}
 use Rattle.std.proofs.lemmas.Bool.Decides.{eqb_tells, leb_tells}
-use Rattle.markdown_engine_content.specs.declared.event.Event.{Event}
-use Rattle.markdown_engine_content.specs.declared.event.Link.{Link}
+use Rattle.markdown_event.specs.declared.event.Event.{Event}
+use Rattle.markdown_event.specs.declared.event.Link.{Link}
 use Rattle.markdown_engine_events.specs.declared.util.edit_map.Edit.{Edit}
 use Rattle.markdown_engine_events.specs.EventChains.{previous_link, link_previous, linked_at}
 use Rattle.markdown_engine_events.specs.Edits.{removed_at, front_at, back_at, added_at, removed_by, is_removed, removed_before, moved_number, moved, edited_from, edited, CanEdit}
 use Rattle.markdown_engine_events.proofs.EventChainLemmas.{linked_at-past}
 use Rattle.markdown_engine_events.proofs.EditLemmas.{start, moved-start}
-use Rattle.markdown_engine_content.proofs.AndParts.{and-left, and-right}
+use Rattle.markdown_event.proofs.AndParts.{and-left, and-right}
 
 -- Which events go.
 

@@ -4,8 +4,8 @@ use Rattle.std.specs.List.{All}
 use Rattle.std.specs.Option.{option_map}
 use Rattle.std.proofs.lemmas.List.{take-append-drop, append-nil, length-take, length-drop, drop_more, drop-drop}
 use Rattle.std.proofs.lemmas.Bool.{le-ltb, lt-ltb}
-use Rattle.markdown_engine_content.specs.declared.event.Event.{Event}
-use Rattle.markdown_engine_content.specs.declared.event.Link.{Link}
+use Rattle.markdown_event.specs.declared.event.Event.{Event}
+use Rattle.markdown_event.specs.declared.event.Link.{Link}
 use Rattle.markdown_engine_events.specs.declared.util.edit_map.Edit.{Edit}
 use Rattle.markdown_engine_events.specs.EventChains.{previous_link, link_previous, NamesNone, IsFresh}
 use Rattle.markdown_engine_events.specs.Edits.{removed_at, added_at, is_removed, moved_number, moved, edited_from, edited, IsRest}

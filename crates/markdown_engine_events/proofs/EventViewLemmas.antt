@@ -5,8 +5,8 @@ use Rattle.std.proofs.lemmas.Bool.{both_ways}
 use Rattle.std.proofs.lemmas.List.{take_at, same_from_push, length_push, append-nil, length-take, get_or-take, get_or-drop, get_or_append_left, get_or_push}
 use Rattle.std.proofs.lemmas.List.Elements.{All-append, All-drop, All-push, All-take}
 use Rattle.std.specs.List.{All}
-use Rattle.markdown_engine_content.specs.declared.event.Link.{Link}
-use Rattle.markdown_engine_content.specs.declared.event.Event.{Event}
+use Rattle.markdown_event.specs.declared.event.Link.{Link}
+use Rattle.markdown_event.specs.declared.event.Event.{Event}
 use Rattle.markdown_engine_events.specs.EventChains.{with_next, with_previous, bare, bares, previous_of, chained, changed_at, previous_at, linked_at, EndsChain, IsLinked, IsFresh, IsAlone, IsFilled, IsNoted, OnlyEnters, MayLink, link_previous, next_link}
 use Rattle.markdown_engine_events.proofs.EventChainLemmas.{length-changed_at, changed_at-append, length-bares, bares-append, bares-next, bares-previous, get-bares, chained-fresh, chained-push, chained-end, chained-link, IsLinked-prefix}
 use Rattle.markdown_engine_events.proofs.EventChainLemmas.{some-none, IsLinked-push, OnlyEnters-part, bare-fresh, fresh-of, chained-ends, fresh-unnamed, ends-before, last-earlier, IsLinked-connect, previous_of-bare, within-linked, changed_at-twice}

@@ -3,7 +3,7 @@ use Rattle.std.specs.Prelude.{max, sum_by, ◌≡◌, ℕ, zero, suc, ◌+◌, �
 use Rattle.std.specs.List.{All}
 use Rattle.std.specs.List.Sorted.{IsNonDecreasingBy}
 use Rattle.std.specs.Option.{option_map}
-use Rattle.markdown_engine_content.specs.declared.event.Event.{Event}
+use Rattle.markdown_event.specs.declared.event.Event.{Event}
 use Rattle.markdown_engine_events.specs.declared.util.edit_map.Edit.{Edit}
 use Rattle.markdown_engine_events.specs.declared.util.edit_map.Entry.{Entry}
 use Rattle.markdown_engine_events.specs.declared.util.edit_map.Kept.{Kept}

@@ -2,10 +2,10 @@
 -- from that of the one after.
 use Rattle.std.specs.Prelude.{◌≡◌, ◌≢◌, ℕ, zero, suc, ◌<◌, ◌==◌, Bool, true, false, List, [], ◌∷◌, Option, Some, None, if◌then◌else◌}
 use Rattle.std.specs.List.{All}
-use Rattle.markdown_engine_content.specs.declared.event.Event.{Event}
-use Rattle.markdown_engine_content.specs.declared.event.Kind.{Kind}
-use Rattle.markdown_engine_content.specs.declared.event.Kind.TheVariants.{Enter, Exit}
-use Rattle.markdown_engine_content.specs.declared.event.Link.{Link}
+use Rattle.markdown_event.specs.declared.event.Event.{Event}
+use Rattle.markdown_event.specs.declared.event.Kind.{Kind}
+use Rattle.markdown_event.specs.declared.event.Kind.TheVariants.{Enter, Exit}
+use Rattle.markdown_event.specs.declared.event.Link.{Link}
 
 -- the event after on the chain, set
 abbrev pub next_link : Option ℕ → Option Link → Option Link

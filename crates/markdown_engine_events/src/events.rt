@@ -6,7 +6,7 @@ ghost use Rattle.std.specs.List.{All};
 
 use crate::util::edit_map::Kept;
 use crate::util::edits_in_place::{apply, fit_of};
-use markdown_engine_content::event::{Event, Link};
+use markdown_event::event::{Event, Link};
 use markdown_lists::seq::Seq;
 use std::alloc::{AllocError, Global};
 use std::marker::Model;
@@ -27,7 +27,7 @@ pub struct Events {
 impl Model for Events {
     ghost use Rattle.std.specs.Prelude.{List};
     ghost use Rattle.markdown_engine_events.specs.EventChains.{bares, IsNoted};
-    ghost use Rattle.markdown_engine_content.specs.declared.event.Event.{Event};
+    ghost use Rattle.markdown_event.specs.declared.event.Event.{Event};
 
     ghost Value = { List Event };
 

@@ -9,7 +9,7 @@ use Rattle.markdown_engine_content.specs.Codes.{Code}
 use Rattle.markdown_engine_content.specs.Place.{Place, ahead_at, code_at, code_before, last_of, moved, value_of}
 use Rattle.markdown_engine_index.specs.RunIndex.{later_or, begins_before}
 use Rattle.markdown_engine_index.specs.SequenceIndex.{begins_at, begun_at, closes_past_spacing, closes_twice, dots_behind_w, is_behind_w, is_spacing, is_w, last_begins, last_in, last_where, marks_span, rules_out, shows_at, stand_next, stop_bytes, IsRightFor}
-use Rattle.markdown_engine_content.specs.declared.event.Point.{Point}
+use Rattle.markdown_event.specs.declared.event.Point.{Point}
 use Rattle.markdown_engine_index.specs.declared.sequence_index.LastBegins.{LastBegins}
 use Rattle.markdown_engine_index.specs.declared.sequence_index.Sequence.{Sequence}
 use Rattle.markdown_engine_index.specs.declared.sequence_index.Sequence.TheVariants.{CommentEnd, SectionEnd, InstructionEnd, DeclarationEnd, ResourceEnd, WwwDot, SpanMark}

@@ -3,7 +3,7 @@ use Rattle.std.proofs.Common.{◌≡◌, ◌∙◌, sym, ap, refl, subst, ℕ, L
 use Rattle.std.specs.Str.{is_utf8, IsUtf8}
 use Rattle.std.proofs.lemmas.Str.{is_utf8-from_IsUtf8, IsUtf8-from_is_utf8}
 use Rattle.markdown_engine_content.specs.Tree.{Forest, events_from}
-use Rattle.markdown_engine_content.specs.declared.event.Event.{Event}
+use Rattle.markdown_event.specs.declared.event.Event.{Event}
 use Rattle.markdown_html_model.specs.Html.{Defined, Page, plain_text, text_page}
 use Rattle.markdown_html_model.specs.declared.options.HtmlOptions.{HtmlOptions}
 use Rattle.markdown_html_model.specs.declared.role.Within.{Within}

@@ -1,10 +1,10 @@
 -- Lists that grow by one.
 use Rattle.std.proofs.Common.{◌≡◌, ◌∙◌, ap, refl, subst, ℕ, Bool, true, false, if◌then◌else◌, List, [], ◌∷◌, ◌++◌, All, None, Some}
 use Rattle.std.proofs.lemmas.List.Elements.{All-head, All-tail, All-nil}
-use Rattle.markdown_engine_content.specs.declared.event.Event.{Event}
-use Rattle.markdown_engine_content.specs.declared.event.Kind.{Kind}
-use Rattle.markdown_engine_content.specs.declared.event.Kind.TheVariants.{Enter, Exit}
-use Rattle.markdown_engine_content.specs.declared.event.Point.{Point}
+use Rattle.markdown_event.specs.declared.event.Event.{Event}
+use Rattle.markdown_event.specs.declared.event.Kind.{Kind}
+use Rattle.markdown_event.specs.declared.event.Kind.TheVariants.{Enter, Exit}
+use Rattle.markdown_event.specs.declared.event.Point.{Point}
 use Rattle.markdown_partial.specs.TrimmedData.{IsStretch}
 use Rattle.markdown_html.specs.EventWalk.{exit_first}
 use Rattle.markdown_run_leaves.specs.InnermostEvents.{Span, innermost, has_nothing_inside, span_of, IsInOrder}

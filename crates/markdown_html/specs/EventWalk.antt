@@ -1,8 +1,8 @@
 -- What the writer does at each event, on lists.
 use Rattle.std.specs.Prelude.{ℕ, Bool, true, false, List, [], ◌∷◌, ◌++◌, length, take, drop, Option, None, Some}
-use Rattle.markdown_engine_content.specs.declared.event.Event.{Event}
-use Rattle.markdown_engine_content.specs.declared.event.Kind.TheVariants.{Enter, Exit}
-use Rattle.markdown_engine_content.specs.declared.event.Point.{Point}
+use Rattle.markdown_event.specs.declared.event.Event.{Event}
+use Rattle.markdown_event.specs.declared.event.Kind.TheVariants.{Enter, Exit}
+use Rattle.markdown_event.specs.declared.event.Point.{Point}
 use Rattle.markdown_html_model.specs.Html.{Page, Parts, no_parts, joined_parts, own_calls, own_parts, string_of, text_between, leaf_html, within_of, opening, closing, group_html}
 use Rattle.markdown_html_model.specs.Roles.{role_of}
 use Rattle.markdown_html_model.specs.declared.role.Role.{Role}

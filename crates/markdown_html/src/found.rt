@@ -5,7 +5,7 @@ ghost use Rattle.std.specs.Prelude.{◌≡◌, IfOk, option_map};
 ghost use Rattle.markdown_html_model.specs.Html.{no_parts, joined_parts, or_empty, own_parts, string_of};
 ghost use Rattle.markdown_html.specs.View.{parts_of};
 
-use markdown_engine_content::event::Point;
+use markdown_event::event::Point;
 use markdown_html_model::role::Role;
 use markdown_html_text::resolve::push_resolved;
 use std::alloc::{AllocError, Global};

@@ -16,7 +16,7 @@ use crate::found::Found;
 use crate::references::target;
 use crate::stretch::{bytes_before, bytes_between};
 use crate::targets::Goal;
-use markdown_engine_content::event::Point;
+use markdown_event::event::Point;
 use markdown_html_model::role::{Role, Within};
 use markdown_html_text::escape::push_escaped;
 use markdown_html_text::resolve::{bytes_from, push_resolved};

@@ -21,7 +21,7 @@ use crate::leaves::push_leaf;
 use crate::references::call_identifier;
 use crate::stretch::text_between;
 use crate::targets::Targets;
-use markdown_engine_content::event::{Event, Kind, Point};
+use markdown_event::event::{Event, Kind, Point};
 use markdown_engine_content::parser::ParseState;
 use markdown_html_model::options::HtmlOptions;
 use markdown_html_model::role::{Role, Within, role_of};

@@ -5,7 +5,7 @@ use Rattle.std.specs.Str.{byte, bytes_eq, is_utf8}
 use Rattle.markdown_engine_content.specs.Codes.{stop_of, document_start}
 use Rattle.markdown_engine_content.specs.Slices.{position_bytes, spaces_before, spaces_after}
 use Rattle.markdown_engine_content.specs.Tree.{Forest, empty, leaf_then, group_then, start_of}
-use Rattle.markdown_engine_content.specs.declared.event.Point.{Point}
+use Rattle.markdown_event.specs.declared.event.Point.{Point}
 use Rattle.markdown_util.specs.Identifier.{identifier_of}
 use Rattle.markdown_html_text.specs.Escaped.{escaped, addressed}
 use Rattle.markdown_html_text.specs.Resolved.{resolved}

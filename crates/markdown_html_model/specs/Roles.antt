@@ -1,5 +1,5 @@
 -- What each name of the events stands for in the HTML.
-use Rattle.markdown_engine_content.specs.declared.event.Name.{Name}
+use Rattle.markdown_event.specs.declared.event.Name.{Name}
 use Rattle.markdown_html_model.specs.declared.role.Role.{Role}
 
 abbrev pub role_of : Name → Role

@@ -4,7 +4,7 @@
 ghost use Rattle.std.specs.Prelude.{◌≡◌};
 ghost use Rattle.markdown_html_model.specs.Roles.{role_of};
 
-use markdown_engine_content::event::Name;
+use markdown_event::event::Name;
 
 /// Where HTML is written.
 #[derive(Clone, Copy, Debug, PartialEq, Eq)]

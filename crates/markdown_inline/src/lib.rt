@@ -10,7 +10,9 @@ pub mod util;
 pub use markdown_definitions::{definitions, labels};
 pub use markdown_document::document;
 pub use markdown_engine::{events, subtokenize, tokenizer};
-pub use markdown_engine_content::{configuration, content, event, parser};
+pub use markdown_engine_content::{configuration, parser};
+pub use markdown_engine_pieces::content;
+pub use markdown_event::event;
 pub use markdown_inline_lines::lines;
 pub use markdown_label::{gfm_label_start_footnote, label_start_image, label_start_link};
 pub use markdown_leaf::{

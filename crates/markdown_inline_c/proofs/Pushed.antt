@@ -1,7 +1,7 @@
 -- Events, appended one after another.
 use Rattle.std.proofs.Common.{◌≡◌, ◌∙◌, sym, ap, ℕ, ◌+◌, ◌<◌, ◌≤◌, List, [], ◌∷◌, ◌++◌, get_or, length, map, take, append_assoc}
 use Rattle.std.proofs.lemmas.List.{map-append, take_more, take_all}
-use Rattle.markdown_engine_content.specs.declared.event.Event.{Event}
+use Rattle.markdown_event.specs.declared.event.Event.{Event}
 use Rattle.markdown_inline_c.specs.FlatEvents.{flat_event}
 use Rattle.markdown_inline_c.specs.declared.flat.FlatEvent.{FlatEvent}
 

@@ -1,10 +1,10 @@
 -- Events as a caller in C gets them.
 use Rattle.std.specs.Prelude.{ℕ, Option, None, Some}
-use Rattle.markdown_engine_content.specs.EventNames.{name_number}
-use Rattle.markdown_engine_content.specs.declared.event.Content.{Content}
-use Rattle.markdown_engine_content.specs.declared.event.Event.{Event}
-use Rattle.markdown_engine_content.specs.declared.event.Kind.{Kind}
-use Rattle.markdown_engine_content.specs.declared.event.Link.{Link}
+use Rattle.markdown_event.specs.EventNames.{name_number}
+use Rattle.markdown_event.specs.declared.event.Content.{Content}
+use Rattle.markdown_event.specs.declared.event.Event.{Event}
+use Rattle.markdown_event.specs.declared.event.Kind.{Kind}
+use Rattle.markdown_event.specs.declared.event.Link.{Link}
 use Rattle.markdown_inline_c.specs.declared.flat.FlatEvent.{FlatEvent}
 
 -- the number of an event, or the highest number where there is none

@@ -2,7 +2,7 @@
 use Rattle.std.specs.Prelude.{List, length, map}
 use Rattle.markdown_model.specs.InlineTree.{text_events}
 use Rattle.markdown_run_leaves.specs.InnermostEvents.{Lent, innermost, lent}
-use Rattle.markdown_engine_content.specs.EventNames.{name_number}
+use Rattle.markdown_event.specs.EventNames.{name_number}
 use Rattle.markdown_inline_c.specs.FlatInput.{pieces_of, text_setting}
 use Rattle.markdown_inline_c.specs.declared.flat.FlatLeaf.{FlatLeaf}
 use Rattle.markdown_inline_c.specs.declared.flat.Input.{Input}

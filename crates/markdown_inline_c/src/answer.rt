@@ -8,7 +8,7 @@ ghost use Rattle.markdown_inline_c.specs.Statuses.{fault_status};
 use crate::fault::{DONE, Fault, TOO_SMALL};
 use crate::flat::{FlatEvent, flat_event};
 use crate::texts::Found;
-use markdown_engine_content::event::Event;
+use markdown_event::event::Event;
 use markdown_run::run::Run;
 
 // Fills the front of the array.

@@ -1,11 +1,11 @@
 // What crosses to C: structs of numbers and of arrays.
 
 ghost use Rattle.std.specs.Prelude.{◌≡◌};
-ghost use Rattle.markdown_engine_content.specs.EventNames.{name_number};
+ghost use Rattle.markdown_event.specs.EventNames.{name_number};
 ghost use Rattle.markdown_inline_c.specs.FlatEvents.{flat_event, kind_number, link_number, number_or_max};
 ghost use Rattle.markdown_inline_c.specs.FlatInput.{piece_of};
 
-use markdown_engine_content::event::{Content, Event, Kind, Name};
+use markdown_event::event::{Content, Event, Kind, Name};
 use markdown_engine_content::parser::Piece;
 
 /// A piece of a document, from a place to a place.

@@ -12,7 +12,7 @@ ghost use Rattle.markdown_run_leaves.specs.LeafView.{lent_by};
 use crate::fault::Fault;
 use crate::flat::{FlatLeaf, Input, name_number};
 use crate::input;
-use markdown_engine_content::event::Event;
+use markdown_event::event::Event;
 use markdown_run::run::{self, Leaf};
 use std::alloc::{AllocError, Global};
 

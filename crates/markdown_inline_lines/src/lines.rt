@@ -3,8 +3,8 @@ ghost use Rattle.std.specs.Prelude.{◌≡◌, [], ◌++◌, ◌+◌, ◌-◌, �
 ghost use Rattle.markdown_inline_lines.specs.PrintedLines.{words_text, content_text, number_text, point_text, rest_text, link_text, line_of, lines_of};
 
 use itoa::{Buffer, write_digits};
-use markdown_engine_content::event::{Content, Event, Kind, Link, NAMES, Name, Point};
-use markdown_engine_content::event_names;
+use markdown_event::event::{Content, Event, Kind, Link, NAMES, Name, Point};
+use markdown_event::event_names;
 use std::alloc::{AllocError, Global};
 use std::marker::Model;
 
@@ -201,7 +201,7 @@ struct Printed {
 }
 
 impl Model for Printed {
-    ghost use Rattle.markdown_engine_content.specs.declared.event.Point.{Point};
+    ghost use Rattle.markdown_event.specs.declared.event.Point.{Point};
     ghost use Rattle.markdown_inline_lines.specs.PrintedLines.{IsPrinted};
 
     ghost Value = { Point };

@@ -9,10 +9,10 @@ use Rattle.markdown_engine.specs.PastTree.{past, appended_from}
 use Rattle.markdown_engine_content.specs.Place.{moved}
 use Rattle.markdown_engine_content.specs.Tree.{Forest, leaf, group, ◌⊕◌}
 use Rattle.markdown_engine.specs.TreeOps.{ops_of}
-use Rattle.markdown_engine_content.specs.declared.event.Event.{Event}
-use Rattle.markdown_engine_content.specs.declared.event.Name.{Name}
-use Rattle.markdown_engine_content.specs.declared.event.Name.TheVariants as N
-use Rattle.markdown_engine_content.specs.declared.event.Point.{Point}
+use Rattle.markdown_event.specs.declared.event.Event.{Event}
+use Rattle.markdown_event.specs.declared.event.Name.{Name}
+use Rattle.markdown_event.specs.declared.event.Name.TheVariants as N
+use Rattle.markdown_event.specs.declared.event.Point.{Point}
 use Rattle.markdown_engine.specs.declared.resolve.ResolveName.TheVariants as R
 use Rattle.markdown_engine_content.specs.declared.label_kind.LabelKind.{LabelKind}
 use Rattle.markdown_engine.specs.declared.tokenizer.LabelStart as Kept
@@ -20,7 +20,7 @@ use Rattle.markdown_engine.specs.declared.tokenizer.TokenizeState.{TokenizeState
 use Rattle.markdown_engine.specs.declared.tokenizer.Tokenizer.{Tokenizer}
 use Rattle.markdown_engine.proofs.OperationFields.{Begins}
 use Rattle.markdown_engine_content.proofs.PlaceRules.{ahead-moved}
-use Rattle.markdown_engine_content.proofs.AndParts.{and-left, and-right}
+use Rattle.markdown_event.proofs.AndParts.{and-left, and-right}
 use Rattle.markdown_engine.proofs.SolidTrees.{IsSolid-group, IsSolid-leaf, IsSolid-row}
 use Rattle.markdown_engine.proofs.TreeEvents.{ops-past}
 use Rattle.markdown_plan.specs.Characters.{bytes_of, ReadsText}

@@ -1,13 +1,13 @@
 -- The bytes of a text between two places at which it may be cut.
 use Rattle.std.proofs.Common.{◌≡◌, ℕ, zero, suc, ◌-◌, ◌<◌, List, [], ◌∷◌, length, get_or, take, drop, refl, sym, ap, subst, ◌∙◌, arith}
 use Rattle.std.specs.Prelude.{max}
-use Rattle.markdown_engine_content.specs.declared.event.Point.{Point}
+use Rattle.markdown_event.specs.declared.event.Point.{Point}
 use Rattle.markdown_util.specs.Identifier.{identifier_of}
 use Rattle.std.specs.List.{slice_range, slice_index_or}
 use Rattle.std.specs.Str.{IsCharBoundary}
 use Rattle.std.proofs.Math.Nat.{le-max_right, sub-add-eq-max}
 use Rattle.markdown_engine_events.specs.EventChains.{chained}
-use Rattle.markdown_engine_content.specs.declared.event.Event.{Event}
+use Rattle.markdown_event.specs.declared.event.Event.{Event}
 use Rattle.markdown_engine.specs.declared.tokenizer.Tokenizer.{Tokenizer}
 use Rattle.markdown_engine_events.proofs.EventChainLemmas.{chained-point}
 use Rattle.markdown_plan.specs.Characters.{bytes_of}

@@ -18,7 +18,7 @@ use Rattle.markdown_engine.proofs.ReadingSequences.{scratched-same}
 use Rattle.markdown_engine.proofs.LawSteps.{if-step, code-step}
 use Rattle.markdown_engine.proofs.OperationFields.{Begins, ahead-some, attempts-scratched, left-scratched, some-codes}
 use Rattle.markdown_engine.proofs.OperationLemmas.{Grown-scratched}
-use Rattle.markdown_engine_content.proofs.AndParts.{and-left}
+use Rattle.markdown_event.proofs.AndParts.{and-left}
 use Rattle.markdown_engine.proofs.TreeEvents.{past-empty}
 use Rattle.markdown_plan.specs.Plan.{Plan, plan_of, KeepsAs}
 use Rattle.markdown_plan.specs.LayerEquation.{Within}

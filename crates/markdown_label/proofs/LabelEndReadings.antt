@@ -5,7 +5,7 @@ use Rattle.markdown_partial.proofs.PartialDestinationReadings.{if-here, if-other
 use Rattle.std.proofs.Math.Bool.{and-true, and-false}
 use Rattle.markdown_engine_content.specs.Codes.{Code}
 use Rattle.markdown_engine_content.specs.Tree.{Forest, empty, leaf, group, ◌⊕◌}
-use Rattle.markdown_engine_content.specs.declared.event.Name.TheVariants as N
+use Rattle.markdown_event.specs.declared.event.Name.TheVariants as N
 use Rattle.markdown_engine_content.specs.declared.label_kind.LabelKind.{LabelKind}
 use Rattle.markdown_plan.specs.Plan.{preceded, plan_of, tree_ops}
 use Rattle.markdown_plan.proofs.PassedByReadings.{Gives, Covers, IsSome, Gives-bind, Gives-one, Gives-gives, Covers-group, Covers-row, Covers-leaf, some-first}

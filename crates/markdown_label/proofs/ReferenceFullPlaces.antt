@@ -6,10 +6,10 @@ use Rattle.markdown_model.proofs.LinksDoNotNest.{yields_passed_if}
 use Rattle.markdown_engine.proofs.SolidTrees.{stop_of-append}
 use Rattle.markdown_engine_content.specs.Codes.{Code, is_line_ending, is_blank, stop_of, document_start}
 use Rattle.markdown_engine_content.specs.Tree.{Forest, empty, leaf_then, group_then, leaf, group, leaf_codes, enter_of, exit_after, ◌⊕◌}
-use Rattle.markdown_engine_content.specs.declared.event.Content.{Content}
-use Rattle.markdown_engine_content.specs.declared.event.Name.{Name}
-use Rattle.markdown_engine_content.specs.declared.event.Name.TheVariants as N
-use Rattle.markdown_engine_content.specs.declared.event.Point.{Point}
+use Rattle.markdown_event.specs.declared.event.Content.{Content}
+use Rattle.markdown_event.specs.declared.event.Name.{Name}
+use Rattle.markdown_event.specs.declared.event.Name.TheVariants as N
+use Rattle.markdown_event.specs.declared.event.Point.{Point}
 use Rattle.markdown_plan.proofs.FirstStretch.{BeginsWith, stretches-begin}
 use Rattle.markdown_model.specs.CodeTests.{is_value, next_is}
 use Rattle.markdown_model.specs.Grammar.{one, span}

@@ -12,7 +12,7 @@ use Rattle.markdown_engine_index.specs.SequenceIndex.{closes_twice, last_where, 
 use Rattle.markdown_engine.specs.StateWords.{StateWords, Words, words_in, Law, GoesIn}
 use Rattle.markdown_engine_content.specs.Tree.{Forest, leaf, leaf_codes}
 use Rattle.markdown_engine.specs.Weights.{codes_left, weight_at}
-use Rattle.markdown_engine_content.specs.declared.event.Name.TheVariants as N
+use Rattle.markdown_event.specs.declared.event.Name.TheVariants as N
 use Rattle.markdown_engine_index.specs.declared.sequence_index.Sequence.TheVariants.{ResourceEnd}
 use Rattle.markdown_engine.specs.declared.state.State.TheVariants.{Next, Retry}
 use Rattle.markdown_engine.specs.declared.state.StateName.{StateName}
@@ -22,7 +22,7 @@ use Rattle.markdown_engine.specs.declared.tokenizer.Tokenizer.{Tokenizer}
 use Rattle.markdown_engine.proofs.ReadingSequences.{left-read, scratched-same}
 use Rattle.markdown_engine.proofs.LawSteps.{Grown-refl, if-step, restored-fails}
 use Rattle.markdown_engine.proofs.OperationFields.{Begins, ahead-none, ahead-some, attempts-scratched, left-scratched}
-use Rattle.markdown_engine_content.proofs.AndParts.{and-left, and-right}
+use Rattle.markdown_event.proofs.AndParts.{and-left, and-right}
 use Rattle.markdown_engine.proofs.OperationLemmas.{attempts-done}
 use Rattle.markdown_engine_index.proofs.SequenceIndexLemmas as SequenceIndexLemmas
 use Rattle.markdown_engine.proofs.SolidTrees.{IsSolid-leaf}

@@ -6,7 +6,7 @@ use Rattle.std.proofs.lemmas.Bool.{eqb-true, or_cases}
 use Rattle.markdown_engine_content.specs.Codes.{Code}
 use Rattle.markdown_engine.specs.PastTree.{behind}
 use Rattle.markdown_engine_content.specs.Tree.{Forest, empty, leaf_then, group_then, leaf, ◌⊕◌, group}
-use Rattle.markdown_engine_content.specs.declared.event.Name.TheVariants as N
+use Rattle.markdown_event.specs.declared.event.Name.TheVariants as N
 use Rattle.markdown_model.specs.CodeTests.{is_value, next_is}
 use Rattle.markdown_model.specs.Grammar.{Reading, ◌>>=◌, gives, either, before, if_next, one, optional_tree}
 use Rattle.markdown_model.specs.Resource.{begins_title, destination, resource_names, title, title_names, spaced_title, destination_and_title, resource}

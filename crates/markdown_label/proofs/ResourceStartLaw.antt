@@ -11,8 +11,8 @@ use Rattle.markdown_engine.specs.StateRuns.{Stepped, stepped}
 use Rattle.markdown_engine.specs.StateWords.{Words, Law, GoesIn}
 use Rattle.markdown_engine_content.specs.Tree.{Forest, empty, leaf_then, group_then, leaf, ◌⊕◌, group, leaf_codes, exit_after}
 use Rattle.markdown_engine.specs.Weights.{codes_left, weight_at}
-use Rattle.markdown_engine_content.specs.declared.event.Name.TheVariants as N
-use Rattle.markdown_engine_content.specs.declared.event.Point.{Point}
+use Rattle.markdown_event.specs.declared.event.Name.TheVariants as N
+use Rattle.markdown_event.specs.declared.event.Point.{Point}
 use Rattle.markdown_engine.specs.declared.state.State.TheVariants.{Next, Nok}
 use Rattle.markdown_engine.specs.declared.state.StateName.TheVariants.{LabelEndResourceBefore}
 use Rattle.markdown_engine.specs.declared.tokenizer.Tokenizer.{Tokenizer}

@@ -3,7 +3,7 @@ use Rattle.std.specs.Prelude.{◌≡◌, ◌≤◌, false}
 use Rattle.markdown_engine_index.specs.SequenceIndex.{IsRightFor}
 use Rattle.markdown_engine_index.specs.TitleIndex as Titles
 use Rattle.markdown_engine.specs.Weights.{codes_left}
-use Rattle.markdown_engine_content.specs.declared.event.Name.TheVariants as N
+use Rattle.markdown_event.specs.declared.event.Name.TheVariants as N
 use Rattle.markdown_engine.specs.declared.tokenizer.TokenizeState.{TokenizeState}
 use Rattle.markdown_engine.specs.declared.tokenizer.Tokenizer.{Tokenizer}
 use Rattle.markdown_partial.specs.PartialSpaceOrTabEol.{WhitespaceAtRest}

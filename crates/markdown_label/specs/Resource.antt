@@ -10,7 +10,7 @@ use Rattle.markdown_engine_index.specs.SequenceIndex.{rules_out}
 use Rattle.markdown_engine.specs.StateWords.{StateWords}
 use Rattle.markdown_engine_index.specs.TitleIndex as Titles
 use Rattle.markdown_engine_content.specs.Tree.{Forest, leaf, leaf_codes}
-use Rattle.markdown_engine_content.specs.declared.event.Name.TheVariants as N
+use Rattle.markdown_event.specs.declared.event.Name.TheVariants as N
 use Rattle.markdown_engine_index.specs.declared.sequence_index.Sequence.TheVariants.{ResourceEnd}
 use Rattle.markdown_engine.specs.declared.state.State.TheVariants.{Next, Retry, Ok, Nok}
 use Rattle.markdown_engine.specs.declared.state.StateName.{StateName}

@@ -29,7 +29,7 @@
 
 ghost use Rattle.std.specs.Prelude.{◌≡◌, IfOk, OnErr, IsTrue};
 ghost use Rattle.markdown_engine.specs.Operations.{IsOpen, current_of};
-ghost use Rattle.markdown_engine_content.specs.declared.event.Name.TheVariants.{Reference};
+ghost use Rattle.markdown_event.specs.declared.event.Name.TheVariants.{Reference};
 ghost use Rattle.markdown_model.specs.LabelEnd.{is_image, link_kind};
 ghost use Rattle.markdown_label.specs.AfterLabelParts.{names_rested};
 ghost use Rattle.markdown_label.specs.LabelFields.{bars, as_link, marked, AreOrdered};
@@ -44,7 +44,7 @@ pub use crate::resource::{
 use markdown_engine::resolve::ResolveName;
 use markdown_engine::state::{State, StateName};
 use markdown_engine::tokenizer::{Label, LabelKind, LabelStart, TokenizeState, Tokenizer};
-use markdown_engine_content::event::Name;
+use markdown_event::event::Name;
 use markdown_lists::seq::Stack;
 use std::alloc::AllocError;
 

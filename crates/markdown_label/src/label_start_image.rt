@@ -26,7 +26,7 @@ use crate::parts;
 use crate::starts::keep_start;
 use markdown_engine::state::{State, StateName};
 use markdown_engine::tokenizer::{LabelKind, Tokenizer};
-use markdown_engine_content::event::Name;
+use markdown_event::event::Name;
 use std::alloc::AllocError;
 
 /// At the start of an image's label: its exclamation mark.

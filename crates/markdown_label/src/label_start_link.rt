@@ -24,7 +24,7 @@ use crate::parts::whole_of_one;
 use crate::starts::keep_start;
 use markdown_engine::state::State;
 use markdown_engine::tokenizer::{LabelKind, Tokenizer};
-use markdown_engine_content::event::Name;
+use markdown_event::event::Name;
 use std::alloc::AllocError;
 
 /// At the start of a link's label: its bracket.

@@ -10,7 +10,7 @@ ghost use Rattle.markdown_engine.specs.declared.state.State.TheVariants.{Next, R
 
 use markdown_engine::state::{State, StateName};
 use markdown_engine::tokenizer::Tokenizer;
-use markdown_engine_content::event::Name;
+use markdown_event::event::Name;
 use std::alloc::AllocError;
 
 // Enters a whole, takes the code at the place as its first marker, and goes on with a state.

@@ -9,7 +9,7 @@ use Rattle.std.proofs.lemmas.Bool.Decides.{leb_tells}
 use Rattle.markdown_engine_events.specs.Edits.{removed_at, front_at, back_at}
 use Rattle.markdown_engine_content.specs.Codes.{Code}
 use Rattle.markdown_engine_content.specs.Tree.{Forest, event_count}
-use Rattle.markdown_engine_content.specs.declared.event.Event.{Event}
+use Rattle.markdown_event.specs.declared.event.Event.{Event}
 use Rattle.markdown_engine_events.specs.declared.util.edit_map.Edit.{Edit}
 use Rattle.markdown_engine_events.proofs.EditRules.{back-append, removed-append}
 use Rattle.markdown_engine.specs.OrderedEdits.{Part, comes, stays, edits_from, coming, going, Does}

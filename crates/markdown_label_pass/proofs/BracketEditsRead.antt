@@ -4,8 +4,8 @@ use Rattle.std.proofs.lemmas.List.{drop-drop}
 use Rattle.markdown_engine_content.specs.Codes.{Code}
 use Rattle.markdown_engine.specs.PastTree.{appended_from}
 use Rattle.markdown_engine_content.specs.Tree.{Forest, empty, group_then, ◌⊕◌, event, event_count}
-use Rattle.markdown_engine_content.specs.declared.event.Event.{Event}
-use Rattle.markdown_engine_content.specs.declared.event.Kind.{Kind}
+use Rattle.markdown_event.specs.declared.event.Event.{Event}
+use Rattle.markdown_event.specs.declared.event.Kind.{Kind}
 use Rattle.markdown_engine.specs.declared.tokenizer.Label.{Label}
 use Rattle.markdown_engine_events.specs.declared.util.edit_map.Edit.{Edit}
 use Rattle.markdown_engine.proofs.TreeEvents.{length-appended_from}

@@ -5,8 +5,8 @@ use Rattle.markdown_engine_content.specs.Codes.{Code}
 use Rattle.markdown_engine.specs.Operations.{Op, Enter, Exit, Consume}
 use Rattle.markdown_engine_content.specs.Tree.{Forest, ◌⊕◌, leaf, group}
 use Rattle.markdown_engine.specs.TreeOps.{consumes, ops_of}
-use Rattle.markdown_engine_content.specs.declared.event.Name.{Name}
-use Rattle.markdown_engine_content.specs.declared.event.Name.TheVariants as N
+use Rattle.markdown_event.specs.declared.event.Name.{Name}
+use Rattle.markdown_event.specs.declared.event.Name.TheVariants as N
 use Rattle.markdown_model.specs.CodeTests.{is_value, is_letter, next_is}
 use Rattle.markdown_model.specs.Grammar.{Reading, ◌>>=◌, ◌>>◌, ◌then_◌, gives, one, some, provided, either, any_number, with_first}
 use Rattle.markdown_model.specs.LeafConstructs.{scheme, uri, email_address, domain_label, in_angle_brackets, autolink, is_scheme_code, is_uri_code, is_local_code}

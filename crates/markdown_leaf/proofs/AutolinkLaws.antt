@@ -12,8 +12,8 @@ use Rattle.markdown_engine_content.specs.Stretch.{is_free}
 use Rattle.markdown_engine.proofs.SteadyLemmas.{steady-at}
 use Rattle.markdown_plan.proofs.ByteTestLemmas.{no-control}
 use Rattle.markdown_engine.specs.Weights.{weight_at}
-use Rattle.markdown_engine_content.specs.declared.event.Name.{Name}
-use Rattle.markdown_engine_content.specs.declared.event.Name.TheVariants as N
+use Rattle.markdown_event.specs.declared.event.Name.{Name}
+use Rattle.markdown_event.specs.declared.event.Name.TheVariants as N
 use Rattle.markdown_engine.specs.declared.state.State.TheVariants.{Next, Retry}
 use Rattle.markdown_engine.specs.declared.state.State.TheVariants as State
 use Rattle.markdown_engine.specs.declared.state.StateName.{StateName}

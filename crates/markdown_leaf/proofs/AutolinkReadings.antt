@@ -6,7 +6,7 @@ use Rattle.std.proofs.lemmas.Grind.{common_steps}
 use Rattle.markdown_engine_content.specs.Codes.{Code}
 use Rattle.markdown_engine.specs.Operations.{Op, Consume}
 use Rattle.markdown_engine.specs.TreeOps.{consumes}
-use Rattle.markdown_engine_content.specs.declared.event.Name.{Name}
+use Rattle.markdown_event.specs.declared.event.Name.{Name}
 use Rattle.markdown_model.specs.CodeTests.{is_value, is_between, is_letter, is_alphanumeric, is_some_code, last_code, next_is, is_length_in}
 use Rattle.markdown_model.specs.Grammar.{Reading, ◌>>◌, ◌then_◌, gives, one, some, provided, any_number, span, with_first}
 use Rattle.markdown_model.specs.LeafConstructs.{scheme, uri, email_address, domain_label, is_scheme_code, is_uri_code, is_local_code}

@@ -1,6 +1,6 @@
 -- The last event of a list.
 use Rattle.std.proofs.Common.{◌≡◌, ℕ, zero, suc, ◌+◌, List, [], ◌∷◌, length, slice_index_or, ap, arith}
-use Rattle.markdown_engine_content.specs.declared.event.Event.{Event}
+use Rattle.markdown_event.specs.declared.event.Event.{Event}
 use Rattle.markdown_model.specs.SingleConstructs.{ends_escape, follows_escape}
 
 pub last-escape : (es : List Event) (n : ℕ) (e : Event) → n + 1 ≡ length es → e ≡ slice_index_or es n e →

@@ -9,8 +9,8 @@ use Rattle.markdown_engine.specs.Operations.{Op, Enter, Exit, Consume}
 use Rattle.markdown_engine.specs.PastTree.{TreeReading}
 use Rattle.markdown_engine_content.specs.Tree.{Forest, empty, leaf_then, ◌⊕◌, leaf, group}
 use Rattle.markdown_engine.specs.TreeOps.{consumes, ops_of}
-use Rattle.markdown_engine_content.specs.declared.event.Name.{Name}
-use Rattle.markdown_engine_content.specs.declared.event.Name.TheVariants as N
+use Rattle.markdown_event.specs.declared.event.Name.{Name}
+use Rattle.markdown_event.specs.declared.event.Name.TheVariants as N
 use Rattle.markdown_model.specs.CodeTests.{is_value, next_is, is_empty, is_some_code}
 use Rattle.markdown_model.specs.Grammar.{◌>>=◌, ◌>>◌, gives, provided, either, some, span}
 use Rattle.markdown_model.specs.TextLines.{joins, stretches, line_leaf, line_leaves}

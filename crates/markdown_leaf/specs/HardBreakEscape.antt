@@ -7,7 +7,7 @@ use Rattle.markdown_engine.specs.StateRuns.{Stepped, stepped}
 use Rattle.markdown_model.specs.CodeTests.{next_is}
 use Rattle.markdown_model.specs.SingleConstructs as SingleConstructs
 use Rattle.markdown_plan.specs.Plan.{Plan, KeepsAs}
-use Rattle.markdown_engine_content.specs.declared.event.Name.TheVariants as N
+use Rattle.markdown_event.specs.declared.event.Name.TheVariants as N
 use Rattle.markdown_engine.specs.declared.state.State.TheVariants.{Next, Nok}
 use Rattle.markdown_engine.specs.declared.state.State.TheVariants as State
 use Rattle.markdown_engine.specs.declared.state.StateName.TheVariants.{HardBreakEscapeAfter, HardBreakEscapeStart}

@@ -17,7 +17,7 @@ use Rattle.markdown_model.specs.TextLines.{line_leaves}
 use Rattle.markdown_plan.specs.Plan.{Plan, preceded, DoesAs}
 use Rattle.markdown_plan.specs.ScratchFields.{Fits, AreOpen, with_size, with_size_b}
 use Rattle.markdown_plan.specs.LateNames.{Naming, NamesAs, under, renamed, HasEvent}
-use Rattle.markdown_engine_content.specs.declared.event.Name.TheVariants as N
+use Rattle.markdown_event.specs.declared.event.Name.TheVariants as N
 use Rattle.markdown_engine.specs.declared.state.State.TheVariants.{Next, Retry, Nok}
 use Rattle.markdown_engine.specs.declared.state.State.TheVariants as State
 use Rattle.markdown_engine.specs.declared.state.StateName.TheVariants.{RawTextSequenceOpen, RawTextBetween, RawTextData, RawTextSequenceClose, RawTextStart}

@@ -24,7 +24,7 @@
 
 ghost use Rattle.std.specs.Prelude.{◌≡◌};
 ghost use Rattle.markdown_engine.specs.Operations.{HasCode, current_of};
-ghost use Rattle.markdown_engine_content.specs.declared.event.Name.TheVariants.{Autolink};
+ghost use Rattle.markdown_event.specs.declared.event.Name.TheVariants.{Autolink};
 ghost use Rattle.markdown_plan.specs.ScratchFields.{AreOpen};
 ghost use Rattle.markdown_leaf.specs.Autolink.{scheme_value, local_value, uri_stops, uri_value, refused, finished, start_step, open_step, scheme_or_step, scheme_inside_step, url_inside_step, email_atext_step, email_at_sign_or_dot_step, in_label_at, email_value_step, email_label_step, InsideReady, FreshReady, SchemeReady, LabelReady};
 ghost use Rattle.markdown_plan.specs.StateCalls.{Steps};
@@ -35,7 +35,7 @@ use markdown_engine::state::{State, StateName};
 use markdown_engine::tokenizer::Tokenizer;
 use markdown_engine_content::byte_set;
 use markdown_engine_content::bytes::ByteSet;
-use markdown_engine_content::event::Name;
+use markdown_event::event::Name;
 use markdown_plan::bytes::{is_alphanumeric, is_letter};
 use markdown_util::util::constant::{AUTOLINK_DOMAIN_SIZE_MAX, AUTOLINK_SCHEME_SIZE_MAX};
 use std::alloc::AllocError;

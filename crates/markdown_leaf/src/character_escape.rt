@@ -18,13 +18,13 @@
 #![tactic(auto, using(markdown_engine::proofs::OperationFields::op_rules))]
 
 ghost use Rattle.markdown_engine.specs.Operations.{IsOpen};
-ghost use Rattle.markdown_engine_content.specs.declared.event.Name.TheVariants.{CharacterEscape};
+ghost use Rattle.markdown_event.specs.declared.event.Name.TheVariants.{CharacterEscape};
 ghost use Rattle.markdown_leaf.specs.CharacterEscape.{start_step, inside_step};
 ghost use Rattle.markdown_plan.specs.StateCalls.{Steps};
 
 use markdown_engine::state::{State, StateName};
 use markdown_engine::tokenizer::Tokenizer;
-use markdown_engine_content::event::Name;
+use markdown_event::event::Name;
 use std::alloc::AllocError;
 
 /// At the start of a character escape: the backslash.

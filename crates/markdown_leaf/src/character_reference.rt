@@ -30,7 +30,7 @@ ghost use Rattle.markdown_plan.specs.StateCalls.{Steps};
 use crate::marks::close;
 use markdown_engine::state::{State, StateName};
 use markdown_engine::tokenizer::Tokenizer;
-use markdown_engine_content::event::Name;
+use markdown_event::event::Name;
 use markdown_engine_content::util::slice::Slice;
 use markdown_util::util::character_reference::{decode_named, value_max, value_test};
 use std::alloc::AllocError;

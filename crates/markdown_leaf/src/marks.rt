@@ -6,7 +6,7 @@ ghost use Rattle.markdown_engine.specs.Operations.{applied, Enter, Exit, Consume
 ghost use Rattle.markdown_plan.specs.ScratchFields.{AreOpen};
 
 use markdown_engine::tokenizer::Tokenizer;
-use markdown_engine_content::event::Name;
+use markdown_event::event::Name;
 use std::alloc::AllocError;
 
 // Exits what stands in the whole, takes the marker that ends it, and exits the whole.

@@ -33,7 +33,7 @@ use markdown_engine::state::{State, StateName};
 use markdown_engine::tokenizer::{TokenizeState, Tokenizer};
 use markdown_engine_content::byte_set;
 use markdown_engine_content::bytes::ByteSet;
-use markdown_engine_content::event::{Event, Kind, Name};
+use markdown_event::event::{Event, Kind, Name};
 use std::alloc::AllocError;
 
 // Whether the event ends an escape.

@@ -5,7 +5,7 @@ ghost use Rattle.std.specs.Prelude.{◌≡◌, OnOk, OnErr, IsTrue};
 ghost use Rattle.markdown_plan.specs.LateNames.{HasEvent, renamed};
 
 use markdown_engine::tokenizer::Tokenizer;
-use markdown_engine_content::event::{Event, Name};
+use markdown_event::event::{Event, Name};
 use std::alloc::AllocError;
 
 // Gives the last event and the innermost open event another name; no link is left at the event.

@@ -6,7 +6,7 @@ use Rattle.std.proofs.lemmas.Bool.Decides.{nat_tests}
 use Rattle.std.proofs.lemmas.List.{get_or-drop, get_or-take, length-drop, length-take-le}
 use Rattle.markdown_engine_content.specs.Codes.{Code, is_line_ending_byte, line_ending_len, line_start, next_column, place_of, tab_value}
 use Rattle.markdown_engine_content.specs.DocumentWalk.{IsPoint}
-use Rattle.markdown_engine_content.specs.declared.event.Point.{Point}
+use Rattle.markdown_event.specs.declared.event.Point.{Point}
 use Rattle.markdown_engine_content.proofs.AdjacentCodes.{cons≢nil, tail_same}
 use Rattle.markdown_engine_content.proofs.PlaceOrder.{is_before, before-reach}
 use Rattle.markdown_engine_content.proofs.DocumentPlaces.{stands-point}

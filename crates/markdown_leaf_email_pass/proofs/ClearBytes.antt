@@ -4,7 +4,7 @@ use Rattle.std.specs.List.{slice_range}
 use Rattle.std.proofs.lemmas.Bool.{cases_lt, eq-eqb}
 use Rattle.std.proofs.lemmas.Bool.Decides.{nat_tests}
 use Rattle.memchr.specs.Find.{NoneBefore, Nowhere, Passes, is_byte}
-use Rattle.markdown_engine_content.specs.declared.event.Point.{Point}
+use Rattle.markdown_event.specs.declared.event.Point.{Point}
 use Rattle.markdown_partial.specs.TrimmedData.{between, IsStretch}
 use Rattle.markdown_leaf_email_pass.specs.EmailScan.{has_sign}
 use Rattle.markdown_leaf_email_pass.proofs.AtSignSearch.{NoSign, in-slice, sign-at, sign-not, slice-length}

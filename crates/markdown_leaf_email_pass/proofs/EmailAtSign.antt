@@ -7,10 +7,10 @@ use Rattle.markdown_engine_content.specs.Codes.{Code, stop_of}
 use Rattle.markdown_engine.specs.PastTree.{appended_from}
 use Rattle.markdown_engine_content.specs.Tree.{Forest, leaf, ◌⊕◌}
 use Rattle.markdown_engine_content.specs.DocumentWalk.{IsPoint, next_point, value_from}
-use Rattle.markdown_engine_content.specs.declared.event.Event.{Event}
-use Rattle.markdown_engine_content.specs.declared.event.Name.{Name}
-use Rattle.markdown_engine_content.specs.declared.event.Name.TheVariants as N
-use Rattle.markdown_engine_content.specs.declared.event.Point.{Point}
+use Rattle.markdown_event.specs.declared.event.Event.{Event}
+use Rattle.markdown_event.specs.declared.event.Name.{Name}
+use Rattle.markdown_event.specs.declared.event.Name.TheVariants as N
+use Rattle.markdown_event.specs.declared.event.Point.{Point}
 use Rattle.markdown_engine_content.proofs.DocumentCodes.{code_here, stop_at}
 use Rattle.markdown_model.specs.CodeTests.{is_value, is_empty, next_is}
 use Rattle.markdown_model.specs.GfmEmailLiteral.{is_local, email_protocol, is_xmpp, email_domain, is_email_domain, email_at, email_leaves, with_emails}

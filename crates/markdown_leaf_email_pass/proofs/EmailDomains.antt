@@ -5,7 +5,7 @@ use Rattle.std.specs.List.{list_any}
 use Rattle.markdown_plan.specs.ByteTests.{letter_value, alphanumeric_value}
 use Rattle.markdown_engine_content.specs.Codes.{Code, stop_of}
 use Rattle.markdown_engine_content.specs.DocumentWalk.{next_point, value_from}
-use Rattle.markdown_engine_content.specs.declared.event.Point.{Point}
+use Rattle.markdown_event.specs.declared.event.Point.{Point}
 use Rattle.markdown_engine_content.proofs.DocumentCodes.{code_here}
 use Rattle.markdown_model.specs.CodeTests.{is_value, is_letter, is_alphanumeric, is_some_code, last_code, next_is}
 use Rattle.markdown_model.specs.GfmEmailLiteral.{email_domain}

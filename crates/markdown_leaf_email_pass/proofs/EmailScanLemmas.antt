@@ -5,9 +5,9 @@ use Rattle.std.proofs.lemmas.List.{reverse-append, reverse-reverse}
 use Rattle.markdown_plan.specs.ByteTests.{alphanumeric_value}
 use Rattle.markdown_engine_content.specs.Codes.{Code, stop_of}
 use Rattle.markdown_engine_content.specs.DocumentWalk.{IsPoint, next_point, value_from}
-use Rattle.markdown_engine_content.specs.declared.event.Name.{Name}
-use Rattle.markdown_engine_content.specs.declared.event.Name.TheVariants as N
-use Rattle.markdown_engine_content.specs.declared.event.Point.{Point}
+use Rattle.markdown_event.specs.declared.event.Name.{Name}
+use Rattle.markdown_event.specs.declared.event.Name.TheVariants as N
+use Rattle.markdown_event.specs.declared.event.Point.{Point}
 use Rattle.markdown_engine_content.proofs.DocumentPlaces.{stop-more}
 use Rattle.markdown_engine_content.proofs.DocumentCodes.{code_here, stop_at}
 use Rattle.markdown_model.specs.CodeTests.{is_value, is_among, is_empty, next_is, is_alphanumeric}

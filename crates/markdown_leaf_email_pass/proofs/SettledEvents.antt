@@ -2,7 +2,7 @@
 use Rattle.std.proofs.Common.{◌≡◌, ℕ, ◌+◌, ◌<◌, ◌≤◌, Bool, false, List, [], length, drop, None, sym, ap, ◌∙◌, refl}
 use Rattle.markdown_engine.specs.PastTree.{appended_from}
 use Rattle.markdown_engine_content.specs.Tree.{Forest}
-use Rattle.markdown_engine_content.specs.declared.event.Event.{Event}
+use Rattle.markdown_event.specs.declared.event.Event.{Event}
 use Rattle.markdown_engine_events.specs.Edits.{edited}
 use Rattle.markdown_engine_events.proofs.EditRules.{edited-nil}
 use Rattle.markdown_model.specs.Passes.{trimmed, with_emails_apart}

@@ -1,7 +1,7 @@
 -- Events of which no data loses blank codes or has an `@`, one after the other.
 use Rattle.std.proofs.Common.{◌≡◌, ℕ, zero, suc, ◌+◌, ◌-◌, ◌<◌, ◌≤◌, ◌||◌, ◌&&◌, not, Bool, true, false, List, [], ◌∷◌, length, drop, refl, ap, ◌∙◌, arith, inl, inr}
 use Rattle.std.proofs.lemmas.Bool.{cases_lt, cases_eq}
-use Rattle.markdown_engine_content.specs.declared.event.Event.{Event}
+use Rattle.markdown_event.specs.declared.event.Event.{Event}
 use Rattle.markdown_partial.specs.MergedEvents.{opens_data}
 use Rattle.markdown_partial.specs.TrimmedEvents.{closes_ending, flag, goes_before, loses, loses_first, HasPlaces}
 use Rattle.markdown_partial.proofs.DataSearch.{BeginsNone, event-at}

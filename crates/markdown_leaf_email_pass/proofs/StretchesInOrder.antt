@@ -4,7 +4,7 @@ use Rattle.markdown_partial.proofs.TrimmedLeaves.{stretch-self}
 use Rattle.std.proofs.lemmas.List.{reverse-append}
 use Rattle.markdown_engine_content.specs.Codes.{Code, place_of}
 use Rattle.markdown_engine_content.specs.DocumentWalk.{IsPoint, next_point, value_from}
-use Rattle.markdown_engine_content.specs.declared.event.Point.{Point}
+use Rattle.markdown_event.specs.declared.event.Point.{Point}
 use Rattle.markdown_engine_content.proofs.AdjacentCodes.{tail_same, cons≢nil}
 use Rattle.markdown_engine_content.proofs.PlaceOrder.{is_before, before-self, before-reach, before-asym}
 use Rattle.markdown_engine_content.proofs.DocumentPlaces.{IsNext, next}

@@ -8,9 +8,9 @@ use Rattle.markdown_engine_events.specs.EventChains.{IsUnlinked}
 use Rattle.markdown_engine_content.specs.Codes.{Code, stop_of, document_start}
 use Rattle.markdown_engine.specs.PastTree.{appended_from, last_link}
 use Rattle.markdown_engine_content.specs.Tree.{Forest, empty, leaf_then, group_then, leaf, ◌⊕◌, event, event_count, start_of}
-use Rattle.markdown_engine_content.specs.declared.event.Event.{Event}
-use Rattle.markdown_engine_content.specs.declared.event.Kind.{Kind}
-use Rattle.markdown_engine_content.specs.declared.event.Name.{Name}
+use Rattle.markdown_event.specs.declared.event.Event.{Event}
+use Rattle.markdown_event.specs.declared.event.Kind.{Kind}
+use Rattle.markdown_event.specs.declared.event.Name.{Name}
 use Rattle.markdown_engine.proofs.TreeEvents.{appended_from-row}
 use Rattle.markdown_model.specs.CodeTests.{is_value, is_empty, next_is}
 use Rattle.markdown_model.specs.GfmEmailLiteral.{is_local, email_protocol, is_xmpp, email_domain, is_email_domain, email_at, email_leaves, with_emails}

@@ -1,7 +1,7 @@
 -- Data that a last pass of a text changes, or may change, and data that none does.
 use Rattle.std.specs.Prelude.{◌≡◌, ◌≢◌, ◌<◌, ◌≤◌, ◌||◌, ℕ, Bool, true, false, List, [], ◌∷◌, length, drop, slice_index_or}
 use Rattle.std.specs.Str.{byte}
-use Rattle.markdown_engine_content.specs.declared.event.Event.{Event}
+use Rattle.markdown_event.specs.declared.event.Event.{Event}
 use Rattle.markdown_partial.specs.TrimmedEvents.{closes_ending, flag, loses_first}
 use Rattle.markdown_leaf_email_pass.specs.EmailEdits.{begins_signed}
 use Rattle.markdown_leaf_email_pass.specs.declared.settled.Clear.{Clear}

@@ -17,7 +17,7 @@ ghost use Rattle.markdown_leaf_email_pass.specs.EmailScan.{has_sign};
 ghost use Rattle.markdown_leaf_email_pass.specs.OpenData.{is_open_at, HasOpenData, IsClear, IsStill};
 
 use crate::email::begins_signed;
-use markdown_engine_content::event::{Event, Point};
+use markdown_event::event::{Event, Point};
 use markdown_engine_events::events::Events;
 use markdown_engine_events::util::edit_map::EditMap;
 use markdown_partial::partial_data::{mark, next_data};

@@ -10,7 +10,7 @@ use Rattle.markdown_engine_content.specs.Codes.{Code}
 use Rattle.markdown_engine_content.specs.Place.{Place, ahead_at, code_at, moved}
 use Rattle.markdown_lists.specs.PlaceIndex.{is_kept}
 use Rattle.markdown_engine_content.specs.Stretch.{past_stretch}
-use Rattle.markdown_engine_content.specs.declared.event.Point.{Point}
+use Rattle.markdown_event.specs.declared.event.Point.{Point}
 use Rattle.markdown_engine_content.proofs.PlaceRules.{IsAhead, ahead_none, ahead_some, at_moved, end_moved, code_at_ahead, code_at_end}
 use Rattle.markdown_engine_content.proofs.StretchLemmas.{kept}
 use Rattle.markdown_model.specs.CodeTests.{next_is}

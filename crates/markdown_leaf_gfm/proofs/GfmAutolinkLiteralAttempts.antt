@@ -7,7 +7,7 @@ use Rattle.markdown_engine.specs.Operations.{Op, Enter, Exit, Consume, IsOpen, a
 use Rattle.markdown_engine.specs.StateRuns.{restored, going_state, going_in, Goes}
 use Rattle.markdown_engine.specs.TreeOps.{consumes}
 use Rattle.markdown_engine.specs.Weights.{codes_left, weight_at}
-use Rattle.markdown_engine_content.specs.declared.event.Name.{Name}
+use Rattle.markdown_event.specs.declared.event.Name.{Name}
 use Rattle.markdown_engine.specs.declared.state.State.{State}
 use Rattle.markdown_engine.specs.declared.state.State.TheVariants.{Next, Nok}
 use Rattle.markdown_engine.specs.declared.tokenizer.TokenizeState.{TokenizeState}

@@ -4,8 +4,8 @@ use Rattle.markdown_engine_content.specs.Codes.{Code}
 use Rattle.markdown_engine.specs.Operations.{Op, Enter, Exit, Consume}
 use Rattle.markdown_engine_content.specs.Tree.{Forest, leaf}
 use Rattle.markdown_engine.specs.TreeOps.{consumes, ops_of}
-use Rattle.markdown_engine_content.specs.declared.event.Name.{Name}
-use Rattle.markdown_engine_content.specs.declared.event.Name.TheVariants as N
+use Rattle.markdown_event.specs.declared.event.Name.{Name}
+use Rattle.markdown_event.specs.declared.event.Name.TheVariants as N
 use Rattle.markdown_model.specs.CodeTests.{is_letter, is_some_code}
 use Rattle.markdown_model.specs.Grammar.{Reading, ◌>>=◌, ◌>>◌, ◌then_◌, gives, provided}
 use Rattle.markdown_model.specs.GfmAutolinkLiteral.{schemes, letters, one_word_of, domain, domain_from, is_domain, path, path_from, ends_path, count_if, gfm_autolink_literal_protocol, www_from_here, gfm_autolink_literal_www, may_precede_www, begins_with_www}

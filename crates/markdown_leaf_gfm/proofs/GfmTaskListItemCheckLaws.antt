@@ -10,8 +10,8 @@ use Rattle.markdown_engine.specs.Operations.{Op, current_of, ahead, IsOpen, done
 use Rattle.markdown_engine.specs.StateRuns.{Stepped, stepped, Goes, restored, going_state, going_in}
 use Rattle.markdown_engine_content.specs.Tree.{Forest, ◌⊕◌, leaf, group}
 use Rattle.markdown_engine.specs.Weights.{weight_at, codes_left}
-use Rattle.markdown_engine_content.specs.declared.event.Name.{Name}
-use Rattle.markdown_engine_content.specs.declared.event.Name.TheVariants as N
+use Rattle.markdown_event.specs.declared.event.Name.{Name}
+use Rattle.markdown_event.specs.declared.event.Name.TheVariants as N
 use Rattle.markdown_engine.specs.declared.state.State.{State}
 use Rattle.markdown_engine.specs.declared.state.State.TheVariants.{Next, Retry, Nok}
 use Rattle.markdown_engine.specs.declared.state.StateName.{StateName}

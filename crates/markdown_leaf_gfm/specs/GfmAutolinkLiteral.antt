@@ -21,8 +21,8 @@ use Rattle.markdown_plan.specs.Characters.{bytes_of, later_value, at_later, Read
 use Rattle.markdown_plan.specs.Plan.{Plan, preceded, DoesAs}
 use Rattle.markdown_partial.specs.PartialSpaceOrTab.{most}
 use Rattle.markdown_leaf_gfm.specs.DomainOutlook.{rules_out, IsRightFor}
-use Rattle.markdown_engine_content.specs.declared.event.Name.{Name}
-use Rattle.markdown_engine_content.specs.declared.event.Name.TheVariants as N
+use Rattle.markdown_event.specs.declared.event.Name.{Name}
+use Rattle.markdown_event.specs.declared.event.Name.TheVariants as N
 use Rattle.markdown_engine.specs.declared.state.State.TheVariants.{Next, Retry, Nok}
 use Rattle.markdown_engine.specs.declared.state.State.TheVariants as State
 use Rattle.markdown_engine.specs.declared.state.StateName.{StateName}

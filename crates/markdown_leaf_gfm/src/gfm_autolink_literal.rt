@@ -25,7 +25,7 @@
 
 ghost use Rattle.std.specs.Prelude.{◌≡◌, ◌<◌, ◌+◌, false, map, Some, IfOk, OnErr, IsTrue};
 ghost use Rattle.markdown_engine.specs.Operations.{HasCode, IsOpen, current_of, scratched};
-ghost use Rattle.markdown_engine_content.specs.declared.event.Name.TheVariants.{GfmAutolinkLiteralProtocol, GfmAutolinkLiteralWww};
+ghost use Rattle.markdown_event.specs.declared.event.Name.TheVariants.{GfmAutolinkLiteralProtocol, GfmAutolinkLiteralWww};
 ghost use Rattle.markdown_model.specs.GfmAutolinkLiteral.{schemes};
 ghost use Rattle.markdown_plan.specs.Characters.{at_later};
 ghost use Rattle.markdown_partial.specs.PartialSpaceOrTab.{most};
@@ -34,7 +34,7 @@ ghost use Rattle.markdown_leaf_gfm.specs.GfmAutolinkLiteral.{www_start_step, www
 
 use markdown_engine::state::{State, StateName};
 use markdown_engine::tokenizer::{TokenizeState, Tokenizer};
-use markdown_engine_content::event::Name;
+use markdown_event::event::Name;
 use markdown_partial::literal_letters;
 use markdown_partial::literal_words::SCHEMES;
 use markdown_plan::bytes::is_letter;

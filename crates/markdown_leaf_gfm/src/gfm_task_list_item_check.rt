@@ -22,12 +22,12 @@
 
 ghost use Rattle.std.specs.Prelude.{◌≡◌, IfOk, OnErr, IsTrue};
 ghost use Rattle.markdown_engine.specs.Operations.{IsOpen};
-ghost use Rattle.markdown_engine_content.specs.declared.event.Name.TheVariants.{GfmTaskListItemCheck};
+ghost use Rattle.markdown_event.specs.declared.event.Name.TheVariants.{GfmTaskListItemCheck};
 ghost use Rattle.markdown_leaf_gfm.specs.GfmTaskListItemCheck.{start_step, inside_step, close_step, after_step, after_space_or_tab_step};
 
 use markdown_engine::state::{State, StateName};
 use markdown_engine::tokenizer::Tokenizer;
-use markdown_engine_content::event::Name;
+use markdown_event::event::Name;
 use markdown_partial::partial_space_or_tab::space_or_tab;
 use std::alloc::AllocError;
 

@@ -1,10 +1,10 @@
 -- Whitespace with line endings in a text that a reading gives: it ends a line's data, and the data of the next line goes on.
 use Rattle.std.proofs.Common.{◌≡◌, ℕ, suc, ◌+◌, ◌≤◌, Bool, true, false, ◌&&◌, ◌||◌, Option, Some, None, List, [], ◌∷◌, ◌++◌, length, drop, refl, sym, ap, subst, ◌∙◌, append_assoc, arith}
-use Rattle.markdown_engine_content.proofs.AndParts.{and-right}
+use Rattle.markdown_event.proofs.AndParts.{and-right}
 use Rattle.std.proofs.lemmas.Bool.{or_right}
 use Rattle.markdown_engine_content.specs.Codes.{Code, is_line_ending, is_blank}
 use Rattle.markdown_engine.specs.Operations.{Op, Exit, Consume, moves, stays}
-use Rattle.markdown_engine_content.specs.declared.event.Name.TheVariants as N
+use Rattle.markdown_event.specs.declared.event.Name.TheVariants as N
 use Rattle.markdown_model.specs.CodeTests.{is_whitespace_code}
 use Rattle.markdown_model.specs.Grammar.{Reading, with_first}
 use Rattle.markdown_model.proofs.ReadingsCover.{At, Covers, itself}

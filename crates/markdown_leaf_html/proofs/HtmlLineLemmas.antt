@@ -4,7 +4,7 @@ use Rattle.markdown_engine_content.specs.Codes.{Code, is_line_ending, is_blank}
 use Rattle.markdown_engine.specs.Operations.{Op, Enter, Exit, Consume}
 use Rattle.markdown_engine_content.specs.Tree.{Forest, empty, leaf_then, group_then, ◌⊕◌}
 use Rattle.markdown_engine.specs.TreeOps.{ops_of, consumes}
-use Rattle.markdown_engine_content.specs.declared.event.Name.TheVariants as N
+use Rattle.markdown_event.specs.declared.event.Name.TheVariants as N
 use Rattle.markdown_model.specs.Grammar.{span}
 use Rattle.markdown_model.specs.TextLines.{lines_of, lines_from, linked_leaf, joins}
 use Rattle.markdown_model.proofs.DefinitionSteps.{lines_of-ending, lines_of-line, is_in_line}

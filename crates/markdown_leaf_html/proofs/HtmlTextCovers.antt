@@ -4,8 +4,8 @@ use Rattle.markdown_engine_content.specs.Codes.{Code, is_line_ending, is_blank}
 use Rattle.markdown_engine.specs.Operations.{Enter, Exit}
 use Rattle.markdown_engine_content.specs.Tree.{Forest, ◌⊕◌, group}
 use Rattle.markdown_engine.specs.TreeOps.{IsSolid}
-use Rattle.markdown_engine_content.specs.declared.event.Name.{Name}
-use Rattle.markdown_engine_content.specs.declared.event.Name.TheVariants as N
+use Rattle.markdown_event.specs.declared.event.Name.{Name}
+use Rattle.markdown_event.specs.declared.event.Name.TheVariants as N
 use Rattle.markdown_engine.proofs.SolidTrees.{IsSolid-row}
 use Rattle.markdown_model.specs.CodeTests.{is_value, is_letter, next_is}
 use Rattle.markdown_model.specs.Grammar.{◌>>◌, gives, provided, either, one, span, with_first, word, through, ◌then_◌}

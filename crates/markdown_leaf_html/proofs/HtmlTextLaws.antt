@@ -7,7 +7,7 @@ use Rattle.markdown_engine_content.specs.ListFunctions.{rest_of}
 use Rattle.markdown_engine.specs.Operations.{Op, Exit, Consume, current_of, ahead, applied, done, scratched}
 use Rattle.markdown_engine.specs.StateRuns.{Stepped}
 use Rattle.markdown_engine.specs.Weights.{weight_at}
-use Rattle.markdown_engine_content.specs.declared.event.Name.TheVariants as N
+use Rattle.markdown_event.specs.declared.event.Name.TheVariants as N
 use Rattle.markdown_engine.specs.declared.state.State.TheVariants.{Next}
 use Rattle.markdown_engine.specs.declared.state.StateName.TheVariants as H
 use Rattle.markdown_engine.specs.declared.tokenizer.TokenizeState.{TokenizeState}

@@ -2,13 +2,13 @@
 use Rattle.std.proofs.Common.{◌≡◌, ℕ, ◌+◌, ◌<◌, ◌≤◌, ◌&&◌, Bool, true, false, List, [], ◌∷◌, ◌++◌, length, drop, refl, sym, ap, subst, ◌∙◌, arith}
 use Rattle.markdown_engine_content.specs.Codes.{Code, is_line_ending, is_blank}
 use Rattle.markdown_engine.specs.Operations.{Op, Exit, Consume, ahead, applied, done, moves, op_stack, scratched}
-use Rattle.markdown_engine_content.specs.declared.event.Name.{Name}
-use Rattle.markdown_engine_content.specs.declared.event.Name.TheVariants as N
+use Rattle.markdown_event.specs.declared.event.Name.{Name}
+use Rattle.markdown_event.specs.declared.event.Name.TheVariants as N
 use Rattle.markdown_engine.specs.declared.tokenizer.TokenizeState.{TokenizeState}
 use Rattle.markdown_engine.specs.declared.tokenizer.Tokenizer.{Tokenizer}
 use Rattle.markdown_engine.proofs.OperationFields.{stack-applied}
 use Rattle.markdown_engine.proofs.OperationLemmas.{left-done, scratch-done}
-use Rattle.markdown_engine_content.proofs.AndParts.{and-left}
+use Rattle.markdown_event.proofs.AndParts.{and-left}
 use Rattle.markdown_partial.specs.PartialSpaceOrTab as PartialSpaceOrTab
 use Rattle.markdown_plan.proofs.OpenEvents.{second-open}
 use Rattle.markdown_plan.specs.ScratchFields.{AreOpen, with_size}

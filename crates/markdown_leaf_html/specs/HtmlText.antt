@@ -7,7 +7,7 @@ use Rattle.markdown_engine_index.specs.SequenceIndex.{rules_out, IsRightFor}
 use Rattle.markdown_engine.specs.Steady.{alone_among}
 use Rattle.markdown_engine.specs.Weights.{codes_left}
 use Rattle.markdown_engine_content.specs.Place.{code_at, moved}
-use Rattle.markdown_engine_content.specs.declared.event.Name.TheVariants as N
+use Rattle.markdown_event.specs.declared.event.Name.TheVariants as N
 use Rattle.markdown_engine_index.specs.declared.sequence_index.Sequence.{Sequence}
 use Rattle.markdown_engine_index.specs.declared.sequence_index.Sequence.TheVariants.{CommentEnd, SectionEnd, InstructionEnd, DeclarationEnd}
 use Rattle.markdown_engine.specs.declared.state.State.TheVariants.{Next, Retry, Nok}

@@ -27,7 +27,7 @@ ghost use Rattle.std.specs.Prelude.{◌≡◌, ◌<◌, Some, IfOk, OnErr, IsTru
 ghost use Rattle.std.specs.Str.{byte};
 ghost use Rattle.markdown_engine_content.specs.Place.{code_at, moved};
 ghost use Rattle.markdown_engine.specs.Operations.{HasCode, current_of};
-ghost use Rattle.markdown_engine_content.specs.declared.event.Name.TheVariants.{HtmlText, HtmlTextData};
+ghost use Rattle.markdown_event.specs.declared.event.Name.TheVariants.{HtmlText, HtmlTextData};
 ghost use Rattle.markdown_plan.specs.ScratchFields.{AreOpen};
 ghost use Rattle.markdown_leaf_html.specs.HtmlByteTests.{name_value, attribute_first_value, attribute_rest_value, after_value};
 ghost use Rattle.markdown_leaf_html.specs.HtmlText.{stops_in, is_ruled_out, ending_at, marked_ending, broken, ending_passed, start_step, open_step, declaration_open_step, comment_open_inside_step, comment_step, comment_close_step, comment_end_step, cdata_open_inside_step, cdata_step, cdata_close_step, cdata_end_step};
@@ -38,7 +38,7 @@ use markdown_engine::state::{State, StateName};
 use markdown_engine::tokenizer::{TokenizeState, Tokenizer};
 use markdown_engine_content::byte_set;
 use markdown_engine_content::bytes::ByteSet;
-use markdown_engine_content::event::Name;
+use markdown_event::event::Name;
 use markdown_engine_index::sequence_index::Sequence;
 use markdown_partial::partial_space_or_tab::space_or_tab;
 use markdown_plan::bytes::{is_alphanumeric, is_letter};

@@ -1,6 +1,6 @@
 -- The text of a string, part by part.
 use Rattle.std.proofs.Common.{◌≡◌, ◌∙◌, sym, ap, ℕ, Bool, List, [], ◌∷◌, ◌++◌, append-nil, append_assoc, length}
-use Rattle.markdown_engine_content.specs.declared.event.Event.{Event}
+use Rattle.markdown_event.specs.declared.event.Event.{Event}
 use Rattle.markdown_links.specs.declared.strings.Part.{Part}
 use Rattle.markdown_links.specs.LinkTargets.{is_in_behind, part, text_inside}
 

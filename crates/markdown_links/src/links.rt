@@ -9,7 +9,7 @@ ghost use Rattle.markdown_links.specs.TargetView.{led_of};
 use crate::strings::{Part, has_title, stretch, string_in};
 use crate::target::{Address, Target};
 use markdown_definitions::labels::Labels;
-use markdown_engine_content::event::{Event, Name};
+use markdown_event::event::{Event, Name};
 use markdown_tree::node::Node;
 use markdown_tree::tree::Tree;
 use std::alloc::{AllocError, Global};

@@ -3,7 +3,7 @@ ghost use Rattle.std.specs.Prelude.{◌≡◌, ◌++◌, false, IfOk, OnOk};
 ghost use Rattle.std.specs.List.{list_any};
 ghost use Rattle.markdown_links.specs.LinkTargets.{has_title, is_in_behind, is_string, is_title, next_index, part, part_text, stretch, string_in, text_inside};
 
-use markdown_engine_content::event::{Event, Kind, Name};
+use markdown_event::event::{Event, Kind, Name};
 use markdown_html_text::resolve::push_resolved;
 use std::alloc::{AllocError, Global};
 

@@ -1,7 +1,7 @@
 -- What holds of each of the names that a tree may give a pair, blank codes before a line ending, or an email literal, holds of those that it gives.
 use Rattle.std.proofs.Common.{◌==◌, ℕ, Bool, true, false, ◌&&◌, List, [], ◌∷◌, reverse}
 use Rattle.std.specs.Str.{byte}
-use Rattle.markdown_engine_content.specs.declared.event.Name.{Name}
+use Rattle.markdown_event.specs.declared.event.Name.{Name}
 use Rattle.markdown_engine_content.specs.Codes.{Code}
 use Rattle.markdown_model.specs.CodeTests.{is_value, is_alphanumeric}
 use Rattle.markdown_model.specs.GfmEmailLiteral.{email_protocol, is_word}

@@ -1,7 +1,7 @@
 -- What the readings of a grammar give, by what stands there.
 use Rattle.std.proofs.Common.{◌≡◌, Bool, true, false, ◌&&◌, if◌then◌else◌, Option, Some, None, List, [], ◌∷◌, ◌++◌, refl, ap}
 use Rattle.markdown_engine_content.specs.Codes.{Code}
-pub use Rattle.markdown_engine_content.proofs.AndParts.{and-left, and-right}
+pub use Rattle.markdown_event.proofs.AndParts.{and-left, and-right}
 use Rattle.markdown_model.specs.CodeTests.{is_empty, next_is}
 use Rattle.markdown_model.specs.Grammar.{Reading, ◌>>=◌, ◌>>◌, provided, either, before, one, some, any_number, span, until, ◌then_◌}
 

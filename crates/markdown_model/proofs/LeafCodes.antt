@@ -1,7 +1,7 @@
 -- The codes that the leaves of a row cover.
 use Rattle.std.proofs.Common.{◌≡◌, Bool, true, false, List, [], ◌∷◌, ◌++◌, refl, ap}
 use Rattle.std.proofs.lemmas.List.{append-nil}
-use Rattle.markdown_engine_content.specs.declared.event.Name.{Name}
+use Rattle.markdown_event.specs.declared.event.Name.{Name}
 use Rattle.markdown_engine_content.specs.Codes.{Code}
 use Rattle.markdown_engine_content.specs.Tree.{leaf, leaf_codes}
 use Rattle.markdown_model.specs.Grammar.{span, until}

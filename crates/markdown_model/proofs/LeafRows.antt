@@ -4,8 +4,8 @@ use Rattle.std.specs.List.{list_any}
 use Rattle.std.proofs.lemmas.Bool.{and_parts}
 use Rattle.markdown_engine_content.specs.Codes.{Code, is_blank, is_line_ending}
 use Rattle.markdown_engine_content.specs.Tree.{Forest, empty, leaf_then, group_then, leaf, ◌⊕◌}
-use Rattle.markdown_engine_content.specs.declared.event.Content.{Content}
-use Rattle.markdown_engine_content.specs.declared.event.Name.{Name}
+use Rattle.markdown_event.specs.declared.event.Content.{Content}
+use Rattle.markdown_event.specs.declared.event.Name.{Name}
 use Rattle.markdown_model.specs.CodeTests.{next_is}
 use Rattle.markdown_model.specs.CodeLines.{IsLine, IsSomeLine, IsOnLine}
 use Rattle.markdown_model.specs.Grammar.{span}

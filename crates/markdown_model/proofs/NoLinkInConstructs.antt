@@ -1,7 +1,7 @@
 -- No construct but a label reads a link or a footnote call.
 use Rattle.std.proofs.Common.{◌≡◌, Bool, true, false, ◌||◌, List, [], ◌∷◌, refl, sym, ◌∙◌, ap, Option, Some, None}
 use Rattle.std.proofs.lemmas.Bool.{or_parts}
-use Rattle.markdown_engine_content.specs.declared.event.Name.{Name}
+use Rattle.markdown_event.specs.declared.event.Name.{Name}
 use Rattle.markdown_engine_content.specs.Codes.{Code}
 use Rattle.markdown_engine_content.specs.Tree.{Forest, empty, leaf_then, group_then, leaf, ◌⊕◌}
 use Rattle.markdown_model.specs.CodeTests.{next_is}

@@ -1,7 +1,7 @@
 -- What holds of data, of the markers and the groups of pairs, and of rows of these, holds of a word of markers that is grouped.
 use Rattle.std.proofs.Common.{ℕ, ◌-◌, List, [], ◌∷◌, ◌++◌, length, take, drop, reverse, map, sum_by}
-use Rattle.markdown_engine_content.specs.declared.event.Name.{Name}
-use Rattle.markdown_engine_content.specs.declared.event.Point.{Point}
+use Rattle.markdown_event.specs.declared.event.Name.{Name}
+use Rattle.markdown_event.specs.declared.event.Point.{Point}
 use Rattle.markdown_engine_content.specs.Codes.{Code, stop_of, document_start}
 use Rattle.markdown_engine_content.specs.Tree.{Forest, empty, group_then, leaf, text_group, start_of, ◌⊕◌}
 use Rattle.markdown_model.specs.BracketGroups.{Token, item, opens, closes, nested, joined, loose, pair_names, pair_group, closing_sizes, opening_sizes, cut_front, run_tokens, assembled}

@@ -1,10 +1,10 @@
 -- What holds of trees of which each leaf and each group satisfies something, and what the passes make of them.
 use Rattle.std.proofs.Common.{ℕ, zero, suc, Bool, true, false, ◌&&◌, ◌||◌, List, [], ◌∷◌, ◌++◌, length, reverse, Option, Some, None}
-use Rattle.markdown_engine_content.specs.declared.event.Name.{Name}
+use Rattle.markdown_event.specs.declared.event.Name.{Name}
 use Rattle.markdown_engine_content.specs.Codes.{Code, is_blank}
 use Rattle.markdown_engine_content.specs.Tree.{Forest, empty, leaf_then, group_then, leaf, ◌⊕◌}
-use Rattle.markdown_engine_content.specs.declared.event.Content.{Content}
-use Rattle.markdown_engine_content.specs.declared.event.Point.{Point}
+use Rattle.markdown_event.specs.declared.event.Content.{Content}
+use Rattle.markdown_event.specs.declared.event.Point.{Point}
 use Rattle.markdown_model.specs.Grammar.{span}
 use Rattle.markdown_model.specs.GfmEmailLiteral.{email_at, email_leaves, with_emails, is_local, is_xmpp, email_protocol, email_domain}
 use Rattle.markdown_model.specs.Passes.{data_onto, merged, begins_line_ending, is_nothing, blank_name, trimmed_data, trimmed, with_emails_apart}

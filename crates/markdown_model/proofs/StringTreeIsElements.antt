@@ -1,7 +1,7 @@
 -- A string's tree is the row of its elements.
 use Rattle.std.proofs.Common.{◌≡◌, List, [], ◌∷◌, ◌++◌, map, refl, ◌∙◌, ap, Option}
 use Rattle.std.proofs.lemmas.List.{append-nil}
-use Rattle.markdown_engine_content.specs.declared.event.Name.{Name}
+use Rattle.markdown_event.specs.declared.event.Name.{Name}
 use Rattle.markdown_engine_content.specs.Codes.{Code}
 use Rattle.markdown_engine_content.specs.Tree.{Forest, empty, leaf, ◌⊕◌}
 use Rattle.markdown_model.specs.Grammar.{Reading}

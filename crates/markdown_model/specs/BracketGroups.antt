@@ -1,7 +1,7 @@
 -- Groups from brackets: of labels, and of the markers that pairs take.
 use Rattle.std.specs.Prelude.{ℕ, suc, ◌-◌, true, false, ◌==◌, List, [], ◌∷◌, ◌++◌, length, take, drop, reverse, sum_by, map}
 use Rattle.std.specs.Str.{byte}
-use Rattle.markdown_engine_content.specs.declared.event.Name.{Name}
+use Rattle.markdown_event.specs.declared.event.Name.{Name}
 use Rattle.markdown_engine_content.specs.Codes.{Code, stop_of, document_start}
 use Rattle.markdown_engine_content.specs.Tree.{Forest, empty, leaf_then, group_then, leaf, ◌⊕◌, group, text_group, start_of}
 use Rattle.markdown_model.specs.Setting.{Setting}

@@ -1,7 +1,7 @@
 -- The inline tree of a content, its events, and the counts that bound the probes.
 use Rattle.std.specs.Prelude.{◌≡◌, ℕ, ◌+◌, ◌*◌, true, false, List, length, sum_by, count_by}
 use Rattle.markdown_engine_content.specs.declared.parser.Piece.{Piece}
-use Rattle.markdown_engine_content.specs.declared.event.Event.{Event}
+use Rattle.markdown_event.specs.declared.event.Event.{Event}
 use Rattle.markdown_engine_content.specs.Codes.{Code}
 use Rattle.markdown_engine_content.specs.Content.{content_of}
 use Rattle.markdown_engine_content.specs.Tree.{Forest, events_of}

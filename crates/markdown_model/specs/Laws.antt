@@ -1,9 +1,9 @@
 -- Laws on the definitions.
 use Rattle.std.specs.Prelude.{◌≡◌, ◌↔◌, ℕ, zero, suc, ◌*◌, ◌<◌, ◌≤◌, List, [], ◌∷◌, ◌++◌, length, reverse, map, sum_by, Bool, true, false, ◌&&◌, ◌||◌, not, drop, Contains, Option, Some, None}
 use Rattle.std.specs.Str.{byte}
-use Rattle.markdown_engine_content.specs.declared.event.Name.{Name}
-use Rattle.markdown_engine_content.specs.declared.event.Event.{Event}
-use Rattle.markdown_engine_content.specs.declared.event.Kind.{Kind}
+use Rattle.markdown_event.specs.declared.event.Name.{Name}
+use Rattle.markdown_event.specs.declared.event.Event.{Event}
+use Rattle.markdown_event.specs.declared.event.Kind.{Kind}
 use Rattle.markdown_engine_content.specs.declared.label_kind.LabelKind.{LabelKind}
 use Rattle.markdown_engine_content.specs.Codes.{Code}
 use Rattle.markdown_engine_content.specs.Tree.{Forest, empty, leaf_then, group_then, leaf_codes, events_of}

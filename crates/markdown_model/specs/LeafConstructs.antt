@@ -3,7 +3,7 @@ use Rattle.std.specs.Prelude.{ℕ, Bool, true, false, ◌&&◌, ◌||◌, not, n
 use Rattle.std.specs.Str.{byte}
 use Rattle.markdown_engine_content.specs.Codes.{Code, is_line_ending, is_blank}
 use Rattle.markdown_engine_content.specs.Tree.{Forest, ◌⊕◌, leaf, group}
-use Rattle.markdown_engine_content.specs.declared.event.Name.{Name}
+use Rattle.markdown_event.specs.declared.event.Name.{Name}
 use Rattle.markdown_util.specs.Reference.{Table, named_value}
 use Rattle.markdown_model.specs.CodeTests.{is_value, is_among, is_whitespace_code, is_digit, is_hex_digit, is_letter, is_alphanumeric, is_ascii_punctuation, is_control, values_of, is_empty, last_code, is_some_code, next_is, is_length_in}
 use Rattle.markdown_model.specs.Grammar.{Reading, ◌>>=◌, ◌>>◌, gives, either, provided, one, some, any_number, before, span, ◌then_◌, repeatedly}

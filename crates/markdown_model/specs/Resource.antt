@@ -5,8 +5,8 @@ use Rattle.std.specs.List.{list_any}
 use Rattle.markdown_engine_content.specs.Codes.{Code, is_line_ending, is_blank}
 use Rattle.markdown_engine_content.specs.Content.{has_no_blank_line}
 use Rattle.markdown_engine_content.specs.Tree.{Forest, empty, ◌⊕◌, leaf, leaf_then, group_then, linked, group}
-use Rattle.markdown_engine_content.specs.declared.event.Name.{Name}
-use Rattle.markdown_engine_content.specs.declared.event.Content.{Content}
+use Rattle.markdown_event.specs.declared.event.Name.{Name}
+use Rattle.markdown_event.specs.declared.event.Content.{Content}
 use Rattle.markdown_model.specs.CodeTests.{is_value, is_among, is_empty, next_is, is_whitespace_code, is_control}
 use Rattle.markdown_model.specs.Grammar.{Reading, ◌>>=◌, ◌>>◌, gives, either, provided, if_next, one, before, with_first, up_to, optional_tree}
 use Rattle.markdown_model.specs.TextLines.{lines}

@@ -1,7 +1,7 @@
 -- Runs of markers, and whether they may open and close emphasis (CommonMark 6.2; GFM 6.5).
 use Rattle.std.specs.Prelude.{ℕ, Bool, true, false, ◌&&◌, ◌||◌, not, ◌==◌, List, [], ◌∷◌, ◌++◌, Option, Some, None}
 use Rattle.std.specs.Str.{byte}
-use Rattle.markdown_engine_content.specs.declared.event.Name.{Name}
+use Rattle.markdown_event.specs.declared.event.Name.{Name}
 use Rattle.markdown_engine_content.specs.Codes.{Code, stop_of}
 use Rattle.markdown_engine_content.specs.Tree.{Forest, empty, leaf_then, group_then}
 use Rattle.markdown_util.specs.Neighbours.{class_of, before_index, after_index}

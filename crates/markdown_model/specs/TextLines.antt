@@ -2,8 +2,8 @@
 use Rattle.std.specs.Prelude.{Bool, true, false, ◌&&◌, ◌||◌, not, List, [], ◌∷◌, Option, Some, None}
 use Rattle.markdown_engine_content.specs.Codes.{Code, is_line_ending, is_blank}
 use Rattle.markdown_engine_content.specs.Tree.{Forest, empty, ◌⊕◌, leaf, leaf_then}
-use Rattle.markdown_engine_content.specs.declared.event.Name.{Name}
-use Rattle.markdown_engine_content.specs.declared.event.Content.{Content}
+use Rattle.markdown_event.specs.declared.event.Name.{Name}
+use Rattle.markdown_event.specs.declared.event.Content.{Content}
 use Rattle.markdown_model.specs.CodeTests.{next_is}
 use Rattle.markdown_model.specs.Grammar.{Reading, span, until}
 

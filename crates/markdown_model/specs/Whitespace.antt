@@ -2,8 +2,8 @@
 use Rattle.std.specs.Prelude.{ℕ, Bool, true, false, not, nat_le, List, [], ◌∷◌, length, take, drop, Option, Some, None}
 use Rattle.markdown_engine_content.specs.Codes.{Code, is_line_ending, is_blank}
 use Rattle.markdown_engine_content.specs.Tree.{Forest, ◌⊕◌}
-use Rattle.markdown_engine_content.specs.declared.event.Name.{Name}
-use Rattle.markdown_engine_content.specs.declared.event.Content.{Content}
+use Rattle.markdown_event.specs.declared.event.Name.{Name}
+use Rattle.markdown_event.specs.declared.event.Content.{Content}
 use Rattle.markdown_model.specs.CodeTests.{next_is}
 use Rattle.markdown_model.specs.Grammar.{Reading, ◌>>=◌, gives, either, one, some, any_number, before, span}
 use Rattle.markdown_model.specs.TextLines.{linked_leaf}

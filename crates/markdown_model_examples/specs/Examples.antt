@@ -1,8 +1,8 @@
 -- Worked examples, written by tools/examples.py from tools/rules.
 use Rattle.std.specs.Prelude.{◌≡◌, true, false, [], ◌∷◌, codes, Some, None}
 use Rattle.markdown_engine_content.specs.DefaultOptions.{default_constructs, default_options}
-use Rattle.markdown_engine_content.specs.declared.event.Name.{Name}
-use Rattle.markdown_engine_content.specs.declared.event.Content.{Content}
+use Rattle.markdown_event.specs.declared.event.Name.{Name}
+use Rattle.markdown_event.specs.declared.event.Content.{Content}
 use Rattle.markdown_model_examples.specs.ExampleNotation.{default, piece, enter, exit, chained, text_answer, text_outline, string_answer, string_outline, label_answer, title_answer, destination_answer, spacing_answer, bounded_answer, data_answer, counts_answer, looks_answer}
 
 abbrev pub Escapes : Type 0

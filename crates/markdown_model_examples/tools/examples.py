@@ -299,8 +299,8 @@ def main():
 SPEC_USES = [
     ('Rattle.std.specs.Prelude', ['◌≡◌', 'true', 'false', '[]', '◌∷◌', 'codes', 'Some', 'None']),
     ('Rattle.markdown_engine_content.specs.DefaultOptions', ['default_constructs', 'default_options']),
-    ('Rattle.markdown_engine_content.specs.declared.event.Name', ['Name']),
-    ('Rattle.markdown_engine_content.specs.declared.event.Content', ['Content']),
+    ('Rattle.markdown_event.specs.declared.event.Name', ['Name']),
+    ('Rattle.markdown_event.specs.declared.event.Content', ['Content']),
     ('Rattle.markdown_model_examples.specs.ExampleNotation', ['default', 'piece', 'enter', 'exit', 'chained', 'text_answer', 'text_outline', 'string_answer', 'string_outline', 'label_answer', 'title_answer', 'destination_answer', 'spacing_answer', 'bounded_answer', 'data_answer', 'counts_answer', 'looks_answer']),
 ]
 

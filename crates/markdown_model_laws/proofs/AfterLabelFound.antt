@@ -4,7 +4,7 @@ use Rattle.markdown_partial.proofs.PartialDestinationReadings.{if-here, if-other
 use Rattle.std.proofs.lemmas.Bool.{eqb-true, and_from}
 use Rattle.markdown_engine_content.specs.Codes.{Code}
 use Rattle.markdown_engine_content.specs.Tree.{Forest, empty, ◌⊕◌, leaf, group, leaf_codes}
-use Rattle.markdown_engine_content.specs.declared.event.Name.{Name}
+use Rattle.markdown_event.specs.declared.event.Name.{Name}
 use Rattle.markdown_model.specs.CodeTests.{is_value, next_is}
 use Rattle.markdown_model.specs.Grammar.{Reading, ◌>>◌, gives, either, provided, unless}
 use Rattle.markdown_model.specs.LabelEnd.{full_reference, collapsed_reference, shortcut, shortcut_before_bracket, reference_after_label, after_label, reference_identifier}

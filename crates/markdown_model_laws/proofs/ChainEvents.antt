@@ -3,12 +3,12 @@ use Rattle.std.proofs.Common.{◌≡◌, ℕ, zero, suc, ◌+◌, List, [], ◌�
 use Rattle.markdown_engine_content.specs.Codes.{Code, document_start, stop_of}
 use Rattle.markdown_engine_content.specs.Content.{content_of}
 use Rattle.markdown_engine_content.specs.Tree.{Forest, empty, leaf_then, group_then, event, event_count, events_from, events_of, next_linked, start_of}
-use Rattle.markdown_engine_content.specs.declared.event.Content.{Content}
-use Rattle.markdown_engine_content.specs.declared.event.Event.{Event}
-use Rattle.markdown_engine_content.specs.declared.event.Kind.{Kind}
-use Rattle.markdown_engine_content.specs.declared.event.Link.{Link}
-use Rattle.markdown_engine_content.specs.declared.event.Name.{Name}
-use Rattle.markdown_engine_content.specs.declared.event.Point.{Point}
+use Rattle.markdown_event.specs.declared.event.Content.{Content}
+use Rattle.markdown_event.specs.declared.event.Event.{Event}
+use Rattle.markdown_event.specs.declared.event.Kind.{Kind}
+use Rattle.markdown_event.specs.declared.event.Link.{Link}
+use Rattle.markdown_event.specs.declared.event.Name.{Name}
+use Rattle.markdown_event.specs.declared.event.Point.{Point}
 use Rattle.markdown_model.specs.InlineTree.{text_tree, string_tree}
 use Rattle.markdown_model_laws.specs.UnbrokenChains.{AreUnbroken, ChainsAreUnbroken}
 use Rattle.markdown_model_laws.proofs.ChainTrees.{AreLinked, HasChains}

@@ -13,7 +13,7 @@ use Rattle.markdown_engine_content.specs.Place.{start_of_content, value_of}
 use Rattle.markdown_engine_content.specs.PlaceInDocument.{IsStanding, first_point, is_open, content_place}
 use Rattle.markdown_engine_content.specs.Slices.{position_bytes, byte_from}
 use Rattle.markdown_engine_content.specs.Tree.{Forest, empty, leaf_then, group_then, leaf_codes, events_of, start_of}
-use Rattle.markdown_engine_content.specs.declared.event.Point.{Point}
+use Rattle.markdown_event.specs.declared.event.Point.{Point}
 use Rattle.markdown_engine_content.specs.declared.parser.Piece.{Piece}
 use Rattle.markdown_engine_content.proofs.ContentCodes.{piece_row}
 use Rattle.markdown_engine_content.proofs.CursorInvariant.{IsOpenStanding, open-standing, closed-standing, standing-start}

@@ -1,7 +1,7 @@
 -- What laws ask of each construct that stands by itself: that each leaf begins with a character, and the codes behind the construct too (`leads_..`);
 -- that references are as they are read (`refers_..`). Of escapes and hard breaks both stand here.
 use Rattle.std.proofs.Common.{true, refl}
-use Rattle.markdown_engine_content.specs.declared.event.Name.TheVariants as N
+use Rattle.markdown_event.specs.declared.event.Name.TheVariants as N
 use Rattle.markdown_engine_content.specs.Tree.{leaf}
 use Rattle.markdown_model.specs.LeafConstructs.{character_escape, hard_break_escape}
 use Rattle.markdown_model.proofs.NoLinkInConstructs.{yields_gives, then_any}

@@ -1,7 +1,7 @@
 -- The leaf of an email literal.
 use Rattle.std.proofs.Common.{◌≡◌, Bool, true, false, ◌&&◌, List, [], ◌∷◌, ◌++◌, reverse, refl, Option, Some, None}
 use Rattle.std.specs.Str.{byte}
-use Rattle.markdown_engine_content.specs.declared.event.Name.{Name}
+use Rattle.markdown_event.specs.declared.event.Name.{Name}
 use Rattle.markdown_engine_content.specs.Codes.{Code}
 use Rattle.markdown_engine_content.specs.Tree.{Forest, empty, leaf_then, leaf}
 use Rattle.markdown_model.specs.CodeTests.{is_value, is_alphanumeric}

@@ -2,7 +2,7 @@
 use Rattle.std.proofs.Common.{◌≡◌, ℕ, Bool, true, false, ◌&&◌, ◌||◌, List, [], ◌∷◌, ◌++◌, length, reverse, if◌then◌else◌, refl, sym, ap, subst, ◌∙◌, zero-add, Option, Some, None, append_assoc, append-nil}
 use Rattle.markdown_model_laws.proofs.TreesFilledLaws.{more-codes}
 use Rattle.std.proofs.lemmas.List.{reverse-reverse}
-use Rattle.markdown_engine_content.specs.declared.event.Name.{Name}
+use Rattle.markdown_event.specs.declared.event.Name.{Name}
 use Rattle.markdown_engine_content.specs.Codes.{Code, codes_of, document_start, stop_of, place_of}
 use Rattle.markdown_engine_content.specs.Content.{content_of, piece_codes}
 use Rattle.markdown_engine_content.specs.Tree.{Forest, empty, leaf_then, group_then, leaf, ◌⊕◌, leaf_codes, events_of}

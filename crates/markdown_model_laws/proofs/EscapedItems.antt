@@ -6,7 +6,7 @@ use Rattle.std.proofs.Math.Bool.{and-false}
 use Rattle.std.specs.List.{list_any, list_all}
 use Rattle.std.proofs.lemmas.List.{drop-drop}
 use Rattle.std.proofs.lemmas.Bool.{or_cases, or_parts, and_parts, eqb-true, both_ways, lt-ltb, not-true}
-use Rattle.markdown_engine_content.specs.declared.event.Point.{Point}
+use Rattle.markdown_event.specs.declared.event.Point.{Point}
 use Rattle.markdown_engine_content.specs.Codes.{Code, codes_from, codes_of_byte, codes_of_tab, tab_width, line_start, line_ending_len, next_column, stop_of, document_start, is_line_ending_byte, tab_value, line_feed, carriage_return}
 use Rattle.markdown_engine_content.specs.Slices.{byte_from}
 use Rattle.markdown_model.specs.CodeTests.{is_ascii_punctuation}

@@ -12,10 +12,10 @@ use Rattle.markdown_attention.proofs.ElementsHaveMarkerRuns.{good-tree}
 use Rattle.markdown_engine_content.specs.Codes.{Code, codes_of, document_start, is_at_or_after, place_of, stop_of}
 use Rattle.markdown_engine_content.specs.Content.{IsContent, content_of, is_in_piece, piece_codes}
 use Rattle.markdown_engine_content.specs.Tree.{Forest, empty, leaf_then, group_then, leaf_codes, event_count, events_from, events_of}
-use Rattle.markdown_engine_content.specs.declared.event.Event.{Event}
-use Rattle.markdown_engine_content.specs.declared.event.Kind.TheVariants as Kind
-use Rattle.markdown_engine_content.specs.declared.event.Name.{Name}
-use Rattle.markdown_engine_content.specs.declared.event.Point.{Point}
+use Rattle.markdown_event.specs.declared.event.Event.{Event}
+use Rattle.markdown_event.specs.declared.event.Kind.TheVariants as Kind
+use Rattle.markdown_event.specs.declared.event.Name.{Name}
+use Rattle.markdown_event.specs.declared.event.Point.{Point}
 use Rattle.markdown_engine_content.specs.declared.parser.Piece.{Piece}
 use Rattle.markdown_engine_content.proofs.AdjacentCodes.{IsChain}
 use Rattle.markdown_engine_content.proofs.PlaceOrder.{is_before, before-asym, at_or_after-is}

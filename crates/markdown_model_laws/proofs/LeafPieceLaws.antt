@@ -7,14 +7,14 @@ use Rattle.std.proofs.lemmas.Bool.{and_from, both_ways, eq-eqb}
 use Rattle.markdown_engine_content.specs.Codes.{Code, document_start, place_of, stop_of}
 use Rattle.markdown_engine_content.specs.Content.{IsContent, content_of}
 use Rattle.markdown_engine_content.specs.Tree.{Forest, empty, leaf_then, group_then, leaf_codes, start_of}
-use Rattle.markdown_engine_content.specs.declared.event.Event.{Event}
-use Rattle.markdown_engine_content.specs.declared.event.Point.{Point}
+use Rattle.markdown_event.specs.declared.event.Event.{Event}
+use Rattle.markdown_event.specs.declared.event.Point.{Point}
 use Rattle.markdown_engine_content.specs.declared.parser.Piece.{Piece}
 use Rattle.markdown_engine_content.proofs.AdjacentCodes.{IsChain, chain-back, stop-later}
 use Rattle.markdown_engine_content.proofs.ContentCodes.{piece-codes-is}
 use Rattle.markdown_engine_content.proofs.DocumentPlaces.{chain-split}
 use Rattle.markdown_engine_content.proofs.PlaceOrder.{is_before, before-reach}
-use Rattle.markdown_engine_content.proofs.WalkTargets.{place-point}
+use Rattle.markdown_engine_pieces.proofs.WalkTargets.{place-point}
 use Rattle.markdown_model.specs.InlineTree.{text_tree, string_tree, text_events, string_events}
 use Rattle.markdown_model.proofs.OneTree.{leaves_cover}
 use Rattle.markdown_partial.specs.TrimmedData.{between}

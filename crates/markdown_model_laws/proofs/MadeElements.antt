@@ -3,8 +3,8 @@
 use Rattle.std.proofs.Common.{◌≡◌, ℕ, true, false, ◌&&◌, ◌||◌, not, List, [], ◌∷◌, length, drop, refl, ◌∙◌, Option, Some, None, ap}
 use Rattle.std.proofs.lemmas.Bool.{and_parts}
 use Rattle.std.proofs.Math.Bool.{or-true}
-use Rattle.markdown_engine_content.specs.declared.event.Name.{Name}
-use Rattle.markdown_engine_content.specs.declared.event.Point.{Point}
+use Rattle.markdown_event.specs.declared.event.Name.{Name}
+use Rattle.markdown_event.specs.declared.event.Point.{Point}
 use Rattle.markdown_engine_content.specs.declared.label_kind.LabelKind.{LabelKind}
 use Rattle.markdown_engine_content.specs.Codes.{Code, stop_of, document_start}
 use Rattle.markdown_engine_content.specs.Tree.{Forest, empty, leaf_then, group_then, leaf, group, text_group, start_of, ◌⊕◌}

@@ -10,7 +10,7 @@ use Rattle.markdown_model.proofs.BracketSums.{Adds, sum_of, sum-joined}
 use Rattle.markdown_model.proofs.PairSums.{token_sum, token-append, sum-assembled, sum-run}
 use Rattle.markdown_model.proofs.PassedTrees.{with_emails-has}
 use Rattle.markdown_engine_content.proofs.AdjacentCodes.{head_same, tail_same}
-use Rattle.markdown_engine_content.specs.declared.event.Name.{Name}
+use Rattle.markdown_event.specs.declared.event.Name.{Name}
 use Rattle.markdown_engine_content.specs.Codes.{Code, is_blank}
 use Rattle.markdown_engine_content.specs.Tree.{Forest, empty, leaf_then, group_then, leaf, ◌⊕◌, leaf_codes}
 use Rattle.markdown_model.specs.CodeTests.{is_value}

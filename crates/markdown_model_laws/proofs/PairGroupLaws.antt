@@ -4,7 +4,7 @@ use Rattle.std.proofs.lemmas.List.{length-reverse}
 use Rattle.std.proofs.lemmas.List.Sums.{sum_by-append, sum_by-cons}
 use Rattle.std.proofs.lemmas.Bool.Decides.{nat_tests}
 use Rattle.markdown_model.proofs.GivenNames.{pair-named}
-use Rattle.markdown_engine_content.specs.declared.event.Name.{Name}
+use Rattle.markdown_event.specs.declared.event.Name.{Name}
 use Rattle.markdown_engine_content.specs.Codes.{Code, stop_of, document_start}
 use Rattle.markdown_engine_content.specs.Tree.{Forest, empty, leaf_then, group_then, leaf, ◌⊕◌, start_of}
 use Rattle.markdown_model.specs.Setting.{Setting}

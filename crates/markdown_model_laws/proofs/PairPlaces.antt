@@ -2,7 +2,7 @@
 use Rattle.std.proofs.Common.{◌≡◌, ◌≢◌, ℕ, suc, List, [], ◌∷◌, ◌++◌, length, refl, sym, ap, subst, ◌∙◌, append_assoc, append-nil, inl, inr}
 use Rattle.markdown_engine_content.specs.Codes.{Code, place_of, stop_of}
 use Rattle.markdown_engine_content.specs.Tree.{Forest, empty, leaf_then, group_then, leaf, group, text_group, ◌⊕◌, enter_of, exit_after}
-use Rattle.markdown_engine_content.specs.declared.event.Name.{Name}
+use Rattle.markdown_event.specs.declared.event.Name.{Name}
 use Rattle.markdown_attention.specs.TokenWord.{Matches, AreItems, IsFlat, IsReady}
 use Rattle.markdown_model.specs.BracketGroups.{item, opens, closes, nest, nested, onto, after_loose, joined, loose, pair_names, pair_group, Token, assembled, run_tokens, tokens_of, paired}
 use Rattle.markdown_model.specs.Pairs.{Pair}

@@ -6,9 +6,9 @@ use Rattle.markdown_engine_content.specs.Codes.{Code, document_start, stop_of}
 use Rattle.markdown_engine_content.specs.Content.{content_of}
 use Rattle.markdown_engine_content.specs.Slices.{position_bytes}
 use Rattle.markdown_engine_content.specs.Tree.{Forest, empty, leaf_then, group_then, events_of, start_of}
-use Rattle.markdown_engine_content.specs.declared.event.Name.{Name}
-use Rattle.markdown_engine_content.specs.declared.event.Name.TheVariants as N
-use Rattle.markdown_engine_content.specs.declared.event.Point.{Point}
+use Rattle.markdown_event.specs.declared.event.Name.{Name}
+use Rattle.markdown_event.specs.declared.event.Name.TheVariants as N
+use Rattle.markdown_event.specs.declared.event.Point.{Point}
 use Rattle.markdown_util.specs.Reference.{IsMarker, IsNumber, radix_of}
 use Rattle.markdown_util.proofs.WholeReference.{number_from_value}
 use Rattle.markdown_model.specs.CodeTests.{values_of}

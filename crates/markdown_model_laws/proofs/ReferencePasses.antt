@@ -1,6 +1,6 @@
 -- The inline tree of each content has references as they are read.
 use Rattle.std.proofs.Common.{◌≡◌, ℕ, suc, Bool, true, false, ◌&&◌, ◌||◌, List, None, refl, ap, ◌∙◌, inl, inr}
-use Rattle.markdown_engine_content.specs.declared.event.Name.TheVariants as N
+use Rattle.markdown_event.specs.declared.event.Name.TheVariants as N
 use Rattle.markdown_engine_content.specs.Codes.{Code}
 use Rattle.markdown_engine_content.specs.Tree.{Forest, empty, leaf_then, group_then, leaf}
 use Rattle.markdown_model.specs.GfmEmailLiteral.{with_emails}

@@ -1,8 +1,8 @@
 -- Trees whose character references hold their markers and their value alone, and in which no such leaf stands elsewhere.
 use Rattle.std.specs.Prelude.{◌≡◌, ◌≢◌, ◌≤◌, Bool, true, false, List, [], length, None, ◌⊎◌}
 use Rattle.std.specs.List.{list_all}
-use Rattle.markdown_engine_content.specs.declared.event.Name.{Name}
-use Rattle.markdown_engine_content.specs.declared.event.Name.TheVariants as N
+use Rattle.markdown_event.specs.declared.event.Name.{Name}
+use Rattle.markdown_event.specs.declared.event.Name.TheVariants as N
 use Rattle.markdown_engine_content.specs.Codes.{Code}
 use Rattle.markdown_engine_content.specs.Tree.{Forest, empty, leaf_then, group_then}
 use Rattle.markdown_model.specs.CodeTests.{is_digit, is_hex_digit, is_alphanumeric}

@@ -4,7 +4,7 @@ use Rattle.markdown_partial.proofs.PartialDestinationReadings.{if-here, if-other
 use Rattle.std.proofs.lemmas.Bool.{eqb-true, or_parts}
 use Rattle.markdown_engine_content.specs.Codes.{Code}
 use Rattle.markdown_engine_content.specs.Tree.{Forest, empty, ◌⊕◌, leaf, group, leaf_codes}
-use Rattle.markdown_engine_content.specs.declared.event.Name.{Name}
+use Rattle.markdown_event.specs.declared.event.Name.{Name}
 use Rattle.markdown_model.specs.CodeTests.{is_value, is_among, next_is, is_whitespace_code}
 use Rattle.markdown_model.specs.Grammar.{Reading, ◌>>=◌, gives, either, before, if_next, one, optional_tree}
 use Rattle.markdown_model.specs.Whitespace.{space_or_tab_eol}

@@ -1,7 +1,7 @@
 -- Nothing in the inline tree is empty but the texts of labels.
 use Rattle.std.proofs.Common.{◌≡◌, Bool, true, false, ◌&&◌, ◌||◌, List, [], ◌∷◌, ◌++◌, length, refl, sym, ap, ◌∙◌, None}
 use Rattle.std.proofs.lemmas.Bool.{both_ways}
-use Rattle.markdown_engine_content.specs.declared.event.Name.{Name}
+use Rattle.markdown_event.specs.declared.event.Name.{Name}
 use Rattle.markdown_engine_content.specs.Codes.{Code}
 use Rattle.markdown_engine_content.specs.Tree.{Forest, empty, leaf_then, group_then, ◌⊕◌}
 use Rattle.markdown_model.specs.CodeTests.{is_empty}

@@ -4,7 +4,7 @@ use Rattle.std.proofs.lemmas.Bool.{eqb-true, or_parts}
 use Rattle.std.specs.List.{list_all}
 use Rattle.markdown_engine_content.specs.Codes.{Code, is_line_ending, is_blank}
 use Rattle.markdown_engine_content.specs.Tree.{Forest, empty, ◌⊕◌}
-use Rattle.markdown_engine_content.specs.declared.event.Name.{Name}
+use Rattle.markdown_event.specs.declared.event.Name.{Name}
 use Rattle.markdown_model.specs.CodeTests.{next_is, is_empty, is_whitespace_code}
 use Rattle.markdown_model.specs.Grammar.{gives, either, before, some, any_number, span, optional_tree}
 use Rattle.markdown_model.specs.TextLines.{linked_leaf}

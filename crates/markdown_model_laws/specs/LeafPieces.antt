@@ -2,7 +2,7 @@
 use Rattle.std.specs.Prelude.{ℕ, ◌&&◌, ◌==◌, Bool, if◌then◌else◌, List, [], ◌∷◌, map, slice_range}
 use Rattle.markdown_engine_content.specs.Codes.{place_of}
 use Rattle.markdown_engine_content.specs.Content.{IsContent}
-use Rattle.markdown_engine_content.specs.declared.event.Event.{Event}
+use Rattle.markdown_event.specs.declared.event.Event.{Event}
 use Rattle.markdown_engine_content.specs.declared.parser.Piece.{Piece}
 use Rattle.markdown_model.specs.InlineTree.{text_events, string_events}
 use Rattle.markdown_model.specs.Setting.{Setting}

@@ -1,8 +1,8 @@
 -- The chain of linked leaves is not broken: the Exit of each is the event behind its Enter, and the next one's Enter is the event behind that.
 use Rattle.std.specs.Prelude.{◌≡◌, ℕ, ◌+◌, List, Some, slice_get, option_map}
-use Rattle.markdown_engine_content.specs.declared.event.Event.{Event}
-use Rattle.markdown_engine_content.specs.declared.event.Kind.{Kind}
-use Rattle.markdown_engine_content.specs.declared.event.Link.{Link}
+use Rattle.markdown_event.specs.declared.event.Event.{Event}
+use Rattle.markdown_event.specs.declared.event.Kind.{Kind}
+use Rattle.markdown_event.specs.declared.event.Link.{Link}
 use Rattle.markdown_engine_content.specs.declared.parser.Piece.{Piece}
 use Rattle.markdown_model.specs.InlineTree.{text_events, string_events}
 use Rattle.markdown_model.specs.Setting.{Setting}

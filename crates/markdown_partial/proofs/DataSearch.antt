@@ -1,7 +1,7 @@
 -- A walk past events that begin no data.
 use Rattle.std.proofs.Common.{◌≡◌, ℕ, zero, suc, ◌+◌, ◌<◌, ◌≤◌, false, List, [], ◌∷◌, length, get_or, refl, sym, ap, ◌∙◌, arith, inl, inr}
 use Rattle.std.proofs.lemmas.Bool.{cases_lt}
-use Rattle.markdown_engine_content.specs.declared.event.Event.{Event}
+use Rattle.markdown_event.specs.declared.event.Event.{Event}
 use Rattle.markdown_partial.specs.MergedEvents.{opens_data}
 
 pub event-at : (k : ℕ) (es : List Event) → k < length es → (e : Event) × (e ≡ get_or es k e)

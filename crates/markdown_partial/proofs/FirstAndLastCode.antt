@@ -4,7 +4,7 @@ use Rattle.std.proofs.lemmas.List.{drop_more, get_or-drop, reverse-append}
 use Rattle.std.proofs.lemmas.Bool.Decides.{nat_tests}
 use Rattle.markdown_engine_content.specs.Codes.{Code, is_blank, place_of, tab_value, line_feed, carriage_return, space_value, is_line_ending_byte, line_ending_len, line_start, next_column}
 use Rattle.markdown_engine_content.specs.DocumentWalk.{value_from}
-use Rattle.markdown_engine_content.specs.declared.event.Point.{Point}
+use Rattle.markdown_event.specs.declared.event.Point.{Point}
 use Rattle.markdown_engine_content.proofs.AdjacentCodes.{head_same, tail_same, cons≢nil}
 use Rattle.markdown_engine_content.proofs.PlaceOrder.{is_before, before-reach}
 use Rattle.markdown_engine_content.proofs.DocumentPlaces.{stands-point}

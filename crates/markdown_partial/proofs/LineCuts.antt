@@ -4,7 +4,7 @@ use Rattle.std.proofs.lemmas.Bool.{or_from, or_left, or_right}
 use Rattle.markdown_engine_content.specs.Codes.{Code, is_line_ending}
 use Rattle.markdown_engine.specs.PastTree.{behind}
 use Rattle.markdown_engine_content.specs.Tree.{Forest, empty, leaf, ◌⊕◌}
-use Rattle.markdown_engine_content.specs.declared.event.Name.TheVariants as N
+use Rattle.markdown_event.specs.declared.event.Name.TheVariants as N
 use Rattle.markdown_model.specs.Grammar.{until}
 use Rattle.markdown_model.specs.TextLines.{joins, onto_stretch, lines_of, line_leaf, line_leaves, data_up_to}
 use Rattle.markdown_partial.specs.PartialData.{ends_stretch, more_data}

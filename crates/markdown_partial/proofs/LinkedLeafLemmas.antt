@@ -3,8 +3,8 @@ use Rattle.std.proofs.Common.{◌≡◌, Bool, Option, refl, ap}
 use Rattle.markdown_engine.specs.Operations.{IsOpen}
 use Rattle.markdown_engine.specs.PastTree.{entered_leaf}
 use Rattle.markdown_engine.specs.Weights.{codes_left, left_at}
-use Rattle.markdown_engine_content.specs.declared.event.Content.{Content}
-use Rattle.markdown_engine_content.specs.declared.event.Name.{Name}
+use Rattle.markdown_event.specs.declared.event.Content.{Content}
+use Rattle.markdown_event.specs.declared.event.Name.{Name}
 use Rattle.markdown_engine.specs.declared.tokenizer.Tokenizer.{Tokenizer}
 use Rattle.markdown_engine.proofs.TreeEvents.{entered_leaf-is}
 

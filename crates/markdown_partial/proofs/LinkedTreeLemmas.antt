@@ -5,9 +5,9 @@ use Rattle.markdown_engine.specs.Operations.{Op, Enter, Exit, ahead, applied, do
 use Rattle.markdown_engine.specs.PastTree.{past, passed, moved_by, entered_leaf, link_before, last_link, TreeReading, EndsAs}
 use Rattle.markdown_engine_content.specs.Place.{exit_point}
 use Rattle.markdown_engine_content.specs.Tree.{Forest, empty, leaf_then, group_then, ◌⊕◌, leaf, linked, group, leaf_codes, start_of, enter_of, exit_after}
-use Rattle.markdown_engine_content.specs.declared.event.Content.{Content}
-use Rattle.markdown_engine_content.specs.declared.event.Name.{Name}
-use Rattle.markdown_engine_content.specs.declared.event.Point.{Point}
+use Rattle.markdown_event.specs.declared.event.Content.{Content}
+use Rattle.markdown_event.specs.declared.event.Name.{Name}
+use Rattle.markdown_event.specs.declared.event.Point.{Point}
 use Rattle.markdown_engine.specs.declared.tokenizer.TokenizeState.{TokenizeState}
 use Rattle.markdown_engine.specs.declared.tokenizer.Tokenizer.{Tokenizer}
 use Rattle.markdown_engine.proofs.ReadingSequences.{row-empty}

@@ -9,7 +9,7 @@ use Rattle.markdown_engine_events.specs.Edits.{removed_at, removed_by, is_remove
 use Rattle.markdown_engine_events.specs.EventChains.{has_link, linked_at}
 use Rattle.markdown_engine_content.specs.ListFunctions.{rest_of}
 use Rattle.std.specs.List.{All}
-use Rattle.markdown_engine_content.specs.declared.event.Event.{Event}
+use Rattle.markdown_event.specs.declared.event.Event.{Event}
 use Rattle.markdown_engine_events.specs.declared.util.edit_map.Edit.{Edit}
 use Rattle.markdown_partial.specs.MergedEvents.{is_enter, is_data, opens_data, closes_data, opening, closing, joint, ends_joint, joints, marked, removal}
 use Rattle.markdown_engine_content.proofs.PlaceRules.{drop-more}

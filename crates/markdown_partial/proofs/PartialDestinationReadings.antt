@@ -5,7 +5,7 @@ use Rattle.markdown_engine_content.specs.Codes.{Code, is_line_ending}
 use Rattle.markdown_engine.specs.Operations.{Op, Enter, Exit, Consume}
 use Rattle.markdown_engine_content.specs.Tree.{Forest, ◌⊕◌, leaf, linked, group}
 use Rattle.markdown_engine.specs.TreeOps.{consumes}
-use Rattle.markdown_engine_content.specs.declared.event.Name.TheVariants as N
+use Rattle.markdown_event.specs.declared.event.Name.TheVariants as N
 use Rattle.markdown_model.specs.CodeTests.{is_value, is_among, is_empty, is_whitespace_code, is_control, next_is}
 use Rattle.markdown_model.specs.Grammar.{Reading, ◌>>=◌, gives, provided, if_next, one, up_to, with_first}
 use Rattle.markdown_model.specs.Resource.{DestinationNames, destination, literal_destination, raw_destination, raw_from, string_group}

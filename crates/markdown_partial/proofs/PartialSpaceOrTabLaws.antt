@@ -8,8 +8,8 @@ use Rattle.markdown_engine_content.specs.Place.{ahead_at}
 use Rattle.markdown_engine.specs.StateRuns.{Stepped}
 use Rattle.markdown_engine_content.specs.Tree.{leaf_codes}
 use Rattle.markdown_engine.specs.Weights.{codes_left, weight_at}
-use Rattle.markdown_engine_content.specs.declared.event.Content.{Content}
-use Rattle.markdown_engine_content.specs.declared.event.Name.{Name}
+use Rattle.markdown_event.specs.declared.event.Content.{Content}
+use Rattle.markdown_event.specs.declared.event.Name.{Name}
 use Rattle.markdown_engine.specs.declared.state.State.TheVariants.{Next, Retry}
 use Rattle.markdown_engine.specs.declared.state.StateName.{StateName}
 use Rattle.markdown_engine.specs.declared.state.StateName.TheVariants as H
@@ -18,7 +18,7 @@ use Rattle.markdown_engine.specs.declared.tokenizer.TokenizeState.{TokenizeState
 use Rattle.markdown_engine.specs.declared.tokenizer.Tokenizer.{Tokenizer}
 use Rattle.markdown_engine.proofs.LawSteps.{if-step}
 use Rattle.markdown_engine.proofs.OperationFields.{attempts-applied, attempts-scratched, left-applied, left-scratched, left-ahead}
-use Rattle.markdown_engine_content.proofs.AndParts.{and-left, and-right}
+use Rattle.markdown_event.proofs.AndParts.{and-left, and-right}
 use Rattle.markdown_engine.proofs.TreeEvents.{leaf-past, ahead-past, past-empty, Fails-past}
 use Rattle.markdown_model.specs.Grammar.{span}
 use Rattle.markdown_model.specs.TextLines.{linked_leaf}

@@ -9,7 +9,7 @@ use Rattle.std.proofs.lemmas.List.Elements.{All-nil, All-cons}
 use Rattle.std.specs.List.{All}
 use Rattle.markdown_engine_events.specs.EventChains.{has_link, linked_at}
 use Rattle.markdown_engine_events.specs.Edits.{removed_at, front_at, back_at, added_at, is_removed, CanEdit}
-use Rattle.markdown_engine_content.specs.declared.event.Event.{Event}
+use Rattle.markdown_event.specs.declared.event.Event.{Event}
 use Rattle.markdown_engine_events.specs.declared.util.edit_map.Edit.{Edit}
 use Rattle.markdown_engine_events.proofs.EditRules.{stays-where, goes-where}
 use Rattle.markdown_partial.specs.MergedEvents.{is_enter, is_data, opens_data}

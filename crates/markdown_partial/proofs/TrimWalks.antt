@@ -6,7 +6,7 @@ use Rattle.std.proofs.lemmas.Bool.{cases_Bool, both_ways, not-true}
 use Rattle.std.proofs.lemmas.Bool.Decides.{nat_tests}
 use Rattle.markdown_engine_content.specs.Codes.{Code, codes_of, is_blank, is_code_before, is_at_or_after, place_of, stop_of, point_at}
 use Rattle.markdown_engine_content.specs.DocumentWalk.{codes_after, IsPoint, next_point, value_from}
-use Rattle.markdown_engine_content.specs.declared.event.Point.{Point}
+use Rattle.markdown_event.specs.declared.event.Point.{Point}
 use Rattle.markdown_engine.proofs.PlaceBounds.{document_few}
 use Rattle.markdown_engine_content.proofs.PlaceOrder.{is_before, at_or_after-is, same_place}
 use Rattle.markdown_engine_content.proofs.DocumentCodes.{code_here, stop_at}

@@ -8,11 +8,11 @@ use Rattle.markdown_engine_content.specs.Codes.{Code, is_blank, place_of, stop_o
 use Rattle.markdown_engine.specs.PastTree.{appended_from, last_link}
 use Rattle.markdown_engine_content.specs.Tree.{Forest, leaf, ◌⊕◌, event, event_count}
 use Rattle.markdown_engine_content.specs.DocumentWalk.{IsPoint}
-use Rattle.markdown_engine_content.specs.declared.event.Event.{Event}
-use Rattle.markdown_engine_content.specs.declared.event.Kind.TheVariants as Kind
-use Rattle.markdown_engine_content.specs.declared.event.Name.{Name}
-use Rattle.markdown_engine_content.specs.declared.event.Name.TheVariants as N
-use Rattle.markdown_engine_content.specs.declared.event.Point.{Point}
+use Rattle.markdown_event.specs.declared.event.Event.{Event}
+use Rattle.markdown_event.specs.declared.event.Kind.TheVariants as Kind
+use Rattle.markdown_event.specs.declared.event.Name.{Name}
+use Rattle.markdown_event.specs.declared.event.Name.TheVariants as N
+use Rattle.markdown_event.specs.declared.event.Point.{Point}
 use Rattle.markdown_engine_content.proofs.PlaceOrder.{is_before, before-self, before-reach, before-asym}
 use Rattle.markdown_engine_content.proofs.AdjacentCodes.{head_same, tail_same, cons≢nil}
 use Rattle.markdown_engine_content.proofs.DocumentPlaces.{stop-more}

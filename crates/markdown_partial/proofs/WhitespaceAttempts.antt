@@ -3,8 +3,8 @@ use Rattle.std.proofs.Common.{◌≡◌, ℕ, ◌≤◌, Bool, true, Option, Non
 use Rattle.markdown_engine.specs.Operations.{current_of, scratched, LinkedBefore}
 use Rattle.markdown_engine.specs.PastTree.{EndsAs, link_before}
 use Rattle.markdown_engine.specs.Weights.{codes_left}
-use Rattle.markdown_engine_content.specs.declared.event.Content.{Content}
-use Rattle.markdown_engine_content.specs.declared.event.Name.{Name}
+use Rattle.markdown_event.specs.declared.event.Content.{Content}
+use Rattle.markdown_event.specs.declared.event.Name.{Name}
 use Rattle.markdown_engine.specs.declared.tokenizer.TokenizeState.{TokenizeState}
 use Rattle.markdown_engine.specs.declared.tokenizer.Tokenizer.{Tokenizer}
 use Rattle.markdown_engine.proofs.ReadingSequences.{EndsAs-scratched}

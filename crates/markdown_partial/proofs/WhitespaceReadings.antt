@@ -3,9 +3,9 @@ use Rattle.std.proofs.Common.{◌≡◌, ℕ, ◌≤◌, ◌||◌, nat_le, Bool,
 use Rattle.markdown_engine_content.specs.Codes.{Code, is_blank, is_line_ending}
 use Rattle.markdown_engine.specs.PastTree.{behind}
 use Rattle.markdown_engine_content.specs.Tree.{Forest, empty, ◌⊕◌}
-use Rattle.markdown_engine_content.specs.declared.event.Content.{Content}
-use Rattle.markdown_engine_content.specs.declared.event.Name.{Name}
-use Rattle.markdown_engine_content.specs.declared.event.Name.TheVariants as N
+use Rattle.markdown_event.specs.declared.event.Content.{Content}
+use Rattle.markdown_event.specs.declared.event.Name.{Name}
+use Rattle.markdown_event.specs.declared.event.Name.TheVariants as N
 use Rattle.markdown_engine.proofs.ReadingSequences.{row-empty}
 use Rattle.markdown_model.specs.CodeTests.{is_empty, next_is}
 use Rattle.markdown_model.specs.Grammar.{Reading, ◌>>=◌, gives, either, before, one, some, any_number, span}

@@ -5,8 +5,8 @@ use Rattle.markdown_engine.specs.Operations.{Op, Enter, Exit, EnterLink, EnterCo
 use Rattle.markdown_engine.specs.PastTree.{TreeReading}
 use Rattle.markdown_engine_content.specs.Tree.{Forest, empty, leaf_then, group_then, leaf_codes, start_of}
 use Rattle.markdown_engine.specs.TreeOps.{consumes}
-use Rattle.markdown_engine_content.specs.declared.event.Content.{Content}
-use Rattle.markdown_engine_content.specs.declared.event.Name.{Name}
+use Rattle.markdown_event.specs.declared.event.Content.{Content}
+use Rattle.markdown_event.specs.declared.event.Name.{Name}
 use Rattle.markdown_plan.specs.Plan.{Plan}
 
 -- the Enter of a leaf; `linked` says that a linked sibling stands just before

@@ -8,7 +8,7 @@ use Rattle.markdown_engine.specs.StateRuns.{Stepped, stepped}
 use Rattle.markdown_model.specs.CodeTests.{is_among, next_is}
 use Rattle.markdown_model.specs.Grammar.{until}
 use Rattle.markdown_model.specs.TextLines.{data_up_to, line_leaves, lines_of}
-use Rattle.markdown_engine_content.specs.declared.event.Name.TheVariants as N
+use Rattle.markdown_event.specs.declared.event.Name.TheVariants as N
 use Rattle.markdown_engine.specs.declared.state.State.TheVariants.{Next, Retry}
 use Rattle.markdown_engine.specs.declared.state.State.TheVariants as State
 use Rattle.markdown_engine.specs.declared.state.StateName.TheVariants.{DataAtBreak, DataInside, DataStart}

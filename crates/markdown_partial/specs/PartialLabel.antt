@@ -5,7 +5,7 @@ use Rattle.markdown_engine_content.specs.Codes.{Code}
 use Rattle.markdown_engine.specs.Operations.{Op, Enter, Exit, Consume, LinkedBefore, attempted, done, current_of, scratched}
 use Rattle.markdown_engine.specs.PastTree.{EndsAs}
 use Rattle.markdown_engine.specs.StateRuns.{Stepped, stepped}
-use Rattle.markdown_engine_content.specs.declared.event.Name.TheVariants as N
+use Rattle.markdown_event.specs.declared.event.Name.TheVariants as N
 use Rattle.markdown_engine.specs.declared.state.State.{State}
 use Rattle.markdown_engine.specs.declared.state.State.TheVariants.{Next, Retry, Ok, Nok}
 use Rattle.markdown_engine.specs.declared.state.StateName.TheVariants.{SpaceOrTabEolStart, LabelAtBreak, LabelEolAfter, LabelInside, LabelEscape, LabelNok, LabelStart}

@@ -3,10 +3,10 @@ use Rattle.std.specs.Prelude.{◌≡◌, ◌≢◌, ℕ, zero, suc, Bool, true, 
 use Rattle.markdown_engine_events.specs.EventChains.{IsUnlinked}
 use Rattle.markdown_engine_content.specs.Codes.{Code, codes_of}
 use Rattle.markdown_engine_content.specs.Tree.{Forest, empty, leaf_then, group_then}
-use Rattle.markdown_engine_content.specs.declared.event.Event.{Event}
-use Rattle.markdown_engine_content.specs.declared.event.Name.{Name}
-use Rattle.markdown_engine_content.specs.declared.event.Name.TheVariants as N
-use Rattle.markdown_engine_content.specs.declared.event.Point.{Point}
+use Rattle.markdown_event.specs.declared.event.Event.{Event}
+use Rattle.markdown_event.specs.declared.event.Name.{Name}
+use Rattle.markdown_event.specs.declared.event.Name.TheVariants as N
+use Rattle.markdown_event.specs.declared.event.Point.{Point}
 use Rattle.markdown_engine_events.specs.declared.util.edit_map.Edit.{Edit}
 use Rattle.markdown_partial.specs.MergedEvents.{is_data, is_enter, opens_data}
 use Rattle.markdown_partial.specs.TrimmedData.{IsStretch, between, loses_blank, trimmed_events}

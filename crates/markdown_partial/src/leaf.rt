@@ -6,7 +6,7 @@ ghost use Rattle.markdown_engine.specs.Operations.{LinkedBefore};
 ghost use Rattle.markdown_engine.specs.PastTree.{entered_leaf};
 
 use markdown_engine::tokenizer::Tokenizer;
-use markdown_engine_content::event::{Content, Link, Name};
+use markdown_event::event::{Content, Link, Name};
 use std::alloc::AllocError;
 
 // Enters, with a link where there is a content, linked to the leaf just before where that is asked.

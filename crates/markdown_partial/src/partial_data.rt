@@ -21,7 +21,7 @@
 
 ghost use Rattle.std.specs.Prelude.{◌≡◌, ◌+◌, ◌-◌, ◌^◌, ◌<◌, ◌≤◌, ◌++◌, ℕ, IfOk, OnOk, OnErr, IsTrue, Some, None, [], drop, length, slice_index_or, true, false};
 ghost use Rattle.markdown_engine.specs.Operations.{IsOpen, current_of};
-ghost use Rattle.markdown_engine_content.specs.declared.event.Name.TheVariants.{Data};
+ghost use Rattle.markdown_event.specs.declared.event.Name.TheVariants.{Data};
 ghost use Rattle.markdown_engine_events.specs.Edits.{edited};
 ghost use Rattle.markdown_engine.specs.PastTree.{appended_from};
 ghost use Rattle.markdown_engine_content.specs.Tree.{Forest};
@@ -33,7 +33,7 @@ ghost use Rattle.markdown_plan.specs.StateCalls.{Steps};
 use markdown_engine::state::{State, StateName};
 use markdown_engine::tokenizer::{TokenizeState, Tokenizer};
 use markdown_engine_content::bytes::ByteSet;
-use markdown_engine_content::event::{Event, Kind, Name};
+use markdown_event::event::{Event, Kind, Name};
 use markdown_engine_events::events::Events;
 use markdown_engine_events::subtokenize::Subresult;
 use markdown_engine_events::util::edit_map::EditMap;

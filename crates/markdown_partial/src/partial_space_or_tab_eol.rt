@@ -28,7 +28,7 @@ use crate::leaf::enter_leaf;
 use crate::partial_space_or_tab;
 use markdown_engine::state::{State, StateName};
 use markdown_engine::tokenizer::Tokenizer;
-use markdown_engine_content::event::{Content, Name};
+use markdown_event::event::{Content, Name};
 use std::alloc::AllocError;
 
 /// What whitespace with a line ending is asked for.

@@ -5,8 +5,8 @@ use Rattle.markdown_engine_content.specs.Codes.{Code, is_line_ending, is_blank}
 use Rattle.markdown_engine.specs.Operations.{Enter, Exit, Consume}
 use Rattle.markdown_engine_content.specs.Tree.{Forest, leaf_then, ◌⊕◌}
 use Rattle.markdown_engine.specs.TreeOps.{consumes}
-use Rattle.markdown_engine_content.specs.declared.event.Name.{Name}
-use Rattle.markdown_engine_content.specs.declared.event.Name.TheVariants as N
+use Rattle.markdown_event.specs.declared.event.Name.{Name}
+use Rattle.markdown_event.specs.declared.event.Name.TheVariants as N
 use Rattle.markdown_model.specs.CodeTests.{next_is}
 use Rattle.markdown_model.specs.Grammar.{span}
 use Rattle.markdown_model.specs.TextLines.{joins, lines_of, linked_leaf, line_leaf, lines_from, lines}

@@ -3,7 +3,7 @@ use Rattle.std.proofs.Common.{◌≡◌, ◌==◌, ◌||◌, not, Bool, true, fa
 use Rattle.std.proofs.lemmas.Bool.{not-false, not-true, or_right, or_left}
 use Rattle.markdown_engine_content.specs.Codes.{Code, is_line_ending, is_blank}
 use Rattle.markdown_engine.specs.Operations.{Op, Exit, Consume}
-use Rattle.markdown_engine_content.specs.declared.event.Name.TheVariants as N
+use Rattle.markdown_event.specs.declared.event.Name.TheVariants as N
 use Rattle.markdown_model.specs.CodeTests.{is_whitespace_code, next_is}
 use Rattle.markdown_model.specs.Grammar.{with_first, escaped_from, span}
 use Rattle.markdown_model.specs.Whitespace.{begins_filled_line}

@@ -6,7 +6,7 @@ use Rattle.markdown_engine_content.specs.ListFunctions.{rest_of}
 use Rattle.markdown_engine.specs.Operations.{Op, Enter, Exit, Consume, current_of, ahead, applied, done, moves, scratched}
 use Rattle.markdown_engine.specs.StateRuns.{Stepped, stepped}
 use Rattle.markdown_engine.specs.Weights.{weight_at}
-use Rattle.markdown_engine_content.specs.declared.event.Name.TheVariants as N
+use Rattle.markdown_event.specs.declared.event.Name.TheVariants as N
 use Rattle.markdown_engine.specs.declared.state.State.TheVariants.{Next, Retry}
 use Rattle.markdown_engine.specs.declared.state.StateName.{StateName}
 use Rattle.markdown_engine.specs.declared.state.StateName.TheVariants as H

@@ -9,7 +9,7 @@ ghost use Rattle.markdown_partial.specs.LinkedText.{text_entered, eol_asked_for}
 
 use markdown_engine::state::StateName;
 use markdown_engine::tokenizer::Tokenizer;
-use markdown_engine_content::event::{Content, Link, Name};
+use markdown_event::event::{Content, Link, Name};
 use markdown_partial::partial_space_or_tab_eol::{Options, space_or_tab_eol_with_options};
 use std::alloc::AllocError;
 

@@ -32,7 +32,7 @@ use markdown_engine::state::{State, StateName};
 use markdown_engine::tokenizer::Tokenizer;
 use markdown_engine_content::byte_set;
 use markdown_engine_content::bytes::ByteSet;
-use markdown_engine_content::event::Name;
+use markdown_event::event::Name;
 use std::alloc::AllocError;
 
 /// The bytes at which a state that passes code after code stops, line endings aside; none for the other states. Takes no memory.

@@ -26,7 +26,7 @@ ghost use Rattle.markdown_partial.specs.PartialLabel.{start_step, closed, at_bre
 use crate::linked_text::{ask_for_ending, enter_text};
 use markdown_engine::state::{State, StateName};
 use markdown_engine::tokenizer::Tokenizer;
-use markdown_engine_content::event::Name;
+use markdown_event::event::Name;
 use markdown_util::util::constant::LINK_REFERENCE_SIZE_MAX;
 use std::alloc::AllocError;
 

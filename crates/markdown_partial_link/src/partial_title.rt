@@ -29,7 +29,7 @@ use markdown_engine::state::{State, StateName};
 use markdown_engine::tokenizer::{TokenizeState, Tokenizer};
 use markdown_engine_content::byte_set;
 use markdown_engine_content::bytes::ByteSet;
-use markdown_engine_content::event::Name;
+use markdown_event::event::Name;
 use std::alloc::AllocError;
 
 /// At the start of a title: its opening marker.

@@ -13,7 +13,7 @@ use Rattle.markdown_engine.specs.PastTree.{past, moved_by}
 use Rattle.markdown_engine_content.specs.Place.{Place, moved, start_of_content, start_or, value_of}
 use Rattle.markdown_engine_content.specs.PlaceInDocument.{IsStanding, is_open, first_point, followed, content_place}
 use Rattle.markdown_engine_content.specs.Tree.{Forest, leaf_codes}
-use Rattle.markdown_engine_content.specs.declared.event.Point.{Point}
+use Rattle.markdown_event.specs.declared.event.Point.{Point}
 use Rattle.markdown_engine_content.specs.declared.parser.Piece.{Piece}
 use Rattle.markdown_engine.specs.declared.tokenizer.TokenizeState.{TokenizeState}
 use Rattle.markdown_engine.specs.declared.tokenizer.Tokenizer.{Tokenizer}

@@ -1,7 +1,7 @@
 -- Events that stand open.
 use Rattle.std.proofs.Common.{◌≡◌, List, [], ◌∷◌, drop}
 use Rattle.markdown_engine_content.specs.ListFunctions.{rest_of}
-use Rattle.markdown_engine_content.specs.declared.event.Name.{Name}
+use Rattle.markdown_event.specs.declared.event.Name.{Name}
 
 -- where the innermost is closed, the next is open
 pub second-open : (xs : List Name) (a b : Name) → xs ≡ a ∷ b ∷ drop 2 xs → rest_of xs ≡ b ∷ rest_of (rest_of xs)

@@ -3,7 +3,7 @@ use Rattle.std.proofs.Common.{◌≡◌, ◌≢◌, Bool, true, false, Option, S
 use Rattle.markdown_engine_content.specs.Codes.{Code}
 use Rattle.markdown_engine_content.specs.Tree.{Forest, ◌⊕◌, leaf, group, leaf_codes}
 use Rattle.markdown_engine.specs.TreeOps.{IsSolid}
-use Rattle.markdown_engine_content.specs.declared.event.Name.{Name}
+use Rattle.markdown_event.specs.declared.event.Name.{Name}
 use Rattle.markdown_engine.proofs.SolidTrees.{IsSolid-leaf, IsSolid-row, IsSolid-group}
 use Rattle.markdown_engine_content.proofs.TreeCodes.{leaf_codes-row}
 use Rattle.markdown_model.specs.CodeTests.{is_empty}

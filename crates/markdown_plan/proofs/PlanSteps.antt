@@ -18,7 +18,7 @@ use Rattle.markdown_engine.proofs.ReadingSequences.{scratched-same}
 use Rattle.markdown_engine.proofs.LawSteps.{Goes-plain, Grown-refl}
 use Rattle.markdown_engine.proofs.OperationFields.{attempts-scratched}
 use Rattle.markdown_engine.proofs.OperationLemmas.{Grown-applied, Grown-scratched, ahead-done, attempts-done, scratch-done}
-use Rattle.markdown_engine_content.proofs.AndParts.{and-left, and-right}
+use Rattle.markdown_event.proofs.AndParts.{and-left, and-right}
 use Rattle.markdown_engine.proofs.TreeEvents.{done-append, ops-past, ahead-past}
 use Rattle.markdown_plan.proofs.PassedByReadings.{Gives, Covers}
 use Rattle.markdown_plan.specs.Plan.{Plan, preceded, tree_ops, plan_of, depth_after, DoesAs, KeepsAs}

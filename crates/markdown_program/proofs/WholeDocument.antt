@@ -6,7 +6,7 @@ use Rattle.std.specs.Str.{IsCharBoundary}
 use Rattle.std.proofs.lemmas.Bool.{cases_lt, or_right}
 use Rattle.std.proofs.lemmas.Bool.Decides.{nat_tests}
 use Rattle.std.proofs.lemmas.Str.{IsCharBoundary-end, IsCharBoundary-from_drop}
-use Rattle.markdown_engine_content.specs.declared.event.Point.{Point}
+use Rattle.markdown_event.specs.declared.event.Point.{Point}
 use Rattle.markdown_engine_content.specs.Codes.{Code, codes_of, document_start, stop_of, is_at_or_after}
 use Rattle.markdown_engine_content.specs.Content.{IsContent, document_limit, is_place, are_pieces, IsBetweenCharacters}
 use Rattle.markdown_program.specs.ProgramWords.{whole_piece}

@@ -13,7 +13,7 @@ ghost use Rattle.markdown_inline_lines.specs.PrintedLines.{lines_of};
 ghost use Rattle.std.specs.Io.KnownBytes.{Appends};
 
 use markdown_engine_content::configuration::{Constructs, ParseOptions};
-use markdown_engine_content::content::DOCUMENT_LIMIT;
+use markdown_engine_pieces::content::DOCUMENT_LIMIT;
 use markdown_engine_content::parser::{ParseState, Piece};
 use markdown_inline_lines::lines::lines_of;
 use markdown_run::run::{self, Run};

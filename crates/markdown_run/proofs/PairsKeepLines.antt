@@ -3,9 +3,9 @@ use Rattle.std.proofs.Common.{◌≡◌, ◌≢◌, ℕ, suc, true, false, Optio
 use Rattle.std.specs.List.{list_any}
 use Rattle.markdown_engine_content.specs.Codes.{Code, is_line_ending}
 use Rattle.markdown_engine_content.specs.Tree.{Forest, empty, leaf_then, group_then, leaf}
-use Rattle.markdown_engine_content.specs.declared.event.Content.{Content}
-use Rattle.markdown_engine_content.specs.declared.event.Name.{Name}
-use Rattle.markdown_engine_content.specs.declared.event.Name.TheVariants as N
+use Rattle.markdown_event.specs.declared.event.Content.{Content}
+use Rattle.markdown_event.specs.declared.event.Name.{Name}
+use Rattle.markdown_event.specs.declared.event.Name.TheVariants as N
 use Rattle.markdown_attention.specs.RunsRead.{is_run}
 use Rattle.markdown_attention.specs.AttentionTrees.{HasStripes}
 use Rattle.markdown_model.specs.BracketGroups.{pair_names, Token, run_tokens, assembled, tokens_of, paired}

@@ -7,7 +7,7 @@ use Rattle.markdown_engine.specs.PastTree.{appended_from}
 use Rattle.markdown_engine_content.specs.Place.{start_of_content, ahead_at}
 use Rattle.markdown_engine.specs.PassesInOrder.{MayResolve, Resolves}
 use Rattle.markdown_engine_content.specs.Tree.{Forest, leaf_codes}
-use Rattle.markdown_engine_content.specs.declared.event.Event.{Event}
+use Rattle.markdown_event.specs.declared.event.Event.{Event}
 use Rattle.markdown_engine_content.specs.declared.parser.ParseState.{ParseState}
 use Rattle.markdown_engine_content.specs.declared.parser.Piece.{Piece}
 use Rattle.markdown_engine.specs.declared.resolve.ResolveName.{ResolveName}

@@ -1,7 +1,7 @@
 -- Rows in which no run of markers stands.
 use Rattle.std.proofs.Common.{◌≡◌, false, ◌||◌, List, None, Some, refl, sym, ap, ◌∙◌}
 use Rattle.markdown_engine_content.specs.Tree.{Forest, leaf}
-use Rattle.markdown_engine_content.specs.declared.event.Name.TheVariants as N
+use Rattle.markdown_event.specs.declared.event.Name.TheVariants as N
 use Rattle.markdown_attention.specs.RunsOfTree.{has_run}
 use Rattle.markdown_model.specs.LabelEnd.{Element, plain, starts, ends}
 use Rattle.markdown_run_row.specs.Row.{Row, row_end, row_then, tree_onto, element_onto, row_has_run, row_of_elements, split_row}

@@ -4,9 +4,9 @@ use Rattle.std.proofs.lemmas.List.{length-drop, take_all}
 use Rattle.std.specs.List.{All}
 use Rattle.markdown_engine_content.specs.Codes.{document_start}
 use Rattle.markdown_engine_content.specs.Tree.{event}
-use Rattle.markdown_engine_content.specs.declared.event.Kind.{Kind}
-use Rattle.markdown_engine_content.specs.declared.event.Name.TheVariants as N
-use Rattle.markdown_engine_content.specs.declared.event.Event.{Event}
+use Rattle.markdown_event.specs.declared.event.Kind.{Kind}
+use Rattle.markdown_event.specs.declared.event.Name.TheVariants as N
+use Rattle.markdown_event.specs.declared.event.Event.{Event}
 use Rattle.markdown_run_leaves.specs.InnermostEvents.{Span, innermost, span_of, BeginsInnermost, IsInOrder}
 
 -- from the last event on there is none

@@ -11,11 +11,11 @@ use Rattle.markdown_partial.specs.TrimmedEvents.{IsPart}
 use Rattle.markdown_partial.proofs.TrimPassLaw.{Part, part-of}
 use Rattle.markdown_partial.proofs.TrimWalks.{forward-as, ended-of}
 use Rattle.markdown_engine_content.specs.Tree.{Forest, empty, leaf_then, group_then, leaf_codes, event, event_count, events_from, events_of, next_linked, start_of}
-use Rattle.markdown_engine_content.specs.declared.event.Content.{Content}
-use Rattle.markdown_engine_content.specs.declared.event.Event.{Event}
-use Rattle.markdown_engine_content.specs.declared.event.Kind.{Kind}
-use Rattle.markdown_engine_content.specs.declared.event.Name.{Name}
-use Rattle.markdown_engine_content.specs.declared.event.Point.{Point}
+use Rattle.markdown_event.specs.declared.event.Content.{Content}
+use Rattle.markdown_event.specs.declared.event.Event.{Event}
+use Rattle.markdown_event.specs.declared.event.Kind.{Kind}
+use Rattle.markdown_event.specs.declared.event.Name.{Name}
+use Rattle.markdown_event.specs.declared.event.Point.{Point}
 use Rattle.markdown_run_leaves.specs.InnermostEvents.{IsInOrder, Lent, lent, Span, has_nothing_inside, span_of, innermost, leaves_of, covered, HasLeaves}
 
 abbrev span : Name → Point → Point → Span

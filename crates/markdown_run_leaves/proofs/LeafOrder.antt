@@ -6,11 +6,11 @@ use Rattle.std.proofs.lemmas.List.Elements.{All-nil, All-cons}
 use Rattle.markdown_engine_content.specs.Codes.{Code, codes_of, document_start, is_at_or_after, is_code_before, place_of, stop_of}
 use Rattle.markdown_engine_content.specs.Content.{are_pieces, content_of, is_in_piece, piece_codes}
 use Rattle.markdown_engine_content.specs.Tree.{Forest, empty, leaf_then, group_then, leaf_codes, start_of}
-use Rattle.markdown_engine_content.specs.declared.event.Point.{Point}
+use Rattle.markdown_event.specs.declared.event.Point.{Point}
 use Rattle.markdown_engine_content.specs.declared.parser.Piece.{Piece}
 use Rattle.markdown_engine_content.specs.DocumentWalk.{IsPoint}
 use Rattle.markdown_engine_content.proofs.AdjacentCodes.{IsChain}
-use Rattle.markdown_engine_content.proofs.AndParts.{and-left, and-right}
+use Rattle.markdown_event.proofs.AndParts.{and-left, and-right}
 use Rattle.markdown_engine_content.proofs.PlaceOrder.{is_before, before-self, not_before-trans, before-asym, before-reach}
 use Rattle.markdown_engine_content.proofs.DocumentPlaces.{chain-split}
 use Rattle.markdown_engine_content.proofs.ContentCodes.{IsPieceRow, piece_row, followed_by}

@@ -10,8 +10,8 @@ use Rattle.markdown_attention.proofs.ElementsHaveMarkerRuns.{good-tree}
 use Rattle.markdown_engine_content.specs.Codes.{Code}
 use Rattle.markdown_engine_content.specs.Content.{IsContent, content_of}
 use Rattle.markdown_engine_content.specs.Tree.{Forest, leaf_codes}
-use Rattle.markdown_engine_content.specs.declared.event.Event.{Event}
-use Rattle.markdown_engine_content.specs.declared.event.Point.{Point}
+use Rattle.markdown_event.specs.declared.event.Event.{Event}
+use Rattle.markdown_event.specs.declared.event.Point.{Point}
 use Rattle.markdown_engine_content.specs.declared.parser.Piece.{Piece}
 use Rattle.markdown_run_leaves.specs.InnermostEvents.{HasLeaves, IsInOrder, covered, innermost, lent}
 use Rattle.markdown_run_leaves.proofs.InnermostEventsLaws.{innermost-leaves, leaves-in-order, lent-covers}

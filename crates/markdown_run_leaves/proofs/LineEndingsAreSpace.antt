@@ -10,7 +10,7 @@ use Rattle.ucd_table.specs.Rows.{in_ranges}
 use Rattle.unicode.specs.Binary.{is_white_space}
 use Rattle.markdown_engine_content.specs.Codes.{Code, codes_of, document_start, is_line_ending, is_line_ending_byte}
 use Rattle.markdown_engine_content.specs.Content.{content_of, piece_codes, is_in_piece}
-use Rattle.markdown_engine_content.specs.declared.event.Point.{Point}
+use Rattle.markdown_event.specs.declared.event.Point.{Point}
 use Rattle.markdown_engine_content.specs.declared.parser.Piece.{Piece}
 use Rattle.markdown_engine_content.proofs.DocumentCodes.{Stands, codes_at, code_here}
 use Rattle.markdown_engine_content.proofs.DocumentWalkLemmas.{IsFirst, first-of, stands-start}

@@ -4,9 +4,9 @@ use Rattle.std.specs.Prelude.{codes, nat_lt}
 use Rattle.std.proofs.lemmas.Bool.{both_ways, or_parts}
 use Rattle.markdown_engine_content.specs.Codes.{Code, is_blank, is_line_ending}
 use Rattle.markdown_engine_content.specs.Tree.{Forest, empty, leaf_then, group_then, leaf, leaf_codes, linked, group, ◌⊕◌}
-use Rattle.markdown_engine_content.specs.declared.event.Content.{Content}
-use Rattle.markdown_engine_content.specs.declared.event.Name.{Name}
-use Rattle.markdown_engine_content.specs.declared.event.Name.TheVariants as N
+use Rattle.markdown_event.specs.declared.event.Content.{Content}
+use Rattle.markdown_event.specs.declared.event.Name.{Name}
+use Rattle.markdown_event.specs.declared.event.Name.TheVariants as N
 use Rattle.markdown_model.specs.CodeLines.{IsLine, IsSomeLine, IsOnLine, AreSpaced}
 use Rattle.markdown_model.specs.CodeTests.{is_value, is_among, is_whitespace_code, is_control}
 use Rattle.markdown_model.specs.Grammar.{Reading, with_first, optional_tree, up_to}

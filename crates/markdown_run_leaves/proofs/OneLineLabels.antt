@@ -3,8 +3,8 @@ use Rattle.std.proofs.Common.{◌≡◌, ◌≢◌, List, [], ◌∷◌, ◌++�
 use Rattle.std.specs.List.{list_any}
 use Rattle.markdown_engine_content.specs.Codes.{Code, document_start, is_line_ending, stop_of}
 use Rattle.markdown_engine_content.specs.Tree.{Forest, empty, leaf, leaf_codes, ◌⊕◌, group, text_group, start_of}
-use Rattle.markdown_engine_content.specs.declared.event.Name.TheVariants as N
-use Rattle.markdown_engine_content.specs.declared.event.Point.{Point}
+use Rattle.markdown_event.specs.declared.event.Name.TheVariants as N
+use Rattle.markdown_event.specs.declared.event.Point.{Point}
 use Rattle.markdown_engine_content.specs.declared.label_kind.LabelKind.{LabelKind}
 use Rattle.markdown_engine_content.proofs.TreeCodes.{leaf_codes-row}
 use Rattle.markdown_model.specs.BracketGroups.{joined, loose}

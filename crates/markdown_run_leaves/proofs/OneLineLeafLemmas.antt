@@ -4,7 +4,7 @@ use Rattle.markdown_engine_content.specs.Codes.{Code, codes_of, document_start, 
 use Rattle.markdown_engine_content.specs.Content.{content_of, are_pieces}
 use Rattle.markdown_engine_content.specs.Tree.{Forest, empty, leaf_then, group_then, leaf_codes}
 use Rattle.markdown_engine_content.specs.DocumentWalk.{IsPoint}
-use Rattle.markdown_engine_content.specs.declared.event.Point.{Point}
+use Rattle.markdown_event.specs.declared.event.Point.{Point}
 use Rattle.markdown_engine_content.specs.declared.parser.Piece.{Piece}
 use Rattle.markdown_engine_content.proofs.AdjacentCodes.{first-start}
 use Rattle.markdown_engine_content.proofs.DocumentPlaces.{chain-split, point-split, point_start}

@@ -3,9 +3,9 @@ use Rattle.std.proofs.Common.{◌≡◌, ℕ, suc, List, [], ◌∷◌, ◌++◌
 use Rattle.std.specs.List.{list_any}
 use Rattle.markdown_engine_content.specs.Codes.{Code, document_start, is_line_ending, stop_of}
 use Rattle.markdown_engine_content.specs.Tree.{Forest, empty, leaf_then, group_then, leaf, leaf_codes, ◌⊕◌, group, text_group, start_of}
-use Rattle.markdown_engine_content.specs.declared.event.Name.{Name}
-use Rattle.markdown_engine_content.specs.declared.event.Name.TheVariants as N
-use Rattle.markdown_engine_content.specs.declared.event.Point.{Point}
+use Rattle.markdown_event.specs.declared.event.Name.{Name}
+use Rattle.markdown_event.specs.declared.event.Name.TheVariants as N
+use Rattle.markdown_event.specs.declared.event.Point.{Point}
 use Rattle.markdown_attention.specs.TokenWord.{Matches, AreItems, IsFlat, IsReady}
 use Rattle.markdown_model.specs.BracketGroups.{item, opens, closes, nested, joined, loose, pair_names, pair_group, Token, assembled, run_tokens, tokens_of, paired}
 use Rattle.markdown_model.specs.Pairs.{Pair}

@@ -3,7 +3,7 @@ use Rattle.std.specs.Prelude.{◌≡◌, ℕ, true, not, List, [], ◌∷◌, ma
 use Rattle.std.specs.List.{All}
 use Rattle.markdown_engine_content.specs.Codes.{is_at_or_after, place_of}
 use Rattle.markdown_engine_content.specs.Content.{IsContent, content_of}
-use Rattle.markdown_engine_content.specs.declared.event.Event.{Event}
+use Rattle.markdown_event.specs.declared.event.Event.{Event}
 use Rattle.markdown_engine_content.specs.declared.parser.Piece.{Piece}
 use Rattle.markdown_run_leaves.specs.InnermostEvents.{HasLeaves, IsInOrder, Span, covered, innermost, lent}
 use Rattle.markdown_partial.specs.TrimmedData.{between}

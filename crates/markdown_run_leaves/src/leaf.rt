@@ -5,11 +5,11 @@ ghost use Rattle.std.specs.Prelude.{◌≡◌, ◌∷◌, ◌+◌, ◌<◌, ◌�
 ghost use Rattle.std.specs.Iterator.{YieldsFirstBy, item_count};
 ghost use Rattle.std.specs.List.{All};
 ghost use Rattle.markdown_engine_content.specs.Content.{document_limit};
-ghost use Rattle.markdown_engine_content.specs.declared.event.Event.{Event};
+ghost use Rattle.markdown_event.specs.declared.event.Event.{Event};
 ghost use Rattle.markdown_run_leaves.specs.InnermostEvents.{Lent, innermost, has_nothing_inside, span_of, lent, IsInOrder, BeginsInnermost};
 ghost use Rattle.markdown_run_leaves.specs.LeafView.{lent_by};
 
-use markdown_engine_content::event::{Event, Kind, Name, Point};
+use markdown_event::event::{Event, Kind, Name, Point};
 use markdown_engine_content::util::slice::{Position, Slice};
 use std::marker::Model;
 

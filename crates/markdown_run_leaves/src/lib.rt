@@ -11,7 +11,7 @@ pub mod laws;
 pub mod leaf;
 
 use leaf::Leaves;
-use markdown_engine_content::event::Event;
+use markdown_event::event::Event;
 
 /// Answers the innermost events in order, each with its slice lent from the document: leaves, and the empty text of a label.
 ///

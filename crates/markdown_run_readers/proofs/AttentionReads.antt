@@ -6,7 +6,7 @@ use Rattle.markdown_engine_content.specs.Codes.{Code}
 use Rattle.markdown_engine_content.specs.ListFunctions.{rest_of}
 use Rattle.markdown_engine_content.specs.Place.{Place, ahead_at, code_at, moved}
 use Rattle.markdown_engine_content.specs.Tree.{Forest, leaf, leaf_codes}
-use Rattle.markdown_engine_content.specs.declared.event.Name.TheVariants as N
+use Rattle.markdown_event.specs.declared.event.Name.TheVariants as N
 use Rattle.markdown_engine_content.proofs.PlaceRules.{IsAhead, ahead_none, ahead_some, left_moved}
 use Rattle.markdown_engine_index.specs.RunIndex.{leading}
 use Rattle.markdown_engine.specs.Operations.{ahead, applied, current_of, entered, exited, registered}

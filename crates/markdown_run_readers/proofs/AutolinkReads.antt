@@ -3,7 +3,7 @@ use Rattle.std.proofs.Common.{◌≡◌, ℕ, ◌&&◌, ◌==◌, true, false, L
 use Rattle.std.proofs.lemmas.Bool.{eq-eqb}
 use Rattle.markdown_engine_content.specs.Codes.{Code}
 use Rattle.markdown_engine_content.specs.Place.{Place, ahead_at, moved}
-use Rattle.markdown_engine_content.specs.declared.event.Name.{Name}
+use Rattle.markdown_event.specs.declared.event.Name.{Name}
 use Rattle.markdown_engine_content.proofs.PlaceRules.{IsAhead, ahead_none, ahead_some}
 use Rattle.markdown_engine.specs.Operations.{Enter, ahead, applied, current_of, done}
 use Rattle.markdown_engine.specs.PastTree.{Reads, moved_by, passed}

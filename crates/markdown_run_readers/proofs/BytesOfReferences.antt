@@ -12,7 +12,7 @@ use Rattle.markdown_engine.specs.PastTree.{moved_by}
 use Rattle.markdown_engine.proofs.PlaceAfterCodes.{ahead-moved_by}
 use Rattle.std.proofs.lemmas.Slice.Eq.{bytes_eq-Decides}
 use Rattle.std.specs.Str.{bytes_eq}
-use Rattle.markdown_engine_content.proofs.AndParts.{and-left, and-right}
+use Rattle.markdown_event.proofs.AndParts.{and-left, and-right}
 use Rattle.markdown_leaf.specs.CharacterReference.{has_value}
 use Rattle.markdown_util.specs.Reference.{html_5_a_to_d, html_5_capitals, html_5_e_to_l, html_5_m_to_r, html_5_rows, html_5_s_to_z}
 use Rattle.markdown_leaf.proofs.CharacterReferenceBytes.{ReadsBack, reads-back}

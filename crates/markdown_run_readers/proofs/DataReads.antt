@@ -7,8 +7,8 @@ use Rattle.markdown_engine_content.specs.Codes.{Code, line_feed}
 use Rattle.markdown_engine_content.specs.ListFunctions.{rest_of}
 use Rattle.markdown_engine_content.specs.Place.{Place, ahead_at, moved}
 use Rattle.markdown_engine_content.specs.Tree.{Forest, empty, leaf, leaf_codes}
-use Rattle.markdown_engine_content.specs.declared.event.Name.{Name}
-use Rattle.markdown_engine_content.specs.declared.event.Name.TheVariants as N
+use Rattle.markdown_event.specs.declared.event.Name.{Name}
+use Rattle.markdown_event.specs.declared.event.Name.TheVariants as N
 use Rattle.markdown_engine_content.proofs.PlaceRules.{code_at_ahead, codes_moved}
 use Rattle.markdown_engine.specs.Operations.{HasCode, ahead, applied, current_of, done, exited}
 use Rattle.markdown_engine.specs.PastTree.{Reads, behind, moved_by, passed, past}

@@ -5,7 +5,7 @@ use Rattle.std.proofs.lemmas.Bool.{not-true}
 use Rattle.markdown_engine_content.specs.ListFunctions.{rest_of}
 use Rattle.markdown_engine_content.specs.Place.{Place, ahead_at, code_at, moved}
 use Rattle.markdown_engine_content.specs.declared.label_kind.LabelKind.{LabelKind}
-use Rattle.markdown_engine_content.proofs.AndParts.{and-left, and-right}
+use Rattle.markdown_event.proofs.AndParts.{and-left, and-right}
 use Rattle.markdown_engine_content.proofs.PlaceRules.{IsAhead, ahead-moved, ahead_none, ahead_some}
 use Rattle.markdown_engine.specs.Operations.{Op, ahead, applied, current_of, done}
 use Rattle.markdown_engine.specs.StateRuns.{Stepped, stepped}

@@ -11,7 +11,7 @@ use Rattle.std.proofs.Math.Utf8.{encode}
 use Rattle.markdown_engine_content.specs.Codes.{Code, document_start, line_feed, stop_of}
 use Rattle.markdown_engine_content.specs.Place.{Place, start_or}
 use Rattle.markdown_engine_content.specs.Tree.{Forest, leaf}
-use Rattle.markdown_engine_content.specs.declared.event.Name.TheVariants as N
+use Rattle.markdown_event.specs.declared.event.Name.TheVariants as N
 use Rattle.markdown_model.specs.CodeTests.{is_alphanumeric, is_some_code, is_value, last_code, next_is}
 use Rattle.markdown_model.specs.Elements.{attention_run, code_before, switched, text_choice, text_element}
 use Rattle.markdown_model.proofs.DefinitionSteps.{code_before-append}

@@ -3,7 +3,7 @@ use Rattle.std.proofs.Common.{◌≡◌, ◌≤◌, ◌&&◌, true, false, lengt
 use Rattle.std.specs.Option.{is_some}
 use Rattle.markdown_engine_content.specs.declared.label_kind.LabelKind.{LabelKind}
 use Rattle.markdown_engine_content.specs.Place.{code_at}
-use Rattle.markdown_engine_content.proofs.AndParts.{and-right}
+use Rattle.markdown_event.proofs.AndParts.{and-right}
 use Rattle.markdown_engine.specs.Operations.{ahead, current_of, done}
 use Rattle.markdown_engine.specs.declared.tokenizer.Tokenizer.{Tokenizer}
 use Rattle.markdown_label.specs.LabelStarts.{kept_start, link_ops, link_test, links_on}

@@ -8,15 +8,15 @@ use Rattle.std.proofs.lemmas.Bool.{not-true, or_parts}
 use Rattle.std.proofs.lemmas.Bool.Decides.{nat_tests}
 use Rattle.std.proofs.lemmas.Grind.{common_steps}
 use Rattle.std.proofs.lemmas.Option.{same_Some}
-use Rattle.markdown_engine_content.proofs.AndParts.{and-left, and-right}
+use Rattle.markdown_event.proofs.AndParts.{and-left, and-right}
 use Rattle.markdown_engine_content.proofs.PlaceRules.{IsAhead, code_at_ahead, point_ahead}
 use Rattle.markdown_engine_content.specs.Codes.{Code, document_start, is_blank, is_line_ending, stop_of}
 use Rattle.markdown_engine_content.specs.Content.{has_no_blank_line}
 use Rattle.markdown_engine_content.specs.Place.{Place, ahead_at, code_at, exit_point, moved, point_of}
 use Rattle.markdown_engine_content.specs.Stretch.{is_free, past_stretch, stops, stretch}
 use Rattle.markdown_engine_content.specs.Tree.{Forest, empty, leaf, linked, group, ◌⊕◌}
-use Rattle.markdown_engine_content.specs.declared.event.Name.TheVariants as N
-use Rattle.markdown_engine_content.specs.declared.event.Point.{Point}
+use Rattle.markdown_event.specs.declared.event.Name.TheVariants as N
+use Rattle.markdown_event.specs.declared.event.Point.{Point}
 use Rattle.markdown_engine.specs.Operations.{ahead, applied, current_of, done, scratched}
 use Rattle.markdown_engine.specs.PastTree.{moved_by}
 use Rattle.markdown_engine.specs.declared.tokenizer.LabelStart as Kept

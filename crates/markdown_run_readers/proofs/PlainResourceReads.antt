@@ -2,16 +2,16 @@
 use Rattle.std.proofs.Common.{◌≡◌, ◌≢◌, ℕ, ◌==◌, ◌&&◌, ◌||◌, not, Bool, true, false, if◌then◌else◌, List, [], ◌∷◌, ◌++◌, Option, None, Some, refl, sym, ap, subst, ◌∙◌, append_assoc, length}
 use Rattle.std.specs.Option.{is_some}
 use Rattle.std.proofs.lemmas.Bool.{both_ways, eq-eqb, eqb-true, not-true, or_parts}
-use Rattle.markdown_engine_content.proofs.AndParts.{and-left, and-right}
+use Rattle.markdown_event.proofs.AndParts.{and-left, and-right}
 use Rattle.markdown_engine_content.specs.Codes.{Code, is_blank, is_line_ending}
 use Rattle.markdown_engine_content.specs.Content.{has_no_blank_line}
 use Rattle.markdown_engine_content.specs.ListFunctions.{rest_of}
 use Rattle.markdown_engine_content.specs.Place.{Place, ahead_at, code_at, moved, point_of}
 use Rattle.markdown_engine_content.specs.Stretch.{is_free, past_stretch, stops, stretch, walked}
 use Rattle.markdown_engine_content.specs.Tree.{Forest, leaf, linked, group, leaf_codes, ◌⊕◌}
-use Rattle.markdown_engine_content.specs.declared.event.Content.TheVariants as Content
-use Rattle.markdown_engine_content.specs.declared.event.Name.{Name}
-use Rattle.markdown_engine_content.specs.declared.event.Name.TheVariants as N
+use Rattle.markdown_event.specs.declared.event.Content.TheVariants as Content
+use Rattle.markdown_event.specs.declared.event.Name.{Name}
+use Rattle.markdown_event.specs.declared.event.Name.TheVariants as N
 use Rattle.markdown_engine_content.proofs.PlaceRules.{IsAhead, ahead_some, code_at_ahead}
 use Rattle.markdown_engine_content.proofs.StretchLemmas.{stretch-goes, stretch-stops}
 use Rattle.markdown_engine.specs.Operations.{Op, Enter, EnterLink, Exit, ahead, applied, current_of, done, scratched}

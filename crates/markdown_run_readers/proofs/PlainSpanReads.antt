@@ -8,10 +8,10 @@ use Rattle.markdown_engine_content.specs.Codes.{Code, document_start, is_line_en
 use Rattle.markdown_engine_content.specs.Place.{Place, ahead_at, code_at, code_before, exit_point, moved, point_of}
 use Rattle.markdown_engine_content.specs.Stretch.{past_stretch, stretch, stops}
 use Rattle.markdown_engine_content.specs.Tree.{Forest, empty, event, leaf_then, ◌⊕◌, leaf, leaf_codes, group}
-use Rattle.markdown_engine_content.specs.declared.event.Event.{Event}
-use Rattle.markdown_engine_content.specs.declared.event.Kind.TheVariants as Kind
-use Rattle.markdown_engine_content.specs.declared.event.Name.{Name}
-use Rattle.markdown_engine_content.specs.declared.event.Point.{Point}
+use Rattle.markdown_event.specs.declared.event.Event.{Event}
+use Rattle.markdown_event.specs.declared.event.Kind.TheVariants as Kind
+use Rattle.markdown_event.specs.declared.event.Name.{Name}
+use Rattle.markdown_event.specs.declared.event.Point.{Point}
 use Rattle.markdown_engine_content.proofs.PlaceRules.{IsAhead, ahead_moved, ahead_some, code_at_ahead, point_ahead}
 use Rattle.markdown_engine_index.specs.RunIndex.{leading}
 use Rattle.markdown_engine_content.proofs.StretchLemmas.{stretch-goes, stretch-stops}

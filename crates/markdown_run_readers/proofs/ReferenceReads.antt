@@ -10,7 +10,7 @@ use Rattle.std.specs.Char.{is_ascii_alphanumeric}
 use Rattle.markdown_engine_content.specs.Codes.{Code}
 use Rattle.markdown_engine_content.specs.Place.{Place, ahead_at, moved}
 use Rattle.markdown_engine_content.specs.Tree.{Forest, leaf_codes, leaf, ◌⊕◌}
-use Rattle.markdown_engine_content.specs.declared.event.Name.TheVariants as N
+use Rattle.markdown_event.specs.declared.event.Name.TheVariants as N
 use Rattle.markdown_engine_content.proofs.PlaceRules.{IsAhead, ahead_moved, ahead_some, code_at_ahead}
 use Rattle.markdown_engine.specs.Operations.{Op, Enter, Exit, ahead, applied, done}
 use Rattle.markdown_engine.specs.PastTree.{Reads, moved_by, passed}

@@ -5,8 +5,8 @@ use Rattle.std.proofs.lemmas.Bool.{eq-eqb, or_parts}
 use Rattle.markdown_engine_content.specs.Codes.{Code, is_line_ending}
 use Rattle.markdown_engine_content.specs.Place.{Place, ahead_at, code_at, moved}
 use Rattle.markdown_engine_content.specs.Tree.{Forest, ◌⊕◌, empty, group, leaf}
-use Rattle.markdown_engine_content.specs.declared.event.Name.{Name}
-use Rattle.markdown_engine_content.specs.declared.event.Name.TheVariants as N
+use Rattle.markdown_event.specs.declared.event.Name.{Name}
+use Rattle.markdown_event.specs.declared.event.Name.TheVariants as N
 use Rattle.markdown_engine_content.proofs.PlaceRules.{IsAhead, ahead_some}
 use Rattle.markdown_engine.specs.Operations.{Op, Exit, ahead, applied, done}
 use Rattle.markdown_engine.specs.PastTree.{Reads, moved_by, passed}

@@ -4,7 +4,7 @@ use Rattle.std.specs.Prelude.{ℕ, ◌-◌, Bool, true, false, ◌&&◌, not, �
 use Rattle.std.specs.Str.{byte}
 use Rattle.markdown_engine_content.specs.Place.{Place, code_at, exit_point, moved, point_of}
 use Rattle.markdown_engine_content.specs.Stretch.{is_free, past_stretch}
-use Rattle.markdown_engine_content.specs.declared.event.Name.TheVariants as N
+use Rattle.markdown_event.specs.declared.event.Name.TheVariants as N
 use Rattle.markdown_engine.specs.Operations.{current_of}
 use Rattle.markdown_engine.specs.declared.tokenizer.LabelStart as Kept
 use Rattle.markdown_engine.specs.declared.tokenizer.Tokenizer.{Tokenizer}

@@ -4,9 +4,9 @@ use Rattle.std.specs.Prelude.{◌≡◌, ℕ, Bool, true, false, ◌&&◌, ◌||
 use Rattle.std.specs.Str.{byte}
 use Rattle.markdown_engine_content.specs.Place.{Place, code_at, moved, point_of}
 use Rattle.markdown_engine_content.specs.Stretch.{is_free, past_stretch}
-use Rattle.markdown_engine_content.specs.declared.event.Content.TheVariants as Content
-use Rattle.markdown_engine_content.specs.declared.event.Name.{Name}
-use Rattle.markdown_engine_content.specs.declared.event.Name.TheVariants as N
+use Rattle.markdown_event.specs.declared.event.Content.TheVariants as Content
+use Rattle.markdown_event.specs.declared.event.Name.{Name}
+use Rattle.markdown_event.specs.declared.event.Name.TheVariants as N
 use Rattle.markdown_engine_content.specs.declared.label_kind.LabelKind.{LabelKind}
 use Rattle.markdown_engine.specs.Operations.{Enter, EnterLink, Exit, applied, current_of, done}
 use Rattle.markdown_engine.specs.declared.tokenizer.LabelStart as Kept

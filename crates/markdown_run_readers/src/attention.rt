@@ -13,7 +13,7 @@ use markdown_engine::resolve::ResolveName;
 use markdown_engine::tokenizer::Tokenizer;
 use markdown_engine_content::configuration::Constructs;
 use markdown_engine_content::cursor::Cursor;
-use markdown_engine_content::event::Name;
+use markdown_event::event::Name;
 use std::alloc::AllocError;
 
 // Whether a run may begin with this byte.

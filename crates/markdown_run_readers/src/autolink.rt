@@ -4,7 +4,7 @@
 ghost use Rattle.std.specs.Prelude.{◌≡◌, ◌&&◌, true, IfOk, OnOk, OnErr, IsTrue, None};
 ghost use Rattle.markdown_engine.specs.Operations.{HasCode};
 ghost use Rattle.markdown_engine_content.specs.Place.{code_at};
-ghost use Rattle.markdown_engine_content.specs.declared.event.Name.TheVariants as N;
+ghost use Rattle.markdown_event.specs.declared.event.Name.TheVariants as N;
 ghost use Rattle.markdown_leaf.specs.Autolink.{domains, local_rest, open_naming, scheme_naming, up_to_bracket};
 ghost use Rattle.markdown_model.specs.Grammar.{any_number};
 ghost use Rattle.markdown_model.specs.LeafConstructs.{is_uri_code};
@@ -16,7 +16,7 @@ ghost use Rattle.markdown_run_readers.specs.ReaderEnds.{ReadsOrStays, options_he
 use crate::events::{append_enter, append_exit, append_leaf, read_marker};
 use markdown_engine::tokenizer::Tokenizer;
 use markdown_engine_content::cursor::Cursor;
-use markdown_engine_content::event::Name;
+use markdown_event::event::Name;
 use markdown_leaf::autolink::uri_stops;
 use markdown_plan::bytes::{is_alphanumeric, is_letter};
 use markdown_util::util::constant::{AUTOLINK_DOMAIN_SIZE_MAX, AUTOLINK_SCHEME_SIZE_MAX};

@@ -10,7 +10,7 @@ ghost use Rattle.markdown_run_readers.specs.ReaderEnds.{ReadsOrStays, options_he
 
 use markdown_engine::tokenizer::Tokenizer;
 use markdown_engine_content::cursor::Cursor;
-use markdown_engine_content::event::Name;
+use markdown_event::event::Name;
 use std::alloc::AllocError;
 
 // Whether the code is ASCII punctuation.

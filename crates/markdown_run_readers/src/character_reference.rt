@@ -16,7 +16,7 @@ use markdown_engine::tokenizer::Tokenizer;
 use markdown_engine_content::byte_set;
 use markdown_engine_content::bytes::ByteSet;
 use markdown_engine_content::cursor::Cursor;
-use markdown_engine_content::event::Name;
+use markdown_event::event::Name;
 use markdown_engine_content::util::slice::Slice;
 use markdown_util::util::character_reference::{decode_named, value_max, value_test};
 use std::alloc::AllocError;

@@ -10,7 +10,7 @@ ghost use Rattle.markdown_run_readers.specs.PlacesPassed.{marker_ops, with_enter
 ghost use Rattle.markdown_run_readers.specs.PlainSpan.{with_exit_at};
 
 use markdown_engine::tokenizer::Tokenizer;
-use markdown_engine_content::event::{Content, Event, Kind, Link, Name, Point};
+use markdown_event::event::{Content, Event, Kind, Link, Name, Point};
 use std::alloc::AllocError;
 
 // The link of text that is read as a string, the first of its chain.

@@ -24,7 +24,7 @@ use markdown_engine::tokenizer::{LabelKind, LabelStart, Tokenizer};
 use markdown_engine_content::byte_set;
 use markdown_engine_content::bytes::ByteSet;
 use markdown_engine_content::cursor::Cursor;
-use markdown_engine_content::event::Name;
+use markdown_event::event::Name;
 use markdown_label::label_end;
 use std::alloc::AllocError;
 

@@ -14,7 +14,7 @@ use crate::attention::is_at;
 use crate::events::{append_enter, append_exit, read_marker};
 use markdown_engine::tokenizer::Tokenizer;
 use markdown_engine_content::cursor::Cursor;
-use markdown_engine_content::event::Name;
+use markdown_event::event::Name;
 use markdown_label::label_start_image;
 use std::alloc::AllocError;
 

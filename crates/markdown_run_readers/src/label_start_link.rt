@@ -11,7 +11,7 @@ ghost use Rattle.markdown_run_readers.specs.ReaderEnds.{BeginsOrStays, options_h
 use crate::attention::is_at;
 use crate::events::{append_enter, append_exit, read_marker};
 use markdown_engine::tokenizer::{LabelKind, Tokenizer};
-use markdown_engine_content::event::Name;
+use markdown_event::event::Name;
 use markdown_label::starts::keep_start;
 use std::alloc::AllocError;
 

@@ -24,7 +24,7 @@ use markdown_engine::tokenizer::Tokenizer;
 use markdown_engine_content::byte_set;
 use markdown_engine_content::bytes::ByteSet;
 use markdown_engine_content::cursor::Cursor;
-use markdown_engine_content::event::Name;
+use markdown_event::event::Name;
 use markdown_partial::literal_letters;
 use markdown_partial::literal_words::SCHEMES;
 use markdown_plan::bytes::{is_alphanumeric, is_letter};

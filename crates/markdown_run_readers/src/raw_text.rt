@@ -17,7 +17,7 @@ use crate::events::{append_enter, append_exit, append_exit_at};
 use markdown_engine::tokenizer::Tokenizer;
 use markdown_engine_content::byte_set;
 use markdown_engine_content::cursor::Cursor;
-use markdown_engine_content::event::{Name, Point};
+use markdown_event::event::{Name, Point};
 use markdown_leaf::raw_text::is_barred;
 use std::alloc::AllocError;
 

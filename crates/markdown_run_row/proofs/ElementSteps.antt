@@ -10,10 +10,10 @@ use Rattle.markdown_engine_content.specs.Place.{Place, value_of, last_of, moved,
 use Rattle.markdown_engine.specs.PastTree.{TreeReading, Reads, past, last_link, moved_by, appended_from}
 use Rattle.markdown_engine_content.specs.Tree.{Forest, empty, leaf, leaf_then, group_then, ◌⊕◌, leaf_codes, event, start_of}
 use Rattle.markdown_engine.specs.Weights.{codes_left}
-use Rattle.markdown_engine_content.specs.declared.event.Event.{Event}
-use Rattle.markdown_engine_content.specs.declared.event.Kind.TheVariants as Kind
-use Rattle.markdown_engine_content.specs.declared.event.Name.{Name}
-use Rattle.markdown_engine_content.specs.declared.event.Name.TheVariants as N
+use Rattle.markdown_event.specs.declared.event.Event.{Event}
+use Rattle.markdown_event.specs.declared.event.Kind.TheVariants as Kind
+use Rattle.markdown_event.specs.declared.event.Name.{Name}
+use Rattle.markdown_event.specs.declared.event.Name.TheVariants as N
 use Rattle.markdown_engine.specs.declared.tokenizer.Tokenizer.{Tokenizer}
 use Rattle.markdown_engine.proofs.ReadingSequences.{row-empty, scratched-same}
 use Rattle.markdown_engine_content.proofs.PlaceRules.{ahead-moved}

@@ -2,7 +2,7 @@
 use Rattle.std.proofs.Common.{◌≡◌, Bool, true, false, not, ◌&&◌, ◌||◌, None, List, [], ◌∷◌, refl, sym, ap, ◌∙◌}
 use Rattle.markdown_engine_content.specs.Codes.{Code, is_line_ending}
 use Rattle.markdown_engine_content.specs.Tree.{Forest, empty, leaf, ◌⊕◌}
-use Rattle.markdown_engine_content.specs.declared.event.Name.TheVariants as N
+use Rattle.markdown_event.specs.declared.event.Name.TheVariants as N
 use Rattle.markdown_model.specs.TextLines.{linked_leaf, line_leaf, line_leaves, lines_of, onto_stretch, code_leaf}
 use Rattle.markdown_model.proofs.StringTreeIsElements.{code_leaves}
 use Rattle.markdown_run_row.specs.CutData.{split}

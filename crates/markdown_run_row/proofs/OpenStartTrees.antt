@@ -3,7 +3,7 @@ use Rattle.std.proofs.Common.{◌≡◌, List, [], ◌∷◌, refl, sym, ap, sub
 use Rattle.markdown_engine.proofs.ReadingSequences.{row-empty}
 use Rattle.markdown_engine_content.specs.Codes.{Code}
 use Rattle.markdown_engine_content.specs.Tree.{Forest, empty, leaf, ◌⊕◌}
-use Rattle.markdown_engine_content.specs.declared.event.Name.TheVariants as N
+use Rattle.markdown_event.specs.declared.event.Name.TheVariants as N
 use Rattle.markdown_engine_content.specs.declared.label_kind.LabelKind.{LabelKind}
 use Rattle.markdown_model.specs.Passes.{label_group}
 use Rattle.markdown_label_pass.specs.Brackets.{Front, kind_of, codes_of, tail_row, Brackets, nothing, tree_then, label_then, unused_then, failed_then, grouped}

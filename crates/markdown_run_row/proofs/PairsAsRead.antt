@@ -7,7 +7,7 @@ use Rattle.markdown_attention.specs.RunsOfTree.{has_run}
 use Rattle.markdown_attention.proofs.AttentionTreeLabels.{IsGood, IsSound, good-leaf, good-labels}
 use Rattle.markdown_engine_content.specs.Codes.{Code}
 use Rattle.markdown_engine_content.specs.Tree.{Forest, leaf_then, leaf, ◌⊕◌}
-use Rattle.markdown_engine_content.specs.declared.event.Name.TheVariants as N
+use Rattle.markdown_event.specs.declared.event.Name.TheVariants as N
 use Rattle.markdown_model.specs.BracketGroups.{paired}
 use Rattle.markdown_model.specs.InlineTree.{run_count, pair_count, opener_count, closer_count, probe_bound}
 use Rattle.markdown_model.specs.LabelEnd.{Element, plain, starts, ends}

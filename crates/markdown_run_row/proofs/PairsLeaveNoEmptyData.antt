@@ -2,9 +2,9 @@
 use Rattle.std.proofs.Common.{◌≡◌, ◌≢◌, ℕ, suc, true, Option, None, List, [], ◌∷◌, ◌++◌, length, take, drop, reverse, map, sum_by, ◌-◌}
 use Rattle.markdown_engine_content.specs.Codes.{Code, stop_of, document_start}
 use Rattle.markdown_engine_content.specs.Tree.{Forest, empty, leaf_then, group_then, leaf, ◌⊕◌, start_of}
-use Rattle.markdown_engine_content.specs.declared.event.Content.{Content}
-use Rattle.markdown_engine_content.specs.declared.event.Name.{Name}
-use Rattle.markdown_engine_content.specs.declared.event.Name.TheVariants as N
+use Rattle.markdown_event.specs.declared.event.Content.{Content}
+use Rattle.markdown_event.specs.declared.event.Name.{Name}
+use Rattle.markdown_event.specs.declared.event.Name.TheVariants as N
 use Rattle.markdown_model.specs.BracketGroups.{item, opens, closes, onto, nest, after_loose, joined, loose, pair_names, pair_group, Token, closing_sizes, opening_sizes, cut_front, run_tokens, assembled, tokens_of, paired}
 use Rattle.markdown_model.specs.Pairs.{Pair}
 use Rattle.markdown_model.specs.Passes.{merged}

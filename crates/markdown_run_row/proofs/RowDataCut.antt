@@ -2,8 +2,8 @@
 use Rattle.std.proofs.Common.{◌≡◌, List, drop, length, refl, sym, ap, ◌∙◌}
 use Rattle.markdown_engine_content.specs.Codes.{Code, stop_of, document_start}
 use Rattle.markdown_engine_content.specs.Tree.{Forest, empty, group_then, leaf, ◌⊕◌, group, text_group, start_of, enter_of, exit_after}
-use Rattle.markdown_engine_content.specs.declared.event.Name.TheVariants as N
-use Rattle.markdown_engine_content.specs.declared.event.Point.{Point}
+use Rattle.markdown_event.specs.declared.event.Name.TheVariants as N
+use Rattle.markdown_event.specs.declared.event.Point.{Point}
 use Rattle.markdown_engine_content.specs.declared.label_kind.LabelKind.{LabelKind}
 use Rattle.markdown_run_row.specs.CutData.{split}
 use Rattle.markdown_run_row.proofs.PairsOfCutData.{enter-same, exit-same}

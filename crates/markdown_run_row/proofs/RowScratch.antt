@@ -5,8 +5,8 @@ use Rattle.markdown_engine.specs.Operations.{registered_before, is_registered, s
 use Rattle.markdown_engine.specs.PastTree.{moved_by, past}
 use Rattle.markdown_engine_content.specs.Place.{Place}
 use Rattle.markdown_engine_content.specs.Tree.{Forest, leaf, leaf_codes}
-use Rattle.markdown_engine_content.specs.declared.event.Event.{Event}
-use Rattle.markdown_engine_content.specs.declared.event.Name.TheVariants as N
+use Rattle.markdown_event.specs.declared.event.Event.{Event}
+use Rattle.markdown_event.specs.declared.event.Name.TheVariants as N
 use Rattle.markdown_engine.specs.declared.resolve.ResolveName.{ResolveName}
 use Rattle.markdown_engine.specs.declared.resolve.ResolveName.TheVariants as R
 use Rattle.markdown_engine_content.specs.declared.label_kind.LabelKind.{LabelKind}

@@ -5,9 +5,9 @@ use Rattle.std.proofs.lemmas.Bool.{or_parts, both_ways}
 use Rattle.std.specs.List.{list_any}
 use Rattle.markdown_engine_content.specs.Codes.{Code, is_line_ending, stop_of, document_start}
 use Rattle.markdown_engine_content.specs.Tree.{Forest, empty, leaf_then, group_then, leaf, ◌⊕◌, group, text_group, start_of, enter_of, exit_after, leaf_codes}
-use Rattle.markdown_engine_content.specs.declared.event.Name.{Name}
-use Rattle.markdown_engine_content.specs.declared.event.Name.TheVariants as N
-use Rattle.markdown_engine_content.specs.declared.event.Point.{Point}
+use Rattle.markdown_event.specs.declared.event.Name.{Name}
+use Rattle.markdown_event.specs.declared.event.Name.TheVariants as N
+use Rattle.markdown_event.specs.declared.event.Point.{Point}
 use Rattle.markdown_engine_content.specs.declared.label_kind.LabelKind.{LabelKind}
 use Rattle.markdown_engine_content.proofs.TreeCodes.{leaf_codes-row}
 use Rattle.markdown_attention.specs.RunsRead.{is_run}

@@ -4,8 +4,8 @@ use Rattle.std.specs.List.{list_any}
 use Rattle.markdown_engine_content.specs.Codes.{is_line_ending}
 use Rattle.markdown_engine.specs.PastTree.{last_link}
 use Rattle.markdown_engine_content.specs.Tree.{Forest, empty, leaf_then, group_then, leaf_codes}
-use Rattle.markdown_engine_content.specs.declared.event.Name.{Name}
-use Rattle.markdown_engine_content.specs.declared.event.Name.TheVariants as N
+use Rattle.markdown_event.specs.declared.event.Name.{Name}
+use Rattle.markdown_event.specs.declared.event.Name.TheVariants as N
 use Rattle.markdown_attention.specs.RunsRead.{is_run}
 use Rattle.markdown_attention.specs.RunsOfTree.{has_run}
 use Rattle.markdown_model.specs.SingleConstructs.{is_escape}

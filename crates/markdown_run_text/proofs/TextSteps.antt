@@ -8,7 +8,7 @@ use Rattle.markdown_engine_index.specs.BracketIndex.{BracketPlaces, brackets_bet
 use Rattle.markdown_engine_index.specs.NameIndex.{names_in_order}
 use Rattle.markdown_engine_index.specs.declared.name_index.Names.{Names}
 use Rattle.markdown_engine_content.specs.declared.parser.ParseState.{ParseState}
-use Rattle.markdown_engine_content.specs.declared.event.Point.{Point}
+use Rattle.markdown_event.specs.declared.event.Point.{Point}
 use Rattle.markdown_engine.specs.Operations.{ahead, current_of, is_registered, registered, scratched, previous_of}
 use Rattle.markdown_engine.specs.PastTree.{past, moved_by}
 use Rattle.markdown_engine_content.specs.Place.{Place, moved, code_before, last_of, point_of, value_of}

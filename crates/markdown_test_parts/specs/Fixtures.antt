@@ -1,6 +1,6 @@
 -- What the events of the cases have.
 use Rattle.std.specs.Prelude.{ℕ, List}
-use Rattle.markdown_engine_content.specs.declared.event.Event.{Event}
+use Rattle.markdown_event.specs.declared.event.Event.{Event}
 use Rattle.markdown_attention.specs.RunsRead.{HaveRunPlaces}
 use Rattle.markdown_attention.specs.RunEdits.{HaveRunEnds, HaveRunRoom}
 

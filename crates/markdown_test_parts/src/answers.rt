@@ -1,5 +1,5 @@
 // What a program answers: a text that grows, and ends where memory is refused.
-use markdown_engine_content::event::Name;
+use markdown_event::event::Name;
 use std::alloc::{AllocError, Global};
 use std::fmt::{Debug, Display};
 

@@ -11,7 +11,7 @@ use markdown_engine::resolve::ResolveName;
 use markdown_engine::run::resume;
 use markdown_engine::state::{State, StateName};
 use markdown_engine::tokenizer::{Attempt, Tokenizer};
-use markdown_engine_content::event::{Content, Event, Link, Name};
+use markdown_event::event::{Content, Event, Link, Name};
 use std::alloc::AllocError;
 
 // Appends what a call answers.

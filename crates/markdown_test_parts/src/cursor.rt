@@ -14,7 +14,7 @@ use crate::answers::Answers;
 use crate::case::Case;
 use crate::content::push_place;
 use markdown_engine_content::byte_set;
-use markdown_engine_content::content::is_content;
+use markdown_engine_pieces::content::is_content;
 use markdown_engine_content::cursor::Cursor;
 use markdown_engine_content::parser::Piece;
 

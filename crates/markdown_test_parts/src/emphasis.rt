@@ -15,7 +15,7 @@ ghost use Rattle.markdown_attention.specs.OpenRuns.{IsMarker};
 ghost use Rattle.markdown_attention.specs.RunsRead.{is_run};
 ghost use Rattle.markdown_engine_content.specs.Content.{IsContent};
 ghost use Rattle.markdown_engine.specs.Operations.{IsOpen};
-ghost use Rattle.markdown_engine_content.specs.declared.event.Name.TheVariants.{AttentionSequence};
+ghost use Rattle.markdown_event.specs.declared.event.Name.TheVariants.{AttentionSequence};
 ghost use Rattle.markdown_attention.specs.AttentionPass.{IsSmall};
 ghost use Rattle.markdown_test_parts.specs.Fixtures.{HaveRuns};
 
@@ -25,8 +25,8 @@ use crate::document;
 use markdown_attention::attention::runs::{Runs, Sequence};
 use markdown_attention::attention::{inside, resolve, resolve_counted, start};
 use markdown_engine::tokenizer::Tokenizer;
-use markdown_engine_content::content::is_content;
-use markdown_engine_content::event::{Event, Kind, Name, Point};
+use markdown_engine_pieces::content::is_content;
+use markdown_event::event::{Event, Kind, Name, Point};
 use markdown_engine_events::events::Events;
 use std::alloc::{AllocError, Global};
 

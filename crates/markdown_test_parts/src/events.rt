@@ -9,12 +9,12 @@
 // An event is printed on a line of its own: `Enter` or `Exit`, its name, line, column, index and codes of the tab there; of linked content
 // `link`, the kind of content, and the numbers of the events before and after it on its chain.
 ghost use Rattle.std.specs.Prelude.{◌≡◌, [], Some, None};
-ghost use Rattle.markdown_engine_content.specs.declared.event.Kind.TheVariants as Kind;
+ghost use Rattle.markdown_event.specs.declared.event.Kind.TheVariants as Kind;
 
 use crate::answers::Answers;
 use crate::case::{Case, ask_in_vain, is_held};
 use crate::content::{DOCUMENT_START, push_place};
-use markdown_engine_content::event::{Content, Event, Kind, Link, Name, Point};
+use markdown_event::event::{Content, Event, Kind, Link, Name, Point};
 use markdown_engine_content::util::skip::to_back;
 use markdown_engine_content::util::slice::Position;
 use markdown_engine_events::events::Events;

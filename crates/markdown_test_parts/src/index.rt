@@ -15,7 +15,7 @@ ghost use Rattle.std.specs.Prelude.{◌≡◌};
 use crate::answers::Answers;
 use crate::case::{Case, number_of, whole};
 use markdown_engine_content::byte_set;
-use markdown_engine_content::content::is_content;
+use markdown_engine_pieces::content::is_content;
 use markdown_engine_content::cursor::Cursor;
 use markdown_engine_index::bracket_index::BracketIndex;
 use markdown_engine_index::name_index::{Listed, NameIndex, Names};

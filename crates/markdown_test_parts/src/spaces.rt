@@ -11,7 +11,7 @@
 // connected, as it must not be there.
 use crate::answers::Answers;
 use markdown_engine::tokenizer::{TokenizeState, Tokenizer};
-use markdown_engine_content::event::{Content, Name};
+use markdown_event::event::{Content, Name};
 use markdown_partial::{partial_space_or_tab, partial_space_or_tab_eol};
 
 // Appends what a call answers.

@@ -9,7 +9,7 @@ use crate::paths;
 use markdown_engine::run::resume;
 use markdown_engine::state::{State, StateName};
 use markdown_engine::tokenizer::{Attempt, TokenizeState, Tokenizer};
-use markdown_engine_content::event::{Content, Event, Kind, Name};
+use markdown_event::event::{Content, Event, Kind, Name};
 use markdown_engine_content::parser::{ParseState, Piece};
 use markdown_inline::state;
 use markdown_lists::seq::Stack;

@@ -18,7 +18,7 @@ use markdown_engine::resolve::ResolveName;
 use markdown_engine::state::StateName;
 use markdown_engine::tokenizer::Tokenizer;
 use markdown_engine_content::byte_set;
-use markdown_engine_content::event::{Content, Name};
+use markdown_event::event::{Content, Name};
 use markdown_engine_content::parser::{ParseState, Piece};
 use markdown_engine_index::sequence_index::SequenceIndex;
 use markdown_inline::run::construct;

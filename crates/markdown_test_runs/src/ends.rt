@@ -9,7 +9,7 @@ ghost use Rattle.markdown_run.specs.RunConstruct.{IsConstruct};
 
 use markdown_engine::state::StateName;
 use markdown_engine::tokenizer::{LabelKind, LabelStart, Tokenizer};
-use markdown_engine_content::event::{Event, Kind, Name, Point};
+use markdown_event::event::{Event, Kind, Name, Point};
 use markdown_inline::run::construct;
 use markdown_run_readers::label_end;
 use std::alloc::AllocError;

@@ -1,7 +1,7 @@
 // How events, leaves and probes are printed.
 use crate::answers::Answers;
 use crate::row::Asked;
-use markdown_engine_content::event::{Event, Kind, Link, Point};
+use markdown_event::event::{Event, Kind, Link, Point};
 use markdown_inline::run::Leaf;
 
 // Prints a number behind a colon, if there is one.

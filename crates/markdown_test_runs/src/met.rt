@@ -1,7 +1,7 @@
 // Which definitions links and images refer to, and which footnotes calls.
 use crate::answers::Answers;
 use crate::row::Row;
-use markdown_engine_content::event::{Event, Kind, Name};
+use markdown_event::event::{Event, Kind, Name};
 use markdown_engine_content::parser::ParseState;
 use markdown_inline::definitions::Definitions;
 use markdown_inline::labels::Labels;

@@ -5,7 +5,7 @@ use crate::answers::Answers;
 use markdown_engine::state::StateName;
 use markdown_engine::tokenizer::Tokenizer;
 use markdown_engine_content::configuration::ParseOptions;
-use markdown_engine_content::event::{Content, Event, Kind, Name, Point};
+use markdown_event::event::{Content, Event, Kind, Name, Point};
 use markdown_engine_content::parser::ParseState;
 use markdown_engine_content::util::skip::to_back;
 use markdown_engine_content::util::slice::{Position, Slice};

@@ -5,7 +5,7 @@
 use crate::kept::{Reading, are_alike, covers, is_balanced, stand_alike};
 use crate::number_of;
 use crate::rows::plain;
-use markdown_engine_content::event::{Event, Kind, Name, Point};
+use markdown_event::event::{Event, Kind, Name, Point};
 use markdown_engine_content::parser::Piece;
 use std::alloc::{AllocError, Global};
 

@@ -7,10 +7,10 @@ use Rattle.std.proofs.lemmas.List.Elements.{All-nil, All-cons, All-append}
 use Rattle.markdown_engine_content.specs.Codes.{stop_of, document_start}
 use Rattle.markdown_engine_content.specs.Nesting.{outer, opened, open_after, own_enter}
 use Rattle.markdown_engine_content.specs.Tree.{Forest, empty, leaf_then, group_then, start_of, event, event_count, next_linked, events_from, events_of}
-use Rattle.markdown_engine_content.specs.declared.event.Event.{Event}
-use Rattle.markdown_engine_content.specs.declared.event.Kind.TheVariants.{Enter, Exit}
-use Rattle.markdown_engine_content.specs.declared.event.Name.{Name}
-use Rattle.markdown_engine_content.specs.declared.event.Point.{Point}
+use Rattle.markdown_event.specs.declared.event.Event.{Event}
+use Rattle.markdown_event.specs.declared.event.Kind.TheVariants.{Enter, Exit}
+use Rattle.markdown_event.specs.declared.event.Name.{Name}
+use Rattle.markdown_event.specs.declared.event.Point.{Point}
 use Rattle.markdown_tree.specs.declared.node.Node.{Node}
 use Rattle.markdown_tree.specs.Nodes.{closed, exits_ahead, own_exit, if_enter, enter_at, exit_at, parent_at, node_of, node_at}
 use Rattle.markdown_tree.specs.ForestNodes.{Placed, first_of, placed_leaf, placed_group, placed_from, placed_of, StandsIn, enters_from, NodesAreTrees}

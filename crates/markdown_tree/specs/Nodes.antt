@@ -2,9 +2,9 @@
 use Rattle.std.specs.Prelude.{ℕ, suc, ◌+◌, List, [], ◌∷◌, Option, None, Some, drop, slice_get, slice_range}
 use Rattle.std.specs.Option.{option_and_then, option_map}
 use Rattle.markdown_engine_content.specs.Nesting.{outer, own_enter}
-use Rattle.markdown_engine_content.specs.declared.event.Event.{Event}
-use Rattle.markdown_engine_content.specs.declared.event.Kind.{Kind}
-use Rattle.markdown_engine_content.specs.declared.event.Kind.TheVariants.{Enter, Exit}
+use Rattle.markdown_event.specs.declared.event.Event.{Event}
+use Rattle.markdown_event.specs.declared.event.Kind.{Kind}
+use Rattle.markdown_event.specs.declared.event.Kind.TheVariants.{Enter, Exit}
 use Rattle.markdown_tree.specs.declared.node.Node.{Node}
 
 -- Read from the end, an Exit opens, and an Enter ends the innermost Exit that is open.

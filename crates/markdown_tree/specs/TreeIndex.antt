@@ -1,7 +1,7 @@
 -- What a tree keeps for each of its events.
 use Rattle.std.specs.Prelude.{ℕ, suc, List, [], ◌∷◌, Option, slice_get}
 use Rattle.markdown_engine_content.specs.Nesting.{opened}
-use Rattle.markdown_engine_content.specs.declared.event.Event.{Event}
+use Rattle.markdown_event.specs.declared.event.Event.{Event}
 use Rattle.markdown_tree.specs.Nodes.{exits_ahead}
 
 -- for each event the number of the innermost Enter that is open before it; the first event has number n, and before it these are open

@@ -4,7 +4,7 @@ ghost use Rattle.markdown_engine_content.specs.Nesting.{opened};
 ghost use Rattle.markdown_tree.specs.Nodes.{closed};
 ghost use Rattle.markdown_tree.specs.TreeIndex.{parents_of, exits_of};
 
-use markdown_engine_content::event::{Event, Kind};
+use markdown_event::event::{Event, Kind};
 use markdown_lists::seq::Stack;
 use std::alloc::{AllocError, Global};
 

@@ -1,5 +1,5 @@
 // What a node is, and where it stands.
-use markdown_engine_content::event::{Name, Point};
+use markdown_event::event::{Name, Point};
 
 /// A node: what it is, where it begins and ends, and the numbers of its two events, from 0.
 #[derive(Clone, Copy, Debug, PartialEq, Eq)]

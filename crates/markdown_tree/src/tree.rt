@@ -4,7 +4,7 @@ ghost use Rattle.markdown_tree.specs.Nodes.{enter_at, exit_at, node_at, first_ch
 
 use crate::index::{exits, parents};
 use crate::node::Node;
-use markdown_engine_content::event::{Event, Kind};
+use markdown_event::event::{Event, Kind};
 use std::alloc::{AllocError, Global};
 use std::marker::Model;
 
@@ -22,7 +22,7 @@ pub struct Tree<'a> {
 
 impl<'a> Model for Tree<'a> {
     ghost use Rattle.std.specs.Prelude.{◌≡◌, List};
-    ghost use Rattle.markdown_engine_content.specs.declared.event.Event.{Event};
+    ghost use Rattle.markdown_event.specs.declared.event.Event.{Event};
     ghost use Rattle.markdown_tree.specs.TreeIndex.{parents_of, exits_of};
 
     ghost Value = { List Event };

@@ -6,7 +6,7 @@ ghost use Rattle.markdown_engine_content.specs.Tree.{event};
 ghost use Rattle.markdown_model.specs.BracketGroups.{pair_names};
 ghost use Rattle.markdown_attention.specs.RunEvents.{shifted, total, closing_at, opening_at, closings_from, openings_from, data_at, marker_events};
 
-use markdown_engine_content::event::{Event, Kind, Name, Point};
+use markdown_event::event::{Event, Kind, Name, Point};
 use std::alloc::AllocError;
 
 // What the events of a pair are named.

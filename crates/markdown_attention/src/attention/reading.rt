@@ -7,7 +7,7 @@ ghost use Rattle.markdown_attention.specs.PairScan.{Numbered};
 ghost use Rattle.markdown_util.specs.Neighbours.{class_of};
 
 use crate::attention::runs::Sequence;
-use markdown_engine_content::event::{Event, Kind, Name, Point};
+use markdown_event::event::{Event, Kind, Name, Point};
 use markdown_engine_events::events::Events;
 use markdown_lists::seq::Stack;
 use markdown_util::util::char::{self, Kind as CharacterKind};

@@ -2,7 +2,7 @@
 ghost use Rattle.std.specs.Prelude.{◌≡◌, ◌<◌, length, ◌↔◌, IsTrue, Contains};
 ghost use Rattle.markdown_engine_content.specs.Nesting.{IsNamedBack, IsNearestBack};
 
-use crate::event::{Event, Name};
+use markdown_event::event::{Event, Name};
 
 // Whether the name is one of these.
 fn is_one_of(names: &[Name], name: Name) -> bool

@@ -7,8 +7,8 @@ ghost use Rattle.markdown_engine_content.specs.Content.{document_limit};
 ghost use Rattle.markdown_engine_content.specs.Slices.{byte_from, position_bytes, spaces_before, spaces_after};
 ghost use Rattle.markdown_engine_content.specs.DocumentWalk.{IsPoint};
 
-use crate::event::{Event, Kind, Point};
 use crate::walk::TAB_SIZE;
+use markdown_event::event::{Event, Kind, Point};
 
 /// From a place of a document to a place.
 #[derive(Clone, Copy, Debug, PartialEq, Eq)]

@@ -6,7 +6,7 @@ ghost use Rattle.markdown_engine_events.specs.EventChains.{bare, EndsChain, IsFr
 ghost use Rattle.markdown_engine_events.specs.Edits.{removed_at, front_at, back_at, added_at, edit_of, kept, edits_of, number_of, renumbered, noted, edited, AreBrought, AreKept, IsRest, CanEdit};
 
 use crate::events::Events;
-use markdown_engine_content::event::{Event, Link};
+use markdown_event::event::{Event, Link};
 use markdown_lists::seq::{Seq, Stack};
 use std::alloc::{AllocError, Global};
 use std::marker::Model;

@@ -5,7 +5,7 @@ ghost use Rattle.markdown_engine_events.specs.EventChains.{NamesNone};
 ghost use Rattle.markdown_engine_events.specs.Edits.{edited, edits_of, grown, AreBrought, AreGrowing, StandApart};
 
 use crate::util::edit_map::{Kept, brought};
-use markdown_engine_content::event::Event;
+use markdown_event::event::Event;
 use markdown_lists::seq::Seq;
 
 // How edits that stand apart in a list fit into it.

@@ -1,5 +1,5 @@
 use Rattle.std.proofs.Common.{◌<◌, length, refl, arith}
-use Rattle.markdown_engine_content.proofs.KnownPlacesLemmas.{byte_on, feed_on}
+use Rattle.markdown_engine_content.proofs.NextPlace.{byte_on, feed_on}
 use Rattle.markdown_engine_content.proofs.NextPlace.{Fits_point, point_fits}
 use Rattle.markdown_document.proofs.places.pass_bytes.Goals as goal
 

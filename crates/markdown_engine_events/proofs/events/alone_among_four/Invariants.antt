@@ -1,5 +1,5 @@
 use Rattle.std.proofs.Common.{ℕ, ◌≡◌, ◌≤◌, ◌<◌, ◌+◌, get_or, None}
-use Rattle.markdown_engine_content.specs.declared.event.Event.{Event}
+use Rattle.markdown_event.specs.declared.event.Event.{Event}
 use Rattle.markdown_engine_events.specs.EventChains.{link_previous, next_link}
 use Rattle.markdown_engine_events.proofs.events.alone_among_four.Given as goal
 

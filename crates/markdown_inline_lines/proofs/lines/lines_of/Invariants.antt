@@ -1,5 +1,5 @@
 use Rattle.std.proofs.Common.{◌≡◌, ℕ, ◌≤◌, List, ◌++◌, take}
-use Rattle.markdown_engine_content.specs.declared.event.Event.{Event}
+use Rattle.markdown_event.specs.declared.event.Event.{Event}
 use Rattle.markdown_inline_lines.specs.PrintedLines.{lines_of}
 use Rattle.markdown_inline_lines.proofs.lines.lines_of.Given as goal
 

@@ -1,7 +1,7 @@
 use Rattle.std.proofs.Common.{◌≡◌, ◌∙◌, sym, ap, ℕ, ◌-◌, List, ◌++◌, codes, decimal, drop, length, append_assoc, arith}
 use Rattle.std.proofs.lemmas.Fmt.{decimal_digit}
 use Rattle.markdown_inline_lines.specs.PrintedLines.{rest_text}
-use Rattle.markdown_engine_content.specs.declared.event.Point.{Point}
+use Rattle.markdown_event.specs.declared.event.Point.{Point}
 use Rattle.markdown_inline_lines.proofs.PrintedNumbers.{last-of}
 use Rattle.markdown_inline_lines.proofs.lines.turn_codes.Goals as goal
 

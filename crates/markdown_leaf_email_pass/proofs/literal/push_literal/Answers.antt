@@ -1,6 +1,6 @@
 use Rattle.std.proofs.Common.{◌≡◌, ◌∙◌, ◌++◌, List, OnOk, ap, subst, append_assoc}
-use Rattle.markdown_engine_content.specs.declared.event.Event.{Event}
-use Rattle.markdown_engine_content.specs.declared.event.Name.TheVariants as N
+use Rattle.markdown_event.specs.declared.event.Event.{Event}
+use Rattle.markdown_event.specs.declared.event.Name.TheVariants as N
 use Rattle.markdown_partial.specs.TrimmedData.{leaf_events}
 use Rattle.markdown_leaf_email_pass.specs.EmailScan.{literal_events}
 use Rattle.markdown_leaf_email_pass.proofs.literal.push_literal.Goals as goal

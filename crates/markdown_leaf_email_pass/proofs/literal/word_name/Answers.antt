@@ -1,5 +1,5 @@
 use Rattle.std.proofs.Common.{◌∙◌, sym, ap, if◌then◌else◌}
-use Rattle.markdown_engine_content.specs.declared.event.Name.TheVariants as N
+use Rattle.markdown_event.specs.declared.event.Name.TheVariants as N
 use Rattle.markdown_partial.specs.TrimmedData.{between}
 use Rattle.markdown_leaf_email_pass.proofs.WordsInEitherCase.{name-mailto, name-second}
 use Rattle.markdown_leaf_email_pass.proofs.literal.word_name.Goals as goal

@@ -1,5 +1,5 @@
 use Rattle.std.proofs.Common.{◌≡◌, ◌-◌, ◌<◌, length, get_or, true}
-use Rattle.markdown_engine_content.specs.declared.event.Event.{Event}
+use Rattle.markdown_event.specs.declared.event.Event.{Event}
 use Rattle.markdown_partial.specs.MergedEvents.{opens_data}
 use Rattle.markdown_leaf_email_pass.proofs.SettledEvents.{Settles}
 use Rattle.markdown_leaf_email_pass.proofs.settled.is_settled.Given as goal

@@ -1,7 +1,7 @@
 -- A code that is no later byte begins a character.
 use Rattle.std.proofs.Common.{sym, subst}
 use Rattle.std.specs.Str.{IsCharBoundary}
-use Rattle.markdown_engine_content.specs.declared.event.Point.{Point}
+use Rattle.markdown_event.specs.declared.event.Point.{Point}
 use Rattle.markdown_leaf_gfm.proofs.TrailChecks.{class-by}
 use Rattle.markdown_leaf_gfm.proofs.domain_outlook.class_at.Goals as goal
 

@@ -1,5 +1,5 @@
 use Rattle.std.proofs.Common.{◌≡◌, ◌<◌, ◌≤◌, ◌-◌, ◌++◌, drop, get_or, length, true}
-use Rattle.markdown_engine_content.specs.declared.event.Event.{Event}
+use Rattle.markdown_event.specs.declared.event.Event.{Event}
 use Rattle.markdown_partial.specs.MergedEvents.{joints, opens_data}
 use Rattle.markdown_partial.proofs.partial_data.mark_joints.Given as goal
 

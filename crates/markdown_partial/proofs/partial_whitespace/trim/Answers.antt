@@ -1,6 +1,6 @@
 use Rattle.std.proofs.Common.{◌≡◌, ◌∙◌, List, OnOk, ap, sym, subst}
 use Rattle.markdown_engine_events.specs.Edits.{CanEdit, edited}
-use Rattle.markdown_engine_content.specs.declared.event.Event.{Event}
+use Rattle.markdown_event.specs.declared.event.Event.{Event}
 use Rattle.markdown_engine_events.specs.declared.util.edit_map.Edit.{Edit}
 use Rattle.markdown_partial.proofs.TrimPassLaw.{trimmed-tree}
 use Rattle.markdown_partial.proofs.TrimEdits.{can-trim}

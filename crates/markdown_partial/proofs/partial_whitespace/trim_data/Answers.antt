@@ -1,5 +1,5 @@
 use Rattle.std.proofs.Common.{◌<◌, ◌+◌, ◌∷◌, ◌++◌, [], List, false, length, drop, ap, sym, ◌∙◌}
-use Rattle.markdown_engine_content.specs.declared.event.Event.{Event}
+use Rattle.markdown_event.specs.declared.event.Event.{Event}
 use Rattle.markdown_partial.specs.TrimmedData.{trimmed_events}
 use Rattle.markdown_partial.specs.TrimmedEvents.{ClosesAt, flag, goes_before}
 use Rattle.markdown_partial.proofs.TrimEdits.{next-within, closes-first, edit-first, opens-first, stretch-first}

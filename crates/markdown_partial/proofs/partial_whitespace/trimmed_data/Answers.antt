@@ -1,6 +1,6 @@
 use Rattle.std.proofs.Common.{◌≡◌, ◌∙◌, List, ◌++◌, ap, if◌then◌else◌}
-use Rattle.markdown_engine_content.specs.declared.event.Event.{Event}
-use Rattle.markdown_engine_content.specs.declared.event.Name.TheVariants as N
+use Rattle.markdown_event.specs.declared.event.Event.{Event}
+use Rattle.markdown_event.specs.declared.event.Name.TheVariants as N
 use Rattle.markdown_partial.specs.TrimmedData.{between, end_of_kept, end_of_lead, leaf_events}
 use Rattle.markdown_partial.proofs.TrimmedLeaves.{chosen-yes, chosen-no, end-stretch, back-stretch, trimmed-is}
 use Rattle.markdown_partial.proofs.partial_whitespace.trimmed_data.Goals as goal

@@ -2,7 +2,7 @@ use Rattle.std.proofs.Common.{◌≡◌, ◌==◌, ◌&&◌, None, Some, false, 
 use Rattle.std.proofs.lemmas.Bool.{ne_eqb}
 use Rattle.std.proofs.Math.Bool.{and-false}
 use Rattle.markdown_engine_content.specs.Place.{Place, ahead_at}
-use Rattle.markdown_engine_content.specs.declared.event.Name.TheVariants as N
+use Rattle.markdown_event.specs.declared.event.Name.TheVariants as N
 use Rattle.markdown_engine_content.proofs.PlaceRules.{left_moved}
 use Rattle.markdown_run_readers.specs.AutolinkPlaces.{Names}
 use Rattle.markdown_run_readers.specs.declared.autolink.Label.{Label}

@@ -1,7 +1,7 @@
 use Rattle.std.proofs.Common.{◌≡◌, ap, sym, subst, ◌∙◌}
 use Rattle.markdown_engine_content.specs.Place.{Place, code_at}
 use Rattle.markdown_engine_content.specs.Stretch.{past_stretch}
-use Rattle.markdown_engine_content.specs.declared.event.Name.TheVariants as N
+use Rattle.markdown_event.specs.declared.event.Name.TheVariants as N
 use Rattle.markdown_leaf.specs.Autolink.{uri_stops}
 use Rattle.markdown_run_readers.specs.AutolinkPlaces.{IsNamed}
 use Rattle.markdown_run_readers.specs.PlacesPassed.{is_some_value}

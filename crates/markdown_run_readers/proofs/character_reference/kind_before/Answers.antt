@@ -1,6 +1,6 @@
 use Rattle.std.proofs.Common.{◌≡◌, ℕ, ◌-◌, ◌≤◌, List, length, sym, ap, subst, ◌∙◌}
 use Rattle.std.specs.List.{slice_range}
-use Rattle.markdown_engine_content.specs.declared.event.Point.{Point}
+use Rattle.markdown_event.specs.declared.event.Point.{Point}
 use Rattle.markdown_run_readers.specs.ReferencePassed.{codes_before, kind_of}
 use Rattle.markdown_run_readers.proofs.BytesOfReferences.{ink-back}
 use Rattle.markdown_run_readers.proofs.character_reference.kind_before.Goals as goal

@@ -1,8 +1,8 @@
 use Rattle.std.proofs.Common.{◌≡◌, true, ap, sym, ◌∙◌}
 use Rattle.std.specs.Prelude.{max}
-use Rattle.markdown_engine_content.proofs.AndParts.{and-right}
+use Rattle.markdown_event.proofs.AndParts.{and-right}
 use Rattle.markdown_engine_content.specs.Place.{Place, exit_point, moved, point_of}
-use Rattle.markdown_engine_content.specs.declared.event.Point.{Point}
+use Rattle.markdown_event.specs.declared.event.Point.{Point}
 use Rattle.markdown_engine.specs.declared.tokenizer.Tokenizer.{Tokenizer}
 use Rattle.markdown_run_readers.specs.PlainReference.{past_text, text_at}
 use Rattle.markdown_run_readers.proofs.PlainReferenceReads.{full-cuts}

@@ -2,9 +2,9 @@ use Rattle.std.proofs.Common.{◌≡◌, ◌-◌, ◌<◌, ℕ, suc, List, drop,
 use Rattle.std.proofs.Math.Seq.{drop-cons}
 use Rattle.markdown_engine_content.specs.Codes.{document_start}
 use Rattle.markdown_engine_content.specs.Tree.{event}
-use Rattle.markdown_engine_content.specs.declared.event.Event.{Event}
-use Rattle.markdown_engine_content.specs.declared.event.Kind.TheVariants as Kind
-use Rattle.markdown_engine_content.specs.declared.event.Name.TheVariants as N
+use Rattle.markdown_event.specs.declared.event.Event.{Event}
+use Rattle.markdown_event.specs.declared.event.Kind.TheVariants as Kind
+use Rattle.markdown_event.specs.declared.event.Name.TheVariants as N
 use Rattle.markdown_partial.specs.TrimmedEvents.{FirstHasPlaces, HasPlaces}
 use Rattle.markdown_test_runs.proofs.passes.has_places.Goals as goal
 

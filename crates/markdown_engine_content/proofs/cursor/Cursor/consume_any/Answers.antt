@@ -1,5 +1,5 @@
 use Rattle.std.proofs.Common.{◌∙◌, ap, sym, arith, subst}
-use Rattle.markdown_engine_content.specs.declared.event.Point.{Point}
+use Rattle.markdown_event.specs.declared.event.Point.{Point}
 use Rattle.markdown_engine_content.specs.Place.{moved}
 use Rattle.markdown_engine_content.specs.DocumentWalk.{IsPoint}
 use Rattle.markdown_engine_content.proofs.CursorSteps.{at_some, cursor_next, moved_is}

@@ -1,7 +1,7 @@
 use Rattle.std.proofs.Common.{◌≡◌, ◌<◌, ◌∙◌, sym, arith, ℕ, ◌↔◌, IsTrue, Bool, false, List, get_or, length, Contains}
 use Rattle.std.proofs.lemmas.Bool.{false≢true}
-use Rattle.markdown_engine_content.specs.declared.event.Event.{Event}
-use Rattle.markdown_engine_content.specs.declared.event.Name.{Name}
+use Rattle.markdown_event.specs.declared.event.Event.{Event}
+use Rattle.markdown_event.specs.declared.event.Name.{Name}
 use Rattle.markdown_engine_content.specs.Nesting.{IsNamed}
 use Rattle.markdown_engine_content.proofs.NestingLemmas.{named-at, named-from, named-below, none-further}
 use Rattle.markdown_engine_content.proofs.util.skip.to_back.Goals as goal

@@ -1,6 +1,6 @@
 use Rattle.std.proofs.Common.{arith, ◌∙◌, ap, sym, subst, List}
 use Rattle.markdown_engine_events.specs.EventChains.{bare, IsLinked}
-use Rattle.markdown_engine_content.specs.declared.event.Event.{Event}
+use Rattle.markdown_event.specs.declared.event.Event.{Event}
 use Rattle.markdown_engine_events.proofs.EventChainLemmas.{with_next-with_next}
 use Rattle.markdown_engine_events.proofs.EventViewLemmas.{view-length, bare-read}
 use Rattle.markdown_engine_events.proofs.events.Events.bare_at.Goals as goal

@@ -1,5 +1,5 @@
 use Rattle.std.proofs.Common.{◌≡◌, List, ◌∙◌, ◌++◌, arith, ap, sym, append_assoc}
-use Rattle.markdown_engine_content.specs.declared.event.Event.{Event}
+use Rattle.markdown_event.specs.declared.event.Event.{Event}
 use Rattle.markdown_engine_events.proofs.EditOrder.{fresh-read, entry, one-added, one-removed}
 use Rattle.markdown_engine_events.proofs.util.edit_map.push_here.Goals as goal
 

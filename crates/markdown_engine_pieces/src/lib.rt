@@ -1,0 +1,4 @@
+//! Whether pieces of a document are a content, and a text.
+#![tactic(auto)]
+
+pub mod content;
