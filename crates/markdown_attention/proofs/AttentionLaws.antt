@@ -16,11 +16,11 @@ use Rattle.markdown_model.specs.LabelEnd.{Element, plain}
 use Rattle.markdown_attention.specs.Attention.{switches_of, with_marker, start_at, left_run, leaving, inside_at, StartReady, InsideReady, run_tree, ReadsRun, start_ends, markers_ahead, inside_ends, start_words, inside_words, states}
 use Rattle.markdown_model.specs.SingleConstructs.{begins_run, plain_tree}
 use Rattle.markdown_event.specs.declared.event.Name.TheVariants as N
-use Rattle.markdown_engine.specs.declared.resolve.ResolveName.TheVariants as R
-use Rattle.markdown_engine.specs.declared.state.State.TheVariants.{Next, Retry}
-use Rattle.markdown_engine.specs.declared.state.StateName.{StateName}
-use Rattle.markdown_engine.specs.declared.state.StateName.TheVariants as H
-use Rattle.markdown_engine.specs.declared.state.StateName.TheVariants.{AttentionInside}
+use Rattle.markdown_state.specs.declared.resolve.ResolveName.TheVariants as R
+use Rattle.markdown_state.specs.declared.state.State.TheVariants.{Next, Retry}
+use Rattle.markdown_state.specs.declared.state.StateName.{StateName}
+use Rattle.markdown_state.specs.declared.state.StateName.TheVariants as H
+use Rattle.markdown_state.specs.declared.state.StateName.TheVariants.{AttentionInside}
 use Rattle.markdown_engine.specs.declared.tokenizer.TokenizeState.{TokenizeState}
 use Rattle.markdown_engine.specs.declared.tokenizer.Tokenizer.{Tokenizer}
 use Rattle.markdown_engine.proofs.ReadingSequences.{Refuses-done}

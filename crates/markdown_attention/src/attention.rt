@@ -35,8 +35,8 @@ ghost use Rattle.markdown_event.specs.declared.event.Name.TheVariants.{Attention
 ghost use Rattle.markdown_plan.specs.StateCalls.{Steps};
 
 pub use crate::attention::grouping::{resolve, resolve_counted};
-use markdown_engine::resolve::ResolveName;
-use markdown_engine::state::{State, StateName};
+use markdown_state::resolve::ResolveName;
+use markdown_state::state::{State, StateName};
 use markdown_engine::tokenizer::Tokenizer;
 use markdown_engine_content::configuration::Constructs;
 use markdown_event::event::Name;

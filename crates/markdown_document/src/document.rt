@@ -11,12 +11,12 @@ ghost use Rattle.markdown_run_leaves.specs.InnermostEvents.{IsInOrder, covered, 
 ghost use Rattle.markdown_model.specs.InlineTree.{label_tree, string_events, text_events};
 
 use crate::places::Places;
-use markdown_engine::state::StateName;
+use markdown_state::state::StateName;
 use markdown_engine::tokenizer::Tokenizer;
 use markdown_engine_pieces::content::has_text_lines;
 use markdown_engine_content::cursor::Cursor;
 use markdown_engine_content::parser::{ParseState, Piece};
-use markdown_engine_index::name_index::{NameIndex, Names};
+use markdown_engine_names::name_index::{NameIndex, Names};
 use markdown_run::run::{Run, run_through, text_through};
 use std::alloc::{AllocError, Global};
 use std::marker::Model;
@@ -37,7 +37,7 @@ impl<'a> Model for Document<'a> {
     ghost use Rattle.std.specs.Prelude.{◌≡◌, map, string_bytes};
     ghost use Rattle.markdown_engine_content.specs.KnownPlaces.{IsDocument};
     ghost use Rattle.markdown_engine_content.specs.declared.parser.ParseState.{ParseState};
-    ghost use Rattle.markdown_engine_index.specs.NameIndex.{in_order};
+    ghost use Rattle.markdown_engine_names.specs.NameIndex.{in_order};
 
     ghost Value = { ParseState };
 

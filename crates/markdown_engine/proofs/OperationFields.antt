@@ -7,7 +7,7 @@ use Rattle.markdown_engine_content.proofs.PlaceRules.{ahead-moved}
 use Rattle.markdown_engine.specs.Operations.{Op, Enter, Exit, EnterLink, EnterConnected, Consume, applied, consumed, extended, op_stack, op_cursor, op_moves, current_of, ahead, scratched, registered, is_registered}
 use Rattle.markdown_engine.specs.Weights.{codes_left, left_at}
 use Rattle.markdown_event.specs.declared.event.Event.{Event}
-use Rattle.markdown_engine.specs.declared.resolve.ResolveName.{ResolveName}
+use Rattle.markdown_state.specs.declared.resolve.ResolveName.{ResolveName}
 use Rattle.markdown_engine.specs.declared.tokenizer.TokenizeState.{TokenizeState}
 use Rattle.markdown_engine.specs.declared.tokenizer.Tokenizer.{Tokenizer}
 

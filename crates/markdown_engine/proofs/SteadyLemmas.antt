@@ -9,8 +9,8 @@ use Rattle.markdown_engine.specs.CallsWithAttempts.{Reaches}
 use Rattle.markdown_engine.specs.StateRuns.{Stepped, stepped, settled, MayGo, GoesOn, ends_state, Lawful}
 use Rattle.markdown_engine.specs.Steady.{IsSteady, Onward, alone_among}
 use Rattle.markdown_engine_content.specs.Stretch.{stops, is_free, past_stretch}
-use Rattle.markdown_engine.specs.declared.state.State.TheVariants.{Next}
-use Rattle.markdown_engine.specs.declared.state.StateName.{StateName}
+use Rattle.markdown_state.specs.declared.state.State.TheVariants.{Next}
+use Rattle.markdown_state.specs.declared.state.StateName.{StateName}
 use Rattle.markdown_engine.specs.declared.tokenizer.TokenizeState.{TokenizeState}
 use Rattle.markdown_engine.specs.declared.tokenizer.Tokenizer.{Tokenizer}
 use Rattle.markdown_engine_content.proofs.PlaceRules.{ahead_moved, code_at_end}

@@ -4,9 +4,9 @@ use Rattle.markdown_engine.specs.CallsWithAttempts.{Reaches}
 use Rattle.markdown_engine.specs.StateRuns.{Stepped, stepped, settled, going_state, going_in, ends_state, MayGo, Goes, GoesOn, Lawful}
 use Rattle.markdown_engine.specs.Steady.{Onward}
 use Rattle.markdown_engine.specs.TurnCount.{Ran, later, runs_out, ran}
-use Rattle.markdown_engine.specs.declared.state.StateName.{StateName}
-use Rattle.markdown_engine.specs.declared.state.State.{State}
-use Rattle.markdown_engine.specs.declared.state.State.TheVariants.{Next, Retry, Ok, Nok}
+use Rattle.markdown_state.specs.declared.state.StateName.{StateName}
+use Rattle.markdown_state.specs.declared.state.State.{State}
+use Rattle.markdown_state.specs.declared.state.State.TheVariants.{Next, Retry, Ok, Nok}
 use Rattle.markdown_engine.specs.declared.tokenizer.Attempt.{Attempt}
 use Rattle.markdown_engine.specs.declared.tokenizer.Tokenizer.{Tokenizer}
 use Rattle.markdown_engine.proofs.CallsWithAttemptsLemmas.{answer, Reaches-call, Reaches-state, Reaches-out}

@@ -6,8 +6,8 @@ use Rattle.markdown_engine.specs.StateRuns.{Stepped, stepped}
 use Rattle.markdown_engine_content.specs.Stretch.{is_free}
 use Rattle.markdown_engine.specs.TurnCount.{later, ran}
 use Rattle.markdown_engine.specs.declared.tokenizer.Attempt.{Attempt}
-use Rattle.markdown_engine.specs.declared.state.State.TheVariants.{Next}
-use Rattle.markdown_engine.specs.declared.state.StateName.{StateName}
+use Rattle.markdown_state.specs.declared.state.State.TheVariants.{Next}
+use Rattle.markdown_state.specs.declared.state.StateName.{StateName}
 use Rattle.markdown_engine.specs.declared.tokenizer.TokenizeState.{TokenizeState}
 use Rattle.markdown_engine.specs.declared.tokenizer.Tokenizer.{Tokenizer}
 

@@ -4,12 +4,12 @@ ghost use Rattle.markdown_engine.specs.StateRuns.{going_state, going_in, settled
 ghost use Rattle.markdown_engine.specs.CallsWithAttempts.{Reaches};
 ghost use Rattle.markdown_engine.specs.Steady.{Onward};
 ghost use Rattle.markdown_engine.specs.PassesInOrder.{MayResolve, Resolves, unregistered};
-ghost use Rattle.markdown_engine.specs.declared.state.State.TheVariants.{Retry};
+ghost use Rattle.markdown_state.specs.declared.state.State.TheVariants.{Retry};
 
 use crate::layer::Layer;
-use crate::state::{State, StateName};
 use crate::tokenizer::{Attempt, Tokenizer};
 use markdown_lists::seq::{Seq, Stack};
+use markdown_state::state::{State, StateName};
 use std::alloc::AllocError;
 use std::mem;
 

@@ -405,6 +405,19 @@ pushed-seen cs ds xs es fs x more longer from to k u =
       subst (λ (ys : List Event). AreKept ys fs) (sym more) (subst (λ (ys : List Entry). AreKept (cs ++ xs) ys) (sym longer) (are-pushed cs xs es k x from end u)),
     )
 
+-- events are taken back off
+pub taken-back : (cs ds es xs : List Event) (n : ℕ) → ds ≡ take n es → es ≡ cs ++ xs → n ≡ length cs → ds ≡ cs
+taken-back cs ds es xs n h more size =
+    h ∙ ap (λ (k : ℕ). take k es) size ∙ ap (λ (ys : List Event). take (length cs) ys) more ∙ take-append_seam cs xs
+
+pub kept-seen : (cs ds : List Event) (es fs : List Entry) → ds ≡ cs → fs ≡ es → AreKept cs es → AreKept ds fs
+kept-seen cs ds es fs h g k =
+    subst (λ (xs : List Event). AreKept xs fs) (sym h) (subst (λ (xs : List Entry). AreKept cs xs) (sym g) k)
+
+pub view-seen : (cs ds : List Event) (es fs : List Entry) (log : List Edit) → ds ≡ cs → fs ≡ es → kept cs es ≡ log →
+    kept ds fs ≡ log
+view-seen cs ds es fs log h g k = ap (λ (xs : List Event). kept xs fs) h ∙ ap (λ (ys : List Entry). kept cs ys) g ∙ k
+
 -- what is read of a map
 
 pub brought-seen : (cs ds : List Event) (es fs : List Entry) → ds ≡ cs → fs ≡ es → AreBrought cs es → AreBrought ds fs

@@ -2,6 +2,3 @@ pub mod RunIndexLemmas
 pub mod RunIndexFacts
 pub mod SequenceIndexLemmas
 pub mod TitleIndexLemmas
-pub mod NameOrder
-pub mod BracketIndexLemmas
-pub mod NameSort

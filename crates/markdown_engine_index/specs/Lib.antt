@@ -3,6 +3,3 @@
 pub mod RunIndex
 pub mod SequenceIndex
 pub mod TitleIndex
-pub mod BracketIndex
-pub mod NameIndex
-pub mod KeptNames

@@ -49,11 +49,12 @@ fn words_of(kind: Kind, name: Name) -> (&'static str, usize)
     ensures length { result.1 ≡ length (words_text kind name) }
     ensures words { take (length (words_text kind name)) result.0.now ≡ words_text kind name }
 {
+    let (words, lengths) = match kind {
+        Kind::Enter => (&ENTERS, &ENTER_LENGTHS),
+        Kind::Exit => (&EXITS, &EXIT_LENGTHS),
+    };
     let number = name as usize;
-    match kind {
-        Kind::Enter => (ENTERS[number], ENTER_LENGTHS[number]),
-        Kind::Exit => (EXITS[number], EXIT_LENGTHS[number]),
-    }
+    (words[number], lengths[number])
 }
 
 fn content_text(content: Content) -> &'static str

@@ -8,8 +8,8 @@ use Rattle.markdown_engine.specs.StateRuns.{Stepped}
 use Rattle.markdown_engine.specs.StateWords.{Words, Law, GoesIn}
 use Rattle.markdown_engine_content.specs.Tree.{empty}
 use Rattle.markdown_engine.specs.Weights.{codes_left, weight_at}
-use Rattle.markdown_engine.specs.declared.state.State.TheVariants.{Next, Retry}
-use Rattle.markdown_engine.specs.declared.state.StateName.TheVariants.{LabelEndOk, LabelEndNok, LabelEndResourceStart, LabelEndReferenceFull, LabelEndReferenceNotFull, LabelEndReferenceCollapsed, LabelEndReferenceCollapsedOpen}
+use Rattle.markdown_state.specs.declared.state.State.TheVariants.{Next, Retry}
+use Rattle.markdown_state.specs.declared.state.StateName.TheVariants.{LabelEndOk, LabelEndNok, LabelEndResourceStart, LabelEndReferenceFull, LabelEndReferenceNotFull, LabelEndReferenceCollapsed, LabelEndReferenceCollapsedOpen}
 use Rattle.markdown_engine_content.specs.declared.label_kind.LabelKind.{LabelKind}
 use Rattle.markdown_engine.specs.declared.tokenizer.LabelStart as Kept
 use Rattle.markdown_engine.specs.declared.tokenizer.TokenizeState.{TokenizeState}

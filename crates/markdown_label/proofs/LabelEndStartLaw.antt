@@ -13,8 +13,8 @@ use Rattle.markdown_engine_content.specs.Tree.{Forest, leaf}
 use Rattle.markdown_engine.specs.Weights.{codes_left, weight_at}
 use Rattle.markdown_event.specs.declared.event.Event.{Event}
 use Rattle.markdown_event.specs.declared.event.Name.TheVariants as N
-use Rattle.markdown_engine.specs.declared.state.State.TheVariants.{Next, Retry, Nok}
-use Rattle.markdown_engine.specs.declared.state.StateName.TheVariants.{LabelEndAfter, LabelEndNok}
+use Rattle.markdown_state.specs.declared.state.State.TheVariants.{Next, Retry, Nok}
+use Rattle.markdown_state.specs.declared.state.StateName.TheVariants.{LabelEndAfter, LabelEndNok}
 use Rattle.markdown_engine_content.specs.declared.label_kind.LabelKind.{LabelKind}
 use Rattle.markdown_engine.specs.declared.tokenizer.LabelStart as Kept
 use Rattle.markdown_engine.specs.declared.tokenizer.TokenizeState.{TokenizeState}

@@ -1,7 +1,7 @@
 -- The laws of the states of a label's end, joined.
 use Rattle.markdown_engine.specs.StateWords.{StateWords, Words}
-use Rattle.markdown_engine.specs.declared.state.StateName.{StateName}
-use Rattle.markdown_engine.specs.declared.state.StateName.TheVariants as H
+use Rattle.markdown_state.specs.declared.state.StateName.{StateName}
+use Rattle.markdown_state.specs.declared.state.StateName.TheVariants as H
 use Rattle.markdown_label.specs.LabelEnd.{states, states_and_called}
 use Rattle.markdown_label.proofs.LabelEndLaws as LabelEndLaws
 use Rattle.markdown_label.proofs.LabelEndStartLaw as LabelEndStartLaw

@@ -8,11 +8,11 @@ use Rattle.markdown_engine.specs.Operations.{Op, ahead, current_of, done, moves,
 use Rattle.markdown_engine.specs.StateRuns.{Stepped, stepped}
 use Rattle.markdown_engine.specs.StateWords.{StateWords, Words, words_in, Law, GoesIn}
 use Rattle.markdown_engine.specs.Weights.{weight_at}
-use Rattle.markdown_engine.specs.declared.resolve.ResolveName.TheVariants as R
-use Rattle.markdown_engine.specs.declared.state.State.TheVariants.{Next, Ok, Nok}
-use Rattle.markdown_engine.specs.declared.state.StateName.{StateName}
-use Rattle.markdown_engine.specs.declared.state.StateName.TheVariants as H
-use Rattle.markdown_engine.specs.declared.state.StateName.TheVariants.{GfmLabelStartFootnoteOpen, LabelStartImageOpen, LabelStartImageAfter}
+use Rattle.markdown_state.specs.declared.resolve.ResolveName.TheVariants as R
+use Rattle.markdown_state.specs.declared.state.State.TheVariants.{Next, Ok, Nok}
+use Rattle.markdown_state.specs.declared.state.StateName.{StateName}
+use Rattle.markdown_state.specs.declared.state.StateName.TheVariants as H
+use Rattle.markdown_state.specs.declared.state.StateName.TheVariants.{GfmLabelStartFootnoteOpen, LabelStartImageOpen, LabelStartImageAfter}
 use Rattle.markdown_engine_content.specs.declared.label_kind.LabelKind.{LabelKind}
 use Rattle.markdown_engine.specs.declared.tokenizer.Tokenizer.{Tokenizer}
 use Rattle.markdown_engine.proofs.LawSteps.{Grown-refl, if-step, code-step}

@@ -10,8 +10,8 @@ use Rattle.markdown_engine.specs.PastTree.{Reads, EndsAs, past}
 use Rattle.markdown_engine.specs.StateWords.{Words, Law, GoesIn}
 use Rattle.markdown_engine_content.specs.Tree.{Forest}
 use Rattle.markdown_engine.specs.Weights.{codes_left, weight_at}
-use Rattle.markdown_engine.specs.declared.state.State.TheVariants.{Next, Retry}
-use Rattle.markdown_engine.specs.declared.state.StateName.TheVariants.{LabelEndReferenceFullAfter, LabelEndReferenceFullMissing, LabelStart}
+use Rattle.markdown_state.specs.declared.state.State.TheVariants.{Next, Retry}
+use Rattle.markdown_state.specs.declared.state.StateName.TheVariants.{LabelEndReferenceFullAfter, LabelEndReferenceFullMissing, LabelStart}
 use Rattle.markdown_engine.specs.declared.tokenizer.TokenizeState.{TokenizeState}
 use Rattle.markdown_engine.specs.declared.tokenizer.Tokenizer.{Tokenizer}
 use Rattle.markdown_engine.proofs.ReadingSequences.{left-read, scratched-same}

@@ -13,8 +13,8 @@ use Rattle.markdown_engine_content.specs.Tree.{Forest, empty, leaf_then, group_t
 use Rattle.markdown_engine.specs.Weights.{codes_left, weight_at}
 use Rattle.markdown_event.specs.declared.event.Name.TheVariants as N
 use Rattle.markdown_event.specs.declared.event.Point.{Point}
-use Rattle.markdown_engine.specs.declared.state.State.TheVariants.{Next, Nok}
-use Rattle.markdown_engine.specs.declared.state.StateName.TheVariants.{LabelEndResourceBefore}
+use Rattle.markdown_state.specs.declared.state.State.TheVariants.{Next, Nok}
+use Rattle.markdown_state.specs.declared.state.StateName.TheVariants.{LabelEndResourceBefore}
 use Rattle.markdown_engine.specs.declared.tokenizer.Tokenizer.{Tokenizer}
 use Rattle.markdown_engine.proofs.ReadingSequences.{scratched-same}
 use Rattle.markdown_engine.proofs.LawSteps.{Grown-refl, if-step, code-step}

@@ -1,7 +1,7 @@
 -- The laws of the states of a resource, joined.
 use Rattle.markdown_engine.specs.StateWords.{StateWords, Words}
-use Rattle.markdown_engine.specs.declared.state.StateName.{StateName}
-use Rattle.markdown_engine.specs.declared.state.StateName.TheVariants as H
+use Rattle.markdown_state.specs.declared.state.StateName.{StateName}
+use Rattle.markdown_state.specs.declared.state.StateName.TheVariants as H
 use Rattle.markdown_label.specs.Resource.{states, states_and_called}
 use Rattle.markdown_label.proofs.ResourceInsideLaws as ResourceInsideLaws
 use Rattle.markdown_label.proofs.ResourceLaws as ResourceLaws

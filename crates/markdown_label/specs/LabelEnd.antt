@@ -11,10 +11,10 @@ use Rattle.markdown_engine_content.specs.Tree.{Forest, leaf, group, leaf_codes}
 use Rattle.markdown_event.specs.declared.event.Event.{Event}
 use Rattle.markdown_event.specs.declared.event.Name.TheVariants as N
 use Rattle.markdown_event.specs.declared.event.Point.{Point}
-use Rattle.markdown_engine.specs.declared.resolve.ResolveName.TheVariants as R
-use Rattle.markdown_engine.specs.declared.state.State.TheVariants.{Next, Retry, Ok, Nok}
-use Rattle.markdown_engine.specs.declared.state.StateName.{StateName}
-use Rattle.markdown_engine.specs.declared.state.StateName.TheVariants.{LabelEndStart, LabelEndAfter, LabelEndOk, LabelEndNok, LabelEndResourceStart, LabelEndReferenceFull, LabelEndReferenceFullAfter, LabelEndReferenceFullMissing, LabelEndReferenceNotFull, LabelEndReferenceCollapsed, LabelEndReferenceCollapsedOpen, LabelStart}
+use Rattle.markdown_state.specs.declared.resolve.ResolveName.TheVariants as R
+use Rattle.markdown_state.specs.declared.state.State.TheVariants.{Next, Retry, Ok, Nok}
+use Rattle.markdown_state.specs.declared.state.StateName.{StateName}
+use Rattle.markdown_state.specs.declared.state.StateName.TheVariants.{LabelEndStart, LabelEndAfter, LabelEndOk, LabelEndNok, LabelEndResourceStart, LabelEndReferenceFull, LabelEndReferenceFullAfter, LabelEndReferenceFullMissing, LabelEndReferenceNotFull, LabelEndReferenceCollapsed, LabelEndReferenceCollapsedOpen, LabelStart}
 use Rattle.markdown_engine_content.specs.declared.label_kind.LabelKind.{LabelKind}
 use Rattle.markdown_engine.specs.declared.tokenizer.LabelStart as Kept
 use Rattle.markdown_engine.specs.declared.tokenizer.TokenizeState.{TokenizeState}

@@ -1,8 +1,8 @@
 -- What an end of a label reads by, as the definitions see it.
 use Rattle.std.specs.Prelude.{◌≡◌, Some, false, map, string_bytes}
-use Rattle.markdown_engine_index.specs.BracketIndex.{brackets_between}
-use Rattle.markdown_engine_index.specs.NameIndex.{names_in_order}
-use Rattle.markdown_engine_index.specs.declared.name_index.Names.{Names}
+use Rattle.markdown_engine_names.specs.BracketIndex.{brackets_between}
+use Rattle.markdown_engine_names.specs.NameIndex.{names_in_order}
+use Rattle.markdown_engine_names.specs.declared.name_index.Names.{Names}
 use Rattle.markdown_engine_content.specs.declared.parser.ParseState.{ParseState}
 use Rattle.markdown_engine.specs.declared.tokenizer.Tokenizer.{Tokenizer}
 use Rattle.markdown_model.specs.Setting.{Setting}

@@ -8,10 +8,10 @@ use Rattle.markdown_engine.specs.Operations.{Op, Enter, Exit, Consume, IsOpen, a
 use Rattle.markdown_engine.specs.StateRuns.{Stepped, stepped}
 use Rattle.markdown_engine.specs.StateWords.{StateWords}
 use Rattle.markdown_event.specs.declared.event.Name.TheVariants as N
-use Rattle.markdown_engine.specs.declared.resolve.ResolveName.TheVariants as R
-use Rattle.markdown_engine.specs.declared.state.State.TheVariants.{Next, Ok, Nok}
-use Rattle.markdown_engine.specs.declared.state.StateName.{StateName}
-use Rattle.markdown_engine.specs.declared.state.StateName.TheVariants.{GfmLabelStartFootnoteStart, LabelStartImageStart, LabelStartLinkStart, GfmLabelStartFootnoteOpen, LabelStartImageOpen, LabelStartImageAfter}
+use Rattle.markdown_state.specs.declared.resolve.ResolveName.TheVariants as R
+use Rattle.markdown_state.specs.declared.state.State.TheVariants.{Next, Ok, Nok}
+use Rattle.markdown_state.specs.declared.state.StateName.{StateName}
+use Rattle.markdown_state.specs.declared.state.StateName.TheVariants.{GfmLabelStartFootnoteStart, LabelStartImageStart, LabelStartLinkStart, GfmLabelStartFootnoteOpen, LabelStartImageOpen, LabelStartImageAfter}
 use Rattle.markdown_engine_content.specs.declared.label_kind.LabelKind.{LabelKind}
 use Rattle.markdown_engine.specs.declared.tokenizer.Tokenizer.{Tokenizer}
 use Rattle.markdown_model.specs.CodeTests.{is_value, next_is}

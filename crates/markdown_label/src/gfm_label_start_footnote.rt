@@ -23,7 +23,7 @@ ghost use Rattle.markdown_label.specs.LabelStarts.{footnote_step, footnote_open_
 
 use crate::parts;
 use crate::starts::keep_start;
-use markdown_engine::state::{State, StateName};
+use markdown_state::state::{State, StateName};
 use markdown_engine::tokenizer::{LabelKind, Tokenizer};
 use markdown_event::event::Name;
 use std::alloc::AllocError;

@@ -24,7 +24,7 @@ ghost use Rattle.markdown_label.specs.LabelStarts.{image_step, image_open_step, 
 
 use crate::parts;
 use crate::starts::keep_start;
-use markdown_engine::state::{State, StateName};
+use markdown_state::state::{State, StateName};
 use markdown_engine::tokenizer::{LabelKind, Tokenizer};
 use markdown_event::event::Name;
 use std::alloc::AllocError;

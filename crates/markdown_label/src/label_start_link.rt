@@ -22,7 +22,7 @@ ghost use Rattle.markdown_label.specs.LabelStarts.{link_step};
 
 use crate::parts::whole_of_one;
 use crate::starts::keep_start;
-use markdown_engine::state::State;
+use markdown_state::state::State;
 use markdown_engine::tokenizer::{LabelKind, Tokenizer};
 use markdown_event::event::Name;
 use std::alloc::AllocError;

@@ -12,7 +12,7 @@ ghost use Rattle.markdown_label.specs.LabelSetting.{setting_in, IsListed};
 use crate::identifier::{identifier_of, is_footnote, link_identifier};
 use markdown_engine::tokenizer::{LabelKind, Tokenizer};
 use markdown_engine_content::util::slice::Slice;
-use markdown_engine_index::name_index::Names;
+use markdown_engine_names::name_index::Names;
 use std::alloc::AllocError;
 
 // The first front of a label that an identifier is made for has two to this power bytes.

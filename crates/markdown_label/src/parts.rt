@@ -6,9 +6,9 @@
 ghost use Rattle.std.specs.Prelude.{◌≡◌, ◌∷◌, [], false, IfOk, OnOk, OnErr, IsTrue};
 ghost use Rattle.markdown_engine.specs.Operations.{Enter, Exit, Consume, HasCode, IsOpen, attempted, done};
 ghost use Rattle.markdown_engine.specs.StateRuns.{stepped};
-ghost use Rattle.markdown_engine.specs.declared.state.State.TheVariants.{Next, Retry};
+ghost use Rattle.markdown_state.specs.declared.state.State.TheVariants.{Next, Retry};
 
-use markdown_engine::state::{State, StateName};
+use markdown_state::state::{State, StateName};
 use markdown_engine::tokenizer::Tokenizer;
 use markdown_event::event::Name;
 use std::alloc::AllocError;

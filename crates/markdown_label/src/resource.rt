@@ -28,14 +28,14 @@
 ghost use Rattle.std.specs.Prelude.{◌≡◌, if◌then◌else◌, IfOk, OnErr, IsTrue};
 ghost use Rattle.markdown_engine.specs.Operations.{IsOpen, current_of};
 ghost use Rattle.markdown_engine.specs.StateRuns.{stepped};
-ghost use Rattle.markdown_engine.specs.declared.state.State.TheVariants.{Retry};
+ghost use Rattle.markdown_state.specs.declared.state.State.TheVariants.{Retry};
 ghost use Rattle.markdown_engine_index.specs.TitleIndex as Titles;
 ghost use Rattle.markdown_event.specs.declared.event.Name.TheVariants.{Resource};
 ghost use Rattle.markdown_label.specs.AfterLabelParts.{names_rested};
 ghost use Rattle.markdown_label.specs.Resource.{destination_asked, destination_rested, title_asked, at_space, spaced, start_step, before_step, open_step, destination_after_step, missing_step, is_hopeless, between_step, title_after_step, end_step};
 
 use crate::parts;
-use markdown_engine::state::{State, StateName};
+use markdown_state::state::{State, StateName};
 use markdown_engine::tokenizer::{TokenizeState, Tokenizer};
 use markdown_event::event::Name;
 use markdown_engine_index::sequence_index::Sequence;

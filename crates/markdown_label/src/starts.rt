@@ -2,7 +2,7 @@
 ghost use Rattle.std.specs.Prelude.{◌≡◌, ◌≤◌, length, OnOk, OnErr, IsTrue};
 ghost use Rattle.markdown_label.specs.LabelStarts.{kept_start};
 
-use markdown_engine::resolve::ResolveName;
+use markdown_state::resolve::ResolveName;
 use markdown_engine::tokenizer::{LabelKind, LabelStart, Tokenizer};
 use std::alloc::AllocError;
 

@@ -13,14 +13,14 @@ use Rattle.markdown_model.specs.SingleConstructs as SingleConstructs
 use Rattle.markdown_util.specs.Reference.{Table, IsMarker, html_5_rows, named_value, value_size_max, is_value_byte}
 use Rattle.markdown_plan.specs.Plan.{Plan, preceded, DoesAs}
 use Rattle.markdown_event.specs.declared.event.Name.TheVariants as N
-use Rattle.markdown_engine.specs.declared.state.State.TheVariants.{Next, Retry, Nok}
-use Rattle.markdown_engine.specs.declared.state.State.TheVariants as State
-use Rattle.markdown_engine.specs.declared.state.State.{State as StateType}
-use Rattle.markdown_engine.specs.declared.state.StateName.TheVariants.{CharacterReferenceOpen, CharacterReferenceNumeric, CharacterReferenceValue, CharacterReferenceStart}
+use Rattle.markdown_state.specs.declared.state.State.TheVariants.{Next, Retry, Nok}
+use Rattle.markdown_state.specs.declared.state.State.TheVariants as State
+use Rattle.markdown_state.specs.declared.state.State.{State as StateType}
+use Rattle.markdown_state.specs.declared.state.StateName.TheVariants.{CharacterReferenceOpen, CharacterReferenceNumeric, CharacterReferenceValue, CharacterReferenceStart}
 use Rattle.markdown_engine.specs.declared.tokenizer.TokenizeState.{TokenizeState}
 use Rattle.markdown_engine.specs.declared.tokenizer.Tokenizer.{Tokenizer}
 use Rattle.markdown_engine.specs.StateWords.{StateWords}
-use Rattle.markdown_engine.specs.declared.state.StateName.{StateName}
+use Rattle.markdown_state.specs.declared.state.StateName.{StateName}
 use Rattle.std.specs.Str.{byte}
 
 -- The scratch fields: the kind of the value, and how many of its codes are passed.

@@ -22,7 +22,7 @@ ghost use Rattle.markdown_event.specs.declared.event.Name.TheVariants.{Character
 ghost use Rattle.markdown_leaf.specs.CharacterEscape.{start_step, inside_step};
 ghost use Rattle.markdown_plan.specs.StateCalls.{Steps};
 
-use markdown_engine::state::{State, StateName};
+use markdown_state::state::{State, StateName};
 use markdown_engine::tokenizer::Tokenizer;
 use markdown_event::event::Name;
 use std::alloc::AllocError;

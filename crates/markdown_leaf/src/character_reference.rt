@@ -28,7 +28,7 @@ ghost use Rattle.markdown_leaf.specs.CharacterReference.{has_value, is_known, Is
 ghost use Rattle.markdown_plan.specs.StateCalls.{Steps};
 
 use crate::marks::close;
-use markdown_engine::state::{State, StateName};
+use markdown_state::state::{State, StateName};
 use markdown_engine::tokenizer::Tokenizer;
 use markdown_event::event::Name;
 use markdown_engine_content::util::slice::Slice;

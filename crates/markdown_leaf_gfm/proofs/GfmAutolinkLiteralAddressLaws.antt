@@ -9,8 +9,8 @@ use Rattle.markdown_engine.specs.Operations.{Consume, HasCode, ahead, applied, c
 use Rattle.markdown_engine_content.specs.Place.{moved}
 use Rattle.markdown_engine.specs.StateRuns.{Stepped, stepped}
 use Rattle.markdown_engine.specs.Weights.{weight_at}
-use Rattle.markdown_engine.specs.declared.state.State.TheVariants.{Next, Retry}
-use Rattle.markdown_engine.specs.declared.state.StateName.TheVariants.{GfmAutolinkLiteralDomainAfter, GfmAutolinkLiteralDomainAtPunctuation, GfmAutolinkLiteralDomainInside, GfmAutolinkLiteralPathAfter, GfmAutolinkLiteralPathAtPunctuation, GfmAutolinkLiteralPathInside, GfmAutolinkLiteralTrail}
+use Rattle.markdown_state.specs.declared.state.State.TheVariants.{Next, Retry}
+use Rattle.markdown_state.specs.declared.state.StateName.TheVariants.{GfmAutolinkLiteralDomainAfter, GfmAutolinkLiteralDomainAtPunctuation, GfmAutolinkLiteralDomainInside, GfmAutolinkLiteralPathAfter, GfmAutolinkLiteralPathAtPunctuation, GfmAutolinkLiteralPathInside, GfmAutolinkLiteralTrail}
 use Rattle.markdown_engine.specs.declared.tokenizer.TokenizeState.{TokenizeState}
 use Rattle.markdown_engine.specs.declared.tokenizer.Tokenizer.{Tokenizer}
 use Rattle.markdown_engine.proofs.LawSteps.{if-step, code-step}
@@ -33,7 +33,7 @@ use Rattle.markdown_model.proofs.GrammarSteps.{and-left, if-true, if-false}
 use Rattle.markdown_engine.specs.StateWords.{Words, Law, GoesIn, StateWords, words_in}
 use Rattle.markdown_plan.proofs.LawStepsOfLayer.{Goes-plain, Goes-check, Goes-on, Goes-kept, Goes-ok, Goes-nok, follows, FollowsIn}
 use Rattle.markdown_plan.specs.LayerEquation.{Within}
-use Rattle.markdown_engine.specs.declared.state.StateName.{StateName}
+use Rattle.markdown_state.specs.declared.state.StateName.{StateName}
 
 -- The conditions go on.
 

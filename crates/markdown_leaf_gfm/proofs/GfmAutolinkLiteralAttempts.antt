@@ -8,8 +8,8 @@ use Rattle.markdown_engine.specs.StateRuns.{restored, going_state, going_in, Goe
 use Rattle.markdown_engine.specs.TreeOps.{consumes}
 use Rattle.markdown_engine.specs.Weights.{codes_left, weight_at}
 use Rattle.markdown_event.specs.declared.event.Name.{Name}
-use Rattle.markdown_engine.specs.declared.state.State.{State}
-use Rattle.markdown_engine.specs.declared.state.State.TheVariants.{Next, Nok}
+use Rattle.markdown_state.specs.declared.state.State.{State}
+use Rattle.markdown_state.specs.declared.state.State.TheVariants.{Next, Nok}
 use Rattle.markdown_engine.specs.declared.tokenizer.TokenizeState.{TokenizeState}
 use Rattle.markdown_engine.specs.declared.tokenizer.Tokenizer.{Tokenizer}
 use Rattle.markdown_engine.proofs.ReadingSequences.{scratched-same}
@@ -23,7 +23,7 @@ use Rattle.markdown_leaf_gfm.specs.GfmAutolinkLiteral.{rested, entered_literal, 
 use Rattle.markdown_leaf_gfm.proofs.GfmAutolinkLiteralCovers.{leaf_ops, ops-leaf}
 use Rattle.markdown_engine.specs.StateWords.{Words, StateWords, words_in, weight_in}
 use Rattle.markdown_plan.proofs.LawStepsOfLayer.{follows}
-use Rattle.markdown_engine.specs.declared.state.StateName.{StateName}
+use Rattle.markdown_state.specs.declared.state.StateName.{StateName}
 
 stack-consumes : (cs : List Code) (T : Tokenizer) → (done (consumes cs) T).stack ≡ T.stack
 stack-consumes [] T = refl

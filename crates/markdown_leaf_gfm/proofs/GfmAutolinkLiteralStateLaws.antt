@@ -1,7 +1,7 @@
 -- The laws of the states of autolink literals, joined.
 use Rattle.markdown_engine.specs.StateWords.{StateWords, Words}
-use Rattle.markdown_engine.specs.declared.state.StateName.{StateName}
-use Rattle.markdown_engine.specs.declared.state.StateName.TheVariants as H
+use Rattle.markdown_state.specs.declared.state.StateName.{StateName}
+use Rattle.markdown_state.specs.declared.state.StateName.TheVariants as H
 use Rattle.markdown_leaf_gfm.specs.GfmAutolinkLiteral.{states}
 use Rattle.markdown_leaf_gfm.proofs.GfmAutolinkLiteralAddressLaws as GfmAutolinkLiteralAddressLaws
 use Rattle.markdown_leaf_gfm.proofs.GfmAutolinkLiteralProtocolLaws as GfmAutolinkLiteralProtocolLaws

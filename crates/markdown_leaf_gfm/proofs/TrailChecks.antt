@@ -10,8 +10,8 @@ use Rattle.markdown_engine.specs.Operations.{Consume, HasCode, ahead, applied, c
 use Rattle.markdown_engine_content.specs.Place.{Place, moved, code_at, point_of, value_of, start_or}
 use Rattle.markdown_engine.specs.StateRuns.{stepped, restored}
 use Rattle.markdown_engine.specs.Weights.{weight_at}
-use Rattle.markdown_engine.specs.declared.state.State.{State}
-use Rattle.markdown_engine.specs.declared.state.State.TheVariants.{Next, Retry}
+use Rattle.markdown_state.specs.declared.state.State.{State}
+use Rattle.markdown_state.specs.declared.state.State.TheVariants.{Next, Retry}
 use Rattle.markdown_engine.specs.declared.tokenizer.TokenizeState.{TokenizeState}
 use Rattle.markdown_engine.specs.declared.tokenizer.Tokenizer.{Tokenizer}
 use Rattle.markdown_engine.proofs.ReadingSequences.{scratched-same}
@@ -27,7 +27,7 @@ use Rattle.markdown_plan.proofs.CharactersAlongContent.{text-moved}
 use Rattle.markdown_leaf_gfm.specs.GfmAutolinkLiteral.{end_of, kind_here, ended, MayClass, MayCount, TrailReady, LiteralReady, LookReady, Looks, trails_on, trail_value}
 use Rattle.markdown_engine.specs.StateWords.{Words, GoesIn, StateWords, words_in}
 use Rattle.markdown_plan.proofs.LawStepsOfLayer.{Goes-plain, Goes-end}
-use Rattle.markdown_engine.specs.declared.state.StateName.{StateName}
+use Rattle.markdown_state.specs.declared.state.StateName.{StateName}
 
 -- These codes are ASCII.
 

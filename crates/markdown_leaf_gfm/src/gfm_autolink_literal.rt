@@ -21,7 +21,7 @@
 // Definition: `gfm_autolink_literal_protocol` and `gfm_autolink_literal_www` in `markdown_model/specs/GfmAutolinkLiteral.antt`.
 //
 // Each state answers the error where a growth is refused; then `failed` is true.
-#![tactic(auto, using(markdown_engine::proofs::OperationFields::law_rules), unfolding(markdown_engine::specs::Operations::scratched))]
+#![tactic(auto, using(markdown_engine::proofs::OperationFields::op_rules), unfolding(markdown_engine::specs::Operations::scratched))]
 
 ghost use Rattle.std.specs.Prelude.{◌≡◌, ◌<◌, ◌+◌, false, map, Some, IfOk, OnErr, IsTrue};
 ghost use Rattle.markdown_engine.specs.Operations.{HasCode, IsOpen, current_of, scratched};
@@ -32,7 +32,7 @@ ghost use Rattle.markdown_partial.specs.PartialSpaceOrTab.{most};
 ghost use Rattle.markdown_leaf_gfm.specs.GfmAutolinkLiteral.{kind_here, trail_value, mark_value, known_after, is_known, count_value, stands_for, is_named, one_named, longest, begins_scheme, marked, domain_on, rested, refused, protocol_start_step, protocol_after_step, prefix_step, slashes_step, precedes_www, www_letter, is_ruled_out};
 ghost use Rattle.markdown_leaf_gfm.specs.GfmAutolinkLiteral.{www_start_step, www_prefix_step, www_prefix_after_step, www_after_step, domain_step, domain_punctuation_step, domain_after_step, passing, path_step, path_punctuation_step, path_after_step, trail_step, bracket_after_step, reference_start_step, reference_step, MayClass, MayName, TrailReady, MayCount};
 
-use markdown_engine::state::{State, StateName};
+use markdown_state::state::{State, StateName};
 use markdown_engine::tokenizer::{TokenizeState, Tokenizer};
 use markdown_event::event::Name;
 use markdown_partial::literal_letters;

@@ -18,14 +18,14 @@
 // Definition: `gfm_task_list_item_check` in `markdown_model/specs/LeafConstructs.antt`.
 //
 // Each state answers the error where a growth is refused; then `failed` is true.
-#![tactic(auto, using(markdown_engine::proofs::OperationFields::op_rules), unfolding(markdown_engine::specs::Operations::scratched))]
+#![tactic(auto, using(markdown_engine::proofs::OperationFields::op_rules))]
 
 ghost use Rattle.std.specs.Prelude.{◌≡◌, IfOk, OnErr, IsTrue};
 ghost use Rattle.markdown_engine.specs.Operations.{IsOpen};
 ghost use Rattle.markdown_event.specs.declared.event.Name.TheVariants.{GfmTaskListItemCheck};
 ghost use Rattle.markdown_leaf_gfm.specs.GfmTaskListItemCheck.{start_step, inside_step, close_step, after_step, after_space_or_tab_step};
 
-use markdown_engine::state::{State, StateName};
+use markdown_state::state::{State, StateName};
 use markdown_engine::tokenizer::Tokenizer;
 use markdown_event::event::Name;
 use markdown_partial::partial_space_or_tab::space_or_tab;

@@ -10,8 +10,8 @@ use Rattle.markdown_engine_content.specs.Tree.{Forest, leaf_codes}
 use Rattle.markdown_engine.specs.TreeOps.{ops_of, consumes, IsSolid}
 use Rattle.markdown_engine.specs.Weights.{codes_left, weight_at}
 use Rattle.markdown_event.specs.declared.event.Name.TheVariants as N
-use Rattle.markdown_engine.specs.declared.state.State.TheVariants.{Next, Retry, Nok}
-use Rattle.markdown_engine.specs.declared.state.StateName.TheVariants as H
+use Rattle.markdown_state.specs.declared.state.State.TheVariants.{Next, Retry, Nok}
+use Rattle.markdown_state.specs.declared.state.StateName.TheVariants as H
 use Rattle.markdown_engine.specs.declared.tokenizer.Tokenizer.{Tokenizer}
 use Rattle.markdown_engine.proofs.ReadingSequences.{scratched-same, left-read}
 use Rattle.markdown_engine.proofs.LawSteps.{code-step, if-step}

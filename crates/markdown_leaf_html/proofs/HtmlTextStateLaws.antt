@@ -1,7 +1,7 @@
 -- The laws of the states of HTML in text, joined.
 use Rattle.markdown_engine.specs.StateWords.{StateWords, Words}
-use Rattle.markdown_engine.specs.declared.state.StateName.{StateName}
-use Rattle.markdown_engine.specs.declared.state.StateName.TheVariants as H
+use Rattle.markdown_state.specs.declared.state.StateName.{StateName}
+use Rattle.markdown_state.specs.declared.state.StateName.TheVariants as H
 use Rattle.markdown_leaf_html.specs.HtmlText.{states}
 use Rattle.markdown_leaf_html.proofs.HtmlLineEndingLaws as HtmlLineEndingLaws
 use Rattle.markdown_leaf_html.proofs.HtmlTextLaws as HtmlTextLaws

@@ -6,8 +6,8 @@ use Rattle.markdown_engine_content.specs.ListFunctions.{rest_of}
 use Rattle.markdown_engine.specs.Operations.{Op, Consume, current_of, ahead, done, moves, scratched}
 use Rattle.markdown_engine.specs.StateRuns.{stepped}
 use Rattle.markdown_engine.specs.Weights.{codes_left, weight_at}
-use Rattle.markdown_engine.specs.declared.state.State.TheVariants.{Next, Retry, Nok}
-use Rattle.markdown_engine.specs.declared.state.StateName.TheVariants as H
+use Rattle.markdown_state.specs.declared.state.State.TheVariants.{Next, Retry, Nok}
+use Rattle.markdown_state.specs.declared.state.StateName.TheVariants as H
 use Rattle.markdown_engine.specs.declared.tokenizer.TokenizeState.{TokenizeState}
 use Rattle.markdown_engine.specs.declared.tokenizer.Tokenizer.{Tokenizer}
 use Rattle.markdown_engine.proofs.OperationFields.{ahead-some, Begins, some-codes}
@@ -23,7 +23,7 @@ use Rattle.markdown_leaf_html.proofs.HtmlTextReady.{part-next, part-broken}
 use Rattle.markdown_leaf_html.proofs.HtmlLineEndingLaws.{Within}
 use Rattle.markdown_engine.specs.StateWords.{Words, GoesIn, StateWords, words_in}
 use Rattle.markdown_plan.proofs.LawStepsOfLayer.{Goes-attempt, Goes-next, Goes-no, follows, FollowsIn}
-use Rattle.markdown_engine.specs.declared.state.StateName.{StateName}
+use Rattle.markdown_state.specs.declared.state.StateName.{StateName}
 
 pub rank-low : (k : Part) → rank_of k < 5
 rank-low Open = omega arith

@@ -2,8 +2,8 @@
 use Rattle.std.specs.Prelude.{ℕ, Bool, ◌||◌, not, List, ◌∷◌, codes, drop}
 use Rattle.std.specs.Str.{byte}
 use Rattle.markdown_engine_content.specs.Codes.{Code}
-use Rattle.markdown_engine.specs.declared.state.StateName.{StateName}
-use Rattle.markdown_engine.specs.declared.state.StateName.TheVariants as H
+use Rattle.markdown_state.specs.declared.state.StateName.{StateName}
+use Rattle.markdown_state.specs.declared.state.StateName.TheVariants as H
 use Rattle.markdown_model.specs.CodeTests.{is_value, is_among, next_is, is_whitespace_code, is_letter, is_alphanumeric}
 use Rattle.markdown_model.specs.Grammar.{Reading, either, one, any_number, before, word, word_of, up_to_word, through, if_next, ◌then_◌, repeatedly, optional}
 use Rattle.markdown_model.specs.HtmlText.{spaces, optional_spaces, tag_name, attribute_value, attribute, ends_value}

@@ -21,7 +21,7 @@
 // Example: `<a href="b">c</a>` has an opening and a closing tag. Definition: `html_text` in `markdown_model/specs/HtmlText.antt`.
 //
 // Each state answers the error where a growth is refused; then `failed` is true.
-#![tactic(auto, using(markdown_engine::proofs::OperationFields::law_rules), unfolding(markdown_engine::specs::Operations::scratched, markdown_engine::specs::Operations::attempted, markdown_engine::specs::Operations::frame_of))]
+#![tactic(auto, using(markdown_engine::proofs::OperationFields::op_rules), unfolding(markdown_engine::specs::Operations::scratched))]
 
 ghost use Rattle.std.specs.Prelude.{◌≡◌, ◌<◌, Some, IfOk, OnErr, IsTrue};
 ghost use Rattle.std.specs.Str.{byte};
@@ -34,7 +34,7 @@ ghost use Rattle.markdown_leaf_html.specs.HtmlText.{stops_in, is_ruled_out, endi
 ghost use Rattle.markdown_leaf_html.specs.HtmlText.{declaration_step, instruction_step, instruction_close_step, tag_close_start_step, tag_close_step, tag_close_between_step, tag_open_step, tag_open_between_step, tag_open_attribute_name_step, tag_open_attribute_name_after_step};
 ghost use Rattle.markdown_leaf_html.specs.HtmlText.{tag_open_attribute_value_before_step, tag_open_attribute_value_quoted_step, tag_open_attribute_value_quoted_after_step, tag_open_attribute_value_unquoted_step, end_step, line_ending_before_step, line_ending_after_step, line_ending_after_prefix_step};
 
-use markdown_engine::state::{State, StateName};
+use markdown_state::state::{State, StateName};
 use markdown_engine::tokenizer::{TokenizeState, Tokenizer};
 use markdown_engine_content::byte_set;
 use markdown_engine_content::bytes::ByteSet;

@@ -8,9 +8,9 @@ use Rattle.markdown_engine.specs.TreeOps.{consumes}
 use Rattle.markdown_event.specs.declared.event.Content.TheVariants as Content
 use Rattle.markdown_event.specs.declared.event.Name.{Name}
 use Rattle.markdown_event.specs.declared.event.Name.TheVariants as N
-use Rattle.markdown_engine.specs.declared.state.State.TheVariants.{Next, Retry, Nok}
-use Rattle.markdown_engine.specs.declared.state.State.TheVariants as State
-use Rattle.markdown_engine.specs.declared.state.StateName.TheVariants.{DestinationEnclosedBefore, DestinationEnclosed, DestinationEnclosedEscape, DestinationRaw, DestinationRawEscape, DestinationStart}
+use Rattle.markdown_state.specs.declared.state.State.TheVariants.{Next, Retry, Nok}
+use Rattle.markdown_state.specs.declared.state.State.TheVariants as State
+use Rattle.markdown_state.specs.declared.state.StateName.TheVariants.{DestinationEnclosedBefore, DestinationEnclosed, DestinationEnclosedEscape, DestinationRaw, DestinationRawEscape, DestinationStart}
 use Rattle.markdown_engine.specs.declared.tokenizer.TokenizeState.{TokenizeState}
 use Rattle.markdown_engine.specs.declared.tokenizer.Tokenizer.{Tokenizer}
 use Rattle.markdown_model.specs.CodeTests.{is_value, is_among, is_between, next_is}
@@ -20,7 +20,7 @@ use Rattle.markdown_plan.specs.Plan.{Plan, preceded, DoesAs, KeepsAs}
 use Rattle.markdown_plan.specs.ScratchFields.{AreOpen, with_size}
 use Rattle.markdown_plan.specs.ByteTests.{controls}
 use Rattle.markdown_engine.specs.StateWords.{StateWords}
-use Rattle.markdown_engine.specs.declared.state.StateName.{StateName}
+use Rattle.markdown_state.specs.declared.state.StateName.{StateName}
 use Rattle.std.specs.Str.{byte}
 
 abbrev pub names_in : TokenizeState → DestinationNames

@@ -6,9 +6,9 @@ use Rattle.markdown_engine.specs.Operations.{Op, Enter, Exit, Consume, LinkedBef
 use Rattle.markdown_engine.specs.PastTree.{EndsAs}
 use Rattle.markdown_engine.specs.StateRuns.{Stepped, stepped}
 use Rattle.markdown_event.specs.declared.event.Name.TheVariants as N
-use Rattle.markdown_engine.specs.declared.state.State.{State}
-use Rattle.markdown_engine.specs.declared.state.State.TheVariants.{Next, Retry, Ok, Nok}
-use Rattle.markdown_engine.specs.declared.state.StateName.TheVariants.{SpaceOrTabEolStart, LabelAtBreak, LabelEolAfter, LabelInside, LabelEscape, LabelNok, LabelStart}
+use Rattle.markdown_state.specs.declared.state.State.{State}
+use Rattle.markdown_state.specs.declared.state.State.TheVariants.{Next, Retry, Ok, Nok}
+use Rattle.markdown_state.specs.declared.state.StateName.TheVariants.{SpaceOrTabEolStart, LabelAtBreak, LabelEolAfter, LabelInside, LabelEscape, LabelNok, LabelStart}
 use Rattle.markdown_engine.specs.declared.tokenizer.TokenizeState.{TokenizeState}
 use Rattle.markdown_engine.specs.declared.tokenizer.Tokenizer.{Tokenizer}
 use Rattle.markdown_model.specs.CodeTests.{is_value, is_among, is_whitespace_code}
@@ -19,7 +19,7 @@ use Rattle.markdown_plan.specs.ScratchFields.{AreOpen, with_size}
 use Rattle.markdown_partial.specs.LinkedText.{names_in, joined, text_entered, ending, eol_asked_for, ends_open, TextReady, break_ops, inside_ops, ends_filled, answer}
 use Rattle.markdown_engine.specs.StateWords.{StateWords}
 use Rattle.markdown_partial.specs.PartialSpaceOrTabEol as PartialSpaceOrTabEol
-use Rattle.markdown_engine.specs.declared.state.StateName.{StateName}
+use Rattle.markdown_state.specs.declared.state.StateName.{StateName}
 use Rattle.std.specs.Str.{byte}
 
 -- The scratch fields.

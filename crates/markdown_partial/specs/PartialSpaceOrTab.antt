@@ -9,13 +9,13 @@ use Rattle.markdown_model.specs.Whitespace.{space_or_tab}
 use Rattle.markdown_event.specs.declared.event.Content.{Content}
 use Rattle.markdown_event.specs.declared.event.Name.{Name}
 use Rattle.markdown_event.specs.declared.event.Name.TheVariants as N
-use Rattle.markdown_engine.specs.declared.state.State.{State}
-use Rattle.markdown_engine.specs.declared.state.State.TheVariants.{Next, Retry, Ok, Nok}
-use Rattle.markdown_engine.specs.declared.state.StateName.TheVariants.{SpaceOrTabInside, SpaceOrTabAfter, SpaceOrTabStart}
+use Rattle.markdown_state.specs.declared.state.State.{State}
+use Rattle.markdown_state.specs.declared.state.State.TheVariants.{Next, Retry, Ok, Nok}
+use Rattle.markdown_state.specs.declared.state.StateName.TheVariants.{SpaceOrTabInside, SpaceOrTabAfter, SpaceOrTabStart}
 use Rattle.markdown_engine.specs.declared.tokenizer.TokenizeState.{TokenizeState}
 use Rattle.markdown_engine.specs.declared.tokenizer.Tokenizer.{Tokenizer}
 use Rattle.markdown_engine.specs.StateWords.{StateWords}
-use Rattle.markdown_engine.specs.declared.state.StateName.{StateName}
+use Rattle.markdown_state.specs.declared.state.StateName.{StateName}
 
 -- no bound on the number of codes: the greatest `usize`
 abbrev pub most : ℕ

@@ -30,7 +30,7 @@ ghost use Rattle.markdown_partial.specs.PartialData.{stops_here, passing, enteri
 ghost use Rattle.markdown_partial.specs.MergedEvents.{opens_data, closes_data, ends_joint, marked, joints, HasData};
 ghost use Rattle.markdown_plan.specs.StateCalls.{Steps};
 
-use markdown_engine::state::{State, StateName};
+use markdown_state::state::{State, StateName};
 use markdown_engine::tokenizer::{TokenizeState, Tokenizer};
 use markdown_engine_content::bytes::ByteSet;
 use markdown_event::event::{Event, Kind, Name};

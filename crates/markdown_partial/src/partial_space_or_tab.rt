@@ -17,12 +17,12 @@
 ghost use Rattle.std.specs.Prelude.{◌≡◌, true, false, None};
 ghost use Rattle.markdown_engine.specs.Operations.{IsOpen, LinkedBefore, scratched};
 ghost use Rattle.markdown_event.specs.declared.event.Name.TheVariants.{SpaceOrTab};
-ghost use Rattle.markdown_engine.specs.declared.state.StateName.TheVariants.{SpaceOrTabStart};
+ghost use Rattle.markdown_state.specs.declared.state.StateName.TheVariants.{SpaceOrTabStart};
 ghost use Rattle.markdown_partial.specs.PartialSpaceOrTab.{most, asked, start_step, inside_step, after_step};
 ghost use Rattle.markdown_plan.specs.StateCalls.{Steps};
 
 use crate::leaf::enter_leaf;
-use markdown_engine::state::{State, StateName};
+use markdown_state::state::{State, StateName};
 use markdown_engine::tokenizer::Tokenizer;
 use markdown_event::event::{Content, Name};
 use std::alloc::AllocError;

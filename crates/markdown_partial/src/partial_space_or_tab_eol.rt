@@ -20,13 +20,13 @@
 
 ghost use Rattle.std.specs.Prelude.{◌≡◌, true, false, None};
 ghost use Rattle.markdown_engine.specs.Operations.{LinkedBefore, scratched};
-ghost use Rattle.markdown_engine.specs.declared.state.StateName.TheVariants.{SpaceOrTabStart, SpaceOrTabEolStart};
+ghost use Rattle.markdown_state.specs.declared.state.StateName.TheVariants.{SpaceOrTabStart, SpaceOrTabEolStart};
 ghost use Rattle.markdown_partial.specs.PartialSpaceOrTabEol.{eol_asked, space_asked, eol_rested, start_step, after_first_step, at_eol_step, after_eol_step, after_more_step};
 ghost use Rattle.markdown_plan.specs.StateCalls.{Steps};
 
 use crate::leaf::enter_leaf;
 use crate::partial_space_or_tab;
-use markdown_engine::state::{State, StateName};
+use markdown_state::state::{State, StateName};
 use markdown_engine::tokenizer::Tokenizer;
 use markdown_event::event::{Content, Name};
 use std::alloc::AllocError;

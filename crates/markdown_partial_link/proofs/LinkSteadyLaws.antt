@@ -7,8 +7,8 @@ use Rattle.std.proofs.lemmas.Bool.{both_ways, or_parts, eqb-true}
 use Rattle.markdown_engine.specs.Operations.{current_of, consumed}
 use Rattle.markdown_engine.specs.StateRuns.{stepped}
 use Rattle.markdown_engine_content.specs.Stretch.{is_free}
-use Rattle.markdown_engine.specs.declared.state.State.TheVariants.{Next}
-use Rattle.markdown_engine.specs.declared.state.StateName.TheVariants.{DestinationEnclosed, DestinationRaw, TitleInside}
+use Rattle.markdown_state.specs.declared.state.State.TheVariants.{Next}
+use Rattle.markdown_state.specs.declared.state.StateName.TheVariants.{DestinationEnclosed, DestinationRaw, TitleInside}
 use Rattle.markdown_engine.specs.declared.tokenizer.Tokenizer.{Tokenizer}
 use Rattle.markdown_engine.proofs.SteadyLemmas.{steady-at}
 use Rattle.markdown_model.specs.CodeTests.{is_between}

@@ -7,7 +7,7 @@ use Rattle.markdown_engine.specs.Operations.{Op, ahead, done, scratched, moves, 
 use Rattle.markdown_engine.specs.Weights.{codes_left}
 use Rattle.markdown_event.specs.declared.event.Event.{Event}
 use Rattle.markdown_event.specs.declared.event.Name.{Name}
-use Rattle.markdown_engine.specs.declared.state.State.{State}
+use Rattle.markdown_state.specs.declared.state.State.{State}
 use Rattle.markdown_engine.specs.declared.tokenizer.TokenizeState.{TokenizeState}
 use Rattle.markdown_engine.specs.declared.tokenizer.Tokenizer.{Tokenizer}
 use Rattle.markdown_engine.proofs.OperationFields.{left-scratched}

@@ -3,11 +3,11 @@
 
 ghost use Rattle.std.specs.Prelude.{◌≡◌, OnOk, OnErr, IsTrue, true};
 ghost use Rattle.markdown_engine.specs.Operations.{LinkedBefore};
-ghost use Rattle.markdown_engine.specs.declared.state.StateName.TheVariants.{SpaceOrTabEolStart};
+ghost use Rattle.markdown_state.specs.declared.state.StateName.TheVariants.{SpaceOrTabEolStart};
 ghost use Rattle.markdown_engine.specs.Operations.{scratched};
 ghost use Rattle.markdown_partial.specs.LinkedText.{text_entered, eol_asked_for};
 
-use markdown_engine::state::StateName;
+use markdown_state::state::StateName;
 use markdown_engine::tokenizer::Tokenizer;
 use markdown_event::event::{Content, Link, Name};
 use markdown_partial::partial_space_or_tab_eol::{Options, space_or_tab_eol_with_options};

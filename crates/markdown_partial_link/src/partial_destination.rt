@@ -28,7 +28,7 @@ ghost use Rattle.std.specs.Prelude.{◌≡◌, IfOk, OnErr, IsTrue};
 ghost use Rattle.markdown_partial.specs.PartialDestination.{start_step, enclosed_before_step, enclosed_step, enclosed_escape_step, raw_step, raw_escape_step, finished, stops_in, BeforeReady, EnclosedReady, RawReady};
 
 use crate::linked_text::FIRST;
-use markdown_engine::state::{State, StateName};
+use markdown_state::state::{State, StateName};
 use markdown_engine::tokenizer::Tokenizer;
 use markdown_engine_content::byte_set;
 use markdown_engine_content::bytes::ByteSet;

@@ -8,9 +8,9 @@ use Rattle.markdown_engine.specs.StateRuns.{Goes, GoesOn, Stepped, stepped, sett
 use Rattle.markdown_engine_content.specs.Tree.{Forest, leaf_codes}
 use Rattle.markdown_engine.specs.TreeOps.{ops_of, consumes}
 use Rattle.markdown_engine.specs.Weights.{weight_at}
-use Rattle.markdown_engine.specs.declared.state.State.{State}
-use Rattle.markdown_engine.specs.declared.state.State.TheVariants.{Nok}
-use Rattle.markdown_engine.specs.declared.state.StateName.{StateName}
+use Rattle.markdown_state.specs.declared.state.State.{State}
+use Rattle.markdown_state.specs.declared.state.State.TheVariants.{Nok}
+use Rattle.markdown_state.specs.declared.state.StateName.{StateName}
 use Rattle.markdown_engine.specs.declared.tokenizer.Attempt.{Attempt}
 use Rattle.markdown_engine.specs.declared.tokenizer.TokenizeState.{TokenizeState}
 use Rattle.markdown_engine.specs.declared.tokenizer.Tokenizer.{Tokenizer}

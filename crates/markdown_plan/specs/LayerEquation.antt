@@ -1,7 +1,7 @@
 -- What a construct asks of the layer that its states stand in.
 use Rattle.std.specs.Prelude.{◌≡◌}
 use Rattle.markdown_engine.specs.StateWords.{StateWords, Words, Law, words_in}
-use Rattle.markdown_engine.specs.declared.state.StateName.{StateName}
+use Rattle.markdown_state.specs.declared.state.StateName.{StateName}
 
 -- it says of these states what the construct says of them; `states` gives its words for its own states and those that it calls,
 -- and for any other what it is given

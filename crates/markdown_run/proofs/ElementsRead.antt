@@ -11,10 +11,10 @@ use Rattle.markdown_engine.specs.Operations.{HasCode, ahead, current_of, scratch
 use Rattle.markdown_engine.specs.PastTree.{past, Reads, TreeReading}
 use Rattle.markdown_engine.specs.StateWords.{StateWords, words_in}
 use Rattle.markdown_engine.specs.Weights.{codes_left}
-use Rattle.markdown_engine.specs.declared.state.StateName.{StateName}
+use Rattle.markdown_state.specs.declared.state.StateName.{StateName}
 use Rattle.markdown_engine_index.specs.RunIndex.{is_asked}
-use Rattle.markdown_engine.specs.declared.state.StateName.TheVariants.{AttentionStart, AutolinkStart, CharacterEscapeStart, GfmAutolinkLiteralWwwStart, GfmLabelStartFootnoteStart}
-use Rattle.markdown_engine.specs.declared.state.StateName.TheVariants.{HardBreakEscapeStart, HtmlTextStart, LabelEndStart, LabelStartImageStart, LabelStartLinkStart, RawTextStart}
+use Rattle.markdown_state.specs.declared.state.StateName.TheVariants.{AttentionStart, AutolinkStart, CharacterEscapeStart, GfmAutolinkLiteralWwwStart, GfmLabelStartFootnoteStart}
+use Rattle.markdown_state.specs.declared.state.StateName.TheVariants.{HardBreakEscapeStart, HtmlTextStart, LabelEndStart, LabelStartImageStart, LabelStartLinkStart, RawTextStart}
 use Rattle.markdown_engine.specs.declared.tokenizer.TokenizeState.{TokenizeState}
 use Rattle.markdown_engine.specs.declared.tokenizer.Tokenizer.{Tokenizer}
 use Rattle.markdown_engine.proofs.ReadingSequences.{scratched-same}

@@ -10,8 +10,8 @@ use Rattle.markdown_engine_content.specs.Tree.{Forest, leaf_codes}
 use Rattle.markdown_event.specs.declared.event.Event.{Event}
 use Rattle.markdown_engine_content.specs.declared.parser.ParseState.{ParseState}
 use Rattle.markdown_engine_content.specs.declared.parser.Piece.{Piece}
-use Rattle.markdown_engine.specs.declared.resolve.ResolveName.{ResolveName}
-use Rattle.markdown_engine.specs.declared.resolve.ResolveName.TheVariants as R
+use Rattle.markdown_state.specs.declared.resolve.ResolveName.{ResolveName}
+use Rattle.markdown_state.specs.declared.resolve.ResolveName.TheVariants as R
 use Rattle.markdown_engine.specs.declared.tokenizer.Tokenizer.{Tokenizer}
 use Rattle.markdown_engine.specs.declared.tokenizer.TokenizeState.{TokenizeState}
 use Rattle.markdown_engine.proofs.PlaceBounds.{content_fits}

@@ -5,8 +5,8 @@ use Rattle.std.proofs.lemmas.Bool.Decides.{eqb_tells}
 use Rattle.markdown_engine_events.specs.EventChains.{chained}
 use Rattle.markdown_engine.specs.Operations.{registered, scratched}
 use Rattle.markdown_engine.specs.PassesInOrder.{MayResolve, unregistered}
-use Rattle.markdown_engine.specs.declared.resolve.ResolveName.{ResolveName}
-use Rattle.markdown_engine.specs.declared.resolve.ResolveName.TheVariants as R
+use Rattle.markdown_state.specs.declared.resolve.ResolveName.{ResolveName}
+use Rattle.markdown_state.specs.declared.resolve.ResolveName.TheVariants as R
 use Rattle.markdown_engine.specs.declared.tokenizer.Tokenizer.{Tokenizer}
 use Rattle.markdown_run_text.specs.ContentPasses.{FinishesText, MayFinish, MergesData, resolves_of}
 use Rattle.markdown_run_row.specs.TextContent.{text_passed}

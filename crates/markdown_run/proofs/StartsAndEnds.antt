@@ -5,7 +5,7 @@ use Rattle.markdown_engine_content.specs.Codes.{Code}
 use Rattle.markdown_engine_content.specs.Tree.{Forest, empty, leaf_codes, start_of}
 use Rattle.markdown_engine_content.specs.declared.label_kind.LabelKind.{LabelKind}
 use Rattle.markdown_engine.specs.Operations.{Op, ahead, done}
-use Rattle.markdown_engine.specs.declared.state.StateName.TheVariants.{GfmLabelStartFootnoteStart, LabelStartImageStart, LabelStartLinkStart}
+use Rattle.markdown_state.specs.declared.state.StateName.TheVariants.{GfmLabelStartFootnoteStart, LabelStartImageStart, LabelStartLinkStart}
 use Rattle.markdown_engine.specs.declared.tokenizer.Tokenizer.{Tokenizer}
 use Rattle.markdown_label.specs.LabelEnd.{Ends}
 use Rattle.markdown_label.specs.LabelStarts.{begins_as, kept_start, link_ops, link_test, link_ends, footnote_front, footnote_back, footnote_test, footnote_ends, image_front, image_back, image_test, image_ends}

@@ -8,7 +8,7 @@ use Rattle.markdown_engine.specs.PassesInOrder.{MayResolve, Resolves, unregister
 use Rattle.markdown_engine_content.specs.Tree.{events_of}
 use Rattle.markdown_engine_content.specs.declared.parser.ParseState.{ParseState}
 use Rattle.markdown_engine_content.specs.declared.parser.Piece.{Piece}
-use Rattle.markdown_engine.specs.declared.resolve.ResolveName.TheVariants as R
+use Rattle.markdown_state.specs.declared.resolve.ResolveName.TheVariants as R
 use Rattle.markdown_engine.specs.declared.tokenizer.TokenizeState.{TokenizeState}
 use Rattle.markdown_engine.specs.declared.tokenizer.Tokenizer.{Tokenizer}
 use Rattle.markdown_model.specs.Elements.{AreElementsFrom, AreStringElements, string_choice}

@@ -5,7 +5,7 @@ use Rattle.markdown_engine.specs.Operations.{HasCode, ahead, current_of, previou
 use Rattle.markdown_engine.specs.PastTree.{past, Reads, TreeReading}
 use Rattle.markdown_engine.specs.RestingFields.{at_rest}
 use Rattle.markdown_engine.specs.Weights.{codes_left}
-use Rattle.markdown_engine.specs.declared.state.StateName.TheVariants.{GfmTaskListItemCheckStart}
+use Rattle.markdown_state.specs.declared.state.StateName.TheVariants.{GfmTaskListItemCheckStart}
 use Rattle.markdown_engine.specs.declared.tokenizer.TokenizeState.{TokenizeState}
 use Rattle.markdown_engine.specs.declared.tokenizer.Tokenizer.{Tokenizer}
 use Rattle.markdown_engine.proofs.ReadingSequences.{scratched-same}

@@ -11,15 +11,15 @@ use Rattle.markdown_engine.specs.PassesInOrder.{MayResolve, Resolves, unregister
 use Rattle.markdown_engine_content.specs.Tree.{events_of, Forest}
 use Rattle.markdown_engine_content.specs.declared.parser.ParseState.{ParseState}
 use Rattle.markdown_engine_content.specs.declared.parser.Piece.{Piece}
-use Rattle.markdown_engine.specs.declared.resolve.ResolveName.TheVariants as R
+use Rattle.markdown_state.specs.declared.resolve.ResolveName.TheVariants as R
 use Rattle.markdown_engine.specs.declared.tokenizer.TokenizeState.{TokenizeState}
 use Rattle.markdown_engine.specs.declared.tokenizer.Tokenizer.{Tokenizer}
 use Rattle.markdown_engine_index.proofs.SequenceIndexLemmas.{right-unknown}
 use Rattle.markdown_engine_index.proofs.TitleIndexLemmas as TitleIndexLemmas
 use Rattle.markdown_label.specs.LabelSetting.{setting_of, AreListed, IsListed}
-use Rattle.markdown_engine_index.specs.BracketIndex.{no_brackets}
-use Rattle.markdown_engine_index.specs.NameIndex.{in_order, names_in_order}
-use Rattle.markdown_engine_index.specs.declared.name_index.Names.{Names}
+use Rattle.markdown_engine_names.specs.BracketIndex.{no_brackets}
+use Rattle.markdown_engine_names.specs.NameIndex.{in_order, names_in_order}
+use Rattle.markdown_engine_names.specs.declared.name_index.Names.{Names}
 use Rattle.markdown_leaf_gfm.specs.GfmAutolinkLiteral as GfmAutolinkLiteral
 use Rattle.markdown_leaf.specs.RawText as RawText
 use Rattle.markdown_partial.specs.PartialSpaceOrTab as PartialSpaceOrTab

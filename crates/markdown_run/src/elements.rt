@@ -19,8 +19,8 @@ ghost use Rattle.markdown_run_row.specs.TextContent.{StartReady, other_markers, 
 ghost use Rattle.markdown_run.specs.ElementsOfText.{EndsAt, GoesOn, IsReady, KnowsNothing, Learns, MayTry, PassesData, ReadsElement, Passes, forgotten, text_named};
 
 use crate::run::construct;
-use markdown_engine::resolve::ResolveName;
-use markdown_engine::state::StateName;
+use markdown_state::resolve::ResolveName;
+use markdown_state::state::StateName;
 use markdown_engine::tokenizer::Tokenizer;
 use markdown_engine_index::run_index::RunIndex;
 use markdown_engine_index::sequence_index::SequenceIndex;

@@ -16,8 +16,8 @@ ghost use Rattle.markdown_run_leaves.specs.InnermostEvents.{IsInOrder, covered, 
 ghost use Rattle.markdown_model.specs.InlineTree.{label_tree, string_events, text_events};
 
 use crate::elements::{end_text, read_text};
-use markdown_engine::resolve::ResolveName;
-use markdown_engine::state::StateName;
+use markdown_state::resolve::ResolveName;
+use markdown_state::state::StateName;
 use markdown_engine::tokenizer::Tokenizer;
 pub use markdown_engine_pieces::content::{is_content, is_text};
 use markdown_engine_content::cursor::Cursor;
@@ -179,10 +179,6 @@ pub fn text_through(tokenizer: &mut Tokenizer) -> Result<Run, AllocError>
     finish_text(tokenizer)
 }
 
-// Gives up a tokenizer that has run.
-#[inline(always)]
-fn discard(_tokenizer: Tokenizer) {}
-
 // Reads a text from its start, where a cursor stands. The cursor is made before, so that the room of the tokenizer is filled once.
 fn text_from<'a>(
     alloc: Global,
@@ -200,7 +196,7 @@ fn text_from<'a>(
         .tokenize_state
         .document_at_first_paragraph_of_list_item = first_of_item;
     let found = text_through(&mut tokenizer);
-    discard(tokenizer);
+    drop(tokenizer);
     found
 }
 
@@ -220,7 +216,7 @@ pub fn string(alloc: Global, parse_state: &ParseState, pieces: &[Piece]) -> Resu
 {
     let mut tokenizer = Tokenizer::new(alloc, parse_state, pieces);
     let found = run_through(StateName::StringStart, &mut tokenizer);
-    discard(tokenizer);
+    drop(tokenizer);
     found
 }
 

@@ -11,7 +11,7 @@ use Rattle.markdown_engine_content.proofs.PlaceRules.{IsAhead, ahead_none, ahead
 use Rattle.markdown_engine_index.specs.RunIndex.{leading}
 use Rattle.markdown_engine.specs.Operations.{ahead, applied, current_of, entered, exited, registered}
 use Rattle.markdown_engine.specs.PastTree.{moved_by, passed, past}
-use Rattle.markdown_engine.specs.declared.resolve.ResolveName.TheVariants as R
+use Rattle.markdown_state.specs.declared.resolve.ResolveName.TheVariants as R
 use Rattle.markdown_engine.specs.declared.tokenizer.Tokenizer.{Tokenizer}
 use Rattle.markdown_engine.proofs.OperationFields.{Begins, ahead-some}
 use Rattle.markdown_engine.proofs.ReadingSequences.{scratched-same}

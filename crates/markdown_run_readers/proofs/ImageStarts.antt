@@ -9,8 +9,8 @@ use Rattle.markdown_event.proofs.AndParts.{and-left, and-right}
 use Rattle.markdown_engine_content.proofs.PlaceRules.{IsAhead, ahead-moved, ahead_none, ahead_some}
 use Rattle.markdown_engine.specs.Operations.{Op, ahead, applied, current_of, done}
 use Rattle.markdown_engine.specs.StateRuns.{Stepped, stepped}
-use Rattle.markdown_engine.specs.declared.state.State.{State}
-use Rattle.markdown_engine.specs.declared.state.State.TheVariants.{Nok, Ok}
+use Rattle.markdown_state.specs.declared.state.State.{State}
+use Rattle.markdown_state.specs.declared.state.State.TheVariants.{Nok, Ok}
 use Rattle.markdown_engine.specs.declared.tokenizer.Tokenizer.{Tokenizer}
 use Rattle.markdown_label.specs.LabelStarts.{ImageAfterReady, footnotes_on, image_after_step, image_back, image_front, image_test, images_on, is_caret, kept_start}
 use Rattle.markdown_label.proofs.LabelStartOps.{written}

@@ -5,7 +5,7 @@ use Rattle.markdown_engine_content.specs.declared.configuration.ParseOptions.{Pa
 use Rattle.markdown_engine_content.specs.declared.label_kind.LabelKind.{LabelKind}
 use Rattle.markdown_engine.specs.Operations.{ahead, registered, scratched}
 use Rattle.markdown_engine.specs.PastTree.{TreeReading, Reads}
-use Rattle.markdown_engine.specs.declared.resolve.ResolveName.{ResolveName}
+use Rattle.markdown_state.specs.declared.resolve.ResolveName.{ResolveName}
 use Rattle.markdown_engine.specs.declared.tokenizer.TokenizeState.{TokenizeState}
 use Rattle.markdown_engine.specs.declared.tokenizer.Tokenizer.{Tokenizer}
 use Rattle.markdown_model.specs.Grammar.{Reading}

@@ -3,13 +3,13 @@
 
 ghost use Rattle.std.specs.Prelude.{◌≡◌, IfOk, OnErr, IsTrue, None, Some};
 ghost use Rattle.markdown_engine.specs.Operations.{current_of};
-ghost use Rattle.markdown_engine.specs.declared.resolve.ResolveName.TheVariants as R;
+ghost use Rattle.markdown_state.specs.declared.resolve.ResolveName.TheVariants as R;
 ghost use Rattle.markdown_engine_content.specs.Place.{code_at};
 ghost use Rattle.markdown_model.specs.SingleConstructs.{attention_here, begins_run};
 ghost use Rattle.markdown_run_readers.specs.PlacesPassed.{is_some_value, past_run};
 ghost use Rattle.markdown_run_readers.specs.ReaderEnds.{ReadsOrStays, options_here};
 
-use markdown_engine::resolve::ResolveName;
+use markdown_state::resolve::ResolveName;
 use markdown_engine::tokenizer::Tokenizer;
 use markdown_engine_content::configuration::Constructs;
 use markdown_engine_content::cursor::Cursor;

@@ -18,7 +18,7 @@ use Rattle.markdown_engine.specs.declared.tokenizer.Tokenizer.{Tokenizer}
 use Rattle.markdown_engine.proofs.ReadingSequences.{row-empty, scratched-same}
 use Rattle.markdown_engine_content.proofs.PlaceRules.{ahead-moved}
 use Rattle.markdown_engine.proofs.OperationFields.{ahead-none, current-ahead, first-drop, left-ahead}
-use Rattle.markdown_engine.specs.declared.resolve.ResolveName.TheVariants as R
+use Rattle.markdown_state.specs.declared.resolve.ResolveName.TheVariants as R
 use Rattle.markdown_leaf.specs.RawText.{code_just_before}
 use Rattle.markdown_model.specs.SingleConstructs.{ends_escape, follows_escape, is_escape}
 use Rattle.markdown_plan.proofs.FirstStretch.{BeginsWith, stretches-begin}

@@ -6,8 +6,8 @@ use Rattle.markdown_engine.specs.Operations.{ahead, is_registered, registered, r
 use Rattle.markdown_engine.specs.PastTree.{past, last_link}
 use Rattle.markdown_engine_content.specs.Tree.{Forest, empty, leaf_then, group_then, leaf, ◌⊕◌}
 use Rattle.markdown_event.specs.declared.event.Name.{Name}
-use Rattle.markdown_engine.specs.declared.resolve.ResolveName.{ResolveName}
-use Rattle.markdown_engine.specs.declared.resolve.ResolveName.TheVariants as R
+use Rattle.markdown_state.specs.declared.resolve.ResolveName.{ResolveName}
+use Rattle.markdown_state.specs.declared.resolve.ResolveName.TheVariants as R
 use Rattle.markdown_engine.specs.declared.tokenizer.Tokenizer.{Tokenizer}
 use Rattle.markdown_engine.proofs.TreeEvents.{past-empty, past-past}
 use Rattle.markdown_attention.specs.RunsRead.{is_run}

@@ -5,7 +5,7 @@ use Rattle.markdown_engine.specs.Operations.{scratched}
 use Rattle.markdown_engine.specs.PastTree.{past, appended_from, last_link}
 use Rattle.markdown_engine_content.specs.Tree.{Forest, ◌⊕◌, event_count}
 use Rattle.markdown_event.specs.declared.event.Event.{Event}
-use Rattle.markdown_engine.specs.declared.resolve.ResolveName.TheVariants as R
+use Rattle.markdown_state.specs.declared.resolve.ResolveName.TheVariants as R
 use Rattle.markdown_engine_content.specs.declared.label_kind.LabelKind.{LabelKind}
 use Rattle.markdown_engine.specs.declared.tokenizer.LabelStart.{LabelStart}
 use Rattle.markdown_engine.specs.declared.tokenizer.TokenizeState.{TokenizeState}

@@ -7,7 +7,7 @@ use Rattle.markdown_engine.specs.Operations.{scratched}
 use Rattle.markdown_engine.specs.PastTree.{past, moved_by}
 use Rattle.markdown_engine_content.specs.Place.{Place}
 use Rattle.markdown_engine_content.specs.Tree.{Forest, leaf_codes}
-use Rattle.markdown_engine.specs.declared.resolve.ResolveName.TheVariants as R
+use Rattle.markdown_state.specs.declared.resolve.ResolveName.TheVariants as R
 use Rattle.markdown_engine_content.specs.declared.label_kind.LabelKind.{LabelKind}
 use Rattle.markdown_engine.specs.declared.tokenizer.LabelStart as Kept
 use Rattle.markdown_engine.specs.declared.tokenizer.TokenizeState.{TokenizeState}

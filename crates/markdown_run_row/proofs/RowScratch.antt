@@ -7,8 +7,8 @@ use Rattle.markdown_engine_content.specs.Place.{Place}
 use Rattle.markdown_engine_content.specs.Tree.{Forest, leaf, leaf_codes}
 use Rattle.markdown_event.specs.declared.event.Event.{Event}
 use Rattle.markdown_event.specs.declared.event.Name.TheVariants as N
-use Rattle.markdown_engine.specs.declared.resolve.ResolveName.{ResolveName}
-use Rattle.markdown_engine.specs.declared.resolve.ResolveName.TheVariants as R
+use Rattle.markdown_state.specs.declared.resolve.ResolveName.{ResolveName}
+use Rattle.markdown_state.specs.declared.resolve.ResolveName.TheVariants as R
 use Rattle.markdown_engine_content.specs.declared.label_kind.LabelKind.{LabelKind}
 use Rattle.markdown_engine.specs.declared.tokenizer.LabelStart.{LabelStart}
 use Rattle.markdown_engine.specs.declared.tokenizer.TokenizeState.{TokenizeState}

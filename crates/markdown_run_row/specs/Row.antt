@@ -8,8 +8,8 @@ use Rattle.markdown_engine.specs.Operations.{is_registered, scratched}
 use Rattle.markdown_engine.specs.PastTree.{past}
 use Rattle.markdown_engine_content.specs.Tree.{Forest, empty, leaf, ◌⊕◌, leaf_codes, event_count}
 use Rattle.markdown_event.specs.declared.event.Name.TheVariants as N
-use Rattle.markdown_engine.specs.declared.resolve.ResolveName.{ResolveName}
-use Rattle.markdown_engine.specs.declared.resolve.ResolveName.TheVariants as R
+use Rattle.markdown_state.specs.declared.resolve.ResolveName.{ResolveName}
+use Rattle.markdown_state.specs.declared.resolve.ResolveName.TheVariants as R
 use Rattle.markdown_engine_content.specs.declared.label_kind.LabelKind.{LabelKind}
 use Rattle.markdown_engine.specs.declared.tokenizer.LabelStart as Kept
 use Rattle.markdown_engine.specs.declared.tokenizer.TokenizeState.{TokenizeState}

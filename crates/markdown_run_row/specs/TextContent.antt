@@ -2,26 +2,26 @@
 use Rattle.std.specs.Prelude.{◌≡◌, ◌≢◌, ℕ, Bool, true, false, nat_le, ◌==◌, ◌&&◌, ◌||◌, not, if◌then◌else◌, List, [], ◌∷◌, ◌++◌, Option, Some, None, length, map, filter, codes, string_bytes, String}
 use Rattle.std.specs.Str.{byte}
 use Rattle.markdown_engine_content.specs.Codes.{Code, count_among, stop_of, document_start}
-use Rattle.markdown_engine_index.specs.NameIndex.{names_in_order}
+use Rattle.markdown_engine_names.specs.NameIndex.{names_in_order}
 use Rattle.markdown_engine.specs.Operations.{attempted, scratched, registered, current_of, ahead}
 use Rattle.markdown_engine_content.specs.Place.{Place, point_of}
 use Rattle.std.specs.List.{list_any}
-use Rattle.markdown_engine_index.specs.BracketIndex.{BracketPlaces, brackets_between}
+use Rattle.markdown_engine_names.specs.BracketIndex.{BracketPlaces, brackets_between}
 use Rattle.markdown_engine_index.specs.RunIndex.{last_runs}
 use Rattle.markdown_engine.specs.PastTree.{TreeReading}
 use Rattle.markdown_engine.specs.StateRuns.{Stepped, stepped}
 use Rattle.markdown_engine.specs.StateWords.{StateWords}
 use Rattle.markdown_engine_index.specs.SequenceIndex.{last_begins, holds}
 use Rattle.markdown_engine_index.specs.TitleIndex.{closers_of}
-use Rattle.markdown_engine_index.specs.declared.name_index.Names.{Names}
+use Rattle.markdown_engine_names.specs.declared.name_index.Names.{Names}
 use Rattle.markdown_engine_content.specs.declared.parser.ParseState.{ParseState}
-use Rattle.markdown_engine.specs.declared.resolve.ResolveName.TheVariants as R
+use Rattle.markdown_state.specs.declared.resolve.ResolveName.TheVariants as R
 use Rattle.markdown_engine_index.specs.declared.sequence_index.Sequence.TheVariants.{ResourceEnd, WwwDot}
-use Rattle.markdown_engine.specs.declared.state.State.TheVariants.{Next, Retry, Ok, Nok}
-use Rattle.markdown_engine.specs.declared.state.StateName.{StateName}
-use Rattle.markdown_engine.specs.declared.state.StateName.TheVariants as H
-use Rattle.markdown_engine.specs.declared.state.StateName.TheVariants.{AttentionStart, AutolinkStart, CharacterEscapeStart, CharacterReferenceStart, DataStart, GfmAutolinkLiteralProtocolStart, GfmAutolinkLiteralWwwStart, GfmLabelStartFootnoteStart, GfmTaskListItemCheckStart}
-use Rattle.markdown_engine.specs.declared.state.StateName.TheVariants.{HardBreakEscapeStart, HtmlTextStart, LabelEndStart, LabelStartImageStart, LabelStartLinkStart, RawTextStart, TextBefore, TextBeforeData, TextBeforeHardBreakEscape, TextBeforeHtml, TextBeforeLabelStartLink}
+use Rattle.markdown_state.specs.declared.state.State.TheVariants.{Next, Retry, Ok, Nok}
+use Rattle.markdown_state.specs.declared.state.StateName.{StateName}
+use Rattle.markdown_state.specs.declared.state.StateName.TheVariants as H
+use Rattle.markdown_state.specs.declared.state.StateName.TheVariants.{AttentionStart, AutolinkStart, CharacterEscapeStart, CharacterReferenceStart, DataStart, GfmAutolinkLiteralProtocolStart, GfmAutolinkLiteralWwwStart, GfmLabelStartFootnoteStart, GfmTaskListItemCheckStart}
+use Rattle.markdown_state.specs.declared.state.StateName.TheVariants.{HardBreakEscapeStart, HtmlTextStart, LabelEndStart, LabelStartImageStart, LabelStartLinkStart, RawTextStart, TextBefore, TextBeforeData, TextBeforeHardBreakEscape, TextBeforeHtml, TextBeforeLabelStartLink}
 use Rattle.markdown_engine_index.specs.declared.title_index.Closer.{Closer}
 use Rattle.markdown_engine.specs.declared.tokenizer.TokenizeState.{TokenizeState}
 use Rattle.markdown_engine.specs.declared.tokenizer.Tokenizer.{Tokenizer}

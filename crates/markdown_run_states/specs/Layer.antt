@@ -5,8 +5,8 @@ use Rattle.std.specs.Prelude.{ℕ, Bool, List, Option, None, Some, false}
 use Rattle.markdown_engine.specs.StateRuns.{Stepped, Lawful}
 use Rattle.markdown_engine.specs.Weights.{weight_at}
 use Rattle.markdown_engine.specs.StateWords.{StateWords, Words, Law, words_in, end_words}
-use Rattle.markdown_engine.specs.declared.state.StateName.{StateName}
-use Rattle.markdown_engine.specs.declared.state.StateName.TheVariants as H
+use Rattle.markdown_state.specs.declared.state.StateName.{StateName}
+use Rattle.markdown_state.specs.declared.state.StateName.TheVariants as H
 use Rattle.markdown_engine.specs.declared.tokenizer.TokenizeState.{TokenizeState}
 use Rattle.markdown_engine.specs.declared.tokenizer.Tokenizer.{Tokenizer}
 use Rattle.markdown_leaf_gfm.specs.GfmAutolinkLiteral as GfmAutolinkLiteral

@@ -3,7 +3,7 @@ ghost use Rattle.std.specs.Prelude.{◌≡◌, false, IfOk, IsErr, OnErr, IsTrue
 ghost use Rattle.markdown_run_text.specs.ContentPasses.{may_resolve_of, resolves_of};
 
 use crate::{attention, label_end};
-use markdown_engine::resolve::ResolveName;
+use markdown_state::resolve::ResolveName;
 use markdown_engine::tokenizer::Tokenizer;
 use markdown_engine_events::subtokenize::Subresult;
 use markdown_partial::partial_data;

@@ -6,8 +6,8 @@ ghost use Rattle.markdown_run_text.specs.ContentPasses.{may_resolve_of, resolves
 
 use crate::{attention, label_end, resolve};
 use markdown_engine::layer::Layer;
-use markdown_engine::resolve::ResolveName;
-use markdown_engine::state::{State, StateName};
+use markdown_state::resolve::ResolveName;
+use markdown_state::state::{State, StateName};
 use markdown_engine::tokenizer::{TokenizeState, Tokenizer};
 use markdown_engine_content::bytes::ByteSet;
 use markdown_engine_events::subtokenize::Subresult;

@@ -13,11 +13,11 @@ use Rattle.markdown_engine.specs.StateRuns.{Stepped, stepped}
 use Rattle.markdown_engine.specs.StateWords.{StateWords, Words, words_in, GoesIn, Law}
 use Rattle.markdown_engine_content.specs.Tree.{leaf_codes}
 use Rattle.markdown_engine.specs.Weights.{codes_left, weight_at}
-use Rattle.markdown_engine.specs.declared.state.State.TheVariants.{Next, Retry, Nok}
-use Rattle.markdown_engine.specs.declared.state.StateName.{StateName}
-use Rattle.markdown_engine.specs.declared.state.StateName.TheVariants as H
-use Rattle.markdown_engine.specs.declared.state.StateName.TheVariants.{AttentionStart, AutolinkStart, CharacterEscapeStart, CharacterReferenceStart, DataStart, GfmAutolinkLiteralProtocolStart, GfmAutolinkLiteralWwwStart, GfmLabelStartFootnoteStart, GfmTaskListItemCheckStart}
-use Rattle.markdown_engine.specs.declared.state.StateName.TheVariants.{HardBreakEscapeStart, HtmlTextStart, LabelEndStart, LabelStartImageStart, LabelStartLinkStart, RawTextStart, TextBefore, TextBeforeData, TextBeforeHardBreakEscape, TextBeforeHtml, TextBeforeLabelStartLink}
+use Rattle.markdown_state.specs.declared.state.State.TheVariants.{Next, Retry, Nok}
+use Rattle.markdown_state.specs.declared.state.StateName.{StateName}
+use Rattle.markdown_state.specs.declared.state.StateName.TheVariants as H
+use Rattle.markdown_state.specs.declared.state.StateName.TheVariants.{AttentionStart, AutolinkStart, CharacterEscapeStart, CharacterReferenceStart, DataStart, GfmAutolinkLiteralProtocolStart, GfmAutolinkLiteralWwwStart, GfmLabelStartFootnoteStart, GfmTaskListItemCheckStart}
+use Rattle.markdown_state.specs.declared.state.StateName.TheVariants.{HardBreakEscapeStart, HtmlTextStart, LabelEndStart, LabelStartImageStart, LabelStartLinkStart, RawTextStart, TextBefore, TextBeforeData, TextBeforeHardBreakEscape, TextBeforeHtml, TextBeforeLabelStartLink}
 use Rattle.markdown_engine.specs.declared.tokenizer.TokenizeState.{TokenizeState}
 use Rattle.markdown_engine.specs.declared.tokenizer.Tokenizer.{Tokenizer}
 use Rattle.markdown_engine.proofs.ReadingSequences.{scratched-same}

@@ -4,9 +4,9 @@ use Rattle.markdown_model.specs.CodeTests.{is_value, last_code, next_is}
 use Rattle.std.proofs.Common.{◌≡◌, ◌≢◌, ℕ, ◌+◌, ◌*◌, ◌<◌, ◌≤◌, ◌==◌, Bool, true, false, if◌then◌else◌, Option, Some, None, List, [], ◌∷◌, refl, sym, ap, subst, ◌∙◌, arith, length, length-append, is_none, ◌&&◌, ◌++◌, append-nil}
 use Rattle.std.specs.Str.{byte}
 use Rattle.markdown_engine_content.specs.Codes.{Code, stop_of, document_start}
-use Rattle.markdown_engine_index.specs.BracketIndex.{BracketPlaces, brackets_between}
-use Rattle.markdown_engine_index.specs.NameIndex.{names_in_order}
-use Rattle.markdown_engine_index.specs.declared.name_index.Names.{Names}
+use Rattle.markdown_engine_names.specs.BracketIndex.{BracketPlaces, brackets_between}
+use Rattle.markdown_engine_names.specs.NameIndex.{names_in_order}
+use Rattle.markdown_engine_names.specs.declared.name_index.Names.{Names}
 use Rattle.markdown_engine_content.specs.declared.parser.ParseState.{ParseState}
 use Rattle.markdown_event.specs.declared.event.Point.{Point}
 use Rattle.markdown_engine.specs.Operations.{ahead, current_of, is_registered, registered, scratched, previous_of}
@@ -17,7 +17,7 @@ use Rattle.markdown_engine_index.specs.SequenceIndex.{last_begins}
 use Rattle.markdown_engine_index.specs.TitleIndex.{closers_of}
 use Rattle.markdown_engine_content.specs.Tree.{Forest, empty}
 use Rattle.markdown_engine.specs.Weights.{codes_left, weight_at}
-use Rattle.markdown_engine.specs.declared.resolve.ResolveName.TheVariants as R
+use Rattle.markdown_state.specs.declared.resolve.ResolveName.TheVariants as R
 use Rattle.markdown_engine.specs.declared.tokenizer.TokenizeState.{TokenizeState}
 use Rattle.markdown_engine.specs.declared.tokenizer.Tokenizer.{Tokenizer}
 use Rattle.markdown_engine.proofs.ReadingSequences.{scratched-same}

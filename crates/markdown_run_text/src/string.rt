@@ -22,8 +22,8 @@ ghost use Rattle.std.specs.Prelude.{◌≡◌, IfOk, OnErr, IsTrue, None, false}
 ghost use Rattle.markdown_run_text.specs.ContentPasses.{MayTrim, TrimsData};
 ghost use Rattle.markdown_run_text.specs.StringContent.{string_markers, start_step, before_step, before_data_step};
 
-use markdown_engine::resolve::ResolveName;
-use markdown_engine::state::{State, StateName};
+use markdown_state::resolve::ResolveName;
+use markdown_state::state::{State, StateName};
 use markdown_engine::tokenizer::Tokenizer;
 use markdown_engine_content::byte_set;
 use markdown_engine_content::bytes::ByteSet;

@@ -7,9 +7,9 @@ ghost use Rattle.std.specs.Prelude.{◌≡◌, OnOk};
 ghost use Rattle.markdown_engine.specs.Operations.{LinkedBefore};
 
 use crate::answers::Answers;
-use markdown_engine::resolve::ResolveName;
+use markdown_state::resolve::ResolveName;
 use markdown_engine::run::resume;
-use markdown_engine::state::{State, StateName};
+use markdown_state::state::{State, StateName};
 use markdown_engine::tokenizer::{Attempt, Tokenizer};
 use markdown_event::event::{Content, Event, Link, Name};
 use std::alloc::AllocError;

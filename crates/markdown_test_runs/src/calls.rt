@@ -7,7 +7,7 @@ ghost use Rattle.markdown_run_states.specs.Layer.{ready_of};
 use crate::answers::Answers;
 use crate::paths;
 use markdown_engine::run::resume;
-use markdown_engine::state::{State, StateName};
+use markdown_state::state::{State, StateName};
 use markdown_engine::tokenizer::{Attempt, TokenizeState, Tokenizer};
 use markdown_event::event::{Content, Event, Kind, Name};
 use markdown_engine_content::parser::{ParseState, Piece};

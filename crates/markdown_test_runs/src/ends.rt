@@ -3,11 +3,11 @@ ghost use Rattle.std.specs.Prelude.{◌≡◌, ◌≤◌, [], IfOk};
 ghost use Rattle.markdown_plan.specs.Characters.{ReadsText};
 ghost use Rattle.markdown_engine.specs.RestingFields.{at_rest};
 ghost use Rattle.markdown_engine.specs.Weights.{codes_left};
-ghost use Rattle.markdown_engine.specs.declared.state.StateName.TheVariants.{LabelEndStart};
+ghost use Rattle.markdown_state.specs.declared.state.StateName.TheVariants.{LabelEndStart};
 ghost use Rattle.markdown_partial.specs.PartialSpaceOrTab.{most};
 ghost use Rattle.markdown_run.specs.RunConstruct.{IsConstruct};
 
-use markdown_engine::state::StateName;
+use markdown_state::state::StateName;
 use markdown_engine::tokenizer::{LabelKind, LabelStart, Tokenizer};
 use markdown_event::event::{Event, Kind, Name, Point};
 use markdown_inline::run::construct;

@@ -10,8 +10,8 @@ ghost use Rattle.markdown_partial.specs.TrimmedEvents.{FirstHasPlaces, HasPlaces
 
 use crate::constructs::answer_again;
 use crate::pairing;
-use markdown_engine::resolve::ResolveName;
-use markdown_engine::state::StateName;
+use markdown_state::resolve::ResolveName;
+use markdown_state::state::StateName;
 use markdown_engine::tokenizer::Tokenizer;
 use markdown_engine_pieces::content::is_content;
 use markdown_event::event::{Event, Kind, Link, Name, Point};

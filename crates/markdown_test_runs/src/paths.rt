@@ -5,7 +5,7 @@ ghost use Rattle.markdown_engine.specs.Weights.{codes_left};
 ghost use Rattle.markdown_partial.specs.PartialSpaceOrTab.{most};
 ghost use Rattle.markdown_run_states.specs.Layer.{ready_of};
 
-use markdown_engine::state::{State, StateName};
+use markdown_state::state::{State, StateName};
 use markdown_engine::tokenizer::Tokenizer;
 use markdown_inline::run::construct;
 use markdown_inline::{

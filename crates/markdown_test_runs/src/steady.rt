@@ -2,7 +2,7 @@
 ghost use Rattle.std.specs.Prelude.{◌≡◌, None};
 
 use crate::answers::Answers;
-use markdown_engine::state::StateName;
+use markdown_state::state::StateName;
 use markdown_engine::tokenizer::Tokenizer;
 use markdown_engine_content::configuration::ParseOptions;
 use markdown_event::event::{Content, Event, Kind, Name, Point};

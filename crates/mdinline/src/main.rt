@@ -8,7 +8,9 @@ use std::{env, io};
 
 // The words after the program's name.
 fn words(rt: &HostRuntime, alloc: Global) -> io::Result<Vec<String>> {
-    Ok(env::args(rt)?.skip(1).collect(alloc)?)
+    let mut args = env::args(rt)?;
+    args.next();
+    Ok(args.collect(alloc)?)
 }
 
 fn main(rt: HostRuntime) -> ExitCode {

@@ -1,7 +1,7 @@
 -- The states that pass code after code do no more than that up to their stop bytes.
 use Rattle.std.proofs.Common.{◌≡◌, ℕ, List, None, Some}
 use Rattle.markdown_engine.specs.Steady.{IsSteady}
-use Rattle.markdown_engine.specs.declared.state.StateName.TheVariants as H
+use Rattle.markdown_state.specs.declared.state.StateName.TheVariants as H
 use Rattle.markdown_leaf_html.proofs.HtmlSteadyLaws as HtmlSteadyLaws
 use Rattle.markdown_leaf.proofs.AutolinkLaws as AutolinkLaws
 use Rattle.markdown_leaf.proofs.RawTextLaws as RawTextLaws

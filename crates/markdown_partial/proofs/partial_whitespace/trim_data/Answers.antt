@@ -1,10 +1,30 @@
-use Rattle.std.proofs.Common.{◌<◌, ◌+◌, ◌∷◌, ◌++◌, [], List, false, length, drop, ap, sym, ◌∙◌}
+use Rattle.std.proofs.Common.{◌≡◌, ℕ, ◌<◌, ◌+◌, ◌∷◌, ◌++◌, [], Bool, List, true, false, length, get_or, drop, ap, sym, ◌∙◌, arith}
 use Rattle.markdown_event.specs.declared.event.Event.{Event}
 use Rattle.markdown_partial.specs.TrimmedData.{trimmed_events}
-use Rattle.markdown_partial.specs.TrimmedEvents.{ClosesAt, flag, goes_before}
+use Rattle.markdown_partial.specs.TrimmedEvents.{ClosesAt, FirstHasPlaces, flag, goes_before, loses_first}
 use Rattle.markdown_partial.proofs.TrimEdits.{next-within, closes-first, edit-first, opens-first, stretch-first}
 use Rattle.markdown_partial.proofs.TrimmedLeaves.{trimmed-unlinked}
 use Rattle.markdown_partial.proofs.partial_whitespace.trim_data.Goals as goal
+
+-- another event follows
+ahead : (bytes : List ℕ) (whole : Bool) (i : ℕ) (es : List Event) (e : Event) → i < length es → e ≡ get_or es i e →
+    loses_first bytes whole (flag i whole es) (drop i es) ≡ true → FirstHasPlaces bytes (drop i es) → i + 1 < length es
+ahead bytes whole i es e l h k p = next-within bytes i es e (closes-first bytes i es e l h (opens-first bytes whole (flag i whole es) i es e l h k) p)
+
+pub overflow_add-index : goal.overflow_add-index
+overflow_add-index c = omega (arith, c.requires.within, c.requires.counted)
+
+pub bare_at-exit-requires : goal.bare_at-exit-requires
+bare_at-exit-requires c = ahead c.args.bytes.now c.args.trimming.whole c.args.index c.args.events.now c.bare_at-enter.result c.requires.within c.bare_at-enter.ensures.event c.requires.loses c.requires.places
+
+pub overflow_add-index-2 : goal.overflow_add-index-2
+overflow_add-index-2 c = omega (arith, ahead c.args.bytes.now c.args.trimming.whole c.args.index c.args.events.now c.bare_at-enter.result c.requires.within c.bare_at-enter.ensures.event c.requires.loses c.requires.places, c.requires.counted)
+
+pub goes_before-back-requires : goal.goes_before-back-requires
+goes_before-back-requires c = omega (arith, ahead c.args.bytes.now c.args.trimming.whole c.args.index c.args.events.now c.bare_at-enter.result c.requires.within c.bare_at-enter.ensures.event c.requires.loses c.requires.places)
+
+pub overflow_add-index-3 : goal.overflow_add-index-3
+overflow_add-index-3 c = omega (arith, ahead c.args.bytes.now c.args.trimming.whole c.args.index c.args.events.now c.bare_at-enter.result c.requires.within c.bare_at-enter.ensures.event c.requires.loses c.requires.places, c.requires.counted)
 
 pub trimmed_data-requires-clause-stretch : goal.trimmed_data-requires-clause-stretch
 trimmed_data-requires-clause-stretch c =

@@ -2,7 +2,7 @@ use Rattle.std.proofs.Common.{◌≡◌, Bool, true, false, sym, ap, subst, ◌�
 use Rattle.std.proofs.lemmas.Result.{IfOk-weaker}
 use Rattle.std.specs.Option.{is_some}
 use Rattle.markdown_engine.specs.Operations.{current_of}
-use Rattle.markdown_engine.specs.declared.state.StateName.TheVariants.{AutolinkStart}
+use Rattle.markdown_state.specs.declared.state.StateName.TheVariants.{AutolinkStart}
 use Rattle.markdown_engine.specs.declared.tokenizer.Tokenizer.{Tokenizer}
 use Rattle.markdown_engine.proofs.ReadingSequences.{scratched-same}
 use Rattle.markdown_leaf_html.specs.HtmlText as HtmlText

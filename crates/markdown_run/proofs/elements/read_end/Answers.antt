@@ -1,6 +1,6 @@
 use Rattle.std.proofs.Common.{◌≡◌, Bool, true, ap, subst, ◌∙◌, sym}
 use Rattle.std.proofs.lemmas.Result.{IfOk-weaker}
-use Rattle.markdown_engine.specs.declared.state.StateName.TheVariants.{LabelEndStart}
+use Rattle.markdown_state.specs.declared.state.StateName.TheVariants.{LabelEndStart}
 use Rattle.markdown_engine.specs.declared.tokenizer.Tokenizer.{Tokenizer}
 use Rattle.markdown_label.specs.LabelEnd.{StartReady}
 use Rattle.markdown_run_readers.specs.PlainResource.{EndsOrStays}

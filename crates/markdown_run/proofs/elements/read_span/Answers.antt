@@ -1,6 +1,6 @@
 use Rattle.std.proofs.Common.{◌≡◌, ◌||◌, Bool, true, false, refl, ap, subst, sym, ◌∙◌}
 use Rattle.std.proofs.lemmas.Result.{IfOk-weaker}
-use Rattle.markdown_engine.specs.declared.state.StateName.TheVariants.{RawTextStart}
+use Rattle.markdown_state.specs.declared.state.StateName.TheVariants.{RawTextStart}
 use Rattle.markdown_engine.specs.declared.tokenizer.Tokenizer.{Tokenizer}
 use Rattle.markdown_leaf.specs.RawText.{StartReady, is_ruled_out, span_at}
 use Rattle.markdown_run_readers.specs.ReaderEnds.{ReadsOrLeaves}

@@ -1,7 +1,7 @@
 use Rattle.std.proofs.Common.{◌≡◌, Option, Some, None, false, ap, if◌then◌else◌}
 use Rattle.markdown_engine_content.specs.Place.{Place}
 use Rattle.markdown_engine_content.specs.declared.parser.ParseState.{ParseState}
-use Rattle.markdown_engine_index.specs.declared.name_index.Names.{Names}
+use Rattle.markdown_engine_names.specs.declared.name_index.Names.{Names}
 use Rattle.markdown_run_row.specs.TextContent.{brackets_in, names_change, names_for, names_in}
 use Rattle.markdown_run_text.proofs.text.index_names.Goals as goal
 

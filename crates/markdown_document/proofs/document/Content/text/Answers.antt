@@ -5,7 +5,7 @@ use Rattle.markdown_engine.specs.declared.tokenizer.Tokenizer.{Tokenizer}
 use Rattle.markdown_engine_content.specs.Content.{content_of}
 use Rattle.markdown_engine_content.specs.Place.{start_of_content}
 use Rattle.markdown_engine_content.specs.declared.parser.ParseState.{ParseState}
-use Rattle.markdown_engine_index.specs.declared.name_index.Names.{Names}
+use Rattle.markdown_engine_names.specs.declared.name_index.Names.{Names}
 use Rattle.markdown_attention.specs.AttentionPass.{IsProbed}
 use Rattle.markdown_model.specs.InlineTree.{label_tree}
 use Rattle.markdown_model.specs.Setting.{Setting}

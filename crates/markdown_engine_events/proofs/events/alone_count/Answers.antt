@@ -1,0 +1,40 @@
+use Rattle.std.proofs.Common.{ℕ, ◌≡◌, ◌<◌, ◌+◌, List, length, take, get_or, None, sym, subst, arith}
+use Rattle.std.specs.List.{All}
+use Rattle.std.proofs.lemmas.List.{take_more}
+use Rattle.std.proofs.lemmas.List.Elements.{All-push}
+use Rattle.markdown_event.specs.declared.event.Event.{Event}
+use Rattle.markdown_engine_events.specs.EventChains.{link_previous, next_link}
+use Rattle.markdown_engine_events.proofs.events.alone_count.Goals as goal
+
+all-more : (P : Event → Type 0) (es : List Event) (k : ℕ) (d : Event) → k < length es → All P (take k es) →
+    P (get_or es k d) → All P (take (k + 1) es)
+all-more P es k d within all here =
+    subst (λ (xs : List Event). All P xs) (sym (take_more es k d within)) (All-push P (take k es) (get_or es k d) all here)
+
+pub loop-count-init : goal.loop-count-init
+loop-count-init c = record {
+  within = c.alone_fours-count.ensures.within;
+  previous = c.alone_fours-count.ensures.previous;
+  next = c.alone_fours-count.ensures.next;
+}
+
+pub loop-count-preserved : goal.loop-count-preserved
+loop-count-preserved c = record {
+  within = omega (arith, c.loop-count-test.true);
+  previous = all-more (λ (e : Event). link_previous e.link ≡ None) c.args.items.now c.loop-count.count _ c.loop-count-test.true c.loop-count.invariant.previous (c.is_alone.ensures.previous c.if-is_alone.true);
+  next = all-more (λ (e : Event). next_link None e.link ≡ e.link) c.args.items.now c.loop-count.count _ c.loop-count-test.true c.loop-count.invariant.next (c.is_alone.ensures.next c.if-is_alone.true);
+}
+
+pub returns-else-is_alone : goal.returns-else-is_alone
+returns-else-is_alone c = record {
+  within = c.loop-count.invariant.within;
+  previous = c.loop-count.invariant.previous;
+  next = c.loop-count.invariant.next;
+}
+
+pub returns-after-loop-count : goal.returns-after-loop-count
+returns-after-loop-count c = record {
+  within = c.loop-count.invariant.within;
+  previous = c.loop-count.invariant.previous;
+  next = c.loop-count.invariant.next;
+}

@@ -1,0 +1,4 @@
+-- The proofs of this crate.
+pub mod NameOrder
+pub mod BracketIndexLemmas
+pub mod NameSort

@@ -1,0 +1,4 @@
+-- The definitions of this crate.
+pub mod BracketIndex
+pub mod NameIndex
+pub mod KeptNames

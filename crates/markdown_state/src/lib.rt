@@ -1,0 +1,5 @@
+//! The names of states and of passes, and what a state answers.
+#![tactic(auto)]
+
+pub mod resolve;
+pub mod state;
