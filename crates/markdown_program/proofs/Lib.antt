@@ -1,3 +1,2 @@
 -- The proofs of the program.
 pub mod WholeDocument
-pub mod DefiningWords

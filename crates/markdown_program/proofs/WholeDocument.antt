@@ -9,7 +9,7 @@ use Rattle.std.proofs.lemmas.Str.{IsCharBoundary-end, IsCharBoundary-from_drop}
 use Rattle.markdown_event.specs.declared.event.Point.{Point}
 use Rattle.markdown_engine_content.specs.Codes.{Code, codes_of, document_start, stop_of, is_at_or_after}
 use Rattle.markdown_engine_content.specs.Content.{IsContent, document_limit, is_place, are_pieces, IsBetweenCharacters}
-use Rattle.markdown_program.specs.ProgramWords.{whole_piece}
+use Rattle.markdown_program_words.specs.ProgramWords.{whole_piece}
 use Rattle.markdown_engine_content.proofs.DocumentPlaces.{along}
 use Rattle.markdown_engine_content.proofs.DocumentCodes.{Stands, codes_at}
 use Rattle.markdown_engine_content.proofs.DocumentWalkLemmas.{step, stands-start}

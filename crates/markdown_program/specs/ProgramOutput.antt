@@ -7,7 +7,7 @@ use Rattle.markdown_model.specs.InlineTree.{string_events, text_events}
 use Rattle.markdown_model.specs.Setting.{Setting}
 use Rattle.markdown_util.specs.Reference.{html_5_rows}
 use Rattle.markdown_inline_lines.specs.PrintedLines.{lines_of}
-use Rattle.markdown_program.specs.ProgramWords.{reads_text, has_word, options_of, defined_by, whole_piece, without_line_ending}
+use Rattle.markdown_program_words.specs.ProgramWords.{reads_text, has_word, options_of, defined_by, whole_piece, without_line_ending}
 
 -- the setting that the words ask for
 abbrev pub setting_by : List (String Global) → List ℕ → Setting

@@ -3,11 +3,11 @@ ghost use Rattle.std.specs.Prelude.{◌≡◌, false, IfOk, IsErr, OnErr, IsTrue
 ghost use Rattle.markdown_run_text.specs.ContentPasses.{may_resolve_of, resolves_of};
 
 use crate::{attention, label_end};
-use markdown_state::resolve::ResolveName;
 use markdown_engine::tokenizer::Tokenizer;
 use markdown_engine_events::subtokenize::Subresult;
 use markdown_partial::partial_data;
 use markdown_run_text::{string, text};
+use markdown_state::resolve::ResolveName;
 use std::alloc::AllocError;
 
 // Calls the pass of this name.

@@ -2,12 +2,12 @@
 ghost use Rattle.std.specs.Prelude.{◌≡◌, false, IfOk, IsErr, OnErr, IsTrue};
 ghost use Rattle.markdown_run_states.specs.Layer.{ready_of, step_of, ends_of, weight_of, stops_of, laws_of};
 ghost use Rattle.markdown_run_states.specs.Layer.Steady.{steady_of};
+ghost use Rattle.markdown_run_states.specs.Families.{family_of};
+ghost use Rattle.markdown_run_states.specs.declared.state.Family.TheVariants as Family;
 ghost use Rattle.markdown_run_text.specs.ContentPasses.{may_resolve_of, resolves_of};
 
 use crate::{attention, label_end, resolve};
 use markdown_engine::layer::Layer;
-use markdown_state::resolve::ResolveName;
-use markdown_state::state::{State, StateName};
 use markdown_engine::tokenizer::{TokenizeState, Tokenizer};
 use markdown_engine_content::bytes::ByteSet;
 use markdown_engine_events::subtokenize::Subresult;
@@ -18,11 +18,150 @@ use markdown_leaf_html::html_text;
 use markdown_partial::{partial_data, partial_space_or_tab, partial_space_or_tab_eol};
 use markdown_partial_link::{partial_destination, partial_label, partial_title};
 use markdown_run_text::{string, text};
+use markdown_state::resolve::ResolveName;
+use markdown_state::state::{State, StateName};
 use std::alloc::AllocError;
 
-// Calls the state of this name.
-fn dispatch(name: StateName, tokenizer: &mut Tokenizer) -> Result<State, AllocError>
-    requires { ready_of name tokenizer.old }
+// The families of states.
+#[derive(Clone, Copy)]
+enum Family {
+    /// Escapes, character references, spans and autolinks.
+    Leaf,
+    /// HTML.
+    Html,
+    /// Autolink literals.
+    Literal,
+    /// Whitespace, destinations, titles, and labels of references.
+    Part,
+    /// Starts and ends of labels, and resources.
+    Label,
+    /// Texts and strings, data, runs of markers, and task checks.
+    Text,
+}
+
+// The family of a state.
+fn family_of(name: StateName) -> Family
+    ensures { result ≡ family_of name }
+{
+    match name {
+        StateName::CharacterEscapeStart
+        | StateName::CharacterEscapeInside
+        | StateName::CharacterReferenceStart
+        | StateName::CharacterReferenceOpen
+        | StateName::CharacterReferenceNumeric
+        | StateName::CharacterReferenceValue
+        | StateName::HardBreakEscapeStart
+        | StateName::HardBreakEscapeAfter
+        | StateName::AutolinkStart
+        | StateName::AutolinkOpen
+        | StateName::AutolinkSchemeOrEmailAtext
+        | StateName::AutolinkSchemeInsideOrEmailAtext
+        | StateName::AutolinkUrlInside
+        | StateName::AutolinkEmailAtext
+        | StateName::AutolinkEmailAtSignOrDot
+        | StateName::AutolinkEmailLabel
+        | StateName::AutolinkEmailValue
+        | StateName::RawTextStart
+        | StateName::RawTextSequenceOpen
+        | StateName::RawTextBetween
+        | StateName::RawTextData
+        | StateName::RawTextSequenceClose => Family::Leaf,
+        StateName::GfmAutolinkLiteralProtocolStart
+        | StateName::GfmAutolinkLiteralProtocolAfter
+        | StateName::GfmAutolinkLiteralProtocolPrefixInside
+        | StateName::GfmAutolinkLiteralProtocolSlashesInside
+        | StateName::GfmAutolinkLiteralWwwStart
+        | StateName::GfmAutolinkLiteralWwwPrefixInside
+        | StateName::GfmAutolinkLiteralWwwPrefixAfter
+        | StateName::GfmAutolinkLiteralWwwAfter
+        | StateName::GfmAutolinkLiteralDomainInside
+        | StateName::GfmAutolinkLiteralDomainAtPunctuation
+        | StateName::GfmAutolinkLiteralDomainAfter
+        | StateName::GfmAutolinkLiteralPathInside
+        | StateName::GfmAutolinkLiteralPathAtPunctuation
+        | StateName::GfmAutolinkLiteralPathAfter
+        | StateName::GfmAutolinkLiteralTrail
+        | StateName::GfmAutolinkLiteralTrailBracketAfter
+        | StateName::GfmAutolinkLiteralTrailCharRefStart
+        | StateName::GfmAutolinkLiteralTrailCharRefInside => Family::Literal,
+        StateName::SpaceOrTabStart
+        | StateName::SpaceOrTabInside
+        | StateName::SpaceOrTabAfter
+        | StateName::SpaceOrTabEolStart
+        | StateName::SpaceOrTabEolAfterFirst
+        | StateName::SpaceOrTabEolAtEol
+        | StateName::SpaceOrTabEolAfterEol
+        | StateName::SpaceOrTabEolAfterMore
+        | StateName::DestinationStart
+        | StateName::DestinationEnclosedBefore
+        | StateName::DestinationEnclosed
+        | StateName::DestinationEnclosedEscape
+        | StateName::DestinationRaw
+        | StateName::DestinationRawEscape
+        | StateName::TitleStart
+        | StateName::TitleBegin
+        | StateName::TitleAtBreak
+        | StateName::TitleAfterEol
+        | StateName::TitleInside
+        | StateName::TitleEscape
+        | StateName::TitleNok
+        | StateName::LabelStart
+        | StateName::LabelAtBreak
+        | StateName::LabelEolAfter
+        | StateName::LabelInside
+        | StateName::LabelEscape
+        | StateName::LabelNok => Family::Part,
+        StateName::GfmLabelStartFootnoteStart
+        | StateName::LabelStartImageStart
+        | StateName::LabelStartLinkStart
+        | StateName::LabelEndStart
+        | StateName::GfmLabelStartFootnoteOpen
+        | StateName::LabelStartImageOpen
+        | StateName::LabelStartImageAfter
+        | StateName::LabelEndAfter
+        | StateName::LabelEndOk
+        | StateName::LabelEndNok
+        | StateName::LabelEndResourceStart
+        | StateName::LabelEndResourceBefore
+        | StateName::LabelEndResourceOpen
+        | StateName::LabelEndResourceDestinationAfter
+        | StateName::LabelEndResourceDestinationMissing
+        | StateName::LabelEndResourceBetween
+        | StateName::LabelEndResourceTitleAfter
+        | StateName::LabelEndResourceEnd
+        | StateName::LabelEndReferenceFull
+        | StateName::LabelEndReferenceFullAfter
+        | StateName::LabelEndReferenceFullMissing
+        | StateName::LabelEndReferenceNotFull
+        | StateName::LabelEndReferenceCollapsed
+        | StateName::LabelEndReferenceCollapsedOpen => Family::Label,
+        StateName::GfmTaskListItemCheckStart
+        | StateName::GfmTaskListItemCheckInside
+        | StateName::GfmTaskListItemCheckClose
+        | StateName::GfmTaskListItemCheckAfter
+        | StateName::GfmTaskListItemCheckAfterSpaceOrTab
+        | StateName::DataStart
+        | StateName::DataAtBreak
+        | StateName::DataInside
+        | StateName::StringStart
+        | StateName::StringBefore
+        | StateName::StringBeforeData
+        | StateName::TextStart
+        | StateName::TextBefore
+        | StateName::TextBeforeHtml
+        | StateName::TextBeforeHardBreakEscape
+        | StateName::TextBeforeLabelStartLink
+        | StateName::TextBeforeData
+        | StateName::AttentionStart
+        | StateName::AttentionInside => Family::Text,
+        _ => Family::Html,
+    }
+}
+
+// Calls the state of this name, which is of the family `Leaf`.
+fn dispatch_leaf(name: StateName, tokenizer: &mut Tokenizer) -> Result<State, AllocError>
+    requires family { family_of name ≡ Family.Leaf }
+    requires ready { ready_of name tokenizer.old }
     ensures ok { IfOk result (λ s. step_of name tokenizer.old ≡ record { state = s; left = tokenizer.new }) }
     ensures err { OnErr result (IsTrue tokenizer.new.failed) }
 {
@@ -46,6 +185,23 @@ fn dispatch(name: StateName, tokenizer: &mut Tokenizer) -> Result<State, AllocEr
         StateName::AutolinkEmailAtSignOrDot => autolink::email_at_sign_or_dot(tokenizer),
         StateName::AutolinkEmailLabel => autolink::email_label(tokenizer),
         StateName::AutolinkEmailValue => autolink::email_value(tokenizer),
+        StateName::RawTextStart => raw_text::start(tokenizer),
+        StateName::RawTextSequenceOpen => raw_text::sequence_open(tokenizer),
+        StateName::RawTextBetween => raw_text::between(tokenizer),
+        StateName::RawTextData => raw_text::data(tokenizer),
+        // (RawTextSequenceClose)
+        _ => raw_text::sequence_close(tokenizer),
+    }
+}
+
+// Calls the state of this name, which is of the family `Html`.
+fn dispatch_html(name: StateName, tokenizer: &mut Tokenizer) -> Result<State, AllocError>
+    requires family { family_of name ≡ Family.Html }
+    requires ready { ready_of name tokenizer.old }
+    ensures ok { IfOk result (λ s. step_of name tokenizer.old ≡ record { state = s; left = tokenizer.new }) }
+    ensures err { OnErr result (IsTrue tokenizer.new.failed) }
+{
+    match name {
         StateName::HtmlTextStart => html_text::start(tokenizer),
         StateName::HtmlTextOpen => html_text::open(tokenizer),
         StateName::HtmlTextDeclarationOpen => html_text::declaration_open(tokenizer),
@@ -80,88 +236,19 @@ fn dispatch(name: StateName, tokenizer: &mut Tokenizer) -> Result<State, AllocEr
             html_text::tag_open_attribute_value_quoted(tokenizer),
         StateName::HtmlTextLineEndingBefore => html_text::line_ending_before(tokenizer),
         StateName::HtmlTextLineEndingAfter => html_text::line_ending_after(tokenizer),
-        StateName::HtmlTextLineEndingAfterPrefix => html_text::line_ending_after_prefix(tokenizer),
-        StateName::RawTextStart => raw_text::start(tokenizer),
-        StateName::RawTextSequenceOpen => raw_text::sequence_open(tokenizer),
-        StateName::RawTextBetween => raw_text::between(tokenizer),
-        StateName::RawTextData => raw_text::data(tokenizer),
-        StateName::RawTextSequenceClose => raw_text::sequence_close(tokenizer),
-        StateName::GfmTaskListItemCheckStart => gfm_task_list_item_check::start(tokenizer),
-        StateName::GfmTaskListItemCheckInside => gfm_task_list_item_check::inside(tokenizer),
-        StateName::GfmTaskListItemCheckClose => gfm_task_list_item_check::close(tokenizer),
-        StateName::GfmTaskListItemCheckAfter => gfm_task_list_item_check::after(tokenizer),
-        StateName::GfmTaskListItemCheckAfterSpaceOrTab => {
-            gfm_task_list_item_check::after_space_or_tab(tokenizer)
-        }
-        StateName::SpaceOrTabStart => partial_space_or_tab::start(tokenizer),
-        StateName::SpaceOrTabInside => partial_space_or_tab::inside(tokenizer),
-        StateName::SpaceOrTabAfter => partial_space_or_tab::after(tokenizer),
-        StateName::SpaceOrTabEolStart => partial_space_or_tab_eol::start(tokenizer),
-        StateName::SpaceOrTabEolAfterFirst => partial_space_or_tab_eol::after_first(tokenizer),
-        StateName::SpaceOrTabEolAtEol => partial_space_or_tab_eol::at_eol(tokenizer),
-        StateName::SpaceOrTabEolAfterEol => partial_space_or_tab_eol::after_eol(tokenizer),
-        StateName::SpaceOrTabEolAfterMore => partial_space_or_tab_eol::after_more(tokenizer),
-        StateName::DestinationStart => partial_destination::start(tokenizer),
-        StateName::DestinationEnclosedBefore => partial_destination::enclosed_before(tokenizer),
-        StateName::DestinationEnclosed => partial_destination::enclosed(tokenizer),
-        StateName::DestinationEnclosedEscape => partial_destination::enclosed_escape(tokenizer),
-        StateName::DestinationRaw => partial_destination::raw(tokenizer),
-        StateName::DestinationRawEscape => partial_destination::raw_escape(tokenizer),
-        StateName::TitleStart => partial_title::start(tokenizer),
-        StateName::TitleBegin => partial_title::begin(tokenizer),
-        StateName::TitleAtBreak => partial_title::at_break(tokenizer),
-        StateName::TitleAfterEol => partial_title::after_eol(tokenizer),
-        StateName::TitleInside => partial_title::inside(tokenizer),
-        StateName::TitleEscape => partial_title::escape(tokenizer),
-        StateName::TitleNok => partial_title::nok(tokenizer),
-        StateName::LabelStart => partial_label::start(tokenizer),
-        StateName::LabelAtBreak => partial_label::at_break(tokenizer),
-        StateName::LabelEolAfter => partial_label::eol_after(tokenizer),
-        StateName::LabelInside => partial_label::inside(tokenizer),
-        StateName::LabelEscape => partial_label::escape(tokenizer),
-        StateName::LabelNok => partial_label::nok(tokenizer),
-        StateName::GfmLabelStartFootnoteStart => gfm_label_start_footnote::start(tokenizer),
-        StateName::LabelStartImageStart => label_start_image::start(tokenizer),
-        StateName::LabelStartLinkStart => label_start_link::start(tokenizer),
-        StateName::LabelEndStart => label_end::start(tokenizer),
-        StateName::GfmLabelStartFootnoteOpen => gfm_label_start_footnote::open(tokenizer),
-        StateName::LabelStartImageOpen => label_start_image::open(tokenizer),
-        StateName::LabelStartImageAfter => label_start_image::after(tokenizer),
-        StateName::LabelEndAfter => label_end::after(tokenizer),
-        StateName::LabelEndOk => label_end::ok(tokenizer),
-        StateName::LabelEndNok => label_end::nok(tokenizer),
-        StateName::LabelEndResourceStart => label_end::resource_start(tokenizer),
-        StateName::LabelEndResourceBefore => label_end::resource_before(tokenizer),
-        StateName::LabelEndResourceOpen => label_end::resource_open(tokenizer),
-        StateName::LabelEndResourceDestinationAfter => {
-            label_end::resource_destination_after(tokenizer)
-        }
-        StateName::LabelEndResourceDestinationMissing => {
-            label_end::resource_destination_missing(tokenizer)
-        }
-        StateName::LabelEndResourceBetween => label_end::resource_between(tokenizer),
-        StateName::LabelEndResourceTitleAfter => label_end::resource_title_after(tokenizer),
-        StateName::LabelEndResourceEnd => label_end::resource_end(tokenizer),
-        StateName::LabelEndReferenceFull => label_end::reference_full(tokenizer),
-        StateName::LabelEndReferenceFullAfter => label_end::reference_full_after(tokenizer),
-        StateName::LabelEndReferenceFullMissing => label_end::reference_full_missing(tokenizer),
-        StateName::LabelEndReferenceNotFull => label_end::reference_not_full(tokenizer),
-        StateName::LabelEndReferenceCollapsed => label_end::reference_collapsed(tokenizer),
-        StateName::LabelEndReferenceCollapsedOpen => label_end::reference_collapsed_open(tokenizer),
-        StateName::DataStart => partial_data::start(tokenizer),
-        StateName::DataAtBreak => partial_data::at_break(tokenizer),
-        StateName::DataInside => partial_data::inside(tokenizer),
-        StateName::StringStart => string::start(tokenizer),
-        StateName::StringBefore => string::before(tokenizer),
-        StateName::StringBeforeData => string::before_data(tokenizer),
-        StateName::TextStart => text::start(tokenizer),
-        StateName::TextBefore => text::before(tokenizer),
-        StateName::TextBeforeHtml => text::before_html(tokenizer),
-        StateName::TextBeforeHardBreakEscape => text::before_hard_break_escape(tokenizer),
-        StateName::TextBeforeLabelStartLink => text::before_label_start_link(tokenizer),
-        StateName::TextBeforeData => text::before_data(tokenizer),
-        StateName::AttentionStart => attention::start(tokenizer),
-        StateName::AttentionInside => attention::inside(tokenizer),
+        // (HtmlTextLineEndingAfterPrefix)
+        _ => html_text::line_ending_after_prefix(tokenizer),
+    }
+}
+
+// Calls the state of this name, which is of the family `Literal`.
+fn dispatch_literal(name: StateName, tokenizer: &mut Tokenizer) -> Result<State, AllocError>
+    requires family { family_of name ≡ Family.Literal }
+    requires ready { ready_of name tokenizer.old }
+    ensures ok { IfOk result (λ s. step_of name tokenizer.old ≡ record { state = s; left = tokenizer.new }) }
+    ensures err { OnErr result (IsTrue tokenizer.new.failed) }
+{
+    match name {
         StateName::GfmAutolinkLiteralProtocolStart => gfm_autolink_literal::protocol_start(
             tokenizer,
         ),
@@ -195,8 +282,136 @@ fn dispatch(name: StateName, tokenizer: &mut Tokenizer) -> Result<State, AllocEr
         ),
         StateName::GfmAutolinkLiteralTrailCharRefStart =>
             gfm_autolink_literal::trail_char_ref_start(tokenizer),
-        StateName::GfmAutolinkLiteralTrailCharRefInside =>
-            gfm_autolink_literal::trail_char_ref_inside(tokenizer),
+        // (GfmAutolinkLiteralTrailCharRefInside)
+        _ => gfm_autolink_literal::trail_char_ref_inside(tokenizer),
+    }
+}
+
+// Calls the state of this name, which is of the family `Part`.
+fn dispatch_part(name: StateName, tokenizer: &mut Tokenizer) -> Result<State, AllocError>
+    requires family { family_of name ≡ Family.Part }
+    requires ready { ready_of name tokenizer.old }
+    ensures ok { IfOk result (λ s. step_of name tokenizer.old ≡ record { state = s; left = tokenizer.new }) }
+    ensures err { OnErr result (IsTrue tokenizer.new.failed) }
+{
+    match name {
+        StateName::SpaceOrTabStart => partial_space_or_tab::start(tokenizer),
+        StateName::SpaceOrTabInside => partial_space_or_tab::inside(tokenizer),
+        StateName::SpaceOrTabAfter => partial_space_or_tab::after(tokenizer),
+        StateName::SpaceOrTabEolStart => partial_space_or_tab_eol::start(tokenizer),
+        StateName::SpaceOrTabEolAfterFirst => partial_space_or_tab_eol::after_first(tokenizer),
+        StateName::SpaceOrTabEolAtEol => partial_space_or_tab_eol::at_eol(tokenizer),
+        StateName::SpaceOrTabEolAfterEol => partial_space_or_tab_eol::after_eol(tokenizer),
+        StateName::SpaceOrTabEolAfterMore => partial_space_or_tab_eol::after_more(tokenizer),
+        StateName::DestinationStart => partial_destination::start(tokenizer),
+        StateName::DestinationEnclosedBefore => partial_destination::enclosed_before(tokenizer),
+        StateName::DestinationEnclosed => partial_destination::enclosed(tokenizer),
+        StateName::DestinationEnclosedEscape => partial_destination::enclosed_escape(tokenizer),
+        StateName::DestinationRaw => partial_destination::raw(tokenizer),
+        StateName::DestinationRawEscape => partial_destination::raw_escape(tokenizer),
+        StateName::TitleStart => partial_title::start(tokenizer),
+        StateName::TitleBegin => partial_title::begin(tokenizer),
+        StateName::TitleAtBreak => partial_title::at_break(tokenizer),
+        StateName::TitleAfterEol => partial_title::after_eol(tokenizer),
+        StateName::TitleInside => partial_title::inside(tokenizer),
+        StateName::TitleEscape => partial_title::escape(tokenizer),
+        StateName::TitleNok => partial_title::nok(tokenizer),
+        StateName::LabelStart => partial_label::start(tokenizer),
+        StateName::LabelAtBreak => partial_label::at_break(tokenizer),
+        StateName::LabelEolAfter => partial_label::eol_after(tokenizer),
+        StateName::LabelInside => partial_label::inside(tokenizer),
+        StateName::LabelEscape => partial_label::escape(tokenizer),
+        // (LabelNok)
+        _ => partial_label::nok(tokenizer),
+    }
+}
+
+// Calls the state of this name, which is of the family `Label`.
+fn dispatch_label(name: StateName, tokenizer: &mut Tokenizer) -> Result<State, AllocError>
+    requires family { family_of name ≡ Family.Label }
+    requires ready { ready_of name tokenizer.old }
+    ensures ok { IfOk result (λ s. step_of name tokenizer.old ≡ record { state = s; left = tokenizer.new }) }
+    ensures err { OnErr result (IsTrue tokenizer.new.failed) }
+{
+    match name {
+        StateName::GfmLabelStartFootnoteStart => gfm_label_start_footnote::start(tokenizer),
+        StateName::LabelStartImageStart => label_start_image::start(tokenizer),
+        StateName::LabelStartLinkStart => label_start_link::start(tokenizer),
+        StateName::LabelEndStart => label_end::start(tokenizer),
+        StateName::GfmLabelStartFootnoteOpen => gfm_label_start_footnote::open(tokenizer),
+        StateName::LabelStartImageOpen => label_start_image::open(tokenizer),
+        StateName::LabelStartImageAfter => label_start_image::after(tokenizer),
+        StateName::LabelEndAfter => label_end::after(tokenizer),
+        StateName::LabelEndOk => label_end::ok(tokenizer),
+        StateName::LabelEndNok => label_end::nok(tokenizer),
+        StateName::LabelEndResourceStart => label_end::resource_start(tokenizer),
+        StateName::LabelEndResourceBefore => label_end::resource_before(tokenizer),
+        StateName::LabelEndResourceOpen => label_end::resource_open(tokenizer),
+        StateName::LabelEndResourceDestinationAfter => {
+            label_end::resource_destination_after(tokenizer)
+        }
+        StateName::LabelEndResourceDestinationMissing => {
+            label_end::resource_destination_missing(tokenizer)
+        }
+        StateName::LabelEndResourceBetween => label_end::resource_between(tokenizer),
+        StateName::LabelEndResourceTitleAfter => label_end::resource_title_after(tokenizer),
+        StateName::LabelEndResourceEnd => label_end::resource_end(tokenizer),
+        StateName::LabelEndReferenceFull => label_end::reference_full(tokenizer),
+        StateName::LabelEndReferenceFullAfter => label_end::reference_full_after(tokenizer),
+        StateName::LabelEndReferenceFullMissing => label_end::reference_full_missing(tokenizer),
+        StateName::LabelEndReferenceNotFull => label_end::reference_not_full(tokenizer),
+        StateName::LabelEndReferenceCollapsed => label_end::reference_collapsed(tokenizer),
+        // (LabelEndReferenceCollapsedOpen)
+        _ => label_end::reference_collapsed_open(tokenizer),
+    }
+}
+
+// Calls the state of this name, which is of the family `Text`.
+fn dispatch_text(name: StateName, tokenizer: &mut Tokenizer) -> Result<State, AllocError>
+    requires family { family_of name ≡ Family.Text }
+    requires ready { ready_of name tokenizer.old }
+    ensures ok { IfOk result (λ s. step_of name tokenizer.old ≡ record { state = s; left = tokenizer.new }) }
+    ensures err { OnErr result (IsTrue tokenizer.new.failed) }
+{
+    match name {
+        StateName::GfmTaskListItemCheckStart => gfm_task_list_item_check::start(tokenizer),
+        StateName::GfmTaskListItemCheckInside => gfm_task_list_item_check::inside(tokenizer),
+        StateName::GfmTaskListItemCheckClose => gfm_task_list_item_check::close(tokenizer),
+        StateName::GfmTaskListItemCheckAfter => gfm_task_list_item_check::after(tokenizer),
+        StateName::GfmTaskListItemCheckAfterSpaceOrTab => {
+            gfm_task_list_item_check::after_space_or_tab(tokenizer)
+        }
+        StateName::DataStart => partial_data::start(tokenizer),
+        StateName::DataAtBreak => partial_data::at_break(tokenizer),
+        StateName::DataInside => partial_data::inside(tokenizer),
+        StateName::StringStart => string::start(tokenizer),
+        StateName::StringBefore => string::before(tokenizer),
+        StateName::StringBeforeData => string::before_data(tokenizer),
+        StateName::TextStart => text::start(tokenizer),
+        StateName::TextBefore => text::before(tokenizer),
+        StateName::TextBeforeHtml => text::before_html(tokenizer),
+        StateName::TextBeforeHardBreakEscape => text::before_hard_break_escape(tokenizer),
+        StateName::TextBeforeLabelStartLink => text::before_label_start_link(tokenizer),
+        StateName::TextBeforeData => text::before_data(tokenizer),
+        StateName::AttentionStart => attention::start(tokenizer),
+        // (AttentionInside)
+        _ => attention::inside(tokenizer),
+    }
+}
+
+// Calls the state of this name.
+fn dispatch(name: StateName, tokenizer: &mut Tokenizer) -> Result<State, AllocError>
+    requires { ready_of name tokenizer.old }
+    ensures ok { IfOk result (λ s. step_of name tokenizer.old ≡ record { state = s; left = tokenizer.new }) }
+    ensures err { OnErr result (IsTrue tokenizer.new.failed) }
+{
+    match family_of(name) {
+        Family::Leaf => dispatch_leaf(name, tokenizer),
+        Family::Html => dispatch_html(name, tokenizer),
+        Family::Literal => dispatch_literal(name, tokenizer),
+        Family::Part => dispatch_part(name, tokenizer),
+        Family::Label => dispatch_label(name, tokenizer),
+        Family::Text => dispatch_text(name, tokenizer),
     }
 }
 

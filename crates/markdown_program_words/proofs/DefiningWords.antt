@@ -9,7 +9,7 @@ use Rattle.markdown_util.specs.Identifier.{identifier_of}
 use Rattle.std.specs.declared.alloc.Global.{Global}
 use Rattle.std.specs.declared.string.String.{String}
 use Rattle.std.proofs.lemmas.List.{take_more, map-append}
-use Rattle.markdown_program.specs.ProgramWords.{defined_word, defined_by, listed}
+use Rattle.markdown_program_words.specs.ProgramWords.{defined_word, defined_by, listed}
 
 with-prefix : (b : Bool) (p w : List ℕ) → starts_with nat_eq w p ≡ b →
     defined_word p w ≡ (if b then Some (identifier_of (drop (length p) w)) else None)

@@ -1,6 +1,6 @@
 use Rattle.std.proofs.Common.{Some, ap, ◌∙◌}
-use Rattle.markdown_program.proofs.DefiningWords.{defined-yes, defined-no}
-use Rattle.markdown_program.proofs.program.defined_word.Goals as goal
+use Rattle.markdown_program_words.proofs.DefiningWords.{defined-yes, defined-no}
+use Rattle.markdown_program_words.proofs.words.defined_word.Goals as goal
 
 pub returns-in_ok-normalize_identifier-in-Some : goal.returns-in_ok-normalize_identifier-in-Some
 returns-in_ok-normalize_identifier-in-Some c =

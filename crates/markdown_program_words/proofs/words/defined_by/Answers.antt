@@ -2,10 +2,10 @@ use Rattle.std.proofs.Common.{◌≡◌, ℕ, List, Option, Some, None, ap, ◌�
 use Rattle.std.specs.Option.{option_map}
 use Rattle.std.specs.declared.alloc.Global.{Global}
 use Rattle.std.specs.declared.string.String.{String}
-use Rattle.markdown_program.specs.ProgramWords.{defined_word, listed}
-use Rattle.markdown_program.proofs.DefiningWords.{defined-more, defined-same}
-use Rattle.markdown_program.proofs.program.defined_by.Goals as goal
-use Rattle.markdown_program.proofs.program.defined_by.Goals.{in-Some+in_ok-push, in_default}
+use Rattle.markdown_program_words.specs.ProgramWords.{defined_word, listed}
+use Rattle.markdown_program_words.proofs.DefiningWords.{defined-more, defined-same}
+use Rattle.markdown_program_words.proofs.words.defined_by.Goals as goal
+use Rattle.markdown_program_words.proofs.words.defined_by.Goals.{in-Some+in_ok-push, in_default}
 
 pub loop-word-preserved : goal.loop-word-preserved
 loop-word-preserved c =

@@ -1,0 +1,4 @@
+//! The words that the program is given.
+#![tactic(auto)]
+
+pub mod words;
