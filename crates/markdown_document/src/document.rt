@@ -11,13 +11,13 @@ ghost use Rattle.markdown_run_leaves.specs.InnermostEvents.{IsInOrder, covered, 
 ghost use Rattle.markdown_model.specs.InlineTree.{label_tree, string_events, text_events};
 
 use crate::places::Places;
-use markdown_state::state::StateName;
 use markdown_engine::tokenizer::Tokenizer;
-use markdown_engine_pieces::content::has_text_lines;
 use markdown_engine_content::cursor::Cursor;
 use markdown_engine_content::parser::{ParseState, Piece};
 use markdown_engine_names::name_index::{NameIndex, Names};
+use markdown_engine_pieces::content::has_text_lines;
 use markdown_run::run::{Run, run_through, text_through};
+use markdown_state::state::StateName;
 use std::alloc::{AllocError, Global};
 use std::marker::Model;
 

@@ -6,14 +6,14 @@ ghost use Rattle.markdown_engine_content.specs.KnownPlaces.{IsDocument, AreMarks
 ghost use Rattle.markdown_engine_content.specs.Place.{start_of_content};
 ghost use Rattle.markdown_engine_content.specs.DocumentWalk.{IsPoint};
 
-use markdown_engine_pieces::content::{
-    DOCUMENT_LIMIT, are_between_characters, are_pieces_from, has_text_lines, reach,
-};
 use markdown_engine_content::cursor::Cursor;
-use markdown_event::event::Point;
 use markdown_engine_content::lanes::{LANES, feeds_among};
 use markdown_engine_content::parser::Piece;
 use markdown_engine_content::walk::{DOCUMENT_START, past_code, walk_to};
+use markdown_engine_pieces::content::{
+    DOCUMENT_LIMIT, are_between_characters, are_pieces_from, has_text_lines, reach,
+};
+use markdown_event::event::Point;
 use std::alloc::{AllocError, Global};
 use std::marker::Model;
 

@@ -6,8 +6,8 @@ ghost use Rattle.markdown_engine_content.specs.Content.{document_limit};
 ghost use Rattle.markdown_partial.specs.TrimmedData.{IsStretch};
 ghost use Rattle.markdown_html_model.specs.Html.{bytes_from, text_between};
 
-use markdown_event::event::Point;
 use markdown_engine_content::util::slice::{Position, Slice};
+use markdown_event::event::Point;
 use std::alloc::{AllocError, Global};
 
 // The bytes before an index; all where there are not so many.

@@ -5,8 +5,8 @@ ghost use Rattle.markdown_run_leaves.specs.InnermostEvents.{has_nothing_inside};
 ghost use Rattle.markdown_model_laws.specs.LeafPieces.{meets, leaf_pieces};
 ghost use Rattle.markdown_inline.specs.LastPiece.{with_last, in_front, with_leaf};
 
-use markdown_event::event::{Event, Kind};
 use markdown_engine_content::parser::Piece;
+use markdown_event::event::{Event, Kind};
 use std::alloc::{AllocError, Global};
 
 // Whether the second begins where the first ends.

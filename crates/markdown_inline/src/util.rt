@@ -5,8 +5,8 @@ pub use markdown_util::util::{char, character_reference, normalize_identifier};
 /// The limits of the inline grammar, and the tables of named character references.
 pub mod constant {
     // The longest document, in bytes, and the distance between two tab stops, in columns: the engine asks for both.
-    pub use markdown_engine_pieces::content::DOCUMENT_LIMIT;
     pub use markdown_engine_content::walk::TAB_SIZE;
+    pub use markdown_engine_pieces::content::DOCUMENT_LIMIT;
     pub use markdown_util::util::constant::{
         AUTOLINK_DOMAIN_SIZE_MAX, AUTOLINK_SCHEME_SIZE_MAX, CHARACTER_REFERENCE_DECIMAL_SIZE_MAX,
         CHARACTER_REFERENCE_HEXADECIMAL_SIZE_MAX, CHARACTER_REFERENCE_NAMED_SIZE_MAX,

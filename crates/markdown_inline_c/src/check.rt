@@ -7,8 +7,8 @@ ghost use Rattle.markdown_inline_c.specs.Statuses.{IsDocumentFault, IsContentFau
 
 use crate::fault::Fault;
 use crate::flat::{FlatPiece, piece_of};
-use markdown_engine_pieces::content::DOCUMENT_LIMIT;
 use markdown_engine_content::parser::Piece;
+use markdown_engine_pieces::content::DOCUMENT_LIMIT;
 use markdown_run::run;
 use std::alloc::{AllocError, Global};
 

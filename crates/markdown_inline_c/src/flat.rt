@@ -5,8 +5,8 @@ ghost use Rattle.markdown_event.specs.EventNames.{name_number};
 ghost use Rattle.markdown_inline_c.specs.FlatEvents.{flat_event, kind_number, link_number, number_or_max};
 ghost use Rattle.markdown_inline_c.specs.FlatInput.{piece_of};
 
-use markdown_event::event::{Content, Event, Kind, Name};
 use markdown_engine_content::parser::Piece;
+use markdown_event::event::{Content, Event, Kind, Name};
 
 /// A piece of a document, from a place to a place.
 #[repr(C)]

@@ -14,8 +14,8 @@ use crate::fault::Fault;
 use crate::flat::{FlatContent, FlatEvent, FlatPiece, Input, flat_event};
 use crate::input::{identifiers_of, known_options};
 use markdown_document::document::Document;
-use markdown_event::event::Event;
 use markdown_engine_content::parser::ParseState;
+use markdown_event::event::Event;
 use markdown_run::run::Run;
 use std::alloc::{AllocError, Global};
 

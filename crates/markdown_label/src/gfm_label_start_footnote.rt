@@ -23,9 +23,9 @@ ghost use Rattle.markdown_label.specs.LabelStarts.{footnote_step, footnote_open_
 
 use crate::parts;
 use crate::starts::keep_start;
-use markdown_state::state::{State, StateName};
 use markdown_engine::tokenizer::{LabelKind, Tokenizer};
 use markdown_event::event::Name;
+use markdown_state::state::{State, StateName};
 use std::alloc::AllocError;
 
 /// At the start of a footnote call's label: its bracket.

@@ -41,11 +41,11 @@ pub use crate::resource::{
     resource_before, resource_between, resource_destination_after, resource_destination_missing,
     resource_end, resource_open, resource_start, resource_title_after,
 };
-use markdown_state::resolve::ResolveName;
-use markdown_state::state::{State, StateName};
 use markdown_engine::tokenizer::{Label, LabelKind, LabelStart, TokenizeState, Tokenizer};
 use markdown_event::event::Name;
 use markdown_lists::seq::Stack;
+use markdown_state::resolve::ResolveName;
+use markdown_state::state::{State, StateName};
 use std::alloc::AllocError;
 
 // Whether a label of this kind is an image.

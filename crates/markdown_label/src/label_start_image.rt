@@ -24,9 +24,9 @@ ghost use Rattle.markdown_label.specs.LabelStarts.{image_step, image_open_step, 
 
 use crate::parts;
 use crate::starts::keep_start;
-use markdown_state::state::{State, StateName};
 use markdown_engine::tokenizer::{LabelKind, Tokenizer};
 use markdown_event::event::Name;
+use markdown_state::state::{State, StateName};
 use std::alloc::AllocError;
 
 /// At the start of an image's label: its exclamation mark.

@@ -22,9 +22,9 @@ ghost use Rattle.markdown_label.specs.LabelStarts.{link_step};
 
 use crate::parts::whole_of_one;
 use crate::starts::keep_start;
-use markdown_state::state::State;
 use markdown_engine::tokenizer::{LabelKind, Tokenizer};
 use markdown_event::event::Name;
+use markdown_state::state::State;
 use std::alloc::AllocError;
 
 /// At the start of a link's label: its bracket.

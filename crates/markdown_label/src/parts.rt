@@ -8,9 +8,9 @@ ghost use Rattle.markdown_engine.specs.Operations.{Enter, Exit, Consume, HasCode
 ghost use Rattle.markdown_engine.specs.StateRuns.{stepped};
 ghost use Rattle.markdown_state.specs.declared.state.State.TheVariants.{Next, Retry};
 
-use markdown_state::state::{State, StateName};
 use markdown_engine::tokenizer::Tokenizer;
 use markdown_event::event::Name;
+use markdown_state::state::{State, StateName};
 use std::alloc::AllocError;
 
 // Enters a whole, takes the code at the place as its first marker, and goes on with a state.

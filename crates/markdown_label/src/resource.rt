@@ -35,12 +35,12 @@ ghost use Rattle.markdown_label.specs.AfterLabelParts.{names_rested};
 ghost use Rattle.markdown_label.specs.Resource.{destination_asked, destination_rested, title_asked, at_space, spaced, start_step, before_step, open_step, destination_after_step, missing_step, is_hopeless, between_step, title_after_step, end_step};
 
 use crate::parts;
-use markdown_state::state::{State, StateName};
 use markdown_engine::tokenizer::{TokenizeState, Tokenizer};
-use markdown_event::event::Name;
 use markdown_engine_index::sequence_index::Sequence;
 use markdown_engine_index::title_index::TitleIndex;
+use markdown_event::event::Name;
 use markdown_partial::partial_space_or_tab_eol::space_or_tab_eol;
+use markdown_state::state::{State, StateName};
 use markdown_util::util::constant::RESOURCE_DESTINATION_BALANCE_MAX;
 use std::alloc::AllocError;
 

@@ -34,10 +34,10 @@ ghost use Rattle.markdown_label_pass.specs.Brackets.{Brackets, grouped, place_at
 ghost use Rattle.markdown_label_pass.specs.LabelsHandedOver.{HasBrackets, MayGroup, starts_of, unlabelled};
 
 use markdown_engine::tokenizer::{Label, LabelKind, LabelStart, TokenizeState, Tokenizer};
-use markdown_event::event::{Event, Kind, Name, Point};
 use markdown_engine_events::events::Events;
 use markdown_engine_events::subtokenize::Subresult;
 use markdown_engine_events::util::edit_map::EditMap;
+use markdown_event::event::{Event, Kind, Name, Point};
 use markdown_lists::seq::Stack;
 use std::alloc::AllocError;
 

@@ -31,12 +31,12 @@ ghost use Rattle.markdown_plan.specs.StateCalls.{Steps};
 
 use crate::marks::close;
 use crate::renaming::rename_entered;
-use markdown_state::state::{State, StateName};
 use markdown_engine::tokenizer::Tokenizer;
 use markdown_engine_content::byte_set;
 use markdown_engine_content::bytes::ByteSet;
 use markdown_event::event::Name;
 use markdown_plan::bytes::{is_alphanumeric, is_letter};
+use markdown_state::state::{State, StateName};
 use markdown_util::util::constant::{AUTOLINK_DOMAIN_SIZE_MAX, AUTOLINK_SCHEME_SIZE_MAX};
 use std::alloc::AllocError;
 

@@ -22,9 +22,9 @@ ghost use Rattle.markdown_event.specs.declared.event.Name.TheVariants.{Character
 ghost use Rattle.markdown_leaf.specs.CharacterEscape.{start_step, inside_step};
 ghost use Rattle.markdown_plan.specs.StateCalls.{Steps};
 
-use markdown_state::state::{State, StateName};
 use markdown_engine::tokenizer::Tokenizer;
 use markdown_event::event::Name;
+use markdown_state::state::{State, StateName};
 use std::alloc::AllocError;
 
 /// At the start of a character escape: the backslash.

@@ -28,10 +28,10 @@ ghost use Rattle.markdown_leaf.specs.CharacterReference.{has_value, is_known, Is
 ghost use Rattle.markdown_plan.specs.StateCalls.{Steps};
 
 use crate::marks::close;
-use markdown_state::state::{State, StateName};
 use markdown_engine::tokenizer::Tokenizer;
-use markdown_event::event::Name;
 use markdown_engine_content::util::slice::Slice;
+use markdown_event::event::Name;
+use markdown_state::state::{State, StateName};
 use markdown_util::util::character_reference::{decode_named, value_max, value_test};
 use std::alloc::AllocError;
 use std::str;

@@ -20,9 +20,9 @@ ghost use Rattle.markdown_event.specs.declared.event.Name.TheVariants.{HardBreak
 ghost use Rattle.markdown_leaf.specs.HardBreakEscape.{start_step, after_step};
 ghost use Rattle.markdown_plan.specs.StateCalls.{Steps};
 
-use markdown_state::state::{State, StateName};
 use markdown_engine::tokenizer::Tokenizer;
 use markdown_event::event::Name;
+use markdown_state::state::{State, StateName};
 use std::alloc::AllocError;
 
 /// At the start of a hard break: the backslash.

@@ -29,11 +29,11 @@ ghost use Rattle.markdown_model.specs.SingleConstructs.{ends_escape, follows_esc
 ghost use Rattle.markdown_plan.specs.StateCalls.{Steps};
 
 use crate::renaming::rename_entered;
-use markdown_state::state::{State, StateName};
 use markdown_engine::tokenizer::{TokenizeState, Tokenizer};
 use markdown_engine_content::byte_set;
 use markdown_engine_content::bytes::ByteSet;
 use markdown_event::event::{Event, Kind, Name};
+use markdown_state::state::{State, StateName};
 use std::alloc::AllocError;
 
 // Whether the event ends an escape.

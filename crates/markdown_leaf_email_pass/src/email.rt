@@ -30,9 +30,9 @@ ghost use Rattle.markdown_leaf_email_pass.specs.EmailEdits.{begins_signed, links
 
 use crate::literal::{has_sign, mailed_data};
 use markdown_engine::tokenizer::Tokenizer;
-use markdown_event::event::{Event, Kind, Name};
 use markdown_engine_events::events::Events;
 use markdown_engine_events::util::edit_map::EditMap;
+use markdown_event::event::{Event, Kind, Name};
 use markdown_partial::partial_data::{next_data, opens_data};
 use std::alloc::{AllocError, Global};
 

@@ -13,8 +13,8 @@ ghost use Rattle.markdown_model.specs.GfmEmailLiteral.{is_xmpp};
 ghost use Rattle.markdown_partial.specs.TrimmedData.{between, is_same_place, IsStretch};
 ghost use Rattle.markdown_leaf_email_pass.specs.EmailScan.{has_sign, local_value, is_letter_of, is_word_of, is_email, word_name, scan_at, domain_value, passes, domain_end, is_sign, literal_here, literal_events, mail_events};
 
-use markdown_event::event::{Event, Name, Point};
 use markdown_engine_content::walk::{code_from, past_code};
+use markdown_event::event::{Event, Name, Point};
 use markdown_partial::partial_whitespace::{is_same_place, push_leaf};
 use markdown_plan::bytes::{is_alphanumeric, is_letter};
 use std::alloc::{AllocError, Global};

@@ -17,9 +17,9 @@ ghost use Rattle.markdown_leaf_email_pass.specs.EmailScan.{has_sign};
 ghost use Rattle.markdown_leaf_email_pass.specs.OpenData.{is_open_at, HasOpenData, IsClear, IsStill};
 
 use crate::email::begins_signed;
-use markdown_event::event::{Event, Point};
 use markdown_engine_events::events::Events;
 use markdown_engine_events::util::edit_map::EditMap;
+use markdown_event::event::{Event, Point};
 use markdown_partial::partial_data::{mark, next_data};
 use markdown_partial::partial_whitespace::data_loses;
 use memchr::memchr;

@@ -32,12 +32,12 @@ ghost use Rattle.markdown_partial.specs.PartialSpaceOrTab.{most};
 ghost use Rattle.markdown_leaf_gfm.specs.GfmAutolinkLiteral.{kind_here, trail_value, mark_value, known_after, is_known, count_value, stands_for, is_named, one_named, longest, begins_scheme, marked, domain_on, rested, refused, protocol_start_step, protocol_after_step, prefix_step, slashes_step, precedes_www, www_letter, is_ruled_out};
 ghost use Rattle.markdown_leaf_gfm.specs.GfmAutolinkLiteral.{www_start_step, www_prefix_step, www_prefix_after_step, www_after_step, domain_step, domain_punctuation_step, domain_after_step, passing, path_step, path_punctuation_step, path_after_step, trail_step, bracket_after_step, reference_start_step, reference_step, MayClass, MayName, TrailReady, MayCount};
 
-use markdown_state::state::{State, StateName};
 use markdown_engine::tokenizer::{TokenizeState, Tokenizer};
 use markdown_event::event::Name;
 use markdown_partial::literal_letters;
 use markdown_partial::literal_words::SCHEMES;
 use markdown_plan::bytes::is_letter;
+use markdown_state::state::{State, StateName};
 use markdown_util::util::char::{Kind, kind_after_index};
 use std::alloc::AllocError;
 

@@ -25,10 +25,10 @@ ghost use Rattle.markdown_engine.specs.Operations.{IsOpen};
 ghost use Rattle.markdown_event.specs.declared.event.Name.TheVariants.{GfmTaskListItemCheck};
 ghost use Rattle.markdown_leaf_gfm.specs.GfmTaskListItemCheck.{start_step, inside_step, close_step, after_step, after_space_or_tab_step};
 
-use markdown_state::state::{State, StateName};
 use markdown_engine::tokenizer::Tokenizer;
 use markdown_event::event::Name;
 use markdown_partial::partial_space_or_tab::space_or_tab;
+use markdown_state::state::{State, StateName};
 use std::alloc::AllocError;
 
 /// At the start of a check: the opening bracket, with no code before it in the content.

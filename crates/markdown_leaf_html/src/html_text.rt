@@ -34,14 +34,14 @@ ghost use Rattle.markdown_leaf_html.specs.HtmlText.{stops_in, is_ruled_out, endi
 ghost use Rattle.markdown_leaf_html.specs.HtmlText.{declaration_step, instruction_step, instruction_close_step, tag_close_start_step, tag_close_step, tag_close_between_step, tag_open_step, tag_open_between_step, tag_open_attribute_name_step, tag_open_attribute_name_after_step};
 ghost use Rattle.markdown_leaf_html.specs.HtmlText.{tag_open_attribute_value_before_step, tag_open_attribute_value_quoted_step, tag_open_attribute_value_quoted_after_step, tag_open_attribute_value_unquoted_step, end_step, line_ending_before_step, line_ending_after_step, line_ending_after_prefix_step};
 
-use markdown_state::state::{State, StateName};
 use markdown_engine::tokenizer::{TokenizeState, Tokenizer};
 use markdown_engine_content::byte_set;
 use markdown_engine_content::bytes::ByteSet;
-use markdown_event::event::Name;
 use markdown_engine_index::sequence_index::Sequence;
+use markdown_event::event::Name;
 use markdown_partial::partial_space_or_tab::space_or_tab;
 use markdown_plan::bytes::{is_alphanumeric, is_letter};
+use markdown_state::state::{State, StateName};
 use markdown_util::util::constant::HTML_CDATA_PREFIX;
 use std::alloc::AllocError;
 

@@ -30,13 +30,13 @@ ghost use Rattle.markdown_partial.specs.PartialData.{stops_here, passing, enteri
 ghost use Rattle.markdown_partial.specs.MergedEvents.{opens_data, closes_data, ends_joint, marked, joints, HasData};
 ghost use Rattle.markdown_plan.specs.StateCalls.{Steps};
 
-use markdown_state::state::{State, StateName};
 use markdown_engine::tokenizer::{TokenizeState, Tokenizer};
 use markdown_engine_content::bytes::ByteSet;
-use markdown_event::event::{Event, Kind, Name};
 use markdown_engine_events::events::Events;
 use markdown_engine_events::subtokenize::Subresult;
 use markdown_engine_events::util::edit_map::EditMap;
+use markdown_event::event::{Event, Kind, Name};
+use markdown_state::state::{State, StateName};
 use std::alloc::AllocError;
 
 // Whether data stops at this byte, line endings aside.

@@ -22,9 +22,9 @@ ghost use Rattle.markdown_partial.specs.PartialSpaceOrTab.{most, asked, start_st
 ghost use Rattle.markdown_plan.specs.StateCalls.{Steps};
 
 use crate::leaf::enter_leaf;
-use markdown_state::state::{State, StateName};
 use markdown_engine::tokenizer::Tokenizer;
 use markdown_event::event::{Content, Name};
+use markdown_state::state::{State, StateName};
 use std::alloc::AllocError;
 
 /// What whitespace is asked for.

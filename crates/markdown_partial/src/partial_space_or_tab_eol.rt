@@ -26,9 +26,9 @@ ghost use Rattle.markdown_plan.specs.StateCalls.{Steps};
 
 use crate::leaf::enter_leaf;
 use crate::partial_space_or_tab;
-use markdown_state::state::{State, StateName};
 use markdown_engine::tokenizer::Tokenizer;
 use markdown_event::event::{Content, Name};
+use markdown_state::state::{State, StateName};
 use std::alloc::AllocError;
 
 /// What whitespace with a line ending is asked for.

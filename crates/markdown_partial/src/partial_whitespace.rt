@@ -33,10 +33,10 @@ ghost use Rattle.markdown_model.specs.Passes.{is_hard_break_trailing, blank_name
 
 use crate::partial_data::{next_data, opens_data};
 use markdown_engine::tokenizer::Tokenizer;
-use markdown_event::event::{Event, Kind, Name, Point};
 use markdown_engine_content::walk::{code_from, past_code};
 use markdown_engine_events::events::Events;
 use markdown_engine_events::util::edit_map::EditMap;
+use markdown_event::event::{Event, Kind, Name, Point};
 use markdown_util::util::constant::HARD_BREAK_PREFIX_SIZE_MIN;
 use std::alloc::{AllocError, Global};
 

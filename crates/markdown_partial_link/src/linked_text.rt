@@ -7,10 +7,10 @@ ghost use Rattle.markdown_state.specs.declared.state.StateName.TheVariants.{Spac
 ghost use Rattle.markdown_engine.specs.Operations.{scratched};
 ghost use Rattle.markdown_partial.specs.LinkedText.{text_entered, eol_asked_for};
 
-use markdown_state::state::StateName;
 use markdown_engine::tokenizer::Tokenizer;
 use markdown_event::event::{Content, Link, Name};
 use markdown_partial::partial_space_or_tab_eol::{Options, space_or_tab_eol_with_options};
+use markdown_state::state::StateName;
 use std::alloc::AllocError;
 
 // The link of text that is read as a string, the first of its chain.

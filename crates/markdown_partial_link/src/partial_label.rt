@@ -24,9 +24,9 @@ ghost use Rattle.markdown_engine.specs.Operations.{HasCode};
 ghost use Rattle.markdown_partial.specs.PartialLabel.{start_step, closed, at_break_step, eol_after_step, nok_step, passing, inside_step, escape_step, BreakReady, InsideReady, EscapeReady};
 
 use crate::linked_text::{ask_for_ending, enter_text};
-use markdown_state::state::{State, StateName};
 use markdown_engine::tokenizer::Tokenizer;
 use markdown_event::event::Name;
+use markdown_state::state::{State, StateName};
 use markdown_util::util::constant::LINK_REFERENCE_SIZE_MAX;
 use std::alloc::AllocError;
 

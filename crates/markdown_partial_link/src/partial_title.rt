@@ -25,11 +25,11 @@ ghost use Rattle.markdown_engine.specs.Operations.{IsOpen, LinkedBefore, current
 ghost use Rattle.markdown_partial.specs.PartialTitle.{start_step, begin_step, at_break_step, after_eol_step, nok_step, inside_step, inside_stops, escape_step, BreakReady, InsideReady};
 
 use crate::linked_text::{ask_for_ending, enter_text};
-use markdown_state::state::{State, StateName};
 use markdown_engine::tokenizer::{TokenizeState, Tokenizer};
 use markdown_engine_content::byte_set;
 use markdown_engine_content::bytes::ByteSet;
 use markdown_event::event::Name;
+use markdown_state::state::{State, StateName};
 use std::alloc::AllocError;
 
 /// At the start of a title: its opening marker.

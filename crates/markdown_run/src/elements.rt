@@ -19,8 +19,6 @@ ghost use Rattle.markdown_run_row.specs.TextContent.{StartReady, other_markers, 
 ghost use Rattle.markdown_run.specs.ElementsOfText.{EndsAt, GoesOn, IsReady, KnowsNothing, Learns, MayTry, PassesData, ReadsElement, Passes, forgotten, text_named};
 
 use crate::run::construct;
-use markdown_state::resolve::ResolveName;
-use markdown_state::state::StateName;
 use markdown_engine::tokenizer::Tokenizer;
 use markdown_engine_index::run_index::RunIndex;
 use markdown_engine_index::sequence_index::SequenceIndex;
@@ -31,6 +29,8 @@ use markdown_run_readers::{
     label_start_image, label_start_link, partial_data, raw_text,
 };
 use markdown_run_text::text;
+use markdown_state::resolve::ResolveName;
+use markdown_state::state::StateName;
 use std::alloc::AllocError;
 
 // Tries the check of a task, where the content may begin with one.

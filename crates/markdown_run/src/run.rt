@@ -16,15 +16,13 @@ ghost use Rattle.markdown_run_leaves.specs.InnermostEvents.{IsInOrder, covered, 
 ghost use Rattle.markdown_model.specs.InlineTree.{label_tree, string_events, text_events};
 
 use crate::elements::{end_text, read_text};
-use markdown_state::resolve::ResolveName;
-use markdown_state::state::StateName;
 use markdown_engine::tokenizer::Tokenizer;
-pub use markdown_engine_pieces::content::{is_content, is_text};
 use markdown_engine_content::cursor::Cursor;
-use markdown_event::event::Event;
 use markdown_engine_content::parser::ParseState;
 pub use markdown_engine_content::parser::Piece;
 use markdown_engine_events::events::Events;
+pub use markdown_engine_pieces::content::{is_content, is_text};
+use markdown_event::event::Event;
 use markdown_leaf_email_pass::settled;
 use markdown_lists::seq::Seq;
 use markdown_partial::partial_data;
@@ -33,6 +31,8 @@ pub use markdown_run_leaves::leaves;
 use markdown_run_states::resolve;
 use markdown_run_states::state::Inline;
 use markdown_run_text::text;
+use markdown_state::resolve::ResolveName;
+use markdown_state::state::StateName;
 use std::alloc::{AllocError, Global};
 use std::mem;
 

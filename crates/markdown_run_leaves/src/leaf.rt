@@ -9,8 +9,8 @@ ghost use Rattle.markdown_event.specs.declared.event.Event.{Event};
 ghost use Rattle.markdown_run_leaves.specs.InnermostEvents.{Lent, innermost, has_nothing_inside, span_of, lent, IsInOrder, BeginsInnermost};
 ghost use Rattle.markdown_run_leaves.specs.LeafView.{lent_by};
 
-use markdown_event::event::{Event, Kind, Name, Point};
 use markdown_engine_content::util::slice::{Position, Slice};
+use markdown_event::event::{Event, Kind, Name, Point};
 use std::marker::Model;
 
 /// An innermost event: its name, where it begins and ends, and what stands there.

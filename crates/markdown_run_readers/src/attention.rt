@@ -9,11 +9,11 @@ ghost use Rattle.markdown_model.specs.SingleConstructs.{attention_here, begins_r
 ghost use Rattle.markdown_run_readers.specs.PlacesPassed.{is_some_value, past_run};
 ghost use Rattle.markdown_run_readers.specs.ReaderEnds.{ReadsOrStays, options_here};
 
-use markdown_state::resolve::ResolveName;
 use markdown_engine::tokenizer::Tokenizer;
 use markdown_engine_content::configuration::Constructs;
 use markdown_engine_content::cursor::Cursor;
 use markdown_event::event::Name;
+use markdown_state::resolve::ResolveName;
 use std::alloc::AllocError;
 
 // Whether a run may begin with this byte.

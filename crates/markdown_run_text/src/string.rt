@@ -22,13 +22,13 @@ ghost use Rattle.std.specs.Prelude.{◌≡◌, IfOk, OnErr, IsTrue, None, false}
 ghost use Rattle.markdown_run_text.specs.ContentPasses.{MayTrim, TrimsData};
 ghost use Rattle.markdown_run_text.specs.StringContent.{string_markers, start_step, before_step, before_data_step};
 
-use markdown_state::resolve::ResolveName;
-use markdown_state::state::{State, StateName};
 use markdown_engine::tokenizer::Tokenizer;
 use markdown_engine_content::byte_set;
 use markdown_engine_content::bytes::ByteSet;
 use markdown_engine_events::subtokenize::Subresult;
 use markdown_partial::partial_whitespace;
+use markdown_state::resolve::ResolveName;
+use markdown_state::state::{State, StateName};
 use std::alloc::AllocError;
 
 // The bytes at which data of a string stops: those at which something is tried.

@@ -26,23 +26,23 @@ ghost use Rattle.markdown_run_text.specs.ContentPasses.{MayFinish, FinishesText}
 ghost use Rattle.markdown_run_row.specs.TextContent.{ended_fields, indexed_fields, named_fields, names_for, names_change, names_in, names_pay, order_pays, brackets_in, brackets_pay, titles_for, titles_pay, domains_for};
 ghost use Rattle.markdown_run_row.specs.TextContent.{domains_pay, span_markers, data_markers, first_try, sole_try, attempt_step, start_step, before_step, before_html_step, before_hard_break_escape_step, before_label_start_link_step, before_data_step};
 
-use markdown_state::resolve::ResolveName;
-use markdown_state::state::{State, StateName};
 use markdown_engine::tokenizer::Tokenizer;
 use markdown_engine_content::byte_set;
 use markdown_engine_content::bytes::ByteSet;
 use markdown_engine_content::cursor::Cursor;
 use markdown_engine_events::subtokenize::Subresult;
-use markdown_engine_names::bracket_index::BracketIndex;
-use markdown_engine_names::name_index::Names;
 use markdown_engine_index::run_index::RunIndex;
 use markdown_engine_index::sequence_index::{Sequence, SequenceIndex};
 use markdown_engine_index::title_index::TitleIndex;
+use markdown_engine_names::bracket_index::BracketIndex;
+use markdown_engine_names::name_index::Names;
 use markdown_leaf_email_pass::email;
 use markdown_leaf_email_pass::settled::is_settled;
 use markdown_leaf_gfm::domain_outlook;
 use markdown_partial::{literal_letters, partial_whitespace};
 use markdown_run_row::plain_tries;
+use markdown_state::resolve::ResolveName;
+use markdown_state::state::{State, StateName};
 use std::alloc::AllocError;
 
 // Where so many names are defined, and so many labels may end, an order of the names pays. Where so many titles may begin, it pays to note

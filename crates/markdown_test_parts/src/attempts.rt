@@ -7,11 +7,11 @@ ghost use Rattle.std.specs.Prelude.{◌≡◌, OnOk};
 ghost use Rattle.markdown_engine.specs.Operations.{LinkedBefore};
 
 use crate::answers::Answers;
-use markdown_state::resolve::ResolveName;
 use markdown_engine::run::resume;
-use markdown_state::state::{State, StateName};
 use markdown_engine::tokenizer::{Attempt, Tokenizer};
 use markdown_event::event::{Content, Event, Link, Name};
+use markdown_state::resolve::ResolveName;
+use markdown_state::state::{State, StateName};
 use std::alloc::AllocError;
 
 // Appends what a call answers.

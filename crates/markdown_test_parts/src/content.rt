@@ -11,11 +11,11 @@ ghost use Rattle.std.specs.Prelude.{◌≡◌};
 
 use crate::answers::Answers;
 use crate::case::Case;
-use markdown_engine_pieces::content::{is_content, is_text};
-use markdown_event::event::Point;
 use markdown_engine_content::parser::Piece;
 use markdown_engine_content::util::slice::{Position, Slice};
 use markdown_engine_content::walk::{code_from, move_to, past_code, walk_to};
+use markdown_engine_pieces::content::{is_content, is_text};
+use markdown_event::event::Point;
 
 /// The place before all codes of a document.
 pub(crate) const DOCUMENT_START: Point = Point {

@@ -14,9 +14,9 @@ use crate::answers::Answers;
 use crate::case::Case;
 use crate::content::push_place;
 use markdown_engine_content::byte_set;
-use markdown_engine_pieces::content::is_content;
 use markdown_engine_content::cursor::Cursor;
 use markdown_engine_content::parser::Piece;
+use markdown_engine_pieces::content::is_content;
 
 // Appends what a case answers that has these pieces.
 pub(crate) fn answer(case: &Case, pieces: &[Piece], out: &mut Answers) {

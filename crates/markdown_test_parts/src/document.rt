@@ -8,8 +8,8 @@ use crate::case::{Case, whole};
 use crate::{attempts, emphasis, mail, parts, spaces};
 use markdown_engine::tokenizer::Tokenizer;
 use markdown_engine_content::configuration::{Constructs, ParseOptions};
-use markdown_engine_pieces::content::is_content;
 use markdown_engine_content::parser::{ParseState, Piece};
+use markdown_engine_pieces::content::is_content;
 use std::alloc::Global;
 
 // With strikethrough; the rule of three reads whole lengths where it is asked to.

@@ -25,9 +25,9 @@ use crate::document;
 use markdown_attention::attention::runs::{Runs, Sequence};
 use markdown_attention::attention::{inside, resolve, resolve_counted, start};
 use markdown_engine::tokenizer::Tokenizer;
+use markdown_engine_events::events::Events;
 use markdown_engine_pieces::content::is_content;
 use markdown_event::event::{Event, Kind, Name, Point};
-use markdown_engine_events::events::Events;
 use std::alloc::{AllocError, Global};
 
 // What is called of the pass.

@@ -14,12 +14,12 @@ ghost use Rattle.markdown_event.specs.declared.event.Kind.TheVariants as Kind;
 use crate::answers::Answers;
 use crate::case::{Case, ask_in_vain, is_held};
 use crate::content::{DOCUMENT_START, push_place};
-use markdown_event::event::{Content, Event, Kind, Link, Name, Point};
 use markdown_engine_content::util::skip::to_back;
 use markdown_engine_content::util::slice::Position;
 use markdown_engine_events::events::Events;
 use markdown_engine_events::subtokenize::link;
 use markdown_engine_events::util::edit_map::EditMap;
+use markdown_event::event::{Content, Event, Kind, Link, Name, Point};
 use std::alloc::{AllocError, Global};
 
 // Appends what a case answers.

@@ -15,13 +15,13 @@ ghost use Rattle.std.specs.Prelude.{◌≡◌};
 use crate::answers::Answers;
 use crate::case::{Case, number_of, whole};
 use markdown_engine_content::byte_set;
-use markdown_engine_pieces::content::is_content;
 use markdown_engine_content::cursor::Cursor;
-use markdown_engine_names::bracket_index::BracketIndex;
-use markdown_engine_names::name_index::{Listed, NameIndex, Names};
 use markdown_engine_index::run_index::RunIndex;
 use markdown_engine_index::sequence_index::{Sequence, SequenceIndex};
 use markdown_engine_index::title_index::TitleIndex;
+use markdown_engine_names::bracket_index::BracketIndex;
+use markdown_engine_names::name_index::{Listed, NameIndex, Names};
+use markdown_engine_pieces::content::is_content;
 use markdown_lists::place_index::PlaceIndex;
 use std::alloc::{AllocError, Global};
 

@@ -7,12 +7,12 @@ ghost use Rattle.markdown_run_states.specs.Layer.{ready_of};
 use crate::answers::Answers;
 use crate::paths;
 use markdown_engine::run::resume;
-use markdown_state::state::{State, StateName};
 use markdown_engine::tokenizer::{Attempt, TokenizeState, Tokenizer};
-use markdown_event::event::{Content, Event, Kind, Name};
 use markdown_engine_content::parser::{ParseState, Piece};
+use markdown_event::event::{Content, Event, Kind, Name};
 use markdown_inline::state;
 use markdown_lists::seq::Stack;
+use markdown_state::state::{State, StateName};
 use std::alloc::{AllocError, Global};
 
 /// A call that is sought: the first of this state at this place with these scratch fields.

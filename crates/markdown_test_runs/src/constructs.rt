@@ -14,17 +14,17 @@ use crate::ends::read_end;
 use crate::lines::print_events;
 use crate::paths::read_plain;
 use crate::row::Asked;
-use markdown_state::resolve::ResolveName;
-use markdown_state::state::StateName;
 use markdown_engine::tokenizer::Tokenizer;
 use markdown_engine_content::byte_set;
-use markdown_event::event::{Content, Name};
 use markdown_engine_content::parser::{ParseState, Piece};
 use markdown_engine_index::sequence_index::SequenceIndex;
+use markdown_event::event::{Content, Name};
 use markdown_inline::run::construct;
 use markdown_inline::state::Inline;
 use markdown_inline::{partial_space_or_tab, partial_space_or_tab_eol, resolve, state};
 use markdown_run_readers::{attention, character_escape, label_start_link, partial_data};
+use markdown_state::resolve::ResolveName;
+use markdown_state::state::StateName;
 use std::alloc::{AllocError, Global};
 
 // A tokenizer at the start of a content, where constructs may be read.

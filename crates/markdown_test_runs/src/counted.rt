@@ -5,8 +5,8 @@ use crate::answers::Answers;
 use crate::lines::print_probes;
 use crate::passes::runs_of_text;
 use crate::row::Asked;
-use markdown_event::event::{Event, Kind, Name};
 use markdown_engine_content::parser::{ParseState, Piece};
+use markdown_event::event::{Event, Kind, Name};
 use markdown_inline::run::text;
 use std::alloc::{AllocError, Global};
 

@@ -7,11 +7,11 @@ ghost use Rattle.markdown_state.specs.declared.state.StateName.TheVariants.{Labe
 ghost use Rattle.markdown_partial.specs.PartialSpaceOrTab.{most};
 ghost use Rattle.markdown_run.specs.RunConstruct.{IsConstruct};
 
-use markdown_state::state::StateName;
 use markdown_engine::tokenizer::{LabelKind, LabelStart, Tokenizer};
 use markdown_event::event::{Event, Kind, Name, Point};
 use markdown_inline::run::construct;
 use markdown_run_readers::label_end;
+use markdown_state::state::StateName;
 use std::alloc::AllocError;
 
 // Keeps the start of a link that stands before all codes.

@@ -1,8 +1,8 @@
 // Which definitions links and images refer to, and which footnotes calls.
 use crate::answers::Answers;
 use crate::row::Row;
-use markdown_event::event::{Event, Kind, Name};
 use markdown_engine_content::parser::ParseState;
+use markdown_event::event::{Event, Kind, Name};
 use markdown_inline::definitions::Definitions;
 use markdown_inline::labels::Labels;
 use markdown_inline::run::{is_text, text};

@@ -1,6 +1,6 @@
 // Texts and strings found again as contents of a prepared document, with text before and behind them.
-use markdown_event::event::{Event, Point};
 use markdown_engine_content::parser::{ParseState, Piece};
+use markdown_event::event::{Event, Point};
 use markdown_inline::document::Document;
 use markdown_inline::run::Run;
 use std::alloc::{AllocError, Global};

@@ -4,8 +4,8 @@ ghost use Rattle.markdown_engine_events.specs.EventChains.{IsFresh};
 
 use markdown_engine::tokenizer::Tokenizer;
 use markdown_engine_content::configuration::{Constructs, ParseOptions};
-use markdown_event::event::{Event, Kind, Link, Name, Point};
 use markdown_engine_events::events::Events;
+use markdown_event::event::{Event, Kind, Link, Name, Point};
 use markdown_inline::util::char::{Kind as Class, classify_opt};
 use std::alloc::{AllocError, Global};
 

@@ -3,8 +3,8 @@ ghost use Rattle.markdown_engine_content.specs.Content.{IsContent, IsTextContent
 
 use crate::answers::Answers;
 use crate::passes::{Pairing, are_of_string, are_of_text};
-use markdown_event::event::Event;
 use markdown_engine_content::parser::{ParseState, Piece};
+use markdown_event::event::Event;
 use markdown_inline::run::{string, text};
 use std::alloc::{AllocError, Global};
 

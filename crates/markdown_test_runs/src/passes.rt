@@ -10,18 +10,18 @@ ghost use Rattle.markdown_partial.specs.TrimmedEvents.{FirstHasPlaces, HasPlaces
 
 use crate::constructs::answer_again;
 use crate::pairing;
-use markdown_state::resolve::ResolveName;
-use markdown_state::state::StateName;
 use markdown_engine::tokenizer::Tokenizer;
-use markdown_engine_pieces::content::is_content;
-use markdown_event::event::{Event, Kind, Link, Name, Point};
 use markdown_engine_content::parser::{ParseState, Piece};
 use markdown_engine_content::walk::walk_to;
 use markdown_engine_events::events::Events;
+use markdown_engine_pieces::content::is_content;
+use markdown_event::event::{Event, Kind, Link, Name, Point};
 use markdown_inline::attention::runs::{Runs, Sequence};
 use markdown_inline::state::Inline;
 use markdown_inline::{gfm_autolink_literal, partial_data, partial_whitespace, resolve};
 use markdown_lists::seq::Seq;
+use markdown_state::resolve::ResolveName;
+use markdown_state::state::StateName;
 use std::alloc::{AllocError, Global};
 use std::mem;
 

@@ -5,7 +5,6 @@ ghost use Rattle.markdown_engine.specs.Weights.{codes_left};
 ghost use Rattle.markdown_partial.specs.PartialSpaceOrTab.{most};
 ghost use Rattle.markdown_run_states.specs.Layer.{ready_of};
 
-use markdown_state::state::{State, StateName};
 use markdown_engine::tokenizer::Tokenizer;
 use markdown_inline::run::construct;
 use markdown_inline::{
@@ -14,6 +13,7 @@ use markdown_inline::{
     label_start_image, label_start_link, partial_data, partial_destination, partial_label,
     partial_space_or_tab, partial_space_or_tab_eol, partial_title, raw_text, state, string, text,
 };
+use markdown_state::state::{State, StateName};
 use std::alloc::AllocError;
 
 /// Reads the construct of this word, which asks for nothing but scratch fields at rest.

@@ -2,14 +2,13 @@
 ghost use Rattle.std.specs.Prelude.{◌≡◌, None};
 
 use crate::answers::Answers;
-use markdown_state::state::StateName;
 use markdown_engine::tokenizer::Tokenizer;
 use markdown_engine_content::configuration::ParseOptions;
-use markdown_event::event::{Content, Event, Kind, Name, Point};
 use markdown_engine_content::parser::ParseState;
 use markdown_engine_content::util::skip::to_back;
 use markdown_engine_content::util::slice::{Position, Slice};
 use markdown_engine_content::walk::walk_to;
+use markdown_event::event::{Content, Event, Kind, Name, Point};
 use markdown_inline::options::ALL_CONSTRUCTS;
 use markdown_inline::run::{Leaves, Piece, is_content, is_text, leaves, text};
 use markdown_inline::util::char::{
@@ -20,6 +19,7 @@ use markdown_inline::util::character_reference::{
 };
 use markdown_inline::util::constant;
 use markdown_inline::{laws, partial_space_or_tab, partial_space_or_tab_eol};
+use markdown_state::state::StateName;
 use std::alloc::{AllocError, Global};
 
 // A piece between two bytes.

@@ -4,8 +4,8 @@ use crate::kept::{Reading, are_alike, covers, is_balanced, stand_alike};
 use crate::layout::{LAYOUTS, Layout, Sheet, laid};
 use crate::rows::Rows;
 use markdown_engine_content::configuration::ParseOptions;
-use markdown_event::event::{Event, Name};
 use markdown_engine_content::parser::ParseState;
+use markdown_event::event::{Event, Name};
 use markdown_inline::run::{Run, is_content, is_text, string, text};
 use std::alloc::{AllocError, Global};
 

@@ -1,6 +1,6 @@
 // What holds of the events of every run: they are balanced and cover each code once, and bytes that the pieces leave out do not matter.
-use markdown_event::event::{Event, Kind, Point};
 use markdown_engine_content::parser::Piece;
+use markdown_event::event::{Event, Kind, Point};
 use std::alloc::{AllocError, Global};
 
 // Whether each Exit has the name of the last Enter that is open, and none is open in the end.

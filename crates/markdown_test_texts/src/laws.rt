@@ -5,8 +5,8 @@
 use crate::kept::{Reading, are_alike, covers, is_balanced, stand_alike};
 use crate::number_of;
 use crate::rows::plain;
-use markdown_event::event::{Event, Kind, Name, Point};
 use markdown_engine_content::parser::Piece;
+use markdown_event::event::{Event, Kind, Name, Point};
 use std::alloc::{AllocError, Global};
 
 // A place on the first line, where no tab stands.

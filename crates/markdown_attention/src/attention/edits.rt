@@ -13,9 +13,9 @@ use crate::attention::brackets::{closing, opening, run_events};
 use crate::attention::pairing::Pair;
 use crate::attention::runs::Sequence;
 use crate::attention::sizes::Sizes;
-use markdown_event::event::{Event, Point};
 use markdown_engine_events::events::Events;
 use markdown_engine_events::util::edit_map::EditMap;
+use markdown_event::event::{Event, Point};
 use std::alloc::{AllocError, Global};
 
 // How one pair takes all markers of a run.

@@ -7,8 +7,8 @@ ghost use Rattle.markdown_attention.specs.PairScan.{Numbered};
 ghost use Rattle.markdown_util.specs.Neighbours.{class_of};
 
 use crate::attention::runs::Sequence;
-use markdown_event::event::{Event, Kind, Name, Point};
 use markdown_engine_events::events::Events;
+use markdown_event::event::{Event, Kind, Name, Point};
 use markdown_lists::seq::Stack;
 use markdown_util::util::char::{self, Kind as CharacterKind};
 use std::alloc::{AllocError, Global};
