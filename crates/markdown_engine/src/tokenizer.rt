@@ -9,8 +9,7 @@ ghost use Rattle.markdown_engine_events.specs.EventChains.{IsFresh};
 ghost use Rattle.markdown_engine.specs.RunStart.{begun, begun_at};
 ghost use Rattle.markdown_engine.specs.RestingFields.{at_rest};
 
-use markdown_engine_content::byte_set;
-use markdown_engine_content::bytes::ByteSet;
+use markdown_engine_content::bytes::{ByteSet, NO_BYTES};
 use markdown_engine_content::cursor::Cursor;
 pub use markdown_engine_content::label_kind::LabelKind;
 use markdown_engine_content::parser::{ParseState, Piece};
@@ -166,7 +165,7 @@ impl<'a> TokenizeState<'a> {
             end: 0,
             seen: false,
             connect: false,
-            markers: byte_set!(),
+            markers: ByteSet::new(&NO_BYTES),
             token_1: Name::Data,
             token_2: Name::Data,
             token_3: Name::Data,

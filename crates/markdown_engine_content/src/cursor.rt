@@ -8,8 +8,7 @@ ghost use Rattle.markdown_engine_content.specs.PlainBytes.{ArePlain, spares_word
 ghost use Rattle.markdown_engine_content.specs.Stretch.{is_free, past_stretch};
 ghost use Rattle.markdown_engine_content.specs.DocumentWalk.{IsPoint};
 
-use crate::byte_set;
-use crate::bytes::ByteSet;
+use crate::bytes::{ByteSet, NO_BYTES};
 use crate::lanes::{EIGHT, LANES, ordinary_among, others_among, plain_among, plain_among_eight};
 use crate::parser::Piece;
 use crate::walk::{DOCUMENT_START, code_from, past_code, walk_to};
@@ -419,12 +418,12 @@ impl<'a> Cursor<'a> {
         ensures lines { has_no_blank_line result (ahead_at self.new) ≡ has_no_blank_line true (ahead_at self.old) }
         ensures left { length (ahead_at self.new) ≤ length (ahead_at self.old) }
     {
-        self.pass_plain(&byte_set!());
+        self.pass_plain(&ByteSet::new(&NO_BYTES));
         while self.pass_line_feed() {
             if !self.stands_at_ink() {
                 return false;
             }
-            self.pass_plain(&byte_set!());
+            self.pass_plain(&ByteSet::new(&NO_BYTES));
         }
         true
     }

@@ -2,8 +2,7 @@
 ghost use Rattle.std.specs.Prelude.{◌≡◌, IfOk};
 ghost use Rattle.markdown_engine_index.specs.RunIndex.{last_runs, no_runs, without_runs, rules_out, past_run};
 
-use markdown_engine_content::byte_set;
-use markdown_engine_content::bytes::ByteSet;
+use markdown_engine_content::bytes::{ByteSet, NO_BYTES};
 use markdown_engine_content::cursor::Cursor;
 use std::alloc::{AllocError, Global};
 use std::collections::BTreeMap;
@@ -36,7 +35,7 @@ impl RunIndex {
     pub fn new(alloc: Global) -> RunIndex
         ensures { result ≡ no_runs }
     {
-        RunIndex::without(alloc, byte_set!())
+        RunIndex::without(alloc, ByteSet::new(&NO_BYTES))
     }
 
     /// The runs of these bytes in a content that has none of them. It takes no memory.

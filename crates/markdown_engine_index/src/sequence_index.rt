@@ -6,8 +6,8 @@ ghost use Rattle.markdown_engine_index.specs.declared.sequence_index.Sequence.{S
 ghost use Rattle.markdown_engine_index.specs.declared.sequence_index.Sequence.TheVariants.{WwwDot};
 ghost use Rattle.std.specs.Str.{byte};
 
-use markdown_engine_content::byte_set;
-use markdown_engine_content::bytes::ByteSet;
+use markdown_engine_content::byte_table;
+use markdown_engine_content::bytes::{ByteSet, ByteTable};
 use markdown_engine_content::cursor::Cursor;
 use std::marker::Model;
 
@@ -185,11 +185,13 @@ fn is_behind_w(previous: Option<u8>) -> bool
     matches!(previous, Some(b'w' | b'W'))
 }
 
+const STOP_BYTES: ByteTable = byte_table!(b'-', b']', b'?', b'>', b')', b'.', b'`', b'$');
+
 // The bytes at which the sequences show.
 fn stop_bytes() -> ByteSet
     ensures { result ≡ stop_bytes }
 {
-    byte_set!(b'-', b']', b'?', b'>', b')', b'.', b'`', b'$')
+    ByteSet::new(&STOP_BYTES)
 }
 
 // This place where the test holds, else the earlier one.

@@ -9,7 +9,7 @@ ghost use Rattle.markdown_engine_content.specs.Place.{ahead_at};
 ghost use Rattle.markdown_engine_content.specs.PlainBytes.{ArePlain};
 ghost use Rattle.markdown_engine_content.specs.DocumentWalk.{IsPoint};
 
-use markdown_engine_content::byte_set;
+use markdown_engine_content::bytes::{ByteSet, NO_BYTES};
 use markdown_engine_content::cursor::{Cursor, plain_end};
 use markdown_engine_content::parser::Piece;
 use markdown_engine_content::walk::{DOCUMENT_START, code_from, past_code};
@@ -50,7 +50,7 @@ fn pass_ordinary(bytes: &[u8], stretch: Stretch, to: usize) -> Stretch
     if end <= start {
         return stretch;
     }
-    let count = plain_end(bytes, start, end, &byte_set!()) - start;
+    let count = plain_end(bytes, start, end, &ByteSet::new(&NO_BYTES)) - start;
     if count == 0 {
         return stretch;
     }

@@ -11,7 +11,7 @@ use Rattle.std.proofs.lemmas.Bool.Decides.{nat_tests}
 use Rattle.std.proofs.lemmas.Str.{IsUtf8-from_ascii}
 use Rattle.std.proofs.lemmas.Str.Ascii.{IsAscii-from_all}
 use Rattle.markdown_util.specs.Reference.{is_value, is_value_byte}
-use Rattle.markdown_util.proofs.WholeReference.{value_parts}
+use Rattle.markdown_util_decode.proofs.WholeReference.{value_parts}
 
 byte_ascii : (marker b : ℕ) → is_value_byte marker b ≡ true → b < 128
 byte_ascii marker b h = go (eqb marker 38) (eqb marker 35) h

@@ -6,7 +6,8 @@ ghost use Rattle.std.specs.List.{list_all, prefix_len};
 ghost use Rattle.markdown_util.specs.Reference.{is_value, is_value_byte, IsMarker};
 ghost use Rattle.markdown_html_text.specs.Resolved.{text_of, marker_ahead, value_ahead, reference_ahead, first_text, resolved, begins_with, is_semicolon};
 
-use markdown_util::util::character_reference::{decode, value_max, value_test};
+use markdown_util::util::character_reference::{value_max, value_test};
+use markdown_util_decode::character_reference::decode;
 use std::alloc::{AllocError, Global};
 
 /// The bytes from an index on; none where there are not so many.

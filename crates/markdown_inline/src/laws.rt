@@ -13,4 +13,5 @@ pub use markdown_model_laws::{
     titles_are_found, trees_are_filled, values_are_decodable, what_follows_is_found,
 };
 pub use markdown_run_leaves::laws::{events_give_content, leaves_are_stretches};
-pub use markdown_util::laws::{identifier, tables, unchanged};
+pub use markdown_util::laws::{identifier, tables};
+pub use markdown_util_decode::laws::unchanged;

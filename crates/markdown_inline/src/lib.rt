@@ -5,6 +5,7 @@
 pub mod laws;
 pub mod options;
 pub mod pieces;
+pub mod run;
 pub mod util;
 
 pub use markdown_definitions::{definitions, labels};
@@ -25,7 +26,6 @@ pub use markdown_partial::{
 };
 pub use markdown_partial_link::{partial_destination, partial_label, partial_title};
 pub use markdown_program::program;
-pub use markdown_run::run;
 pub use markdown_run_states::{attention, gfm_autolink_literal, label_end, resolve, state};
 pub use markdown_run_text::{string, text};
 pub use markdown_tree::{node, tree};

@@ -1,6 +1,12 @@
 //! Values that the constructs stand on: character references, identifiers, classes of characters, and the limits.
 
-pub use markdown_util::util::{char, character_reference, normalize_identifier};
+pub use markdown_util::util::{char, normalize_identifier};
+
+/// The text that a character reference stands for, and texts with references.
+pub mod character_reference {
+    pub use markdown_util::util::character_reference::{decode_named, value_max, value_test};
+    pub use markdown_util_decode::character_reference::{decode, decode_numeric, parse};
+}
 
 /// The limits of the inline grammar, and the tables of named character references.
 pub mod constant {

@@ -7,13 +7,13 @@ ghost use Rattle.markdown_inline_c.specs.FlatInput.{IsTextInput};
 ghost use Rattle.markdown_inline_c.specs.FlatLeaves.{flat_leaf, leaves_of};
 ghost use Rattle.markdown_inline_c.specs.Statuses.{IsTextFault};
 ghost use Rattle.markdown_run_leaves.specs.InnermostEvents.{innermost, lent, IsInOrder};
-ghost use Rattle.markdown_run_leaves.specs.LeafView.{lent_by};
+ghost use Rattle.markdown_leaves.specs.LeafView.{lent_by};
 
 use crate::fault::Fault;
 use crate::flat::{FlatLeaf, Input, name_number};
 use crate::input;
 use markdown_event::event::Event;
-use markdown_run::run::{self, Leaf};
+use markdown_leaves::leaf::Leaf;
 use std::alloc::{AllocError, Global};
 
 fn flat_leaf(leaf: &Leaf) -> FlatLeaf
@@ -43,7 +43,7 @@ fn flat_leaves(alloc: Global, bytes: &[u8], events: &[Event]) -> Result<Vec<Flat
     ensures { IfOk result (λ found. found.items ≡ map flat_leaf (map (lent bytes.now) (innermost events.now))) }
 {
     let mut found = Vec::new(alloc);
-    for leaf in run::leaves(bytes, events) {
+    for leaf in markdown_leaves::leaves(bytes, events) {
         found.push(flat_leaf(&leaf))?;
     }
     Ok(found)

@@ -28,7 +28,8 @@ use Rattle.markdown_plan.proofs.CharactersAlongContent.{text-moved}
 use Rattle.markdown_plan.proofs.CharacterPlaces.{marker-ends}
 use Rattle.markdown_model.specs.CodeTests.{is_value, next_is}
 use Rattle.markdown_label.specs.LabelFields.{begun}
-use Rattle.markdown_label.specs.LabelEnd.{place_at, point_or, AreWithin}
+use Rattle.markdown_label.specs.LabelEnd.{AreWithin}
+use Rattle.markdown_label_names.specs.LabelNames.{place_at, point_or}
 use Rattle.markdown_label.specs.LabelStarts.{kept_start, link_ops, link_test, footnote_front, footnote_back, footnote_test, image_front, image_back, image_test}
 use Rattle.markdown_label.proofs.LabelEndLemmas.{events-before, scratch-before, input-before}
 use Rattle.markdown_label.proofs.ReferenceFullTree.{get-after}

@@ -10,7 +10,8 @@ use Rattle.markdown_engine.specs.declared.tokenizer.Tokenizer.{Tokenizer}
 use Rattle.markdown_model.specs.LabelEnd.{is_image}
 use Rattle.markdown_plan.specs.Characters.{bytes_of}
 use Rattle.markdown_label.specs.LabelFields.{AreMarked, AreOrdered, marked, barred_by}
-use Rattle.markdown_label.specs.LabelEnd.{place_at, EndsBetween, AllEndBetween, AreWithin}
+use Rattle.markdown_label.specs.LabelEnd.{EndsBetween, AllEndBetween, AreWithin}
+use Rattle.markdown_label_names.specs.LabelNames.{place_at}
 use Rattle.markdown_label.proofs.KeptStartStack.{place-front}
 
 -- where events are appended

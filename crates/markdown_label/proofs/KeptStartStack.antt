@@ -16,7 +16,8 @@ use Rattle.markdown_model.proofs.GrammarSteps.{bind-some, bind-none, one-here, e
 use Rattle.markdown_model.proofs.EndsTakeTheNearest.{ends_take_the_nearest}
 use Rattle.markdown_util.specs.Identifier.{identifier_of}
 use Rattle.markdown_label.specs.LabelFields.{bars, marked, barred_by}
-use Rattle.markdown_label.specs.LabelEnd.{point_or, place_at, last_start}
+use Rattle.markdown_label.specs.LabelEnd.{last_start}
+use Rattle.markdown_label_names.specs.LabelNames.{point_or, place_at}
 use Rattle.markdown_model.specs.SingleConstructs.{outcome, outcome_at}
 use Rattle.markdown_label.specs.KeptStarts.{StandsFor, StandFor}
 

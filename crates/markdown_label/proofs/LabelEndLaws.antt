@@ -32,10 +32,11 @@ use Rattle.markdown_model.proofs.GrammarSteps.{either-some, either-second, if-tr
 use Rattle.markdown_label.specs.AfterLabelParts.{rested}
 use Rattle.markdown_label.proofs.NextCodeTests.{at-value, at-none}
 use Rattle.markdown_label.specs.LabelFields.{AreOrdered, with_kind, as_link}
-use Rattle.markdown_label.specs.LabelEnd.{identifier_between, by_definition, not_full, tail_at, link_tried, after_by, made_here, lost_here, label_seen, label_matters, may_be_shortcut, collapsed_front, collapsed_back, collapsed_at, reference_collapsed_step, collapsed_open_at, AfterReady, FullReady, tail_ends, kind_set, made, after_reading_of}
+use Rattle.markdown_label.specs.LabelEnd.{by_definition, not_full, tail_at, link_tried, after_by, made_here, lost_here, label_seen, label_matters, may_be_shortcut, collapsed_front, collapsed_back, collapsed_at, reference_collapsed_step, collapsed_open_at, AfterReady, FullReady, tail_ends, kind_set, made, after_reading_of}
+use Rattle.markdown_label_names.specs.LabelNames.{identifier_between}
 use Rattle.markdown_label.specs.LabelEnd.{after_reading, after_ends, ok_ends, nok_ends, not_full_reading, reference_collapsed_ends, collapsed_open_plan, reference_collapsed_open_ends, starts_set, states_and_called, ok_words, nok_words, after_words, reference_collapsed_words, reference_collapsed_open_words, reference_not_full_words}
 use Rattle.markdown_model.specs.SingleConstructs.{outcome}
-use Rattle.markdown_label.specs.LabelSetting.{setting_in}
+use Rattle.markdown_label_names.specs.LabelSetting.{setting_in}
 use Rattle.markdown_label.proofs.LabelEndLemmas.{attempts-made, ahead-made, on-definition, goes-definition, goes-tried, tail-same, loses-here}
 use Rattle.markdown_label.proofs.LabelEndReadings.{after-paren, after-bracket, after-other, full-first, undefined-none, defined-either, collapsed-whole, collapsed-here, collapsed-none, outcome-call, outcome-tail, outcome-none, footnote-kind}
 

@@ -40,9 +40,10 @@ use Rattle.markdown_label.specs.LabelFields.{bars, as_link, loosened}
 use Rattle.std.specs.Str.{IsCharBoundary}
 use Rattle.std.proofs.lemmas.Bool.{eqb-true}
 use Rattle.markdown_event.specs.declared.event.Point.{Point}
-use Rattle.markdown_label.specs.LabelEnd.{AreAround, EndsBetween, point_or, place_at, identifier_between, end_ops, ended_at, ended, start_by, is_on, start_at, AllEndBetween, StartReady, AfterReady, after_reading_of, after_reading, after_ends, nok_ends, lost_here, end_tree, outcome_by, end_reading, lost_starts, lost_by, lost_fields, end_made, start_ends, start_words, states_and_called}
+use Rattle.markdown_label.specs.LabelEnd.{EndsBetween, end_ops, ended_at, ended, start_by, is_on, start_at, AllEndBetween, StartReady, AfterReady, after_reading_of, after_reading, after_ends, nok_ends, lost_here, end_tree, outcome_by, end_reading, lost_starts, lost_by, lost_fields, end_made, start_ends, start_words, states_and_called}
+use Rattle.markdown_label_names.specs.LabelNames.{AreAround, point_or, place_at, identifier_between}
 use Rattle.markdown_model.specs.SingleConstructs.{outcome}
-use Rattle.markdown_label.specs.LabelSetting.{setting_in}
+use Rattle.markdown_label_names.specs.LabelSetting.{setting_in}
 use Rattle.markdown_label.proofs.LabelEndLemmas.{Fails-lost}
 use Rattle.markdown_label.proofs.NextCodeTests.{at-value, at-none}
 use Rattle.markdown_label.proofs.KeptStartStack.{place-front}

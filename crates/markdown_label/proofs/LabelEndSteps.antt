@@ -7,8 +7,9 @@ use Rattle.markdown_state.specs.declared.state.StateName.TheVariants.{LabelEndOk
 use Rattle.markdown_engine.specs.declared.tokenizer.LabelStart as Kept
 use Rattle.markdown_engine.specs.declared.tokenizer.Tokenizer.{Tokenizer}
 use Rattle.markdown_label.specs.LabelFields.{as_link}
-use Rattle.markdown_label.specs.LabelEnd.{identifier_between, link_as, link_tried, tail_at, after_by, after_step}
-use Rattle.markdown_label.specs.LabelSetting.{setting_in}
+use Rattle.markdown_label.specs.LabelEnd.{link_tried, tail_at, after_by, after_step}
+use Rattle.markdown_label_names.specs.LabelNames.{identifier_between, link_as}
+use Rattle.markdown_label_names.specs.LabelSetting.{setting_in}
 
 -- what follows, by what the label is
 abbrev after_found : Option Bool → Tokenizer → Stepped

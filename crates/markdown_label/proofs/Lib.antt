@@ -1,10 +1,4 @@
 -- The proofs of the starts and ends of labels.
-pub mod BytesBetween
-pub mod IdentifierFrontLemmas
-pub mod IdentifierLetters
-pub mod NameIndexSearch
-pub mod BracketCounts
-pub mod IdentifierBrackets
 pub mod LabelEndSteps
 pub mod KeptStartStack
 pub mod KeptStartPlaces

@@ -31,7 +31,7 @@ use Rattle.markdown_model.proofs.GrammarSteps.{bind-some, bind-none, switched-on
 use Rattle.markdown_partial.specs.PartialLabel as PartialLabel
 use Rattle.markdown_label.specs.LabelEnd.{names_set, label_seen, label_matters, reference_name, ReferenceIsAround, FullReady, FullFails, reference_full_ends, reference_full_after_ends, reference_full_missing_ends, states_and_called, reference_full_words, reference_full_after_words, reference_full_missing_words}
 use Rattle.markdown_label.specs.AfterLabelParts.{names_rested, rested, PartReady}
-use Rattle.markdown_label.specs.LabelSetting.{setting_in, IsListed}
+use Rattle.markdown_label_names.specs.LabelSetting.{setting_in, IsListed}
 use Rattle.markdown_label.proofs.ReferenceFullText.{reference-around}
 use Rattle.markdown_label.proofs.ReferenceFullPlaces.{HasText, label-text}
 use Rattle.markdown_label.proofs.ReferenceFullTree.{IsReference, label-shape, name-there}

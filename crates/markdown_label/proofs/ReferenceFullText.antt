@@ -11,8 +11,9 @@ use Rattle.markdown_event.specs.declared.event.Name.TheVariants as N
 use Rattle.markdown_event.specs.declared.event.Point.{Point}
 use Rattle.markdown_engine.specs.declared.tokenizer.Tokenizer.{Tokenizer}
 use Rattle.markdown_plan.specs.Characters.{bytes_of}
-use Rattle.markdown_label.specs.LabelEnd.{point_or, place_at, ReferenceIsAround}
-use Rattle.markdown_label.specs.LabelSetting.{IsListed}
+use Rattle.markdown_label.specs.LabelEnd.{ReferenceIsAround}
+use Rattle.markdown_label_names.specs.LabelNames.{point_or, place_at}
+use Rattle.markdown_label_names.specs.LabelSetting.{IsListed}
 use Rattle.markdown_label.proofs.ReferenceFullTree.{IsReference, get-after}
 use Rattle.markdown_label.proofs.ReferenceFullPlaces.{HasText}
 

@@ -19,7 +19,7 @@ use Rattle.markdown_model.specs.Resource.{label, reference_names, between_marker
 use Rattle.markdown_model.specs.Setting.{Setting}
 use Rattle.markdown_model.proofs.NoLinkInConstructs.{Passes, Yields, yields_bind, yields_gives, yields_passed, then_any}
 use Rattle.markdown_util.specs.Identifier.{identifier_of}
-use Rattle.markdown_label.specs.LabelEnd.{point_or, place_at}
+use Rattle.markdown_label_names.specs.LabelNames.{point_or, place_at}
 
 -- a group of a marker, a text and a marker
 pub record IsReference (t : Forest) : Type 0 where

@@ -6,7 +6,7 @@ use Rattle.markdown_engine.specs.declared.tokenizer.LabelStart.{LabelStart}
 use Rattle.markdown_engine.specs.declared.tokenizer.Tokenizer.{Tokenizer}
 use Rattle.markdown_model.specs.LabelEnd.{Element}
 use Rattle.markdown_model.specs.Laws.{UnusedStart, unused_starts}
-use Rattle.markdown_label.specs.LabelEnd.{place_at}
+use Rattle.markdown_label_names.specs.LabelNames.{place_at}
 
 -- a kept start stands for an unused one: of the same kind, marked where a link or a call was made behind it, and its last Exit stands where the start's marker ends
 pub record StandsFor (es : List Event) (u : UnusedStart) (l : LabelStart) : Type 0 where

@@ -32,37 +32,8 @@ use Rattle.markdown_label.specs.Resource as Resource
 use Rattle.markdown_partial.specs.PartialLabel as PartialLabel
 use Rattle.markdown_util.specs.Identifier.{identifier_of}
 use Rattle.markdown_label.specs.LabelFields.{AreOrdered, bars, with_kind, as_link, labelled, loosened}
-use Rattle.markdown_label.specs.LabelSetting.{setting_in, IsListed}
-
--- Identifiers.
-
--- whether a label of this kind with this identifier is defined as a link's, and none where it is a footnote call
-abbrev pub link_as : Setting → LabelKind → List ℕ → Option Bool
-link_as s kind name =
-    if is_footnote kind && is_defined s.footnotes name then None else Some (is_defined s.definitions (link_identifier kind name))
-
-abbrev pub point_or : Option Event → Point
-point_or None = document_start
-point_or (Some e) = e.point
-
--- where an event stands, by its number
-abbrev pub place_at : List Event → ℕ → Point
-place_at es n = point_or (slice_get es n)
-
--- the identifier of the document's bytes between two events
-abbrev pub identifier_between : Tokenizer → ℕ → ℕ → List ℕ
-identifier_between T m n = identifier_of (bytes_between (setting_in T) (place_at T.events m) (place_at T.events n))
-
--- When the bytes between two events are whole characters.
-
--- both events are there, and each stands between characters of the text; and what is known of the names that are defined is right
-pub record AreAround (T : Tokenizer) (m n : ℕ) : Type 0 where
-  pub listed : IsListed T
-  pub text : IsUtf8 (bytes_of T)
-  pub first : m < length T.events
-  pub last : n < length T.events
-  pub from : IsCharBoundary (bytes_of T) (place_at T.events m).index
-  pub to : IsCharBoundary (bytes_of T) (place_at T.events n).index
+use Rattle.markdown_label_names.specs.LabelSetting.{setting_in, IsListed}
+use Rattle.markdown_label_names.specs.LabelNames.{link_as, point_or, place_at, identifier_between, AreAround}
 
 -- the label whose end is passed: from the last event of its start to the first one of its end
 abbrev pub LabelIsAround : Tokenizer → Type 0

@@ -1,12 +1,10 @@
 -- The definitions of this crate.
 -- What has to be believed: what public contracts and the theorem cite.
-pub mod LabelSetting
 pub mod LabelFields
 pub mod LabelEnd
 pub mod LabelStarts
 pub mod AfterLabelParts
 pub mod Resource
 -- What serves proofs: what functions and proofs promise each other.
-pub mod IdentifierFronts
 pub mod KeptStarts
 pub mod AfterLabel

@@ -35,7 +35,6 @@ ghost use Rattle.markdown_label.specs.AfterLabelParts.{names_rested};
 ghost use Rattle.markdown_label.specs.LabelFields.{bars, as_link, marked, AreOrdered};
 ghost use Rattle.markdown_label.specs.LabelEnd.{LabelIsAround, ReferenceIsAround, start_step, tail_at, after_step, ok_step, nok_step, names_set, reference_full_step, reference_full_after_step, reference_full_missing_step, reference_not_full_step, reference_collapsed_step, reference_collapsed_open_step};
 
-use crate::identifier::{is_defined_between, link_between};
 use crate::parts;
 pub use crate::resource::{
     resource_before, resource_between, resource_destination_after, resource_destination_missing,
@@ -43,6 +42,7 @@ pub use crate::resource::{
 };
 use markdown_engine::tokenizer::{Label, LabelKind, LabelStart, TokenizeState, Tokenizer};
 use markdown_event::event::Name;
+use markdown_label_names::identifier::{is_defined_between, link_between};
 use markdown_lists::seq::Stack;
 use markdown_state::resolve::ResolveName;
 use markdown_state::state::{State, StateName};

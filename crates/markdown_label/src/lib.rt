@@ -2,11 +2,9 @@
 #![tactic(auto)]
 
 pub mod gfm_label_start_footnote;
-pub mod identifier;
 pub mod label_end;
 pub mod label_start_image;
 pub mod label_start_link;
-mod lookup;
 mod parts;
 pub mod resource;
 pub mod starts;

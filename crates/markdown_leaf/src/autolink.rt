@@ -32,8 +32,8 @@ ghost use Rattle.markdown_plan.specs.StateCalls.{Steps};
 use crate::marks::close;
 use crate::renaming::rename_entered;
 use markdown_engine::tokenizer::Tokenizer;
-use markdown_engine_content::byte_set;
-use markdown_engine_content::bytes::ByteSet;
+use markdown_engine_content::byte_table;
+use markdown_engine_content::bytes::{ByteSet, ByteTable};
 use markdown_event::event::Name;
 use markdown_plan::bytes::{is_alphanumeric, is_letter};
 use markdown_state::state::{State, StateName};
@@ -153,11 +153,13 @@ pub fn url_inside(tokenizer: &mut Tokenizer) -> Result<State, AllocError>
     }
 }
 
+const URI_STOPS: ByteTable = byte_table!(0, b' ', b'<', b'>'; controls);
+
 /// The bytes at which alone a URI does other than go on, line endings aside: a space, an angle bracket and the controls. Takes no memory.
 pub fn uri_stops() -> ByteSet
     ensures { result ≡ uri_stops }
 {
-    byte_set!(0, b' ', b'<', b'>'; controls)
+    ByteSet::new(&URI_STOPS)
 }
 
 /// In an address before its `@`.

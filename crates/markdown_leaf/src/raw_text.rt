@@ -30,8 +30,8 @@ ghost use Rattle.markdown_plan.specs.StateCalls.{Steps};
 
 use crate::renaming::rename_entered;
 use markdown_engine::tokenizer::{TokenizeState, Tokenizer};
-use markdown_engine_content::byte_set;
-use markdown_engine_content::bytes::ByteSet;
+use markdown_engine_content::byte_table;
+use markdown_engine_content::bytes::{ByteSet, ByteTable};
 use markdown_event::event::{Event, Kind, Name};
 use markdown_state::state::{State, StateName};
 use std::alloc::AllocError;
@@ -207,13 +207,17 @@ pub fn data(tokenizer: &mut Tokenizer) -> Result<State, AllocError>
     }
 }
 
+const BACKTICK: ByteTable = byte_table!(b'`');
+
+const DOLLAR: ByteTable = byte_table!(b'$');
+
 /// The byte at which data of a span stops, line endings aside: its marker. Takes no memory.
 pub fn data_stops(fields: &TokenizeState) -> Option<ByteSet>
     ensures { result ≡ data_stops fields.now }
 {
     match fields.marker {
-        b'`' => Some(byte_set!(b'`')),
-        b'$' => Some(byte_set!(b'$')),
+        b'`' => Some(ByteSet::new(&BACKTICK)),
+        b'$' => Some(ByteSet::new(&DOLLAR)),
         _ => None,
     }
 }

@@ -17,8 +17,8 @@ ghost use Rattle.markdown_leaf_gfm.specs.DomainOutlook as DomainOutlook;
 ghost use Rattle.markdown_leaf_gfm.specs.DomainScans.{IsLook, Reaches, name_look, www_at, goes_on, domain_at, behind_code, barred_by, underscores};
 
 use crate::gfm_autolink_literal::is_trail;
-use markdown_engine_content::byte_set;
-use markdown_engine_content::bytes::ByteSet;
+use markdown_engine_content::byte_table;
+use markdown_engine_content::bytes::{ByteSet, ByteTable};
 use markdown_engine_content::cursor::Cursor;
 use markdown_lists::place_index::PlaceIndex;
 use markdown_plan::bytes::is_letter;
@@ -262,11 +262,13 @@ impl Outlook {
     }
 }
 
+const UNDERSCORE: ByteTable = byte_table!(b'_');
+
 // The bytes at which a walk over a content stops.
 fn underscores() -> ByteSet
     ensures { result ≡ underscores }
 {
-    byte_set!(b'_')
+    ByteSet::new(&UNDERSCORE)
 }
 
 // Moves to the next `_` or line ending, and answers the code there.

@@ -30,7 +30,7 @@ ghost use Rattle.markdown_model.specs.GfmAutolinkLiteral.{schemes};
 ghost use Rattle.markdown_plan.specs.Characters.{at_later};
 ghost use Rattle.markdown_partial.specs.PartialSpaceOrTab.{most};
 ghost use Rattle.markdown_leaf_gfm.specs.GfmAutolinkLiteral.{kind_here, trail_value, mark_value, known_after, is_known, count_value, stands_for, is_named, one_named, longest, begins_scheme, marked, domain_on, rested, refused, protocol_start_step, protocol_after_step, prefix_step, slashes_step, precedes_www, www_letter, is_ruled_out};
-ghost use Rattle.markdown_leaf_gfm.specs.GfmAutolinkLiteral.{www_start_step, www_prefix_step, www_prefix_after_step, www_after_step, domain_step, domain_punctuation_step, domain_after_step, passing, path_step, path_punctuation_step, path_after_step, trail_step, bracket_after_step, reference_start_step, reference_step, MayClass, MayName, TrailReady, MayCount};
+ghost use Rattle.markdown_leaf_gfm.specs.GfmAutolinkLiteral.{www_start_step, www_prefix_step, www_prefix_after_step, www_after_step, looked, domain_step, domain_punctuation_step, domain_after_step, passing, path_step, path_punctuation_step, path_after_step, trail_step, bracket_after_step, reference_start_step, reference_step, MayClass, MayName, TrailReady, MayCount};
 
 use markdown_engine::tokenizer::{TokenizeState, Tokenizer};
 use markdown_event::event::Name;
@@ -375,6 +375,15 @@ pub fn www_after(tokenizer: &mut Tokenizer) -> Result<State, AllocError>
     Ok(State::Ok)
 }
 
+// Looks whether a trail follows, and then goes on with one of these states.
+fn look(tokenizer: &mut Tokenizer, held: StateName, failed: StateName) -> Result<State, AllocError>
+    ensures ok { IfOk result (λ s. looked held failed tokenizer.old ≡ record { state = s; left = tokenizer.new }) }
+    ensures err { OnErr result (IsTrue tokenizer.new.failed) }
+{
+    tokenizer.check(State::Next(held), State::Next(failed))?;
+    Ok(State::Retry(StateName::GfmAutolinkLiteralTrail))
+}
+
 /// In a domain: `.` and `_` belong to it where no trail begins with them.
 ///
 ///     > | to http://a.b/c and
@@ -385,13 +394,11 @@ pub fn domain_inside(tokenizer: &mut Tokenizer) -> Result<State, AllocError>
     ensures err { OnErr result (IsTrue tokenizer.new.failed) }
 {
     match tokenizer.current() {
-        Some(b'.' | b'_') => {
-            tokenizer.check(
-                State::Next(StateName::GfmAutolinkLiteralDomainAfter),
-                State::Next(StateName::GfmAutolinkLiteralDomainAtPunctuation),
-            )?;
-            Ok(State::Retry(StateName::GfmAutolinkLiteralTrail))
-        }
+        Some(b'.' | b'_') => look(
+            tokenizer,
+            StateName::GfmAutolinkLiteralDomainAfter,
+            StateName::GfmAutolinkLiteralDomainAtPunctuation,
+        ),
         Some(b'-') => {
             tokenizer.consume();
             Ok(State::Next(StateName::GfmAutolinkLiteralDomainInside))
@@ -525,11 +532,11 @@ pub fn path_inside(tokenizer: &mut Tokenizer) -> Result<State, AllocError>
     let known = scratch.marker;
     let closes = code == b')' && scratch.size_b < scratch.size;
     if is_mark(code) && !closes && !is_known(known, code) {
-        tokenizer.check(
-            State::Next(StateName::GfmAutolinkLiteralPathAfter),
-            State::Next(StateName::GfmAutolinkLiteralPathAtPunctuation),
-        )?;
-        Ok(State::Retry(StateName::GfmAutolinkLiteralTrail))
+        look(
+            tokenizer,
+            StateName::GfmAutolinkLiteralPathAfter,
+            StateName::GfmAutolinkLiteralPathAtPunctuation,
+        )
     } else {
         Ok(pass(tokenizer, known, code))
     }

@@ -35,8 +35,8 @@ ghost use Rattle.markdown_leaf_html.specs.HtmlText.{declaration_step, instructio
 ghost use Rattle.markdown_leaf_html.specs.HtmlText.{tag_open_attribute_value_before_step, tag_open_attribute_value_quoted_step, tag_open_attribute_value_quoted_after_step, tag_open_attribute_value_unquoted_step, end_step, line_ending_before_step, line_ending_after_step, line_ending_after_prefix_step};
 
 use markdown_engine::tokenizer::{TokenizeState, Tokenizer};
-use markdown_engine_content::byte_set;
-use markdown_engine_content::bytes::ByteSet;
+use markdown_engine_content::byte_table;
+use markdown_engine_content::bytes::{ByteSet, ByteTable};
 use markdown_engine_index::sequence_index::Sequence;
 use markdown_event::event::Name;
 use markdown_partial::partial_space_or_tab::space_or_tab;
@@ -73,18 +73,30 @@ fn is_after_value(code: u8) -> bool
     matches!(code, b'\t' | b'\n' | b' ' | b'/' | b'>')
 }
 
+const DASH: ByteTable = byte_table!(b'-');
+
+const BRACKET: ByteTable = byte_table!(b']');
+
+const ANGLE: ByteTable = byte_table!(b'>');
+
+const QUESTION_MARK: ByteTable = byte_table!(b'?');
+
+const QUOTATION_MARK: ByteTable = byte_table!(b'"');
+
+const APOSTROPHE: ByteTable = byte_table!(b'\'');
+
 /// The bytes at which a state that passes code after code stops, line endings aside; none for the other states. Takes no memory.
 pub fn stop_bytes(name: StateName, fields: &TokenizeState) -> Option<ByteSet>
     ensures { result ≡ stops_in name fields.now }
 {
     match name {
-        StateName::HtmlTextComment => Some(byte_set!(b'-')),
-        StateName::HtmlTextCdata => Some(byte_set!(b']')),
-        StateName::HtmlTextDeclaration => Some(byte_set!(b'>')),
-        StateName::HtmlTextInstruction => Some(byte_set!(b'?')),
+        StateName::HtmlTextComment => Some(ByteSet::new(&DASH)),
+        StateName::HtmlTextCdata => Some(ByteSet::new(&BRACKET)),
+        StateName::HtmlTextDeclaration => Some(ByteSet::new(&ANGLE)),
+        StateName::HtmlTextInstruction => Some(ByteSet::new(&QUESTION_MARK)),
         StateName::HtmlTextTagOpenAttributeValueQuoted => match fields.marker {
-            b'"' => Some(byte_set!(b'"')),
-            b'\'' => Some(byte_set!(b'\'')),
+            b'"' => Some(ByteSet::new(&QUOTATION_MARK)),
+            b'\'' => Some(ByteSet::new(&APOSTROPHE)),
             _ => None,
         },
         _ => None,

@@ -10,7 +10,7 @@ use Rattle.markdown_event.specs.declared.event.Name.{Name}
 use Rattle.markdown_event.specs.declared.event.Name.TheVariants as N
 use Rattle.markdown_event.specs.declared.event.Point.{Point}
 use Rattle.markdown_util.specs.Reference.{IsMarker, IsNumber, radix_of}
-use Rattle.markdown_util.proofs.WholeReference.{number_from_value}
+use Rattle.markdown_util_decode.proofs.WholeReference.{number_from_value}
 use Rattle.markdown_model.specs.CodeTests.{values_of}
 use Rattle.markdown_model.specs.InlineTree.{text_tree, string_tree}
 use Rattle.markdown_partial.specs.TrimmedEvents.{IsPart}

@@ -29,19 +29,23 @@ ghost use Rattle.markdown_partial.specs.PartialDestination.{start_step, enclosed
 
 use crate::linked_text::FIRST;
 use markdown_engine::tokenizer::Tokenizer;
-use markdown_engine_content::byte_set;
-use markdown_engine_content::bytes::ByteSet;
+use markdown_engine_content::byte_table;
+use markdown_engine_content::bytes::{ByteSet, ByteTable};
 use markdown_event::event::Name;
 use markdown_state::state::{State, StateName};
 use std::alloc::AllocError;
+
+const ENCLOSED_STOPS: ByteTable = byte_table!(b'<', b'>', b'\\');
+
+const RAW_STOPS: ByteTable = byte_table!(b' ', b'(', b')', b'\\'; controls);
 
 /// The bytes at which a state that passes code after code stops, line endings aside; none for the other states. Takes no memory.
 pub fn stop_bytes(name: StateName) -> Option<ByteSet>
     ensures { result ≡ stops_in name }
 {
     match name {
-        StateName::DestinationEnclosed => Some(byte_set!(b'<', b'>', b'\\')),
-        StateName::DestinationRaw => Some(byte_set!(b' ', b'(', b')', b'\\'; controls)),
+        StateName::DestinationEnclosed => Some(ByteSet::new(&ENCLOSED_STOPS)),
+        StateName::DestinationRaw => Some(ByteSet::new(&RAW_STOPS)),
         _ => None,
     }
 }

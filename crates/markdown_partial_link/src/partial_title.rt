@@ -26,8 +26,8 @@ ghost use Rattle.markdown_partial.specs.PartialTitle.{start_step, begin_step, at
 
 use crate::linked_text::{ask_for_ending, enter_text};
 use markdown_engine::tokenizer::{TokenizeState, Tokenizer};
-use markdown_engine_content::byte_set;
-use markdown_engine_content::bytes::ByteSet;
+use markdown_engine_content::byte_table;
+use markdown_engine_content::bytes::{ByteSet, ByteTable};
 use markdown_event::event::Name;
 use markdown_state::state::{State, StateName};
 use std::alloc::AllocError;
@@ -134,14 +134,20 @@ pub fn nok(tokenizer: &mut Tokenizer) -> Result<State, AllocError>
     Ok(State::Nok)
 }
 
+const QUOTATION_MARK_OR_BACKSLASH: ByteTable = byte_table!(b'"', b'\\');
+
+const APOSTROPHE_OR_BACKSLASH: ByteTable = byte_table!(b'\'', b'\\');
+
+const PARENTHESIS_OR_BACKSLASH: ByteTable = byte_table!(b')', b'\\');
+
 /// The bytes at which alone a stretch of the text does other than go on, line endings aside; none where none is read. Takes no memory.
 pub fn inside_stops(fields: &TokenizeState) -> Option<ByteSet>
     ensures { result ≡ inside_stops fields.now }
 {
     match fields.marker {
-        b'"' => Some(byte_set!(b'"', b'\\')),
-        b'\'' => Some(byte_set!(b'\'', b'\\')),
-        b')' => Some(byte_set!(b')', b'\\')),
+        b'"' => Some(ByteSet::new(&QUOTATION_MARK_OR_BACKSLASH)),
+        b'\'' => Some(ByteSet::new(&APOSTROPHE_OR_BACKSLASH)),
+        b')' => Some(ByteSet::new(&PARENTHESIS_OR_BACKSLASH)),
         _ => None,
     }
 }

@@ -16,7 +16,7 @@ use Rattle.markdown_engine.specs.declared.tokenizer.TokenizeState.{TokenizeState
 use Rattle.markdown_engine.specs.declared.tokenizer.Tokenizer.{Tokenizer}
 use Rattle.markdown_engine_index.proofs.SequenceIndexLemmas.{right-unknown}
 use Rattle.markdown_engine_index.proofs.TitleIndexLemmas as TitleIndexLemmas
-use Rattle.markdown_label.specs.LabelSetting.{setting_of, AreListed, IsListed}
+use Rattle.markdown_label_names.specs.LabelSetting.{setting_of, AreListed, IsListed}
 use Rattle.markdown_engine_names.specs.BracketIndex.{no_brackets}
 use Rattle.markdown_engine_names.specs.NameIndex.{in_order, names_in_order}
 use Rattle.markdown_engine_names.specs.declared.name_index.Names.{Names}

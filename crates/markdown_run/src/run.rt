@@ -26,8 +26,6 @@ use markdown_event::event::Event;
 use markdown_leaf_email_pass::settled;
 use markdown_lists::seq::Seq;
 use markdown_partial::partial_data;
-pub use markdown_run_leaves::leaf::{Leaf, Leaves};
-pub use markdown_run_leaves::leaves;
 use markdown_run_states::resolve;
 use markdown_run_states::state::Inline;
 use markdown_run_text::text;

@@ -1,6 +1,5 @@
 -- The proofs of what is said of innermost events.
 pub mod InnermostEventsLaws
-pub mod FirstInnermostEvent
 -- The proofs of what is said of leaves on lines.
 pub mod OneLineTrees
 pub mod OneLineLabels

@@ -12,9 +12,10 @@ use Rattle.markdown_engine.specs.declared.tokenizer.Tokenizer.{Tokenizer}
 use Rattle.markdown_engine.proofs.ReadingSequences.{scratched-same}
 use Rattle.markdown_engine.proofs.SolidTrees.{IsSolid-group, IsSolid-leaf}
 use Rattle.markdown_engine.proofs.TreeEvents.{ahead-past, ops-past}
-use Rattle.markdown_label.specs.LabelEnd.{Ends, end_made, end_ops, end_tree, ended, is_on, kind_set, made, made_here, outcome_by, place_at, starts_set}
+use Rattle.markdown_label.specs.LabelEnd.{Ends, end_made, end_ops, end_tree, ended, is_on, kind_set, made, made_here, outcome_by, starts_set}
+use Rattle.markdown_label_names.specs.LabelNames.{place_at}
 use Rattle.markdown_label.specs.LabelFields.{bars, with_kind}
-use Rattle.markdown_label.specs.LabelSetting.{setting_in}
+use Rattle.markdown_label_names.specs.LabelSetting.{setting_in}
 use Rattle.markdown_label.proofs.LabelEndLemmas.{ahead-made}
 use Rattle.markdown_label.proofs.LabelEndReadings.{outcome-tail}
 use Rattle.markdown_label.proofs.LabelEndStartLaw.{reading-at}

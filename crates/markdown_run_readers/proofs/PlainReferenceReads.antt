@@ -22,9 +22,10 @@ use Rattle.markdown_engine.specs.PastTree.{moved_by}
 use Rattle.markdown_engine.specs.declared.tokenizer.LabelStart as Kept
 use Rattle.markdown_engine.specs.declared.tokenizer.Tokenizer.{Tokenizer}
 use Rattle.markdown_engine.proofs.PlaceAfterCodes.{stop-moved}
-use Rattle.markdown_label.specs.IdentifierFronts.{AreCuts}
-use Rattle.markdown_label.specs.LabelEnd.{AllEndBetween, Ends, EndsBetween, StartReady, end_ops, ended, is_on, made_here, place_at}
-use Rattle.markdown_label.specs.LabelSetting.{setting_in}
+use Rattle.markdown_label_names.specs.IdentifierFronts.{AreCuts}
+use Rattle.markdown_label.specs.LabelEnd.{AllEndBetween, Ends, EndsBetween, StartReady, end_ops, ended, is_on, made_here}
+use Rattle.markdown_label_names.specs.LabelNames.{place_at}
+use Rattle.markdown_label_names.specs.LabelSetting.{setting_in}
 use Rattle.markdown_label.proofs.LabelEndReadings.{after-bracket, after-other, full-first}
 use Rattle.markdown_model.specs.CodeTests.{is_among, is_between, is_value, is_whitespace_code, next_is}
 use Rattle.markdown_model.specs.Grammar.{gives, one, up_to}

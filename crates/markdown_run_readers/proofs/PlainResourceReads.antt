@@ -25,7 +25,7 @@ use Rattle.markdown_engine.proofs.PlaceAfterCodes.{ahead-moved_by}
 use Rattle.markdown_engine.proofs.TreeEvents.{ahead-past, done-append, done-consumes}
 use Rattle.markdown_label.specs.LabelEnd.{Ends, end_ops, ended, is_on, made_here}
 use Rattle.markdown_label.specs.LabelFields.{AreOrdered}
-use Rattle.markdown_label.specs.LabelSetting.{setting_in}
+use Rattle.markdown_label_names.specs.LabelSetting.{setting_in}
 use Rattle.markdown_label.specs.Resource.{after_destination, after_destination_of, after_title, and_then, closes, inside, opened, or_without}
 use Rattle.markdown_label.proofs.LabelEndReadings.{after-paren}
 use Rattle.markdown_label.proofs.ResourceReadings.{grouped, resource-inside}

@@ -26,7 +26,7 @@ use Rattle.markdown_model.specs.LeafConstructs.{Parts, character_reference, deci
 use Rattle.markdown_model.specs.SingleConstructs.{character_reference_here}
 use Rattle.markdown_model.proofs.GrammarSteps.{after-some, and-left, and-right, bind-none, bind-some, either-second, either-some, one-here, provided-true, some-nothing, some-span, span-none, span-takes, switched-on}
 use Rattle.markdown_util.proofs.ReferenceTables.{html_5_sound}
-use Rattle.markdown_util.proofs.WholeReference.{semicolon_stops}
+use Rattle.markdown_util.proofs.ValueBytes.{semicolon_stops}
 use Rattle.markdown_util.specs.Reference as Reference
 use Rattle.markdown_util.specs.Reference.{Table, html_5_rows, is_value_byte, named_value, value_size_max}
 use Rattle.markdown_run_readers.specs.PlacesPassed.{marker_ops}

@@ -8,8 +8,9 @@ use Rattle.markdown_event.specs.declared.event.Name.TheVariants as N
 use Rattle.markdown_engine.specs.Operations.{current_of}
 use Rattle.markdown_engine.specs.declared.tokenizer.LabelStart as Kept
 use Rattle.markdown_engine.specs.declared.tokenizer.Tokenizer.{Tokenizer}
-use Rattle.markdown_label.specs.LabelEnd.{is_on, place_at}
-use Rattle.markdown_label.specs.LabelSetting.{setting_in}
+use Rattle.markdown_label.specs.LabelEnd.{is_on}
+use Rattle.markdown_label_names.specs.LabelNames.{place_at}
+use Rattle.markdown_label_names.specs.LabelSetting.{setting_in}
 use Rattle.markdown_model.specs.LabelEnd.{bytes_between}
 use Rattle.markdown_model.specs.Setting.{Setting, is_defined}
 use Rattle.markdown_util.specs.Identifier.{identifier_of}

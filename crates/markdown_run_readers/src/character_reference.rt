@@ -13,8 +13,8 @@ ghost use Rattle.markdown_util.specs.Reference.{IsMarker, html_5_rows, is_value,
 use crate::attention::is_at;
 use crate::events::{append_enter, append_exit, append_leaf, read_marker};
 use markdown_engine::tokenizer::Tokenizer;
-use markdown_engine_content::byte_set;
-use markdown_engine_content::bytes::ByteSet;
+use markdown_engine_content::byte_table;
+use markdown_engine_content::bytes::{ByteSet, ByteTable};
 use markdown_engine_content::cursor::Cursor;
 use markdown_engine_content::util::slice::Slice;
 use markdown_event::event::Name;
@@ -22,12 +22,14 @@ use markdown_util::util::character_reference::{decode_named, value_max, value_te
 use std::alloc::AllocError;
 use std::str;
 
+const STOPS: ByteTable = byte_table!(0, b' ', b'&', b';'; controls);
+
 // The bytes at which what may stand between a `&` and its `;` ends.
 #[inline(always)]
 fn stops() -> ByteSet
     ensures { result ≡ reference_stops }
 {
-    byte_set!(0, b' ', b'&', b';'; controls)
+    ByteSet::new(&STOPS)
 }
 
 // This kind, if it holds.

@@ -15,8 +15,8 @@ ghost use Rattle.markdown_run_readers.specs.ReaderEnds.{ReadsOrLeaves};
 
 use crate::events::{append_enter, append_exit};
 use markdown_engine::tokenizer::Tokenizer;
-use markdown_engine_content::byte_set;
-use markdown_engine_content::bytes::ByteSet;
+use markdown_engine_content::byte_table;
+use markdown_engine_content::bytes::{ByteSet, ByteTable};
 use markdown_engine_content::cursor::Cursor;
 use markdown_event::event::Name;
 use std::alloc::AllocError;
@@ -90,17 +90,21 @@ fn pass_through(place: &mut Cursor, quote: u8, stops: &ByteSet) -> bool
     pass(place, quote)
 }
 
+const QUOTATION_MARK: ByteTable = byte_table!(b'"');
+
+const APOSTROPHE: ByteTable = byte_table!(b'\'');
+
 // Moves past the value in quotes at the place. Answers whether one is there, all on the line at hand.
 fn pass_value(place: &mut Cursor) -> bool
     ensures { IsTrue result → Leads value_rest tag_rest place.old place.new }
 {
     if pass(place, b'"') {
-        return pass_through(place, b'"', &byte_set!(b'"'));
+        return pass_through(place, b'"', &ByteSet::new(&QUOTATION_MARK));
     }
     if !pass(place, b'\'') {
         return false;
     }
-    pass_through(place, b'\'', &byte_set!(b'\''))
+    pass_through(place, b'\'', &ByteSet::new(&APOSTROPHE))
 }
 
 // Moves past the attribute behind the space at the place, and answers whether it is a plain one.

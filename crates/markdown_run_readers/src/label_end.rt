@@ -21,19 +21,27 @@ ghost use Rattle.markdown_run_readers.specs.PlainResource.{EndsOrStays, between_
 use crate::events::{append_enter, append_exit, append_string, read_marker};
 use crate::label_end_reference;
 use markdown_engine::tokenizer::{LabelKind, LabelStart, Tokenizer};
-use markdown_engine_content::byte_set;
-use markdown_engine_content::bytes::ByteSet;
+use markdown_engine_content::byte_table;
+use markdown_engine_content::bytes::{ByteSet, ByteTable};
 use markdown_engine_content::cursor::Cursor;
 use markdown_event::event::Name;
 use markdown_label::label_end;
 use std::alloc::AllocError;
+
+const RAW_STOPS: ByteTable = byte_table!(b' ', b'(', b')', b'\\'; controls);
+
+const ENCLOSED_STOPS: ByteTable = byte_table!(b'<', b'>', b'\\');
+
+const QUOTATION_MARK_OR_BACKSLASH: ByteTable = byte_table!(b'"', b'\\');
+
+const APOSTROPHE_OR_BACKSLASH: ByteTable = byte_table!(b'\'', b'\\');
 
 // The bytes at which a destination without brackets ends, or is not plain.
 #[inline(always)]
 fn raw_stops() -> ByteSet
     ensures { result ≡ raw_stops }
 {
-    byte_set!(b' ', b'(', b')', b'\\'; controls)
+    ByteSet::new(&RAW_STOPS)
 }
 
 // The bytes at which a destination in brackets ends, or is not plain.
@@ -41,7 +49,7 @@ fn raw_stops() -> ByteSet
 fn enclosed_stops() -> ByteSet
     ensures { result ≡ enclosed_stops }
 {
-    byte_set!(b'<', b'>', b'\\')
+    ByteSet::new(&ENCLOSED_STOPS)
 }
 
 // The bytes at which a title that begins with this quote ends, or is not plain.
@@ -50,9 +58,9 @@ fn title_stops(quote: u8) -> ByteSet
     ensures { result ≡ title_stops quote }
 {
     if quote == b'"' {
-        byte_set!(b'"', b'\\')
+        ByteSet::new(&QUOTATION_MARK_OR_BACKSLASH)
     } else {
-        byte_set!(b'\'', b'\\')
+        ByteSet::new(&APOSTROPHE_OR_BACKSLASH)
     }
 }
 

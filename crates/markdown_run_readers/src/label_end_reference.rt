@@ -8,30 +8,34 @@ ghost use Rattle.std.specs.Prelude.{◌≡◌, ◌&&◌, true, IfOk, OnOk, OnErr
 ghost use Rattle.std.specs.Str.{byte};
 ghost use Rattle.markdown_engine_content.specs.Place.{code_at, moved};
 ghost use Rattle.markdown_label.specs.LabelEnd.{Ends, StartReady};
-ghost use Rattle.markdown_label.specs.LabelSetting.{setting_in};
+ghost use Rattle.markdown_label_names.specs.LabelSetting.{setting_in};
 ghost use Rattle.markdown_run_readers.specs.PlacesPassed.{is_some_value};
 ghost use Rattle.markdown_run_readers.specs.PlainReference.{ends_here, front_stops, is_named, label_stops, names_at, past_text, reference_here, reference_read, refers_by, text_at};
 ghost use Rattle.markdown_run_readers.specs.PlainResource.{EndsOrStays, has_markers};
 
 use crate::label_end::{is_free, is_same, may_make, read_between, read_end};
 use markdown_engine::tokenizer::Tokenizer;
-use markdown_engine_content::byte_set;
-use markdown_engine_content::bytes::ByteSet;
+use markdown_engine_content::byte_table;
+use markdown_engine_content::bytes::{ByteSet, ByteTable};
 use markdown_engine_content::cursor::Cursor;
 use markdown_event::event::Name;
-use markdown_label::identifier::is_defined_from;
 use markdown_label::label_end;
+use markdown_label_names::identifier::is_defined_from;
 use std::alloc::AllocError;
 
 // How many codes the text of a reference has at most.
 const MOST: usize = 999;
+
+const LABEL_STOPS: ByteTable = byte_table!(b'[', b'\\', b']');
+
+const FRONT_STOPS: ByteTable = byte_table!(b'\t', b' ', b'[', b'\\', b']');
 
 // The bytes at which the text of a reference ends, or is not plain.
 #[inline(always)]
 fn label_stops() -> ByteSet
     ensures { result ≡ label_stops }
 {
-    byte_set!(b'[', b'\\', b']')
+    ByteSet::new(&LABEL_STOPS)
 }
 
 // The bytes with which no plain text begins.
@@ -39,7 +43,7 @@ fn label_stops() -> ByteSet
 fn front_stops() -> ByteSet
     ensures { result ≡ front_stops }
 {
-    byte_set!(b'\t', b' ', b'[', b'\\', b']')
+    ByteSet::new(&FRONT_STOPS)
 }
 
 // Moves past the plain text at the place, and answers whether one stands there, up to a `]`.

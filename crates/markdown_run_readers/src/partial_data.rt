@@ -21,8 +21,8 @@ ghost use Rattle.markdown_run_row.specs.TextContent.{plain_markers};
 
 use crate::events::append_leaf;
 use markdown_engine::tokenizer::Tokenizer;
-use markdown_engine_content::byte_set;
-use markdown_engine_content::bytes::ByteSet;
+use markdown_engine_content::byte_table;
+use markdown_engine_content::bytes::{ByteSet, ByteTable};
 use markdown_engine_content::cursor::Cursor;
 use markdown_event::event::Name;
 use markdown_partial::literal_letters;
@@ -34,23 +34,27 @@ use std::alloc::AllocError;
 // The bytes of all lines.
 macro_rules! bytes_of {
     ($($kind:ident { $([$($of_row:literal)*] $construct:ident $(, $otherwise:ident)?;)* })*) => {
-        byte_set!($($($($of_row),*),*),*)
+        byte_table!($($($($of_row),*),*),*)
     };
 }
 
 // The same, and the signs in words of literals.
 macro_rules! bytes_and_signs_of {
     ($($kind:ident { $([$($of_row:literal)*] $construct:ident $(, $otherwise:ident)?;)* })*) => {
-        byte_set!($($($($of_row),*),*),*, b'.', b':')
+        byte_table!($($($($of_row),*),*),*, b'.', b':')
     };
 }
+
+const MARKERS: ByteTable = plain_tries!(bytes_of);
+
+const MARKERS_AND_SIGNS: ByteTable = plain_tries!(bytes_and_signs_of);
 
 // The bytes at which data stops, but for the letters of literals.
 #[inline(always)]
 fn markers() -> ByteSet
     ensures { result ≡ plain_markers }
 {
-    plain_tries!(bytes_of)
+    ByteSet::new(&MARKERS)
 }
 
 // These, and the signs in words of literals.
@@ -58,7 +62,7 @@ fn markers() -> ByteSet
 fn markers_and_signs() -> ByteSet
     ensures { result ≡ markers_and_signs }
 {
-    plain_tries!(bytes_and_signs_of)
+    ByteSet::new(&MARKERS_AND_SIGNS)
 }
 
 // Whether the code is this letter, in either case, or this other byte. The letter is given in lower case.

@@ -15,7 +15,8 @@ ghost use Rattle.markdown_run_readers.specs.ReaderEnds.{ReadsOrLeaves};
 use crate::attention::pass_markers;
 use crate::events::{append_enter, append_exit, append_exit_at};
 use markdown_engine::tokenizer::Tokenizer;
-use markdown_engine_content::byte_set;
+use markdown_engine_content::byte_table;
+use markdown_engine_content::bytes::{ByteSet, ByteTable};
 use markdown_engine_content::cursor::Cursor;
 use markdown_event::event::{Name, Point};
 use markdown_leaf::raw_text::is_barred;
@@ -62,6 +63,10 @@ fn pass_run(cursor: &mut Cursor, marker: u8) -> usize
     cursor.passed() - start
 }
 
+const BACKTICK: ByteTable = byte_table!(b'`');
+
+const DOLLAR: ByteTable = byte_table!(b'$');
+
 // Moves past the text of a span of this marker: up to the marker, a line ending or the end.
 #[inline(always)]
 fn pass_text(cursor: &mut Cursor, marker: u8)
@@ -69,9 +74,9 @@ fn pass_text(cursor: &mut Cursor, marker: u8)
     ensures { cursor.new ≡ past_span_text marker cursor.old }
 {
     if marker == b'`' {
-        cursor.consume_stretch(&byte_set!(b'`'));
+        cursor.consume_stretch(&ByteSet::new(&BACKTICK));
     } else {
-        cursor.consume_stretch(&byte_set!(b'$'));
+        cursor.consume_stretch(&ByteSet::new(&DOLLAR));
     }
 }
 

@@ -16,7 +16,7 @@ use Rattle.markdown_label.specs.LabelFields.{bars}
 use Rattle.markdown_label.specs.LabelEnd.{outcome_by, end_reading, is_on}
 use Rattle.markdown_model.specs.SingleConstructs.{outcome}
 use Rattle.markdown_label.specs.LabelStarts.{kept_start, link_ops, link_ends, footnote_front, footnote_back, footnote_ends, image_front, image_back, image_ends}
-use Rattle.markdown_label.specs.LabelSetting.{setting_in}
+use Rattle.markdown_label_names.specs.LabelSetting.{setting_in}
 use Rattle.markdown_label.proofs.LabelEndLemmas.{cursor-before}
 use Rattle.markdown_label.proofs.AfterLabelSound.{tails-are-sound}
 use Rattle.markdown_model.specs.CodeTests.{is_value}

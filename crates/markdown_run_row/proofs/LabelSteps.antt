@@ -20,7 +20,8 @@ use Rattle.markdown_engine.proofs.PlaceAfterCodes.{moved_by-append}
 use Rattle.markdown_model.proofs.LeafCodes.{codes-leaf}
 use Rattle.markdown_run_row.specs.CutData.{HasCodes}
 use Rattle.markdown_label.specs.LabelFields.{barred_by, begun, with_kind, labelled}
-use Rattle.markdown_label.specs.LabelEnd.{point_or, place_at, end_made, end_tree, made, lost_by, Ends}
+use Rattle.markdown_label.specs.LabelEnd.{end_made, end_tree, made, lost_by, Ends}
+use Rattle.markdown_label_names.specs.LabelNames.{point_or, place_at}
 use Rattle.markdown_label.specs.KeptStarts.{StandFor, KeepsStarts}
 use Rattle.markdown_label.proofs.LabelEndLemmas.{cursor-before, events-before, scratch-before}
 use Rattle.markdown_label.proofs.KeptStartStack.{starts-start, starts-made, starts-lost}

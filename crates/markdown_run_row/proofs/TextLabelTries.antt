@@ -13,7 +13,7 @@ use Rattle.markdown_engine.proofs.OperationFields.{Begins, ahead-some}
 use Rattle.markdown_leaf_gfm.specs.GfmTaskListItemCheck.{check_here}
 use Rattle.markdown_label.specs.LabelEnd.{Ends, end_reading, is_on, outcome_by}
 use Rattle.markdown_label.specs.LabelStarts.{link_test, link_ends, footnote_test, footnote_ends, footnotes_on, image_test, image_ends}
-use Rattle.markdown_label.specs.LabelSetting.{setting_in}
+use Rattle.markdown_label_names.specs.LabelSetting.{setting_in}
 use Rattle.markdown_label.proofs.LabelEndStartLaw.{reading-at}
 use Rattle.markdown_label.proofs.KeptStartStack.{end-made, end-fails}
 use Rattle.markdown_model.proofs.GrammarSteps.{and-left, and-right, bind-some, bind-none, one-here, one-not, before-some, before-other, before-none, either-some, either-second, switched-on, switched-off}

@@ -34,7 +34,7 @@ use Rattle.markdown_plan.proofs.CharactersAlongContent.{text-scratched}
 use Rattle.markdown_label.specs.LabelEnd as LabelEnd
 use Rattle.markdown_label.specs.LabelEnd.{AreWithin}
 use Rattle.markdown_model.specs.Setting.{Setting}
-use Rattle.markdown_label.specs.LabelSetting.{setting_of, AreListed, IsListed}
+use Rattle.markdown_label_names.specs.LabelSetting.{setting_of, AreListed, IsListed}
 use Rattle.markdown_label.proofs.KeptStartPlaces.{within-grown}
 use Rattle.markdown_partial.specs.PartialSpaceOrTabEol as PartialSpaceOrTabEol
 use Rattle.markdown_label.specs.AfterLabelParts as AfterLabelParts

@@ -23,19 +23,21 @@ ghost use Rattle.markdown_run_text.specs.ContentPasses.{MayTrim, TrimsData};
 ghost use Rattle.markdown_run_text.specs.StringContent.{string_markers, start_step, before_step, before_data_step};
 
 use markdown_engine::tokenizer::Tokenizer;
-use markdown_engine_content::byte_set;
-use markdown_engine_content::bytes::ByteSet;
+use markdown_engine_content::byte_table;
+use markdown_engine_content::bytes::{ByteSet, ByteTable};
 use markdown_engine_events::subtokenize::Subresult;
 use markdown_partial::partial_whitespace;
 use markdown_state::resolve::ResolveName;
 use markdown_state::state::{State, StateName};
 use std::alloc::AllocError;
 
+const MARKERS: ByteTable = byte_table!(b'&', b'\\');
+
 // The bytes at which data of a string stops: those at which something is tried.
 fn markers() -> ByteSet
     ensures { result ≡ string_markers }
 {
-    byte_set!(b'&', b'\\')
+    ByteSet::new(&MARKERS)
 }
 
 /// At the start of a string.

@@ -27,8 +27,8 @@ ghost use Rattle.markdown_run_row.specs.TextContent.{ended_fields, indexed_field
 ghost use Rattle.markdown_run_row.specs.TextContent.{domains_pay, span_markers, data_markers, first_try, sole_try, attempt_step, start_step, before_step, before_html_step, before_hard_break_escape_step, before_label_start_link_step, before_data_step};
 
 use markdown_engine::tokenizer::Tokenizer;
-use markdown_engine_content::byte_set;
-use markdown_engine_content::bytes::ByteSet;
+use markdown_engine_content::byte_table;
+use markdown_engine_content::bytes::{ByteSet, ByteTable};
 use markdown_engine_content::cursor::Cursor;
 use markdown_engine_events::subtokenize::Subresult;
 use markdown_engine_index::run_index::RunIndex;
@@ -74,7 +74,7 @@ macro_rules! tries_with {
 // The bytes at which data stops: those of all lines, and that at which an expression of MDX may be tried.
 macro_rules! stops_of {
     ($($kind:ident { $([$($of_row:literal)*] $construct:ident $(, $otherwise:ident)?;)* })*) => {
-        byte_set!(b'{', $($($($of_row),*),*),*)
+        byte_table!(b'{', $($($($of_row),*),*),*)
     };
 }
 
@@ -107,11 +107,19 @@ macro_rules! sole_of {
     };
 }
 
+const MARKERS: ByteTable = tries!(stops_of);
+
+const SPAN_MARKERS: ByteTable = byte_table!(b'`', b'$');
+
+const LABEL_ENDS: ByteTable = byte_table!(b']');
+
+const RESOURCE_STARTS: ByteTable = byte_table!(b'(');
+
 // The bytes at which data of a text stops.
 fn markers() -> ByteSet
     ensures { result ≡ data_markers }
 {
-    tries!(stops_of)
+    ByteSet::new(&MARKERS)
 }
 
 // Answers the start of what is tried first at this byte, and the state to go on with where that does not hold.
@@ -149,7 +157,7 @@ fn index_runs(tokenizer: &mut Tokenizer) -> Result<(), AllocError>
     ensures ok { OnOk result (tokenizer.new ≡ scratched (record tokenizer.old.tokenize_state { runs = last_runs span_markers tokenizer.old.cursor.codes }) tokenizer.old) }
     ensures err { OnErr result (IsTrue tokenizer.new.failed) }
 {
-    let marks = byte_set!(b'`', b'$');
+    let marks = ByteSet::new(&SPAN_MARKERS);
     let sequences = &tokenizer.tokenize_state.sequences;
     if sequences.rules_out(Sequence::SpanMark, 0) {
         tokenizer.tokenize_state.runs = RunIndex::without(tokenizer.alloc, marks);
@@ -185,7 +193,7 @@ fn order_pays(tokenizer: &Tokenizer) -> bool
     let state = tokenizer.parse_state;
     (names_pay(state.definitions.as_slice())
         || names_pay(state.gfm_footnote_definitions.as_slice()))
-        && tokenizer.cursor.holds(&byte_set!(b']'), MANY)
+        && tokenizer.cursor.holds(&ByteSet::new(&LABEL_ENDS), MANY)
 }
 
 // Whether anything is defined, and so many labels may end, that to note where opening brackets stand pays.
@@ -194,7 +202,7 @@ fn brackets_pay(tokenizer: &Tokenizer) -> bool
 {
     let state = tokenizer.parse_state;
     !(state.definitions.is_empty() && state.gfm_footnote_definitions.is_empty())
-        && tokenizer.cursor.holds(&byte_set!(b']'), MANY)
+        && tokenizer.cursor.holds(&ByteSet::new(&LABEL_ENDS), MANY)
 }
 
 // The brackets of the document from where the content begins to where it ends.
@@ -287,7 +295,10 @@ fn titles_pay(tokenizer: &Tokenizer) -> bool
     ensures { result ≡ titles_pay tokenizer.now.cursor.codes }
 {
     let sequences = &tokenizer.tokenize_state.sequences;
-    !sequences.rules_out(Sequence::ResourceEnd, 0) && tokenizer.cursor.holds(&byte_set!(b'('), MANY)
+    !sequences.rules_out(Sequence::ResourceEnd, 0)
+        && tokenizer
+            .cursor
+            .holds(&ByteSet::new(&RESOURCE_STARTS), MANY)
 }
 
 // Makes known where titles in parentheses may end, where that pays.

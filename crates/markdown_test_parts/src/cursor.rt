@@ -13,7 +13,8 @@ ghost use Rattle.std.specs.Prelude.{◌≡◌, ◌≤◌, codes};
 use crate::answers::Answers;
 use crate::case::Case;
 use crate::content::push_place;
-use markdown_engine_content::byte_set;
+use markdown_engine_content::byte_table;
+use markdown_engine_content::bytes::{ByteSet, ByteTable};
 use markdown_engine_content::cursor::Cursor;
 use markdown_engine_content::parser::Piece;
 use markdown_engine_pieces::content::is_content;
@@ -85,9 +86,15 @@ fn push_stop(cursor: &Cursor, out: &mut Answers) {
     push_code(out, cursor.current());
 }
 
+const DASH: ByteTable = byte_table!(b'-');
+
+const BRACKET: ByteTable = byte_table!(b']');
+
+const LETTERS: ByteTable = byte_table!(b'a', b'b', b'c');
+
 // Reads a content, a line for each stretch.
 fn stretch(cursor: &mut Cursor, out: &mut Answers) {
-    let stops = byte_set!(b'-');
+    let stops = ByteSet::new(&DASH);
     out.show(cursor.end_index());
     for _ in 0..most_codes(cursor) {
         cursor.consume_stretch(&stops);
@@ -103,9 +110,9 @@ fn stretch(cursor: &mut Cursor, out: &mut Answers) {
 fn holds(cursor: &mut Cursor, set: &str, times: usize, out: &mut Answers) {
     pass(cursor);
     let set = if set == "]" {
-        byte_set!(b']')
+        ByteSet::new(&BRACKET)
     } else {
-        byte_set!(b'a', b'b', b'c')
+        ByteSet::new(&LETTERS)
     };
     out.show(cursor.holds(&set, times));
 }

@@ -14,7 +14,8 @@ ghost use Rattle.std.specs.Prelude.{◌≡◌};
 
 use crate::answers::Answers;
 use crate::case::{Case, number_of, whole};
-use markdown_engine_content::byte_set;
+use markdown_engine_content::byte_table;
+use markdown_engine_content::bytes::{ByteSet, ByteTable};
 use markdown_engine_content::cursor::Cursor;
 use markdown_engine_index::run_index::RunIndex;
 use markdown_engine_index::sequence_index::{Sequence, SequenceIndex};
@@ -54,11 +55,15 @@ fn answer_over(alloc: Global, case: &Case, out: &mut Answers) {
     out.keep(outcome);
 }
 
+const SPAN_MARKERS: ByteTable = byte_table!(b'`', b'$');
+
+const BACKTICK: ByteTable = byte_table!(b'`');
+
 // The index that is asked for.
 fn runs_of(alloc: Global, cursor: &Cursor, how: &str) -> Result<RunIndex, AllocError> {
     match how {
-        "over" => RunIndex::over(alloc, cursor, byte_set!(b'`', b'$')),
-        "without" => Ok(RunIndex::without(alloc, byte_set!(b'`'))),
+        "over" => RunIndex::over(alloc, cursor, ByteSet::new(&SPAN_MARKERS)),
+        "without" => Ok(RunIndex::without(alloc, ByteSet::new(&BACKTICK))),
         _ => Ok(RunIndex::new(alloc)),
     }
 }
@@ -190,9 +195,11 @@ fn places(alloc: Global, case: &Case, out: &mut Answers) -> Result<(), AllocErro
     Ok(())
 }
 
+const DASH_OR_TAB: ByteTable = byte_table!(b'-', b'\t');
+
 // A set of bytes.
 fn bytes(case: &Case, out: &mut Answers) {
-    let set = byte_set!(b'-', b'\t');
+    let set = ByteSet::new(&DASH_OR_TAB);
     let Ok(byte) = u8::try_from(case.number(0)) else {
         return out.say(" no byte");
     };

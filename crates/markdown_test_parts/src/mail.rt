@@ -25,8 +25,8 @@ use markdown_engine_events::events::Events;
 use markdown_engine_pieces::content::is_content;
 use markdown_event::event::{Content, Event, Kind, Link, Name, Point};
 use markdown_leaf_email_pass::email::resolve;
-use markdown_run_leaves::leaf::Leaf;
-use markdown_run_leaves::leaves;
+use markdown_leaves::leaf::Leaf;
+use markdown_leaves::leaves;
 use std::alloc::{AllocError, Global};
 
 // Appends what a case answers.

@@ -16,10 +16,9 @@ ghost use Rattle.markdown_util.specs.Reference.{IsMarker, IsNumber, radix_of};
 
 use crate::answers::Answers;
 use crate::case::Case;
-use markdown_util::util::character_reference::{
-    decode, decode_named, decode_numeric, parse, value_max, value_test,
-};
+use markdown_util::util::character_reference::{decode_named, value_max, value_test};
 use markdown_util::util::normalize_identifier::normalize_identifier;
+use markdown_util_decode::character_reference::{decode, decode_numeric, parse};
 use std::alloc::{AllocError, Global};
 
 // Appends what a case answers.

@@ -16,9 +16,10 @@ use Rattle.markdown_engine.specs.declared.tokenizer.TokenizeState.{TokenizeState
 use Rattle.markdown_engine.specs.declared.tokenizer.Tokenizer.{Tokenizer}
 use Rattle.markdown_engine_index.proofs.SequenceIndexLemmas.{right-unknown}
 use Rattle.markdown_engine_index.proofs.TitleIndexLemmas as TitleIndexLemmas
-use Rattle.markdown_label.proofs.NameIndexSearch.{listed-unknown}
+use Rattle.markdown_label_names.proofs.NameIndexSearch.{listed-unknown}
 use Rattle.markdown_label.specs.LabelEnd as LabelEnd
-use Rattle.markdown_label.specs.LabelEnd.{AreWithin, place_at}
+use Rattle.markdown_label.specs.LabelEnd.{AreWithin}
+use Rattle.markdown_label_names.specs.LabelNames.{place_at}
 use Rattle.markdown_partial.specs.PartialSpaceOrTabEol as PartialSpaceOrTabEol
 use Rattle.markdown_partial.specs.PartialSpaceOrTab as PartialSpaceOrTab
 use Rattle.markdown_partial.specs.PartialSpaceOrTab.{most}

@@ -15,7 +15,8 @@ use crate::lines::print_events;
 use crate::paths::read_plain;
 use crate::row::Asked;
 use markdown_engine::tokenizer::Tokenizer;
-use markdown_engine_content::byte_set;
+use markdown_engine_content::byte_table;
+use markdown_engine_content::bytes::{ByteSet, ByteTable};
 use markdown_engine_content::parser::{ParseState, Piece};
 use markdown_engine_index::sequence_index::SequenceIndex;
 use markdown_event::event::{Content, Name};
@@ -206,11 +207,13 @@ fn read_part(tokenizer: &mut Tokenizer, reading: &str) -> Result<bool, AllocErro
     }
 }
 
+const STOPS: ByteTable = byte_table!(b'*', b'h');
+
 // Reads data, which stops at an asterisk and an `h`.
 fn read_data(tokenizer: &mut Tokenizer) -> Result<bool, AllocError>
     requires alone { tokenizer.old.attempts ≡ [] }
 {
-    tokenizer.tokenize_state.markers = byte_set!(b'*', b'h');
+    tokenizer.tokenize_state.markers = ByteSet::new(&STOPS);
     tokenizer.tokenize_state.sequences = SequenceIndex::over(&tokenizer.cursor);
     construct(StateName::DataStart, tokenizer)
 }

@@ -7,7 +7,7 @@ use Rattle.std.proofs.lemmas.List.{at_drop_more, at_drop_all}
 use Rattle.std.proofs.lemmas.List.Splits.{slice_split-cons_yes, slice_split-cons_no}
 use Rattle.std.proofs.lemmas.Str.{length-encode, len_utf8_bounds}
 use Rattle.markdown_util.specs.Identifier.{separates_words, is_nonempty, words, joined_words}
-use Rattle.markdown_util.proofs.ParseLemmas.{eqb_off}
+use Rattle.markdown_util.proofs.ValueBytes.{eqb_off}
 
 -- what further words add
 abbrev pub more_words : List (List ℕ) → List ℕ

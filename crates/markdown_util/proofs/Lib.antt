@@ -1,12 +1,8 @@
 pub mod AsciiClasses
 pub mod AsciiFold
-pub mod StripPrefix
 pub mod JoinedWords
 pub mod LastChar
-pub mod NumberValues
-pub mod ParseLemmas
 pub mod WordsAcrossSpaces
-pub mod UpToSemicolon
 pub mod SortedTable
 pub mod ReferenceTables
-pub mod WholeReference
+pub mod ValueBytes

@@ -5,5 +5,4 @@ pub mod IdentifierLaws
 pub mod Neighbours
 pub mod Reference
 -- What serves proofs: what functions and proofs promise each other.
-pub mod ReferenceParts
 pub mod TableParts

@@ -1,18 +1,13 @@
 //! Laws of the definitions: each function stands for the law that its contract states.
 
 ghost use Rattle.std.specs.Prelude.{IsTrue};
-ghost use Rattle.markdown_util.specs.IdentifierLaws.{ConstantsHoldRows, IdentifierLaw, UnchangedLaw};
+ghost use Rattle.markdown_util.specs.IdentifierLaws.{ConstantsHoldRows, IdentifierLaw};
 ghost use Rattle.markdown_util.specs.Reference.{html_4_rows, html_5_rows, is_sorted, IsTable};
 
 /// Two texts that differ only in the kind and length of runs of TAB, LF, CR and space, and in such
 /// runs at the ends, have one identifier.
 pub fn identifier()
     ensures { IdentifierLaw }
-{}
-
-/// A text without `&` is parsed to itself.
-pub fn unchanged()
-    ensures { UnchangedLaw }
 {}
 
 /// The names of each table are distinct, stand in the order of their bytes, and are 1 to 31 ASCII letters and digits;

@@ -1,6 +1,6 @@
 use Rattle.std.proofs.Common.{◌∙◌, sym, subst}
 use Rattle.markdown_util.specs.Reference.{IsNumber, radix_of}
-use Rattle.markdown_util.proofs.WholeReference.{number_from_value}
+use Rattle.markdown_util_decode.proofs.WholeReference.{number_from_value}
 use Rattle.markdown_html_text.proofs.ReferenceValues.{value_utf8, ok_of, value_of}
 use Rattle.markdown_html_text.proofs.resolve.value_ahead.Goals as goal
 

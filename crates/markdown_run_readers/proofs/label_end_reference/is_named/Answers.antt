@@ -3,7 +3,7 @@ use Rattle.std.specs.Prelude.{max}
 use Rattle.std.proofs.lemmas.Result.{IfOk-weaker}
 use Rattle.markdown_event.specs.declared.event.Point.{Point}
 use Rattle.markdown_engine.specs.declared.tokenizer.Tokenizer.{Tokenizer}
-use Rattle.markdown_label.proofs.BytesBetween.{place-lent}
+use Rattle.markdown_label_names.proofs.BytesBetween.{place-lent}
 use Rattle.markdown_run_readers.proofs.PlainReferenceReads.{named-cuts, named-is, start-within}
 use Rattle.markdown_run_readers.proofs.label_end_reference.is_named.Goals as goal
 

@@ -20,10 +20,10 @@ one-left m h k = eqb-true m 36 (by_tests (m == 96) (m == 36) (ne_eqb m 96 h) k)
 
 pub returns-then-marker-eq96 : goal.returns-then-marker-eq96
 returns-then-marker-eq96 c =
-    passed-by c.args.marker c.byte_set.result c.args.cursor.now c.consume_stretch.new.self c.consume_stretch.ensures
-    (c.byte_set.ensures ∙ ap (λ n. n ∷ []) (sym c.if-marker-eq96.true))
+    passed-by c.args.marker c.new.result c.args.cursor.now c.consume_stretch.new.self c.consume_stretch.ensures
+    (c.new.ensures ∙ ap (λ n. n ∷ []) (sym c.if-marker-eq96.true))
 
 pub returns-else-marker-eq96 : goal.returns-else-marker-eq96
 returns-else-marker-eq96 c =
-    passed-by c.args.marker c.byte_set-else-marker-eq96.result c.args.cursor.now c.consume_stretch-else-marker-eq96.new.self c.consume_stretch-else-marker-eq96.ensures
-    (c.byte_set-else-marker-eq96.ensures ∙ ap (λ n. n ∷ []) (sym (one-left c.args.marker c.if-marker-eq96.false c.requires)))
+    passed-by c.args.marker c.new-else-marker-eq96.result c.args.cursor.now c.consume_stretch-else-marker-eq96.new.self c.consume_stretch-else-marker-eq96.ensures
+    (c.new-else-marker-eq96.ensures ∙ ap (λ n. n ∷ []) (sym (one-left c.args.marker c.if-marker-eq96.false c.requires)))

@@ -11,7 +11,7 @@ unfolding scratched
 returns-then-rules_out-clause-ok c =
     let T : Tokenizer = c.args.tokenizer.now in
     ap (λ (r : LastRuns). scratched (record T.tokenize_state { runs = r }) T)
-    (c.without.ensures ∙ ap without_runs c.byte_set-marks.ensures ∙ no-spans T.tokenize_state.sequences T.cursor.codes c.requires (sym c.rules_out.ensures ∙ c.if-rules_out.true))
+    (c.without.ensures ∙ ap without_runs c.new-marks.ensures ∙ no-spans T.tokenize_state.sequences T.cursor.codes c.requires (sym c.rules_out.ensures ∙ c.if-rules_out.true))
 
 pub returns-in-Err : goal.returns-in-Err
 returns-in-Err c = record {

@@ -23,7 +23,7 @@ returns-then-names_pay-2 c =
       | then-names_pay w ↦ first-pays _ _ _ _ w.value-is w.if-names_pay.true (rw c.as_slice.ensures.value at c.names_pay.ensures)
       | else-names_pay w ↦ second-pays _ _ _ _ _ w.value-is (rw w.as_slice-else-names_pay.ensures.value at w.names_pay-else-names_pay.ensures) w.if-names_pay.false (rw c.as_slice.ensures.value at c.names_pay.ensures)
     ])
-    (rw c.byte_set.ensures at c.holds.ensures)
+    (rw c.new.ensures at c.holds.ensures)
 
 pub returns-else-names_pay-2 : goal.returns-else-names_pay-2
 returns-else-names_pay-2 c =

@@ -1,5 +1,0 @@
-use Rattle.markdown_label.proofs.IdentifierLetters.{IsWord}
-use Rattle.markdown_label.proofs.lookup.letters_end.Given as goal
-
-abbrev pub invariant-loop-at : goal.invariant-loop-at
-invariant-loop-at l = IsWord l.bytes l.start l.at

@@ -1,0 +1,6 @@
+pub mod BytesBetween
+pub mod IdentifierFrontLemmas
+pub mod IdentifierLetters
+pub mod NameIndexSearch
+pub mod BracketCounts
+pub mod IdentifierBrackets

@@ -1,0 +1,25 @@
+-- A front that no definition begins with rules the whole label out.
+use Rattle.std.proofs.Common.{◌∙◌, sym}
+use Rattle.markdown_plan.specs.Characters.{bytes_of}
+use Rattle.markdown_label_names.specs.LabelSetting.{setting_in}
+use Rattle.markdown_label_names.proofs.IdentifierFrontLemmas.{front-cuts, unknown-from, unknown-nothing}
+use Rattle.markdown_label_names.proofs.lookup.is_ruled_out.Goals as goal
+
+pub identifier_of-requires : goal.identifier_of-requires
+identifier_of-requires c =
+    front-cuts _ c.args.start c.boundary-middle.result c.args.end _ c.requires.cuts c.boundary-middle.ensures.after c.boundary-middle.ensures.boundary
+
+pub returns-then-defines_nothing : goal.returns-then-defines_nothing
+returns-then-defines_nothing c =
+    λ _. unknown-nothing (setting_in c.args.tokenizer.now) c.args.kind _ (c.defines_nothing.ensures.definitions c.if-defines_nothing.true) (c.defines_nothing.ensures.footnotes c.if-defines_nothing.true)
+
+pub returns-then-brackets_rule_out : goal.returns-then-brackets_rule_out
+returns-then-brackets_rule_out c = λ _. c.brackets_rule_out.ensures c.if-brackets_rule_out.true
+
+pub returns-then-branch : goal.returns-then-branch
+returns-then-branch c = λ _. c.in_ok-letters_rule_out.ensures c.if-branch.true
+
+pub returns-then-not-branch : goal.returns-then-not-branch
+returns-then-not-branch c = λ _.
+    unknown-from (setting_in c.args.tokenizer.now) c.args.kind (bytes_of c.args.tokenizer.now) c.as_str.result.now c.args.start c.boundary-middle.result c.args.end
+    (front-cuts _ c.args.start c.boundary-middle.result c.args.end _ c.requires.cuts c.boundary-middle.ensures.after c.boundary-middle.ensures.boundary) c.boundary-middle.ensures.before (c.as_str.ensures.value ∙ c.in_ok-front.ensures) (sym c.in_ok-begins_defined.ensures ∙ c.if-not-branch.true)

@@ -1,0 +1,225 @@
+//! Identifiers of labels.
+#![tactic(auto)]
+
+ghost use Rattle.std.specs.Prelude.{◌≡◌, map, slice_range, ◌&&◌, string_bytes, IfOk, OnOk, OnErr, IsTrue};
+ghost use Rattle.std.specs.List.{list_any};
+ghost use Rattle.std.specs.Str.{bytes_eq};
+ghost use Rattle.markdown_plan.specs.Characters.{bytes_of};
+ghost use Rattle.markdown_util.specs.Identifier.{identifier_of};
+ghost use Rattle.markdown_label_names.specs.LabelNames.{AreAround};
+ghost use Rattle.markdown_label_names.specs.IdentifierFronts.{AreCuts, IsKnownName};
+ghost use Rattle.markdown_label_names.specs.LabelNames.{identifier_between, link_as};
+ghost use Rattle.markdown_label_names.specs.LabelSetting.{setting_in, IsListed};
+ghost use Rattle.markdown_model.specs.LabelEnd.{is_footnote, link_identifier};
+ghost use Rattle.markdown_model.specs.Setting.{is_defined};
+
+use crate::lookup::{is_ruled_out, letters_end};
+use markdown_engine::tokenizer::{LabelKind, Tokenizer};
+use markdown_engine_content::util::slice::Slice;
+use markdown_util::util::normalize_identifier::normalize_identifier;
+use std::alloc::{AllocError, Global};
+
+// The identifier of the document's bytes from an index to another.
+pub(crate) fn identifier_of(
+    tokenizer: &Tokenizer,
+    start: usize,
+    end: usize,
+) -> Result<String, AllocError>
+    requires { AreCuts (bytes_of tokenizer.now) start end }
+    ensures { IfOk result (λ name. string_bytes name ≡ identifier_of (slice_range (bytes_of tokenizer.now) start end)) }
+{
+    let between = Slice::from_indices(tokenizer.parse_state.bytes, start, end);
+    normalize_identifier(tokenizer.alloc, between.as_str())
+}
+
+// The identifier of the document's bytes between two events, given by their numbers, if anything may be defined that a label of this kind
+// with this identifier may stand for.
+fn identifier_between(
+    tokenizer: &Tokenizer,
+    kind: LabelKind,
+    from: usize,
+    to: usize,
+) -> Result<Option<String>, AllocError>
+    requires { AreAround tokenizer.now from to }
+    ensures { IfOk result (λ name. IsKnownName (setting_in tokenizer.now) kind (identifier_between tokenizer.now from to) name) }
+{
+    let start = tokenizer.events.at(from).point.index;
+    // events are in order, so the second one is not before the first; with `max` no caller has to show it
+    let end = tokenizer.events.at(to).point.index.max(start);
+    if is_ruled_out(tokenizer, kind, start, end)? {
+        return Ok(None);
+    }
+    let name = identifier_of(tokenizer, start, end)?;
+    Ok(Some(name))
+}
+
+// Whether the identifier is one of these.
+fn has(definitions: &[String], name: &str) -> bool
+    ensures { result ≡ list_any (λ definition. bytes_eq name.now (string_bytes definition)) definitions.now }
+{
+    definitions
+        .iter()
+        .any(|definition| name == definition.as_str())
+}
+
+// Whether the identifier is defined, where these are.
+fn is_defined(definitions: &[String], name: &str) -> bool
+    ensures { result ≡ is_defined (map string_bytes definitions.now) name.now }
+{
+    has(definitions, name)
+}
+
+// Whether a label of this kind is a footnote call's.
+pub(crate) fn is_footnote(kind: LabelKind) -> bool
+    ensures { result ≡ is_footnote kind }
+{
+    matches!(kind, LabelKind::GfmFootnote)
+}
+
+// The identifier of a label of this kind as a link's: with the caret of a footnote's start before it.
+pub(crate) fn link_identifier(
+    alloc: Global,
+    kind: LabelKind,
+    name: &str,
+) -> Result<String, AllocError>
+    ensures { IfOk result (λ text. string_bytes text ≡ link_identifier kind name.now) }
+{
+    let mut text = String::new(alloc);
+    if is_footnote(kind) {
+        text.push('^')?;
+    }
+    text.push_str(name)?;
+    Ok(text)
+}
+
+// Whether the identifier is that of a footnote: by a search, where the names are known in order.
+fn names_footnote(tokenizer: &Tokenizer, name: &str) -> bool
+    requires { IsListed tokenizer.now }
+    ensures { result ≡ is_defined (setting_in tokenizer.now).footnotes name.now }
+{
+    match &tokenizer.tokenize_state.names {
+        Some(names) => names.footnotes.has(name),
+        None => is_defined(
+            tokenizer.parse_state.gfm_footnote_definitions.as_slice(),
+            name,
+        ),
+    }
+}
+
+// Whether the identifier is that of a definition: by a search, where the names are known in order.
+fn names_definition(tokenizer: &Tokenizer, name: &str) -> bool
+    requires { IsListed tokenizer.now }
+    ensures { result ≡ is_defined (setting_in tokenizer.now).definitions name.now }
+{
+    match &tokenizer.tokenize_state.names {
+        Some(names) => names.definitions.has(name),
+        None => is_defined(tokenizer.parse_state.definitions.as_slice(), name),
+    }
+}
+
+// Whether a label of this kind with this identifier is defined as a link's. `None` where it is a footnote call.
+fn link_as(tokenizer: &Tokenizer, kind: LabelKind, name: &str) -> Result<Option<bool>, AllocError>
+    requires { IsListed tokenizer.now }
+    ensures { IfOk result (λ link. link ≡ link_as (setting_in tokenizer.now) kind name.now) }
+{
+    if !is_footnote(kind) {
+        return Ok(Some(names_definition(tokenizer, name)));
+    }
+    if names_footnote(tokenizer, name) {
+        return Ok(None);
+    }
+    let text = link_identifier(tokenizer.alloc, kind, name)?;
+    Ok(Some(names_definition(tokenizer, text.as_str())))
+}
+
+// As `link_as`, of the label between two events, given by their numbers.
+fn link_within(
+    tokenizer: &Tokenizer,
+    kind: LabelKind,
+    from: usize,
+    to: usize,
+) -> Result<Option<bool>, AllocError>
+    requires { AreAround tokenizer.now from to }
+    ensures { IfOk result (λ link. link ≡ link_as (setting_in tokenizer.now) kind (identifier_between tokenizer.now from to)) }
+{
+    match identifier_between(tokenizer, kind, from, to)? {
+        None => Ok(Some(false)),
+        Some(name) => link_as(tokenizer, kind, name.as_str()),
+    }
+}
+
+/// Answers whether a label of this kind, whose text stands between two events that are given by their numbers, is defined as a link's; `None` where it
+/// is a footnote call.
+///
+/// The error comes where memory is refused; then `failed` is true.
+pub fn link_between(
+    tokenizer: &mut Tokenizer,
+    kind: LabelKind,
+    from: usize,
+    to: usize,
+) -> Result<Option<bool>, AllocError>
+    requires { AreAround tokenizer.old from to }
+    ensures link { IfOk result (λ link. link ≡ link_as (setting_in tokenizer.old) kind (identifier_between tokenizer.old from to)) }
+    ensures same { OnOk result (tokenizer.new ≡ tokenizer.old) }
+    ensures err { OnErr result (IsTrue tokenizer.new.failed) }
+{
+    let link = link_within(tokenizer, kind, from, to);
+    tokenizer.noted(link)
+}
+
+// Whether the identifier of the document's bytes from an index to another is that of a definition. One of lowercase letters alone is looked up where it
+// stands, and takes no memory.
+fn is_defined_within(tokenizer: &Tokenizer, start: usize, end: usize) -> Result<bool, AllocError>
+    requires cuts { AreCuts (bytes_of tokenizer.now) start end }
+    requires listed { IsListed tokenizer.now }
+    ensures { IfOk result (λ defined. defined ≡ is_defined (setting_in tokenizer.now).definitions (identifier_of (slice_range (bytes_of tokenizer.now) start end))) }
+{
+    let bytes = tokenizer.parse_state.bytes;
+    if letters_end(bytes, start, end) == end {
+        let letters = Slice::from_indices(bytes, start, end);
+        return Ok(names_definition(tokenizer, letters.as_str()));
+    }
+    if is_ruled_out(tokenizer, LabelKind::Link, start, end)? {
+        return Ok(false);
+    }
+    let name = identifier_of(tokenizer, start, end)?;
+    Ok(names_definition(tokenizer, name.as_str()))
+}
+
+/// Answers whether the identifier of the document's bytes from an index to another is that of a definition.
+///
+/// The bytes are read at most about twice as far as they begin like the identifier of a definition. The error comes where memory is refused; then
+/// `failed` is true.
+pub fn is_defined_from(
+    tokenizer: &mut Tokenizer,
+    start: usize,
+    end: usize,
+) -> Result<bool, AllocError>
+    requires cuts { AreCuts (bytes_of tokenizer.old) start end }
+    requires listed { IsListed tokenizer.old }
+    ensures defined { IfOk result (λ defined. defined ≡ is_defined (setting_in tokenizer.old).definitions (identifier_of (slice_range (bytes_of tokenizer.old) start end))) }
+    ensures same { OnOk result (tokenizer.new ≡ tokenizer.old) }
+    ensures err { OnErr result (IsTrue tokenizer.new.failed) }
+{
+    let defined = is_defined_within(tokenizer, start, end);
+    tokenizer.noted(defined)
+}
+
+/// Answers whether the identifier between two events, given by their numbers, is that of a definition.
+///
+/// The error comes where memory is refused; then `failed` is true.
+pub fn is_defined_between(
+    tokenizer: &mut Tokenizer,
+    from: usize,
+    to: usize,
+) -> Result<bool, AllocError>
+    requires { AreAround tokenizer.old from to }
+    ensures defined { IfOk result (λ defined. defined ≡ is_defined (setting_in tokenizer.old).definitions (identifier_between tokenizer.old from to)) }
+    ensures same { OnOk result (tokenizer.new ≡ tokenizer.old) }
+    ensures err { OnErr result (IsTrue tokenizer.new.failed) }
+{
+    let start = tokenizer.events.at(from).point.index;
+    // as in `identifier_between`
+    let end = tokenizer.events.at(to).point.index.max(start);
+    is_defined_from(tokenizer, start, end)
+}
