@@ -13,7 +13,7 @@ ghost use Rattle.markdown_engine_content.specs.Content.{content_of};
 ghost use Rattle.markdown_html.specs.View.{page_from};
 ghost use Rattle.markdown_html_model.specs.Html.{html};
 ghost use Rattle.markdown_model.specs.InlineTree.{text_tree};
-ghost use Rattle.markdown_run_row.specs.RunSetting.{text_setting_of};
+ghost use Rattle.markdown_run_text.specs.RunSetting.{text_setting_of};
 
 mod words;
 

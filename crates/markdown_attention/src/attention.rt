@@ -15,7 +15,7 @@
 //! Definition: `attention_run` in `markdown_model/specs/Elements.antt`.
 //!
 //! Each state answers the error where a growth is refused; then `failed` is true.
-//! A reader stands beside: `attention` of `markdown_run_readers`.
+//! A reader stands beside: `readers::attention` of `markdown_run_text`.
 #![tactic(auto, using(markdown_engine::proofs::OperationFields::law_rules), unfolding(markdown_engine::specs::Operations::scratched))]
 
 mod brackets;

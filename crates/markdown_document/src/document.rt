@@ -5,7 +5,7 @@ ghost use Rattle.markdown_document.specs.ContentOfDocument.{ContentOf};
 ghost use Rattle.markdown_engine.specs.RunStart.{begun};
 ghost use Rattle.markdown_engine_content.specs.Content.{IsContent, IsTextContent, content_of};
 ghost use Rattle.markdown_engine_content.specs.KnownPlaces.{IsDocument};
-ghost use Rattle.markdown_run_row.specs.RunSetting.{setting_of, text_setting_of};
+ghost use Rattle.markdown_run_text.specs.RunSetting.{setting_of, text_setting_of};
 ghost use Rattle.markdown_attention.specs.AttentionPass.{IsProbed};
 ghost use Rattle.markdown_run_leaves.specs.InnermostEvents.{IsInOrder, covered, innermost, lent};
 ghost use Rattle.markdown_model.specs.InlineTree.{label_tree, string_events, text_events};

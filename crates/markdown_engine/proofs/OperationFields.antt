@@ -2,7 +2,7 @@
 use Rattle.std.proofs.Common.{ℕ, ◌+◌, ◌≤◌, ◌++◌, [], None, Some, drop, suc, zero, sym, ap, ◌∙◌, arith, append-nil, add-one, length-drop, ◌≡◌, List, ◌∷◌, refl, length, slice_get, Bool, true, false, if◌then◌else◌}
 use Rattle.markdown_engine_content.specs.ListFunctions.{rest_of, first_of}
 use Rattle.markdown_engine_content.specs.Codes.{Code}
-use Rattle.markdown_engine_content.specs.Place.{Place, moved, code_at, ahead_at, value_of}
+use Rattle.markdown_engine_content.specs.Place.{code_at, ahead_at, value_of}
 use Rattle.markdown_engine_content.proofs.PlaceRules.{ahead-moved}
 use Rattle.markdown_engine.specs.Operations.{Op, Enter, Exit, EnterLink, EnterConnected, Consume, applied, consumed, extended, op_stack, op_cursor, op_moves, current_of, ahead, scratched, registered, is_registered}
 use Rattle.markdown_engine.specs.Weights.{codes_left, left_at}

@@ -1,5 +1,5 @@
 -- Known places of a document, and the way from them.
-use Rattle.std.proofs.Common.{ℕ, zero, suc, ◌+◌, ◌*◌, ◌<◌, Bool, true, false, ◌==◌, ◌≡◌, arith, List, [], ◌∷◌, length, get_or, drop, refl, sym, ap, subst, ◌∙◌, IsTrue, inl}
+use Rattle.std.proofs.Common.{ℕ, zero, suc, ◌*◌, ◌<◌, Bool, true, false, ◌==◌, ◌≡◌, arith, List, [], ◌∷◌, length, get_or, refl, sym, ap, subst, ◌∙◌, IsTrue}
 use Rattle.std.proofs.lemmas.Bool.{both_ways}
 use Rattle.std.proofs.lemmas.Bool.Decides.{nat_tests}
 use Rattle.markdown_engine_pieces.specs.declared.content.Stretch.{Stretch}

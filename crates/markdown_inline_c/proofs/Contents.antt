@@ -6,7 +6,7 @@ use Rattle.std.proofs.lemmas.List.Elements.{All-more}
 use Rattle.markdown_engine_content.specs.declared.configuration.ParseOptions.{ParseOptions}
 use Rattle.markdown_engine_content.specs.declared.parser.ParseState.{ParseState}
 use Rattle.markdown_model.specs.Setting.{Setting}
-use Rattle.markdown_run_row.specs.RunSetting.{setting_of}
+use Rattle.markdown_run_text.specs.RunSetting.{setting_of}
 use Rattle.markdown_util.specs.Reference.{html_5_rows}
 use Rattle.markdown_engine_content.specs.DefaultOptions.{options_of}
 use Rattle.markdown_inline_c.specs.FlatInput.{identifiers, text_setting}

@@ -3,7 +3,7 @@
 ghost use Rattle.std.specs.Prelude.{◌≡◌, ◌⊎◌, ◌∷◌, ◌++◌, [], IfErr, IfOk, OnOk, length, map};
 ghost use Rattle.std.specs.List.{All};
 ghost use Rattle.markdown_model.specs.InlineTree.{text_events};
-ghost use Rattle.markdown_run_row.specs.RunSetting.{setting_of, text_setting_of};
+ghost use Rattle.markdown_run_text.specs.RunSetting.{setting_of, text_setting_of};
 ghost use Rattle.markdown_inline_c.specs.FlatEvents.{flat_event};
 ghost use Rattle.markdown_inline_c.specs.FlatTexts.{IsTextAt, IsTextsInput, ends_after, ends_of, events_at, events_of_all, is_first_of_item, pieces_at, texts_of};
 ghost use Rattle.markdown_inline_c.specs.Statuses.{IsContentAtFault, IsFirstFault, IsTextsFault};

@@ -1,7 +1,7 @@
 -- What the states of the end of a label do, and how runs from them end.
-use Rattle.std.specs.Prelude.{◌≡◌, ◌≢◌, ◌≤◌, ◌<◌, ℕ, ◌+◌, ◌-◌, Bool, true, false, ◌==◌, ◌&&◌, not, is_some, if◌then◌else◌, List, [], ◌∷◌, ◌++◌, length, slice_get, Option, Some, None, IsUtf8}
+use Rattle.std.specs.Prelude.{◌≡◌, ◌≢◌, ◌≤◌, ◌<◌, ℕ, ◌+◌, ◌-◌, Bool, true, false, ◌==◌, ◌&&◌, not, is_some, if◌then◌else◌, List, [], ◌∷◌, ◌++◌, length, Option, Some, None}
 use Rattle.std.specs.Str.{IsCharBoundary, byte}
-use Rattle.markdown_engine_content.specs.Codes.{Code, document_start}
+use Rattle.markdown_engine_content.specs.Codes.{Code}
 use Rattle.markdown_engine.specs.FailedRun.{Fails}
 use Rattle.markdown_engine.specs.Operations.{Op, Enter, Exit, Consume, IsOpen, ahead, attempted, current_of, done, registered_before, scratched}
 use Rattle.markdown_engine.specs.PastTree.{EndsAs, TreeReading, past}
@@ -10,7 +10,6 @@ use Rattle.markdown_engine.specs.StateWords.{StateWords}
 use Rattle.markdown_engine_content.specs.Tree.{Forest, leaf, group, leaf_codes}
 use Rattle.markdown_event.specs.declared.event.Event.{Event}
 use Rattle.markdown_event.specs.declared.event.Name.TheVariants as N
-use Rattle.markdown_event.specs.declared.event.Point.{Point}
 use Rattle.markdown_state.specs.declared.resolve.ResolveName.TheVariants as R
 use Rattle.markdown_state.specs.declared.state.State.TheVariants.{Next, Retry, Ok, Nok}
 use Rattle.markdown_state.specs.declared.state.StateName.{StateName}
@@ -23,17 +22,16 @@ use Rattle.markdown_plan.specs.Characters.{bytes_of, ReadsText}
 use Rattle.markdown_plan.specs.Plan.{Plan, KeepsAs}
 use Rattle.markdown_model.specs.CodeTests.{is_value, next_is}
 use Rattle.markdown_model.specs.Grammar.{Reading, either}
-use Rattle.markdown_model.specs.LabelEnd.{is_footnote, bytes_between, full_reference, collapsed_reference, shortcut, link_identifier}
+use Rattle.markdown_model.specs.LabelEnd.{is_footnote, full_reference, collapsed_reference, shortcut, link_identifier}
 use Rattle.markdown_model.specs.Resource.{label, reference_names}
-use Rattle.markdown_model.specs.Setting.{Setting, is_defined}
+use Rattle.markdown_model.specs.Setting.{is_defined}
 use Rattle.markdown_model.specs.SingleConstructs.{Start, outcome, outcome_at, label_end_here}
 use Rattle.markdown_label.specs.AfterLabelParts.{names_rested, PartReady}
 use Rattle.markdown_label.specs.Resource as Resource
 use Rattle.markdown_partial.specs.PartialLabel as PartialLabel
-use Rattle.markdown_util.specs.Identifier.{identifier_of}
 use Rattle.markdown_label.specs.LabelFields.{AreOrdered, bars, with_kind, as_link, labelled, loosened}
 use Rattle.markdown_label_names.specs.LabelSetting.{setting_in, IsListed}
-use Rattle.markdown_label_names.specs.LabelNames.{link_as, point_or, place_at, identifier_between, AreAround}
+use Rattle.markdown_label_names.specs.LabelNames.{place_at, identifier_between, AreAround}
 
 -- the label whose end is passed: from the last event of its start to the first one of its end
 abbrev pub LabelIsAround : Tokenizer → Type 0

@@ -24,7 +24,7 @@
 // Definition: `label_end` in `markdown_model/specs/LabelEnd.antt`.
 //
 // Each state answers the error where a growth is refused; then `failed` is true.
-// A reader of plain resources and references stands beside: `label_end` of `markdown_run_readers`.
+// A reader of plain resources and references stands beside: `readers::label_end` of `markdown_run_text`.
 #![tactic(auto, using(markdown_engine::proofs::OperationFields::law_rules), unfolding(markdown_engine::specs::Operations::scratched, markdown_engine::specs::Operations::attempted, markdown_engine::specs::Operations::frame_of))]
 
 ghost use Rattle.std.specs.Prelude.{◌≡◌, IfOk, OnErr, IsTrue};

@@ -14,7 +14,7 @@
 // Definition: `label_start_link` in `markdown_model/specs/Elements.antt`.
 //
 // The state answers the error where a growth is refused; then `failed` is true.
-// A reader stands beside: `label_start_link` of `markdown_run_readers`.
+// A reader stands beside: `readers::label_start_link` of `markdown_run_text`.
 #![tactic(auto, using(markdown_engine::proofs::OperationFields::law_rules), unfolding(markdown_engine::specs::Operations::scratched))]
 
 ghost use Rattle.std.specs.Prelude.{◌≡◌, IfOk, OnErr, IsTrue};

@@ -26,7 +26,7 @@ pub place-lent : (es : List Event) (i : ℕ) (e : Event) → i < length es → e
 place-lent es i e h same = ap (λ (x : Event). x.point) same ∙ chained-point 0 i es e ∙ place-get es i e h
 
 -- from a place to another, which need not be behind it: then there is nothing between
-max-between : (bs : List ℕ) (i j : ℕ) → IsCharBoundary bs i → IsCharBoundary bs j → IsCharBoundary bs (max j i)
+pub max-between : (bs : List ℕ) (i j : ℕ) → IsCharBoundary bs i → IsCharBoundary bs j → IsCharBoundary bs (max j i)
 max-between bs i j from to =
     by-size (j - i) refl
   where
@@ -38,7 +38,7 @@ max-between bs i j from to =
         let is : j ≡ max j i = omega (arith, e, sub-add-eq-max j i) in
         subst (λ n. IsCharBoundary bs n) is to
 
-max-size : (i j : ℕ) → max j i - i ≡ j - i
+pub max-size : (i j : ℕ) → max j i - i ≡ j - i
 max-size i j = omega (arith, sub-add-eq-max j i)
 
 bytes-from : (bs : List ℕ) (i j : ℕ) → slice_range bs i (max j i) ≡ take (j - i) (drop i bs)

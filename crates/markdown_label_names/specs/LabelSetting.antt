@@ -1,4 +1,4 @@
--- What an end of a label reads by, as the definitions see it.
+-- What a run is given, and what an end of a label reads by, as the definitions see it.
 use Rattle.std.specs.Prelude.{◌≡◌, Some, false, map, string_bytes}
 use Rattle.markdown_engine_names.specs.BracketIndex.{brackets_between}
 use Rattle.markdown_engine_names.specs.NameIndex.{names_in_order}
@@ -8,6 +8,7 @@ use Rattle.markdown_engine.specs.declared.tokenizer.Tokenizer.{Tokenizer}
 use Rattle.markdown_model.specs.Setting.{Setting}
 use Rattle.markdown_util.specs.Reference.{html_5_rows}
 
+-- the setting of a run over a content that is not the first of a list item
 abbrev pub setting_of : ParseState → Setting
 setting_of p = record {
   bytes = p.bytes.now;

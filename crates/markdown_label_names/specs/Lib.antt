@@ -2,5 +2,4 @@
 -- What has to be believed: what public contracts and the theorem cite.
 pub mod LabelSetting
 pub mod LabelNames
--- What serves proofs: what functions and proofs promise each other.
 pub mod IdentifierFronts

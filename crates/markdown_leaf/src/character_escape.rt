@@ -14,7 +14,7 @@
 // Definition: `character_escape` in `markdown_model/specs/LeafConstructs.antt`.
 //
 // Each state answers the error where a growth is refused; then `failed` is true.
-// A reader stands beside: `character_escape` of `markdown_run_readers`.
+// A reader stands beside: `readers::character_escape` of `markdown_run_text`.
 #![tactic(auto, using(markdown_engine::proofs::OperationFields::op_rules))]
 
 ghost use Rattle.markdown_engine.specs.Operations.{IsOpen};

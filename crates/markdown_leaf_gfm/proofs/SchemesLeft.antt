@@ -9,7 +9,7 @@ use Rattle.std.proofs.lemmas.List.Folds.{list_any-append}
 use Rattle.markdown_engine_content.specs.Codes.{Code}
 use Rattle.markdown_model.specs.CodeTests.{is_between}
 use Rattle.markdown_model.specs.Grammar.{either, with_first}
-use Rattle.markdown_model.specs.GfmAutolinkLiteral.{schemes, letters, one_word_of, in_both_cases, first_letters}
+use Rattle.markdown_model.specs.GfmAutolinkLiteral.{letters, one_word_of, in_both_cases, first_letters}
 use Rattle.markdown_model.proofs.GrammarSteps.{and-left, and-right, either-some, either-second}
 use Rattle.markdown_plan.specs.ByteTests.{letter_value}
 use Rattle.markdown_leaf_gfm.specs.GfmAutolinkLiteral.{stands_for, behind_name, some_before, words_behind, is_named, one_named, name_size, longest, is_slashes, is_scheme, are_schemes}

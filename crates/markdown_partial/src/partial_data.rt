@@ -16,7 +16,7 @@
 // Definition: `data_up_to` in `markdown_model/specs/TextLines.antt`, and `merged` in `Passes.antt` for the pass.
 //
 // Each state answers the error where a growth is refused; then `failed` is true.
-// A reader stands beside: `partial_data` of `markdown_run_readers`.
+// A reader stands beside: `readers::partial_data` of `markdown_run_text`.
 #![tactic(auto, using(markdown_engine::proofs::OperationFields::op_rules))]
 
 ghost use Rattle.std.specs.Prelude.{◌≡◌, ◌+◌, ◌-◌, ◌^◌, ◌<◌, ◌≤◌, ◌++◌, ℕ, IfOk, OnOk, OnErr, IsTrue, Some, None, [], drop, length, slice_index_or, true, false};

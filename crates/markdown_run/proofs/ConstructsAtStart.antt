@@ -24,7 +24,7 @@ use Rattle.markdown_partial.proofs.WhitespaceAttempts.{asked-ready, eol-asked-re
 use Rattle.markdown_partial.specs.PartialSpaceOrTabEol as PartialSpaceOrTabEol
 use Rattle.markdown_partial.specs.PartialSpaceOrTab as PartialSpaceOrTab
 use Rattle.markdown_partial.specs.PartialSpaceOrTab.{most}
-use Rattle.markdown_run_row.specs.TextContent.{EndsWithCodes}
+use Rattle.markdown_run_text.specs.TextContent.{EndsWithCodes}
 
 pub start-fits : (bytes : List ℕ) (pieces : List Piece) (T : Tokenizer) → IsContent bytes pieces →
     T.cursor ≡ start_of_content bytes pieces → codes_left T ≤ most

@@ -9,11 +9,11 @@ use Rattle.markdown_event.specs.declared.event.Name.{Name}
 use Rattle.markdown_event.specs.declared.event.Name.TheVariants as N
 use Rattle.markdown_engine_content.specs.declared.parser.Piece.{Piece}
 use Rattle.markdown_model.specs.Passes.{data_onto, merged}
-use Rattle.markdown_run_row.specs.CutData.{HasCodes}
+use Rattle.markdown_run_text.specs.CutData.{HasCodes}
 use Rattle.markdown_partial.specs.MergedEvents.{HasData, is_data}
 use Rattle.markdown_partial.specs.TrimmedEvents.{IsPart, HasParts}
-use Rattle.markdown_run_row.specs.RowTreeNames.{HasLines, makes_data}
-use Rattle.markdown_run_leaves.specs.OneLineLeaves.{IsIn}
+use Rattle.markdown_run_text.specs.RowTreeNames.{HasLines}
+use Rattle.markdown_run_leaves.specs.OneLineLeaves.{makes_data, IsIn}
 use Rattle.markdown_model.proofs.OneLineReadings.{line-join}
 use Rattle.markdown_run_leaves.proofs.LinesAreInDocument.{both-in, line-ends, part-of-content}
 

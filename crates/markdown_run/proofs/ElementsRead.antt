@@ -39,25 +39,25 @@ use Rattle.markdown_model.specs.GfmAutolinkLiteral.{www, first_letters}
 use Rattle.markdown_model.specs.TextLines.{data_up_to}
 use Rattle.markdown_model.proofs.PlainConstructs.{ReadsPlain, plain_constructs}
 use Rattle.markdown_plan.specs.Characters.{bytes_of}
-use Rattle.markdown_run_row.specs.Row.{loses, past_mark}
-use Rattle.markdown_run_row.specs.RunOverElements.{AreReadAsData, Advances, DataFinishes, Finishes}
-use Rattle.markdown_run_row.proofs.ConstructNodes.{node-of}
-use Rattle.markdown_run_row.proofs.ElementSteps.{some-ahead, advances-finishes, data-advances, node-advances, run-advances}
-use Rattle.markdown_run_row.proofs.RowFields.{lost-within}
-use Rattle.markdown_run_row.specs.TextContent.{StandsAlone, other_markers, sole_try, span_markers, text_choice_of, text_passed, text_setting, tried_reading}
+use Rattle.markdown_run_text.specs.Row.{loses, past_mark}
+use Rattle.markdown_run_text.specs.RunOverElements.{AreReadAsData, Advances, DataFinishes, Finishes}
+use Rattle.markdown_run_text.proofs.ConstructNodes.{node-of}
+use Rattle.markdown_run_text.proofs.ElementSteps.{some-ahead, advances-finishes, data-advances, node-advances, run-advances}
+use Rattle.markdown_run_text.proofs.RowFields.{lost-within}
+use Rattle.markdown_run_text.specs.TextContent.{StandsAlone, other_markers, sole_try, span_markers, text_choice_of, text_passed, text_setting, tried_reading}
 use Rattle.markdown_run_text.proofs.TextContentLaws.{SoleBy, SoleOrAlone, sole-or-alone, states_and_called, angle-row, slash-row}
-use Rattle.markdown_run_row.proofs.TextElements.{is_marker}
-use Rattle.markdown_run_row.proofs.TextLabelTries.{image-advances, image-alone, footnote-advances, link-advances, bracket-alone, made-advances, failed-advances, end-alone}
+use Rattle.markdown_run_text.proofs.TextElements.{is_marker}
+use Rattle.markdown_run_text.proofs.TextLabelTries.{image-advances, image-alone, footnote-advances, link-advances, bracket-alone, made-advances, failed-advances, end-alone}
 use Rattle.markdown_run_text.proofs.TextSteps.{IsSame, same-row, choice-same, indexed-past, domains-past, ready-past, no-check-past, tree-kept, registered-kept, made-kept, some-none, ends-on, lost-there, not-lost, lost-left, lost-current, same-lost}
-use Rattle.markdown_run_row.proofs.TextTries.{ReadsElements, read-ahead, single-ahead, first-reads, second-reads, second-alone, span-reads, span-alone, run-reads, run-alone, run-leaf, www-reads, www-alone}
-use Rattle.markdown_run_readers.specs.PlacesPassed.{goes_on}
-use Rattle.markdown_run_readers.proofs.InnerUnderscores.{text-read}
-use Rattle.markdown_run_readers.proofs.TextDataElements.{text-single}
-use Rattle.markdown_run_readers.specs.TextStops.{reader_stops, text_stops}
+use Rattle.markdown_run_text.proofs.TextTries.{ReadsElements, read-ahead, single-ahead, first-reads, second-reads, second-alone, span-reads, span-alone, run-reads, run-alone, run-leaf, www-reads, www-alone}
+use Rattle.markdown_run_text.specs.PlacesPassed.{goes_on}
+use Rattle.markdown_run_text.proofs.InnerUnderscores.{text-read}
+use Rattle.markdown_run_text.proofs.TextDataElements.{text-single}
+use Rattle.markdown_run_text.specs.TextStops.{reader_stops, text_stops}
 use Rattle.markdown_run.specs.ElementsOfText.{indexed, data_stops, MayTry, IsReady, EndsAt, EndsByData, LeadsTo, Passes, Stays, ReadsElement}
-use Rattle.markdown_run_states.specs.Layer.{inline, text-within}
+use Rattle.markdown_run.specs.Layer.{inline, text-within}
 use Rattle.markdown_run.specs.RunConstruct.{Asks, IsConstruct, EndsBy, ConstructEnds}
-use Rattle.markdown_run_readers.specs.ReaderEnds.{ReadsOrStays}
+use Rattle.markdown_run_text.specs.ReaderEnds.{ReadsOrStays}
 use Rattle.markdown_run.proofs.IndexedRows.{advances-indexed, mark-indexed, row-alone}
 use Rattle.markdown_run.proofs.StartsAndEnds.{image-begun, link-begun, footnote-begun, image-fails, link-fails, footnote-fails, end-made}
 

@@ -14,9 +14,9 @@ use Rattle.markdown_model.specs.Pairs.{pair_list}
 use Rattle.markdown_model.specs.Passes.{labels_of}
 use Rattle.markdown_model.specs.Setting.{Setting}
 use Rattle.markdown_model.proofs.ElementCases.{AllAre}
-use Rattle.markdown_run_row.specs.OpenStarts.{brackets_of}
-use Rattle.markdown_run_row.specs.Row.{Row, row_has_run, row_of_elements}
-use Rattle.markdown_run_row.proofs.PairsAsRead.{good-read, paired-read, probed-read, read-runless}
+use Rattle.markdown_run_text.specs.OpenStarts.{brackets_of}
+use Rattle.markdown_run_text.specs.Row.{Row, row_has_run, row_of_elements}
+use Rattle.markdown_run_text.proofs.PairsAsRead.{good-read, paired-read, probed-read, read-runless}
 use Rattle.markdown_run.proofs.MayPairOfCutData.{good-alike}
 use Rattle.markdown_run.proofs.RowsWithoutRuns.{row-still}
 use Rattle.markdown_run.proofs.TextTree.{text-labels, text-still}

@@ -15,8 +15,8 @@ use Rattle.markdown_label.specs.LabelEnd.{end_made, end_tree, ended, kind_set, m
 use Rattle.markdown_label.proofs.LabelEndLemmas.{attempts-before}
 use Rattle.markdown_model.specs.Elements.{Choice}
 use Rattle.markdown_model.specs.LabelEnd.{Element}
-use Rattle.markdown_run_row.specs.Row.{Mark, begins, makes, loses, Row, row_end, row_then, past_tree, past_mark, past_row}
-use Rattle.markdown_run_row.specs.RunOverElements.{Advances, StandsAfter}
+use Rattle.markdown_run_text.specs.Row.{Mark, begins, makes, loses, Row, row_end, row_then, past_tree, past_mark, past_row}
+use Rattle.markdown_run_text.specs.RunOverElements.{Advances, StandsAfter}
 use Rattle.markdown_run.specs.ElementsOfText.{with_indexes, indexed}
 
 -- and no attempt is begun nor ended

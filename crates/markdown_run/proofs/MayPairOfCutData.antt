@@ -7,7 +7,7 @@ use Rattle.markdown_event.specs.declared.event.Name.{Name}
 use Rattle.markdown_event.specs.declared.event.Name.TheVariants as N
 use Rattle.markdown_attention.specs.RunsRead.{is_run}
 use Rattle.markdown_attention.specs.RunsOfTree.{has_run, HasRuns}
-use Rattle.markdown_run_row.specs.CutData.{each_code, split}
+use Rattle.markdown_run_text.specs.CutData.{each_code, split}
 use Rattle.markdown_attention.specs.AttentionTrees.{HasStripes}
 use Rattle.markdown_attention.specs.TokenWord.{IsUnlinkedRow}
 use Rattle.markdown_attention.proofs.AttentionTreeLabels.{EachRun, IsGood}

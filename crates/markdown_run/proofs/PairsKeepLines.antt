@@ -15,8 +15,9 @@ use Rattle.markdown_model.specs.Setting.{Setting}
 use Rattle.markdown_model.proofs.PassesKeepCodes.{codes-run_of}
 use Rattle.markdown_partial.specs.MergedEvents.{is_data}
 use Rattle.markdown_partial.specs.TrimmedEvents.{is_ending}
-use Rattle.markdown_run_row.specs.RowTreeNames.{HasLines, makes_data}
-use Rattle.markdown_run_row.proofs.RowJoins.{HasLines-row}
+use Rattle.markdown_run_leaves.specs.OneLineLeaves.{makes_data}
+use Rattle.markdown_run_text.specs.RowTreeNames.{HasLines}
+use Rattle.markdown_run_text.proofs.RowJoins.{HasLines-row}
 use Rattle.markdown_model.specs.CodeLines.{IsLine}
 use Rattle.markdown_run_leaves.proofs.OneLineTrees.{line-parts}
 use Rattle.markdown_model.proofs.GivenNames.{pair-named}

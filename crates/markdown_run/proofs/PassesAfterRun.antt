@@ -29,8 +29,8 @@ use Rattle.markdown_model.specs.Setting.{Setting}
 use Rattle.markdown_model.proofs.PassesKeepCodes.{codes-merged, codes-paired}
 use Rattle.markdown_partial.specs.TrimmedEvents.{HasParts}
 use Rattle.markdown_partial.proofs.TrimPassLaw.{places-of}
-use Rattle.markdown_run_row.specs.RowStart.{passes_of}
-use Rattle.markdown_run_row.specs.RowTreeNames.{HasLines, IsRunless}
+use Rattle.markdown_run_text.specs.RowStart.{passes_of}
+use Rattle.markdown_run_text.specs.RowTreeNames.{HasLines, IsRunless}
 use Rattle.markdown_run_text.specs.ContentPasses.{MayPair, PairsRuns, MergesData, MayFinish, mailed_where, may_resolve_of, resolves_of}
 use Rattle.markdown_run.specs.RunWithPasses.{may_end_of, MayMerge}
 use Rattle.markdown_run.proofs.DataInDocument.{parts-of, HasLines-merged, HasLines-HasData}

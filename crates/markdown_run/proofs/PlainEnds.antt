@@ -9,7 +9,7 @@ use Rattle.markdown_state.specs.declared.resolve.ResolveName.{ResolveName}
 use Rattle.markdown_state.specs.declared.resolve.ResolveName.TheVariants as R
 use Rattle.markdown_engine.specs.declared.tokenizer.Tokenizer.{Tokenizer}
 use Rattle.markdown_run_text.specs.ContentPasses.{FinishesText, MayFinish, MergesData, resolves_of}
-use Rattle.markdown_run_row.specs.TextContent.{text_passed}
+use Rattle.markdown_run_text.specs.TextContent.{text_passed}
 use Rattle.markdown_run.specs.ElementsOfText.{forgotten}
 use Rattle.markdown_run.specs.RunWithPasses.{may_end_of, IsFoundBehind, MayFinishPlain, MayMerge}
 use Rattle.markdown_run.specs.declared.run.Run.{Run}

@@ -2,8 +2,8 @@
 use Rattle.std.proofs.Common.{◌≡◌, ℕ, ◌+◌, ◌*◌, ◌≤◌, List, length, sum_by, subst}
 use Rattle.std.specs.List.{count_by}
 use Rattle.markdown_engine_content.specs.Tree.{Forest}
-use Rattle.markdown_run_row.specs.CutData.{split}
-use Rattle.markdown_run_row.proofs.RunsOfCutData.{containers-same}
+use Rattle.markdown_run_text.specs.CutData.{split}
+use Rattle.markdown_run_text.proofs.RunsOfCutData.{containers-same}
 use Rattle.markdown_attention.specs.AttentionPass.{IsProbed}
 use Rattle.markdown_model.specs.Pairs.{pair_list}
 use Rattle.markdown_model.specs.Runs.{Run, containers_of}

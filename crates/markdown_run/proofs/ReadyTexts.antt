@@ -13,7 +13,7 @@ use Rattle.markdown_leaf_gfm.proofs.DomainOutlookLemmas.{right-unknown}
 use Rattle.markdown_leaf_gfm.specs.GfmAutolinkLiteral as GfmAutolinkLiteral
 use Rattle.markdown_plan.specs.Characters.{bytes_of}
 use Rattle.markdown_plan.proofs.CharactersAlongContent.{text-scratched}
-use Rattle.markdown_run_row.specs.TextContent.{StartReady, domains_pay, indexed_fields, named_fields, titles_pay}
+use Rattle.markdown_run_text.specs.TextContent.{StartReady, domains_pay, indexed_fields, named_fields, titles_pay}
 use Rattle.markdown_run_text.proofs.TextSteps.{made-known, names-known}
 use Rattle.markdown_run.proofs.ConstructsAtStart.{unknown-runs}
 use Rattle.markdown_run.specs.ElementsOfText.{indexed, KnowsNothing, text_named, MayTry, IsReady, EndsAt, LeadsTo, Learns}

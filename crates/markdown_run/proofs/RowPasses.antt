@@ -14,14 +14,14 @@ use Rattle.markdown_attention.proofs.AttentionTreeLabels.{IsGood}
 use Rattle.markdown_label_pass.specs.Brackets.{Brackets, grouped}
 use Rattle.markdown_label_pass.specs.LabelsHandedOver.{HasBrackets, MayGroup}
 use Rattle.markdown_model.specs.Setting.{Setting}
-use Rattle.markdown_run_row.specs.RowStart.{IsFresh, IsPast, row_registers}
-use Rattle.markdown_run_row.specs.OpenStarts.{brackets_of}
-use Rattle.markdown_run_row.specs.Row.{Row, past_row, row_codes, row_has_run, IsRowAt}
-use Rattle.markdown_run_row.proofs.RowBrackets.{row-brackets}
-use Rattle.markdown_run_row.proofs.RowTreeFacts.{grouped-lines, grouped-codes, grouped-runless}
-use Rattle.markdown_run_row.proofs.RowScratch.{past-rest}
-use Rattle.markdown_run_row.proofs.RowWithoutLabels.{flat-grouped}
-use Rattle.markdown_run_row.specs.RowTreeNames.{IsRunless}
+use Rattle.markdown_run_text.specs.RowStart.{IsFresh, IsPast, row_registers}
+use Rattle.markdown_run_text.specs.OpenStarts.{brackets_of}
+use Rattle.markdown_run_text.specs.Row.{Row, past_row, row_codes, row_has_run, IsRowAt}
+use Rattle.markdown_run_text.proofs.RowBrackets.{row-brackets}
+use Rattle.markdown_run_text.proofs.RowTreeFacts.{grouped-lines, grouped-codes, grouped-runless}
+use Rattle.markdown_run_text.proofs.RowScratch.{past-rest}
+use Rattle.markdown_run_text.proofs.RowWithoutLabels.{flat-grouped}
+use Rattle.markdown_run_text.specs.RowTreeNames.{IsRunless}
 use Rattle.markdown_run_text.specs.ContentPasses.{GroupsLabels, resolves_of}
 use Rattle.markdown_run.specs.RunWithPasses.{may_end_of}
 use Rattle.markdown_run.proofs.PassesAfterRun.{passes_first, labels_first, IsTrimming, IsRead, IsGiven, IsStart, IsResolved, codes-ahead, first-may, first-leaves}

@@ -4,9 +4,9 @@ use Rattle.markdown_engine_content.specs.Tree.{Forest, leaf}
 use Rattle.markdown_event.specs.declared.event.Name.TheVariants as N
 use Rattle.markdown_attention.specs.RunsOfTree.{has_run}
 use Rattle.markdown_model.specs.LabelEnd.{Element, plain, starts, ends}
-use Rattle.markdown_run_row.specs.Row.{Row, row_end, row_then, tree_onto, element_onto, row_has_run, row_of_elements, split_row}
-use Rattle.markdown_run_row.specs.RowTreeNames.{IsRunless}
-use Rattle.markdown_run_row.proofs.PastTrees.{has_run-row, leaf-runless, runless-no-run}
+use Rattle.markdown_run_text.specs.Row.{Row, row_end, row_then, tree_onto, element_onto, row_has_run, row_of_elements, split_row}
+use Rattle.markdown_run_text.specs.RowTreeNames.{IsRunless}
+use Rattle.markdown_run_text.proofs.PastTrees.{has_run-row, leaf-runless, runless-no-run}
 use Rattle.markdown_run.proofs.MayPairOfCutData.{has_run-split}
 
 -- no run stands in an element

@@ -18,12 +18,12 @@ use Rattle.markdown_label.specs.LabelEnd.{Ends, EndFails, lost_fields}
 use Rattle.markdown_label.specs.LabelStarts.{BeginsNot, image_test, link_test, footnote_test}
 use Rattle.markdown_model.specs.Grammar.{Reading}
 use Rattle.markdown_model.specs.LabelEnd.{Element}
-use Rattle.markdown_run_readers.specs.ReaderEnds.{ReadsOrStays, BeginsOrStays}
-use Rattle.markdown_run_row.specs.Row.{past_mark}
-use Rattle.markdown_run_row.specs.TextContent.{tried_reading}
+use Rattle.markdown_run_text.specs.ReaderEnds.{ReadsOrStays, BeginsOrStays}
+use Rattle.markdown_run_text.specs.Row.{past_mark}
+use Rattle.markdown_run_text.specs.TextContent.{tried_reading}
 use Rattle.markdown_run.specs.RunConstruct.{IsConstruct, OtherAsks, Asks, chain_before, fields_after, start_reading, EndsOrLoses, OtherEnds, EndsBy, ConstructEnds}
-use Rattle.markdown_run_readers.proofs.LabelStartConstructs.{image-begins, link-begins, footnote-begins, image-not, link-not, footnote-not}
-use Rattle.markdown_run_states.specs.Layer.{ends_of, ready_of}
+use Rattle.markdown_run_text.proofs.LabelStartConstructs.{image-begins, link-begins, footnote-begins, image-not, link-not, footnote-not}
+use Rattle.markdown_run.specs.Layer.{ends_of, ready_of}
 
 -- U with the events, the edits, the open names and the place of T
 abbrev pub put_back : Tokenizer → Tokenizer → Tokenizer

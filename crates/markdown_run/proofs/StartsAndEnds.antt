@@ -18,12 +18,12 @@ use Rattle.markdown_model.specs.SingleConstructs.{Start, outcome, outcome_at, la
 use Rattle.markdown_model.proofs.DefinitionSteps.{read-codes}
 use Rattle.markdown_model.proofs.LabelsCover.{covers_after_label, outcome_codes}
 use Rattle.markdown_model.proofs.ReadingsCover.{Covers, bind, given, if_passed, one_of, takes_one, itself}
-use Rattle.markdown_run_row.specs.Row.{begins, past_mark}
-use Rattle.markdown_run_row.specs.RunSetting.{setting_of}
+use Rattle.markdown_run_text.specs.Row.{begins, past_mark}
+use Rattle.markdown_run_text.specs.RunSetting.{setting_of}
 use Rattle.markdown_label.specs.LabelEnd.{last_start}
 use Rattle.markdown_run.specs.RunConstruct.{EndsOrLoses, start_reading}
-use Rattle.markdown_run_readers.specs.ReaderEnds.{BeginsOrStays}
-use Rattle.markdown_run_readers.proofs.LabelStartConstructs.{image-begins, link-begins, footnote-begins, image-not, link-not, footnote-not}
+use Rattle.markdown_run_text.specs.ReaderEnds.{BeginsOrStays}
+use Rattle.markdown_run_text.proofs.LabelStartConstructs.{image-begins, link-begins, footnote-begins, image-not, link-not, footnote-not}
 
 -- Starts.
 

@@ -15,9 +15,9 @@ use Rattle.markdown_model.specs.Elements.{AreElementsFrom, AreStringElements, st
 use Rattle.markdown_model.specs.InlineTree.{string_events}
 use Rattle.markdown_model.specs.LabelEnd.{Element}
 use Rattle.markdown_model.specs.Passes.{trimmed}
-use Rattle.markdown_run_row.specs.RunOverElements.{Finishes}
+use Rattle.markdown_run_text.specs.RunOverElements.{Finishes}
 use Rattle.markdown_run_text.specs.ContentPasses.{may_resolve_of, resolves_of}
-use Rattle.markdown_run_row.specs.RunSetting.{setting_of}
+use Rattle.markdown_run_text.specs.RunSetting.{setting_of}
 use Rattle.markdown_run_text.specs.StringContent.{string_markers, string_marked, string_passed, string_here, StartReady, start_ends}
 use Rattle.markdown_run.proofs.PassesAfterRun.{string_finish, string-trims}
 use Rattle.std.proofs.lemmas.Bool.{both_ways}
@@ -28,18 +28,18 @@ use Rattle.markdown_attention.proofs.AttentionTreeLabels.{IsGood}
 use Rattle.markdown_model.specs.BracketGroups.{paired}
 use Rattle.markdown_model.specs.Pairs.{pair_list}
 use Rattle.markdown_model.specs.Passes.{labels_of, merged}
-use Rattle.markdown_run_row.specs.OpenStarts.{brackets_of}
-use Rattle.markdown_run_row.specs.Row.{row_has_run, row_of_elements}
-use Rattle.markdown_run_row.specs.RowTreeNames.{IsRunless}
-use Rattle.markdown_run_row.proofs.PairsAsRead.{read-runless}
-use Rattle.markdown_run_row.proofs.RowTreeFacts.{grouped-lines, grouped-runless}
+use Rattle.markdown_run_text.specs.OpenStarts.{brackets_of}
+use Rattle.markdown_run_text.specs.Row.{row_has_run, row_of_elements}
+use Rattle.markdown_run_text.specs.RowTreeNames.{IsRunless}
+use Rattle.markdown_run_text.proofs.PairsAsRead.{read-runless}
+use Rattle.markdown_run_text.proofs.RowTreeFacts.{grouped-lines, grouped-runless}
 use Rattle.markdown_run.proofs.PassesAfterRun.{IsGiven, IsResolved}
 use Rattle.markdown_run.proofs.TreesWithoutRuns.{paired-runless, probes-none}
 use Rattle.markdown_run.proofs.WholeRun.{Starts, start-with, AreFresh, IsFound, finished-may, finished-left, finished-elements}
 use Rattle.markdown_run.proofs.StringTree.{string-finished, string-labels, string-still}
 use Rattle.markdown_run.proofs.RowsWithoutRuns.{row-still}
 use Rattle.markdown_run.proofs.DataInDocument.{HasLines-HasCodes}
-use Rattle.markdown_run_row.proofs.CutDataLemmas.{merged-same}
+use Rattle.markdown_run_text.proofs.CutDataLemmas.{merged-same}
 use Rattle.markdown_model.proofs.StringTreeIsElements.{row_of}
 
 -- where data stops at the markers of a string

@@ -7,9 +7,9 @@ use Rattle.markdown_model.specs.Grammar.{Reading}
 use Rattle.markdown_model.proofs.NoLinkInConstructs.{Passes, Yields, yields_bind, yields_gives, yields_either, then_any}
 use Rattle.markdown_model.proofs.ElementCases.{string_has}
 use Rattle.markdown_model.proofs.PlainConstructs.{IsPlainTree, ReadsPlain}
-use Rattle.markdown_run_row.proofs.ConstructNodes.{plain-node}
-use Rattle.markdown_run_row.specs.Row.{row_has_run, row_of_elements}
-use Rattle.markdown_run_row.proofs.PastTrees.{quiet-runless, leaf-runless}
+use Rattle.markdown_run_text.proofs.ConstructNodes.{plain-node}
+use Rattle.markdown_run_text.specs.Row.{row_has_run, row_of_elements}
+use Rattle.markdown_run_text.proofs.PastTrees.{quiet-runless, leaf-runless}
 use Rattle.markdown_run.proofs.RowsWithoutRuns.{IsStill, still-first}
 use Rattle.markdown_model.specs.Elements.{AreStringElements, string_elements_of, AreElementsFrom, string_choice, string_element, as_plain, line_ending, data_code, code_before}
 use Rattle.markdown_model.specs.InlineTree.{finished_string, string_tree}

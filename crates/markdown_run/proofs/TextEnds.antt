@@ -16,12 +16,12 @@ use Rattle.markdown_model.specs.TextLines.{data_up_to}
 use Rattle.markdown_model.proofs.GrammarSteps.{switched-off}
 use Rattle.markdown_model.proofs.PlainConstructs.{plain_constructs}
 use Rattle.markdown_plan.specs.Characters.{bytes_of}
-use Rattle.markdown_run_row.specs.Row.{row_end, kinds_of}
-use Rattle.markdown_run_row.specs.RunOverElements.{Finishes}
-use Rattle.markdown_run_row.proofs.ConstructNodes.{node-of}
-use Rattle.markdown_run_row.proofs.ElementSteps.{DataRead, data-read, some-ahead, finishes-end, node-advances}
-use Rattle.markdown_run_row.proofs.RowFields.{row-cursor, tree-within}
-use Rattle.markdown_run_row.specs.TextContent.{text_choice_of, text_passed}
+use Rattle.markdown_run_text.specs.Row.{row_end, kinds_of}
+use Rattle.markdown_run_text.specs.RunOverElements.{Finishes}
+use Rattle.markdown_run_text.proofs.ConstructNodes.{node-of}
+use Rattle.markdown_run_text.proofs.ElementSteps.{DataRead, data-read, some-ahead, finishes-end, node-advances}
+use Rattle.markdown_run_text.proofs.RowFields.{row-cursor, tree-within}
+use Rattle.markdown_run_text.specs.TextContent.{text_choice_of, text_passed}
 use Rattle.markdown_run_text.proofs.TextSteps.{IsSame, same-row, choice-same, no-check-behind, tree-kept, check-elements}
 use Rattle.markdown_run.specs.ElementsOfText.{indexed, data_stops, text_named, KnowsNothing, MayTry, IsReady, EndsAt, EndsByData, LeadsTo, Passes, Stays, PassesData, GoesOn, Learns}
 use Rattle.markdown_run.specs.RunConstruct.{ConstructEnds}

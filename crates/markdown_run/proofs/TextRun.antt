@@ -26,11 +26,11 @@ use Rattle.markdown_partial.specs.PartialSpaceOrTab as PartialSpaceOrTab
 use Rattle.markdown_model.specs.Elements.{text_choice}
 use Rattle.markdown_model.specs.InlineTree.{text_events, label_tree}
 use Rattle.markdown_model.specs.Setting.{Setting}
-use Rattle.markdown_run_row.specs.RunOverElements.{Finishes}
+use Rattle.markdown_run_text.specs.RunOverElements.{Finishes}
 use Rattle.markdown_run_text.specs.ContentPasses.{resolves_of}
 use Rattle.markdown_run.specs.RunWithPasses.{may_end_of}
-use Rattle.markdown_run_row.specs.RunSetting.{text_setting_of}
-use Rattle.markdown_run_row.specs.TextContent.{StartReady, named_fields, text_passed, text_choice_of}
+use Rattle.markdown_run_text.specs.RunSetting.{text_setting_of}
+use Rattle.markdown_run_text.specs.TextContent.{StartReady, named_fields, text_passed, text_choice_of}
 use Rattle.markdown_run.specs.ElementsOfText.{KnowsNothing, text_named, with_indexes}
 use Rattle.markdown_run.proofs.PassesAfterRun.{text_finish, text-trims, IsGiven}
 use Rattle.markdown_engine_content.specs.Codes.{Code}
@@ -42,9 +42,9 @@ use Rattle.markdown_attention.specs.AttentionPass.{IsProbed}
 use Rattle.markdown_attention.proofs.AttentionTreeLabels.{IsGood}
 use Rattle.markdown_attention.proofs.MarkerCodes.{AreSingles, singles-content}
 use Rattle.markdown_model.specs.Passes.{labels_of, merged}
-use Rattle.markdown_run_row.specs.OpenStarts.{brackets_of}
-use Rattle.markdown_run_row.specs.Row.{row_has_run}
-use Rattle.markdown_run_row.proofs.RowTreeFacts.{grouped-runless}
+use Rattle.markdown_run_text.specs.OpenStarts.{brackets_of}
+use Rattle.markdown_run_text.specs.Row.{row_has_run}
+use Rattle.markdown_run_text.proofs.RowTreeFacts.{grouped-runless}
 use Rattle.markdown_run.proofs.FoundTexts.{found-good, found-pairs, found-probed, found-still}
 use Rattle.markdown_run.proofs.TreesWithoutRuns.{probes-none}
 use Rattle.markdown_run.proofs.WholeRun.{Starts, start-with, AreFresh, IsFound, finished-may-end, finished-left, finished-events, finished-probes, finished-elements}

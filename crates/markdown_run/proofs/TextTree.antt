@@ -22,11 +22,11 @@ use Rattle.markdown_model.proofs.PlainConstructs.{IsPlainTree, ReadsPlain}
 use Rattle.markdown_model.proofs.NoLinkInConstructs.{Passes, Yields, yields_bind, yields_gives, yields_either, then_any}
 use Rattle.markdown_run_text.specs.ContentPasses.{mailed_where}
 use Rattle.markdown_attention.specs.RunsRead.{is_run}
-use Rattle.markdown_run_row.specs.RowTreeNames.{IsNode}
-use Rattle.markdown_run_row.specs.Row.{row_has_run, row_of_elements}
+use Rattle.markdown_run_text.specs.RowTreeNames.{IsNode}
+use Rattle.markdown_run_text.specs.Row.{row_has_run, row_of_elements}
 use Rattle.markdown_run.proofs.RowsWithoutRuns.{IsStill, still-first}
-use Rattle.markdown_run_row.proofs.PastTrees.{quiet-runless, leaf-runless}
-use Rattle.markdown_run_row.proofs.ConstructNodes.{plain-node}
+use Rattle.markdown_run_text.proofs.PastTrees.{quiet-runless, leaf-runless}
+use Rattle.markdown_run_text.proofs.ConstructNodes.{plain-node}
 
 -- What is said of the elements of a text.
 

@@ -13,7 +13,7 @@ use Rattle.markdown_model.specs.InlineTree.{run_count}
 use Rattle.markdown_model.specs.Pairs.{Pair, pairs_after, pair_list}
 use Rattle.markdown_model.specs.Runs.{Run, runs_of, rows_inside, containers_of}
 use Rattle.markdown_model.specs.Setting.{Setting}
-use Rattle.markdown_run_row.specs.RowTreeNames.{IsRunless}
+use Rattle.markdown_run_text.specs.RowTreeNames.{IsRunless}
 
 module _ (s : Setting) (pairs_of : List Run → List Pair) where
   tokens-leaf : (name : Name) (link : Option Content) (cs : List Code) (rest : Forest) (pairs : List Pair) (n : ℕ) → is_run name ≡ false

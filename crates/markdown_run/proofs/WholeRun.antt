@@ -19,8 +19,8 @@ use Rattle.markdown_engine.specs.declared.tokenizer.LabelStart.{LabelStart}
 use Rattle.markdown_engine.specs.declared.tokenizer.TokenizeState.{TokenizeState}
 use Rattle.markdown_engine.specs.declared.tokenizer.Tokenizer.{Tokenizer}
 use Rattle.markdown_engine.proofs.TreeChains.{chained-whole}
-use Rattle.markdown_run_row.specs.CutData.{split, HasCodes}
-use Rattle.markdown_run_row.proofs.PairsLeaveNoEmptyData.{merged-paired}
+use Rattle.markdown_run_text.specs.CutData.{split, HasCodes}
+use Rattle.markdown_run_text.proofs.PairsLeaveNoEmptyData.{merged-paired}
 use Rattle.markdown_attention.specs.AttentionPass.{IsProbed}
 use Rattle.markdown_attention.proofs.AttentionTreeLabels.{IsGood}
 use Rattle.markdown_label.specs.KeptStarts.{StandFor}
@@ -33,13 +33,13 @@ use Rattle.markdown_model.specs.Pairs.{pair_list}
 use Rattle.markdown_model.specs.Passes.{labels_of, merged}
 use Rattle.markdown_model.specs.Setting.{Setting}
 use Rattle.markdown_plan.specs.Characters.{bytes_of}
-use Rattle.markdown_run_row.specs.ElementsAsRead.{AreReadAs}
-use Rattle.markdown_run_row.specs.RunOverElements.{AllElements, Finishes, StandsAfter}
-use Rattle.markdown_run_row.specs.RowStart.{IsFresh}
-use Rattle.markdown_run_row.specs.OpenStarts.{brackets_of}
-use Rattle.markdown_run_row.specs.Row.{Row, row_has_run, IsRowAt, split_row, row_of_elements}
-use Rattle.markdown_run_row.proofs.RowElements.{grouped-alike}
-use Rattle.markdown_run_row.proofs.RowTreeFacts.{grouped-lines, codes-labels}
+use Rattle.markdown_run_text.specs.ElementsAsRead.{AreReadAs}
+use Rattle.markdown_run_text.specs.RunOverElements.{AllElements, Finishes, StandsAfter}
+use Rattle.markdown_run_text.specs.RowStart.{IsFresh}
+use Rattle.markdown_run_text.specs.OpenStarts.{brackets_of}
+use Rattle.markdown_run_text.specs.Row.{Row, row_has_run, IsRowAt, split_row, row_of_elements}
+use Rattle.markdown_run_text.proofs.RowElements.{grouped-alike}
+use Rattle.markdown_run_text.proofs.RowTreeFacts.{grouped-lines, codes-labels}
 use Rattle.markdown_run_text.specs.ContentPasses.{may_resolve_of, resolves_of}
 use Rattle.markdown_run.specs.RunWithPasses.{may_end_of}
 use Rattle.markdown_run.proofs.PassesAfterRun.{may-weaker}

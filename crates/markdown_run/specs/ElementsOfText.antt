@@ -10,9 +10,9 @@ use Rattle.markdown_leaf.specs.RawText as RawText
 use Rattle.markdown_leaf_gfm.specs.GfmAutolinkLiteral as GfmAutolinkLiteral
 use Rattle.markdown_leaf_gfm.specs.GfmTaskListItemCheck.{check_here}
 use Rattle.markdown_model.specs.TextLines.{data_up_to}
-use Rattle.markdown_run_readers.specs.TextStops.{reader_stops}
-use Rattle.markdown_run_row.specs.RunOverElements.{DataFinishes, Finishes}
-use Rattle.markdown_run_row.specs.TextContent.{StartReady, named_fields, text_choice_of, text_passed}
+use Rattle.markdown_run_text.specs.TextStops.{reader_stops}
+use Rattle.markdown_run_text.specs.RunOverElements.{DataFinishes, Finishes}
+use Rattle.markdown_run_text.specs.TextContent.{StartReady, named_fields, text_choice_of, text_passed}
 
 -- these scratch fields, with what those know of the content
 abbrev pub with_indexes : TokenizeState → TokenizeState → TokenizeState

@@ -16,10 +16,10 @@ use Rattle.markdown_attention.specs.Attention as Attention
 use Rattle.markdown_label.specs.LabelEnd as LabelEnd
 use Rattle.markdown_model.specs.Grammar.{Reading}
 use Rattle.markdown_label.specs.LabelEnd.{last_start, lost_fields}
-use Rattle.markdown_run_readers.specs.ReaderEnds.{options_here, ReadsOrStays, BeginsOrStays}
-use Rattle.markdown_run_row.specs.RunSetting.{setting_of}
-use Rattle.markdown_run_row.specs.TextContent.{tried_reading}
-use Rattle.markdown_run_states.specs.Layer.{ready_of}
+use Rattle.markdown_run_text.specs.ReaderEnds.{options_here, ReadsOrStays, BeginsOrStays}
+use Rattle.markdown_run_text.specs.RunSetting.{setting_of}
+use Rattle.markdown_run_text.specs.TextContent.{tried_reading}
+use Rattle.markdown_run.specs.Layer.{ready_of}
 use Rattle.markdown_model.specs.LabelEnd.{Element}
 use Rattle.markdown_model.specs.TextLines.{data_up_to}
 use Rattle.markdown_partial.specs.PartialData.{stops_of}
@@ -28,7 +28,7 @@ use Rattle.markdown_model.specs.SingleConstructs as SingleConstructs
 use Rattle.markdown_model.specs.Whitespace.{space_or_tab, space_or_tab_eol}
 use Rattle.markdown_partial.specs.PartialSpaceOrTabEol as PartialSpaceOrTabEol
 use Rattle.markdown_partial.specs.PartialSpaceOrTab as PartialSpaceOrTab
-use Rattle.markdown_run_row.specs.Row.{makes, past_mark}
+use Rattle.markdown_run_text.specs.Row.{makes, past_mark}
 use Rattle.markdown_partial.specs.PartialDestination as PartialDestination
 use Rattle.markdown_partial.specs.PartialTitle as PartialTitle
 use Rattle.markdown_partial.specs.PartialLabel as PartialLabel

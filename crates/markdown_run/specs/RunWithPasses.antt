@@ -19,7 +19,7 @@ use Rattle.markdown_model.specs.Passes.{merged}
 use Rattle.markdown_partial.specs.TrimmedEvents.{HasParts}
 use Rattle.markdown_run_text.specs.ContentPasses.{may_resolve_of, resolves_of}
 use Rattle.markdown_run.specs.ElementsOfText.{EndsAt, forgotten, text_named}
-use Rattle.markdown_run_states.specs.Layer.{ends_of}
+use Rattle.markdown_run.specs.Layer.{ends_of}
 use Rattle.markdown_run.specs.declared.run.Run.{Run}
 
 -- however a run from this state ends, the passes that it registered may be called

@@ -14,8 +14,8 @@ ghost use Rattle.markdown_engine_content.specs.ListFunctions.{rest_of};
 ghost use Rattle.markdown_engine_index.specs.RunIndex.{is_asked};
 ghost use Rattle.markdown_model.specs.CodeTests.{is_value, next_is};
 ghost use Rattle.markdown_model.specs.GfmAutolinkLiteral.{first_letters, www};
-ghost use Rattle.markdown_run_readers.specs.PlacesPassed.{goes_on};
-ghost use Rattle.markdown_run_row.specs.TextContent.{StartReady, other_markers, sole_try, span_markers, text_passed};
+ghost use Rattle.markdown_run_text.specs.PlacesPassed.{goes_on};
+ghost use Rattle.markdown_run_text.specs.TextContent.{StartReady, other_markers, sole_try, span_markers, text_passed};
 ghost use Rattle.markdown_run.specs.ElementsOfText.{EndsAt, GoesOn, IsReady, KnowsNothing, Learns, MayTry, PassesData, ReadsElement, Passes, forgotten, text_named};
 
 use crate::run::construct;
@@ -24,7 +24,7 @@ use markdown_engine_index::run_index::RunIndex;
 use markdown_engine_index::sequence_index::SequenceIndex;
 use markdown_leaf_gfm::gfm_autolink_literal;
 use markdown_leaf_html::html_text as html_states;
-use markdown_run_readers::{
+use markdown_run_text::readers::{
     attention, autolink, character_escape, character_reference, html_text, label_end,
     label_start_image, label_start_link, partial_data, raw_text,
 };

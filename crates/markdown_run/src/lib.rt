@@ -1,5 +1,12 @@
-//! Runs over a content, by the loop over its elements or by the states alone.
+//! Runs over a content, by the loop over its elements or by the states alone; and the layer: the states and passes of inline content by name, with
+//! the laws of all states.
 #![tactic(auto)]
 
 mod elements;
+pub mod gfm_autolink_literal;
+pub mod label_end;
+pub mod resolve;
 pub mod run;
+pub mod state;
+
+pub use markdown_attention::attention;

@@ -2,20 +2,22 @@
 ghost use Rattle.std.specs.Prelude.{◌≡◌, ◌-◌, false, [], take, drop, map, length, IfOk, IsErr, OnErr, OnOk, IsTrue};
 ghost use Rattle.std.specs.List.{All};
 ghost use Rattle.markdown_run.specs.RunConstruct.{IsConstruct, ConstructEnds};
-ghost use Rattle.markdown_run_states.specs.Layer.{ready_of};
+ghost use Rattle.markdown_run.specs.Layer.{ready_of};
 ghost use Rattle.markdown_run.specs.RunWithPasses.{may_end_of, MayFinishPlain, MayMerge, MayPass, IsFoundFrom, MayPassText, IsFoundInText, IsFoundBehind, begun_text};
 ghost use Rattle.markdown_run.specs.ElementsOfText.{KnowsNothing, forgotten};
 ghost use Rattle.markdown_engine_events.specs.EventChains.{chained};
 ghost use Rattle.markdown_engine.specs.PassesInOrder.{MayResolve, Resolves, unregistered};
 ghost use Rattle.markdown_run_text.specs.ContentPasses.{may_resolve_of, resolves_of, FinishesText, MergesData};
-ghost use Rattle.markdown_run_row.specs.TextContent.{StartReady, text_passed};
+ghost use Rattle.markdown_run_text.specs.TextContent.{StartReady, text_passed};
 ghost use Rattle.markdown_engine_content.specs.Content.{IsContent, IsTextContent, content_of};
-ghost use Rattle.markdown_run_row.specs.RunSetting.{setting_of, text_setting_of};
+ghost use Rattle.markdown_run_text.specs.RunSetting.{setting_of, text_setting_of};
 ghost use Rattle.markdown_attention.specs.AttentionPass.{IsProbed};
 ghost use Rattle.markdown_run_leaves.specs.InnermostEvents.{IsInOrder, covered, innermost, lent};
 ghost use Rattle.markdown_model.specs.InlineTree.{label_tree, string_events, text_events};
 
 use crate::elements::{end_text, read_text};
+use crate::resolve;
+use crate::state::Inline;
 use markdown_engine::tokenizer::Tokenizer;
 use markdown_engine_content::cursor::Cursor;
 use markdown_engine_content::parser::ParseState;
@@ -26,8 +28,6 @@ use markdown_event::event::Event;
 use markdown_leaf_email_pass::settled;
 use markdown_lists::seq::Seq;
 use markdown_partial::partial_data;
-use markdown_run_states::resolve;
-use markdown_run_states::state::Inline;
 use markdown_run_text::text;
 use markdown_state::resolve::ResolveName;
 use markdown_state::state::StateName;
@@ -271,7 +271,7 @@ fn put_back<'a>(
 /// the depth of its parentheses from `size_b`; `DataStart`, which takes the bytes at which it stops from the scratch field `markers`, and holds
 /// everywhere; `SpaceOrTabStart` or `SpaceOrTabEolStart`, after the setter that asks for it.
 ///
-/// `ConstructEnds` of `specs/RunConstruct` says what each reads: `tried_reading` of `markdown_run_row` names the definition of one that is tried
+/// `ConstructEnds` of `specs/RunConstruct` says what each reads: `tried_reading` of `markdown_run_text` names the definition of one that is tried
 /// in a text and reads one tree, `construct_reading` that of others, `start_reading` that of a start of a label, `end_reading` that of an end. These take the options, the code before, whether an escape ends right before, whether this is the content's
 /// first place, the document, and the last start kept.
 ///

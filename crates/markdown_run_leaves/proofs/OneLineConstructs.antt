@@ -20,8 +20,7 @@ use Rattle.markdown_model.proofs.NoLinkInConstructs.{Passes, Yields, yields_bind
 use Rattle.markdown_model.proofs.OneLineLiterals.{spaced-both}
 use Rattle.markdown_model.proofs.OneLineReadings.{not-ending, IsOne, one-some, one-one, some-line, any-line, with-first-line, escaped-lines}
 use Rattle.markdown_model.proofs.PlainConstructs.{is_own, leaf-own, IsOwnLeaf, IsPlainTree, leaves-some}
-use Rattle.markdown_run_row.specs.RowTreeNames.{makes_data}
-use Rattle.markdown_run_leaves.specs.OneLineLeaves.{IsLined, AtStart}
+use Rattle.markdown_run_leaves.specs.OneLineLeaves.{makes_data, IsLined, AtStart}
 use Rattle.markdown_run_leaves.proofs.OneLineTrees.{AreLeaves, none-left, full-linked, full-lines, lined-row, lined-leaf, lined-linked, lined-lines, lined-one, lined-group}
 
 abbrev pub Tree : Forest → Type 0

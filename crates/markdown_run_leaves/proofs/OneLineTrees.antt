@@ -17,9 +17,8 @@ use Rattle.markdown_model.proofs.LeafRows.{Leaves, leaves-row, leaves-leaf, leav
 use Rattle.markdown_model.proofs.LiteralCodes.{codes-with_emails}
 use Rattle.markdown_model.proofs.OneLineReadings.{line-both, line-join, on-line, filled}
 use Rattle.markdown_model.proofs.PassedTrees.{Walks, walks-row, walks-merged, walks-trimmed, walks-mailed, trimmed_data-has, with_emails-has}
-use Rattle.markdown_run_row.specs.RowTreeNames.{makes_data}
 use Rattle.markdown_model.specs.CodeLines.{IsLine, IsOnLine}
-use Rattle.markdown_run_leaves.specs.OneLineLeaves.{IsLined}
+use Rattle.markdown_run_leaves.specs.OneLineLeaves.{makes_data, IsLined}
 
 -- Codes.
 

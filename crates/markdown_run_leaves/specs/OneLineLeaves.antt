@@ -1,11 +1,18 @@
 -- Trees whose leaves stand on lines, and whose groups around nothing stand at one place.
-use Rattle.std.specs.Prelude.{◌≡◌, true, List, [], ◌∷◌, ◌++◌, Some, None, ◌⊎◌}
+use Rattle.std.specs.Prelude.{◌≡◌, Bool, true, false, List, [], ◌∷◌, ◌++◌, Some, None, ◌⊎◌}
 use Rattle.markdown_engine_content.specs.Codes.{Code, document_start, stop_of}
 use Rattle.markdown_engine_content.specs.Tree.{Forest, empty, leaf_then, group_then, leaf_codes}
+use Rattle.markdown_event.specs.declared.event.Name.{Name}
+use Rattle.markdown_event.specs.declared.event.Name.TheVariants as N
 use Rattle.markdown_event.specs.declared.event.Point.{Point}
 use Rattle.markdown_model.specs.CodeLines.{IsLine, IsSomeLine, IsOnLine}
 use Rattle.markdown_model.specs.LabelEnd.{Element, plain, starts, ends}
-use Rattle.markdown_run_row.specs.RowTreeNames.{makes_data}
+
+-- data, or a run of markers: what no pair takes of it is data
+abbrev pub makes_data : Name → Bool
+makes_data N.Data = true
+makes_data N.AttentionSequence = true
+makes_data _ = false
 
 -- these codes stand in that list one after another
 abbrev pub IsIn : List Code → List Code → Type 0

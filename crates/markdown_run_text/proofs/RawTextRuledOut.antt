@@ -9,7 +9,7 @@ use Rattle.markdown_engine_index.specs.declared.sequence_index.LastBegins.{LastB
 use Rattle.markdown_engine_index.specs.declared.sequence_index.Sequence.TheVariants.{SpanMark}
 use Rattle.markdown_engine_index.proofs.RunIndexFacts.{later-none, without-known}
 use Rattle.markdown_engine_index.proofs.SequenceIndexLemmas.{right-made, ruled-out}
-use Rattle.markdown_run_row.specs.TextContent.{span_markers}
+use Rattle.markdown_run_text.specs.TextContent.{span_markers}
 
 neither : (a b : Bool) → ((a && true) || (b && true)) ≡ false → (a || (b || false)) ≡ false
 neither true b h = h

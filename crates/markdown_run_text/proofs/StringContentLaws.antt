@@ -24,11 +24,11 @@ use Rattle.markdown_leaf.specs.CharacterReference as CharacterReference
 use Rattle.markdown_leaf.specs.CharacterReference.{reference_here}
 use Rattle.markdown_partial.specs.PartialData as PartialData
 use Rattle.markdown_run_text.specs.StringContent.{states, is_on, string_tries, string_markers, string_marked, string_passed, string_here, tries_at, before_at, StartReady, BeforeReady, before_ends, start_words, before_words, before_data_words}
-use Rattle.markdown_run_row.specs.TryTable.{said_at}
-use Rattle.markdown_run_row.proofs.TryTableLemmas.{by-row, none-of}
-use Rattle.markdown_run_row.proofs.ElementSteps.{finishes-end}
+use Rattle.markdown_run_text.specs.TryTable.{said_at}
+use Rattle.markdown_run_text.proofs.TryTableLemmas.{by-row, none-of}
+use Rattle.markdown_run_text.proofs.ElementSteps.{finishes-end}
 use Rattle.markdown_run_text.proofs.StringElements.{no-backslash, no-ampersand}
-use Rattle.markdown_run_row.proofs.TextElements.{data-holds}
+use Rattle.markdown_run_text.proofs.TextElements.{data-holds}
 use Rattle.markdown_partial.specs.PartialData.{stops_of}
 use Rattle.markdown_run_text.proofs.TextSteps.{some-none}
 use Rattle.markdown_run_text.proofs.StringSteps.{Passes, passes-ready, passes-ends, escape-past, reference-past, data-past}

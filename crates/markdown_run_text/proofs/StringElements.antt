@@ -16,9 +16,9 @@ use Rattle.markdown_util.specs.Reference.{html_5_rows}
 use Rattle.markdown_plan.specs.Plan.{tree_ops}
 use Rattle.markdown_leaf.proofs.CharacterReferenceReadings.{no-reference}
 use Rattle.markdown_model.proofs.GrammarSteps.{bind-none, either-second, either-some, one-other, switched-off, switched-on}
-use Rattle.markdown_run_row.specs.RunSetting.{setting_of}
+use Rattle.markdown_run_text.specs.RunSetting.{setting_of}
 use Rattle.markdown_run_text.specs.StringContent.{string_markers}
-use Rattle.markdown_run_row.proofs.TextElements.{plain_of, plain-switched, data-alone, ending-alone}
+use Rattle.markdown_run_text.proofs.TextElements.{plain_of, plain-switched, data-alone, ending-alone}
 
 first-choice : (a b : Reading Element) (cs : List Code) (r : Option (Element × List Code)) → a cs ≡ r →
     either a b cs ≡ elim r [ None ↦ b cs | Some x ↦ Some x ]

@@ -10,16 +10,16 @@ use Rattle.markdown_model.specs.CodeTests.{is_among}
 use Rattle.markdown_model.specs.Elements.{string_choice}
 use Rattle.markdown_model.specs.TextLines.{data_up_to}
 use Rattle.markdown_partial.specs.PartialData.{stops_of}
-use Rattle.markdown_run_row.specs.RunOverElements.{Advances, Finishes}
-use Rattle.markdown_run_row.specs.Row.{kinds_of}
-use Rattle.markdown_run_row.specs.RunSetting.{setting_of}
+use Rattle.markdown_run_text.specs.RunOverElements.{Advances, Finishes}
+use Rattle.markdown_run_text.specs.Row.{kinds_of}
+use Rattle.markdown_run_text.specs.RunSetting.{setting_of}
 use Rattle.markdown_run_text.specs.StringContent.{string_markers, string_passed, string_here, BeforeReady, before_ends}
-use Rattle.markdown_run_row.proofs.ElementSteps.{advances-finishes, node-advances, data-advances, some-ahead, single-read}
-use Rattle.markdown_run_row.proofs.ConstructNodes.{node-of}
+use Rattle.markdown_run_text.proofs.ElementSteps.{advances-finishes, node-advances, data-advances, some-ahead, single-read}
+use Rattle.markdown_run_text.proofs.ConstructNodes.{node-of}
 use Rattle.markdown_model.proofs.PlainConstructs.{plain_constructs}
 use Rattle.markdown_plan.specs.Characters.{bytes_of}
-use Rattle.markdown_run_row.proofs.RowFields.{relisted, row-fields}
-use Rattle.markdown_run_row.proofs.RowScratch.{row-input}
+use Rattle.markdown_run_text.proofs.RowFields.{relisted, row-fields}
+use Rattle.markdown_run_text.proofs.RowScratch.{row-input}
 use Rattle.markdown_run_text.proofs.StringElements.{escaped-element, referenced-element, single-element, unmarked-element}
 
 -- U stands past the first elements of the codes from T on

@@ -48,23 +48,23 @@ use Rattle.markdown_model.specs.GfmAutolinkLiteral.{schemes, www, first_letters}
 use Rattle.markdown_model.specs.TextLines.{data_up_to}
 use Rattle.markdown_partial.specs.PartialData as PartialData
 use Rattle.markdown_partial.specs.PartialData.{stops_of}
-use Rattle.markdown_run_row.specs.RunOverElements.{Advances, DataFinishes, Finishes}
-use Rattle.markdown_run_row.specs.Row.{loses, row_end, past_mark, kinds_of}
-use Rattle.markdown_run_row.proofs.RowFields.{row-cursor, tree-within, lost-within}
+use Rattle.markdown_run_text.specs.RunOverElements.{Advances, DataFinishes, Finishes}
+use Rattle.markdown_run_text.specs.Row.{loses, row_end, past_mark, kinds_of}
+use Rattle.markdown_run_text.proofs.RowFields.{row-cursor, tree-within, lost-within}
 use Rattle.markdown_run_text.specs.StringContent.{is_on}
-use Rattle.markdown_run_row.specs.TryTable.{Table, codes_in}
-use Rattle.markdown_run_row.specs.TextContent.{states, StartReady, sole_tries, other_tries, or_data, other_markers, sole_try, tried_reading, text_tries, text_markers, marked_fields, text_marked, text_passed, attempt_step, start_step}
-use Rattle.markdown_run_row.specs.TextContent.{first_try, tries_at, before_at, before_step, text_choice_of, IsMarked, BeforeReady, StandsAlone, before_ends, data_ends, start_words, before_words, before_html_words, before_hard_break_escape_words, before_label_start_link_words, before_data_words}
-use Rattle.markdown_run_row.proofs.TryTableLemmas.{EachOf, each-among, each-weaker, EachRow, by-row, rows-append}
-use Rattle.markdown_run_row.proofs.ConstructNodes.{node-of}
+use Rattle.markdown_run_text.specs.TryTable.{Table, codes_in}
+use Rattle.markdown_run_text.specs.TextContent.{states, StartReady, sole_tries, other_tries, or_data, other_markers, sole_try, tried_reading, text_tries, text_markers, marked_fields, text_marked, text_passed, attempt_step, start_step}
+use Rattle.markdown_run_text.specs.TextContent.{first_try, tries_at, before_at, before_step, text_choice_of, IsMarked, BeforeReady, StandsAlone, before_ends, data_ends, start_words, before_words, before_html_words, before_hard_break_escape_words, before_label_start_link_words, before_data_words}
+use Rattle.markdown_run_text.proofs.TryTableLemmas.{EachOf, each-among, each-weaker, EachRow, by-row, rows-append}
+use Rattle.markdown_run_text.proofs.ConstructNodes.{node-of}
 use Rattle.markdown_model.proofs.PlainConstructs.{ReadsPlain, plain_constructs}
 use Rattle.markdown_model.specs.Elements.{tries, tried}
 use Rattle.markdown_model.specs.LeafConstructs.{character_escape, hard_break_escape, character_reference, autolink}
 use Rattle.markdown_model.specs.HtmlText.{html_text}
-use Rattle.markdown_run_row.proofs.TextElements.{is_marker, data-holds}
-use Rattle.markdown_run_row.proofs.TextTries.{ReadsElements, AreTriedAt, first-reads, second-reads, second-alone, IsTriedAt, OrStandsAlone, only-reads, only-alone, span-reads, span-alone, run-reads, run-alone, run-leaf, protocol-reads, protocol-alone, www-reads, www-alone, other-alone}
-use Rattle.markdown_run_row.proofs.ElementSteps.{DataRead, data-read, some-ahead, advances-finishes, node-advances, run-advances, single-read}
-use Rattle.markdown_run_row.proofs.TextLabelTries.{image-advances, image-alone, footnote-advances, link-advances, bracket-alone, made-advances, failed-advances, end-alone}
+use Rattle.markdown_run_text.proofs.TextElements.{is_marker, data-holds}
+use Rattle.markdown_run_text.proofs.TextTries.{ReadsElements, AreTriedAt, first-reads, second-reads, second-alone, IsTriedAt, OrStandsAlone, only-reads, only-alone, span-reads, span-alone, run-reads, run-alone, run-leaf, protocol-reads, protocol-alone, www-reads, www-alone, other-alone}
+use Rattle.markdown_run_text.proofs.ElementSteps.{DataRead, data-read, some-ahead, advances-finishes, node-advances, run-advances, single-read}
+use Rattle.markdown_run_text.proofs.TextLabelTries.{image-advances, image-alone, footnote-advances, link-advances, bracket-alone, made-advances, failed-advances, end-alone}
 use Rattle.markdown_run_text.proofs.TextSteps.{IsSame, same-row, choice-same, stops-same, marked-past, no-check-behind, no-check-past, advances-ends, alone-ends, tree-kept, registered-kept, made-kept}
 use Rattle.markdown_run_text.proofs.TextSteps.{some-none, weight-marked, at-rest-reference, run-ready, passed-attempts, at-end, ends-on, lost-there, not-lost, lost-left, lost-current, same-lost, html-ready, marked-ready, marked-start, check-elements}
 

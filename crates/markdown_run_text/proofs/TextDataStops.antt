@@ -5,9 +5,9 @@ use Rattle.markdown_engine_content.specs.Codes.{Code}
 use Rattle.markdown_model.specs.CodeTests.{is_among, next_is}
 use Rattle.markdown_model.specs.Elements.{text_element}
 use Rattle.markdown_model.specs.Setting.{Setting}
-use Rattle.markdown_run_row.specs.RunOverElements.{AreSingle}
-use Rattle.markdown_run_row.specs.TextContent.{data_markers, text_markers}
-use Rattle.markdown_run_row.proofs.TextElements.{other-element}
+use Rattle.markdown_run_text.specs.RunOverElements.{AreSingle}
+use Rattle.markdown_run_text.specs.TextContent.{data_markers, text_markers}
+use Rattle.markdown_run_text.proofs.TextElements.{other-element}
 
 -- each code where data does not stop
 pub stops-where : (s : Setting) (end : ℕ) (whole : List Code) → AreSingle (text_element s end) (next_is (is_among data_markers)) whole

@@ -45,17 +45,17 @@ use Rattle.markdown_leaf.specs.CharacterReference.{IsAtRest}
 use Rattle.markdown_leaf.specs.RawText as RawText
 use Rattle.markdown_model.specs.Elements.{text_choice}
 use Rattle.markdown_partial.specs.PartialData.{stops_of}
-use Rattle.markdown_run_row.specs.RunOverElements.{AreReadAsData, Advances, Finishes}
-use Rattle.markdown_run_row.specs.Row.{EndsRest, Row, loses, row_end, row_then, past_mark, past_row, row_codes, kinds_of, IsRowAt}
-use Rattle.markdown_run_row.proofs.LabelSteps.{empty-part, mark-alone}
-use Rattle.markdown_run_row.proofs.RowFields.{relisted, row-cursor, row-text, row-fields, made-within}
-use Rattle.markdown_run_row.proofs.RowScratch.{row-input}
-use Rattle.markdown_run_row.specs.TextContent.{order_pays, names_for, brackets_pay, titles_pay, marked_fields, text_marked, text_passed, text_choice_of, EndsWithCodes, StartReady, IsMarked, StandsAlone, before_ends, data_ends, text_setting, StopsAtElements, names_in}
+use Rattle.markdown_run_text.specs.RunOverElements.{AreReadAsData, Advances, Finishes}
+use Rattle.markdown_run_text.specs.Row.{EndsRest, Row, loses, row_end, row_then, past_mark, past_row, row_codes, kinds_of, IsRowAt}
+use Rattle.markdown_run_text.proofs.LabelSteps.{empty-part, mark-alone}
+use Rattle.markdown_run_text.proofs.RowFields.{relisted, row-cursor, row-text, row-fields, made-within}
+use Rattle.markdown_run_text.proofs.RowScratch.{row-input}
+use Rattle.markdown_run_text.specs.TextContent.{order_pays, names_for, brackets_pay, titles_pay, marked_fields, text_marked, text_passed, text_choice_of, EndsWithCodes, StartReady, IsMarked, StandsAlone, before_ends, data_ends, text_setting, StopsAtElements, names_in}
 use Rattle.markdown_run_text.proofs.TextDataStops.{stops-where}
-use Rattle.markdown_run_row.proofs.TextTries.{end_in, ReadsElements, none-valued, check-reads, no-check-at-end, other-data}
-use Rattle.markdown_run_row.proofs.ElementSteps.{last-some, some-ahead, advances-finishes, finishes-end, data-advances}
+use Rattle.markdown_run_text.proofs.TextTries.{end_in, ReadsElements, none-valued, check-reads, no-check-at-end, other-data}
+use Rattle.markdown_run_text.proofs.ElementSteps.{last-some, some-ahead, advances-finishes, finishes-end, data-advances}
 use Rattle.markdown_model.proofs.GrammarSteps.{if-true, if-false, switched-off}
-use Rattle.markdown_run_row.specs.RunSetting.{text_setting_of}
+use Rattle.markdown_run_text.specs.RunSetting.{text_setting_of}
 
 -- Past a row the choice is as it was, and so are the scratch fields but for the lists of labels.
 

@@ -13,10 +13,10 @@ use Rattle.markdown_engine.specs.declared.tokenizer.Tokenizer.{Tokenizer}
 use Rattle.markdown_leaf.specs.CharacterEscape.{escape_here}
 use Rattle.markdown_leaf.specs.CharacterReference.{IsAtRest, reference_here}
 use Rattle.markdown_model.specs.Elements.{Choice, string_choice}
-use Rattle.markdown_run_row.specs.RunOverElements.{Finishes}
-use Rattle.markdown_run_row.specs.Row.{EndsRest}
-use Rattle.markdown_run_row.specs.RunSetting.{setting_of}
-use Rattle.markdown_run_row.specs.TryTable.{Table, codes_in, said_at}
+use Rattle.markdown_run_text.specs.RunOverElements.{Finishes}
+use Rattle.markdown_run_text.specs.Row.{EndsRest}
+use Rattle.markdown_run_text.specs.RunSetting.{setting_of}
+use Rattle.markdown_run_text.specs.TryTable.{Table, codes_in, said_at}
 
 -- what is tried at which codes
 abbrev pub string_tries : Table StateName

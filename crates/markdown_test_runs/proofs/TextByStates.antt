@@ -15,12 +15,12 @@ use Rattle.markdown_attention.proofs.MarkerCodes.{singles-content}
 use Rattle.markdown_label_pass.specs.Brackets.{grouped}
 use Rattle.markdown_model.specs.Elements.{text_choice}
 use Rattle.markdown_model.specs.Setting.{Setting}
-use Rattle.markdown_run_row.specs.OpenStarts.{brackets_of}
-use Rattle.markdown_run_row.specs.Row.{row_has_run}
-use Rattle.markdown_run_row.specs.RunOverElements.{Finishes}
+use Rattle.markdown_run_text.specs.OpenStarts.{brackets_of}
+use Rattle.markdown_run_text.specs.Row.{row_has_run}
+use Rattle.markdown_run_text.specs.RunOverElements.{Finishes}
 use Rattle.markdown_run_text.specs.ContentPasses.{may_resolve_of, resolves_of}
-use Rattle.markdown_run_row.specs.RunSetting.{text_setting_of}
-use Rattle.markdown_run_row.specs.TextContent.{marked_fields, text_choice_of, text_marked, text_passed, start_ends}
+use Rattle.markdown_run_text.specs.RunSetting.{text_setting_of}
+use Rattle.markdown_run_text.specs.TextContent.{marked_fields, text_choice_of, text_marked, text_passed, start_ends}
 use Rattle.markdown_run.proofs.FoundTexts.{found-good}
 use Rattle.markdown_run.proofs.PassesAfterRun.{text_finish, text-trims, IsGiven}
 use Rattle.markdown_run.proofs.TextRun.{text_fields, text_start}

@@ -2,7 +2,7 @@
 ghost use Rattle.std.specs.Prelude.{◌≡◌, ◌++◌, [], OnOk};
 ghost use Rattle.markdown_engine_content.specs.Content.{IsContent, IsTextContent};
 ghost use Rattle.markdown_engine.specs.StateRuns.{settled};
-ghost use Rattle.markdown_run_states.specs.Layer.{ready_of};
+ghost use Rattle.markdown_run.specs.Layer.{ready_of};
 
 use crate::answers::Answers;
 use crate::paths;

@@ -23,7 +23,7 @@ use markdown_event::event::{Content, Name};
 use markdown_inline::run::construct;
 use markdown_inline::state::Inline;
 use markdown_inline::{partial_space_or_tab, partial_space_or_tab_eol, resolve, state};
-use markdown_run_readers::{attention, character_escape, label_start_link, partial_data};
+use markdown_run_text::readers::{attention, character_escape, label_start_link, partial_data};
 use markdown_state::resolve::ResolveName;
 use markdown_state::state::StateName;
 use std::alloc::{AllocError, Global};

@@ -10,7 +10,7 @@ ghost use Rattle.markdown_run.specs.RunConstruct.{IsConstruct};
 use markdown_engine::tokenizer::{LabelKind, LabelStart, Tokenizer};
 use markdown_event::event::{Event, Kind, Name, Point};
 use markdown_inline::run::construct;
-use markdown_run_readers::label_end;
+use markdown_run_text::readers::label_end;
 use markdown_state::state::StateName;
 use std::alloc::AllocError;
 

@@ -3,7 +3,7 @@ ghost use Rattle.std.specs.Prelude.{◌≡◌, ◌≤◌, []};
 ghost use Rattle.markdown_engine.specs.RestingFields.{at_rest};
 ghost use Rattle.markdown_engine.specs.Weights.{codes_left};
 ghost use Rattle.markdown_partial.specs.PartialSpaceOrTab.{most};
-ghost use Rattle.markdown_run_states.specs.Layer.{ready_of};
+ghost use Rattle.markdown_run.specs.Layer.{ready_of};
 
 use markdown_engine::tokenizer::Tokenizer;
 use markdown_inline::run::construct;

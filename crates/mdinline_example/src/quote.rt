@@ -1,7 +1,7 @@
 // Lists what stands in a paragraph of two lines behind the prefix of a block quote.
 ghost use Rattle.std.specs.Prelude.{◌≡◌, false, None, IfOk, IfSome};
 ghost use Rattle.markdown_engine_content.specs.Content.{IsTextContent};
-ghost use Rattle.markdown_run_row.specs.RunSetting.{text_setting_of};
+ghost use Rattle.markdown_run_text.specs.RunSetting.{text_setting_of};
 ghost use Rattle.markdown_model.specs.InlineTree.{text_events};
 
 use markdown_inline::configuration::ParseOptions;

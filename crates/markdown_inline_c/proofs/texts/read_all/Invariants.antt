@@ -1,4 +1,4 @@
-use Rattle.markdown_run_row.specs.RunSetting.{setting_of}
+use Rattle.markdown_run_text.specs.RunSetting.{setting_of}
 use Rattle.markdown_inline_c.proofs.Contents.{AreRead}
 use Rattle.markdown_inline_c.proofs.texts.read_all.Given as goal
 

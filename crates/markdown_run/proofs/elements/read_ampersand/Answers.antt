@@ -5,7 +5,7 @@ use Rattle.markdown_engine.specs.Operations.{current_of}
 use Rattle.markdown_state.specs.declared.state.StateName.TheVariants.{CharacterReferenceStart}
 use Rattle.markdown_engine.specs.declared.tokenizer.Tokenizer.{Tokenizer}
 use Rattle.markdown_leaf.specs.CharacterReference.{reference_here}
-use Rattle.markdown_run_readers.specs.ReaderEnds.{ReadsOrLeaves}
+use Rattle.markdown_run_text.specs.ReaderEnds.{ReadsOrLeaves}
 use Rattle.markdown_run.specs.ElementsOfText.{IsReady, ReadsElement}
 use Rattle.markdown_run.proofs.ElementsRead.{sole-ends}
 use Rattle.markdown_run.proofs.elements.read_ampersand.Goals as goal

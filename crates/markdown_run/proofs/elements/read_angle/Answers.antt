@@ -6,7 +6,7 @@ use Rattle.markdown_state.specs.declared.state.StateName.TheVariants.{AutolinkSt
 use Rattle.markdown_engine.specs.declared.tokenizer.Tokenizer.{Tokenizer}
 use Rattle.markdown_engine.proofs.ReadingSequences.{scratched-same}
 use Rattle.markdown_leaf_html.specs.HtmlText as HtmlText
-use Rattle.markdown_run_readers.specs.ReaderEnds.{ReadsOrLeaves}
+use Rattle.markdown_run_text.specs.ReaderEnds.{ReadsOrLeaves}
 use Rattle.markdown_run_text.proofs.TextSteps.{html-ready}
 use Rattle.markdown_run.specs.RunConstruct.{ConstructEnds}
 use Rattle.markdown_run.proofs.ElementsRead.{autolink-holds, html-ends, html-ruled}

@@ -4,7 +4,7 @@ use Rattle.std.proofs.lemmas.Result.{IfOk-weaker}
 use Rattle.markdown_engine_index.specs.RunIndex.{is_asked}
 use Rattle.markdown_model.specs.GfmAutolinkLiteral.{first_letters, www}
 use Rattle.markdown_engine.specs.declared.tokenizer.Tokenizer.{Tokenizer}
-use Rattle.markdown_run_row.specs.TextContent.{other_markers, span_markers}
+use Rattle.markdown_run_text.specs.TextContent.{other_markers, span_markers}
 use Rattle.markdown_run.proofs.ElementsRead.{none-among, run-ends}
 use Rattle.markdown_run.proofs.elements.read_construct.Goals as goal
 

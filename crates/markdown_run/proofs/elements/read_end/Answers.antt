@@ -3,7 +3,7 @@ use Rattle.std.proofs.lemmas.Result.{IfOk-weaker}
 use Rattle.markdown_state.specs.declared.state.StateName.TheVariants.{LabelEndStart}
 use Rattle.markdown_engine.specs.declared.tokenizer.Tokenizer.{Tokenizer}
 use Rattle.markdown_label.specs.LabelEnd.{StartReady}
-use Rattle.markdown_run_readers.specs.PlainResource.{EndsOrStays}
+use Rattle.markdown_run_text.specs.PlainResource.{EndsOrStays}
 use Rattle.markdown_run.specs.RunConstruct.{ConstructEnds}
 use Rattle.markdown_run.proofs.ElementsRead.{end-ends}
 use Rattle.markdown_run.proofs.RunConstructLemmas.{ends-made}

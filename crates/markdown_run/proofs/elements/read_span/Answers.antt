@@ -3,7 +3,7 @@ use Rattle.std.proofs.lemmas.Result.{IfOk-weaker}
 use Rattle.markdown_state.specs.declared.state.StateName.TheVariants.{RawTextStart}
 use Rattle.markdown_engine.specs.declared.tokenizer.Tokenizer.{Tokenizer}
 use Rattle.markdown_leaf.specs.RawText.{StartReady, is_ruled_out, span_at}
-use Rattle.markdown_run_readers.specs.ReaderEnds.{ReadsOrLeaves}
+use Rattle.markdown_run_text.specs.ReaderEnds.{ReadsOrLeaves}
 use Rattle.markdown_run.specs.ElementsOfText.{Stays}
 use Rattle.markdown_run.specs.RunConstruct.{ConstructEnds}
 use Rattle.markdown_run.proofs.ElementsRead.{span-ends, span-ruled}

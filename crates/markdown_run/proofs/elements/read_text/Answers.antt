@@ -1,6 +1,6 @@
 use Rattle.std.proofs.Common.{refl}
 use Rattle.markdown_engine.specs.declared.tokenizer.Tokenizer.{Tokenizer}
-use Rattle.markdown_run_row.specs.TextContent.{text_passed}
+use Rattle.markdown_run_text.specs.TextContent.{text_passed}
 use Rattle.markdown_run.specs.ElementsOfText.{forgotten}
 use Rattle.markdown_run.proofs.PlainEnds.{both-hold}
 use Rattle.markdown_run.proofs.ReadyTexts.{named-leads, named-ready}

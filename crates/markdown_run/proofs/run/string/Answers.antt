@@ -2,7 +2,7 @@ use Rattle.std.proofs.Common.{◌∙◌}
 use Rattle.std.proofs.lemmas.Result.{IfOk-weaker}
 use Rattle.markdown_run.proofs.WholeRun.{begun-starts}
 use Rattle.markdown_run.proofs.StringRun.{string-ready, string-may, string-probes, string-run}
-use Rattle.markdown_run_row.specs.RunSetting.{setting_of}
+use Rattle.markdown_run_text.specs.RunSetting.{setting_of}
 use Rattle.markdown_run_leaves.proofs.LeavesAreStretches.{string-in-order, string-covers}
 use Rattle.markdown_run.proofs.run.string.Goals as goal
 

@@ -5,7 +5,7 @@ use Rattle.markdown_engine_content.specs.Content.{content_of}
 use Rattle.markdown_attention.specs.AttentionPass.{IsProbed}
 use Rattle.markdown_model.specs.InlineTree.{label_tree}
 use Rattle.markdown_model.specs.Setting.{Setting}
-use Rattle.markdown_run_row.specs.RunSetting.{text_setting_of}
+use Rattle.markdown_run_text.specs.RunSetting.{text_setting_of}
 use Rattle.markdown_run.proofs.WholeRun.{content-starts}
 use Rattle.markdown_run.proofs.TextRun.{none-lent, started, text-ready, text-unknown, text-may, text-probes, text-no-probes, text-run}
 use Rattle.markdown_run_leaves.proofs.LeavesAreStretches.{text-in-order, text-covers}

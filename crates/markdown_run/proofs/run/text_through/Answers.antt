@@ -1,7 +1,7 @@
 use Rattle.std.proofs.Common.{◌∙◌, sym, subst}
 use Rattle.std.proofs.lemmas.Result.{IfOk-weaker}
 use Rattle.markdown_engine.specs.declared.tokenizer.Tokenizer.{Tokenizer}
-use Rattle.markdown_run_row.specs.TextContent.{text_passed}
+use Rattle.markdown_run_text.specs.TextContent.{text_passed}
 use Rattle.markdown_run.specs.ElementsOfText.{EndsAt, forgotten, text_named}
 use Rattle.markdown_run.proofs.PlainEnds.{none-there, plain-passes}
 use Rattle.markdown_run.proofs.run.text_through.Goals as goal

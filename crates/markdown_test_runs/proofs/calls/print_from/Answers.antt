@@ -3,7 +3,7 @@ use Rattle.markdown_engine.proofs.CallsWithAttemptsLemmas.{answer}
 use Rattle.markdown_engine.proofs.AttemptLemmas.{settled-alone, going_in-alone, ready-next}
 use Rattle.markdown_engine.proofs.SteadyLemmas.{onward-here}
 use Rattle.markdown_engine.proofs.TurnLemmas.{Turned, goes-now, turned-call, turned-out}
-use Rattle.markdown_run_states.specs.Layer.{ready_of, step_of, ends_of, weight_of, laws_of}
+use Rattle.markdown_run.specs.Layer.{ready_of, step_of, ends_of, weight_of, laws_of}
 use Rattle.markdown_test_runs.proofs.calls.print_from.Goals.{in-Ok, in-Nok}
 use Rattle.markdown_test_runs.proofs.calls.print_from.Goals as goal
 

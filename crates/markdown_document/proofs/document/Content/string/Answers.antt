@@ -6,7 +6,7 @@ use Rattle.markdown_engine_content.specs.Place.{start_of_content}
 use Rattle.markdown_document.specs.ContentOfDocument.{ContentOf}
 use Rattle.markdown_run.proofs.WholeRun.{Starts, content-starts}
 use Rattle.markdown_run.proofs.StringRun.{string-may, string-probes, string-run}
-use Rattle.markdown_run_row.specs.RunSetting.{setting_of}
+use Rattle.markdown_run_text.specs.RunSetting.{setting_of}
 use Rattle.markdown_run_leaves.proofs.LeavesAreStretches.{string-in-order, string-covers}
 use Rattle.markdown_document.proofs.document.Content.string.Goals as goal
 

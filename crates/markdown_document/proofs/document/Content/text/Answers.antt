@@ -9,7 +9,7 @@ use Rattle.markdown_engine_names.specs.declared.name_index.Names.{Names}
 use Rattle.markdown_attention.specs.AttentionPass.{IsProbed}
 use Rattle.markdown_model.specs.InlineTree.{label_tree}
 use Rattle.markdown_model.specs.Setting.{Setting}
-use Rattle.markdown_run_row.specs.RunSetting.{text_setting_of}
+use Rattle.markdown_run_text.specs.RunSetting.{text_setting_of}
 use Rattle.markdown_document.specs.ContentOfDocument.{ContentOf}
 use Rattle.markdown_run.proofs.WholeRun.{Starts, content-starts}
 use Rattle.markdown_run.proofs.TextRun.{text_start, document_names, document-lent, names-of-document, started-lent, text-ready, text-unknown, text-may, text-probes, text-no-probes, text-run}

@@ -1,0 +1,107 @@
+-- Cutting data into its codes goes through rows, and merging undoes it.
+use Rattle.std.proofs.Common.{◌≡◌, ◌≢◌, Bool, true, false, Option, Some, None, List, [], ◌∷◌, refl, sym, ap, ◌∙◌}
+use Rattle.markdown_partial.proofs.MergePassLaw.{data-name, merged-data, merged-linked, merged-other, merged-group}
+use Rattle.markdown_engine_content.specs.Codes.{Code}
+use Rattle.markdown_engine_content.specs.Tree.{Forest, empty, leaf_then, group_then, ◌⊕◌}
+use Rattle.markdown_event.specs.declared.event.Content.{Content}
+use Rattle.markdown_event.specs.declared.event.Name.{Name}
+use Rattle.markdown_event.specs.declared.event.Name.TheVariants as N
+use Rattle.markdown_model.specs.Passes.{merged, data_onto}
+use Rattle.markdown_partial.specs.MergedEvents.{is_data}
+use Rattle.markdown_run_text.specs.CutData.{each_code, cut_leaf, split, HasCodes}
+
+-- Rows.
+
+pub row-assoc : (t u v : Forest) → (t ⊕ u) ⊕ v ≡ t ⊕ (u ⊕ v)
+row-assoc empty u v = refl
+row-assoc (leaf_then n l cs rest) u v = ap (leaf_then n l cs) (row-assoc rest u v)
+row-assoc (group_then n a b inside rest) u v = ap (group_then n a b inside) (row-assoc rest u v)
+
+each-join : (cs : List Code) (t u : Forest) → each_code cs (t ⊕ u) ≡ each_code cs t ⊕ u
+each-join [] t u = refl
+each-join (c ∷ cs) t u = ap (leaf_then N.Data None (c ∷ [])) (each-join cs t u)
+
+leaf-join : (b : Bool) (name : Name) (link : Option Content) (cs : List Code) (t u : Forest) →
+    cut_leaf b name link cs (t ⊕ u) ≡ cut_leaf b name link cs t ⊕ u
+leaf-join true name None cs t u = each-join cs t u
+leaf-join true name (Some c) cs t u = refl
+leaf-join false name None cs t u = refl
+leaf-join false name (Some c) cs t u = refl
+
+pub split-join : (t u : Forest) → split (t ⊕ u) ≡ split t ⊕ split u
+split-join empty u = refl
+split-join (leaf_then name link cs rest) u =
+    ap (cut_leaf (is_data name) name link cs) (split-join rest u) ∙ leaf-join (is_data name) name link cs (split rest) (split u)
+split-join (group_then name a b inside rest) u = ap (group_then name a b (split inside)) (split-join rest u)
+
+-- Merging.
+
+onto-leaf : (c : Code) (cs : List Code) (b : Bool) (name : Name) (ds : List Code) (rest : Forest) → is_data name ≡ b →
+    data_onto (c ∷ []) (data_onto cs (leaf_then name None ds rest)) ≡ data_onto (c ∷ cs) (leaf_then name None ds rest)
+onto-leaf c cs b N.Data ds rest e = refl
+onto-leaf c cs b _ ds rest e = refl
+
+onto-linked : (c : Code) (cs : List Code) (name : Name) (l : Content) (ds : List Code) (rest : Forest) →
+    data_onto (c ∷ []) (data_onto cs (leaf_then name (Some l) ds rest)) ≡ data_onto (c ∷ cs) (leaf_then name (Some l) ds rest)
+onto-linked c cs N.Data l ds rest = refl
+onto-linked c cs _ l ds rest = refl
+
+onto-onto : (c : Code) (cs : List Code) (t : Forest) → data_onto (c ∷ []) (data_onto cs t) ≡ data_onto (c ∷ cs) t
+onto-onto c cs empty = refl
+onto-onto c cs (leaf_then name None ds rest) = onto-leaf c cs (is_data name) name ds rest refl
+onto-onto c cs (leaf_then name (Some l) ds rest) = onto-linked c cs name l ds rest
+onto-onto c cs (group_then name a b inside rest) = refl
+
+merged-each : (c : Code) (cs : List Code) (rest : Forest) →
+    merged (each_code (c ∷ cs) rest) ≡ data_onto (c ∷ cs) (merged rest)
+merged-each c [] rest = merged-data (c ∷ []) rest
+merged-each c (d ∷ ds) rest =
+    merged-data (c ∷ []) (each_code (d ∷ ds) rest) ∙ ap (data_onto (c ∷ [])) (merged-each d ds rest) ∙ onto-onto c (d ∷ ds) (merged rest)
+
+merged-some : (cs : List Code) (rest : Forest) → cs ≢ [] → merged (each_code cs rest) ≡ data_onto cs (merged rest)
+merged-some [] rest h = absurd (h refl)
+merged-some (c ∷ cs) rest h = merged-each c cs rest
+
+leaf-split : (b : Bool) (name : Name) (link : Option Content) (cs : List Code) (rest more : Forest) → is_data name ≡ b →
+    (b ≡ true → link ≡ None → cs ≢ []) → merged more ≡ merged rest →
+    merged (cut_leaf b name link cs more) ≡ merged (leaf_then name link cs rest)
+leaf-split true name None cs rest more e h k =
+    merged-some cs more (h refl refl) ∙ ap (data_onto cs) k ∙ sym (merged-data cs rest) ∙ ap (λ n. merged (leaf_then n None cs rest)) (sym (data-name name e))
+leaf-split true name (Some c) cs rest more e h k =
+    merged-linked name c cs more ∙ ap (leaf_then name (Some c) cs) k ∙ sym (merged-linked name c cs rest)
+leaf-split false name None cs rest more e h k =
+    merged-other name cs more e ∙ ap (leaf_then name None cs) k ∙ sym (merged-other name cs rest e)
+leaf-split false name (Some c) cs rest more e h k =
+    merged-linked name c cs more ∙ ap (leaf_then name (Some c) cs) k ∙ sym (merged-linked name c cs rest)
+
+-- how data is cut is no matter to merging
+pub merged-split : (t : Forest) → HasCodes t → merged (split t) ≡ merged t
+merged-split empty h = refl
+merged-split (leaf_then name link cs rest) h =
+    leaf-split (is_data name) name link cs rest (split rest) refl h.0 (merged-split rest h.1)
+merged-split (group_then name a b inside rest) h =
+    merged-group name a b (split inside) (split rest) ∙ ap (λ x. group_then name a b x (merged (split rest))) (merged-split inside h.0) ∙ ap (group_then name a b (merged inside)) (merged-split rest h.1) ∙ sym (merged-group name a b inside rest)
+
+-- Cutting twice is cutting once.
+
+each-split : (cs : List Code) (t : Forest) → split (each_code cs t) ≡ each_code cs (split t)
+each-split [] t = refl
+each-split (c ∷ cs) t = ap (leaf_then N.Data None (c ∷ [])) (each-split cs t)
+
+leaf-twice : (b : Bool) (name : Name) (link : Option Content) (cs : List Code) (t : Forest) → is_data name ≡ b →
+    split (cut_leaf b name link cs t) ≡ cut_leaf b name link cs (split t)
+leaf-twice true name None cs t e = each-split cs t
+leaf-twice true name (Some c) cs t e = ap (λ b. cut_leaf b name (Some c) cs (split t)) e
+leaf-twice false name None cs t e = ap (λ b. cut_leaf b name None cs (split t)) e
+leaf-twice false name (Some c) cs t e = ap (λ b. cut_leaf b name (Some c) cs (split t)) e
+
+pub split-twice : (t : Forest) → split (split t) ≡ split t
+split-twice empty = refl
+split-twice (leaf_then name link cs rest) =
+    leaf-twice (is_data name) name link cs (split rest) refl ∙ ap (cut_leaf (is_data name) name link cs) (split-twice rest)
+split-twice (group_then name a b inside rest) =
+    ap (λ x. group_then name a b x (split (split rest))) (split-twice inside) ∙ ap (group_then name a b (split inside)) (split-twice rest)
+
+-- trees that differ only in how data is cut are merged to one
+pub merged-same : (t u : Forest) → HasCodes t → HasCodes u → split t ≡ split u → merged t ≡ merged u
+merged-same t u g h e = sym (merged-split t g) ∙ ap merged e ∙ merged-split u h

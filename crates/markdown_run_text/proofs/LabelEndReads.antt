@@ -1,0 +1,146 @@
+-- The end of a label is read as the definitions read it, where it is read what follows its `]`.
+use Rattle.std.proofs.Common.{◌≡◌, ℕ, ◌&&◌, not, Bool, true, false, List, [], ◌∷◌, ◌++◌, None, Some, refl, sym, ap, ◌∙◌}
+use Rattle.std.proofs.lemmas.Bool.{not-true}
+use Rattle.markdown_engine_content.specs.Codes.{Code}
+use Rattle.markdown_engine_content.specs.Tree.{Forest, leaf, leaf_codes}
+use Rattle.markdown_event.specs.declared.event.Name.TheVariants as N
+use Rattle.markdown_engine_content.specs.declared.label_kind.LabelKind.{LabelKind}
+use Rattle.markdown_engine.specs.Operations.{ahead, done, scratched}
+use Rattle.markdown_engine.specs.PastTree.{past}
+use Rattle.markdown_engine.specs.declared.tokenizer.LabelStart as Kept
+use Rattle.markdown_engine.specs.declared.tokenizer.Tokenizer.{Tokenizer}
+use Rattle.markdown_engine.proofs.ReadingSequences.{scratched-same}
+use Rattle.markdown_engine.proofs.SolidTrees.{IsSolid-group, IsSolid-leaf}
+use Rattle.markdown_engine.proofs.TreeEvents.{ahead-past, ops-past}
+use Rattle.markdown_label.specs.LabelEnd.{Ends, end_made, end_ops, end_tree, ended, is_on, kind_set, made, made_here, outcome_by, starts_set}
+use Rattle.markdown_label_names.specs.LabelNames.{place_at}
+use Rattle.markdown_label.specs.LabelFields.{bars, with_kind}
+use Rattle.markdown_label_names.specs.LabelSetting.{setting_in}
+use Rattle.markdown_label.proofs.LabelEndLemmas.{ahead-made}
+use Rattle.markdown_label.proofs.LabelEndReadings.{outcome-tail}
+use Rattle.markdown_label.proofs.LabelEndStartLaw.{reading-at}
+use Rattle.markdown_model.specs.CodeTests.{is_value}
+use Rattle.markdown_model.specs.Grammar.{gives}
+use Rattle.markdown_model.specs.LabelEnd.{after_label, bytes_between, is_footnote, is_image, link_identifier, link_kind}
+use Rattle.markdown_model.specs.Setting.{Setting, is_defined}
+use Rattle.markdown_model.specs.SingleConstructs.{outcome}
+use Rattle.markdown_model.proofs.GrammarSteps.{bind-some, switched-on}
+use Rattle.markdown_partial.specs.LinkedTreeOps.{linked_ops}
+use Rattle.markdown_partial.proofs.LinkedTreeLemmas.{CoversRow, linked-past}
+use Rattle.markdown_util.specs.Identifier.{identifier_of}
+use Rattle.markdown_run_text.specs.PlainResource.{may_make, takes_resource}
+
+-- what follows a `]`, where the end makes a label of it: whatever is defined, or if the label itself is
+pub record Follows (s : Setting) (asks : Bool) (read : Tokenizer → Tokenizer) (cs : List Code) : Type 0 where
+  pub tree : Forest
+  pub codes : List Code
+  pub rest : List Code
+  pub whole : cs ≡ codes ++ rest
+  pub holds : (defined : Bool) → (asks ≡ true → defined ≡ true) → after_label s defined cs ≡ Some (tree, rest)
+  pub covers : CoversRow tree codes
+  pub reads : (T : Tokenizer) → ahead T ≡ cs → read T ≡ done (linked_ops false tree) T
+
+-- The end of the label.
+
+-- where the last start keeps its kind
+kept-kind : (M : Tokenizer) (l : Kept.LabelStart) (ls : List Kept.LabelStart) → M.tokenize_state.label_starts ≡ l ∷ ls →
+    link_kind l.kind ≡ l.kind → kind_set (link_kind l.kind) M ≡ M
+kept-kind M l ls e same =
+    ap (λ y. scratched (starts_set y M.tokenize_state) M) (ap (with_kind (link_kind l.kind)) e ∙ ap (λ q. record l { kind = q } ∷ ls) same ∙ sym e)
+    ∙ scratched-same M
+
+-- such a start is not barred, and its label is a link's or an image's
+record Takes (l : Kept.LabelStart) : Type 0 where
+  active : bars l ≡ false
+  plain : is_footnote l.kind ≡ false
+  same : link_kind l.kind ≡ l.kind
+
+takes-by : (kind : LabelKind) (inactive : Bool) → takes_resource kind inactive ≡ true →
+    ((not (is_image kind) && inactive) ≡ false) × ((is_footnote kind ≡ false) × (link_kind kind ≡ kind))
+takes-by LabelKind.Image inactive h = (refl, (refl, refl))
+takes-by LabelKind.Link inactive h = (not-true inactive h, (refl, refl))
+takes-by LabelKind.GfmUndefinedFootnote inactive h = (not-true inactive h, (refl, refl))
+takes-by LabelKind.GfmFootnote inactive h = cc
+
+takes : (l : Kept.LabelStart) → takes_resource l.kind l.inactive ≡ true → Takes l
+takes l h = let p = takes-by l.kind l.inactive h in record { active = p.0; plain = p.1.0; same = p.1.1 }
+
+-- the label of the last of these starts, whose `]` this is, is defined, if that is asked for
+abbrev pub AnswersBy : Tokenizer → Bool → Code → List Kept.LabelStart → Type 0
+AnswersBy T asks x [] = Unit {0}
+AnswersBy T asks x (l ∷ ls) =
+    asks ≡ true → is_defined (setting_in T).definitions (identifier_of (bytes_between (setting_in T) (place_at T.events l.start.1) x.start)) ≡ true
+
+-- nothing is asked of the label
+pub asks-nothing : (T : Tokenizer) (x : Code) (ls : List Kept.LabelStart) → AnswersBy T false x ls
+asks-nothing T x [] = tt
+asks-nothing T x (l ∷ ls) = λ h. cc
+
+module _ (T : Tokenizer) (asks : Bool) (read : Tokenizer → Tokenizer) (x : Code) (later : List Code) (on : is_on T ≡ true) (bracket : is_value 93 x ≡ true) (codes : ahead T ≡ x ∷ later) (k : Follows (setting_in T) asks read later) where
+  -- past the end's own events
+  abbrev P : Tokenizer
+  P = past None (end_tree (x ∷ [])) (ended T)
+
+  end-past : done end_ops (ended T) ≡ P
+  unfolding scratched
+  end-past =
+      ops-past (end_tree (x ∷ [])) later (ended T) (IsSolid-group N.LabelEnd (leaf N.LabelMarker (x ∷ [])) (λ e. cc) (IsSolid-leaf N.LabelMarker (x ∷ []))) codes
+
+  ahead-there : ahead P ≡ later
+  unfolding scratched
+  ahead-there = ahead-past None (end_tree (x ∷ [])) (ended T) later codes
+
+  tree-codes : later ≡ leaf_codes k.tree ++ k.rest
+  tree-codes = k.whole ∙ ap (λ xs. xs ++ k.rest) (sym k.covers.1)
+
+  tail-past : read P ≡ past None k.tree P
+  tail-past = k.reads P ahead-there ∙ linked-past false k.tree k.rest P k.covers.0 (ahead-there ∙ tree-codes)
+
+  module _ (l : Kept.LabelStart) (ls : List Kept.LabelStart) (top : T.tokenize_state.label_starts ≡ l ∷ ls) (takes : Takes l) where
+    abbrev s : Setting
+    s = setting_in T
+
+    abbrev name : List ℕ
+    name = identifier_of (bytes_between s (place_at T.events l.start.1) x.start)
+
+    -- the label is defined, if that is asked for
+    abbrev Answers : Type 0
+    Answers = asks ≡ true → is_defined s.definitions name ≡ true
+
+    named : Answers → asks ≡ true → is_defined s.definitions (link_identifier l.kind name) ≡ true
+    named a h = ap (λ b. is_defined s.definitions (elim b [ true ↦ 94 ∷ name | false ↦ name ])) takes.plain ∙ a h
+
+    outcome-is : Answers → outcome_by T.tokenize_state.label_starts T (x ∷ []) later ≡ Some ((link_kind l.kind, k.tree), k.rest)
+    outcome-is a =
+        ap (λ y. outcome_by y T (x ∷ []) later) top
+        ∙ switched-on (outcome s l.kind name) (not (bars l)) later (ap not takes.active)
+        ∙ outcome-tail s l.kind name later k.tree k.rest (ap (λ z. z && is_defined s.footnotes name) takes.plain)
+        (k.holds (is_defined s.definitions (link_identifier l.kind name)) (named a))
+
+    starts-there : P.tokenize_state.label_starts ≡ l ∷ ls
+    unfolding past scratched
+    starts-there = top
+
+    ends-by : (U : Tokenizer) → Answers → U ≡ made_here (read (done end_ops (ended T))) → Ends T U
+    unfolding end_made made gives
+    ends-by U a e =
+        let there : read (done end_ops (ended T)) ≡ past None k.tree P = ap read end-past ∙ tail-past in
+        record {
+          back = x ∷ [];
+          kind = link_kind l.kind;
+          tail = k.tree;
+          rest = k.rest;
+          holds = reading-at T x later on codes bracket ∙ bind-some (outcome_by T.tokenize_state.label_starts T (x ∷ [])) _ later (link_kind l.kind, k.tree) k.rest _ (outcome-is a) refl;
+          left = e ∙ ap made_here (there ∙ ap (past None k.tree) (sym (kept-kind P l ls starts-there takes.same)));
+          whole = codes ∙ ap (λ xs. x ∷ xs) tree-codes;
+          after = ap ahead (e ∙ ap made_here there) ∙ ahead-made (past None k.tree P) ∙ ahead-past None k.tree P k.rest (ahead-there ∙ tree-codes);
+        }
+
+  -- so where the last start may make a label
+  pub ends-where : (U : Tokenizer) → may_make T.tokenize_state.label_starts ≡ true → AnswersBy T asks x T.tokenize_state.label_starts →
+      U ≡ made_here (read (done end_ops (ended T))) → Ends T U
+  ends-where U h a e = by-starts T.tokenize_state.label_starts refl h a
+    where
+      by-starts : (ls : List Kept.LabelStart) → T.tokenize_state.label_starts ≡ ls → may_make ls ≡ true → AnswersBy T asks x ls → Ends T U
+      by-starts [] top h a = cc
+      by-starts (l ∷ ls) top h a = ends-by l ls top (takes l h) U a e

@@ -1,0 +1,122 @@
+-- Where underscores between letters or digits are read as data, the trees of labels are paired to one tree, and what is asked of them holds.
+use Rattle.std.proofs.Common.{◌≡◌, ℕ, ◌+◌, ◌*◌, ◌≤◌, true, false, ◌||◌, List, [], ◌∷◌, length, Some, None, refl, sym, ◌∙◌, ap, subst, le_trans, mul-le-mul, arith, inl, inr}
+use Rattle.std.proofs.lemmas.Bool.{or_parts}
+use Rattle.std.specs.List.{count_by}
+use Rattle.markdown_attention.specs.AttentionPass.{IsProbed}
+use Rattle.markdown_attention.specs.RunsOfTree.{has_run}
+use Rattle.markdown_attention.proofs.AttentionTreeLabels.{IsGood, IsSound, good-leaf, good-labels}
+use Rattle.markdown_engine_content.specs.Codes.{Code}
+use Rattle.markdown_engine_content.specs.Tree.{Forest, leaf_then, leaf, ◌⊕◌}
+use Rattle.markdown_event.specs.declared.event.Name.TheVariants as N
+use Rattle.markdown_model.specs.BracketGroups.{paired}
+use Rattle.markdown_model.specs.InlineTree.{run_count, pair_count, opener_count, closer_count, probe_bound}
+use Rattle.markdown_model.specs.LabelEnd.{Element, plain, starts, ends}
+use Rattle.markdown_model.specs.Pairs.{pair_list}
+use Rattle.markdown_model.specs.Passes.{labels_of}
+use Rattle.markdown_model.specs.Runs.{Run, runs_of}
+use Rattle.markdown_model.specs.Setting.{Setting}
+use Rattle.markdown_model.proofs.ElementCases.{AllAre}
+use Rattle.markdown_run_text.specs.ElementsAsRead.{IsIntraword, IsReadAs, AreReadAs}
+use Rattle.markdown_run_text.specs.Row.{Row, row_end, row_then, tree_onto, element_onto, row_has_run, row_of_elements}
+use Rattle.markdown_run_text.proofs.LabelsAsRead.{labels-as-read}
+use Rattle.markdown_run_text.proofs.NeutralRunCounts.{over_rows, with-group, with-data, fewer-runs, as-many-pass}
+use Rattle.markdown_run_text.proofs.NeutralRuns.{IsNeutral, neutral_is_data, neutral_row_count, paired-inside, intraword-neutral}
+use Rattle.markdown_run_text.proofs.PastTrees.{has_run-row}
+
+-- Rows without runs.
+
+rest-runless : (t : Forest) (r : Row) → row_has_run (tree_onto t r) ≡ false → (has_run t ≡ false) × (row_has_run r ≡ false)
+rest-runless t (row_end u) h = or_parts (has_run t) (has_run u) (sym (has_run-row t u) ∙ h)
+rest-runless t (row_then u mark rest) h =
+    let p = or_parts (has_run (t ⊕ u)) (row_has_run rest) h in
+    let q = or_parts (has_run t) (has_run u) (sym (has_run-row t u) ∙ p.0) in
+    (q.0, λ i. q.1 i || p.1 i)
+
+behind-runless : (e : Element) (r : Row) → row_has_run (element_onto e r) ≡ false → row_has_run r ≡ false
+behind-runless (plain t) r h = (rest-runless t r h).1
+behind-runless (starts kind marker) r h = h
+behind-runless (ends back (Some outcome)) r h = h
+behind-runless (ends back None) r h = (rest-runless (leaf N.Data back) r h).1
+
+module _ (bytes : List ℕ) where
+  itself : (e f : Element) (r : Row) → IsReadAs bytes e f → row_has_run (element_onto e r) ≡ false → f ≡ e
+  itself e f r (inl x) h = sym x
+  itself e f r (inr x) h = absurd (no (rest-runless (leaf N.AttentionSequence (x.0 ∷ [])) r (subst (λ z. row_has_run (element_onto z r) ≡ false) x.1.1.0 h)).0)
+    where
+      no : true ≡ false → ⊥
+      no e = cc
+
+  -- where no run is among the elements, they are read as themselves
+  pub read-runless : (elements read : List Element) → AreReadAs bytes elements read → row_has_run (row_of_elements elements) ≡ false →
+      read ≡ elements
+  read-runless [] [] read_as h = refl
+  read-runless (e ∷ es) (f ∷ fs) read_as h =
+      λ i. itself e f (row_of_elements es) read_as.0 h i ∷ read-runless es fs read_as.1 (behind-runless e (row_of_elements es) h) i
+  read-runless [] (f ∷ fs) read_as h = absurd read_as
+  read-runless (e ∷ es) [] read_as h = absurd read_as
+
+  -- Sound elements.
+
+  sound-element : (e f : Element) → IsReadAs bytes e f → IsSound bytes e → IsSound bytes f
+  sound-element e f (inl x) h = subst (IsSound bytes) x h
+  sound-element e f (inr x) h = subst (IsSound bytes) (sym x.1.1.1) (good-leaf bytes N.Data (x.0 ∷ []) refl)
+
+  sound-read : (elements read : List Element) → AreReadAs bytes elements read → AllAre (IsSound bytes) elements →
+      AllAre (IsSound bytes) read
+  sound-read [] [] read_as h = tt
+  sound-read (e ∷ es) (f ∷ fs) read_as h = (sound-element e f read_as.0 h.0, sound-read es fs read_as.1 h.1)
+  sound-read [] (f ∷ fs) read_as h = absurd read_as
+  sound-read (e ∷ es) [] read_as h = absurd read_as
+
+  -- the tree of labels of what is read is as the pass of runs wants it
+  pub good-read : (elements read : List Element) → AreReadAs bytes elements read → AllAre (IsSound bytes) elements →
+      IsGood bytes (labels_of read)
+  good-read elements read read_as h = good-labels bytes read (sound-read elements read read_as h)
+
+module _ (bytes : List ℕ) (elements read : List Element) (read_as : AreReadAs bytes elements read) (s : Setting) (same_bytes : s.bytes ≡ bytes) (sound : AllAre (IsSound bytes) elements) where
+  neutral : (c : Code) → IsIntraword bytes c → c.stop.index ≡ c.start.index + 1 → IsNeutral s (c ∷ [])
+  neutral c h e = intraword-neutral s c (subst (λ x. IsIntraword x c) (sym same_bytes) h) e
+
+  -- Pairs.
+
+  pub paired-read : paired s (pair_list s) (labels_of read) ≡ paired s (pair_list s) (labels_of elements)
+  paired-read =
+      sym (labels-as-read (λ t u. paired s (pair_list s) t ≡ paired s (pair_list s) u) (λ t. refl) (λ t u v h k. h ∙ k)
+      (λ a name p q t u rest h. paired-inside s (pair_list s) name p q t u rest h a)
+      bytes (λ a c b h e. neutral_is_data s a None c [] b (neutral c h e)) elements read read_as sound)
+
+  -- Counts.
+
+  same-counts : (m : List Run → ℕ)
+      → ((a : Forest) (c : Code) (b : Forest) → IsNeutral s (c ∷ []) → m (runs_of s (a ⊕ leaf_then N.AttentionSequence None (c ∷ []) b)) ≡ m (runs_of s (a ⊕ leaf_then N.Data None (c ∷ []) b)))
+      → over_rows s m (labels_of elements) ≡ over_rows s m (labels_of read)
+  same-counts m leaves =
+      labels-as-read (λ t u. over_rows s m t ≡ over_rows s m u) (λ t. refl) (λ t u v h k. h ∙ k)
+      (λ a name p q t u rest h. omega (arith, with-group s m a name p q t rest, with-group s m a name p q u rest, h))
+      bytes (λ a c b h e. with-data s m a b (c ∷ []) (λ x y. x ≡ y) (λ k x y h. ap (λ z. z + k) h) (leaves a c b (neutral c h e))) elements read read_as sound
+
+  same-pairs : pair_count s (labels_of elements) ≡ pair_count s (labels_of read)
+  same-pairs = same-counts (λ runs. length (pair_list s runs)) (λ a c b n. neutral_row_count s a None c [] b n)
+
+  same-openers : opener_count s (labels_of elements) ≡ opener_count s (labels_of read)
+  same-openers = same-counts (count_by (λ r. r.may_open)) (λ a c b n. as-many-pass s a c [] b (λ r. r.may_open) n.may_not_open)
+
+  same-closers : closer_count s (labels_of elements) ≡ closer_count s (labels_of read)
+  same-closers = same-counts (count_by (λ r. r.may_close)) (λ a c b n. as-many-pass s a c [] b (λ r. r.may_close) n.may_not_close)
+
+  fewer : run_count s (labels_of read) ≤ run_count s (labels_of elements)
+  fewer =
+      labels-as-read (λ t u. over_rows s length u ≤ over_rows s length t) (λ t. omega arith) (λ t u v h k. le_trans k h)
+      (λ a name p q t u rest h. omega (arith, with-group s length a name p q t rest, with-group s length a name p q u rest, h))
+      bytes (λ a c b h e. with-data s length a b (c ∷ []) (λ x y. y ≤ x) (λ k x y h. omega (arith, h)) (fewer-runs s a c [] b)) elements read read_as sound
+
+  fewer-looks : (m n p : ℕ) → m ≤ n → (m + p) * m ≤ (n + p) * n
+  fewer-looks m n p h = mul-le-mul (omega (arith, h)) h
+
+  -- so many looks as are within the bounds of what is read are within those of the definition's
+  pub probed-read : (probes : ℕ) → IsProbed s (labels_of read) probes → IsProbed s (labels_of elements) probes
+  probed-read probes k = record {
+    at_least = subst (λ x. x ≤ probes) (sym same-pairs) k.at_least;
+    at_most = subst (λ x. probes ≤ x) (sym (λ i. 6 * same-openers i + same-closers i + 8 * same-pairs i)) k.at_most;
+    scan = le_trans k.scan (subst (λ x. (run_count s (labels_of read) + x) * run_count s (labels_of read) ≤ probe_bound s (labels_of elements)) same-pairs (fewer-looks (run_count s (labels_of read)) (run_count s (labels_of elements)) (pair_count s (labels_of elements)) fewer));
+  }

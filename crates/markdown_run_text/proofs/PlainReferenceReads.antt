@@ -1,0 +1,306 @@
+-- The end of a label with a plain reference is read as the definitions read it.
+use Rattle.std.proofs.Common.{◌≡◌, ◌≤◌, ℕ, suc, ◌-◌, ◌==◌, ◌&&◌, ◌||◌, not, Bool, true, false, List, [], ◌∷◌, ◌++◌, Option, None, Some, length, slice_range, take, drop, nat_le, refl, sym, ap, subst, ◌∙◌, arith, append_assoc}
+use Rattle.std.specs.Prelude.{max, nat_lt, IsUtf8, ◌<◌, is_some, IsTrue}
+use Rattle.std.specs.List.{list_any}
+use Rattle.std.specs.Str.{IsCharBoundary}
+use Rattle.std.proofs.Math.Nat.{le-max_right}
+use Rattle.std.proofs.lemmas.Bool.{not-true, or_parts}
+use Rattle.std.proofs.lemmas.Bool.Decides.{nat_tests}
+use Rattle.std.proofs.lemmas.Grind.{common_steps}
+use Rattle.std.proofs.lemmas.Option.{same_Some}
+use Rattle.markdown_event.proofs.AndParts.{and-left, and-right}
+use Rattle.markdown_engine_content.proofs.PlaceRules.{IsAhead, code_at_ahead, point_ahead}
+use Rattle.markdown_engine_content.specs.Codes.{Code, document_start, is_blank, is_line_ending, stop_of}
+use Rattle.markdown_engine_content.specs.Content.{has_no_blank_line}
+use Rattle.markdown_engine_content.specs.Place.{Place, ahead_at, code_at, exit_point, moved, point_of}
+use Rattle.markdown_engine_content.specs.Stretch.{is_free, stops, stretch}
+use Rattle.markdown_engine_content.specs.Tree.{Forest, empty, leaf, group, ◌⊕◌}
+use Rattle.markdown_event.specs.declared.event.Name.TheVariants as N
+use Rattle.markdown_event.specs.declared.event.Point.{Point}
+use Rattle.markdown_engine.specs.Operations.{ahead, applied, current_of, done, scratched}
+use Rattle.markdown_engine.specs.PastTree.{moved_by}
+use Rattle.markdown_engine.specs.declared.tokenizer.LabelStart as Kept
+use Rattle.markdown_engine.specs.declared.tokenizer.Tokenizer.{Tokenizer}
+use Rattle.markdown_engine.proofs.PlaceAfterCodes.{stop-moved}
+use Rattle.markdown_label_names.specs.IdentifierFronts.{AreCuts}
+use Rattle.markdown_label.specs.LabelEnd.{AllEndBetween, Ends, EndsBetween, StartReady, end_ops, ended, is_on, made_here}
+use Rattle.markdown_label_names.proofs.BytesBetween.{max-between, max-size}
+use Rattle.markdown_label_names.specs.LabelNames.{place_at}
+use Rattle.markdown_label_names.specs.LabelSetting.{setting_in}
+use Rattle.markdown_label.proofs.LabelEndReadings.{after-bracket, after-other, full-first}
+use Rattle.markdown_model.specs.CodeTests.{is_among, is_between, is_value, is_whitespace_code, next_is}
+use Rattle.markdown_model.specs.Grammar.{gives, one, up_to}
+use Rattle.markdown_model.specs.LabelEnd.{bytes_between, full_reference, reference_identifier, shortcut}
+use Rattle.markdown_model.specs.Resource.{counted, label, reference_names, string_group}
+use Rattle.markdown_model.specs.Setting.{Setting, is_defined}
+use Rattle.markdown_model.proofs.GrammarSteps.{after-some, bind-some, if-false, if-true, one-here, provided-true, switched-on}
+use Rattle.markdown_partial_link.proofs.BoolLemmas.{same-value}
+use Rattle.markdown_plan.specs.Characters.{ReadsText, bytes_of}
+use Rattle.markdown_plan.proofs.CharacterPlaces.{code-begins, text-places}
+use Rattle.markdown_plan.proofs.CharactersAlongContent.{text-moved}
+use Rattle.markdown_util.specs.Identifier.{identifier_of}
+use Rattle.markdown_run_text.specs.PlacesPassed.{is_some_value}
+use Rattle.markdown_run_text.specs.PlainReference.{ends_here, front_stops, is_named, label_stops, name_at, names_at, past_text, reference_here, reference_read, refers_by, text_at}
+use Rattle.markdown_run_text.specs.PlainResource.{has_markers, may_make}
+use Rattle.markdown_run_text.proofs.AttentionReads.{at-moved}
+use Rattle.markdown_run_text.proofs.ImageStarts.{first-at, some-value}
+use Rattle.markdown_run_text.proofs.LabelEndReads.{AnswersBy, Follows, asks-nothing, ends-where}
+use Rattle.markdown_run_text.proofs.PlainResourceReads.{EndsText, IsFree, IsStretch, between-covers, between-reads, between_tree, code-here, ends-text, free-here, no-blank-line, one-line, text-is, text-passed, value-here, value-is}
+
+-- The label of a full reference.
+
+label-free : (c : Code) → stops label_stops c.value ≡ false →
+    (is_value 93 c ≡ false) × ((is_value 91 c ≡ false) × ((c.value == 92) ≡ false))
+label-free c h =
+    let v : ℕ = c.value in
+    let line = or_parts (v == 10) _ h in
+    let front = or_parts (v == 91) _ line.1 in
+    let slash = or_parts (v == 92) _ front.1 in
+    let back = or_parts (v == 93) _ slash.1 in
+    (back.0, (front.0, slash.0))
+
+-- what no plain text begins with, is no part of one or whitespace
+front-free : (v : ℕ) → stops front_stops v ≡ false → (stops label_stops v ≡ false) × (((v == 32 || v == 9) || v == 10) ≡ false)
+front-free v h =
+    let line = or_parts (v == 10) _ h in
+    let tab = or_parts (v == 9) _ line.1 in
+    let space = or_parts (v == 32) _ tab.1 in
+    (rw (line.0, space.1) refl, rw (space.0, tab.0, line.0) refl)
+
+counted-most : (indent : Bool) (cs : List Code) → counted indent cs ≤ length cs
+counted-most indent [] = omega arith
+counted-most indent (c ∷ cs) = by_test (is_line_ending c) (indent && is_blank c) refl refl (counted-most true cs) (counted-most false cs)
+  where
+    by_test : (a b : Bool) → is_line_ending c ≡ a → (indent && is_blank c) ≡ b → counted true cs ≤ length cs → counted false cs ≤ length cs →
+        (elim a as (λ _. ℕ) [ true ↦ counted true cs | false ↦ elim b as (λ _. ℕ) [ true ↦ counted true cs | false ↦ suc (counted false cs) ] ]) ≤ suc (length cs)
+    by_test true b e h j k = omega (arith, j)
+    by_test false true e h j k = omega (arith, j)
+    by_test false false e h j k = omega (arith, k)
+
+le-true : (m n o : ℕ) → m ≤ n → nat_le n o ≡ true → nat_le m o ≡ true
+le-true m n o h e = grind (arith, nat_tests, common_steps)
+
+abbrev full_tree : Code → List Code → Code → Forest
+full_tree f w b = between_tree N.Reference N.ReferenceMarker N.ReferenceString f w b
+
+module _ (f t : Code) (ts : List Code) (b : Code) (rest : List Code) (k : IsStretch label_stops t ts (b ∷ rest)) (front : is_value 91 f ≡ true) (back : is_value 93 b ≡ true) (white : is_whitespace_code t ≡ false) (short : nat_le (length (t ∷ ts)) 999 ≡ true) where
+  abbrev full : List Code
+  full = f ∷ ((t ∷ ts) ++ b ∷ rest)
+
+  label-is : label reference_names full ≡ Some (full_tree f (t ∷ ts) b, rest)
+  unfolding label gives
+  label-is =
+      let line : is_line_ending b ≡ false = same-value b.value 93 back (λ v. v == 10) in
+      let filled : has_no_blank_line true ((t ∷ ts) ++ b ∷ []) ≡ true =
+      ap (λ xs. has_no_blank_line true (xs ++ b ∷ [])) (sym k.text) ∙ no-blank-line label_stops ((t ∷ ts) ++ b ∷ rest) b line in
+      let some : list_any (λ (c : Code). not (is_whitespace_code c)) (t ∷ ts) ≡ true = ap (λ x. not x || list_any (λ (c : Code). not (is_whitespace_code c)) ts) white in
+      let few : nat_le (counted false (t ∷ ts)) 999 ≡ true = le-true _ _ 999 (counted-most false (t ∷ ts)) short in
+      bind-some (one (is_value 91)) _ full (f ∷ []) ((t ∷ ts) ++ b ∷ rest) _ (one-here (is_value 91) f ((t ∷ ts) ++ b ∷ rest) front)
+      (bind-some (up_to (is_value 93) (is_among (91 ∷ 92 ∷ 93 ∷ [])) (is_value 91)) _ ((t ∷ ts) ++ b ∷ rest) (t ∷ ts) (b ∷ rest) _
+      (text-is (is_value 93) (is_among (91 ∷ 92 ∷ 93 ∷ [])) (is_value 91) label_stops label-free t ts b rest k back)
+      (after-some _ _ (b ∷ rest) [] (b ∷ rest) _ (provided-true _ (b ∷ rest) some)
+      (after-some _ _ (b ∷ rest) [] (b ∷ rest) _ (provided-true _ (b ∷ rest) few)
+      (bind-some (one (is_value 93)) _ (b ∷ rest) (b ∷ []) rest _ (one-here (is_value 93) b rest back)
+      (after-some _ _ rest [] rest _ (provided-true _ rest filled) refl)))))
+      ∙ ap (λ u. Some (group N.Reference (leaf N.ReferenceMarker (f ∷ []) ⊕ string_group N.ReferenceString u ⊕ leaf N.ReferenceMarker (b ∷ [])), rest)) (one-line label_stops t ts (b ∷ rest) k)
+
+  name-is : (s : Setting) → reference_identifier s (full_tree f (t ∷ ts) b) ≡ identifier_of (bytes_between s t.start (stop_of document_start (t ∷ ts)))
+  unfolding reference_identifier
+  name-is s = refl
+
+  full-follows : (s : Setting) → is_defined s.definitions (identifier_of (bytes_between s t.start (stop_of document_start (t ∷ ts)))) ≡ true →
+      Follows s false reference_read full
+  unfolding full_reference gives
+  full-follows s defined =
+      let tree : Forest = full_tree f (t ∷ ts) b in
+      let found : full_reference s full ≡ Some (tree, rest) =
+      bind-some (label reference_names) _ full tree rest _ label-is (switched-on (gives tree) _ rest (ap (is_defined s.definitions) (name-is s) ∙ defined)) in
+      record {
+        tree = tree;
+        codes = f ∷ ((t ∷ ts) ++ b ∷ []);
+        rest = rest;
+        whole = ap (λ xs. f ∷ xs) (sym (append_assoc (t ∷ ts) (b ∷ []) rest));
+        holds = λ (d : Bool) none. after-bracket s d full (same-value f.value 91 front (λ v. v == 40)) front ∙ full-first s d full (tree, rest) found;
+        covers = between-covers N.Reference N.ReferenceMarker N.ReferenceString f t ts b;
+        reads = λ (T : Tokenizer) (e : ahead T ≡ full).
+            if-true (is_some_value 91 (current_of T)) _ T (ap (is_some_value 91) (code_at_ahead T.cursor f _ e) ∙ front)
+            ∙ between-reads N.Reference N.ReferenceMarker N.ReferenceString label_stops f t ts b rest T k e;
+      }
+
+-- A shortcut.
+
+shortcut-follows : (s : Setting) (cs : List Code) → next_is (is_value 40) cs ≡ false → next_is (is_value 91) cs ≡ false →
+    Follows s true reference_read cs
+unfolding shortcut gives
+shortcut-follows s cs paren bracket = record {
+  tree = empty;
+  codes = [];
+  rest = cs;
+  whole = refl;
+  holds = λ (d : Bool) asked. after-other s d cs paren bracket ∙ switched-on (gives empty) d cs (asked refl);
+  covers = (tt, refl);
+  reads = λ (T : Tokenizer) (e : ahead T ≡ cs). if-false (is_some_value 91 (current_of T)) _ T (first-at 91 T.cursor ∙ ap (next_is (is_value 91)) e ∙ bracket);
+}
+
+-- The text at a place.
+
+pub record TextOf (p : Place) : Type 0 where
+  pub first : Code
+  pub more : List Code
+  pub back : Code
+  pub rest : List Code
+  pub codes : ahead_at p ≡ (first ∷ more) ++ back ∷ rest
+  pub text : IsStretch label_stops first more (back ∷ rest)
+  pub closes : back.value ≡ 93
+  pub white : is_whitespace_code first ≡ false
+  pub short : nat_le (length (first ∷ more)) 999 ≡ true
+  pub from : point_of p ≡ first.start
+  pub to : exit_point (past_text p) ≡ stop_of document_start (first ∷ more)
+
+pub text-of : (p : Place) → text_at p ≡ true → TextOf p
+text-of p h =
+    let f : IsFree front_stops (code_at p) = free-here front_stops (code_at p) (and-left _ _ h) in
+    let parts = front-free f.value f.free in
+    let free : is_free label_stops (code_at p) ≡ true = ap (is_free label_stops) f.is ∙ ap not parts.0 in
+    let ends : is_some_value 93 (code_at (past_text p)) && nat_le ((past_text p).at - p.at) 999 ≡ true = and-right (is_free front_stops (code_at p)) _ h in
+    let x : EndsText label_stops 93 p = ends-text label_stops 93 p free (value-here 93 _ (and-left _ _ ends)) in
+    let w : List Code = x.first ∷ x.more in
+    let value : x.first.value ≡ f.value = same_Some x.first.value f.value (sym (code_at_ahead p x.first _ x.codes) ∙ f.is) in
+    let past : past_text p ≡ moved_by w p = text-passed label_stops p ∙ ap (λ cs. moved_by cs p) (ap (stretch label_stops) x.codes ∙ x.text.text) in
+    let size : (past_text p).at - p.at ≡ length w = omega (arith, ap (λ (q : Place). q.at) past ∙ at-moved w p) in
+    record {
+      first = x.first;
+      more = x.more;
+      back = x.back;
+      rest = ahead_at (moved (past_text p));
+      codes = x.codes;
+      text = x.text;
+      closes = x.closes;
+      white = ap (λ v. (v == 32 || v == 9) || v == 10) value ∙ parts.1;
+      short = subst (λ n. nat_le n 999 ≡ true) size (and-right (is_some_value 93 (code_at (past_text p))) _ ends);
+      from = point_ahead p x.first _ x.codes;
+      to = ap exit_point past ∙ stop-moved document_start x.first x.more (x.back ∷ ahead_at (moved (past_text p))) p x.codes;
+    }
+
+-- Indices of the document: from one place to another, or to the same.
+
+-- both are between characters
+cuts-of : (bs : List ℕ) (i j : ℕ) → IsUtf8 bs → IsCharBoundary bs i → IsCharBoundary bs j → (start end : ℕ) → start ≡ i → end ≡ max j start → AreCuts bs start end
+cuts-of bs i j text from to start end e h =
+    subst (λ n. AreCuts bs n end) (sym e)
+    (subst (AreCuts bs i) (sym (h ∙ ap (max j) e))
+    (record { text = text; in_order = le-max_right j i; first = from; last = max-between bs i j from to }))
+
+name-between : (bs : List ℕ) (i j : ℕ) → (start end : ℕ) → start ≡ i → end ≡ max j start →
+    slice_range bs start end ≡ take (j - i) (drop i bs)
+name-between bs i j start end e h =
+    (λ k. slice_range bs (e k) ((h ∙ ap (max j) e) k)) ∙ ap (λ n. take n (drop i bs)) (max-size i j)
+
+module _ (T : Tokenizer) (text : ReadsText T) (front : is_some_value 91 (code_at (moved T.cursor)) ≡ true) (there : text_at (moved (moved T.cursor)) ≡ true) (start end : ℕ) (from : start ≡ (point_of (moved (moved T.cursor))).index) (to : end ≡ max (exit_point (past_text (moved (moved T.cursor)))).index start) where
+  pub full-cuts : AreCuts (bytes_of T) start end
+  full-cuts =
+      let p : Place = moved T.cursor in
+      let k : TextOf (moved p) = text-of (moved p) there in
+      let a : IsAhead p 91 = code-here 91 p front in
+      let places = text-places (bytes_of T) p a.code k.first k.more k.back k.rest (text-moved (bytes_of T) T.cursor text) (a.codes ∙ ap (λ cs. a.code ∷ cs) k.codes) (ap (λ v. nat_lt v 128) a.value) (ap (is_between 128 191) k.closes) in
+      cuts-of (bytes_of T) (point_of (moved p)).index (exit_point (past_text (moved p))).index text.text
+      (subst (λ (q : Point). IsCharBoundary (bytes_of T) q.index) (sym k.from) places.0)
+      (subst (λ (q : Point). IsCharBoundary (bytes_of T) q.index) (sym k.to) places.1)
+      start end from to
+
+module _ (T : Tokenizer) (ready : StartReady T) (here : is_some_value 93 (code_at T.cursor) ≡ true) (l : Kept.LabelStart) (ls : List Kept.LabelStart) (top : T.tokenize_state.label_starts ≡ l ∷ ls) where
+  last-start : EndsBetween T l
+  last-start = (subst (AllEndBetween T) top ready.within.0).0
+
+  pub start-within : l.start.1 < length T.events
+  start-within = last-start.within
+
+  module _ (start end : ℕ) (from : start ≡ (place_at T.events l.start.1).index) (to : end ≡ max (point_of T.cursor).index start) where
+    pub named-cuts : AreCuts (bytes_of T) start end
+    named-cuts =
+        let p : Place = T.cursor in
+        let a : IsAhead p 93 = code-here 93 p here in
+        let begins : IsCharBoundary (bytes_of T) a.code.start.index = code-begins (bytes_of T) p a.code _ ready.text a.codes (ap (is_between 128 191) a.value) in
+        cuts-of (bytes_of T) (place_at T.events l.start.1).index (point_of p).index ready.text.text last-start.between
+        (subst (λ (q : Point). IsCharBoundary (bytes_of T) q.index) (sym (point_ahead p a.code _ a.codes)) begins)
+        start end from to
+
+    pub named-is : is_defined (setting_in T).definitions (identifier_of (slice_range (bytes_of T) start end)) ≡ is_named T.tokenize_state.label_starts T
+    named-is =
+        ap (λ bs. is_defined (setting_in T).definitions (identifier_of bs)) (name-between (bytes_of T) (place_at T.events l.start.1).index (point_of T.cursor).index start end from to)
+        ∙ sym (ap (λ ks. is_named ks T) top)
+
+-- By what stands behind the `]`.
+
+refers-full : (T : Tokenizer) (o : Option ℕ) → is_some_value 91 o ≡ true → refers_by o T ≡ true →
+    names_at (setting_in T) (moved (moved T.cursor)) ≡ true
+refers-full T None h k = cc
+refers-full T (Some v) h k = sym (if-true (v == 91) _ _ h) ∙ k
+
+refers-own : (T : Tokenizer) (o : Option ℕ) → is_some_value 91 o ≡ false → refers_by o T ≡ true →
+    (is_some_value 40 o ≡ false) × (is_named T.tokenize_state.label_starts T ≡ true)
+refers-own T None h k = (refl, k)
+refers-own T (Some v) h k =
+    let own : not (v == 40) && is_named T.tokenize_state.label_starts T ≡ true = sym (if-false (v == 91) _ _ h) ∙ k in
+    (not-true (v == 40) (and-left _ _ own), and-right (not (v == 40)) _ own)
+
+full-here : (T : Tokenizer) → is_some_value 91 (code_at (moved T.cursor)) ≡ true → names_at (setting_in T) (moved (moved T.cursor)) ≡ true →
+    Follows (setting_in T) false reference_read (ahead_at (moved T.cursor))
+full-here T front h =
+    let s : Setting = setting_in T in
+    let p : Place = moved T.cursor in
+    let f : IsAhead p 91 = code-here 91 p front in
+    let k : TextOf (moved p) = text-of (moved p) (and-left _ _ h) in
+    let defined : is_defined s.definitions (name_at s (moved p)) ≡ true = and-right (text_at (moved p)) _ h in
+    subst (Follows s false reference_read) (sym (f.codes ∙ ap (λ cs. f.code ∷ cs) k.codes))
+    (full-follows f.code k.first k.more k.back k.rest k.text (value-is f.code 91 f.value) (value-is k.back 93 k.closes) k.white k.short s
+    (sym (λ i. is_defined s.definitions (identifier_of (bytes_between s (k.from i) (k.to i)))) ∙ defined))
+
+own-answers : (T : Tokenizer) (x : Code) → point_of T.cursor ≡ x.start → (ls : List Kept.LabelStart) → is_named ls T ≡ true → AnswersBy T true x ls
+own-answers T x e [] h = tt
+own-answers T x e (l ∷ ls) h = λ asked.
+    sym (ap (λ q. is_defined (setting_in T).definitions (identifier_of (bytes_between (setting_in T) (place_at T.events l.start.1) q))) e) ∙ h
+
+-- where one stands, it is read
+pub reference-ends : (T U : Tokenizer) → reference_here T ≡ true → U ≡ made_here (reference_read (done end_ops (ended T))) → Ends T U
+reference-ends T U h left = by_test (is_some_value 91 (code_at (moved T.cursor))) refl
+  where
+    p : Place
+    p = T.cursor
+
+    here : ends_here T ≡ true
+    here = and-left (ends_here T) _ h
+
+    refers : refers_by (code_at (moved p)) T ≡ true
+    refers = and-right (ends_here T) _ h
+
+    may : may_make T.tokenize_state.label_starts ≡ true
+    may = and-left (may_make T.tokenize_state.label_starts) _ (and-right (is_on T) _ here)
+
+    x : IsAhead p 93
+    x = code-here 93 p (and-right (may_make T.tokenize_state.label_starts) _ (and-right (is_on T) _ here))
+
+    by_test : (b : Bool) → is_some_value 91 (code_at (moved p)) ≡ b → Ends T U
+    by_test true e =
+        ends-where T false reference_read x.code (ahead_at (moved p)) (and-left (is_on T) _ here) (value-is x.code 93 x.value) x.codes
+        (full-here T e (refers-full T (code_at (moved p)) e refers)) U may (asks-nothing T x.code T.tokenize_state.label_starts) left
+    by_test false e =
+        let own = refers-own T (code_at (moved p)) e refers in
+        ends-where T true reference_read x.code (ahead_at (moved p)) (and-left (is_on T) _ here) (value-is x.code 93 x.value) x.codes
+        (shortcut-follows (setting_in T) (ahead_at (moved p)) (sym (first-at 40 (moved p)) ∙ own.0) (sym (first-at 91 (moved p)) ∙ e)) U may
+        (own-answers T x.code (point_ahead p x.code _ x.codes) T.tokenize_state.label_starts own.1) left
+
+-- so where the end is read: behind a `[` there the text of a full reference stands, and a code
+pub markers-there : (T U : Tokenizer) → reference_here T ≡ true → U ≡ done end_ops (ended T) → IsTrue (is_some_value 91 (code_at U.cursor)) →
+    has_markers label_stops U.cursor ≡ true
+unfolding applied scratched
+markers-there T U h e k =
+    let p : Place = moved T.cursor in
+    let there : U.cursor ≡ p = ap (λ (x : Tokenizer). x.cursor) e in
+    let front : is_some_value 91 (code_at p) ≡ true = ap (λ q. is_some_value 91 (code_at q)) (sym there) ∙ k in
+    let named : names_at (setting_in T) (moved p) ≡ true = refers-full T (code_at p) front (and-right (ends_here T) _ h) in
+    let text : text_at (moved p) ≡ true = and-left _ _ named in
+    let back : is_some_value 93 (code_at (past_text (moved p))) ≡ true = and-left _ _ (and-right (is_free front_stops (code_at (moved p))) _ text) in
+    let first : is_some (code_at p) ≡ true = some-value 91 (code_at p) front in
+    let last : is_some (code_at (past_text (moved p))) ≡ true = some-value 93 (code_at (past_text (moved p))) back in
+    ap (has_markers label_stops) there ∙ (λ i. first i && last i)

@@ -1,0 +1,26 @@
+use Rattle.std.proofs.Common.{ap, ◌∙◌}
+use Rattle.std.specs.Prelude.{max}
+use Rattle.std.proofs.lemmas.Result.{IfOk-weaker}
+use Rattle.markdown_event.specs.declared.event.Point.{Point}
+use Rattle.markdown_engine.specs.declared.tokenizer.Tokenizer.{Tokenizer}
+use Rattle.markdown_label_names.proofs.BytesBetween.{place-lent}
+use Rattle.markdown_run_text.proofs.PlainReferenceReads.{named-cuts, named-is, start-within}
+use Rattle.markdown_run_text.proofs.readers.label_end_reference.is_named.Goals as goal
+
+pub is_defined_from-requires-clause-cuts : goal.is_defined_from-requires-clause-cuts
+is_defined_from-requires-clause-cuts c =
+    let T : Tokenizer = c.args.tokenizer.now in
+    let l = c.in-Some.top.now in
+    named-cuts T c.requires.ready c.requires.here l _ c.in-Some.ensures c.at.result.now.point.index c.max-end.result
+    (ap (λ (q : Point). q.index) (place-lent T.events l.start.1 c.at.result.now (start-within T c.requires.ready c.requires.here l _ c.in-Some.ensures) c.at.ensures))
+    (c.max-end.ensures ∙ ap (λ (q : Point). max q.index c.at.result.now.point.index) c.point.ensures)
+
+pub returns-clause-named : goal.returns-clause-named
+returns-clause-named c =
+    let T : Tokenizer = c.args.tokenizer.now in
+    let l = c.in-Some.top.now in
+    IfOk-weaker c.is_defined_from.result _ _
+    (λ named k. k ∙ named-is T c.requires.ready c.requires.here l _ c.in-Some.ensures c.at.result.now.point.index c.max-end.result
+    (ap (λ (q : Point). q.index) (place-lent T.events l.start.1 c.at.result.now (start-within T c.requires.ready c.requires.here l _ c.in-Some.ensures) c.at.ensures))
+    (c.max-end.ensures ∙ ap (λ (q : Point). max q.index c.at.result.now.point.index) c.point.ensures))
+    c.is_defined_from.ensures.defined

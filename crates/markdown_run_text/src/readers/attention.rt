@@ -1,0 +1,69 @@
+//! Runs of markers (CommonMark 6.2, GFM 6.5), read whole.
+#![tactic(auto, using(markdown_engine::proofs::OperationFields::law_rules), unfolding(markdown_engine::specs::Operations::scratched))]
+
+ghost use Rattle.std.specs.Prelude.{◌≡◌, IfOk, OnErr, IsTrue, None, Some};
+ghost use Rattle.markdown_engine.specs.Operations.{current_of};
+ghost use Rattle.markdown_state.specs.declared.resolve.ResolveName.TheVariants as R;
+ghost use Rattle.markdown_engine_content.specs.Place.{code_at};
+ghost use Rattle.markdown_model.specs.SingleConstructs.{attention_here, begins_run};
+ghost use Rattle.markdown_run_text.specs.PlacesPassed.{is_some_value, past_run};
+ghost use Rattle.markdown_run_text.specs.ReaderEnds.{ReadsOrStays, options_here};
+
+use markdown_engine::tokenizer::Tokenizer;
+use markdown_engine_content::configuration::Constructs;
+use markdown_engine_content::cursor::Cursor;
+use markdown_event::event::Name;
+use markdown_state::resolve::ResolveName;
+use std::alloc::AllocError;
+
+// Whether a run may begin with this byte.
+fn begins_run(constructs: Constructs, byte: u8) -> bool
+    ensures { result ≡ begins_run constructs byte }
+{
+    match byte {
+        b'*' | b'_' => constructs.attention,
+        b'~' => constructs.gfm_strikethrough,
+        _ => false,
+    }
+}
+
+// Whether this code is at the place.
+pub(crate) fn is_at(cursor: &Cursor, code: u8) -> bool
+    ensures { result ≡ is_some_value code (code_at cursor.now) }
+{
+    match cursor.current() {
+        Some(byte) => byte == code,
+        None => false,
+    }
+}
+
+// Moves past the codes at the place that are this marker.
+#[inline(always)]
+pub(crate) fn pass_markers(cursor: &mut Cursor, marker: u8)
+    ensures { cursor.new ≡ past_run marker cursor.old }
+{
+    while is_at(cursor, marker) {
+        cursor.consume();
+    }
+}
+
+/// Reads the run of the marker at hand, which is given. Answers whether one is read: `*` and `_` begin one where `attention` is on, and `~`
+/// where `gfm_strikethrough` is.
+///
+/// A run is as long as it can be: an `AttentionSequence`. The pass that pairs runs is registered behind it.
+///
+/// Where none is read, the tokenizer is as before. The error comes where a growth is refused; then `failed` is true.
+pub fn read(tokenizer: &mut Tokenizer, marker: u8) -> Result<bool, AllocError>
+    requires { current_of tokenizer.old ≡ Some marker }
+    ensures reads { IfOk result (λ ok. ReadsOrStays (Some R.Attention) (attention_here (options_here tokenizer.old)) None tokenizer.old.tokenize_state tokenizer.old ok tokenizer.new) }
+    ensures err { OnErr result (IsTrue tokenizer.new.failed) }
+{
+    if !begins_run(tokenizer.parse_state.options.constructs, marker) {
+        return Ok(false);
+    }
+    tokenizer.enter(Name::AttentionSequence)?;
+    pass_markers(&mut tokenizer.cursor, marker);
+    tokenizer.exit(Name::AttentionSequence)?;
+    tokenizer.register_resolver(ResolveName::Attention)?;
+    Ok(true)
+}

@@ -1,0 +1,195 @@
+//! Character references (CommonMark 2.5), read whole.
+#![tactic(auto, using(markdown_engine::proofs::OperationFields::op_rules))]
+
+ghost use Rattle.std.specs.Prelude.{◌≡◌, IfOk, OnOk, OnErr, IsTrue, IfSome};
+ghost use Rattle.std.specs.List.{list_all};
+ghost use Rattle.markdown_engine.specs.Operations.{done};
+ghost use Rattle.markdown_leaf.specs.CharacterReference.{has_value};
+ghost use Rattle.markdown_model.specs.SingleConstructs.{character_reference_here};
+ghost use Rattle.markdown_run_text.specs.ReaderEnds.{ReadsOrLeaves, options_here};
+ghost use Rattle.markdown_run_text.specs.ReferencePassed.{AreInk, HasSigns, Stands, codes_before, is_frequent, kind_if, kind_of, reference_read, reference_stops, sign_ops, value_read};
+ghost use Rattle.markdown_util.specs.Reference.{IsMarker, html_5_rows, is_value, is_value_byte};
+
+use crate::readers::attention::is_at;
+use crate::readers::events::{append_enter, append_exit, append_leaf, read_marker};
+use markdown_engine::tokenizer::Tokenizer;
+use markdown_engine_content::byte_table;
+use markdown_engine_content::bytes::{ByteSet, ByteTable};
+use markdown_engine_content::cursor::Cursor;
+use markdown_engine_content::util::slice::Slice;
+use markdown_event::event::Name;
+use markdown_util::util::character_reference::{decode_named, value_max, value_test};
+use std::alloc::AllocError;
+use std::str;
+
+const STOPS: ByteTable = byte_table!(0, b' ', b'&', b';'; controls);
+
+// The bytes at which what may stand between a `&` and its `;` ends.
+#[inline(always)]
+fn stops() -> ByteSet
+    ensures { result ≡ reference_stops }
+{
+    ByteSet::new(&STOPS)
+}
+
+// This kind, if it holds.
+fn kind_if(marker: u8, holds: bool) -> Option<u8>
+    ensures { result ≡ kind_if marker holds }
+{
+    if holds { Some(marker) } else { None }
+}
+
+// Whether a value of this kind may have each of these bytes.
+fn are_of_kind(marker: u8, bytes: &[u8]) -> bool
+    requires { IsMarker marker }
+    ensures { result ≡ list_all (is_value_byte marker) bytes.now }
+{
+    bytes.iter().all(|byte| value_test(marker, *byte))
+}
+
+// Whether these bytes are a value of this kind.
+fn is_value(marker: u8, bytes: &[u8]) -> bool
+    requires { IsMarker marker }
+    ensures { result ≡ is_value marker bytes.now }
+{
+    !bytes.is_empty() && bytes.len() <= value_max(marker) && are_of_kind(marker, bytes)
+}
+
+// Whether these bytes are one of the names that most references have.
+fn is_frequent(bytes: &[u8]) -> bool
+    ensures { result ≡ is_frequent bytes.now }
+{
+    bytes == b"amp".as_slice()
+        || bytes == b"lt".as_slice()
+        || bytes == b"gt".as_slice()
+        || bytes == b"quot".as_slice()
+        || bytes == b"nbsp".as_slice()
+}
+
+// Whether these bytes are a name of the table.
+#[inline(never)]
+fn is_listed(bytes: &[u8]) -> bool
+    ensures { result ≡ has_value html_5_rows bytes.now }
+{
+    match str::from_utf8(bytes) {
+        Ok(name) => decode_named(name, true).is_some(),
+        Err(_) => false,
+    }
+}
+
+// Whether these bytes are a name of the table. Those that most references have are not looked up.
+fn is_name(bytes: &[u8]) -> bool
+    ensures { result ≡ has_value html_5_rows bytes.now }
+{
+    is_frequent(bytes) || is_listed(bytes)
+}
+
+// Of which kind a reference is, if it is one, by the bytes between its `&` and its `;`.
+fn kind_of(bytes: &[u8]) -> Option<u8>
+    ensures { result ≡ kind_of bytes.now }
+{
+    match bytes {
+        [] => None,
+        [b'#', b'x' | b'X', digits @ ..] => kind_if(b'x', is_value(b'x', digits)),
+        [b'#', digits @ ..] => kind_if(b'#', is_value(b'#', digits)),
+        _ => kind_if(b'&', is_name(bytes)),
+    }
+}
+
+// Of which kind a reference is, if it is one, by so many codes before the place, its `;`.
+fn kind_before(cursor: &Cursor, size: usize) -> Option<u8>
+    requires { AreInk size cursor.now }
+    ensures { result ≡ kind_of (codes_before size cursor.now) }
+{
+    let bytes = cursor.document();
+    let end = cursor.point().index;
+    let inner = Slice::from_indices(bytes, end - size, end);
+    kind_of(inner.bytes)
+}
+
+// Moves from the `&` at the place to the `;` of its reference, and answers of which kind this is. Where none is seen to stand, the place that is
+// left is any.
+fn pass_value(behind: &mut Cursor) -> Option<u8>
+    ensures { IfSome result (λ marker. Stands marker behind.old behind.new) }
+{
+    if !is_at(behind, b'&') {
+        return None;
+    }
+    behind.consume();
+    let from = behind.passed();
+    behind.consume_stretch(&stops());
+    if !is_at(behind, b';') {
+        return None;
+    }
+    let size = behind.passed() - from;
+    kind_before(behind, size)
+}
+
+// Reads the signs of a number.
+fn read_signs(tokenizer: &mut Tokenizer, marker: u8) -> Result<(), AllocError>
+    requires { HasSigns marker tokenizer.old.cursor }
+    ensures ok { OnOk result (tokenizer.new ≡ done (sign_ops marker) tokenizer.old) }
+    ensures err { OnErr result (IsTrue tokenizer.new.failed) }
+{
+    if marker == b'&' {
+        return Ok(());
+    }
+    read_marker(tokenizer, Name::CharacterReferenceMarkerNumeric)?;
+    if marker == b'x' {
+        return read_marker(tokenizer, Name::CharacterReferenceMarkerHexadecimal);
+    }
+    Ok(())
+}
+
+// Reads a value up to this place.
+#[inline(always)]
+fn read_value<'a>(tokenizer: &mut Tokenizer<'a>, behind: Cursor<'a>) -> Result<(), AllocError>
+    ensures ok { OnOk result (tokenizer.new ≡ value_read behind.entry tokenizer.old) }
+    ensures err { OnErr result (IsTrue tokenizer.new.failed) }
+{
+    let from = tokenizer.point();
+    tokenizer.cursor = behind;
+    append_leaf(tokenizer, Name::CharacterReferenceValue, from)
+}
+
+// Reads the reference at hand, of this kind, whose `;` is at this place.
+#[tactic(auto, unfolding(markdown_engine::specs::Operations::applied))]
+fn append<'a>(
+    tokenizer: &mut Tokenizer<'a>,
+    marker: u8,
+    behind: Cursor<'a>,
+) -> Result<(), AllocError>
+    requires { Stands marker tokenizer.old.cursor behind }
+    ensures ok { OnOk result (tokenizer.new ≡ reference_read marker behind.entry tokenizer.old) }
+    ensures err { OnErr result (IsTrue tokenizer.new.failed) }
+{
+    append_enter(tokenizer, Name::CharacterReference, tokenizer.point())?;
+    read_marker(tokenizer, Name::CharacterReferenceMarker)?;
+    read_signs(tokenizer, marker)?;
+    read_value(tokenizer, behind)?;
+    read_marker(tokenizer, Name::CharacterReferenceMarkerSemi)?;
+    append_exit(tokenizer, Name::CharacterReference)
+}
+
+/// Reads the character reference at hand: a `&`, a name of the table or a number, and a `;`. Answers whether one is read; none is where
+/// `character_reference` is off.
+///
+/// Its events are a `CharacterReference` with a `CharacterReferenceMarker`, a `CharacterReferenceValue` and a `CharacterReferenceMarkerSemi`.
+/// Before the value, a number has a `CharacterReferenceMarkerNumeric`, and a hexadecimal one a `CharacterReferenceMarkerHexadecimal` too.
+///
+/// Where none is read, the tokenizer is as before, and nothing is said of what stands there. The error comes where a growth is refused; then
+/// `failed` is true.
+pub fn read(tokenizer: &mut Tokenizer) -> Result<bool, AllocError>
+    ensures reads { IfOk result (λ ok. ReadsOrLeaves (character_reference_here (options_here tokenizer.old) html_5_rows) tokenizer.old ok tokenizer.new) }
+    ensures err { OnErr result (IsTrue tokenizer.new.failed) }
+{
+    if !tokenizer.parse_state.options.constructs.character_reference {
+        return Ok(false);
+    }
+    let mut behind = tokenizer.cursor.save();
+    let Some(marker) = pass_value(&mut behind) else {
+        return Ok(false);
+    };
+    append(tokenizer, marker, behind)?;
+    Ok(true)
+}

@@ -1,0 +1,128 @@
+// Events that readers append at once: none of them is ever among the open events.
+//
+// Each function answers the error where a growth is refused; then `failed` is true.
+#![tactic(auto, using(markdown_engine::proofs::OperationFields::op_rules))]
+
+ghost use Rattle.std.specs.Prelude.{◌≡◌, ◌++◌, ◌∷◌, [], OnOk, OnErr, IsTrue, None};
+ghost use Rattle.markdown_engine.specs.Operations.{HasCode, done};
+ghost use Rattle.markdown_engine_events.specs.EventChains.{IsFresh};
+ghost use Rattle.markdown_run_text.specs.PlacesPassed.{marker_ops, with_enter, with_exit, with_leaf, with_string};
+ghost use Rattle.markdown_run_text.specs.PlainSpan.{with_exit_at};
+
+use markdown_engine::tokenizer::Tokenizer;
+use markdown_event::event::{Content, Event, Kind, Link, Name, Point};
+use std::alloc::AllocError;
+
+// The link of text that is read as a string, the first of its chain.
+const STRING: Link = Link {
+    previous: None,
+    next: None,
+    content: Content::String,
+};
+
+// Appends an event; a refused growth is kept in mind.
+#[inline(always)]
+fn append(tokenizer: &mut Tokenizer, event: Event) -> Result<(), AllocError>
+    requires { IsFresh event }
+    ensures ok { OnOk result (tokenizer.new ≡ record tokenizer.old { events = tokenizer.old.events ++ event ∷ [] }) }
+    ensures err { OnErr result (IsTrue tokenizer.new.failed) }
+{
+    let appended = tokenizer.events.push(event);
+    tokenizer.noted(appended)
+}
+
+// Appends an Enter at this point.
+#[inline(always)]
+pub(crate) fn append_enter(
+    tokenizer: &mut Tokenizer,
+    name: Name,
+    point: Point,
+) -> Result<(), AllocError>
+    ensures ok { OnOk result (tokenizer.new ≡ with_enter name None point tokenizer.old) }
+    ensures err { OnErr result (IsTrue tokenizer.new.failed) }
+{
+    let enter = Event {
+        kind: Kind::Enter,
+        name,
+        point,
+        link: None,
+    };
+    append(tokenizer, enter)
+}
+
+// Appends an Exit where the code before the place ends.
+#[inline(always)]
+pub(crate) fn append_exit(tokenizer: &mut Tokenizer, name: Name) -> Result<(), AllocError>
+    ensures ok { OnOk result (tokenizer.new ≡ with_exit name tokenizer.old) }
+    ensures err { OnErr result (IsTrue tokenizer.new.failed) }
+{
+    let exit = Event {
+        kind: Kind::Exit,
+        name,
+        point: tokenizer.cursor.exit_point(),
+        link: None,
+    };
+    append(tokenizer, exit)
+}
+
+// Appends an Exit at this point.
+#[inline(always)]
+pub(crate) fn append_exit_at(
+    tokenizer: &mut Tokenizer,
+    name: Name,
+    point: Point,
+) -> Result<(), AllocError>
+    ensures ok { OnOk result (tokenizer.new ≡ with_exit_at name point tokenizer.old) }
+    ensures err { OnErr result (IsTrue tokenizer.new.failed) }
+{
+    let exit = Event {
+        kind: Kind::Exit,
+        name,
+        point,
+        link: None,
+    };
+    append(tokenizer, exit)
+}
+
+// Appends the events of a leaf from this point to where the code before the place ends.
+#[inline(always)]
+pub(crate) fn append_leaf(
+    tokenizer: &mut Tokenizer,
+    name: Name,
+    from: Point,
+) -> Result<(), AllocError>
+    ensures ok { OnOk result (tokenizer.new ≡ with_leaf name from tokenizer.old) }
+    ensures err { OnErr result (IsTrue tokenizer.new.failed) }
+{
+    append_enter(tokenizer, name, from)?;
+    append_exit(tokenizer, name)
+}
+
+// Appends the events of data from this point to where the code before the place ends, which is linked as a string, the first of its chain.
+#[inline(always)]
+pub(crate) fn append_string(tokenizer: &mut Tokenizer, from: Point) -> Result<(), AllocError>
+    ensures ok { OnOk result (tokenizer.new ≡ with_string from tokenizer.old) }
+    ensures err { OnErr result (IsTrue tokenizer.new.failed) }
+{
+    let enter = Event {
+        kind: Kind::Enter,
+        name: Name::Data,
+        point: from,
+        link: Some(STRING),
+    };
+    append(tokenizer, enter)?;
+    append_exit(tokenizer, Name::Data)
+}
+
+// Reads the code at hand as a leaf.
+#[inline(always)]
+#[tactic(auto, unfolding(markdown_engine::specs::Operations::applied))]
+pub(crate) fn read_marker(tokenizer: &mut Tokenizer, name: Name) -> Result<(), AllocError>
+    requires { HasCode tokenizer.old }
+    ensures ok { OnOk result (tokenizer.new ≡ done (marker_ops name) tokenizer.old) }
+    ensures err { OnErr result (IsTrue tokenizer.new.failed) }
+{
+    let from = tokenizer.point();
+    tokenizer.consume();
+    append_leaf(tokenizer, name, from)
+}

@@ -1,0 +1,180 @@
+// Ends of labels with a plain reference (CommonMark 6.3), read whole: a full reference whose text stands on one line, or a shortcut.
+//
+// No blank code begins the text of a plain full reference, and no backslash stands in it. A text stops at the bracket that the next one begins
+// behind, so no two that are looked through overlap. What is not defined is looked up once more by the states.
+#![tactic(auto, using(markdown_engine::proofs::OperationFields::op_rules))]
+
+ghost use Rattle.std.specs.Prelude.{◌≡◌, ◌&&◌, true, IfOk, OnOk, OnErr, IsTrue};
+ghost use Rattle.std.specs.Str.{byte};
+ghost use Rattle.markdown_engine_content.specs.Place.{code_at, moved};
+ghost use Rattle.markdown_label.specs.LabelEnd.{Ends, StartReady};
+ghost use Rattle.markdown_label_names.specs.LabelSetting.{setting_in};
+ghost use Rattle.markdown_run_text.specs.PlacesPassed.{is_some_value};
+ghost use Rattle.markdown_run_text.specs.PlainReference.{ends_here, front_stops, is_named, label_stops, names_at, past_text, reference_here, reference_read, refers_by, text_at};
+ghost use Rattle.markdown_run_text.specs.PlainResource.{EndsOrStays, has_markers};
+
+use crate::readers::label_end::{is_free, is_same, may_make, read_between, read_end};
+use markdown_engine::tokenizer::Tokenizer;
+use markdown_engine_content::byte_table;
+use markdown_engine_content::bytes::{ByteSet, ByteTable};
+use markdown_engine_content::cursor::Cursor;
+use markdown_event::event::Name;
+use markdown_label::label_end;
+use markdown_label_names::identifier::is_defined_from;
+use std::alloc::AllocError;
+
+// How many codes the text of a reference has at most.
+const MOST: usize = 999;
+
+const LABEL_STOPS: ByteTable = byte_table!(b'[', b'\\', b']');
+
+const FRONT_STOPS: ByteTable = byte_table!(b'\t', b' ', b'[', b'\\', b']');
+
+// The bytes at which the text of a reference ends, or is not plain.
+#[inline(always)]
+fn label_stops() -> ByteSet
+    ensures { result ≡ label_stops }
+{
+    ByteSet::new(&LABEL_STOPS)
+}
+
+// The bytes with which no plain text begins.
+#[inline(always)]
+fn front_stops() -> ByteSet
+    ensures { result ≡ front_stops }
+{
+    ByteSet::new(&FRONT_STOPS)
+}
+
+// Moves past the plain text at the place, and answers whether one stands there, up to a `]`.
+fn pass_text(cursor: &mut Cursor) -> bool
+    ensures holds { result ≡ text_at cursor.old }
+    ensures place { IsTrue result → cursor.new ≡ past_text cursor.old }
+{
+    if !is_free(cursor.current(), &front_stops()) {
+        return false;
+    }
+    let before = cursor.passed();
+    cursor.consume_stretch(&label_stops());
+    is_same(cursor.current(), b']') && cursor.passed().saturating_sub(before) <= MOST
+}
+
+// Whether behind the `][` at the place a plain text stands that names a definition.
+fn is_full(tokenizer: &mut Tokenizer) -> Result<bool, AllocError>
+    requires ready { StartReady tokenizer.old }
+    requires here { is_some_value (byte "]") (code_at tokenizer.old.cursor) && is_some_value (byte "[") (code_at (moved tokenizer.old.cursor)) ≡ true }
+    ensures full { IfOk result (λ full. full ≡ names_at (setting_in tokenizer.old) (moved (moved tokenizer.old.cursor))) }
+    ensures same { OnOk result (tokenizer.new ≡ tokenizer.old) }
+    ensures err { OnErr result (IsTrue tokenizer.new.failed) }
+{
+    let mut place = tokenizer.cursor.save();
+    place.consume();
+    place.consume();
+    let start = place.point().index;
+    if !pass_text(&mut place) {
+        return Ok(false);
+    }
+    let end = place.exit_point().index.max(start);
+    is_defined_from(tokenizer, start, end)
+}
+
+// Whether the label before the `]` at the place names a definition itself.
+fn is_named(tokenizer: &mut Tokenizer) -> Result<bool, AllocError>
+    requires ready { StartReady tokenizer.old }
+    requires here { is_some_value (byte "]") (code_at tokenizer.old.cursor) ≡ true }
+    ensures named { IfOk result (λ named. named ≡ is_named tokenizer.old.tokenize_state.label_starts tokenizer.old) }
+    ensures same { OnOk result (tokenizer.new ≡ tokenizer.old) }
+    ensures err { OnErr result (IsTrue tokenizer.new.failed) }
+{
+    let Some(top) = tokenizer.tokenize_state.label_starts.top() else {
+        return Ok(false);
+    };
+    let start = tokenizer.events.at(top.start.1).point.index;
+    let end = tokenizer.cursor.point().index.max(start);
+    is_defined_from(tokenizer, start, end)
+}
+
+// Whether what follows the `]` at the place names a definition, or where it cannot, the label before it does.
+fn refers(tokenizer: &mut Tokenizer) -> Result<bool, AllocError>
+    requires ready { StartReady tokenizer.old }
+    requires here { is_some_value (byte "]") (code_at tokenizer.old.cursor) ≡ true }
+    ensures refers { IfOk result (λ refers. refers ≡ refers_by (code_at (moved tokenizer.old.cursor)) tokenizer.old) }
+    ensures same { OnOk result (tokenizer.new ≡ tokenizer.old) }
+    ensures err { OnErr result (IsTrue tokenizer.new.failed) }
+{
+    match tokenizer.cursor.next() {
+        Some(b'[') => is_full(tokenizer),
+        Some(b'(') => Ok(false),
+        _ => is_named(tokenizer),
+    }
+}
+
+// Whether ends are on, and the `]` of one is at the place that may make a label.
+fn may_end(tokenizer: &Tokenizer) -> bool
+    ensures { result ≡ ends_here tokenizer.now }
+{
+    tokenizer.parse_state.options.constructs.label_end
+        && may_make(tokenizer)
+        && is_same(tokenizer.cursor.current(), b']')
+}
+
+// Whether ends are on, and one with a plain reference is at the place, which names a definition.
+fn is_here(tokenizer: &mut Tokenizer) -> Result<bool, AllocError>
+    requires { StartReady tokenizer.old }
+    ensures here { IfOk result (λ here. here ≡ reference_here tokenizer.old) }
+    ensures same { OnOk result (tokenizer.new ≡ tokenizer.old) }
+    ensures err { OnErr result (IsTrue tokenizer.new.failed) }
+{
+    if !may_end(tokenizer) {
+        return Ok(false);
+    }
+    refers(tokenizer)
+}
+
+// Reads the full reference at hand, if a `[` is there.
+fn read_reference(tokenizer: &mut Tokenizer) -> Result<(), AllocError>
+    requires { IsTrue (is_some_value (byte "[") (code_at tokenizer.old.cursor)) → has_markers label_stops tokenizer.old.cursor ≡ true }
+    ensures ok { OnOk result (tokenizer.new ≡ reference_read tokenizer.old) }
+    ensures err { OnErr result (IsTrue tokenizer.new.failed) }
+{
+    if !is_same(tokenizer.cursor.current(), b'[') {
+        return Ok(());
+    }
+    read_between(
+        tokenizer,
+        Name::Reference,
+        Name::ReferenceMarker,
+        Name::ReferenceString,
+        &label_stops(),
+    )
+}
+
+// Reads the end at hand, and the plain reference behind it. The last start makes a label.
+fn read_here(tokenizer: &mut Tokenizer) -> Result<(), AllocError>
+    requires ready { StartReady tokenizer.old }
+    requires here { reference_here tokenizer.old ≡ true }
+    ensures ok { OnOk result (Ends tokenizer.old tokenizer.new) }
+    ensures err { OnErr result (IsTrue tokenizer.new.failed) }
+{
+    tokenizer.tokenize_state.end = tokenizer.events.len();
+    read_end(tokenizer)?;
+    read_reference(tokenizer)?;
+    let _made = label_end::ok(tokenizer)?;
+    Ok(())
+}
+
+// Reads the end of a label at hand, where a plain reference stands behind its `]`, or the label is a shortcut. Answers whether one is read.
+//
+// Where none is read, the tokenizer is as before. The error comes where memory is refused; then `failed` is true.
+pub(crate) fn read(tokenizer: &mut Tokenizer) -> Result<bool, AllocError>
+    requires { StartReady tokenizer.old }
+    ensures here { IfOk result (λ ok. ok ≡ reference_here tokenizer.old) }
+    ensures reads { IfOk result (λ ok. EndsOrStays tokenizer.old ok tokenizer.new) }
+    ensures err { OnErr result (IsTrue tokenizer.new.failed) }
+{
+    if !is_here(tokenizer)? {
+        return Ok(false);
+    }
+    read_here(tokenizer)?;
+    Ok(true)
+}

@@ -1,0 +1,53 @@
+//! The starts of links (CommonMark 6.3), read whole.
+#![tactic(auto)]
+
+ghost use Rattle.std.specs.Prelude.{◌≡◌, IfOk, OnOk, OnErr, IsTrue};
+ghost use Rattle.markdown_engine.specs.Operations.{HasCode, done};
+ghost use Rattle.markdown_label.specs.LabelStarts.{link_ops};
+ghost use Rattle.markdown_model.specs.SingleConstructs.{label_start_link_here};
+ghost use Rattle.markdown_run_text.specs.PlacesPassed.{link_here};
+ghost use Rattle.markdown_run_text.specs.ReaderEnds.{BeginsOrStays, options_here};
+
+use crate::readers::attention::is_at;
+use crate::readers::events::{append_enter, append_exit, read_marker};
+use markdown_engine::tokenizer::{LabelKind, Tokenizer};
+use markdown_event::event::Name;
+use markdown_label::starts::keep_start;
+use std::alloc::AllocError;
+
+// Whether starts of links are on, and one is at the place: a `[`.
+fn is_here(tokenizer: &Tokenizer) -> bool
+    ensures { result ≡ link_here tokenizer.now }
+{
+    tokenizer.parse_state.options.constructs.label_start_link && is_at(&tokenizer.cursor, b'[')
+}
+
+// Reads the `[` at hand.
+#[tactic(auto, unfolding(markdown_engine::specs::Operations::applied))]
+fn read_front(tokenizer: &mut Tokenizer) -> Result<(), AllocError>
+    requires { HasCode tokenizer.old }
+    ensures ok { OnOk result (tokenizer.new ≡ done link_ops tokenizer.old) }
+    ensures err { OnErr result (IsTrue tokenizer.new.failed) }
+{
+    append_enter(tokenizer, Name::LabelLink, tokenizer.point())?;
+    read_marker(tokenizer, Name::LabelMarker)?;
+    append_exit(tokenizer, Name::LabelLink)
+}
+
+/// Reads the start of a link at hand, its `[`, and keeps it until an end takes it. Answers whether one is read; none is where
+/// `label_start_link` is off.
+///
+/// Its events are a `LabelLink` with a `LabelMarker`. The pass of labels is registered before all others.
+///
+/// Where none is read, the tokenizer is as before. The error comes where a growth is refused; then `failed` is true.
+pub fn read(tokenizer: &mut Tokenizer) -> Result<bool, AllocError>
+    ensures reads { IfOk result (λ ok. BeginsOrStays (label_start_link_here (options_here tokenizer.old)) tokenizer.old ok tokenizer.new) }
+    ensures err { OnErr result (IsTrue tokenizer.new.failed) }
+{
+    if !is_here(tokenizer) {
+        return Ok(false);
+    }
+    read_front(tokenizer)?;
+    keep_start(tokenizer, LabelKind::Link, 4)?;
+    Ok(true)
+}
