@@ -52,29 +52,26 @@ or-here : (a b e : Bool) → a || b ≡ true → (a ≡ true → e ≡ true) →
 or-here true b e h f g = f refl
 or-here false b e h f g = g h
 
-value-local : (n v : ℕ) → local_value n ≡ true → (v == n) ≡ true → local_value v ≡ true
-value-local n v h e = ap local_value (eqb-true v n e) ∙ h
-
 -- a code of a scheme may stand in an address
-scheme-local : (v : ℕ) → scheme_value v ≡ true → local_value v ≡ true
+pub scheme-local : (v : ℕ) → scheme_value v ≡ true → local_value v ≡ true
 scheme-local v h =
     or-here (alphanumeric_value v) _ (local_value v) h (λ e. or_left (alphanumeric_value v) _ e) (λ e.
-    or-here (v == 43) _ (local_value v) e (λ f. value-local 43 v refl f) (λ f.
-    or-here (v == 45) _ (local_value v) f (λ g. value-local 45 v refl g) (λ g.
-    or-here (v == 46) false (local_value v) g (λ i. value-local 46 v refl i) (λ i. cc))))
+    or-here (v == 43) _ (local_value v) e (λ f. ap local_value (eqb-true v 43 f)) (λ f.
+    or-here (v == 45) _ (local_value v) f (λ g. ap local_value (eqb-true v 45 g)) (λ g.
+    or-here (v == 46) false (local_value v) g (λ i. ap local_value (eqb-true v 46 i)) (λ i. cc))))
 
-or-both : (os : List Op) (a b x y : Option (Name × List Op)) → a ≡ preceded_by os x → b ≡ preceded_by os y →
+pub or-both : (os : List Op) (a b x y : Option (Name × List Op)) → a ≡ preceded_by os x → b ≡ preceded_by os y →
     or_else a b ≡ preceded_by os (or_else x y)
 or-both os a b x y e f = ap (λ z. or_else z b) e ∙ ap (λ z. or_else (preceded_by os x) z) f ∙ or-next os x y
 
-or-right : (a b x : Option (Name × List Op)) → a ≡ None → b ≡ x → or_else a b ≡ x
+pub or-right : (a b x : Option (Name × List Op)) → a ≡ None → b ≡ x → or_else a b ≡ x
 or-right a b x e f = ap (λ z. or_else z b) e ∙ f
 
 or-none : (a : Option (Name × List Op)) → or_else a None ≡ a
 or-none None = refl
 or-none (Some x) = refl
 
-or-left : (a b x : Option (Name × List Op)) → a ≡ x → b ≡ None → or_else a b ≡ x
+pub or-left : (a b x : Option (Name × List Op)) → a ≡ x → b ≡ None → or_else a b ≡ x
 or-left a b x e f = ap (λ z. or_else a z) f ∙ or-none a ∙ e
 
 left-test : (t a b : Bool) → (t && a) ≡ false → (t && b) ≡ false → (a || b) ≡ true → t ≡ false

@@ -10,12 +10,13 @@ use Rattle.markdown_event.specs.declared.event.Name.{Name}
 use Rattle.markdown_event.specs.declared.event.Name.TheVariants as N
 use Rattle.markdown_engine_content.proofs.PlaceRules.{IsAhead, ahead_none, ahead_some, left_moved}
 use Rattle.markdown_engine_content.proofs.StretchLemmas.{stretch-goes, stretch-stops}
-use Rattle.markdown_engine.specs.Operations.{Op, Consume}
+use Rattle.markdown_engine.specs.Operations.{Consume}
 use Rattle.markdown_engine.specs.PastTree.{moved_by}
 use Rattle.markdown_engine.proofs.PlaceAfterCodes.{ahead-moved_by}
-use Rattle.markdown_leaf.specs.Autolink.{domains, ended, is_label_code, label_rest, local_rest, local_value, open_naming, or_else, scheme_naming, scheme_rest, scheme_value, up_to_bracket, uri_stops, uri_value}
+use Rattle.markdown_leaf.specs.Autolink.{domains, ended, is_label_code, label_rest, local_rest, local_value, open_naming, scheme_naming, scheme_rest, scheme_value, up_to_bracket, uri_stops, uri_value}
+use Rattle.markdown_leaf.proofs.AutolinkLaws.{or-both, or-left, or-right, scheme-local}
 use Rattle.markdown_leaf.proofs.AutolinkCovers.{ended-here, ended-other, more-dot, more-none}
-use Rattle.markdown_leaf.proofs.AutolinkReadings.{bracket-next, domains-first, domains-none, email-first, email-none, label-ended, label-long, label-more, label-unended, local-at, local-more, local-other, or-next, scheme-colon, scheme-here, scheme-long, scheme-more, scheme-other, uri-first, uri-none, url-end, url-more}
+use Rattle.markdown_leaf.proofs.AutolinkReadings.{bracket-next, domains-first, domains-none, email-first, email-none, label-ended, label-long, label-more, label-unended, local-at, local-more, local-other, scheme-colon, scheme-here, scheme-long, scheme-more, scheme-other, uri-first, uri-none, url-end, url-more}
 use Rattle.markdown_model.specs.CodeTests.{is_alphanumeric, is_letter, is_value, next_is}
 use Rattle.markdown_model.specs.Grammar.{any_number, with_first}
 use Rattle.markdown_model.specs.LeafConstructs.{email_address, is_local_code, is_scheme_code, is_uri_code, uri}
@@ -26,7 +27,7 @@ use Rattle.markdown_plan.proofs.ByteTestLemmas.{no-control}
 use Rattle.markdown_run_text.specs.AutolinkPlaces.{IsNamed, Names, begins_scheme, domain_rest, is_some_local, is_some_scheme, label_after}
 use Rattle.markdown_run_text.specs.PlacesPassed.{is_some_value}
 use Rattle.markdown_run_text.specs.declared.readers.autolink.Label.{Label}
-use Rattle.markdown_run_text.proofs.PlainResourceReads.{walked-moved}
+use Rattle.markdown_run_text.proofs.StretchParts.{walked-moved}
 
 no-clash : true ≡ false → ⊥
 no-clash e = cc
@@ -99,32 +100,6 @@ local-ends p h k =
     ap (ended N.AutolinkEmail) (local-other (c ∷ cs) (ap local_value f ∙ sym (ap is_some_local e) ∙ h) (ap (λ n. n == 64) f ∙ sym (ap (is_some_value 64) e) ∙ k)))
 
 -- Schemes.
-
-or-both : (os : List Op) (a b x y : Option (Name × List Op)) → a ≡ preceded_by os x → b ≡ preceded_by os y →
-    or_else a b ≡ preceded_by os (or_else x y)
-or-both os a b x y e f = ap (λ z. or_else z b) e ∙ ap (λ z. or_else (preceded_by os x) z) f ∙ or-next os x y
-
-or-right : (a b x : Option (Name × List Op)) → a ≡ None → b ≡ x → or_else a b ≡ x
-or-right a b x e f = ap (λ z. or_else z b) e ∙ f
-
-or-none : (a : Option (Name × List Op)) → or_else a None ≡ a
-or-none None = refl
-or-none (Some x) = refl
-
-or-left : (a b x : Option (Name × List Op)) → a ≡ x → b ≡ None → or_else a b ≡ x
-or-left a b x e f = ap (λ z. or_else a z) f ∙ or-none a ∙ e
-
-or-here : (a b e : Bool) → a || b ≡ true → (a ≡ true → e ≡ true) → (b ≡ true → e ≡ true) → e ≡ true
-or-here true b e h f g = f refl
-or-here false b e h f g = g h
-
--- a code of a scheme may stand in an address
-scheme-local : (v : ℕ) → scheme_value v ≡ true → local_value v ≡ true
-scheme-local v h =
-    or-here (alphanumeric_value v) _ (local_value v) h (λ e. or_left (alphanumeric_value v) _ e) (λ e.
-    or-here (v == 43) _ (local_value v) e (λ f. ap local_value (eqb-true v 43 f)) (λ f.
-    or-here (v == 45) _ (local_value v) f (λ g. ap local_value (eqb-true v 45 g)) (λ g.
-    or-here (v == 46) false (local_value v) g (λ i. ap local_value (eqb-true v 46 i)) (λ i. cc))))
 
 abbrev pub text_of_uri : Naming
 text_of_uri = up_to_bracket N.AutolinkProtocol (any_number is_uri_code)

@@ -6,10 +6,9 @@ use Rattle.std.proofs.lemmas.Bool.{eqb-true, or_parts}
 use Rattle.markdown_engine_content.specs.Codes.{Code}
 use Rattle.markdown_engine_content.specs.Place.{Place, ahead_at, code_at, moved}
 use Rattle.markdown_engine_content.specs.PlaceInDocument.{IsPlaceOf}
-use Rattle.markdown_engine_content.specs.Stretch.{past_stretch, stops, stretch, walked}
+use Rattle.markdown_engine_content.specs.Stretch.{past_stretch, stops, stretch}
 use Rattle.markdown_engine_content.proofs.StretchLemmas.{stretch-goes, stretch-stops}
 use Rattle.markdown_engine.specs.PastTree.{moved_by}
-use Rattle.markdown_engine.proofs.PlaceAfterCodes.{ahead-moved_by}
 use Rattle.std.proofs.lemmas.Slice.Eq.{bytes_eq-Decides}
 use Rattle.std.specs.Str.{bytes_eq}
 use Rattle.markdown_event.proofs.AndParts.{and-left, and-right}
@@ -20,39 +19,16 @@ use Rattle.markdown_leaf.proofs.CharacterReferenceNames.{length-values}
 use Rattle.markdown_model.specs.CodeTests.{values_of}
 use Rattle.markdown_plan.proofs.ByteTestLemmas.{no-control}
 use Rattle.markdown_run_text.specs.PlacesPassed.{is_some_value}
+use Rattle.markdown_run_text.proofs.StretchParts.{text-parts, text-passed}
 use Rattle.markdown_run_text.specs.ReferencePassed.{AreInk, Stands, codes_before, frequent_names, inner_codes, is_frequent, kind_of, past_inner, reference_stops}
 
 -- What a stretch passes.
 
--- the codes that a stretch passes, and those behind
-record Split (ms : List ℕ) (cs : List Code) : Type 0 where
-  rest : List Code
-  whole : cs ≡ stretch ms cs ++ rest
-
-split : (ms : List ℕ) (cs : List Code) → Split ms cs
-split ms [] = record { rest = []; whole = refl }
-split ms (c ∷ cs) = by_test (stops ms c.value) refl (split ms cs)
-  where
-    by_test : (b : Bool) → stops ms c.value ≡ b → Split ms cs → Split ms (c ∷ cs)
-    by_test true e more = record { rest = c ∷ cs; whole = ap (λ xs. xs ++ (c ∷ cs)) (sym (stretch-stops ms c cs e)) }
-    by_test false e more = record {
-      rest = more.rest;
-      whole = ap (λ xs. c ∷ xs) more.whole ∙ ap (λ xs. xs ++ more.rest) (sym (stretch-goes ms c cs e));
-    }
-
-walked-moved : (cs : List Code) (p : Place) → walked cs p ≡ moved_by cs p
-walked-moved [] p = refl
-walked-moved (c ∷ cs) p = walked-moved cs (moved p)
-
 pub inner-passed : (p : Place) → past_inner p ≡ moved_by (inner_codes p) p
-unfolding past_stretch
-inner-passed p = walked-moved (stretch reference_stops (ahead_at p)) p
+inner-passed p = text-passed reference_stops p
 
 pub inner-parts : (p : Place) → ahead_at p ≡ inner_codes p ++ ahead_at (past_inner p)
-inner-parts p =
-    let s : Split reference_stops (ahead_at p) = split reference_stops (ahead_at p) in
-    s.whole
-    ∙ ap (λ xs. inner_codes p ++ xs) (sym (ap ahead_at (inner-passed p) ∙ ahead-moved_by (inner_codes p) s.rest p s.whole))
+inner-parts p = text-parts reference_stops p
 
 -- They are above the space.
 

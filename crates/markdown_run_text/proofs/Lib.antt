@@ -48,6 +48,7 @@ pub mod LabelStartConstructs
 pub mod LinkStarts
 pub mod ImageStarts
 pub mod WordLetters
+pub mod StretchParts
 pub mod LabelEndReads
 pub mod PlainResourceReads
 pub mod PlainReferenceReads

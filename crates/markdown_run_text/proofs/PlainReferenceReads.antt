@@ -45,7 +45,8 @@ use Rattle.markdown_run_text.specs.PlainResource.{has_markers, may_make}
 use Rattle.markdown_run_text.proofs.AttentionReads.{at-moved}
 use Rattle.markdown_run_text.proofs.ImageStarts.{first-at, some-value}
 use Rattle.markdown_run_text.proofs.LabelEndReads.{AnswersBy, Follows, asks-nothing, ends-where}
-use Rattle.markdown_run_text.proofs.PlainResourceReads.{EndsText, IsFree, IsStretch, between-covers, between-reads, between_tree, code-here, ends-text, free-here, no-blank-line, one-line, text-is, text-passed, value-here, value-is}
+use Rattle.markdown_run_text.proofs.PlainResourceReads.{EndsText, IsFree, IsStretch, between-covers, between-reads, between_tree, code-here, ends-text, free-here, no-blank-line, one-line, text-is, value-here, value-is}
+use Rattle.markdown_run_text.proofs.StretchParts.{text-passed}
 
 -- The label of a full reference.
 

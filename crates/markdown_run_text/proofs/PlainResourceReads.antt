@@ -7,7 +7,7 @@ use Rattle.markdown_engine_content.specs.Codes.{Code, is_blank, is_line_ending}
 use Rattle.markdown_engine_content.specs.Content.{has_no_blank_line}
 use Rattle.markdown_engine_content.specs.ListFunctions.{rest_of}
 use Rattle.markdown_engine_content.specs.Place.{Place, ahead_at, code_at, moved, point_of}
-use Rattle.markdown_engine_content.specs.Stretch.{is_free, past_stretch, stops, stretch, walked}
+use Rattle.markdown_engine_content.specs.Stretch.{is_free, past_stretch, stops, stretch}
 use Rattle.markdown_engine_content.specs.Tree.{Forest, leaf, linked, group, leaf_codes, ◌⊕◌}
 use Rattle.markdown_event.specs.declared.event.Content.TheVariants as Content
 use Rattle.markdown_event.specs.declared.event.Name.{Name}
@@ -20,7 +20,6 @@ use Rattle.markdown_engine.specs.TreeOps.{consumes}
 use Rattle.markdown_engine.specs.declared.tokenizer.TokenizeState.{TokenizeState}
 use Rattle.markdown_engine.specs.declared.tokenizer.Tokenizer.{Tokenizer}
 use Rattle.markdown_engine.proofs.OperationLemmas.{ahead-done}
-use Rattle.markdown_engine.proofs.PlaceAfterCodes.{ahead-moved_by}
 use Rattle.markdown_engine.proofs.TreeEvents.{ahead-past, done-append, done-consumes}
 use Rattle.markdown_label.specs.LabelEnd.{Ends, end_ops, ended, is_on, made_here}
 use Rattle.markdown_label.specs.LabelFields.{AreOrdered}
@@ -50,39 +49,8 @@ use Rattle.markdown_plan.proofs.ByteTestLemmas.{no-control}
 use Rattle.markdown_run_text.specs.PlacesPassed.{is_some_value, marker_ops, with_enter, with_exit}
 use Rattle.markdown_run_text.specs.PlainResource.{begins_enclosed, between_read, closes_at, closes_behind, destination_at, destination_read, enclosed_read, is_quote, is_some_blank, may_make, past_between, past_destination, past_quoted, past_title}
 use Rattle.markdown_run_text.specs.PlainResource.{plain_at, plain_here, quoted_at, quoted_read, raw_read, resource_read, stands_between, tail_at, tail_read, text_read, title_at, title_read, title_stops}
+use Rattle.markdown_run_text.proofs.StretchParts.{text-parts, text-passed}
 use Rattle.markdown_run_text.proofs.LabelEndReads.{Follows, asks-nothing, ends-where}
-
--- What a stretch passes.
-
--- the codes that a stretch passes, none of which stops it, and those behind
-record Split (ms : List ℕ) (cs : List Code) : Type 0 where
-  rest : List Code
-  whole : cs ≡ stretch ms cs ++ rest
-
-split : (ms : List ℕ) (cs : List Code) → Split ms cs
-split ms [] = record { rest = []; whole = refl }
-split ms (c ∷ cs) = by_test (stops ms c.value) refl (split ms cs)
-  where
-    by_test : (b : Bool) → stops ms c.value ≡ b → Split ms cs → Split ms (c ∷ cs)
-    by_test true e more = record { rest = c ∷ cs; whole = ap (λ xs. xs ++ (c ∷ cs)) (sym (stretch-stops ms c cs e)) }
-    by_test false e more = record {
-      rest = more.rest;
-      whole = ap (λ xs. c ∷ xs) more.whole ∙ ap (λ xs. xs ++ more.rest) (sym (stretch-goes ms c cs e));
-    }
-
-pub walked-moved : (cs : List Code) (p : Place) → walked cs p ≡ moved_by cs p
-walked-moved [] p = refl
-walked-moved (c ∷ cs) p = walked-moved cs (moved p)
-
-pub text-passed : (ms : List ℕ) (p : Place) → past_stretch ms p ≡ moved_by (stretch ms (ahead_at p)) p
-unfolding past_stretch
-text-passed ms p = walked-moved (stretch ms (ahead_at p)) p
-
-text-parts : (ms : List ℕ) (p : Place) → ahead_at p ≡ stretch ms (ahead_at p) ++ ahead_at (past_stretch ms p)
-text-parts ms p =
-    let s : Split ms (ahead_at p) = split ms (ahead_at p) in
-    s.whole
-    ∙ ap (λ xs. stretch ms (ahead_at p) ++ xs) (sym (ap ahead_at (text-passed ms p) ∙ ahead-moved_by (stretch ms (ahead_at p)) s.rest p s.whole))
 
 -- all of it stands on one line
 on-line : (ms : List ℕ) (cs : List Code) → line_of (stretch ms cs) ≡ (stretch ms cs, [])

@@ -35,7 +35,7 @@ use Rattle.markdown_model.proofs.ReadingsCover.{joined_codes-stretches}
 use Rattle.markdown_plan.proofs.FirstStretch.{stretch-span}
 use Rattle.markdown_run_text.specs.PlacesPassed.{is_some_value, past_run}
 use Rattle.markdown_run_text.proofs.AttentionReads.{marker-here, span-parts}
-use Rattle.markdown_run_text.proofs.PlainResourceReads.{walked-moved}
+use Rattle.markdown_run_text.proofs.StretchParts.{walked-moved}
 use Rattle.markdown_run_text.proofs.WordsAndSigns.{before-moved}
 use Rattle.markdown_run_text.specs.PlainSpan.{begins_span, is_text, names_for, opens_span, past_span_text, with_span}
 
