@@ -1,11 +1,12 @@
-use Rattle.std.proofs.Common.{ap, sym, ◌∙◌}
+use Rattle.std.proofs.Common.{ap, sym, ◌∙◌, arith}
 use Rattle.markdown_engine_content.specs.Place.{Place}
 use Rattle.markdown_event.specs.declared.event.Name.TheVariants as N
-use Rattle.markdown_engine.specs.Operations.{exited}
+use Rattle.markdown_engine.specs.Operations.{exited, scratched}
 use Rattle.markdown_engine.specs.declared.tokenizer.Tokenizer.{Tokenizer}
 use Rattle.markdown_engine.proofs.ReadingSequences.{scratched-same}
 use Rattle.markdown_run_text.proofs.AttentionReads.{no-run, run-reads}
 use Rattle.markdown_run_text.specs.PlacesPassed.{past_run}
+use Rattle.markdown_engine.proofs.OperationFields.{law_rules}
 use Rattle.markdown_run_text.proofs.readers.attention.read.Goals as goal
 
 pub returns-then-not-begins_run-clause-reads : goal.returns-then-not-begins_run-clause-reads
@@ -19,3 +20,7 @@ returns-clause-reads c =
     ∙ ap (λ (p : Place). exited N.AttentionSequence (record c.enter.new.self { cursor = p })) c.pass_markers.ensures
     ∙ ap (λ (T : Tokenizer). exited N.AttentionSequence (record T { cursor = past_run c.args.marker T.cursor })) c.in_ok-enter.ensures.ok)
     c.in_ok-register_resolver.ensures.ok
+
+pub exit-requires : goal.exit-requires
+unfolding scratched
+exit-requires c = grind (arith, law_rules)
