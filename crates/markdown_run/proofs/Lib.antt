@@ -21,3 +21,4 @@ pub mod ElementsRead
 pub mod TextEnds
 pub mod PlainEnds
 pub mod MergedEnds
+pub mod WholeDocument

@@ -1,10 +1,11 @@
 //! Runs over a content, by the loop over its elements or by the states alone; and the layer: the states and passes of inline content by name, with
-//! the laws of all states.
+//! the laws of all states. The program, over any reader and writer.
 #![tactic(auto)]
 
 mod elements;
 pub mod gfm_autolink_literal;
 pub mod label_end;
+pub mod program;
 pub mod resolve;
 pub mod run;
 pub mod state;

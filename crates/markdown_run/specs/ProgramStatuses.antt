@@ -1,7 +1,7 @@
 -- The faults that the program ends with, and their statuses.
 use Rattle.std.specs.Prelude.{ℕ}
 use Rattle.std.specs.declared.io.ErrorKind.{ErrorKind}
-use Rattle.markdown_program.specs.declared.program.Fault.{Fault}
+use Rattle.markdown_run.specs.declared.program.Fault.{Fault}
 
 abbrev pub status_of : Fault → ℕ
 status_of Fault.Usage = 2

@@ -2,7 +2,7 @@ use Rattle.std.proofs.Common.{[], ◌∷◌, sym, subst, ◌∙◌}
 use Rattle.std.proofs.lemmas.Bool.{both_ways}
 use Rattle.markdown_engine_content.specs.Content.{IsTextContent}
 use Rattle.markdown_engine_content.specs.declared.parser.Piece.{Piece}
-use Rattle.markdown_program.proofs.program.found_by.Goals as goal
+use Rattle.markdown_run.proofs.program.found_by.Goals as goal
 
 pub returns-then-not-is_text-clause-blank_line : goal.returns-then-not-is_text-clause-blank_line
 returns-then-not-is_text-clause-blank_line c = λ e. (

@@ -2,13 +2,14 @@
 ghost use Rattle.std.specs.Prelude.{◌≡◌, ◌↔◌, ◌≤◌, ◌⊎◌, ◌∷◌, [], false, true, length, IfOk, IfErr, IfSome, OnOk, IsErrOf, IsUtf8, map, string_bytes, Some, codes};
 ghost use Rattle.std.specs.IoError.{error_kind};
 ghost use Rattle.markdown_engine_content.specs.Content.{IsContent, document_limit};
-ghost use Rattle.markdown_program.specs.declared.program.Fault.TheVariants.{OutOfMemory, Read, Write, Usage, NotText, BlankLine};
-ghost use Rattle.markdown_program.specs.ProgramStatuses.{status_of, fault_of};
+ghost use Rattle.markdown_run.specs.declared.program.Fault.TheVariants.{OutOfMemory, Read, Write, Usage, NotText, BlankLine};
+ghost use Rattle.markdown_run.specs.ProgramStatuses.{status_of, fault_of};
 ghost use Rattle.markdown_program_words.specs.ProgramWords.{are_known, reads_text, MayRead, IsTextDocument, whole_piece, without_line_ending, options_of, defined_by};
-ghost use Rattle.markdown_program.specs.ProgramOutput.{found_events, printed};
+ghost use Rattle.markdown_run.specs.ProgramOutput.{found_events, printed};
 ghost use Rattle.markdown_inline_lines.specs.PrintedLines.{lines_of};
 ghost use Rattle.std.specs.Io.KnownBytes.{Appends};
 
+use crate::run::{self, Run};
 use markdown_engine_content::configuration::ParseOptions;
 use markdown_engine_content::parser::{ParseState, Piece};
 use markdown_engine_pieces::content::DOCUMENT_LIMIT;
@@ -16,7 +17,6 @@ use markdown_inline_lines::lines::lines_of;
 use markdown_program_words::words::{
     are_known, defined_by, drop_line_ending, has, options_of, reads_text,
 };
-use markdown_run::run::{self, Run};
 use std::alloc::{AllocError, Global};
 use std::io::{self, ErrorKind, Read, Write};
 

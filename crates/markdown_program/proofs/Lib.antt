@@ -1,2 +1,0 @@
--- The proofs of the program.
-pub mod WholeDocument
