@@ -25,6 +25,6 @@ pub use markdown_partial::{
     partial_data, partial_space_or_tab, partial_space_or_tab_eol, partial_whitespace,
 };
 pub use markdown_partial_link::{partial_destination, partial_label, partial_title};
-pub use markdown_run::{attention, gfm_autolink_literal, label_end, program, resolve, state};
-pub use markdown_run_text::{string, text};
+pub use markdown_run::{attention, gfm_autolink_literal, label_end, program, resolve, state, text};
+pub use markdown_run_text::string;
 pub use markdown_tree::{node, tree};

@@ -25,3 +25,6 @@ pub mod ResourceStartLaw
 pub mod AfterLabelLaws
 pub mod LabelEndStateLaws
 pub mod ResourceStateLaws
+-- What the states of labels leave to their pass, as events and joined.
+pub mod EventsOfBrackets
+pub mod BracketJoinLemmas

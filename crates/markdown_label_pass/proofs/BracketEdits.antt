@@ -13,9 +13,9 @@ use Rattle.markdown_event.specs.declared.event.Event.{Event}
 use Rattle.markdown_engine_events.specs.declared.util.edit_map.Edit.{Edit}
 use Rattle.markdown_engine_events.proofs.EditRules.{back-append, removed-append}
 use Rattle.markdown_engine.specs.OrderedEdits.{Part, comes, stays, edits_from, coming, going, Does}
-use Rattle.markdown_label_pass.specs.Brackets.{Front, link_front, image_front, call_front, caret_front, kind_of, tail_row, Tail, Brackets, nothing, tree_then, label_then, unused_then, failed_then, last_of, count, replacing, opened_of, ended, closed, as_data, first_start, last_stop, going_of, start_events, tail_stop, parts_of}
+use Rattle.markdown_label.specs.Brackets.{Front, link_front, image_front, call_front, caret_front, kind_of, tail_row, Tail, Brackets, nothing, tree_then, label_then, unused_then, failed_then, last_of, count, replacing, opened_of, ended, closed, as_data, first_start, last_stop, going_of, start_events, tail_stop, parts_of}
 use Rattle.markdown_engine.proofs.OrderedEditLaws.{back-going, removed-coming}
-use Rattle.markdown_label_pass.proofs.EventsOfBrackets.{behind_end}
+use Rattle.markdown_label.proofs.EventsOfBrackets.{behind_end}
 
 -- The edits, with their events.
 

@@ -9,9 +9,9 @@ use Rattle.markdown_event.specs.declared.event.Kind.{Kind}
 use Rattle.markdown_engine.specs.declared.tokenizer.Label.{Label}
 use Rattle.markdown_engine_events.specs.declared.util.edit_map.Edit.{Edit}
 use Rattle.markdown_engine.proofs.TreeEvents.{length-appended_from}
-use Rattle.markdown_label_pass.specs.Brackets.{Front, link_front, image_front, call_front, caret_front, kind_of, end_row, Tail, no_tail, one_tail, tail_row, Brackets, nothing, tree_then, label_then, unused_then, failed_then, flat, IsApart, last_of, count, numbers_of}
-use Rattle.markdown_label_pass.specs.Brackets.{labels_at, unused_at, failed_at, place_at, opened, opened_of, ended, closed, as_data, first_start, last_stop, start_events, end_events, tail_stop, replacing, label_edits, labels_edits, loose_edit, loose_edits}
-use Rattle.markdown_label_pass.proofs.EventsOfBrackets.{row-then, start-then, flat-then, tail-last, count-is}
+use Rattle.markdown_label.specs.Brackets.{Front, link_front, image_front, call_front, caret_front, kind_of, end_row, Tail, no_tail, one_tail, tail_row, Brackets, nothing, tree_then, label_then, unused_then, failed_then, flat, IsApart, last_of, count, numbers_of}
+use Rattle.markdown_label.specs.Brackets.{labels_at, unused_at, failed_at, place_at, opened, opened_of, ended, closed, as_data, first_start, last_stop, start_events, end_events, tail_stop, replacing, label_edits, labels_edits, loose_edit, loose_edits}
+use Rattle.markdown_label.proofs.EventsOfBrackets.{row-then, start-then, flat-then, tail-last, count-is}
 use Rattle.markdown_label_pass.proofs.BracketEdits.{opening_edit, data_edit, own_labels, own_unused, own_failed}
 
 -- Places.

@@ -10,9 +10,9 @@ use Rattle.markdown_event.specs.declared.event.Event.{Event}
 use Rattle.markdown_engine_events.specs.declared.util.edit_map.Edit.{Edit}
 use Rattle.markdown_engine.proofs.TreeEvents.{length-appended_from}
 use Rattle.markdown_engine.specs.OrderedEdits.{Part, comes, goes, stays, keeps, before_from, GoUnlinked}
-use Rattle.markdown_label_pass.specs.Brackets.{Front, link_front, image_front, call_front, caret_front, tail_row, Brackets, nothing, tree_then, label_then, unused_then, failed_then, flat, grouped, IsApart, last_of, count, numbers_of, labels_at, unused_at, failed_at, place_at, loose_edits, start_events, going_of, parts_of, all_edits, IsWithin, IsStartWithin}
+use Rattle.markdown_label.specs.Brackets.{Front, link_front, image_front, call_front, caret_front, tail_row, Brackets, nothing, tree_then, label_then, unused_then, failed_then, flat, grouped, IsApart, last_of, count, numbers_of, labels_at, unused_at, failed_at, place_at, loose_edits, start_events, going_of, parts_of, all_edits, IsWithin, IsStartWithin}
 use Rattle.markdown_engine.proofs.OrderedEditLaws.{parts-edited, parts-may}
-use Rattle.markdown_label_pass.proofs.EventsOfBrackets.{count-is, before-parts, after-parts}
+use Rattle.markdown_label.proofs.EventsOfBrackets.{count-is, before-parts, after-parts}
 use Rattle.markdown_label_pass.proofs.BracketEdits.{own, own_labels, own_unused, own-does, own-places}
 use Rattle.markdown_label_pass.proofs.BracketEditsRead.{labels-read, unused-read, failed-read}
 

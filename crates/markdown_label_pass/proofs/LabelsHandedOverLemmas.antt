@@ -10,9 +10,9 @@ use Rattle.markdown_engine.specs.declared.tokenizer.LabelStart.{LabelStart}
 use Rattle.markdown_engine.specs.declared.tokenizer.TokenizeState.{TokenizeState}
 use Rattle.markdown_engine_events.specs.declared.util.edit_map.Edit.{Edit}
 use Rattle.markdown_engine.proofs.TreeEvents.{length-appended_from}
-use Rattle.markdown_label_pass.specs.Brackets.{Brackets, flat, grouped, count, labels_at, unused_at, failed_at, label_edits, labels_edits, loose_edit, loose_edits, all_edits, IsWithin, IsStartWithin}
-use Rattle.markdown_label_pass.specs.LabelsHandedOver.{HasBrackets, starts_of}
-use Rattle.markdown_label_pass.proofs.EventsOfBrackets.{count-is}
+use Rattle.markdown_label.specs.Brackets.{Brackets, flat, grouped, count, labels_at, unused_at, failed_at, label_edits, labels_edits, loose_edit, loose_edits, all_edits, IsWithin, IsStartWithin}
+use Rattle.markdown_label.specs.LabelsHandedOver.{HasBrackets, starts_of}
+use Rattle.markdown_label.proofs.EventsOfBrackets.{count-is}
 use Rattle.markdown_label_pass.proofs.BracketEditsRead.{labels_edits-append, loose_edits-append}
 use Rattle.markdown_label_pass.proofs.LabelPassLaw.{edits-group, edits-may, labels-within, unused-within, failed-within}
 

@@ -30,8 +30,8 @@ ghost use Rattle.markdown_engine_content.specs.Tree.{event};
 ghost use Rattle.markdown_event.specs.declared.event.Kind.{Kind};
 ghost use Rattle.markdown_engine_content.specs.declared.label_kind.LabelKind.{LabelKind};
 ghost use Rattle.markdown_model.specs.Passes.{label_name};
-ghost use Rattle.markdown_label_pass.specs.Brackets.{Brackets, grouped, place_at, opened, ended, closed, label_edits, labels_edits, loose_edits, loose_edit, replacing, IsWithin, IsStartWithin};
-ghost use Rattle.markdown_label_pass.specs.LabelsHandedOver.{HasBrackets, MayGroup, starts_of, unlabelled};
+ghost use Rattle.markdown_label.specs.Brackets.{Brackets, grouped, place_at, opened, ended, closed, label_edits, labels_edits, loose_edits, loose_edit, replacing, IsWithin, IsStartWithin};
+ghost use Rattle.markdown_label.specs.LabelsHandedOver.{HasBrackets, MayGroup, starts_of, unlabelled};
 
 use markdown_engine::tokenizer::{Label, LabelKind, LabelStart, TokenizeState, Tokenizer};
 use markdown_engine_events::events::Events;

@@ -5,7 +5,7 @@ use Rattle.markdown_attention.specs.AttentionPass.{IsProbed}
 use Rattle.markdown_attention.proofs.AttentionTreeLabels.{IsGood, IsSound}
 use Rattle.markdown_attention.proofs.ElementsHaveMarkerRuns.{sound-elements}
 use Rattle.markdown_attention.proofs.MarkerCodes.{AreSingles}
-use Rattle.markdown_label_pass.specs.Brackets.{grouped}
+use Rattle.markdown_label.specs.Brackets.{grouped}
 use Rattle.markdown_model.specs.BracketGroups.{paired}
 use Rattle.markdown_model.specs.Elements.{text_choice}
 use Rattle.markdown_model.specs.InlineTree.{label_tree}

@@ -13,6 +13,7 @@ pub mod WholeRun
 pub mod FoundTexts
 pub mod TextRun
 pub mod RowPasses
+pub mod TextPassLaw
 pub mod RowsWithoutRuns
 pub mod IndexedRows
 pub mod StartsAndEnds

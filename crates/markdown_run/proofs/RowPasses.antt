@@ -11,8 +11,8 @@ use Rattle.markdown_state.specs.declared.resolve.ResolveName.TheVariants as R
 use Rattle.markdown_engine.specs.declared.tokenizer.TokenizeState.{TokenizeState}
 use Rattle.markdown_engine.specs.declared.tokenizer.Tokenizer.{Tokenizer}
 use Rattle.markdown_attention.proofs.AttentionTreeLabels.{IsGood}
-use Rattle.markdown_label_pass.specs.Brackets.{Brackets, grouped}
-use Rattle.markdown_label_pass.specs.LabelsHandedOver.{HasBrackets, MayGroup}
+use Rattle.markdown_label.specs.Brackets.{Brackets, grouped}
+use Rattle.markdown_label.specs.LabelsHandedOver.{HasBrackets, MayGroup}
 use Rattle.markdown_model.specs.Setting.{Setting}
 use Rattle.markdown_run_text.specs.RowStart.{IsFresh, IsPast, row_registers}
 use Rattle.markdown_run_text.specs.OpenStarts.{brackets_of}

@@ -23,7 +23,7 @@ use Rattle.markdown_run.proofs.PassesAfterRun.{string_finish, string-trims}
 use Rattle.std.proofs.lemmas.Bool.{both_ways}
 use Rattle.markdown_engine.proofs.TreeChains.{chained-whole}
 use Rattle.markdown_engine_content.specs.Tree.{Forest}
-use Rattle.markdown_label_pass.specs.Brackets.{grouped}
+use Rattle.markdown_label.specs.Brackets.{grouped}
 use Rattle.markdown_attention.proofs.AttentionTreeLabels.{IsGood}
 use Rattle.markdown_model.specs.BracketGroups.{paired}
 use Rattle.markdown_model.specs.Pairs.{pair_list}

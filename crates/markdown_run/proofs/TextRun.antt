@@ -35,7 +35,7 @@ use Rattle.markdown_run.specs.ElementsOfText.{KnowsNothing, text_named, with_ind
 use Rattle.markdown_run.proofs.PassesAfterRun.{text_finish, text-trims, IsGiven}
 use Rattle.markdown_engine_content.specs.Codes.{Code}
 use Rattle.markdown_label.specs.LabelEnd.{AreWithin}
-use Rattle.markdown_label_pass.specs.Brackets.{grouped}
+use Rattle.markdown_label.specs.Brackets.{grouped}
 use Rattle.markdown_partial.specs.PartialSpaceOrTabEol as PartialSpaceOrTabEol
 use Rattle.markdown_label.specs.AfterLabelParts as AfterLabelParts
 use Rattle.markdown_attention.specs.AttentionPass.{IsProbed}

@@ -24,7 +24,7 @@ use Rattle.markdown_run_text.proofs.PairsLeaveNoEmptyData.{merged-paired}
 use Rattle.markdown_attention.specs.AttentionPass.{IsProbed}
 use Rattle.markdown_attention.proofs.AttentionTreeLabels.{IsGood}
 use Rattle.markdown_label.specs.KeptStarts.{StandFor}
-use Rattle.markdown_label_pass.specs.Brackets.{grouped}
+use Rattle.markdown_label.specs.Brackets.{grouped}
 use Rattle.markdown_model.specs.SingleConstructs.{follows_escape}
 use Rattle.markdown_model.specs.Elements.{Choice, AreElementsFrom}
 use Rattle.markdown_model.specs.BracketGroups.{paired}

@@ -9,5 +9,6 @@ pub mod program;
 pub mod resolve;
 pub mod run;
 pub mod state;
+pub mod text;
 
 pub use markdown_attention::attention;

@@ -2,11 +2,11 @@
 ghost use Rattle.std.specs.Prelude.{◌≡◌, false, IfOk, IsErr, OnErr, IsTrue, None};
 ghost use Rattle.markdown_run_text.specs.ContentPasses.{may_resolve_of, resolves_of};
 
-use crate::{attention, label_end};
+use crate::{attention, label_end, text};
 use markdown_engine::tokenizer::Tokenizer;
 use markdown_engine_events::subtokenize::Subresult;
 use markdown_partial::partial_data;
-use markdown_run_text::{string, text};
+use markdown_run_text::string;
 use markdown_state::resolve::ResolveName;
 use std::alloc::AllocError;
 

@@ -16,8 +16,8 @@ ghost use Rattle.markdown_run_leaves.specs.InnermostEvents.{IsInOrder, covered, 
 ghost use Rattle.markdown_model.specs.InlineTree.{label_tree, string_events, text_events};
 
 use crate::elements::{end_text, read_text};
-use crate::resolve;
 use crate::state::Inline;
+use crate::{resolve, text};
 use markdown_engine::tokenizer::Tokenizer;
 use markdown_engine_content::cursor::Cursor;
 use markdown_engine_content::parser::ParseState;
@@ -28,7 +28,6 @@ use markdown_event::event::Event;
 use markdown_leaf_email_pass::settled;
 use markdown_lists::seq::Seq;
 use markdown_partial::partial_data;
-use markdown_run_text::text;
 use markdown_state::resolve::ResolveName;
 use markdown_state::state::StateName;
 use std::alloc::{AllocError, Global};

@@ -6,7 +6,7 @@ ghost use Rattle.markdown_run.specs.Families.{family_of};
 ghost use Rattle.markdown_run.specs.declared.state.Family.TheVariants as Family;
 ghost use Rattle.markdown_run_text.specs.ContentPasses.{may_resolve_of, resolves_of};
 
-use crate::{attention, label_end, resolve};
+use crate::{attention, label_end, resolve, text};
 use markdown_engine::layer::Layer;
 use markdown_engine::tokenizer::{TokenizeState, Tokenizer};
 use markdown_engine_content::bytes::ByteSet;
@@ -17,7 +17,7 @@ use markdown_leaf_gfm::{gfm_autolink_literal, gfm_task_list_item_check};
 use markdown_leaf_html::html_text;
 use markdown_partial::{partial_data, partial_space_or_tab, partial_space_or_tab_eol};
 use markdown_partial_link::{partial_destination, partial_label, partial_title};
-use markdown_run_text::{string, text};
+use markdown_run_text::string;
 use markdown_state::resolve::ResolveName;
 use markdown_state::state::{State, StateName};
 use std::alloc::AllocError;

@@ -28,7 +28,6 @@ pub mod TextElements
 pub mod TextLabelTries
 pub mod TextTries
 pub mod TryTableLemmas
-pub mod TextPassLaw
 pub mod RawTextRuledOut
 pub mod StringElements
 pub mod TextDataStops

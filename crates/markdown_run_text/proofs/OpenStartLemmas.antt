@@ -7,9 +7,9 @@ use Rattle.markdown_engine_content.specs.declared.label_kind.LabelKind.{LabelKin
 use Rattle.markdown_model.specs.LabelEnd.{link_kind}
 use Rattle.markdown_model.specs.Passes.{start_tree}
 use Rattle.markdown_label.specs.AfterLabel.{IsTail}
-use Rattle.markdown_label_pass.specs.Brackets.{Front, link_front, image_front, call_front, caret_front, kind_of, codes_of, start_row, last_of, tail_row, Brackets, nothing, label_then, failed_then}
-use Rattle.markdown_label_pass.specs.BracketsJoined.{behind, IsClosed}
-use Rattle.markdown_label_pass.proofs.BracketJoinLemmas.{waiting-behind, closed-behind}
+use Rattle.markdown_label.specs.Brackets.{Front, link_front, image_front, call_front, caret_front, kind_of, codes_of, start_row, last_of, tail_row, Brackets, nothing, label_then, failed_then}
+use Rattle.markdown_label.specs.BracketsJoined.{behind, IsClosed}
+use Rattle.markdown_label.proofs.BracketJoinLemmas.{waiting-behind, closed-behind}
 use Rattle.markdown_run_text.specs.Row.{Mark, begins, makes, loses, IsFront, IsMade, IsMarkAt, kinds_past}
 use Rattle.markdown_run_text.specs.OpenStarts.{Opened, none_waits, waits, assembled, put, begun_with, made_front, tail_of, made_with, marked_with}
 

@@ -6,8 +6,8 @@ use Rattle.markdown_engine_content.specs.Tree.{Forest, empty, leaf, ◌⊕◌}
 use Rattle.markdown_event.specs.declared.event.Name.TheVariants as N
 use Rattle.markdown_engine_content.specs.declared.label_kind.LabelKind.{LabelKind}
 use Rattle.markdown_model.specs.Passes.{label_group}
-use Rattle.markdown_label_pass.specs.Brackets.{Front, kind_of, codes_of, tail_row, Brackets, nothing, tree_then, label_then, unused_then, failed_then, grouped}
-use Rattle.markdown_label_pass.proofs.BracketJoinLemmas.{grouped-behind}
+use Rattle.markdown_label.specs.Brackets.{Front, kind_of, codes_of, tail_row, Brackets, nothing, tree_then, label_then, unused_then, failed_then, grouped}
+use Rattle.markdown_label.proofs.BracketJoinLemmas.{grouped-behind}
 use Rattle.markdown_run_text.specs.Row.{Mark, begins, makes, loses, Row, row_end, row_then, kinds_past, IsMade, IsMarkAt, IsRowAt}
 use Rattle.markdown_run_text.specs.OpenStarts.{Opened, none_waits, waits, assembled, put, put_tree, made_front, tail_of, marked_with, opened_by, brackets_of}
 use Rattle.markdown_run_text.proofs.OpenStartLemmas.{no-kinds, kinds_in, kinds-put, begins-as, makes-as, kinds-marked}

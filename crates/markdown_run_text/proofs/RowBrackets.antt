@@ -17,12 +17,12 @@ use Rattle.markdown_label.specs.LabelStarts.{kept_start}
 use Rattle.markdown_label.proofs.LabelEndLemmas.{events-before, scratch-before}
 use Rattle.markdown_model.specs.LabelEnd.{is_image, link_kind}
 use Rattle.markdown_model.specs.Passes.{start_tree}
-use Rattle.markdown_label_pass.specs.Brackets.{Front, kind_of, start_row, end_row, Tail, tail_row, Brackets, nothing, tree_then, label_then, unused_then, failed_then, flat, IsApart, last_of, count, numbers_of, labels_at, unused_at, failed_at}
-use Rattle.markdown_label_pass.specs.LabelsHandedOver.{starts_of, HasBrackets}
-use Rattle.markdown_label_pass.specs.BracketsJoined.{behind, IsClosed}
-use Rattle.markdown_label_pass.proofs.BracketJoinLemmas.{row-assoc, closed-unused, flat-behind, labels-behind, failed-behind, count-behind, apart-behind, waiting, labelled, failed, started, passed, labelled-flat, labelled-labels, labelled-unused, labelled-failed}
-use Rattle.markdown_label_pass.proofs.BracketJoinLemmas.{waiting-unused, failed-flat, failed-labels, failed-unused, failed-failed, started-flat, started-labels, started-unused, started-failed, passed-flat, passed-labels, passed-unused, passed-failed}
-use Rattle.markdown_label_pass.proofs.EventsOfBrackets.{count-is, flat-last, start-count}
+use Rattle.markdown_label.specs.Brackets.{Front, kind_of, start_row, end_row, Tail, tail_row, Brackets, nothing, tree_then, label_then, unused_then, failed_then, flat, IsApart, last_of, count, numbers_of, labels_at, unused_at, failed_at}
+use Rattle.markdown_label.specs.LabelsHandedOver.{starts_of, HasBrackets}
+use Rattle.markdown_label.specs.BracketsJoined.{behind, IsClosed}
+use Rattle.markdown_label.proofs.BracketJoinLemmas.{row-assoc, closed-unused, flat-behind, labels-behind, failed-behind, count-behind, apart-behind, waiting, labelled, failed, started, passed, labelled-flat, labelled-labels, labelled-unused, labelled-failed}
+use Rattle.markdown_label.proofs.BracketJoinLemmas.{waiting-unused, failed-flat, failed-labels, failed-unused, failed-failed, started-flat, started-labels, started-unused, started-failed, passed-flat, passed-labels, passed-unused, passed-failed}
+use Rattle.markdown_label.proofs.EventsOfBrackets.{count-is, flat-last, start-count}
 use Rattle.markdown_run_text.specs.Row.{Mark, begins, makes, loses, Row, row_end, row_then, past_tree, past_mark, past_row, IsMarkAt, IsRowAt, kinds_past}
 use Rattle.markdown_run_text.specs.RowStart.{IsFresh}
 use Rattle.markdown_run_text.specs.OpenStarts.{Opened, none_waits, waits, assembled, put, put_tree, made_front, tail_of, marked_with, opened_by, brackets_of}

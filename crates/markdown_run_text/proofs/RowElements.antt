@@ -6,8 +6,8 @@ use Rattle.markdown_engine_content.specs.Tree.{Forest, empty, leaf, ◌⊕◌}
 use Rattle.markdown_event.specs.declared.event.Name.TheVariants as N
 use Rattle.markdown_engine_content.specs.declared.label_kind.LabelKind.{LabelKind}
 use Rattle.markdown_run_text.specs.CutData.{split}
-use Rattle.markdown_label_pass.specs.Brackets.{grouped}
-use Rattle.markdown_label_pass.proofs.BracketJoinLemmas.{row-assoc, joined-append}
+use Rattle.markdown_label.specs.Brackets.{grouped}
+use Rattle.markdown_label.proofs.BracketJoinLemmas.{row-assoc, joined-append}
 use Rattle.markdown_model.specs.BracketGroups.{Bracketed, item, opens, closes, onto, nest, after_loose, joined}
 use Rattle.markdown_model.specs.LabelEnd.{Element, plain, starts, ends}
 use Rattle.markdown_model.specs.Passes.{Start, End, as_bracket, labelled, loose_start, loose_end, label_group, labels_of}

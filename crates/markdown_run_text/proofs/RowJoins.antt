@@ -1,6 +1,6 @@
 -- Past one row and then another.
 use Rattle.std.proofs.Common.{◌≡◌, ℕ, ◌+◌, List, ◌++◌, length, None, refl, sym, ap, ◌∙◌, append_assoc}
-use Rattle.markdown_label_pass.proofs.EventsOfBrackets.{last-join}
+use Rattle.markdown_label.proofs.EventsOfBrackets.{last-join}
 use Rattle.markdown_engine.specs.PastTree.{last_link}
 use Rattle.markdown_engine_content.specs.Tree.{Forest, empty, leaf_then, group_then, ◌⊕◌, leaf_codes, event_count}
 use Rattle.markdown_engine_content.specs.declared.label_kind.LabelKind.{LabelKind}

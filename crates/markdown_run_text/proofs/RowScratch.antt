@@ -18,7 +18,7 @@ use Rattle.markdown_attention.specs.RunsOfTree.{has_run}
 use Rattle.markdown_label.specs.LabelFields.{bars, with_kind, as_link, marked, labelled, loosened}
 use Rattle.markdown_label.specs.LabelEnd.{end_tree, ended_at, starts_set, made, end_made, lost_by}
 use Rattle.markdown_label.proofs.LabelEndLemmas.{scratch-before, input-before}
-use Rattle.markdown_label_pass.specs.LabelsHandedOver.{unlabelled}
+use Rattle.markdown_label.specs.LabelsHandedOver.{unlabelled}
 use Rattle.markdown_engine_content.specs.ListFunctions.{rest_of}
 use Rattle.markdown_model.specs.LabelEnd.{is_image}
 use Rattle.markdown_model.specs.Passes.{start_tree}

@@ -13,7 +13,7 @@ use Rattle.markdown_engine_content.proofs.TreeCodes.{leaf_codes-row}
 use Rattle.markdown_attention.specs.RunsRead.{is_run}
 use Rattle.markdown_attention.specs.RunsOfTree.{has_run}
 use Rattle.markdown_run_text.specs.CutData.{HasCodes}
-use Rattle.markdown_label_pass.specs.Brackets.{grouped}
+use Rattle.markdown_label.specs.Brackets.{grouped}
 use Rattle.markdown_model.specs.LabelEnd.{Element, plain, starts, ends}
 use Rattle.markdown_model.specs.Passes.{End, label_group, label_name, start_marker, start_tree, labels_of}
 use Rattle.markdown_model.proofs.LabelsCover.{codes-label_group}

@@ -1,9 +1,9 @@
 -- Where a row begins no label and makes none, its trees stand as they are.
 use Rattle.std.proofs.Common.{◌≡◌, false, refl, sym, ap, ◌∙◌}
 use Rattle.markdown_engine_content.specs.Tree.{Forest, empty, ◌⊕◌}
-use Rattle.markdown_label_pass.specs.Brackets.{Brackets, nothing, tree_then, flat, grouped}
-use Rattle.markdown_label_pass.specs.BracketsJoined.{behind}
-use Rattle.markdown_label_pass.proofs.BracketJoinLemmas.{flat-behind, grouped-behind}
+use Rattle.markdown_label.specs.Brackets.{Brackets, nothing, tree_then, flat, grouped}
+use Rattle.markdown_label.specs.BracketsJoined.{behind}
+use Rattle.markdown_label.proofs.BracketJoinLemmas.{flat-behind, grouped-behind}
 use Rattle.markdown_run_text.specs.RowStart.{row_registers}
 use Rattle.markdown_run_text.specs.OpenStarts.{none_waits, assembled, opened_by, brackets_of}
 use Rattle.markdown_run_text.specs.Row.{begins, makes, loses, Row, row_end, row_then}

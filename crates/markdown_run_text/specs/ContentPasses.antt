@@ -10,8 +10,8 @@ use Rattle.markdown_attention.specs.RunsOfTree.{IsOf, HasRuns}
 pub use Rattle.markdown_attention.specs.AttentionPass.{MayPair}
 use Rattle.markdown_attention.specs.AttentionPass.{IsProbed}
 use Rattle.markdown_attention.specs.AttentionTrees.{IsStriped}
-use Rattle.markdown_label_pass.specs.Brackets.{Brackets, grouped}
-use Rattle.markdown_label_pass.specs.LabelsHandedOver.{HasBrackets, MayGroup, unlabelled}
+use Rattle.markdown_label.specs.Brackets.{Brackets, grouped}
+use Rattle.markdown_label.specs.LabelsHandedOver.{HasBrackets, MayGroup, unlabelled}
 use Rattle.markdown_model.specs.BracketGroups.{paired}
 use Rattle.markdown_model.specs.Pairs.{pair_list}
 use Rattle.markdown_model.specs.Passes.{with_emails_apart, merged, trimmed}

@@ -5,7 +5,7 @@ use Rattle.markdown_engine.specs.PastTree.{moved_by}
 use Rattle.markdown_state.specs.declared.resolve.ResolveName.{ResolveName}
 use Rattle.markdown_state.specs.declared.resolve.ResolveName.TheVariants as R
 use Rattle.markdown_engine.specs.declared.tokenizer.Tokenizer.{Tokenizer}
-use Rattle.markdown_label_pass.specs.LabelsHandedOver.{unlabelled}
+use Rattle.markdown_label.specs.LabelsHandedOver.{unlabelled}
 use Rattle.markdown_run_text.specs.Row.{Mark, begins, makes, loses, Row, row_end, row_then}
 
 -- no event and no label yet, and the fields of ends at rest

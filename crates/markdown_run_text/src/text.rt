@@ -1,4 +1,4 @@
-//! The states of text content, as in paragraphs and headings (CommonMark 6). The pass `resolve` sets whitespace and email literals apart.
+//! The states of text content, as in paragraphs and headings (CommonMark 6). Its pass is `text::resolve` of `markdown_run`.
 //!
 //!     text ::= gfm_task_list_item_check? element*
 //!     element ::= character_escape | hard_break_escape | character_reference | raw_text | autolink | html_text | attention_run
@@ -7,7 +7,7 @@
 //! At each code the first of these that holds is the element; data holds everywhere.
 //!
 //! Events: those of the constructs, and `Data` and `LineEnding`. After the run the passes go over all events, in this order: `label_groups`,
-//! attention's `grouping`, `partial_data`, and here `partial_whitespace` and, where they are on, `email`.
+//! attention's `grouping`, `partial_data`, and in `text::resolve` `partial_whitespace` and, where they are on, `email`.
 //!
 //! Example: `see *that*, [this](b) and &amp;`.
 //!
@@ -22,7 +22,6 @@ ghost use Rattle.markdown_engine.specs.Operations.{scratched};
 ghost use Rattle.markdown_engine_index.specs.RunIndex.{last_runs};
 ghost use Rattle.markdown_engine_index.specs.SequenceIndex.{last_begins};
 ghost use Rattle.markdown_plan.specs.Characters.{ReadsText};
-ghost use Rattle.markdown_run_text.specs.ContentPasses.{MayFinish, FinishesText};
 ghost use Rattle.markdown_run_text.specs.TextContent.{ended_fields, indexed_fields, named_fields, names_for, names_change, names_in, names_pay, order_pays, brackets_in, brackets_pay, titles_for, titles_pay, domains_for};
 ghost use Rattle.markdown_run_text.specs.TextContent.{domains_pay, span_markers, data_markers, first_try, sole_try, attempt_step, start_step, before_step, before_html_step, before_hard_break_escape_step, before_label_start_link_step, before_data_step};
 
@@ -31,16 +30,13 @@ use markdown_engine::tokenizer::Tokenizer;
 use markdown_engine_content::byte_table;
 use markdown_engine_content::bytes::{ByteSet, ByteTable};
 use markdown_engine_content::cursor::Cursor;
-use markdown_engine_events::subtokenize::Subresult;
 use markdown_engine_index::run_index::RunIndex;
 use markdown_engine_index::sequence_index::{Sequence, SequenceIndex};
 use markdown_engine_index::title_index::TitleIndex;
 use markdown_engine_names::bracket_index::BracketIndex;
 use markdown_engine_names::name_index::Names;
-use markdown_leaf_email_pass::email;
-use markdown_leaf_email_pass::settled::is_settled;
 use markdown_leaf_gfm::domain_outlook;
-use markdown_partial::{literal_letters, partial_whitespace};
+use markdown_partial::literal_letters;
 use markdown_state::resolve::ResolveName;
 use markdown_state::state::{State, StateName};
 use std::alloc::AllocError;
@@ -486,32 +482,4 @@ pub fn before_data(tokenizer: &mut Tokenizer) -> Result<State, AllocError>
 {
     tokenizer.attempt(State::Next(StateName::TextBefore), State::Nok)?;
     Ok(State::Retry(StateName::DataStart))
-}
-
-/// After the run over a text: sets whitespace beside line endings, and at the start and the end of the whole, apart; where they are on, finds
-/// hard breaks by spaces (CommonMark 6.7) and sets email literals apart (GFM 6.9).
-///
-/// The error comes where memory is refused; then `failed` is true.
-#[inline(always)]
-pub fn resolve(tokenizer: &mut Tokenizer) -> Result<Option<Subresult>, AllocError>
-    requires { MayFinish tokenizer.old }
-    ensures none { IfOk result (λ r. r ≡ None) }
-    ensures ok { IfOk result (λ _. FinishesText tokenizer.old tokenizer.new) }
-    ensures err { OnErr result (IsTrue tokenizer.new.failed) }
-{
-    let bytes = tokenizer.parse_state.bytes;
-    let hard_break = tokenizer.parse_state.options.constructs.hard_break_trailing;
-    let emails = tokenizer
-        .parse_state
-        .options
-        .constructs
-        .gfm_autolink_literal;
-    if emails && is_settled(bytes, &tokenizer.events, true) {
-        return Ok(None);
-    }
-    partial_whitespace::resolve_whitespace(tokenizer, hard_break, true)?;
-    if emails {
-        email::resolve(tokenizer)?;
-    }
-    Ok(None)
 }

@@ -12,7 +12,7 @@ use Rattle.markdown_engine.specs.declared.tokenizer.TokenizeState.{TokenizeState
 use Rattle.markdown_engine.specs.declared.tokenizer.Tokenizer.{Tokenizer}
 use Rattle.markdown_attention.proofs.AttentionTreeLabels.{IsGood}
 use Rattle.markdown_attention.proofs.MarkerCodes.{singles-content}
-use Rattle.markdown_label_pass.specs.Brackets.{grouped}
+use Rattle.markdown_label.specs.Brackets.{grouped}
 use Rattle.markdown_model.specs.Elements.{text_choice}
 use Rattle.markdown_model.specs.Setting.{Setting}
 use Rattle.markdown_run_text.specs.OpenStarts.{brackets_of}

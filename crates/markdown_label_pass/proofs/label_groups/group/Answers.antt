@@ -3,8 +3,8 @@ use Rattle.std.proofs.Common.{◌∙◌, List, length, sym, ap, subst}
 use Rattle.std.specs.List.{All}
 use Rattle.markdown_engine.specs.declared.tokenizer.Label.{Label}
 use Rattle.markdown_engine.specs.declared.tokenizer.LabelStart.{LabelStart}
-use Rattle.markdown_label_pass.specs.Brackets.{IsWithin, IsStartWithin}
-use Rattle.markdown_label_pass.specs.LabelsHandedOver.{starts_of}
+use Rattle.markdown_label.specs.Brackets.{IsWithin, IsStartWithin}
+use Rattle.markdown_label.specs.LabelsHandedOver.{starts_of}
 use Rattle.markdown_label_pass.proofs.LabelsHandedOverLemmas.{has-labels, has-unused, has-failed, has-may, has-group, asked}
 use Rattle.markdown_label_pass.proofs.label_groups.group.Goals as goal
 

@@ -1,6 +1,6 @@
 -- The labels so far are marked.
 use Rattle.std.proofs.Common.{◌≡◌, ◌++◌, take}
-use Rattle.markdown_label_pass.specs.Brackets.{labels_edits}
+use Rattle.markdown_label.specs.Brackets.{labels_edits}
 use Rattle.markdown_label_pass.proofs.label_groups.mark_labels.Given as goal
 
 -- the edits of the labels so far

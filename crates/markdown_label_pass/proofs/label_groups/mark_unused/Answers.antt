@@ -1,7 +1,7 @@
 -- The top is marked and taken off.
 use Rattle.std.proofs.Common.{◌++◌, length}
-use Rattle.markdown_label_pass.specs.Brackets.{loose_edits}
-use Rattle.markdown_label_pass.specs.LabelsHandedOver.{starts_of}
+use Rattle.markdown_label.specs.Brackets.{loose_edits}
+use Rattle.markdown_label.specs.LabelsHandedOver.{starts_of}
 use Rattle.markdown_label_pass.proofs.LabelsHandedOverLemmas.{starts-top, rest-within}
 use Rattle.markdown_label_pass.proofs.label_groups.mark_unused.Goals as goal
 

@@ -1,8 +1,8 @@
 -- The starts so far are marked, and the rest is still to come.
 use Rattle.std.proofs.Common.{◌≡◌, ◌++◌, length}
 use Rattle.std.specs.List.{All}
-use Rattle.markdown_label_pass.specs.Brackets.{loose_edits, IsStartWithin}
-use Rattle.markdown_label_pass.specs.LabelsHandedOver.{starts_of}
+use Rattle.markdown_label.specs.Brackets.{loose_edits, IsStartWithin}
+use Rattle.markdown_label.specs.LabelsHandedOver.{starts_of}
 use Rattle.markdown_label_pass.proofs.label_groups.mark_unused.Given as goal
 
 -- the edits of the starts so far, and those that are still to come

@@ -9,8 +9,8 @@ use Rattle.markdown_attention.specs.AttentionTrees.{IsStriped}
 use Rattle.markdown_model.specs.BracketGroups.{paired}
 use Rattle.markdown_model.specs.Pairs.{pair_list}
 use Rattle.markdown_model.specs.Setting.{Setting}
-use Rattle.markdown_label_pass.specs.Brackets.{Brackets, grouped}
-use Rattle.markdown_label_pass.specs.LabelsHandedOver.{HasBrackets, unlabelled}
+use Rattle.markdown_label.specs.Brackets.{Brackets, grouped}
+use Rattle.markdown_label.specs.LabelsHandedOver.{HasBrackets, unlabelled}
 use Rattle.markdown_run_text.specs.ContentPasses.{GroupsLabels, PairsRuns, resolves_of}
 use Rattle.markdown_run.proofs.resolve.dispatch.Goals as goal
 

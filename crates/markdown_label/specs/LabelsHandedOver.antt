@@ -5,7 +5,7 @@ use Rattle.markdown_event.specs.declared.event.Event.{Event}
 use Rattle.markdown_engine.specs.declared.tokenizer.LabelStart.{LabelStart}
 use Rattle.markdown_engine.specs.declared.tokenizer.TokenizeState.{TokenizeState}
 use Rattle.markdown_engine.specs.declared.tokenizer.Tokenizer.{Tokenizer}
-use Rattle.markdown_label_pass.specs.Brackets.{Brackets, flat, IsApart, labels_at, unused_at, failed_at}
+use Rattle.markdown_label.specs.Brackets.{Brackets, flat, IsApart, labels_at, unused_at, failed_at}
 
 -- the numbers of starts
 abbrev pub starts_of : List LabelStart → List (ℕ × ℕ)

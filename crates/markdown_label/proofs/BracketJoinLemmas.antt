@@ -8,8 +8,8 @@ use Rattle.markdown_event.specs.declared.event.Name.{Name}
 use Rattle.markdown_engine.specs.declared.tokenizer.Label.{Label}
 use Rattle.markdown_model.specs.BracketGroups.{joined}
 use Rattle.markdown_model.specs.Passes.{label_group}
-use Rattle.markdown_label_pass.specs.Brackets.{Front, codes_of, grouped, Tail, tail_row, start_row, end_row, kind_of, Brackets, nothing, tree_then, label_then, unused_then, failed_then, flat, IsApart, last_of, count, numbers_of, labels_at, unused_at, failed_at}
-use Rattle.markdown_label_pass.specs.BracketsJoined.{behind, IsClosed}
+use Rattle.markdown_label.specs.Brackets.{Front, codes_of, grouped, Tail, tail_row, start_row, end_row, kind_of, Brackets, nothing, tree_then, label_then, unused_then, failed_then, flat, IsApart, last_of, count, numbers_of, labels_at, unused_at, failed_at}
+use Rattle.markdown_label.specs.BracketsJoined.{behind, IsClosed}
 
 pub row-assoc : (t u v : Forest) → (t ⊕ u) ⊕ v ≡ t ⊕ (u ⊕ v)
 row-assoc empty u v = refl

@@ -1,6 +1,6 @@
 use Rattle.markdown_partial.proofs.TrimPassLaw.{places-of}
-use Rattle.markdown_run_text.proofs.TextPassLaw.{places-there, finishes-with}
-use Rattle.markdown_run_text.proofs.text.resolve.Goals as goal
+use Rattle.markdown_run.proofs.TextPassLaw.{places-there, finishes-with}
+use Rattle.markdown_run.proofs.text.resolve.Goals as goal
 
 pub is_settled-requires-clause-places : goal.is_settled-requires-clause-places
 is_settled-requires-clause-places c = places-of _ c.requires.tree.0 _ c.requires.tree.1.0 c.requires.tree.1.1

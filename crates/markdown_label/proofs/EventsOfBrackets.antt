@@ -10,8 +10,8 @@ use Rattle.markdown_event.specs.declared.event.Name.{Name}
 use Rattle.markdown_engine.proofs.TreeEvents.{appended_from-row}
 use Rattle.markdown_model.specs.Passes.{label_group, label_name, start_marker, start_tree}
 use Rattle.markdown_engine.specs.OrderedEdits.{Part, comes, stays, before_from, after_from}
-use Rattle.markdown_label_pass.specs.Brackets.{Front, link_front, image_front, call_front, caret_front, kind_of, codes_of, start_row, end_row, Tail, no_tail, one_tail, tail_row, Brackets, nothing, tree_then, label_then, unused_then}
-use Rattle.markdown_label_pass.specs.Brackets.{failed_then, flat, grouped, IsApart, last_of, count, opened_of, ended, closed, as_data, first_start, last_stop, going_of, start_events, end_events, tail_stop, parts_of}
+use Rattle.markdown_label.specs.Brackets.{Front, link_front, image_front, call_front, caret_front, kind_of, codes_of, start_row, end_row, Tail, no_tail, one_tail, tail_row, Brackets, nothing, tree_then, label_then, unused_then}
+use Rattle.markdown_label.specs.Brackets.{failed_then, flat, grouped, IsApart, last_of, count, opened_of, ended, closed, as_data, first_start, last_stop, going_of, start_events, end_events, tail_stop, parts_of}
 
 -- Rows.
 
