@@ -1,4 +1,5 @@
 pub mod RunIndexLemmas
 pub mod RunIndexFacts
+mod RunIndexOrder
 pub mod SequenceIndexLemmas
 pub mod TitleIndexLemmas

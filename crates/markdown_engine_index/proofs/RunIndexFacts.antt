@@ -33,7 +33,7 @@ tied-key a b e =
     let second : a.1 ≡ b.1 = eqb-true a.1 b.1 (and-right (a.0 == b.0) (a.1 == b.1) both) in
     ap (λ v. (v, a.1)) first ∙ ap (λ n. (b.0, n)) second
 
-equal-key : (a b : Key) → key_cmp a b ≡ Equal → a ≡ b
+pub equal-key : (a b : Key) → key_cmp a b ≡ Equal → a ≡ b
 equal-key a b e = tied-key a b (ap is_eq e)
 
 -- an entry that was put in

@@ -1,8 +1,9 @@
 -- Runs of one code, and where the last one of each length begins.
-use Rattle.std.specs.Prelude.{ℕ, suc, ◌+◌, nat_lt, Bool, true, false, ◌&&◌, not, ◌==◌, if◌then◌else◌, List, [], ◌∷◌, Option, Some, None}
+use Rattle.std.specs.Prelude.{◌≡◌, ℕ, suc, ◌+◌, ◌<◌, ◌≤◌, nat_lt, Bool, true, false, ◌&&◌, not, ◌==◌, if◌then◌else◌, List, [], ◌∷◌, length, slice_index_or, slice_set, Option, Some, None}
 use Rattle.std.specs.BTreeMap.{insert_entry, is_at}
-use Rattle.std.specs.List.{list_any}
-use Rattle.std.specs.Map.{lookup}
+use Rattle.std.specs.List.{insert, list_any}
+use Rattle.std.specs.List.Sorted.{IsStrictlySortedBy}
+use Rattle.std.specs.Map.{keys_of, lookup}
 use Rattle.std.specs.Ordering.{nat_cmp, ordering_then}
 use Rattle.std.specs.declared.cmp.Ordering.{Ordering}
 use Rattle.markdown_engine_content.specs.Codes.{Code}
@@ -88,3 +89,21 @@ rules_out runs value size at = is_asked runs.asked value && begins_before at (en
 -- past all codes of this value that come next
 abbrev pub past_run : ℕ → Place → Place
 past_run value p = record p { at = p.at + leading value (ahead_at p) }
+
+-- Where an entry stands.
+
+-- each value and size comes once, in their order
+abbrev pub IsInOrder : List (Key × ℕ) → Type 0
+IsInOrder entries = IsStrictlySortedBy key_cmp (keys_of entries)
+
+-- the entry of this value and size stands at place i
+pub record IsAt (entries : List (Key × ℕ)) (key : Key) (i : ℕ) : Type 0 where
+  pub in_range : i < length entries
+  pub holds : (d : Key × ℕ) → entry_at key entries ≡ Some (slice_index_or entries i d).1
+  pub takes : (at : ℕ) → slice_set entries i (key, at) ≡ insert_entry key_cmp entries key at
+
+-- there is none of this value and size, and it would go to place i
+pub record IsGapFor (entries : List (Key × ℕ)) (key : Key) (i : ℕ) : Type 0 where
+  pub in_range : i ≤ length entries
+  pub lacks : entry_at key entries ≡ None
+  pub takes : (at : ℕ) → insert entries i (key, at) ≡ insert_entry key_cmp entries key at

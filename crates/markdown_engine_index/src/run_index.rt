@@ -1,11 +1,11 @@
 // Where the last run of each length begins.
-ghost use Rattle.std.specs.Prelude.{◌≡◌, IfOk};
-ghost use Rattle.markdown_engine_index.specs.RunIndex.{last_runs, no_runs, without_runs, rules_out, past_run};
+ghost use Rattle.std.specs.Prelude.{◌≡◌, IfErr, IfOk, OnOk};
+ghost use Rattle.std.specs.BTreeMap.{insert_entry};
+ghost use Rattle.markdown_engine_index.specs.RunIndex.{last_runs, no_runs, without_runs, rules_out, past_run, key_cmp, IsInOrder, IsAt, IsGapFor};
 
 use markdown_engine_content::bytes::{ByteSet, NO_BYTES};
 use markdown_engine_content::cursor::Cursor;
 use std::alloc::{AllocError, Global};
-use std::collections::BTreeMap;
 use std::marker::Model;
 
 /// For some bytes, where the last run of each length begins in a content: what ends at a run of one length need not be looked for where there
@@ -18,16 +18,18 @@ use std::marker::Model;
 #[derive(Drop)]
 pub struct RunIndex {
     asked: ByteSet,
-    // By byte and length.
-    last: BTreeMap<(u8, usize), usize>,
+    // Of each byte and length, in their order: how many codes stand before the last run.
+    last: Vec<((u8, usize), usize)>,
 }
 
 impl Model for RunIndex {
-    ghost use Rattle.markdown_engine_index.specs.RunIndex.{LastRuns};
+    ghost use Rattle.markdown_engine_index.specs.RunIndex.{LastRuns, IsInOrder};
 
     ghost Value = { LastRuns };
 
-    ghost view = { λ r. record { asked = r.asked; entries = r.last.entries } };
+    ghost view = { λ r. record { asked = r.asked; entries = r.last.items } };
+
+    ghost invariant = { λ r. IsInOrder r.last.items };
 }
 
 impl RunIndex {
@@ -44,7 +46,7 @@ impl RunIndex {
     {
         RunIndex {
             asked,
-            last: BTreeMap::new(alloc),
+            last: Vec::new(alloc),
         }
     }
 
@@ -54,16 +56,13 @@ impl RunIndex {
     pub fn over(alloc: Global, cursor: &Cursor, asked: ByteSet) -> Result<RunIndex, AllocError>
         ensures { IfOk result (λ r. r ≡ last_runs asked cursor.now.codes) }
     {
-        let mut last = BTreeMap::new(alloc);
+        let mut last = Vec::new(alloc);
         let mut place = cursor.restart();
         while let Some(code) = place.seek(&asked) {
             let begins = place.passed();
             pass_run(&mut place, code);
             if asked.contains(code) {
-                let added = last.insert((code, place.passed() - begins), begins);
-                if added.is_err() {
-                    return Err(AllocError);
-                }
+                put(&mut last, (code, place.passed() - begins), begins)?;
             }
         }
         Ok(RunIndex { asked, last })
@@ -77,10 +76,39 @@ impl RunIndex {
         if !self.asked.contains(byte) {
             return false;
         }
-        match self.last.get(&(byte, size)) {
-            Some(begins) => *begins < at,
-            None => true,
+        match search(self.last.as_slice(), (byte, size)) {
+            Ok(found) => self.last[found].1 < at,
+            Err(_) => true,
         }
+    }
+}
+
+// Where a byte and a length stand among these, which are in order, or where they would go.
+fn search(last: &[((u8, usize), usize)], run: (u8, usize)) -> Result<usize, usize>
+    requires { IsInOrder last.now }
+    ensures found { IfOk result (IsAt last.now run) }
+    ensures absent { IfErr result (IsGapFor last.now run) }
+{
+    last.binary_search_by_key(&run, |&(it, _)| it)
+}
+
+// Notes where the last run of a byte and a length begins. The entries behind a new one are moved; `k` lengths take about `k * k / 2` codes, so
+// all moves over a content are linear in it.
+fn put(
+    last: &mut Vec<((u8, usize), usize)>,
+    run: (u8, usize),
+    begins: usize,
+) -> Result<(), AllocError>
+    requires { IsInOrder last.old.items }
+    ensures order { IsInOrder last.new.items }
+    ensures ok { OnOk result (last.new.items ≡ insert_entry key_cmp last.old.items run begins) }
+{
+    match search(last.as_slice(), run) {
+        Ok(found) => {
+            last[found] = (run, begins);
+            Ok(())
+        }
+        Err(gap) => Ok(last.insert(gap, (run, begins))?),
     }
 }
 

@@ -1,32 +1,32 @@
-use Rattle.std.proofs.Common.{◌≡◌, ◌∙◌, ◌-◌, arith, true, false, sym, ap, Result, Ok, Err}
-use Rattle.std.specs.Result.{is_err, OnOk}
-use Rattle.markdown_engine_index.specs.RunIndex.{with_run}
+use Rattle.std.proofs.Common.{◌≡◌, ◌∙◌, ◌-◌, arith, true, false, sym, ap, subst}
+use Rattle.markdown_engine_index.specs.RunIndex.{with_run, IsInOrder}
 use Rattle.markdown_engine_index.proofs.RunIndexLemmas.{start-entries, asked-entries, found-past, found-at, run-shorter, found-all}
+use Rattle.markdown_engine_index.proofs.RunIndexOrder.{none-ordered}
 use Rattle.markdown_engine_content.proofs.StretchLemmas.{left-behind}
 use Rattle.markdown_engine_index.proofs.run_index.RunIndex.over.Goals as goal
 
--- what an `Ok` says
-added : {A E P : Type 0} (r : Result A E) → is_err r ≡ false → OnOk r P → P
-added (Ok x) e k = k
-added (Err x) e k = cc
-
 pub loop-code-init : goal.loop-code-init
 loop-code-init c =
-    start-entries c.args.asked c.args.cursor.now c.restart-place.result c.new-last.result.entries c.restart-place.ensures c.new-last.ensures.empty
+    (start-entries c.args.asked c.args.cursor.now c.restart-place.result c.new-last.result.items c.restart-place.ensures c.new-last.ensures.items, subst IsInOrder (sym c.new-last.ensures.items) none-ordered)
 
-pub loop-code-smaller-else-is_err : goal.loop-code-smaller-else-is_err
-loop-code-smaller-else-is_err c =
+pub put-requires : goal.put-requires
+put-requires c = c.loop-code.invariant.1
+
+pub loop-code-smaller-in-Continue-1 : goal.loop-code-smaller-in-Continue-1
+loop-code-smaller-in-Continue-1 c =
     left-behind c.args.asked c.loop-code.place c.seek.new.self c.pass_run.new.cursor c.in-Some.code c.seek.ensures.place (sym c.seek.ensures.code ∙ c.in-Some.is)
     (omega (arith, run-shorter c.in-Some.code c.seek.new.self c.pass_run.new.cursor (sym c.seek.ensures.code ∙ c.in-Some.is) c.pass_run.ensures))
 
-pub loop-code-preserved-else-is_err : goal.loop-code-preserved-else-is_err
-loop-code-preserved-else-is_err c =
-    found-past c.args.asked c.in-Some.code c.seek.new.self c.pass_run.new.cursor c.args.cursor.now.codes c.loop-code.last.entries c.insert-added.new.self.entries (sym c.seek.ensures.code ∙ c.in-Some.is) c.pass_run.ensures
-    (added c.insert-added.result (sym c.is_err.ensures.value ∙ c.if-is_err.false) c.insert-added.ensures.entries
-    ∙ ap (λ n. with_run true (c.in-Some.code, n - c.passed-begins.result) c.passed-begins.result c.loop-code.last.entries) c.passed.ensures
-    ∙ ap (λ n. with_run true (c.in-Some.code, c.pass_run.new.cursor.at - n) n c.loop-code.last.entries) c.passed-begins.ensures
-    ∙ asked-entries c.args.asked c.in-Some.code (c.pass_run.new.cursor.at - c.seek.new.self.at) c.seek.new.self.at true c.loop-code.last.entries (sym c.if-contains.true ∙ c.contains.ensures))
-    (found-at c.args.asked c.loop-code.place c.seek.new.self c.args.cursor.now.codes c.loop-code.last.entries c.seek.ensures.place c.loop-code.invariant)
+pub loop-code-preserved-in-Continue-1 : goal.loop-code-preserved-in-Continue-1
+loop-code-preserved-in-Continue-1 c = (
+  found-past c.args.asked c.in-Some.code c.seek.new.self c.pass_run.new.cursor c.args.cursor.now.codes c.loop-code.last.items c.put.new.last.items (sym c.seek.ensures.code ∙ c.in-Some.is) c.pass_run.ensures
+      (c.in_ok-put.ensures.ok
+      ∙ ap (λ n. with_run true (c.in-Some.code, n - c.passed-begins.result) c.passed-begins.result c.loop-code.last.items) c.passed.ensures
+      ∙ ap (λ n. with_run true (c.in-Some.code, c.pass_run.new.cursor.at - n) n c.loop-code.last.items) c.passed-begins.ensures
+      ∙ asked-entries c.args.asked c.in-Some.code (c.pass_run.new.cursor.at - c.seek.new.self.at) c.seek.new.self.at true c.loop-code.last.items (sym c.if-contains.true ∙ c.contains.ensures))
+      (found-at c.args.asked c.loop-code.place c.seek.new.self c.args.cursor.now.codes c.loop-code.last.items c.seek.ensures.place c.loop-code.invariant.0),
+  c.in_ok-put.ensures.order,
+)
 
 pub loop-code-smaller : goal.loop-code-smaller
 loop-code-smaller c =
@@ -34,12 +34,17 @@ loop-code-smaller c =
     (omega (arith, run-shorter c.in-Some.code c.seek.new.self c.pass_run.new.cursor (sym c.seek.ensures.code ∙ c.in-Some.is) c.pass_run.ensures))
 
 pub loop-code-preserved : goal.loop-code-preserved
-loop-code-preserved c =
-    found-past c.args.asked c.in-Some.code c.seek.new.self c.pass_run.new.cursor c.args.cursor.now.codes c.loop-code.last.entries c.loop-code.last.entries (sym c.seek.ensures.code ∙ c.in-Some.is) c.pass_run.ensures
-    (asked-entries c.args.asked c.in-Some.code (c.pass_run.new.cursor.at - c.seek.new.self.at) c.seek.new.self.at false c.loop-code.last.entries (sym c.if-contains.false ∙ c.contains.ensures))
-    (found-at c.args.asked c.loop-code.place c.seek.new.self c.args.cursor.now.codes c.loop-code.last.entries c.seek.ensures.place c.loop-code.invariant)
+loop-code-preserved c = (
+  found-past c.args.asked c.in-Some.code c.seek.new.self c.pass_run.new.cursor c.args.cursor.now.codes c.loop-code.last.items c.loop-code.last.items (sym c.seek.ensures.code ∙ c.in-Some.is) c.pass_run.ensures
+      (asked-entries c.args.asked c.in-Some.code (c.pass_run.new.cursor.at - c.seek.new.self.at) c.seek.new.self.at false c.loop-code.last.items (sym c.if-contains.false ∙ c.contains.ensures))
+      (found-at c.args.asked c.loop-code.place c.seek.new.self c.args.cursor.now.codes c.loop-code.last.items c.seek.ensures.place c.loop-code.invariant.0),
+  c.loop-code.invariant.1,
+)
+
+pub invariant_of-result : goal.invariant_of-result
+invariant_of-result c = c.loop-code.invariant.1
 
 pub returns : goal.returns
 returns c =
-    found-all c.args.asked c.seek.new.self c.args.cursor.now.codes c.loop-code.last.entries (sym c.seek.ensures.code ∙ c.in_default.is)
-    (found-at c.args.asked c.loop-code.place c.seek.new.self c.args.cursor.now.codes c.loop-code.last.entries c.seek.ensures.place c.loop-code.invariant)
+    found-all c.args.asked c.seek.new.self c.args.cursor.now.codes c.loop-code.last.items (sym c.seek.ensures.code ∙ c.in_default.is)
+    (found-at c.args.asked c.loop-code.place c.seek.new.self c.args.cursor.now.codes c.loop-code.last.items c.seek.ensures.place c.loop-code.invariant.0)

@@ -1,11 +1,11 @@
 use Rattle.std.proofs.Common.{◌≡◌, [], None, length}
 use Rattle.markdown_engine_content.specs.Place.{ahead_at}
-use Rattle.markdown_engine_index.specs.RunIndex.{entries_from}
+use Rattle.markdown_engine_index.specs.RunIndex.{entries_from, IsInOrder}
 use Rattle.markdown_engine_index.proofs.run_index.RunIndex.over.Given as goal
 
 abbrev pub invariant-loop-code : goal.invariant-loop-code
 invariant-loop-code l =
-    (l.place.codes ≡ l.cursor.codes) × (entries_from l.asked None 0 l.cursor.codes [] ≡ entries_from l.asked None l.place.at (ahead_at l.place) l.last.entries)
+    ((l.place.codes ≡ l.cursor.codes) × (entries_from l.asked None 0 l.cursor.codes [] ≡ entries_from l.asked None l.place.at (ahead_at l.place) l.last.items)) × IsInOrder l.last.items
 
 abbrev pub decreases-loop-code : goal.decreases-loop-code
 decreases-loop-code l = length (ahead_at l.place)
