@@ -20,3 +20,5 @@ pub mod TrimmedDataInDocument
 pub mod EscapedTextReadings
 pub mod LinkedTreeLemmas
 pub mod PartialDestinationReadings
+pub mod BoolLemmas
+pub mod LinkedTextLines

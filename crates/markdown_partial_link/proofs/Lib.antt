@@ -1,6 +1,4 @@
-pub mod BoolLemmas
 pub mod PartialDestinationLaws
-pub mod LinkedTextLines
 pub mod LinkedTextReadings
 pub mod LinkedTextLineEnding
 pub mod LinkedTextSteps

@@ -14,7 +14,7 @@ use Rattle.markdown_engine.proofs.SteadyLemmas.{steady-at}
 use Rattle.markdown_model.specs.CodeTests.{is_between}
 use Rattle.markdown_partial.specs.PartialDestination.{enclosed_at, enclosed_step, enclosed_stops, raw_at, raw_step, raw_stops, stops_in, stops_value}
 use Rattle.markdown_plan.proofs.ByteTestLemmas.{no-control}
-use Rattle.markdown_partial_link.proofs.BoolLemmas.{same-value}
+use Rattle.markdown_partial.proofs.BoolLemmas.{same-value}
 use Rattle.markdown_partial.specs.PartialTitle.{inside_at, inside_step, inside_stops}
 
 pub enclosed-steady : (T : Tokenizer) (set : List ℕ) → stops_in DestinationEnclosed ≡ Some set →

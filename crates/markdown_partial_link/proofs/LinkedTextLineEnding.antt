@@ -37,8 +37,8 @@ use Rattle.markdown_partial.proofs.WhitespaceReadings.{ending-here, spacing-none
 use Rattle.markdown_partial.specs.LinkedTreeOps.{linked_ops}
 use Rattle.markdown_partial.specs.LinkedText.{string, eol_asked_for, TextReady}
 use Rattle.markdown_partial.proofs.LinkedTreeLemmas.{linked-past}
-use Rattle.markdown_partial_link.proofs.LinkedTextLines.{ending_leaves, Row-ending}
-use Rattle.markdown_partial_link.proofs.BoolLemmas.{same-value}
+use Rattle.markdown_partial.proofs.LinkedTextLines.{ending_leaves, Row-ending}
+use Rattle.markdown_partial.proofs.BoolLemmas.{same-value}
 use Rattle.markdown_model.proofs.LeafCodes.{span-append}
 use Rattle.markdown_engine.specs.StateWords.{Words, GoesIn, words_in}
 use Rattle.markdown_plan.proofs.LawStepsOfLayer.{Goes-attempt, FollowsIn}

@@ -11,8 +11,8 @@ use Rattle.markdown_plan.specs.Plan.{preceded}
 use Rattle.markdown_partial.specs.LinkedTreeOps.{linked_ops}
 use Rattle.markdown_partial.specs.LinkedText.{enter_text, break_ops, inside_ops, ends_filled, answer}
 use Rattle.markdown_partial.proofs.EscapedTextReadings.{Behind, first-some, text-end, text-taken, text-stops, text-refused, text-next, text-bare, text}
-use Rattle.markdown_partial_link.proofs.LinkedTextLines.{Begins, AreBlank, Ended, break-data, ending_leaves, break-ending, inside-more, inside-end}
-use Rattle.markdown_partial_link.proofs.BoolLemmas.{same-value}
+use Rattle.markdown_partial.proofs.LinkedTextLines.{Begins, AreBlank, Ended, break-data, ending_leaves, break-ending, inside-more, inside-end}
+use Rattle.markdown_partial.proofs.BoolLemmas.{same-value}
 use Rattle.markdown_model.proofs.LeafCodes.{span-append}
 use Rattle.markdown_model.proofs.GrammarSteps.{span-takes, span-none}
 

@@ -28,7 +28,7 @@ use Rattle.markdown_partial.specs.LinkedTreeOps.{plan_of}
 use Rattle.markdown_partial.proofs.PartialDestinationReadings.{enclosed-none, enclosed-close, enclosed-refused, enclosed-next, enclosed-taken, enclosed-bare, text-first, destination-bracket, raw-end, raw-open-end, raw-taken, raw-bare, stops}
 use Rattle.markdown_partial.proofs.PartialDestinationReadings.{raw-stop, raw-space, raw-control, raw-open, raw-deep, raw-close, raw-next, destination-raw, destination-end, destination-stops, destination-control, destination-covers}
 use Rattle.markdown_partial.proofs.LinkedTreeLemmas.{EndsAs-linked}
-use Rattle.markdown_partial_link.proofs.BoolLemmas.{same-value}
+use Rattle.markdown_partial.proofs.BoolLemmas.{same-value}
 use Rattle.markdown_model.proofs.GrammarSteps.{if-true, if-false, right-true}
 use Rattle.markdown_engine.specs.StateWords.{StateWords, Words, Law, GoesIn}
 use Rattle.markdown_plan.proofs.LawStepsOfLayer.{GoesOn-map, Goes-on, Goes-kept, Goes-next, Goes-ok, Goes-yes, Goes-nok, Goes-no}

@@ -20,7 +20,7 @@ use Rattle.markdown_partial.specs.LinkedText.{ending, string, break_ops, ends_fi
 use Rattle.markdown_partial.specs.PartialLabel.{opening, text_from, fits, break_plan}
 use Rattle.markdown_partial.proofs.EscapedTextReadings.{text, Gives-text}
 use Rattle.markdown_partial.proofs.LinkedTreeLemmas.{CoversRow, Row-leaf, Row-last, Row-string, Row-whole}
-use Rattle.markdown_partial_link.proofs.LinkedTextLines.{Begins, AreBlank, Row-lines}
+use Rattle.markdown_partial.proofs.LinkedTextLines.{Begins, AreBlank, Row-lines}
 use Rattle.markdown_partial_link.proofs.LinkedTextReadings.{filled-data, filled-ending, filled-none}
 use Rattle.markdown_partial_link.proofs.PartialTitleReadings.{of-white, filled-back, between-ops}
 use Rattle.markdown_model.proofs.GrammarSteps.{bind-some, bind-none, after-some, after-none, one-here, one-not, provided-true, provided-false}

@@ -29,7 +29,7 @@ use Rattle.markdown_partial_link.proofs.LinkedTextLineEnding.{Passed, DoesAs-end
 use Rattle.markdown_partial_link.proofs.LinkedTextReadings.{filled-data, filled-ending, filled-none, breaks-end, breaks-stop, breaks-data, breaks-ending, breaks-blank, insides-end, insides-next, insides-taken, insides-bare, leave-end, leave-stop, leave-ending}
 use Rattle.markdown_partial_link.proofs.LinkedTextSteps.{open-append, open-closed, open-rest, open-second, text-after, text-same, text-kept, rest-joined, DoesAs-fails, state-by, stays-data, moves-data, depth-data}
 use Rattle.markdown_partial_link.proofs.PartialTitleReadings.{title-plain, of-closer, title-none, title-double, title-single, title-paren, title-covers}
-use Rattle.markdown_partial_link.proofs.BoolLemmas.{or-by}
+use Rattle.markdown_partial.proofs.BoolLemmas.{or-by}
 use Rattle.markdown_model.proofs.GrammarSteps.{if-true, if-false}
 use Rattle.markdown_engine.specs.StateWords.{StateWords, Words, Law, GoesIn}
 use Rattle.markdown_plan.proofs.LawStepsOfLayer.{GoesOn-map, Goes-plain, Goes-end, Goes-on, Goes-kept, Goes-ok, Goes-no, FollowsIn, follows}

@@ -18,8 +18,8 @@ use Rattle.markdown_partial.specs.LinkedText.{closing, ending, string, break_ops
 use Rattle.markdown_partial.specs.PartialTitle.{opening, is_closer, text_from, begin_plan}
 use Rattle.markdown_partial.proofs.EscapedTextReadings.{Text, text-stops, text, Gives-text}
 use Rattle.markdown_partial.proofs.LinkedTreeLemmas.{CoversRow, Row-leaf, Row-last, Row-string, Row-whole}
-use Rattle.markdown_partial_link.proofs.LinkedTextLines.{text-group, Row-lines}
-use Rattle.markdown_partial_link.proofs.BoolLemmas.{same-value}
+use Rattle.markdown_partial.proofs.LinkedTextLines.{text-group, Row-lines}
+use Rattle.markdown_partial.proofs.BoolLemmas.{same-value}
 use Rattle.markdown_model.proofs.GrammarSteps.{bind-some, bind-none, after-some, after-none, one-here, one-not, provided-true, provided-false, either-first, either-second}
 
 -- The closing markers.

@@ -34,7 +34,7 @@ use Rattle.markdown_model.specs.LabelEnd.{bytes_between, full_reference, referen
 use Rattle.markdown_model.specs.Resource.{counted, label, reference_names, string_group}
 use Rattle.markdown_model.specs.Setting.{Setting, is_defined}
 use Rattle.markdown_model.proofs.GrammarSteps.{after-some, bind-some, if-false, if-true, one-here, provided-true, switched-on}
-use Rattle.markdown_partial_link.proofs.BoolLemmas.{same-value}
+use Rattle.markdown_partial.proofs.BoolLemmas.{same-value}
 use Rattle.markdown_plan.specs.Characters.{ReadsText, bytes_of}
 use Rattle.markdown_plan.proofs.CharacterPlaces.{code-begins, text-places}
 use Rattle.markdown_plan.proofs.CharactersAlongContent.{text-moved}

@@ -40,9 +40,9 @@ use Rattle.markdown_partial.specs.PartialSpaceOrTabEol.{at_ending}
 use Rattle.markdown_partial.specs.LinkedText.{line_of, string}
 use Rattle.markdown_partial.specs.LinkedTreeOps.{linked_ops}
 use Rattle.markdown_partial.specs.PartialDestination.{enclosed_stops, raw_stops}
-use Rattle.markdown_partial_link.proofs.BoolLemmas.{same-value}
+use Rattle.markdown_partial.proofs.BoolLemmas.{same-value}
 use Rattle.markdown_partial.proofs.EscapedTextReadings.{text-next, text-stops}
-use Rattle.markdown_partial_link.proofs.LinkedTextLines.{lines-data}
+use Rattle.markdown_partial.proofs.LinkedTextLines.{lines-data}
 use Rattle.markdown_partial.proofs.LinkedTreeLemmas.{CoversRow, Row-group, Row-last, Row-leaf, Row-linked, Row-whole, linked-past}
 use Rattle.markdown_partial.proofs.PartialDestinationReadings.{if-here, if-other, raw-next, raw-stop}
 use Rattle.markdown_plan.proofs.ByteTestLemmas.{no-control}
