@@ -1,6 +1,5 @@
 -- What is noted goes to its place.
 use Rattle.std.proofs.Common.{◌∙◌, sym, subst}
-use Rattle.std.specs.List.{insert}
 use Rattle.markdown_engine_index.specs.RunIndex.{IsInOrder, IsAt, IsGapFor}
 use Rattle.markdown_engine_index.proofs.RunIndexOrder.{put-ordered}
 use Rattle.markdown_engine_index.proofs.run_index.put.Goals as goal

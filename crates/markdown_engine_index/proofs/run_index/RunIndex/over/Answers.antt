@@ -1,4 +1,4 @@
-use Rattle.std.proofs.Common.{◌≡◌, ◌∙◌, ◌-◌, arith, true, false, sym, ap, subst}
+use Rattle.std.proofs.Common.{◌∙◌, ◌-◌, arith, true, false, sym, ap, subst}
 use Rattle.markdown_engine_index.specs.RunIndex.{with_run, IsInOrder}
 use Rattle.markdown_engine_index.proofs.RunIndexLemmas.{start-entries, asked-entries, found-past, found-at, run-shorter, found-all}
 use Rattle.markdown_engine_index.proofs.RunIndexOrder.{none-ordered}

@@ -1,6 +1,5 @@
 -- No entry is in order.
-use Rattle.std.proofs.Common.{sym, subst, []}
-use Rattle.std.specs.List.Sorted.{IsStrictlySortedBy}
+use Rattle.std.proofs.Common.{sym, subst}
 use Rattle.markdown_engine_index.specs.RunIndex.{IsInOrder}
 use Rattle.markdown_engine_index.proofs.RunIndexOrder.{none-ordered}
 use Rattle.markdown_engine_index.proofs.run_index.RunIndex.without.Goals as goal
