@@ -9,7 +9,8 @@ import sys
 import tempfile
 
 HERE = os.path.dirname(os.path.dirname(os.path.abspath(__file__)))
-MDINLINE = os.path.join(HERE, 'crates', 'mdinline', 'out', 'mdinline')
+WHOLE_FOLDER = os.path.join(HERE, 'crates', 'mdinline')
+MDINLINE = os.path.join(WHOLE_FOLDER, 'out', 'mdinline')
 FOLDER = os.path.join(HERE, 'crates', 'mdinline_example')
 CONTENTS = os.path.join(FOLDER, 'out', 'mdinline_example')
 # The function of `mdinline_example` that a run over a whole document is called in.
@@ -48,9 +49,9 @@ def say(text):
 
 
 def build():
-    """Proves and builds our two programs, where that is not done yet."""
-    for command, folder in ((['./mdinline', '--prove'], HERE), (['rt', 'run'], FOLDER)):
-        done = subprocess.run(command, cwd=folder, stdin=subprocess.DEVNULL, stdout=subprocess.PIPE, stderr=subprocess.PIPE)
+    """Proves and builds our two programs, where that is not done yet, both by LLVM."""
+    for words, folder in ((['--', 'text'], WHOLE_FOLDER), ([], FOLDER)):
+        done = subprocess.run(['rt', 'run'] + words, cwd=folder, stdin=subprocess.DEVNULL, stdout=subprocess.PIPE, stderr=subprocess.PIPE)
         if done.returncode != 0:
             sys.exit(done.stderr.decode() + 'the programs were not built')
 
