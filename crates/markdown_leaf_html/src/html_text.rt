@@ -30,7 +30,7 @@ ghost use Rattle.markdown_engine.specs.Operations.{HasCode, current_of};
 ghost use Rattle.markdown_event.specs.declared.event.Name.TheVariants.{HtmlText, HtmlTextData};
 ghost use Rattle.markdown_plan.specs.ScratchFields.{AreOpen};
 ghost use Rattle.markdown_leaf_html.specs.HtmlByteTests.{name_value, attribute_first_value, attribute_rest_value, after_value};
-ghost use Rattle.markdown_leaf_html.specs.HtmlText.{stops_in, is_ruled_out, ending_at, marked_ending, broken, ending_passed, start_step, open_step, declaration_open_step, comment_open_inside_step, comment_step, comment_close_step, comment_end_step, cdata_open_inside_step, cdata_step, cdata_close_step, cdata_end_step};
+ghost use Rattle.markdown_leaf_html.specs.HtmlText.{stops_in, is_ruled_out, ending_at, marked_ending, broken, marked_at, ending_passed, start_step, open_step, declaration_open_step, comment_open_inside_step, comment_step, comment_close_step, comment_end_step, cdata_open_inside_step, cdata_step, cdata_close_step, cdata_end_step};
 ghost use Rattle.markdown_leaf_html.specs.HtmlText.{declaration_step, instruction_step, instruction_close_step, tag_close_start_step, tag_close_step, tag_close_between_step, tag_open_step, tag_open_between_step, tag_open_attribute_name_step, tag_open_attribute_name_after_step};
 ghost use Rattle.markdown_leaf_html.specs.HtmlText.{tag_open_attribute_value_before_step, tag_open_attribute_value_quoted_step, tag_open_attribute_value_quoted_after_step, tag_open_attribute_value_unquoted_step, end_step, line_ending_before_step, line_ending_after_step, line_ending_after_prefix_step};
 
@@ -89,18 +89,19 @@ const APOSTROPHE: ByteTable = byte_table!(b'\'');
 pub fn stop_bytes(name: StateName, fields: &TokenizeState) -> Option<ByteSet>
     ensures { result ≡ stops_in name fields.now }
 {
-    match name {
-        StateName::HtmlTextComment => Some(ByteSet::new(&DASH)),
-        StateName::HtmlTextCdata => Some(ByteSet::new(&BRACKET)),
-        StateName::HtmlTextDeclaration => Some(ByteSet::new(&ANGLE)),
-        StateName::HtmlTextInstruction => Some(ByteSet::new(&QUESTION_MARK)),
+    let stops = match name {
+        StateName::HtmlTextComment => &DASH,
+        StateName::HtmlTextCdata => &BRACKET,
+        StateName::HtmlTextDeclaration => &ANGLE,
+        StateName::HtmlTextInstruction => &QUESTION_MARK,
         StateName::HtmlTextTagOpenAttributeValueQuoted => match fields.marker {
-            b'"' => Some(ByteSet::new(&QUOTATION_MARK)),
-            b'\'' => Some(ByteSet::new(&APOSTROPHE)),
-            _ => None,
+            b'"' => &QUOTATION_MARK,
+            b'\'' => &APOSTROPHE,
+            _ => return None,
         },
-        _ => None,
-    }
+        _ => return None,
+    };
+    Some(ByteSet::new(stops))
 }
 
 // The sequence that ends what begins with `<!` and this code, if anything does.
@@ -161,6 +162,26 @@ fn pass_line_ending(tokenizer: &mut Tokenizer) -> Result<State, AllocError>
 {
     tokenizer.take(Name::LineEnding)?;
     Ok(State::Next(StateName::HtmlTextLineEndingAfter))
+}
+
+// In what a mark ends: it goes on with this state, over line endings too, and after the mark with the other one.
+fn pass_marked(
+    tokenizer: &mut Tokenizer,
+    mark: u8,
+    state: StateName,
+    marked: StateName,
+) -> Result<State, AllocError>
+    ensures ok { IfOk result (λ s. marked_at mark state marked (current_of tokenizer.old) tokenizer.old ≡ record { state = s; left = tokenizer.new }) }
+    ensures err { OnErr result (IsTrue tokenizer.new.failed) }
+{
+    let next = match tokenizer.current() {
+        None => return Ok(State::Nok),
+        Some(b'\n') => return break_line(tokenizer, state),
+        Some(code) if code == mark => marked,
+        Some(_) => state,
+    };
+    tokenizer.consume();
+    Ok(State::Next(next))
 }
 
 /// At the start: `<`.
@@ -242,14 +263,12 @@ pub fn comment(tokenizer: &mut Tokenizer) -> Result<State, AllocError>
     ensures ok { IfOk result (λ s. comment_step tokenizer.old ≡ record { state = s; left = tokenizer.new }) }
     ensures err { OnErr result (IsTrue tokenizer.new.failed) }
 {
-    let next = match tokenizer.current() {
-        None => return Ok(State::Nok),
-        Some(b'\n') => return break_line(tokenizer, StateName::HtmlTextComment),
-        Some(b'-') => StateName::HtmlTextCommentClose,
-        Some(_) => StateName::HtmlTextComment,
-    };
-    tokenizer.consume();
-    Ok(State::Next(next))
+    pass_marked(
+        tokenizer,
+        b'-',
+        StateName::HtmlTextComment,
+        StateName::HtmlTextCommentClose,
+    )
 }
 
 /// In a comment, after a hyphen.
@@ -275,11 +294,12 @@ pub fn comment_end(tokenizer: &mut Tokenizer) -> Result<State, AllocError>
     ensures ok { IfOk result (λ s. comment_end_step tokenizer.old ≡ record { state = s; left = tokenizer.new }) }
     ensures err { OnErr result (IsTrue tokenizer.new.failed) }
 {
-    match tokenizer.current() {
-        Some(b'>') => Ok(State::Retry(StateName::HtmlTextEnd)),
-        Some(b'-') => Ok(State::Retry(StateName::HtmlTextCommentClose)),
-        _ => Ok(State::Retry(StateName::HtmlTextComment)),
-    }
+    let next = match tokenizer.current() {
+        Some(b'>') => StateName::HtmlTextEnd,
+        Some(b'-') => StateName::HtmlTextCommentClose,
+        _ => StateName::HtmlTextComment,
+    };
+    Ok(State::Retry(next))
 }
 
 /// After `<![`, and so many codes of `CDATA[`.
@@ -314,14 +334,12 @@ pub fn cdata(tokenizer: &mut Tokenizer) -> Result<State, AllocError>
     ensures ok { IfOk result (λ s. cdata_step tokenizer.old ≡ record { state = s; left = tokenizer.new }) }
     ensures err { OnErr result (IsTrue tokenizer.new.failed) }
 {
-    let next = match tokenizer.current() {
-        None => return Ok(State::Nok),
-        Some(b'\n') => return break_line(tokenizer, StateName::HtmlTextCdata),
-        Some(b']') => StateName::HtmlTextCdataClose,
-        Some(_) => StateName::HtmlTextCdata,
-    };
-    tokenizer.consume();
-    Ok(State::Next(next))
+    pass_marked(
+        tokenizer,
+        b']',
+        StateName::HtmlTextCdata,
+        StateName::HtmlTextCdataClose,
+    )
 }
 
 /// In a CDATA section, after `]`.
@@ -347,11 +365,12 @@ pub fn cdata_end(tokenizer: &mut Tokenizer) -> Result<State, AllocError>
     ensures ok { IfOk result (λ s. cdata_end_step tokenizer.old ≡ record { state = s; left = tokenizer.new }) }
     ensures err { OnErr result (IsTrue tokenizer.new.failed) }
 {
-    match tokenizer.current() {
-        Some(b'>') => Ok(State::Retry(StateName::HtmlTextEnd)),
-        Some(b']') => Ok(State::Retry(StateName::HtmlTextCdataClose)),
-        _ => Ok(State::Retry(StateName::HtmlTextCdata)),
-    }
+    let next = match tokenizer.current() {
+        Some(b'>') => StateName::HtmlTextEnd,
+        Some(b']') => StateName::HtmlTextCdataClose,
+        _ => StateName::HtmlTextCdata,
+    };
+    Ok(State::Retry(next))
 }
 
 /// In a declaration.
@@ -380,14 +399,12 @@ pub fn instruction(tokenizer: &mut Tokenizer) -> Result<State, AllocError>
     ensures ok { IfOk result (λ s. instruction_step tokenizer.old ≡ record { state = s; left = tokenizer.new }) }
     ensures err { OnErr result (IsTrue tokenizer.new.failed) }
 {
-    let next = match tokenizer.current() {
-        None => return Ok(State::Nok),
-        Some(b'\n') => return break_line(tokenizer, StateName::HtmlTextInstruction),
-        Some(b'?') => StateName::HtmlTextInstructionClose,
-        Some(_) => StateName::HtmlTextInstruction,
-    };
-    tokenizer.consume();
-    Ok(State::Next(next))
+    pass_marked(
+        tokenizer,
+        b'?',
+        StateName::HtmlTextInstruction,
+        StateName::HtmlTextInstructionClose,
+    )
 }
 
 /// In an instruction, after `?`.
@@ -398,10 +415,11 @@ pub fn instruction_close(tokenizer: &mut Tokenizer) -> Result<State, AllocError>
     ensures ok { IfOk result (λ s. instruction_close_step tokenizer.old ≡ record { state = s; left = tokenizer.new }) }
     ensures err { OnErr result (IsTrue tokenizer.new.failed) }
 {
-    match tokenizer.current() {
-        Some(b'>') => Ok(State::Retry(StateName::HtmlTextEnd)),
-        _ => Ok(State::Retry(StateName::HtmlTextInstruction)),
-    }
+    let next = match tokenizer.current() {
+        Some(b'>') => StateName::HtmlTextEnd,
+        _ => StateName::HtmlTextInstruction,
+    };
+    Ok(State::Retry(next))
 }
 
 /// After `</`: the name of a closing tag.
@@ -413,7 +431,7 @@ pub fn tag_close_start(tokenizer: &mut Tokenizer) -> Result<State, AllocError>
     ensures err { OnErr result (IsTrue tokenizer.new.failed) }
 {
     match tokenizer.current() {
-        Some(b'A'..=b'Z' | b'a'..=b'z') => {
+        Some(code) if is_letter(code) => {
             tokenizer.consume();
             Ok(State::Next(StateName::HtmlTextTagClose))
         }
@@ -465,13 +483,12 @@ pub fn tag_open(tokenizer: &mut Tokenizer) -> Result<State, AllocError>
     ensures err { OnErr result (IsTrue tokenizer.new.failed) }
 {
     match tokenizer.current() {
-        None => Ok(State::Nok),
         Some(code) if is_after_value(code) => Ok(State::Retry(StateName::HtmlTextTagOpenBetween)),
-        Some(code) if !is_name(code) => Ok(State::Nok),
-        Some(_) => {
+        Some(code) if is_name(code) => {
             tokenizer.consume();
             Ok(State::Next(StateName::HtmlTextTagOpen))
         }
+        _ => Ok(State::Nok),
     }
 }
 
@@ -589,11 +606,10 @@ pub fn tag_open_attribute_value_quoted_after(tokenizer: &mut Tokenizer) -> Resul
     ensures ok { IfOk result (λ s. tag_open_attribute_value_quoted_after_step tokenizer.old ≡ record { state = s; left = tokenizer.new }) }
     ensures err { OnErr result (IsTrue tokenizer.new.failed) }
 {
-    match tokenizer.current() {
-        None => Ok(State::Nok),
-        Some(code) if !is_after_value(code) => Ok(State::Nok),
-        Some(_) => Ok(State::Retry(StateName::HtmlTextTagOpenBetween)),
-    }
+    Ok(match tokenizer.current() {
+        Some(code) if is_after_value(code) => State::Retry(StateName::HtmlTextTagOpenBetween),
+        _ => State::Nok,
+    })
 }
 
 /// In an unquoted value, after its first code.

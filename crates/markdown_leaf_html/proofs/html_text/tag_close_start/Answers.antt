@@ -4,9 +4,9 @@ use Rattle.markdown_engine.specs.Operations.{scratched}
 use Rattle.markdown_engine.proofs.OperationFields.{op_rules}
 use Rattle.markdown_leaf_html.proofs.html_text.tag_close_start.Goals as goal
 
-pub returns-in-Some-65-to-90-clause-ok : goal.returns-in-Some-65-to-90-clause-ok
+pub returns-in-Some-clause-ok : goal.returns-in-Some-clause-ok
 unfolding scratched
-returns-in-Some-65-to-90-clause-ok c = grind (arith, op_rules)
+returns-in-Some-clause-ok c = grind (arith, op_rules)
 
 pub returns-in_default-clause-ok : goal.returns-in_default-clause-ok
 unfolding scratched
@@ -15,11 +15,3 @@ returns-in_default-clause-ok c = grind (arith, op_rules)
 pub returns-in_default-2-clause-ok : goal.returns-in_default-2-clause-ok
 unfolding scratched
 returns-in_default-2-clause-ok c = grind (arith, op_rules)
-
-pub returns-in_default-3-clause-ok : goal.returns-in_default-3-clause-ok
-unfolding scratched
-returns-in_default-3-clause-ok c = grind (arith, op_rules)
-
-pub returns-in_default-4-clause-ok : goal.returns-in_default-4-clause-ok
-unfolding scratched
-returns-in_default-4-clause-ok c = grind (arith, op_rules)

@@ -4,10 +4,6 @@ use Rattle.markdown_engine.specs.Operations.{scratched}
 use Rattle.markdown_engine.proofs.OperationFields.{op_rules}
 use Rattle.markdown_leaf_html.proofs.html_text.tag_open.Goals as goal
 
-pub returns-in-None-clause-ok : goal.returns-in-None-clause-ok
-unfolding scratched
-returns-in-None-clause-ok c = grind (arith, op_rules)
-
 pub returns-in-Some-clause-ok : goal.returns-in-Some-clause-ok
 unfolding scratched
 returns-in-Some-clause-ok c = grind (arith, op_rules)
@@ -16,6 +12,10 @@ pub returns-in-Some-2-clause-ok : goal.returns-in-Some-2-clause-ok
 unfolding scratched
 returns-in-Some-2-clause-ok c = grind (arith, op_rules)
 
-pub returns-in-Some-3-clause-ok : goal.returns-in-Some-3-clause-ok
+pub returns-in_default-clause-ok : goal.returns-in_default-clause-ok
 unfolding scratched
-returns-in-Some-3-clause-ok c = grind (arith, op_rules)
+returns-in_default-clause-ok c = grind (arith, op_rules)
+
+pub returns-in_default-2-clause-ok : goal.returns-in_default-2-clause-ok
+unfolding scratched
+returns-in_default-2-clause-ok c = grind (arith, op_rules)
