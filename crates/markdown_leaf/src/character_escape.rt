@@ -54,7 +54,7 @@ pub fn inside(tokenizer: &mut Tokenizer) -> Result<State, AllocError>
     ensures { Steps inside_step tokenizer.old result tokenizer.new }
 {
     match tokenizer.current() {
-        Some(b'!'..=b'/' | b':'..=b'@' | b'['..=b'`' | b'{'..=b'~') => {
+        Some(code) if code.is_ascii_punctuation() => {
             tokenizer.take(Name::CharacterEscapeValue)?;
             tokenizer.exit(Name::CharacterEscape)?;
             Ok(State::Ok)

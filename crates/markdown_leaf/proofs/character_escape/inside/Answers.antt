@@ -6,20 +6,8 @@ use Rattle.markdown_leaf.proofs.character_escape.inside.Goals as goal
 pub exit-requires : goal.exit-requires
 exit-requires c = grind (arith, op_rules)
 
-pub returns-in_ok-exit-in-Some-33-to-47 : goal.returns-in_ok-exit-in-Some-33-to-47
-returns-in_ok-exit-in-Some-33-to-47 c = grind (arith, op_rules)
-
 pub returns-in_default : goal.returns-in_default
 returns-in_default c = grind (arith, op_rules)
 
 pub returns-in_default-2 : goal.returns-in_default-2
 returns-in_default-2 c = grind (arith, op_rules)
-
-pub returns-in_default-3 : goal.returns-in_default-3
-returns-in_default-3 c = grind (arith, op_rules)
-
-pub returns-in_default-4 : goal.returns-in_default-4
-returns-in_default-4 c = grind (arith, op_rules)
-
-pub returns-in_default-5 : goal.returns-in_default-5
-returns-in_default-5 c = grind (arith, op_rules)
