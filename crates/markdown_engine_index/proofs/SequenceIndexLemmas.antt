@@ -288,7 +288,12 @@ pub unmoved : (s : Sequence) (p : Place) (v : ℕ) (last : LastBegins) → code_
     last_in last s ≡ cond (shows_at s p) (Some (begun_at s p.at)) (last_in last s)
 unmoved s p v last h e = ap (λ b. cond b (Some (begun_at s p.at)) (last_in last s)) (sym (silent s p v h e))
 
-none-shows : (s : Sequence) (v : ℕ) → list_any (λ n. v == n) stop_bytes ≡ false → shows_by s v ≡ false
+-- at a code at which it may show, a test tells
+pub told : (b shows : Bool) (n at : ℕ) (o found : Option ℕ) → found ≡ cond b (Some n) o → b ≡ shows → n ≡ at →
+    found ≡ cond shows (Some at) o
+told b shows n at o found e f g = e ∙ ap (λ m. cond b (Some m) o) g ∙ ap (λ t. cond t (Some at) o) f
+
+pub none-shows : (s : Sequence) (v : ℕ) → list_any (λ n. v == n) stop_bytes ≡ false → shows_by s v ≡ false
 none-shows s v e =
     let comment = or_parts (v == 45) _ e in
     let section = or_parts (v == 93) _ comment.1 in

@@ -128,42 +128,22 @@ impl SequenceIndex {
 }
 
 // What was found, with the sequence that shows at the place, by the code there.
-fn found_at(place: &Cursor, code: u8, last: LastBegins) -> LastBegins
+fn found_at(place: &Cursor, code: u8, mut last: LastBegins) -> LastBegins
     requires { code_at place.now ≡ Some code }
     ensures { (s : Kind) → last_in result s ≡ cond (shows_at s place.now) (Some (begun_at s place.now.at)) (last_in last s) }
 {
     let at = place.passed();
     match code {
-        b'-' => LastBegins {
-            comment_end: at_or(stand_next(place, b"-->"), at, last.comment_end),
-            ..last
-        },
-        b']' => LastBegins {
-            section_end: at_or(stand_next(place, b"]]>"), at, last.section_end),
-            ..last
-        },
-        b'?' => LastBegins {
-            instruction_end: at_or(stand_next(place, b"?>"), at, last.instruction_end),
-            ..last
-        },
-        b'>' => LastBegins {
-            declaration_end: Some(at),
-            ..last
-        },
-        b')' => LastBegins {
-            resource_end: at_or(closes_twice(place), at, last.resource_end),
-            ..last
-        },
-        b'.' => LastBegins {
-            www_dot: before_dot(place, last.www_dot),
-            ..last
-        },
-        b'`' | b'$' => LastBegins {
-            span_mark: Some(at),
-            ..last
-        },
-        _ => last,
+        b'-' => last.comment_end = at_or(stand_next(place, b"-->"), at, last.comment_end),
+        b']' => last.section_end = at_or(stand_next(place, b"]]>"), at, last.section_end),
+        b'?' => last.instruction_end = at_or(stand_next(place, b"?>"), at, last.instruction_end),
+        b'>' => last.declaration_end = Some(at),
+        b')' => last.resource_end = at_or(closes_twice(place), at, last.resource_end),
+        b'.' => last.www_dot = before_dot(place, last.www_dot),
+        b'`' | b'$' => last.span_mark = Some(at),
+        _ => {}
     }
+    last
 }
 
 // At a dot: the place of the `w` before it, if one is there, else the earlier place.
