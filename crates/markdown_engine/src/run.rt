@@ -1,6 +1,6 @@
 // Runs of a layer's states, and of its passes. Each answers the error where a growth is refused; then `failed` is true.
 ghost use Rattle.std.specs.Prelude.{◌≡◌, ◌++◌, [], IfOk, OnOk, OnErr, IsTrue};
-ghost use Rattle.markdown_engine.specs.StateRuns.{going_state, going_in, settled, ends_state, ready_state};
+ghost use Rattle.markdown_engine.specs.StateRuns.{going_state, going_in, ends_state, ready_state};
 ghost use Rattle.markdown_engine.specs.CallsWithAttempts.{Reaches};
 ghost use Rattle.markdown_engine.specs.Steady.{Onward};
 ghost use Rattle.markdown_engine.specs.PassesInOrder.{MayResolve, Resolves, unregistered};
@@ -41,24 +41,21 @@ fn pass_stretch<L: Layer>(name: StateName, tokenizer: &mut Tokenizer)
 }
 
 // Puts the attempts that a call opened on top of those that wait. As a rule none was opened or none waits, and nothing is moved.
-#[tactic(auto, unfolding(crate::specs::StateRuns::settled))]
 fn hand_over<'a>(
+    opened: &mut Stack<Attempt<'a>>,
     waiting: &mut Stack<Attempt<'a>>,
-    tokenizer: &mut Tokenizer<'a>,
 ) -> Result<(), AllocError>
-    ensures waits { OnOk result (waiting.new ≡ tokenizer.old.attempts ++ waiting.old) }
-    ensures left { OnOk result (tokenizer.new ≡ settled tokenizer.old) }
-    ensures err { OnErr result (IsTrue tokenizer.new.failed) }
+    ensures waits { OnOk result (waiting.new ≡ opened.old ++ waiting.old) }
+    ensures none { OnOk result (opened.new ≡ []) }
 {
-    if tokenizer.attempts.is_empty() {
+    if opened.is_empty() {
         return Ok(());
     }
     if waiting.is_empty() {
-        mem::swap(waiting, &mut tokenizer.attempts);
+        mem::swap(waiting, opened);
         return Ok(());
     }
-    let moved = waiting.append(&mut tokenizer.attempts);
-    tokenizer.noted(moved)
+    waiting.append(opened)
 }
 
 // Runs states from this answer until Ok or Nok with no attempt open. The attempts that are open wait in a list of their own, empty at the start.
@@ -82,7 +79,8 @@ fn run_from<'a, L: Layer>(
             State::Next(name) | State::Retry(name) => {
                 pass_stretch::<L>(name, tokenizer);
                 state = L::call(name, tokenizer)?;
-                hand_over(waiting, tokenizer)?;
+                let handed = hand_over(&mut tokenizer.attempts, waiting);
+                tokenizer.noted(handed)?;
                 continue;
             }
             State::Ok => true,
