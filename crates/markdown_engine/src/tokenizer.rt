@@ -238,6 +238,16 @@ pub struct Tokenizer<'a> {
     pub failed: bool,
 }
 
+// Whether the pass is registered.
+fn has_resolver(resolvers: &Seq<ResolveName>, name: ResolveName) -> bool
+    ensures { result ≡ is_registered name resolvers.now }
+{
+    resolvers
+        .as_slice()
+        .iter()
+        .any(|registered| *registered as u8 == name as u8)
+}
+
 impl<'a> Tokenizer<'a> {
     /// A run at the start of a content: no events, all scratch fields at rest. Takes no memory.
     pub fn new(alloc: Global, parse_state: &'a ParseState<'a>, pieces: &'a [Piece]) -> Tokenizer<'a>
@@ -468,23 +478,13 @@ impl<'a> Tokenizer<'a> {
         self.try_with(true, ok, nok)
     }
 
-    // Whether the pass is registered.
-    fn has_resolver(&self, name: ResolveName) -> bool
-        ensures { result ≡ is_registered name self.now.resolvers }
-    {
-        self.resolvers
-            .as_slice()
-            .iter()
-            .any(|registered| *registered as u8 == name as u8)
-    }
-
     /// Adds the pass last, unless it is there.
     #[tactic(auto, unfolding(crate::specs::Operations::registered))]
     pub fn register_resolver(&mut self, name: ResolveName) -> Result<(), AllocError>
         ensures ok { OnOk result (self.new ≡ registered name self.old) }
         ensures err { OnErr result (IsTrue self.new.failed) }
     {
-        if self.has_resolver(name) {
+        if has_resolver(&self.resolvers, name) {
             return Ok(());
         }
         let added = self.resolvers.push(name);
@@ -497,7 +497,7 @@ impl<'a> Tokenizer<'a> {
         ensures ok { OnOk result (self.new ≡ registered_before name self.old) }
         ensures err { OnErr result (IsTrue self.new.failed) }
     {
-        if self.has_resolver(name) {
+        if has_resolver(&self.resolvers, name) {
             return Ok(());
         }
         let added = self.resolvers.push_first(name);
