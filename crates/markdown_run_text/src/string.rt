@@ -61,28 +61,21 @@ pub fn before(tokenizer: &mut Tokenizer) -> Result<State, AllocError>
     ensures ok { IfOk result (λ s. before_step tokenizer.old ≡ record { state = s; left = tokenizer.new }) }
     ensures err { OnErr result (IsTrue tokenizer.new.failed) }
 {
-    match tokenizer.current() {
+    let construct = match tokenizer.current() {
         None => {
             tokenizer.register_resolver(ResolveName::Data)?;
             tokenizer.register_resolver(ResolveName::String)?;
-            Ok(State::Ok)
+            return Ok(State::Ok);
         }
-        Some(b'\\') => {
-            tokenizer.attempt(
-                State::Next(StateName::StringBefore),
-                State::Next(StateName::StringBeforeData),
-            )?;
-            Ok(State::Retry(StateName::CharacterEscapeStart))
-        }
-        Some(b'&') => {
-            tokenizer.attempt(
-                State::Next(StateName::StringBefore),
-                State::Next(StateName::StringBeforeData),
-            )?;
-            Ok(State::Retry(StateName::CharacterReferenceStart))
-        }
-        _ => Ok(State::Retry(StateName::StringBeforeData)),
-    }
+        Some(b'\\') => StateName::CharacterEscapeStart,
+        Some(b'&') => StateName::CharacterReferenceStart,
+        _ => return Ok(State::Retry(StateName::StringBeforeData)),
+    };
+    tokenizer.attempt(
+        State::Next(StateName::StringBefore),
+        State::Next(StateName::StringBeforeData),
+    )?;
+    Ok(State::Retry(construct))
 }
 
 /// Before data of the string.
