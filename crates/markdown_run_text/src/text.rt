@@ -222,23 +222,20 @@ fn names_in<'a>(tokenizer: &Tokenizer<'a>) -> Result<Names<'a>, AllocError>
     Names::over(tokenizer.alloc, definitions, footnotes, brackets)
 }
 
-// The names that a text is read with: those that are lent, else those of what is defined where their order pays.
+// The names that a text is read with where they are other than those that are lent, if any: those with brackets, else those of what is
+// defined in order.
 fn names_for<'a>(
     tokenizer: &Tokenizer<'a>,
     lent: Option<Names<'a>>,
-) -> Result<Option<Names<'a>>, AllocError>
-    ensures { IfOk result (λ names. names ≡ names_for lent.entry tokenizer.now.cursor tokenizer.now.parse_state.now) }
+) -> Result<Names<'a>, AllocError>
+    requires { names_change lent tokenizer.now.cursor.codes tokenizer.now.parse_state.now ≡ true }
+    ensures { IfOk result (λ names. Some names ≡ names_for lent.entry tokenizer.now.cursor tokenizer.now.parse_state.now) }
 {
     let Some(mut names) = lent else {
-        if !order_pays(tokenizer) {
-            return Ok(None);
-        }
-        return Ok(Some(names_in(tokenizer)?));
+        return names_in(tokenizer);
     };
-    if brackets_pay(tokenizer) {
-        names.brackets = brackets_in(tokenizer)?;
-    }
-    Ok(Some(names))
+    names.brackets = brackets_in(tokenizer)?;
+    Ok(names)
 }
 
 // Whether a text is read with other names than those that are lent, if any: with brackets noted, or where none are lent with an order.
@@ -252,17 +249,19 @@ fn names_change(tokenizer: &Tokenizer) -> bool
     }
 }
 
-// Makes known the names that a text is read with. It is kept out of line, since most texts are read with none.
+// Makes known the names that a text is read with, which are other than those that are lent. It is kept out of line, since most texts are read
+// with none.
 #[inline(never)]
 #[tactic(auto, unfolding(markdown_engine::specs::Operations::scratched))]
 fn learn_names(tokenizer: &mut Tokenizer) -> Result<(), AllocError>
+    requires { names_change tokenizer.old.tokenize_state.names tokenizer.old.cursor.codes tokenizer.old.parse_state.now ≡ true }
     ensures ok { OnOk result (tokenizer.new ≡ scratched (named_fields tokenizer.old.cursor tokenizer.old.parse_state.now tokenizer.old.tokenize_state) tokenizer.old) }
     ensures err { OnErr result (IsTrue tokenizer.new.failed) }
 {
     let lent = tokenizer.tokenize_state.names.take();
     match names_for(tokenizer, lent) {
         Ok(names) => {
-            tokenizer.tokenize_state.names = names;
+            tokenizer.tokenize_state.names = Some(names);
             Ok(())
         }
         Err(refused) => tokenizer.noted(Err(refused)),
