@@ -159,6 +159,10 @@ with_string from T = with_exit N.Data (with_enter N.Data (Some (link_back None C
 abbrev pub marker_ops : Name → List Op
 marker_ops n = Enter n ∷ Consume ∷ Exit n ∷ []
 
+-- past a code, a node of this name that has a leaf of that name alone
+abbrev pub marker_in_ops : Name → Name → List Op
+marker_in_ops whole marker = Enter whole ∷ Enter marker ∷ Consume ∷ Exit marker ∷ Exit whole ∷ []
+
 -- past data of one line from the code at hand on, with its events
 abbrev pub data_read : Bool → Tokenizer → Tokenizer
 data_read literals T = let U : Tokenizer = done opening T in exited N.Data (record U { cursor = past_inner literals U.cursor })

@@ -6,7 +6,7 @@
 ghost use Rattle.std.specs.Prelude.{◌≡◌, ◌++◌, ◌∷◌, [], OnOk, OnErr, IsTrue, None};
 ghost use Rattle.markdown_engine.specs.Operations.{HasCode, done};
 ghost use Rattle.markdown_engine_events.specs.EventChains.{IsFresh};
-ghost use Rattle.markdown_run_text.specs.PlacesPassed.{marker_ops, with_enter, with_exit, with_leaf, with_string};
+ghost use Rattle.markdown_run_text.specs.PlacesPassed.{marker_in_ops, marker_ops, with_enter, with_exit, with_leaf, with_string};
 ghost use Rattle.markdown_run_text.specs.PlainSpan.{with_exit_at};
 
 use markdown_engine::tokenizer::Tokenizer;
@@ -65,20 +65,22 @@ pub(crate) fn append_exit(tokenizer: &mut Tokenizer, name: Name) -> Result<(), A
     append(tokenizer, exit)
 }
 
-// Appends an Exit at this point.
+// Appends the events of a leaf from the first point to the other.
 #[inline(always)]
-pub(crate) fn append_exit_at(
+pub(crate) fn append_leaf_between(
     tokenizer: &mut Tokenizer,
     name: Name,
-    point: Point,
+    from: Point,
+    to: Point,
 ) -> Result<(), AllocError>
-    ensures ok { OnOk result (tokenizer.new ≡ with_exit_at name point tokenizer.old) }
+    ensures ok { OnOk result (tokenizer.new ≡ with_exit_at name to (with_enter name None from tokenizer.old)) }
     ensures err { OnErr result (IsTrue tokenizer.new.failed) }
 {
+    append_enter(tokenizer, name, from)?;
     let exit = Event {
         kind: Kind::Exit,
         name,
-        point,
+        point: to,
         link: None,
     };
     append(tokenizer, exit)
@@ -94,8 +96,8 @@ pub(crate) fn append_leaf(
     ensures ok { OnOk result (tokenizer.new ≡ with_leaf name from tokenizer.old) }
     ensures err { OnErr result (IsTrue tokenizer.new.failed) }
 {
-    append_enter(tokenizer, name, from)?;
-    append_exit(tokenizer, name)
+    let to = tokenizer.cursor.exit_point();
+    append_leaf_between(tokenizer, name, from, to)
 }
 
 // Appends the events of data from this point to where the code before the place ends, which is linked as a string, the first of its chain.
@@ -125,4 +127,21 @@ pub(crate) fn read_marker(tokenizer: &mut Tokenizer, name: Name) -> Result<(), A
     let from = tokenizer.point();
     tokenizer.consume();
     append_leaf(tokenizer, name, from)
+}
+
+// Reads the code at hand as a leaf that is all of a node.
+#[inline(always)]
+#[tactic(auto, unfolding(markdown_engine::specs::Operations::applied))]
+pub(crate) fn read_marker_in(
+    tokenizer: &mut Tokenizer,
+    whole: Name,
+    marker: Name,
+) -> Result<(), AllocError>
+    requires { HasCode tokenizer.old }
+    ensures ok { OnOk result (tokenizer.new ≡ done (marker_in_ops whole marker) tokenizer.old) }
+    ensures err { OnErr result (IsTrue tokenizer.new.failed) }
+{
+    append_enter(tokenizer, whole, tokenizer.point())?;
+    read_marker(tokenizer, marker)?;
+    append_exit(tokenizer, whole)
 }

@@ -13,7 +13,7 @@ ghost use Rattle.markdown_run_text.specs.PlacesPassed.{is_some_value};
 ghost use Rattle.markdown_run_text.specs.PlainTag.{Leads, Passes, PassesAttribute, PassesAttributes, PassesEnd, PassesName, PassesSlash, PassesTag, begins_name, keeps_name, past_name, tag_read};
 ghost use Rattle.markdown_run_text.specs.ReaderEnds.{ReadsOrLeaves};
 
-use crate::readers::events::{append_enter, append_exit};
+use crate::readers::events::{append_enter, append_exit, append_leaf};
 use markdown_engine::tokenizer::Tokenizer;
 use markdown_engine_content::byte_table;
 use markdown_engine_content::bytes::{ByteSet, ByteTable};
@@ -199,10 +199,9 @@ fn append<'a>(tokenizer: &mut Tokenizer<'a>, behind: Cursor<'a>) -> Result<(), A
     ensures err { OnErr result (IsTrue tokenizer.new.failed) }
 {
     let from = tokenizer.point();
-    append_enter(tokenizer, Name::HtmlText, from)?;
-    append_enter(tokenizer, Name::HtmlTextData, from)?;
     tokenizer.cursor = behind;
-    append_exit(tokenizer, Name::HtmlTextData)?;
+    append_enter(tokenizer, Name::HtmlText, from)?;
+    append_leaf(tokenizer, Name::HtmlTextData, from)?;
     append_exit(tokenizer, Name::HtmlText)
 }
 

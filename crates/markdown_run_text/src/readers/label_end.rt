@@ -9,16 +9,18 @@
 #![tactic(auto, using(markdown_engine::proofs::OperationFields::op_rules))]
 
 ghost use Rattle.std.specs.Prelude.{◌≡◌, ◌&&◌, ◌||◌, true, IfOk, OnOk, OnErr, IsTrue, is_some};
-ghost use Rattle.markdown_engine.specs.Operations.{HasCode, current_of, done};
+ghost use Rattle.markdown_engine.specs.Operations.{current_of};
 ghost use Rattle.markdown_engine_content.specs.Place.{code_at, moved};
 ghost use Rattle.markdown_engine_content.specs.Stretch.{is_free};
-ghost use Rattle.markdown_label.specs.LabelEnd.{Ends, StartReady, end_ops};
+ghost use Rattle.markdown_label.specs.LabelEnd.{Ends, StartReady};
 ghost use Rattle.markdown_partial.specs.PartialDestination.{enclosed_stops, raw_stops};
 ghost use Rattle.markdown_run_text.specs.PlacesPassed.{is_some_value};
 ghost use Rattle.markdown_run_text.specs.PlainReference.{reference_here};
 ghost use Rattle.markdown_run_text.specs.PlainResource.{EndsOrStays, between_read, closes_behind, destination_at, destination_read, enclosed_read, has_markers, may_make, past_between, past_destination, past_title, plain_at, plain_here, raw_read, resource_read, stands_between, tail_at, tail_read, takes_resource, text_read, title_at, title_read, title_stops};
 
-use crate::readers::events::{append_enter, append_exit, append_string, read_marker};
+use crate::readers::events::{
+    append_enter, append_exit, append_string, read_marker, read_marker_in,
+};
 use crate::readers::label_end_reference;
 use markdown_engine::tokenizer::{LabelKind, LabelStart, Tokenizer};
 use markdown_engine_content::byte_table;
@@ -185,19 +187,6 @@ fn is_here(tokenizer: &Tokenizer) -> bool
         && stands(&tokenizer.cursor)
 }
 
-// Reads the `]` at hand.
-#[inline(always)]
-#[tactic(auto, unfolding(markdown_engine::specs::Operations::applied))]
-pub(crate) fn read_end(tokenizer: &mut Tokenizer) -> Result<(), AllocError>
-    requires { HasCode tokenizer.old }
-    ensures ok { OnOk result (tokenizer.new ≡ done end_ops tokenizer.old) }
-    ensures err { OnErr result (IsTrue tokenizer.new.failed) }
-{
-    append_enter(tokenizer, Name::LabelEnd, tokenizer.point())?;
-    read_marker(tokenizer, Name::LabelMarker)?;
-    append_exit(tokenizer, Name::LabelEnd)
-}
-
 // Reads the text at hand up to where it stops, as a string under this name.
 #[inline(always)]
 #[tactic(auto, unfolding(markdown_engine::specs::Operations::applied))]
@@ -330,7 +319,7 @@ fn read_here(tokenizer: &mut Tokenizer) -> Result<(), AllocError>
     ensures err { OnErr result (IsTrue tokenizer.new.failed) }
 {
     tokenizer.tokenize_state.end = tokenizer.events.len();
-    read_end(tokenizer)?;
+    read_marker_in(tokenizer, Name::LabelEnd, Name::LabelMarker)?;
     read_resource(tokenizer)?;
     let _made = label_end::ok(tokenizer)?;
     Ok(())

@@ -13,7 +13,8 @@ ghost use Rattle.markdown_run_text.specs.PlacesPassed.{is_some_value};
 ghost use Rattle.markdown_run_text.specs.PlainReference.{ends_here, front_stops, is_named, label_stops, names_at, past_text, reference_here, reference_read, refers_by, text_at};
 ghost use Rattle.markdown_run_text.specs.PlainResource.{EndsOrStays, has_markers};
 
-use crate::readers::label_end::{is_free, is_same, may_make, read_between, read_end};
+use crate::readers::events::read_marker_in;
+use crate::readers::label_end::{is_free, is_same, may_make, read_between};
 use markdown_engine::tokenizer::Tokenizer;
 use markdown_engine_content::byte_table;
 use markdown_engine_content::bytes::{ByteSet, ByteTable};
@@ -157,7 +158,7 @@ fn read_here(tokenizer: &mut Tokenizer) -> Result<(), AllocError>
     ensures err { OnErr result (IsTrue tokenizer.new.failed) }
 {
     tokenizer.tokenize_state.end = tokenizer.events.len();
-    read_end(tokenizer)?;
+    read_marker_in(tokenizer, Name::LabelEnd, Name::LabelMarker)?;
     read_reference(tokenizer)?;
     let _made = label_end::ok(tokenizer)?;
     Ok(())

@@ -1,15 +1,13 @@
 //! The starts of links (CommonMark 6.3), read whole.
 #![tactic(auto)]
 
-ghost use Rattle.std.specs.Prelude.{◌≡◌, IfOk, OnOk, OnErr, IsTrue};
-ghost use Rattle.markdown_engine.specs.Operations.{HasCode, done};
-ghost use Rattle.markdown_label.specs.LabelStarts.{link_ops};
+ghost use Rattle.std.specs.Prelude.{◌≡◌, IfOk, OnErr, IsTrue};
 ghost use Rattle.markdown_model.specs.SingleConstructs.{label_start_link_here};
 ghost use Rattle.markdown_run_text.specs.PlacesPassed.{link_here};
 ghost use Rattle.markdown_run_text.specs.ReaderEnds.{BeginsOrStays, options_here};
 
 use crate::readers::attention::is_at;
-use crate::readers::events::{append_enter, append_exit, read_marker};
+use crate::readers::events::read_marker_in;
 use markdown_engine::tokenizer::{LabelKind, Tokenizer};
 use markdown_event::event::Name;
 use markdown_label::starts::keep_start;
@@ -20,18 +18,6 @@ fn is_here(tokenizer: &Tokenizer) -> bool
     ensures { result ≡ link_here tokenizer.now }
 {
     tokenizer.parse_state.options.constructs.label_start_link && is_at(&tokenizer.cursor, b'[')
-}
-
-// Reads the `[` at hand.
-#[tactic(auto, unfolding(markdown_engine::specs::Operations::applied))]
-fn read_front(tokenizer: &mut Tokenizer) -> Result<(), AllocError>
-    requires { HasCode tokenizer.old }
-    ensures ok { OnOk result (tokenizer.new ≡ done link_ops tokenizer.old) }
-    ensures err { OnErr result (IsTrue tokenizer.new.failed) }
-{
-    append_enter(tokenizer, Name::LabelLink, tokenizer.point())?;
-    read_marker(tokenizer, Name::LabelMarker)?;
-    append_exit(tokenizer, Name::LabelLink)
 }
 
 /// Reads the start of a link at hand, its `[`, and keeps it until an end takes it. Answers whether one is read; none is where
@@ -47,7 +33,7 @@ pub fn read(tokenizer: &mut Tokenizer) -> Result<bool, AllocError>
     if !is_here(tokenizer) {
         return Ok(false);
     }
-    read_front(tokenizer)?;
+    read_marker_in(tokenizer, Name::LabelLink, Name::LabelMarker)?;
     keep_start(tokenizer, LabelKind::Link, 4)?;
     Ok(true)
 }

@@ -13,7 +13,7 @@ ghost use Rattle.markdown_run_text.specs.PlainSpan.{begins_span, names_for, open
 ghost use Rattle.markdown_run_text.specs.ReaderEnds.{ReadsOrLeaves};
 
 use crate::readers::attention::pass_markers;
-use crate::readers::events::{append_enter, append_exit, append_exit_at};
+use crate::readers::events::{append_enter, append_exit, append_leaf, append_leaf_between};
 use markdown_engine::tokenizer::Tokenizer;
 use markdown_engine_content::byte_table;
 use markdown_engine_content::bytes::{ByteSet, ByteTable};
@@ -94,12 +94,9 @@ fn append_span(
 {
     let (whole, sequence, text) = names_of(marker);
     append_enter(tokenizer, whole, start)?;
-    append_enter(tokenizer, sequence, start)?;
-    append_exit_at(tokenizer, sequence, from)?;
-    append_enter(tokenizer, text, from)?;
-    append_exit_at(tokenizer, text, to)?;
-    append_enter(tokenizer, sequence, to)?;
-    append_exit(tokenizer, sequence)?;
+    append_leaf_between(tokenizer, sequence, start, from)?;
+    append_leaf_between(tokenizer, text, from, to)?;
+    append_leaf(tokenizer, sequence, to)?;
     append_exit(tokenizer, whole)
 }
 
