@@ -22,7 +22,7 @@ use crate::readers::events::{
     append_enter, append_exit, append_string, read_marker, read_marker_in,
 };
 use crate::readers::label_end_reference;
-use markdown_engine::tokenizer::{LabelKind, LabelStart, Tokenizer};
+use markdown_engine::tokenizer::{LabelKind, LabelStart, TokenizeState, Tokenizer};
 use markdown_engine_content::byte_table;
 use markdown_engine_content::bytes::{ByteSet, ByteTable};
 use markdown_engine_content::cursor::Cursor;
@@ -169,10 +169,10 @@ fn takes_resource(start: LabelStart) -> bool
 }
 
 // Whether the last start is such a one.
-pub(crate) fn may_make(tokenizer: &Tokenizer) -> bool
-    ensures { result ≡ may_make tokenizer.now.tokenize_state.label_starts }
+pub(crate) fn may_make(state: &TokenizeState) -> bool
+    ensures { result ≡ may_make state.now.label_starts }
 {
-    match tokenizer.tokenize_state.label_starts.top() {
+    match state.label_starts.top() {
         Some(start) => takes_resource(*start),
         None => false,
     }
@@ -183,7 +183,7 @@ fn is_here(tokenizer: &Tokenizer) -> bool
     ensures { result ≡ plain_here tokenizer.now }
 {
     tokenizer.parse_state.options.constructs.label_end
-        && may_make(tokenizer)
+        && may_make(&tokenizer.tokenize_state)
         && stands(&tokenizer.cursor)
 }
 

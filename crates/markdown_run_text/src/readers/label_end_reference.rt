@@ -10,7 +10,7 @@ ghost use Rattle.markdown_engine_content.specs.Place.{code_at, moved};
 ghost use Rattle.markdown_label.specs.LabelEnd.{Ends, StartReady};
 ghost use Rattle.markdown_label_names.specs.LabelSetting.{setting_in};
 ghost use Rattle.markdown_run_text.specs.PlacesPassed.{is_some_value};
-ghost use Rattle.markdown_run_text.specs.PlainReference.{ends_here, front_stops, is_named, label_stops, names_at, past_text, reference_here, reference_read, refers_by, text_at};
+ghost use Rattle.markdown_run_text.specs.PlainReference.{ends_here, front_stops, is_named, label_stops, names_at, past_text, reference_here, reference_read, text_at};
 ghost use Rattle.markdown_run_text.specs.PlainResource.{EndsOrStays, has_markers};
 
 use crate::readers::events::read_marker_in;
@@ -95,31 +95,17 @@ fn is_named(tokenizer: &mut Tokenizer) -> Result<bool, AllocError>
     is_defined_from(tokenizer, start, end)
 }
 
-// Whether what follows the `]` at the place names a definition, or where it cannot, the label before it does.
-fn refers(tokenizer: &mut Tokenizer) -> Result<bool, AllocError>
-    requires ready { StartReady tokenizer.old }
-    requires here { is_some_value (byte "]") (code_at tokenizer.old.cursor) ≡ true }
-    ensures refers { IfOk result (λ refers. refers ≡ refers_by (code_at (moved tokenizer.old.cursor)) tokenizer.old) }
-    ensures same { OnOk result (tokenizer.new ≡ tokenizer.old) }
-    ensures err { OnErr result (IsTrue tokenizer.new.failed) }
-{
-    match tokenizer.cursor.next() {
-        Some(b'[') => is_full(tokenizer),
-        Some(b'(') => Ok(false),
-        _ => is_named(tokenizer),
-    }
-}
-
 // Whether ends are on, and the `]` of one is at the place that may make a label.
 fn may_end(tokenizer: &Tokenizer) -> bool
     ensures { result ≡ ends_here tokenizer.now }
 {
     tokenizer.parse_state.options.constructs.label_end
-        && may_make(tokenizer)
+        && may_make(&tokenizer.tokenize_state)
         && is_same(tokenizer.cursor.current(), b']')
 }
 
-// Whether ends are on, and one with a plain reference is at the place, which names a definition.
+// Whether ends are on, and one with a plain reference is at the place: what follows its `]` names a definition, or where it cannot, the label
+// before it does.
 fn is_here(tokenizer: &mut Tokenizer) -> Result<bool, AllocError>
     requires { StartReady tokenizer.old }
     ensures here { IfOk result (λ here. here ≡ reference_here tokenizer.old) }
@@ -129,7 +115,11 @@ fn is_here(tokenizer: &mut Tokenizer) -> Result<bool, AllocError>
     if !may_end(tokenizer) {
         return Ok(false);
     }
-    refers(tokenizer)
+    match tokenizer.cursor.next() {
+        Some(b'[') => is_full(tokenizer),
+        Some(b'(') => Ok(false),
+        _ => is_named(tokenizer),
+    }
 }
 
 // Reads the full reference at hand, if a `[` is there.
