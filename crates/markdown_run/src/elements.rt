@@ -93,16 +93,6 @@ fn read_backslash(tokenizer: &mut Tokenizer) -> Result<bool, AllocError>
     construct(StateName::HardBreakEscapeStart, tokenizer)
 }
 
-// Tries the start of an image.
-fn read_bang(tokenizer: &mut Tokenizer) -> Result<bool, AllocError>
-    requires ready { IsReady tokenizer.old }
-    requires here { current_of tokenizer.old ≡ Some (byte "!") }
-    ensures reads { IfOk result (λ ok. ReadsElement tokenizer.old ok tokenizer.new) }
-    ensures err { OnErr result (IsTrue tokenizer.new.failed) }
-{
-    label_start_image::read(tokenizer)
-}
-
 // Tries the start of a footnote call, where a `^` comes next, and then that of a link.
 fn read_bracket(tokenizer: &mut Tokenizer) -> Result<bool, AllocError>
     requires ready { IsReady tokenizer.old }
@@ -241,7 +231,7 @@ fn read_construct(tokenizer: &mut Tokenizer, byte: u8) -> Result<bool, AllocErro
         b'`' | b'$' => read_span(tokenizer, byte),
         b'*' | b'_' | b'~' => attention::read(tokenizer, byte),
         b'[' => read_bracket(tokenizer),
-        b'!' => read_bang(tokenizer),
+        b'!' => label_start_image::read(tokenizer),
         b'\\' => read_backslash(tokenizer),
         b'<' => read_angle(tokenizer),
         b']' => read_end(tokenizer),

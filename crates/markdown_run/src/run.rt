@@ -54,15 +54,6 @@ fn found_in(tokenizer: &mut Tokenizer) -> Run
     }
 }
 
-// Runs the passes that are registered, and takes what is found out of the tokenizer.
-fn finish(tokenizer: &mut Tokenizer) -> Result<Run, AllocError>
-    requires { MayResolve may_resolve_of resolves_of tokenizer.old.resolvers (unregistered tokenizer.old) }
-    ensures { IfOk result (λ run. IsFoundBehind tokenizer.old run) }
-{
-    tokenizer.resolve_all::<Inline>()?;
-    Ok(found_in(tokenizer))
-}
-
 // Merges neighbouring data, and tells whether the pass of a text is known to find nothing then: one walk for both, where emails are looked for.
 fn merge_data(tokenizer: &mut Tokenizer) -> Result<bool, AllocError>
     requires { MayMerge tokenizer.old }
@@ -118,15 +109,6 @@ fn resolve_text(tokenizer: &mut Tokenizer) -> Result<(), AllocError>
     Ok(())
 }
 
-// Runs the passes of a text that are registered, and takes what is found out of the tokenizer.
-fn finish_text(tokenizer: &mut Tokenizer) -> Result<Run, AllocError>
-    requires { MayResolve may_end_of resolves_of tokenizer.old.resolvers (unregistered tokenizer.old) }
-    ensures { IfOk result (λ run. IsFoundBehind tokenizer.old run) }
-{
-    resolve_text(tokenizer)?;
-    Ok(found_in(tokenizer))
-}
-
 // Runs the passes of a text that has registered none, and takes what is found out of the tokenizer. They are called at once and not registered,
 // so that no list is made for them; and what is known of the content, at which they do not look, need not be forgotten.
 fn finish_plain(tokenizer: &mut Tokenizer) -> Result<Run, AllocError>
@@ -153,7 +135,8 @@ pub fn run_through(name: StateName, tokenizer: &mut Tokenizer) -> Result<Run, Al
     ensures { IfOk result (λ run. IsFoundFrom name tokenizer.old run) }
 {
     let _ = tokenizer.run_state::<Inline>(name)?;
-    finish(tokenizer)
+    tokenizer.resolve_all::<Inline>()?;
+    Ok(found_in(tokenizer))
 }
 
 /// Reads the elements of a text and then runs the passes that it registers, and takes what is found out of the tokenizer.
@@ -173,7 +156,8 @@ pub fn text_through(tokenizer: &mut Tokenizer) -> Result<Run, AllocError>
         return finish_plain(tokenizer);
     }
     end_text(tokenizer)?;
-    finish_text(tokenizer)
+    resolve_text(tokenizer)?;
+    Ok(found_in(tokenizer))
 }
 
 // Reads a text from its start, where a cursor stands. The cursor is made before, so that the room of the tokenizer is filled once.

@@ -5,7 +5,7 @@ use Rattle.markdown_engine_index.specs.RunIndex.{is_asked}
 use Rattle.markdown_model.specs.GfmAutolinkLiteral.{first_letters, www}
 use Rattle.markdown_engine.specs.declared.tokenizer.Tokenizer.{Tokenizer}
 use Rattle.markdown_run_text.specs.TextContent.{other_markers, span_markers}
-use Rattle.markdown_run.proofs.ElementsRead.{none-among, run-ends}
+use Rattle.markdown_run.proofs.ElementsRead.{image-tried, none-among, run-ends}
 use Rattle.markdown_run.proofs.elements.read_construct.Goals as goal
 
 pub read_span-requires-clause-marks : goal.read_span-requires-clause-marks
@@ -23,6 +23,12 @@ returns-in-42-clause-reads c =
       | inr (inr e) ↦ run-ends T U ok 126 c.requires.ready (c.requires.here ∙ ap (λ n. Some n) e) refl k
     ])
     c.read.ensures.reads
+
+pub returns-in-33-clause-reads : goal.returns-in-33-clause-reads
+returns-in-33-clause-reads c =
+    let T : Tokenizer = c.args.tokenizer.now in
+    let U : Tokenizer = c.read-in-33.new.tokenizer in
+    IfOk-weaker c.read-in-33.result _ _ (λ ok k. image-tried T U ok c.requires.ready (c.requires.here ∙ ap (λ n. Some n) c.in-33.is) k) c.read-in-33.ensures.reads
 
 pub read_www-requires-clause-begins : goal.read_www-requires-clause-begins
 read_www-requires-clause-begins c =

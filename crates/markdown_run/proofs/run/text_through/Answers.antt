@@ -14,8 +14,8 @@ pub finish_plain-requires-clause-passes : goal.finish_plain-requires-clause-pass
 finish_plain-requires-clause-passes c =
     plain-passes c.read_text.new.tokenizer (finish_plain-requires-clause-none c) (c.requires.passes (text_passed (forgotten c.read_text.new.tokenizer)) c.in_ok-read_text.ensures.ok)
 
-pub finish_text-requires : goal.finish_text-requires
-finish_text-requires c =
+pub resolve_text-requires : goal.resolve_text-requires
+resolve_text-requires c =
     c.requires.passes c.end_text.new.tokenizer (subst (λ (x : Tokenizer). EndsAt (text_named c.args.tokenizer.now) x) (sym c.in_ok-end_text.ensures.ok) c.in_ok-read_text.ensures.ok)
 
 pub returns-then-is_empty : goal.returns-then-is_empty
@@ -24,4 +24,13 @@ returns-then-is_empty c =
 
 pub returns : goal.returns
 returns c =
-    IfOk-weaker c.finish_text.result _ _ (λ run found. record { left = c.end_text.new.tokenizer; ends = subst (λ (x : Tokenizer). EndsAt (text_named c.args.tokenizer.now) x) (sym c.in_ok-end_text.ensures.ok) c.in_ok-read_text.ensures.ok; found = found }) c.finish_text.ensures
+    record {
+      left = c.end_text.new.tokenizer;
+      ends = subst (λ (x : Tokenizer). EndsAt (text_named c.args.tokenizer.now) x) (sym c.in_ok-end_text.ensures.ok) c.in_ok-read_text.ensures.ok;
+      found = record {
+        passed = c.resolve_text.new.tokenizer;
+        resolves = c.in_ok-resolve_text.ensures;
+        events = c.found_in.ensures.events;
+        probes = c.found_in.ensures.probes;
+      };
+    }
