@@ -1,5 +1,6 @@
 -- The laws of the states of a label's end.
 use Rattle.std.proofs.Common.{◌≡◌, ℕ, ◌<◌, ◌==◌, Bool, true, false, ◌&&◌, not, None, List, [], ◌∷◌, refl, sym, ap, subst, ◌∙◌, arith}
+use Rattle.std.proofs.lemmas.Bool.{false≢true}
 use Rattle.std.specs.Prelude.{is_some}
 use Rattle.markdown_engine_content.specs.ListFunctions.{rest_of}
 use Rattle.markdown_engine.specs.Operations.{ahead, applied, current_of, scratched}
@@ -255,7 +256,7 @@ module _ (W : Words) (within : Within states_and_called W) where
         whole = refl;
         after = ap ahead k.1 ∙ ahead-made T;
       }
-  call-after l ls T e called false U k = cc
+  call-after l ls T e called false U k = absurd (false≢true k.0)
 
   tail-there : (n : ℕ) (defined : Bool) (T : Tokenizer) → T.attempts ≡ [] → AreOrdered T.tokenize_state.label_starts → FullReady (link_tried T) →
       weight_at 12 T < n →

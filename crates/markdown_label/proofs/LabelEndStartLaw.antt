@@ -38,7 +38,7 @@ use Rattle.markdown_model.proofs.GrammarSteps.{bind-some, bind-none, one-here, o
 use Rattle.markdown_util.specs.Identifier.{identifier_of}
 use Rattle.markdown_label.specs.LabelFields.{bars, as_link, loosened}
 use Rattle.std.specs.Str.{IsCharBoundary}
-use Rattle.std.proofs.lemmas.Bool.{eqb-true}
+use Rattle.std.proofs.lemmas.Bool.{eqb-true, true≢false}
 use Rattle.markdown_event.specs.declared.event.Point.{Point}
 use Rattle.markdown_label.specs.LabelEnd.{EndsBetween, end_ops, ended_at, ended, start_by, is_on, start_at, AllEndBetween, StartReady, AfterReady, after_reading_of, after_reading, after_ends, nok_ends, lost_here, end_tree, outcome_by, end_reading, lost_starts, lost_by, lost_fields, end_made, start_ends, start_words, states_and_called}
 use Rattle.markdown_label_names.specs.LabelNames.{AreAround, point_or, place_at, identifier_between}
@@ -210,7 +210,7 @@ module _ (T : Tokenizer) (x : Code) (cs : List Code) (whole : ahead T ≡ x ∷ 
   barred-there : (l : Kept.LabelStart) (ls : List Kept.LabelStart) → T.tokenize_state.label_starts ≡ l ∷ ls →
       bars l ≡ true → is_on T ≡ true → is_value 93 x ≡ true → (ok : Bool) (U : Tokenizer) → nok_ends (ended T) ok U →
       start_ends T ok U
-  barred-there l ls e barred on here true U k = cc
+  barred-there l ls e barred on here true U k = absurd (true≢false k.0)
   barred-there l ls e barred on here false U k =
       record {
         refused = reading-at T x cs on whole here ∙ bind-none (outcome_by T.tokenize_state.label_starts T (x ∷ [])) _ cs (ap (λ y. outcome_by y T (x ∷ []) cs) e ∙ switched-off _ (not (bars l)) cs (ap not barred));
@@ -223,7 +223,7 @@ module _ (W : Words) (within : Within states_and_called W) where
   nok-here T alone none same = Goes-end W (weight_at 3 T) (start_ends T) false T alone (omega arith) fails
     where
       fails : (ok : Bool) (U : Tokenizer) → (ok ≡ false) × (U ≡ T) → start_ends T ok U
-      fails true U h = cc
+      fails true U h = absurd (true≢false h.0)
       fails false U h =
           record { refused = none; fails = subst (λ s. Fails s T U) (sym same) (subst (λ y. Fails T.tokenize_state T y) (sym h.1) (record { grown = Grown-refl 0 T; scratch = refl })) }
 

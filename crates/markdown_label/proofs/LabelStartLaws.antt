@@ -1,5 +1,6 @@
 -- The laws of the states of the starts of labels.
 use Rattle.std.proofs.Common.{◌≡◌, ℕ, ◌+◌, ◌<◌, ◌≤◌, ◌==◌, Bool, true, false, ◌&&◌, not, Option, Some, None, List, [], ◌++◌, length, drop, refl, sym, ap, subst, ◌∙◌, arith}
+use Rattle.std.proofs.lemmas.Bool.{false≢true, true≢false}
 use Rattle.std.proofs.Math.Bool.{and-false}
 use Rattle.markdown_engine_content.specs.Codes.{Code}
 use Rattle.markdown_engine.specs.FailedRun.{Grown}
@@ -49,7 +50,7 @@ module _ (W : Words) where
   goes-not n d kind size os p T alone some e = Goes-end W n (begins_as d kind size os p T) false T alone some fails
     where
       fails : (ok : Bool) (U : Tokenizer) → (ok ≡ false) × (U ≡ T) → begins_as d kind size os p T ok U
-      fails true U h = cc
+      fails true U h = absurd (true≢false h.0)
       fails false U h =
           record { refused = e; grown = subst (λ (x : Tokenizer). Grown d T x) (sym h.1) (Grown-refl d T); scratch = ap (λ (x : Tokenizer). x.tokenize_state) h.1 }
 
@@ -62,7 +63,7 @@ module _ (W : Words) where
       holds : (ok : Bool) (U : Tokenizer) → (ok ≡ true) × (U ≡ kept_start kind size (done os T)) →
           begins_as d kind size os p T ok U
       holds true U h = record { holds = e; left = h.1 }
-      holds false U h = cc
+      holds false U h = absurd (false≢true h.0)
 
   -- on with a state
   goes-next : (k d : ℕ) (kind : LabelKind) (size : ℕ) (os ps : List Op) (p q : List Code → Bool) (T : Tokenizer) (st : StateName) {w : StateWords} → words_in W st ≡ w → T.attempts ≡ [] → stays d os ≡ true → moves os ≡ 1 → 1 ≤ length (ahead T) → w.rank (done os T) < 256 + k → w.ready (done os T) → p (ahead T) ≡ q (ahead (done os T)) → ((ok : Bool) (U : Tokenizer) → w.ends (done os T) ok U → begins_as (depth_after d os) kind size ps q (done os T) ok U)

@@ -1,5 +1,6 @@
 -- The laws of the states of a full reference.
 use Rattle.std.proofs.Common.{◌≡◌, ℕ, ◌+◌, Bool, true, false, if◌then◌else◌, Some, None, List, [], ◌∷◌, ◌++◌, length, nat_lt, refl, sym, ap, subst, ◌∙◌, arith, append_assoc}
+use Rattle.std.proofs.lemmas.Bool.{true≢false}
 use Rattle.std.proofs.Math.Bool.{and-true, and-false}
 use Rattle.std.specs.Prelude.{◌&&◌, is_some, IsUtf8}
 use Rattle.std.specs.Str.{IsCharBoundary}
@@ -193,7 +194,7 @@ missing-ends : (T : Tokenizer) → FullReady T → label reference_names (ahead 
     reference_full_missing_ends (scratched (names_set T.tokenize_state) (scratched (names_set T.tokenize_state) T)) ok V →
     reference_full_ends T ok V
 unfolding scratched
-missing-ends T k none true V h = cc
+missing-ends T k none true V h = absurd (true≢false h.0)
 missing-ends T k none false V h = none-there T V k none h.1
 
 module _ (W : Words) (within : Within states_and_called W) where

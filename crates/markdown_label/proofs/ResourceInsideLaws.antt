@@ -1,6 +1,6 @@
 -- The laws of the states of a resource behind its opening.
 use Rattle.std.proofs.Common.{◌≡◌, ℕ, ◌<◌, ◌≤◌, ◌==◌, Bool, true, false, ◌||◌, if◌then◌else◌, Option, Some, None, List, [], ◌∷◌, ◌++◌, refl, sym, ap, subst, ◌∙◌, arith, inl, inr}
-use Rattle.std.proofs.lemmas.Bool.{eqb-true, or_cases}
+use Rattle.std.proofs.lemmas.Bool.{eqb-true, or_cases, false≢true, true≢false}
 use Rattle.markdown_engine_content.specs.Codes.{Code}
 use Rattle.markdown_engine.specs.FailedRun.{Grown, Fails}
 use Rattle.markdown_engine_content.specs.ListFunctions.{rest_of}
@@ -207,14 +207,15 @@ marker-read T U c cs e g left =
     }
 
 -- the closing marker is read
+closed-by : (T U : Tokenizer) (cs : List Code) → ahead T ≡ cs → next_is (is_value 41) cs ≡ true →
+    U ≡ done (front_ops ++ Exit N.Resource ∷ []) T → RowReads closes T.tokenize_state T U
+closed-by T U [] e g left = absurd (false≢true g)
+closed-by T U (c ∷ cs) e g left = marker-read T U c cs e g left
+
 closed-so : (T : Tokenizer) (ok : Bool) (U : Tokenizer) → next_is (is_value 41) (ahead T) ≡ true →
     (ok ≡ true) × (U ≡ done (front_ops ++ Exit N.Resource ∷ []) T) → end_ends T ok U
-closed-so T false U h x = cc
-closed-so T true U h x = by-codes (ahead T) refl h
-  where
-    by-codes : (cs : List Code) → ahead T ≡ cs → next_is (is_value 41) cs ≡ true → RowReads closes T.tokenize_state T U
-    by-codes [] e g = cc
-    by-codes (c ∷ cs) e g = marker-read T U c cs e g x.1
+closed-so T false U h x = absurd (false≢true x.0)
+closed-so T true U h x = closed-by T U (ahead T) refl h x.1
 
 module _ (W : Words) (within : Within states_and_called W) where
   pub missing-law : Law W missing_words
@@ -292,7 +293,7 @@ module _ (W : Words) (within : Within states_and_called W) where
 
       lost : (ok : Bool) (V : Tokenizer) → missing_ends (scratched q (scratched q T)) ok V →
           RowEnds r T.tokenize_state T ok V
-      lost true V h = cc
+      lost true V h = absurd (true≢false h.0)
       lost false V h = refuses-so r T V none (put-back V h.1 ∙ ap (λ s. scratched s T) back ∙ scratched-same T)
 
   pub open-law : Law W open_words
@@ -322,7 +323,7 @@ module _ (W : Words) (within : Within states_and_called W) where
   -- no resource ends behind a title in parentheses
   given-up : (T : Tokenizer) → InReady T → is_hopeless T ≡ true → (ok : Bool) (U : Tokenizer) → (ok ≡ false) × (U ≡ T) →
       between_ends T ok U
-  given-up T p h true U x = cc
+  given-up T p h true U x = absurd (true≢false x.0)
   given-up T p h false U x = refuses-so between T U (hopeless-between T p h) x.1
 
   pub between-law : Law W between_words
@@ -361,5 +362,5 @@ module _ (W : Words) (within : Within states_and_called W) where
       (λ h. Goes-end W (weight_at 1 T) (end_ends T) false T alone (omega arith) (λ ok U x. open-so ok U (closes-none (ahead T) (sym (closes-here T (current_of T) refl) ∙ h)) x))
     where
       open-so : (ok : Bool) (U : Tokenizer) → closes (ahead T) ≡ None → (ok ≡ false) × (U ≡ T) → end_ends T ok U
-      open-so true U none x = cc
+      open-so true U none x = absurd (true≢false x.0)
       open-so false U none x = refuses-so closes T U none x.1

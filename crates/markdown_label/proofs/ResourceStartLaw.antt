@@ -1,5 +1,6 @@
 -- The law of the start of a resource: the group around its row.
 use Rattle.std.proofs.Common.{◌≡◌, ◌+◌, ◌==◌, Bool, true, false, if◌then◌else◌, Option, Some, None, List, [], ◌∷◌, ◌++◌, length, refl, sym, ap, subst, ◌∙◌, arith, append-nil}
+use Rattle.std.proofs.lemmas.Bool.{true≢false}
 use Rattle.markdown_engine_content.proofs.DocumentPlaces.{stop-more}
 use Rattle.markdown_engine_content.specs.Codes.{Code, stop_of}
 use Rattle.markdown_engine.specs.FailedRun.{Grown, Fails}
@@ -188,7 +189,7 @@ module _ (W : Words) (within : Within states_and_called W) where
   refuses-here T alone none = Goes-end W (weight_at 12 T) (resource_ends T) false T alone (omega arith) lost
     where
       lost : (ok : Bool) (U : Tokenizer) → (ok ≡ false) × (U ≡ T) → resource_ends T ok U
-      lost true U x = cc
+      lost true U x = absurd (true≢false x.0)
       lost false U x =
           record { refused = none; fails = subst (λ y. Fails T.tokenize_state T y) (sym x.1) (record { grown = Grown-refl 0 T; scratch = refl }) }
 
