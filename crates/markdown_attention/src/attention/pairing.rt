@@ -273,24 +273,19 @@ fn cut_for_pair(
     }
 }
 
-// Marks all runs before a closer that found no opener.
-fn mark_end(marks: &mut Vec<usize>, at: usize, closer: Sequence)
-    requires { at < length marks.old.items }
-    ensures { marks.new.items ≡ (if closer.may_close && nat_lt 0 closer.remaining then slice_set marks.old.items at closer.number else marks.old.items) }
-{
-    if closer.may_close && closer.remaining > 0 {
-        marks[at] = closer.number;
-    }
-}
-
-// Puts a run on top of its list, if it may open.
-fn list_end(heads: &mut Vec<Newest>, list: usize, closer: Sequence)
+// Notes a run that found no opener: if it may close, all runs before it are marked, and if it may open, it is put on top of its list.
+fn note_run(heads: &mut Vec<Newest>, marks: &mut Vec<usize>, list: usize, at: usize, run: Sequence)
     requires list { list < length heads.old.items }
-    requires number { closer.number + 1 < 2 ^ 64 }
-    ensures { heads.new.items ≡ (if closer.may_open && nat_lt 0 closer.remaining then slice_set heads.old.items list (closer.number + 1) else heads.old.items) }
+    requires at { at < length marks.old.items }
+    requires number { run.number + 1 < 2 ^ 64 }
+    ensures marks { marks.new.items ≡ (if run.may_close && nat_lt 0 run.remaining then slice_set marks.old.items at run.number else marks.old.items) }
+    ensures heads { heads.new.items ≡ (if run.may_open && nat_lt 0 run.remaining then slice_set heads.old.items list (run.number + 1) else heads.old.items) }
 {
-    if closer.may_open && closer.remaining > 0 {
-        heads[list] = Newest::run(closer.number);
+    if run.may_close && run.remaining > 0 {
+        marks[at] = run.number;
+    }
+    if run.may_open && run.remaining > 0 {
+        heads[list] = Newest::run(run.number);
     }
 }
 
@@ -370,8 +365,7 @@ pub fn pair_runs(
         match walk(options, runs, head, &older, marks[at], closer) {
             None => {
                 older.push(head)?;
-                mark_end(&mut marks, at, closer);
-                list_end(&mut heads, list, closer);
+                note_run(&mut heads, &mut marks, list, at, closer);
                 runs.advance();
             }
             Some(opener) => {

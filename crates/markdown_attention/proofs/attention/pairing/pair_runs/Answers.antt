@@ -157,14 +157,14 @@ walk-requires-clause-room c =
     let inv = c.loop-closer.invariant.inv in
     probes-room c.loop-closer.runs.probes c.loop-closer.runs.turn (length c.loop-closer.pairs.items) (length c.args.runs.now.list) (markers_left c.loop-closer.runs.list) (markers_left c.args.runs.now.list) inv.most inv.within c.requires.count inv.half c.requires.small
 
-pub mark_end-requires : goal.mark_end-requires
-mark_end-requires c = (tables (goal.at.mark_end-requires c).After-class_number-class).mark_in
+pub note_run-requires-clause-at : goal.note_run-requires-clause-at
+note_run-requires-clause-at c = (tables (goal.at.note_run-requires-clause-at c).After-class_number-class).mark_in
 
-pub list_end-requires-clause-list : goal.list_end-requires-clause-list
-list_end-requires-clause-list c = (tables (goal.at.list_end-requires-clause-list c).After-class_number-class).list_in
+pub note_run-requires-clause-list : goal.note_run-requires-clause-list
+note_run-requires-clause-list c = (tables (goal.at.note_run-requires-clause-list c).After-class_number-class).list_in
 
-pub list_end-requires-clause-number : goal.list_end-requires-clause-number
-list_end-requires-clause-number c =
+pub note_run-requires-clause-number : goal.note_run-requires-clause-number
+note_run-requires-clause-number c =
     number-small c.in-Some.closer.number c.loop-closer.runs.turn (length c.args.runs.now.list) c.in-Some.ensures.number c.loop-closer.invariant.inv.within c.requires.count
 
 pub advance-requires : goal.advance-requires
@@ -179,22 +179,22 @@ loop-closer-preserved-in-None c =
     let b = (goal.at.loop-closer-preserved-in-None c).After-walk.before in
     let k : ℕ = list_of (line_in c.in_ok-lines.lines.of_rows.items c.in_ok-lines.lines.count) c.args.runs.now.list c.loop-closer.runs.turn in
     let class : ℕ = class_of c.args.options (run_at c.loop-closer.runs.list c.loop-closer.runs.turn) (run_at c.loop-closer.runs.list c.loop-closer.runs.turn).remaining in
-    let heads' : c.list_end.new.heads.items
+    let heads' : c.note_run.new.heads.items
     ≡ cond (c.in-Some.closer.may_open && ltb 0 c.in-Some.closer.remaining) (set c.loop-closer.heads.items k (c.loop-closer.runs.turn + 1)) c.loop-closer.heads.items =
-    subst (λ n. c.list_end.new.heads.items
+    subst (λ n. c.note_run.new.heads.items
     ≡ cond (c.in-Some.closer.may_open && ltb 0 c.in-Some.closer.remaining) (set c.loop-closer.heads.items k (n + 1)) c.loop-closer.heads.items) c.in-Some.ensures.number
-    (subst (λ n. c.list_end.new.heads.items
+    (subst (λ n. c.note_run.new.heads.items
     ≡ cond (c.in-Some.closer.may_open && ltb 0 c.in-Some.closer.remaining) (set c.loop-closer.heads.items n (c.in-Some.closer.number + 1)) c.loop-closer.heads.items) (list_is b)
-    c.list_end.ensures) in
-    let marks' : c.mark_end.new.marks.items
+    c.note_run.ensures.heads) in
+    let marks' : c.note_run.new.marks.items
     ≡ cond (c.in-Some.closer.may_close && ltb 0 c.in-Some.closer.remaining) (set c.loop-closer.marks.items (k * 6 + class) c.loop-closer.runs.turn) c.loop-closer.marks.items =
-    subst (λ n. c.mark_end.new.marks.items
+    subst (λ n. c.note_run.new.marks.items
     ≡ cond (c.in-Some.closer.may_close && ltb 0 c.in-Some.closer.remaining) (set c.loop-closer.marks.items (k * 6 + class) n) c.loop-closer.marks.items) c.in-Some.ensures.number
-    (subst (λ n. c.mark_end.new.marks.items
+    (subst (λ n. c.note_run.new.marks.items
     ≡ cond (c.in-Some.closer.may_close && ltb 0 c.in-Some.closer.remaining) (set c.loop-closer.marks.items (k * 6 + n) c.in-Some.closer.number) c.loop-closer.marks.items) (class_is b)
-    (subst (λ n. c.mark_end.new.marks.items
+    (subst (λ n. c.note_run.new.marks.items
     ≡ cond (c.in-Some.closer.may_close && ltb 0 c.in-Some.closer.remaining) (set c.loop-closer.marks.items (n * 6 + c.class_number-class.result) c.in-Some.closer.number) c.loop-closer.marks.items) (list_is b)
-    c.mark_end.ensures)) in
+    c.note_run.ensures.marks)) in
     let walked : IsClosing c.in-Some.closer → WalkEnded c.args.options c.loop-closer.runs.list c.loop-closer.older.items (mark_of c.loop-closer.marks.items k class)
     c.loop-closer.runs.turn c.index-head.result.now (c.walk.new.runs.probes - c.loop-closer.runs.probes) =
     λ x. subst (λ m. WalkEnded c.args.options c.loop-closer.runs.list c.loop-closer.older.items m
@@ -203,7 +203,7 @@ loop-closer-preserved-in-None c =
     c.loop-closer.runs.turn c.index-head.result.now (c.walk.new.runs.probes - c.loop-closer.runs.probes)) c.deref.ensures.value (c.in-None.ensures.none x)) in
     let inv' = end_turn (layout_of c.in_ok-lines.lines.of_rows.items c.in_ok-lines.lines.count c.in_ok-lines.ensures.are) c.args.options c.args.runs.now.list c.loop-closer.runs.list c.loop-closer.runs.turn c.loop-closer.pairs.items c.loop-closer.runs.probes
     c.loop-closer.heads.items c.loop-closer.older.items c.loop-closer.marks.items c.loop-closer.invariant.inv (here b) (by-marker c.args.runs.now.list c.requires.markers) (keys b) (marks_six b)
-    c.in-Some.closer c.in-Some.ensures.run c.walk.new.runs.probes c.index-head.result.now c.list_end.new.heads.items c.mark_end.new.marks.items
+    c.in-Some.closer c.in-Some.ensures.run c.walk.new.runs.probes c.index-head.result.now c.note_run.new.heads.items c.note_run.new.marks.items
     (head_is b) heads' marks' c.in-None.ensures.idle walked c.in-None.ensures.at_least c.in-None.ensures.at_most in
     record {
       inv = rw (c.advance.ensures, c.in-None.ensures.list, c.in-None.ensures.turn, c.in_ok-push-in-None.ensures.items) inv';
