@@ -23,7 +23,7 @@ ghost use Rattle.std.specs.Prelude.{◌≡◌, ◌≤◌, IfOk, OnErr, IsTrue, t
 ghost use Rattle.markdown_engine.specs.Operations.{HasCode};
 ghost use Rattle.markdown_partial.specs.PartialLabel.{start_step, closed, at_break_step, eol_after_step, nok_step, passing, inside_step, escape_step, BreakReady, InsideReady, EscapeReady};
 
-use crate::linked_text::{ask_for_ending, enter_text};
+use crate::linked_text::{enter_text, pass_ending};
 use markdown_engine::tokenizer::Tokenizer;
 use markdown_event::event::Name;
 use markdown_state::state::{State, StateName};
@@ -99,18 +99,8 @@ pub fn at_break(tokenizer: &mut Tokenizer) -> Result<State, AllocError>
             match code {
                 b']' if tokenizer.tokenize_state.seen => close(tokenizer),
                 b']' => Ok(State::Retry(StateName::LabelNok)),
-                b'\n' => {
-                    let ending = ask_for_ending(tokenizer);
-                    tokenizer.attempt(
-                        State::Next(StateName::LabelEolAfter),
-                        State::Next(StateName::LabelNok),
-                    )?;
-                    Ok(State::Retry(ending))
-                }
-                _ => {
-                    enter_text(tokenizer)?;
-                    Ok(State::Retry(StateName::LabelInside))
-                }
+                b'\n' => pass_ending(tokenizer, StateName::LabelEolAfter, StateName::LabelNok),
+                _ => enter_text(tokenizer, StateName::LabelInside),
             },
         _ => Ok(State::Retry(StateName::LabelNok)),
     }

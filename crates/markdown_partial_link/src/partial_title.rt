@@ -24,7 +24,7 @@ ghost use Rattle.std.specs.Prelude.{◌≡◌, IfOk, OnErr, IsTrue, true};
 ghost use Rattle.markdown_engine.specs.Operations.{IsOpen, LinkedBefore, current_of};
 ghost use Rattle.markdown_partial.specs.PartialTitle.{start_step, begin_step, at_break_step, after_eol_step, nok_step, inside_step, inside_stops, escape_step, BreakReady, InsideReady};
 
-use crate::linked_text::{ask_for_ending, enter_text};
+use crate::linked_text::{enter_text, pass_ending};
 use markdown_engine::tokenizer::{TokenizeState, Tokenizer};
 use markdown_engine_content::byte_table;
 use markdown_engine_content::bytes::{ByteSet, ByteTable};
@@ -93,18 +93,8 @@ pub fn at_break(tokenizer: &mut Tokenizer) -> Result<State, AllocError>
             tokenizer.exit(tokenizer.tokenize_state.token_3)?;
             Ok(State::Retry(StateName::TitleBegin))
         }
-        Some(b'\n') => {
-            let ending = ask_for_ending(tokenizer);
-            tokenizer.attempt(
-                State::Next(StateName::TitleAfterEol),
-                State::Next(StateName::TitleNok),
-            )?;
-            Ok(State::Retry(ending))
-        }
-        Some(_) => {
-            enter_text(tokenizer)?;
-            Ok(State::Retry(StateName::TitleInside))
-        }
+        Some(b'\n') => pass_ending(tokenizer, StateName::TitleAfterEol, StateName::TitleNok),
+        Some(_) => enter_text(tokenizer, StateName::TitleInside),
     }
 }
 
