@@ -113,6 +113,16 @@ module _ (bytes : List ℕ) (i links : ℕ) (es : List Event) (e : Event) (withi
   pub stretch-at : (x : Event) → x ≡ get_or es (i + 1) x → opens_data e ≡ true → FirstHasPlaces bytes (drop i es) → IsStretch bytes e.point x.point
   stretch-at x k o p = let c = closes-first bytes i es e within is o p in stretch-first bytes i es e x (next-within bytes i es e c) k c
 
+  -- whether it is data with an `@`
+  pub signed-at : (x : Event) → x ≡ get_or es (i + 1) x → opens_data e ≡ true → FirstHasPlaces bytes (drop i es) →
+      has_sign bytes e.point x.point ≡ begins_signed bytes (drop i es)
+  signed-at x k o p =
+      let more : i + 1 < length es = next-within bytes i es e (closes-first bytes i es e within is o p) in
+      sym (
+      ap (begins_signed bytes) (head-drop i es e within is ∙ ap (λ ys. e ∷ ys) (head-drop (i + 1) es x more k))
+      ∙ ap (λ a. a && has_sign bytes e.point x.point) o
+      )
+
   edit-at : (x : Event) (b : Bool) → x ≡ get_or es (i + 1) x → opens_data e ≡ true → FirstHasPlaces bytes (drop i es) → links ≡ 0 →
       has_sign bytes e.point x.point ≡ b → mail_first bytes i links (drop i es) ≡ (if b then mail bytes i e x ∷ [] else [])
   edit-at x b k o p none sign =
