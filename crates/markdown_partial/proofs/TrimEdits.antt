@@ -28,6 +28,11 @@ pub closes-first : (bytes : List ℕ) (i : ℕ) (es : List Event) (e : Event) �
 closes-first bytes i es e l h o p =
     let q = subst (λ (xs : List Event). FirstHasPlaces bytes xs) (head-drop i es e l h) p in q o
 
+-- the same of an event that is known by its number
+pub data-closes : (bytes : List ℕ) (i : ℕ) (es : List Event) (e : Event) → i < length es → e ≡ get_or es i e →
+    ((x : Event) → opens_data (get_or es i x) ≡ true) → FirstHasPlaces bytes (drop i es) → ClosesAt bytes e (drop (i + 1) es)
+data-closes bytes i es e l h o p = closes-first bytes i es e l h (ap opens_data h ∙ o e) p
+
 some-left : (bytes : List ℕ) (e : Event) (xs : List Event) → ClosesAt bytes e xs → 0 < length xs
 some-left bytes e [] h = absurd h
 some-left bytes e (x ∷ xs) h = omega arith

@@ -1,7 +1,21 @@
-use Rattle.std.proofs.Common.{arith}
+use Rattle.std.proofs.Common.{◌++◌, ap, arith, sym, ◌∙◌}
 use Rattle.markdown_partial.proofs.TrimEdits.{places-more}
-use Rattle.markdown_leaf_email_pass.proofs.EmailEditLemmas.{mails-more}
+use Rattle.markdown_leaf_email_pass.specs.EmailEdits.{mails}
+use Rattle.markdown_leaf_email_pass.proofs.EmailEditLemmas.{places-first, mails-more}
 use Rattle.markdown_leaf_email_pass.proofs.email.mail_each.Goals as goal
+
+pub returns-then-not-has_signed : goal.returns-then-not-has_signed
+returns-then-not-has_signed c = c.requires.empty ∙ sym (c.has_signed.ensures c.if-not-has_signed.true)
+
+pub loop-index-init : goal.loop-index-init
+loop-index-init c = (
+  c.requires.places,
+  omega arith,
+  ap (λ xs. xs ++ mails c.args.bytes.now 0 0 c.args.events.now) c.requires.empty,
+)
+
+pub mail_first-requires-clause-places : goal.mail_first-requires-clause-places
+mail_first-requires-clause-places c = places-first _ _ c.loop-index.invariant.0
 
 pub loop-index-preserved : goal.loop-index-preserved
 loop-index-preserved c = (

@@ -2,9 +2,17 @@ use Rattle.std.proofs.Common.{◌≡◌, ◌&&◌, ◌==◌, false, sym, ap, ◌
 use Rattle.std.proofs.Math.Bool.{and-false}
 use Rattle.std.proofs.lemmas.Bool.{ne_eqb}
 use Rattle.markdown_partial.specs.MergedEvents.{opens_data}
+use Rattle.markdown_partial.proofs.TrimEdits.{closes-first, next-within}
 use Rattle.markdown_leaf_email_pass.proofs.EmailEditLemmas.{mail-unlinked, stretch-at, mailed-at, unsigned-at, other-at}
 use Rattle.markdown_leaf_email_pass.proofs.email.mail_first.Goals as goal
 use Rattle.markdown_leaf_email_pass.proofs.email.mail_first.Goals.{else-opens_data-via-then-opens_data+else-links-eq0, else-opens_data-via-else-opens_data}
+
+pub overflow_add-index : goal.overflow_add-index
+overflow_add-index c = omega (arith, c.requires.within, c.requires.counted)
+
+pub bare_at-exit-requires : goal.bare_at-exit-requires
+bare_at-exit-requires c =
+    next-within c.args.bytes.now c.args.index c.args.events.now c.bare_at-enter.result (closes-first c.args.bytes.now c.args.index c.args.events.now c.bare_at-enter.result c.requires.within c.bare_at-enter.ensures.event (sym c.opens_data.ensures ∙ c.if-opens_data.true) c.requires.places)
 
 pub has_sign-requires-clause-stretch : goal.has_sign-requires-clause-stretch
 has_sign-requires-clause-stretch c =
