@@ -1,5 +1,6 @@
 -- More on how runs end.
 use Rattle.std.proofs.Common.{◌≡◌, ℕ, Bool, true, false, Option, Some, None, refl, sym, ap, ◌∙◌}
+use Rattle.std.proofs.lemmas.Bool.{false≢true}
 use Rattle.markdown_engine.specs.Operations.{ahead}
 use Rattle.markdown_engine.specs.PastTree.{EndsAs, TreeReading, past}
 use Rattle.markdown_engine_content.specs.Tree.{empty}
@@ -21,4 +22,4 @@ pub EndsAs-here : (r : TreeReading) (T : Tokenizer) → r (ahead T) ≡ Some (em
     (ok : Bool) (U : Tokenizer) → (ok ≡ true) × (U ≡ T) → EndsAs r None T.tokenize_state T ok U
 EndsAs-here r T e true U k =
     record { tree = empty; rest = ahead T; holds = e; left = k.1 ∙ sym (past-empty None T) ∙ ap (past None empty) (sym (scratched-same T)); whole = refl; after = ap ahead k.1 }
-EndsAs-here r T e false U k = cc
+EndsAs-here r T e false U k = absurd (false≢true k.0)

@@ -1,5 +1,6 @@
 -- What the states of a text have in common: their conditions over a step, and runs that fail.
 use Rattle.std.proofs.Common.{◌≡◌, ℕ, ◌+◌, ◌≤◌, ◌&&◌, not, Bool, true, false, if◌then◌else◌, None, List, [], ◌∷◌, ◌++◌, length, drop, refl, sym, ap, subst, ◌∙◌, arith}
+use Rattle.std.proofs.lemmas.Bool.{true≢false}
 use Rattle.markdown_plan.proofs.PlanSteps.{Grown-same, scratch-same}
 use Rattle.markdown_engine_events.specs.EventChains.{has_link}
 use Rattle.markdown_engine_content.specs.ListFunctions.{rest_of}
@@ -92,7 +93,7 @@ depth-data false P h = h
 
 pub DoesAs-fails : (d : ℕ) (p : Plan) (s : TokenizeState) (T : Tokenizer) → p (ahead T) ≡ None →
     (ok : Bool) (U : Tokenizer) → (ok ≡ false) × (U ≡ scratched s T) → DoesAs d p s T ok U
-DoesAs-fails d p s T e true U k = let no : true ≡ false = k.0 in cc
+DoesAs-fails d p s T e true U k = absurd (true≢false k.0)
 DoesAs-fails d p s T e false U k = record { none = e; grown = Grown-same d s T U k.1; scratch = scratch-same s T U k.1 }
 
 -- by a test
