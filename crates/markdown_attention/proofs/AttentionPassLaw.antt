@@ -1,11 +1,9 @@
 -- What one edit for each run leaves of the events of a tree: those of the tree with its pairs grouped.
-use Rattle.std.proofs.Common.{◌≡◌, ℕ, suc, ◌+◌, ◌-◌, ◌≤◌, Bool, true, false, List, [], ◌∷◌, ◌++◌, length, take, drop, reverse, map, sum_by, Option, Some, None, if◌then◌else◌, cond, refl, sym, ap, subst, ◌∙◌, arith, append_assoc, append-nil, inl, inr}
+use Rattle.std.proofs.Common.{◌≡◌, ℕ, suc, ◌+◌, ◌-◌, Bool, true, false, List, [], ◌∷◌, ◌++◌, length, take, drop, reverse, map, sum_by, Option, Some, None, if◌then◌else◌, refl, sym, ap, subst, ◌∙◌, arith, append_assoc, append-nil}
 use Rattle.std.specs.Option.{option_map}
 use Rattle.std.proofs.lemmas.List.{drop_all}
-use Rattle.std.proofs.lemmas.Bool.{cases_lt}
 use Rattle.markdown_engine_content.specs.Codes.{Code, stop_of, document_start}
-use Rattle.markdown_engine_events.specs.Edits.{is_removed, removed_at, added_at, moved_number, moved, edited_from, edited}
-use Rattle.markdown_engine_content.specs.ListFunctions.{rest_of}
+use Rattle.markdown_engine_events.specs.Edits.{moved_number, edited_from, edited}
 use Rattle.markdown_engine.specs.Operations.{link_back}
 use Rattle.markdown_engine.specs.PastTree.{appended_from}
 use Rattle.markdown_engine_content.specs.Tree.{Forest, empty, leaf_then, group_then, leaf, event, event_count, start_of}
@@ -16,22 +14,17 @@ use Rattle.markdown_event.specs.declared.event.Name.{Name}
 use Rattle.markdown_event.specs.declared.event.Name.TheVariants as N
 use Rattle.markdown_event.specs.declared.event.Point.{Point}
 use Rattle.markdown_engine_events.specs.declared.util.edit_map.Edit.{Edit}
-use Rattle.markdown_engine_events.proofs.EditRules.{stays-where, goes-where}
-use Rattle.markdown_engine_events.proofs.EditLemmas.{start, moved-start}
-use Rattle.markdown_engine_content.proofs.PlaceRules.{drop-more}
+use Rattle.markdown_engine_events.proofs.EditLemmas.{start}
+use Rattle.markdown_engine_events.proofs.EditSteps.{AreOfTwo, Fresh, OneStays, one-stays, TwoStay, two-stay, TwoGo, two-go, drop-next, drop-part}
 use Rattle.markdown_engine.proofs.TreeEvents.{length-appended_from}
 use Rattle.markdown_model.specs.Setting.{Setting}
 use Rattle.markdown_model.specs.Runs.{Run, run_of, runs_of}
 use Rattle.markdown_model.specs.Pairs.{Pair}
 use Rattle.markdown_model.specs.BracketGroups.{item, opens, closes, Token, run_tokens, assembled, tokens_of, paired, closing_sizes, opening_sizes, cut_front}
 use Rattle.markdown_attention.specs.RunsRead.{is_run, opens_run}
-use Rattle.std.proofs.lemmas.List.{drop-drop, drop_at}
 use Rattle.markdown_attention.specs.TokenWord.{word_events, word_count, word_link, closed_events, opened_events, closed_all, opened_all, left_over, cut_events, run_events, begins_run, IsPassLog, IsFlat, IsReady, IsLogged}
 use Rattle.markdown_attention.proofs.BracketEventsOfGroups.{flat-events, flat-count, length-word, word-append}
 use Rattle.markdown_attention.proofs.ContainerBrackets.{run-name, tokens-empty, tokens-run, tokens-leaf, tokens-group}
-
-drop-part : {A : Type 0} → (n k : ℕ) (es xs ys : List A) → drop n es ≡ xs ++ ys → length xs ≡ k → drop (n + k) es ≡ ys
-drop-part n k es xs ys h l = sym (drop-drop k n es) ∙ ap (drop k) h ∙ drop_at xs ys k l
 
 -- The tokens of one run.
 
@@ -85,147 +78,48 @@ no-link c k = cc
 
 -- The edits.
 
-abbrev two : Bool → ℕ
-two true = 2
-two false = 0
-
-two-most : (b : Bool) → two b ≤ 2
-two-most true = omega arith
-two-most false = omega arith
-
 begins-first : (xs : List Event) (e : Event) (rest : List Event) (b : Bool) → xs ≡ e ∷ rest → opens_run e ≡ b →
     begins_run xs ≡ b
 begins-first xs e rest b h o = ap begins_run h ∙ o
 
 module _ (es : List Event) (log : List Edit) (comes : ℕ → List Event) (is_log : IsPassLog es log comes) where
-  removed-here : (k : ℕ) → removed_at k log ≡ two (begins_run (drop k es))
-  removed-here k = by-test (begins_run (drop k es)) (is_log.removed k)
-    where
-      by-test : (b : Bool) → removed_at k log ≡ (if b then 2 else 0) → removed_at k log ≡ two b
-      by-test true h = h
-      by-test false h = h
+  abbrev runs_at : ℕ → Bool
+  runs_at k = begins_run (drop k es)
 
-  added-no : (k : ℕ) → begins_run (drop k es) ≡ false → added_at k log ≡ []
-  added-no k h = is_log.added k ∙ ap (λ b. if b then comes k else []) h
+  pub runs-of-two : AreOfTwo log runs_at comes
+  runs-of-two = record { added = is_log.added; removed = is_log.removed }
 
-  added-yes : (k : ℕ) → begins_run (drop k es) ≡ true → added_at k log ≡ comes k
-  added-yes k h = is_log.added k ∙ ap (λ b. if b then comes k else []) h
+  abbrev Freshly : ℕ → Type 0
+  Freshly n = Fresh log runs_at comes runs-of-two n
 
-  abbrev Fresh : ℕ → Type 0
-  Fresh n = (p : ℕ) → suc p ≡ n → begins_run (drop p es) ≡ false
-
-  pub stays-here : (j : ℕ) → begins_run (drop j es) ≡ false → Fresh j → is_removed log j ≡ false
-  stays-here j h k = stays-where log j (λ p l. reach p l)
-    where
-      reach : (p : ℕ) → p ≤ j → p + removed_at p log ≤ j
-      reach p l =
-          elim (cases_lt (p + 1) j) [
-            | inl far ↦ let most = two-most (begins_run (drop p es)) in let r = removed-here p in omega (arith, far, most, r)
-            | inr near ↦
-                elim (cases_lt p j) [
-                  | inl below ↦ let next : suc p ≡ j = omega (arith, near, below) in let r = removed-here p ∙ ap two (k p next) in omega (arith, r, next)
-                  | inr at ↦ let same : p ≡ j = omega (arith, at, l) in let r = removed-here p ∙ ap (λ i. two (begins_run (drop i es))) same ∙ ap two h in omega (arith, r, same)
-                ]
-          ]
-
-  goes-first : (j : ℕ) → begins_run (drop j es) ≡ true → is_removed log j ≡ true
-  goes-first j h = let r = removed-here j ∙ ap two h in goes-where log j j (omega arith) (omega (arith, r))
-
-  goes-second : (j : ℕ) → begins_run (drop j es) ≡ true → is_removed log (suc j) ≡ true
-  goes-second j h = let r = removed-here j ∙ ap two h in goes-where log (suc j) j (omega arith) (omega (arith, r))
-
-  drop-next : (n : ℕ) (e : Event) (rest : List Event) → drop n es ≡ e ∷ rest → drop (n + 1) es ≡ rest
-  drop-next n e rest h =
-      let one : n + 1 ≡ suc n = omega arith in ap (λ i. drop i es) one ∙ drop-more n es ∙ ap rest_of h
-
-  fresh-after : (n : ℕ) (e : Event) (rest : List Event) → drop n es ≡ e ∷ rest → opens_run e ≡ false → Fresh (n + 1)
-  fresh-after n e rest h o p k =
-      let same : p ≡ n = omega (arith, k) in ap (λ i. begins_run (drop i es)) same ∙ begins-first (drop n es) e rest false h o
+  -- what stands at the next event
+  second : (n : ℕ) (e x : Event) (rest : List Event) → drop n es ≡ e ∷ x ∷ rest → opens_run x ≡ false → runs_at (n + 1) ≡ false
+  second n e x rest h k = begins-first (drop (n + 1) es) x rest false (drop-next n es e (x ∷ rest) h) k
 
   -- past an event that stays
-  record Step (n : ℕ) (e : Event) (rest : List Event) : Type 0 where
-    events : edited_from log n (e ∷ rest) ≡ moved log e ∷ edited_from log (n + 1) rest
-    placed : start log (n + 1) ≡ start log n + 1
-    number : moved_number log n ≡ start log n
-    there : drop (n + 1) es ≡ rest
-    fresh : Fresh (n + 1)
+  abbrev Step : ℕ → Event → List Event → Type 0
+  Step n e rest = OneStays log runs_at comes runs-of-two es n e rest
 
-  step : (n : ℕ) (e : Event) (rest : List Event) → drop n es ≡ e ∷ rest → opens_run e ≡ false → Fresh n → Step n e rest
-  step n e rest h o f =
-      let one : suc n ≡ n + 1 = omega arith in
-      let begins : begins_run (drop n es) ≡ false = begins-first (drop n es) e rest false h o in
-      let stay : is_removed log n ≡ false = stays-here n begins f in
-      let added : added_at n log ≡ [] = added-no n begins in
-      let size : length (added_at n log) ≡ 0 = ap length added in
-      let next : start log (suc n) ≡ start log n + length (added_at n log) + 1 = ap (λ b. start log n + length (added_at n log) + cond b 0 1) stay in
-      record {
-        events = ap (λ xs. xs ++ ((if is_removed log n then [] else moved log e ∷ []) ++ edited_from log (suc n) rest)) added
-            ∙ ap (λ b. (if b then [] else moved log e ∷ []) ++ edited_from log (suc n) rest) stay
-            ∙ ap (λ i. moved log e ∷ edited_from log i rest) one;
-        placed = ap (start log) (sym one) ∙ next ∙ omega (arith, size);
-        number = moved-start log n ∙ omega (arith, size);
-        there = drop-next n e rest h;
-        fresh = fresh-after n e rest h o;
-      }
+  step : (n : ℕ) (e : Event) (rest : List Event) → drop n es ≡ e ∷ rest → opens_run e ≡ false → Freshly n → Step n e rest
+  step n e rest h o f = one-stays log runs_at comes runs-of-two es n e rest h (begins-first (drop n es) e rest false h o) f
 
   -- past two events that stay
-  record Both (n : ℕ) (e x : Event) (rest : List Event) : Type 0 where
-    events : edited_from log n (e ∷ x ∷ rest) ≡ moved log e ∷ moved log x ∷ edited_from log (n + 2) rest
-    placed : start log (n + 2) ≡ start log n + 2
-    number : moved_number log n ≡ start log n
-    there : drop (n + 2) es ≡ rest
-    fresh : Fresh (n + 2)
+  abbrev Both : ℕ → Event → Event → List Event → Type 0
+  Both n e x rest = TwoStay log runs_at comes runs-of-two es n e x rest
 
   both : (n : ℕ) (e x : Event) (rest : List Event) → drop n es ≡ e ∷ x ∷ rest → opens_run e ≡ false →
-      opens_run x ≡ false → Fresh n → Both n e x rest
+      opens_run x ≡ false → Freshly n → Both n e x rest
   both n e x rest h o k f =
-      let a : Step n e (x ∷ rest) = step n e (x ∷ rest) h o f in
-      let b : Step (n + 1) x rest = step (n + 1) x rest a.there k a.fresh in
-      let same : n + 1 + 1 ≡ n + 2 = omega arith in
-      record {
-        events = a.events ∙ ap (λ xs. moved log e ∷ xs) (b.events ∙ ap (λ i. moved log x ∷ edited_from log i rest) same);
-        placed = ap (start log) (sym same) ∙ b.placed ∙ omega (arith, a.placed);
-        number = a.number;
-        there = ap (λ i. drop i es) (sym same) ∙ b.there;
-        fresh = subst (λ (i : ℕ). Fresh i) same b.fresh;
-      }
+      two-stay log runs_at comes runs-of-two es n e x rest h (begins-first (drop n es) e (x ∷ rest) false h o) (second n e x rest h k) f
 
   -- past a run
-  record Cut (n : ℕ) (e x : Event) (rest : List Event) : Type 0 where
-    events : edited_from log n (e ∷ x ∷ rest) ≡ comes n ++ edited_from log (n + 2) rest
-    placed : start log (n + 2) ≡ start log n + length (comes n)
-    there : drop (n + 2) es ≡ rest
-    fresh : Fresh (n + 2)
+  abbrev Cut : ℕ → Event → Event → List Event → Type 0
+  Cut n e x rest = TwoGo log runs_at comes runs-of-two es n e x rest
 
   run-cut : (n : ℕ) (e x : Event) (rest : List Event) → drop n es ≡ e ∷ x ∷ rest → opens_run e ≡ true →
       opens_run x ≡ false → Cut n e x rest
   run-cut n e x rest h o k =
-      let T : List Event = comes n in
-      let same : suc (suc n) ≡ n + 2 = omega arith in
-      let again : n + 1 + 1 ≡ n + 2 = omega arith in
-      let one : n + 1 ≡ suc n = omega arith in
-      let begins : begins_run (drop n es) ≡ true = begins-first (drop n es) e (x ∷ rest) true h o in
-      let next : drop (n + 1) es ≡ x ∷ rest = drop-next n e (x ∷ rest) h in
-      let behind : drop (suc n) es ≡ x ∷ rest = ap (λ i. drop i es) (sym one) ∙ next in
-      let gone : is_removed log n ≡ true = goes-first n begins in
-      let gone2 : is_removed log (suc n) ≡ true = goes-second n begins in
-      let added : added_at n log ≡ T = added-yes n begins in
-      let added2 : added_at (suc n) log ≡ [] = added-no (suc n) (begins-first (drop (suc n) es) x rest false behind k) in
-      let size : length (added_at n log) ≡ length T = ap length added in
-      let size2 : length (added_at (suc n) log) ≡ 0 = ap length added2 in
-      let p1 : start log (suc n) ≡ start log n + length (added_at n log) + 0 = ap (λ b. start log n + length (added_at n log) + cond b 0 1) gone in
-      let p2 : start log (suc (suc n)) ≡ start log (suc n) + length (added_at (suc n) log) + 0 = ap (λ b. start log (suc n) + length (added_at (suc n) log) + cond b 0 1) gone2 in
-      let end : List Event = edited_from log (suc (suc n)) rest in
-      record {
-        events = ap (λ xs. xs ++ ((if is_removed log n then [] else moved log e ∷ []) ++ edited_from log (suc n) (x ∷ rest))) added
-            ∙ ap (λ b. T ++ ((if b then [] else moved log e ∷ []) ++ edited_from log (suc n) (x ∷ rest))) gone
-            ∙ ap (λ xs. T ++ (xs ++ ((if is_removed log (suc n) then [] else moved log x ∷ []) ++ end))) added2
-            ∙ ap (λ b. T ++ ((if b then [] else moved log x ∷ []) ++ end)) gone2
-            ∙ ap (λ i. T ++ edited_from log i rest) same;
-        placed = ap (start log) (sym same) ∙ p2 ∙ omega (arith, p1, size, size2);
-        there = ap (λ i. drop i es) (sym again) ∙ drop-next (n + 1) x rest next;
-        fresh = subst (λ (i : ℕ). Fresh i) again (fresh-after (n + 1) x rest next k);
-      }
+      two-go log runs_at comes runs-of-two es n e x rest h (begins-first (drop n es) e (x ∷ rest) true h o) (second n e x rest h k)
 
   -- Rows.
 
@@ -237,7 +131,7 @@ module _ (es : List Event) (log : List Edit) (comes : ℕ → List Event) (is_lo
     record Here (n m : ℕ) (ps : List Pair) (i : ℕ) (previous : Option ℕ) (row : Forest) (tail : List Event) : Type 0 where
       there : drop n es ≡ appended_from n previous row ++ tail
       placed : start log n ≡ m
-      fresh : Fresh n
+      fresh : Freshly n
       ready : IsReady s pairs_of row
       logged : IsLogged s pairs_of comes n ps i row
 
@@ -245,7 +139,7 @@ module _ (es : List Event) (log : List Edit) (comes : ℕ → List Event) (is_lo
     record Leaves (n m : ℕ) (previous : Option ℕ) (row : Forest) (tail : List Event) (w : List Token) : Type 0 where
       events : edited_from log n (appended_from n previous row ++ tail) ≡ word_events m (option_map (moved_number log) previous) w ++ edited_from log (n + event_count row) tail
       placed : start log (n + event_count row) ≡ m + word_count w
-      fresh : Fresh (n + event_count row)
+      fresh : Freshly (n + event_count row)
 
     abbrev Law : Forest → Type 0
     Law row = (n m : ℕ) (ps : List Pair) (i : ℕ) (previous : Option ℕ) (tail : List Event) → Here n m ps i previous row tail → Leaves n m previous row tail (tokens row ps i)
@@ -260,7 +154,7 @@ module _ (es : List Event) (log : List Edit) (comes : ℕ → List Event) (is_lo
         by-tokens n m previous empty tail (tokens empty ps i) [] (tokens-empty s pairs_of ps i) (record {
           events = ap (λ k. edited_from log k tail) same;
           placed = ap (start log) (sym same) ∙ h.placed ∙ omega arith;
-          fresh = subst (λ (k : ℕ). Fresh k) same h.fresh;
+          fresh = subst (λ (k : ℕ). Freshly k) same h.fresh;
         })
 
     leaf-other : (name : Name) (cs : List Code) (rest : Forest) → is_run name ≡ false → Law rest →
@@ -277,7 +171,7 @@ module _ (es : List Event) (log : List Edit) (comes : ℕ → List Event) (is_lo
         by-tokens n m previous (leaf_then name None cs rest) tail (tokens (leaf_then name None cs rest) ps i) (item (leaf_then name None cs empty) ∷ W) (tokens-leaf s pairs_of name None cs rest ps i other) (record {
           events = p.events ∙ ap (λ xs. e ∷ x ∷ xs) (r.events ∙ ap (λ k. word_events (m + 2) q W ++ edited_from log k tail) same);
           placed = ap (start log) (sym same) ∙ r.placed ∙ omega arith;
-          fresh = subst (λ (k : ℕ). Fresh k) same r.fresh;
+          fresh = subst (λ (k : ℕ). Freshly k) same r.fresh;
         })
 
     leaf-linked : (name : Name) (c : Content) (cs : List Code) (rest : Forest) → is_run name ≡ false → Law rest →
@@ -296,7 +190,7 @@ module _ (es : List Event) (log : List Edit) (comes : ℕ → List Event) (is_lo
           events = p.events
               ∙ ap (λ xs. e2 ∷ x ∷ xs) (r.events ∙ ap (λ k. word_events (m + 2) (Some k) W ++ edited_from log (n + 2 + event_count rest) tail) (p.number ∙ h.placed) ∙ ap (λ k. word_events (m + 2) (Some m) W ++ edited_from log k tail) same);
           placed = ap (start log) (sym same) ∙ r.placed ∙ omega arith;
-          fresh = subst (λ (k : ℕ). Fresh k) same r.fresh;
+          fresh = subst (λ (k : ℕ). Freshly k) same r.fresh;
         })
 
     leaf-run : (cs : List Code) (rest : Forest) → Law rest → Law (leaf_then N.AttentionSequence None cs rest)
@@ -323,7 +217,7 @@ module _ (es : List Event) (log : List Edit) (comes : ℕ → List Event) (is_lo
               ∙ sym (append_assoc (word_events m q V) (word_events (m + k) (word_link m q V) W) Z)
               ∙ ap (λ xs. xs ++ Z) (sym (word-append V W m q));
           placed = ap (start log) (sym same) ∙ r.placed ∙ omega (arith, count);
-          fresh = subst (λ (j : ℕ). Fresh j) same r.fresh;
+          fresh = subst (λ (j : ℕ). Freshly j) same r.fresh;
         })
       where
         count-append : (v w : List Token) → word_count (v ++ w) ≡ word_count v + word_count w
@@ -361,7 +255,7 @@ module _ (es : List Event) (log : List Edit) (comes : ℕ → List Event) (is_lo
         law_rest (n + 2 + ci) (m + (2 + event_count A)) ps i previous tail (record {
           there = ap (λ j. drop j es) (sym next) ∙ s2.there;
           placed = ap (start log) (sym next) ∙ s2.placed ∙ ap (λ j. j + 1) r1.placed ∙ next2;
-          fresh = subst (λ (j : ℕ). Fresh j) next s2.fresh;
+          fresh = subst (λ (j : ℕ). Freshly j) next s2.fresh;
           ready = h.ready.1.1;
           logged = h.logged.1;
         }) in
@@ -380,7 +274,7 @@ module _ (es : List Event) (log : List Edit) (comes : ℕ → List Event) (is_lo
               ∙ ap (λ j. e ∷ (appended_from (m + 1) None A ++ (x ∷ (word_events j q W ++ Z)))) zero-more
               ∙ sym (ap (λ xs. e ∷ xs) (ap (λ xs. xs ++ Z) (append_assoc (appended_from (m + 1) None A) (x ∷ []) (word_events (m + (2 + event_count A + 0)) q W)) ∙ append_assoc (appended_from (m + 1) None A) (x ∷ word_events (m + (2 + event_count A + 0)) q W) Z));
           placed = ap (start log) (sym same) ∙ r2.placed ∙ omega arith;
-          fresh = subst (λ (j : ℕ). Fresh j) same r2.fresh;
+          fresh = subst (λ (j : ℕ). Freshly j) same r2.fresh;
         })
 
     leaf-plain : (name : Name) (cs : List Code) (rest : Forest) (b : Bool) → is_run name ≡ b → Law rest →
@@ -417,6 +311,6 @@ module _ (es : List Event) (log : List Edit) (comes : ℕ → List Event) (is_lo
         let left : drop end es ≡ [] = drop_all end es (omega (arith, size)) in
         ap (edited_from log 0) all
         ∙ r.events
-        ∙ ap (λ xs. word_events 0 None W ++ xs) (added-no end (ap begins_run left))
+        ∙ ap (λ xs. word_events 0 None W ++ xs) (is_log.added end ∙ ap (λ xs. if begins_run xs then comes end else []) left)
         ∙ append-nil (word_events 0 None W)
         ∙ sym (flat-events W 0 None flat)

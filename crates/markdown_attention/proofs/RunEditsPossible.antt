@@ -1,38 +1,29 @@
 -- The edits of runs can be made.
-use Rattle.std.proofs.Common.{◌≡◌, ℕ, zero, suc, ◌+◌, ◌≤◌, Bool, true, false, List, [], ◌∷◌, ◌++◌, length, drop, if◌then◌else◌, refl, sym, ap, subst, ◌∙◌, arith, inl, inr}
-use Rattle.std.proofs.lemmas.Bool.{both_ways, cases_Bool}
+use Rattle.std.proofs.Common.{◌≡◌, ℕ, zero, suc, ◌+◌, ◌≤◌, Bool, true, false, List, [], ◌∷◌, ◌++◌, length, drop, if◌then◌else◌, refl, sym, ap, subst, arith, inl, inr}
+use Rattle.std.proofs.lemmas.Bool.{cases_Bool}
 use Rattle.std.proofs.lemmas.List.Elements.{All-nil, All-cons}
 use Rattle.std.specs.List.{All}
 use Rattle.markdown_engine_events.specs.EventChains.{has_link, linked_at}
-use Rattle.markdown_engine_events.specs.Edits.{added_at, is_removed, CanEdit}
+use Rattle.markdown_engine_events.specs.Edits.{added_at, CanEdit}
 use Rattle.markdown_event.specs.declared.event.Event.{Event}
 use Rattle.markdown_engine_events.specs.declared.util.edit_map.Edit.{Edit}
+use Rattle.markdown_engine_events.proofs.EditSteps.{goes-unlinked}
 use Rattle.markdown_attention.specs.RunsRead.{outermost, opens_run, sequence_at, runs_from, first_run, where_after, Around, HaveRunPlaces}
 use Rattle.markdown_attention.specs.declared.attention.runs.Sequence.{Sequence}
 use Rattle.markdown_attention.specs.RunEdits.{edits_by, HaveRunEnds}
 use Rattle.markdown_attention.specs.TokenWord.{begins_run}
 use Rattle.markdown_attention.proofs.RunEditPlaces.{pass-log}
-use Rattle.markdown_attention.proofs.AttentionPassLaw.{stays-here}
-
-linked-drop : (k j : ℕ) (es : List Event) (i : ℕ) → i ≡ j + k → linked_at es i ≡ linked_at (drop j es) k
-linked-drop k zero es i e = let same : i ≡ k = omega (arith, e) in ap (linked_at es) same
-linked-drop k (suc j) [] i e = refl
-linked-drop k (suc j) (x ∷ es) zero e = absurd (omega (arith, e))
-linked-drop k (suc j) (x ∷ es) (suc i) e = linked-drop k j es i (omega (arith, e))
+use Rattle.markdown_attention.proofs.AttentionPassLaw.{runs-of-two}
 
 ends-drop : (j : ℕ) (es : List Event) → HaveRunEnds es → HaveRunEnds (drop j es)
 ends-drop zero es h = h
 ends-drop (suc j) [] h = h
 ends-drop (suc j) (e ∷ es) h = ends-drop j es h.1
 
-first-unlinked : (xs : List Event) → begins_run xs ≡ true → HaveRunEnds xs → linked_at xs 0 ≡ false
-first-unlinked [] b h = refl
-first-unlinked (e ∷ xs) b h = ap has_link (h.0 b).0
-
-second-unlinked : (xs : List Event) → begins_run xs ≡ true → HaveRunEnds xs → linked_at xs 1 ≡ false
-second-unlinked [] b h = refl
-second-unlinked (e ∷ []) b h = refl
-second-unlinked (e ∷ x ∷ xs) b h = ap has_link (h.0 b).1.0
+run-unlinked : (xs : List Event) → HaveRunEnds xs → begins_run xs ≡ true → (linked_at xs 0 ≡ false) × (linked_at xs 1 ≡ false)
+run-unlinked [] h b = cc
+run-unlinked (e ∷ []) h b = (ap has_link (h.0 b).0, refl)
+run-unlinked (e ∷ x ∷ xs) h b = (ap has_link (h.0 b).0, ap has_link (h.0 b).1.0)
 
 module _ (comes : Sequence → List Event) (tildes : Bool) (bytes : List ℕ) where
   abbrev from : ℕ → ℕ → Around → List Event → List Sequence
@@ -61,25 +52,10 @@ module _ (comes : Sequence → List Event) (tildes : Bool) (bytes : List ℕ) wh
   abbrev log_of : List Event → List Edit
   log_of es = edits_by comes (from 0 0 outermost es)
 
-  goes-unlinked : (es : List Event) (j : ℕ) → HaveRunPlaces bytes es → HaveRunEnds es →
-      is_removed (log_of es) j ≡ true → linked_at es j ≡ false
-  goes-unlinked es j p h r =
-      elim (cases_Bool (begins_run (drop j es))) [
-        | inl b ↦ linked-drop 0 j es j (omega arith) ∙ first-unlinked (drop j es) b (ends-drop j es h)
-        | inr b ↦ before j b r
-      ]
-    where
-      before : (j : ℕ) → begins_run (drop j es) ≡ false → is_removed (log_of es) j ≡ true → linked_at es j ≡ false
-      before zero b r =
-          absurd (both_ways (is_removed (log_of es) 0) (stays-here es (log_of es) (λ k. added_at k (log_of es)) (pass-log comes tildes bytes es outermost p) 0 b (λ q e. absurd (omega (arith, e)))) r)
-      before (suc j) b r =
-          elim (cases_Bool (begins_run (drop j es))) [
-            | inl d ↦ linked-drop 1 j es (suc j) (omega arith) ∙ second-unlinked (drop j es) d (ends-drop j es h)
-            | inr d ↦
-                absurd (both_ways (is_removed (log_of es) (suc j))
-                (stays-here es (log_of es) (λ k. added_at k (log_of es)) (pass-log comes tildes bytes es outermost p) (suc j) b (λ q e. let same : q ≡ j = omega (arith, e) in ap (λ i. begins_run (drop i es)) same ∙ d)) r)
-          ]
-
   pub can-group : (es : List Event) → HaveRunPlaces bytes es → HaveRunEnds es → CanEdit (log_of es) es
   can-group es p h =
-      record { places = within es 0 0 outermost (length es) (omega arith); unlinked = λ j r. goes-unlinked es j p h r }
+      let log : List Edit = log_of es in
+      record {
+        places = within es 0 0 outermost (length es) (omega arith);
+        unlinked = goes-unlinked log (λ k. begins_run (drop k es)) (λ k. added_at k log) (runs-of-two es log (λ k. added_at k log) (pass-log comes tildes bytes es outermost p)) es (λ k b. run-unlinked (drop k es) (ends-drop k es h) b);
+      }

@@ -2,6 +2,8 @@ pub mod EditRules
 pub mod EventChainLemmas
 pub mod EventViewLemmas
 pub mod EditLemmas
+pub mod EditSteps
+pub mod WalkedEdits
 pub mod EditOrder
 pub mod EditStretches
 pub mod EditsInPlace

@@ -1,6 +1,6 @@
 -- the edits of labels and starts, read off the events, are those of the brackets
-use Rattle.std.proofs.Common.{◌≡◌, ℕ, zero, suc, ◌+◌, ◌-◌, None, List, [], ◌∷◌, ◌++◌, length, drop, refl, sym, ap, ◌∙◌, arith, append_assoc}
-use Rattle.std.proofs.lemmas.List.{drop-drop}
+use Rattle.std.proofs.Common.{◌≡◌, ℕ, zero, suc, ◌+◌, ◌-◌, None, List, [], ◌∷◌, ◌++◌, length, drop, refl, ap, ◌∙◌, arith, append_assoc}
+use Rattle.markdown_engine_events.proofs.EditSteps.{drop-part}
 use Rattle.markdown_engine_content.specs.Codes.{Code}
 use Rattle.markdown_engine.specs.PastTree.{appended_from}
 use Rattle.markdown_engine_content.specs.Tree.{Forest, empty, group_then, ◌⊕◌, event, event_count}
@@ -26,14 +26,6 @@ place-skip : (xs ys : List Event) (i j : ℕ) → i ≡ length xs + j → place_
 place-skip [] ys i j e = let same : i ≡ j = omega (arith, e) in ap (place_at ys) same
 place-skip (x ∷ xs) ys zero j e = absurd (omega (arith, e))
 place-skip (x ∷ xs) ys (suc i) j e = place-skip xs ys i j (omega (arith, e))
-
-drop-whole : {A : Type 0} → (k : ℕ) (xs ys : List A) → length xs ≡ k → drop k (xs ++ ys) ≡ ys
-drop-whole k [] ys l = let same : k ≡ 0 = sym l in ap (λ i. drop i ys) same
-drop-whole zero (x ∷ xs) ys l = absurd (omega (arith, l))
-drop-whole (suc k) (x ∷ xs) ys l = drop-whole k xs ys (omega (arith, l))
-
-drop-part : {A : Type 0} → (n k : ℕ) (es xs ys : List A) → drop n es ≡ xs ++ ys → length xs ≡ k → drop (n + k) es ≡ ys
-drop-part n k es xs ys h l = sym (drop-drop k n es) ∙ ap (drop k) h ∙ drop-whole k xs ys l
 
 -- Starts, ends and tails.
 

@@ -1,20 +1,20 @@
 -- the edits of the email pass, one by one
-use Rattle.std.proofs.Common.{◌≡◌, ℕ, zero, suc, ◌+◌, ◌-◌, ◌<◌, ◌≤◌, ◌==◌, ◌&&◌, Bool, true, false, List, [], ◌∷◌, ◌++◌, length, drop, get_or, refl, sym, ap, subst, ◌∙◌, arith, append_assoc, append-nil, inl, inr, if◌then◌else◌}
-use Rattle.std.proofs.lemmas.Bool.{cases_lt, cases_Bool, eq-eqb, ne_eqb, both_ways}
+use Rattle.std.proofs.Common.{◌≡◌, ℕ, zero, suc, ◌+◌, ◌-◌, ◌<◌, ◌≤◌, ◌==◌, ◌&&◌, Bool, true, false, List, [], ◌∷◌, ◌++◌, length, drop, get_or, refl, sym, ap, subst, ◌∙◌, arith, append_assoc, append-nil, if◌then◌else◌}
+use Rattle.std.proofs.lemmas.Bool.{and_parts}
 use Rattle.std.proofs.lemmas.List.{drop_all}
-use Rattle.std.proofs.lemmas.List.Elements.{All-nil, All-cons}
 use Rattle.std.specs.List.{All}
 use Rattle.markdown_engine_events.specs.EventChains.{has_link, linked_at, IsUnlinked}
-use Rattle.markdown_engine_events.specs.Edits.{removed_at, front_at, back_at, added_at, is_removed, CanEdit}
+use Rattle.markdown_engine_events.specs.Edits.{CanEdit}
 use Rattle.markdown_event.specs.declared.event.Event.{Event}
 use Rattle.markdown_event.specs.declared.event.Point.{Point}
 use Rattle.markdown_engine_events.specs.declared.util.edit_map.Edit.{Edit}
-use Rattle.markdown_engine_events.proofs.EditRules.{stays-where, goes-where}
+use Rattle.markdown_engine_events.proofs.EditSteps.{AreOfTwo}
+use Rattle.markdown_engine_events.proofs.WalkedEdits.{walked, state_at, state-next, of-two, can-walk}
 use Rattle.markdown_partial.specs.MergedEvents.{is_enter, is_data, opens_data}
 use Rattle.markdown_partial.specs.TrimmedData.{between, IsStretch}
 use Rattle.markdown_partial.specs.TrimmedEvents.{FirstHasPlaces, HasPlaces}
 use Rattle.markdown_partial.proofs.DataSearch.{BeginsNone, event-at}
-use Rattle.markdown_partial.proofs.TrimEdits.{head-drop, closes-first, next-within, stretch-first, places-on, places-pass, no-front, linked-drop, yes-back, opens-unlinked}
+use Rattle.markdown_partial.proofs.TrimEdits.{head-drop, closes-first, next-within, stretch-first, places-on, places-pass, places-drop, opens-unlinked}
 use Rattle.markdown_leaf_email_pass.specs.EmailEdits.{begins_signed, links_after, may_mail, mail, mail_first, mails}
 use Rattle.markdown_leaf_email_pass.specs.EmailScan.{has_sign, mail_events}
 use Rattle.markdown_leaf_email_pass.proofs.UnlinkedLeaves.{plain-emails, plain-unlinked}
@@ -155,7 +155,7 @@ module _ (bytes : List ℕ) (i links : ℕ) (es : List Event) (e : Event) (withi
       none [] = refl
       none (x ∷ ys) = ap (λ b. if b && has_sign bytes e.point x.point then mail bytes i e x ∷ [] else []) h
 
--- What the edits collect at a place.
+-- The edits are those of a walk.
 
 -- data that the pass edits begins these events, before which so many links are open
 abbrev pub begins_mail : List ℕ → ℕ → List Event → Bool
@@ -163,222 +163,54 @@ begins_mail bytes links [] = false
 begins_mail bytes links (e ∷ []) = false
 begins_mail bytes links (e ∷ x ∷ es) = may_mail bytes links e x
 
-abbrev pub comes : List ℕ → ℕ → List Event → List Event
-comes bytes links [] = []
-comes bytes links (e ∷ []) = []
-comes bytes links (e ∷ x ∷ es) = if may_mail bytes links e x then mail_events bytes e.point x.point else []
-
--- how many links are open before event k
-abbrev pub links_at : ℕ → ℕ → List Event → ℕ
-links_at zero links es = links
-links_at (suc k) links [] = links
-links_at (suc k) links (e ∷ es) = links_at k (links_after links e) es
-
-abbrev pub mails_at : List ℕ → ℕ → List Event → Bool
-mails_at bytes k es = begins_mail bytes (links_at k 0 es) (drop k es)
-
-abbrev two : Bool → ℕ
-two true = 2
-two false = 0
-
-abbrev none : List Event
-none = []
-
-zero-plus : (n : ℕ) → n ≡ 0 + n
-zero-plus n = omega arith
-
-never : (b : Bool) → (if b then none else none) ≡ none
-never true = refl
-never false = refl
-
-abbrev zero_if : Bool → ℕ
-zero_if b = if b then 0 else 0
-
-zero-if : (b : Bool) → zero_if b ≡ 0
-zero-if true = refl
-zero-if false = refl
-
-opens-where : (a b c : Bool) → (a && b) && c ≡ true → b ≡ true
-opens-where true true c h = refl
-opens-where true false c h = cc
-opens-where false b c h = cc
+abbrev pub comes : List ℕ → List Event → List Event
+comes bytes [] = []
+comes bytes (e ∷ []) = []
+comes bytes (e ∷ x ∷ es) = mail_events bytes e.point x.point
 
 module _ (bytes : List ℕ) where
-  front-by : (i n : ℕ) (e x : Event) (log : List Edit) (b : Bool) → front_at i log ≡ [] →
-      front_at i ((if b then mail bytes n e x ∷ [] else []) ++ log) ≡ []
-  front-by i n e x log true h =
-      ap (λ xs. xs ++ (if (n == i) && false then mail_events bytes e.point x.point else [])) h ∙ no-front (n == i) (mail_events bytes e.point x.point)
-  front-by i n e x log false h = h
+  abbrev walk : ℕ → ℕ → List Event → List Edit
+  walk n links es = walked links_after (begins_mail bytes) (λ l. comes bytes) (λ l. refl) n links es
 
-  front-first : (i n links : ℕ) (es : List Event) (log : List Edit) → front_at i log ≡ [] →
-      front_at i (mail_first bytes n links es ++ log) ≡ []
-  front-first i n links [] log h = h
-  front-first i n links (e ∷ []) log h = h
-  front-first i n links (e ∷ x ∷ es) log h = front-by i n e x log (may_mail bytes links e x) h
+  -- how many links are open before event k
+  abbrev pub links_at : List Event → ℕ → ℕ
+  links_at es k = state_at links_after (begins_mail bytes) (λ l. comes bytes) (λ l. refl) k 0 es
 
-  front-mails : (i n links : ℕ) (es : List Event) → front_at i (mails bytes n links es) ≡ []
-  front-mails i n links [] = refl
-  front-mails i n links (e ∷ es) =
-      front-first i n links (e ∷ es) (mails bytes (suc n) (links_after links e) es) (front-mails i (suc n) (links_after links e) es)
+  pub links-next : (n : ℕ) (es : List Event) (e : Event) (rest : List Event) → drop n es ≡ e ∷ rest →
+      links_at es (n + 1) ≡ links_after (links_at es n) e
+  links-next n es e rest h = state-next links_after (begins_mail bytes) (λ l. comes bytes) (λ l. refl) n 0 es e rest h
 
-  back-by : (i n : ℕ) (e x : Event) (log : List Edit) (b : Bool) →
-      back_at i ((if b then mail bytes n e x ∷ [] else []) ++ log) ≡ (if n == i then (if b then mail_events bytes e.point x.point else []) else []) ++ back_at i log
-  back-by i n e x log true = ap (λ xs. xs ++ back_at i log) (yes-back (n == i) (mail_events bytes e.point x.point))
-  back-by i n e x log false = ap (λ xs. xs ++ back_at i log) (sym (never (n == i)))
-
-  back-first : (i n links : ℕ) (es : List Event) (log : List Edit) →
-      back_at i (mail_first bytes n links es ++ log) ≡ (if n == i then comes bytes links es else []) ++ back_at i log
-  back-first i n links [] log = ap (λ xs. xs ++ back_at i log) (sym (never (n == i)))
-  back-first i n links (e ∷ []) log = ap (λ xs. xs ++ back_at i log) (sym (never (n == i)))
-  back-first i n links (e ∷ x ∷ es) log = back-by i n e x log (may_mail bytes links e x)
-
-  removed-by : (i n : ℕ) (e x : Event) (log : List Edit) (b : Bool) →
-      removed_at i ((if b then mail bytes n e x ∷ [] else []) ++ log) ≡ (if n == i then two b else 0) + removed_at i log
-  removed-by i n e x log true = refl
-  removed-by i n e x log false = zero-plus (removed_at i log) ∙ ap (λ k. k + removed_at i log) (sym (zero-if (n == i)))
-
-  removed-first : (i n links : ℕ) (es : List Event) (log : List Edit) →
-      removed_at i (mail_first bytes n links es ++ log) ≡ (if n == i then two (begins_mail bytes links es) else 0) + removed_at i log
-  removed-first i n links [] log =
-      zero-plus (removed_at i log) ∙ ap (λ k. k + removed_at i log) (sym (zero-if (n == i)))
-  removed-first i n links (e ∷ []) log =
-      zero-plus (removed_at i log) ∙ ap (λ k. k + removed_at i log) (sym (zero-if (n == i)))
-  removed-first i n links (e ∷ x ∷ es) log = removed-by i n e x log (may_mail bytes links e x)
-
-  back-earlier : (i n links : ℕ) (es : List Event) → i < n → back_at i (mails bytes n links es) ≡ []
-  back-earlier i n links [] l = refl
-  back-earlier i n links (e ∷ es) l =
-      back-first i n links (e ∷ es) (mails bytes (suc n) (links_after links e) es)
-      ∙ ap (λ b. (if b then comes bytes links (e ∷ es) else []) ++ back_at i (mails bytes (suc n) (links_after links e) es)) (ne_eqb n i (λ h. omega (arith, h)))
-      ∙ back-earlier i (suc n) (links_after links e) es (omega arith)
-
-  removed-earlier : (i n links : ℕ) (es : List Event) → i < n → removed_at i (mails bytes n links es) ≡ 0
-  removed-earlier i n links [] l = refl
-  removed-earlier i n links (e ∷ es) l =
-      removed-first i n links (e ∷ es) (mails bytes (suc n) (links_after links e) es)
-      ∙ ap (λ b. (if b then two (begins_mail bytes links (e ∷ es)) else 0) + removed_at i (mails bytes (suc n) (links_after links e) es)) (ne_eqb n i (λ h. omega (arith, h)))
-      ∙ sym (zero-plus (removed_at i (mails bytes (suc n) (links_after links e) es)))
-      ∙ removed-earlier i (suc n) (links_after links e) es (omega arith)
-
-  back-place : (i n k links : ℕ) (es : List Event) → i ≡ n + k →
-      back_at i (mails bytes n links es) ≡ comes bytes (links_at k links es) (drop k es)
-  back-place i n zero links [] e = refl
-  back-place i n (suc k) links [] e = refl
-  back-place i n zero links (x ∷ es) e =
-      back-first i n links (x ∷ es) (mails bytes (suc n) (links_after links x) es)
-      ∙ ap (λ b. (if b then comes bytes links (x ∷ es) else []) ++ back_at i (mails bytes (suc n) (links_after links x) es)) (eq-eqb n i (omega (arith, e)))
-      ∙ ap (λ xs. comes bytes links (x ∷ es) ++ xs) (back-earlier i (suc n) (links_after links x) es (omega (arith, e)))
-      ∙ append-nil (comes bytes links (x ∷ es))
-  back-place i n (suc k) links (x ∷ es) e =
-      back-first i n links (x ∷ es) (mails bytes (suc n) (links_after links x) es)
-      ∙ ap (λ b. (if b then comes bytes links (x ∷ es) else []) ++ back_at i (mails bytes (suc n) (links_after links x) es)) (ne_eqb n i (λ h. omega (arith, e, h)))
-      ∙ back-place i (suc n) k (links_after links x) es (omega (arith, e))
-
-  removed-place : (i n k links : ℕ) (es : List Event) → i ≡ n + k →
-      removed_at i (mails bytes n links es) ≡ two (begins_mail bytes (links_at k links es) (drop k es))
-  removed-place i n zero links [] e = refl
-  removed-place i n (suc k) links [] e = refl
-  removed-place i n zero links (x ∷ es) e =
-      removed-first i n links (x ∷ es) (mails bytes (suc n) (links_after links x) es)
-      ∙ ap (λ b. (if b then two (begins_mail bytes links (x ∷ es)) else 0) + removed_at i (mails bytes (suc n) (links_after links x) es)) (eq-eqb n i (omega (arith, e)))
-      ∙ ap (λ j. two (begins_mail bytes links (x ∷ es)) + j) (removed-earlier i (suc n) (links_after links x) es (omega (arith, e)))
-      ∙ omega arith
-  removed-place i n (suc k) links (x ∷ es) e =
-      removed-first i n links (x ∷ es) (mails bytes (suc n) (links_after links x) es)
-      ∙ ap (λ b. (if b then two (begins_mail bytes links (x ∷ es)) else 0) + removed_at i (mails bytes (suc n) (links_after links x) es)) (ne_eqb n i (λ h. omega (arith, e, h)))
-      ∙ sym (zero-plus (removed_at i (mails bytes (suc n) (links_after links x) es)))
-      ∙ removed-place i (suc n) k (links_after links x) es (omega (arith, e))
+  mails-walk : (n links : ℕ) (es : List Event) → mails bytes n links es ≡ walk n links es
+  mails-walk n links [] = refl
+  mails-walk n links (e ∷ []) = refl
+  mails-walk n links (e ∷ x ∷ es) =
+      ap (λ log. mail_first bytes n links (e ∷ x ∷ es) ++ log) (mails-walk (suc n) (links_after links e) (x ∷ es))
 
   abbrev pub log_of : List Event → List Edit
   log_of es = mails bytes 0 0 es
 
-  pub added-here : (k : ℕ) (es : List Event) → added_at k (log_of es) ≡ comes bytes (links_at k 0 es) (drop k es)
-  added-here k es = ap (λ xs. xs ++ back_at k (log_of es)) (front-mails k 0 0 es) ∙ back-place k 0 k 0 es (omega arith)
+  abbrev pub mails_at : List Event → ℕ → Bool
+  mails_at es k = begins_mail bytes (links_at es k) (drop k es)
 
-  removed-here : (k : ℕ) (es : List Event) → removed_at k (log_of es) ≡ two (mails_at bytes k es)
-  removed-here k es = removed-place k 0 k 0 es (omega arith)
+  abbrev pub comes_at : List Event → ℕ → List Event
+  comes_at es k = comes bytes (drop k es)
 
-  two-most : (b : Bool) → two b ≤ 2
-  two-most true = omega arith
-  two-most false = omega arith
-
-  -- what no data stands at, or just before, stays
-  pub stays-here : (j : ℕ) (es : List Event) → mails_at bytes j es ≡ false →
-      ((p : ℕ) → suc p ≡ j → mails_at bytes p es ≡ false) → is_removed (log_of es) j ≡ false
-  stays-here j es h k = stays-where (log_of es) j (λ p l. reach p l)
-    where
-      reach : (p : ℕ) → p ≤ j → p + removed_at p (log_of es) ≤ j
-      reach p l =
-          elim (cases_lt (p + 1) j) [
-            | inl far ↦ let most = two-most (mails_at bytes p es) in let r = removed-here p es in omega (arith, far, most, r)
-            | inr near ↦
-                elim (cases_lt p j) [
-                  | inl below ↦ let next : suc p ≡ j = omega (arith, near, below) in let r = removed-here p es ∙ ap two (k p next) in omega (arith, r, next)
-                  | inr at ↦ let same : p ≡ j = omega (arith, at, l) in let r = removed-here p es ∙ ap (λ i. two (mails_at bytes i es)) same ∙ ap two h in omega (arith, r, same)
-                ]
-          ]
-
-  pub goes-first : (j : ℕ) (es : List Event) → mails_at bytes j es ≡ true → is_removed (log_of es) j ≡ true
-  goes-first j es h =
-      let r = removed-here j es ∙ ap two h in goes-where (log_of es) j j (omega arith) (omega (arith, r))
-
-  pub goes-second : (j : ℕ) (es : List Event) → mails_at bytes j es ≡ true → is_removed (log_of es) (suc j) ≡ true
-  goes-second j es h =
-      let r = removed-here j es ∙ ap two h in goes-where (log_of es) (suc j) j (omega arith) (omega (arith, r))
+  pub mails-of-two : (es : List Event) → AreOfTwo (log_of es) (mails_at es) (comes_at es)
+  mails-of-two es =
+      subst (λ (log : List Edit). AreOfTwo log (mails_at es) (comes_at es)) (sym (mails-walk 0 0 es))
+      (of-two links_after (begins_mail bytes) (λ l. comes bytes) (λ l. refl) 0 es)
 
   -- The edits may be made.
 
-  within-by : (n m : ℕ) (e x : Event) (log : List Edit) (b : Bool) → n ≤ m → All (λ d. d.at ≤ m) log →
-      All (λ d. d.at ≤ m) ((if b then mail bytes n e x ∷ [] else []) ++ log)
-  within-by n m e x log true h a = All-cons (λ d. d.at ≤ m) (mail bytes n e x) log h a
-  within-by n m e x log false h a = a
-
-  within-first : (n m links : ℕ) (es : List Event) (log : List Edit) → n ≤ m → All (λ d. d.at ≤ m) log →
-      All (λ d. d.at ≤ m) (mail_first bytes n links es ++ log)
-  within-first n m links [] log h a = a
-  within-first n m links (e ∷ []) log h a = a
-  within-first n m links (e ∷ x ∷ es) log h a = within-by n m e x log (may_mail bytes links e x) h a
-
-  within : (n m links : ℕ) (es : List Event) → n + length es ≤ m → All (λ d. d.at ≤ m) (mails bytes n links es)
-  within n m links [] h = All-nil (λ d. d.at ≤ m)
-  within n m links (e ∷ es) h =
-      within-first n m links (e ∷ es) (mails bytes (suc n) (links_after links e) es) (omega arith) (within (suc n) m (links_after links e) es (omega arith))
-
-  places-drop : (j : ℕ) (es : List Event) → HasPlaces bytes es → HasPlaces bytes (drop j es)
-  places-drop zero es h = h
-  places-drop (suc j) [] h = h
-  places-drop (suc j) (e ∷ es) h = places-drop j es h.1
-
-  first-linked-none : (links : ℕ) (xs : List Event) → begins_mail bytes links xs ≡ true → linked_at xs 0 ≡ false
-  first-linked-none links [] h = refl
-  first-linked-none links (e ∷ []) h = cc
-  first-linked-none links (e ∷ x ∷ xs) h =
-      opens-unlinked (is_enter e.kind) (is_data e.name) (has_link e.link) (opens-where (links == 0) (opens_data e) (has_sign bytes e.point x.point) h)
-
-  second-linked-none : (links : ℕ) (xs : List Event) → begins_mail bytes links xs ≡ true → HasPlaces bytes xs →
-      linked_at xs 1 ≡ false
-  second-linked-none links [] h p = refl
-  second-linked-none links (e ∷ []) h p = refl
-  second-linked-none links (e ∷ x ∷ xs) h p =
-      ap has_link (p.0 (opens-where (links == 0) (opens_data e) (has_sign bytes e.point x.point) h)).1
-
-  goes-unlinked : (j : ℕ) (es : List Event) → HasPlaces bytes es → is_removed (log_of es) j ≡ true →
-      linked_at es j ≡ false
-  goes-unlinked j es p h =
-      elim (cases_Bool (mails_at bytes j es)) [
-        | inl b ↦ linked-drop 0 j es j (omega arith) ∙ first-linked-none (links_at j 0 es) (drop j es) b
-        | inr b ↦ unlinked-before j es p h b
-      ]
-    where
-      unlinked-before : (j : ℕ) (es : List Event) → HasPlaces bytes es → is_removed (log_of es) j ≡ true →
-          mails_at bytes j es ≡ false → linked_at es j ≡ false
-      unlinked-before zero es p h b =
-          absurd (both_ways (is_removed (log_of es) zero) (stays-here zero es b (λ q e. absurd (omega (arith, e)))) h)
-      unlinked-before (suc j) es p h b =
-          elim (cases_Bool (mails_at bytes j es)) [
-            | inl d ↦ linked-drop 1 j es (suc j) (omega arith) ∙ second-linked-none (links_at j 0 es) (drop j es) d (places-drop j es p)
-            | inr d ↦ absurd (both_ways (is_removed (log_of es) (suc j)) (stays-here (suc j) es b (λ q e. let same : q ≡ j = omega (arith, e) in ap (λ i. mails_at bytes i es) same ∙ d)) h)
-          ]
+  unlinked : (links : ℕ) (xs : List Event) → HasPlaces bytes xs → begins_mail bytes links xs ≡ true →
+      (linked_at xs 0 ≡ false) × (linked_at xs 1 ≡ false)
+  unlinked links [] p h = cc
+  unlinked links (e ∷ []) p h = cc
+  unlinked links (e ∷ x ∷ xs) p h =
+      let opens : opens_data e ≡ true = (and_parts (links == 0) (opens_data e) (and_parts (links == 0 && opens_data e) (has_sign bytes e.point x.point) h).0).1 in
+      (opens-unlinked (is_enter e.kind) (is_data e.name) (has_link e.link) opens, ap has_link (p.0 opens).1)
 
   pub can-mail : (es : List Event) → HasPlaces bytes es → CanEdit (log_of es) es
-  can-mail es p = record { places = within 0 (length es) 0 es (omega arith); unlinked = λ j h. goes-unlinked j es p h }
+  can-mail es p =
+      subst (λ (log : List Edit). CanEdit log es) (sym (mails-walk 0 0 es))
+      (can-walk links_after (begins_mail bytes) (λ l. comes bytes) (λ l. refl) 0 es (λ k h. unlinked (links_at es k) (drop k es) (places-drop bytes k es p) h))

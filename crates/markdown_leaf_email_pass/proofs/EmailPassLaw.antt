@@ -1,13 +1,12 @@
 -- the events of a tree, with its email literals
-use Rattle.std.proofs.Common.{◌≡◌, ◌≢◌, ℕ, zero, suc, ◌+◌, ◌==◌, ◌&&◌, not, Bool, true, false, List, [], ◌∷◌, ◌++◌, length, drop, Option, Some, None, if◌then◌else◌, cond, refl, sym, ap, subst, ◌∙◌, arith, append_assoc, append-nil}
+use Rattle.std.proofs.Common.{◌≡◌, ◌≢◌, ℕ, ◌+◌, ◌==◌, ◌&&◌, not, Bool, true, false, List, [], ◌∷◌, ◌++◌, length, drop, Option, Some, None, if◌then◌else◌, refl, sym, ap, subst, ◌∙◌, arith, append_assoc, append-nil}
 use Rattle.std.proofs.lemmas.Bool.{and_left}
 use Rattle.std.proofs.Math.Bool.{and-false, and-true}
 use Rattle.std.specs.Option.{option_map}
 use Rattle.std.proofs.lemmas.Bool.Decides.{nat_tests}
 use Rattle.std.proofs.lemmas.List.{drop_all}
 use Rattle.markdown_engine_content.specs.Codes.{Code, stop_of, document_start}
-use Rattle.markdown_engine_events.specs.Edits.{is_removed, added_at, moved_number, moved, edited_from, edited}
-use Rattle.markdown_engine_content.specs.ListFunctions.{rest_of}
+use Rattle.markdown_engine_events.specs.Edits.{moved_number, edited_from, edited}
 use Rattle.markdown_engine.specs.Operations.{link_back}
 use Rattle.markdown_engine.specs.PastTree.{appended_from, last_link}
 use Rattle.markdown_engine_content.specs.Tree.{Forest, empty, leaf_then, group_then, leaf, ◌⊕◌, event, event_count, start_of}
@@ -18,19 +17,18 @@ use Rattle.markdown_event.specs.declared.event.Name.{Name}
 use Rattle.markdown_event.specs.declared.event.Name.TheVariants as N
 use Rattle.markdown_event.specs.declared.event.Point.{Point}
 use Rattle.markdown_engine_events.specs.declared.util.edit_map.Edit.{Edit}
-use Rattle.markdown_engine_events.proofs.EditLemmas.{start, moved-start}
-use Rattle.markdown_engine_content.proofs.PlaceRules.{drop-more}
+use Rattle.markdown_engine_events.proofs.EditLemmas.{start}
+use Rattle.markdown_engine_events.proofs.EditSteps.{AreOfTwo, Fresh, OneStays, one-stays, TwoStay, two-stay, TwoGo, two-go, drop-next, drop-part}
 use Rattle.markdown_engine.proofs.TreeEvents.{length-appended_from, appended_from-row}
 use Rattle.markdown_model.specs.GfmEmailLiteral.{with_emails}
 use Rattle.markdown_model.specs.Passes.{with_emails_apart}
 use Rattle.markdown_partial.specs.MergedEvents.{is_data, opens_data}
 use Rattle.markdown_partial.specs.TrimmedData.{between}
 use Rattle.markdown_partial.specs.TrimmedEvents.{IsPart, HasParts}
-use Rattle.markdown_partial.proofs.MergePassLaw.{drop-part}
 use Rattle.markdown_partial.proofs.TrimPassLaw.{Part, part-of, count-row, data-name}
 use Rattle.markdown_leaf_email_pass.specs.EmailEdits.{links_behind, links_after, may_mail}
 use Rattle.markdown_leaf_email_pass.specs.EmailScan.{has_sign, mail_events}
-use Rattle.markdown_leaf_email_pass.proofs.EmailEditLemmas.{begins_mail, comes, links_at, mails_at, log_of, added-here, stays-here, goes-first, goes-second}
+use Rattle.markdown_leaf_email_pass.proofs.EmailEditLemmas.{begins_mail, comes, links_at, links-next, mails_at, comes_at, log_of, mails-of-two}
 use Rattle.markdown_leaf_email_pass.proofs.UnlinkedLeaves.{plain-events, plain-last, plain-emails, unsigned-emails}
 
 -- Emails, step by step, where they are asked for.
@@ -132,151 +130,69 @@ opens-not bytes links (x ∷ y ∷ xs) e rest h o = by (links == 0) (opens_data 
     by true b c k = ap (λ d. d && c) k
     by false b c k = refl
 
-comes-none : (bytes : List ℕ) (links : ℕ) (xs : List Event) → begins_mail bytes links xs ≡ false →
-    comes bytes links xs ≡ []
-comes-none bytes links [] h = refl
-comes-none bytes links (e ∷ []) h = refl
-comes-none bytes links (e ∷ x ∷ xs) h = ap (λ b. if b then mail_events bytes e.point x.point else []) h
-
-links-next : (n links : ℕ) (es : List Event) (e : Event) (rest : List Event) → drop n es ≡ e ∷ rest →
-    links_at (suc n) links es ≡ links_after (links_at n links es) e
-links-next zero links [] e rest h = cc
-links-next zero links (x ∷ es) e rest h = ap first_after h
-  where
-    first_after : List Event → ℕ
-    first_after [] = 0
-    first_after (z ∷ zs) = links_after links z
-links-next (suc n) links [] e rest h = cc
-links-next (suc n) links (x ∷ es) e rest h = links-next n (links_after links x) es e rest h
-
 module _ (bytes : List ℕ) (es : List Event) where
   abbrev log : List Edit
   log = log_of bytes es
 
-  abbrev Fresh : ℕ → Type 0
-  Fresh n = (p : ℕ) → suc p ≡ n → mails_at bytes p es ≡ false
+  abbrev two : AreOfTwo log (mails_at bytes es) (comes_at bytes es)
+  two = mails-of-two bytes es
 
-  fresh-after : (n : ℕ) → mails_at bytes n es ≡ false → Fresh (n + 1)
-  fresh-after n o p k = let same : p ≡ n = omega (arith, k) in ap (λ i. mails_at bytes i es) same ∙ o
+  abbrev Freshly : ℕ → Type 0
+  Freshly n = Fresh log (mails_at bytes es) (comes_at bytes es) two n
+
+  other-stays : (n : ℕ) (e : Event) (rest : List Event) → drop n es ≡ e ∷ rest → opens_data e ≡ false → mails_at bytes es n ≡ false
+  other-stays n e rest h o = opens-not bytes (links_at bytes es n) (drop n es) e rest h o
+
+  links-two : (n : ℕ) (e x : Event) (rest : List Event) → drop n es ≡ e ∷ x ∷ rest →
+      links_at bytes es (n + 2) ≡ links_after (links_after (links_at bytes es n) e) x
+  links-two n e x rest h =
+      let same : n + 1 + 1 ≡ n + 2 = omega arith in
+      ap (links_at bytes es) (sym same)
+      ∙ links-next bytes (n + 1) es x rest (drop-next n es e (x ∷ rest) h)
+      ∙ ap (λ l. links_after l x) (links-next bytes n es e (x ∷ rest) h)
 
   -- past an event that stays
-  record Step (n : ℕ) (e : Event) (rest : List Event) : Type 0 where
-    events : edited_from log n (e ∷ rest) ≡ moved log e ∷ edited_from log (n + 1) rest
-    placed : start log (n + 1) ≡ start log n + 1
-    number : moved_number log n ≡ start log n
-    there : drop (n + 1) es ≡ rest
-    open_links : links_at (n + 1) 0 es ≡ links_after (links_at n 0 es) e
-    fresh : Fresh (n + 1)
+  abbrev Step : ℕ → Event → List Event → Type 0
+  Step n e rest = OneStays log (mails_at bytes es) (comes_at bytes es) two es n e rest
 
-  drop-next : (n : ℕ) (e : Event) (rest : List Event) → drop n es ≡ e ∷ rest → drop (n + 1) es ≡ rest
-  drop-next n e rest h =
-      let one : n + 1 ≡ suc n = omega arith in ap (λ i. drop i es) one ∙ drop-more n es ∙ ap rest_of h
-
-  links-after : (n : ℕ) (e : Event) (rest : List Event) → drop n es ≡ e ∷ rest →
-      links_at (n + 1) 0 es ≡ links_after (links_at n 0 es) e
-  links-after n e rest h =
-      let one : n + 1 ≡ suc n = omega arith in ap (λ i. links_at i 0 es) one ∙ links-next n 0 es e rest h
-
-  step : (n : ℕ) (e : Event) (rest : List Event) → drop n es ≡ e ∷ rest → mails_at bytes n es ≡ false → Fresh n →
+  step : (n : ℕ) (e : Event) (rest : List Event) → drop n es ≡ e ∷ rest → mails_at bytes es n ≡ false → Freshly n →
       Step n e rest
-  step n e rest h begins f =
-      let one : suc n ≡ n + 1 = omega arith in
-      let stay : is_removed log n ≡ false = stays-here bytes n es begins f in
-      let added : added_at n log ≡ [] = added-here bytes n es ∙ comes-none bytes (links_at n 0 es) (drop n es) begins in
-      let size : length (added_at n log) ≡ 0 = ap length added in
-      let next : start log (suc n) ≡ start log n + length (added_at n log) + 1 = ap (λ b. start log n + length (added_at n log) + cond b 0 1) stay in
-      record {
-        events = ap (λ xs. xs ++ ((if is_removed log n then [] else moved log e ∷ []) ++ edited_from log (suc n) rest)) added
-            ∙ ap (λ b. (if b then [] else moved log e ∷ []) ++ edited_from log (suc n) rest) stay
-            ∙ ap (λ i. moved log e ∷ edited_from log i rest) one;
-        placed = ap (start log) (sym one) ∙ next ∙ omega (arith, size);
-        number = moved-start log n ∙ omega (arith, size);
-        there = drop-next n e rest h;
-        open_links = links-after n e rest h;
-        fresh = fresh-after n begins;
-      }
+  step n e rest h o f = one-stays log (mails_at bytes es) (comes_at bytes es) two es n e rest h o f
 
   -- past two events that stay
-  record Pair (n : ℕ) (e x : Event) (rest : List Event) : Type 0 where
-    events : edited_from log n (e ∷ x ∷ rest) ≡ moved log e ∷ moved log x ∷ edited_from log (n + 2) rest
-    placed : start log (n + 2) ≡ start log n + 2
-    number : moved_number log n ≡ start log n
-    there : drop (n + 2) es ≡ rest
-    open_links : links_at (n + 2) 0 es ≡ links_after (links_after (links_at n 0 es) e) x
-    fresh : Fresh (n + 2)
+  abbrev Pair : ℕ → Event → Event → List Event → Type 0
+  Pair n e x rest = TwoStay log (mails_at bytes es) (comes_at bytes es) two es n e x rest
 
-  pair : (n : ℕ) (e x : Event) (rest : List Event) → drop n es ≡ e ∷ x ∷ rest → mails_at bytes n es ≡ false →
-      opens_data x ≡ false → Fresh n → Pair n e x rest
+  pair : (n : ℕ) (e x : Event) (rest : List Event) → drop n es ≡ e ∷ x ∷ rest → mails_at bytes es n ≡ false →
+      opens_data x ≡ false → Freshly n → Pair n e x rest
   pair n e x rest h o k f =
-      let a : Step n e (x ∷ rest) = step n e (x ∷ rest) h o f in
-      let b : Step (n + 1) x rest = step (n + 1) x rest a.there (opens-not bytes (links_at (n + 1) 0 es) (drop (n + 1) es) x rest a.there k) a.fresh in
-      let same : n + 1 + 1 ≡ n + 2 = omega arith in
-      record {
-        events = a.events ∙ ap (λ xs. moved log e ∷ xs) (b.events ∙ ap (λ i. moved log x ∷ edited_from log i rest) same);
-        placed = ap (start log) (sym same) ∙ b.placed ∙ omega (arith, a.placed);
-        number = a.number;
-        there = ap (λ i. drop i es) (sym same) ∙ b.there;
-        open_links = ap (λ i. links_at i 0 es) (sym same) ∙ b.open_links ∙ ap (λ l. links_after l x) a.open_links;
-        fresh = subst (λ (i : ℕ). Fresh i) same b.fresh;
-      }
+      two-stay log (mails_at bytes es) (comes_at bytes es) two es n e x rest h o (other-stays (n + 1) x rest (drop-next n es e (x ∷ rest) h) k) f
 
   -- past data that is edited
-  record Cut (n : ℕ) (e x : Event) (rest : List Event) : Type 0 where
-    events : edited_from log n (e ∷ x ∷ rest) ≡ mail_events bytes e.point x.point ++ edited_from log (n + 2) rest
-    placed : start log (n + 2) ≡ start log n + length (mail_events bytes e.point x.point)
-    there : drop (n + 2) es ≡ rest
-    open_links : links_at (n + 2) 0 es ≡ links_after (links_after (links_at n 0 es) e) x
-    fresh : Fresh (n + 2)
+  abbrev Cut : ℕ → Event → Event → List Event → Type 0
+  Cut n e x rest = TwoGo log (mails_at bytes es) (comes_at bytes es) two es n e x rest
 
   data-cut : (n : ℕ) (e x : Event) (rest : List Event) → drop n es ≡ e ∷ x ∷ rest →
-      may_mail bytes (links_at n 0 es) e x ≡ true → opens_data x ≡ false → Cut n e x rest
+      may_mail bytes (links_at bytes es n) e x ≡ true → opens_data x ≡ false → Cut n e x rest
   data-cut n e x rest h o k =
-      let T : List Event = mail_events bytes e.point x.point in
-      let same : suc (suc n) ≡ n + 2 = omega arith in
-      let again : n + 1 + 1 ≡ n + 2 = omega arith in
-      let one : n + 1 ≡ suc n = omega arith in
-      let begins : mails_at bytes n es ≡ true = ap (begins_mail bytes (links_at n 0 es)) h ∙ o in
-      let next : drop (n + 1) es ≡ x ∷ rest = drop-next n e (x ∷ rest) h in
-      let behind : drop (suc n) es ≡ x ∷ rest = ap (λ i. drop i es) (sym one) ∙ next in
-      let second : mails_at bytes (suc n) es ≡ false = opens-not bytes (links_at (suc n) 0 es) (drop (suc n) es) x rest behind k in
-      let gone : is_removed log n ≡ true = goes-first bytes n es begins in
-      let gone2 : is_removed log (suc n) ≡ true = goes-second bytes n es begins in
-      let added : added_at n log ≡ T = added-here bytes n es ∙ ap (comes bytes (links_at n 0 es)) h ∙ ap (λ b. if b then T else []) o in
-      let added2 : added_at (suc n) log ≡ [] = added-here bytes (suc n) es ∙ comes-none bytes (links_at (suc n) 0 es) (drop (suc n) es) second in
-      let size : length (added_at n log) ≡ length T = ap length added in
-      let size2 : length (added_at (suc n) log) ≡ 0 = ap length added2 in
-      let p1 : start log (suc n) ≡ start log n + length (added_at n log) + 0 = ap (λ b. start log n + length (added_at n log) + cond b 0 1) gone in
-      let p2 : start log (suc (suc n)) ≡ start log (suc n) + length (added_at (suc n) log) + 0 = ap (λ b. start log (suc n) + length (added_at (suc n) log) + cond b 0 1) gone2 in
-      let end : List Event = edited_from log (suc (suc n)) rest in
-      record {
-        events = ap (λ xs. xs ++ ((if is_removed log n then [] else moved log e ∷ []) ++ edited_from log (suc n) (x ∷ rest))) added
-            ∙ ap (λ b. T ++ ((if b then [] else moved log e ∷ []) ++ edited_from log (suc n) (x ∷ rest))) gone
-            ∙ ap (λ xs. T ++ (xs ++ ((if is_removed log (suc n) then [] else moved log x ∷ []) ++ end))) added2
-            ∙ ap (λ b. T ++ ((if b then [] else moved log x ∷ []) ++ end)) gone2
-            ∙ ap (λ i. T ++ edited_from log i rest) same;
-        placed = ap (start log) (sym same) ∙ p2 ∙ omega (arith, p1, size, size2);
-        there = ap (λ i. drop i es) (sym again) ∙ drop-next (n + 1) x rest next;
-        open_links =
-            ap (λ i. links_at i 0 es) (sym again) ∙ links-after (n + 1) x rest next ∙ ap (λ l. links_after l x) (links-after n e (x ∷ rest) h);
-        fresh = subst (λ (i : ℕ). Fresh i) again (fresh-after (n + 1) (ap (λ i. mails_at bytes i es) one ∙ second));
-      }
+      two-go log (mails_at bytes es) (comes_at bytes es) two es n e x rest h (ap (begins_mail bytes (links_at bytes es n)) h ∙ o) (other-stays (n + 1) x rest (drop-next n es e (x ∷ rest) h) k)
 
   -- Rows.
 
   -- a row of the events: those from n on, followed by others; its first event is to have number m, and so many links are open before it
   record Here (n m links : ℕ) (previous : Option ℕ) (row : Forest) (tail : List Event) : Type 0 where
     there : drop n es ≡ appended_from n previous row ++ tail
-    open_links : links_at n 0 es ≡ links
+    open_links : links_at bytes es n ≡ links
     placed : start log n ≡ m
-    fresh : Fresh n
+    fresh : Freshly n
     has_parts : HasParts bytes row
 
   -- what the edits leave of it are the events of the row with its literals
   record Mails (n m links : ℕ) (previous : Option ℕ) (row : Forest) (tail : List Event) : Type 0 where
     events : edited_from log n (appended_from n previous row ++ tail) ≡ appended_from m (option_map (moved_number log) previous) (mail_row (links == 0) row) ++ edited_from log (n + event_count row) tail
     placed : start log (n + event_count row) ≡ m + event_count (mail_row (links == 0) row)
-    open_links : links_at (n + event_count row) 0 es ≡ links
-    fresh : Fresh (n + event_count row)
+    open_links : links_at bytes es (n + event_count row) ≡ links
+    fresh : Freshly (n + event_count row)
 
   abbrev Law : Forest → Type 0
   Law row = (n m links : ℕ) (previous : Option ℕ) (tail : List Event) → Here n m links previous row tail → Mails n m links previous row tail
@@ -288,8 +204,8 @@ module _ (bytes : List ℕ) (es : List Event) where
       record {
         events = ap (λ i. edited_from log i tail) same ∙ ap (λ t. appended_from m (option_map (moved_number log) previous) t ++ edited_from log (n + 0) tail) (sym nothing);
         placed = ap (start log) (sym same) ∙ h.placed ∙ omega arith ∙ ap (λ t. m + event_count t) (sym nothing);
-        open_links = ap (λ i. links_at i 0 es) (sym same) ∙ h.open_links;
-        fresh = subst (λ (i : ℕ). Fresh i) same h.fresh;
+        open_links = ap (links_at bytes es) (sym same) ∙ h.open_links;
+        fresh = subst (λ (i : ℕ). Freshly i) same h.fresh;
       }
 
   -- a leaf that stays
@@ -303,8 +219,8 @@ module _ (bytes : List ℕ) (es : List Event) where
       let x : Event = event Exit name (stop_of document_start cs) in
       let q : Option ℕ = option_map (moved_number log) previous in
       let R : Forest = mail_row (links == 0) rest in
-      let p : Pair n e x (appended_from (n + 2) previous rest ++ tail) = pair n e x (appended_from (n + 2) previous rest ++ tail) h.there (ap (begins_mail bytes (links_at n 0 es)) h.there ∙ ap (λ l. may_mail bytes l e x) h.open_links ∙ o) refl h.fresh in
-      let kept : links_at (n + 2) 0 es ≡ links = p.open_links ∙ links-closed name (links_at n 0 es) ∙ h.open_links in
+      let p : Pair n e x (appended_from (n + 2) previous rest ++ tail) = pair n e x (appended_from (n + 2) previous rest ++ tail) h.there (ap (begins_mail bytes (links_at bytes es n)) h.there ∙ ap (λ l. may_mail bytes l e x) h.open_links ∙ o) refl h.fresh in
+      let kept : links_at bytes es (n + 2) ≡ links = links-two n e x (appended_from (n + 2) previous rest ++ tail) h.there ∙ links-closed name (links_at bytes es n) ∙ h.open_links in
       let r : Mails (n + 2) (m + 2) links previous rest tail =
       law (n + 2) (m + 2) links previous tail (record { there = p.there; open_links = kept; placed = omega (arith, p.placed, h.placed); fresh = p.fresh; has_parts = h.has_parts.1 }) in
       let same : n + 2 + event_count rest ≡ n + (2 + event_count rest) = omega arith in
@@ -313,8 +229,8 @@ module _ (bytes : List ℕ) (es : List Event) where
             ∙ ap (λ xs. e ∷ x ∷ xs) (r.events ∙ ap (λ i. appended_from (m + 2) q R ++ edited_from log i tail) same)
             ∙ ap (λ t. appended_from m q t ++ edited_from log (n + (2 + event_count rest)) tail) (sym is);
         placed = ap (start log) (sym same) ∙ r.placed ∙ omega arith ∙ ap (λ t. m + event_count t) (sym is);
-        open_links = ap (λ i. links_at i 0 es) (sym same) ∙ r.open_links;
-        fresh = subst (λ (i : ℕ). Fresh i) same r.fresh;
+        open_links = ap (links_at bytes es) (sym same) ∙ r.open_links;
+        fresh = subst (λ (i : ℕ). Freshly i) same r.fresh;
       }
 
   leaf-linked : (name : Name) (c : Content) (cs : List Code) (rest : Forest) → Law rest →
@@ -325,8 +241,8 @@ module _ (bytes : List ℕ) (es : List Event) where
       let q : Option ℕ = option_map (moved_number log) previous in
       let e2 : Event = record { kind = Enter; name = name; point = start_of cs; link = Some (link_back q c) } in
       let R : Forest = mail_row (links == 0) rest in
-      let p : Pair n e x (appended_from (n + 2) (Some n) rest ++ tail) = pair n e x (appended_from (n + 2) (Some n) rest ++ tail) h.there (opens-not bytes (links_at n 0 es) (drop n es) e (x ∷ appended_from (n + 2) (Some n) rest ++ tail) h.there (and-false (is_data name))) refl h.fresh in
-      let kept : links_at (n + 2) 0 es ≡ links = p.open_links ∙ links-closed name (links_at n 0 es) ∙ h.open_links in
+      let p : Pair n e x (appended_from (n + 2) (Some n) rest ++ tail) = pair n e x (appended_from (n + 2) (Some n) rest ++ tail) h.there (other-stays n e (x ∷ appended_from (n + 2) (Some n) rest ++ tail) h.there (and-false (is_data name))) refl h.fresh in
+      let kept : links_at bytes es (n + 2) ≡ links = links-two n e x (appended_from (n + 2) (Some n) rest ++ tail) h.there ∙ links-closed name (links_at bytes es n) ∙ h.open_links in
       let r : Mails (n + 2) (m + 2) links (Some n) rest tail =
       law (n + 2) (m + 2) links (Some n) tail (record { there = p.there; open_links = kept; placed = omega (arith, p.placed, h.placed); fresh = p.fresh; has_parts = h.has_parts.1 }) in
       let same : n + 2 + event_count rest ≡ n + (2 + event_count rest) = omega arith in
@@ -336,8 +252,8 @@ module _ (bytes : List ℕ) (es : List Event) where
             ∙ ap (λ xs. e2 ∷ x ∷ xs) (r.events ∙ ap (λ i. appended_from (m + 2) (Some i) R ++ edited_from log (n + 2 + event_count rest) tail) (p.number ∙ h.placed) ∙ ap (λ i. appended_from (m + 2) (Some m) R ++ edited_from log i tail) same)
             ∙ ap (λ t. appended_from m q t ++ edited_from log (n + (2 + event_count rest)) tail) (sym is);
         placed = ap (start log) (sym same) ∙ r.placed ∙ omega arith ∙ ap (λ t. m + event_count t) (sym is);
-        open_links = ap (λ i. links_at i 0 es) (sym same) ∙ r.open_links;
-        fresh = subst (λ (i : ℕ). Fresh i) same r.fresh;
+        open_links = ap (links_at bytes es) (sym same) ∙ r.open_links;
+        fresh = subst (λ (i : ℕ). Freshly i) same r.fresh;
       }
 
   -- data outside links
@@ -353,13 +269,13 @@ module _ (bytes : List ℕ) (es : List Event) where
       let part : Part bytes cs = part-of bytes cs (h.has_parts.0 refl refl) in
       let D : Forest = with_emails cs in
       let R : Forest = mail_row (links == 0) rest in
-      let T : List Event = mail_events bytes e.point x.point in
-      let may : may_mail bytes (links_at n 0 es) e x ≡ true = ap (λ l. may_mail bytes l e x) h.open_links ∙ ap (λ b. (b && true) && has_sign bytes e.point x.point) outside ∙ sign in
+      let T : List Event = comes_at bytes es n in
+      let may : may_mail bytes (links_at bytes es n) e x ≡ true = ap (λ l. may_mail bytes l e x) h.open_links ∙ ap (λ b. (b && true) && has_sign bytes e.point x.point) outside ∙ sign in
       let k : Cut n e x more = data-cut n e x more h.there may refl in
-      let T-is : T ≡ appended_from 0 None D = events-are bytes e.point x.point ∙ ap (λ ds. appended_from 0 None (with_emails ds)) part.codes in
+      let T-is : T ≡ appended_from 0 None D = ap (comes bytes) h.there ∙ events-are bytes e.point x.point ∙ ap (λ ds. appended_from 0 None (with_emails ds)) part.codes in
       let size : length T ≡ event_count D = ap length T-is ∙ length-appended_from 0 None D in
       let r : Mails (n + 2) (m + event_count D) links previous rest tail =
-      law (n + 2) (m + event_count D) links previous tail (record { there = k.there; open_links = k.open_links ∙ h.open_links; placed = omega (arith, k.placed, h.placed, size); fresh = k.fresh; has_parts = h.has_parts.1 }) in
+      law (n + 2) (m + event_count D) links previous tail (record { there = k.there; open_links = links-two n e x more h.there ∙ h.open_links; placed = omega (arith, k.placed, h.placed, size); fresh = k.fresh; has_parts = h.has_parts.1 }) in
       let same : n + 2 + event_count rest ≡ n + (2 + event_count rest) = omega arith in
       let is : mail_row (links == 0) (leaf_then N.Data None cs rest) ≡ D ⊕ R = ap (λ b. mail_row b (leaf_then N.Data None cs rest)) outside ∙ row-data cs rest ∙ ap (λ b. D ⊕ mail_row b rest) (sym outside) in
       let Z : List Event = edited_from log (n + (2 + event_count rest)) tail in
@@ -373,8 +289,8 @@ module _ (bytes : List ℕ) (es : List Event) where
             ∙ ap (λ xs. xs ++ Z) (sym (emails-row m q cs R))
             ∙ ap (λ t. appended_from m q t ++ Z) (sym is);
         placed = ap (start log) (sym same) ∙ r.placed ∙ omega (arith, count) ∙ ap (λ t. m + event_count t) (sym is);
-        open_links = ap (λ i. links_at i 0 es) (sym same) ∙ r.open_links;
-        fresh = subst (λ (i : ℕ). Fresh i) same r.fresh;
+        open_links = ap (links_at bytes es) (sym same) ∙ r.open_links;
+        fresh = subst (λ (i : ℕ). Freshly i) same r.fresh;
       }
 
   leaf-data : (cs : List Code) (rest : Forest) → Law rest → Law (leaf_then N.Data None cs rest)
@@ -418,21 +334,22 @@ module _ (bytes : List ℕ) (es : List Event) where
       let inner : List Event = appended_from (n + 1) None inside in
       let more : List Event = appended_from (n + 2 + ci) previous rest ++ tail in
       let apart : (inner ++ x ∷ appended_from (n + 2 + ci) previous rest) ++ tail ≡ inner ++ x ∷ more = append_assoc inner (x ∷ appended_from (n + 2 + ci) previous rest) tail in
-      let s1 : Step n e (inner ++ x ∷ more) = step n e (inner ++ x ∷ more) (h.there ∙ ap (λ xs. e ∷ xs) apart) (opens-not bytes (links_at n 0 es) (drop n es) e (inner ++ x ∷ more) (h.there ∙ ap (λ xs. e ∷ xs) apart) (and_left (is_data name) true h.has_parts.0.0)) h.fresh in
+      let there1 : drop n es ≡ e ∷ (inner ++ x ∷ more) = h.there ∙ ap (λ xs. e ∷ xs) apart in
+      let s1 : Step n e (inner ++ x ∷ more) = step n e (inner ++ x ∷ more) there1 (other-stays n e (inner ++ x ∷ more) there1 (and_left (is_data name) true h.has_parts.0.0)) h.fresh in
       let r1 : Mails (n + 1) (m + 1) deeper None inside (x ∷ more) =
-      law_inside (n + 1) (m + 1) deeper None (x ∷ more) (record { there = s1.there; open_links = s1.open_links ∙ ap (λ l. links_behind l Enter name) h.open_links; placed = omega (arith, s1.placed, h.placed); fresh = s1.fresh; has_parts = h.has_parts.1.0 }) in
+      law_inside (n + 1) (m + 1) deeper None (x ∷ more) (record { there = s1.there; open_links = links-next bytes n es e (inner ++ x ∷ more) there1 ∙ ap (λ l. links_behind l Enter name) h.open_links; placed = omega (arith, s1.placed, h.placed); fresh = s1.fresh; has_parts = h.has_parts.1.0 }) in
       let k : ℕ = n + 1 + ci in
       let there2 : drop k es ≡ x ∷ more = drop-part (n + 1) ci es inner (x ∷ more) s1.there (length-appended_from (n + 1) None inside) in
-      let s2 : Step k x more = step k x more there2 (opens-not bytes (links_at k 0 es) (drop k es) x more there2 refl) r1.fresh in
+      let s2 : Step k x more = step k x more there2 (other-stays k x more there2 refl) r1.fresh in
       let next : k + 1 ≡ n + 2 + ci = omega arith in
       let next2 : m + 1 + mi + 1 ≡ m + 2 + mi = omega arith in
       let r2 : Mails (n + 2 + ci) (m + 2 + mi) links previous rest tail =
       law_rest (n + 2 + ci) (m + 2 + mi) links previous tail (record {
         there = ap (λ i. drop i es) (sym next) ∙ s2.there;
         open_links =
-            ap (λ i. links_at i 0 es) (sym next) ∙ s2.open_links ∙ ap (λ l. links_behind l Exit name) r1.open_links ∙ links-closed name links;
+            ap (links_at bytes es) (sym next) ∙ links-next bytes k es x more there2 ∙ ap (λ l. links_behind l Exit name) r1.open_links ∙ links-closed name links;
         placed = ap (start log) (sym next) ∙ s2.placed ∙ ap (λ i. i + 1) r1.placed ∙ next2;
-        fresh = subst (λ (i : ℕ). Fresh i) next s2.fresh;
+        fresh = subst (λ (i : ℕ). Freshly i) next s2.fresh;
         has_parts = h.has_parts.1.1;
       }) in
       let same : n + 2 + ci + cr ≡ n + (2 + ci + cr) = omega arith in
@@ -448,8 +365,8 @@ module _ (bytes : List ℕ) (es : List Event) where
             ∙ ap (λ xs. e ∷ xs) (r1.events ∙ ap (λ xs. B ++ xs) from_x ∙ sym (append_assoc B (x ∷ A) Z))
             ∙ ap (λ t. appended_from m q t ++ Z) (sym is);
         placed = ap (start log) (sym same) ∙ r2.placed ∙ omega arith ∙ ap (λ t. m + event_count t) (sym is);
-        open_links = ap (λ i. links_at i 0 es) (sym same) ∙ r2.open_links;
-        fresh = subst (λ (i : ℕ). Fresh i) same r2.fresh;
+        open_links = ap (links_at bytes es) (sym same) ∙ r2.open_links;
+        fresh = subst (λ (i : ℕ). Freshly i) same r2.fresh;
       }
 
   law : (row : Forest) → Law row
@@ -469,5 +386,5 @@ mailed-tree bytes t h es e =
     let left : drop end es ≡ [] = drop_all end es (omega (arith, size)) in
     ap (edited_from (log_of bytes es) 0) all
     ∙ r.events
-    ∙ ap (λ xs. appended_from 0 None (with_emails_apart t) ++ xs) (added-here bytes end es ∙ ap (comes bytes (links_at end 0 es)) left)
+    ∙ ap (λ xs. appended_from 0 None (with_emails_apart t) ++ xs) ((mails-of-two bytes es).added end ∙ ap (λ xs. if begins_mail bytes (links_at bytes es end) xs then comes bytes xs else []) left)
     ∙ append-nil (appended_from 0 None (with_emails_apart t))

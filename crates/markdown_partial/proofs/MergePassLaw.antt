@@ -1,11 +1,11 @@
 -- the events of a tree, with its neighbouring data merged
-use Rattle.std.proofs.Common.{◌≡◌, ◌≢◌, ℕ, zero, suc, ◌+◌, ◌==◌, ◌≤◌, nat_le, ◌&&◌, Bool, true, false, List, [], ◌∷◌, ◌++◌, length, drop, Option, Some, None, if◌then◌else◌, refl, sym, ap, subst, ◌∙◌, arith, append_assoc, append-nil}
+use Rattle.std.proofs.Common.{◌≡◌, ◌≢◌, ℕ, suc, ◌+◌, ◌==◌, ◌≤◌, nat_le, ◌&&◌, Bool, true, false, List, [], ◌∷◌, ◌++◌, length, drop, Option, Some, None, if◌then◌else◌, refl, sym, ap, subst, ◌∙◌, arith, append_assoc, append-nil}
 use Rattle.std.proofs.Math.Bool.{and-false}
 use Rattle.std.proofs.lemmas.Bool.{both_ways}
 use Rattle.std.specs.Option.{option_map}
-use Rattle.std.proofs.lemmas.List.{drop-drop}
 use Rattle.markdown_engine_content.specs.Codes.{Code, stop_of, document_start}
 use Rattle.markdown_engine_events.proofs.EditRules.{edited-nil}
+use Rattle.markdown_engine_events.proofs.EditSteps.{drop-part}
 use Rattle.markdown_engine_events.specs.Edits.{is_removed, removed_before, added_up_to, added_at, front_at, back_at, moved_number, moved, edited_from, edited}
 use Rattle.markdown_engine_content.specs.ListFunctions.{rest_of}
 use Rattle.markdown_engine.specs.Operations.{link_back}
@@ -463,15 +463,6 @@ leaf-plain es name cs rest true e law =
 leaf-plain es name cs rest false e law = leaf-other es name cs rest e law
 
 -- Groups.
-
-drop-whole : {A : Type 0} → (k : ℕ) (xs ys : List A) → length xs ≡ k → drop k (xs ++ ys) ≡ ys
-drop-whole k [] ys l = let same : k ≡ 0 = sym l in ap (λ i. drop i ys) same
-drop-whole zero (x ∷ xs) ys l = absurd (omega (arith, l))
-drop-whole (suc k) (x ∷ xs) ys l = drop-whole k xs ys (omega (arith, l))
-
-pub drop-part : {A : Type 0} → (n k : ℕ) (es xs ys : List A) → drop n es ≡ xs ++ ys → length xs ≡ k →
-    drop (n + k) es ≡ ys
-drop-part n k es xs ys h l = sym (drop-drop k n es) ∙ ap (drop k) h ∙ drop-whole k xs ys l
 
 law-group : (es : List Event) (name : Name) (a b : Point) (inside rest : Forest) → Law es inside → Law es rest →
     Law es (group_then name a b inside rest)

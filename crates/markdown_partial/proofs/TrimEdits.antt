@@ -1,17 +1,16 @@
 -- the edits of data, one by one
-use Rattle.std.proofs.Common.{◌≡◌, ℕ, zero, suc, ◌+◌, ◌-◌, ◌<◌, ◌≤◌, ◌==◌, ◌&&◌, not, Bool, true, false, List, [], ◌∷◌, ◌++◌, length, drop, get_or, refl, sym, ap, subst, ◌∙◌, arith, append_assoc, append-nil, inl, inr, if◌then◌else◌}
+use Rattle.std.proofs.Common.{◌≡◌, ℕ, zero, suc, ◌+◌, ◌-◌, ◌<◌, ◌≤◌, ◌&&◌, not, Bool, true, false, List, [], ◌∷◌, ◌++◌, length, drop, get_or, refl, sym, ap, subst, ◌∙◌, arith, append_assoc, append-nil, inl, inr, if◌then◌else◌}
 use Rattle.std.proofs.lemmas.List.{drop_more, drop_all}
 use Rattle.std.proofs.Math.Bool.{and-false}
 use Rattle.markdown_engine_content.specs.ListFunctions.{rest_of}
 use Rattle.markdown_engine_content.proofs.PlaceRules.{drop-more}
-use Rattle.std.proofs.lemmas.Bool.{cases_lt, cases_Bool, eq-eqb, ne_eqb, both_ways}
-use Rattle.std.proofs.lemmas.List.Elements.{All-nil, All-cons}
-use Rattle.std.specs.List.{All}
+use Rattle.std.proofs.lemmas.Bool.{cases_lt, cases_Bool, both_ways, and_parts}
 use Rattle.markdown_engine_events.specs.EventChains.{has_link, linked_at}
-use Rattle.markdown_engine_events.specs.Edits.{removed_at, front_at, back_at, added_at, is_removed, CanEdit}
+use Rattle.markdown_engine_events.specs.Edits.{removed_at, added_at, CanEdit}
 use Rattle.markdown_event.specs.declared.event.Event.{Event}
 use Rattle.markdown_engine_events.specs.declared.util.edit_map.Edit.{Edit}
-use Rattle.markdown_engine_events.proofs.EditRules.{stays-where, goes-where}
+use Rattle.markdown_engine_events.proofs.EditSteps.{AreOfTwo}
+use Rattle.markdown_engine_events.proofs.WalkedEdits.{walked, state_at, of-two, can-walk}
 use Rattle.markdown_partial.specs.MergedEvents.{is_enter, is_data, opens_data}
 use Rattle.markdown_partial.specs.TrimmedData.{IsStretch, trimmed_events}
 use Rattle.markdown_partial.proofs.DataSearch.{BeginsNone, event-at}
@@ -201,48 +200,12 @@ pub trims-end : (bytes : List ℕ) (hard whole : Bool) (i : ℕ) (es : List Even
 trims-end bytes hard whole i es log all l k =
     sym (append-nil log) ∙ ap (λ ys. log ++ trims bytes hard whole i (flag i whole es) ys) (sym (drop_all i es l)) ∙ k
 
--- What the edits collect at a place.
+-- The edits are those of a walk.
 
 abbrev pub comes : List ℕ → Bool → Bool → Bool → List Event → List Event
 comes bytes hard whole front [] = []
 comes bytes hard whole front (e ∷ []) = []
-comes bytes hard whole front (e ∷ x ∷ es) =
-    if opens_data e && loses front (goes_before whole es) bytes e.point x.point then trimmed_events front (goes_before whole es) (hard && goes_before false es) bytes e.point x.point else []
-
-abbrev pub two : Bool → ℕ
-two true = 2
-two false = 0
-
-abbrev none : List Event
-none = []
-
-zero-plus : (n : ℕ) → n ≡ 0 + n
-zero-plus n = omega arith
-
-pub no-front : (b : Bool) (xs : List Event) → (if b && false then xs else []) ≡ []
-no-front true xs = refl
-no-front false xs = refl
-
-pub yes-back : (b : Bool) (xs : List Event) → (if b && true then xs else []) ≡ (if b then xs else [])
-yes-back true xs = refl
-yes-back false xs = refl
-
-never : (b : Bool) → (if b then none else none) ≡ none
-never true = refl
-never false = refl
-
-abbrev zero_if : Bool → ℕ
-zero_if b = if b then 0 else 0
-
-zero-if : (b : Bool) → zero_if b ≡ 0
-zero-if true = refl
-zero-if false = refl
-
-pub linked-drop : (k j : ℕ) (es : List Event) (i : ℕ) → i ≡ j + k → linked_at es i ≡ linked_at (drop j es) k
-linked-drop k zero es i e = let same : i ≡ k = omega (arith, e) in ap (linked_at es) same
-linked-drop k (suc j) [] i e = refl
-linked-drop k (suc j) (x ∷ es) zero e = absurd (omega (arith, e))
-linked-drop k (suc j) (x ∷ es) (suc i) e = linked-drop k j es i (omega (arith, e))
+comes bytes hard whole front (e ∷ x ∷ es) = trimmed_events front (goes_before whole es) (hard && goes_before false es) bytes e.point x.point
 
 pub opens-unlinked : (a b l : Bool) → a && (b && not l) ≡ true → l ≡ false
 opens-unlinked true true true h = cc
@@ -250,203 +213,60 @@ opens-unlinked true true false h = refl
 opens-unlinked true false l h = cc
 opens-unlinked false b l h = cc
 
-and-first : (a b : Bool) → a && b ≡ true → a ≡ true
-and-first true b h = refl
-and-first false b h = cc
+pub places-drop : (bytes : List ℕ) (j : ℕ) (es : List Event) → HasPlaces bytes es → HasPlaces bytes (drop j es)
+places-drop bytes zero es h = h
+places-drop bytes (suc j) [] h = h
+places-drop bytes (suc j) (e ∷ es) h = places-drop bytes j es h.1
 
 module _ (bytes : List ℕ) (hard whole : Bool) where
-  front-by : (i n : ℕ) (front : Bool) (e x : Event) (es : List Event) (log : List Edit) (b : Bool) →
-      front_at i log ≡ [] → front_at i ((if b then trim bytes hard whole n front e x es ∷ [] else []) ++ log) ≡ []
-  front-by i n front e x es log true h =
-      ap (λ xs. xs ++ (if (n == i) && false then trimmed_events front (goes_before whole es) (hard && goes_before false es) bytes e.point x.point else [])) h ∙ no-front (n == i) (trimmed_events front (goes_before whole es) (hard && goes_before false es) bytes e.point x.point)
-  front-by i n front e x es log false h = h
+  abbrev flag_next : Bool → Event → Bool
+  flag_next front e = closes_ending e
 
-  front-first : (i n : ℕ) (front : Bool) (es : List Event) (log : List Edit) → front_at i log ≡ [] →
-      front_at i (trim_first bytes hard whole n front es ++ log) ≡ []
-  front-first i n front [] log h = h
-  front-first i n front (e ∷ []) log h = h
-  front-first i n front (e ∷ x ∷ es) log h =
-      front-by i n front e x es log (opens_data e && loses front (goes_before whole es) bytes e.point x.point) h
+  abbrev walk : ℕ → Bool → List Event → List Edit
+  walk n front es = walked flag_next (loses_first bytes whole) (comes bytes hard whole) (λ f. refl) n front es
 
-  front-trims : (i n : ℕ) (front : Bool) (es : List Event) → front_at i (trims bytes hard whole n front es) ≡ []
-  front-trims i n front [] = refl
-  front-trims i n front (e ∷ es) =
-      front-first i n front (e ∷ es) (trims bytes hard whole (suc n) (closes_ending e) es) (front-trims i (suc n) (closes_ending e) es)
+  abbrev flag_at : ℕ → Bool → List Event → Bool
+  flag_at k front es = state_at flag_next (loses_first bytes whole) (comes bytes hard whole) (λ f. refl) k front es
 
-  back-by : (i n : ℕ) (front : Bool) (e x : Event) (es : List Event) (log : List Edit) (b : Bool) →
-      back_at i ((if b then trim bytes hard whole n front e x es ∷ [] else []) ++ log) ≡ (if n == i then (if b then trimmed_events front (goes_before whole es) (hard && goes_before false es) bytes e.point x.point else []) else []) ++ back_at i log
-  back-by i n front e x es log true =
-      ap (λ xs. xs ++ back_at i log) (yes-back (n == i) (trimmed_events front (goes_before whole es) (hard && goes_before false es) bytes e.point x.point))
-  back-by i n front e x es log false = ap (λ xs. xs ++ back_at i log) (sym (never (n == i)))
+  trims-walk : (n : ℕ) (front : Bool) (es : List Event) → trims bytes hard whole n front es ≡ walk n front es
+  trims-walk n front [] = refl
+  trims-walk n front (e ∷ []) = refl
+  trims-walk n front (e ∷ x ∷ es) =
+      ap (λ log. trim_first bytes hard whole n front (e ∷ x ∷ es) ++ log) (trims-walk (suc n) (closes_ending e) (x ∷ es))
 
-  back-first : (i n : ℕ) (front : Bool) (es : List Event) (log : List Edit) →
-      back_at i (trim_first bytes hard whole n front es ++ log) ≡ (if n == i then comes bytes hard whole front es else []) ++ back_at i log
-  back-first i n front [] log = ap (λ xs. xs ++ back_at i log) (sym (never (n == i)))
-  back-first i n front (e ∷ []) log = ap (λ xs. xs ++ back_at i log) (sym (never (n == i)))
-  back-first i n front (e ∷ x ∷ es) log =
-      back-by i n front e x es log (opens_data e && loses front (goes_before whole es) bytes e.point x.point)
-
-  removed-by : (i n : ℕ) (front : Bool) (e x : Event) (es : List Event) (log : List Edit) (b : Bool) →
-      removed_at i ((if b then trim bytes hard whole n front e x es ∷ [] else []) ++ log) ≡ (if n == i then two b else 0) + removed_at i log
-  removed-by i n front e x es log true = refl
-  removed-by i n front e x es log false =
-      zero-plus (removed_at i log) ∙ ap (λ k. k + removed_at i log) (sym (zero-if (n == i)))
-
-  removed-first : (i n : ℕ) (front : Bool) (es : List Event) (log : List Edit) →
-      removed_at i (trim_first bytes hard whole n front es ++ log) ≡ (if n == i then two (loses_first bytes whole front es) else 0) + removed_at i log
-  removed-first i n front [] log =
-      zero-plus (removed_at i log) ∙ ap (λ k. k + removed_at i log) (sym (zero-if (n == i)))
-  removed-first i n front (e ∷ []) log =
-      zero-plus (removed_at i log) ∙ ap (λ k. k + removed_at i log) (sym (zero-if (n == i)))
-  removed-first i n front (e ∷ x ∷ es) log =
-      removed-by i n front e x es log (opens_data e && loses front (goes_before whole es) bytes e.point x.point)
-
-  back-earlier : (i n : ℕ) (front : Bool) (es : List Event) → i < n → back_at i (trims bytes hard whole n front es) ≡ []
-  back-earlier i n front [] l = refl
-  back-earlier i n front (e ∷ es) l =
-      back-first i n front (e ∷ es) (trims bytes hard whole (suc n) (closes_ending e) es)
-      ∙ ap (λ b. (if b then comes bytes hard whole front (e ∷ es) else []) ++ back_at i (trims bytes hard whole (suc n) (closes_ending e) es)) (ne_eqb n i (λ h. omega (arith, h)))
-      ∙ back-earlier i (suc n) (closes_ending e) es (omega arith)
-
-  removed-earlier : (i n : ℕ) (front : Bool) (es : List Event) → i < n →
-      removed_at i (trims bytes hard whole n front es) ≡ 0
-  removed-earlier i n front [] l = refl
-  removed-earlier i n front (e ∷ es) l =
-      removed-first i n front (e ∷ es) (trims bytes hard whole (suc n) (closes_ending e) es)
-      ∙ ap (λ b. (if b then two (loses_first bytes whole front (e ∷ es)) else 0) + removed_at i (trims bytes hard whole (suc n) (closes_ending e) es)) (ne_eqb n i (λ h. omega (arith, h)))
-      ∙ sym (zero-plus (removed_at i (trims bytes hard whole (suc n) (closes_ending e) es)))
-      ∙ removed-earlier i (suc n) (closes_ending e) es (omega arith)
-
-  back-place : (i n k : ℕ) (front : Bool) (es : List Event) → i ≡ n + k →
-      back_at i (trims bytes hard whole n front es) ≡ comes bytes hard whole (flag k front es) (drop k es)
-  back-place i n zero front [] e = refl
-  back-place i n (suc k) front [] e = refl
-  back-place i n zero front (x ∷ es) e =
-      back-first i n front (x ∷ es) (trims bytes hard whole (suc n) (closes_ending x) es)
-      ∙ ap (λ b. (if b then comes bytes hard whole front (x ∷ es) else []) ++ back_at i (trims bytes hard whole (suc n) (closes_ending x) es)) (eq-eqb n i (omega (arith, e)))
-      ∙ ap (λ xs. comes bytes hard whole front (x ∷ es) ++ xs) (back-earlier i (suc n) (closes_ending x) es (omega (arith, e)))
-      ∙ append-nil (comes bytes hard whole front (x ∷ es))
-  back-place i n (suc k) front (x ∷ es) e =
-      back-first i n front (x ∷ es) (trims bytes hard whole (suc n) (closes_ending x) es)
-      ∙ ap (λ b. (if b then comes bytes hard whole front (x ∷ es) else []) ++ back_at i (trims bytes hard whole (suc n) (closes_ending x) es)) (ne_eqb n i (λ h. omega (arith, e, h)))
-      ∙ back-place i (suc n) k (closes_ending x) es (omega (arith, e))
-
-  removed-place : (i n k : ℕ) (front : Bool) (es : List Event) → i ≡ n + k →
-      removed_at i (trims bytes hard whole n front es) ≡ two (loses_first bytes whole (flag k front es) (drop k es))
-  removed-place i n zero front [] e = refl
-  removed-place i n (suc k) front [] e = refl
-  removed-place i n zero front (x ∷ es) e =
-      removed-first i n front (x ∷ es) (trims bytes hard whole (suc n) (closes_ending x) es)
-      ∙ ap (λ b. (if b then two (loses_first bytes whole front (x ∷ es)) else 0) + removed_at i (trims bytes hard whole (suc n) (closes_ending x) es)) (eq-eqb n i (omega (arith, e)))
-      ∙ ap (λ j. two (loses_first bytes whole front (x ∷ es)) + j) (removed-earlier i (suc n) (closes_ending x) es (omega (arith, e)))
-      ∙ omega arith
-  removed-place i n (suc k) front (x ∷ es) e =
-      removed-first i n front (x ∷ es) (trims bytes hard whole (suc n) (closes_ending x) es)
-      ∙ ap (λ b. (if b then two (loses_first bytes whole front (x ∷ es)) else 0) + removed_at i (trims bytes hard whole (suc n) (closes_ending x) es)) (ne_eqb n i (λ h. omega (arith, e, h)))
-      ∙ sym (zero-plus (removed_at i (trims bytes hard whole (suc n) (closes_ending x) es)))
-      ∙ removed-place i (suc n) k (closes_ending x) es (omega (arith, e))
+  flag-walk : (k : ℕ) (front : Bool) (es : List Event) → flag_at k front es ≡ flag k front es
+  flag-walk zero front es = refl
+  flag-walk (suc k) front [] = refl
+  flag-walk (suc k) front (e ∷ es) = flag-walk k (closes_ending e) es
 
   abbrev pub log_of : List Event → List Edit
   log_of es = trims bytes hard whole 0 whole es
 
-  pub added-here : (k : ℕ) (es : List Event) →
-      added_at k (log_of es) ≡ comes bytes hard whole (flag k whole es) (drop k es)
-  added-here k es =
-      ap (λ xs. xs ++ back_at k (log_of es)) (front-trims k 0 whole es) ∙ back-place k 0 k whole es (omega arith)
+  abbrev pub loses_at : List Event → ℕ → Bool
+  loses_at es k = loses_first bytes whole (flag k whole es) (drop k es)
 
-  pub removed-here : (k : ℕ) (es : List Event) →
-      removed_at k (log_of es) ≡ two (loses_first bytes whole (flag k whole es) (drop k es))
-  removed-here k es = removed-place k 0 k whole es (omega arith)
+  abbrev pub comes_at : List Event → ℕ → List Event
+  comes_at es k = comes bytes hard whole (flag k whole es) (drop k es)
 
-  two-most : (b : Bool) → two b ≤ 2
-  two-most true = omega arith
-  two-most false = omega arith
-
-  -- what no data that loses codes stands at, or just before, stays
-  pub stays-here : (j : ℕ) (es : List Event) → loses_first bytes whole (flag j whole es) (drop j es) ≡ false →
-      ((p : ℕ) → suc p ≡ j → loses_first bytes whole (flag p whole es) (drop p es) ≡ false) →
-      is_removed (log_of es) j ≡ false
-  stays-here j es h k = stays-where (log_of es) j (λ p l. reach p l)
-    where
-      reach : (p : ℕ) → p ≤ j → p + removed_at p (log_of es) ≤ j
-      reach p l =
-          elim (cases_lt (p + 1) j) [
-            | inl far ↦ let most = two-most (loses_first bytes whole (flag p whole es) (drop p es)) in let r = removed-here p es in omega (arith, far, most, r)
-            | inr near ↦
-                elim (cases_lt p j) [
-                  | inl below ↦ let next : suc p ≡ j = omega (arith, near, below) in let r = removed-here p es ∙ ap two (k p next) in omega (arith, r, next)
-                  | inr at ↦ let same : p ≡ j = omega (arith, at, l) in let r = removed-here p es ∙ ap (λ i. two (loses_first bytes whole (flag i whole es) (drop i es))) same ∙ ap two h in omega (arith, r, same)
-                ]
-          ]
-
-  pub goes-first : (j : ℕ) (es : List Event) → loses_first bytes whole (flag j whole es) (drop j es) ≡ true →
-      is_removed (log_of es) j ≡ true
-  goes-first j es h =
-      let r = removed-here j es ∙ ap two h in goes-where (log_of es) j j (omega arith) (omega (arith, r))
-
-  pub goes-second : (j : ℕ) (es : List Event) → loses_first bytes whole (flag j whole es) (drop j es) ≡ true →
-      is_removed (log_of es) (suc j) ≡ true
-  goes-second j es h =
-      let r = removed-here j es ∙ ap two h in goes-where (log_of es) (suc j) j (omega arith) (omega (arith, r))
+  pub trims-of-two : (es : List Event) → AreOfTwo (log_of es) (loses_at es) (comes_at es)
+  trims-of-two es =
+      let w = of-two flag_next (loses_first bytes whole) (comes bytes hard whole) (λ f. refl) whole es in
+      record {
+        added = λ k. ap (added_at k) (trims-walk 0 whole es) ∙ w.added k ∙ ap (λ f. if loses_first bytes whole f (drop k es) then comes bytes hard whole f (drop k es) else []) (flag-walk k whole es);
+        removed = λ k. ap (removed_at k) (trims-walk 0 whole es) ∙ w.removed k ∙ ap (λ f. if loses_first bytes whole f (drop k es) then 2 else 0) (flag-walk k whole es);
+      }
 
   -- The edits may be made.
 
-  within-by : (n m : ℕ) (front : Bool) (e x : Event) (es : List Event) (log : List Edit) (b : Bool) → n ≤ m →
-      All (λ d. d.at ≤ m) log →
-      All (λ d. d.at ≤ m) ((if b then trim bytes hard whole n front e x es ∷ [] else []) ++ log)
-  within-by n m front e x es log true h a = All-cons (λ d. d.at ≤ m) (trim bytes hard whole n front e x es) log h a
-  within-by n m front e x es log false h a = a
-
-  within-first : (n m : ℕ) (front : Bool) (es : List Event) (log : List Edit) → n ≤ m → All (λ d. d.at ≤ m) log →
-      All (λ d. d.at ≤ m) (trim_first bytes hard whole n front es ++ log)
-  within-first n m front [] log h a = a
-  within-first n m front (e ∷ []) log h a = a
-  within-first n m front (e ∷ x ∷ es) log h a =
-      within-by n m front e x es log (opens_data e && loses front (goes_before whole es) bytes e.point x.point) h a
-
-  within : (n m : ℕ) (front : Bool) (es : List Event) → n + length es ≤ m →
-      All (λ d. d.at ≤ m) (trims bytes hard whole n front es)
-  within n m front [] h = All-nil (λ d. d.at ≤ m)
-  within n m front (e ∷ es) h =
-      within-first n m front (e ∷ es) (trims bytes hard whole (suc n) (closes_ending e) es) (omega arith) (within (suc n) m (closes_ending e) es (omega arith))
-
-  places-drop : (j : ℕ) (es : List Event) → HasPlaces bytes es → HasPlaces bytes (drop j es)
-  places-drop zero es h = h
-  places-drop (suc j) [] h = h
-  places-drop (suc j) (e ∷ es) h = places-drop j es h.1
-
-  first-linked-none : (front : Bool) (xs : List Event) → loses_first bytes whole front xs ≡ true → HasPlaces bytes xs →
-      linked_at xs 0 ≡ false
-  first-linked-none front [] h p = refl
-  first-linked-none front (e ∷ []) h p = cc
-  first-linked-none front (e ∷ x ∷ xs) h p =
-      opens-unlinked (is_enter e.kind) (is_data e.name) (has_link e.link) (and-first (opens_data e) (loses front (goes_before whole xs) bytes e.point x.point) h)
-
-  second-linked-none : (front : Bool) (xs : List Event) → loses_first bytes whole front xs ≡ true → HasPlaces bytes xs →
-      linked_at xs 1 ≡ false
-  second-linked-none front [] h p = refl
-  second-linked-none front (e ∷ []) h p = refl
-  second-linked-none front (e ∷ x ∷ xs) h p =
-      ap has_link (p.0 (and-first (opens_data e) (loses front (goes_before whole xs) bytes e.point x.point) h)).1
-
-  goes-unlinked : (j : ℕ) (es : List Event) → HasPlaces bytes es → is_removed (log_of es) j ≡ true →
-      linked_at es j ≡ false
-  goes-unlinked j es p h =
-      elim (cases_Bool (loses_first bytes whole (flag j whole es) (drop j es))) [
-        | inl b ↦ linked-drop 0 j es j (omega arith) ∙ first-linked-none (flag j whole es) (drop j es) b (places-drop j es p)
-        | inr b ↦ unlinked-before j es p h b
-      ]
-    where
-      unlinked-before : (j : ℕ) (es : List Event) → HasPlaces bytes es → is_removed (log_of es) j ≡ true →
-          loses_first bytes whole (flag j whole es) (drop j es) ≡ false → linked_at es j ≡ false
-      unlinked-before zero es p h b =
-          absurd (both_ways (is_removed (log_of es) zero) (stays-here zero es b (λ q e. absurd (omega (arith, e)))) h)
-      unlinked-before (suc j) es p h b =
-          elim (cases_Bool (loses_first bytes whole (flag j whole es) (drop j es))) [
-            | inl d ↦ linked-drop 1 j es (suc j) (omega arith) ∙ second-linked-none (flag j whole es) (drop j es) d (places-drop j es p)
-            | inr d ↦ absurd (both_ways (is_removed (log_of es) (suc j)) (stays-here (suc j) es b (λ q e. let same : q ≡ j = omega (arith, e) in ap (λ i. loses_first bytes whole (flag i whole es) (drop i es)) same ∙ d)) h)
-          ]
+  unlinked : (front : Bool) (xs : List Event) → HasPlaces bytes xs → loses_first bytes whole front xs ≡ true →
+      (linked_at xs 0 ≡ false) × (linked_at xs 1 ≡ false)
+  unlinked front [] p h = cc
+  unlinked front (e ∷ []) p h = cc
+  unlinked front (e ∷ x ∷ xs) p h =
+      let opens : opens_data e ≡ true = (and_parts (opens_data e) (loses front (goes_before whole xs) bytes e.point x.point) h).0 in
+      (opens-unlinked (is_enter e.kind) (is_data e.name) (has_link e.link) opens, ap has_link (p.0 opens).1)
 
   pub can-trim : (es : List Event) → HasPlaces bytes es → CanEdit (log_of es) es
   can-trim es p =
-      record { places = within 0 (length es) whole es (omega arith); unlinked = λ j h. goes-unlinked j es p h }
+      subst (λ (log : List Edit). CanEdit log es) (sym (trims-walk 0 whole es))
+      (can-walk flag_next (loses_first bytes whole) (comes bytes hard whole) (λ f. refl) whole es (λ k h. unlinked (flag_at k whole es) (drop k es) (places-drop bytes k es p) h))

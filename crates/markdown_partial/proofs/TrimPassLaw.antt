@@ -1,11 +1,10 @@
 -- the events of a tree, with its data trimmed
-use Rattle.std.proofs.Common.{◌≡◌, ◌≢◌, ℕ, zero, suc, ◌+◌, ◌&&◌, ◌||◌, Bool, true, false, List, [], ◌∷◌, ◌++◌, length, drop, reverse, inl, inr, Option, Some, None, if◌then◌else◌, cond, refl, sym, ap, subst, ◌∙◌, arith, append_assoc, append-nil}
+use Rattle.std.proofs.Common.{◌≡◌, ◌≢◌, ℕ, zero, suc, ◌+◌, ◌&&◌, ◌||◌, Bool, true, false, List, [], ◌∷◌, ◌++◌, length, drop, reverse, inl, inr, Option, Some, None, if◌then◌else◌, refl, sym, ap, subst, ◌∙◌, arith, append_assoc, append-nil}
 use Rattle.std.specs.Option.{option_map}
 use Rattle.std.proofs.lemmas.List.{drop_all, reverse-reverse}
 use Rattle.std.proofs.lemmas.Bool.{cases_Bool, or_parts}
 use Rattle.markdown_engine_content.specs.Codes.{Code, is_blank, stop_of, document_start}
-use Rattle.markdown_engine_events.specs.Edits.{is_removed, added_at, moved_number, moved, edited_from, edited}
-use Rattle.markdown_engine_content.specs.ListFunctions.{rest_of}
+use Rattle.markdown_engine_events.specs.Edits.{moved_number, edited_from, edited}
 use Rattle.markdown_engine.specs.Operations.{link_back}
 use Rattle.markdown_engine.specs.PastTree.{appended_from, last_link}
 use Rattle.markdown_engine_content.specs.Tree.{Forest, empty, leaf_then, group_then, leaf, ◌⊕◌, event, event_count, start_of}
@@ -16,13 +15,13 @@ use Rattle.markdown_event.specs.declared.event.Name.{Name}
 use Rattle.markdown_event.specs.declared.event.Name.TheVariants as N
 use Rattle.markdown_event.specs.declared.event.Point.{Point}
 use Rattle.markdown_engine_events.specs.declared.util.edit_map.Edit.{Edit}
-use Rattle.markdown_engine_events.proofs.EditLemmas.{start, moved-start}
+use Rattle.markdown_engine_events.proofs.EditLemmas.{start}
+use Rattle.markdown_engine_events.proofs.EditSteps.{AreOfTwo, Fresh, OneStays, one-stays, TwoStay, two-stay, TwoGo, two-go, drop-next, drop-part}
 use Rattle.markdown_engine.proofs.TreeEvents.{length-appended_from, appended_from-row}
 use Rattle.markdown_model.specs.Passes.{trimmed, trimmed_data, blank_name, begins_line_ending, is_nothing}
 use Rattle.markdown_partial.specs.MergedEvents.{is_data, opens_data}
 use Rattle.markdown_partial.specs.TrimmedData.{trimmed_events, between, loses_blank, starts_blank, ends_blank}
 use Rattle.markdown_partial.specs.TrimmedEvents.{flag, is_ending, closes_ending, goes_before, loses, loses_first, HasParts}
-use Rattle.markdown_partial.proofs.MergePassLaw.{drop-part}
 use Rattle.markdown_engine_content.specs.DocumentWalk.{IsPoint}
 use Rattle.markdown_engine_content.specs.Codes.{codes_of, is_code_before, place_of, point_at}
 use Rattle.std.proofs.Common.{filter}
@@ -33,10 +32,9 @@ use Rattle.markdown_engine_content.proofs.DocumentPlaces.{chain-split, point-spl
 use Rattle.markdown_partial.specs.TrimmedData.{IsStretch}
 use Rattle.markdown_partial.specs.TrimmedEvents.{IsPart, HasPlaces}
 use Rattle.markdown_partial.proofs.TrimWalks.{forward-as}
-use Rattle.markdown_partial.proofs.TrimEdits.{comes, log_of, added-here, stays-here, goes-first, goes-second}
+use Rattle.markdown_partial.proofs.TrimEdits.{comes, log_of, loses_at, comes_at, trims-of-two}
 use Rattle.markdown_partial.proofs.TrimmedLeaves.{three-leaves, kept_of, lead_of, tail_of, cut}
 use Rattle.markdown_model.proofs.GrammarSteps.{span-none}
-use Rattle.markdown_engine_content.proofs.PlaceRules.{drop-more}
 
 -- Trimming, step by step.
 
@@ -210,13 +208,6 @@ cut-first bytes whole front (x ∷ y ∷ xs) e rest h o = ap (λ b. b && loses f
     first-opens [] = false
     first-opens (z ∷ zs) = opens_data z
 
-comes-none : (bytes : List ℕ) (hard whole front : Bool) (xs : List Event) → loses_first bytes whole front xs ≡ false →
-    comes bytes hard whole front xs ≡ []
-comes-none bytes hard whole front [] h = refl
-comes-none bytes hard whole front (e ∷ []) h = refl
-comes-none bytes hard whole front (e ∷ x ∷ xs) h =
-    ap (λ b. if b then trimmed_events front (goes_before whole xs) (hard && goes_before false xs) bytes e.point x.point else []) h
-
 abbrev first_closes : List Event → Bool
 first_closes [] = false
 first_closes (e ∷ es) = closes_ending e
@@ -232,127 +223,55 @@ module _ (bytes : List ℕ) (hard whole : Bool) (es : List Event) where
   abbrev log : List Edit
   log = log_of bytes hard whole es
 
-  abbrev Fresh : ℕ → Type 0
-  Fresh n = (p : ℕ) → suc p ≡ n → loses_first bytes whole (flag p whole es) (drop p es) ≡ false
-
   -- no data that loses codes begins here
   abbrev Stays : ℕ → Type 0
-  Stays n = loses_first bytes whole (flag n whole es) (drop n es) ≡ false
+  Stays n = loses_at bytes hard whole es n ≡ false
+
+  abbrev two : AreOfTwo log (loses_at bytes hard whole es) (comes_at bytes hard whole es)
+  two = trims-of-two bytes hard whole es
+
+  abbrev Freshly : ℕ → Type 0
+  Freshly n = Fresh log (loses_at bytes hard whole es) (comes_at bytes hard whole es) two n
 
   other-stays : (n : ℕ) (e : Event) (rest : List Event) → drop n es ≡ e ∷ rest → opens_data e ≡ false → Stays n
   other-stays n e rest h o = cut-first bytes whole (flag n whole es) (drop n es) e rest h o
-
-  fresh-after : (n : ℕ) → Stays n → Fresh (n + 1)
-  fresh-after n s p k =
-      let same : p ≡ n = omega (arith, k) in ap (λ i. loses_first bytes whole (flag i whole es) (drop i es)) same ∙ s
-
-  -- past an event that stays
-  record Step (n : ℕ) (e : Event) (rest : List Event) : Type 0 where
-    events : edited_from log n (e ∷ rest) ≡ moved log e ∷ edited_from log (n + 1) rest
-    placed : start log (n + 1) ≡ start log n + 1
-    number : moved_number log n ≡ start log n
-    there : drop (n + 1) es ≡ rest
-    flagged : flag (n + 1) whole es ≡ closes_ending e
-    fresh : Fresh (n + 1)
-
-  drop-next : (n : ℕ) (e : Event) (rest : List Event) → drop n es ≡ e ∷ rest → drop (n + 1) es ≡ rest
-  drop-next n e rest h =
-      let one : n + 1 ≡ suc n = omega arith in ap (λ i. drop i es) one ∙ drop-more n es ∙ ap rest_of h
 
   flag-after : (n : ℕ) (e : Event) (rest : List Event) → drop n es ≡ e ∷ rest → flag (n + 1) whole es ≡ closes_ending e
   flag-after n e rest h =
       let one : n + 1 ≡ suc n = omega arith in ap (λ i. flag i whole es) one ∙ flag-next n whole es e rest h ∙ ap first_closes h
 
-  stay-step : (n : ℕ) (e : Event) (rest : List Event) → drop n es ≡ e ∷ rest → Stays n → Fresh n → Step n e rest
-  stay-step n e rest h begins f =
-      let one : suc n ≡ n + 1 = omega arith in
-      let stay : is_removed log n ≡ false = stays-here bytes hard whole n es begins f in
-      let added : added_at n log ≡ [] = added-here bytes hard whole n es ∙ comes-none bytes hard whole (flag n whole es) (drop n es) begins in
-      let size : length (added_at n log) ≡ 0 = ap length added in
-      let next : start log (suc n) ≡ start log n + length (added_at n log) + 1 = ap (λ b. start log n + length (added_at n log) + cond b 0 1) stay in
-      record {
-        events = ap (λ xs. xs ++ ((if is_removed log n then [] else moved log e ∷ []) ++ edited_from log (suc n) rest)) added
-            ∙ ap (λ b. (if b then [] else moved log e ∷ []) ++ edited_from log (suc n) rest) stay
-            ∙ ap (λ i. moved log e ∷ edited_from log i rest) one;
-        placed = ap (start log) (sym one) ∙ next ∙ omega (arith, size);
-        number = moved-start log n ∙ omega (arith, size);
-        there = drop-next n e rest h;
-        flagged = flag-after n e rest h;
-        fresh = fresh-after n begins;
-      }
+  flag-two : (n : ℕ) (e x : Event) (rest : List Event) → drop n es ≡ e ∷ x ∷ rest → flag (n + 2) whole es ≡ closes_ending x
+  flag-two n e x rest h =
+      let same : n + 1 + 1 ≡ n + 2 = omega arith in
+      ap (λ i. flag i whole es) (sym same) ∙ flag-after (n + 1) x rest (drop-next n es e (x ∷ rest) h)
 
-  step : (n : ℕ) (e : Event) (rest : List Event) → drop n es ≡ e ∷ rest → opens_data e ≡ false → Fresh n → Step n e rest
-  step n e rest h o f = stay-step n e rest h (other-stays n e rest h o) f
+  -- past an event that stays
+  abbrev Step : ℕ → Event → List Event → Type 0
+  Step n e rest = OneStays log (loses_at bytes hard whole es) (comes_at bytes hard whole es) two es n e rest
+
+  step : (n : ℕ) (e : Event) (rest : List Event) → drop n es ≡ e ∷ rest → opens_data e ≡ false → Freshly n → Step n e rest
+  step n e rest h o f =
+      one-stays log (loses_at bytes hard whole es) (comes_at bytes hard whole es) two es n e rest h (other-stays n e rest h o) f
 
   -- past two events that stay
-  record Pair (n : ℕ) (e x : Event) (rest : List Event) : Type 0 where
-    events : edited_from log n (e ∷ x ∷ rest) ≡ moved log e ∷ moved log x ∷ edited_from log (n + 2) rest
-    placed : start log (n + 2) ≡ start log n + 2
-    number : moved_number log n ≡ start log n
-    there : drop (n + 2) es ≡ rest
-    flagged : flag (n + 2) whole es ≡ closes_ending x
-    fresh : Fresh (n + 2)
+  abbrev Pair : ℕ → Event → Event → List Event → Type 0
+  Pair n e x rest = TwoStay log (loses_at bytes hard whole es) (comes_at bytes hard whole es) two es n e x rest
 
   pair : (n : ℕ) (e x : Event) (rest : List Event) → drop n es ≡ e ∷ x ∷ rest → Stays n → opens_data x ≡ false →
-      Fresh n → Pair n e x rest
+      Freshly n → Pair n e x rest
   pair n e x rest h o k f =
-      let a : Step n e (x ∷ rest) = stay-step n e (x ∷ rest) h o f in
-      let b : Step (n + 1) x rest = step (n + 1) x rest a.there k a.fresh in
-      let same : n + 1 + 1 ≡ n + 2 = omega arith in
-      record {
-        events = a.events ∙ ap (λ xs. moved log e ∷ xs) (b.events ∙ ap (λ i. moved log x ∷ edited_from log i rest) same);
-        placed = ap (start log) (sym same) ∙ b.placed ∙ omega (arith, a.placed);
-        number = a.number;
-        there = ap (λ i. drop i es) (sym same) ∙ b.there;
-        flagged = ap (λ i. flag i whole es) (sym same) ∙ b.flagged;
-        fresh = subst (λ (i : ℕ). Fresh i) same b.fresh;
-      }
+      two-stay log (loses_at bytes hard whole es) (comes_at bytes hard whole es) two es n e x rest h o (other-stays (n + 1) x rest (drop-next n es e (x ∷ rest) h) k) f
 
   -- past data that loses codes
-  record Cut (n : ℕ) (front : Bool) (e x : Event) (rest : List Event) : Type 0 where
-    events : edited_from log n (e ∷ x ∷ rest) ≡ trimmed_events front (goes_before whole rest) (hard && goes_before false rest) bytes e.point x.point ++ edited_from log (n + 2) rest
-    placed : start log (n + 2) ≡ start log n + length (trimmed_events front (goes_before whole rest) (hard && goes_before false rest) bytes e.point x.point)
-    there : drop (n + 2) es ≡ rest
-    flagged : flag (n + 2) whole es ≡ closes_ending x
-    fresh : Fresh (n + 2)
+  abbrev Cut : ℕ → Event → Event → List Event → Type 0
+  Cut n e x rest = TwoGo log (loses_at bytes hard whole es) (comes_at bytes hard whole es) two es n e x rest
 
   data-cut : (n : ℕ) (front : Bool) (e x : Event) (rest : List Event) → drop n es ≡ e ∷ x ∷ rest → opens_data e ≡ true →
       opens_data x ≡ false → flag n whole es ≡ front →
-      loses front (goes_before whole rest) bytes e.point x.point ≡ true → Cut n front e x rest
+      loses front (goes_before whole rest) bytes e.point x.point ≡ true → Cut n e x rest
   data-cut n front e x rest h o k f l =
-      let T : List Event = trimmed_events front (goes_before whole rest) (hard && goes_before false rest) bytes e.point x.point in
-      let same : suc (suc n) ≡ n + 2 = omega arith in
-      let again : n + 1 + 1 ≡ n + 2 = omega arith in
-      let one : n + 1 ≡ suc n = omega arith in
-      let both : opens_data e && loses front (goes_before whole rest) bytes e.point x.point ≡ true = ap (λ b. b && loses front (goes_before whole rest) bytes e.point x.point) o ∙ l in
-      let begins : loses_first bytes whole (flag n whole es) (drop n es) ≡ true = ap (λ b. loses_first bytes whole b (drop n es)) f ∙ ap (loses_first bytes whole front) h ∙ both in
-      let next : drop (n + 1) es ≡ x ∷ rest = drop-next n e (x ∷ rest) h in
-      let behind : drop (suc n) es ≡ x ∷ rest = ap (λ i. drop i es) (sym one) ∙ next in
-      let gone : is_removed log n ≡ true = goes-first bytes hard whole n es begins in
-      let gone2 : is_removed log (suc n) ≡ true = goes-second bytes hard whole n es begins in
-      let added : added_at n log ≡ T =
-      added-here bytes hard whole n es
-      ∙ ap (λ b. comes bytes hard whole b (drop n es)) f
-      ∙ ap (comes bytes hard whole front) h
-      ∙ ap (λ b. if b then T else []) both in
-      let after : Stays (suc n) = cut-first bytes whole (flag (suc n) whole es) (drop (suc n) es) x rest behind k in
-      let added2 : added_at (suc n) log ≡ [] = added-here bytes hard whole (suc n) es ∙ comes-none bytes hard whole (flag (suc n) whole es) (drop (suc n) es) after in
-      let size : length (added_at n log) ≡ length T = ap length added in
-      let size2 : length (added_at (suc n) log) ≡ 0 = ap length added2 in
-      let p1 : start log (suc n) ≡ start log n + length (added_at n log) + 0 = ap (λ b. start log n + length (added_at n log) + cond b 0 1) gone in
-      let p2 : start log (suc (suc n)) ≡ start log (suc n) + length (added_at (suc n) log) + 0 = ap (λ b. start log (suc n) + length (added_at (suc n) log) + cond b 0 1) gone2 in
-      let end : List Event = edited_from log (suc (suc n)) rest in
-      record {
-        events = ap (λ xs. xs ++ ((if is_removed log n then [] else moved log e ∷ []) ++ edited_from log (suc n) (x ∷ rest))) added
-            ∙ ap (λ b. T ++ ((if b then [] else moved log e ∷ []) ++ edited_from log (suc n) (x ∷ rest))) gone
-            ∙ ap (λ xs. T ++ (xs ++ ((if is_removed log (suc n) then [] else moved log x ∷ []) ++ end))) added2
-            ∙ ap (λ b. T ++ ((if b then [] else moved log x ∷ []) ++ end)) gone2
-            ∙ ap (λ i. T ++ edited_from log i rest) same;
-        placed = ap (start log) (sym same) ∙ p2 ∙ omega (arith, p1, size, size2);
-        there = ap (λ i. drop i es) (sym again) ∙ drop-next (n + 1) x rest next;
-        flagged = ap (λ i. flag i whole es) (sym again) ∙ flag-after (n + 1) x rest next;
-        fresh = subst (λ (i : ℕ). Fresh i) again (fresh-after (n + 1) (other-stays (n + 1) x rest next k));
-      }
+      let begins : loses_at bytes hard whole es n ≡ true = ap (λ b. loses_first bytes whole b (drop n es)) f ∙ ap (loses_first bytes whole front) h ∙ ap (λ b. b && loses front (goes_before whole rest) bytes e.point x.point) o ∙ l in
+      two-go log (loses_at bytes hard whole es) (comes_at bytes hard whole es) two es n e x rest h begins (other-stays (n + 1) x rest (drop-next n es e (x ∷ rest) h) k)
 
   -- Rows.
 
@@ -361,7 +280,7 @@ module _ (bytes : List ℕ) (hard whole : Bool) (es : List Event) where
     there : drop n es ≡ appended_from n previous row ++ tail
     flagged : flag n whole es ≡ front
     placed : start log n ≡ m
-    fresh : Fresh n
+    fresh : Freshly n
     ends : w ≡ goes_before whole tail
     plain : goes_before false tail ≡ false
     has_parts : HasParts bytes row
@@ -370,7 +289,7 @@ module _ (bytes : List ℕ) (hard whole : Bool) (es : List Event) where
   record Trims (n m : ℕ) (front w : Bool) (previous : Option ℕ) (row : Forest) (tail : List Event) : Type 0 where
     events : edited_from log n (appended_from n previous row ++ tail) ≡ appended_from m (option_map (moved_number log) previous) (trimmed hard front w row) ++ edited_from log (n + event_count row) tail
     placed : start log (n + event_count row) ≡ m + event_count (trimmed hard front w row)
-    fresh : Fresh (n + event_count row)
+    fresh : Freshly (n + event_count row)
 
   abbrev Law : Forest → Type 0
   Law row = (n m : ℕ) (front w : Bool) (previous : Option ℕ) (tail : List Event) → Here n m front w previous row tail → Trims n m front w previous row tail
@@ -382,7 +301,7 @@ module _ (bytes : List ℕ) (hard whole : Bool) (es : List Event) where
       record {
         events = ap (λ i. edited_from log i tail) same;
         placed = ap (start log) (sym same) ∙ h.placed ∙ omega arith;
-        fresh = subst (λ (i : ℕ). Fresh i) same h.fresh;
+        fresh = subst (λ (i : ℕ). Freshly i) same h.fresh;
       }
 
   leaf-other : (name : Name) (cs : List Code) (rest : Forest) → is_data name ≡ false → Law rest →
@@ -393,7 +312,7 @@ module _ (bytes : List ℕ) (hard whole : Bool) (es : List Event) where
       let q : Option ℕ = option_map (moved_number log) previous in
       let p : Pair n e x (appended_from (n + 2) previous rest ++ tail) = pair n e x (appended_from (n + 2) previous rest ++ tail) h.there (other-stays n e (x ∷ appended_from (n + 2) previous rest ++ tail) h.there (and_left (is_data name) true other)) refl h.fresh in
       let r : Trims (n + 2) (m + 2) (is_ending name) w previous rest tail =
-      law (n + 2) (m + 2) (is_ending name) w previous tail (record { there = p.there; flagged = p.flagged; placed = omega (arith, p.placed, h.placed); fresh = p.fresh; ends = h.ends; plain = h.plain; has_parts = h.has_parts.1 }) in
+      law (n + 2) (m + 2) (is_ending name) w previous tail (record { there = p.there; flagged = flag-two n e x (appended_from (n + 2) previous rest ++ tail) h.there; placed = omega (arith, p.placed, h.placed); fresh = p.fresh; ends = h.ends; plain = h.plain; has_parts = h.has_parts.1 }) in
       let same : n + 2 + event_count rest ≡ n + (2 + event_count rest) = omega arith in
       let is = trimmed-other hard front w name cs rest other in
       record {
@@ -401,7 +320,7 @@ module _ (bytes : List ℕ) (hard whole : Bool) (es : List Event) where
             ∙ ap (λ xs. e ∷ x ∷ xs) (r.events ∙ ap (λ i. appended_from (m + 2) q (trimmed hard (is_ending name) w rest) ++ edited_from log i tail) same)
             ∙ ap (λ t. appended_from m q t ++ edited_from log (n + (2 + event_count rest)) tail) (sym is);
         placed = ap (start log) (sym same) ∙ r.placed ∙ omega arith ∙ ap (λ t. m + event_count t) (sym is);
-        fresh = subst (λ (i : ℕ). Fresh i) same r.fresh;
+        fresh = subst (λ (i : ℕ). Freshly i) same r.fresh;
       }
 
   leaf-linked : (name : Name) (c : Content) (cs : List Code) (rest : Forest) → Law rest →
@@ -413,7 +332,7 @@ module _ (bytes : List ℕ) (hard whole : Bool) (es : List Event) where
       let e2 : Event = record { kind = Kind.Enter; name = name; point = start_of cs; link = Some (link_back q c) } in
       let p : Pair n e x (appended_from (n + 2) (Some n) rest ++ tail) = pair n e x (appended_from (n + 2) (Some n) rest ++ tail) h.there (other-stays n e (x ∷ appended_from (n + 2) (Some n) rest ++ tail) h.there (and-false (is_data name))) refl h.fresh in
       let r : Trims (n + 2) (m + 2) (is_ending name) w (Some n) rest tail =
-      law (n + 2) (m + 2) (is_ending name) w (Some n) tail (record { there = p.there; flagged = p.flagged; placed = omega (arith, p.placed, h.placed); fresh = p.fresh; ends = h.ends; plain = h.plain; has_parts = h.has_parts.1 }) in
+      law (n + 2) (m + 2) (is_ending name) w (Some n) tail (record { there = p.there; flagged = flag-two n e x (appended_from (n + 2) (Some n) rest ++ tail) h.there; placed = omega (arith, p.placed, h.placed); fresh = p.fresh; ends = h.ends; plain = h.plain; has_parts = h.has_parts.1 }) in
       let same : n + 2 + event_count rest ≡ n + (2 + event_count rest) = omega arith in
       let is = trimmed-linked hard front w name c cs rest in
       record {
@@ -421,7 +340,7 @@ module _ (bytes : List ℕ) (hard whole : Bool) (es : List Event) where
             ∙ ap (λ xs. e2 ∷ x ∷ xs) (r.events ∙ ap (λ i. appended_from (m + 2) (Some i) (trimmed hard (is_ending name) w rest) ++ edited_from log (n + 2 + event_count rest) tail) (p.number ∙ h.placed) ∙ ap (λ i. appended_from (m + 2) (Some m) (trimmed hard (is_ending name) w rest) ++ edited_from log i tail) same)
             ∙ ap (λ t. appended_from m q t ++ edited_from log (n + (2 + event_count rest)) tail) (sym is);
         placed = ap (start log) (sym same) ∙ r.placed ∙ omega arith ∙ ap (λ t. m + event_count t) (sym is);
-        fresh = subst (λ (i : ℕ). Fresh i) same r.fresh;
+        fresh = subst (λ (i : ℕ). Freshly i) same r.fresh;
       }
 
   -- whether data loses codes, by the tree
@@ -449,7 +368,7 @@ module _ (bytes : List ℕ) (hard whole : Bool) (es : List Event) where
       ap (λ b. loses_first bytes whole b (drop n es)) h.flagged ∙ ap (loses_first bytes whole front) h.there ∙ lost-is n m front w previous tail cs rest h ∙ l in
       let p : Pair n e x more = pair n e x more h.there stays refl h.fresh in
       let r : Trims (n + 2) (m + 2) false w previous rest tail =
-      law (n + 2) (m + 2) false w previous tail (record { there = p.there; flagged = p.flagged; placed = omega (arith, p.placed, h.placed); fresh = p.fresh; ends = h.ends; plain = h.plain; has_parts = h.has_parts.1 }) in
+      law (n + 2) (m + 2) false w previous tail (record { there = p.there; flagged = flag-two n e x more h.there; placed = omega (arith, p.placed, h.placed); fresh = p.fresh; ends = h.ends; plain = h.plain; has_parts = h.has_parts.1 }) in
       let same : n + 2 + event_count rest ≡ n + (2 + event_count rest) = omega arith in
       let is : trimmed hard front w (leaf_then N.Data None cs rest) ≡ leaf_then N.Data None cs (trimmed hard false w rest) =
       trimmed-data hard front w cs rest
@@ -460,7 +379,7 @@ module _ (bytes : List ℕ) (hard whole : Bool) (es : List Event) where
             ∙ ap (λ xs. e ∷ x ∷ xs) (r.events ∙ ap (λ i. appended_from (m + 2) q (trimmed hard false w rest) ++ edited_from log i tail) same)
             ∙ ap (λ t. appended_from m q t ++ edited_from log (n + (2 + event_count rest)) tail) (sym is);
         placed = ap (start log) (sym same) ∙ r.placed ∙ omega arith ∙ ap (λ t. m + event_count t) (sym is);
-        fresh = subst (λ (i : ℕ). Fresh i) same r.fresh;
+        fresh = subst (λ (i : ℕ). Freshly i) same r.fresh;
       }
 
   data-trimmed : (cs : List Code) (rest : Forest) → Law rest →
@@ -477,16 +396,18 @@ module _ (bytes : List ℕ) (hard whole : Bool) (es : List Event) where
       let may : Bool = hard && begins_line_ending rest in
       let D : Forest = trimmed_data front back may cs in
       let R : Forest = trimmed hard false w rest in
-      let T : List Event = trimmed_events front (goes_before whole more) (hard && goes_before false more) bytes e.point x.point in
-      let k : Cut n front e x more = data-cut n front e x more h.there refl refl h.flagged (lost-is n m front w previous tail cs rest h ∙ l) in
+      let T : List Event = comes_at bytes hard whole es n in
+      let k : Cut n e x more = data-cut n front e x more h.there refl refl h.flagged (lost-is n m front w previous tail cs rest h ∙ l) in
       let T-is : T ≡ appended_from 0 None D =
-      events-are front (goes_before whole more) (hard && goes_before false more) bytes e.point x.point
+      ap (λ b. comes bytes hard whole b (drop n es)) h.flagged
+      ∙ ap (comes bytes hard whole front) h.there
+      ∙ events-are front (goes_before whole more) (hard && goes_before false more) bytes e.point x.point
       ∙ ap (λ b. appended_from 0 None (trimmed_data front b (hard && goes_before false more) (between bytes e.point x.point))) (before-row bytes whole w (n + 2) previous rest tail h.has_parts.1 h.ends)
       ∙ ap (λ b. appended_from 0 None (trimmed_data front back (hard && b) (between bytes e.point x.point))) (ending-row bytes (n + 2) previous rest tail h.has_parts.1 h.plain)
       ∙ ap (λ ds. appended_from 0 None (trimmed_data front back may ds)) part.codes in
       let size : length T ≡ event_count D = ap length T-is ∙ length-appended_from 0 None D in
       let r : Trims (n + 2) (m + event_count D) false w previous rest tail =
-      law (n + 2) (m + event_count D) false w previous tail (record { there = k.there; flagged = k.flagged; placed = omega (arith, k.placed, h.placed, size); fresh = k.fresh; ends = h.ends; plain = h.plain; has_parts = h.has_parts.1 }) in
+      law (n + 2) (m + event_count D) false w previous tail (record { there = k.there; flagged = flag-two n e x more h.there; placed = omega (arith, k.placed, h.placed, size); fresh = k.fresh; ends = h.ends; plain = h.plain; has_parts = h.has_parts.1 }) in
       let same : n + 2 + event_count rest ≡ n + (2 + event_count rest) = omega arith in
       let is = trimmed-data hard front w cs rest in
       let Z : List Event = edited_from log (n + (2 + event_count rest)) tail in
@@ -500,7 +421,7 @@ module _ (bytes : List ℕ) (hard whole : Bool) (es : List Event) where
             ∙ ap (λ xs. xs ++ Z) (sym (trimmed-row m q front back may cs R))
             ∙ ap (λ t. appended_from m q t ++ Z) (sym is);
         placed = ap (start log) (sym same) ∙ r.placed ∙ omega (arith, count) ∙ ap (λ t. m + event_count t) (sym is);
-        fresh = subst (λ (i : ℕ). Fresh i) same r.fresh;
+        fresh = subst (λ (i : ℕ). Freshly i) same r.fresh;
       }
 
   leaf-data : (cs : List Code) (rest : Forest) → Law rest → Law (leaf_then N.Data None cs rest)
@@ -524,9 +445,10 @@ module _ (bytes : List ℕ) (hard whole : Bool) (es : List Event) where
       let inner : List Event = appended_from (n + 1) None inside in
       let more : List Event = appended_from (n + 2 + ci) previous rest ++ tail in
       let apart : (inner ++ x ∷ appended_from (n + 2 + ci) previous rest) ++ tail ≡ inner ++ x ∷ more = append_assoc inner (x ∷ appended_from (n + 2 + ci) previous rest) tail in
-      let s1 : Step n e (inner ++ x ∷ more) = step n e (inner ++ x ∷ more) (h.there ∙ ap (λ xs. e ∷ xs) apart) (and_left (is_data name) true h.has_parts.0.0) h.fresh in
+      let there1 : drop n es ≡ e ∷ (inner ++ x ∷ more) = h.there ∙ ap (λ xs. e ∷ xs) apart in
+      let s1 : Step n e (inner ++ x ∷ more) = step n e (inner ++ x ∷ more) there1 (and_left (is_data name) true h.has_parts.0.0) h.fresh in
       let r1 : Trims (n + 1) (m + 1) false false None inside (x ∷ more) =
-      law_inside (n + 1) (m + 1) false false None (x ∷ more) (record { there = s1.there; flagged = s1.flagged; placed = omega (arith, s1.placed, h.placed); fresh = s1.fresh; ends = refl; plain = refl; has_parts = h.has_parts.1.0 }) in
+      law_inside (n + 1) (m + 1) false false None (x ∷ more) (record { there = s1.there; flagged = flag-after n e (inner ++ x ∷ more) there1; placed = omega (arith, s1.placed, h.placed); fresh = s1.fresh; ends = refl; plain = refl; has_parts = h.has_parts.1.0 }) in
       let k : ℕ = n + 1 + ci in
       let there2 : drop k es ≡ x ∷ more = drop-part (n + 1) ci es inner (x ∷ more) s1.there (length-appended_from (n + 1) None inside) in
       let s2 : Step k x more = step k x more there2 refl r1.fresh in
@@ -535,9 +457,9 @@ module _ (bytes : List ℕ) (hard whole : Bool) (es : List Event) where
       let r2 : Trims (n + 2 + ci) (m + 2 + mi) false w previous rest tail =
       law_rest (n + 2 + ci) (m + 2 + mi) false w previous tail (record {
         there = ap (λ i. drop i es) (sym next) ∙ s2.there;
-        flagged = ap (λ i. flag i whole es) (sym next) ∙ s2.flagged ∙ h.has_parts.0.1;
+        flagged = ap (λ i. flag i whole es) (sym next) ∙ flag-after k x more there2 ∙ h.has_parts.0.1;
         placed = ap (start log) (sym next) ∙ s2.placed ∙ ap (λ i. i + 1) r1.placed ∙ next2;
-        fresh = subst (λ (i : ℕ). Fresh i) next s2.fresh;
+        fresh = subst (λ (i : ℕ). Freshly i) next s2.fresh;
         ends = h.ends;
         plain = h.plain;
         has_parts = h.has_parts.1.1;
@@ -555,7 +477,7 @@ module _ (bytes : List ℕ) (hard whole : Bool) (es : List Event) where
             ∙ ap (λ xs. e ∷ xs) (r1.events ∙ ap (λ xs. B ++ xs) from_x ∙ sym (append_assoc B (x ∷ A) Z))
             ∙ ap (λ t. appended_from m q t ++ Z) (sym is);
         placed = ap (start log) (sym same) ∙ r2.placed ∙ omega arith ∙ ap (λ t. m + event_count t) (sym is);
-        fresh = subst (λ (i : ℕ). Fresh i) same r2.fresh;
+        fresh = subst (λ (i : ℕ). Freshly i) same r2.fresh;
       }
 
   leaf-plain : (name : Name) (cs : List Code) (rest : Forest) (b : Bool) → is_data name ≡ b → Law rest →
@@ -582,7 +504,7 @@ trimmed-tree bytes hard whole t h es e =
     let left : drop end es ≡ [] = drop_all end es (omega (arith, size)) in
     ap (edited_from (log_of bytes hard whole es) 0) all
     ∙ r.events
-    ∙ ap (λ xs. appended_from 0 None (trimmed hard whole whole t) ++ xs) (added-here bytes hard whole end es ∙ ap (comes bytes hard whole (flag end whole es)) left)
+    ∙ ap (λ xs. appended_from 0 None (trimmed hard whole whole t) ++ xs) ((trims-of-two bytes hard whole es).added end ∙ ap (λ xs. if loses_first bytes whole (flag end whole es) xs then comes bytes hard whole (flag end whole es) xs else []) left)
     ∙ append-nil (appended_from 0 None (trimmed hard whole whole t))
 
 -- The data of such a tree has its places.
