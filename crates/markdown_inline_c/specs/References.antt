@@ -1,5 +1,5 @@
 -- What a character reference stands for (CommonMark 0.31, section 2.5).
-use Rattle.std.specs.Prelude.{ℕ, ◌==◌, true, false, if◌then◌else◌, List, [], ◌∷◌, length, Option, None, Some}
+use Rattle.std.specs.Prelude.{ℕ, ◌==◌, if◌then◌else◌, List, [], ◌∷◌, length, Option, None, Some}
 use Rattle.std.specs.Str.{byte}
 use Rattle.markdown_html_text.specs.Resolved.{reference_ahead}
 

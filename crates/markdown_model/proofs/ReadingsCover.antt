@@ -14,7 +14,7 @@ use Rattle.markdown_model.specs.Whitespace.{space_or_tab_eol, spaces_across, spa
 use Rattle.markdown_model.specs.LeafConstructs.{scheme, domain_label, uri, email_address, closing_run, closing, joined_codes}
 use Rattle.markdown_model.specs.HtmlText.{html_codes, spaces, optional_spaces, quoted_value, unquoted_value, attribute_name, attribute_value, attribute, tag_name, open_tag, closing_tag, comment, instruction, declaration, cdata}
 use Rattle.markdown_model.specs.Resource.{string_group, between_markers, StringNames, label, title_between, title, title_names, raw_from, literal_destination, raw_destination, destination, DestinationNames, resource_names, spaced_title, destination_and_title, resource}
-use Rattle.markdown_model.proofs.LeafCodes.{codes-leaf, span-append, until-append}
+use Rattle.markdown_model.proofs.LeafCodes.{codes-leaf, span-append}
 use Rattle.markdown_engine_content.proofs.TreeCodes.{leaf_codes-row}
 
 -- `codes_of` says which codes a value covers, and `read` what was read before the reading.

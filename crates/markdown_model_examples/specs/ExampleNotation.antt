@@ -1,5 +1,5 @@
 -- The words of worked examples: settings, contents and events.
-use Rattle.std.specs.Prelude.{ℕ, Bool, true, false, List, [], ◌∷◌, Option, Some, None}
+use Rattle.std.specs.Prelude.{ℕ, Bool, false, List, [], ◌∷◌, Option, Some, None}
 use Rattle.markdown_engine_content.specs.DefaultOptions.{default_options}
 use Rattle.markdown_engine_content.specs.declared.configuration.ParseOptions.{ParseOptions}
 use Rattle.markdown_event.specs.declared.event.Name.{Name}
