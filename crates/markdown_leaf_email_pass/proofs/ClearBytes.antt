@@ -1,7 +1,7 @@
 -- Bytes among which no `@` stands, and what they tell of a stretch.
 use Rattle.std.proofs.Common.{◌≡◌, ℕ, ◌+◌, ◌-◌, ◌<◌, ◌≤◌, nat_lt, true, false, List, length, get_or, refl, sym, ap, ◌∙◌, arith, inl, inr}
 use Rattle.std.specs.List.{slice_range}
-use Rattle.std.proofs.lemmas.Bool.{cases_lt, eq-eqb}
+use Rattle.std.proofs.lemmas.Bool.{cases_lt, eq-eqb, eqb-true}
 use Rattle.std.proofs.lemmas.Bool.Decides.{nat_tests}
 use Rattle.memchr.specs.Find.{NoneBefore, Nowhere, Passes, is_byte}
 use Rattle.markdown_event.specs.declared.event.Point.{Point}
@@ -26,6 +26,13 @@ found-first bytes a b k order within first =
     let len : length (slice_range bytes a b) ≡ b - a = slice-length bytes a b order within in
     let high : k < length (slice_range bytes a b) = first.high in
     found-none bytes a b k order within (omega (arith, high, len)) first.before
+
+-- what is found there
+pub found-sign : (bytes : List ℕ) (a b k : ℕ) → a ≤ b → b ≤ length bytes → k < length (slice_range bytes a b) → IsSign bytes a b k →
+    get_or bytes (a + k) 0 ≡ 64
+found-sign bytes a b k order within high sign =
+    let len : length (slice_range bytes a b) ≡ b - a = slice-length bytes a b order within in
+    sym (in-slice bytes a b k within (omega (arith, len, high))) ∙ eqb-true _ 64 sign
 
 -- where none is found in all of it
 pub found-nowhere : (bytes : List ℕ) (a b : ℕ) → a ≤ b → b ≤ length bytes → Nowhere (IsSign bytes a b) 0 (length (slice_range bytes a b)) → NoSign bytes a b
