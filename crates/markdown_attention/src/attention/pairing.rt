@@ -216,22 +216,6 @@ fn cut(head: Newest, older: &[Newest], opener: usize) -> Newest
     at
 }
 
-// Cuts the three lists of a container behind the opener.
-fn cut_lists(heads: &mut Vec<Newest>, older: &[Newest], first: usize, opener: usize)
-    requires opener { opener < length older.now }
-    requires lists { first + 3 ≤ length heads.old.items }
-    requires down { (r : ℕ) → r < length older.now → slice_index older.now r ≤ r }
-    requires heads { (i : ℕ) → i < length heads.old.items → slice_index heads.old.items i ≤ length older.now }
-    ensures same { length heads.new.items ≡ length heads.old.items }
-    ensures cut { (i : ℕ) → first ≤ i → i < first + 3 → IsCut older.now opener (slice_index heads.old.items i) (slice_index heads.new.items i) }
-    ensures others { (i : ℕ) → (i < first) ⊎ (first + 3 ≤ i) → slice_index heads.new.items i ≡ slice_index heads.old.items i }
-{
-    for i in first..first + 3 {
-        let head = cut(heads[i], older, opener);
-        heads[i] = head;
-    }
-}
-
 // Lowers six marks that reach the opener.
 fn lower_marks(marks: &mut Vec<usize>, first: usize, opener: usize)
     requires { first + 6 ≤ length marks.old.items }
@@ -247,7 +231,7 @@ fn lower_marks(marks: &mut Vec<usize>, first: usize, opener: usize)
     }
 }
 
-// Cuts the three lists of a container, and takes a used-up opener out of its own.
+// Cuts the three lists of a container behind the opener, and takes a used-up opener out of its own.
 fn cut_for_pair(
     heads: &mut Vec<Newest>,
     older: &[Newest],
@@ -267,7 +251,10 @@ fn cut_for_pair(
     ensures used { IsTrue used → slice_index heads.new.items list ≡ slice_index older.now opener }
     ensures others { (i : ℕ) → (i < first) ⊎ (first + 3 ≤ i) → (i ≡ list → ⊥) → slice_index heads.new.items i ≡ slice_index heads.old.items i }
 {
-    cut_lists(heads, older, first, opener);
+    for i in first..first + 3 {
+        let head = cut(heads[i], older, opener);
+        heads[i] = head;
+    }
     if used {
         heads[list] = older[opener];
     }

@@ -1,6 +1,6 @@
 use Rattle.std.proofs.Common.{◌≡◌, ℕ, ◌<◌, ◌≤◌, ◌⊎◌, length, get_or}
 use Rattle.markdown_attention.specs.OpenRuns.{IsCut}
-use Rattle.markdown_attention.proofs.attention.pairing.cut_lists.Given as goal
+use Rattle.markdown_attention.proofs.attention.pairing.cut_for_pair.Given as goal
 
 abbrev pub invariant-loop-i : goal.invariant-loop-i
 invariant-loop-i l = record {
