@@ -1,10 +1,10 @@
 -- The end of a label with a plain reference is read as the definitions read it.
-use Rattle.std.proofs.Common.{◌≡◌, ◌≤◌, ℕ, suc, ◌-◌, ◌==◌, ◌&&◌, ◌||◌, not, Bool, true, false, List, [], ◌∷◌, ◌++◌, Option, None, Some, length, slice_range, take, drop, nat_le, refl, sym, ap, subst, ◌∙◌, arith, append_assoc}
+use Rattle.std.proofs.Common.{inl, inr, ◌≡◌, ◌≤◌, ℕ, suc, ◌-◌, ◌==◌, ◌&&◌, ◌||◌, not, Bool, true, false, if◌then◌else◌, List, [], ◌∷◌, ◌++◌, Option, None, Some, length, slice_range, take, drop, nat_le, refl, sym, ap, subst, ◌∙◌, arith, append_assoc}
 use Rattle.std.specs.Prelude.{max, nat_lt, IsUtf8, ◌<◌, is_some, IsTrue}
 use Rattle.std.specs.List.{list_any}
 use Rattle.std.specs.Str.{IsCharBoundary}
 use Rattle.std.proofs.Math.Nat.{le-max_right}
-use Rattle.std.proofs.lemmas.Bool.{not-true, or_parts}
+use Rattle.std.proofs.lemmas.Bool.{both_ways, not-true, or_cases, or_parts}
 use Rattle.std.proofs.lemmas.Bool.Decides.{nat_tests}
 use Rattle.std.proofs.lemmas.Grind.{common_steps}
 use Rattle.std.proofs.lemmas.Option.{same_Some}
@@ -41,11 +41,11 @@ use Rattle.markdown_plan.proofs.CharactersAlongContent.{text-moved}
 use Rattle.markdown_util.specs.Identifier.{identifier_of}
 use Rattle.markdown_run_text.specs.PlacesPassed.{is_some_value}
 use Rattle.markdown_run_text.specs.PlainReference.{ends_here, front_stops, is_named, label_stops, name_at, names_at, past_text, reference_here, reference_read, refers_by, text_at}
-use Rattle.markdown_run_text.specs.PlainResource.{has_markers, may_make}
+use Rattle.markdown_run_text.specs.PlainResource.{between_read, has_markers, may_make, plain_here}
 use Rattle.markdown_run_text.proofs.AttentionReads.{at-moved}
 use Rattle.markdown_run_text.proofs.ImageStarts.{first-at, some-value}
 use Rattle.markdown_run_text.proofs.LabelEndReads.{AnswersBy, Follows, asks-nothing, ends-where}
-use Rattle.markdown_run_text.proofs.PlainResourceReads.{EndsText, IsFree, IsStretch, between-covers, between-reads, between_tree, code-here, ends-text, free-here, no-blank-line, one-line, text-is, value-here, value-is}
+use Rattle.markdown_run_text.proofs.PlainResourceReads.{EndsText, IsFree, IsStretch, between-covers, between-reads, between_tree, closes-there, code-here, ends-text, free-here, no-blank-line, one-line, text-is, value-here, value-is}
 use Rattle.markdown_run_text.proofs.StretchParts.{text-passed}
 
 -- The label of a full reference.
@@ -305,3 +305,46 @@ markers-there T U h e k =
     let first : is_some (code_at p) ≡ true = some-value 91 (code_at p) front in
     let last : is_some (code_at (past_text (moved p))) ≡ true = some-value 93 (code_at (past_text (moved p))) back in
     ap (has_markers label_stops) there ∙ (λ i. first i && last i)
+
+-- Which of the two stands where one does, by the code behind the `]`.
+
+-- a `(` there begins no reference
+no-reference : (T : Tokenizer) → is_some_value 40 (code_at (moved T.cursor)) ≡ true → reference_here T ≡ true → ⊥
+no-reference T h k =
+    let o : Option ℕ = code_at (moved T.cursor) in
+    both_ways (is_some_value 40 o) (refers-own T o (other o h) (and-right (ends_here T) _ k)).0 h
+  where
+    other : (o : Option ℕ) → is_some_value 40 o ≡ true → is_some_value 91 o ≡ false
+    other None h = cc
+    other (Some v) h = same-value v 40 h (λ w. w == 91)
+
+-- a code is there
+pub bracket-here : (T : Tokenizer) → plain_here T || reference_here T ≡ true → is_some (current_of T) ≡ true
+bracket-here T h = some-value 93 (current_of T) (elim (or_cases (plain_here T) (reference_here T) h) [
+  | inl e ↦ and-left _ _ (and-right (may_make T.tokenize_state.label_starts) _ (and-right (is_on T) _ e))
+  | inr e ↦ and-right (may_make T.tokenize_state.label_starts) _ (and-right (is_on T) _ (and-left (ends_here T) _ e))
+])
+
+module _ (T U : Tokenizer) (here : plain_here T || reference_here T ≡ true) (read : U ≡ done end_ops (ended T)) where
+  next-is : is_some_value 40 (current_of U) ≡ is_some_value 40 (code_at (moved T.cursor))
+  unfolding applied scratched
+  next-is = ap (λ (x : Tokenizer). is_some_value 40 (code_at x.cursor)) read
+
+  pub plain-there : is_some_value 40 (current_of U) ≡ true → plain_here T ≡ true
+  plain-there k = elim (or_cases (plain_here T) (reference_here T) here) [
+    | inl e ↦ e
+    | inr e ↦ absurd (no-reference T (sym next-is ∙ k) e)
+  ]
+
+  pub reference-there : is_some_value 40 (current_of U) ≡ false → reference_here T ≡ true
+  reference-there k = elim (or_cases (plain_here T) (reference_here T) here) [
+    | inl e ↦ absurd (both_ways (is_some_value 40 (current_of U)) k (next-is ∙ and-left (is_some_value 40 (code_at (moved T.cursor))) _ (closes-there T e)))
+    | inr e ↦ e
+  ]
+
+-- The scratch fields are kept.
+
+pub reference-state : (T : Tokenizer) → (reference_read T).tokenize_state ≡ T.tokenize_state
+unfolding applied
+reference-state T =
+    elim (is_some_value 91 (current_of T)) as (λ b. (if b then between_read N.Reference N.ReferenceMarker N.ReferenceString label_stops T else T).tokenize_state ≡ T.tokenize_state) [ true ↦ refl | false ↦ refl ]

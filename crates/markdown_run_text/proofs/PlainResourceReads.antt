@@ -813,12 +813,9 @@ pub ended-is : (T U : Tokenizer) (n : ℕ) → n ≡ length T.events →
 unfolding scratched
 ended-is T U n e k = k ∙ ap (λ m. done end_ops (record T { tokenize_state = record T.tokenize_state { end = m } })) e
 
--- a code is there, and the resource stands behind it
+-- the resource stands behind the `]`
 
-pub bracket-here : (T : Tokenizer) → plain_here T ≡ true → is_some (current_of T) ≡ true
-bracket-here T h = ap is_some (value-here 93 (current_of T) (and-left _ _ (and-right _ _ (and-right _ _ h))))
-
-closes-there : (T : Tokenizer) → plain_here T ≡ true →
+pub closes-there : (T : Tokenizer) → plain_here T ≡ true →
     is_some_value 40 (code_at (moved T.cursor)) && closes_behind (moved (moved T.cursor)) ≡ true
 closes-there T h =
     and-right (is_some_value 93 (code_at T.cursor)) _ (and-right (may_make T.tokenize_state.label_starts) _ (and-right (is_on T) _ h))
@@ -873,15 +870,14 @@ tail-state T =
     let U : Tokenizer = done (marker_ops N.SpaceOrTab) T in
     elim (closes_at T.cursor) as (λ b. (done (marker_ops N.ResourceMarker) (if b then T else title_read T)).tokenize_state ≡ T.tokenize_state) [ true ↦ refl | false ↦ quoted-state (current_of U) U ]
 
-resource-state : (T : Tokenizer) → (resource_read T).tokenize_state ≡ T.tokenize_state
+pub resource-state : (T : Tokenizer) → (resource_read T).tokenize_state ≡ T.tokenize_state
 unfolding applied
 resource-state T =
     let U : Tokenizer = done (marker_ops N.ResourceMarker) (with_enter N.Resource None (point_of T.cursor) T) in
     tail-state (destination_read U) ∙ target-state U
 
-pub ordered-there : (T U V : Tokenizer) → AreOrdered T.tokenize_state.label_starts → U ≡ done end_ops (ended T) → V ≡ resource_read U →
-    AreOrdered V.tokenize_state.label_starts
+pub ordered-there : (T U V : Tokenizer) → AreOrdered T.tokenize_state.label_starts → U ≡ done end_ops (ended T) →
+    V.tokenize_state ≡ U.tokenize_state → AreOrdered V.tokenize_state.label_starts
 unfolding applied scratched
-ordered-there T U V k e h =
-    subst (λ (s : TokenizeState). AreOrdered s.label_starts)
-    (sym (ap (λ (x : Tokenizer). x.tokenize_state) h ∙ resource-state U ∙ ap (λ (x : Tokenizer). x.tokenize_state) e)) k
+ordered-there T U V k e same =
+    subst (λ (s : TokenizeState). AreOrdered s.label_starts) (sym (same ∙ ap (λ (x : Tokenizer). x.tokenize_state) e)) k

@@ -21,7 +21,7 @@ ghost use Rattle.markdown_run_text.specs.PlainResource.{EndsOrStays, between_rea
 use crate::readers::events::{
     append_enter, append_exit, append_string, read_marker, read_marker_in,
 };
-use crate::readers::label_end_reference;
+use crate::readers::label_end_reference::{read_reference, refers_here};
 use markdown_engine::tokenizer::{LabelKind, LabelStart, TokenizeState, Tokenizer};
 use markdown_engine_content::byte_table;
 use markdown_engine_content::bytes::{ByteSet, ByteTable};
@@ -311,16 +311,20 @@ fn read_resource(tokenizer: &mut Tokenizer) -> Result<(), AllocError>
     append_exit(tokenizer, Name::Resource)
 }
 
-// Reads the end at hand, and the plain resource behind it. The last start makes a label.
+// Reads the end at hand, and the plain resource or reference behind it. The last start makes a label.
 fn read_here(tokenizer: &mut Tokenizer) -> Result<(), AllocError>
     requires ready { StartReady tokenizer.old }
-    requires here { plain_here tokenizer.old ≡ true }
+    requires here { plain_here tokenizer.old || reference_here tokenizer.old ≡ true }
     ensures ok { OnOk result (Ends tokenizer.old tokenizer.new) }
     ensures err { OnErr result (IsTrue tokenizer.new.failed) }
 {
     tokenizer.tokenize_state.end = tokenizer.events.len();
     read_marker_in(tokenizer, Name::LabelEnd, Name::LabelMarker)?;
-    read_resource(tokenizer)?;
+    if is_same(tokenizer.current(), b'(') {
+        read_resource(tokenizer)?;
+    } else {
+        read_reference(tokenizer)?;
+    }
     let _made = label_end::ok(tokenizer)?;
     Ok(())
 }
@@ -340,8 +344,8 @@ pub fn read(tokenizer: &mut Tokenizer) -> Result<bool, AllocError>
     ensures reads { IfOk result (λ ok. EndsOrStays tokenizer.old ok tokenizer.new) }
     ensures err { OnErr result (IsTrue tokenizer.new.failed) }
 {
-    if !is_here(tokenizer) {
-        return label_end_reference::read(tokenizer);
+    if !is_here(tokenizer) && !refers_here(tokenizer)? {
+        return Ok(false);
     }
     read_here(tokenizer)?;
     Ok(true)

@@ -1,4 +1,5 @@
-// Ends of labels with a plain reference (CommonMark 6.3), read whole: a full reference whose text stands on one line, or a shortcut.
+// Ends of labels with a plain reference (CommonMark 6.3): whether one stands at the place, and how its reference is read. It is a full reference
+// whose text stands on one line, or a shortcut.
 //
 // No blank code begins the text of a plain full reference, and no backslash stands in it. A text stops at the bracket that the next one begins
 // behind, so no two that are looked through overlap. What is not defined is looked up once more by the states.
@@ -7,20 +8,18 @@
 ghost use Rattle.std.specs.Prelude.{◌≡◌, ◌&&◌, true, IfOk, OnOk, OnErr, IsTrue};
 ghost use Rattle.std.specs.Str.{byte};
 ghost use Rattle.markdown_engine_content.specs.Place.{code_at, moved};
-ghost use Rattle.markdown_label.specs.LabelEnd.{Ends, StartReady};
+ghost use Rattle.markdown_label.specs.LabelEnd.{StartReady};
 ghost use Rattle.markdown_label_names.specs.LabelSetting.{setting_in};
 ghost use Rattle.markdown_run_text.specs.PlacesPassed.{is_some_value};
 ghost use Rattle.markdown_run_text.specs.PlainReference.{ends_here, front_stops, is_named, label_stops, names_at, past_text, reference_here, reference_read, text_at};
-ghost use Rattle.markdown_run_text.specs.PlainResource.{EndsOrStays, has_markers};
+ghost use Rattle.markdown_run_text.specs.PlainResource.{has_markers};
 
-use crate::readers::events::read_marker_in;
 use crate::readers::label_end::{is_free, is_same, may_make, read_between};
 use markdown_engine::tokenizer::Tokenizer;
 use markdown_engine_content::byte_table;
 use markdown_engine_content::bytes::{ByteSet, ByteTable};
 use markdown_engine_content::cursor::Cursor;
 use markdown_event::event::Name;
-use markdown_label::label_end;
 use markdown_label_names::identifier::is_defined_from;
 use std::alloc::AllocError;
 
@@ -106,7 +105,7 @@ fn may_end(tokenizer: &Tokenizer) -> bool
 
 // Whether ends are on, and one with a plain reference is at the place: what follows its `]` names a definition, or where it cannot, the label
 // before it does.
-fn is_here(tokenizer: &mut Tokenizer) -> Result<bool, AllocError>
+pub(crate) fn refers_here(tokenizer: &mut Tokenizer) -> Result<bool, AllocError>
     requires { StartReady tokenizer.old }
     ensures here { IfOk result (λ here. here ≡ reference_here tokenizer.old) }
     ensures same { OnOk result (tokenizer.new ≡ tokenizer.old) }
@@ -123,7 +122,7 @@ fn is_here(tokenizer: &mut Tokenizer) -> Result<bool, AllocError>
 }
 
 // Reads the full reference at hand, if a `[` is there.
-fn read_reference(tokenizer: &mut Tokenizer) -> Result<(), AllocError>
+pub(crate) fn read_reference(tokenizer: &mut Tokenizer) -> Result<(), AllocError>
     requires { IsTrue (is_some_value (byte "[") (code_at tokenizer.old.cursor)) → has_markers label_stops tokenizer.old.cursor ≡ true }
     ensures ok { OnOk result (tokenizer.new ≡ reference_read tokenizer.old) }
     ensures err { OnErr result (IsTrue tokenizer.new.failed) }
@@ -138,34 +137,4 @@ fn read_reference(tokenizer: &mut Tokenizer) -> Result<(), AllocError>
         Name::ReferenceString,
         &label_stops(),
     )
-}
-
-// Reads the end at hand, and the plain reference behind it. The last start makes a label.
-fn read_here(tokenizer: &mut Tokenizer) -> Result<(), AllocError>
-    requires ready { StartReady tokenizer.old }
-    requires here { reference_here tokenizer.old ≡ true }
-    ensures ok { OnOk result (Ends tokenizer.old tokenizer.new) }
-    ensures err { OnErr result (IsTrue tokenizer.new.failed) }
-{
-    tokenizer.tokenize_state.end = tokenizer.events.len();
-    read_marker_in(tokenizer, Name::LabelEnd, Name::LabelMarker)?;
-    read_reference(tokenizer)?;
-    let _made = label_end::ok(tokenizer)?;
-    Ok(())
-}
-
-// Reads the end of a label at hand, where a plain reference stands behind its `]`, or the label is a shortcut. Answers whether one is read.
-//
-// Where none is read, the tokenizer is as before. The error comes where memory is refused; then `failed` is true.
-pub(crate) fn read(tokenizer: &mut Tokenizer) -> Result<bool, AllocError>
-    requires { StartReady tokenizer.old }
-    ensures here { IfOk result (λ ok. ok ≡ reference_here tokenizer.old) }
-    ensures reads { IfOk result (λ ok. EndsOrStays tokenizer.old ok tokenizer.new) }
-    ensures err { OnErr result (IsTrue tokenizer.new.failed) }
-{
-    if !is_here(tokenizer)? {
-        return Ok(false);
-    }
-    read_here(tokenizer)?;
-    Ok(true)
 }
