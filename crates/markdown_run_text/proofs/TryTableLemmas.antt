@@ -1,7 +1,7 @@
 -- What holds of each row of a table, at each of its codes, holds of what the table says.
 use Rattle.std.proofs.Common.{◌≡◌, ℕ, Bool, true, false, not, ◌||◌, ◌==◌, if◌then◌else◌, List, [], ◌∷◌, ◌++◌, Option, Some, None, refl, sym, ap, subst, ◌∙◌, arith}
 use Rattle.std.specs.List.{list_any}
-use Rattle.std.proofs.lemmas.Bool.{eqb-true, or_from, or_parts}
+use Rattle.std.proofs.lemmas.Bool.{eqb-true, or_from, or_parts, or_right}
 use Rattle.std.proofs.lemmas.Bool.Decides.{nat_tests}
 use Rattle.std.proofs.lemmas.List.Folds.{list_any-append}
 use Rattle.markdown_run_text.specs.TryTable.{Table, codes_in, said_at}
@@ -29,14 +29,10 @@ each-weaker P Q h (n ∷ ns) k = (h n k.0, each-weaker P Q h ns k.1)
 -- and it holds of each, if it holds of what is among them
 pub each-among : (P : ℕ → Type 0) (ns : List ℕ) → ((v : ℕ) → list_any (λ n. v == n) ns ≡ true → P v) → EachOf P ns
 each-among P [] h = tt
-each-among P (n ∷ ns) h = (h n (ap (λ b. b || list_any (λ m. n == m) ns) (same n)), each-among P ns (λ v e. h v (or-right (v == n) (list_any (λ m. v == m) ns) e)))
+each-among P (n ∷ ns) h = (h n (ap (λ b. b || list_any (λ m. n == m) ns) (same n)), each-among P ns (λ v e. h v (or_right (v == n) (list_any (λ m. v == m) ns) e)))
   where
     same : (n : ℕ) → (n == n) ≡ true
     same n = grind (arith, nat_tests)
-
-    or-right : (x y : Bool) → y ≡ true → (x || y) ≡ true
-    or-right true y e = refl
-    or-right false y e = e
 
 -- a test that none of these passes
 pub none-passes : (p : ℕ → Bool) (ns : List ℕ) → list_any p ns ≡ false → (v : ℕ) → list_any (λ n. v == n) ns ≡ true →
