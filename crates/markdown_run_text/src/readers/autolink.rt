@@ -212,11 +212,9 @@ pub fn read(tokenizer: &mut Tokenizer) -> Result<bool, AllocError>
     }
     let mut end = tokenizer.cursor.save();
     end.consume();
-    match name_text(&mut end) {
-        Some(name) => {
-            append(tokenizer, name, end)?;
-            Ok(true)
-        }
-        None => Ok(false),
-    }
+    let Some(name) = name_text(&mut end) else {
+        return Ok(false);
+    };
+    append(tokenizer, name, end)?;
+    Ok(true)
 }
