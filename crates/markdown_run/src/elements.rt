@@ -270,7 +270,6 @@ fn learn(tokenizer: &mut Tokenizer, byte: u8, is_indexed: &mut bool) -> Result<(
 }
 
 // Forgets what rules constructs out in the content.
-#[tactic(auto, unfolding(markdown_engine::specs::Operations::scratched))]
 fn forget(tokenizer: &mut Tokenizer)
     ensures { tokenizer.new ≡ forgotten tokenizer.old }
 {
