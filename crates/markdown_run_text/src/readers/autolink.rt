@@ -13,6 +13,7 @@ ghost use Rattle.markdown_run_text.specs.AutolinkPlaces.{Names, begins_scheme, i
 ghost use Rattle.markdown_run_text.specs.PlacesPassed.{is_some_value};
 ghost use Rattle.markdown_run_text.specs.ReaderEnds.{ReadsOrStays, options_here};
 
+use crate::readers::attention::is_at;
 use crate::readers::events::{append_enter, append_exit, append_leaf, read_marker};
 use markdown_engine::tokenizer::Tokenizer;
 use markdown_engine_content::cursor::Cursor;
@@ -29,16 +30,6 @@ pub(crate) struct Label {
     size: usize,
     // Whether the last of them is a letter or a digit.
     may_end: bool,
-}
-
-// Whether this code is at the place.
-fn is_at(cursor: &Cursor, code: u8) -> bool
-    ensures { result ≡ is_some_value code (code_at cursor.now) }
-{
-    match cursor.current() {
-        Some(byte) => byte == code,
-        None => false,
-    }
 }
 
 // Whether a scheme may begin with the code.

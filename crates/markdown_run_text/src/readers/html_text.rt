@@ -13,6 +13,7 @@ ghost use Rattle.markdown_run_text.specs.PlacesPassed.{is_some_value};
 ghost use Rattle.markdown_run_text.specs.PlainTag.{Leads, Passes, PassesAttribute, PassesAttributes, PassesEnd, PassesName, PassesSlash, PassesTag, begins_name, keeps_name, past_name, tag_read};
 ghost use Rattle.markdown_run_text.specs.ReaderEnds.{ReadsOrLeaves};
 
+use crate::readers::attention::is_at;
 use crate::readers::events::{append_enter, append_exit, append_leaf};
 use markdown_engine::tokenizer::Tokenizer;
 use markdown_engine_content::byte_table;
@@ -33,16 +34,6 @@ fn keeps_name(code: Option<u8>) -> bool
     ensures { result ≡ keeps_name code }
 {
     matches!(code, Some(b'A'..=b'Z' | b'a'..=b'z' | b'0'..=b'9' | b'-'))
-}
-
-// Whether this code is at the place.
-fn is_at(place: &Cursor, code: u8) -> bool
-    ensures { result ≡ is_some_value code (code_at place.now) }
-{
-    match place.current() {
-        Some(byte) => byte == code,
-        None => false,
-    }
 }
 
 // Moves past the code at the place, if it is this one, and answers whether it is.
