@@ -19,7 +19,9 @@
 #![tactic(auto, using(markdown_engine::proofs::OperationFields::op_rules), unfolding(markdown_engine::specs::Operations::scratched, markdown_engine::specs::Operations::attempted, markdown_engine::specs::Operations::frame_of))]
 
 ghost use Rattle.std.specs.Prelude.{◌≡◌, true, false, None};
-ghost use Rattle.markdown_engine.specs.Operations.{LinkedBefore, scratched};
+ghost use Rattle.markdown_engine.specs.Operations.{LinkedBefore, attempted, scratched};
+ghost use Rattle.markdown_engine.specs.StateRuns.{stepped};
+ghost use Rattle.markdown_state.specs.declared.state.State.TheVariants.{Retry};
 ghost use Rattle.markdown_state.specs.declared.state.StateName.TheVariants.{SpaceOrTabStart, SpaceOrTabEolStart};
 ghost use Rattle.markdown_partial.specs.PartialSpaceOrTabEol.{eol_asked, space_asked, eol_rested, start_step, after_first_step, at_eol_step, after_eol_step, after_more_step};
 ghost use Rattle.markdown_plan.specs.StateCalls.{Steps};
@@ -68,14 +70,17 @@ pub fn space_or_tab_eol_with_options(tokenizer: &mut Tokenizer, options: Options
     StateName::SpaceOrTabEolStart
 }
 
-// Asks for the blank codes at hand, one or more, and answers the state to start with.
-fn ask_for_blank(tokenizer: &mut Tokenizer) -> StateName
-    ensures start { result ≡ SpaceOrTabStart }
-    ensures asked { tokenizer.new ≡ scratched (space_asked tokenizer.old.tokenize_state) tokenizer.old }
+// Tries the blank codes at hand, one or more: `behind` is next where they hold, and `otherwise` where not.
+fn try_blank(
+    tokenizer: &mut Tokenizer,
+    behind: State,
+    otherwise: State,
+) -> Result<State, AllocError>
+    ensures { Steps (λ T. stepped (Retry SpaceOrTabStart) (attempted false behind otherwise (scratched (space_asked T.tokenize_state) T))) tokenizer.old result tokenizer.new }
 {
     let connect = tokenizer.tokenize_state.space_or_tab_eol_connect;
     let content = tokenizer.tokenize_state.space_or_tab_eol_content;
-    partial_space_or_tab::space_or_tab_with_options(
+    let blank = partial_space_or_tab::space_or_tab_with_options(
         tokenizer,
         partial_space_or_tab::Options {
             min: 1,
@@ -84,7 +89,9 @@ fn ask_for_blank(tokenizer: &mut Tokenizer) -> StateName
             connect,
             content,
         },
-    )
+    );
+    tokenizer.attempt(behind, otherwise)?;
+    Ok(State::Retry(blank))
 }
 
 // Puts the own fields to rest.
@@ -105,14 +112,11 @@ pub fn start(tokenizer: &mut Tokenizer) -> Result<State, AllocError>
     ensures { Steps start_step tokenizer.old result tokenizer.new }
 {
     match tokenizer.current() {
-        Some(b' ' | b'\t') => {
-            let blank = ask_for_blank(tokenizer);
-            tokenizer.attempt(
-                State::Next(StateName::SpaceOrTabEolAfterFirst),
-                State::Next(StateName::SpaceOrTabEolAtEol),
-            )?;
-            Ok(State::Retry(blank))
-        }
+        Some(b' ' | b'\t') => try_blank(
+            tokenizer,
+            State::Next(StateName::SpaceOrTabEolAfterFirst),
+            State::Next(StateName::SpaceOrTabEolAtEol),
+        ),
         _ => Ok(State::Retry(StateName::SpaceOrTabEolAtEol)),
     }
 }
@@ -168,9 +172,8 @@ pub fn after_eol(tokenizer: &mut Tokenizer) -> Result<State, AllocError>
 {
     match tokenizer.current() {
         Some(b' ' | b'\t') => {
-            let blank = ask_for_blank(tokenizer);
-            tokenizer.attempt(State::Next(StateName::SpaceOrTabEolAfterMore), State::Nok)?;
-            Ok(State::Retry(blank))
+            let behind = State::Next(StateName::SpaceOrTabEolAfterMore);
+            try_blank(tokenizer, behind, State::Nok)
         }
         _ => Ok(State::Retry(StateName::SpaceOrTabEolAfterMore)),
     }
