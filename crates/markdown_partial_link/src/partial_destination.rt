@@ -25,7 +25,10 @@
 #![tactic(auto, using(markdown_engine::proofs::OperationFields::op_rules), unfolding(markdown_engine::specs::Operations::scratched))]
 
 ghost use Rattle.std.specs.Prelude.{◌≡◌, IfOk, OnErr, IsTrue};
-ghost use Rattle.markdown_partial.specs.PartialDestination.{start_step, enclosed_before_step, enclosed_step, enclosed_escape_step, raw_step, raw_escape_step, finished, stops_in, BeforeReady, EnclosedReady, RawReady};
+ghost use Rattle.markdown_engine.specs.Operations.{HasCode, done};
+ghost use Rattle.markdown_engine.specs.StateRuns.{stepped};
+ghost use Rattle.markdown_state.specs.declared.state.State.TheVariants.{Retry};
+ghost use Rattle.markdown_partial.specs.PartialDestination.{names_in, text_opening, closed, start_step, enclosed_before_step, enclosed_step, enclosed_escape_step, raw_step, raw_escape_step, finished, stops_in, BeforeReady, EnclosedReady, RawReady};
 
 use crate::linked_text::FIRST;
 use markdown_engine::tokenizer::Tokenizer;
@@ -50,6 +53,29 @@ pub fn stop_bytes(name: StateName) -> Option<ByteSet>
     }
 }
 
+// Enters the text, with data that is read as a string. Then `inside` reads it.
+fn open_text(tokenizer: &mut Tokenizer, inside: StateName) -> Result<State, AllocError>
+    ensures ok { IfOk result (λ s. stepped (Retry inside) (done (text_opening (names_in tokenizer.old.tokenize_state)) tokenizer.old) ≡ record { state = s; left = tokenizer.new }) }
+    ensures err { OnErr result (IsTrue tokenizer.new.failed) }
+{
+    tokenizer.enter(tokenizer.tokenize_state.token_5)?;
+    tokenizer.enter_link(Name::Data, FIRST)?;
+    Ok(State::Retry(inside))
+}
+
+// Passes the closing bracket, and the destination holds.
+fn close(tokenizer: &mut Tokenizer) -> Result<State, AllocError>
+    requires ready { BeforeReady tokenizer.old }
+    requires code { HasCode tokenizer.old }
+    ensures ok { IfOk result (λ s. closed tokenizer.old ≡ record { state = s; left = tokenizer.new }) }
+    ensures err { OnErr result (IsTrue tokenizer.new.failed) }
+{
+    tokenizer.take(tokenizer.tokenize_state.token_3)?;
+    tokenizer.exit(tokenizer.tokenize_state.token_2)?;
+    tokenizer.exit(tokenizer.tokenize_state.token_1)?;
+    Ok(State::Ok)
+}
+
 /// At the start of a destination: a bracket, or its first code.
 ///
 ///     > | [x](<y>) and [z](w)
@@ -69,9 +95,7 @@ pub fn start(tokenizer: &mut Tokenizer) -> Result<State, AllocError>
         Ok(State::Next(StateName::DestinationEnclosedBefore))
     } else {
         tokenizer.enter(tokenizer.tokenize_state.token_4)?;
-        tokenizer.enter(tokenizer.tokenize_state.token_5)?;
-        tokenizer.enter_link(Name::Data, FIRST)?;
-        Ok(State::Retry(StateName::DestinationRaw))
+        open_text(tokenizer, StateName::DestinationRaw)
     }
 }
 
@@ -85,17 +109,8 @@ pub fn enclosed_before(tokenizer: &mut Tokenizer) -> Result<State, AllocError>
     ensures err { OnErr result (IsTrue tokenizer.new.failed) }
 {
     match tokenizer.current() {
-        Some(b'>') => {
-            tokenizer.take(tokenizer.tokenize_state.token_3)?;
-            tokenizer.exit(tokenizer.tokenize_state.token_2)?;
-            tokenizer.exit(tokenizer.tokenize_state.token_1)?;
-            Ok(State::Ok)
-        }
-        _ => {
-            tokenizer.enter(tokenizer.tokenize_state.token_5)?;
-            tokenizer.enter_link(Name::Data, FIRST)?;
-            Ok(State::Retry(StateName::DestinationEnclosed))
-        }
+        Some(b'>') => close(tokenizer),
+        _ => open_text(tokenizer, StateName::DestinationEnclosed),
     }
 }
 

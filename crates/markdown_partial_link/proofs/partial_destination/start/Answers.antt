@@ -23,7 +23,3 @@ take-requires c = grind (arith, op_rules)
 pub returns-in_ok-take-clause-ok : goal.returns-in_ok-take-clause-ok
 unfolding scratched
 returns-in_ok-take-clause-ok c = grind (arith, op_rules)
-
-pub returns-in_ok-enter_link-clause-ok : goal.returns-in_ok-enter_link-clause-ok
-unfolding scratched
-returns-in_ok-enter_link-clause-ok c = grind (arith, op_rules)
