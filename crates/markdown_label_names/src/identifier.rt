@@ -7,7 +7,7 @@ ghost use Rattle.std.specs.Str.{bytes_eq};
 ghost use Rattle.markdown_plan.specs.Characters.{bytes_of};
 ghost use Rattle.markdown_util.specs.Identifier.{identifier_of};
 ghost use Rattle.markdown_label_names.specs.LabelNames.{AreAround};
-ghost use Rattle.markdown_label_names.specs.IdentifierFronts.{AreCuts, IsKnownName};
+ghost use Rattle.markdown_label_names.specs.IdentifierFronts.{AreCuts};
 ghost use Rattle.markdown_label_names.specs.LabelNames.{identifier_between, link_as};
 ghost use Rattle.markdown_label_names.specs.LabelSetting.{setting_in, IsListed};
 ghost use Rattle.markdown_model.specs.LabelEnd.{is_footnote, link_identifier};
@@ -30,27 +30,6 @@ pub(crate) fn identifier_of(
 {
     let between = Slice::from_indices(tokenizer.parse_state.bytes, start, end);
     normalize_identifier(tokenizer.alloc, between.as_str())
-}
-
-// The identifier of the document's bytes between two events, given by their numbers, if anything may be defined that a label of this kind
-// with this identifier may stand for.
-fn identifier_between(
-    tokenizer: &Tokenizer,
-    kind: LabelKind,
-    from: usize,
-    to: usize,
-) -> Result<Option<String>, AllocError>
-    requires { AreAround tokenizer.now from to }
-    ensures { IfOk result (λ name. IsKnownName (setting_in tokenizer.now) kind (identifier_between tokenizer.now from to) name) }
-{
-    let start = tokenizer.events.at(from).point.index;
-    // events are in order, so the second one is not before the first; with `max` no caller has to show it
-    let end = tokenizer.events.at(to).point.index.max(start);
-    if is_ruled_out(tokenizer, kind, start, end)? {
-        return Ok(None);
-    }
-    let name = identifier_of(tokenizer, start, end)?;
-    Ok(Some(name))
 }
 
 // Whether the identifier is one of these.
@@ -132,20 +111,22 @@ fn link_as(tokenizer: &Tokenizer, kind: LabelKind, name: &str) -> Result<Option<
     Ok(Some(names_definition(tokenizer, text.as_str())))
 }
 
-// As `link_as`, of the label between two events, given by their numbers.
-fn link_within(
+// As `link_as`, of the label whose text is the document's bytes from an index to another.
+fn link_from(
     tokenizer: &Tokenizer,
     kind: LabelKind,
-    from: usize,
-    to: usize,
+    start: usize,
+    end: usize,
 ) -> Result<Option<bool>, AllocError>
-    requires { AreAround tokenizer.now from to }
-    ensures { IfOk result (λ link. link ≡ link_as (setting_in tokenizer.now) kind (identifier_between tokenizer.now from to)) }
+    requires cuts { AreCuts (bytes_of tokenizer.now) start end }
+    requires listed { IsListed tokenizer.now }
+    ensures { IfOk result (λ link. link ≡ link_as (setting_in tokenizer.now) kind (identifier_of (slice_range (bytes_of tokenizer.now) start end))) }
 {
-    match identifier_between(tokenizer, kind, from, to)? {
-        None => Ok(Some(false)),
-        Some(name) => link_as(tokenizer, kind, name.as_str()),
+    if is_ruled_out(tokenizer, kind, start, end)? {
+        return Ok(Some(false));
     }
+    let name = identifier_of(tokenizer, start, end)?;
+    link_as(tokenizer, kind, name.as_str())
 }
 
 /// Answers whether a label of this kind, whose text stands between two events that are given by their numbers, is defined as a link's; `None` where it
@@ -163,7 +144,10 @@ pub fn link_between(
     ensures same { OnOk result (tokenizer.new ≡ tokenizer.old) }
     ensures err { OnErr result (IsTrue tokenizer.new.failed) }
 {
-    let link = link_within(tokenizer, kind, from, to);
+    let start = tokenizer.events.at(from).point.index;
+    // events are in order, so the second one is not before the first; with `max` no caller has to show it
+    let end = tokenizer.events.at(to).point.index.max(start);
+    let link = link_from(tokenizer, kind, start, end);
     tokenizer.noted(link)
 }
 
@@ -179,11 +163,8 @@ fn is_defined_within(tokenizer: &Tokenizer, start: usize, end: usize) -> Result<
         let letters = Slice::from_indices(bytes, start, end);
         return Ok(names_definition(tokenizer, letters.as_str()));
     }
-    if is_ruled_out(tokenizer, LabelKind::Link, start, end)? {
-        return Ok(false);
-    }
-    let name = identifier_of(tokenizer, start, end)?;
-    Ok(names_definition(tokenizer, name.as_str()))
+    let link = link_from(tokenizer, LabelKind::Link, start, end)?;
+    Ok(link == Some(true))
 }
 
 /// Answers whether the identifier of the document's bytes from an index to another is that of a definition.
@@ -219,7 +200,7 @@ pub fn is_defined_between(
     ensures err { OnErr result (IsTrue tokenizer.new.failed) }
 {
     let start = tokenizer.events.at(from).point.index;
-    // as in `identifier_between`
+    // as in `link_between`
     let end = tokenizer.events.at(to).point.index.max(start);
     is_defined_from(tokenizer, start, end)
 }

@@ -78,14 +78,29 @@ fn begins_defined(tokenizer: &Tokenizer, kind: LabelKind, front: &str) -> Result
     requires { IsListed tokenizer.now }
     ensures { IfOk result (λ begins. begins ≡ begins_defined (setting_in tokenizer.now) kind front.now) }
 {
-    if is_footnote(kind) && begins_footnote(tokenizer, front) {
-        return Ok(true);
-    }
     if !is_footnote(kind) {
         return Ok(begins_definition(tokenizer, front));
     }
+    if begins_footnote(tokenizer, front) {
+        return Ok(true);
+    }
     let text = link_identifier(tokenizer.alloc, kind, front)?;
     Ok(begins_definition(tokenizer, text.as_str()))
+}
+
+// Whether anything that a label of this kind may stand for begins like the identifier of the document's bytes from an index to another.
+fn front_begins(
+    tokenizer: &Tokenizer,
+    kind: LabelKind,
+    start: usize,
+    end: usize,
+) -> Result<bool, AllocError>
+    requires cuts { AreCuts (bytes_of tokenizer.now) start end }
+    requires listed { IsListed tokenizer.now }
+    ensures { IfOk result (λ begins. begins ≡ begins_defined (setting_in tokenizer.now) kind (identifier_of (slice_range (bytes_of tokenizer.now) start end))) }
+{
+    let front = identifier_of(tokenizer, start, end)?;
+    begins_defined(tokenizer, kind, front.as_str())
 }
 
 // Whether nothing is defined, so that no identifier has to be read.
@@ -187,8 +202,7 @@ pub(crate) fn is_ruled_out(
             return Ok(false);
         }
         let middle = boundary(tokenizer.parse_state.bytes, start + size, end);
-        let front = identifier_of(tokenizer, start, middle)?;
-        if !begins_defined(tokenizer, kind, front.as_str())? {
+        if !front_begins(tokenizer, kind, start, middle)? {
             return Ok(true);
         }
     }
