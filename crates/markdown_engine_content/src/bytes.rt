@@ -78,7 +78,7 @@ impl ByteSet {
         if byte > b'\r' {
             !self.plain[byte as usize]
         } else {
-            self.bytes.iter().any(|other| byte == *other)
+            self.bytes.contains(&byte)
         }
     }
 

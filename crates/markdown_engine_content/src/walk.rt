@@ -92,9 +92,10 @@ fn line_ending_len(bytes: &[u8], index: usize) -> usize
     requires { index < length bytes.now }
     ensures { result ≡ line_ending_len (slice_index bytes.now index) (drop (index + 1) bytes.now) }
 {
-    match &bytes[index..] {
-        [b'\r', b'\n', ..] => 2,
-        _ => 1,
+    if bytes[index..].starts_with(b"\r\n") {
+        2
+    } else {
+        1
     }
 }
 
