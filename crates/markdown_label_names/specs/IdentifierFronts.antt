@@ -1,5 +1,5 @@
 -- What identifiers that begin alike say of one another: by the front of a label alone it may be known that the label is not defined.
-use Rattle.std.specs.Prelude.{◌≡◌, ◌≤◌, ℕ, Bool, false, ◌==◌, ◌&&◌, ◌||◌, not, List, Option, Some, None, MatchOption, String, string_bytes, IsUtf8}
+use Rattle.std.specs.Prelude.{◌≡◌, ◌≤◌, ℕ, Bool, false, ◌==◌, ◌&&◌, ◌||◌, not, List, Some, None, IsUtf8}
 use Rattle.std.specs.List.{list_any, starts_with}
 use Rattle.std.specs.Str.{IsCharBoundary}
 use Rattle.markdown_engine_names.specs.BracketIndex.{counted, has_brackets}
@@ -33,7 +33,3 @@ lacks_count names kind from to =
 pub record IsUnknown (s : Setting) (kind : LabelKind) (name : List ℕ) : Type 0 where
   pub call : is_footnote kind && is_defined s.footnotes name ≡ false
   pub link : is_defined s.definitions (link_identifier kind name) ≡ false
-
--- the identifier, or nothing where nothing is defined that it may stand for
-abbrev pub IsKnownName : {Z : Type 0} → Setting → LabelKind → List ℕ → Option (String Z) → Type 0
-IsKnownName s kind name found = MatchOption found (IsUnknown s kind name) (λ text. string_bytes text ≡ name)
