@@ -1,5 +1,5 @@
 -- What a cursor answers, and what it keeps.
-use Rattle.std.proofs.Common.{ℕ, suc, ◌+◌, ◌*◌, ◌<◌, ◌≤◌, ◌^◌, Bool, true, false, ◌≡◌, arith, List, length, drop, slice_get, refl, sym, ap, subst, ◌∙◌, Option, Some, None, IsSome, add-one, inl, inr, ◌&&◌, ◌==◌, nat_lt, get_or, if◌then◌else◌}
+use Rattle.std.proofs.Common.{ℕ, suc, ◌+◌, ◌*◌, ◌<◌, ◌≤◌, ◌^◌, Bool, true, false, ◌≡◌, arith, List, [], ◌∷◌, length, drop, slice_get, refl, sym, ap, subst, ◌∙◌, Option, Some, None, IsSome, add-one, inl, inr, ◌&&◌, ◌==◌, nat_lt, get_or, if◌then◌else◌}
 use Rattle.std.proofs.lemmas.Option.{same_Some}
 use Rattle.std.proofs.lemmas.List.{drop_all}
 use Rattle.std.proofs.lemmas.Bool.{both_ways, cases_lt, eqb-true}
@@ -9,11 +9,13 @@ use Rattle.markdown_engine_content.specs.Codes.{Code, line_feed, space_value, ta
 use Rattle.markdown_engine_content.specs.Content.{IsContent, content_of, content_end}
 use Rattle.markdown_engine_content.specs.Place.{Place, start_of_content, moved, value_of, start_or, stop_or, code_at, code_before, point_of, exit_point}
 use Rattle.markdown_engine_content.specs.DocumentWalk.{IsPoint, next_point, value_from}
-use Rattle.markdown_engine_content.specs.PlaceInDocument.{is_open, IsStanding, IsCursor, content_place, first_point, followed}
+use Rattle.markdown_engine_content.specs.KnownPlaces.{first_place}
+use Rattle.markdown_engine_content.specs.PlaceInDocument.{is_open, BeginsAt, IsStanding, IsCursor, content_place, first_point, followed}
 use Rattle.markdown_engine_content.proofs.DocumentCodes.{stop_at, value_at, code_here}
 use Rattle.markdown_engine_content.proofs.DocumentWalkLemmas.{stop-ending}
 use Rattle.markdown_engine_content.proofs.DocumentPlaces.{next, IsNext}
 use Rattle.markdown_engine_content.proofs.NextPlace.{value-is, point_fits, Fits_point}
+use Rattle.markdown_engine_content.proofs.ContentCodes.{row-start}
 use Rattle.markdown_engine_content.proofs.CursorInvariant.{standing-point, standing-start, standing-next, stop-within, open-standing, closed-standing, IsOpenStanding}
 
 pub cursor_point : {bytes : List ℕ} {pieces : List Piece} {k : ℕ} {p e : Point} {before : Option ℕ} {n : ℕ} →
@@ -159,3 +161,20 @@ cursor_start bytes pieces p h is =
 pub start_is : (bytes : List ℕ) (pieces : List Piece) → content_place bytes pieces 0 ≡ start_of_content bytes pieces
 unfolding start_of_content
 start_is bytes pieces = refl
+
+-- Where a cursor starts again.
+
+abbrev pub with_place : ℕ → ℕ → ℕ × ℕ → Point
+with_place line column at = record { line = line; column = column; index = at.0; vs = at.1 }
+
+first-placed : (bytes : List ℕ) (pieces : List Piece) → IsContent bytes pieces → first_place (0, 0) pieces ≡ place_of (first_point bytes pieces)
+first-placed bytes [] h = refl
+first-placed bytes (piece ∷ more) h = sym (row-start bytes piece more h.in_order).place
+
+-- the first code's point is known by its line, its column and its place
+pub first_known : (bytes : List ℕ) (pieces : List Piece) (line column : ℕ) (at : ℕ × ℕ) → IsContent bytes pieces →
+    BeginsAt bytes pieces line column → at ≡ first_place (0, 0) pieces →
+    with_place line column at ≡ first_point bytes pieces
+first_known bytes pieces line column at h begins e =
+    let p : Point = first_point bytes pieces in
+    ap (λ n. with_place n column at) begins.line ∙ ap (λ n. with_place p.line n at) begins.column ∙ ap (with_place p.line p.column) (e ∙ first-placed bytes pieces h)

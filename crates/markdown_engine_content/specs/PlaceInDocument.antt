@@ -76,3 +76,8 @@ pub record IsCursor (bytes : List ℕ) (pieces : List Piece) (piece : ℕ) (poin
   pub exits : exit ≡ exit_point (content_place bytes pieces passed)
   pub after_line : previous ≡ Some line_feed → (exit.column ≡ 1) × (exit.vs ≡ 0)
   pub within_line : (previous ≡ Some line_feed → ⊥) → exit ≡ point
+
+-- a content of these pieces begins on this line, in this column
+pub record BeginsAt (bytes : List ℕ) (pieces : List Piece) (first_line first_column : ℕ) : Type 0 where
+  pub line : first_line ≡ (first_point bytes pieces).line
+  pub column : first_column ≡ (first_point bytes pieces).column

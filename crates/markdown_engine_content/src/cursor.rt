@@ -2,6 +2,7 @@
 ghost use Rattle.std.specs.Prelude.{◌≡◌, ◌∷◌, [], ℕ, List, drop, length, nat_le, ◌<◌, ◌≤◌, true, false, IsSome, IfSome, IsTrue};
 ghost use Rattle.markdown_engine_content.specs.Codes.{count_among, line_feed, place_of};
 ghost use Rattle.markdown_engine_content.specs.Content.{IsContent, has_no_blank_line};
+ghost use Rattle.markdown_engine_content.specs.KnownPlaces.{first_place};
 ghost use Rattle.markdown_engine_content.specs.Place.{start_of_content, ahead_at, code_at, code_before, point_of, exit_point, moved};
 ghost use Rattle.markdown_engine_content.specs.PlaceInDocument.{is_open, first_point, followed, IsPlaceOf};
 ghost use Rattle.markdown_engine_content.specs.PlainBytes.{ArePlain, spares_words};
@@ -19,6 +20,9 @@ use std::marker::Model;
 pub struct Cursor<'a> {
     bytes: &'a [u8],
     pieces: &'a [Piece],
+    // The line and the column at which the content begins.
+    first_line: usize,
+    first_column: usize,
     // The number of the piece that it stands in.
     piece: usize,
     // Where the code at the place begins, or where the content ends.
@@ -33,13 +37,13 @@ pub struct Cursor<'a> {
 
 impl<'a> Model for Cursor<'a> {
     ghost use Rattle.markdown_engine_content.specs.Place.{Place, start_of_content};
-    ghost use Rattle.markdown_engine_content.specs.PlaceInDocument.{IsCursor};
+    ghost use Rattle.markdown_engine_content.specs.PlaceInDocument.{BeginsAt, IsCursor};
 
     ghost Value = { Place };
 
     ghost view = { λ c. record (start_of_content c.bytes.now c.pieces.now) { at = c.passed } };
 
-    ghost invariant = { λ c. IsCursor c.bytes.now c.pieces.now c.piece c.point c.exit c.previous c.passed };
+    ghost invariant = { λ c. IsCursor c.bytes.now c.pieces.now c.piece c.point c.exit c.previous c.passed × BeginsAt c.bytes.now c.pieces.now c.first_line c.first_column };
 }
 
 impl<'a> Drop for Cursor<'a> {
@@ -47,6 +51,8 @@ impl<'a> Drop for Cursor<'a> {
         let Cursor {
             bytes: _,
             pieces: _,
+            first_line: _,
+            first_column: _,
             piece: _,
             point: _,
             exit: _,
@@ -74,6 +80,8 @@ impl<'a> Cursor<'a> {
         Cursor {
             bytes,
             pieces,
+            first_line: point.line,
+            first_column: point.column,
             piece: 0,
             point,
             exit: point,
@@ -89,6 +97,8 @@ impl<'a> Cursor<'a> {
         Cursor {
             bytes: self.bytes,
             pieces: self.pieces,
+            first_line: self.first_line,
+            first_column: self.first_column,
             piece: self.piece,
             point: self.point,
             exit: self.exit,
@@ -101,10 +111,14 @@ impl<'a> Cursor<'a> {
     pub fn restart(&self) -> Cursor<'a>
         ensures { result ≡ record self.now { at = 0 } }
     {
-        if self.passed == 0 {
-            return self.save();
-        }
-        Cursor::new(self.bytes, self.pieces)
+        let (index, vs) = start_of(self.pieces);
+        let first = Point {
+            line: self.first_line,
+            column: self.first_column,
+            index,
+            vs,
+        };
+        Cursor::starting_at(self.bytes, self.pieces, first)
     }
 
     /// Answers whether at least so many codes of the whole content are among these bytes.
@@ -563,6 +577,17 @@ pub fn plain_end(bytes: &[u8], from: usize, to: usize, stops: &ByteSet) -> usize
         index += 1;
     }
     index
+}
+
+// The place at which some pieces begin, by its index and the codes of the tab there; without pieces, that of the document.
+fn start_of(pieces: &[Piece]) -> (usize, usize)
+    ensures { result ≡ first_place (0, 0) pieces.now }
+{
+    if pieces.is_empty() {
+        (0, 0)
+    } else {
+        pieces[0].start
+    }
 }
 
 // Where the first code of some pieces begins.

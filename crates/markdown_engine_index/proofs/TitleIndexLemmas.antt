@@ -1,15 +1,17 @@
 -- The walk that finds closing parentheses, and what an index of them says of the codes that it was made of.
-use Rattle.std.proofs.Common.{◌≡◌, ℕ, zero, suc, ◌+◌, ◌<◌, ◌≤◌, nat_lt, Bool, true, false, if◌then◌else◌, Option, Some, None, List, [], ◌∷◌, ◌++◌, length, drop, get_or, refl, sym, ap, subst, ◌∙◌, append-nil, arith}
+use Rattle.std.proofs.Common.{◌≡◌, ℕ, zero, suc, ◌+◌, ◌<◌, ◌≤◌, nat_lt, Bool, true, false, ◌==◌, ◌&&◌, ◌||◌, IsSome, if◌then◌else◌, Option, Some, None, List, [], ◌∷◌, ◌++◌, length, drop, get_or, refl, sym, ap, subst, ◌∙◌, append-nil, arith}
 use Rattle.std.specs.List.{AllWithin}
 use Rattle.std.specs.List.Sorted.{IsNonDecreasingBy}
-use Rattle.std.proofs.lemmas.Bool.{le-ltb, lt-ltb, not-true}
+use Rattle.std.proofs.lemmas.Bool.{le-ltb, lt-ltb, not-true, or_parts}
 use Rattle.std.proofs.lemmas.List.{append_assoc}
 use Rattle.markdown_engine_content.specs.Codes.{Code}
 use Rattle.markdown_engine_content.specs.Place.{Place, ahead_at, moved, code_at}
 use Rattle.markdown_engine_index.specs.SequenceIndex.{closes_past_spacing}
-use Rattle.markdown_engine_index.specs.TitleIndex.{closes, escapes, closes_resource, closers_from, closers_of, first_twice, rules_out, IsRightFor}
+use Rattle.markdown_engine_index.specs.TitleIndex.{closes, escapes, closes_resource, closers_from, closers_of, first_twice, rules_out, title_bytes, IsRightFor}
 use Rattle.markdown_engine_index.specs.declared.title_index.Closer.{Closer}
+use Rattle.markdown_engine_content.specs.Stretch.{past_stretch}
 use Rattle.markdown_engine_content.proofs.PlaceRules.{IsAhead, ahead_some, ahead_none, at_moved}
+use Rattle.markdown_engine_content.proofs.StretchLemmas.{kept, left-behind, left-past}
 
 -- The walk.
 
@@ -70,6 +72,62 @@ found-one cs p q v slash next found more h e one escaped added k =
           ∙ sym (append_assoc found (here ∷ []) rest)
           ∙ ap (λ xs. xs ++ rest) (sym added);
     }
+
+-- past a code that is neither a closing parenthesis nor a backslash
+pub found-free : (cs : List Code) (p q : Place) (v : ℕ) (found : List Closer) →
+    code_at p ≡ Some v → q ≡ moved p → (v == 41) ≡ false → (v == 92) ≡ false → IsFound cs p false found → IsFound cs q false found
+found-free cs p q v found h e closer slash k =
+    found-other cs p q v false false found h e (rw closer refl) (rw slash refl) k
+
+-- past a closing parenthesis that is not escaped
+pub found-closer : (cs : List Code) (p q : Place) (v : ℕ) (found more : List Closer) → code_at p ≡ Some v → v ≡ 41 →
+    q ≡ moved p → more ≡ found ++ record { at = p.at; twice = closes_past_spacing (ahead_at q) } ∷ [] → IsFound cs p false found →
+    IsFound cs q false more
+found-closer cs p q v found more h is e added k =
+    found-one cs p q v false false found more h e (ap (closes false) is) (ap (escapes false) (sym is)) added k
+
+-- past a stretch of such codes, of where it leads
+pub found-at : (cs : List Code) (p q : Place) (found : List Closer) → q ≡ past_stretch title_bytes p →
+    IsFound cs p false found → IsFound cs q false found
+found-at cs p q found e k =
+    subst (λ (x : Place). IsFound cs x false found) (sym e)
+    (kept title_bytes (λ x. IsFound cs x false found) (λ x v h ending free k. found-free cs x (moved x) v found h refl (or_parts (v == 41) ((v == 92) || false) free).0 (or_parts (v == 92) false (or_parts (v == 41) ((v == 92) || false) free).1).0 k) p k)
+
+-- past a backslash that is not escaped, and the code behind it, if there is one
+pub found-escaped : (cs : List Code) (p q r : Place) (v : ℕ) (found : List Closer) →
+    code_at p ≡ Some v → v ≡ 92 → q ≡ moved p → (IsSome (code_at q) → r ≡ moved q) → (code_at q ≡ None → r ≡ q) →
+    IsFound cs p false found → IsFound cs r false found
+found-escaped cs p q r v found h is e passed stays k =
+    let behind : IsFound cs q true found = found-other cs p q v false true found h e (ap (closes false) is) (ap (escapes false) (sym is)) k in
+    elim (code_at q) as (λ o. code_at q ≡ o → IsFound cs r false found) [
+      | None ↦ λ none.
+          subst (λ (x : Place). IsFound cs x false found) (sym (stays none))
+          (record { codes = behind.codes; whole = behind.whole ∙ ap (λ ds. found ++ closers_from q.at true ds) (ahead_none q none) ∙ ap (λ ds. found ++ closers_from q.at false ds) (sym (ahead_none q none)) })
+      | Some w ↦ λ some.
+          found-other cs q r w true false found some (passed (subst IsSome (sym some) refl)) (and-false (w == 41)) (sym (and-false (w == 92))) behind
+    ] refl
+  where
+    and-false : (b : Bool) → (b && false) ≡ false
+    and-false true = refl
+    and-false false = refl
+
+-- fewer codes are left past the code at which a stretch ends
+pub left-stop : (p q r : Place) (v : ℕ) → q ≡ past_stretch title_bytes p → code_at q ≡ Some v → r ≡ moved q →
+    length (ahead_at r) < length (ahead_at p)
+left-stop p q r v e h past =
+    let less : length (ahead_at r) < length (ahead_at q) = left-past q r v h past in
+    left-behind title_bytes p q r v e h (omega (arith, less))
+
+-- no more are left past an escaped one
+pub left-escaped : (q r : Place) → (IsSome (code_at q) → r ≡ moved q) → (code_at q ≡ None → r ≡ q) →
+    length (ahead_at r) ≤ length (ahead_at q)
+left-escaped q r passed stays =
+    elim (code_at q) as (λ o. code_at q ≡ o → length (ahead_at r) ≤ length (ahead_at q)) [
+      | None ↦ λ none. subst (λ (x : Place). length (ahead_at x) ≤ length (ahead_at q)) (sym (stays none)) (omega arith)
+      | Some w ↦ λ some.
+          let less : length (ahead_at r) < length (ahead_at q) = left-past q r w some (passed (subst IsSome (sym some) refl)) in
+          omega (arith, less)
+    ] refl
 
 -- at the end
 pub found-all : (cs : List Code) (p : Place) (slash : Bool) (found : List Closer) → code_at p ≡ None →

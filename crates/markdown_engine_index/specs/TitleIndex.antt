@@ -14,6 +14,10 @@ closes slash v = v == byte ")" && not slash
 abbrev pub escapes : Bool → ℕ → Bool
 escapes slash v = v == byte "\\" && not slash
 
+-- the two bytes that a walk has to look at
+abbrev pub title_bytes : List ℕ
+title_bytes = byte ")" ∷ byte "\\" ∷ []
+
 -- a resource ends behind a title in parentheses of which these codes are the rest: the first closing parenthesis that is not escaped has
 -- another one behind it, past whitespace
 abbrev pub closes_resource : Bool → List Code → Bool

@@ -1,10 +1,13 @@
 // Where titles in parentheses may end, and resources behind them.
-ghost use Rattle.std.specs.Prelude.{◌≡◌, IfOk, not, nat_lt, true, false};
+ghost use Rattle.std.specs.Prelude.{◌≡◌, IfOk, IsSome, None, not, nat_lt, true, false};
 ghost use Rattle.std.specs.List.Sorted.{IsNonDecreasingBy, IsPartitionPoint};
-ghost use Rattle.markdown_engine_index.specs.TitleIndex.{closers_of, closes, escapes, first_twice};
+ghost use Rattle.markdown_engine_content.specs.Place.{code_at, moved};
+ghost use Rattle.markdown_engine_index.specs.TitleIndex.{closers_of, first_twice, title_bytes};
 ghost use Rattle.markdown_engine_index.specs.declared.title_index.Closer.{Closer as Found};
 
 use crate::sequence_index::closes_past_spacing;
+use markdown_engine_content::byte_table;
+use markdown_engine_content::bytes::{ByteSet, ByteTable};
 use markdown_engine_content::cursor::Cursor;
 use std::alloc::{AllocError, Global};
 use std::marker::Model;
@@ -49,15 +52,16 @@ impl TitleIndex {
     {
         let mut closers = Vec::new(alloc);
         let mut place = cursor.restart();
-        let mut slash = false;
-        while let Some(code) = place.current() {
+        let stops = title_bytes();
+        while let Some(code) = place.seek(&stops) {
             let at = place.passed();
             place.consume();
-            if closes(slash, code) {
+            if code == b')' {
                 let twice = closes_past_spacing(&place);
                 closers.push(Closer { at, twice })?;
+            } else if code == b'\\' {
+                pass_escaped(&mut place);
             }
-            slash = escapes(slash, code);
         }
         Ok(TitleIndex { closers })
     }
@@ -79,16 +83,21 @@ fn first_from(closers: &[Closer], at: usize) -> usize
     closers.partition_point(|closer| closer.at < at)
 }
 
-// Whether it is a closing parenthesis that no backslash escapes; `slash` says that one stands before that is not escaped itself.
-fn closes(slash: bool, byte: u8) -> bool
-    ensures { result ≡ closes slash byte }
+const TITLE_BYTES: ByteTable = byte_table!(b')', b'\\');
+
+// The closing parenthesis and the backslash.
+fn title_bytes() -> ByteSet
+    ensures { result ≡ title_bytes }
 {
-    byte == b')' && !slash
+    ByteSet::new(&TITLE_BYTES)
 }
 
-// Whether it is a backslash that is not escaped.
-fn escapes(slash: bool, byte: u8) -> bool
-    ensures { result ≡ escapes slash byte }
+// Moves past the code behind a backslash, if there is one: it neither ends a title nor escapes another.
+fn pass_escaped(place: &mut Cursor)
+    ensures passed { IsSome (code_at place.old) → place.new ≡ moved place.old }
+    ensures stays { code_at place.old ≡ None → place.new ≡ place.old }
 {
-    byte == b'\\' && !slash
+    if place.current().is_some() {
+        place.consume();
+    }
 }

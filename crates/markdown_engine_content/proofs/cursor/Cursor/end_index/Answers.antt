@@ -9,4 +9,4 @@ returns-then-is_empty c =
 
 pub returns-else-is_empty : goal.returns-else-is_empty
 returns-else-is_empty c =
-    end-index c.self.inside.bytes.now c.self.inside.pieces.now (record { start = (0, 0); end = (0, 0) }) c.is_empty.result c.self.invariant.standing.content.in_order c.is_empty.ensures c.if-is_empty.false ∙ ap (λ (p : Place). p.end.index) c.self.view_is
+    end-index c.self.inside.bytes.now c.self.inside.pieces.now (record { start = (0, 0); end = (0, 0) }) c.is_empty.result c.self.invariant.0.standing.content.in_order c.is_empty.ensures c.if-is_empty.false ∙ ap (λ (p : Place). p.end.index) c.self.view_is

@@ -5,4 +5,4 @@ use Rattle.markdown_engine_content.proofs.cursor.Cursor.exit_point.Goals as goal
 
 pub returns-clause-within_line : goal.returns-clause-within_line
 returns-clause-within_line c =
-    λ other. c.self.invariant.within_line (λ f. other (sym (ap code_before c.self.view_is) ∙ sym c.self.invariant.before ∙ f)) ∙ cursor_point c.self.invariant ∙ ap point_of c.self.view_is
+    λ other. c.self.invariant.0.within_line (λ f. other (sym (ap code_before c.self.view_is) ∙ sym c.self.invariant.0.before ∙ f)) ∙ cursor_point c.self.invariant.0 ∙ ap point_of c.self.view_is

@@ -4,4 +4,4 @@ use Rattle.markdown_engine_content.proofs.CursorSteps.{cursor_point}
 use Rattle.markdown_engine_content.proofs.cursor.Cursor.point.Goals as goal
 
 pub returns : goal.returns
-returns c = cursor_point c.self.invariant ∙ ap point_of c.self.view_is
+returns c = cursor_point c.self.invariant.0 ∙ ap point_of c.self.view_is

@@ -10,4 +10,4 @@ pub returns : goal.returns
 returns c =
     λ ink.
     let d : Piece = record { start = (0, 0); end = (0, 0) } in
-    text-ink c.args.self.now _ (ap code_at (sym c.self.view_is) ∙ plain_code c.self.invariant d (omega (arith, c.if-self.false)) (omega (arith, c.if-self-2.false)) (omega (arith, ltb-true 32 _ ink))) (ltb-true 32 _ ink)
+    text-ink c.args.self.now _ (ap code_at (sym c.self.view_is) ∙ plain_code c.self.invariant.0 d (omega (arith, c.if-self.false)) (omega (arith, c.if-self-2.false)) (omega (arith, ltb-true 32 _ ink))) (ltb-true 32 _ ink)
