@@ -3,3 +3,4 @@ pub mod FirstWith
 pub mod Lists
 pub mod OneMoreCall
 pub mod WalkTree
+pub mod PlainStretch

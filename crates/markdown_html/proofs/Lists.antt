@@ -1,12 +1,13 @@
 -- Lists that grow by one.
-use Rattle.std.proofs.Common.{◌≡◌, ◌∙◌, ap, refl, subst, ℕ, Bool, true, false, if◌then◌else◌, List, [], ◌∷◌, ◌++◌, All, None, Some}
+use Rattle.std.proofs.Common.{◌≡◌, ◌∙◌, ap, sym, refl, subst, ℕ, Bool, true, false, if◌then◌else◌, List, [], ◌∷◌, ◌++◌, All, None, Some, Option, IfSome, map, ◌==◌, ◌||◌}
+use Rattle.std.specs.List.{list_any}
 use Rattle.std.proofs.lemmas.List.Elements.{All-head, All-tail, All-nil}
 use Rattle.markdown_event.specs.declared.event.Event.{Event}
 use Rattle.markdown_event.specs.declared.event.Kind.{Kind}
 use Rattle.markdown_event.specs.declared.event.Kind.TheVariants.{Enter, Exit}
 use Rattle.markdown_event.specs.declared.event.Point.{Point}
 use Rattle.markdown_partial.specs.TrimmedData.{IsStretch}
-use Rattle.markdown_html.specs.EventWalk.{exit_first}
+use Rattle.markdown_html.specs.EventWalk.{exit_first, left_behind}
 use Rattle.markdown_run_leaves.specs.InnermostEvents.{Span, innermost, has_nothing_inside, span_of, IsInOrder}
 
 -- the places of an Enter and of the Exit right behind it
@@ -36,3 +37,29 @@ without_first bytes false s more places = places
 pub later_in_order : (bytes : List ℕ) (e : Event) (es : List Event) → All (IsInOrder bytes) (innermost (e ∷ es)) → All (IsInOrder bytes) (innermost es)
 later_in_order bytes e [] places = All-nil (IsInOrder bytes)
 later_in_order bytes e (x ∷ es) places = without_first bytes (has_nothing_inside e.kind x.kind) (span_of e x) (innermost (x ∷ es)) places
+
+-- the places of an Enter, and of an Exit right behind it
+pub first_within : (bytes : List ℕ) (e : Event) (rest : List Event) → e.kind ≡ Enter → All (IsInOrder bytes) (innermost (e ∷ rest)) → IfSome (exit_first rest) (λ to. IsStretch bytes e.point to)
+first_within bytes e rest h places = first-by (exit_first rest) refl
+  where
+    first-by : (o : Option Point) → exit_first rest ≡ o → IfSome o (λ to. IsStretch bytes e.point to)
+    first-by None f = tt
+    first-by (Some b) f = ahead_in_order bytes e rest b h f places
+
+-- the places of what is left
+pub behind_in_order : (bytes : List ℕ) (rest behind : List Event) (skips : Bool) → All (IsInOrder bytes) (innermost rest) → behind ≡ left_behind rest skips → All (IsInOrder bytes) (innermost behind)
+behind_in_order bytes rest behind skips places is = subst (λ es. All (IsInOrder bytes) (innermost es)) (sym is) (left-in-order rest skips places)
+  where
+    left-in-order : (rest : List Event) (skips : Bool) → All (IsInOrder bytes) (innermost rest) → All (IsInOrder bytes) (innermost (left_behind rest skips))
+    left-in-order [] skips h = h
+    left-in-order (x ∷ rest) true h = later_in_order bytes x rest h
+    left-in-order (x ∷ rest) false h = h
+
+one-byte : (b : ℕ) (bs spaced : List ℕ) (t : Bool) → (b == 10) ≡ t → (t || list_any (λ b. b == 10) bs) ≡ false → (list_any (λ b. b == 10) bs ≡ false → spaced ≡ bs) → (if b == 10 then 32 else b) ∷ spaced ≡ b ∷ bs
+one-byte b bs spaced true is e more = cc
+one-byte b bs spaced false is e more = ap (λ x. (if x then 32 else b) ∷ spaced) is ∙ ap (λ x. b ∷ x) (more e)
+
+-- a text without line feeds is on one line
+pub no_line_feed : (text : List ℕ) → list_any (λ b. b == 10) text ≡ false → map (λ b. if b == 10 then 32 else b) text ≡ text
+no_line_feed [] e = refl
+no_line_feed (b ∷ bs) e = one-byte b bs _ (b == 10) refl e (no_line_feed bs)

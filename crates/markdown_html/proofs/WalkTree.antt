@@ -1,5 +1,6 @@
 -- The walk over the events of a tree writes the tree's HTML.
-use Rattle.std.proofs.Common.{◌≡◌, ◌∙◌, sym, ap, refl, ℕ, ◌+◌, Bool, true, false, List, [], ◌∷◌, ◌++◌, append-nil, append_assoc, length, take, drop, Option, None, Some}
+use Rattle.std.proofs.Common.{◌≡◌, ◌∙◌, sym, ap, refl, ℕ, ◌+◌, Bool, true, false, if◌then◌else◌, ◌&&◌, ◌||◌, List, [], ◌∷◌, ◌++◌, append-nil, append_assoc, length, take, drop, Option, None, Some}
+use Rattle.std.specs.Option.{is_some}
 use Rattle.std.proofs.Math.Seq.{drop-append_seam, take-append_seam}
 use Rattle.markdown_engine_content.specs.Codes.{stop_of, document_start}
 use Rattle.markdown_engine_content.specs.Tree.{Forest, empty, leaf_then, group_then, start_of, event, event_count, events_from, next_linked}
@@ -12,7 +13,7 @@ use Rattle.markdown_html_model.specs.Html.{Page, Parts, Written, no_parts, joine
 use Rattle.markdown_html_model.specs.Roles.{role_of}
 use Rattle.markdown_html_model.specs.declared.role.Role.{Role}
 use Rattle.markdown_html_model.specs.declared.role.Within.{Within}
-use Rattle.markdown_html.specs.EventWalk.{State, Open, entered, filled, closed, closed_out, stepped, walked, beginning, keeps_inside}
+use Rattle.markdown_html.specs.EventWalk.{State, Open, open_of, opened_by, has_parts, entered, filled, closed, closed_apart, closed_around, closed_out, exited, stepped, walked, beginning, keeps_inside, is_light, is_apart, is_leaf, is_bare, filled_before, left_behind}
 
 -- the state after this is written
 abbrev pub after : State → Written → State
@@ -43,9 +44,9 @@ joined-assoc x y z =
     (or_else-assoc z.label y.label x.label)
     (or_else-assoc z.reference y.reference x.reference)
 
-joined-first : (x : Parts) → joined_parts no_parts x ≡ x
+pub joined_first : (x : Parts) → joined_parts no_parts x ≡ x
 unfolding parts_with
-joined-first x = same-parts _ _ _ _ _ _ _ _ (or_else-none x.destination) (or_else-none x.title) (or_else-none x.label) (or_else-none x.reference)
+joined_first x = same-parts _ _ _ _ _ _ _ _ (or_else-none x.destination) (or_else-none x.title) (or_else-none x.label) (or_else-none x.reference)
 
 state_with : State → List ℕ → Parts → List (List ℕ) → State
 state_with s out parts calls = record s { out = out; parts = parts; calls = calls }
@@ -64,62 +65,78 @@ after-after s v w = same-state s _ _ _ _ _ _ (append_assoc s.out v.html w.html) 
 -- What is done at an Exit.
 
 kept : (p : Page) (before : List (List ℕ)) (within : Within) (role : Role) (a b : Point) (inside : List ℕ) (parts : Parts) → keeps_inside role ≡ true → group_html p before within role a b inside parts ≡ opening within role ++ inside ++ closing within role
-kept p before within Role.Plain a b inside parts e = refl
-kept p before within Role.LineEnd a b inside parts e = refl
-kept p before within Role.Break a b inside parts e = refl
-kept p before within Role.Raw a b inside parts e = refl
-kept p before within Role.Uri a b inside parts e = refl
-kept p before within Role.Email a b inside parts e = refl
-kept p before within Role.UriLiteral a b inside parts e = refl
-kept p before within Role.WwwLiteral a b inside parts e = refl
-kept p before within Role.EmailLiteral a b inside parts e = refl
 kept p before within Role.Check a b inside parts e = cc
-kept p before within Role.Emphasis a b inside parts e = refl
-kept p before within Role.Strong a b inside parts e = refl
-kept p before within Role.Strikethrough a b inside parts e = refl
 kept p before within Role.Code a b inside parts e = cc
 kept p before within Role.Math a b inside parts e = cc
 kept p before within Role.Reference a b inside parts e = cc
 kept p before within Role.Link a b inside parts e = cc
 kept p before within Role.Image a b inside parts e = cc
 kept p before within Role.Footnote a b inside parts e = cc
-kept p before within Role.Label a b inside parts e = refl
-kept p before within Role.FullReference a b inside parts e = refl
 kept p before within Role.Destination a b inside parts e = cc
 kept p before within Role.TitleText a b inside parts e = cc
-kept p before within Role.Title a b inside parts e = refl
 kept p before within Role.Resource a b inside parts e = cc
 kept p before within Role.Tail a b inside parts e = cc
-kept p before within Role.Silent a b inside parts e = refl
+kept p before within role a b inside parts e = refl
 
-replaced : (within : Within) (role : Role) → keeps_inside role ≡ false → opening within role ≡ []
-replaced within Role.Plain e = cc
-replaced within Role.LineEnd e = cc
-replaced within Role.Break e = cc
-replaced within Role.Raw e = cc
-replaced within Role.Uri e = cc
-replaced within Role.Email e = cc
-replaced within Role.UriLiteral e = cc
-replaced within Role.WwwLiteral e = cc
-replaced within Role.EmailLiteral e = cc
-replaced within Role.Check e = refl
-replaced within Role.Emphasis e = cc
-replaced within Role.Strong e = cc
-replaced within Role.Strikethrough e = cc
-replaced within Role.Code e = refl
-replaced within Role.Math e = refl
-replaced within Role.Reference e = refl
-replaced within Role.Link e = refl
-replaced within Role.Image e = refl
-replaced within Role.Footnote e = refl
-replaced within Role.Label e = cc
-replaced within Role.FullReference e = cc
-replaced within Role.Destination e = refl
-replaced within Role.TitleText e = refl
-replaced within Role.Title e = cc
-replaced within Role.Resource e = refl
-replaced within Role.Tail e = refl
-replaced within Role.Silent e = cc
+no-opening : (within : Within) (role : Role) → is_light role ≡ false → opening within role ≡ []
+no-opening within Role.Emphasis e = cc
+no-opening within Role.Strong e = cc
+no-opening within Role.Strikethrough e = cc
+no-opening within role e = refl
+
+-- of something light
+light-within : (within : Within) (role : Role) → is_light role ≡ true → within_of within role ≡ within
+light-within within Role.Check e = cc
+light-within within Role.Code e = cc
+light-within within Role.Math e = cc
+light-within within Role.Link e = cc
+light-within within Role.Image e = cc
+light-within within Role.Destination e = cc
+light-within within Role.TitleText e = cc
+light-within within role e = refl
+
+light-keeps : (role : Role) → is_light role ≡ true → keeps_inside role ≡ true
+light-keeps Role.Check e = cc
+light-keeps Role.Code e = cc
+light-keeps Role.Math e = cc
+light-keeps Role.Reference e = cc
+light-keeps Role.Link e = cc
+light-keeps Role.Image e = cc
+light-keeps Role.Footnote e = cc
+light-keeps Role.Destination e = cc
+light-keeps Role.TitleText e = cc
+light-keeps Role.Resource e = cc
+light-keeps Role.Tail e = cc
+light-keeps role e = refl
+
+light-not-apart : (role : Role) → is_light role ≡ true → is_apart role ≡ false
+light-not-apart Role.Link e = cc
+light-not-apart Role.Image e = cc
+light-not-apart Role.Footnote e = cc
+light-not-apart Role.Label e = cc
+light-not-apart Role.FullReference e = cc
+light-not-apart Role.Destination e = cc
+light-not-apart Role.TitleText e = cc
+light-not-apart Role.Title e = cc
+light-not-apart Role.Resource e = cc
+light-not-apart role e = refl
+
+-- what gives all that was found inside it
+own-same : (role : Role) (a b : Point) (string : List ℕ) (parts : Parts) → is_apart role ≡ false → own_parts role a b string parts ≡ parts
+own-same Role.Link a b string parts e = cc
+own-same Role.Image a b string parts e = cc
+own-same Role.Footnote a b string parts e = cc
+own-same Role.Label a b string parts e = cc
+own-same Role.FullReference a b string parts e = cc
+own-same Role.Destination a b string parts e = cc
+own-same Role.TitleText a b string parts e = cc
+own-same Role.Title a b string parts e = cc
+own-same Role.Resource a b string parts e = cc
+own-same role a b string parts e = refl
+
+no-calls : (p : Page) (role : Role) (parts : Parts) → is_apart role ≡ false → own_calls p role parts ≡ []
+no-calls p Role.Footnote parts e = cc
+no-calls p role parts e = refl
 
 closed_out-kept : (p : Page) (before : List (List ℕ)) (o : Open) (role : Role) (b : Point) (out : List ℕ) (parts : Parts) → keeps_inside role ≡ true → closed_out p before o role b out parts ≡ out ++ closing o.within role
 unfolding closed_out
@@ -130,34 +147,263 @@ closed_out-replaced : (p : Page) (before : List (List ℕ)) (o : Open) (role : R
 unfolding closed_out
 closed_out-replaced p before o role b out parts k = ap (λ x. elim x [ true ↦ out ++ closing o.within role | false ↦ take o.start out ++ group_html p before o.within role o.point b (drop o.start out) parts ]) k
 
-abbrev pub open_of : State → Role → Point → Open
-open_of s role a = record { start = length (s.out ++ opening s.within role); point = a; within = s.within; parts = s.parts }
+out-closed : (p : Page) (before : List (List ℕ)) (s : State) (role : Role) (a b : Point) (k : Bool) (w : List ℕ) (parts : Parts) → is_light role ≡ false → (keeps : Bool) → keeps_inside role ≡ keeps
+    → closed_out p before (open_of s a k) role b (s.out ++ w) parts ≡ s.out ++ group_html p before s.within role a b w parts
+out-closed p before s role a b k w parts heavy true e =
+    closed_out-kept p before (open_of s a k) role b _ parts e
+    ∙ append_assoc s.out w (closing s.within role)
+    ∙ ap (λ x. s.out ++ ((x ++ w) ++ closing s.within role)) (sym (no-opening s.within role heavy))
+    ∙ ap (λ x. s.out ++ x) (sym (kept p before s.within role a b w parts e))
+out-closed p before s role a b k w parts heavy false e =
+    closed_out-replaced p before (open_of s a k) role b _ parts e
+    ∙ ap (λ x. x ++ group_html p before s.within role a b (drop (length s.out) (s.out ++ w)) parts) (take-append_seam s.out w)
+    ∙ ap (λ x. s.out ++ group_html p before s.within role a b x parts) (drop-append_seam s.out w)
 
-out-closed : (p : Page) (before : List (List ℕ)) (s : State) (role : Role) (a b : Point) (w : List ℕ) (parts : Parts) (keeps : Bool) → keeps_inside role ≡ keeps
-    → closed_out p before (open_of s role a) role b ((s.out ++ opening s.within role) ++ w) parts ≡ s.out ++ group_html p before s.within role a b w parts
-out-closed p before s role a b w parts true k =
-    closed_out-kept p before (open_of s role a) role b _ parts k
-    ∙ ap (λ x. x ++ closing s.within role) (append_assoc s.out (opening s.within role) w)
-    ∙ append_assoc s.out (opening s.within role ++ w) (closing s.within role)
-    ∙ ap (λ x. s.out ++ x) (sym (kept p before s.within role a b w parts k))
-out-closed p before s role a b w parts false k =
-    let front = s.out ++ opening s.within role in
-    closed_out-replaced p before (open_of s role a) role b _ parts k
-    ∙ ap (λ x. x ++ group_html p before s.within role a b (drop (length front) (front ++ w)) parts) (take-append_seam front w)
-    ∙ ap (λ x. front ++ group_html p before s.within role a b x parts) (drop-append_seam front w)
-    ∙ ap (λ x. (s.out ++ x) ++ group_html p before s.within role a b w parts) (replaced s.within role k)
-    ∙ ap (λ x. x ++ group_html p before s.within role a b w parts) (append-nil s.out)
+-- What an Enter leaves.
 
-pub close-around : (p : Page) (s : State) (role : Role) (a b : Point) (w : Written) → closed p (after (entered s role a) w) (open_of s role a) s.opened role b ≡ after s (around p s.calls s.within role a b w)
-unfolding entered closed state_with
-close-around p s role a b w =
-    let front = s.out ++ opening s.within role in
+entered-light : (s : State) (role : Role) (a : Point) → is_light role ≡ true → entered s role a ≡ record s { out = s.out ++ opening s.within role }
+unfolding entered
+entered-light s role a l = ap (λ x. if x then record s { out = s.out ++ opening s.within role } else opened_by s role a (is_apart role && has_parts s.parts)) l
+
+entered-heavy : (s : State) (role : Role) (a : Point) → is_light role ≡ false → entered s role a ≡ opened_by s role a (is_apart role && has_parts s.parts)
+unfolding entered
+entered-heavy s role a l = ap (λ x. if x then record s { out = s.out ++ opening s.within role } else opened_by s role a (is_apart role && has_parts s.parts)) l
+
+entered-by : (s : State) (role : Role) (a : Point) (x : Bool) → is_light role ≡ false → is_apart role && has_parts s.parts ≡ x → entered s role a ≡ opened_by s role a x
+entered-by s role a x l is = entered-heavy s role a l ∙ ap (opened_by s role a) is
+
+within-by : (s : State) (role : Role) (a : Point) (l : Bool) → is_light role ≡ l → (State.within (entered s role a) ≡ within_of s.within role) × (State.calls (entered s role a) ≡ s.calls)
+within-by s role a true l = (ap (λ x. State.within x) (entered-light s role a l) ∙ sym (light-within s.within role l), ap (λ x. State.calls x) (entered-light s role a l))
+within-by s role a false l = (ap (λ x. State.within x) (entered-heavy s role a l), ap (λ x. State.calls x) (entered-heavy s role a l))
+
+entered-within : (s : State) (role : Role) (a : Point) → State.within (entered s role a) ≡ within_of s.within role
+entered-within s role a = let w = within-by s role a (is_light role) refl in w.0
+
+entered-calls : (s : State) (role : Role) (a : Point) → State.calls (entered s role a) ≡ s.calls
+entered-calls s role a = let w = within-by s role a (is_light role) refl in w.1
+
+-- What an Exit leaves.
+
+exited-light : (p : Page) (s : State) (role : Role) (b : Point) → is_light role ≡ true → exited p s role b ≡ record s { out = s.out ++ closing s.within role }
+unfolding exited
+exited-light p s role b l = ap (λ x. if x then record s { out = s.out ++ closing s.within role } else closed p s s.opened role b) l
+
+exited-heavy : (p : Page) (s : State) (role : Role) (b : Point) → is_light role ≡ false → exited p s role b ≡ closed p s s.opened role b
+unfolding exited
+exited-heavy p s role b l = ap (λ x. if x then record s { out = s.out ++ closing s.within role } else closed p s s.opened role b) l
+
+abbrev closed-by : Page → State → Open → List Open → Role → Point → Bool → State
+closed-by p s o opened role b x =
+    let left = record s { opened = opened } in
+    if x then closed_apart p left o role b else closed_around p left o role b
+
+closed-is : (p : Page) (s : State) (o : Open) (opened : List Open) (role : Role) (b : Point) (x : Bool) → is_apart role ≡ x → closed p s (o ∷ opened) role b ≡ closed-by p s o opened role b x
+closed-is p s o opened role b x is = ap (closed-by p s o opened role b) is
+
+light-around : (p : Page) (s : State) (role : Role) (a b : Point) (w : Written) → is_light role ≡ true → exited p (after (entered s role a) w) role b ≡ after s (around p s.calls s.within role a b w)
+unfolding state_with
+light-around p s role a b w l =
+    let apart = light-not-apart role l in
+    ap (λ x. exited p (after x w) role b) (entered-light s role a l)
+    ∙ exited-light p (after (record s { out = s.out ++ opening s.within role }) w) role b l
+    ∙ same-state s _ _ _ _ _ _
+    (ap (λ x. x ++ closing s.within role) (append_assoc s.out (opening s.within role) w.html)
+    ∙ append_assoc s.out (opening s.within role ++ w.html) (closing s.within role)
+    ∙ ap (λ x. s.out ++ x) (sym (kept p (w.calls ++ s.calls) s.within role a b w.html w.parts (light-keeps role l))))
+    (ap (joined_parts s.parts) (sym (own-same role a b (string_of role w.html) w.parts apart)))
+    (ap (λ x. (x ++ w.calls) ++ s.calls) (sym (no-calls p role w.parts apart)))
+
+no-parts : (d t : Option (List ℕ)) (l r : Option (ℕ × ℕ)) → is_some d || is_some t || is_some l || is_some r ≡ false → parts_with d t l r ≡ parts_with None None None None
+no-parts (Some x) t l r e = cc
+no-parts None (Some x) l r e = cc
+no-parts None None (Some x) r e = cc
+no-parts None None None (Some x) e = cc
+no-parts None None None None e = refl
+
+nothing-found : (x : Parts) → has_parts x ≡ false → x ≡ no_parts
+unfolding parts_with
+nothing-found x e = no-parts x.destination x.title x.label x.reference e
+
+apart-around : (p : Page) (s : State) (role : Role) (a b : Point) (w : Written) (k : Bool) → is_light role ≡ false → is_apart role ≡ true → has_parts s.parts ≡ k → exited p (after (entered s role a) w) role b ≡ after s (around p s.calls s.within role a b w)
+unfolding closed_apart state_with
+apart-around p s role a b w true l is found =
     let before = w.calls ++ s.calls in
-    same-state s _ _ _ _ _ _
-    (ap (λ q. closed_out p before (open_of s role a) role b (front ++ w.html) q) (joined-first w.parts) ∙ out-closed p before s role a b w.html w.parts (keeps_inside role) refl)
-    (ap (λ q. joined_parts s.parts (own_parts role a b (string_of role (drop (length front) (front ++ w.html))) q)) (joined-first w.parts)
-    ∙ ap (λ x. joined_parts s.parts (own_parts role a b (string_of role x) w.parts)) (drop-append_seam front w.html))
-    (ap (λ q. own_calls p role q ++ before) (joined-first w.parts) ∙ sym (append_assoc (own_calls p role w.parts) w.calls s.calls))
+    let inner = after (opened_by s role a true) w in
+    let k = true in
+    ap (λ x. exited p (after x w) role b) (entered-by s role a true l (ap (λ x. x && has_parts s.parts) is ∙ found))
+    ∙ exited-heavy p inner role b l
+    ∙ closed-is p inner (open_of s a true) s.opened role b true is
+    ∙ same-state s _ _ _ _ _ _
+    (ap (λ q. closed_out p before (open_of s a true) role b (s.out ++ w.html) q) (joined_first w.parts) ∙ out-closed p before s role a b true w.html w.parts l (keeps_inside role) refl)
+    (ap (λ q. joined_parts s.parts (own_parts role a b (string_of role (drop (length s.out) (s.out ++ w.html))) q)) (joined_first w.parts)
+    ∙ ap (λ x. joined_parts s.parts (own_parts role a b (string_of role x) w.parts)) (drop-append_seam s.out w.html))
+    (ap (λ q. own_calls p role q ++ before) (joined_first w.parts) ∙ sym (append_assoc (own_calls p role w.parts) w.calls s.calls))
+apart-around p s role a b w false l is found =
+    let before = w.calls ++ s.calls in
+    let inner = after (opened_by s role a false) w in
+    let none : s.parts ≡ no_parts = nothing-found s.parts found in
+    let inside : joined_parts s.parts w.parts ≡ w.parts = ap (λ q. joined_parts q w.parts) none ∙ joined_first w.parts in
+    ap (λ x. exited p (after x w) role b) (entered-by s role a false l (ap (λ x. x && has_parts s.parts) is ∙ found))
+    ∙ exited-heavy p inner role b l
+    ∙ closed-is p inner (open_of s a false) s.opened role b true is
+    ∙ same-state s _ _ _ _ _ _
+    (ap (λ q. closed_out p before (open_of s a false) role b (s.out ++ w.html) q) inside ∙ out-closed p before s role a b false w.html w.parts l (keeps_inside role) refl)
+    (ap (λ q. joined_parts no_parts (own_parts role a b (string_of role (drop (length s.out) (s.out ++ w.html))) q)) inside
+    ∙ ap (λ x. joined_parts no_parts (own_parts role a b (string_of role x) w.parts)) (drop-append_seam s.out w.html)
+    ∙ ap (λ q. joined_parts q (own_parts role a b (string_of role w.html) w.parts)) (sym none))
+    (ap (λ q. own_calls p role q ++ before) inside ∙ sym (append_assoc (own_calls p role w.parts) w.calls s.calls))
+
+-- parts of what gives all that was found inside it are not read
+unread-parts : (p : Page) (before : List (List ℕ)) (within : Within) (role : Role) (a b : Point) (inside : List ℕ) (x y : Parts) → is_apart role ≡ false → group_html p before within role a b inside x ≡ group_html p before within role a b inside y
+unread-parts p before within Role.Link a b inside x y e = cc
+unread-parts p before within Role.Image a b inside x y e = cc
+unread-parts p before within Role.Footnote a b inside x y e = cc
+unread-parts p before within role a b inside x y e = refl
+
+same-around : (p : Page) (s : State) (role : Role) (a b : Point) (w : Written) → is_light role ≡ false → is_apart role ≡ false → exited p (after (entered s role a) w) role b ≡ after s (around p s.calls s.within role a b w)
+unfolding state_with
+same-around p s role a b w l is =
+    let before = w.calls ++ s.calls in
+    let inner = after (opened_by s role a false) w in
+    ap (λ x. exited p (after x w) role b) (entered-by s role a false l (ap (λ x. x && has_parts s.parts) is))
+    ∙ exited-heavy p inner role b l
+    ∙ closed-is p inner (open_of s a false) s.opened role b false is
+    ∙ same-state s _ _ _ _ _ _
+    (out-closed p before s role a b false w.html (joined_parts s.parts w.parts) l (keeps_inside role) refl
+    ∙ ap (λ x. s.out ++ x) (unread-parts p before s.within role a b w.html (joined_parts s.parts w.parts) w.parts is))
+    (ap (joined_parts s.parts) (sym (own-same role a b (string_of role w.html) w.parts is)))
+    (ap (λ x. (x ++ w.calls) ++ s.calls) (sym (no-calls p role w.parts is)))
+
+around-by : (p : Page) (s : State) (role : Role) (a b : Point) (w : Written) (l x : Bool) → is_light role ≡ l → is_apart role ≡ x → exited p (after (entered s role a) w) role b ≡ after s (around p s.calls s.within role a b w)
+around-by p s role a b w true x l is = light-around p s role a b w l
+around-by p s role a b w false true l is = apart-around p s role a b w (has_parts s.parts) l is refl
+around-by p s role a b w false false l is = same-around p s role a b w l is
+
+pub close-around : (p : Page) (s : State) (role : Role) (a b : Point) (w : Written) → exited p (after (entered s role a) w) role b ≡ after s (around p s.calls s.within role a b w)
+close-around p s role a b w = around-by p s role a b w (is_light role) (is_apart role) refl refl
+
+-- What is not written.
+
+leaf-is-light : (role : Role) → is_bare role ≡ true → is_light role ≡ true
+leaf-is-light Role.Check e = cc
+leaf-is-light Role.Code e = cc
+leaf-is-light Role.Math e = cc
+leaf-is-light Role.Reference e = cc
+leaf-is-light Role.Link e = cc
+leaf-is-light Role.Image e = cc
+leaf-is-light Role.Footnote e = cc
+leaf-is-light Role.Label e = cc
+leaf-is-light Role.FullReference e = cc
+leaf-is-light Role.Destination e = cc
+leaf-is-light Role.TitleText e = cc
+leaf-is-light Role.Title e = cc
+leaf-is-light Role.Resource e = cc
+leaf-is-light Role.Tail e = cc
+leaf-is-light role e = refl
+
+leaf-is-bare : (role : Role) → is_leaf role ≡ true → is_bare role ≡ true
+leaf-is-bare Role.Silent e = cc
+leaf-is-bare role e = e
+
+bare-opening : (within : Within) (role : Role) → is_bare role ≡ true → opening within role ≡ []
+bare-opening within Role.Emphasis e = cc
+bare-opening within Role.Strong e = cc
+bare-opening within Role.Strikethrough e = cc
+bare-opening within role e = refl
+
+bare-closing : (within : Within) (role : Role) → is_bare role ≡ true → closing within role ≡ []
+bare-closing within Role.Emphasis e = cc
+bare-closing within Role.Strong e = cc
+bare-closing within Role.Strikethrough e = cc
+bare-closing within role e = refl
+
+no-text : (p : Page) (within : Within) (role : Role) (text : List ℕ) → is_leaf role ≡ false → leaf_html p within role text ≡ []
+no-text p within Role.Plain text e = cc
+no-text p within Role.LineEnd text e = cc
+no-text p within Role.Break text e = cc
+no-text p within Role.Raw text e = cc
+no-text p within Role.Uri text e = cc
+no-text p within Role.Email text e = cc
+no-text p within Role.UriLiteral text e = cc
+no-text p within Role.WwwLiteral text e = cc
+no-text p within Role.EmailLiteral text e = cc
+no-text p within role text e = refl
+
+with-nothing : (s : State) (written : List ℕ) → written ≡ [] → record s { out = s.out ++ written } ≡ s
+with-nothing s written e = ap (λ x. record s { out = s.out ++ x }) e ∙ ap (λ x. record s { out = x }) (append-nil s.out)
+
+entered-bare : (s : State) (role : Role) (a : Point) → is_bare role ≡ true → entered s role a ≡ s
+entered-bare s role a e = entered-light s role a (leaf-is-light role e) ∙ with-nothing s (opening s.within role) (bare-opening s.within role e)
+
+exited-bare : (p : Page) (s : State) (role : Role) (b : Point) → is_bare role ≡ true → exited p s role b ≡ s
+exited-bare p s role b e = exited-light p s role b (leaf-is-light role e) ∙ with-nothing s (closing s.within role) (bare-closing s.within role e)
+
+filled-none : (p : Page) (s : State) (role : Role) (a b : Point) → is_leaf role ≡ false → filled p s role a b ≡ s
+unfolding filled
+filled-none p s role a b e = with-nothing s _ (no-text p s.within role (text_between p.bytes a b) e)
+
+abbrev first-by : Point → Kind → Option Point
+first-by b k = elim k [ Kind.Enter ↦ None | Kind.Exit ↦ Some b ]
+
+abbrev filled-to : Page → State → Role → Point → Option Point → State
+filled-to p s role a to = elim to [ None ↦ s | Some b ↦ filled p s role a b ]
+
+unfilled : (p : Page) (s : State) (role : Role) (a : Point) (rest : List Event) → is_leaf role ≡ false → filled_before p s role a rest ≡ s
+unfilled p s role a [] e = refl
+unfilled p s role a (x ∷ rest) e = unfilled-by x.kind
+  where
+    unfilled-by : (k : Kind) → filled-to p s role a (first-by x.point k) ≡ s
+    unfilled-by Kind.Enter = refl
+    unfilled-by Kind.Exit = filled-none p s role a x.point e
+
+abbrev stepped-by : Page → State → Event → List Event → Kind → Role → State
+stepped-by p s e rest k role = elim k [
+  | Kind.Enter ↦ filled_before p (entered s role e.point) role e.point rest
+  | Kind.Exit ↦ exited p s role e.point
+]
+
+-- an event that is an Exit
+pub step-exit : (p : Page) (s : State) (e : Event) (rest : List Event) (role : Role) → role ≡ role_of e.name → e.kind ≡ Kind.Exit → stepped p s e rest ≡ exited p s role e.point
+step-exit p s e rest role is k = ap (λ x. stepped-by p s e rest x (role_of e.name)) k ∙ ap (λ x. exited p s x e.point) (sym is)
+
+-- an Enter of what has no text of its own
+pub step-enter : (p : Page) (s : State) (e : Event) (rest : List Event) (role : Role) → role ≡ role_of e.name → e.kind ≡ Kind.Enter → is_leaf role ≡ false → stepped p s e rest ≡ entered s role e.point
+step-enter p s e rest role is k none =
+    ap (λ x. stepped-by p s e rest x (role_of e.name)) k
+    ∙ ap (λ x. stepped-by p s e rest Kind.Enter x) (sym is)
+    ∙ unfilled p (entered s role e.point) role e.point rest none
+
+-- an Enter of a text
+pub step-leaf : (p : Page) (s : State) (e : Event) (rest : List Event) (role : Role) → role ≡ role_of e.name → e.kind ≡ Kind.Enter → is_leaf role ≡ true → stepped p s e rest ≡ filled_before p s role e.point rest
+step-leaf p s e rest role is k leaf =
+    ap (λ x. stepped-by p s e rest x (role_of e.name)) k
+    ∙ ap (λ x. stepped-by p s e rest Kind.Enter x) (sym is)
+    ∙ ap (λ x. filled_before p x role e.point rest) (entered-bare s role e.point (leaf-is-bare role leaf))
+
+-- an event of what is not written at all
+pub step-silent : (p : Page) (s : State) (e : Event) (rest : List Event) (role : Role) → role ≡ role_of e.name → role ≡ Role.Silent → stepped p s e rest ≡ s
+step-silent p s e rest role is silent = ap (λ x. stepped-by p s e rest e.kind x) (sym is ∙ silent) ∙ silent-by e.kind
+  where
+    silent-by : (k : Kind) → stepped-by p s e rest k Role.Silent ≡ s
+    silent-by Kind.Enter = unfilled p (entered s Role.Silent e.point) Role.Silent e.point rest refl ∙ entered-bare s Role.Silent e.point refl
+    silent-by Kind.Exit = exited-bare p s Role.Silent e.point refl
+
+exit-done : (p : Page) (s : State) (x : Event) (rest : List Event) (skips : Bool) → x.kind ≡ Kind.Exit → skips ≡ is_bare (role_of x.name) → walked p s (left_behind (x ∷ rest) skips) ≡ walked p s (x ∷ rest)
+exit-done p s x rest true k e = ap (λ y. walked p y rest) (sym (exited-bare p s (role_of x.name) x.point (sym e)) ∙ sym (step-exit p s x rest (role_of x.name) refl k))
+exit-done p s x rest false k e = refl
+
+-- a text, and its Exit where that is done too
+pub leaf-written : (p : Page) (s new : State) (role : Role) (a : Point) (x : Event) (rest : List Event) (skips : Bool) → x.kind ≡ Kind.Exit → skips ≡ is_bare (role_of x.name)
+    → new ≡ record s { out = s.out ++ leaf_html p s.within role (text_between p.bytes a x.point) }
+    → walked p new (left_behind (x ∷ rest) skips) ≡ walked p (filled_before p s role a (x ∷ rest)) (x ∷ rest)
+unfolding filled
+leaf-written p s new role a x rest skips k e is =
+    exit-done p new x rest skips k e
+    ∙ ap (λ y. walked p y (x ∷ rest)) (is ∙ ap (λ kind. filled-to p s role a (first-by x.point kind)) (sym k))
+
+pub left-all : (p : Page) (new whole : State) (rest : List Event) → whole ≡ new → walked p new (left_behind rest false) ≡ walked p whole rest
+left-all p new whole [] e = ap (λ y. walked p y []) (sym e)
+left-all p new whole (x ∷ rest) e = ap (λ y. walked p y (x ∷ rest)) (sym e)
 
 -- Trees.
 
@@ -166,9 +412,11 @@ enter_event name a link = record { kind = Kind.Enter; name = name; point = a; li
 
 leaf-step : (p : Page) (s : State) (name : Name) (a b : Point) (link : Option Link) (r : List Event)
     → stepped p (stepped p s (enter_event name a link) (event Kind.Exit name b ∷ r)) (event Kind.Exit name b) r ≡ after s (innermost p s.calls s.within (role_of name) a b)
-unfolding entered filled
+unfolding filled
 leaf-step p s name a b link r =
-    close-around p s (role_of name) a b (record { html = leaf_html p (within_of s.within (role_of name)) (role_of name) (text_between p.bytes a b); parts = no_parts; calls = [] })
+    let role = role_of name in
+    ap (λ within. exited p (after (entered s role a) (record { html = leaf_html p within role (text_between p.bytes a b); parts = no_parts; calls = [] })) role b) (entered-within s role a)
+    ∙ close-around p s role a b (record { html = leaf_html p (within_of s.within role) role (text_between p.bytes a b); parts = no_parts; calls = [] })
 
 -- the walk over the events of these trees writes them, whatever comes after
 abbrev pub Walks : Page → Forest → Type 0
@@ -189,7 +437,6 @@ group-walk : (p : Page) (name : Name) (a b : Point) (inside t : Forest) → Walk
     → (let w = around p s.calls s.within (role_of name) a b (written p s.calls (within_of s.within (role_of name)) inside) in
     written p s.calls s.within (group_then name a b inside t) ≡ beside w (written p (w.calls ++ s.calls) s.within t))
     → walked p s (events_from n previous (group_then name a b inside t) ++ rest) ≡ walked p (after s (written p s.calls s.within (group_then name a b inside t))) rest
-unfolding entered
 group-walk p name a b inside t inner later n previous s rest not_filled whole =
     let role = role_of name in
     let m = n + 2 + event_count inside in
@@ -200,6 +447,8 @@ group-walk p name a b inside t inner later n previous s rest not_filled whole =
     ap (λ es. walked p s (enter_event name a None ∷ es)) (append_assoc (events_from (n + 1) None inside) (exit ∷ events_from m previous t) rest)
     ∙ ap (λ x. walked p x (events_from (n + 1) None inside ++ exit ∷ behind)) (not_filled (exit ∷ behind))
     ∙ inner (n + 1) None (entered s role a) (exit ∷ behind)
+    ∙ ap (λ within. walked p (after (entered s role a) (written p (State.calls (entered s role a)) within inside)) (exit ∷ behind)) (entered-within s role a)
+    ∙ ap (λ calls. walked p (after (entered s role a) (written p calls (within_of s.within role) inside)) (exit ∷ behind)) (entered-calls s role a)
     ∙ ap (λ x. walked p x behind) (close-around p s role a b w)
     ∙ later m previous (after s done) rest
     ∙ ap (λ x. walked p x rest) (after-after s done (written p (done.calls ++ s.calls) s.within t))

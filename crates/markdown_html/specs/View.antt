@@ -30,8 +30,8 @@ abbrev pub target_view : Goal → Target
 target_view g = record { destination = g.destination.now; title = option_map (λ t. t.now) g.title }
 
 abbrev pub open_view : Entry → Open
-open_view e = record { start = e.start; point = e.point; within = e.within; parts = parts_of e.found }
+open_view e = record { start = e.start; point = e.point; within = e.within; kept = e.kept }
 
--- of what is open the innermost comes first
+-- of what is open, and of the parts that were set apart, the innermost comes first
 abbrev pub state_of : Writer → State
-state_of w = record { out = w.out.items; within = w.within; parts = parts_of w.found; opened = reverse (map open_view w.entries.items); calls = w.calls }
+state_of w = record { out = w.out.items; within = w.within; parts = parts_of w.found; opened = reverse (map open_view w.entries.items); before = reverse (map parts_of w.before.items); calls = w.calls }

@@ -2,7 +2,8 @@
 #![tactic(auto)]
 
 ghost use Rattle.std.specs.Prelude.{◌≡◌, IfOk, option_map};
-ghost use Rattle.markdown_html_model.specs.Html.{no_parts, joined_parts, or_empty, own_parts, string_of};
+ghost use Rattle.markdown_html_model.specs.Html.{no_parts, joined_parts, or_else, own_parts, string_of};
+ghost use Rattle.markdown_html.specs.EventWalk.{has_parts};
 ghost use Rattle.markdown_html.specs.View.{parts_of};
 
 use markdown_event::event::Point;
@@ -31,56 +32,78 @@ impl Found {
         }
     }
 
-    // These, and what comes later.
-    pub(crate) fn joined(self, later: Found) -> Found
-        ensures { parts_of result ≡ joined_parts (parts_of self) (parts_of later) }
+    // Whether anything was found.
+    pub(crate) fn has_parts(&self) -> bool
+        ensures { result ≡ has_parts (parts_of self.now) }
     {
-        Found {
-            destination: later.destination.or(self.destination),
-            title: later.title.or(self.title),
-            label: later.label.or(self.label),
-            reference: later.reference.or(self.reference),
-        }
+        self.destination.is_some()
+            || self.title.is_some()
+            || self.label.is_some()
+            || self.reference.is_some()
     }
 
-    // What something gives from one place to another, by its string and what was found inside it.
-    pub(crate) fn own(
-        self,
+    // Forgets what was found.
+    fn clear(&mut self)
+        ensures { parts_of self.new ≡ no_parts }
+    {
+        self.destination = None;
+        self.title = None;
+        self.label = None;
+        self.reference = None;
+    }
+
+    // Adds what was found earlier. Of two parts of one kind the later stays.
+    pub(crate) fn join_behind(&mut self, earlier: Found)
+        ensures { parts_of self.new ≡ joined_parts (parts_of earlier) (parts_of self.old) }
+    {
+        set_if_none(&mut self.destination, earlier.destination);
+        set_if_none(&mut self.title, earlier.title);
+        self.label = self.label.or(earlier.label);
+        self.reference = self.reference.or(earlier.reference);
+    }
+
+    // Replaces what was found inside something by what its surroundings find in it, where it stands from one place to another and has this string.
+    pub(crate) fn make_own(
+        &mut self,
         alloc: Global,
         role: Role,
         from: Point,
         to: Point,
         string: Vec<u8>,
-    ) -> Found
-        ensures { parts_of result ≡ own_parts role from to string.items (parts_of self) }
+    )
+        ensures { parts_of self.new ≡ own_parts role from to string.items (parts_of self.old) }
     {
-        let mut own = Found::nothing();
         match role {
-            Role::Destination => own.destination = Some(string),
-            Role::TitleText => own.title = Some(string),
-            Role::Title => {
-                own = self;
-                own.title = Some(or_empty(alloc, own.title));
+            Role::Destination => {
+                self.clear();
+                self.destination = Some(string);
             }
-            Role::Resource => {
-                own = self;
-                own.destination = Some(or_empty(alloc, own.destination));
+            Role::TitleText => {
+                self.clear();
+                self.title = Some(string);
             }
-            Role::Label => own.label = Some((from.index, to.index)),
-            Role::FullReference => own.reference = Some((from.index, to.index)),
-            Role::Link | Role::Image | Role::Footnote => {}
-            _ => own = self,
+            Role::Title => set_if_none(&mut self.title, Some(Vec::new(alloc))),
+            Role::Resource => set_if_none(&mut self.destination, Some(Vec::new(alloc))),
+            Role::Label => {
+                self.clear();
+                self.label = Some((from.index, to.index));
+            }
+            Role::FullReference => {
+                self.clear();
+                self.reference = Some((from.index, to.index));
+            }
+            Role::Link | Role::Image | Role::Footnote => self.clear(),
+            _ => {}
         }
-        own
     }
 }
 
-fn or_empty(alloc: Global, text: Option<Vec<u8>>) -> Vec<u8>
-    ensures { result.items ≡ or_empty (option_map (λ v. v.items) text) }
+// Sets a text to another where there is none.
+fn set_if_none(text: &mut Option<Vec<u8>>, other: Option<Vec<u8>>)
+    ensures { option_map (λ v. v.items) text.new ≡ or_else (option_map (λ v. v.items) text.old) (option_map (λ v. v.items) other) }
 {
-    match text {
-        Some(text) => text,
-        None => Vec::new(alloc),
+    if text.is_none() {
+        *text = other;
     }
 }
 

@@ -4,19 +4,14 @@
 ghost use Rattle.std.specs.Prelude.{◌≡◌, ◌++◌, ◌==◌, codes, if◌then◌else◌, not, IfOk, OnOk, map};
 ghost use Rattle.std.specs.List.{list_any};
 ghost use Rattle.markdown_html_text.specs.Resolved.{resolved};
-ghost use Rattle.markdown_html_model.specs.Html.{begins_with_space, check_html, closing, ends_with_space, group_html, image_html, link_html, opening, span_html, span_text, text_html, without_padding};
-ghost use Rattle.markdown_html.specs.View.{page_of, parts_of, target_view};
+ghost use Rattle.markdown_html_model.specs.Html.{begins_with_space, check_html, closing, ends_with_space, image_html, link_html, opening, span_html, span_text, text_html, without_padding};
+ghost use Rattle.markdown_html.specs.View.{page_of, target_view};
 
 use crate::addresses::{
     Given, push_image_address, push_link_address, push_tag, push_text, push_title,
 };
-use crate::calls::push_call;
-use crate::footnotes::FootnoteCalls;
-use crate::found::Found;
-use crate::references::target;
-use crate::stretch::{bytes_before, bytes_between};
+use crate::stretch::bytes_before;
 use crate::targets::Goal;
-use markdown_event::event::Point;
 use markdown_html_model::role::{Role, Within};
 use markdown_html_text::escape::push_escaped;
 use markdown_html_text::resolve::{bytes_from, push_resolved};
@@ -92,17 +87,22 @@ fn on_one_line(alloc: Global, inside: &[u8]) -> Result<Vec<u8>, AllocError>
     Ok(text)
 }
 
-fn push_span(
-    alloc: Global,
+// Whether a text goes over more than one line.
+fn has_line_feed(text: &[u8]) -> bool
+    ensures { result ≡ list_any (λ b. b == 10) text.now }
+{
+    text.iter().any(|byte| *byte == b'\n')
+}
+
+// Appends a span, of which this is the text.
+fn push_span_text(
     out: &mut Vec<u8>,
     within: Within,
     front: &[u8],
-    inside: &[u8],
+    text: &[u8],
 ) -> Result<(), AllocError>
-    ensures { OnOk result (out.new.items ≡ out.old.items ++ span_html within front.now (span_text inside.now)) }
+    ensures { OnOk result (out.new.items ≡ out.old.items ++ span_html within front.now text.now) }
 {
-    let line = on_one_line(alloc, inside)?;
-    let text = without_padding(line.as_slice());
     if matches!(within, Within::InText) {
         return out.extend_from_slice(text);
     }
@@ -111,7 +111,24 @@ fn push_span(
     out.extend_from_slice(b"</code>")
 }
 
-fn push_math(
+// Appends a span around what is inside it. A text on one line is read where it stands, and is not copied.
+pub(crate) fn push_span(
+    alloc: Global,
+    out: &mut Vec<u8>,
+    within: Within,
+    front: &[u8],
+    inside: &[u8],
+) -> Result<(), AllocError>
+    ensures { OnOk result (out.new.items ≡ out.old.items ++ span_html within front.now (span_text inside.now)) }
+{
+    if !has_line_feed(inside) {
+        return push_span_text(out, within, front, without_padding(inside));
+    }
+    let line = on_one_line(alloc, inside)?;
+    push_span_text(out, within, front, without_padding(line.as_slice()))
+}
+
+pub(crate) fn push_math(
     alloc: Global,
     out: &mut Vec<u8>,
     within: Within,
@@ -123,7 +140,7 @@ fn push_math(
     push_span(alloc, out, within, front, inside)
 }
 
-fn push_link(
+pub(crate) fn push_link(
     given: &Given,
     out: &mut Vec<u8>,
     within: Within,
@@ -144,7 +161,7 @@ fn push_link(
     out.extend_from_slice(b"</a>")
 }
 
-fn push_image(
+pub(crate) fn push_image(
     given: &Given,
     out: &mut Vec<u8>,
     within: Within,
@@ -165,22 +182,23 @@ fn push_image(
     out.extend_from_slice(b" />")
 }
 
-// The text of the reference that stands from a place to a place.
-fn push_reference(
+// Appends the text of a character reference, which is made in `room` first.
+pub(crate) fn push_reference(
     alloc: Global,
     out: &mut Vec<u8>,
+    room: &mut Vec<u8>,
     within: Within,
     reference: &[u8],
 ) -> Result<(), AllocError>
     ensures { OnOk result (out.new.items ≡ out.old.items ++ text_html within (resolved reference.now)) }
 {
-    let mut text = Vec::new(alloc);
-    push_resolved(alloc, &mut text, reference)?;
-    push_text(out, within, text.as_slice())
+    room.clear();
+    push_resolved(alloc, room, reference)?;
+    push_text(out, within, room.as_slice())
 }
 
 // The check of a task, which is done where a text stands between its brackets.
-fn push_check(out: &mut Vec<u8>, within: Within, inside: &[u8]) -> Result<(), AllocError>
+pub(crate) fn push_check(out: &mut Vec<u8>, within: Within, inside: &[u8]) -> Result<(), AllocError>
     ensures { OnOk result (out.new.items ≡ out.old.items ++ check_html within inside.now) }
 {
     if inside.is_empty() {
@@ -191,48 +209,5 @@ fn push_check(out: &mut Vec<u8>, within: Within, inside: &[u8]) -> Result<(), Al
             within,
             b"<input type=\"checkbox\" disabled=\"\" checked=\"\" />",
         )
-    }
-}
-
-// The inside as it stands, between what is written before it and after it.
-fn push_inside(
-    out: &mut Vec<u8>,
-    within: Within,
-    role: Role,
-    inside: &[u8],
-) -> Result<(), AllocError>
-    ensures { OnOk result (out.new.items ≡ out.old.items ++ opening within role ++ inside.now ++ closing within role) }
-{
-    push_opening(out, within, role)?;
-    out.extend_from_slice(inside)?;
-    push_closing(out, within, role)
-}
-
-// What is written of something from one place to another, by what is inside it.
-pub(crate) fn push_group(
-    alloc: Global,
-    given: &Given,
-    calls: &FootnoteCalls,
-    out: &mut Vec<u8>,
-    within: Within,
-    role: Role,
-    from: Point,
-    to: Point,
-    inside: &[u8],
-    found: &Found,
-) -> Result<(), AllocError>
-    ensures { OnOk result (out.new.items ≡ out.old.items ++ group_html (page_of given.now) calls.now within role from to inside.now (parts_of found.now)) }
-{
-    let text = bytes_between(given.bytes, from.index, to.index);
-    match role {
-        Role::Code => push_span(alloc, out, within, b"<code>", inside),
-        Role::Math => push_math(alloc, out, within, inside),
-        Role::Reference => push_reference(alloc, out, within, text),
-        Role::Footnote => push_call(alloc, given, calls, out, within, found.label),
-        Role::Link => push_link(given, out, within, target(alloc, given, found)?, inside),
-        Role::Image => push_image(given, out, within, target(alloc, given, found)?, inside),
-        Role::Check => push_check(out, within, inside),
-        Role::Destination | Role::TitleText | Role::Resource | Role::Tail => Ok(()),
-        _ => push_inside(out, within, role, inside),
     }
 }

@@ -1,25 +1,29 @@
 // The walk over events.
 #![tactic(auto)]
 
-ghost use Rattle.std.specs.Prelude.{◌≡◌, ◌≤◌, ◌++◌, ◌∷◌, [], IfOk, OnErr, OnOk, Option, drop, false, length, take, true, ℕ};
+ghost use Rattle.std.specs.Prelude.{◌≡◌, ◌≤◌, ◌++◌, ◌∷◌, ◌&&◌, [], List, if◌then◌else◌, map, reverse, IfOk, IfSome, OnErr, OnOk, Option, drop, false, length, take, true, ℕ};
 ghost use Rattle.std.specs.List.{All};
 ghost use Rattle.markdown_engine_content.specs.Content.{document_limit};
 ghost use Rattle.markdown_engine_content.specs.Tree.{Forest, events_from, events_of};
 ghost use Rattle.markdown_partial.specs.TrimmedData.{IsStretch};
 ghost use Rattle.markdown_run_leaves.specs.InnermostEvents.{innermost, IsInOrder};
-ghost use Rattle.markdown_html_model.specs.Html.{calls_behind, group_html, html, own_calls, plain_text, within_of, written};
+ghost use Rattle.markdown_html_model.specs.Html.{calls_behind, group_html, html, joined_parts, no_parts, own_calls, plain_text, within_of, written};
 ghost use Rattle.markdown_html_model.specs.Roles.{role_of};
 ghost use Rattle.markdown_html_laws.specs.OwnMarkup.{IsOwnMarkup};
 ghost use Rattle.markdown_html.specs.View.{open_view, page_from, page_of, parts_of, state_of};
-ghost use Rattle.markdown_html.specs.EventWalk.{closed, closed_out, entered, exit_first, exited, filled, is_text_alone, keeps_inside, stepped};
+ghost use Rattle.markdown_html.specs.EventWalk.{before_left, before_parts, closed_apart, closed_around, entered, exit_first, exited, filled_before, has_parts, is_apart, is_bare, is_leaf, is_light, is_text_alone, keeps_inside, left_behind, opened_by, rewritten, stepped, walked};
 
 use crate::addresses::Given;
+use crate::calls::push_call;
 use crate::footnotes::FootnoteCalls;
 use crate::found::{Found, string_of};
-use crate::groups::{push_closing, push_group, push_opening};
-use crate::leaves::push_leaf;
-use crate::references::call_identifier;
-use crate::stretch::text_between;
+use crate::groups::{
+    push_check, push_closing, push_image, push_link, push_math, push_opening, push_reference,
+    push_span,
+};
+use crate::leaves::push_leaf_between;
+use crate::references::{call_identifier, target};
+use crate::stretch::bytes_between;
 use crate::targets::Targets;
 use markdown_engine_content::parser::ParseState;
 use markdown_event::event::{Event, Kind, Point};
@@ -30,7 +34,7 @@ use std::alloc::{AllocError, Global};
 use std::mem;
 
 // What is kept of something that is open.
-#[derive(Drop)]
+#[derive(Clone, Copy)]
 struct Entry {
     // Where its inside begins in what is written.
     start: usize,
@@ -38,8 +42,8 @@ struct Entry {
     point: Point,
     // Where it stands.
     within: Within,
-    // What was found before it.
-    found: Found,
+    // Whether `before` of the writer has what was found before it.
+    kept: bool,
 }
 
 #[derive(Drop)]
@@ -47,10 +51,15 @@ struct Writer {
     out: Vec<u8>,
     // Where what comes next stands.
     within: Within,
-    // What has been found in the innermost that is open.
+    // What has been found inside the innermost that is open and has parts of its own.
     found: Found,
+    // What is open, but for mere tags and texts.
     entries: Vec<Entry>,
+    // What was found before those that are open and have parts of their own. Where nothing was found, there is none.
+    before: Vec<Found>,
     calls: FootnoteCalls,
+    // Room for an inside that is written anew.
+    room: Vec<u8>,
 }
 
 // Where the inside of something stands.
@@ -80,63 +89,131 @@ fn keeps_inside(role: Role) -> bool
     }
 }
 
-// Writes something anew that is around what stands from `entry.start` on.
-fn replace(
-    alloc: Global,
-    given: &Given,
-    calls: &FootnoteCalls,
-    out: &mut Vec<u8>,
-    entry: &Entry,
-    role: Role,
-    to: Point,
-    found: &Found,
-) -> Result<(), AllocError>
-    ensures { OnOk result (out.new.items ≡ take entry.now.start out.old.items ++ group_html (page_of given.now) calls.now entry.now.within role entry.now.point to (drop entry.now.start out.old.items) (parts_of found.now)) }
+// Whether something of this role is mere tags around its inside, or a text: no entry is kept of it while it is open.
+fn is_light(role: Role) -> bool
+    ensures { result ≡ is_light role }
 {
-    let inside = Vec::from_slice(alloc, bytes_from(out.as_slice(), entry.start))?;
-    out.truncate(entry.start);
-    push_group(
-        alloc,
-        given,
-        calls,
-        out,
-        entry.within,
-        role,
-        entry.point,
-        to,
-        inside.as_slice(),
-        found,
-    )
+    match role {
+        Role::Plain | Role::LineEnd | Role::Break | Role::Raw | Role::Uri | Role::Email => true,
+        Role::UriLiteral | Role::WwwLiteral | Role::EmailLiteral => true,
+        Role::Emphasis | Role::Strong | Role::Strikethrough | Role::Silent => true,
+        _ => false,
+    }
 }
 
-// Whether a link or an image is its inside alone, as in the description of an image.
+// Whether something of this role has parts of its own: its surroundings find other parts in it than were found inside it.
+fn is_apart(role: Role) -> bool
+    ensures { result ≡ is_apart role }
+{
+    match role {
+        Role::Link | Role::Image | Role::Footnote | Role::Label | Role::FullReference => true,
+        Role::Destination | Role::TitleText | Role::Title | Role::Resource => true,
+        _ => false,
+    }
+}
+
+// Whether something of this role is written as its text.
+fn is_leaf(role: Role) -> bool
+    ensures { result ≡ is_leaf role }
+{
+    match role {
+        Role::Plain | Role::LineEnd | Role::Break | Role::Raw | Role::Uri | Role::Email => true,
+        Role::UriLiteral | Role::WwwLiteral | Role::EmailLiteral => true,
+        _ => false,
+    }
+}
+
+// Whether nothing is written at the ends of something of this role.
+fn is_bare(role: Role) -> bool
+    ensures { result ≡ is_bare role }
+{
+    is_leaf(role) || matches!(role, Role::Silent)
+}
+
+// Whether something is a link or an image of which the inside alone is written, as in the description of an image.
 fn is_text_alone(within: Within, role: Role) -> bool
     ensures { result ≡ is_text_alone within role }
 {
     matches!((within, role), (Within::InText, Role::Link | Role::Image))
 }
 
-// Writes the end of something.
-#[tactic(auto, unfolding(crate::specs::EventWalk::closed_out))]
-fn close(
+// Takes what stands from an index on out of what is written, into `room`.
+fn take_inside(out: &mut Vec<u8>, room: &mut Vec<u8>, start: usize) -> Result<(), AllocError>
+    ensures out { OnOk result (out.new.items ≡ take start out.old.items) }
+    ensures inside { OnOk result (room.new.items ≡ drop start out.old.items) }
+{
+    room.clear();
+    room.extend_from_slice(bytes_from(out.as_slice(), start))?;
+    out.truncate(start);
+    Ok(())
+}
+
+// Replaces the inside of something, which is written from `entry.start` on, by what is written of the whole.
+fn replace(
     alloc: Global,
     given: &Given,
-    calls: &FootnoteCalls,
     out: &mut Vec<u8>,
-    entry: &Entry,
+    room: &mut Vec<u8>,
+    entry: Entry,
     role: Role,
-    to: Point,
     found: &Found,
 ) -> Result<(), AllocError>
-    ensures { OnOk result (out.new.items ≡ closed_out (page_of given.now) calls.now (open_view entry.now) role to out.old.items (parts_of found.now)) }
+    ensures { OnOk result (out.new.items ≡ take entry.start out.old.items ++ rewritten (page_of given.now) entry.within role (drop entry.start out.old.items) (parts_of found.now)) }
 {
-    if keeps_inside(role) {
-        return push_closing(out, entry.within, role);
+    take_inside(out, room, entry.start)?;
+    let inside = room.as_slice();
+    match role {
+        Role::Code => push_span(alloc, out, entry.within, b"<code>", inside),
+        Role::Math => push_math(alloc, out, entry.within, inside),
+        Role::Link => push_link(
+            given,
+            out,
+            entry.within,
+            target(alloc, given, found)?,
+            inside,
+        ),
+        Role::Image => push_image(
+            given,
+            out,
+            entry.within,
+            target(alloc, given, found)?,
+            inside,
+        ),
+        Role::Check => push_check(out, entry.within, inside),
+        _ => Ok(()),
     }
-    if is_text_alone(entry.within, role) {
-        return Ok(());
+}
+
+// Whether what was found before something is set apart from what is found inside it.
+fn sets_apart(role: Role, found: &Found) -> bool
+    ensures { result ≡ is_apart role && has_parts (parts_of found.now) }
+{
+    is_apart(role) && found.has_parts()
+}
+
+// Sets what was found before something apart from what is found inside it, if it is to be kept.
+fn set_apart(before: &mut Vec<Found>, found: &mut Found, kept: bool) -> Result<(), AllocError>
+    ensures parts { OnOk result (parts_of found.new ≡ (if kept then no_parts else parts_of found.old)) }
+    ensures before { OnOk result (reverse (map parts_of before.new.items) ≡ (if kept then parts_of found.old ∷ reverse (map parts_of before.old.items) else reverse (map parts_of before.old.items))) }
+{
+    if kept {
+        before.push(mem::replace(found, Found::nothing()))?;
     }
-    replace(alloc, given, calls, out, entry, role, to, found)
+    Ok(())
+}
+
+// Adds what was found before something, if it was kept.
+#[tactic(auto, using(crate::proofs::WalkTree::joined_first))]
+fn join_before(before: &mut Vec<Found>, found: &mut Found, kept: bool)
+    ensures parts { parts_of found.new ≡ joined_parts (before_parts kept (reverse (map parts_of before.old.items))) (parts_of found.old) }
+    ensures before { reverse (map parts_of before.new.items) ≡ before_left kept (reverse (map parts_of before.old.items)) }
+{
+    if !kept {
+        return;
+    }
+    if let Some(earlier) = before.pop() {
+        found.join_behind(earlier);
+    }
 }
 
 // Adds the call that something is, if it is one.
@@ -156,47 +233,139 @@ fn push_calls(
 }
 
 impl Writer {
-    #[tactic(auto, unfolding(crate::specs::EventWalk::entered))]
-    fn enter(&mut self, role: Role, point: Point) -> Result<(), AllocError>
-        ensures { OnOk result (state_of self.new ≡ entered (state_of self.old) role point) }
+    // Begins something of which an entry is kept.
+    fn open(&mut self, role: Role, point: Point, kept: bool) -> Result<(), AllocError>
+        ensures { OnOk result (state_of self.new ≡ opened_by (state_of self.old) role point kept) }
     {
-        push_opening(&mut self.out, self.within, role)?;
+        set_apart(&mut self.before, &mut self.found, kept)?;
         let entry = Entry {
             start: self.out.len(),
             point,
             within: self.within,
-            found: mem::replace(&mut self.found, Found::nothing()),
+            kept,
         };
         self.within = within_of(self.within, role);
         self.entries.push(entry)?;
         Ok(())
     }
 
-    #[tactic(auto, unfolding(crate::specs::EventWalk::filled))]
-    fn fill(
+    #[tactic(auto, unfolding(crate::specs::EventWalk::entered))]
+    fn enter(&mut self, role: Role, point: Point) -> Result<(), AllocError>
+        ensures { OnOk result (state_of self.new ≡ entered (state_of self.old) role point) }
+    {
+        if is_light(role) {
+            return push_opening(&mut self.out, self.within, role);
+        }
+        let kept = sets_apart(role, &self.found);
+        self.open(role, point, kept)
+    }
+
+    // Writes a text, if its Exit is the first of the events behind its Enter. Answers whether that Exit is done too, because nothing is written at it.
+    fn leaf(
         &mut self,
         alloc: Global,
         given: &Given,
         role: Role,
         from: Point,
-        to: Point,
-    ) -> Result<(), AllocError>
+        rest: &[Event],
+    ) -> Result<bool, AllocError>
         requires fits { length given.now.bytes.now ≤ document_limit }
-        requires in_order { IsStretch given.now.bytes.now from to }
-        ensures { OnOk result (state_of self.new ≡ filled (page_of given.now) (state_of self.old) role from to) }
+        requires in_order { IfSome (exit_first rest.now) (λ to. IsStretch given.now.bytes.now from to) }
+        requires leaf { is_leaf role ≡ true }
+        ensures { let p = page_of given.now in IfOk result (λ skips. walked p (state_of self.new) (left_behind rest.now skips) ≡ walked p (filled_before p (state_of self.old) role from rest.now) rest.now) }
     {
-        let text = text_between(alloc, given.bytes, from, to)?;
-        push_leaf(
-            alloc,
-            given,
-            &mut self.out,
-            self.within,
-            role,
-            text.as_slice(),
-        )
+        let Some((exit, _)) = rest.split_first() else {
+            return Ok(false);
+        };
+        match exit.kind {
+            Kind::Enter => Ok(false),
+            Kind::Exit => {
+                push_leaf_between(
+                    alloc,
+                    given,
+                    &mut self.out,
+                    self.within,
+                    role,
+                    from,
+                    exit.point,
+                )?;
+                Ok(is_bare(role_of(exit.name)))
+            }
+        }
     }
 
-    #[tactic(auto, unfolding(crate::specs::EventWalk::closed))]
+    // Ends something of which an entry was kept, around what was found inside it.
+    #[tactic(auto, unfolding(crate::specs::EventWalk::closed_out))]
+    #[inline(always)]
+    fn close(
+        &mut self,
+        alloc: Global,
+        given: &Given,
+        role: Role,
+        entry: Entry,
+        to: Point,
+    ) -> Result<(), AllocError>
+        ensures { OnOk result (state_of self.new ≡ closed_around (page_of given.now) (state_of self.old) (open_view entry) role to) }
+    {
+        self.within = entry.within;
+        if is_text_alone(entry.within, role) {
+            return Ok(());
+        }
+        match role {
+            Role::Code | Role::Math | Role::Link | Role::Image | Role::Check => replace(
+                alloc,
+                given,
+                &mut self.out,
+                &mut self.room,
+                entry,
+                role,
+                &self.found,
+            ),
+            Role::Destination | Role::TitleText | Role::Resource | Role::Tail => {
+                self.out.truncate(entry.start);
+                Ok(())
+            }
+            Role::Reference => {
+                self.out.truncate(entry.start);
+                let text = bytes_between(given.bytes, entry.point.index, to.index);
+                push_reference(alloc, &mut self.out, &mut self.room, entry.within, text)
+            }
+            Role::Footnote => {
+                self.out.truncate(entry.start);
+                push_call(
+                    alloc,
+                    given,
+                    &self.calls,
+                    &mut self.out,
+                    entry.within,
+                    self.found.label,
+                )
+            }
+            _ => push_closing(&mut self.out, entry.within, role),
+        }
+    }
+
+    // Ends something that has parts of its own.
+    #[tactic(auto, unfolding(crate::specs::EventWalk::closed_apart))]
+    fn exit_apart(
+        &mut self,
+        alloc: Global,
+        given: &Given,
+        role: Role,
+        entry: Entry,
+        to: Point,
+    ) -> Result<(), AllocError>
+        ensures { let s = state_of self.old in OnOk result (state_of self.new ≡ closed_apart (page_of given.now) s (open_view entry) role to) }
+    {
+        let string = string_of(alloc, role, bytes_from(self.out.as_slice(), entry.start))?;
+        self.close(alloc, given, role, entry, to)?;
+        push_calls(&mut self.calls, alloc, given, role, &self.found)?;
+        self.found.make_own(alloc, role, entry.point, to, string);
+        join_before(&mut self.before, &mut self.found, entry.kept);
+        Ok(())
+    }
+
+    #[tactic(auto, unfolding(crate::specs::EventWalk::exited))]
     fn exit(
         &mut self,
         alloc: Global,
@@ -204,68 +373,53 @@ impl Writer {
         role: Role,
         to: Point,
     ) -> Result<(), AllocError>
-        ensures { let s = state_of self.old in OnOk result (state_of self.new ≡ exited (page_of given.now) s s.opened role to) }
+        ensures { OnOk result (state_of self.new ≡ exited (page_of given.now) (state_of self.old) role to) }
     {
+        if is_light(role) {
+            return push_closing(&mut self.out, self.within, role);
+        }
         let Some(entry) = self.entries.pop() else {
             return Ok(());
         };
-        let string = string_of(alloc, role, bytes_from(self.out.as_slice(), entry.start))?;
-        close(
-            alloc,
-            given,
-            &self.calls,
-            &mut self.out,
-            &entry,
-            role,
-            to,
-            &self.found,
-        )?;
-        push_calls(&mut self.calls, alloc, given, role, &self.found)?;
-        let inside = mem::replace(&mut self.found, Found::nothing());
-        self.within = entry.within;
-        self.found = entry
-            .found
-            .joined(inside.own(alloc, role, entry.point, to, string));
-        Ok(())
+        if is_apart(role) {
+            return self.exit_apart(alloc, given, role, entry, to);
+        }
+        self.close(alloc, given, role, entry, to)
     }
 }
 
-// Where the Exit stands with which events begin; none where they begin with no Exit.
-fn exit_first(events: &[Event]) -> Option<Point>
-    ensures { result ≡ exit_first events.now }
+// What is left behind an event, without the first where that is done too.
+fn left_behind(rest: &[Event], skips: bool) -> &[Event]
+    ensures { result.now ≡ left_behind rest.now skips }
 {
-    match events {
-        [first, ..] => match first.kind {
-            Kind::Enter => None,
-            Kind::Exit => Some(first.point),
-        },
-        [] => None,
+    match rest {
+        [_, behind @ ..] if skips => behind,
+        _ => rest,
     }
 }
 
-// Writes the HTML of one event, before the events that follow it.
+// Writes the HTML of one event, which these events follow. Answers whether the first of those is done too.
 fn step(
     writer: &mut Writer,
     alloc: Global,
     given: &Given,
-    event: Event,
+    event: &Event,
     rest: &[Event],
-) -> Result<(), AllocError>
+) -> Result<bool, AllocError>
     requires fits { length given.now.bytes.now ≤ document_limit }
-    requires places { All (IsInOrder given.now.bytes.now) (innermost (event ∷ rest.now)) }
-    ensures { OnOk result (state_of writer.new ≡ stepped (page_of given.now) (state_of writer.old) event rest.now) }
+    requires places { All (IsInOrder given.now.bytes.now) (innermost (event.now ∷ rest.now)) }
+    ensures { let p = page_of given.now in IfOk result (λ skips. walked p (state_of writer.new) (left_behind rest.now skips) ≡ walked p (stepped p (state_of writer.old) event.now rest.now) rest.now) }
 {
     let role = role_of(event.name);
-    match event.kind {
-        Kind::Exit => writer.exit(alloc, given, role, event.point),
-        Kind::Enter => {
-            writer.enter(role, event.point)?;
-            match exit_first(rest) {
-                Some(to) => writer.fill(alloc, given, role, event.point, to),
-                None => Ok(()),
-            }
-        }
+    if matches!(role, Role::Silent) {
+        return Ok(false);
     }
+    match event.kind {
+        Kind::Exit => writer.exit(alloc, given, role, event.point)?,
+        Kind::Enter if is_leaf(role) => return writer.leaf(alloc, given, role, event.point, rest),
+        Kind::Enter => writer.enter(role, event.point)?,
+    }
+    Ok(false)
 }
 
 // Writes trees that stand somewhere, behind the calls before them.
@@ -285,12 +439,14 @@ fn written(
         within,
         found: Found::nothing(),
         entries: Vec::new(alloc),
+        before: Vec::new(alloc),
         calls,
+        room: Vec::new(alloc),
     };
     let mut left = events;
     while let Some((event, rest)) = left.split_first() {
-        step(&mut writer, alloc, given, *event, rest)?;
-        left = rest;
+        let skips = step(&mut writer, alloc, given, event, rest)?;
+        left = left_behind(rest, skips);
     }
     Ok(writer)
 }

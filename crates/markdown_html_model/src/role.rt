@@ -77,6 +77,7 @@ pub enum Role {
 }
 
 /// What an event of this name stands for.
+#[inline(always)]
 pub fn role_of(name: Name) -> Role
     ensures { result ≡ role_of name }
 {

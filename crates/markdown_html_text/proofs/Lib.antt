@@ -2,3 +2,4 @@ pub mod NoMarkup
 mod Pieces
 mod ResolvedText
 mod ReferenceValues
+pub mod KeptBytes

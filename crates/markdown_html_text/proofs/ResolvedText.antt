@@ -1,12 +1,21 @@
 -- A text resolved from the left, step by step.
-use Rattle.std.proofs.Common.{◌≡◌, ◌∙◌, sym, ap, refl, ℕ, zero, suc, List, [], ◌∷◌, ◌++◌, append-nil, append_assoc, drop, length}
-use Rattle.markdown_html_text.specs.Resolved.{first_text, resolved, resolved_after}
+use Rattle.std.proofs.Common.{◌≡◌, ◌∙◌, sym, ap, refl, ℕ, zero, suc, List, [], ◌∷◌, ◌++◌, append-nil, append_assoc, drop, length, Bool, true, false, not, ◌||◌, ◌&&◌, ◌==◌, if◌then◌else◌}
+use Rattle.markdown_html_text.specs.Resolved.{first_text, resolved, resolved_after, is_literal}
 
 -- what is skipped may as well be dropped
 skipped : (n : ℕ) (rest : List ℕ) → resolved_after n rest ≡ resolved_after 0 (drop n rest)
 skipped zero rest = refl
 skipped (suc n) [] = refl
 skipped (suc n) (b ∷ rest) = skipped n rest
+
+first-by : {A : Type 0} (p c q : Bool) (x y z : A) → not (p || q) ≡ true → (if p && c then x else (if q then y else z)) ≡ z
+first-by true c q x y z h = cc
+first-by false c true x y z h = cc
+first-by false c false x y z h = refl
+
+pub literal-first : (b : ℕ) (rest : List ℕ) → is_literal b ≡ true → resolved (b ∷ rest) ≡ b ∷ resolved rest
+unfolding resolved
+literal-first b rest h = ap (λ (f : List ℕ × ℕ). f.0 ++ resolved_after f.1 rest) (first-by (b == 92) _ (b == 38) _ _ _ h)
 
 -- what is written and what the rest gives stay the whole
 pub resolved_more : (whole out out' text : List ℕ) (b : ℕ) (rest : List ℕ) (taken : ℕ) (left : List ℕ) → out ++ resolved text ≡ whole → text ≡ b ∷ rest

@@ -16,6 +16,10 @@ escaped_byte b =
 unfoldable pub escaped : List ℕ → List ℕ
 escaped text = flat_map escaped_byte text
 
+-- a byte that stands in HTML as it is
+abbrev pub is_kept : ℕ → Bool
+is_kept b = not (b == 38 || b == 60 || b == 62 || b == 34 || b == 0)
+
 -- a letter, a digit, or one of these marks
 abbrev pub is_address_byte : ℕ → Bool
 is_address_byte b = is_ascii_alphanumeric b || list_any (λ n. b == n) (codes "!#$'()*+,-./:;=?@_~")

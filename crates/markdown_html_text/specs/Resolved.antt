@@ -1,5 +1,5 @@
 -- Escapes and character references of a text, resolved (CommonMark 0.31, sections 2.4 and 2.5).
-use Rattle.std.specs.Prelude.{ℕ, zero, suc, ◌+◌, Bool, false, ◌&&◌, ◌||◌, ◌==◌, if◌then◌else◌, List, [], ◌∷◌, ◌++◌, take, drop, Option, None, Some, String, string_bytes}
+use Rattle.std.specs.Prelude.{ℕ, zero, suc, ◌+◌, Bool, false, not, ◌&&◌, ◌||◌, ◌==◌, if◌then◌else◌, List, [], ◌∷◌, ◌++◌, take, drop, Option, None, Some, String, string_bytes}
 use Rattle.std.specs.Global.{Global}
 use Rattle.std.specs.Char.{is_ascii_punctuation}
 use Rattle.std.specs.List.{prefix_len}
@@ -45,6 +45,10 @@ first_text b rest =
     if b == byte "\\" && begins_with is_ascii_punctuation rest then (take 1 rest, 1)
     else (if b == byte "&" then elim (reference_ahead rest) [ None ↦ (b ∷ [], 0) | Some r ↦ r ]
     else (b ∷ [], 0))
+
+-- a byte that begins neither an escape nor a reference
+abbrev pub is_literal : ℕ → Bool
+is_literal b = not (b == byte "\\" || b == byte "&")
 
 -- the text, from the left; `skipped` more bytes belong to what was read last
 abbrev pub resolved_after : ℕ → List ℕ → List ℕ

@@ -2,6 +2,7 @@
 #![tactic(auto)]
 
 pub mod escape;
+mod kept;
 pub mod laws;
 pub mod resolve;
 pub mod scheme;

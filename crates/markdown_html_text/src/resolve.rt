@@ -4,7 +4,7 @@
 ghost use Rattle.std.specs.Prelude.{◌≡◌, ◌≤◌, ◌+◌, ◌++◌, IfOk, IfSome, OnOk, length, option_map, drop};
 ghost use Rattle.std.specs.List.{list_all, prefix_len};
 ghost use Rattle.markdown_util.specs.Reference.{is_value, is_value_byte, IsMarker};
-ghost use Rattle.markdown_html_text.specs.Resolved.{text_of, marker_ahead, value_ahead, reference_ahead, first_text, resolved, begins_with, is_semicolon};
+ghost use Rattle.markdown_html_text.specs.Resolved.{text_of, marker_ahead, value_ahead, reference_ahead, first_text, resolved, begins_with, is_literal, is_semicolon};
 
 use markdown_util::util::character_reference::{value_max, value_test};
 use markdown_util_decode::character_reference::decode;
@@ -130,6 +130,22 @@ fn push_first(alloc: Global, out: &mut Vec<u8>, first: u8, rest: &[u8]) -> Resul
     Ok(0)
 }
 
+// Whether a byte begins neither an escape nor a reference, whatever follows it.
+fn is_literal(byte: u8) -> bool
+    ensures { result ≡ is_literal byte }
+{
+    !matches!(byte, b'\\' | b'&')
+}
+
+// How many bytes at the front begin neither an escape nor a reference.
+#[tactic(auto, using(crate::proofs::ReferenceValues::prefix_within))]
+fn literal_len(text: &[u8]) -> usize
+    ensures len { result ≡ prefix_len is_literal text.now }
+    ensures within { result ≤ length text.now }
+{
+    text.iter().take_while(|byte| is_literal(**byte)).count()
+}
+
 /// Appends a text with each escaped punctuation mark in place of its escape, and in place of each character reference its text. The names of
 /// references are HTML's.
 ///
@@ -138,9 +154,13 @@ pub fn push_resolved(alloc: Global, out: &mut Vec<u8>, text: &[u8]) -> Result<()
     ensures { OnOk result (out.new.items ≡ out.old.items ++ resolved text.now) }
 {
     let mut left = text;
-    while let Some((first, rest)) = left.split_first() {
+    loop {
+        let (literal, behind) = left.split_at(literal_len(left));
+        out.extend_from_slice(literal)?;
+        let Some((first, rest)) = behind.split_first() else {
+            return Ok(());
+        };
         let taken = push_first(alloc, out, *first, rest)?;
         left = bytes_from(rest, taken);
     }
-    Ok(())
 }

@@ -1,7 +1,7 @@
 use Rattle.std.proofs.Common.{subst, All}
 use Rattle.markdown_run_leaves.specs.InnermostEvents.{innermost, IsInOrder}
 use Rattle.markdown_html.specs.View.{page_of, state_of}
-use Rattle.markdown_html.proofs.Lists.{later_in_order}
+use Rattle.markdown_html.proofs.Lists.{behind_in_order, later_in_order}
 use Rattle.markdown_html.proofs.EventLoop.{walked_more, walked_end}
 use Rattle.markdown_html.proofs.writer.written.Goals as goal
 
@@ -11,8 +11,8 @@ loop-event-preserved c =
     let event = c.in-Some.event.now in
     let rest = c.in-Some.rest.now in
     record {
-      whole = walked_more (page_of c.args.given.now) _ (state_of c.loop-event.writer) (state_of c.step.new.writer) c.loop-event.left.now event rest c.loop-event.invariant.whole c.in-Some.ensures.cases.0 c.in_ok-step.ensures;
-      places = later_in_order bytes event rest (subst (λ es. All (IsInOrder bytes) (innermost es)) c.in-Some.ensures.cases.0 c.loop-event.invariant.places);
+      whole = walked_more (page_of c.args.given.now) _ (state_of c.loop-event.writer) (state_of c.step.new.writer) c.loop-event.left.now event rest c.left_behind-left.result.now c.in_ok-skips.skips c.loop-event.invariant.whole c.in-Some.ensures.cases.0 c.in_ok-skips.ensures c.left_behind-left.ensures;
+      places = behind_in_order bytes rest c.left_behind-left.result.now c.in_ok-skips.skips (later_in_order bytes event rest (subst (λ es. All (IsInOrder bytes) (innermost es)) c.in-Some.ensures.cases.0 c.loop-event.invariant.places)) c.left_behind-left.ensures;
     }
 
 pub step-requires-clause-places : goal.step-requires-clause-places
