@@ -77,8 +77,44 @@ static void test_statuses(void) {
         input.definitions_len = 0;
         want_status("a range of a footnote", &input, 1, MARKDOWN_INLINE_DEFINITION);
     }
-    for (uint32_t status = 0; status < 12; status++)
-        want("words of a status", (markdown_inline_status_text(status) != NULL) == (status != 1 && status != 11));
+}
+
+/* The words of statuses and the names of events, and no others. */
+static void test_words(void) {
+    static const char *const words[] = {"done", NULL, "unknown option", "document is not UTF-8", "blank line in text, or line ending at its end", "out of memory",
+        "array too small", "pieces are no content of the document", "range of a definition is no text of the labels", "document too long",
+        "no character reference", NULL};
+    for (uint32_t status = 0; status < sizeof words / sizeof *words; status++) {
+        const char *found = markdown_inline_status_text(status);
+        want("words of a status", words[status] ? found && !strcmp(found, words[status]) : !found);
+    }
+    want("words of a large status", !markdown_inline_status_text(UINT32_MAX) && !markdown_inline_status_text(256));
+    for (unsigned name = 0; name < 256; name++) {
+        const char *found = markdown_inline_name_text((uint8_t)name);
+        want("a name has a text", name < MARKDOWN_INLINE_NAME_COUNT ? found && *found : !found);
+        for (unsigned other = 0; other < name && name < MARKDOWN_INLINE_NAME_COUNT; other++)
+            want("names differ", strcmp(found, markdown_inline_name_text((uint8_t)other)) != 0);
+    }
+    want("the first name and the last one", !strcmp(markdown_inline_name_text(0), "AttentionSequence")
+            && !strcmp(markdown_inline_name_text(MARKDOWN_INLINE_NAME_COUNT - 1), "StrongText"));
+}
+
+/* The numbers that the header gives to kinds and links are those of events. */
+static void test_numbers(void) {
+    const char *text = "[a](b \"c\nd\")";
+    markdown_inline_piece piece = whole(text);
+    markdown_inline_input input = input_of(text, &piece);
+    markdown_inline_event events[64];
+    size_t count = 0, links = 0;
+    want("a link", markdown_inline_text(&input, events, 64, &count) == MARKDOWN_INLINE_DONE && count > 20);
+    want("a link begins", events[0].kind == MARKDOWN_INLINE_ENTER && events[0].name == MARKDOWN_INLINE_NAME_LINK && events[0].link == MARKDOWN_INLINE_UNLINKED);
+    want("a link ends", events[count - 1].kind == MARKDOWN_INLINE_EXIT && events[count - 1].name == MARKDOWN_INLINE_NAME_LINK);
+    for (size_t at = 0; at < count; at++) {
+        const markdown_inline_event *it = &events[at];
+        links += it->link == MARKDOWN_INLINE_LINKED_STRING;
+        want("numbers of a chain", it->link == MARKDOWN_INLINE_UNLINKED || it->next == MARKDOWN_INLINE_NONE || events[it->next].previous == at);
+    }
+    want("a destination is a string, and so are two lines of a title with the line ending", links == 4);
 }
 
 static void test_tests(void) {
@@ -356,6 +392,8 @@ int main(int argc, char **argv) {
     if (argc > 1) return call_once(argv[1]);
     want("the version", markdown_inline_version() == MARKDOWN_INLINE_VERSION);
     test_statuses();
+    test_words();
+    test_numbers();
     test_tests();
     test_room();
     test_leaves();

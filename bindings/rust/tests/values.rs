@@ -1,0 +1,149 @@
+//! Options, names, events and lists of them, by themselves.
+
+use markdown_inline::{text, Content, Error, HtmlOptions, Input, Kind, Name, Options};
+use std::collections::HashSet;
+
+const HEADER: &str = include_str!("../../c/markdown_inline.h");
+const NAMES: &str = include_str!(concat!(env!("OUT_DIR"), "/names.rs"));
+
+/// The rows of a list of the header: the doc, and the words in the parentheses.
+fn rows(list: &str) -> Vec<(&'static str, Vec<&'static str>)> {
+    let from = HEADER.find(list).unwrap() + list.len();
+    let lines: Vec<_> = HEADER[from..].lines().skip(1).map(str::trim).collect();
+    lines
+        .chunks(2)
+        .map_while(|pair| {
+            let doc = pair[0].strip_prefix("/* ")?.strip_suffix(" */ \\")?;
+            let row = pair[1].trim_end_matches(" \\");
+            let words = row.strip_prefix("X(")?.strip_suffix(')')?;
+            Some((doc, words.split(", ").collect()))
+        })
+        .collect()
+}
+
+#[test]
+fn names_are_those_of_the_header_with_their_docs() {
+    let rows = rows("MARKDOWN_INLINE_EACH_NAME(X)");
+    assert_eq!(rows.len(), Name::ALL.len());
+    assert!(rows.len() > 60);
+    for ((doc, words), name) in rows.iter().zip(Name::ALL) {
+        assert_eq!(words[1].trim_matches('"'), name.to_string());
+        assert!(
+            NAMES.contains(&format!("    /// {doc}\n    {name},\n")),
+            "{name}"
+        );
+    }
+    let docs: HashSet<_> = rows.iter().map(|(doc, _)| doc).collect();
+    assert!(docs.len() > 50);
+}
+
+#[test]
+fn options_are_those_of_the_header() {
+    let rows = rows("MARKDOWN_INLINE_EACH_OPTION(X)");
+    assert_eq!(rows.len(), Options::ALL.len());
+    for ((_, words), (name, option)) in rows.iter().zip(Options::ALL) {
+        assert_eq!(words[1].trim_matches('"'), *name);
+        assert_eq!(words[2], format!("{:#x}", option.bits()));
+    }
+    for (name, set) in [
+        ("COMMONMARK", Options::COMMONMARK),
+        ("GFM", Options::GFM),
+        ("MATH", Options::MATH),
+    ] {
+        let line = format!("    MARKDOWN_INLINE_{name} = {:#x}", set.bits());
+        assert!(HEADER.contains(&line), "{line}");
+    }
+}
+
+#[test]
+fn sets_of_options_are_joined_and_taken_out_of_one_another() {
+    let (few, many) = (Options::from_bits(0b0011), Options::from_bits(0b0110));
+    assert_eq!((few | many).bits(), 0b0111);
+    assert_eq!((few - many).bits(), 0b0001);
+    assert_eq!((many - few).bits(), 0b0100);
+    assert_eq!(few - few, Options::from_bits(0));
+    assert_eq!(Options::default(), Options::COMMONMARK);
+    assert_eq!(
+        HtmlOptions::default().raw_html,
+        HtmlOptions::default().any_link
+    );
+}
+
+#[test]
+fn events_are_walked_from_both_ends_and_counted() {
+    let events = text("a *b* `c`").unwrap();
+    let forth: Vec<_> = events.iter().collect();
+    let mut back: Vec<_> = events.iter().rev().collect();
+    back.reverse();
+    assert_eq!(forth, back);
+    assert!(forth.len() > 12 && forth.first() != forth.last());
+    let mut left = events.iter();
+    for count in (0..events.len()).rev() {
+        left.next();
+        assert_eq!(left.len(), count);
+        assert_eq!(left.size_hint(), (count, Some(count)));
+    }
+    assert_eq!((left.next(), left.next_back()), (None, None));
+    for (number, event) in forth.iter().enumerate() {
+        assert_eq!(events.get(number), Some(*event));
+    }
+    assert_eq!(events.get(events.len()), None);
+}
+
+#[test]
+fn leaves_are_walked_from_both_ends_and_counted() {
+    let leaves = Input::new("a *b* `c`").leaves().unwrap();
+    let forth: Vec<_> = leaves.iter().collect();
+    let mut back: Vec<_> = leaves.iter().rev().collect();
+    back.reverse();
+    assert_eq!(forth, back);
+    assert!(forth.len() > 4 && forth.first() != forth.last());
+    assert_eq!(leaves.iter().size_hint(), (forth.len(), Some(forth.len())));
+    assert_eq!(leaves.iter().len(), leaves.len());
+}
+
+#[test]
+fn an_event_is_shown_as_the_program_prints_it() {
+    let events = text("[a](b \"c\nd\")").unwrap();
+    let line = |number: usize| events.get(number).unwrap().to_string();
+    assert_eq!(line(0), "Enter Link 1 1 0 0");
+    assert_eq!(line(21), "Enter Data 1 5 4 0 link String - -");
+    assert_eq!(line(32), "Enter Data 1 8 7 0 link String - 34");
+    assert_eq!(line(34), "Enter LineEnding 1 9 8 0 link String 32 36");
+    assert_eq!(line(36), "Enter Data 2 1 9 0 link String 34 -");
+    assert_eq!(line(events.len() - 1), "Exit Link 2 4 12 0");
+    let link = events.get(32).unwrap().link.unwrap();
+    assert_eq!(
+        (link.content, link.previous, link.next),
+        (Content::String, None, Some(34))
+    );
+    assert_eq!(events.get(0).map(|it| it.kind), Some(Kind::Enter));
+}
+
+#[test]
+fn a_content_need_not_be_a_text() {
+    for document in ["a\n\nb", "a\n", "\n"] {
+        let input = Input::new(document);
+        assert_eq!(input.is_content(), Ok(()));
+        assert_eq!(input.is_text(), Err(Error::BlankLine));
+        assert!(input.string().is_ok());
+    }
+    assert_eq!(Input::new("a").is_text(), Ok(()));
+}
+
+#[test]
+fn a_definition_leads_to_an_empty_address_without_a_title() {
+    let html = |input: Input| input.html(HtmlOptions::default()).unwrap();
+    assert_eq!(
+        html(Input::new("[a]").definition("A")),
+        "<a href=\"\">a</a>"
+    );
+    assert_eq!(
+        html(Input::new("[a]").definition_to("A", "/b", None)),
+        "<a href=\"/b\">a</a>"
+    );
+    assert_eq!(
+        html(Input::new("[a]").definition_to("A", "/b", Some(""))),
+        "<a href=\"/b\" title=\"\">a</a>"
+    );
+}
