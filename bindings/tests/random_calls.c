@@ -1,0 +1,630 @@
+/* Calls each function of the header over drawn inputs, and looks at what it answers: the status is that of a model of its own here; nothing is written
+ * but what is counted; calls without room, with room and with too little answer alike; and the answers of different calls fit together. Arrays stand
+ * between pages that may not be touched, and what a call only reads may not be written.
+ *
+ * usage: random_calls [SEED [COUNT]]
+ *
+ * It makes COUNT calls or a few more. Each case is drawn by a seed of its own, which is the one before and one more: so `random_calls SEED 1` draws a case
+ * again, by the seed that is told of it. */
+#define _DEFAULT_SOURCE
+#include "markdown_inline.h"
+
+#include <signal.h>
+#include <stdio.h>
+#include <stdlib.h>
+#include <string.h>
+#include <sys/mman.h>
+#include <unistd.h>
+
+/* The most of each that is drawn, and how often each status has to come in so many calls. */
+enum { BYTES = 120, PIECES = 8, RANGES = 4, CONTENTS = 4, CODES = 4 * BYTES, ENOUGH = 20000, FLOOR = 20, FILL = 0xa5 };
+
+/* Drawn numbers. */
+
+static uint64_t seed, state;
+static size_t calls, faults, counts[16], functions[16];
+static const char *call_name = "none";
+
+static uint64_t draw(void) {
+    state ^= state >> 12;
+    state ^= state << 25;
+    state ^= state >> 27;
+    return state * UINT64_C(2685821657736338717);
+}
+
+static void begin_case(uint64_t number) {
+    state = (number + 1) * UINT64_C(0x9e3779b97f4a7c15);
+    state = (state ^ (state >> 30)) * UINT64_C(0xbf58476d1ce4e5b9) | 1;
+    draw();
+}
+
+static size_t below(size_t limit) { return (size_t)((draw() >> 20) % limit); }
+
+static int one_in(size_t many) { return below(many) == 0; }
+
+static void fault(const char *what) {
+    if (faults++ < 20) printf("random_calls: %s: %s, seed %llu\n", call_name, what, (unsigned long long)seed);
+}
+
+static void want(const char *what, int holds) {
+    if (!holds) fault(what);
+}
+
+/* Memory, each stretch between two pages that may not be touched. What a call reads stands at two addresses: by one it is written here, and by the
+ * other it may only be read. */
+
+typedef struct stretch {
+    uint8_t *writes, *lent;
+    size_t size;
+} stretch;
+
+static size_t page;
+static uint8_t filled[1 << 16];
+
+static void stop(const char *what) {
+    printf("random_calls: %s\n", what);
+    exit(1);
+}
+
+static uint8_t *between_guards(size_t size, int protection, int file) {
+    uint8_t *at = (uint8_t *)mmap(NULL, size + 2 * page, PROT_NONE, MAP_PRIVATE | MAP_ANONYMOUS, -1, 0);
+    if (at == MAP_FAILED || mmap(at + page, size, protection, MAP_SHARED | MAP_FIXED, file, 0) == MAP_FAILED) stop("no memory for guarded pages");
+    return at + page;
+}
+
+static stretch new_stretch(size_t pages, int is_read) {
+    stretch found = {NULL, NULL, pages * page};
+    FILE *file = tmpfile();
+    if (!file || ftruncate(fileno(file), (off_t)found.size)) stop("no temporary file");
+    found.lent = between_guards(found.size, is_read ? PROT_READ : PROT_READ | PROT_WRITE, fileno(file));
+    found.writes = is_read ? between_guards(found.size, PROT_READ | PROT_WRITE, fileno(file)) : found.lent;
+    fclose(file);
+    return found;
+}
+
+/* Lends so many elements: against the page before, or against the page after. No element may be a null pointer. */
+static const void *lend(stretch *from, const void *elements, size_t count, size_t each) {
+    size_t len = count * each, at = one_in(2) ? 0 : from->size - len;
+    if (len == 0) return one_in(2) ? NULL : from->lent + at;
+    memcpy(from->writes + at, elements, len);
+    return from->lent + at;
+}
+
+/* Lends room for so many elements, all of whose bytes and all around them are filled. */
+static void *lend_room(stretch *from, size_t count, size_t each) {
+    size_t at = one_in(2) ? 0 : from->size - count * each;
+    memset(from->lent, FILL, from->size);
+    return count == 0 && one_in(2) ? NULL : from->lent + at;
+}
+
+/* Whether a stretch is filled as before, but for some bytes. */
+static int is_filled_but(const stretch *from, const void *array, size_t len) {
+    size_t at = array ? (size_t)((const uint8_t *)array - from->lent) : 0;
+    return !memcmp(from->lent, filled, at) && !memcmp(from->lent + at + len, filled, from->size - at - len);
+}
+
+static stretch of_bytes, of_pieces, of_labels, of_definitions, of_footnotes, of_contents, of_targets, of_input, of_found, of_ends, of_count;
+
+/* A case: what is drawn, before it is lent. */
+typedef struct drawn {
+    uint8_t bytes[BYTES], labels[BYTES];
+    markdown_inline_piece pieces[PIECES];
+    markdown_inline_range definitions[RANGES], footnotes[RANGES];
+    markdown_inline_target targets[RANGES + 1];
+    markdown_inline_content contents[CONTENTS];
+    size_t bytes_len, pieces_len, labels_len, definitions_len, footnotes_len, targets_len, contents_len;
+    uint32_t options, html_options;
+} drawn;
+
+static const char *const PARTS[] = {"a", "bc", "\xc3\xa9", "\xe6\xbc\xa2", "\xf0\x9f\x98\x80", " ", "  ", "\t", "*", "**", "_", "~", "~~", "`", "``", "$", "$$", "[", "]", "![",
+    "](", ")", "(", "<", ">", "\"", "'", "\\", "&", ";", "!", "#", "@", ":", ".", "/", "[x] ", "[a]", "[^a]", "[b c][]", "[d](e \"f\")", "![g](<h i>)", "&amp;",
+    "&#65;", "&#x1f4a9;", "&copy;", "&nosuch;", "<https://j.k>", "<l@m.n>", "https://o.p/q", "www.r.s", "t@u.v", "<w x=\"y\">", "</z>", "<!-- c -->", "<?p?>",
+    "\\*", "\\\n", "  \n", "\n", "\n", "\r\n", "\r", "*a*", "**b**", "_c_ ", "~d~", "`e f`", "$g$", "word ", "[d](\\*e&amp;f 'g\\*h&lt;')",
+    "[a][b\\*c]", "[d](e \"f\ng\")", "[d](e (f\r\n&amp;g))"};
+static const char *const BROKEN[] = {"\x80", "\xc3", "\xc0\x80", "\xed\xa0\x80", "\xf4\x90\x80\x80", "\xf8", "\xe6\xbc", "\xf0\x9f\x98", "\xff"};
+static const char *const PREFIXES[] = {"", "> ", ">", "   ", "- ", "\t", " \t", ">\t"};
+static const char *const LABELS[] = {"a", "b c", "d", " A ", "\xc3\xa9", "/u", "javascript:x", "&<\">", ""};
+
+static size_t append(uint8_t *bytes, size_t len, const char *text) {
+    size_t more = strlen(text);
+    if (len + more > BYTES) return len;
+    memcpy(bytes + len, text, more);
+    return len + more;
+}
+
+/* A number near others, or one that is far off. */
+static size_t number_to(size_t most) { return one_in(5) ? SIZE_MAX - below(2) : below(most + 2); }
+
+/* A document of lines, with pieces behind prefixes, of which one may begin within a tab; or one piece. */
+static void draw_document(drawn *it) {
+    int has_prefixes = one_in(2);
+    it->bytes_len = it->pieces_len = 0;
+    if (one_in(30)) return;
+    for (size_t lines = 1 + below(4); lines > 0 && it->pieces_len < PIECES; lines--) {
+        const char *prefix = has_prefixes ? PREFIXES[below(sizeof PREFIXES / sizeof *PREFIXES)] : "";
+        markdown_inline_piece *piece = &it->pieces[it->pieces_len++];
+        it->bytes_len = append(it->bytes, it->bytes_len, prefix);
+        piece->start = it->bytes_len;
+        piece->start_vs = piece->end_vs = 0;
+        if (it->bytes_len > 0 && it->bytes[it->bytes_len - 1] == '\t' && one_in(2)) {
+            piece->start--;
+            piece->start_vs = below(4);
+        }
+        for (size_t parts = below(5); parts > 0; parts--) it->bytes_len = append(it->bytes, it->bytes_len, PARTS[below(sizeof PARTS / sizeof *PARTS)]);
+        if (one_in(60)) it->bytes_len = append(it->bytes, it->bytes_len, BROKEN[below(sizeof BROKEN / sizeof *BROKEN)]);
+        if (!one_in(8)) it->bytes_len = append(it->bytes, it->bytes_len, "a");
+        if (lines > 1) it->bytes_len = append(it->bytes, it->bytes_len, one_in(3) ? "\r\n" : "\n");
+        piece->end = it->bytes_len;
+    }
+    if (!has_prefixes) {
+        it->pieces[0].start = it->pieces[0].start_vs = 0;
+        it->pieces[0].end = it->bytes_len;
+        it->pieces_len = 1;
+    }
+}
+
+/* Pieces that are right, or that a number of is another, or any. */
+static void draw_pieces(drawn *it) {
+    if (!one_in(5)) return;
+    if (one_in(3)) it->pieces_len = below(PIECES);
+    for (size_t at = 0; at < it->pieces_len; at++) {
+        markdown_inline_piece *piece = &it->pieces[at];
+        if (it->pieces_len > 2 && !one_in(it->pieces_len)) continue;
+        switch (below(5)) {
+        case 0: piece->start = number_to(it->bytes_len); break;
+        case 1: piece->end = number_to(it->bytes_len); break;
+        case 2: piece->start_vs = number_to(4); break;
+        case 3: piece->end_vs = number_to(4); break;
+        default: *piece = (markdown_inline_piece){below(it->bytes_len + 1), 0, below(it->bytes_len + 1), below(3) / 2}; break;
+        }
+    }
+}
+
+/* A range of a text that is added to the labels, or one that may be off. */
+static markdown_inline_range draw_range(drawn *it, int may_be_off) {
+    markdown_inline_range range = {it->labels_len, 0};
+    it->labels_len = append(it->labels, it->labels_len, LABELS[below(sizeof LABELS / sizeof *LABELS)]);
+    range.end = it->labels_len;
+    if (may_be_off && one_in(4)) range.start = number_to(it->labels_len);
+    if (may_be_off && one_in(4)) range.end = number_to(it->labels_len);
+    return range;
+}
+
+static void draw_definitions(drawn *it) {
+    int may_be_off = one_in(8), may_lead_off = one_in(8);
+    it->labels_len = 0;
+    it->definitions_len = one_in(2) ? 0 : below(RANGES + 1);
+    it->footnotes_len = one_in(2) ? 0 : below(RANGES + 1);
+    it->targets_len = one_in(40) ? below(RANGES + 2) : it->definitions_len;
+    for (size_t at = 0; at < it->definitions_len; at++) it->definitions[at] = draw_range(it, may_be_off);
+    for (size_t at = 0; at < it->footnotes_len; at++) it->footnotes[at] = draw_range(it, may_be_off);
+    for (size_t at = 0; at < it->targets_len; at++) {
+        it->targets[at].destination = draw_range(it, may_lead_off);
+        it->targets[at].has_title = one_in(2) ? 0 : one_in(2) ? 1 : (uint32_t)draw();
+        it->targets[at].title = draw_range(it, may_lead_off);
+        if (!it->targets[at].has_title && one_in(2)) it->targets[at].title = (markdown_inline_range){number_to(BYTES), number_to(BYTES)};
+    }
+    if (one_in(60)) it->labels_len = append(it->labels, it->labels_len, BROKEN[below(sizeof BROKEN / sizeof *BROKEN)]);
+}
+
+/* Contents of the pieces, mostly of those that are left. */
+static void draw_contents(drawn *it) {
+    size_t at = 0;
+    it->contents_len = below(CONTENTS + 1);
+    for (size_t number = 0; number < it->contents_len; number++) {
+        markdown_inline_content *content = &it->contents[number];
+        content->pieces.start = one_in(3) ? below(it->pieces_len + 1) : at;
+        content->pieces.end = at = content->pieces.start + below(it->pieces_len - content->pieces.start + 1);
+        content->first_of_item = one_in(2) ? 0 : one_in(2) ? 1 : (uint32_t)draw();
+        if (one_in(30)) content->pieces.start = number_to(it->pieces_len);
+        if (one_in(30)) content->pieces.end = number_to(it->pieces_len);
+    }
+}
+
+static void draw_case(drawn *it) {
+    draw_document(it);
+    draw_pieces(it);
+    draw_definitions(it);
+    draw_contents(it);
+    it->options = MARKDOWN_INLINE_COMMONMARK | (one_in(2) ? MARKDOWN_INLINE_GFM : 0) | (one_in(2) ? MARKDOWN_INLINE_MATH : 0);
+    if (one_in(3)) it->options ^= (uint32_t)draw() & 0x1fffff;
+    if (one_in(40)) it->options |= 0x200000u << below(11);
+    it->html_options = (uint32_t)below(4);
+    if (one_in(40)) it->html_options |= 4u << below(30);
+    if (one_in(100)) it->bytes_len = (SIZE_MAX >> 3) + 1 + below(2) * (SIZE_MAX >> 1);
+}
+
+/* The model: what a status is by what is drawn. */
+
+static int is_utf8(const uint8_t *bytes, size_t len) {
+    for (size_t at = 0; at < len;) {
+        uint8_t first = bytes[at++];
+        size_t more = first < 0x80 ? 0 : first >= 0xc2 && first < 0xe0 ? 1 : first >= 0xe0 && first < 0xf0 ? 2 : first >= 0xf0 && first < 0xf5 ? 3 : 9;
+        if (more > len - at) return 0;
+        if (more > 0 && (bytes[at] < (first == 0xe0 ? 0xa0 : first == 0xf0 ? 0x90 : 0x80) || bytes[at] > (first == 0xed ? 0x9f : first == 0xf4 ? 0x8f : 0xbf))) return 0;
+        for (; more > 0; more--, at++)
+            if ((bytes[at] & 0xc0) != 0x80) return 0;
+    }
+    return 1;
+}
+
+/* A code is a byte, a line ending, or a column of a tab: its kind, and the places before and after it. */
+typedef struct place {
+    size_t index, vs;
+} place;
+typedef struct code {
+    char kind;
+    place start, stop;
+} code;
+
+static code codes[CODES];
+static size_t codes_len;
+
+static void find_codes(const uint8_t *bytes, size_t len) {
+    size_t column = 0;
+    codes_len = 0;
+    for (size_t at = 0; at < len; at++) {
+        code *it = &codes[codes_len++];
+        *it = (code){'x', {at, 0}, {at + 1, 0}};
+        if (bytes[at] == '\r' && at + 1 < len && bytes[at + 1] == '\n') it->stop.index = ++at + 1;
+        if (bytes[at] == '\n' || bytes[at] == '\r') it->kind = 'n';
+        if (bytes[at] == ' ' || bytes[at] == '\t') it->kind = ' ';
+        column = it->kind == 'n' ? 0 : column + 1;
+        for (size_t inside = 1; bytes[at] == '\t' && column % 4 != 0; inside++, column++) {
+            codes[codes_len - 1].stop = (place){at, inside};
+            codes[codes_len++] = (code){' ', {at, inside}, {at + 1, 0}};
+        }
+    }
+}
+
+static int is_before(place one, place other) { return one.index < other.index || (one.index == other.index && one.vs < other.vs); }
+
+static int is_place(const drawn *it, place at) {
+    int found = at.index == 0 && at.vs == 0;
+    for (size_t number = 0; number < codes_len; number++) found |= codes[number].stop.index == at.index && codes[number].stop.vs == at.vs;
+    return found && (at.index == it->bytes_len || (it->bytes[at.index] & 0xc0) != 0x80);
+}
+
+/* How many line endings stand between two places, and whether one is last. */
+static size_t line_endings(place low, place high, int *is_last) {
+    size_t found = 0;
+    *is_last = 0;
+    for (size_t number = 0; number < codes_len; number++)
+        if (!is_before(codes[number].start, low) && is_before(codes[number].start, high)) {
+            *is_last = codes[number].kind == 'n';
+            found += codes[number].kind == 'n';
+        }
+    return found;
+}
+
+static int is_content(const drawn *it, const markdown_inline_piece *pieces, size_t len) {
+    for (size_t at = 0; at < len; at++) {
+        place start = {pieces[at].start, pieces[at].start_vs}, end = {pieces[at].end, pieces[at].end_vs};
+        int is_last;
+        if (!is_place(it, start) || !is_place(it, end) || is_before(end, start)) return 0;
+        if (at + 1 == len) continue;
+        place next = {pieces[at + 1].start, pieces[at + 1].start_vs};
+        line_endings(start, end, &is_last);
+        if (!is_last || is_before(next, end) || line_endings(end, next, &is_last) > 0) return 0;
+    }
+    return 1;
+}
+
+/* Whether each line of a content has something that is not blank. */
+static int is_text(const markdown_inline_piece *pieces, size_t len) {
+    int is_filled = 0, has_codes = 0;
+    for (size_t at = 0; at < len; at++) {
+        place start = {pieces[at].start, pieces[at].start_vs}, end = {pieces[at].end, pieces[at].end_vs};
+        for (size_t number = 0; number < codes_len; number++) {
+            if (is_before(codes[number].start, start) || !is_before(codes[number].start, end)) continue;
+            has_codes = 1;
+            if (codes[number].kind == 'n' && !is_filled) return 0;
+            is_filled = codes[number].kind == 'x' || (codes[number].kind == ' ' && is_filled);
+        }
+    }
+    return is_filled || !has_codes;
+}
+
+static int is_label(const drawn *it, markdown_inline_range range) {
+    return range.start <= range.end && range.end <= it->labels_len && is_utf8(it->labels + range.start, range.end - range.start);
+}
+
+static int are_labels(const drawn *it) {
+    for (size_t at = 0; at < it->definitions_len; at++)
+        if (!is_label(it, it->definitions[at])) return 0;
+    for (size_t at = 0; at < it->footnotes_len; at++)
+        if (!is_label(it, it->footnotes[at])) return 0;
+    return 1;
+}
+
+static uint32_t document_status(const drawn *it) {
+    if (it->bytes_len > SIZE_MAX >> 3) return MARKDOWN_INLINE_TOO_LONG;
+    if (!is_utf8(it->bytes, it->bytes_len)) return MARKDOWN_INLINE_NOT_UTF8;
+    find_codes(it->bytes, it->bytes_len);
+    return MARKDOWN_INLINE_DONE;
+}
+
+static uint32_t content_status(const drawn *it) {
+    uint32_t status = document_status(it);
+    return status != MARKDOWN_INLINE_DONE ? status : is_content(it, it->pieces, it->pieces_len) ? (uint32_t)MARKDOWN_INLINE_DONE : (uint32_t)MARKDOWN_INLINE_NO_CONTENT;
+}
+
+static uint32_t pieces_status(const drawn *it) {
+    uint32_t status = content_status(it);
+    return status != MARKDOWN_INLINE_DONE ? status : is_text(it->pieces, it->pieces_len) ? (uint32_t)MARKDOWN_INLINE_DONE : (uint32_t)MARKDOWN_INLINE_BLANK_LINE;
+}
+
+static uint32_t string_status(const drawn *it) { return it->options >= 0x200000 ? (uint32_t)MARKDOWN_INLINE_UNKNOWN_OPTION : content_status(it); }
+
+static uint32_t text_status(const drawn *it) {
+    uint32_t status = it->options >= 0x200000 ? (uint32_t)MARKDOWN_INLINE_UNKNOWN_OPTION : pieces_status(it);
+    return status != MARKDOWN_INLINE_DONE ? status : are_labels(it) ? (uint32_t)MARKDOWN_INLINE_DONE : (uint32_t)MARKDOWN_INLINE_DEFINITION;
+}
+
+static uint32_t texts_status(const drawn *it) {
+    uint32_t status = it->options >= 0x200000 ? (uint32_t)MARKDOWN_INLINE_UNKNOWN_OPTION : document_status(it);
+    if (status != MARKDOWN_INLINE_DONE) return status;
+    if (!are_labels(it)) return MARKDOWN_INLINE_DEFINITION;
+    for (size_t at = 0; at < it->contents_len; at++) {
+        markdown_inline_range range = it->contents[at].pieces;
+        if (range.start > range.end || range.end > it->pieces_len) return MARKDOWN_INLINE_NO_CONTENT;
+        if (!is_content(it, it->pieces + range.start, range.end - range.start)) return MARKDOWN_INLINE_NO_CONTENT;
+        if (!is_text(it->pieces + range.start, range.end - range.start)) return MARKDOWN_INLINE_BLANK_LINE;
+    }
+    return MARKDOWN_INLINE_DONE;
+}
+
+static uint32_t html_status(const drawn *it) {
+    uint32_t status = it->html_options >= 4 ? (uint32_t)MARKDOWN_INLINE_UNKNOWN_OPTION : text_status(it);
+    if (status != MARKDOWN_INLINE_DONE) return status;
+    if (it->targets_len != it->definitions_len) return MARKDOWN_INLINE_DEFINITION;
+    for (size_t at = 0; at < it->targets_len; at++)
+        if (!is_label(it, it->targets[at].destination) || (it->targets[at].has_title && !is_label(it, it->targets[at].title))) return MARKDOWN_INLINE_DEFINITION;
+    return MARKDOWN_INLINE_DONE;
+}
+
+/* The calls. Each is made without room, with just enough, and with another room. */
+
+typedef enum which { IS_CONTENT, IS_TEXT, STRING, TEXT, LEAVES, TEXTS, HTML, IDENTIFIER, REFERENCE } which;
+static const char *const NAMES[] = {"is_content", "is_text", "string", "text", "leaves", "texts", "html", "identifier", "reference"};
+
+/* What is lent of a case, the number of ends that a call may write, and what it found last. */
+static markdown_inline_input *input;
+static const markdown_inline_content *contents;
+static const markdown_inline_target *targets;
+static size_t ends_len, found_len;
+static size_t *ends, *count;
+static uint8_t found[sizeof filled];
+static size_t found_ends[CONTENTS];
+
+static void lend_case(const drawn *it) {
+    int is_long = it->bytes_len > BYTES;
+    markdown_inline_input whole = {NULL, it->bytes_len, NULL, it->pieces_len, NULL, it->labels_len, NULL, it->definitions_len, NULL, it->footnotes_len, it->options};
+    whole.bytes = (const uint8_t *)lend(&of_bytes, it->bytes, is_long ? 0 : it->bytes_len, 1);
+    whole.pieces = (const markdown_inline_piece *)lend(&of_pieces, it->pieces, it->pieces_len, sizeof *it->pieces);
+    whole.labels = (const uint8_t *)lend(&of_labels, it->labels, it->labels_len, 1);
+    whole.definitions = (const markdown_inline_range *)lend(&of_definitions, it->definitions, it->definitions_len, sizeof *it->definitions);
+    whole.footnotes = (const markdown_inline_range *)lend(&of_footnotes, it->footnotes, it->footnotes_len, sizeof *it->footnotes);
+    contents = (const markdown_inline_content *)lend(&of_contents, it->contents, it->contents_len, sizeof *it->contents);
+    targets = (const markdown_inline_target *)lend(&of_targets, it->targets, it->targets_len, sizeof *it->targets);
+    input = (markdown_inline_input *)(uintptr_t)lend(&of_input, &whole, 1, sizeof whole);
+}
+
+static size_t size_of(which call) {
+    return call == STRING || call == TEXT || call == TEXTS ? sizeof(markdown_inline_event) : call == LEAVES ? sizeof(markdown_inline_leaf) : 1;
+}
+
+/* Makes a call with this array. */
+static uint32_t made(which call, const drawn *it, void *array, size_t len) {
+    calls++;
+    functions[call]++;
+    switch (call) {
+    case IS_CONTENT: return markdown_inline_is_content(input->bytes, input->bytes_len, input->pieces, input->pieces_len);
+    case IS_TEXT: return markdown_inline_is_text(input->bytes, input->bytes_len, input->pieces, input->pieces_len);
+    case STRING: return markdown_inline_string(input, (markdown_inline_event *)array, len, count);
+    case TEXT: return markdown_inline_text(input, (markdown_inline_event *)array, len, count);
+    case LEAVES: return markdown_inline_leaves(input, (markdown_inline_leaf *)array, len, count);
+    case TEXTS: return markdown_inline_texts(input, contents, it->contents_len, (markdown_inline_event *)array, len, ends, ends_len, count);
+    case HTML: return markdown_inline_html(input, targets, it->targets_len, it->html_options, (uint8_t *)array, len, count);
+    case IDENTIFIER: return markdown_inline_identifier(input->labels, input->labels_len, (uint8_t *)array, len, count);
+    default: return markdown_inline_reference(input->labels, input->labels_len, (uint8_t *)array, len, count);
+    }
+}
+
+/* Makes a call with room for so many elements and so many ends, and looks at what it has written. Answers its status. */
+static uint32_t called(which call, const drawn *it, size_t room, size_t room_of_ends) {
+    size_t each = size_of(call), before = (size_t)draw();
+    void *array = lend_room(&of_found, room, each);
+    ends_len = room_of_ends;
+    ends = (size_t *)lend_room(&of_ends, room_of_ends, sizeof *ends);
+    count = (size_t *)lend_room(&of_count, 1, sizeof *count);
+    *count = before;
+    uint32_t status = made(call, it, array, room);
+    size_t written = status == MARKDOWN_INLINE_DONE && call >= STRING ? *count : 0, written_ends = status == MARKDOWN_INLINE_DONE && call == TEXTS ? it->contents_len : 0;
+    counts[status < 16 ? status : 15]++;
+    want("no more than there is room for", written <= room && written_ends <= room_of_ends);
+    if (written > room || written_ends > room_of_ends) return status;
+    want("nothing is written but what is counted", is_filled_but(&of_found, array, written * each) && is_filled_but(&of_ends, ends, written_ends * sizeof *ends)
+            && is_filled_but(&of_count, count, sizeof *count));
+    want("no count is written where there is none", (call >= STRING && (status == MARKDOWN_INLINE_DONE || status == MARKDOWN_INLINE_TOO_SMALL)) || *count == before);
+    int is_counted = call >= STRING && (status == MARKDOWN_INLINE_DONE || status == MARKDOWN_INLINE_TOO_SMALL);
+    found_len = is_counted ? *count : 0;
+    if (is_counted && status == MARKDOWN_INLINE_DONE) {
+        if (written) memcpy(found, array, written * each);
+        if (written_ends) memcpy(found_ends, ends, written_ends * sizeof *ends);
+    }
+    return status;
+}
+
+/* Makes a call in each way, and compares what they answer. Answers whether it is done; then what it found stands in `found`. */
+static int is_done(which call, const drawn *it, uint32_t wanted) {
+    static uint8_t first[sizeof found];
+    size_t each = size_of(call), needed_ends = call == TEXTS ? it->contents_len : 0;
+    call_name = NAMES[call];
+    uint32_t status = called(call, it, 0, 0);
+    size_t needed = found_len;
+    if (wanted != MARKDOWN_INLINE_DONE) {
+        want("the status of the model", status == wanted);
+        want("the status of the model, with room", called(call, it, below(64), below(CONTENTS + 1)) == wanted);
+        return 0;
+    }
+    want("the status without room", status == (needed > 0 || needed_ends > 0 ? (uint32_t)MARKDOWN_INLINE_TOO_SMALL : (uint32_t)MARKDOWN_INLINE_DONE));
+    if (needed * each > sizeof found || call < STRING) return status == MARKDOWN_INLINE_DONE;
+    if (needed > 0) want("too little room", called(call, it, one_in(2) ? needed - 1 : below(needed), needed_ends) == MARKDOWN_INLINE_TOO_SMALL && found_len == needed);
+    if (needed_ends > 0) want("too little room for ends", called(call, it, needed, below(needed_ends)) == MARKDOWN_INLINE_TOO_SMALL && found_len == needed);
+    want("enough room", called(call, it, needed, needed_ends) == MARKDOWN_INLINE_DONE && found_len == needed);
+    memcpy(first, found, needed * each);
+    want("more room", called(call, it, needed + below(4), needed_ends + below(3)) == MARKDOWN_INLINE_DONE && found_len == needed);
+    want("the same again", !memcmp(first, found, needed * each));
+    return 1;
+}
+
+/* How the answers fit together. */
+
+/* The events of a tree: what begins ends in order, places go forward, and chains lead forth and back. */
+static void look_at_events(const markdown_inline_event *events, size_t len) {
+    uint8_t open[sizeof found / sizeof *events];
+    size_t depth = 0;
+    for (size_t at = 0; at < len; at++) {
+        const markdown_inline_event *it = &events[at];
+        want("a known name and kind", it->name < MARKDOWN_INLINE_NAME_COUNT && it->kind <= MARKDOWN_INLINE_EXIT && it->link <= MARKDOWN_INLINE_LINKED_TEXT);
+        if (it->kind == MARKDOWN_INLINE_ENTER)
+            open[depth++] = it->name;
+        else
+            want("what ends has begun", depth > 0 && open[--depth] == it->name);
+        if (at > 0) want("places go forward", !is_before((place){it->index, it->vs}, (place){events[at - 1].index, events[at - 1].vs}));
+        if (it->link == MARKDOWN_INLINE_UNLINKED) want("no chain", it->next == MARKDOWN_INLINE_NONE && it->previous == MARKDOWN_INLINE_NONE);
+        if (it->next != MARKDOWN_INLINE_NONE) want("a chain leads forth", it->next < len && it->next > at && events[it->next].previous == at);
+        if (it->previous != MARKDOWN_INLINE_NONE) want("a chain leads back", it->previous < at && events[it->previous].next == at);
+    }
+    want("all has ended", depth == 0);
+}
+
+/* The leaves are the events that end at once. */
+static void look_at_leaves(const markdown_inline_event *events, size_t len, const markdown_inline_leaf *leaves, size_t leaves_len) {
+    size_t number = 0;
+    for (size_t at = 0; at + 1 < len; at++) {
+        if (events[at].kind != MARKDOWN_INLINE_ENTER || events[at + 1].kind != MARKDOWN_INLINE_EXIT) continue;
+        if (number == leaves_len) break;
+        const markdown_inline_leaf *it = &leaves[number++];
+        want("a leaf is an event", it->name == events[at].name && it->start == events[at].index && it->start_vs == events[at].vs && it->start_line == events[at].line
+                && it->start_column == events[at].column && it->end == events[at + 1].index && it->end_vs == events[at + 1].vs && it->end_line == events[at + 1].line
+                && it->end_column == events[at + 1].column);
+        want("the bytes of a leaf stand between its ends", it->bytes_len <= it->end + (it->end_vs > 0) - it->start && it->before < 4 && it->after < 4);
+    }
+    want("each leaf is an event that ends at once", number == leaves_len);
+}
+
+/* Each of many contents has the events of its own. */
+static void look_at_texts(const drawn *all) {
+    static uint8_t many[sizeof found];
+    size_t starts[CONTENTS + 1] = {0}, len = all->contents_len;
+    memcpy(many, found, sizeof found);
+    memcpy(starts + 1, found_ends, len * sizeof *starts);
+    for (size_t at = 0; at < len; at++) {
+        drawn alone = *all;
+        memcpy(alone.pieces, all->pieces + all->contents[at].pieces.start, (PIECES - all->contents[at].pieces.start) * sizeof *alone.pieces);
+        alone.pieces_len = all->contents[at].pieces.end - all->contents[at].pieces.start;
+        alone.options = (all->options & 0xfffff) | (all->contents[at].first_of_item ? (uint32_t)MARKDOWN_INLINE_OPTION_FIRST_OF_ITEM : 0);
+        lend_case(&alone);
+        want("one of many is a text", called(TEXT, &alone, sizeof found / sizeof(markdown_inline_event), 0) == MARKDOWN_INLINE_DONE);
+        want("ends are in order", starts[at + 1] >= starts[at] && starts[at + 1] - starts[at] == found_len);
+        for (size_t event = 0; event < found_len && starts[at] + event < starts[at + 1]; event++) {
+            const markdown_inline_event *it = (const markdown_inline_event *)(const void *)found + event, *other = (const markdown_inline_event *)(const void *)many + starts[at] + event;
+            want("an event of one of many", it->kind == other->kind && it->name == other->name && it->link == other->link && it->index == other->index && it->vs == other->vs
+                    && it->line == other->line && it->column == other->column && it->previous == other->previous && it->next == other->next);
+        }
+    }
+}
+
+/* The status of a reference by digits, or 1 for one that its name decides. */
+static uint32_t reference_status(const uint8_t *bytes, size_t len) {
+    size_t is_hexadecimal = len > 2 && (bytes[2] == 'x' || bytes[2] == 'X'), digits = 0;
+    if (len < 3 || bytes[0] != '&' || bytes[len - 1] != ';') return MARKDOWN_INLINE_NO_REFERENCE;
+    for (size_t at = 1 + (bytes[1] == '#') + (bytes[1] == '#' && is_hexadecimal); at + 1 < len; at++, digits++) {
+        uint8_t it = bytes[at], letter = it | 0x20;
+        int is_digit = it >= '0' && it <= '9', is_letter = letter >= 'a' && letter <= 'z';
+        if (!is_digit && (!is_letter || (bytes[1] == '#' && (!is_hexadecimal || letter > 'f')))) return MARKDOWN_INLINE_NO_REFERENCE;
+    }
+    if (bytes[1] != '#') return 1;
+    return digits > 0 && digits <= (is_hexadecimal ? 6 : 7) ? (uint32_t)MARKDOWN_INLINE_DONE : (uint32_t)MARKDOWN_INLINE_NO_REFERENCE;
+}
+
+static void try_bytes(drawn *it) {
+    static const char *const REFERENCES[] = {"&", "#", "x", "X", ";", "amp", "copy", "lt", "65", "1f600", "d800", "0", "9", "f", "g", "nosuch", "1234567", "\xc3"};
+    static const char *const WORDS[] = {"a", "B", " ", "\t", "\n", "\r\n", "\xc3\x89", "\xe1\xba\x9e", "\xef\xac\x80", "\xce\xa3", "[", "\\]", "\xf0\x90\x90\x80"};
+    it->labels_len = 0;
+    for (size_t parts = below(9); parts > 0; parts--) it->labels_len = append(it->labels, it->labels_len, WORDS[below(sizeof WORDS / sizeof *WORDS)]);
+    if (one_in(8)) it->labels_len = append(it->labels, it->labels_len, BROKEN[below(sizeof BROKEN / sizeof *BROKEN)]);
+    lend_case(it);
+    if (is_done(IDENTIFIER, it, is_utf8(it->labels, it->labels_len) ? MARKDOWN_INLINE_DONE : MARKDOWN_INLINE_NOT_UTF8))
+        want("an identifier is UTF-8", is_utf8(found, found_len) && (found_len == 0 || (found[0] != ' ' && found[found_len - 1] != ' ')));
+    it->labels_len = one_in(6) ? 0 : append(it->labels, 0, one_in(3) ? "&" : "&#");
+    for (size_t parts = below(4); parts > 0; parts--) it->labels_len = append(it->labels, it->labels_len, REFERENCES[below(sizeof REFERENCES / sizeof *REFERENCES)]);
+    if (!one_in(6)) it->labels_len = append(it->labels, it->labels_len, ";");
+    lend_case(it);
+    uint32_t wanted = reference_status(it->labels, it->labels_len);
+    if (wanted == 1) {
+        call_name = NAMES[REFERENCE];
+        wanted = called(REFERENCE, it, 0, 0);
+        want("the status of a name", wanted == MARKDOWN_INLINE_NO_REFERENCE || wanted == MARKDOWN_INLINE_TOO_SMALL);
+        wanted = wanted == MARKDOWN_INLINE_TOO_SMALL ? (uint32_t)MARKDOWN_INLINE_DONE : wanted;
+    }
+    if (is_done(REFERENCE, it, wanted)) want("a reference stands for some UTF-8", found_len > 0 && found_len < 9 && is_utf8(found, found_len));
+}
+
+static void try_case(void) {
+    static markdown_inline_event events[sizeof found / sizeof(markdown_inline_event)];
+    static drawn it;
+    draw_case(&it);
+    lend_case(&it);
+    is_done(IS_CONTENT, &it, content_status(&it));
+    is_done(IS_TEXT, &it, pieces_status(&it));
+    if (is_done(STRING, &it, string_status(&it))) look_at_events((const markdown_inline_event *)(const void *)found, found_len);
+    if (is_done(HTML, &it, html_status(&it))) want("HTML is UTF-8", is_utf8(found, found_len));
+    if (is_done(TEXT, &it, text_status(&it))) {
+        size_t len = found_len;
+        memcpy(events, found, len * sizeof *events);
+        look_at_events(events, len);
+        if (is_done(LEAVES, &it, MARKDOWN_INLINE_DONE)) look_at_leaves(events, len, (const markdown_inline_leaf *)(const void *)found, found_len);
+    } else {
+        is_done(LEAVES, &it, text_status(&it));
+    }
+    if (is_done(TEXTS, &it, texts_status(&it))) look_at_texts(&it);
+    try_bytes(&it);
+}
+
+/* Tells of a touch of a page that may not be touched. */
+static void touched(int number) {
+    (void)number;
+    printf("random_calls: %s: memory that is not lent is touched, seed %llu\n", call_name, (unsigned long long)seed);
+    fflush(stdout);
+    _exit(1);
+}
+
+int main(int argc, char **argv) {
+    size_t most = argc > 2 ? (size_t)strtoull(argv[2], NULL, 10) : 200000;
+    stretch *const reads[] = {&of_bytes, &of_pieces, &of_labels, &of_definitions, &of_footnotes, &of_contents, &of_targets, &of_input};
+    seed = argc > 1 ? strtoull(argv[1], NULL, 10) : 1;
+    page = (size_t)sysconf(_SC_PAGESIZE);
+    for (size_t at = 0; at < sizeof reads / sizeof *reads; at++) *reads[at] = new_stretch(1, 1);
+    memset(filled, FILL, sizeof filled);
+    of_found = new_stretch(sizeof found / page, 0);
+    of_ends = new_stretch(1, 0);
+    of_count = new_stretch(1, 0);
+    signal(SIGSEGV, touched);
+    signal(SIGBUS, touched);
+    for (; calls < most && faults == 0; seed++) {
+        begin_case(seed);
+        try_case();
+        if (faults > 0) break;
+    }
+    call_name = "all";
+    for (uint32_t status = 0; most >= ENOUGH && faults == 0 && status < 16; status++) {
+        int is_drawn = markdown_inline_status_text(status) && status != MARKDOWN_INLINE_NO_MEMORY;
+        want("each status comes often, and no other", is_drawn ? counts[status] >= FLOOR : counts[status] == 0);
+    }
+    for (size_t call = 0; most >= ENOUGH && faults == 0 && call <= REFERENCE; call++) want("each function is called often", functions[call] >= ENOUGH / 100);
+    if (faults == 0) printf("bindings: %zu drawn calls of C, %zu done, %zu without room, %zu refused\n", calls, counts[0], counts[6], calls - counts[0] - counts[6]);
+    return faults != 0;
+}
