@@ -1,8 +1,68 @@
-//! Links the static library, which stands where `MARKDOWN_INLINE_LIB_DIR` says, or else where `bindings/build` leaves it. The names of events and the
-//! options are those of `markdown_inline.h`, which stands in the folder `include` beside that of the library.
+//! Links the static library, and reads the names of events and the options in `markdown_inline.h`. The library stands where `MARKDOWN_INLINE_LIB_DIR` says, with
+//! the header in the folder `include` beside it; else where pkg-config finds both; else where `bindings/build` leaves them.
 
+use std::env;
 use std::fmt::Write;
-use std::path::PathBuf;
+use std::fs;
+use std::path::{Path, PathBuf};
+use std::process::Command;
+
+/// Where the library and its header stand.
+struct Place {
+    lib: PathBuf,
+    include: PathBuf,
+}
+
+impl Place {
+    /// Beside a folder of libraries stands that of headers.
+    fn of(lib: PathBuf) -> Place {
+        let include = lib.join("../include");
+        Place { lib, include }
+    }
+
+    fn archive(&self) -> PathBuf {
+        self.lib.join("libmarkdown_inline.a")
+    }
+
+    fn header(&self) -> PathBuf {
+        self.include.join("markdown_inline.h")
+    }
+}
+
+/// A folder of the library by its name in the file that pkg-config reads; none where pkg-config is not there, or does not know the library.
+fn folder_of(name: &str) -> Option<PathBuf> {
+    let command = env::var_os("PKG_CONFIG").unwrap_or_else(|| "pkg-config".into());
+    let told = Command::new(command)
+        .args([&format!("--variable={name}"), "markdown_inline"])
+        .output()
+        .ok()
+        .filter(|told| told.status.success())?;
+    let text = String::from_utf8(told.stdout).ok()?;
+    // It writes a backslash before a sign that a shell would read.
+    let mut folder = String::new();
+    let mut signs = text.trim_end_matches('\n').chars();
+    while let Some(sign) = signs.next() {
+        folder.push(if sign == '\\' { signs.next()? } else { sign });
+    }
+    (!folder.is_empty()).then(|| PathBuf::from(folder))
+}
+
+/// Where pkg-config finds the library. It knows libraries of this machine alone.
+fn installed() -> Option<Place> {
+    if env::var_os("TARGET") != env::var_os("HOST") {
+        return None;
+    }
+    let (lib, include) = (folder_of("libdir")?, folder_of("includedir")?);
+    Some(Place { lib, include }).filter(|place| place.archive().exists())
+}
+
+fn place() -> Place {
+    if let Some(folder) = env::var_os("MARKDOWN_INLINE_LIB_DIR") {
+        return Place::of(folder.into());
+    }
+    let here = PathBuf::from(env::var_os("CARGO_MANIFEST_DIR").unwrap_or_default());
+    installed().unwrap_or_else(|| Place::of(here.join("../out/lib")))
+}
 
 /// What stands in a header of a list, from this line on: the doc of each row, and its words.
 fn rows(header: &str, list: &str) -> Vec<(String, Vec<String>)> {
@@ -65,23 +125,37 @@ fn lists(header: &str) -> (String, String) {
     (names, options + "}\n")
 }
 
+fn written(path: &Path, text: &str) {
+    if let Err(error) = fs::write(path, text) {
+        panic!("{}: {error}", path.display());
+    }
+}
+
 fn main() {
-    println!("cargo:rerun-if-env-changed=MARKDOWN_INLINE_LIB_DIR");
-    let here = PathBuf::from(std::env::var_os("CARGO_MANIFEST_DIR").unwrap_or_default());
-    let folder = std::env::var_os("MARKDOWN_INLINE_LIB_DIR")
-        .map_or_else(|| here.join("../out/lib"), PathBuf::from);
-    println!("cargo:rustc-link-search=native={}", folder.display());
+    for name in ["MARKDOWN_INLINE_LIB_DIR", "PKG_CONFIG", "PKG_CONFIG_PATH"] {
+        println!("cargo:rerun-if-env-changed={name}");
+    }
+    let place = place();
+    let (archive, header) = (place.archive(), place.header());
+    let text = fs::read_to_string(&header).unwrap_or_default();
+    if text.is_empty() || !archive.exists() {
+        panic!(
+            "{} or {} is not there: run bindings/build of the repository, and perhaps bindings/install PREFIX and set PKG_CONFIG_PATH to PREFIX/lib/pkgconfig; \
+             or set MARKDOWN_INLINE_LIB_DIR to the folder of libmarkdown_inline.a",
+            archive.display(),
+            header.display()
+        );
+    }
+    println!("cargo:rustc-link-search=native={}", place.lib.display());
     println!("cargo:rustc-link-lib=static=markdown_inline");
-    println!(
-        "cargo:rerun-if-changed={}",
-        folder.join("libmarkdown_inline.a").display()
-    );
-    let header = folder.join("../include/markdown_inline.h");
+    println!("cargo:rerun-if-changed={}", archive.display());
     println!("cargo:rerun-if-changed={}", header.display());
-    let text =
-        std::fs::read_to_string(&header).expect("markdown_inline.h stands beside the library");
-    let out = PathBuf::from(std::env::var_os("OUT_DIR").unwrap_or_default());
+    println!(
+        "cargo:rustc-env=MARKDOWN_INLINE_HEADER={}",
+        header.display()
+    );
+    let out = PathBuf::from(env::var_os("OUT_DIR").unwrap_or_default());
     let (names, options) = lists(&text);
-    std::fs::write(out.join("names.rs"), names).expect("the names are written");
-    std::fs::write(out.join("options.rs"), options).expect("the options are written");
+    written(&out.join("names.rs"), &names);
+    written(&out.join("options.rs"), &options);
 }

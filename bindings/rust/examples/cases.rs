@@ -1,9 +1,7 @@
 //! Reads cases of `bindings/tests/draw.py` from standard input, and prints what the library finds in each: events as the program of
 //! `crates/markdown_test_runs` does, leaves, HTML in hexadecimal, or the events of each text; where there are none, why.
 
-use markdown_inline::{
-    Error, Event, HtmlOptions, Input, Kind, Leaf, Options, Piece, Point, TextContent,
-};
+use markdown_inline::{Error, Event, HtmlOptions, Input, Leaf, Options, Piece, Point, TextContent};
 use std::io::{self, BufRead};
 
 fn listed(word: &str) -> impl Iterator<Item = &str> {
@@ -32,7 +30,7 @@ fn piece_of(word: &str) -> Piece {
 }
 
 fn shown(event: Event) -> String {
-    let sign = if event.kind == Kind::Enter { '+' } else { '-' };
+    let sign = if event.is_enter() { '+' } else { '-' };
     let number = |it: Option<usize>| it.map_or("-".to_string(), |it| it.to_string());
     let link = event.link.map_or(String::new(), |link| {
         format!(
@@ -63,14 +61,14 @@ fn shown_leaf(leaf: Leaf) -> String {
 }
 
 // A label's definition, with the target that a word names.
-fn defined<'a>(input: Input<'a>, label: &str, target: &str) -> Input<'a> {
+fn define(input: &mut Input, label: &str, target: &str) {
     let target = target.trim_start_matches('=');
     let (destination, title) = match target.split_once(':') {
         Some((destination, title)) => (destination, Some(bytes_of(title))),
         None => (target, None),
     };
     let title = title.map(|it| String::from_utf8(it).unwrap());
-    input.definition_to(&bytes_of(label), bytes_of(destination), title.as_deref())
+    input.define_to(bytes_of(label), bytes_of(destination), title.as_deref());
 }
 
 fn content_of(word: &str) -> TextContent {
@@ -89,7 +87,7 @@ fn texts_of(input: &Input, contents: &str) -> Result<String, Error> {
     let texts = input.texts(&contents)?;
     let shown = texts
         .iter()
-        .map(|events| " |".to_string() + &events.map(shown).collect::<String>());
+        .map(|events| " |".to_string() + &events.iter().map(shown).collect::<String>());
     Ok(shown.collect())
 }
 
@@ -107,16 +105,17 @@ fn answer(words: &[&str]) -> Result<String, Error> {
     let document = bytes_of(words[5]);
     let pieces: Vec<Piece> = listed(words[2]).map(piece_of).collect();
     let options = Options::from_bits(words[1].parse().unwrap());
-    let input = Input::new(&document).pieces(&pieces).options(options);
-    let input = match words[0] {
+    let mut input = Input::new(&document)
+        .pieces(&pieces)
+        .options(options)
+        .footnotes(listed(words[4]).map(bytes_of));
+    let targets = words.get(7).copied().unwrap_or_default();
+    match words[0] {
         "html" => listed(words[3])
-            .zip(listed(words[7]))
-            .fold(input, |input, (label, target)| {
-                defined(input, label, target)
-            }),
-        _ => listed(words[3]).fold(input, |input, it| input.definition(bytes_of(it))),
-    };
-    let input = listed(words[4]).fold(input, |input, it| input.footnote(bytes_of(it)));
+            .zip(listed(targets))
+            .for_each(|(label, target)| define(&mut input, label, target)),
+        _ => input = input.definitions(listed(words[3]).map(bytes_of)),
+    }
     match words[0] {
         "string" => Ok(input.string()?.iter().map(shown).collect()),
         "text" => Ok(input.text()?.iter().map(shown).collect()),

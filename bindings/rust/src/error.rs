@@ -3,7 +3,8 @@
 use std::error;
 use std::fmt;
 
-/// Why a call answers nothing: the first thing that is wrong.
+/// Why a call answers nothing: the first thing that is wrong, in the order `UnknownOption`, `TooLong`, `NotUtf8`, `NoContent`, `BlankLine`, `Definition`. A call
+/// for many contents looks at all definitions first, and then at one content after another. `NoMemory` may come at any time.
 #[derive(Clone, Copy, Debug, PartialEq, Eq, Hash)]
 #[non_exhaustive]
 pub enum Error {
@@ -11,13 +12,13 @@ pub enum Error {
     UnknownOption,
     /// The document is not UTF-8.
     NotUtf8,
-    /// A line of the text is blank, or it ends with a line ending.
+    /// A line of the text is blank, or it ends with a line ending. A string may have both.
     BlankLine,
     /// Memory was refused.
     NoMemory,
     /// The pieces are no content of the document.
     NoContent,
-    /// A label of a definition, or where it leads, is not UTF-8.
+    /// A label of a definition is not UTF-8; in HTML, where it leads is not. A string looks at no definition.
     Definition,
     /// The document is longer than an eighth of `usize::MAX`.
     TooLong,

@@ -3,6 +3,7 @@
 use crate::raw::RawEvent;
 use crate::Name;
 use std::fmt;
+use std::iter::FusedIterator;
 use std::slice;
 
 /// Whether an event begins or ends what it names.
@@ -36,7 +37,8 @@ pub struct Point {
     pub vs: usize,
 }
 
-/// The chain on which an Enter event stands. The numbers are those of Enter events in the list.
+/// The chain on which an Enter event stands: what is linked is one string or text, perhaps on several lines. The numbers are those of Enter events in the
+/// list, to be asked for by [`Events::get`] or walked by [`Events::chain`].
 #[derive(Clone, Copy, Debug, PartialEq, Eq, Hash)]
 pub struct Link {
     /// How the linked content is to be read.
@@ -65,6 +67,16 @@ fn number_of(number: usize) -> Option<usize> {
 }
 
 impl Event {
+    /// Whether it begins what it names.
+    pub fn is_enter(&self) -> bool {
+        self.kind == Kind::Enter
+    }
+
+    /// Whether it ends what it names.
+    pub fn is_exit(&self) -> bool {
+        self.kind == Kind::Exit
+    }
+
     fn of(raw: &RawEvent) -> Event {
         let content = match raw.link {
             0 => None,
@@ -99,15 +111,32 @@ pub struct Events {
     pub(crate) raw: Vec<RawEvent>,
 }
 
+/// The events of a content's inline tree, in order, that a list of events lends.
+#[derive(Clone, Copy)]
+pub struct EventSlice<'a> {
+    raw: &'a [RawEvent],
+}
+
 /// The events one after another.
 #[derive(Clone)]
-pub struct Iter<'a>(pub(crate) slice::Iter<'a, RawEvent>);
+pub struct Iter<'a>(slice::Iter<'a, RawEvent>);
+
+/// The events of a chain one after another, each with its number.
+#[derive(Clone)]
+pub struct Chain<'a> {
+    events: EventSlice<'a>,
+    number: Option<usize>,
+}
 
 impl Iterator for Iter<'_> {
     type Item = Event;
 
     fn next(&mut self) -> Option<Event> {
         self.0.next().map(Event::of)
+    }
+
+    fn nth(&mut self, number: usize) -> Option<Event> {
+        self.0.nth(number).map(Event::of)
     }
 
     fn size_hint(&self) -> (usize, Option<usize>) {
@@ -123,10 +152,24 @@ impl DoubleEndedIterator for Iter<'_> {
 
 impl ExactSizeIterator for Iter<'_> {}
 
-impl Events {
-    /// No events, and no memory for any.
-    pub fn new() -> Events {
-        Events::default()
+impl FusedIterator for Iter<'_> {}
+
+impl Iterator for Chain<'_> {
+    type Item = (usize, Event);
+
+    fn next(&mut self) -> Option<(usize, Event)> {
+        let number = self.number?;
+        let event = self.events.get(number);
+        self.number = event.and_then(|event| event.link?.next);
+        Some((number, event?))
+    }
+}
+
+impl FusedIterator for Chain<'_> {}
+
+impl<'a> EventSlice<'a> {
+    pub(crate) fn of(raw: &'a [RawEvent]) -> EventSlice<'a> {
+        EventSlice { raw }
     }
 
     /// How many they are.
@@ -145,8 +188,64 @@ impl Events {
     }
 
     /// The events one after another.
-    pub fn iter(&self) -> Iter<'_> {
+    pub fn iter(&self) -> Iter<'a> {
         Iter(self.raw.iter())
+    }
+
+    /// The event with this number, and those after it on its chain.
+    pub fn chain(&self, number: usize) -> Chain<'a> {
+        Chain {
+            events: *self,
+            number: Some(number),
+        }
+    }
+}
+
+impl Events {
+    /// No events, and no memory for any.
+    pub fn new() -> Events {
+        Events::default()
+    }
+
+    /// The events, lent.
+    pub fn as_slice(&self) -> EventSlice<'_> {
+        EventSlice::of(&self.raw)
+    }
+
+    /// How many they are.
+    pub fn len(&self) -> usize {
+        self.raw.len()
+    }
+
+    /// Whether there are none.
+    pub fn is_empty(&self) -> bool {
+        self.raw.is_empty()
+    }
+
+    /// The event with this number, as links name it.
+    pub fn get(&self, number: usize) -> Option<Event> {
+        self.as_slice().get(number)
+    }
+
+    /// The events one after another.
+    pub fn iter(&self) -> Iter<'_> {
+        self.as_slice().iter()
+    }
+
+    /// The event with this number, and those after it on its chain: what is linked is one string, of which each line is some of these events.
+    ///
+    /// ```
+    /// use markdown_inline::{text, Name};
+    /// # fn main() -> Result<(), markdown_inline::Error> {
+    /// let events = text("[a](b \"c\nd\")")?;
+    /// let title = events.iter().position(|event| event.name == Name::ResourceTitleString).unwrap();
+    /// let names: Vec<_> = events.chain(title + 1).map(|(_, event)| event.name).collect();
+    /// assert_eq!(names, [Name::Data, Name::LineEnding, Name::Data]);
+    /// # Ok(())
+    /// # }
+    /// ```
+    pub fn chain(&self, number: usize) -> Chain<'_> {
+        self.as_slice().chain(number)
     }
 }
 
@@ -159,9 +258,24 @@ impl<'a> IntoIterator for &'a Events {
     }
 }
 
+impl<'a> IntoIterator for EventSlice<'a> {
+    type Item = Event;
+    type IntoIter = Iter<'a>;
+
+    fn into_iter(self) -> Iter<'a> {
+        self.iter()
+    }
+}
+
 impl fmt::Debug for Events {
     fn fmt(&self, f: &mut fmt::Formatter<'_>) -> fmt::Result {
         f.debug_list().entries(self).finish()
+    }
+}
+
+impl fmt::Debug for EventSlice<'_> {
+    fn fmt(&self, f: &mut fmt::Formatter<'_>) -> fmt::Result {
+        f.debug_list().entries(self.iter()).finish()
     }
 }
 

@@ -3,6 +3,7 @@
 use crate::raw::RawLeaf;
 use crate::{Name, Point};
 use std::fmt;
+use std::iter::FusedIterator;
 use std::slice;
 
 /// An event with no other inside it, from where it begins to where it ends, and what stands there.
@@ -47,7 +48,7 @@ impl<'a> Leaf<'a> {
 }
 
 /// The leaves of a content's inline tree, in order: together they cover the content.
-#[derive(Clone)]
+#[derive(Clone, Default)]
 pub struct Leaves<'a> {
     pub(crate) document: &'a [u8],
     pub(crate) raw: Vec<RawLeaf>,
@@ -82,7 +83,14 @@ impl DoubleEndedIterator for LeafIter<'_, '_> {
 
 impl ExactSizeIterator for LeafIter<'_, '_> {}
 
+impl FusedIterator for LeafIter<'_, '_> {}
+
 impl<'a> Leaves<'a> {
+    /// No leaves, and no memory for any.
+    pub fn new() -> Leaves<'a> {
+        Leaves::default()
+    }
+
     /// How many they are.
     pub fn len(&self) -> usize {
         self.raw.len()

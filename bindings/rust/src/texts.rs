@@ -1,6 +1,6 @@
 //! Many contents of one document.
 
-use crate::event::Iter;
+use crate::event::EventSlice;
 use crate::raw::{RawContent, RawEvent, RawRange};
 use std::fmt;
 use std::ops::Range;
@@ -34,6 +34,16 @@ impl RawContent {
 }
 
 impl Texts {
+    /// No contents, and no memory for any.
+    pub fn new() -> Texts {
+        Texts::default()
+    }
+
+    pub(crate) fn clear(&mut self) {
+        self.events.clear();
+        self.ends.clear();
+    }
+
     /// How many contents there are.
     pub fn len(&self) -> usize {
         self.ends.len()
@@ -44,26 +54,21 @@ impl Texts {
         self.ends.is_empty()
     }
 
-    /// The events of the content with this number, one after another.
-    pub fn get(&self, number: usize) -> Option<Iter<'_>> {
+    /// The events of the content with this number.
+    pub fn get(&self, number: usize) -> Option<EventSlice<'_>> {
         let end = *self.ends.get(number)?;
-        let start = match number {
-            0 => 0,
-            _ => self.ends[number - 1],
-        };
-        Some(Iter(self.events[start..end].iter()))
+        let start = number.checked_sub(1).map_or(0, |before| self.ends[before]);
+        Some(EventSlice::of(&self.events[start..end]))
     }
 
     /// The contents one after another, of each its events.
-    pub fn iter(&self) -> impl Iterator<Item = Iter<'_>> {
+    pub fn iter(&self) -> impl Iterator<Item = EventSlice<'_>> {
         (0..self.len()).filter_map(|number| self.get(number))
     }
 }
 
 impl fmt::Debug for Texts {
     fn fmt(&self, f: &mut fmt::Formatter<'_>) -> fmt::Result {
-        f.debug_list()
-            .entries(self.iter().map(|events| events.collect::<Vec<_>>()))
-            .finish()
+        f.debug_list().entries(self.iter()).finish()
     }
 }

@@ -148,8 +148,8 @@ fn many_contents_are_read_as_each_by_itself() {
         .pieces(&pieces[..1])
         .options(options | Options::FIRST_OF_ITEM);
     let second = Input::new(document).pieces(&pieces[1..]).options(options);
-    assert!(found.get(0).unwrap().eq(&first.text().unwrap()));
-    assert!(found.get(1).unwrap().eq(&second.text().unwrap()));
+    assert!(found.get(0).unwrap().iter().eq(&first.text().unwrap()));
+    assert!(found.get(1).unwrap().iter().eq(&second.text().unwrap()));
     assert!(found.get(2).is_none() && found.len() == 2 && found.iter().count() == 2);
     let wrong = [content(0..1, false), content(2..4, false)];
     assert_eq!(input.texts(&wrong).unwrap_err(), Error::NoContent);

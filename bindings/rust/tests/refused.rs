@@ -1,7 +1,9 @@
 //! Memory that is refused to the library. The program has a `malloc` of its own, which the library is linked with.
 #![cfg(all(target_os = "linux", target_env = "gnu"))]
 
-use markdown_inline::{identifier, reference, Error, Events, HtmlOptions, Input, TextContent};
+use markdown_inline::{
+    identifier, reference, Error, Events, HtmlOptions, Input, TextContent, Texts,
+};
 use std::cell::Cell;
 use std::ffi::c_void;
 use std::ptr;
@@ -13,12 +15,14 @@ extern "C" {
 
 thread_local! {
     static REFUSES: Cell<bool> = const { Cell::new(false) };
+    static ASKED: Cell<usize> = const { Cell::new(0) };
 }
 
 /// # Safety
 /// As of the C library's.
 #[no_mangle]
 pub unsafe extern "C" fn malloc(size: usize) -> *mut c_void {
+    ASKED.set(ASKED.get() + 1);
     match REFUSES.get() {
         true => ptr::null_mut(),
         false => __libc_malloc(size),
@@ -43,6 +47,13 @@ fn refused<T>(call: impl FnOnce() -> T) -> T {
     answer
 }
 
+/// How often a call asks for memory.
+fn asked<T>(call: impl FnOnce() -> T) -> usize {
+    let before = ASKED.get();
+    call();
+    ASKED.get() - before
+}
+
 #[test]
 fn refused_memory_is_an_error() {
     let input = Input::new("a *b*").definition("c");
@@ -52,15 +63,50 @@ fn refused_memory_is_an_error() {
         pieces: 0..1,
         first_of_item: false,
     }];
+    let (mut html, mut texts) = (input.html(HtmlOptions::default()).unwrap(), Texts::new());
     let found = [
+        refused(|| input.text().map(drop)),
         refused(|| input.text_into(&mut events)),
         refused(|| input.string_into(&mut events)),
         refused(|| input.leaves().map(drop)),
         refused(|| input.html(HtmlOptions::default()).map(drop)),
+        refused(|| input.html_into(HtmlOptions::default(), &mut html)),
+        refused(|| input.texts(&contents).map(drop)),
+        refused(|| input.texts_into(&contents, &mut texts)),
         refused(|| identifier("A").map(drop)),
         refused(|| reference("&amp;").map(drop)),
     ];
-    assert_eq!(found, [Err(Error::NoMemory); 6]);
+    assert_eq!(found, [Err(Error::NoMemory); 10]);
+    assert!(events.is_empty() && html.is_empty() && texts.is_empty());
     assert!(input.texts(&contents).is_ok());
     assert!(input.text_into(&mut events).is_ok());
+}
+
+/// A call that reads its input twice asks for memory twice as often as one that is lent room enough.
+#[test]
+fn an_input_is_read_once() {
+    let document =
+        "Some *words* with `code`, [a link](to/it \"and a title\") and more. ".repeat(20);
+    let input = Input::new(&document);
+    let contents = [TextContent {
+        pieces: 0..1,
+        first_of_item: false,
+    }];
+    let (mut events, mut texts) = (input.text().unwrap(), input.texts(&contents).unwrap());
+    let (mut leaves, mut html) = (input.leaves().unwrap(), String::with_capacity(1 << 16));
+    let options = HtmlOptions::default();
+    let again = [
+        asked(|| input.text_into(&mut events)),
+        asked(|| input.leaves_into(&mut leaves)),
+        asked(|| input.html_into(options, &mut html)),
+        asked(|| input.texts_into(&contents, &mut texts)),
+    ];
+    let first = [
+        asked(|| input.text()),
+        asked(|| input.leaves()),
+        asked(|| input.html(options)),
+        asked(|| input.texts(&contents)),
+    ];
+    let is_once = |(first, again): (&usize, &usize)| *again > 4 && *first <= again + 4;
+    assert!(first.iter().zip(&again).all(is_once), "{first:?} {again:?}");
 }

@@ -3,7 +3,7 @@
 use markdown_inline::{text, Content, Error, HtmlOptions, Input, Kind, Name, Options};
 use std::collections::HashSet;
 
-const HEADER: &str = include_str!("../../c/markdown_inline.h");
+const HEADER: &str = include_str!(env!("MARKDOWN_INLINE_HEADER"));
 const NAMES: &str = include_str!(concat!(env!("OUT_DIR"), "/names.rs"));
 
 /// The rows of a list of the header: the doc, and the words in the parentheses.

@@ -1,0 +1,386 @@
+//! What is to be read, and the calls that read it.
+
+use crate::fill::{fill, fitted};
+use crate::raw::{self, Call, RawContent, RawInput, RawRange, RawTarget};
+use crate::{Error, Events, HtmlOptions, Leaves, Options, Piece, TextContent, Texts};
+use std::borrow::Cow;
+use std::mem;
+
+/// What is to be read: a document, and whatever is not left to the defaults.
+///
+/// Each part is given by a method that hands the input on, for a chain of calls, or by one with `&mut self`, for a loop:
+///
+/// ```
+/// use markdown_inline::{HtmlOptions, Input, Piece};
+/// # fn main() -> Result<(), markdown_inline::Error> {
+/// let document = "a [b]\n\n[c]";
+/// let mut input = Input::new(document);
+/// for (label, address) in [("b", "/d"), ("c", "/e")] {
+///     input.define_to(label, address, None);
+/// }
+/// let mut html = String::new();
+/// let mut all = Vec::new();
+/// for (start, end) in [(0, 5), (7, 10)] {
+///     input.set_pieces([Piece { start, end, ..Piece::default() }]);
+///     input.html_into(HtmlOptions::default(), &mut html)?;
+///     all.push(html.clone());
+/// }
+/// assert_eq!(all, [r#"a <a href="/d">b</a>"#, r#"<a href="/e">c</a>"#]);
+/// # Ok(())
+/// # }
+/// ```
+#[derive(Clone, Debug)]
+pub struct Input<'a> {
+    document: &'a [u8],
+    pieces: Cow<'a, [Piece]>,
+    labels: Vec<u8>,
+    definitions: Vec<RawRange>,
+    targets: Vec<RawTarget>,
+    footnotes: Vec<RawRange>,
+    options: Options,
+}
+
+impl<'a> Input<'a> {
+    /// A whole document, with CommonMark's constructs and nothing defined.
+    pub fn new<D: AsRef<[u8]> + ?Sized>(document: &'a D) -> Input<'a> {
+        let document = document.as_ref();
+        let whole = Piece {
+            end: document.len(),
+            ..Piece::default()
+        };
+        Input {
+            document,
+            pieces: Cow::Owned(vec![whole]),
+            labels: Vec::new(),
+            definitions: Vec::new(),
+            targets: Vec::new(),
+            footnotes: Vec::new(),
+            options: Options::default(),
+        }
+    }
+
+    /// These pieces of the document. Each but the last one ends just after a line ending, and the next one starts on the line after it.
+    #[must_use]
+    pub fn pieces(mut self, pieces: &'a [Piece]) -> Input<'a> {
+        self.pieces = Cow::Borrowed(pieces);
+        self
+    }
+
+    /// These options.
+    #[must_use]
+    pub fn options(mut self, options: Options) -> Input<'a> {
+        self.options = options;
+        self
+    }
+
+    /// One more definition, by its label as it is written. In HTML it leads to an empty address.
+    #[must_use]
+    pub fn definition(mut self, label: impl AsRef<[u8]>) -> Input<'a> {
+        self.define(label);
+        self
+    }
+
+    /// One more definition, by its label as it is written, with where it leads and perhaps a title: both with escapes and character references
+    /// resolved.
+    #[must_use]
+    pub fn definition_to(
+        mut self,
+        label: impl AsRef<[u8]>,
+        destination: impl AsRef<[u8]>,
+        title: Option<&str>,
+    ) -> Input<'a> {
+        self.define_to(label, destination, title);
+        self
+    }
+
+    /// More definitions, each by its label as it is written.
+    #[must_use]
+    pub fn definitions<L: AsRef<[u8]>>(mut self, labels: impl IntoIterator<Item = L>) -> Input<'a> {
+        labels.into_iter().for_each(|label| self.define(label));
+        self
+    }
+
+    /// One more footnote definition, by its label as it is written.
+    #[must_use]
+    pub fn footnote(mut self, label: impl AsRef<[u8]>) -> Input<'a> {
+        self.define_footnote(label);
+        self
+    }
+
+    /// More footnote definitions, each by its label as it is written.
+    #[must_use]
+    pub fn footnotes<L: AsRef<[u8]>>(mut self, labels: impl IntoIterator<Item = L>) -> Input<'a> {
+        labels
+            .into_iter()
+            .for_each(|label| self.define_footnote(label));
+        self
+    }
+
+    /// Sets other pieces, which are kept in the input.
+    pub fn set_pieces(&mut self, pieces: impl IntoIterator<Item = Piece>) {
+        let mut kept = match mem::take(&mut self.pieces) {
+            Cow::Owned(kept) => kept,
+            Cow::Borrowed(_) => Vec::new(),
+        };
+        kept.clear();
+        kept.extend(pieces);
+        self.pieces = Cow::Owned(kept);
+    }
+
+    /// Sets other options.
+    pub fn set_options(&mut self, options: Options) {
+        self.options = options;
+    }
+
+    /// Adds a definition, as `definition` does.
+    pub fn define(&mut self, label: impl AsRef<[u8]>) {
+        self.define_to(label, b"", None);
+    }
+
+    /// Adds a definition with where it leads, as `definition_to` does.
+    pub fn define_to(
+        &mut self,
+        label: impl AsRef<[u8]>,
+        destination: impl AsRef<[u8]>,
+        title: Option<&str>,
+    ) {
+        let range = self.labelled(label.as_ref());
+        self.definitions.push(range);
+        let target = RawTarget {
+            destination: self.labelled(destination.as_ref()),
+            title: self.labelled(title.unwrap_or("").as_bytes()),
+            has_title: u32::from(title.is_some()),
+        };
+        self.targets.push(target);
+    }
+
+    /// Adds a footnote definition, as `footnote` does.
+    pub fn define_footnote(&mut self, label: impl AsRef<[u8]>) {
+        let range = self.labelled(label.as_ref());
+        self.footnotes.push(range);
+    }
+
+    fn labelled(&mut self, label: &[u8]) -> RawRange {
+        let start = self.labels.len();
+        self.labels.extend_from_slice(label);
+        RawRange {
+            start,
+            end: self.labels.len(),
+        }
+    }
+
+    /// Whether the pieces are a text of the document, or why not: `NotUtf8`, `NoContent` or `BlankLine`. `text` tests it itself.
+    pub fn is_text(&self) -> Result<(), Error> {
+        // SAFETY: each pointer goes with its slice's length, and nothing is kept.
+        result_of(unsafe {
+            raw::markdown_inline_is_text(
+                self.document.as_ptr(),
+                self.document.len(),
+                self.pieces.as_ptr(),
+                self.pieces.len(),
+            )
+        })
+    }
+
+    /// Whether the pieces are a content of the document, or why not: `NotUtf8` or `NoContent`. `string` tests it itself.
+    pub fn is_content(&self) -> Result<(), Error> {
+        // SAFETY: as above.
+        result_of(unsafe {
+            raw::markdown_inline_is_content(
+                self.document.as_ptr(),
+                self.document.len(),
+                self.pieces.as_ptr(),
+                self.pieces.len(),
+            )
+        })
+    }
+
+    /// The events of the pieces as a text, or why they are none: each [`Error`] but `NoReference` may come.
+    pub fn text(&self) -> Result<Events, Error> {
+        let mut events = Events::new();
+        self.text_into(&mut events)?;
+        events.raw = fitted(events.raw);
+        Ok(events)
+    }
+
+    /// The events of the pieces as a string. Definitions are not looked at, and lines may be blank; so neither `Definition` nor `BlankLine` comes.
+    pub fn string(&self) -> Result<Events, Error> {
+        let mut events = Events::new();
+        self.string_into(&mut events)?;
+        events.raw = fitted(events.raw);
+        Ok(events)
+    }
+
+    /// The events as a text in place of those given, in the memory of those. After an error there are none.
+    pub fn text_into(&self, events: &mut Events) -> Result<(), Error> {
+        let expected = many_of(self.len());
+        self.fill(raw::markdown_inline_text, expected, &mut events.raw)
+    }
+
+    /// The events as a string in place of those given, in the memory of those. After an error there are none.
+    pub fn string_into(&self, events: &mut Events) -> Result<(), Error> {
+        let expected = many_of(self.len());
+        self.fill(raw::markdown_inline_string, expected, &mut events.raw)
+    }
+
+    /// The leaves of the pieces as a text, each with its bytes. Errors are those of `text`.
+    ///
+    /// ```
+    /// # fn main() -> Result<(), markdown_inline::Error> {
+    /// let leaves = markdown_inline::Input::new("a *b*").leaves()?;
+    /// let bytes: Vec<_> = leaves.iter().map(|leaf| leaf.bytes).collect();
+    /// assert_eq!(bytes, [&b"a "[..], b"*", b"b", b"*"]);
+    /// # Ok(())
+    /// # }
+    /// ```
+    pub fn leaves(&self) -> Result<Leaves<'a>, Error> {
+        let mut leaves = Leaves::new();
+        self.leaves_into(&mut leaves)?;
+        leaves.raw = fitted(leaves.raw);
+        Ok(leaves)
+    }
+
+    /// The leaves in place of those given, in the memory of those. After an error there are none.
+    pub fn leaves_into(&self, leaves: &mut Leaves<'a>) -> Result<(), Error> {
+        leaves.document = self.document;
+        let expected = many_of(self.len()) / 2;
+        self.fill(raw::markdown_inline_leaves, expected, &mut leaves.raw)
+    }
+
+    /// The events of many contents as texts, each of some of the pieces. The document is prepared once, and each content costs what it costs by
+    /// itself, wherever it stands. Whether a text is the first of a list item is said of each, and not by the options. Errors are those of `text`; a content whose
+    /// range is none of the pieces is `NoContent`.
+    pub fn texts(&self, contents: &[TextContent]) -> Result<Texts, Error> {
+        let mut texts = Texts::new();
+        self.texts_into(contents, &mut texts)?;
+        texts.events = fitted(texts.events);
+        Ok(texts)
+    }
+
+    /// The events of many contents in place of those given, in the memory of those. After an error there are none.
+    pub fn texts_into(&self, contents: &[TextContent], texts: &mut Texts) -> Result<(), Error> {
+        texts.clear();
+        let input = self.raw();
+        let mut given = Vec::new();
+        let has_room = given.try_reserve_exact(contents.len()).is_ok()
+            && texts.ends.try_reserve(contents.len()).is_ok();
+        if !has_room {
+            return Err(Error::NoMemory);
+        }
+        given.extend(contents.iter().map(RawContent::of));
+        let lens = contents.iter().map(|it| self.len_of(it));
+        let len = lens.fold(0, usize::saturating_add);
+        let expected = many_of(len.min(self.document.len())) + 8 * contents.len();
+        let ends = texts.ends.as_mut_ptr();
+        // SAFETY: each pointer goes with the length of its array, there is room for one end for each content, and nothing is kept.
+        fill(&mut texts.events, expected, |array, len, count| unsafe {
+            raw::markdown_inline_texts(
+                &input,
+                given.as_ptr(),
+                given.len(),
+                array,
+                len,
+                ends,
+                given.len(),
+                count,
+            )
+        })?;
+        // SAFETY: the call is done, so that there is an end for each content.
+        unsafe { texts.ends.set_len(given.len()) };
+        Ok(())
+    }
+
+    /// The HTML of the pieces as a text. Each call numbers footnotes from 1 on. Errors are those of `text`.
+    ///
+    /// ```
+    /// use markdown_inline::{HtmlOptions, Input};
+    /// # fn main() -> Result<(), markdown_inline::Error> {
+    /// let input = Input::new("*a* [b]").definition_to("b", "/c", Some("d"));
+    /// assert_eq!(input.html(HtmlOptions::default())?, r#"<em>a</em> <a href="/c" title="d">b</a>"#);
+    /// # Ok(())
+    /// # }
+    /// ```
+    pub fn html(&self, options: HtmlOptions) -> Result<String, Error> {
+        let mut bytes = Vec::new();
+        self.html_bytes(options, &mut bytes)?;
+        String::from_utf8(fitted(bytes)).map_err(|_| Error::NotUtf8)
+    }
+
+    /// The HTML in place of what is given, in the memory of that. After an error there is none.
+    pub fn html_into(&self, options: HtmlOptions, html: &mut String) -> Result<(), Error> {
+        let mut bytes = mem::take(html).into_bytes();
+        let filled = self.html_bytes(options, &mut bytes);
+        *html = String::from_utf8(bytes).map_err(|_| Error::NotUtf8)?;
+        filled
+    }
+
+    fn html_bytes(&self, options: HtmlOptions, bytes: &mut Vec<u8>) -> Result<(), Error> {
+        let input = self.raw();
+        let expected = 2 * self.len() + 128;
+        // SAFETY: each pointer goes with the length of its array, and nothing is kept.
+        fill(bytes, expected, |array, len, count| unsafe {
+            raw::markdown_inline_html(
+                &input,
+                self.targets.as_ptr(),
+                self.targets.len(),
+                options.bits(),
+                array,
+                len,
+                count,
+            )
+        })
+    }
+
+    fn fill<T>(&self, call: Call<T>, expected: usize, found: &mut Vec<T>) -> Result<(), Error> {
+        let input = self.raw();
+        // SAFETY: each pointer of the input goes with its slice's length, that of the array with the room of the vector, and nothing is kept.
+        fill(found, expected, |array, len, count| unsafe {
+            call(&input, array, len, count)
+        })
+    }
+
+    /// How many bytes are read, as far as the pieces are right: no more than the document has.
+    fn len(&self) -> usize {
+        len_of(&self.pieces).min(self.document.len())
+    }
+
+    /// How many bytes a content has, as far as its pieces are right.
+    fn len_of(&self, content: &TextContent) -> usize {
+        let pieces = self.pieces.get(content.pieces.clone()).unwrap_or_default();
+        len_of(pieces).min(self.document.len())
+    }
+
+    fn raw(&self) -> RawInput {
+        RawInput {
+            bytes: self.document.as_ptr(),
+            bytes_len: self.document.len(),
+            pieces: self.pieces.as_ptr(),
+            pieces_len: self.pieces.len(),
+            labels: self.labels.as_ptr(),
+            labels_len: self.labels.len(),
+            definitions: self.definitions.as_ptr(),
+            definitions_len: self.definitions.len(),
+            footnotes: self.footnotes.as_ptr(),
+            footnotes_len: self.footnotes.len(),
+            options: self.options.bits(),
+        }
+    }
+}
+
+fn len_of(pieces: &[Piece]) -> usize {
+    let lens = pieces.iter().map(|it| it.end.saturating_sub(it.start));
+    lens.fold(0, usize::saturating_add)
+}
+
+/// How many events a text of so many bytes has at most, but for one of little else than constructs: two for each byte where it is short, one in a long
+/// paragraph, and half of that in a text that is longer than any paragraph.
+fn many_of(len: usize) -> usize {
+    (2 * len).min(len + 256).min(len / 2 + 32_768) + 16
+}
+
+fn result_of(status: u32) -> Result<(), Error> {
+    match status {
+        raw::DONE => Ok(()),
+        status => Err(Error::of(status)),
+    }
+}
