@@ -1,7 +1,8 @@
-"""Statuses, indexes in characters, memory that is used again, and calls on several threads."""
+"""What the calls answer, and their statuses; and the tests of the modules that are named at the end."""
 import doctest
-import threading
+import sys
 import unittest
+from array import array
 
 import markdown_inline
 from markdown_inline import (
@@ -29,10 +30,10 @@ class Calls(unittest.TestCase):
 
     def test_a_document_that_is_too_long(self):
         # No object is so long. The library looks at the length before the bytes, so it may be lent fewer.
-        given = _library.Input(b'a', (2 ** 64 >> 3) + 1, None, 0, None, 0, None, 0, None, 0, 0)
-        status, found = _library.fill('markdown_inline_text', given)
-        self.assertEqual((status, bytes(found)), (TooLong.status, b''))
-        self.assertIsInstance(markdown_inline._raised(status), TooLong)
+        given = _library.Given(b'a', array('Q'), 0, [], [])
+        given.input.bytes_len = (2 ** 64 >> 3) + 1
+        self.assertEqual(_library.events('markdown_inline_text', given), (TooLong.status, b''))
+        self.assertIsInstance(markdown_inline._raised(TooLong.status), TooLong)
 
     def test_tests(self):
         self.assertTrue(is_text('a\nb') and is_content('a\n\nb'))
@@ -50,12 +51,6 @@ class Calls(unittest.TestCase):
     def test_pieces(self):
         pieces = [Piece(2, 7), Piece(9, 15)]
         self.assertEqual(str(text('> a *b\n> c* `d`', pieces)[3]), 'Enter EmphasisSequence 1 5 4 0')
-
-    def test_memory_is_used_again(self):
-        long = '*a* ' * 2000 + 'b'
-        count = len(text(long))
-        self.assertEqual(len(text('a')), 2)
-        self.assertEqual(len(text(long)), count)
 
     def test_labels_are_normalized(self):
         self.assertIn('Link', [it.name for it in text('[a  B]', definitions=['A b'])])
@@ -86,24 +81,27 @@ class Calls(unittest.TestCase):
         self.assertEqual(html(document, definitions=defined), '&lt;b&gt; <a href="">a</a> <a href="/d" title="é">C</a>')
         self.assertEqual(html(document, definitions=defined, raw_html=True, any_link=True), '<b> <a href="javascript:b">a</a> <a href="/d" title="é">C</a>')
 
-    def test_threads_do_not_meet(self):
-        wanted, wrong = text('a *b* [c](d)'), []
-
-        def run():
-            for _ in range(300):
-                if text('a *b* [c](d)') != wanted:
-                    wrong.append(1)
-
-        threads = [threading.Thread(target=run) for _ in range(8)]
-        for it in threads:
-            it.start()
-        for it in threads:
-            it.join()
-        self.assertEqual(wrong, [])
-
     def test_documented_example(self):
         self.assertEqual(doctest.testmod(markdown_inline).failed, 0)
 
 
+# Each module of tests, with how many tests it has at least: where fewer are found, something is not run.
+MODULES = {'calls': 12, 'arguments': 14, 'lent': 10, 'program': 8}
+
+
+def main():
+    suite, missing = unittest.TestSuite(), []
+    for name, least in MODULES.items():
+        tests = unittest.defaultTestLoader.loadTestsFromName(name)
+        if tests.countTestCases() < least:
+            missing.append('%s.py has %d tests, and had %d' % (name, tests.countTestCases(), least))
+        suite.addTests(tests)
+    result = unittest.TextTestRunner().run(suite)
+    if result.testsRun < sum(MODULES.values()):
+        missing.append('%d tests ran' % result.testsRun)
+    print('Python: %d tests' % result.testsRun)
+    return '\n'.join(missing) or int(not result.wasSuccessful())
+
+
 if __name__ == '__main__':
-    unittest.main()
+    sys.exit(main())

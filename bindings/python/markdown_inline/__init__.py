@@ -7,17 +7,18 @@
 What the calls answer is proved; this package calls the proved library.
 """
 import struct
+from types import MappingProxyType
 from typing import Iterable, List, Mapping, NamedTuple, Optional, Sequence, Tuple, Union
 
-from . import _library, _tables
+from . import _arguments, _library, _tables
 
 __all__ = [
     'BlankLine', 'Content', 'DefinitionError', 'Error', 'Event', 'Leaf', 'Link', 'NoContent', 'NoMemory', 'NoReference', 'NotUtf8', 'OPTIONS', 'Piece',
     'TooLong', 'UnknownOption', 'html', 'identifier', 'is_content', 'is_text', 'leaves', 'reference', 'string', 'text', 'texts',
 ]
 
-#: Each option by its name, as a bit of `options`.
-OPTIONS = dict(_tables.OPTIONS)
+#: Each option by its name, as a bit of `options`. It cannot be changed.
+OPTIONS: Mapping[str, int] = MappingProxyType(_tables.OPTIONS)
 
 
 class Piece(NamedTuple):
@@ -129,27 +130,19 @@ class NoReference(Error, ValueError):
 _ERRORS = {it.status: it for it in (UnknownOption, NotUtf8, BlankLine, NoMemory, NoContent, DefinitionError, TooLong, NoReference)}
 _KINDS = ('Enter', 'Exit')
 _CONTENTS = (None, 'String', 'Text')
+_EVENT, _LEAF = struct.Struct('=BBB5x6Q'), struct.Struct('=B7x11Q')
 
-Document = Union[str, bytes]
+Text = Union[str, bytes, bytearray, memoryview]
 Pieces = Optional[Iterable[Sequence[int]]]
-Target = Union[Document, Tuple[Document, Optional[Document]]]
-
-
-def _bytes_of(given: Document) -> bytes:
-    return given.encode('utf-8', 'surrogatepass') if isinstance(given, str) else bytes(given)
+Target = Union[Text, Tuple[Text, Optional[Text]]]
 
 
 def _raised(status: int) -> Error:
-    found = _ERRORS.get(status, Error)
-    return found(found.__doc__)
-
-
-def _listed(pieces: Pieces, document: bytes) -> list:
-    return [(0, len(document))] if pieces is None else list(pieces)
+    return _ERRORS.get(status, Error)(_tables.STATUSES.get(status))
 
 
 class _Characters:
-    """Counts the characters before bytes that come in order."""
+    """Counts the characters before bytes, which come in order."""
 
     def __init__(self, document: bytes) -> None:
         self.document, self.index, self.count = document, 0, 0
@@ -163,10 +156,13 @@ class _Characters:
         return self.count
 
 
-def _events(document: Document, bytes_given: bytes, raw: Union[bytes, memoryview]) -> List[Event]:
-    characters = _Characters(bytes_given) if isinstance(document, str) else None
+def _characters(document: Text, bytes_given: bytes) -> Optional[_Characters]:
+    return _Characters(bytes_given) if isinstance(document, str) else None
+
+
+def _events(characters: Optional[_Characters], raw: bytes) -> List[Event]:
     events = []
-    for kind, name, link, line, column, index, vs, previous, after in struct.iter_unpack(_library.EVENT, raw):
+    for kind, name, link, line, column, index, vs, previous, after in _EVENT.iter_unpack(raw):
         chain = None
         if link:
             chain = Link(_CONTENTS[link], *(None if number == _library.NONE else number for number in (previous, after)))
@@ -175,10 +171,9 @@ def _events(document: Document, bytes_given: bytes, raw: Union[bytes, memoryview
     return events
 
 
-def _leaves(document: Document, bytes_given: bytes, raw: Union[bytes, memoryview]) -> List[Leaf]:
-    characters = _Characters(bytes_given) if isinstance(document, str) else None
+def _leaves(characters: Optional[_Characters], bytes_given: bytes, raw: bytes) -> List[Leaf]:
     leaves = []
-    for name, line, column, index, vs, end_line, end_column, end, end_vs, before, length, after in struct.iter_unpack(_library.LEAF, raw):
+    for name, line, column, index, vs, end_line, end_column, end, end_vs, before, length, after in _LEAF.iter_unpack(raw):
         first = index + (vs > 0)
         places = (characters.before(index), characters.before(end)) if characters else (None, None)
         content = bytes_given[first:first + length]
@@ -186,79 +181,80 @@ def _leaves(document: Document, bytes_given: bytes, raw: Union[bytes, memoryview
     return leaves
 
 
-def _input(bytes_given: bytes, pieces: list, options: int, definitions: Iterable[Document], footnotes: Iterable[Document], others: bytes = b'') -> _library.Input:
-    """What a call reads. Other text that it needs stands first among the labels."""
-    defined, noted = [_bytes_of(it) for it in definitions], [_bytes_of(it) for it in footnotes]
-    labels = b''.join([others] + defined + noted)
-    return _library.Input(
-        bytes_given, len(bytes_given), _library.pieces_of(pieces), len(pieces), labels, len(labels), _library.ranges_of(defined, len(others)), len(defined),
-        _library.ranges_of(noted, len(others) + sum(map(len, defined))), len(noted), options)
-
-
-def _find(function: str, document: Document, pieces: Pieces, options: int, definitions: Iterable[Document], footnotes: Iterable[Document]) -> List[Event]:
-    bytes_given = _bytes_of(document)
-    status, raw = _library.fill(function, _input(bytes_given, _listed(pieces, bytes_given), options, definitions, footnotes))
-    if status:
-        raise _raised(status)
-    return _events(document, bytes_given, raw)
-
-
 def _bits(options: Optional[int], gfm: bool, math: bool, task: bool, cm_lengths: bool, cm_shortcut: bool) -> int:
-    if options is not None:
-        return options
-    asked = {'first_of_item': task, 'attention_first_lengths': cm_lengths, 'label_shortcut_before_bracket': cm_shortcut}
-    bits = _tables.COMMONMARK | (_tables.GFM if gfm else 0) | (_tables.MATH if math else 0)
-    return bits | sum(OPTIONS[name] for name, is_asked in asked.items() if is_asked)
+    bits = _tables.COMMONMARK
+    for given, what, its_bits in (
+        (gfm, 'gfm', _tables.GFM), (math, 'math', _tables.MATH), (task, 'task', _tables.OPTIONS['first_of_item']),
+        (cm_lengths, 'cm_lengths', _tables.OPTIONS['attention_first_lengths']),
+        (cm_shortcut, 'cm_shortcut', _tables.OPTIONS['label_shortcut_before_bracket']),
+    ):
+        if _arguments.flag_of(given, what):
+            bits |= its_bits
+    return bits if options is None else _arguments.bits_of(options)
 
 
-def text(document: Document, pieces: Pieces = None, gfm: bool = True, math: bool = False, *, task: bool = False, cm_lengths: bool = False,
-         cm_shortcut: bool = False, options: Optional[int] = None, definitions: Iterable[Document] = (), footnotes: Iterable[Document] = ()) -> List[Event]:
+def _given(document: bytes, pieces: Pieces, options: int, definitions: Iterable[Text], footnotes: Iterable[Text]) -> _library.Given:
+    return _library.Given(
+        document, _arguments.pieces_of(pieces, len(document)), options, _arguments.labels_of(definitions, 'definitions'),
+        _arguments.labels_of(footnotes, 'footnotes'))
+
+
+def text(document: Text, pieces: Pieces = None, gfm: bool = True, math: bool = False, *, task: bool = False, cm_lengths: bool = False,
+         cm_shortcut: bool = False, options: Optional[int] = None, definitions: Iterable[Text] = (), footnotes: Iterable[Text] = ()) -> List[Event]:
     """The events of a text: of a whole document, or of pieces of it. `gfm` switches on what GitHub adds to CommonMark, `math` math spans; `task` says
     that the text begins a list item; `cm_lengths` and `cm_shortcut` follow CommonMark in two rules. `options` says all of it by bits instead.
     `definitions` and `footnotes` are labels as they are written."""
-    return _find('markdown_inline_text', document, pieces, _bits(options, gfm, math, task, cm_lengths, cm_shortcut), definitions, footnotes)
+    bytes_given = _arguments.text_of(document, 'document')
+    given = _given(bytes_given, pieces, _bits(options, gfm, math, task, cm_lengths, cm_shortcut), definitions, footnotes)
+    status, raw = _library.events('markdown_inline_text', given)
+    if status:
+        raise _raised(status)
+    return _events(_characters(document, bytes_given), raw)
 
 
-def string(document: Document, pieces: Pieces = None, *, options: Optional[int] = None) -> List[Event]:
+def string(document: Text, pieces: Pieces = None, *, options: Optional[int] = None) -> List[Event]:
     """The events of a string: of escapes, character references and data."""
-    return _find('markdown_inline_string', document, pieces, _tables.COMMONMARK if options is None else options, (), ())
+    bytes_given = _arguments.text_of(document, 'document')
+    given = _given(bytes_given, pieces, _tables.COMMONMARK if options is None else _arguments.bits_of(options), (), ())
+    status, raw = _library.events('markdown_inline_string', given)
+    if status:
+        raise _raised(status)
+    return _events(_characters(document, bytes_given), raw)
 
 
-def leaves(document: Document, pieces: Pieces = None, gfm: bool = True, math: bool = False, *, task: bool = False, cm_lengths: bool = False,
-           cm_shortcut: bool = False, options: Optional[int] = None, definitions: Iterable[Document] = (), footnotes: Iterable[Document] = ()) -> List[Leaf]:
+def leaves(document: Text, pieces: Pieces = None, gfm: bool = True, math: bool = False, *, task: bool = False, cm_lengths: bool = False,
+           cm_shortcut: bool = False, options: Optional[int] = None, definitions: Iterable[Text] = (), footnotes: Iterable[Text] = ()) -> List[Leaf]:
     """The leaves of a text, in order: together they cover the pieces. What is asked for is said as of `text`.
 
     >>> [leaf.content for leaf in leaves('a *b*')]
     [b'a ', b'*', b'b', b'*']
     """
-    bytes_given = _bytes_of(document)
-    given = _input(bytes_given, _listed(pieces, bytes_given), _bits(options, gfm, math, task, cm_lengths, cm_shortcut), definitions, footnotes)
-    status, raw = _library.fill('markdown_inline_leaves', given, _library.LEAF_SIZE)
+    bytes_given = _arguments.text_of(document, 'document')
+    given = _given(bytes_given, pieces, _bits(options, gfm, math, task, cm_lengths, cm_shortcut), definitions, footnotes)
+    status, raw = _library.leaves(given)
     if status:
         raise _raised(status)
-    return _leaves(document, bytes_given, raw)
+    return _leaves(_characters(document, bytes_given), bytes_given, raw)
 
 
-def texts(document: Document, contents: Iterable[Content], gfm: bool = True, math: bool = False, *, cm_lengths: bool = False, cm_shortcut: bool = False,
-          options: Optional[int] = None, definitions: Iterable[Document] = (), footnotes: Iterable[Document] = ()) -> List[List[Event]]:
+def texts(document: Text, contents: Iterable[Content], gfm: bool = True, math: bool = False, *, cm_lengths: bool = False, cm_shortcut: bool = False,
+          options: Optional[int] = None, definitions: Iterable[Text] = (), footnotes: Iterable[Text] = ()) -> List[List[Event]]:
     """The events of many contents of a document as texts, of each by itself. The document is prepared once, and each content costs what it costs by
     itself, wherever it stands. What is asked for is said as of `text`, but for what begins a list item: that each content says."""
-    bytes_given = _bytes_of(document)
-    pieces, numbered = [], []
-    for listed, is_first in contents:
-        start = len(pieces)
-        pieces.extend(listed)
-        numbered.append((start, len(pieces), is_first))
-    given = _input(bytes_given, pieces, _bits(options, gfm, math, False, cm_lengths, cm_shortcut), definitions, footnotes)
-    status, raw, ends = _library.texts(given, numbered)
+    bytes_given = _arguments.text_of(document, 'document')
+    pieces, listed, count = _arguments.contents_of(contents)
+    given = _library.Given(
+        bytes_given, pieces, _bits(options, gfm, math, False, cm_lengths, cm_shortcut), _arguments.labels_of(definitions, 'definitions'),
+        _arguments.labels_of(footnotes, 'footnotes'))
+    status, raw, ends = _library.texts(given, listed, count)
     if status:
         raise _raised(status)
-    starts = [0] + ends
-    return [_events(document, bytes_given, raw[start * _library.EVENT_SIZE:end * _library.EVENT_SIZE]) for start, end in zip(starts, ends)]
+    characters, starts = _characters(document, bytes_given), [0, *ends]
+    return [_events(characters, raw[start * _library.EVENT_SIZE:end * _library.EVENT_SIZE]) for start, end in zip(starts, ends)]
 
 
-def html(document: Document, pieces: Pieces = None, gfm: bool = True, math: bool = False, *, task: bool = False, cm_lengths: bool = False,
-         cm_shortcut: bool = False, options: Optional[int] = None, definitions: Optional[Mapping[Document, Target]] = None, footnotes: Iterable[Document] = (),
+def html(document: Text, pieces: Pieces = None, gfm: bool = True, math: bool = False, *, task: bool = False, cm_lengths: bool = False,
+         cm_shortcut: bool = False, options: Optional[int] = None, definitions: Optional[Mapping[Text, Target]] = None, footnotes: Iterable[Text] = (),
          raw_html: bool = False, any_link: bool = False) -> str:
     """The HTML of a text. `definitions` has for each label, as it is written, its destination, or the destination and a title, with escapes and
     character references resolved. `raw_html` writes raw HTML as it stands and not as text; `any_link` lets links lead wherever they say and not to
@@ -267,54 +263,52 @@ def html(document: Document, pieces: Pieces = None, gfm: bool = True, math: bool
     >>> html('*a* [b]', definitions={'b': ('/c', 'd')})
     '<em>a</em> <a href="/c" title="d">b</a>'
     """
-    bytes_given, defined, others = _bytes_of(document), definitions or {}, []
-    for it in defined.values():
-        destination, title = (it, None) if isinstance(it, (str, bytes)) else it
-        others.append((_bytes_of(destination), None if title is None else _bytes_of(title)))
-    targets = _library.targets_of(others, 0)
-    written = b''.join(destination + (title or b'') for destination, title in others)
-    given = _input(bytes_given, _listed(pieces, bytes_given), _bits(options, gfm, math, task, cm_lengths, cm_shortcut), defined, footnotes, written)
-    status, found = _library.html(given, targets, raw_html | any_link << 1)
+    bytes_given = _arguments.text_of(document, 'document')
+    defined, targets, written = _arguments.targets_of(definitions)
+    given = _library.Given(
+        bytes_given, _arguments.pieces_of(pieces, len(bytes_given)), _bits(options, gfm, math, task, cm_lengths, cm_shortcut), defined,
+        _arguments.labels_of(footnotes, 'footnotes'), written)
+    asked = _arguments.flag_of(raw_html, 'raw_html') | _arguments.flag_of(any_link, 'any_link') << 1
+    status, found = _library.html(given, targets, len(defined), asked)
     if status:
         raise _raised(status)
     return found.decode()
 
 
-def identifier(label: Document) -> str:
+def identifier(label: Text) -> str:
     """The identifier of a label, as labels are compared: its words joined by one space and case folded."""
-    return _decoded('markdown_inline_identifier', label)
+    return _decoded('markdown_inline_identifier', _arguments.text_of(label, 'label'))
 
 
-def reference(reference: Document) -> str:
+def reference(reference: Text) -> str:
     """The text that a character reference stands for. It is the whole reference, with its `&` and its `;`.
 
     >>> reference('&amp;'), reference('&#x41;')
     ('&', 'A')
     """
-    return _decoded('markdown_inline_reference', reference)
+    return _decoded('markdown_inline_reference', _arguments.text_of(reference, 'reference'))
 
 
-def _decoded(function: str, given: Document) -> str:
-    status, found = _library.decoded(function, _bytes_of(given))
+def _decoded(function: str, given: bytes) -> str:
+    status, found = _library.decoded(function, given)
     if status:
         raise _raised(status)
     return found.decode()
 
 
-def is_text(document: Document, pieces: Pieces = None) -> bool:
+def is_text(document: Text, pieces: Pieces = None) -> bool:
     """Whether the pieces are a text of the document. Where memory is refused, the answer is not known: NoMemory."""
     return _holds('markdown_inline_is_text', document, pieces)
 
 
-def is_content(document: Document, pieces: Pieces = None) -> bool:
+def is_content(document: Text, pieces: Pieces = None) -> bool:
     """Whether the pieces are a content of the document. Where memory is refused, the answer is not known: NoMemory."""
     return _holds('markdown_inline_is_content', document, pieces)
 
 
-def _holds(function: str, document: Document, pieces: Pieces) -> bool:
-    bytes_given = _bytes_of(document)
-    listed = _listed(pieces, bytes_given)
-    status = getattr(_library.LIBRARY, function)(bytes_given, len(bytes_given), _library.pieces_of(listed), len(listed))
+def _holds(function: str, document: Text, pieces: Pieces) -> bool:
+    bytes_given = _arguments.text_of(document, 'document')
+    status = _library.tested(function, bytes_given, _arguments.pieces_of(pieces, len(bytes_given)))
     if status == NoMemory.status:
         raise _raised(status)
     return status == _library.DONE

@@ -2,42 +2,46 @@
 import ctypes
 import ctypes.util
 import os
-import threading
+from array import array
+
+from . import _arguments
 
 VERSION = 1
 DONE, TOO_SMALL = 0, 6
-EVENT = '<BBB5x6Q'
-EVENT_SIZE = 56
-LEAF = '<B7x11Q'
-LEAF_SIZE = 96
+EVENT_SIZE, LEAF_SIZE = 56, 96
 NONE = 2 ** 64 - 1
 SHARED = 'libmarkdown_inline.so'
+#: How many bytes an array has that is lent again, and how many such arrays are kept for all threads together.
+KEPT_SIZE, KEPT = 1 << 18, 8
 
 _size = ctypes.c_size_t
 
 
-class Piece(ctypes.Structure):
-    _fields_ = [(name, _size) for name in ('start', 'start_vs', 'end', 'end_vs')]
-
-
-class Range(ctypes.Structure):
-    _fields_ = [(name, _size) for name in ('start', 'end')]
-
-
 class Input(ctypes.Structure):
+    """What a call reads. Behind the addresses of numbers stand arrays, which whoever makes the input keeps until the call ends."""
     _fields_ = [
-        ('bytes', ctypes.c_char_p), ('bytes_len', _size), ('pieces', ctypes.POINTER(Piece)), ('pieces_len', _size), ('labels', ctypes.c_char_p),
-        ('labels_len', _size), ('definitions', ctypes.POINTER(Range)), ('definitions_len', _size), ('footnotes', ctypes.POINTER(Range)),
-        ('footnotes_len', _size), ('options', ctypes.c_uint32),
+        ('bytes', ctypes.c_char_p), ('bytes_len', _size), ('pieces', ctypes.c_void_p), ('pieces_len', _size), ('labels', ctypes.c_char_p),
+        ('labels_len', _size), ('definitions', ctypes.c_void_p), ('definitions_len', _size), ('footnotes', ctypes.c_void_p), ('footnotes_len', _size),
+        ('options', ctypes.c_uint32),
     ]
 
 
-class Target(ctypes.Structure):
-    _fields_ = [('destination', Range), ('title', Range), ('has_title', ctypes.c_uint32)]
+class Given:
+    """An input with the arrays that it points to. The bytes of the targets stand first among its labels."""
+    __slots__ = ('input', 'bytes', 'pieces', 'ranges')
 
+    def __init__(self, document, pieces, options, defined, noted, targets=b''):
+        definitions, end = _arguments.ranges_of(defined, len(targets))
+        footnotes, end = _arguments.ranges_of(noted, end)
+        labels = b''.join([targets] + defined + noted)
+        self.bytes, self.pieces, self.ranges = document, pieces, (definitions, footnotes)
+        self.input = Input(
+            document, len(document), pieces.buffer_info()[0], len(pieces) // 4, labels, len(labels), definitions.buffer_info()[0], len(defined),
+            footnotes.buffer_info()[0], len(noted), options)
 
-class Content(ctypes.Structure):
-    _fields_ = [('pieces', Range), ('first_of_item', ctypes.c_uint32)]
+    def covered(self):
+        """How many bytes the pieces have; where they are no pieces of the document, some number up to the document's length."""
+        return max(0, min(len(self.bytes), sum(self.pieces[2::4]) - sum(self.pieces[::4])))
 
 
 def _places():
@@ -59,97 +63,94 @@ def _load():
     found = library.markdown_inline_version()
     if found != VERSION:
         raise ImportError('the library has version %d of the interface, and this package wants %d' % (found, VERSION))
-    for name in ('markdown_inline_is_content', 'markdown_inline_is_text'):
-        function = getattr(library, name)
-        function.restype = ctypes.c_uint32
-        function.argtypes = [ctypes.c_char_p, _size, ctypes.POINTER(Piece), _size]
-    array = [ctypes.c_void_p, _size, ctypes.POINTER(_size)]
-    for name in ('markdown_inline_string', 'markdown_inline_text', 'markdown_inline_leaves'):
-        function = getattr(library, name)
-        function.restype = ctypes.c_uint32
-        function.argtypes = [ctypes.POINTER(Input)] + array
-    for name in ('markdown_inline_identifier', 'markdown_inline_reference'):
-        function = getattr(library, name)
-        function.restype = ctypes.c_uint32
-        function.argtypes = [ctypes.c_char_p, _size] + array
-    library.markdown_inline_texts.restype = ctypes.c_uint32
-    library.markdown_inline_texts.argtypes = [
-        ctypes.POINTER(Input), ctypes.POINTER(Content), _size, ctypes.c_void_p, _size, ctypes.POINTER(_size), _size, ctypes.POINTER(_size)]
-    library.markdown_inline_html.restype = ctypes.c_uint32
-    library.markdown_inline_html.argtypes = [ctypes.POINTER(Input), ctypes.POINTER(Target), _size, ctypes.c_uint32] + array
+    text, numbers, lent = [ctypes.c_char_p, _size], [ctypes.c_void_p, _size], [ctypes.c_void_p, _size, ctypes.POINTER(_size)]
+    given = [ctypes.POINTER(Input)]
+    for name, arguments in (
+        ('is_content', text + numbers), ('is_text', text + numbers), ('string', given + lent), ('text', given + lent), ('leaves', given + lent),
+        ('identifier', text + lent), ('reference', text + lent), ('texts', given + numbers + numbers + numbers + lent[2:]),
+        ('html', given + numbers + [ctypes.c_uint32] + lent),
+    ):
+        function = getattr(library, 'markdown_inline_' + name)
+        function.restype, function.argtypes = ctypes.c_uint32, arguments
     return library
 
 
 LIBRARY = _load()
-_lent = threading.local()
+
+# Arrays of KEPT_SIZE that no call uses. A call takes its array out, so that no other call writes to it: not one of another thread, and not one that a
+# signal handler or the collector makes meanwhile. To take one out and to put one back are one step each.
+_free = []
 
 
-def pieces_of(pieces):
-    """The pieces as they cross, each from its start and end, and the columns of their tabs."""
-    return (Piece * len(pieces))(*(Piece(it[0], it[2] if len(it) > 2 else 0, it[1], it[3] if len(it) > 3 else 0) for it in pieces))
+def _lend(size):
+    """An array of at least so many bytes, which belongs to the caller."""
+    if size <= KEPT_SIZE:
+        try:
+            return _free.pop()
+        except IndexError:
+            size = KEPT_SIZE
+    return ctypes.create_string_buffer(size)
 
 
-def ranges_of(labels, start):
-    """Where each label stands, of labels that follow one another from an index."""
-    found = (Range * len(labels))()
-    for place, label in zip(found, labels):
-        place.start, start = start, start + len(label)
-        place.end = start
-    return found
+def _give_back(lent):
+    """Keeps an array for another call, if it is not large."""
+    if len(lent) == KEPT_SIZE and len(_free) < KEPT:
+        _free.append(lent)
 
 
-def targets_of(targets, start):
-    """Where each destination and title stands, of those that follow one another from an index. A title may be None."""
-    found = (Target * len(targets))()
-    for it, (destination, title) in zip(found, targets):
-        it.destination.start, start = start, start + len(destination)
-        it.destination.end = it.title.start = start
-        start += len(title or b'')
-        it.title.end, it.has_title = start, title is not None
-    return found
-
-
-def filled(call, size):
-    """The status of a call that is lent an array, its length in elements of this size and a count, and what it wrote. Each thread keeps an array, which
-    only grows."""
+def filled(call, size, room):
+    """The status of a call that is lent an array, its length in elements of this size, and a count, and the bytes that it wrote. The array has this
+    room in bytes at first, or more; it is another, as large as the call wants it, where that is too small."""
     count = _size()
-    if not hasattr(_lent, 'array'):
-        _lent.array = ctypes.create_string_buffer(64 * EVENT_SIZE)
-    while True:
-        array = _lent.array
-        status = call(array, len(array) // size, ctypes.byref(count))
+    for _ in range(2):
+        lent = _lend(room)
+        status = call(lent, len(lent) // size, ctypes.byref(count))
+        found = ctypes.string_at(lent, count.value * size) if status == DONE else b''
+        _give_back(lent)
         if status != TOO_SMALL:
-            return status, memoryview(array)[:count.value * size] if status == DONE else b''
-        _lent.array = ctypes.create_string_buffer(count.value * size)
+            return status, found
+        room = count.value * size
+    raise RuntimeError('the library wants other room for the same input')
 
 
-def fill(name, given, size=EVENT_SIZE):
-    """Calls a function over an input: its status, and the bytes of what it found."""
-    function, at = getattr(LIBRARY, name), ctypes.byref(given)
-    return filled(lambda *lent: function(at, *lent), size)
+def _events_room(given):
+    # Prose has an event for every five bytes.
+    return (given.covered() // 4 + 64) * EVENT_SIZE
 
 
-def decoded(name, given):
+def events(name, given):
+    """Calls a function over an input: its status, and the bytes of the events that it found."""
+    function, at = getattr(LIBRARY, name), ctypes.byref(given.input)
+    return filled(lambda *lent: function(at, *lent), EVENT_SIZE, _events_room(given))
+
+
+def leaves(given):
+    """Calls for leaves: the status, and their bytes."""
+    at = ctypes.byref(given.input)
+    return filled(lambda *lent: LIBRARY.markdown_inline_leaves(at, *lent), LEAF_SIZE, (given.covered() // 8 + 64) * LEAF_SIZE)
+
+
+def decoded(name, text):
     """Calls a function over bytes: its status, and the bytes that stand for them."""
     function = getattr(LIBRARY, name)
-    status, found = filled(lambda *lent: function(given, len(given), *lent), 1)
-    return status, bytes(found)
+    return filled(lambda *lent: function(text, len(text), *lent), 1, len(text))
 
 
-def texts(given, contents):
-    """Calls for many contents, each the numbers of its pieces and whether it is the first of a list item: the status, the events' bytes, and where the
-    events of each end."""
-    listed = (Content * len(contents))()
-    for it, (start, end, is_first) in zip(listed, contents):
-        it.pieces.start, it.pieces.end, it.first_of_item = start, end, bool(is_first)
-    ends = (_size * len(contents))()
+def texts(given, contents, count):
+    """Calls for this many contents, as they cross: the status, the events' bytes, and where the events of each end."""
+    at, ends = ctypes.byref(given.input), array('Q', bytes(8 * count))
+    ends_at = ends.buffer_info()[0]
     status, found = filled(
-        lambda array, room, count: LIBRARY.markdown_inline_texts(ctypes.byref(given), listed, len(listed), array, room, ends, len(ends), count), EVENT_SIZE)
-    return status, found, list(ends)
+        lambda lent, room, written: LIBRARY.markdown_inline_texts(at, contents, count, lent, room, ends_at, count, written), EVENT_SIZE, _events_room(given))
+    return status, found, ends
 
 
-def html(given, targets, options):
-    """Calls for HTML: the status, and its bytes."""
-    status, found = filled(
-        lambda array, room, count: LIBRARY.markdown_inline_html(ctypes.byref(given), targets, len(targets), options, array, room, count), 1)
-    return status, bytes(found)
+def html(given, targets, count, options):
+    """Calls for HTML, with this many targets as they cross: the status, and its bytes."""
+    at = ctypes.byref(given.input)
+    return filled(lambda *lent: LIBRARY.markdown_inline_html(at, targets, count, options, *lent), 1, 2 * given.covered())
+
+
+def tested(name, document, pieces):
+    """Calls a test of pieces: its status."""
+    return getattr(LIBRARY, name)(document, len(document), pieces.buffer_info()[0], len(pieces) // 4)

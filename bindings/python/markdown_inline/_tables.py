@@ -1,4 +1,4 @@
-"""Names of events by their numbers, and options by their bits, as markdown_inline.h has them. It stands beside this file, as `bindings/build` leaves it,
+"""Names of events by their numbers, options by their bits, and what statuses say, as markdown_inline.h has them. It stands beside this file, as `bindings/build` leaves it,
 or in the folder `c` of the bindings."""
 import os
 import re
@@ -18,4 +18,5 @@ def _header():
 _TEXT = _header()
 NAMES = tuple(re.findall(r'X\([A-Z_]+, "(\w+)"\)', _TEXT))
 OPTIONS = {name: int(bit, 16) for name, bit in re.findall(r'X\([A-Z_]+, "(\w+)", (0x\w+)\)', _TEXT)}
+STATUSES = {int(number): words for number, words in re.findall(r'X\([A-Z0-9_]+, (\d+), "([^"]*)"\)', _TEXT)}
 COMMONMARK, GFM, MATH = (int(re.search(r'MARKDOWN_INLINE_%s = (0x\w+)' % name, _TEXT).group(1), 16) for name in ('COMMONMARK', 'GFM', 'MATH'))

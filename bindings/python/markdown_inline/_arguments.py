@@ -1,0 +1,162 @@
+"""What callers hand over, as the library takes it. What is no text, no piece and no option is refused with a TypeError, a ValueError or an
+OverflowError that names it; so nothing of it reaches a call."""
+import operator
+import struct
+from array import array
+from collections.abc import Mapping, Sequence
+from itertools import accumulate
+
+_TARGET = struct.Struct('=4QI4x')
+_CONTENT = struct.Struct('=2QI4x')
+_BUFFERS = (bytes, bytearray, memoryview)
+_NO_PIECES = (str, range) + _BUFFERS
+
+
+def _kind(given):
+    return type(given).__name__
+
+
+def text_of(given, what):
+    """The bytes of a text: the UTF-8 of a `str`, or what an object of bytes holds. Surrogates stay, as bytes that are no UTF-8."""
+    if type(given) is bytes:
+        return given
+    if isinstance(given, str):
+        return str.encode(given, 'utf-8', 'surrogatepass')
+    try:
+        view = memoryview(given)
+    except TypeError:
+        raise TypeError('%s is a str or bytes, and not a %s' % (what, _kind(given))) from None
+    return view.tobytes()
+
+
+def flag_of(given, what):
+    """Whether something is asked for."""
+    if given is True or given is False:
+        return given
+    if not isinstance(given, int):
+        raise TypeError('%s is True or False, and not a %s' % (what, _kind(given)))
+    if given not in (0, 1):
+        raise ValueError('%s is True or False, and not another number' % what)
+    return bool(given)
+
+
+def bits_of(given):
+    """The bits of options, which the library tests for those that it does not know."""
+    if isinstance(given, bool):
+        raise TypeError('options is a number of bits, and not a bool')
+    try:
+        bits = operator.index(given)
+    except TypeError:
+        raise TypeError('options is a number of bits, and not a %s' % _kind(given)) from None
+    if not 0 <= bits < 2 ** 32:
+        raise OverflowError('options is below 0 or has more than 32 bits')
+    return bits
+
+
+def _several(given, what, one):
+    """An iterator of several things. One of them, handed over by itself, is refused."""
+    if isinstance(given, (str,) + _BUFFERS):
+        raise TypeError('%s is a list, and not a %s; write [%s] for one' % (what, _kind(given), one))
+    try:
+        return iter(given)
+    except TypeError:
+        raise TypeError('%s is a list, and not a %s' % (what, _kind(given))) from None
+
+
+def labels_of(given, what):
+    """The bytes of each label."""
+    return [text_of(it, 'a label of ' + what) for it in _several(given, what, 'label')]
+
+
+def _numbers(piece, what):
+    """The numbers of a piece in the order in which they cross, or why it is no piece."""
+    if isinstance(piece, _NO_PIECES) or not isinstance(piece, Sequence):
+        raise TypeError('%s is a piece, as (start, end) or (start, end, start_vs, end_vs), and not a %s' % (what, _kind(piece)))
+    if not 2 <= len(piece) <= 4:
+        raise ValueError('%s has %d numbers, and a piece has 2 to 4' % (what, len(piece)))
+    start, end, start_vs, end_vs = (tuple(piece) + (0, 0))[:4]
+    for number, name in ((start, 'start'), (end, 'end'), (start_vs, 'start_vs'), (end_vs, 'end_vs')):
+        try:
+            is_index = 0 <= operator.index(number) < 2 ** 64
+        except TypeError:
+            raise TypeError('the %s of %s is a number, and not a %s' % (name, what, _kind(number))) from None
+        if not is_index:
+            raise OverflowError('the %s of %s is below 0 or has more than 64 bits' % (name, what))
+    return start, start_vs, end, end_vs
+
+
+def _push_pieces(numbers, given, what):
+    """Puts the numbers of pieces behind others, as they cross. Tuples, which most pieces are, are looked at one by one only where one is wrong."""
+    listed, found = list(_several(given, what, 'piece')), []
+    try:
+        for piece in listed:
+            if isinstance(piece, tuple) and len(piece) == 2:
+                found += piece[0], 0, piece[1], 0
+            elif isinstance(piece, tuple) and len(piece) == 4:
+                found += piece[0], piece[2], piece[1], piece[3]
+            else:
+                found += _numbers(piece, what)
+        numbers.extend(array('Q', map(operator.index, found)))
+    except (TypeError, OverflowError, ValueError):
+        for at, piece in enumerate(listed):
+            _numbers(piece, '%s[%d]' % (what, at))
+        raise
+
+
+def pieces_of(given, length):
+    """The pieces as they cross, four numbers each. None is the whole of a document of this length."""
+    if given is None:
+        return array('Q', (0, 0, length, 0))
+    numbers = array('Q')
+    _push_pieces(numbers, given, 'pieces')
+    return numbers
+
+
+def contents_of(given):
+    """The pieces of all contents as they cross, the contents as they cross, and how many contents there are."""
+    numbers, contents = array('Q'), []
+    for at, it in enumerate(_several(given, 'contents', 'content')):
+        try:
+            pieces, is_first = it
+        except (TypeError, ValueError):
+            raise TypeError('contents[%d] is no Content: that has pieces, and whether it is the first of a list item' % at) from None
+        start, is_first = len(numbers) // 4, flag_of(is_first, 'first_of_item of contents[%d]' % at)
+        _push_pieces(numbers, pieces, 'the pieces of contents[%d]' % at)
+        contents.append(_CONTENT.pack(start, len(numbers) // 4, is_first))
+    return numbers, b''.join(contents), len(contents)
+
+
+def ranges_of(labels, start):
+    """Where each label stands, of labels that follow one another from an index, and where the last one ends."""
+    ends = list(accumulate(map(len, labels), initial=start))
+    numbers = array('Q', bytes(16 * len(labels)))
+    numbers[::2], numbers[1::2] = array('Q', ends[:-1]), array('Q', ends[1:])
+    return numbers, ends[-1]
+
+
+def _target(given):
+    """The bytes of a destination, and of its title, which may be None."""
+    if isinstance(given, (tuple, list)):
+        if len(given) != 2:
+            raise ValueError('a target has a destination and a title, and not %d texts' % len(given))
+        destination, title = given
+        return text_of(destination, 'a destination'), None if title is None else text_of(title, 'a title')
+    return text_of(given, 'a target without a title'), None
+
+
+def targets_of(definitions):
+    """The labels of definitions, where they lead as it crosses, and the texts of that one behind another."""
+    if definitions is None:
+        return [], b'', b''
+    if not isinstance(definitions, Mapping):
+        raise TypeError('definitions is a mapping from labels to where they lead, and not a %s' % _kind(definitions))
+    labels, targets, texts, at = [], [], [], 0
+    for label, target in definitions.items():
+        labels.append(text_of(label, 'a label of definitions'))
+        destination, title = _target(target)
+        behind = at + len(destination)
+        end = behind + len(title or b'')
+        targets.append(_TARGET.pack(at, behind, behind, end, title is not None))
+        texts += destination, title or b''
+        at = end
+    return labels, b''.join(targets), b''.join(texts)

@@ -1,0 +1,184 @@
+"""The array that a call is lent belongs to that call: what runs meanwhile in the same thread or in another gets its own, and little is kept."""
+import ctypes
+import gc
+import signal
+import sys
+import threading
+import unittest
+from unittest import mock
+
+from markdown_inline import Content, _library, html, identifier, leaves, reference, string, text, texts
+
+LONG = 'a' * 20 + '*b* ' * 60 + 'c'
+CALLS = (
+    lambda: text(LONG), lambda: text('~d~ `e`' * 9, gfm=True), lambda: string('&amp; \\* ' * 30), lambda: leaves(LONG), lambda: html(LONG),
+    lambda: texts('*a*\n\n`b`', [Content([(0, 3)]), Content([(5, 8)])]), lambda: identifier('A ' * 50), lambda: reference('&copy;'),
+)
+
+
+def answers():
+    return [repr(call()) for call in CALLS]
+
+
+class Lent(unittest.TestCase):
+    def test_a_call_within_each_line_of_another(self):
+        wanted, wrong, count = answers(), [], [0]
+
+        def trace(frame, what, _):
+            if frame.f_code.co_filename != _library.__file__:
+                return None
+            # What runs here is not traced.
+            count[0] += 1
+            at = count[0] % len(CALLS)
+            if repr(CALLS[at]()) != wanted[at]:
+                wrong.append(at)
+            return trace
+
+        sys.settrace(trace)
+        try:
+            found = answers()
+        finally:
+            sys.settrace(None)
+        self.assertEqual((found, wrong), (wanted, []))
+        self.assertGreater(count[0], 100)
+
+    def test_a_call_by_the_collector(self):
+        wanted, counts = answers(), []
+
+        class Cycle:
+            def __init__(self):
+                self.me = self
+
+            def __del__(self):
+                counts.append(len(text('`a` ' * 1500)))
+
+        was, least = gc.get_threshold(), 0
+        gc.set_threshold(20, 1, 1)
+        try:
+            while len(counts) < 50 and least < 2000:
+                least += 1
+                Cycle()
+                self.assertEqual(answers(), wanted)
+        finally:
+            gc.set_threshold(*was)
+        gc.collect()
+        self.assertGreater(len(counts), 20)
+        self.assertEqual(set(counts), {len(text('`a` ' * 1500))})
+
+    @unittest.skipUnless(hasattr(signal, 'setitimer'), 'no timer')
+    def test_a_call_by_a_signal_handler(self):
+        wanted, count, running = answers(), [0], [True]
+
+        def handle(*_):
+            count[0] += 1
+            text('`a` ' * 30)
+            if running:
+                signal.setitimer(signal.ITIMER_REAL, 0.0005)
+
+        was = signal.signal(signal.SIGALRM, handle)
+        signal.setitimer(signal.ITIMER_REAL, 0.0005)
+        try:
+            for _ in range(20):
+                self.assertEqual(answers(), wanted)
+        finally:
+            running.clear()
+            signal.setitimer(signal.ITIMER_REAL, 0)
+            signal.signal(signal.SIGALRM, was)
+        self.assertGreater(count[0], 0)
+
+    def test_threads_do_not_meet(self):
+        documents = ['%s *b%d* `c` ' % ('a' * at, at) * (20 + at) + 'd' for at in range(8)]
+        wanted, wrong, together = [repr(text(it)) for it in documents], [], threading.Barrier(8)
+
+        def run(at):
+            together.wait()
+            for _ in range(30):
+                if repr(text(documents[at])) != wanted[at]:
+                    wrong.append(at)
+
+        self.assertEqual(len(set(wanted)), 8)
+        threads = [threading.Thread(target=run, args=(at,)) for at in range(8)]
+        for it in threads:
+            it.start()
+        for it in threads:
+            it.join()
+        self.assertEqual(wrong, [])
+
+    def test_an_answer_stays_where_others_come(self):
+        first = text(LONG)
+        wanted = repr(first)
+        answers()
+        self.assertEqual(repr(first), wanted)
+
+    def test_little_is_kept(self):
+        text('[a](b)' * 20000)
+        kept = []
+
+        def nested(depth):
+            lent = _library._lend(1)
+            kept.append(lent)
+            if depth:
+                nested(depth - 1)
+            _library._give_back(lent)
+
+        nested(3 * _library.KEPT)
+        self.assertEqual(len({id(it) for it in kept}), 3 * _library.KEPT + 1)
+        self.assertLessEqual(len(_library._free), _library.KEPT)
+        self.assertLessEqual(sum(len(it) for it in _library._free), 2 << 20)
+        self.assertEqual(len({id(it) for it in _library._free}), len(_library._free))
+
+    def test_an_array_is_lent_again(self):
+        text('a')
+        arrays = [id(it) for it in _library._free]
+        answers()
+        self.assertEqual([id(it) for it in _library._free], arrays)
+
+    def test_an_array_is_used_to_its_end_and_no_further(self):
+        whole, guard = text(LONG), b'\xa5' * 4096
+        for call, wanted, size in (
+            (lambda: text(LONG), whole, 56), (lambda: leaves(LONG), leaves(LONG), 96), (lambda: identifier('A' * 90), 'a' * 90, 1),
+            (lambda: html('a' * 90), 'a' * 90, 1), (lambda: texts(LONG, [Content([(0, len(LONG))])]), [whole], 56),
+            (lambda: string('\\*' * 16), string('\\*' * 16), 56),
+        ):
+            count = len(wanted[0]) if wanted == [whole] else len(wanted)
+            # Arrays of one element too few, of just as many, and of one more, some with a part of an element behind.
+            for room in (0, 1, count - 1, count, count + 1):
+                for part in (0, size - 1):
+                    lent = []
+
+                    def lend(least):
+                        length = room * size + part if not lent else least
+                        memory = bytearray(length) + guard
+                        lent.append((memory, length))
+                        return (ctypes.c_char * length).from_buffer(memory)
+
+                    with mock.patch.object(_library, '_lend', lend), mock.patch.object(_library, '_give_back', lambda _: None):
+                        self.assertEqual(call(), wanted)
+                    self.assertEqual(len(lent), 1 if room >= count else 2)
+                    for memory, length in lent:
+                        self.assertEqual(memory[length:], guard)
+
+    def test_sixty_four_events(self):
+        documents, lengths = ['a' + '\\*' * count + 'b' for count in (9, 10, 11)], []
+        wanted = [text(it) for it in documents]
+
+        def give_back(lent):
+            lengths.append(len(lent))
+
+        with mock.patch.object(_library, 'KEPT_SIZE', 0), mock.patch.object(_library, '_events_room', lambda _: 64 * 56), \
+                mock.patch.object(_library, '_give_back', give_back):
+            self.assertEqual([text(it) for it in documents], wanted)
+        self.assertEqual([len(it) for it in wanted], [58, 64, 70])
+        self.assertEqual(lengths, [64 * 56, 64 * 56, 64 * 56, 70 * 56])
+
+    def test_a_library_that_never_has_room_enough(self):
+        calls = []
+
+        def call(lent, room, count):
+            self.assertLessEqual(room * 56, len(lent))
+            calls.append(room)
+            count._obj.value = room + 1
+            return _library.TOO_SMALL
+
+        self.assertRaises(RuntimeError, _library.filled, call, 56, 64 * 56)
+        self.assertEqual(len(calls), 2)

@@ -1,0 +1,67 @@
+"""`python -m markdown_inline`: its lines and its statuses, which are those of the program mdinline."""
+import os
+import subprocess
+import sys
+import unittest
+
+PROGRAM = [sys.executable, '-m', 'markdown_inline']
+
+
+def run(*words, given=b'', by=(), flags=()):
+    """The status of the program, and what it writes. `by` is what a shell does with its input and its output."""
+    command = [sys.executable, *flags, '-m', 'markdown_inline', *words]
+    if by:
+        command = ['sh', '-c', '"$@" ' + by, 'sh'] + command
+    done = subprocess.run(command, input=given, stdout=subprocess.PIPE, stderr=subprocess.PIPE, timeout=60)
+    return done.returncode, done.stdout.decode(), done.stderr.decode()
+
+
+class Program(unittest.TestCase):
+    def test_lines(self):
+        self.assertEqual(run('text', given=b'a\n'), (0, 'Enter Data 1 1 0 0\nExit Data 1 2 1 0\n', ''))
+        self.assertEqual(run('text', given='é\r\n'.encode()), (0, 'Enter Data 1 1 0 0\nExit Data 1 3 2 0\n', ''))
+
+    def test_words(self):
+        for words in ((), ('nothing',), ('text', 'nothing'), ('text', '--nothing'), ('string', 'raw')):
+            status, lines, said = run(*words)
+            self.assertEqual((status, lines), (2, ''))
+            self.assertIn('usage: python -m markdown_inline', said)
+            self.assertEqual(run(*words, flags=['-OO']), (status, lines, said))
+
+    def test_statuses_of_the_input(self):
+        for given, status, words in ((b'\xff', 3, 'document is not UTF-8'), (b'a\n\nb', 4, 'blank line in text, or line ending at its end')):
+            self.assertEqual(run('text', given=given), (status, '', 'markdown_inline: %s\n' % words))
+            self.assertEqual(run('text', given=given, flags=['-OO']), (status, '', 'markdown_inline: %s\n' % words))
+        self.assertEqual(run('text', os.fsdecode(b'label=\xff'), given=b'a')[0], 2)
+
+    def test_input_that_cannot_be_read(self):
+        # A folder is refused by the interpreter itself, before the program begins.
+        self.assertEqual(run('text', by='<&-'), (6, '', 'markdown_inline: read failed\n'))
+
+    def test_output_that_cannot_be_written(self):
+        for by in ['>&-'] + ['> /dev/full'] * os.path.exists('/dev/full'):
+            for given in (b'a', b'*a* ' * 2000 + b'b'):
+                self.assertEqual(run('text', by=by, given=given), (6, '', 'markdown_inline: write failed\n'))
+        program = subprocess.Popen(PROGRAM + ['text'], stdin=subprocess.PIPE, stdout=subprocess.PIPE, stderr=subprocess.PIPE)
+        program.stdout.close()
+        _, said = program.communicate(b'*a* ' * 5000 + b'b', timeout=60)
+        self.assertEqual((program.returncode, said), (6, b'markdown_inline: write failed\n'))
+
+    def test_all_is_closed(self):
+        self.assertEqual(run('text', by='<&- >&- 2>&-')[0], 6)
+        self.assertEqual(run('nothing', by='2>&-'), (2, '', ''))
+        self.assertEqual(run('text', by='2>&-', given=b'a')[:2], (0, 'Enter Data 1 1 0 0\nExit Data 1 2 1 0\n'))
+
+    def test_memory_is_refused(self):
+        code = 'import resource; resource.setrlimit(resource.RLIMIT_AS, (400 << 20, 400 << 20)); import runpy, sys; sys.argv = ["m", "text"]; ' \
+            'runpy.run_module("markdown_inline", run_name="__main__")'
+        done = subprocess.run([sys.executable, '-c', code], input=b'[a](b)' * 500000, stdout=subprocess.PIPE, stderr=subprocess.PIPE, timeout=120)
+        self.assertEqual((done.returncode, done.stdout, done.stderr), (5, b'', b'markdown_inline: out of memory\n'))
+
+    def test_errors_say_why_without_docstrings(self):
+        code = 'import markdown_inline as m\nfor it in (lambda: m.text(b"\\xff"), lambda: m.text("a\\n"), lambda: m.text("a", options=1 << 31), ' \
+            'lambda: m.text("a", [(0, 2)]), lambda: m.reference("a")):\n try: it()\n except m.Error as e: print(e.status, e)'
+        done = subprocess.run([sys.executable, '-OO', '-c', code], stdout=subprocess.PIPE, check=True, timeout=60)
+        self.assertEqual(done.stdout.decode().splitlines(), [
+            '3 document is not UTF-8', '4 blank line in text, or line ending at its end', '2 unknown option', '7 pieces are no content of the document',
+            '10 no character reference'])
