@@ -6,8 +6,12 @@ from array import array
 
 import markdown_inline
 from markdown_inline import (
-    BlankLine, Content, DefinitionError, Error, NoContent, NoReference, NotUtf8, Piece, TooLong, UnknownOption, _library, html, identifier, is_content, is_text,
+    OPTIONS, BlankLine, Content, DefinitionError, Error, Name, NoContent, NoReference, NotUtf8, Piece, TooLong, UnknownOption, _library, html, identifier, is_content, is_text,
     leaves, reference, string, text, texts)
+
+COMMONMARK = sum(OPTIONS[it] for it in (
+    'attention', 'autolink', 'character_escape', 'character_reference', 'code_text', 'hard_break_escape', 'hard_break_trailing', 'html_text', 'label_start_image',
+    'label_start_link', 'label_end', 'gfm_strikethrough_single_tilde', 'math_text_single_dollar'))
 
 
 class Calls(unittest.TestCase):
@@ -45,7 +49,7 @@ class Calls(unittest.TestCase):
 
     def test_characters(self):
         events = text('é *漢*')
-        self.assertEqual([(it.index, it.character) for it in events if it.name == 'Emphasis'], [(3, 2), (8, 5)])
+        self.assertEqual([(it.index, it.character) for it in events if it.name == Name.Emphasis], [(3, 2), (8, 5)])
         self.assertIsNone(text('é'.encode())[0].character)
 
     def test_pieces(self):
@@ -53,14 +57,50 @@ class Calls(unittest.TestCase):
         self.assertEqual(str(text('> a *b\n> c* `d`', pieces)[3]), 'Enter EmphasisSequence 1 5 4 0')
 
     def test_labels_are_normalized(self):
-        self.assertIn('Link', [it.name for it in text('[a  B]', definitions=['A b'])])
-        self.assertNotIn('Link', [it.name for it in text('[a  B]')])
+        self.assertIn(Name.Link, [it.name for it in text('[a  B]', definitions=['A b'])])
+        self.assertNotIn(Name.Link, [it.name for it in text('[a  B]')])
         self.assertEqual([identifier(it) for it in (' A\n B ', b'', '\u1e9e')], ['a b', '', 'ss'])
         with self.assertRaises(NotUtf8):
             identifier(b'\xff')
 
     def test_references_are_decoded(self):
         self.assertEqual([reference(it) for it in ('&amp;', '&copy;', '&#65;', b'&#X1f600;', '&#0;')], ['&', '\xa9', 'A', '\U0001f600', '\ufffd'])
+        # Blanks stay.
+        self.assertEqual([reference(it) for it in ('&nbsp;', '&#32;', '&#10;', '&#x9;')], ['\xa0', ' ', '\n', '\t'])
+        for given in (' &amp;', '&amp; ', '&amp', 'amp;', '&;'):
+            self.assertRaises(NoReference, reference, given)
+
+    def test_each_switch(self):
+        """Each switch means its bits, of each call that has it, and changes what the call finds."""
+        gfm = sum(OPTIONS[it] for it in ('gfm_autolink_literal', 'gfm_label_start_footnote', 'gfm_strikethrough', 'gfm_task_list_item'))
+        for document, asked, bits in (
+            ('~a~ www.b.c [^d] e@f.g', {'gfm': True}, gfm), ('a $b$ $$c$$', {'math': True}, OPTIONS['math_text']),
+            ('[x] a', {'gfm': True, 'task': True}, gfm | OPTIONS['first_of_item']), ('*a***a* b', {'cm_lengths': True}, OPTIONS['attention_first_lengths']),
+            ('[a][', {'cm_shortcut': True}, OPTIONS['label_shortcut_before_bracket']),
+        ):
+            last = list(asked)[-1]
+            without = {name: it for name, it in asked.items() if name != last}
+            one, both = [Content([Piece(0, len(document))], last == 'task')], {'definitions': ['a'], 'footnotes': ['d']}
+            calls = [lambda **them: text(document, **both, **them), lambda **them: leaves(document, **both, **them)]
+            calls.append(lambda **them: html(document, definitions={'a': '/b'}, footnotes=['d'], **them))
+            if last != 'task':
+                calls.append(lambda **them: texts(document, one, **both, **them))
+            for call in calls:
+                self.assertEqual(call(**asked), call(options=COMMONMARK | bits))
+                self.assertNotEqual(call(**asked), call(**without))
+                self.assertEqual(call(), call(options=COMMONMARK))
+                self.assertEqual(call(), call(**dict.fromkeys(asked, False)))
+                self.assertRaises(TypeError, call, options=COMMONMARK, **{last: True})
+            found = texts(document, one, **both, **{name: it for name, it in asked.items() if name != 'task'})
+            self.assertEqual(found, [text(document, **both, **asked)])
+
+    def test_what_is_read_by_default(self):
+        """CommonMark's constructs, as in C and in Rust."""
+        gfm = '~a~ www.b.c [^d] e@f.g $h$ [x]'
+        for call in (text, leaves):
+            self.assertEqual({it.name for it in call(gfm, footnotes=['d'])}, {Name.Data})
+        self.assertEqual(html(gfm, footnotes=['d']), gfm)
+        self.assertEqual({it.name for it in texts(gfm, [Content([(0, len(gfm))], True)], footnotes=['d'])[0]}, {Name.Data})
 
     def test_leaves_cover_the_text(self):
         document = 'a *b* [é](d)\n\te `f`'
@@ -81,12 +121,15 @@ class Calls(unittest.TestCase):
         self.assertEqual(html(document, definitions=defined), '&lt;b&gt; <a href="">a</a> <a href="/d" title="é">C</a>')
         self.assertEqual(html(document, definitions=defined, raw_html=True, any_link=True), '<b> <a href="javascript:b">a</a> <a href="/d" title="é">C</a>')
 
-    def test_documented_example(self):
-        self.assertEqual(doctest.testmod(markdown_inline).failed, 0)
+    def test_documented_examples(self):
+        for module, least in ((markdown_inline, 4), (markdown_inline._events, 4)):
+            found = doctest.testmod(module, extraglobs={it: getattr(markdown_inline, it) for it in markdown_inline.__all__})
+            self.assertEqual(found.failed, 0)
+            self.assertGreaterEqual(found.attempted, least)
 
 
 # Each module of tests, with how many tests it has at least: where fewer are found, something is not run.
-MODULES = {'calls': 12, 'arguments': 14, 'lent': 10, 'program': 8}
+MODULES = {'calls': 14, 'arguments': 14, 'events': 12, 'lent': 10, 'plugin': 7, 'program': 11}
 
 
 def main():

@@ -3,7 +3,7 @@
 does, leaves, HTML in hexadecimal, or the events of each text; where there are none, why."""
 import sys
 
-from markdown_inline import Content, Error, Piece, html, leaves, string, text, texts
+from markdown_inline import Content, Error, Kind, Piece, html, leaves, string, text, texts
 
 
 def piece(word):
@@ -19,7 +19,7 @@ def shown(event):
     link = ''
     if event.link:
         link = ':%s:%s:%s' % (event.link.content, *('-' if number is None else number for number in event.link[1:]))
-    return ' %s%s %d:%d:%d:%d%s' % ('+' if event.kind == 'Enter' else '-', event.name, event.line, event.column, event.index, event.vs, link)
+    return ' %s%s %d:%d:%d:%d%s' % ('+' if event.kind == Kind.Enter else '-', event.name, event.line, event.column, event.index, event.vs, link)
 
 
 def shown_leaf(leaf):

@@ -28,18 +28,50 @@ class Program(unittest.TestCase):
             self.assertIn('usage: python -m markdown_inline', said)
             self.assertEqual(run(*words, flags=['-OO']), (status, lines, said))
 
+    def test_words_that_stand_where_they_may_not(self):
+        for words in (
+            ('--tree',) * 2, ('--html', 'string'), ('--links', 'string'), ('text', '--tree'), ('text', 'raw'), ('--links', 'raw'), ('--html', 'label=a'),
+            ('--html', 'define=a'), ('--html', 'to=/b'), ('--html', 'define=a', 'title=b'), ('--links', 'define=a', 'to=/b', 'to=/c'),
+            ('--html', 'define=a', 'to=/b', 'title=c', 'title=d'), ('text', 'define=a', 'to=/b'), ('--html', 'raw_html'), ('--html', 'raw=1'), ('text', 'gfm='),
+        ):
+            self.assertEqual(run(*words, given=b'a')[:2], (2, ''), words)
+
+    def test_tree(self):
+        self.assertEqual(run('--tree', given='a *é*'.encode()), (0, 'Data 1:1-1:3 "a "\nEmphasis 1:3-1:7 "*é*"\n  EmphasisSequence 1:3-1:4 "*"\n'
+                         '  EmphasisText 1:4-1:6 "é"\n    Data 1:4-1:6 "é"\n  EmphasisSequence 1:6-1:7 "*"\n', ''))
+        self.assertEqual(run('--tree', 'string', given=b'*a*\n"'), (0, 'Data 1:1-1:4 "*a*"\nLineEnding 1:4-2:1 "\\n"\nData 2:1-2:2 "\\""\n', ''))
+        self.assertIn('GfmFootnoteCall 1:1-1:5 "[^n]"', run('--tree', 'text', 'gfm', 'note=N', given=b'[^n]')[1])
+
+    def test_html(self):
+        given = b'<b> [a](javascript:c) *[B  d]* ~e~\n'
+        self.assertEqual(run('--html', 'define=b D', 'to=/f', 'title=g', 'gfm', given=given), (
+            0, '&lt;b&gt; <a href="">a</a> <em><a href="/f" title="g">B  d</a></em> <del>e</del>\n', ''))
+        self.assertEqual(run('--html', 'text', 'raw', 'any-link', given=given), (0, '<b> <a href="javascript:c">a</a> <em>[B  d]</em> ~e~\n', ''))
+        # The first of two definitions of a label.
+        self.assertEqual(run('--html', 'define=a', 'to=/b', 'define=A', 'to=/c', given=b'[a]')[1], '<a href="/b">a</a>\n')
+
+    def test_links(self):
+        given = b'[a ![b](c\\_d "e&amp;\n  f")](<g>) [q][] x *[Q]* <h@i.j>\n<kk:l> www.m.n o@p.q [r [^n]][q] [s]'
+        status, found, said = run('--links', 'gfm', 'note=n', 'define=q', 'to=/u', 'title=t', 'define=Q', 'to=/v', given=given)
+        self.assertEqual((status, said), (0, ''))
+        self.assertEqual([it.split('\t') for it in found.splitlines()], [
+            ['1', '1', 'link', 'g', ''], ['1', '4', 'image', 'c_d', 'e& f'], ['2', '13', 'link', '/u', 't'], ['2', '22', 'link', '/u', 't'],
+            ['2', '27', 'autolink', 'mailto:h@i.j', ''], ['3', '1', 'autolink', 'kk:l', ''], ['3', '8', 'literal', 'http://www.m.n', ''],
+            ['3', '16', 'literal', 'mailto:o@p.q', ''], ['3', '30', 'link', '/u', 't']])
+        self.assertEqual(run('--links', given=b'a'), (0, '', ''))
+
     def test_statuses_of_the_input(self):
         for given, status, words in ((b'\xff', 3, 'document is not UTF-8'), (b'a\n\nb', 4, 'blank line in text, or line ending at its end')):
             self.assertEqual(run('text', given=given), (status, '', 'markdown_inline: %s\n' % words))
             self.assertEqual(run('text', given=given, flags=['-OO']), (status, '', 'markdown_inline: %s\n' % words))
-        self.assertEqual(run('text', os.fsdecode(b'label=\xff'), given=b'a')[0], 2)
+        self.assertEqual(run('text', os.fsdecode(b'label=\xff'), given=b'a'), (2, '', 'markdown_inline: a word is not UTF-8\n'))
 
     def test_input_that_cannot_be_read(self):
         # A folder is refused by the interpreter itself, before the program begins.
         self.assertEqual(run('text', by='<&-'), (6, '', 'markdown_inline: read failed\n'))
 
     def test_output_that_cannot_be_written(self):
-        for by in ['>&-'] + ['> /dev/full'] * os.path.exists('/dev/full'):
+        for by in ['>&-', '> /dev/full'][:1 + os.path.exists('/dev/full')]:
             for given in (b'a', b'*a* ' * 2000 + b'b'):
                 self.assertEqual(run('text', by=by, given=given), (6, '', 'markdown_inline: write failed\n'))
         program = subprocess.Popen(PROGRAM + ['text'], stdin=subprocess.PIPE, stdout=subprocess.PIPE, stderr=subprocess.PIPE)

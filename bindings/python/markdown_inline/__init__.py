@@ -1,20 +1,26 @@
 """The inline layer of Markdown: a paragraph in, the events of its inline tree out.
 
-    >>> from markdown_inline import text
-    >>> [event.name for event in text('a *b*') if event.kind == 'Enter'][:4]
+    >>> from markdown_inline import Kind, Name, text
+    >>> [str(event.name) for event in text('a *b*') if event.kind == Kind.Enter][:4]
     ['Data', 'Emphasis', 'EmphasisSequence', 'EmphasisText']
+    >>> [event.index for event in text('a *b*') if event.name == Name.Emphasis]
+    [2, 5]
 
-What the calls answer is proved; this package calls the proved library.
+Kinds and names are members of enumerations, and equal to no string; `str` of them is the text that the program mdinline prints. By default the
+constructs are those of CommonMark, as in C and in Rust, and `gfm=True` asks for what GitHub adds. What the calls answer is proved; this package calls
+the proved library.
 """
-import struct
 from types import MappingProxyType
-from typing import Iterable, List, Mapping, NamedTuple, Optional, Sequence, Tuple, Union
+from typing import Iterable, Mapping, NamedTuple, Optional, Sequence, Tuple, Union
 
 from . import _arguments, _library, _tables
+from ._events import Characters, Event, Events, Leaf, Leaves, Link, Texts
+from ._names import Kind, Name
 
 __all__ = [
-    'BlankLine', 'Content', 'DefinitionError', 'Error', 'Event', 'Leaf', 'Link', 'NoContent', 'NoMemory', 'NoReference', 'NotUtf8', 'OPTIONS', 'Piece',
-    'TooLong', 'UnknownOption', 'html', 'identifier', 'is_content', 'is_text', 'leaves', 'reference', 'string', 'text', 'texts',
+    'BlankLine', 'Content', 'DefinitionError', 'Error', 'Event', 'Events', 'Kind', 'Leaf', 'Leaves', 'Link', 'Name', 'NoContent', 'NoMemory',
+    'NoReference', 'NotUtf8', 'OPTIONS', 'Piece', 'Texts', 'TooLong', 'UnknownOption', 'html', 'identifier', 'is_content', 'is_text', 'leaves',
+    'reference', 'string', 'text', 'texts',
 ]
 
 #: Each option by its name, as a bit of `options`. It cannot be changed.
@@ -27,53 +33,6 @@ class Piece(NamedTuple):
     end: int
     start_vs: int = 0
     end_vs: int = 0
-
-
-class Link(NamedTuple):
-    """A chain of what is to be read again, as 'String' or as 'Text': the numbers of the events before and after."""
-    content: str
-    previous: Optional[int]
-    next: Optional[int]
-
-
-class Event(NamedTuple):
-    """The beginning or the end of something. `line` and `column` count from 1; `index` is the byte, from 0, and `vs` how many columns of the tab
-    there come before. `character` is the index in the document's characters where it was given as a `str`."""
-    kind: str
-    name: str
-    line: int
-    column: int
-    index: int
-    vs: int
-    link: Optional[Link]
-    character: Optional[int]
-
-    def __str__(self) -> str:
-        """The line that the program `mdinline` prints."""
-        line = '%s %s %d %d %d %d' % self[:6]
-        if self.link is not None:
-            line += ' link %s %s %s' % (self.link.content, *('-' if number is None else number for number in self.link[1:]))
-        return line
-
-
-class Leaf(NamedTuple):
-    """An event with no other inside it, from where it begins to where it ends, and what stands there: `content`, in bytes of the document, between
-    `before` and `after` virtual spaces of tabs. `character` and `end_character` are the indexes in the document's characters where it was given as a
-    `str`."""
-    name: str
-    line: int
-    column: int
-    index: int
-    vs: int
-    end_line: int
-    end_column: int
-    end_index: int
-    end_vs: int
-    before: int
-    content: bytes
-    after: int
-    character: Optional[int]
-    end_character: Optional[int]
 
 
 class Content(NamedTuple):
@@ -128,10 +87,6 @@ class NoReference(Error, ValueError):
 
 
 _ERRORS = {it.status: it for it in (UnknownOption, NotUtf8, BlankLine, NoMemory, NoContent, DefinitionError, TooLong, NoReference)}
-_KINDS = ('Enter', 'Exit')
-_CONTENTS = (None, 'String', 'Text')
-_EVENT, _LEAF = struct.Struct('=BBB5x6Q'), struct.Struct('=B7x11Q')
-
 Text = Union[str, bytes, bytearray, memoryview]
 Pieces = Optional[Iterable[Sequence[int]]]
 Target = Union[Text, Tuple[Text, Optional[Text]]]
@@ -141,44 +96,8 @@ def _raised(status: int) -> Error:
     return _ERRORS.get(status, Error)(_tables.STATUSES.get(status))
 
 
-class _Characters:
-    """Counts the characters before bytes, which come in order."""
-
-    def __init__(self, document: bytes) -> None:
-        self.document, self.index, self.count = document, 0, 0
-
-    def before(self, index: int) -> int:
-        if index < self.index:
-            self.index, self.count = 0, 0
-        stretch = self.document[self.index:index]
-        self.count += len(stretch) if stretch.isascii() else sum(byte & 0xC0 != 0x80 for byte in stretch)
-        self.index = index
-        return self.count
-
-
-def _characters(document: Text, bytes_given: bytes) -> Optional[_Characters]:
-    return _Characters(bytes_given) if isinstance(document, str) else None
-
-
-def _events(characters: Optional[_Characters], raw: bytes) -> List[Event]:
-    events = []
-    for kind, name, link, line, column, index, vs, previous, after in _EVENT.iter_unpack(raw):
-        chain = None
-        if link:
-            chain = Link(_CONTENTS[link], *(None if number == _library.NONE else number for number in (previous, after)))
-        place = characters.before(index) if characters else None
-        events.append(Event(_KINDS[kind], _tables.NAMES[name], line, column, index, vs, chain, place))
-    return events
-
-
-def _leaves(characters: Optional[_Characters], bytes_given: bytes, raw: bytes) -> List[Leaf]:
-    leaves = []
-    for name, line, column, index, vs, end_line, end_column, end, end_vs, before, length, after in _LEAF.iter_unpack(raw):
-        first = index + (vs > 0)
-        places = (characters.before(index), characters.before(end)) if characters else (None, None)
-        content = bytes_given[first:first + length]
-        leaves.append(Leaf(_tables.NAMES[name], line, column, index, vs, end_line, end_column, end, end_vs, before, content, after, *places))
-    return leaves
+def _characters(document: Text, bytes_given: bytes) -> Optional[Characters]:
+    return Characters(bytes_given) if isinstance(document, str) else None
 
 
 def _bits(options: Optional[int], gfm: bool, math: bool, task: bool, cm_lengths: bool, cm_shortcut: bool) -> int:
@@ -188,8 +107,10 @@ def _bits(options: Optional[int], gfm: bool, math: bool, task: bool, cm_lengths:
         (cm_lengths, 'cm_lengths', _tables.OPTIONS['attention_first_lengths']),
         (cm_shortcut, 'cm_shortcut', _tables.OPTIONS['label_shortcut_before_bracket']),
     ):
-        if _arguments.flag_of(given, what):
+        if given is not False and _arguments.flag_of(given, what):
             bits |= its_bits
+            if options is not None:
+                raise TypeError('options says all by bits, so %s cannot be asked for beside it' % what)
     return bits if options is None else _arguments.bits_of(options)
 
 
@@ -199,31 +120,36 @@ def _given(document: bytes, pieces: Pieces, options: int, definitions: Iterable[
         _arguments.labels_of(footnotes, 'footnotes'))
 
 
-def text(document: Text, pieces: Pieces = None, gfm: bool = True, math: bool = False, *, task: bool = False, cm_lengths: bool = False,
-         cm_shortcut: bool = False, options: Optional[int] = None, definitions: Iterable[Text] = (), footnotes: Iterable[Text] = ()) -> List[Event]:
+def text(document: Text, pieces: Pieces = None, gfm: bool = False, math: bool = False, *, task: bool = False, cm_lengths: bool = False,
+         cm_shortcut: bool = False, options: Optional[int] = None, definitions: Iterable[Text] = (), footnotes: Iterable[Text] = ()) -> Events:
     """The events of a text: of a whole document, or of pieces of it. `gfm` switches on what GitHub adds to CommonMark, `math` math spans; `task` says
     that the text begins a list item; `cm_lengths` and `cm_shortcut` follow CommonMark in two rules. `options` says all of it by bits instead.
-    `definitions` and `footnotes` are labels as they are written."""
+    `definitions` and `footnotes` are labels as they are written.
+
+    >>> print(*text('a'), sep='\\n')
+    Enter Data 1 1 0 0
+    Exit Data 1 2 1 0
+    """
     bytes_given = _arguments.text_of(document, 'document')
     given = _given(bytes_given, pieces, _bits(options, gfm, math, task, cm_lengths, cm_shortcut), definitions, footnotes)
     status, raw = _library.events('markdown_inline_text', given)
     if status:
         raise _raised(status)
-    return _events(_characters(document, bytes_given), raw)
+    return Events(raw, _characters(document, bytes_given))
 
 
-def string(document: Text, pieces: Pieces = None, *, options: Optional[int] = None) -> List[Event]:
+def string(document: Text, pieces: Pieces = None, *, options: Optional[int] = None) -> Events:
     """The events of a string: of escapes, character references and data."""
     bytes_given = _arguments.text_of(document, 'document')
     given = _given(bytes_given, pieces, _tables.COMMONMARK if options is None else _arguments.bits_of(options), (), ())
     status, raw = _library.events('markdown_inline_string', given)
     if status:
         raise _raised(status)
-    return _events(_characters(document, bytes_given), raw)
+    return Events(raw, _characters(document, bytes_given))
 
 
-def leaves(document: Text, pieces: Pieces = None, gfm: bool = True, math: bool = False, *, task: bool = False, cm_lengths: bool = False,
-           cm_shortcut: bool = False, options: Optional[int] = None, definitions: Iterable[Text] = (), footnotes: Iterable[Text] = ()) -> List[Leaf]:
+def leaves(document: Text, pieces: Pieces = None, gfm: bool = False, math: bool = False, *, task: bool = False, cm_lengths: bool = False,
+           cm_shortcut: bool = False, options: Optional[int] = None, definitions: Iterable[Text] = (), footnotes: Iterable[Text] = ()) -> Leaves:
     """The leaves of a text, in order: together they cover the pieces. What is asked for is said as of `text`.
 
     >>> [leaf.content for leaf in leaves('a *b*')]
@@ -234,11 +160,11 @@ def leaves(document: Text, pieces: Pieces = None, gfm: bool = True, math: bool =
     status, raw = _library.leaves(given)
     if status:
         raise _raised(status)
-    return _leaves(_characters(document, bytes_given), bytes_given, raw)
+    return Leaves(raw, _characters(document, bytes_given), bytes_given)
 
 
-def texts(document: Text, contents: Iterable[Content], gfm: bool = True, math: bool = False, *, cm_lengths: bool = False, cm_shortcut: bool = False,
-          options: Optional[int] = None, definitions: Iterable[Text] = (), footnotes: Iterable[Text] = ()) -> List[List[Event]]:
+def texts(document: Text, contents: Iterable[Content], gfm: bool = False, math: bool = False, *, cm_lengths: bool = False, cm_shortcut: bool = False,
+          options: Optional[int] = None, definitions: Iterable[Text] = (), footnotes: Iterable[Text] = ()) -> Texts:
     """The events of many contents of a document as texts, of each by itself. The document is prepared once, and each content costs what it costs by
     itself, wherever it stands. What is asked for is said as of `text`, but for what begins a list item: that each content says."""
     bytes_given = _arguments.text_of(document, 'document')
@@ -246,14 +172,13 @@ def texts(document: Text, contents: Iterable[Content], gfm: bool = True, math: b
     given = _library.Given(
         bytes_given, pieces, _bits(options, gfm, math, False, cm_lengths, cm_shortcut), _arguments.labels_of(definitions, 'definitions'),
         _arguments.labels_of(footnotes, 'footnotes'))
-    status, raw, ends = _library.texts(given, listed, count)
+    status, raw, bounds = _library.texts(given, listed, count)
     if status:
         raise _raised(status)
-    characters, starts = _characters(document, bytes_given), [0, *ends]
-    return [_events(characters, raw[start * _library.EVENT_SIZE:end * _library.EVENT_SIZE]) for start, end in zip(starts, ends)]
+    return Texts(raw, bounds, _characters(document, bytes_given))
 
 
-def html(document: Text, pieces: Pieces = None, gfm: bool = True, math: bool = False, *, task: bool = False, cm_lengths: bool = False,
+def html(document: Text, pieces: Pieces = None, gfm: bool = False, math: bool = False, *, task: bool = False, cm_lengths: bool = False,
          cm_shortcut: bool = False, options: Optional[int] = None, definitions: Optional[Mapping[Text, Target]] = None, footnotes: Iterable[Text] = (),
          raw_html: bool = False, any_link: bool = False) -> str:
     """The HTML of a text. `definitions` has for each label, as it is written, its destination, or the destination and a title, with escapes and

@@ -1,11 +1,17 @@
-"""Prints the events of standard input as the program mdinline does, with the same words and the same statuses."""
+"""Prints what stands on standard input, which is one paragraph: its events as the program mdinline does, with the same words and the same statuses; or
+its tree, its HTML or its links."""
 import os
 import sys
 
-from . import DefinitionError, Error, OPTIONS, TooLong, string, text
-from . import _tables
+from . import Error, Events, OPTIONS, TooLong, html, identifier, string, text
+from . import _program, _tables
 
-USAGE = 'usage: python -m markdown_inline text|string [gfm] [math] [task] [cm-lengths] [cm-shortcut] [label=TEXT].. [note=TEXT]..'
+USAGE = '''usage: python -m markdown_inline text|string [WORD]..        the events
+       python -m markdown_inline --tree [text|string] [WORD]..  what stands in what, with its text
+       python -m markdown_inline --html [text] [WORD]..         the HTML
+       python -m markdown_inline --links [text] [WORD]..        where links lead
+words: gfm math task cm-lengths cm-shortcut note=TEXT; of events and the tree label=TEXT; of HTML and links define=LABEL to=DESTINATION [title=TEXT];
+       of HTML raw any-link'''
 SWITCHES = {
     'gfm': _tables.GFM, 'math': _tables.MATH, 'task': OPTIONS['first_of_item'], 'cm-lengths': OPTIONS['attention_first_lengths'],
     'cm-shortcut': OPTIONS['label_shortcut_before_bracket'],
@@ -22,6 +28,70 @@ class Fault(Exception):
         self.status = status
 
 
+class Asked:
+    """What the words ask for."""
+
+    def __init__(self, words):
+        self.how, self.reads, self.options, self.html = '', '', _tables.COMMONMARK, {'raw_html': False, 'any_link': False}
+        self.labels, self.notes, self.targets = [], [], []
+        words = list(words)
+        if words and words[0] in ('--tree', '--html', '--links'):
+            self.how = words.pop(0)
+            self.reads = 'text'
+        if words and (words[0] == 'text' or words[0] == 'string' and self.how in ('', '--tree')):
+            self.reads = words.pop(0)
+        if not self.reads or not all([self.take(it) for it in words]) or any(it[1] is None for it in self.targets):
+            raise Fault(USAGE_STATUS, USAGE)
+
+    def take(self, word):
+        """Takes a word, and answers whether it is known and stands where it may."""
+        name, sign, words = word.partition('=')
+        if not sign:
+            switch = name.replace('raw', 'raw_html').replace('-', '_')
+            if self.how == '--html' and switch in self.html:
+                self.html[switch] = True
+                return True
+            self.options |= SWITCHES.get(name, 0)
+            return name in SWITCHES
+        return self.take_text(name, os.fsencode(words))
+
+    def take_text(self, name, words):
+        words.decode()
+        leads = self.how in ('--html', '--links')
+        if name == 'note':
+            self.notes.append(words)
+        elif name == 'label' and not leads:
+            self.labels.append(words)
+        elif name == 'define' and leads:
+            self.targets.append([words, None, None])
+        elif name == 'to' and self.targets and self.targets[-1][1] is None:
+            self.targets[-1][1] = words
+        elif name == 'title' and self.targets and self.targets[-1][1] is not None and self.targets[-1][2] is None:
+            self.targets[-1][2] = words
+        else:
+            return False
+        return True
+
+    def events(self, given) -> Events:
+        if self.reads == 'string':
+            return string(given, options=self.options)
+        return text(given, options=self.options, definitions=self.labels + [it[0] for it in self.targets], footnotes=self.notes)
+
+    def output(self, given):
+        """What is printed of a document."""
+        if self.how == '--html':
+            # Of two definitions of a label the library takes the first, but of two that are written alike a dict has the last.
+            defined = {label: (destination, title) for label, destination, title in self.targets[::-1]}
+            defined = {label: defined[label] for label, _, _ in self.targets}
+            return html(given, options=self.options, footnotes=self.notes, definitions=defined, **self.html) + '\n'
+        if self.how == '--links':
+            targets = {identifier(label): (to.decode(), (title or b'').decode()) for label, to, title in self.targets[::-1]}
+            found = _program.links(self.events(given), given, targets)
+        else:
+            found = _program.tree(self.events(given), given) if self.how else _program.lines(self.events(given))
+        return ''.join(it + '\n' for it in found)
+
+
 def read_all():
     """What stands on standard input, without one final line ending."""
     try:
@@ -35,35 +105,22 @@ def read_all():
     return given
 
 
-def write_all(lines):
+def write_all(words):
     """Writes to standard output. A part that was written is not taken back."""
     try:
         with open(1, 'wb', closefd=False) as file:
-            file.write(lines.encode())
+            file.write(words.encode())
     except OSError:
         raise Fault(FAILED, 'write failed') from None
 
 
-def events_of(words, given):
-    """The events that the words ask for."""
-    options = _tables.COMMONMARK
-    for word in words[1:]:
-        options |= SWITCHES.get(word, 0)
-    if words[0] == 'string':
-        return string(given, options=options)
-    labels = [os.fsencode(it) for it in words[1:]]
-    return text(given, options=options, definitions=[it[6:] for it in labels if it.startswith(b'label=')],
-                footnotes=[it[5:] for it in labels if it.startswith(b'note=')])
-
-
 def run(words):
-    if not words or words[0] not in ('text', 'string') or not all(it in SWITCHES or it.startswith(('label=', 'note=')) for it in words[1:]):
-        raise Fault(USAGE_STATUS, USAGE)
-    write_all(''.join(str(event) + '\n' for event in events_of(words, read_all())))
+    asked = Asked(words)
+    write_all(asked.output(read_all()))
 
 
 def main(words):
-    """Runs the program: its status, after one line on standard error where that is not 0."""
+    """Runs the program: its status, after words on standard error where that is not 0."""
     try:
         run(words)
         return 0
@@ -71,14 +128,14 @@ def main(words):
         status, said = fault.status, fault
     except MemoryError:
         status, said = NO_MEMORY, _tables.STATUSES[NO_MEMORY]
-    except DefinitionError:
-        status, said = USAGE_STATUS, 'a label is not UTF-8'
+    except UnicodeDecodeError:
+        status, said = USAGE_STATUS, 'a word is not UTF-8'
     except TooLong as error:
         status, said = FAILED, error
     except Error as error:
         status, said = error.status, error
     try:
-        os.write(2, ('markdown_inline: %s\n' % said).encode())
+        os.write(2, ('%s\n' % said if status == USAGE_STATUS and str(said) == USAGE else 'markdown_inline: %s\n' % said).encode())
     except OSError:
         pass
     return status

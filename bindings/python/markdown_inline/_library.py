@@ -5,11 +5,11 @@ import os
 from array import array
 
 from . import _arguments
+from ._events import EVENT, LEAF
 
 VERSION = 1
 DONE, TOO_SMALL = 0, 6
-EVENT_SIZE, LEAF_SIZE = 56, 96
-NONE = 2 ** 64 - 1
+EVENT_SIZE, LEAF_SIZE = EVENT.size, LEAF.size
 SHARED = 'libmarkdown_inline.so'
 #: How many bytes an array has that is lent again, and how many such arrays are kept for all threads together.
 KEPT_SIZE, KEPT = 1 << 18, 8
@@ -137,12 +137,13 @@ def decoded(name, text):
 
 
 def texts(given, contents, count):
-    """Calls for this many contents, as they cross: the status, the events' bytes, and where the events of each end."""
-    at, ends = ctypes.byref(given.input), array('Q', bytes(8 * count))
-    ends_at = ends.buffer_info()[0]
+    """Calls for this many contents, as they cross: the status, the events' bytes, and with which event each content begins, with how many there are
+    behind."""
+    at, bounds = ctypes.byref(given.input), array('Q', bytes(8 * (count + 1)))
+    ends_at = bounds.buffer_info()[0] + bounds.itemsize
     status, found = filled(
         lambda lent, room, written: LIBRARY.markdown_inline_texts(at, contents, count, lent, room, ends_at, count, written), EVENT_SIZE, _events_room(given))
-    return status, found, ends
+    return status, found, bounds
 
 
 def html(given, targets, count, options):

@@ -1,0 +1,252 @@
+"""What the calls answer: events and leaves, which are made of the library's bytes when they are looked at."""
+import operator
+import struct
+from array import array
+from collections.abc import Sequence
+from itertools import accumulate
+from typing import Iterator, List, NamedTuple, Optional, Tuple
+
+from ._names import Kind, Name
+
+EVENT = struct.Struct('=BBB5x6Q')
+LEAF = struct.Struct('=B7x11Q')
+_FLAT = struct.Struct('=BB22xQ24x')
+_NONE = 2 ** 64 - 1
+_KINDS, _NAMES = tuple(Kind), tuple(Name)
+_CONTENTS = (None, 'String', 'Text')
+# Bytes that go on with a character, in UTF-8.
+_CONTINUED = bytes(range(0x80, 0xc0))
+_STRIDE = 1024
+_new = tuple.__new__
+
+
+class Link(NamedTuple):
+    """A chain of what is to be read again, as 'String' or as 'Text': the numbers of the events before and after."""
+    content: str
+    previous: Optional[int]
+    next: Optional[int]
+
+
+class Event(NamedTuple):
+    """The beginning or the end of something. `line` and `column` count from 1; `index` is the byte, from 0, and `vs` how many columns of the tab
+    there come before. `character` is the index in the document's characters where it was given as a `str`."""
+    kind: Kind
+    name: Name
+    line: int
+    column: int
+    index: int
+    vs: int
+    link: Optional[Link]
+    character: Optional[int]
+
+    def __str__(self) -> str:
+        """The line that the program `mdinline` prints."""
+        line = '%s %s %d %d %d %d' % self[:6]
+        if self.link is not None:
+            line += ' link %s %s %s' % (self.link.content, *('-' if number is None else number for number in self.link[1:]))
+        return line
+
+
+class Leaf(NamedTuple):
+    """An event with no other inside it, from where it begins to where it ends, and what stands there: `content`, in bytes of the document, between
+    `before` and `after` virtual spaces of tabs. `character` and `end_character` are the indexes in the document's characters where it was given as a
+    `str`. A leaf may have no content, as the text between the brackets of `[](b)`."""
+    name: Name
+    line: int
+    column: int
+    index: int
+    vs: int
+    end_line: int
+    end_column: int
+    end_index: int
+    end_vs: int
+    before: int
+    content: bytes
+    after: int
+    character: Optional[int]
+    end_character: Optional[int]
+
+
+class Characters:
+    """Counts the characters of a document before its bytes. It goes on from the last byte that it was asked for, where that is near, and else from
+    the last mark: how many characters come before every so many bytes is counted once, at the first such need. Each step is one assignment, so
+    several threads may ask."""
+    __slots__ = ('_document', '_is_ascii', '_last', '_marks')
+
+    def __init__(self, document: bytes) -> None:
+        self._document, self._is_ascii, self._last, self._marks = document, document.isascii(), (0, 0), None
+
+    def __reduce__(self):
+        return Characters, (self._document,)
+
+    def _marked(self) -> list:
+        if self._marks is None:
+            document = self._document
+            counts = (len(document[at:at + _STRIDE].translate(None, _CONTINUED)) for at in range(0, len(document), _STRIDE))
+            self._marks = list(accumulate(counts, initial=0))
+        return self._marks
+
+    def before(self, index: int) -> int:
+        if self._is_ascii:
+            return index
+        start, count = self._last
+        if not start <= index <= start + _STRIDE:
+            start, count = index - index % _STRIDE, self._marked()[index // _STRIDE]
+        count += len(self._document[start:index].translate(None, _CONTINUED))
+        self._last = index, count
+        return count
+
+
+class _Rows(Sequence):
+    """Rows of the library's bytes, each of which is made into what it says when it is looked at."""
+    __slots__ = ('_raw', '_characters', '_document')
+    _ROW = EVENT
+
+    def __init__(self, raw: bytes, characters: Optional[Characters], document: bytes = b'') -> None:
+        """`characters` counts those of the document, if it was given as a `str`. Leaves need its bytes too."""
+        self._raw, self._characters, self._document = raw, characters, document
+
+    def _made(self, row):
+        raise NotImplementedError
+
+    def __len__(self) -> int:
+        return len(self._raw) // self._ROW.size
+
+    def __getitem__(self, at):
+        size = self._ROW.size
+        if isinstance(at, slice):
+            raw = b''.join([self._raw[it * size:(it + 1) * size] for it in range(*at.indices(len(self)))])
+            return type(self)(raw, self._characters, self._document)
+        number = operator.index(at)
+        if number < 0:
+            number += len(self)
+        if not 0 <= number < len(self):
+            raise IndexError('there are %d, and none has this number' % len(self))
+        return self._made(self._ROW.unpack_from(self._raw, number * size))
+
+    def __iter__(self):
+        return map(self._made, self._ROW.iter_unpack(self._raw))
+
+    def __eq__(self, other: object) -> bool:
+        if isinstance(other, type(self)) and self._raw == other._raw and self._characters is other._characters and self._document == other._document:
+            return True
+        if not isinstance(other, (list, _Rows)):
+            return NotImplemented
+        return len(self) == len(other) and all(map(operator.eq, self, other))
+
+    __hash__ = None
+
+    def __repr__(self) -> str:
+        return repr(list(self))
+
+    def __reduce__(self):
+        return type(self), (self._raw, self._characters, self._document)
+
+
+class Events(_Rows):
+    """The events of a text or of a string: a sequence of `Event`s, each of which is made when it is looked at. It is equal to a list of the same
+    events, and cannot be changed. Numbers in an event's link count in the whole answer, and not in a slice of it.
+
+    >>> events = text('a *b*')
+    >>> len(events), str(events[2])
+    (12, 'Enter Emphasis 1 3 2 0')
+    """
+    __slots__ = ()
+
+    def _made(self, row) -> Event:
+        kind, name, link, line, column, index, vs, previous, after = row
+        chain = None
+        if link:
+            chain = Link(_CONTENTS[link], None if previous == _NONE else previous, None if after == _NONE else after)
+        characters = self._characters
+        place = None if characters is None else characters.before(index)
+        return _new(Event, (_KINDS[kind], _NAMES[name], line, column, index, vs, chain, place))
+
+    def flat(self) -> Iterator[Tuple[int, int, int]]:
+        """The kind, the name and the byte of each event, as plain numbers: much faster than events. `Kind` and `Name` have what the numbers mean.
+
+        >>> list(text('a').flat()) == [(Kind.Enter, Name.Data, 0), (Kind.Exit, Name.Data, 1)]
+        True
+        """
+        return _FLAT.iter_unpack(self._raw)
+
+    def spans(self) -> Iterator[Tuple[int, int, int, int]]:
+        """The name of each thing that begins and ends here, the byte at which it begins, the byte before which it ends, and how many others it
+        stands in, as plain numbers, in the order in which they begin. A slice in which something only begins or only ends has no spans: ValueError.
+
+        >>> [(str(Name(name)), start, end, depth) for name, start, end, depth in text('a *b*').spans()][:2]
+        [('Data', 0, 2, 0), ('Emphasis', 2, 5, 0)]
+        """
+        spans: List[Tuple[int, int, int, int]] = []
+        opened: List[int] = []
+        for kind, name, byte in _FLAT.iter_unpack(self._raw):
+            if kind == 0:
+                opened.append(len(spans))
+                spans.append((name, byte, byte, len(opened) - 1))
+            elif opened:
+                at = opened.pop()
+                spans[at] = (name, spans[at][1], byte, len(opened))
+            else:
+                raise ValueError('something ends here that does not begin here')
+        if opened:
+            raise ValueError('something begins here that does not end here')
+        return iter(spans)
+
+
+class Leaves(_Rows):
+    """The leaves of a text: a sequence of `Leaf`s, each of which is made when it is looked at. It is equal to a list of the same leaves, and cannot
+    be changed."""
+    __slots__ = ()
+    _ROW = LEAF
+
+    def _made(self, row) -> Leaf:
+        name, line, column, index, vs, end_line, end_column, end, end_vs, before, length, after = row
+        first, characters = index + (vs > 0), self._characters
+        places = (None, None) if characters is None else (characters.before(index), characters.before(end))
+        content = self._document[first:first + length]
+        return _new(Leaf, (_NAMES[name], line, column, index, vs, end_line, end_column, end, end_vs, before, content, after, *places))
+
+
+class Texts(Sequence):
+    """The events of many contents: a sequence with the `Events` of each, which are made when they are looked at. It is equal to a list of such
+    lists, and cannot be changed."""
+    __slots__ = ('_raw', '_bounds', '_characters')
+
+    def __init__(self, raw: bytes, bounds: array, characters: Optional[Characters]) -> None:
+        """`bounds` has the number of the event with which each content begins, and behind these how many events there are."""
+        self._raw, self._bounds, self._characters = raw, bounds, characters
+
+    def __len__(self) -> int:
+        return len(self._bounds) - 1
+
+    def _part(self, number: int) -> bytes:
+        return self._raw[self._bounds[number] * EVENT.size:self._bounds[number + 1] * EVENT.size]
+
+    def __getitem__(self, at):
+        if isinstance(at, slice):
+            parts = [self._part(it) for it in range(*at.indices(len(self)))]
+            bounds = array('Q', accumulate((len(it) // EVENT.size for it in parts), initial=0))
+            return Texts(b''.join(parts), bounds, self._characters)
+        number = operator.index(at)
+        if number < 0:
+            number += len(self)
+        if not 0 <= number < len(self):
+            raise IndexError('there are %d contents, and none has this number' % len(self))
+        return Events(self._part(number), self._characters)
+
+    def __iter__(self) -> Iterator[Events]:
+        for number in range(len(self)):
+            yield Events(self._part(number), self._characters)
+
+    def __eq__(self, other: object) -> bool:
+        if not isinstance(other, (list, Texts)):
+            return NotImplemented
+        return len(self) == len(other) and all(map(operator.eq, self, other))
+
+    __hash__ = None
+
+    def __repr__(self) -> str:
+        return repr(list(self))
+
+    def __reduce__(self):
+        return Texts, (self._raw, self._bounds, self._characters)
