@@ -129,7 +129,7 @@ class Calls(unittest.TestCase):
 
 
 # Each module of tests, with how many tests it has at least: where fewer are found, something is not run.
-MODULES = {'calls': 14, 'arguments': 14, 'events': 12, 'lent': 10, 'plugin': 7, 'program': 11}
+MODULES = {'calls': 14, 'arguments': 14, 'events': 12, 'install': 1, 'lent': 10, 'plugin': 7, 'program': 11}
 
 
 def main():
@@ -142,7 +142,9 @@ def main():
     result = unittest.TextTestRunner().run(suite)
     if result.testsRun < sum(MODULES.values()):
         missing.append('%d tests ran' % result.testsRun)
-    print('Python: %d tests' % result.testsRun)
+    for reason in sorted({reason for _, reason in result.skipped}):
+        print('bindings: %d tests skipped: %s' % (sum(reason == it for _, it in result.skipped), reason))
+    print('bindings: %d tests of Python' % (result.testsRun - len(result.skipped)))
     return '\n'.join(missing) or int(not result.wasSuccessful())
 
 

@@ -1,9 +1,22 @@
 #!/usr/bin/env python3
 """Reads cases of draw.py from standard input, and prints what the Python package finds in each: events as the program of crates/markdown_test_runs
-does, leaves, HTML in hexadecimal, or the events of each text; where there are none, why."""
-import sys
+does, leaves, HTML in hexadecimal, or the events of each text; where there are none, why.
 
-from markdown_inline import Content, Error, Kind, Piece, html, leaves, string, text, texts
+Where switches can say the options of a case, they do, and not its bits. Each other document is handed over as a `str`, and its characters are counted
+here too. The status is 1 where few cases come, or few of a kind, so that what tests nothing does not pass."""
+import collections
+import sys
+from itertools import accumulate
+
+from markdown_inline import OPTIONS, Content, Error, Kind, Piece, _tables, html, leaves, string, text, texts
+
+SWITCHES = {
+    'gfm': _tables.GFM, 'math': _tables.MATH, 'task': OPTIONS['first_of_item'], 'cm_lengths': OPTIONS['attention_first_lengths'],
+    'cm_shortcut': OPTIONS['label_shortcut_before_bracket'],
+}
+# How many cases come at least in all, of each kind, and by switches. A file has kinds of one of these rows.
+LEAST, KINDS = 600, ({'text': 400, 'string': 40}, {'leaves': 300, 'html': 300, 'texts': 60})
+seen = collections.Counter()
 
 
 def piece(word):
@@ -15,16 +28,34 @@ def listed(word):
     return [] if word == '-' else word.split(',')
 
 
-def shown(event):
+class Places:
+    """How many characters stand before each byte of a document; none is to be counted where it is handed over as bytes."""
+
+    def __init__(self, document, is_text):
+        self.counts = list(accumulate((byte & 0xc0 != 0x80 for byte in document), initial=0)) if is_text else None
+
+    def check(self, index, character):
+        if character != (self.counts[index] if self.counts else None):
+            raise AssertionError('byte %d is character %s' % (index, character))
+
+
+def shown(event, places):
+    places.check(event.index, event.character)
     link = ''
     if event.link:
         link = ':%s:%s:%s' % (event.link.content, *('-' if number is None else number for number in event.link[1:]))
     return ' %s%s %d:%d:%d:%d%s' % ('+' if event.kind == Kind.Enter else '-', event.name, event.line, event.column, event.index, event.vs, link)
 
 
-def shown_leaf(leaf):
-    places = (leaf.line, leaf.column, leaf.index, leaf.vs, leaf.end_line, leaf.end_column, leaf.end_index, leaf.end_vs)
-    return ' %s %d:%d:%d:%d %d:%d:%d:%d' % (leaf.name, *places) + ' %d:%s:%d' % (leaf.before, leaf.content.hex(), leaf.after)
+def shown_leaf(leaf, places):
+    places.check(leaf.index, leaf.character)
+    places.check(leaf.end_index, leaf.end_character)
+    numbers = (leaf.line, leaf.column, leaf.index, leaf.vs, leaf.end_line, leaf.end_column, leaf.end_index, leaf.end_vs)
+    return ' %s %d:%d:%d:%d %d:%d:%d:%d' % (leaf.name, *numbers) + ' %d:%s:%d' % (leaf.before, leaf.content.hex(), leaf.after)
+
+
+def all_shown(events, places):
+    return ''.join(shown(it, places) for it in events)
 
 
 def target(word):
@@ -38,29 +69,49 @@ def content(word, spans):
     return Content(spans[first:last], is_first == '1')
 
 
-def found(how, document, spans, asked, labels, rest):
+def asked(bits, how):
+    """The switches that say these bits, or else the bits."""
+    words = {name: True for name, its_bits in SWITCHES.items() if bits & its_bits == its_bits}
+    if how == 'string' or _tables.COMMONMARK | sum(SWITCHES[it] for it in words) != bits:
+        return {'options': bits}
+    seen['by switches'] += 1
+    return words
+
+
+def found(how, document, spans, given, places, labels, rest):
     if how == 'string':
-        return ''.join(map(shown, string(document, spans, options=asked['options'])))
+        return all_shown(string(document, spans, options=given['options']), places)
     if how == 'text':
-        return ''.join(map(shown, text(document, spans, definitions=labels, **asked)))
+        return all_shown(text(document, spans, definitions=labels, **given), places)
     if how == 'leaves':
-        return ''.join(map(shown_leaf, leaves(document, spans, definitions=labels, **asked)))
+        return ''.join(shown_leaf(it, places) for it in leaves(document, spans, definitions=labels, **given))
     if how == 'html':
         defined, bits = dict(zip(labels, map(target, listed(rest[1])))), int(rest[0])
-        return ' ' + html(document, spans, definitions=defined, raw_html=bool(bits & 1), any_link=bool(bits & 2), **asked).encode().hex()
+        return ' ' + html(document, spans, definitions=defined, raw_html=bool(bits & 1), any_link=bool(bits & 2), **given).encode().hex()
     contents = [content(it, spans) for it in listed(rest[0])]
-    return ''.join(' |' + ''.join(map(shown, it)) for it in texts(document, contents, definitions=labels, **asked))
+    return ''.join(' |' + all_shown(it, places) for it in texts(document, contents, definitions=labels, **given))
 
 
-def answer(line):
+def answer(number, line):
     how, bits, pieces, labels, notes, document, *rest = line.split()
-    given, spans = bytes.fromhex(document.replace('-', '')), [piece(it) for it in listed(pieces)]
+    seen[how] += 1
+    document, spans = bytes.fromhex(document.replace('-', '')), [piece(it) for it in listed(pieces)]
     defined, noted = ([bytes.fromhex(it) for it in listed(word)] for word in (labels, notes))
+    given, places = {**asked(int(bits), how), 'footnotes': noted}, Places(document, number % 2)
     try:
-        return how + found(how, given, spans, {'options': int(bits), 'footnotes': noted}, defined, rest)
+        return how + found(how, document.decode() if number % 2 else document, spans, given, places, defined, rest)
     except Error as error:
         return how + {'string': ' no content', 'text': ' no text'}.get(how, ': ' + str(error))
 
 
-for case in sys.stdin:
-    print(answer(case))
+def too_few():
+    """What of the cases came too seldom."""
+    switched = seen.pop('by switches', 0)
+    least = next((it for it in KINDS if set(it) == set(seen)), None)
+    if least is None or sum(seen.values()) < LEAST or switched < LEAST // 6 or any(seen[it] < count for it, count in least.items()):
+        return 'too few cases: %s, and %d by switches' % (dict(seen), switched)
+
+
+for number, line in enumerate(sys.stdin):
+    print(answer(number, line))
+sys.exit(too_few())

@@ -100,14 +100,17 @@ def _characters(document: Text, bytes_given: bytes) -> Optional[Characters]:
     return Characters(bytes_given) if isinstance(document, str) else None
 
 
+_GFM, _MATH, _TASK = _tables.GFM, _tables.MATH, _tables.OPTIONS['first_of_item']
+_LENGTHS, _SHORTCUT = _tables.OPTIONS['attention_first_lengths'], _tables.OPTIONS['label_shortcut_before_bracket']
+
+
 def _bits(options: Optional[int], gfm: bool, math: bool, task: bool, cm_lengths: bool, cm_shortcut: bool) -> int:
+    if options is None and gfm is math is task is cm_lengths is cm_shortcut is False:
+        return _tables.COMMONMARK
     bits = _tables.COMMONMARK
     for given, what, its_bits in (
-        (gfm, 'gfm', _tables.GFM), (math, 'math', _tables.MATH), (task, 'task', _tables.OPTIONS['first_of_item']),
-        (cm_lengths, 'cm_lengths', _tables.OPTIONS['attention_first_lengths']),
-        (cm_shortcut, 'cm_shortcut', _tables.OPTIONS['label_shortcut_before_bracket']),
-    ):
-        if given is not False and _arguments.flag_of(given, what):
+            (gfm, 'gfm', _GFM), (math, 'math', _MATH), (task, 'task', _TASK), (cm_lengths, 'cm_lengths', _LENGTHS), (cm_shortcut, 'cm_shortcut', _SHORTCUT)):
+        if _arguments.flag_of(given, what):
             bits |= its_bits
             if options is not None:
                 raise TypeError('options says all by bits, so %s cannot be asked for beside it' % what)

@@ -8,6 +8,7 @@ from itertools import accumulate
 
 _TARGET = struct.Struct('=4QI4x')
 _CONTENT = struct.Struct('=2QI4x')
+_NO_NUMBERS = array('Q')
 _BUFFERS = (bytes, bytearray, memoryview)
 _NO_PIECES = (str, range) + _BUFFERS
 
@@ -65,6 +66,8 @@ def _several(given, what, one):
 
 def labels_of(given, what):
     """The bytes of each label."""
+    if type(given) is tuple and not given:
+        return []
     return [text_of(it, 'a label of ' + what) for it in _several(given, what, 'label')]
 
 
@@ -128,6 +131,8 @@ def contents_of(given):
 
 def ranges_of(labels, start):
     """Where each label stands, of labels that follow one another from an index, and where the last one ends."""
+    if not labels:
+        return _NO_NUMBERS, start
     ends = list(accumulate(map(len, labels), initial=start))
     numbers = array('Q', bytes(16 * len(labels)))
     numbers[::2], numbers[1::2] = array('Q', ends[:-1]), array('Q', ends[1:])

@@ -41,6 +41,8 @@ class Given:
 
     def covered(self):
         """How many bytes the pieces have; where they are no pieces of the document, some number up to the document's length."""
+        if len(self.pieces) == 4:
+            return max(0, min(len(self.bytes), self.pieces[2] - self.pieces[0]))
         return max(0, min(len(self.bytes), sum(self.pieces[2::4]) - sum(self.pieces[::4])))
 
 

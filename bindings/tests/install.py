@@ -1,0 +1,26 @@
+"""pip makes a package of bindings/python that works by itself. Without pip or wheel it cannot be tried."""
+import importlib.util
+import os
+import subprocess
+import sys
+import tempfile
+import unittest
+
+HERE = os.path.dirname(os.path.abspath(__file__))
+PROJECT = os.path.join(HERE, '..', 'python')
+
+
+@unittest.skipUnless(all(map(importlib.util.find_spec, ('pip', 'setuptools', 'wheel'))), 'pip or wheel is not there')
+class Install(unittest.TestCase):
+    def test_a_package_that_is_installed(self):
+        before = sorted(os.listdir(PROJECT))
+        with tempfile.TemporaryDirectory() as room:
+            words = ['install', '--quiet', '--no-index', '--no-deps', '--no-build-isolation', '--disable-pip-version-check', '--no-warn-script-location', '--target', room]
+            made = subprocess.run([sys.executable, '-m', 'pip', *words, PROJECT], stdout=subprocess.PIPE, stderr=subprocess.STDOUT, timeout=300)
+            self.assertEqual(made.returncode, 0, made.stdout.decode())
+            environment = {name: it for name, it in os.environ.items() if name != 'MARKDOWN_INLINE_LIBRARY'}
+            environment['PYTHONPATH'] = room
+            code = 'import markdown_inline as m; print(m.__file__); print(*m.text("a"), sep="\\n")'
+            found = subprocess.run([sys.executable, '-c', code], stdout=subprocess.PIPE, cwd=room, env=environment, check=True, timeout=60).stdout.decode()
+            self.assertEqual(found.splitlines(), [os.path.join(room, 'markdown_inline', '__init__.py'), 'Enter Data 1 1 0 0', 'Exit Data 1 2 1 0'])
+        self.assertEqual(sorted(os.listdir(PROJECT)), before)
