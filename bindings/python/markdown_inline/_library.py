@@ -96,8 +96,9 @@ def _lend(size):
 
 def _give_back(lent):
     """Keeps an array for another call, if it is not large."""
-    if len(lent) == KEPT_SIZE and len(_free) < KEPT:
+    if len(lent) == KEPT_SIZE:
         _free.append(lent)
+        del _free[KEPT:]
 
 
 def filled(call, size, room):
