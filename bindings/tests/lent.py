@@ -1,6 +1,7 @@
 """The array that a call is lent belongs to that call: what runs meanwhile in the same thread or in another gets its own, and little is kept."""
 import ctypes
 import gc
+import mmap
 import signal
 import sys
 import threading
@@ -171,6 +172,30 @@ class Lent(unittest.TestCase):
             self.assertEqual([text(it) for it in documents], wanted)
         self.assertEqual([len(it) for it in wanted], [58, 64, 70])
         self.assertEqual(lengths, [64 * 56, 64 * 56, 64 * 56, 70 * 56])
+
+    def test_more_bytes_than_an_int_of_c_counts(self):
+        """The copy is asked for by a length of 64 bits; what stands there is not written, and so takes no memory of its own."""
+        length, asked = 2 ** 32 + 56, []
+
+        class View:
+            def __init__(self, lent):
+                asked.append(len(lent))
+
+            def __getitem__(self, part):
+                asked.append(part)
+                return self
+
+            def tobytes(self):
+                return b'all'
+
+        def call(lent, room, count):
+            count._obj.value = room
+            return _library.DONE
+
+        with mock.patch.object(_library, '_lend', lambda _: (ctypes.c_char * length).from_buffer(mmap.mmap(-1, length))), \
+                mock.patch.object(_library, 'memoryview', View, create=True):
+            self.assertEqual(_library.filled(call, 56, length), (_library.DONE, b'all'))
+        self.assertEqual(asked, [length, slice(None, length // 56 * 56)])
 
     def test_a_library_that_never_has_room_enough(self):
         calls = []

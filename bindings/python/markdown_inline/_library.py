@@ -108,7 +108,8 @@ def filled(call, size, room):
     for _ in range(2):
         lent = _lend(room)
         status = call(lent, len(lent) // size, ctypes.byref(count))
-        found = ctypes.string_at(lent, count.value * size) if status == DONE else b''
+        # Not ctypes.string_at, which has a limit of 2 GB.
+        found = memoryview(lent)[:count.value * size].tobytes() if status == DONE else b''
         _give_back(lent)
         if status != TOO_SMALL:
             return status, found
