@@ -100,6 +100,18 @@ impl<'a> Input<'a> {
         self
     }
 
+    /// More definitions, each a label as it is written, where it leads, and perhaps a title.
+    #[must_use]
+    pub fn definitions_to<'t, L: AsRef<[u8]>, D: AsRef<[u8]>>(
+        mut self,
+        definitions: impl IntoIterator<Item = (L, D, Option<&'t str>)>,
+    ) -> Input<'a> {
+        for (label, destination, title) in definitions {
+            self.define_to(label, destination, title);
+        }
+        self
+    }
+
     /// One more footnote definition, by its label as it is written.
     #[must_use]
     pub fn footnote(mut self, label: impl AsRef<[u8]>) -> Input<'a> {

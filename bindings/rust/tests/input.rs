@@ -54,6 +54,16 @@ fn lists_and_loops_define_as_chains_do() {
 }
 
 #[test]
+fn a_list_of_definitions_says_where_each_leads() {
+    let list = [("a", "/b", None), ("C", "/d", Some("e"))];
+    let input = Input::new("[a] [c]").definitions_to(list);
+    assert_eq!(
+        input.html(HtmlOptions::default()).unwrap(),
+        "<a href=\"/b\">a</a> <a href=\"/d\" title=\"e\">c</a>"
+    );
+}
+
+#[test]
 fn pieces_are_set_again_and_again() {
     let document = "*a*\n\n`b`\n\nc";
     let mut input = Input::new(document);
