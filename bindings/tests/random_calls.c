@@ -116,8 +116,8 @@ typedef struct drawn {
     uint32_t options, html_options;
 } drawn;
 
-static const char *const PARTS[] = {"a", "bc", "\xc3\xa9", "\xe6\xbc\xa2", "\xf0\x9f\x98\x80", " ", "  ", "\t", "*", "**", "_", "~", "~~", "`", "``", "$", "$$", "[", "]", "![",
-    "](", ")", "(", "<", ">", "\"", "'", "\\", "&", ";", "!", "#", "@", ":", ".", "/", "[x] ", "[a]", "[^a]", "[b c][]", "[d](e \"f\")", "![g](<h i>)", "&amp;",
+static const char *const PARTS[] = {"a", "bc", "\xc3\xa9", "\xe6\xbc\xa2", "\xf0\x9f\x98\x80", " ", "  ", "\t", "*", "**", "_", "~", "~~", "`", "``", "$", "$$", "[", "]",
+    "![", "](", ")", "(", "<", ">", "\"", "'", "\\", "&", ";", "!", "#", "@", ":", ".", "/", "[x] ", "[a]", "[^a]", "[b c][]", "[d](e \"f\")", "![g](<h i>)", "&amp;",
     "&#65;", "&#x1f4a9;", "&copy;", "&nosuch;", "<https://j.k>", "<l@m.n>", "https://o.p/q", "www.r.s", "t@u.v", "<w x=\"y\">", "</z>", "<!-- c -->", "<?p?>",
     "\\*", "\\\n", "  \n", "\n", "\n", "\r\n", "\r", "*a*", "**b**", "_c_ ", "~d~", "`e f`", "$g$", "word ", "[d](\\*e&amp;f 'g\\*h&lt;')",
     "[a][b\\*c]", "[d](e \"f\ng\")", "[d](e (f\r\n&amp;g))"};
@@ -388,13 +388,20 @@ static uint32_t html_status(const drawn *it) {
 typedef enum which { IS_CONTENT, IS_TEXT, STRING, TEXT, LEAVES, TEXTS, HTML, IDENTIFIER, REFERENCE } which;
 static const char *const NAMES[] = {"is_content", "is_text", "string", "text", "leaves", "texts", "html", "identifier", "reference"};
 
+/* What a call finds. */
+typedef union answer {
+    uint8_t bytes[sizeof filled];
+    markdown_inline_event events[sizeof filled / sizeof(markdown_inline_event)];
+    markdown_inline_leaf leaves[sizeof filled / sizeof(markdown_inline_leaf)];
+} answer;
+
 /* What is lent of a case, the number of ends that a call may write, and what it found last. */
 static markdown_inline_input *input;
 static const markdown_inline_content *contents;
 static const markdown_inline_target *targets;
 static size_t ends_len, found_len;
 static size_t *ends, *count;
-static uint8_t found[sizeof filled];
+static answer found;
 static size_t found_ends[CONTENTS];
 
 static void lend_case(const drawn *it) {
@@ -450,7 +457,7 @@ static uint32_t called(which call, const drawn *it, size_t room, size_t room_of_
     int is_counted = call >= STRING && (status == MARKDOWN_INLINE_DONE || status == MARKDOWN_INLINE_TOO_SMALL);
     found_len = is_counted ? *count : 0;
     if (is_counted && status == MARKDOWN_INLINE_DONE) {
-        if (written) memcpy(found, array, written * each);
+        if (written) memcpy(found.bytes, array, written * each);
         if (written_ends) memcpy(found_ends, ends, written_ends * sizeof *ends);
     }
     return status;
@@ -458,7 +465,7 @@ static uint32_t called(which call, const drawn *it, size_t room, size_t room_of_
 
 /* Makes a call in each way, and compares what they answer. Answers whether it is done; then what it found stands in `found`. */
 static int is_done(which call, const drawn *it, uint32_t wanted) {
-    static uint8_t first[sizeof found];
+    static answer first;
     size_t each = size_of(call), needed_ends = call == TEXTS ? it->contents_len : 0;
     call_name = NAMES[call];
     uint32_t status = called(call, it, 0, 0);
@@ -473,9 +480,9 @@ static int is_done(which call, const drawn *it, uint32_t wanted) {
     if (needed > 0) want("too little room", called(call, it, one_in(2) ? needed - 1 : below(needed), needed_ends) == MARKDOWN_INLINE_TOO_SMALL && found_len == needed);
     if (needed_ends > 0) want("too little room for ends", called(call, it, needed, below(needed_ends)) == MARKDOWN_INLINE_TOO_SMALL && found_len == needed);
     want("enough room", called(call, it, needed, needed_ends) == MARKDOWN_INLINE_DONE && found_len == needed);
-    memcpy(first, found, needed * each);
+    memcpy(first.bytes, found.bytes, needed * each);
     want("more room", called(call, it, needed + below(4), needed_ends + below(3)) == MARKDOWN_INLINE_DONE && found_len == needed);
-    want("the same again", !memcmp(first, found, needed * each));
+    want("the same again", !memcmp(first.bytes, found.bytes, needed * each));
     return 1;
 }
 
@@ -517,9 +524,9 @@ static void look_at_leaves(const markdown_inline_event *events, size_t len, cons
 
 /* Each of many contents has the events of its own. */
 static void look_at_texts(const drawn *all) {
-    static uint8_t many[sizeof found];
+    static answer many;
     size_t starts[CONTENTS + 1] = {0}, len = all->contents_len;
-    memcpy(many, found, sizeof found);
+    many = found;
     memcpy(starts + 1, found_ends, len * sizeof *starts);
     for (size_t at = 0; at < len; at++) {
         drawn alone = *all;
@@ -530,9 +537,10 @@ static void look_at_texts(const drawn *all) {
         want("one of many is a text", called(TEXT, &alone, sizeof found / sizeof(markdown_inline_event), 0) == MARKDOWN_INLINE_DONE);
         want("ends are in order", starts[at + 1] >= starts[at] && starts[at + 1] - starts[at] == found_len);
         for (size_t event = 0; event < found_len && starts[at] + event < starts[at + 1]; event++) {
-            const markdown_inline_event *it = (const markdown_inline_event *)(const void *)found + event, *other = (const markdown_inline_event *)(const void *)many + starts[at] + event;
-            want("an event of one of many", it->kind == other->kind && it->name == other->name && it->link == other->link && it->index == other->index && it->vs == other->vs
-                    && it->line == other->line && it->column == other->column && it->previous == other->previous && it->next == other->next);
+            const markdown_inline_event *it = found.events + event, *other = many.events + starts[at] + event;
+            want("what an event of one of many is", it->kind == other->kind && it->name == other->name && it->link == other->link);
+            want("where an event of one of many is", it->index == other->index && it->vs == other->vs && it->line == other->line && it->column == other->column);
+            want("the chain of an event of one of many", it->previous == other->previous && it->next == other->next);
         }
     }
 }
@@ -558,7 +566,7 @@ static void try_bytes(drawn *it) {
     if (one_in(8)) it->labels_len = append(it->labels, it->labels_len, BROKEN[below(sizeof BROKEN / sizeof *BROKEN)]);
     lend_case(it);
     if (is_done(IDENTIFIER, it, is_utf8(it->labels, it->labels_len) ? MARKDOWN_INLINE_DONE : MARKDOWN_INLINE_NOT_UTF8))
-        want("an identifier is UTF-8", is_utf8(found, found_len) && (found_len == 0 || (found[0] != ' ' && found[found_len - 1] != ' ')));
+        want("an identifier is UTF-8", is_utf8(found.bytes, found_len) && (found_len == 0 || (found.bytes[0] != ' ' && found.bytes[found_len - 1] != ' ')));
     it->labels_len = one_in(6) ? 0 : append(it->labels, 0, one_in(3) ? "&" : "&#");
     for (size_t parts = below(4); parts > 0; parts--) it->labels_len = append(it->labels, it->labels_len, REFERENCES[below(sizeof REFERENCES / sizeof *REFERENCES)]);
     if (!one_in(6)) it->labels_len = append(it->labels, it->labels_len, ";");
@@ -570,23 +578,23 @@ static void try_bytes(drawn *it) {
         want("the status of a name", wanted == MARKDOWN_INLINE_NO_REFERENCE || wanted == MARKDOWN_INLINE_TOO_SMALL);
         wanted = wanted == MARKDOWN_INLINE_TOO_SMALL ? (uint32_t)MARKDOWN_INLINE_DONE : wanted;
     }
-    if (is_done(REFERENCE, it, wanted)) want("a reference stands for some UTF-8", found_len > 0 && found_len < 9 && is_utf8(found, found_len));
+    if (is_done(REFERENCE, it, wanted)) want("a reference stands for some UTF-8", found_len > 0 && found_len < 9 && is_utf8(found.bytes, found_len));
 }
 
 static void try_case(void) {
-    static markdown_inline_event events[sizeof found / sizeof(markdown_inline_event)];
+    static answer text;
     static drawn it;
     draw_case(&it);
     lend_case(&it);
     is_done(IS_CONTENT, &it, content_status(&it));
     is_done(IS_TEXT, &it, pieces_status(&it));
-    if (is_done(STRING, &it, string_status(&it))) look_at_events((const markdown_inline_event *)(const void *)found, found_len);
-    if (is_done(HTML, &it, html_status(&it))) want("HTML is UTF-8", is_utf8(found, found_len));
+    if (is_done(STRING, &it, string_status(&it))) look_at_events(found.events, found_len);
+    if (is_done(HTML, &it, html_status(&it))) want("HTML is UTF-8", is_utf8(found.bytes, found_len));
     if (is_done(TEXT, &it, text_status(&it))) {
         size_t len = found_len;
-        memcpy(events, found, len * sizeof *events);
-        look_at_events(events, len);
-        if (is_done(LEAVES, &it, MARKDOWN_INLINE_DONE)) look_at_leaves(events, len, (const markdown_inline_leaf *)(const void *)found, found_len);
+        text = found;
+        look_at_events(text.events, len);
+        if (is_done(LEAVES, &it, MARKDOWN_INLINE_DONE)) look_at_leaves(text.events, len, found.leaves, found_len);
     } else {
         is_done(LEAVES, &it, text_status(&it));
     }
