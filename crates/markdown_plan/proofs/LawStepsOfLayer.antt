@@ -1,7 +1,7 @@
 -- The steps of a state, where a layer says these words of the next one.
 use Rattle.std.proofs.Common.{if◌then◌else◌, ◌≡◌, ℕ, suc, ◌+◌, ◌*◌, ◌<◌, ◌≤◌, Bool, true, false, Some, None, List, [], ◌∷◌, length, drop, refl, sym, ap, subst, ◌∙◌, arith}
 use Rattle.markdown_engine_content.specs.Codes.{Code}
-use Rattle.markdown_engine.specs.Operations.{Op, Enter, Consume, moves, ahead, applied, attempted, done, frame_of, scratched, stays}
+use Rattle.markdown_engine.specs.Operations.{Op, Consume, moves, ahead, attempted, done, frame_of, scratched, stays}
 use Rattle.markdown_engine.specs.StateRuns.{Stepped, stepped, restored, ready_state, ends_state, weight_state}
 use Rattle.markdown_engine.specs.StateWords.{StateWords, Words, words_in, words_at, weight_in, GoesIn, end_words}
 use Rattle.markdown_engine.specs.Weights.{codes_left, weight_at}
@@ -15,9 +15,9 @@ use Rattle.markdown_engine.proofs.OperationFields.{attempts-scratched, left-scra
 use Rattle.markdown_engine.proofs.OperationLemmas.{attempts-done, left-done, scratch-done}
 use Rattle.markdown_plan.specs.LayerEquation.{AreLawful}
 use Rattle.markdown_plan.specs.Plan.{Plan, preceded, depth_after, DoesAs, KeepsAs}
-use Rattle.markdown_plan.specs.LateNames.{Naming, NamesAs, renamed, opened, under, preceded_by}
+use Rattle.markdown_plan.specs.LateNames.{Naming, NamesAs, renamed, under, preceded_by}
 use Rattle.markdown_plan.proofs.LateNameSteps as LateNameSteps
-use Rattle.markdown_plan.proofs.LateNameSteps.{DoesAs-entered, NamesAs-next, NamesAs-same, NamesAs-under, ahead-renamed, left-renamed}
+use Rattle.markdown_plan.proofs.LateNameSteps.{NamesAs-next, NamesAs-same, NamesAs-under, ahead-renamed, left-renamed}
 use Rattle.markdown_plan.proofs.PlanSteps as PlanSteps
 use Rattle.markdown_plan.proofs.PlanSteps.{DoesAs-then, kept}
 use Rattle.markdown_plan.proofs.RenameLemmas.{attempts-renamed}
@@ -162,18 +162,6 @@ module _ (W : Words) where
   Goes-no = PlanSteps.Goes-no W.ready W.ends (weight_in W)
 
   -- In a leaf whose name is settled at its end.
-
-  -- on with a state past the Enter of a leaf and its first code
-  pub Goes-entered : (k d : ℕ) (p : Plan) (q : Naming) (m : Name) (s r : TokenizeState) (T : Tokenizer) (st : State) {w : StateWords} →
-      words_at W st ≡ w → T.attempts ≡ [] → stays d (Consume ∷ []) ≡ true → 1 ≤ length (ahead T) → w.rank (scratched r (done (Enter m ∷ Consume ∷ []) T)) < 256 + k →
-      p (ahead T) ≡ opened (preceded_by (Consume ∷ []) (q (drop 1 (ahead T)))) →
-      w.ready (scratched r (done (Enter m ∷ Consume ∷ []) T)) →
-      ((ok : Bool) (U : Tokenizer) → w.ends (scratched r (done (Enter m ∷ Consume ∷ []) T)) ok U → NamesAs d q s (scratched r (done (Enter m ∷ Consume ∷ []) T)) ok U) →
-      GoesIn W (weight_at k T) (DoesAs d p s T) (stepped st (scratched r (done (Enter m ∷ Consume ∷ []) T)))
-  Goes-entered k d p q m s r T st {w} say alone st_ok within less e on closed =
-      let one : Naming = λ cs. preceded_by (Consume ∷ []) (q (drop 1 cs)) in
-      Goes-to k (DoesAs d p s T) (Enter m ∷ Consume ∷ []) r T T st {w = w} say alone refl within (omega (arith, less)) on
-      (λ ok U x. DoesAs-entered d p one m s T e ok U (NamesAs-next d one q s r (applied (Enter m) T) st_ok refl ok U (closed ok U x)))
 
   -- past a code of the leaf
   pub Goes-inside : (k d : ℕ) (p q : Naming) (s r : TokenizeState) (T : Tokenizer) (st : State) {w : StateWords} →
