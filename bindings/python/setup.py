@@ -1,17 +1,31 @@
-"""Builds the package with the library that bindings/build left in bindings/out, and with the header, which it reads. What comes up on the way stands
-there too."""
+"""Builds the package with the library inside, and with the header, which it reads. The library stands where MARKDOWN_INLINE_LIB_DIR says, else where
+bindings/build left it in the repository, else, for a source package, where pkg-config finds it."""
 import os
 import shutil
+import subprocess
 
 from setuptools import setup
 from setuptools.command.build_py import build_py
 from setuptools.dist import Distribution
 
 HERE = os.path.dirname(os.path.abspath(__file__))
-OUT = os.path.join(HERE, '..', 'out')
-BROUGHT = {
-    'libmarkdown_inline.so': os.path.join(OUT, 'lib', 'libmarkdown_inline.so.1'), 'markdown_inline.h': os.path.join(HERE, '..', 'c', 'markdown_inline.h'),
-}
+BINDINGS = os.path.dirname(HERE)
+HEADER = os.path.join(BINDINGS, 'c', 'markdown_inline.h')
+SHARED = 'libmarkdown_inline.so.1'
+# A source package stands by itself and has the header inside.
+IS_REPOSITORY = os.path.exists(HEADER)
+
+
+def folder_of_the_library():
+    """Where the shared library stands, or nothing."""
+    told = os.environ.get('MARKDOWN_INLINE_LIB_DIR')
+    if told or IS_REPOSITORY:
+        return told or os.path.join(BINDINGS, 'out', 'lib')
+    try:
+        ran = subprocess.run(['pkg-config', '--variable=libdir', 'markdown_inline'], stdin=subprocess.DEVNULL, stdout=subprocess.PIPE, stderr=subprocess.DEVNULL)
+    except OSError:
+        return None
+    return os.fsdecode(ran.stdout).rstrip('\n').replace('\\', '') or None
 
 
 class Build(build_py):
@@ -19,10 +33,15 @@ class Build(build_py):
 
     def run(self):
         super().run()
-        for name, place in BROUGHT.items():
-            if not os.path.exists(place):
-                raise SystemExit('%s is not there: run bindings/build first' % os.path.relpath(place, HERE))
-            shutil.copyfile(place, os.path.join(self.build_lib, 'markdown_inline', name))
+        folder = folder_of_the_library()
+        library = os.path.join(folder or '', SHARED)
+        if not folder or not os.path.exists(library):
+            what = 'run bindings/build first' if IS_REPOSITORY else 'set MARKDOWN_INLINE_LIB_DIR to its folder, or PKG_CONFIG_PATH to that of markdown_inline.pc'
+            raise SystemExit('%s is not there: %s' % (library, what))
+        package = os.path.join(self.build_lib, 'markdown_inline')
+        shutil.copyfile(library, os.path.join(package, 'libmarkdown_inline.so'))
+        if IS_REPOSITORY:
+            shutil.copyfile(HEADER, os.path.join(package, 'markdown_inline.h'))
 
 
 class Native(Distribution):
@@ -32,6 +51,13 @@ class Native(Distribution):
         return True
 
 
-ROOM = os.path.join(OUT, 'pip')
-os.makedirs(ROOM, exist_ok=True)
-setup(cmdclass={'build_py': Build}, distclass=Native, options={'build': {'build_base': ROOM}, 'egg_info': {'egg_base': ROOM}})
+def rooms():
+    """What comes up on the way stands in bindings/out, so that the repository stays as it is."""
+    if not IS_REPOSITORY:
+        return {}
+    room = os.path.join(BINDINGS, 'out', 'pip')
+    os.makedirs(room, exist_ok=True)
+    return {'build': {'build_base': room}, 'egg_info': {'egg_base': room}}
+
+
+setup(cmdclass={'build_py': Build}, distclass=Native, options=rooms())

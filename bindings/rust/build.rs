@@ -1,11 +1,12 @@
 //! Links the static library, and reads the names of events and the options in `markdown_inline.h`. The library stands where `MARKDOWN_INLINE_LIB_DIR` says, with
-//! the header in the folder `include` beside it; else where pkg-config finds both; else where `bindings/build` leaves them.
+//! the header in the folder `include` beside it; else in the folder `native` of the crate, as a release packs it; else where pkg-config finds both; else where
+//! `bindings/build` leaves them.
 
 use std::env;
 use std::fmt::Write;
 use std::fs;
 use std::path::{Path, PathBuf};
-use std::process::Command;
+use std::process::{exit, Command};
 
 /// Where the library and its header stand.
 struct Place {
@@ -56,12 +57,21 @@ fn installed() -> Option<Place> {
     Some(Place { lib, include }).filter(|place| place.archive().exists())
 }
 
+/// The library that a release packs into the crate: it is for one kind of machine.
+fn packed(here: &Path) -> Option<Place> {
+    let is_for_target = env::var("TARGET").is_ok_and(|target| target == "x86_64-unknown-linux-gnu");
+    Some(Place::of(here.join("native/lib")))
+        .filter(|place| is_for_target && place.archive().exists())
+}
+
 fn place() -> Place {
     if let Some(folder) = env::var_os("MARKDOWN_INLINE_LIB_DIR") {
         return Place::of(folder.into());
     }
     let here = PathBuf::from(env::var_os("CARGO_MANIFEST_DIR").unwrap_or_default());
-    installed().unwrap_or_else(|| Place::of(here.join("../out/lib")))
+    packed(&here)
+        .or_else(installed)
+        .unwrap_or_else(|| Place::of(here.join("../out/lib")))
 }
 
 /// What stands in a header of a list, from this line on: the doc of each row, and its words.
@@ -139,12 +149,13 @@ fn main() {
     let (archive, header) = (place.archive(), place.header());
     let text = fs::read_to_string(&header).unwrap_or_default();
     if text.is_empty() || !archive.exists() {
-        panic!(
-            "{} or {} is not there: run bindings/build of the repository, and perhaps bindings/install PREFIX and set PKG_CONFIG_PATH to PREFIX/lib/pkgconfig; \
-             or set MARKDOWN_INLINE_LIB_DIR to the folder of libmarkdown_inline.a",
+        eprintln!(
+            "{} or {} is not there: set MARKDOWN_INLINE_LIB_DIR to the folder of libmarkdown_inline.a, or PKG_CONFIG_PATH to that of markdown_inline.pc; \
+             bindings/build of the repository makes the library",
             archive.display(),
             header.display()
         );
+        exit(1);
     }
     println!("cargo:rustc-link-search=native={}", place.lib.display());
     println!("cargo:rustc-link-lib=static=markdown_inline");
