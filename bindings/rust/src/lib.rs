@@ -45,8 +45,9 @@
 //! The crate links the static library `libmarkdown_inline.a`, and reads names and options in `markdown_inline.h`, when it is built. They stand
 //!
 //! 1. where the variable `MARKDOWN_INLINE_LIB_DIR` says, which is the folder of the library; the header stands in the folder `include` beside it;
-//! 2. else where `pkg-config` finds `markdown_inline`, as `bindings/install PREFIX` leaves it: with `PKG_CONFIG_PATH=PREFIX/lib/pkgconfig`;
-//! 3. else where `bindings/build` leaves them in the repository.
+//! 2. else in the crate's folder `native`, where a release packs them for Linux with glibc on x86-64, and where `bindings/install PREFIX` leads to those of PREFIX;
+//! 3. else where `pkg-config` finds `markdown_inline`, as a package or `bindings/install PREFIX` leaves it: with `PKG_CONFIG_PATH=PREFIX/lib/pkgconfig`;
+//! 4. else where `bindings/build` leaves them in the repository.
 #![warn(missing_docs)]
 
 mod error;
