@@ -360,3 +360,30 @@ PATTERNS = [
         ('openings of all kinds, and `]` behind', around('', '*[<&_![<a b:~~[^www.&#http://a@', ']')),
     ]),
 ]
+
+# What ends a construct that stands open, and how long the patterns are made that are read as contents.
+ENDS = ('`', '$', '-->', '?>', ']]>', '>', '">', ')', '")', "')", '>)', ') )', '](b)', ']', '][a]', '*', '_')
+LENGTHS = (1, 8, 40, 200)
+# How many of the last bytes are left out of what is to stand open, at most.
+LEFT_OUT = 11
+
+
+def other_text(size):
+    """A text of so many bytes that is no content, since it has a blank line: to stand before contents of one document."""
+    line = 'words of another paragraph, and more of these\n'
+    return 'a\n \n' + line * (size // len(line)) + '\n'
+
+
+def contents(made, count):
+    """So many contents of a pattern, short and long: as it is, with its last bytes left out, so that what it ends stands open, and with an end behind;
+    and the definitions that they are read with."""
+    given = [made(length) for length in LENGTHS]
+    found = []
+    for number in range(count):
+        turn, text = number // len(LENGTHS), given[number % len(LENGTHS)].text
+        if turn % 3 == 1:
+            text = text[:max(1, len(text) - 1 - turn // 3 % LEFT_OUT)].rstrip('\n')
+        elif turn % 3 == 2:
+            text += ENDS[turn // 3 % len(ENDS)]
+        found.append(text)
+    return found, given[-1].definitions

@@ -151,10 +151,10 @@ def peak(program, given):
     return max(held(given) - held(Empty()), 0)
 
 
-def seconds_of(program, given):
-    """The seconds of processor time that a run takes."""
+def seconds_of(program, given, most=None):
+    """The seconds of processor time that a run takes, which may take so many in all."""
     before = resource.getrusage(resource.RUSAGE_CHILDREN)
-    subprocess.run(program.call(given), input=program.bytes_of(given), stdout=subprocess.DEVNULL, check=True)
+    subprocess.run(program.call(given), input=program.bytes_of(given), stdout=subprocess.DEVNULL, check=True, timeout=most)
     after = resource.getrusage(resource.RUSAGE_CHILDREN)
     return after.ru_utime + after.ru_stime - before.ru_utime - before.ru_stime
 

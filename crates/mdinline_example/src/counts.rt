@@ -2,8 +2,8 @@
 //
 // A content is what stands between two line endings in a row and two others. A word says how they are read: `run`, as pieces of one document by
 // `run::is_text` and `run::text`; `documents`, each as a document by itself; `prepare`, where a `Document` is made and no content is read; any
-// other, as `document`, as contents of one `Document`. Of the other words `made=N` makes N definitions, `definition 0` and so on, and each other
-// word is the identifier of one.
+// other, as `document`, as contents of one `Document`. Of the other words `made=N` makes N definitions, `definition 0` and so on; `cut=N` leaves out
+// the first N bytes of each line, as those of a block quote's prefix, so that each line is a piece; and each other word is the identifier of a definition.
 use markdown_engine_content::parser::ParseState;
 use markdown_inline::document::Document;
 use markdown_inline::options::ALL_CONSTRUCTS;
@@ -24,10 +24,22 @@ fn definitions(alloc: Global, words: &[String]) -> Result<Vec<String>, AllocErro
     for word in words {
         match word.as_str().strip_prefix("made=") {
             Some(count) => make(alloc, &mut found, count.parse().unwrap_or(0))?,
+            None if word.as_str().starts_with("cut=") => {}
             None => found.push(word.clone()?)?,
         }
     }
     Ok(found)
+}
+
+// How many bytes words leave out at the front of each line.
+fn cut_of(words: &[String]) -> usize {
+    let mut found = 0;
+    for word in words {
+        if let Some(count) = word.as_str().strip_prefix("cut=") {
+            found = count.parse().unwrap_or(0);
+        }
+    }
+    found
 }
 
 // The contents of a text, each as its first index and the one past its last.
@@ -49,37 +61,59 @@ fn contents(alloc: Global, bytes: &[u8]) -> Result<Vec<(usize, usize)>, AllocErr
     Ok(found)
 }
 
-// The pieces of a content from an index to another.
-fn pieces(from: usize, to: usize) -> [Piece; 1] {
+// The content from an index to another, as one piece.
+fn whole(from: usize, to: usize) -> [Piece; 1] {
     [Piece {
         start: (from, 0),
         end: (to, 0),
     }]
 }
 
-// The number of events of a piece of a document, read by itself.
+// The content from an index to another, as a piece for each line, without so many bytes at the front of each.
+fn lines(
+    alloc: Global,
+    bytes: &[u8],
+    from: usize,
+    to: usize,
+    cut: usize,
+) -> Result<Vec<Piece>, AllocError> {
+    let mut found = Vec::new(alloc);
+    let mut start = from.saturating_add(cut);
+    for at in from..to {
+        if bytes.get(at) == Some(&b'\n') {
+            found.push(Piece {
+                start: (start, 0),
+                end: (at + 1, 0),
+            })?;
+            start = at.saturating_add(cut).saturating_add(1);
+        }
+    }
+    found.push(Piece {
+        start: (start, 0),
+        end: (to, 0),
+    })?;
+    Ok(found)
+}
+
+// The number of events of pieces of a document, read by themselves.
 fn count_run(
     alloc: Global,
     parse_state: &ParseState,
-    from: usize,
-    to: usize,
+    pieces: &[Piece],
 ) -> Result<usize, AllocError> {
-    let pieces = pieces(from, to);
-    if !run::is_text(parse_state.bytes, &pieces) {
+    if !run::is_text(parse_state.bytes, pieces) {
         return Ok(0);
     }
-    Ok(run::text(alloc, parse_state, &pieces, false)?.events.len())
+    Ok(run::text(alloc, parse_state, pieces, false)?.events.len())
 }
 
 // The number of events of a content of a prepared document.
 fn count_content(
     alloc: Global,
     document: &Document,
-    from: usize,
-    to: usize,
+    pieces: &[Piece],
 ) -> Result<usize, AllocError> {
-    let pieces = pieces(from, to);
-    match document.content(&pieces) {
+    match document.content(pieces) {
         Some(content) if content.is_text() => Ok(content.text(alloc, false)?.events.len()),
         _ => Ok(0),
     }
@@ -92,6 +126,7 @@ fn count_runs(
     alloc: Global,
     parse_state: ParseState,
     contents: &[(usize, usize)],
+    cut: usize,
     apart: bool,
 ) -> Result<usize, AllocError> {
     let bytes = parse_state.bytes;
@@ -103,7 +138,13 @@ fn count_runs(
             parse_state.bytes = bytes.get(from..to).unwrap_or(b"");
             (from, to) = (0, parse_state.bytes.len());
         }
-        total = total.saturating_add(count_run(alloc, &parse_state, from, to)?);
+        let found = if cut == 0 {
+            count_run(alloc, &parse_state, &whole(from, to))?
+        } else {
+            let pieces = lines(alloc, parse_state.bytes, from, to, cut)?;
+            count_run(alloc, &parse_state, pieces.as_slice())?
+        };
+        total = total.saturating_add(found);
     }
     Ok(total)
 }
@@ -114,14 +155,22 @@ fn count_contents(
     alloc: Global,
     parse_state: ParseState,
     contents: &[(usize, usize)],
+    cut: usize,
 ) -> Result<usize, AllocError> {
+    let bytes = parse_state.bytes;
     let Some(document) = Document::new(alloc, parse_state)? else {
         return Ok(0);
     };
     let mut total = 0usize;
     for content in contents {
         let (from, to) = *content;
-        total = total.saturating_add(count_content(alloc, &document, from, to)?);
+        let found = if cut == 0 {
+            count_content(alloc, &document, &whole(from, to))?
+        } else {
+            let pieces = lines(alloc, bytes, from, to, cut)?;
+            count_content(alloc, &document, pieces.as_slice())?
+        };
+        total = total.saturating_add(found);
     }
     Ok(total)
 }
@@ -140,11 +189,11 @@ pub(crate) fn count(
         definitions: definitions(alloc, words)?,
         gfm_footnote_definitions: Vec::new(alloc),
     };
-    let read = contents.as_slice();
+    let (read, cut) = (contents.as_slice(), cut_of(words));
     match way {
-        "run" => count_runs(alloc, parse_state, read, false),
-        "documents" => count_runs(alloc, parse_state, read, true),
-        "prepare" => count_contents(alloc, parse_state, &[]),
-        _ => count_contents(alloc, parse_state, read),
+        "run" => count_runs(alloc, parse_state, read, cut, false),
+        "documents" => count_runs(alloc, parse_state, read, cut, true),
+        "prepare" => count_contents(alloc, parse_state, &[], cut),
+        _ => count_contents(alloc, parse_state, read, cut),
     }
 }
