@@ -36,7 +36,7 @@ class Arguments(unittest.TestCase):
         self.assertIn(words, str(caught.exception))
 
     def test_what_is_no_text(self):
-        for given in (5, True, 0, None, 1.5, [97, 42], ('a',), {'a': 1}, pathlib.PurePath('*README*.md'), object(), 10 ** 10, range(2)):
+        for given in (5, True, 0, None, 1.5, [97, 42], ('a',), {'a': 1}, pathlib.PurePath('*README*.md'), object(), 10 ** 10, range(2), array.array('I', [97])):
             kind = type(given).__name__
             for call in (text, string, leaves, html, is_text, is_content, lambda it: texts(it, [])):
                 self.refused(TypeError, 'document is a str or bytes, and not a ' + kind, lambda: call(given))

@@ -26,7 +26,9 @@ def text_of(given, what):
     try:
         view = memoryview(given)
     except TypeError:
-        raise TypeError('%s is a str or bytes, and not a %s' % (what, _kind(given))) from None
+        view = None
+    if view is None or view.itemsize != 1:
+        raise TypeError('%s is a str or bytes, and not a %s' % (what, _kind(given)))
     return view.tobytes()
 
 
