@@ -20,7 +20,7 @@ class Install(unittest.TestCase):
             self.assertEqual(made.returncode, 0, made.stdout.decode())
             environment = {name: it for name, it in os.environ.items() if name != 'MARKDOWN_INLINE_LIBRARY'}
             environment['PYTHONPATH'] = room
-            code = 'import markdown_inline as m; print(m.__file__); print(*m.text("a"), sep="\\n")'
+            code = 'import os; import markdown_inline as m, markdown_inline.play as p; print(m.__file__); print(*m.text("a"), sep="\\n"); print(os.path.getsize(p.PAGE) > 0)'
             found = subprocess.run([sys.executable, '-c', code], stdout=subprocess.PIPE, cwd=room, env=environment, check=True, timeout=60).stdout.decode()
-            self.assertEqual(found.splitlines(), [os.path.join(room, 'markdown_inline', '__init__.py'), 'Enter Data 1 1 0 0', 'Exit Data 1 2 1 0'])
+            self.assertEqual(found.splitlines(), [os.path.join(room, 'markdown_inline', '__init__.py'), 'Enter Data 1 1 0 0', 'Exit Data 1 2 1 0', 'True'])
         self.assertEqual(sorted(os.listdir(PROJECT)), before)
