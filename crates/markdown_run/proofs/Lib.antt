@@ -11,7 +11,9 @@ pub mod PassesAfterRun
 pub mod TextTree
 pub mod WholeRun
 pub mod FoundTexts
+pub mod FinishedTexts
 pub mod TextRun
+pub mod TextByStates
 pub mod RowPasses
 pub mod TextPassLaw
 pub mod RowsWithoutRuns

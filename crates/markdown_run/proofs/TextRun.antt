@@ -1,17 +1,15 @@
 -- A whole run over a text.
 use Rattle.markdown_partial.specs.PartialSpaceOrTab.{most}
 use Rattle.markdown_engine.specs.Weights.{codes_left}
-use Rattle.std.proofs.Common.{◌≡◌, ℕ, Bool, true, false, List, Option, Some, None, map, string_bytes, refl, sym, ap, subst, ◌∙◌, arith, ◌≤◌}
+use Rattle.std.proofs.Common.{◌≡◌, ℕ, Bool, false, List, Option, Some, None, map, string_bytes, refl, sym, ap, subst, ◌∙◌, arith, ◌≤◌}
 use Rattle.markdown_engine_events.specs.EventChains.{chained}
 use Rattle.markdown_engine_content.specs.Content.{IsContent, IsTextContent, content_of}
 use Rattle.markdown_engine.specs.Operations.{scratched}
-use Rattle.markdown_engine_content.specs.Place.{Place, start_of_content}
+use Rattle.markdown_engine_content.specs.Place.{Place}
 use Rattle.markdown_engine.specs.RestingFields.{at_rest}
 use Rattle.markdown_engine.specs.PassesInOrder.{MayResolve, Resolves, unregistered}
-use Rattle.markdown_engine_content.specs.Tree.{events_of, Forest}
 use Rattle.markdown_engine_content.specs.declared.parser.ParseState.{ParseState}
 use Rattle.markdown_engine_content.specs.declared.parser.Piece.{Piece}
-use Rattle.markdown_state.specs.declared.resolve.ResolveName.TheVariants as R
 use Rattle.markdown_engine.specs.declared.tokenizer.TokenizeState.{TokenizeState}
 use Rattle.markdown_engine.specs.declared.tokenizer.Tokenizer.{Tokenizer}
 use Rattle.markdown_engine_index.proofs.SequenceIndexLemmas.{right-unknown}
@@ -23,7 +21,6 @@ use Rattle.markdown_engine_names.specs.declared.name_index.Names.{Names}
 use Rattle.markdown_leaf_gfm.specs.GfmAutolinkLiteral as GfmAutolinkLiteral
 use Rattle.markdown_leaf.specs.RawText as RawText
 use Rattle.markdown_partial.specs.PartialSpaceOrTab as PartialSpaceOrTab
-use Rattle.markdown_model.specs.Elements.{text_choice}
 use Rattle.markdown_model.specs.InlineTree.{text_events, label_tree}
 use Rattle.markdown_model.specs.Setting.{Setting}
 use Rattle.markdown_run_text.specs.RunOverElements.{Finishes}
@@ -32,24 +29,13 @@ use Rattle.markdown_run.specs.RunWithPasses.{may_end_of}
 use Rattle.markdown_run_text.specs.RunSetting.{text_setting_of}
 use Rattle.markdown_run_text.specs.TextContent.{StartReady, named_fields, text_passed, text_choice_of}
 use Rattle.markdown_run.specs.ElementsOfText.{KnowsNothing, text_named, with_indexes}
-use Rattle.markdown_run.proofs.PassesAfterRun.{text_finish, text-trims, IsGiven}
-use Rattle.markdown_engine_content.specs.Codes.{Code}
 use Rattle.markdown_label.specs.LabelEnd.{AreWithin}
-use Rattle.markdown_label.specs.Brackets.{grouped}
 use Rattle.markdown_partial.specs.PartialSpaceOrTabEol as PartialSpaceOrTabEol
 use Rattle.markdown_label.specs.AfterLabelParts as AfterLabelParts
 use Rattle.markdown_attention.specs.AttentionPass.{IsProbed}
-use Rattle.markdown_attention.proofs.AttentionTreeLabels.{IsGood}
-use Rattle.markdown_attention.proofs.MarkerCodes.{AreSingles, singles-content}
-use Rattle.markdown_model.specs.Passes.{labels_of, merged}
-use Rattle.markdown_run_text.specs.OpenStarts.{brackets_of}
-use Rattle.markdown_run_text.specs.Row.{row_has_run}
-use Rattle.markdown_run_text.proofs.RowTreeFacts.{grouped-runless}
-use Rattle.markdown_run.proofs.FoundTexts.{found-good, found-pairs, found-probed, found-still}
-use Rattle.markdown_run.proofs.TreesWithoutRuns.{probes-none}
-use Rattle.markdown_run.proofs.WholeRun.{Starts, start-with, AreFresh, IsFound, finished-may-end, finished-left, finished-events, finished-probes, finished-elements}
+use Rattle.markdown_run.proofs.FinishedTexts.{read-may, read-probes, read-no-probes, read-events}
+use Rattle.markdown_run.proofs.WholeRun.{Starts, start-with, AreFresh}
 use Rattle.markdown_run.proofs.ConstructsAtStart.{start-fits, start-last, start-literals, start-reads}
-use Rattle.markdown_run.proofs.TextTree.{text-finished}
 
 -- Runs.
 
@@ -148,63 +134,32 @@ module _ (p : ParseState) (pieces : List Piece) (lent : Option Names) (first : B
   abbrev M : Tokenizer
   M = text_named T
 
-  -- what is read
-  choice-is : text_choice_of M ≡ text_choice (text_setting_of p first) (content_of p.bytes.now pieces)
-  unfolding scratched start_of_content
-  choice-is =
-      ap (λ (s : Setting). text_choice s T.cursor.codes) (ap (λ (x : ParseState). text_setting_of x T.tokenize_state.document_at_first_paragraph_of_list_item) start.input ∙ ap (λ (s : TokenizeState). text_setting_of p s.document_at_first_paragraph_of_list_item) start.fields)
-      ∙ ap (λ (x : Place). text_choice (text_setting_of p first) x.codes) start.place
+  abbrev Fields : TokenizeState
+  Fields = named_fields T.cursor T.parse_state.now (text_fields lent first)
 
-  abbrev Given : Setting
-  Given = text_setting_of p first
+  S : Starts p pieces Fields M
+  S = named-start p pieces lent first T start
 
-  abbrev all_codes : List Code
-  all_codes = content_of p.bytes.now pieces
-
-  abbrev Is : IsGiven Given p
-  Is = record { bytes = refl; options = refl }
+  F : AreFresh Fields
+  F = fresh-fields lent first T.cursor T.parse_state.now
 
   module _ (E : Finishes (text_choice_of M) text_passed M U) where
-    abbrev S : Starts p pieces (named_fields T.cursor T.parse_state.now (text_fields lent first)) M
-    S = named-start p pieces lent first T start
-
-    abbrev F : AreFresh (named_fields T.cursor T.parse_state.now (text_fields lent first))
-    F = fresh-fields lent first T.cursor T.parse_state.now
-
-    -- the row with its labels grouped
-    abbrev Tree : Forest
-    Tree = grouped (brackets_of E.row)
-
-    found : IsFound p.bytes.now (text_choice Given all_codes) all_codes E.row
-    found =
-        subst (λ c. IsFound p.bytes.now c all_codes E.row) choice-is
-        (finished-elements R.Text text_finish text-trims (text_choice_of M) p pieces content Given Is _ F M U S E)
-
-    singles : AreSingles p.bytes.now all_codes
-    singles = singles-content p.bytes.now pieces content.in_order
-
-    good : row_has_run E.row ≡ true → IsGood p.bytes.now Tree
-    good e = found-good Given all_codes E.row found singles
-
     pub text-may : MayResolve may_end_of resolves_of U.resolvers (unregistered U)
-    text-may = finished-may-end R.Text text_finish text-trims (text_choice_of M) p pieces content Given Is _ F M U S E good
+    text-may = read-may p pieces first content Fields F refl M U S E
 
     module _ (V : Tokenizer) (r : Resolves resolves_of U.resolvers (unregistered U) V) where
+      abbrev Given : Setting
+      Given = text_setting_of p first
+
       -- the looks that pairing took are within the bounds of the content's tree of labels
-      pub text-probes : IsProbed Given (label_tree Given all_codes) V.tokenize_state.probes
-      text-probes =
-          found-probed Given all_codes E.row found singles V.tokenize_state.probes
-          (finished-probes R.Text text_finish text-trims (text_choice_of M) p pieces content Given Is _ F M U S E good V (labels_of found.read) found.trees r)
+      pub text-probes : IsProbed Given (label_tree Given (content_of p.bytes.now pieces)) V.tokenize_state.probes
+      text-probes = read-probes p pieces first content Fields F refl M U S E V r
 
       -- where runs are not looked for none is taken
       pub text-no-probes : Given.options.constructs.attention ≡ false →
           Given.options.constructs.gfm_strikethrough ≡ false → V.tokenize_state.probes ≡ 0
-      text-no-probes off none =
-          probes-none Given Tree V.tokenize_state.probes (grouped-runless E.row found.is_row (found-still Given all_codes E.row found off none)) (finished-left R.Text text_finish text-trims (text_choice_of M) p pieces content Given Is _ F M U S E good V r).probed
+      text-no-probes = read-no-probes p pieces first content Fields F refl M U S E V r
 
       -- the events after a run over a text and its passes
       pub text-run : chained V.events ≡ text_events Given pieces
-      text-run =
-          finished-events R.Text text_finish text-trims (text_choice_of M) p pieces content Given Is _ F M U S E good V (labels_of found.read) found.have_codes found.trees r
-          ∙ ap (λ t. events_of (text_finish p (merged t))) (found-pairs Given all_codes E.row found singles)
-          ∙ ap events_of (sym (text-finished Given all_codes found.elements found.are))
+      text-run = read-events p pieces first content Fields F refl M U S E V r

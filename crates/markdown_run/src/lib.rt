@@ -2,6 +2,7 @@
 //! the laws of all states. The program, over any reader and writer.
 #![tactic(auto)]
 
+mod by_states;
 mod elements;
 pub mod gfm_autolink_literal;
 pub mod label_end;

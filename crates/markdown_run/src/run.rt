@@ -15,6 +15,7 @@ ghost use Rattle.markdown_attention.specs.AttentionPass.{IsProbed};
 ghost use Rattle.markdown_run_leaves.specs.InnermostEvents.{IsInOrder, covered, innermost, lent};
 ghost use Rattle.markdown_model.specs.InlineTree.{label_tree, string_events, text_events};
 
+pub use crate::by_states::text_by_states;
 use crate::elements::{end_text, read_text};
 use crate::state::Inline;
 use crate::{resolve, text};
@@ -151,7 +152,8 @@ fn finish_plain(tokenizer: &mut Tokenizer) -> Result<ListRun, AllocError>
 
 /// Runs the states from this one and then the passes that they registered, and takes what is found out of the tokenizer.
 ///
-/// `StringStart` from the start of a content is a run of `string`. The tokenizer tries nothing yet, and the passes may be called behind the states.
+/// From the start of a content `StringStart` is a run of `string`, and `TextStart` one of `text_by_states`. The tokenizer tries nothing yet, and the
+/// passes may be called behind the states.
 ///
 /// The error comes only where memory is refused.
 pub fn run_through(name: StateName, tokenizer: &mut Tokenizer) -> Result<ListRun, AllocError>

@@ -1,2 +1,1 @@
 pub mod LabelEndReady
-pub mod TextByStates
