@@ -1,14 +1,14 @@
-// The events of a run, and those that its passes leave where they are called one by one.
+// The events of a run, those of a run by its states alone, and those that its passes leave where they are called one by one.
 ghost use Rattle.markdown_engine_content.specs.Content.{IsContent, IsTextContent};
 
 use crate::answers::Answers;
 use crate::passes::{Pairing, are_of_string, are_of_text};
 use markdown_engine_content::parser::{ParseState, Piece};
 use markdown_event::event::Event;
-use markdown_inline::run::{string, text};
+use markdown_inline::run::{string, text, text_by_states};
 use std::alloc::{AllocError, Global};
 
-// How these events of a text are alike by its passes, and with the simple pass.
+// How these events of a text are alike by its states alone, by its passes, and with the simple pass.
 fn likeness(
     alloc: Global,
     parse_state: &ParseState,
@@ -18,6 +18,10 @@ fn likeness(
 ) -> Result<&'static str, AllocError>
     requires { IsTextContent parse_state.now.bytes.now pieces.now }
 {
+    let by_states = text_by_states(alloc, parse_state, pieces, first_of_item)?;
+    if by_states.events.as_slice() != events {
+        return Ok(" the run and its states differ");
+    }
     let lists = Pairing::ByLists;
     if !are_of_text(alloc, parse_state, pieces, first_of_item, lists, events)? {
         return Ok(" the run and its passes differ");
@@ -29,7 +33,8 @@ fn likeness(
     Ok(" the pairs differ")
 }
 
-/// Prints whether the events of a text are equal by a whole run, by its passes, and with the simple pass. Answers how many there are.
+/// Prints whether the events of a text are equal by a whole run, by its states alone, by its passes, and with the simple pass. Answers how many there
+/// are.
 pub(crate) fn print_likeness(
     alloc: Global,
     parse_state: &ParseState,
