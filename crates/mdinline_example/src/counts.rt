@@ -83,7 +83,7 @@ fn lines(
         if bytes.get(at) == Some(&b'\n') {
             found.push(Piece {
                 start: (start, 0),
-                end: (at + 1, 0),
+                end: (at.saturating_add(1), 0),
             })?;
             start = at.saturating_add(cut).saturating_add(1);
         }
