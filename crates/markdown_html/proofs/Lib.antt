@@ -4,3 +4,4 @@ pub mod Lists
 pub mod OneMoreCall
 pub mod WalkTree
 pub mod PlainStretch
+pub mod BroughtTree

@@ -19,11 +19,11 @@ use Rattle.markdown_html.specs.EventWalk.{State, Open, open_of, opened_by, has_p
 abbrev pub after : State → Written → State
 after s w = record s { out = s.out ++ w.html; parts = joined_parts s.parts w.parts; calls = w.calls ++ s.calls }
 
-or_else-none : {A : Type 0} (x : Option A) → or_else x None ≡ x
+pub or_else-none : {A : Type 0} (x : Option A) → or_else x None ≡ x
 or_else-none None = refl
 or_else-none (Some x) = refl
 
-or_else-assoc : {A : Type 0} (x y z : Option A) → or_else x (or_else y z) ≡ or_else (or_else x y) z
+pub or_else-assoc : {A : Type 0} (x y z : Option A) → or_else x (or_else y z) ≡ or_else (or_else x y) z
 or_else-assoc None y z = refl
 or_else-assoc (Some x) y z = refl
 

@@ -3,6 +3,8 @@
 pub mod DefinitionView
 pub mod View
 pub mod EventWalk
+pub mod Brought
 -- What serves proofs: what functions and proofs promise each other.
 pub mod FirstDefinitions
 pub mod KnownFootnotes
+pub mod BroughtWalk

@@ -2,6 +2,7 @@
 #![tactic(auto)]
 
 mod addresses;
+mod brought;
 mod calls;
 pub mod footnotes;
 mod found;
@@ -12,4 +13,5 @@ mod stretch;
 pub mod targets;
 mod writer;
 
+pub use brought::left_of_limit;
 pub use writer::{text_of, to_html};

@@ -79,7 +79,7 @@ fn label_target<'a>(
 }
 
 // Where a full reference leads, or else its label.
-fn reference_target<'a>(
+pub(crate) fn reference_target<'a>(
     alloc: Global,
     given: &Given<'a>,
     label: Option<(usize, usize)>,

@@ -102,7 +102,7 @@ fn is_light(role: Role) -> bool
 }
 
 // Whether something of this role has parts of its own: its surroundings find other parts in it than were found inside it.
-fn is_apart(role: Role) -> bool
+pub(crate) fn is_apart(role: Role) -> bool
     ensures { result ≡ is_apart role }
 {
     match role {

@@ -2,12 +2,12 @@
 //
 // A row is a word, a text, and definitions, with a tab between each two. `html` reads the text as CommonMark has it, and lets raw HTML and any address be
 // written, as the specification does; `gfm` reads it with GitHub's extensions, and lets neither be; `then` does the same behind the footnote calls of the
-// row before. `text` prints its plain text. A definition is `LABEL: DESTINATION`, perhaps with a title behind a space, or `note LABEL` for a footnote; `␠`
+// row before. `text` prints its plain text. `brought` prints how many of 20 bytes are left by what definitions bring, or `more`. A definition is `LABEL: DESTINATION`, perhaps with a title behind a space, or `note LABEL` for a footnote; `␠`
 // stands for a space in a destination. Answers have `␊`, `␍` and `→` for LF, CR and TAB.
 use crate::rows::plain;
 use markdown_html::footnotes::FootnoteCalls;
 use markdown_html::targets::Targets;
-use markdown_html::{text_of, to_html};
+use markdown_html::{left_of_limit, text_of, to_html};
 use markdown_html_model::options::{Definition, HtmlOptions, LineEnds};
 use markdown_inline::configuration::ParseOptions;
 use markdown_inline::parser::{ParseState, Piece};
@@ -114,6 +114,15 @@ fn targets(alloc: Global, definitions: Vec<Definition>) -> Result<Targets, Alloc
     Ok(targets)
 }
 
+// What is left of a limit.
+fn left_shown(alloc: Global, left: Option<usize>) -> Result<Vec<u8>, AllocError> {
+    let shown = match left {
+        Some(left) => format!(in alloc; "{left}")?,
+        None => String::from_str(alloc, "more")?,
+    };
+    Ok(shown.into_bytes())
+}
+
 // What a row asks for, behind these footnote calls; nothing where its text is none.
 fn written(alloc: Global, row: Row, calls: &mut FootnoteCalls) -> Result<Vec<u8>, AllocError> {
     let options = row.parse_options();
@@ -144,10 +153,15 @@ fn written(alloc: Global, row: Row, calls: &mut FootnoteCalls) -> Result<Vec<u8>
         return text_of(alloc, bytes, found.events.as_slice());
     }
     let targets = targets(alloc, definitions)?;
+    let events = found.events.as_slice();
+    if word == "brought" {
+        let left = left_of_limit(alloc, &parse_state, events, &targets, html_options, 20)?;
+        return left_shown(alloc, left);
+    }
     to_html(
         alloc,
         &parse_state,
-        found.events.as_slice(),
+        events,
         &targets,
         calls,
         html_options,
