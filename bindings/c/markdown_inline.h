@@ -29,7 +29,7 @@ extern "C" {
 #define MARKDOWN_INLINE_VERSION 1
 
 /* Statuses, with what each says. A status is that of the first thing that is wrong, in the order 2, 9, 3, 7, 4, 8, but where a call says another;
- * memory may be refused at any time. But for DONE and TOO_SMALL nothing is written. */
+ * memory may be refused at any time. But for DONE and TOO_SMALL nothing is written, where a call does not say another. */
 #define MARKDOWN_INLINE_EACH_STATUS(X) \
     X(DONE, 0, "done") \
     X(UNKNOWN_OPTION, 2, "unknown option") \
@@ -40,7 +40,8 @@ extern "C" {
     X(NO_CONTENT, 7, "pieces are no content of the document") \
     X(DEFINITION, 8, "range of a definition is no text of the labels") \
     X(TOO_LONG, 9, "document too long") \
-    X(NO_REFERENCE, 10, "no character reference")
+    X(NO_REFERENCE, 10, "no character reference") \
+    X(NO_STRING, 12, "part of a string is no text of the bytes")
 
 /* Options, each by a bit: the constructs, the four settings, and whether the text is the first of a list item. */
 #define MARKDOWN_INLINE_EACH_OPTION(X) \
@@ -372,6 +373,21 @@ uint32_t markdown_inline_texts(const markdown_inline_input *input, const markdow
  * of the labels, or there is not one target for each definition. The rest is as of events. */
 uint32_t markdown_inline_html(const markdown_inline_input *input, const markdown_inline_target *targets, size_t targets_len, uint32_t options,
     uint8_t *html, size_t html_len, size_t *count);
+
+/* Finds the texts of strings: of a link's destination or title, of a definition's, of an info string. Escaped punctuation stands in place of its escape, and
+ * in place of each character reference its text (CommonMark 2.4 and 2.5), by HTML's names as far as they are known; all other bytes stay, line endings and NUL
+ * among them. Options are not looked at.
+ *
+ * A part is a range of the bytes, in any order; a string is a range of numbers of parts, whose bytes are one text. Where a string stands in a paragraph, its
+ * parts are what the events Data and LineEnding between the Enter and the Exit of ResourceDestinationString or ResourceTitleString cover: so prefixes of lines,
+ * and whitespace that begins them, are no part of it. A string that stands alone is one part; an empty one may have none.
+ *
+ * DONE: the texts stand at the front of the first array, one behind another, and `*count` is how many bytes they have; at the front of `ends` stands for each
+ * string how many bytes end with it. TOO_SMALL: `*count` is how many bytes there are, and there is not room for them, or not for one end a string. NO_STRING:
+ * `*blamed` is the number of the first string that has a part that is not given, or one that is no text of the bytes. With other statuses `*blamed` is
+ * MARKDOWN_INLINE_NONE. But for `*blamed` nothing else is written. By the names that are known, no text is longer than its parts; that is tested and not proved. */
+uint32_t markdown_inline_strings(const uint8_t *bytes, size_t bytes_len, const markdown_inline_range *parts, size_t parts_len,
+    const markdown_inline_range *strings, size_t strings_len, uint8_t *texts, size_t texts_len, size_t *ends, size_t ends_len, size_t *count, size_t *blamed);
 
 /* What a status says, or a null pointer for a number that is none. */
 static inline const char *markdown_inline_status_text(uint32_t status) {

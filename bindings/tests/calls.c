@@ -318,6 +318,39 @@ static void test_html(void) {
     want("HTML of nothing", markdown_inline_html(&input, NULL, 0, 0, NULL, 0, &count) == MARKDOWN_INLINE_DONE && count == 0);
 }
 
+/* Whether strings of these parts have these texts, and none is written where there is no room for all. */
+static void test_strings(void) {
+    /* Two lines in a block quote, a destination with an escape and a reference, NUL, and a part that is no UTF-8. */
+    static const char text[] = "> [a](b\\*c&amp;d (e &copy;\r\n>  f\\\n&nothing; \0&#0;\xc3\xa9)";
+    static const markdown_inline_range parts[] = {{6, 16}, {18, 26}, {26, 28}, {31, 33}, {33, 34}, {34, 51}, {0, 53}, {49, 99}, {9, 8}, {50, 51}};
+    static const markdown_inline_range strings[] = {{0, 1}, {1, 6}, {0, 0}, {10, 10}, {4, 5}, {0, 1}};
+    static const char texts[] = "b*c&d" "e \xc2\xa9\r\nf\\\n&nothing; \0\xef\xbf\xbd\xc3\xa9" "" "" "\n" "b*c&d";
+    const uint8_t *bytes = (const uint8_t *)text;
+    const size_t len = sizeof text - 1, wanted = sizeof texts - 1;
+    uint8_t found[64], before[64];
+    size_t ends[8], ends_before[8], count = 77, blamed = 77, past = strlen("b*c&d");
+    memset(found, 1, sizeof found);
+    memset(before, 1, sizeof before);
+    memset(ends, 1, sizeof ends);
+    memset(ends_before, 1, sizeof ends_before);
+    want("no room for strings", markdown_inline_strings(bytes, len, parts, 10, strings, 6, found, wanted - 1, ends, 8, &count, &blamed) == MARKDOWN_INLINE_TOO_SMALL);
+    want("how much strings want", count == wanted && blamed == MARKDOWN_INLINE_NONE);
+    want("no room for ends of strings", markdown_inline_strings(bytes, len, parts, 10, strings, 6, found, 64, ends, 5, &count, &blamed) == MARKDOWN_INLINE_TOO_SMALL);
+    want("nothing is written", !memcmp(found, before, 64) && !memcmp(ends, ends_before, sizeof ends) && count == wanted);
+    want("strings", markdown_inline_strings(bytes, len, parts, 10, strings, 6, found, 64, ends, 8, &count, &blamed) == MARKDOWN_INLINE_DONE && count == wanted);
+    want("the texts of strings", !memcmp(found, texts, wanted) && !memcmp(found + wanted, before, 64 - wanted) && blamed == MARKDOWN_INLINE_NONE);
+    want("the ends of strings", ends[0] == past && ends[1] == wanted - past - 1 && ends[2] == ends[1] && ends[3] == ends[1] && ends[4] == ends[1] + 1 && ends[5] == wanted);
+    want("no more ends", !memcmp(ends + 6, ends_before, 2 * sizeof *ends));
+    for (size_t at = 6; at < 12; at++) {
+        markdown_inline_range wrong[] = {{0, 1}, {at, at + 1}};
+        if (at == 11) wrong[1] = (markdown_inline_range){1, 0};
+        count = blamed = 77;
+        want("a string of no text", markdown_inline_strings(bytes, len, parts, 10, wrong, 2, found, 64, ends, 8, &count, &blamed) == MARKDOWN_INLINE_NO_STRING);
+        want("which string is no text", blamed == 1 && count == 77);
+    }
+    want("no strings", markdown_inline_strings(NULL, 0, NULL, 0, NULL, 0, NULL, 0, NULL, 0, &count, &blamed) == MARKDOWN_INLINE_DONE && count == 0);
+}
+
 static void test_empty(void) {
     markdown_inline_input input;
     size_t count = 77;
@@ -371,7 +404,7 @@ static int call_once(const char *call) {
     markdown_inline_target target = {{0, 1}, {0, 1}, 1};
     markdown_inline_content contents[] = {{{0, 2}, 0}, {{1, 2}, 1}};
     markdown_inline_input input = input_of(text, pieces);
-    size_t count = 0, ends[2];
+    size_t count = 0, blamed = 0, ends[2];
     pieces[1].end = input.bytes_len;
     input.pieces_len = 2;
     input.labels = (const uint8_t *)"c";
@@ -383,6 +416,10 @@ static int call_once(const char *call) {
     if (!strcmp(call, "leaves")) return (int)markdown_inline_leaves(&input, leaves, 256, &count);
     if (!strcmp(call, "texts")) return (int)markdown_inline_texts(&input, contents, 2, events, 256, ends, 2, &count);
     if (!strcmp(call, "html")) return (int)markdown_inline_html(&input, &target, 1, 0, bytes, 512, &count);
+    if (!strcmp(call, "strings")) {
+        static const markdown_inline_range parts[] = {{0, 3}, {4, 9}}, strings[] = {{0, 2}, {1, 2}};
+        return (int)markdown_inline_strings((const uint8_t *)"a\\* &amp;", 9, parts, 2, strings, 2, bytes, 512, ends, 2, &count, &blamed);
+    }
     if (!strcmp(call, "identifier")) return (int)markdown_inline_identifier((const uint8_t *)" A  B ", 6, bytes, 512, &count);
     if (!strcmp(call, "reference")) return (int)markdown_inline_reference((const uint8_t *)"&amp;", 5, bytes, 512, &count);
     return (int)markdown_inline_text(&input, events, 256, &count);
@@ -401,6 +438,7 @@ int main(int argc, char **argv) {
     test_references();
     test_texts();
     test_html();
+    test_strings();
     test_empty();
     test_threads();
     return faults != 0;

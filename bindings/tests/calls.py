@@ -6,8 +6,8 @@ from array import array
 
 import markdown_inline
 from markdown_inline import (
-    OPTIONS, BlankLine, Content, DefinitionError, Error, Name, NoContent, NoReference, NotUtf8, Piece, TooLong, UnknownOption, _library, html, identifier, is_content, is_text,
-    leaves, reference, string, text, texts)
+    OPTIONS, BlankLine, Content, DefinitionError, Error, Name, NoContent, NoReference, NoString, NotUtf8, Piece, TooLong, UnknownOption, _library, html, identifier,
+    is_content, is_text, leaves, reference, string, strings, text, texts)
 
 COMMONMARK = sum(OPTIONS[it] for it in (
     'attention', 'autolink', 'character_escape', 'character_reference', 'code_text', 'hard_break_escape', 'hard_break_trailing', 'html_text', 'label_start_image',
@@ -24,6 +24,7 @@ class Calls(unittest.TestCase):
             (DefinitionError, 8, lambda: text('a', footnotes=[b'\xff'])), (DefinitionError, 8, lambda: html('a', definitions={'b': b'\xff'})),
             (DefinitionError, 8, lambda: html('a', definitions={'b': ('c', b'\xff')})), (BlankLine, 4, lambda: leaves('a\n')),
             (NoContent, 7, lambda: texts('a', [Content([(0, 1)]), Content([(0, 2)])])), (BlankLine, 4, lambda: texts('a\n', [Content([(0, 2)])])),
+            (NoString, 12, lambda: strings('a', [[(0, 2)]])),
             (NoReference, 10, lambda: reference('&nothing;')), (NoReference, 10, lambda: reference(b'')),
         ):
             with self.assertRaises(error) as caught:
@@ -116,6 +117,20 @@ class Calls(unittest.TestCase):
         self.assertEqual(found, [text(document, [Piece(0, 7)], task=True), text(document, pieces), []])
         self.assertEqual(texts(document, []), [])
 
+    def test_texts_of_strings(self):
+        document = '> [a](<b\\*c> (d\n>  &copy; é\\)\n> e))'
+        wanted = ['b*c', 'd\n© é)\ne', '', 'd\n']
+        titles = {name: [it for it in text(document, [Piece(2, 16), Piece(18, 31), Piece(33, 36)]).spans() if it[0] == name] for name in Name}
+        (_, start, end, _), = titles[Name.ResourceTitleString]
+        title = [it[1:3] for it in text(document, [Piece(2, 16), Piece(18, 31), Piece(33, 36)]).spans() if it[0] in (Name.Data, Name.LineEnding) and start <= it[1] < end]
+        (_, start, end, _), = titles[Name.ResourceDestinationString]
+        self.assertEqual(strings(document, [[(start, end)], title, [], title[:2]]), wanted)
+        self.assertEqual(strings('&#0;\0\r\n', [[(0, 7)]]), ['\ufffd\0\r\n'])
+        self.assertEqual(strings('&ngE;&amp' * 500, [[(0, 4500)]]), ['&ngE;&amp' * 500])
+        with self.assertRaises(NoString) as caught:
+            strings('é', [[(0, 2)], [(0, 0), (0, 1)]])
+        self.assertEqual(caught.exception.at, 1)
+
     def test_html_is_safe_where_nothing_else_is_asked(self):
         document, defined = '<b> [a](javascript:b) [C]', {'c': ('/d', 'é'), 'e': b'/f'}
         self.assertEqual(html(document, definitions=defined), '&lt;b&gt; <a href="">a</a> <a href="/d" title="é">C</a>')
@@ -129,7 +144,7 @@ class Calls(unittest.TestCase):
 
 
 # Each module of tests, with how many tests it has at least: where fewer are found, something is not run.
-MODULES = {'calls': 14, 'arguments': 14, 'events': 12, 'install': 1, 'lent': 11, 'page': 12, 'play': 13, 'plugin': 7, 'program': 11}
+MODULES = {'calls': 15, 'arguments': 14, 'events': 12, 'install': 1, 'lent': 11, 'page': 12, 'play': 13, 'plugin': 7, 'program': 11}
 
 
 def main():

@@ -103,7 +103,7 @@ static int is_filled_but(const stretch *from, const void *array, size_t len) {
     return !memcmp(from->lent, filled, at) && !memcmp(from->lent + at + len, filled, from->size - at - len);
 }
 
-static stretch of_bytes, of_pieces, of_labels, of_definitions, of_footnotes, of_contents, of_targets, of_input, of_found, of_ends, of_count;
+static stretch of_bytes, of_pieces, of_labels, of_definitions, of_footnotes, of_contents, of_targets, of_input, of_found, of_ends, of_count, of_blamed;
 
 /* A case: what is drawn, before it is lent. */
 typedef struct drawn {
@@ -385,8 +385,8 @@ static uint32_t html_status(const drawn *it) {
 
 /* The calls. Each is made without room, with just enough, and with another room. */
 
-typedef enum which { IS_CONTENT, IS_TEXT, STRING, TEXT, LEAVES, TEXTS, HTML, IDENTIFIER, REFERENCE } which;
-static const char *const NAMES[] = {"is_content", "is_text", "string", "text", "leaves", "texts", "html", "identifier", "reference"};
+typedef enum which { IS_CONTENT, IS_TEXT, STRING, TEXT, LEAVES, TEXTS, HTML, IDENTIFIER, REFERENCE, STRINGS } which;
+static const char *const NAMES[] = {"is_content", "is_text", "string", "text", "leaves", "texts", "html", "identifier", "reference", "strings"};
 
 /* What a call finds. */
 typedef union answer {
@@ -545,6 +545,119 @@ static void look_at_texts(const drawn *all) {
     }
 }
 
+/* Calls that tell what is to blame. */
+
+enum { PARTS_MOST = 6, STRINGS_MOST = 4 };
+static size_t *blamed;
+
+/* Lends room for what a call writes, and numbers that it may write over. */
+static void *lend_answers(size_t room, size_t each, size_t room_of_ends, size_t number) {
+    void *array = lend_room(&of_found, room, each);
+    ends_len = room_of_ends;
+    ends = (size_t *)lend_room(&of_ends, room_of_ends, sizeof *ends);
+    count = (size_t *)lend_room(&of_count, 1, sizeof *count);
+    blamed = (size_t *)lend_room(&of_blamed, 1, sizeof *blamed);
+    *count = *blamed = number;
+    return array;
+}
+
+/* Whether so many elements and ends are written at the fronts, and the two numbers, and nothing else. */
+static void want_written(const void *array, size_t len, size_t ends_written) {
+    want("nothing else is written", is_filled_but(&of_found, array, len) && is_filled_but(&of_ends, ends, ends_written * sizeof *ends)
+            && is_filled_but(&of_count, count, sizeof *count) && is_filled_but(&of_blamed, blamed, sizeof *blamed));
+}
+
+/* The text of a string by its events: what stands in it but for backslashes of escapes, and what references stand for. */
+static size_t text_by_events(const uint8_t *bytes, size_t len, uint8_t *text) {
+    static markdown_inline_event events[16 * PARTS_MOST * BYTES];
+    markdown_inline_piece piece = {0, 0, 0, 0};
+    markdown_inline_input one = {bytes, len, &piece, 1, NULL, 0, NULL, 0, NULL, 0, MARKDOWN_INLINE_COMMONMARK};
+    size_t events_len = 0, written = 0, more = 0;
+    piece.end = len;
+    want("a string of UTF-8 has events", markdown_inline_string(&one, events, sizeof events / sizeof *events, &events_len) == MARKDOWN_INLINE_DONE);
+    for (size_t at = 0; at + 1 < events_len; at++) {
+        size_t start = events[at].index, stop = at + 1;
+        if (events[at].kind != MARKDOWN_INLINE_ENTER) continue;
+        if (events[at].name == MARKDOWN_INLINE_NAME_CHARACTER_REFERENCE) {
+            while (events[stop].name != MARKDOWN_INLINE_NAME_CHARACTER_REFERENCE) stop++;
+            want("a reference in a string", markdown_inline_reference(bytes + start, events[stop].index - start, text + written, 16, &more) == MARKDOWN_INLINE_DONE);
+            written += more;
+            at = stop;
+        } else if (events[stop].kind == MARKDOWN_INLINE_EXIT && events[at].name != MARKDOWN_INLINE_NAME_CHARACTER_ESCAPE_MARKER) {
+            memcpy(text + written, bytes + start, events[stop].index - start);
+            written += events[stop].index - start;
+        }
+    }
+    return written;
+}
+
+/* Strings of parts of the labels. */
+static void try_strings(drawn *it) {
+    static const char *const PIECES_OF_STRINGS[] = {"a", "\\", "\\*", "\\a", "&", "&amp;", "&copy;", "&#0;", "&#x1f600;", "&nosuch;", "amp;", "#65;", ";", " ", "\t", "\n",
+        "\r\n", "\r", "\xc3\xa9", "\xf0\x9f\x98\x80", "*", "[", "&lt;&gt;"};
+    static uint8_t wanted[16 * PARTS_MOST * BYTES], joined[PARTS_MOST * BYTES];
+    markdown_inline_range parts[PARTS_MOST], strings[STRINGS_MOST];
+    size_t parts_len = below(PARTS_MOST + 1), strings_len = below(STRINGS_MOST + 1), wanted_ends[STRINGS_MOST], wanted_len = 0, refused = strings_len;
+    it->labels_len = 0;
+    for (size_t more = below(12); more > 0; more--)
+        it->labels_len = append(it->labels, it->labels_len, PIECES_OF_STRINGS[below(sizeof PIECES_OF_STRINGS / sizeof *PIECES_OF_STRINGS)]);
+    if (it->labels_len < BYTES && one_in(3)) it->labels[it->labels_len++] = 0;
+    if (one_in(10)) it->labels_len = append(it->labels, it->labels_len, BROKEN[below(sizeof BROKEN / sizeof *BROKEN)]);
+    for (size_t at = 0; at < parts_len; at++) {
+        size_t start = below(it->labels_len + 1);
+        while (start < it->labels_len && (it->labels[start] & 0xc0) == 0x80) start++;
+        parts[at] = (markdown_inline_range){start, start + below(it->labels_len - start + 1)};
+        while (parts[at].end < it->labels_len && (it->labels[parts[at].end] & 0xc0) == 0x80) parts[at].end++;
+        if (one_in(30)) parts[at].start = number_to(it->labels_len);
+        if (one_in(30)) parts[at].end = number_to(it->labels_len);
+    }
+    for (size_t at = 0; at < strings_len; at++) {
+        strings[at].start = below(parts_len + 1);
+        strings[at].end = strings[at].start + below(parts_len - strings[at].start + 1);
+        if (one_in(30)) strings[at].start = number_to(parts_len);
+        if (one_in(30)) strings[at].end = number_to(parts_len);
+    }
+    for (size_t at = 0; at < strings_len && refused == strings_len; at++) {
+        size_t len = 0;
+        if (strings[at].start > strings[at].end || strings[at].end > parts_len) refused = at;
+        for (size_t part = strings[at].start; refused == strings_len && part < strings[at].end; part++) {
+            if (!is_label(it, parts[part])) {
+                refused = at;
+                break;
+            }
+            if (parts[part].end > parts[part].start) memcpy(joined + len, it->labels + parts[part].start, parts[part].end - parts[part].start);
+            len += parts[part].end - parts[part].start;
+        }
+        if (refused < strings_len) break;
+        size_t text_len = text_by_events(joined, len, wanted + wanted_len);
+        want("a text is no longer than its parts", text_len <= len);
+        wanted_ends[at] = wanted_len += text_len;
+    }
+    call_name = NAMES[STRINGS];
+    const uint8_t *bytes = (const uint8_t *)lend(&of_bytes, it->labels, it->labels_len, 1);
+    const markdown_inline_range *lent_parts = (const markdown_inline_range *)lend(&of_definitions, parts, parts_len, sizeof *parts);
+    const markdown_inline_range *lent_strings = (const markdown_inline_range *)lend(&of_footnotes, strings, strings_len, sizeof *strings);
+    for (size_t turn = 0; turn < 4; turn++) {
+        size_t room = turn == 0 ? 0 : turn == 1 ? below(wanted_len + 1) : wanted_len + (turn - 2) * below(4), room_of_ends = turn == 1 ? below(strings_len + 1) : strings_len, number = (size_t)draw();
+        uint8_t *texts = (uint8_t *)lend_answers(room, 1, room_of_ends, number);
+        uint32_t status = markdown_inline_strings(bytes, it->labels_len, lent_parts, parts_len, lent_strings, strings_len, texts, room, ends, room_of_ends, count, blamed);
+        int is_refused = refused < strings_len, fits = wanted_len <= room && strings_len <= room_of_ends;
+        uint32_t status_wanted = is_refused ? MARKDOWN_INLINE_NO_STRING : fits ? MARKDOWN_INLINE_DONE : MARKDOWN_INLINE_TOO_SMALL;
+        calls++;
+        functions[STRINGS]++;
+        counts[status < 16 ? status : 15]++;
+        want("the status of strings", status == status_wanted);
+        want("which string is to blame", *blamed == (is_refused ? refused : MARKDOWN_INLINE_NONE));
+        want("how many bytes texts have", *count == (is_refused ? number : wanted_len));
+        if (status != status_wanted) return;
+        want_written(texts, is_refused || !fits ? 0 : wanted_len, is_refused || !fits ? 0 : strings_len);
+        if (!is_refused && fits) {
+            want("the texts of strings", wanted_len == 0 || !memcmp(texts, wanted, wanted_len));
+            want("the ends of strings", strings_len == 0 || !memcmp(ends, wanted_ends, strings_len * sizeof *ends));
+        }
+    }
+}
+
 /* The status of a reference by digits, or 1 for one that its name decides. */
 static uint32_t reference_status(const uint8_t *bytes, size_t len) {
     size_t is_hexadecimal = len > 2 && (bytes[2] == 'x' || bytes[2] == 'X'), digits = 0;
@@ -600,6 +713,7 @@ static void try_case(void) {
     }
     if (is_done(TEXTS, &it, texts_status(&it))) look_at_texts(&it);
     try_bytes(&it);
+    try_strings(&it);
 }
 
 /* Tells of a touch of a page that may not be touched. */
@@ -620,6 +734,7 @@ int main(int argc, char **argv) {
     of_found = new_stretch(sizeof found / page, 0);
     of_ends = new_stretch(1, 0);
     of_count = new_stretch(1, 0);
+    of_blamed = new_stretch(1, 0);
     signal(SIGSEGV, touched);
     signal(SIGBUS, touched);
     for (; calls < most && faults == 0; seed++) {
@@ -632,7 +747,7 @@ int main(int argc, char **argv) {
         int is_drawn = markdown_inline_status_text(status) && status != MARKDOWN_INLINE_NO_MEMORY;
         want("each status comes often, and no other", is_drawn ? counts[status] >= FLOOR : counts[status] == 0);
     }
-    for (size_t call = 0; most >= ENOUGH && faults == 0 && call <= REFERENCE; call++) want("each function is called often", functions[call] >= ENOUGH / 100);
+    for (size_t call = 0; most >= ENOUGH && faults == 0 && call <= STRINGS; call++) want("each function is called often", functions[call] >= ENOUGH / 100);
     if (faults == 0) printf("bindings: %zu drawn calls of C, %zu done, %zu without room, %zu refused\n", calls, counts[0], counts[6], calls - counts[0] - counts[6]);
     return faults != 0;
 }

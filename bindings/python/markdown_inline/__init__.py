@@ -11,7 +11,7 @@ constructs are those of CommonMark, as in C and in Rust, and `gfm=True` asks for
 the proved library.
 """
 from types import MappingProxyType
-from typing import Iterable, Mapping, NamedTuple, Optional, Sequence, Tuple, Union
+from typing import Iterable, List, Mapping, NamedTuple, Optional, Sequence, Tuple, Union
 
 from . import _arguments, _library, _tables
 from ._events import Characters, Event, Events, Leaf, Leaves, Link, Texts
@@ -19,8 +19,8 @@ from ._names import Kind, Name
 
 __all__ = [
     'BlankLine', 'Content', 'DefinitionError', 'Error', 'Event', 'Events', 'Kind', 'Leaf', 'Leaves', 'Link', 'Name', 'NoContent', 'NoMemory',
-    'NoReference', 'NotUtf8', 'OPTIONS', 'Piece', 'Texts', 'TooLong', 'UnknownOption', 'html', 'identifier', 'is_content', 'is_text', 'leaves',
-    'reference', 'string', 'text', 'texts',
+    'NoReference', 'NoString', 'NotUtf8', 'OPTIONS', 'Piece', 'Texts', 'TooLong', 'UnknownOption', 'html',
+    'identifier', 'is_content', 'is_text', 'leaves', 'reference', 'string', 'strings', 'text', 'texts',
 ]
 
 #: Each option by its name, as a bit of `options`. It cannot be changed.
@@ -42,8 +42,10 @@ class Content(NamedTuple):
 
 
 class Error(Exception):
-    """Why a call answers nothing; `status` is that of the library."""
+    """Why a call answers nothing; `status` is that of the library. `at` is the number of what is to blame, where a call tells it: that
+    of a string."""
     status = 0
+    at: Optional[int] = None
 
 
 class UnknownOption(Error, ValueError):
@@ -86,7 +88,12 @@ class NoReference(Error, ValueError):
     status = 10
 
 
-_ERRORS = {it.status: it for it in (UnknownOption, NotUtf8, BlankLine, NoMemory, NoContent, DefinitionError, TooLong, NoReference)}
+class NoString(Error, ValueError):
+    """part of a string is no text of the bytes"""
+    status = 12
+
+
+_ERRORS = {it.status: it for it in (UnknownOption, NotUtf8, BlankLine, NoMemory, NoContent, DefinitionError, TooLong, NoReference, NoString)}
 Text = Union[str, bytes, bytearray, memoryview]
 Pieces = Optional[Iterable[Sequence[int]]]
 Target = Union[Text, Tuple[Text, Optional[Text]]]
@@ -94,6 +101,12 @@ Target = Union[Text, Tuple[Text, Optional[Text]]]
 
 def _raised(status: int) -> Error:
     return _ERRORS.get(status, Error)(_tables.STATUSES.get(status))
+
+
+def _blamed(status: int, at: int) -> Error:
+    error = _raised(status)
+    error.at = None if at == 2 ** 64 - 1 else at
+    return error
 
 
 def _characters(document: Text, bytes_given: bytes) -> Optional[Characters]:
@@ -201,6 +214,21 @@ def html(document: Text, pieces: Pieces = None, gfm: bool = False, math: bool = 
     if status:
         raise _raised(status)
     return found.decode()
+
+
+def strings(document: Text, strings: Iterable[Iterable[Sequence[int]]]) -> List[str]:
+    """The texts of strings, such as titles and destinations, with escapes and character references resolved. A string is a list of parts, each a range
+    of bytes of the document as (start, end), which are one text. Where it stands in a paragraph, they are what `Data` and `LineEnding` cover inside it.
+
+    >>> strings('[a](b\\\\*c "d &amp; e")', [[(4, 8)], [(10, 19)]])
+    ['b*c', 'd & e']
+    """
+    bytes_given = _arguments.text_of(document, 'document')
+    parts, listed, count = _arguments.strings_of(strings)
+    status, found, ends, at = _library.strings(bytes_given, parts, listed, count)
+    if status:
+        raise _blamed(status, at)
+    return [found[start:end].decode() for start, end in zip([0, *ends], ends)]
 
 
 def identifier(label: Text) -> str:

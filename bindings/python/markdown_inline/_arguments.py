@@ -131,6 +131,20 @@ def contents_of(given):
     return numbers, b''.join(contents), len(contents)
 
 
+def strings_of(given):
+    """The parts of all strings as they cross, two numbers each, the strings as they cross, and how many strings there are."""
+    parts, strings = array('Q'), array('Q')
+    for at, it in enumerate(_several(given, 'strings', 'string')):
+        start = len(parts) // 2
+        for number, part in enumerate(_several(it, 'strings[%d]' % at, 'part')):
+            first, _, end, _ = _numbers(part, 'part %d of strings[%d]' % (number, at))
+            if len(part) != 2:
+                raise ValueError('part %d of strings[%d] has %d numbers, and a part has 2' % (number, at, len(part)))
+            parts.extend((operator.index(first), operator.index(end)))
+        strings.extend((start, len(parts) // 2))
+    return parts, strings, len(strings) // 2
+
+
 def ranges_of(labels, start):
     """Where each label stands, of labels that follow one another from an index, and where the last one ends."""
     if not labels:

@@ -70,7 +70,7 @@ def _load():
     for name, arguments in (
         ('is_content', text + numbers), ('is_text', text + numbers), ('string', given + lent), ('text', given + lent), ('leaves', given + lent),
         ('identifier', text + lent), ('reference', text + lent), ('texts', given + numbers + numbers + numbers + lent[2:]),
-        ('html', given + numbers + [ctypes.c_uint32] + lent),
+        ('html', given + numbers + [ctypes.c_uint32] + lent), ('strings', text + numbers * 4 + 2 * lent[2:]),
     ):
         function = getattr(library, 'markdown_inline_' + name)
         function.restype, function.argtypes = ctypes.c_uint32, arguments
@@ -159,3 +159,16 @@ def html(given, targets, count, options):
 def tested(name, document, pieces):
     """Calls a test of pieces: its status."""
     return getattr(LIBRARY, name)(document, len(document), pieces.buffer_info()[0], len(pieces) // 4)
+
+
+def strings(document, parts, listed, count):
+    """Calls for the texts of this many strings, as they cross, of these parts: the status, the texts' bytes, where each ends, and what is to blame."""
+    ends, blamed = array('Q', bytes(8 * count)), _size()
+
+    def call(lent, room, written):
+        return LIBRARY.markdown_inline_strings(
+            document, len(document), parts.buffer_info()[0], len(parts) // 2, listed.buffer_info()[0], count, lent, room, ends.buffer_info()[0], count, written,
+            ctypes.byref(blamed))
+
+    status, found = filled(call, 1, len(document))
+    return status, found, ends, blamed.value

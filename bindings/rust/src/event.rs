@@ -62,7 +62,7 @@ pub struct Event {
     pub link: Option<Link>,
 }
 
-fn number_of(number: usize) -> Option<usize> {
+pub(crate) fn number_of(number: usize) -> Option<usize> {
     (number != usize::MAX).then_some(number)
 }
 

@@ -58,15 +58,17 @@ mod leaf;
 mod name;
 mod options;
 mod raw;
+mod strings;
 mod texts;
 
-pub use error::Error;
+pub use error::{Blame, Error};
 pub use event::{Chain, Content, Event, EventSlice, Events, Iter, Kind, Link, Point};
 pub use input::Input;
 pub use leaf::{Leaf, LeafIter, Leaves};
 pub use name::Name;
 pub use options::{HtmlOptions, Options};
 pub use raw::Piece;
+pub use strings::{strings, Strings};
 pub use texts::{TextContent, Texts};
 
 use raw::BytesCall;

@@ -169,6 +169,20 @@ extern "C" {
         html_len: usize,
         count: *mut usize,
     ) -> u32;
+    pub(crate) fn markdown_inline_strings(
+        bytes: *const u8,
+        bytes_len: usize,
+        parts: *const RawRange,
+        parts_len: usize,
+        strings: *const RawRange,
+        strings_len: usize,
+        texts: *mut u8,
+        texts_len: usize,
+        ends: *mut usize,
+        ends_len: usize,
+        count: *mut usize,
+        blamed: *mut usize,
+    ) -> u32;
 }
 
 #[cfg(test)]

@@ -1,8 +1,8 @@
 //! Statuses, memory that is used again, and calls on several threads.
 
 use markdown_inline::{
-    identifier, is_right_version, reference, string, text, Error, Events, HtmlOptions, Input,
-    Options, Piece, TextContent,
+    identifier, is_right_version, reference, string, strings, text, Error, Events, HtmlOptions,
+    Input, Options, Piece, TextContent,
 };
 use std::thread;
 
@@ -153,6 +153,22 @@ fn many_contents_are_read_as_each_by_itself() {
     assert!(found.get(2).is_none() && found.len() == 2 && found.iter().count() == 2);
     let wrong = [content(0..1, false), content(2..4, false)];
     assert_eq!(input.texts(&wrong).unwrap_err(), Error::NoContent);
+}
+
+#[test]
+fn strings_have_their_texts() {
+    let document = "[a](<b\\*c> 'd\r\n &copy; \u{e9}')";
+    let parts = [5..9, 12..13, 13..15, 16..25];
+    let found = strings(document, &parts, &[0..1, 1..4, 2..2]).unwrap();
+    let texts: Vec<_> = found.iter().collect();
+    assert_eq!(texts, ["b*c", "d\r\n\u{a9} \u{e9}", ""]);
+    assert!(found.len() == 3 && !found.is_empty() && found.get(3).is_none());
+    let error = strings("\u{e9}", &[0..2, 1..2], &[0..1, 0..2]).unwrap_err();
+    assert_eq!((error.error, error.at), (Error::NoString, Some(1)));
+    assert_eq!(
+        error.to_string(),
+        "part of a string is no text of the bytes, number 1"
+    );
 }
 
 #[test]

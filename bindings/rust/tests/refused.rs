@@ -2,7 +2,7 @@
 #![cfg(all(target_os = "linux", target_env = "gnu"))]
 
 use markdown_inline::{
-    identifier, reference, Error, Events, HtmlOptions, Input, TextContent, Texts,
+    identifier, reference, strings, Error, Events, HtmlOptions, Input, TextContent, Texts,
 };
 use std::cell::Cell;
 use std::ffi::c_void;
@@ -73,10 +73,11 @@ fn refused_memory_is_an_error() {
         refused(|| input.html_into(HtmlOptions::default(), &mut html)),
         refused(|| input.texts(&contents).map(drop)),
         refused(|| input.texts_into(&contents, &mut texts)),
+        refused(|| strings("a", &[0..1], &[0..1]).map(drop)).map_err(|it| it.error),
         refused(|| identifier("A").map(drop)),
         refused(|| reference("&amp;").map(drop)),
     ];
-    assert_eq!(found, [Err(Error::NoMemory); 10]);
+    assert_eq!(found, [Err(Error::NoMemory); 11]);
     assert!(events.is_empty() && html.is_empty() && texts.is_empty());
     assert!(input.texts(&contents).is_ok());
     assert!(input.text_into(&mut events).is_ok());

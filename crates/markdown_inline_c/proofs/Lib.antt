@@ -1,7 +1,10 @@
 mod Contents
 mod Errors
 mod Filled
+mod Joined
 mod Labels
 mod Leaves
+mod Listed
 mod Pushed
+mod Refused
 mod Targets

@@ -8,3 +8,6 @@ pub mod FlatTexts
 pub mod References
 pub mod Statuses
 pub mod Answers
+pub mod Listings
+pub mod FlatStrings
+pub mod Refusals

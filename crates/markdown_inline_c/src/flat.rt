@@ -159,7 +159,7 @@ fn link_number(content: Content) -> u8
     }
 }
 
-fn number_or_max(number: Option<usize>) -> usize
+pub(crate) fn number_or_max(number: Option<usize>) -> usize
     ensures { result ≡ number_or_max number }
 {
     number.unwrap_or(usize::MAX)

@@ -2,11 +2,13 @@
 //!
 //! A call answers a status: 0 where it is done, 2 for an unknown option, 3 for a document that is not UTF-8, 4 for a text with a blank line or a
 //! line ending at its end, 5 where memory was refused, 6 for an array that is too small, 7 for pieces that are no content, 8 for the range of a
-//! definition that is no text of the labels, 9 for a document longer than an eighth of `usize::MAX`, 10 for bytes that are no character reference.
+//! definition that is no text of the labels, 9 for a document longer than an eighth of `usize::MAX`, 10 for bytes that are no character reference, 12 for
+//! parts of a string that are no texts.
 //! It is that of the first thing that is wrong, in the order 2, 9, 3, 7, 4, 8.
 #![tactic(auto)]
 
 ghost use Rattle.std.specs.Prelude.{◌≡◌, IsTrue, IsUtf8, map};
+ghost use Rattle.std.specs.List.{All};
 ghost use Rattle.std.specs.Option.{is_some};
 ghost use Rattle.markdown_model.specs.InlineTree.{string_events, text_events};
 ghost use Rattle.markdown_inline_c.specs.FlatInput.{pieces_of, string_setting, text_setting, IsStringInput, IsTextInput};
@@ -14,6 +16,9 @@ ghost use Rattle.markdown_inline_c.specs.FlatEvents.{flat_event};
 ghost use Rattle.markdown_inline_c.specs.FlatLeaves.{leaves_of};
 ghost use Rattle.markdown_inline_c.specs.FlatHtml.{html_of, IsHtmlInput};
 ghost use Rattle.markdown_inline_c.specs.FlatTexts.{ends_of, texts_of, IsTextsInput};
+ghost use Rattle.markdown_inline_c.specs.FlatStrings.{IsStringAt, string_text, strings_of};
+ghost use Rattle.markdown_inline_c.specs.Listings.{ends_behind};
+ghost use Rattle.markdown_inline_c.specs.Refusals.{IsAnswerOrBlame, IsStringsRefusal};
 ghost use Rattle.markdown_inline_c.specs.References.{reference_text, reference_value};
 ghost use Rattle.markdown_inline_c.specs.Answers.{IsAnswer, IsAnswerTwice, IsTested};
 ghost use Rattle.markdown_inline_c.specs.Statuses.{IsContentFault, IsHtmlFault, IsPiecesFault, IsLabelFault, IsReferenceFault, IsStringFault, IsTextFault, IsTextsFault};
@@ -21,6 +26,7 @@ ghost use Rattle.markdown_util.specs.Identifier.{identifier_of};
 ghost use Rattle.markdown_engine_content.specs.Content.{IsContent, IsTextContent};
 
 pub mod answer;
+pub mod blame;
 pub mod check;
 pub mod fault;
 pub mod flat;
@@ -29,10 +35,13 @@ pub mod input;
 pub mod label;
 pub mod leaf;
 pub mod reference;
+pub mod refusal;
+pub mod strings;
 pub mod texts;
 
 use answer::{answer, answer_texts, answer_with};
-use flat::{FlatContent, FlatEvent, FlatLeaf, FlatPiece, FlatTarget, Input};
+use blame::answer_strings;
+use flat::{FlatContent, FlatEvent, FlatLeaf, FlatPiece, FlatTarget, Input, Range};
 use std::alloc::Global;
 
 /// The version of the functions that this library exports, and of the types that they take.
@@ -188,4 +197,35 @@ pub extern "C" fn markdown_inline_html(
     ensures { IsAnswer (html_of input.now targets.now options) (IsHtmlInput input.now targets.now options) (IsHtmlFault input.now targets.now options) html.old html.new count.old count.new result }
 {
     answer_with(html::html(alloc, input, targets, options), html, count)
+}
+
+/// The texts of strings, one after another, with escaped punctuation in place of its escape, and in place of each character reference its text
+/// (CommonMark 0.31, sections 2.4 and 2.5): of destinations, titles and info strings. Names of references are HTML's. All other bytes stay, line endings
+/// among them.
+///
+/// A part is a range of the bytes; a string is a range of numbers of parts, whose bytes are one text.
+///
+/// With status 0 the texts stand at the front of `texts`, and `count` is how many bytes they have; where that of each string ends stands at the front of
+/// `ends`. With status 6 `count` is that too, and `texts` has not room for them, or `ends` not for one end a string. With status 12 `blamed` is the number of
+/// the first string that has a part that is not given, or one that is no text of the bytes; with each other status it is `usize::MAX`. Nothing else is written.
+#[unsafe(no_mangle)]
+pub extern "C" fn markdown_inline_strings(
+    alloc: Global,
+    bytes: &[u8],
+    parts: &[Range],
+    strings: &[Range],
+    texts: &mut [u8],
+    ends: &mut [usize],
+    count: &mut usize,
+    blamed: &mut usize,
+) -> u32
+    ensures { IsAnswerOrBlame (strings_of bytes.now parts.now strings.now) (ends_behind 0 (string_text bytes.now parts.now) strings.now) (All (IsStringAt bytes.now parts.now) strings.now) (IsStringsRefusal bytes.now parts.now strings.now) texts.old texts.new ends.old ends.new count.old count.new blamed.new result }
+{
+    answer_strings(
+        strings::strings(alloc, bytes, parts, strings),
+        texts,
+        ends,
+        count,
+        blamed,
+    )
 }

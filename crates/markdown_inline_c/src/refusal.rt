@@ -1,0 +1,51 @@
+// Why a call refuses its input, and which part of it is to blame.
+
+ghost use Rattle.std.specs.Prelude.{◌≡◌, None};
+ghost use Rattle.markdown_inline_c.specs.Refusals.{refusal_at};
+ghost use Rattle.markdown_inline_c.specs.declared.fault.Fault.TheVariants.{Memory};
+
+use crate::fault::Fault;
+use std::alloc::AllocError;
+
+/// Why a call refuses its input, and the number of what is to blame, where that is one of many.
+#[derive(Clone, Copy, Debug, PartialEq, Eq)]
+pub struct Refusal {
+    /// Why.
+    pub fault: Fault,
+    /// The number of what is to blame.
+    pub at: Option<usize>,
+}
+
+impl Refusal {
+    /// The refusal of one of many, by its number. Nothing is to blame where memory was refused.
+    pub fn of(fault: Fault, number: usize) -> Refusal
+        ensures { result ≡ refusal_at fault number }
+    {
+        match fault {
+            Fault::Memory => Refusal { fault, at: None },
+            _ => Refusal {
+                fault,
+                at: Some(number),
+            },
+        }
+    }
+}
+
+impl From<Fault> for Refusal {
+    ghost from_gives = { λ fault r. r ≡ record { fault = fault; at = None } };
+
+    fn from(fault: Fault) -> Refusal {
+        Refusal { fault, at: None }
+    }
+}
+
+impl From<AllocError> for Refusal {
+    ghost from_gives = { λ _ r. r ≡ record { fault = Memory; at = None } };
+
+    fn from(_error: AllocError) -> Refusal {
+        Refusal {
+            fault: Fault::Memory,
+            at: None,
+        }
+    }
+}
