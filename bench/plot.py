@@ -1,74 +1,98 @@
-"""Plots as SVG: bars on a scale of powers of ten, and dots on a line."""
+"""Plots as SVG, readable on a light ground and on a dark one: ratios on a scale of powers of two, and dots on a line."""
 import math
 from xml.sax.saxutils import escape
 
-COLOURS = ['#1b6ca8', '#7fb3d5', '#c0392b', '#e59866', '#7d9d4e', '#9b59b6']
-FONT = 'font-family="sans-serif" font-size="11"'
+# The colours of a light ground and of a dark one; each series has a shape of its own too.
+STYLE = '''<style>
+text { font: 11px sans-serif; fill: #1f2328 }
+.ground { fill: #ffffff }
+.line { stroke: #d1d9e0 }
+.one { stroke: #59636e; stroke-width: 1.5 }
+.s0 { fill: #0969a8 } .s1 { fill: #d1580a } .s2 { fill: #1a7f4e } .s3 { fill: #9a45b0 } .s4 { fill: #8a6a00 } .s5 { fill: #b3214a }
+@media (prefers-color-scheme: dark) {
+text { fill: #e6edf3 }
+.ground { fill: #0d1117 }
+.line { stroke: #30363d }
+.one { stroke: #9198a1 }
+.s0 { fill: #58a6ff } .s1 { fill: #ff9b50 } .s2 { fill: #4fc37f } .s3 { fill: #d89cf0 } .s4 { fill: #e3c04d } .s5 { fill: #ff8fa8 }
+}
+</style>'''
+SHAPES = [
+    lambda x, y: '<circle cx="%.1f" cy="%.1f" r="4.5"' % (x, y),
+    lambda x, y: '<rect x="%.1f" y="%.1f" width="8" height="8"' % (x - 4, y - 4),
+    lambda x, y: '<path d="M%.1f %.1fl5 9h-10z"' % (x, y - 5),
+    lambda x, y: '<path d="M%.1f %.1fl5.5 5.5l-5.5 5.5l-5.5 -5.5z"' % (x, y - 5.5),
+    lambda x, y: '<path d="M%.1f %.1fl-5 -9h10z"' % (x, y + 5),
+    lambda x, y: '<rect x="%.1f" y="%.1f" width="10" height="4"' % (x - 5, y - 2),
+]
 
 
-def text(x, y, words, anchor='start', colour='#222'):
-    return '<text x="%.1f" y="%.1f" text-anchor="%s" fill="%s" %s>%s</text>' % (x, y, anchor, colour, FONT, escape(words))
+def mark(number, x, y, words):
+    """The mark of a series, with words that show where it is pointed at."""
+    at = number % len(SHAPES)
+    return '%s class="s%d"><title>%s</title></%s>' % (SHAPES[at](x, y), at, escape(words), SHAPES[at](x, y)[1:].split(' ', 1)[0])
 
 
-def line(x, y, to_x, to_y, colour):
-    return '<line x1="%.1f" y1="%.1f" x2="%.1f" y2="%.1f" stroke="%s"/>' % (x, y, to_x, to_y, colour)
+def text(x, y, words, anchor='start'):
+    return '<text x="%.1f" y="%.1f" text-anchor="%s">%s</text>' % (x, y, anchor, escape(words))
+
+
+def line(x, y, to_x, to_y, kind='line'):
+    return '<line x1="%.1f" y1="%.1f" x2="%.1f" y2="%.1f" class="%s"/>' % (x, y, to_x, to_y, kind)
 
 
 def legend(names, x, y):
     parts = []
-    for i, name in enumerate(names):
-        parts.append('<rect x="%.1f" y="%.1f" width="10" height="10" fill="%s"/>' % (x, y - 9, COLOURS[i % len(COLOURS)]))
-        parts.append(text(x + 14, y, name))
-        x += 30 + 7 * len(name)
+    for number, name in enumerate(names):
+        parts += [mark(number, x + 5, y - 4, name), text(x + 15, y, name)]
+        x += 35 + 7 * len(name)
     return parts
 
 
-def drawing(width, height, parts):
-    head = '<svg xmlns="http://www.w3.org/2000/svg" width="%d" height="%d" viewBox="0 0 %d %d">' % (width, height, width, height)
-    ground = '<rect width="%d" height="%d" fill="#fff"/>' % (width, height)
-    return '\n'.join([head, ground] + parts + ['</svg>', ''])
+def drawing(title, width, height, parts):
+    head = '<svg xmlns="http://www.w3.org/2000/svg" width="%d" height="%d" viewBox="0 0 %d %d" role="img">' % (width, height, width, height)
+    ground = '<rect class="ground" width="%d" height="%d"/>' % (width, height)
+    return '\n'.join([head, '<title>%s</title>' % escape(title), STYLE, ground, text(10, 18, title)] + parts + ['</svg>', ''])
 
 
-def bars(title, names, rows, left=210, width=820):
-    """A bar with its number for each figure of each row, on a scale of powers of ten. A row is its name and a figure (or none) for each of the names."""
-    figures = [figure for _, row in rows for figure in row if figure]
-    low = math.floor(math.log10(min(figures)))
-    high = math.ceil(math.log10(max(figures)))
-    scale = (width - left - 60) / max(high - low, 1)
-    step, top = 11, 56
-    row_height = step * len(names) + 8
-    bottom = top + row_height * len(rows)
-    parts = [text(10, 18, title)] + legend(names, 10, 38)
+def ratio(power):
+    return '%d' % 2 ** power if power >= 0 else '1/%d' % 2 ** -power
+
+
+def ratios(title, names, rows, left=250, width=820):
+    """A mark for each ratio of each row, on a scale of powers of two with a line at 1. A row is its name and a ratio (or none) for each of the names."""
+    found = [math.log2(one) for _, row in rows for one in row if one] or [0]
+    low, high = min(math.floor(min(found)), -1), max(math.ceil(max(found)), 1)
+    scale, step, top = (width - left - 40) / (high - low), 18, 64
+    bottom = top + step * len(rows)
+    parts = legend(names, 10, 40)
     for power in range(low, high + 1):
         x = left + (power - low) * scale
-        parts += [line(x, top - 4, x, bottom, '#ddd'), text(x, bottom + 14, '{:,}'.format(10 ** power) if power >= 0 else str(10 ** power), 'middle')]
+        parts += [line(x, top - 10, x, bottom, 'line' if power else 'one'), text(x, bottom + 14, ratio(power), 'middle')]
     for number, (name, row) in enumerate(rows):
-        y = top + number * row_height
-        parts.append(text(left - 8, y + row_height / 2 + 1, name, 'end'))
-        for i, figure in enumerate(row):
-            if figure:
-                length = max((math.log10(figure) - low) * scale, 1)
-                parts.append('<rect x="%d" y="%.1f" width="%.1f" height="%d" fill="%s"/>' % (left, y + i * step, length, step - 1, COLOURS[i % len(COLOURS)]))
-                parts.append(text(left + length + 4, y + i * step + step - 1, '{:,.0f}'.format(figure)))
-    return drawing(width, bottom + 24, parts)
+        y = top + number * step
+        parts.append(text(left - 12, y + 4, name, 'end'))
+        for i, one in reversed(list(enumerate(row))):
+            if one:
+                parts.append(mark(i, left + (math.log2(one) - low) * scale, y, '%s: %.2f' % (names[i], one)))
+    return drawing(title, width, bottom + 24, parts)
 
 
 def dots(title, names, rows, low, high, left=360, width=820):
-    """A dot for each figure of each row, on a line from the lowest to the highest. Figures outside stand at its ends."""
+    """A mark for each figure of each row, on a line from the lowest to the highest. Figures outside stand at its ends."""
     scale = (width - left - 40) / (high - low)
-    step, top = 14, 56
+    step, top = 14, 64
     bottom = top + step * len(rows)
-    parts = [text(10, 18, title)] + legend(names, 10, 38)
+    parts = legend(names, 10, 40)
     tick = low
     while tick <= high + 0.001:
         x = left + (tick - low) * scale
-        parts += [line(x, top - 8, x, bottom, '#ddd'), text(x, bottom + 14, '%.1f' % tick, 'middle')]
+        parts += [line(x, top - 10, x, bottom), text(x, bottom + 14, '%.1f' % tick, 'middle')]
         tick += 0.5
     for number, (name, row) in enumerate(rows):
         y = top + number * step
         parts.append(text(left - 8, y + 4, name.replace('`', ''), 'end'))
         for i, figure in reversed(list(enumerate(row))):
             if figure:
-                x = left + (min(max(figure, low), high) - low) * scale
-                parts.append('<circle cx="%.1f" cy="%.1f" r="4" fill="%s"/>' % (x, y, COLOURS[i % len(COLOURS)]))
-    return drawing(width, bottom + 24, parts)
+                parts.append(mark(i, left + (min(max(figure, low), high) - low) * scale, y, '%s: %.2f' % (names[i], figure)))
+    return drawing(title, width, bottom + 24, parts)

@@ -1,0 +1,178 @@
+"""What stands side by side in one run of bench/measure: the texts, the programs that read them, and the tables of time, instructions and memory."""
+import json
+import os
+import subprocess
+
+import inputs
+import runs
+
+# The sizes at which texts are measured, and as bench/corpus and the tables name them.
+SIZES = [(200_000, '200k', '200 KB'), (2_000_000, '2m', '2 MB')]
+# With --check.
+SMALL_SIZES = [(2_000, '200k', '2 KB'), (4_000, '2m', '4 KB')]
+RICH, PLAIN = 'rich drawn prose', 'plain drawn prose'
+# What is said of less and of more, and of what.
+LESS_TIME, FEWER_INSTRUCTIONS = ('less', 'more', 'time'), ('fewer', 'more', 'instructions')
+# A run that takes more seconds than these by itself has no figure, and over one that takes more than the second no instructions are counted.
+SLOWEST, SLOW = 10, 2
+
+
+class Text(inputs.Input):
+    """A text to measure with: its name, its size in words, and whether it is many paragraphs or one."""
+    def __init__(self, name, size, given, apart=False):
+        self.name, self.size, self.apart = name, size, apart
+        self.text, self.definitions = given.text, given.definitions
+        self.bytes = len(self.text.encode())
+
+
+class Corpus:
+    """Real text, as bench/corpus gathers it; `missing` says in a sentence why there is none."""
+    def __init__(self, seed):
+        done = subprocess.run([os.path.join(runs.HERE, 'bench', 'corpus'), '--seed', str(seed)], stdin=subprocess.DEVNULL, stdout=subprocess.PIPE,
+                              stderr=subprocess.PIPE, text=True)
+        for line in done.stderr.rstrip().split('\n') if done.stderr else []:
+            runs.say(line)
+        self.folder = done.stdout.strip() if done.returncode == 0 else None
+        self.missing = None if self.folder else done.stderr.rstrip().split('\n')[-1].split(': ', 1)[-1]
+        self.packages = json.loads(self.read('sources.json'))['packages'] if self.folder else []
+
+    def read(self, name):
+        with open(os.path.join(self.folder, name), encoding='utf-8') as file:
+            return file.read()
+
+    def texts(self, size, word, name):
+        """The text as one paragraph and as many, up to so many bytes."""
+        if self.folder is None:
+            return []
+        paragraphs = cut(self.read('apart-%s.md' % word).rstrip('\n').split('\n\n'), size)
+        defined = [tuple(pair) for pair in json.loads(self.read('definitions-%s.json' % word))]
+        return [Text('real text in one paragraph', name, inputs.Input('\n'.join(paragraphs), defined)),
+                Text('real text in paragraphs apart', name, inputs.Input('\n\n'.join(paragraphs), defined), apart=True)]
+
+
+def cut(paragraphs, size):
+    """The first paragraphs, until they have so many bytes."""
+    taken, total = [], 0
+    for it in paragraphs:
+        if total >= size:
+            break
+        taken.append(it)
+        total += len(it.encode()) + 1
+    return taken
+
+
+def texts(corpus, seed, sizes):
+    """All texts: real text where there is any, and the drawn prose, each at each size."""
+    found = []
+    for size, word, name in sizes:
+        found += corpus.texts(size, word, name)
+        found += [Text(it, name, given) for it, given in zip((RICH, PLAIN), (one for _, one in inputs.prose(size, seed)))]
+    return sorted(found, key=lambda text: [it.name for it in found].index(text.name))
+
+
+class Figures:
+    """What was measured of a program over a text; each is none where it could not be had."""
+    def __init__(self, time=None, instructions=None, peak=None):
+        self.time, self.instructions, self.peak = time, instructions, peak
+
+
+def measured(text, programs, pool, args):
+    """The figures of programs over a text. A program is none where it does not read such a text."""
+    there = [program for program in programs if program]
+    taken = runs.times(there, text, args.rounds, SLOWEST)
+
+    def counted(pair):
+        program, time = pair
+        return runs.instructions(program, text, args.seconds) if time and time.best < SLOW else None
+
+    counts = list(pool.map(counted, zip(there, taken)))
+    peaks = [time and runs.peak(program, text, args.peaks) for program, time in zip(there, taken)]
+    found = dict(zip(map(id, there), map(Figures, taken, counts, peaks)))
+    runs.say('measured: %s, %s' % (text.name, text.size))
+    return [found.get(id(program), Figures()) for program in programs]
+
+
+class Side:
+    """Programs side by side over texts: their names, ours first, and a row of figures for each text."""
+    def __init__(self, texts, programs_of, pool, args):
+        self.texts = texts
+        self.rows, self.names = [], []
+        for text in texts:
+            programs = programs_of(text)
+            self.names = self.names or [program.name for program in programs]
+            self.rows.append(measured(text, programs, pool, args))
+
+    def ours(self):
+        """How many of the programs are ours, in the first columns."""
+        return sum(name.startswith(('library', 'inline_html')) for name in self.names)
+
+    def ratios(self):
+        """The times of the other programs as multiples of ours, which is the first: a row for each text."""
+        rows = []
+        for text, row in zip(self.texts, self.rows):
+            first = row[0].time
+            rows.append(('%s, %s' % (text.name, text.size), [it.time and first and it.time.best / first.best for it in row[1:]]))
+        return rows
+
+    def time_table(self):
+        head = ['Text', 'Size', self.names[0] + ', ns a byte'] + ['%s, ratio' % name for name in self.names[1:]]
+        rows = []
+        for text, row, (_, ratios) in zip(self.texts, self.rows, self.ratios()):
+            first = row[0].time
+            rows.append([text.name, text.size, shown(first and first.best * 1e9 / text.bytes, '{:.1f}')] + [shown(it, '{:.2f}') for it in ratios])
+        return head, rows
+
+    def table(self, of, form):
+        """A table of one figure a byte of the text."""
+        return ['Text', 'Size'] + self.names, [[text.name, text.size] + [shown(of(it) and of(it) / text.bytes, form) for it in row]
+                                                for text, row in zip(self.texts, self.rows)]
+
+    def instructions_table(self):
+        return self.table(lambda it: it.instructions, '{:,.1f}')
+
+    def peak_table(self):
+        return self.table(lambda it: it.peak, '{:,.1f}')
+
+    def system(self, size):
+        """Which part of our time is the system's over texts of a size, in words."""
+        return listed(['%.0f %% over %s' % (100 * row[0].time.system, text.name) for text, row in zip(self.texts, self.rows) if text.size == size and row[0].time])
+
+    def quarters(self):
+        """By how much the fastest quarter of a program's runs differs at most from the best over texts of each size, in words."""
+        found = {}
+        for text, row in zip(self.texts, self.rows):
+            found.setdefault(text.size, []).extend(it.time.quarter for it in row if it.time)
+        return listed(['%.0f %% over %s' % (100 * max(some) - 100, size) for size, some in found.items() if some])
+
+
+def shown(value, form):
+    return '' if value is None else form.format(value)
+
+
+def listed(words):
+    """Words as a list in a sentence."""
+    return ' and '.join([', '.join(words[:-1])] * bool(words[:-1]) + words[-1:])
+
+
+def verdict(side, of, words, size):
+    """A sentence for each other program: over which texts of a size it needs less of what is measured than ours, and over which more."""
+    ours, sentences = 'the library' if side.names[0] == 'library' else '`%s`' % side.names[0], []
+    for number, name in list(enumerate(side.names))[side.ours():]:
+        less, more = [], []
+        for text, row in zip(side.texts, side.rows):
+            mine, other = of(row[0]), of(row[number])
+            if text.size == size and mine and other:
+                (less if other < mine else more).append('%s (%.2f)' % (text.name, other / mine))
+        said = [(word, listed(some)) for word, some in zip(words, (less, more)) if some]
+        if said:
+            first = '- %s takes %s %s than %s over %s' % (name, said[0][0], words[2], ours, said[0][1])
+            sentences.append(first + ''.join(', but %s over %s' % pair for pair in said[1:]) + '.')
+    return '\n'.join(sentences)
+
+
+def best_of(figures):
+    return figures.time and figures.time.best
+
+
+def instructions_of(figures):
+    return figures.instructions
