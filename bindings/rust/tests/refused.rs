@@ -73,7 +73,7 @@ fn refused_memory_is_an_error() {
         refused(|| input.html_into(HtmlOptions::default(), &mut html)),
         refused(|| input.texts(&contents).map(drop)),
         refused(|| input.texts_into(&contents, &mut texts)),
-        refused(|| strings("a", &[0..1], &[0..1]).map(drop)).map_err(|it| it.error),
+        refused(|| strings("a", &[0..1, 0..1], &[0..2, 0..1]).map(drop)).map_err(|it| it.error),
         refused(|| identifier("A").map(drop)),
         refused(|| reference("&amp;").map(drop)),
     ];
