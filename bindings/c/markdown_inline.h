@@ -29,7 +29,7 @@ extern "C" {
 #define MARKDOWN_INLINE_VERSION 1
 
 /* Statuses, with what each says. A status is that of the first thing that is wrong, in the order 2, 9, 3, 7, 4, 8, but where a call says another;
- * memory may be refused at any time. But for DONE and TOO_SMALL nothing is written, where a call does not say another. */
+ * memory may be refused at any time. But for DONE and TOO_SMALL nothing is written, except what is to blame where a call tells that. */
 #define MARKDOWN_INLINE_EACH_STATUS(X) \
     X(DONE, 0, "done") \
     X(UNKNOWN_OPTION, 2, "unknown option") \
@@ -41,6 +41,7 @@ extern "C" {
     X(DEFINITION, 8, "range of a definition is no text of the labels") \
     X(TOO_LONG, 9, "document too long") \
     X(NO_REFERENCE, 10, "no character reference") \
+    X(REFERENCES, 11, "references bring more than the limit") \
     X(NO_STRING, 12, "part of a string is no text of the bytes")
 
 /* Options, each by a bit: the constructs, the four settings, and whether the text is the first of a list item. */
@@ -262,7 +263,7 @@ enum { MARKDOWN_INLINE_UNLINKED = 0, MARKDOWN_INLINE_LINKED_STRING = 1, MARKDOWN
 /* What HTML may hold, each by a bit: raw HTML as it stands, and not as text; links that lead wherever they say, and not to listed schemes alone. */
 enum { MARKDOWN_INLINE_HTML_RAW = 0x1, MARKDOWN_INLINE_HTML_ANY_LINK = 0x2 };
 
-/* The number of no event. */
+/* The number of no event, and of no content and no definition that is to blame. */
 #define MARKDOWN_INLINE_NONE SIZE_MAX
 
 /* A piece of a document, from a place to a place. A place is a byte, and the columns of the tab there that come before; 0 outside of tabs. Each
@@ -339,15 +340,19 @@ uint32_t markdown_inline_is_content(const uint8_t *bytes, size_t bytes_len, cons
 /* Whether the pieces are a text of the document, so a content without a blank line: DONE, or the statuses above, or BLANK_LINE. */
 uint32_t markdown_inline_is_text(const uint8_t *bytes, size_t bytes_len, const markdown_inline_piece *pieces, size_t pieces_len);
 
-/* Finds the events of the input's pieces as a string: of escapes, character references and data. Labels and definitions are not looked at.
- * DONE: the events stand at the front of the array, and `*count` is how many they are. TOO_SMALL: `*count` is how many they are, and the array is
- * as before; call again with room for them. Else nothing is written. */
+/* Finds the events of the input's pieces as a string: of escapes, character references and data. Each call tests the whole document and passes all
+ * that stands before the pieces, so a call for each of many pieces of one document takes time in proportion to its square; such a piece can be handed
+ * over as a document of its own. Labels and definitions are not looked at. DONE: the events stand at the front of the array, and `*count` is how many
+ * they are. TOO_SMALL: `*count` is how many they are, and the array is as before; call again with room for them. Else nothing is written. */
 uint32_t markdown_inline_string(const markdown_inline_input *input, markdown_inline_event *events, size_t events_len, size_t *count);
 
-/* Finds the events of the input's pieces as a text: of the inside of a paragraph, a heading or a table's cell. The rest is as above. */
+/* Finds the events of the input's pieces as a text: of the inside of a paragraph, a heading or a table's cell. Each call tests the whole document,
+ * passes all that stands before the pieces, and puts the labels in order, so a call for each paragraph of one document takes time in proportion to
+ * its square: for many contents call markdown_inline_texts. The rest is as above. */
 uint32_t markdown_inline_text(const markdown_inline_input *input, markdown_inline_event *events, size_t events_len, size_t *count);
 
-/* Finds the leaves of the input's pieces as a text, in order: together they cover the pieces, each code once. The rest is as of events. */
+/* Finds the leaves of the input's pieces as a text, in order: together they cover the pieces, each code once. A call costs what that for events does:
+ * for many contents call markdown_inline_texts. The rest is as of events. */
 uint32_t markdown_inline_leaves(const markdown_inline_input *input, markdown_inline_leaf *leaves, size_t leaves_len, size_t *count);
 
 /* Finds the identifier of a label, as labels are compared: its words joined by one space and case folded, in UTF-8. DONE: it stands at the front of
@@ -367,12 +372,33 @@ uint32_t markdown_inline_reference(const uint8_t *reference, size_t reference_le
 uint32_t markdown_inline_texts(const markdown_inline_input *input, const markdown_inline_content *contents, size_t contents_len,
     markdown_inline_event *events, size_t events_len, size_t *ends, size_t ends_len, size_t *count);
 
-/* Writes the HTML of the input's pieces as a text, in UTF-8. The target of each number says where the definition of that number leads. `options` has
- * bits MARKDOWN_INLINE_HTML_RAW and MARKDOWN_INLINE_HTML_ANY_LINK; without them nothing runs that the text brings. Each call numbers footnotes from 1 on,
- * and line endings stay. DONE: the HTML stands at the front of the array, and `*count` is how many bytes it has. DEFINITION: a label or a target is no text
- * of the labels, or there is not one target for each definition. The rest is as of events. */
+/* Writes the HTML of the input's pieces as a text, in UTF-8. Each call tests the whole document, passes all that stands before the pieces, and puts
+ * the definitions in order, so a call for each paragraph of one document takes time in proportion to its square: for many contents call
+ * markdown_inline_htmls, which numbers footnotes through all of them and takes a limit on what references bring. The target of each number says where
+ * the definition of that number leads. `options` has bits MARKDOWN_INLINE_HTML_RAW and MARKDOWN_INLINE_HTML_ANY_LINK; without them nothing runs that
+ * the text brings. Each call numbers footnotes from 1 on, and line endings stay. DONE: the HTML stands at the front of the array, and `*count` is how
+ * many bytes it has. DEFINITION: a label or a target is no text of the labels, or there is not one target for each definition. The rest is as of
+ * events. */
 uint32_t markdown_inline_html(const markdown_inline_input *input, const markdown_inline_target *targets, size_t targets_len, uint32_t options,
     uint8_t *html, size_t html_len, size_t *count);
+
+/* Writes the HTML of many contents of a document as texts, which is prepared once: each content costs what it costs by itself, wherever it stands.
+ * Contents are those of markdown_inline_texts, and targets and `options` those of markdown_inline_html. Footnotes are numbered through all contents,
+ * so each call of a footnote in them has an id of its own.
+ * A definition brings the bytes of its destination and of its title, as its target has them, to each link and image that refers to it; a link or an
+ * image with a resource is brought nothing. `limit` is how many bytes definitions may bring to all contents together, and 0 is no limit. Without one,
+ * n references to a definition of n bytes write n * n bytes; for text that is not trusted take the larger of 100000 and the document's length, as
+ * cmark does.
+ * DONE: the HTML stands at the front of the first array, one content after another, and `*count` is how many bytes it has; at the front of `ends`
+ * stands for each content how many bytes end with it. TOO_SMALL: `*count` is how many bytes there are, and there is not room for them, or not for one
+ * end a content. Of what is wrong the order is 2, 9, 3, 8; then 7, 4 or 11 for the first content that is no text, or to which with those before it
+ * definitions bring more than the limit.
+ * `*blamed` is written with each status. With 7, 4 and 11 it is the number of the content. With 8 it is the number of the definition whose label or
+ * target is no text of the labels; footnotes are counted on behind the definitions. Else, and where there is not one target for each definition, it
+ * is MARKDOWN_INLINE_NONE. */
+uint32_t markdown_inline_htmls(const markdown_inline_input *input, const markdown_inline_target *targets, size_t targets_len,
+    const markdown_inline_content *contents, size_t contents_len, uint32_t options, size_t limit, uint8_t *html, size_t html_len, size_t *ends,
+    size_t ends_len, size_t *count, size_t *blamed);
 
 /* Finds the texts of strings: of a link's destination or title, of a definition's, of an info string. Escaped punctuation stands in place of its escape, and
  * in place of each character reference its text (CommonMark 2.4 and 2.5), by HTML's names as far as they are known; all other bytes stay, line endings and NUL

@@ -83,7 +83,7 @@ static void test_statuses(void) {
 static void test_words(void) {
     static const char *const words[] = {"done", NULL, "unknown option", "document is not UTF-8", "blank line in text, or line ending at its end", "out of memory",
         "array too small", "pieces are no content of the document", "range of a definition is no text of the labels", "document too long",
-        "no character reference", NULL};
+        "no character reference", "references bring more than the limit", NULL};
     for (uint32_t status = 0; status < sizeof words / sizeof *words; status++) {
         const char *found = markdown_inline_status_text(status);
         want("words of a status", words[status] ? found && !strcmp(found, words[status]) : !found);
@@ -351,6 +351,120 @@ static void test_strings(void) {
     want("no strings", markdown_inline_strings(NULL, 0, NULL, 0, NULL, 0, NULL, 0, NULL, 0, &count, &blamed) == MARKDOWN_INLINE_DONE && count == 0);
 }
 
+/* A document of three paragraphs, with its definition behind its labels: `d` leads to `/e` with the title `f`; and a footnote `g`. */
+static const char many[] = "[a][d] b[^g]\n\n*c* [D][]\n\nh[^g] ![d]";
+static const markdown_inline_piece many_pieces[] = {{0, 0, 12, 0}, {14, 0, 23, 0}, {25, 0, 35, 0}, {0, 0, 14, 0}};
+static const markdown_inline_content many_contents[] = {{{0, 1}, 0}, {{1, 2}, 0}, {{2, 3}, 0}};
+static const markdown_inline_range many_labels[] = {{0, 1}, {4, 5}};
+static const markdown_inline_target many_targets[] = {{{1, 3}, {3, 4}, 1}};
+/* What CommonMark and GitHub write of them: the second call of a footnote has its number, and an id of its own. */
+static const char *const many_html[] = {"<a href=\"/e\" title=\"f\">a</a> b<sup><a href=\"#user-content-fn-g\" id=\"user-content-fnref-g\" data-footnote-ref=\"\" "
+    "aria-describedby=\"footnote-label\">1</a></sup>", "<em>c</em> <a href=\"/e\" title=\"f\">D</a>",
+    "h<sup><a href=\"#user-content-fn-g\" id=\"user-content-fnref-g-2\" data-footnote-ref=\"\" aria-describedby=\"footnote-label\">1</a></sup> "
+    "<img src=\"/e\" alt=\"d\" title=\"f\" />"};
+
+static markdown_inline_input many_input(void) {
+    markdown_inline_input input = input_of(many, many_pieces);
+    input.pieces_len = 4;
+    input.options |= MARKDOWN_INLINE_GFM;
+    input.labels = (const uint8_t *)"d/efg";
+    input.labels_len = 5;
+    input.definitions = many_labels;
+    input.footnotes = many_labels + 1;
+    input.definitions_len = input.footnotes_len = 1;
+    return input;
+}
+
+/* Whether many contents have the HTML of each one after another, and nothing is written without room for it. */
+static void test_htmls(void) {
+    markdown_inline_input input = many_input();
+    uint8_t html[1024], before[1024];
+    size_t ends[4], kept_ends[4], count = 77, needed = 0, blamed = 77, at = 0;
+    memset(html, 1, sizeof html);
+    memset(before, 1, sizeof before);
+    memset(ends, 1, sizeof ends);
+    memset(kept_ends, 1, sizeof kept_ends);
+    for (int number = 0; number < 3; number++) needed += strlen(many_html[number]);
+    uint32_t status = markdown_inline_htmls(&input, many_targets, 1, many_contents, 3, 0, 0, html, needed - 1, ends, 4, &count, &blamed);
+    want("no room for many", status == MARKDOWN_INLINE_TOO_SMALL && count == needed && blamed == MARKDOWN_INLINE_NONE);
+    status = markdown_inline_htmls(&input, many_targets, 1, many_contents, 3, 0, 0, html, 1024, ends, 2, &count, &blamed);
+    want("no room for ends of HTML", status == MARKDOWN_INLINE_TOO_SMALL && count == needed && blamed == MARKDOWN_INLINE_NONE);
+    want("HTML without room", !memcmp(html, before, 1024) && !memcmp(ends, kept_ends, sizeof ends));
+    blamed = 77;
+    status = markdown_inline_htmls(&input, many_targets, 1, many_contents, 3, 0, 0, html, 1024, ends, 4, &count, &blamed);
+    want("HTML of many", status == MARKDOWN_INLINE_DONE && count == needed && ends[2] == needed && blamed == MARKDOWN_INLINE_NONE);
+    want("what stands past the HTML of many", !memcmp(html + count, before, 1024 - count) && ends[3] == kept_ends[3]);
+    for (int number = 0; number < 3; at = ends[number++]) {
+        size_t len = strlen(many_html[number]);
+        want("the HTML of one of many", ends[number] - at == len && !memcmp(html + at, many_html[number], len));
+    }
+    memset(&input, 0, sizeof input);
+    status = markdown_inline_htmls(&input, NULL, 0, NULL, 0, 0, 0, NULL, 0, NULL, 0, &count, &blamed);
+    want("HTML of no contents", status == MARKDOWN_INLINE_DONE && count == 0 && blamed == MARKDOWN_INLINE_NONE);
+}
+
+/* Whether a call for many contents is refused with this status, blames this, and writes nothing else. */
+static void want_refused(const char *what, const markdown_inline_input *input, const markdown_inline_content *contents, size_t limit, uint32_t wanted, size_t to_blame) {
+    uint8_t html[1024], before[1024];
+    size_t ends[3] = {77, 77, 77}, count = 77, blamed = 77;
+    memset(html, 1, sizeof html);
+    memset(before, 1, sizeof before);
+    uint32_t status = markdown_inline_htmls(input, many_targets, 1, contents, 3, 0, limit, html, 1024, ends, 3, &count, &blamed);
+    if (status != wanted || blamed != to_blame) printf("calls: %s: status %u, blamed %zu\n", what, status, blamed);
+    faults += status != wanted || blamed != to_blame;
+    want(what, !memcmp(html, before, 1024) && ends[0] == 77 && ends[1] == 77 && ends[2] == 77 && count == 77);
+}
+
+/* A limit on what definitions bring: three links and images of three bytes each refer to one. */
+static void test_limit(void) {
+    markdown_inline_input input = many_input();
+    uint8_t html[1024];
+    size_t ends[3], count = 0, blamed = 77;
+    for (size_t limit = 1; limit < 9; limit++)
+        want_refused("more than the limit", &input, many_contents, limit, MARKDOWN_INLINE_REFERENCES, limit / 3);
+    for (size_t limit = 9; limit < 12; limit++)
+        want("no more than the limit", markdown_inline_htmls(&input, many_targets, 1, many_contents, 3, 0, limit, html, 1024, ends, 3, &count, &blamed) == MARKDOWN_INLINE_DONE);
+    input.bytes = (const uint8_t *)"[a](/e 'f')!";
+    input.bytes_len = 12;
+    input.pieces_len = 1;
+    want("a resource is no reference", markdown_inline_htmls(&input, many_targets, 1, many_contents, 1, 0, 1, html, 1024, ends, 3, &count, &blamed) == MARKDOWN_INLINE_DONE);
+}
+
+/* Each status of a call for many contents, and what it blames. */
+static void test_blame(void) {
+    markdown_inline_input input = many_input();
+    markdown_inline_content contents[3];
+    markdown_inline_range good[] = {{0, 1}, {1, 2}, {0, 9}, {1, 0}};
+    memcpy(contents, many_contents, sizeof contents);
+    contents[1].pieces.end = 9;
+    contents[2].pieces.start = 3;
+    contents[2].pieces.end = 4;
+    want_refused("a content past the pieces", &input, contents, 0, MARKDOWN_INLINE_NO_CONTENT, 1);
+    contents[1] = many_contents[1];
+    want_refused("a content with a blank line", &input, contents, 0, MARKDOWN_INLINE_BLANK_LINE, 2);
+    want_refused("a limit before a blank line", &input, contents, 2, MARKDOWN_INLINE_REFERENCES, 0);
+    input.footnotes = good;
+    input.footnotes_len = 4;
+    want_refused("a footnote past the labels", &input, contents, 1, MARKDOWN_INLINE_DEFINITION, 3);
+    input.definitions = good + 3;
+    want_refused("a definition before a footnote", &input, contents, 1, MARKDOWN_INLINE_DEFINITION, 0);
+    input.definitions = good;
+    input.definitions_len = 3;
+    want_refused("a definition past the labels", &input, contents, 1, MARKDOWN_INLINE_DEFINITION, 2);
+    input.definitions_len = input.footnotes_len = 2;
+    want_refused("a definition without a target", &input, contents, 1, MARKDOWN_INLINE_DEFINITION, MARKDOWN_INLINE_NONE);
+    input.definitions_len = 1;
+    input.labels_len = 3;
+    want_refused("a target past the labels", &input, contents, 1, MARKDOWN_INLINE_DEFINITION, 0);
+    input.bytes = (const uint8_t *)"\xff";
+    input.bytes_len = 1;
+    want_refused("no UTF-8 of many", &input, contents, 1, MARKDOWN_INLINE_NOT_UTF8, MARKDOWN_INLINE_NONE);
+    input.bytes_len = (SIZE_MAX >> 3) + 1;
+    want_refused("too long for many", &input, contents, 1, MARKDOWN_INLINE_TOO_LONG, MARKDOWN_INLINE_NONE);
+    input.options |= 1u << 31;
+    want_refused("an unknown option of many", &input, contents, 1, MARKDOWN_INLINE_UNKNOWN_OPTION, MARKDOWN_INLINE_NONE);
+}
+
 static void test_empty(void) {
     markdown_inline_input input;
     size_t count = 77;
@@ -420,6 +534,7 @@ static int call_once(const char *call) {
         static const markdown_inline_range parts[] = {{0, 3}, {4, 9}}, strings[] = {{0, 2}, {1, 2}};
         return (int)markdown_inline_strings((const uint8_t *)"a\\* &amp;", 9, parts, 2, strings, 2, bytes, 512, ends, 2, &count, &blamed);
     }
+    if (!strcmp(call, "htmls")) return (int)markdown_inline_htmls(&input, &target, 1, contents, 2, 0, 100, bytes, 512, ends, 2, &count, &blamed);
     if (!strcmp(call, "identifier")) return (int)markdown_inline_identifier((const uint8_t *)" A  B ", 6, bytes, 512, &count);
     if (!strcmp(call, "reference")) return (int)markdown_inline_reference((const uint8_t *)"&amp;", 5, bytes, 512, &count);
     return (int)markdown_inline_text(&input, events, 256, &count);
@@ -438,6 +553,9 @@ int main(int argc, char **argv) {
     test_references();
     test_texts();
     test_html();
+    test_htmls();
+    test_limit();
+    test_blame();
     test_strings();
     test_empty();
     test_threads();

@@ -6,8 +6,8 @@ from array import array
 
 import markdown_inline
 from markdown_inline import (
-    OPTIONS, BlankLine, Content, DefinitionError, Error, Name, NoContent, NoReference, NoString, NotUtf8, Piece, TooLong, UnknownOption, _library, html, identifier,
-    is_content, is_text, leaves, reference, string, strings, text, texts)
+    OPTIONS, BlankLine, Content, DefinitionError, Error, Name, NoContent, NoReference, NoString, NotUtf8, Piece, References, TooLong, UnknownOption, _library, html,
+    htmls, identifier, is_content, is_text, leaves, reference, string, strings, text, texts)
 
 COMMONMARK = sum(OPTIONS[it] for it in (
     'attention', 'autolink', 'character_escape', 'character_reference', 'code_text', 'hard_break_escape', 'hard_break_trailing', 'html_text', 'label_start_image',
@@ -26,6 +26,7 @@ class Calls(unittest.TestCase):
             (NoContent, 7, lambda: texts('a', [Content([(0, 1)]), Content([(0, 2)])])), (BlankLine, 4, lambda: texts('a\n', [Content([(0, 2)])])),
             (NoString, 12, lambda: strings('a', [[(0, 2)]])),
             (NoReference, 10, lambda: reference('&nothing;')), (NoReference, 10, lambda: reference(b'')),
+            (References, 11, lambda: htmls('[a]', [Content([(0, 3)])], definitions={'a': 'bc'}, reference_limit=1)),
         ):
             with self.assertRaises(error) as caught:
                 call()
@@ -131,6 +132,44 @@ class Calls(unittest.TestCase):
             strings('é', [[(0, 2)], [(0, 0), (0, 1)]])
         self.assertEqual(caught.exception.at, 1)
 
+    def test_footnotes_are_numbered_through_many_contents(self):
+        document = 'é[^b]\n\nc[^d]\n\n[^B] [e]'
+        contents = [Content([(0, 6)]), Content([(8, 13)]), Content([(15, 23)]), Content([])]
+        call = ('<sup><a href="#user-content-fn-%s" id="user-content-fnref-%s%s" data-footnote-ref="" aria-describedby="footnote-label">%d</a></sup>')
+        wanted = ['é' + call % ('b', 'b', '', 1), 'c' + call % ('d', 'd', '', 2), call % ('b', 'b', '-2', 1) + ' <a href="/f" title="g">e</a>', '']
+        self.assertEqual(htmls(document, contents, gfm=True, footnotes=['b', 'd'], definitions={'e': ('/f', 'g')}), wanted)
+        self.assertEqual(htmls(document, []), [])
+
+    def test_many_contents_have_the_html_of_each_by_itself(self):
+        document, defined = '<b> [a](javascript:b) [C]\n\n[x] d', {'c': ('/d', 'é')}
+        contents = [Content([(0, 25)]), Content([(27, 32)], True)]
+        for asked in ({}, {'raw_html': True}, {'any_link': True}, {'gfm': True}, {'math': True, 'cm_lengths': True}):
+            found = htmls(document, contents, definitions=defined, **asked)
+            self.assertEqual(found, [html(document, it.pieces, task=it.first_of_item, definitions=defined, **asked) for it in contents])
+
+    def test_references_bring_no_more_than_a_limit(self):
+        one, defined = [Content([(0, 303)])], {'a': 'x' * 1000}
+        document = '[a]' * 101
+        self.assertRaises(References, htmls, document, one, definitions=defined)
+        self.assertRaises(References, htmls, document, one, definitions=defined, reference_limit=100_999)
+        for asked in ({'reference_limit': 101_000}, {'reference_limit': 0}):
+            self.assertEqual(htmls(document, one, definitions=defined, **asked), [html(document, definitions=defined)])
+        self.assertEqual(len(htmls(document + '\n\n' + 'x' * 100_695, one, definitions=defined)), 1)
+        for wrong, error in ((-1, OverflowError), (2 ** 64, OverflowError), (True, TypeError), ('1', TypeError)):
+            self.assertRaises(error, htmls, document, one, reference_limit=wrong)
+
+    def test_what_is_to_blame_is_told(self):
+        good = Content([(0, 3)])
+        for at, call in (
+            (1, lambda: htmls('[a]\n', [good, Content([(0, 9)])])), (2, lambda: htmls('[a]\n', [good, good, Content([(0, 4)])])),
+            (1, lambda: htmls('[a]\n', [good, good], definitions={'a': 'bc'}, reference_limit=3)),
+            (2, lambda: htmls('[a]', [good], definitions={'a': 'b', 'c': 'd', b'\xff': 'e'})), (0, lambda: htmls('[a]', [good], definitions={'a': b'\xff'})),
+            (2, lambda: htmls('[a]', [good], definitions={'a': 'b'}, footnotes=['c', b'\xff'])), (None, lambda: htmls(b'\xff', [good])),
+        ):
+            with self.assertRaises(Error) as caught:
+                call()
+            self.assertEqual(caught.exception.at, at)
+
     def test_html_is_safe_where_nothing_else_is_asked(self):
         document, defined = '<b> [a](javascript:b) [C]', {'c': ('/d', 'é'), 'e': b'/f'}
         self.assertEqual(html(document, definitions=defined), '&lt;b&gt; <a href="">a</a> <a href="/d" title="é">C</a>')
@@ -144,7 +183,7 @@ class Calls(unittest.TestCase):
 
 
 # Each module of tests, with how many tests it has at least: where fewer are found, something is not run.
-MODULES = {'calls': 15, 'arguments': 14, 'events': 12, 'install': 1, 'lent': 11, 'page': 12, 'play': 13, 'plugin': 7, 'program': 11}
+MODULES = {'calls': 19, 'arguments': 14, 'events': 12, 'install': 1, 'lent': 11, 'page': 12, 'play': 13, 'plugin': 7, 'program': 11}
 
 
 def main():

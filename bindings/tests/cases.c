@@ -130,14 +130,42 @@ static uint32_t answer_html(markdown_inline_input *input, char **words) {
     return status;
 }
 
-static uint32_t answer_texts(const markdown_inline_input *input, char **words) {
-    markdown_inline_content contents[MOST / 16];
-    size_t found = 0, count = 0, first = 0;
-    markdown_inline_event *events = NULL;
+static size_t read_contents(char **words, markdown_inline_content *contents) {
+    size_t found = 0;
     for (char *word; (word = next(words)) != NULL; found++) {
         markdown_inline_content *it = &contents[found];
         sscanf(word, "%zu-%zu:%u", &it->pieces.start, &it->pieces.end, &it->first_of_item);
     }
+    return found;
+}
+
+static uint32_t answer_htmls(markdown_inline_input *input, char **words) {
+    markdown_inline_target targets[MOST / 16];
+    markdown_inline_content contents[MOST / 16];
+    size_t found = 0, count = 0, blamed = 0, first = 0, many = read_contents(&words[2], contents), limit = strtoul(words[3], NULL, 10);
+    uint8_t *html = NULL;
+    uint32_t options = (uint32_t)strtoul(words[0], NULL, 10);
+    for (char *word; (word = next(&words[1])) != NULL;) targets[found++] = read_target(word, &input->labels_len);
+    size_t *ends = (size_t *)room(many, sizeof *ends);
+    uint32_t status = markdown_inline_htmls(input, targets, found, contents, many, options, limit, NULL, 0, ends, many, &count, &blamed);
+    if (status == MARKDOWN_INLINE_TOO_SMALL) {
+        html = (uint8_t *)room(count, 1);
+        status = markdown_inline_htmls(input, targets, found, contents, many, options, limit, html, count, ends, many, &count, &blamed);
+    }
+    for (size_t at = 0; status == MARKDOWN_INLINE_DONE && at < many; first = ends[at++]) {
+        printf(" |");
+        print_bytes(html + first, ends[at] - first);
+    }
+    if (status != MARKDOWN_INLINE_DONE && blamed != MARKDOWN_INLINE_NONE) printf(" %zu", blamed);
+    free(ends);
+    free(html);
+    return status;
+}
+
+static uint32_t answer_texts(const markdown_inline_input *input, char **words) {
+    markdown_inline_content contents[MOST / 16];
+    size_t found = read_contents(words, contents), count = 0, first = 0;
+    markdown_inline_event *events = NULL;
     size_t *ends = (size_t *)room(found, sizeof *ends);
     uint32_t status = markdown_inline_texts(input, contents, found, NULL, 0, ends, found, &count);
     if (status == MARKDOWN_INLINE_TOO_SMALL) {
@@ -168,7 +196,9 @@ static void answer(char **words) {
         int is_text = words[0][0] == 't';
         if (answer_events(&input, is_text) != MARKDOWN_INLINE_DONE) printf(is_text ? " no text" : " no content");
     } else {
-        uint32_t status = !strcmp(words[0], "leaves") ? answer_leaves(&input) : !strcmp(words[0], "html") ? answer_html(&input, words + 6) : answer_texts(&input, words + 6);
+        uint32_t status = !strcmp(words[0], "leaves") ? answer_leaves(&input)
+            : !strcmp(words[0], "html") ? answer_html(&input, words + 6)
+            : !strcmp(words[0], "htmls") ? answer_htmls(&input, words + 6) : answer_texts(&input, words + 6);
         if (status != MARKDOWN_INLINE_DONE) printf(": %s", markdown_inline_status_text(status));
     }
     printf("\n");
@@ -177,9 +207,9 @@ static void answer(char **words) {
 int main(void) {
     static char line[8 * MOST];
     while (fgets(line, sizeof line, stdin)) {
-        char *words[8], *word = strtok(line, " \n");
+        char *words[10], *word = strtok(line, " \n");
         size_t found = 0;
-        for (; word && found < 8; word = strtok(NULL, " \n")) words[found++] = word;
+        for (; word && found < 10; word = strtok(NULL, " \n")) words[found++] = word;
         if (found < 6) return 1;
         answer(words);
     }

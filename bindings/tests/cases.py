@@ -1,6 +1,6 @@
 #!/usr/bin/env python3
 """Reads cases of draw.py from standard input, and prints what the Python package finds in each: events as the program of crates/markdown_test_runs
-does, leaves, HTML in hexadecimal, or the events of each text; where there are none, why.
+does, leaves, HTML in hexadecimal, or the events or the HTML of each text; where there are none, why.
 
 Where switches can say the options of a case, they do, and not its bits. Each other document is handed over as a `str`, and its characters are counted
 here too. The status is 1 where few cases come, or few of a kind, so that what tests nothing does not pass."""
@@ -8,14 +8,14 @@ import collections
 import sys
 from itertools import accumulate
 
-from markdown_inline import OPTIONS, Content, Error, Kind, Piece, _tables, html, leaves, string, text, texts
+from markdown_inline import OPTIONS, Content, Error, Kind, Piece, _tables, html, htmls, leaves, string, text, texts
 
 SWITCHES = {
     'gfm': _tables.GFM, 'math': _tables.MATH, 'task': OPTIONS['first_of_item'], 'cm_lengths': OPTIONS['attention_first_lengths'],
     'cm_shortcut': OPTIONS['label_shortcut_before_bracket'],
 }
 # How many cases come at least in all, of each kind, and by switches. A file has kinds of one of these rows.
-LEAST, KINDS = 600, ({'text': 400, 'string': 40}, {'leaves': 300, 'html': 300, 'texts': 60})
+LEAST, KINDS = 600, ({'text': 400, 'string': 40}, {'leaves': 300, 'html': 300, 'texts': 60, 'htmls': 60})
 seen = collections.Counter()
 
 
@@ -88,6 +88,12 @@ def found(how, document, spans, given, places, labels, rest):
     if how == 'html':
         defined, bits = dict(zip(labels, map(target, listed(rest[1])))), int(rest[0])
         return ' ' + html(document, spans, definitions=defined, raw_html=bool(bits & 1), any_link=bool(bits & 2), **given).encode().hex()
+    if how == 'htmls':
+        defined, bits = dict(zip(labels, map(target, listed(rest[1])))), int(rest[0])
+        contents = [content(it, spans) for it in listed(rest[2])]
+        written = htmls(
+            document, contents, definitions=defined, raw_html=bool(bits & 1), any_link=bool(bits & 2), reference_limit=int(rest[3]), **given)
+        return ''.join(' |' + it.encode().hex() for it in written)
     contents = [content(it, spans) for it in listed(rest[0])]
     return ''.join(' |' + all_shown(it, places) for it in texts(document, contents, definitions=labels, **given))
 
@@ -101,7 +107,8 @@ def answer(number, line):
     try:
         return how + found(how, document.decode() if number % 2 else document, spans, given, places, defined, rest)
     except Error as error:
-        return how + {'string': ' no content', 'text': ' no text'}.get(how, ': ' + str(error))
+        blamed = '' if error.at is None else ' %d' % error.at
+        return how + {'string': ' no content', 'text': ' no text'}.get(how, blamed + ': ' + str(error))
 
 
 def too_few():

@@ -101,6 +101,12 @@ def several(draw, cases):
     return line('texts', cases[0][1] & ~FIRST_OF_ITEM, pieces, *cases[0][3:5], document) + ' ' + ','.join(contents)
 
 
+def several_in_html(draw, cases):
+    """A call for the HTML of these cases, as of their texts, with a limit on what definitions bring."""
+    words = several(draw, cases).split(' ')
+    return ' '.join(['htmls'] + words[1:6]) + in_html(draw, cases[0][3]) + ' %s %d' % (words[6], draw.choice([0, 0, 1, 4, 16, 64]))
+
+
 def more(draw, drawn):
     """The calls that the program does not make."""
     texts = [it for it in drawn if it[0] == 'text']
@@ -109,6 +115,7 @@ def more(draw, drawn):
         yield line('html', *it[1:]) + in_html(draw, it[3])
     for at in range(0, len(texts) - 4, 4):
         yield several(draw, texts[at:at + draw.randrange(1, 5)])
+        yield several_in_html(draw, texts[at:at + draw.randrange(1, 5)])
 
 
 def write(path, lines):

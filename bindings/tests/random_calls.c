@@ -114,6 +114,7 @@ typedef struct drawn {
     markdown_inline_content contents[CONTENTS];
     size_t bytes_len, pieces_len, labels_len, definitions_len, footnotes_len, targets_len, contents_len;
     uint32_t options, html_options;
+    size_t limit;
 } drawn;
 
 static const char *const PARTS[] = {"a", "bc", "\xc3\xa9", "\xe6\xbc\xa2", "\xf0\x9f\x98\x80", " ", "  ", "\t", "*", "**", "_", "~", "~~", "`", "``", "$", "$$", "[", "]",
@@ -230,6 +231,7 @@ static void draw_case(drawn *it) {
     if (one_in(3)) it->options ^= (uint32_t)draw() & 0x1fffff;
     if (one_in(40)) it->options |= 0x200000u << below(11);
     it->html_options = (uint32_t)below(4);
+    it->limit = 0;
     if (one_in(40)) it->html_options |= 4u << below(30);
     if (one_in(100)) it->bytes_len = (SIZE_MAX >> 3) + 1 + below(2) * (SIZE_MAX >> 1);
 }
@@ -374,6 +376,44 @@ static uint32_t texts_status(const drawn *it) {
     return MARKDOWN_INLINE_DONE;
 }
 
+/* What is to blame where the last status of a model is that of one of several, if it says so. */
+static size_t model_blames;
+
+/* The first of some ranges that is no label, or how many there are. */
+static size_t first_no_label(const drawn *it, const markdown_inline_range *ranges, size_t len) {
+    size_t at = 0;
+    while (at < len && is_label(it, ranges[at])) at++;
+    return at;
+}
+
+static int is_target(const drawn *it, markdown_inline_target target) {
+    return is_label(it, target.destination) && (!target.has_title || is_label(it, target.title));
+}
+
+/* The status of many contents as HTML where there is no limit. */
+static uint32_t htmls_status(const drawn *it) {
+    size_t at = 0;
+    int is_known = it->options < 0x200000 && it->html_options < 4;
+    uint32_t status = is_known ? document_status(it) : (uint32_t)MARKDOWN_INLINE_UNKNOWN_OPTION;
+    model_blames = MARKDOWN_INLINE_NONE;
+    if (status != MARKDOWN_INLINE_DONE) return status;
+    if (!are_labels(it)) {
+        at = first_no_label(it, it->definitions, it->definitions_len);
+        model_blames = at < it->definitions_len ? at : at + first_no_label(it, it->footnotes, it->footnotes_len);
+        return MARKDOWN_INLINE_DEFINITION;
+    }
+    if (it->targets_len != it->definitions_len) return MARKDOWN_INLINE_DEFINITION;
+    while (at < it->targets_len && is_target(it, it->targets[at])) at++;
+    if (at < it->targets_len) {
+        model_blames = at;
+        return MARKDOWN_INLINE_DEFINITION;
+    }
+    drawn first = *it;
+    for (first.contents_len = 1; first.contents_len <= it->contents_len && status == MARKDOWN_INLINE_DONE; first.contents_len++) status = texts_status(&first);
+    if (status != MARKDOWN_INLINE_DONE) model_blames = first.contents_len - 2;
+    return status;
+}
+
 static uint32_t html_status(const drawn *it) {
     uint32_t status = it->html_options >= 4 ? (uint32_t)MARKDOWN_INLINE_UNKNOWN_OPTION : text_status(it);
     if (status != MARKDOWN_INLINE_DONE) return status;
@@ -385,8 +425,8 @@ static uint32_t html_status(const drawn *it) {
 
 /* The calls. Each is made without room, with just enough, and with another room. */
 
-typedef enum which { IS_CONTENT, IS_TEXT, STRING, TEXT, LEAVES, TEXTS, HTML, IDENTIFIER, REFERENCE, STRINGS } which;
-static const char *const NAMES[] = {"is_content", "is_text", "string", "text", "leaves", "texts", "html", "identifier", "reference", "strings"};
+typedef enum which { IS_CONTENT, IS_TEXT, STRING, TEXT, LEAVES, TEXTS, HTML, HTMLS, IDENTIFIER, REFERENCE, STRINGS } which;
+static const char *const NAMES[] = {"is_content", "is_text", "string", "text", "leaves", "texts", "html", "htmls", "identifier", "reference", "strings"};
 
 /* What a call finds. */
 typedef union answer {
@@ -400,7 +440,7 @@ static markdown_inline_input *input;
 static const markdown_inline_content *contents;
 static const markdown_inline_target *targets;
 static size_t ends_len, found_len;
-static size_t *ends, *count;
+static size_t *ends, *count, *blamed;
 static answer found;
 static size_t found_ends[CONTENTS];
 
@@ -433,10 +473,15 @@ static uint32_t made(which call, const drawn *it, void *array, size_t len) {
     case LEAVES: return markdown_inline_leaves(input, (markdown_inline_leaf *)array, len, count);
     case TEXTS: return markdown_inline_texts(input, contents, it->contents_len, (markdown_inline_event *)array, len, ends, ends_len, count);
     case HTML: return markdown_inline_html(input, targets, it->targets_len, it->html_options, (uint8_t *)array, len, count);
+    case HTMLS:
+        return markdown_inline_htmls(input, targets, it->targets_len, contents, it->contents_len, it->html_options, it->limit, (uint8_t *)array, len, ends, ends_len,
+            count, blamed);
     case IDENTIFIER: return markdown_inline_identifier(input->labels, input->labels_len, (uint8_t *)array, len, count);
     default: return markdown_inline_reference(input->labels, input->labels_len, (uint8_t *)array, len, count);
     }
 }
+
+static int has_ends(which call) { return call == TEXTS || call == HTMLS; }
 
 /* Makes a call with room for so many elements and so many ends, and looks at what it has written. Answers its status. */
 static uint32_t called(which call, const drawn *it, size_t room, size_t room_of_ends) {
@@ -446,13 +491,16 @@ static uint32_t called(which call, const drawn *it, size_t room, size_t room_of_
     ends = (size_t *)lend_room(&of_ends, room_of_ends, sizeof *ends);
     count = (size_t *)lend_room(&of_count, 1, sizeof *count);
     *count = before;
+    blamed = (size_t *)lend_room(&of_blamed, 1, sizeof *blamed);
+    *blamed = before;
     uint32_t status = made(call, it, array, room);
-    size_t written = status == MARKDOWN_INLINE_DONE && call >= STRING ? *count : 0, written_ends = status == MARKDOWN_INLINE_DONE && call == TEXTS ? it->contents_len : 0;
+    size_t written = status == MARKDOWN_INLINE_DONE && call >= STRING ? *count : 0, written_ends = status == MARKDOWN_INLINE_DONE && has_ends(call) ? it->contents_len : 0;
     counts[status < 16 ? status : 15]++;
     want("no more than there is room for", written <= room && written_ends <= room_of_ends);
     if (written > room || written_ends > room_of_ends) return status;
     want("nothing is written but what is counted", is_filled_but(&of_found, array, written * each) && is_filled_but(&of_ends, ends, written_ends * sizeof *ends)
-            && is_filled_but(&of_count, count, sizeof *count));
+            && is_filled_but(&of_count, count, sizeof *count) && is_filled_but(&of_blamed, blamed, sizeof *blamed));
+    want("what the model blames, and nothing of other calls", *blamed == (call == HTMLS ? model_blames : before));
     want("no count is written where there is none", (call >= STRING && (status == MARKDOWN_INLINE_DONE || status == MARKDOWN_INLINE_TOO_SMALL)) || *count == before);
     int is_counted = call >= STRING && (status == MARKDOWN_INLINE_DONE || status == MARKDOWN_INLINE_TOO_SMALL);
     found_len = is_counted ? *count : 0;
@@ -466,7 +514,7 @@ static uint32_t called(which call, const drawn *it, size_t room, size_t room_of_
 /* Makes a call in each way, and compares what they answer. Answers whether it is done; then what it found stands in `found`. */
 static int is_done(which call, const drawn *it, uint32_t wanted) {
     static answer first;
-    size_t each = size_of(call), needed_ends = call == TEXTS ? it->contents_len : 0;
+    size_t each = size_of(call), needed_ends = has_ends(call) ? it->contents_len : 0;
     call_name = NAMES[call];
     uint32_t status = called(call, it, 0, 0);
     size_t needed = found_len;
@@ -522,6 +570,15 @@ static void look_at_leaves(const markdown_inline_event *events, size_t len, cons
     want("each leaf is an event that ends at once", number == leaves_len);
 }
 
+/* A content of a case by itself. */
+static drawn alone_of(const drawn *all, size_t at) {
+    drawn alone = *all;
+    memcpy(alone.pieces, all->pieces + all->contents[at].pieces.start, (PIECES - all->contents[at].pieces.start) * sizeof *alone.pieces);
+    alone.pieces_len = all->contents[at].pieces.end - all->contents[at].pieces.start;
+    alone.options = (all->options & 0xfffff) | (all->contents[at].first_of_item ? (uint32_t)MARKDOWN_INLINE_OPTION_FIRST_OF_ITEM : 0);
+    return alone;
+}
+
 /* Each of many contents has the events of its own. */
 static void look_at_texts(const drawn *all) {
     static answer many;
@@ -529,10 +586,7 @@ static void look_at_texts(const drawn *all) {
     many = found;
     memcpy(starts + 1, found_ends, len * sizeof *starts);
     for (size_t at = 0; at < len; at++) {
-        drawn alone = *all;
-        memcpy(alone.pieces, all->pieces + all->contents[at].pieces.start, (PIECES - all->contents[at].pieces.start) * sizeof *alone.pieces);
-        alone.pieces_len = all->contents[at].pieces.end - all->contents[at].pieces.start;
-        alone.options = (all->options & 0xfffff) | (all->contents[at].first_of_item ? (uint32_t)MARKDOWN_INLINE_OPTION_FIRST_OF_ITEM : 0);
+        drawn alone = alone_of(all, at);
         lend_case(&alone);
         want("one of many is a text", called(TEXT, &alone, sizeof found / sizeof(markdown_inline_event), 0) == MARKDOWN_INLINE_DONE);
         want("ends are in order", starts[at + 1] >= starts[at] && starts[at + 1] - starts[at] == found_len);
@@ -543,6 +597,71 @@ static void look_at_texts(const drawn *all) {
             want("the chain of an event of one of many", it->previous == other->previous && it->next == other->next);
         }
     }
+}
+
+static int is_named(const drawn *it, markdown_inline_range range, const uint8_t *name, size_t len) {
+    uint8_t other[4 * BYTES];
+    size_t other_len = 0;
+    uint32_t status = markdown_inline_identifier(it->labels + range.start, range.end - range.start, other, sizeof other, &other_len);
+    return status == MARKDOWN_INLINE_DONE && other_len == len && !memcmp(other, name, len);
+}
+
+/* How many bytes the definition brings that a label in the document names. */
+static size_t brought_by(const drawn *it, size_t start, size_t end) {
+    uint8_t name[4 * BYTES];
+    size_t len = 0, at = 0;
+    if (markdown_inline_identifier(it->bytes + start, end - start, name, sizeof name, &len) != MARKDOWN_INLINE_DONE) return 0;
+    while (at < it->definitions_len && !is_named(it, it->definitions[at], name, len)) at++;
+    if (at == it->definitions_len) return 0;
+    const markdown_inline_target *target = &it->targets[at];
+    return target->destination.end - target->destination.start + (target->has_title ? target->title.end - target->title.start : 0);
+}
+
+/* How many bytes definitions bring to the text of these events: to each link and image without a resource, by its reference, or else by its label. */
+static size_t brought_to(const drawn *it, const markdown_inline_event *events, size_t len) {
+    size_t brought = 0;
+    for (size_t at = 0; at < len; at++) {
+        if (events[at].kind != MARKDOWN_INLINE_ENTER || (events[at].name != MARKDOWN_INLINE_NAME_LINK && events[at].name != MARKDOWN_INLINE_NAME_IMAGE)) continue;
+        size_t depth = 1, own = 1, start = 0, end = 0;
+        for (size_t inside = at + 1; depth > 0; inside++) {
+            const markdown_inline_event *event = &events[inside];
+            int is_enter = event->kind == MARKDOWN_INLINE_ENTER;
+            if (!is_enter) depth--;
+            /* A resource stands right in the link; the text of a label and that of a reference stand one level further in. */
+            if (depth == 1 && event->name == MARKDOWN_INLINE_NAME_RESOURCE) own = 0;
+            if (depth == 2 && (event->name == MARKDOWN_INLINE_NAME_LABEL_TEXT || event->name == MARKDOWN_INLINE_NAME_REFERENCE_STRING))
+                *(is_enter ? &start : &end) = event->index;
+            if (is_enter) depth++;
+        }
+        if (own) brought += brought_by(it, start, end);
+    }
+    return brought;
+}
+
+/* Each of many contents has the HTML of its own where no footnote is called; and a limit holds of what definitions bring to all. */
+static void look_at_htmls(const drawn *all) {
+    static answer many;
+    size_t starts[CONTENTS + 1] = {0}, brought[CONTENTS + 1] = {0}, len = all->contents_len;
+    many = found;
+    memcpy(starts + 1, found_ends, len * sizeof *starts);
+    for (size_t at = 0; at < len; at++) {
+        drawn alone = alone_of(all, at);
+        size_t part = starts[at + 1] - starts[at];
+        lend_case(&alone);
+        want("one of many is a text", called(TEXT, &alone, sizeof found / sizeof(markdown_inline_event), 0) == MARKDOWN_INLINE_DONE);
+        brought[at + 1] = brought[at] + brought_to(&alone, found.events, found_len);
+        want("one of many is HTML", called(HTML, &alone, sizeof found, 0) == MARKDOWN_INLINE_DONE && starts[at + 1] >= starts[at]);
+        if (all->footnotes_len == 0) want("the HTML of one of many", found_len == part && !memcmp(found.bytes, many.bytes + starts[at], part));
+    }
+    drawn limited = *all;
+    limited.limit = brought[len];
+    lend_case(&limited);
+    if (brought[len] > 0) want("as much as the limit", called(HTMLS, &limited, sizeof found, len) == MARKDOWN_INLINE_DONE);
+    if (brought[len] < 2) return;
+    limited.limit = 1 + below(brought[len] - 1);
+    for (model_blames = 0; brought[model_blames + 1] <= limited.limit;) model_blames++;
+    want("more than the limit", called(HTMLS, &limited, sizeof found, len) == MARKDOWN_INLINE_REFERENCES);
+    model_blames = MARKDOWN_INLINE_NONE;
 }
 
 /* Calls that tell what is to blame. */
@@ -712,6 +831,8 @@ static void try_case(void) {
         is_done(LEAVES, &it, text_status(&it));
     }
     if (is_done(TEXTS, &it, texts_status(&it))) look_at_texts(&it);
+    lend_case(&it);
+    if (is_done(HTMLS, &it, htmls_status(&it))) look_at_htmls(&it);
     try_bytes(&it);
     try_strings(&it);
 }

@@ -10,6 +10,7 @@ Kinds and names are members of enumerations, and equal to no string; `str` of th
 constructs are those of CommonMark, as in C and in Rust, and `gfm=True` asks for what GitHub adds. What the calls answer is proved; this package calls
 the proved library.
 """
+from itertools import chain
 from types import MappingProxyType
 from typing import Iterable, List, Mapping, NamedTuple, Optional, Sequence, Tuple, Union
 
@@ -19,8 +20,8 @@ from ._names import Kind, Name
 
 __all__ = [
     'BlankLine', 'Content', 'DefinitionError', 'Error', 'Event', 'Events', 'Kind', 'Leaf', 'Leaves', 'Link', 'Name', 'NoContent', 'NoMemory',
-    'NoReference', 'NoString', 'NotUtf8', 'OPTIONS', 'Piece', 'Texts', 'TooLong', 'UnknownOption', 'html',
-    'identifier', 'is_content', 'is_text', 'leaves', 'reference', 'string', 'strings', 'text', 'texts',
+    'NoReference', 'NoString', 'NotUtf8', 'OPTIONS', 'Piece', 'References', 'Texts', 'TooLong', 'UnknownOption', 'html', 'htmls', 'identifier', 'is_content',
+    'is_text', 'leaves', 'reference', 'string', 'strings', 'text', 'texts',
 ]
 
 #: Each option by its name, as a bit of `options`. It cannot be changed.
@@ -42,8 +43,8 @@ class Content(NamedTuple):
 
 
 class Error(Exception):
-    """Why a call answers nothing; `status` is that of the library. `at` is the number of what is to blame, where a call tells it: that
-    of a string."""
+    """Why a call answers nothing; `status` is that of the library. Where a call for many tells what is to blame, `at` is its number: that of the content, of the
+    string, or of the definition where it is a DefinitionError, with the footnotes counted on behind the definitions. Else `at` is None."""
     status = 0
     at: Optional[int] = None
 
@@ -88,24 +89,25 @@ class NoReference(Error, ValueError):
     status = 10
 
 
+class References(Error, ValueError):
+    """references bring more than the limit"""
+    status = 11
+
+
 class NoString(Error, ValueError):
     """part of a string is no text of the bytes"""
     status = 12
 
 
-_ERRORS = {it.status: it for it in (UnknownOption, NotUtf8, BlankLine, NoMemory, NoContent, DefinitionError, TooLong, NoReference, NoString)}
+_ERRORS = {it.status: it for it in (UnknownOption, NotUtf8, BlankLine, NoMemory, NoContent, DefinitionError, TooLong, NoReference, References, NoString)}
 Text = Union[str, bytes, bytearray, memoryview]
 Pieces = Optional[Iterable[Sequence[int]]]
 Target = Union[Text, Tuple[Text, Optional[Text]]]
 
 
-def _raised(status: int) -> Error:
-    return _ERRORS.get(status, Error)(_tables.STATUSES.get(status))
-
-
-def _blamed(status: int, at: int) -> Error:
-    error = _raised(status)
-    error.at = None if at == 2 ** 64 - 1 else at
+def _raised(status: int, blamed: Optional[int] = None) -> Error:
+    error = _ERRORS.get(status, Error)(_tables.STATUSES.get(status))
+    error.at = blamed
     return error
 
 
@@ -113,6 +115,8 @@ def _characters(document: Text, bytes_given: bytes) -> Optional[Characters]:
     return Characters(bytes_given) if isinstance(document, str) else None
 
 
+#: How many bytes definitions may bring by default where the document is shorter.
+_REFERENCE_LIMIT = 100_000
 _GFM, _MATH, _TASK = _tables.GFM, _tables.MATH, _tables.OPTIONS['first_of_item']
 _LENGTHS, _SHORTCUT = _tables.OPTIONS['attention_first_lengths'], _tables.OPTIONS['label_shortcut_before_bracket']
 
@@ -142,6 +146,9 @@ def text(document: Text, pieces: Pieces = None, gfm: bool = False, math: bool = 
     that the text begins a list item; `cm_lengths` and `cm_shortcut` follow CommonMark in two rules. `options` says all of it by bits instead.
     `definitions` and `footnotes` are labels as they are written.
 
+    A call tests the whole document, passes all that stands before the pieces, and puts the labels in order. So a call for each paragraph of one document takes
+    time in proportion to its square: for many contents there is `texts`.
+
     >>> print(*text('a'), sep='\\n')
     Enter Data 1 1 0 0
     Exit Data 1 2 1 0
@@ -155,7 +162,7 @@ def text(document: Text, pieces: Pieces = None, gfm: bool = False, math: bool = 
 
 
 def string(document: Text, pieces: Pieces = None, *, options: Optional[int] = None) -> Events:
-    """The events of a string: of escapes, character references and data."""
+    """The events of a string: of escapes, character references and data. A call tests the whole document, and passes all that stands before the pieces."""
     bytes_given = _arguments.text_of(document, 'document')
     given = _given(bytes_given, pieces, _tables.COMMONMARK if options is None else _arguments.bits_of(options), (), ())
     status, raw = _library.events('markdown_inline_string', given)
@@ -166,7 +173,7 @@ def string(document: Text, pieces: Pieces = None, *, options: Optional[int] = No
 
 def leaves(document: Text, pieces: Pieces = None, gfm: bool = False, math: bool = False, *, task: bool = False, cm_lengths: bool = False,
            cm_shortcut: bool = False, options: Optional[int] = None, definitions: Iterable[Text] = (), footnotes: Iterable[Text] = ()) -> Leaves:
-    """The leaves of a text, in order: together they cover the pieces. What is asked for is said as of `text`.
+    """The leaves of a text, in order: together they cover the pieces. What is asked for is said as of `text`, and so is what a call costs.
 
     >>> [leaf.content for leaf in leaves('a *b*')]
     [b'a ', b'*', b'b', b'*']
@@ -199,7 +206,7 @@ def html(document: Text, pieces: Pieces = None, gfm: bool = False, math: bool = 
          raw_html: bool = False, any_link: bool = False) -> str:
     """The HTML of a text. `definitions` has for each label, as it is written, its destination, or the destination and a title, with escapes and
     character references resolved. `raw_html` writes raw HTML as it stands and not as text; `any_link` lets links lead wherever they say and not to
-    listed schemes alone. The rest is said as of `text`.
+    listed schemes alone. The rest is said as of `text`, and so is what a call costs: for many contents there is `htmls`.
 
     >>> html('*a* [b]', definitions={'b': ('/c', 'd')})
     '<em>a</em> <a href="/c" title="d">b</a>'
@@ -216,6 +223,32 @@ def html(document: Text, pieces: Pieces = None, gfm: bool = False, math: bool = 
     return found.decode()
 
 
+def htmls(document: Text, contents: Iterable[Content], gfm: bool = False, math: bool = False, *, cm_lengths: bool = False, cm_shortcut: bool = False,
+          options: Optional[int] = None, definitions: Optional[Mapping[Text, Target]] = None, footnotes: Iterable[Text] = (), raw_html: bool = False,
+          any_link: bool = False, reference_limit: Optional[int] = None) -> List[str]:
+    """The HTML of many contents of a document as texts. The document is prepared once, and each content costs what it costs by itself, wherever it stands.
+    Footnotes are numbered through all contents. What is asked for is said as of `html`, but for what begins a list item: that each content says.
+
+    `reference_limit` is how many bytes definitions may bring to all contents together: those of the destination and of the title, for each link and image that
+    refers to one. 0 is no limit, and None is as many as cmark lets them bring: the length of the document, or 100,000 where that is more. Past it the error is
+    References.
+
+    >>> htmls('a[^b]\\n\\n*c*', [Content([(0, 5)]), Content([(7, 10)])])
+    ['a[^b]', '<em>c</em>']
+    """
+    bytes_given = _arguments.text_of(document, 'document')
+    pieces, listed, count = _arguments.contents_of(contents)
+    defined, targets, written = _arguments.targets_of(definitions)
+    given = _library.Given(
+        bytes_given, pieces, _bits(options, gfm, math, False, cm_lengths, cm_shortcut), defined, _arguments.labels_of(footnotes, 'footnotes'), written)
+    asked = _arguments.flag_of(raw_html, 'raw_html') | _arguments.flag_of(any_link, 'any_link') << 1
+    limit = max(_REFERENCE_LIMIT, len(bytes_given)) if reference_limit is None else _arguments.limit_of(reference_limit)
+    status, found, ends, blamed = _library.htmls(given, targets, len(defined), listed, count, asked, limit)
+    if status:
+        raise _raised(status, blamed)
+    return [found[start:end].decode() for start, end in zip(chain((0,), ends), ends)]
+
+
 def strings(document: Text, strings: Iterable[Iterable[Sequence[int]]]) -> List[str]:
     """The texts of strings, such as titles and destinations, with escapes and character references resolved. A string is a list of parts, each a range
     of bytes of the document as (start, end), which are one text. Where it stands in a paragraph, they are what `Data` and `LineEnding` cover inside it.
@@ -227,7 +260,7 @@ def strings(document: Text, strings: Iterable[Iterable[Sequence[int]]]) -> List[
     parts, listed, count = _arguments.strings_of(strings)
     status, found, ends, at = _library.strings(bytes_given, parts, listed, count)
     if status:
-        raise _blamed(status, at)
+        raise _raised(status, at)
     return [found[start:end].decode() for start, end in zip([0, *ends], ends)]
 
 

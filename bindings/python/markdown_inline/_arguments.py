@@ -56,6 +56,19 @@ def bits_of(given):
     return bits
 
 
+def limit_of(given):
+    """A limit on bytes."""
+    if isinstance(given, bool):
+        raise TypeError('reference_limit is a number of bytes, and not a bool')
+    try:
+        limit = operator.index(given)
+    except TypeError:
+        raise TypeError('reference_limit is a number of bytes, and not a %s' % _kind(given)) from None
+    if not 0 <= limit < 2 ** 64:
+        raise OverflowError('reference_limit is below 0 or has more than 64 bits')
+    return limit
+
+
 def _several(given, what, one):
     """An iterator of several things. One of them, handed over by itself, is refused."""
     if isinstance(given, (str,) + _BUFFERS):

@@ -9,6 +9,8 @@ from ._events import EVENT, LEAF
 
 VERSION = 1
 DONE, TOO_SMALL = 0, 6
+#: The number of nothing.
+NONE = 2 ** 64 - 1
 EVENT_SIZE, LEAF_SIZE = EVENT.size, LEAF.size
 SHARED = 'libmarkdown_inline.so'
 #: How many bytes an array has that is lent again, and how many such arrays are kept for all threads together.
@@ -70,7 +72,9 @@ def _load():
     for name, arguments in (
         ('is_content', text + numbers), ('is_text', text + numbers), ('string', given + lent), ('text', given + lent), ('leaves', given + lent),
         ('identifier', text + lent), ('reference', text + lent), ('texts', given + numbers + numbers + numbers + lent[2:]),
-        ('html', given + numbers + [ctypes.c_uint32] + lent), ('strings', text + numbers * 4 + 2 * lent[2:]),
+        ('html', given + numbers + [ctypes.c_uint32] + lent),
+        ('htmls', given + numbers + numbers + [ctypes.c_uint32, _size] + numbers + numbers + lent[2:] + lent[2:]),
+        ('strings', text + numbers * 4 + 2 * lent[2:]),
     ):
         function = getattr(library, 'markdown_inline_' + name)
         function.restype, function.argtypes = ctypes.c_uint32, arguments
@@ -156,6 +160,17 @@ def html(given, targets, count, options):
     return filled(lambda *lent: LIBRARY.markdown_inline_html(at, targets, count, options, *lent), 1, 2 * given.covered())
 
 
+def htmls(given, targets, count, contents, many, options, limit):
+    """Calls for the HTML of this many contents, with targets, both as they cross: the status, the bytes of all, where those of each end, and the number of
+    what is to blame, if one of several is."""
+    at, ends, blamed = ctypes.byref(given.input), array('Q', bytes(8 * many)), _size()
+    ends_at = ends.buffer_info()[0]
+    status, found = filled(
+        lambda lent, room, written: LIBRARY.markdown_inline_htmls(
+            at, targets, count, contents, many, options, limit, lent, room, ends_at, many, written, ctypes.byref(blamed)), 1, 2 * given.covered())
+    return status, found, ends, None if blamed.value == NONE else blamed.value
+
+
 def tested(name, document, pieces):
     """Calls a test of pieces: its status."""
     return getattr(LIBRARY, name)(document, len(document), pieces.buffer_info()[0], len(pieces) // 4)
@@ -171,4 +186,4 @@ def strings(document, parts, listed, count):
             ctypes.byref(blamed))
 
     status, found = filled(call, 1, len(document))
-    return status, found, ends, blamed.value
+    return status, found, ends, None if blamed.value == NONE else blamed.value

@@ -1,7 +1,9 @@
 //! Reads cases of `bindings/tests/draw.py` from standard input, and prints what the library finds in each: events as the program of
-//! `crates/markdown_test_runs` does, leaves, HTML in hexadecimal, or the events of each text; where there are none, why.
+//! `crates/markdown_test_runs` does, leaves, HTML in hexadecimal, or the events or the HTML of each text; where there are none, why.
 
-use markdown_inline::{Error, Event, HtmlOptions, Input, Leaf, Options, Piece, Point, TextContent};
+use markdown_inline::{
+    Error, Event, HtmlOptions, Input, Leaf, Options, Piece, Point, Refusal, TextContent,
+};
 use std::io::{self, BufRead};
 
 fn listed(word: &str) -> impl Iterator<Item = &str> {
@@ -100,8 +102,23 @@ fn html_of(input: &Input, bits: &str) -> Result<String, Error> {
     Ok(format!(" {}", hexadecimal(input.html(options)?.as_bytes())))
 }
 
+fn htmls_of(input: &Input, words: &[&str]) -> Result<String, Refusal> {
+    let bits: u32 = words[0].parse().unwrap();
+    let options = HtmlOptions {
+        raw_html: bits & 1 > 0,
+        any_link: bits & 2 > 0,
+    };
+    let contents: Vec<TextContent> = listed(words[2]).map(content_of).collect();
+    let input = input.clone().reference_limit(words[3].parse().unwrap());
+    let htmls = input.htmls(&contents, options)?;
+    let shown = htmls
+        .iter()
+        .map(|html| " |".to_string() + &hexadecimal(html.as_bytes()));
+    Ok(shown.collect())
+}
+
 // What is found in a case, or why nothing is.
-fn answer(words: &[&str]) -> Result<String, Error> {
+fn answer(words: &[&str]) -> Result<String, Refusal> {
     let document = bytes_of(words[5]);
     let pieces: Vec<Piece> = listed(words[2]).map(piece_of).collect();
     let options = Options::from_bits(words[1].parse().unwrap());
@@ -111,7 +128,7 @@ fn answer(words: &[&str]) -> Result<String, Error> {
         .footnotes(listed(words[4]).map(bytes_of));
     let targets = words.get(7).copied().unwrap_or_default();
     match words[0] {
-        "html" => listed(words[3])
+        "html" | "htmls" => listed(words[3])
             .zip(listed(targets))
             .for_each(|(label, target)| define(&mut input, label, target)),
         _ => input = input.definitions(listed(words[3]).map(bytes_of)),
@@ -120,8 +137,9 @@ fn answer(words: &[&str]) -> Result<String, Error> {
         "string" => Ok(input.string()?.iter().map(shown).collect()),
         "text" => Ok(input.text()?.iter().map(shown).collect()),
         "leaves" => Ok(input.leaves()?.iter().map(shown_leaf).collect()),
-        "html" => html_of(&input, words[6]),
-        _ => texts_of(&input, words[6]),
+        "html" => Ok(html_of(&input, words[6])?),
+        "htmls" => htmls_of(&input, &words[6..]),
+        _ => Ok(texts_of(&input, words[6])?),
     }
 }
 
@@ -129,10 +147,13 @@ fn main() -> io::Result<()> {
     for line in io::stdin().lock().lines() {
         let line = line?;
         let words: Vec<&str> = line.split(' ').collect();
-        let shown = answer(&words).unwrap_or_else(|error| match words[0] {
+        let shown = answer(&words).unwrap_or_else(|refusal| match words[0] {
             "string" => " no content".to_string(),
             "text" => " no text".to_string(),
-            _ => format!(": {error}"),
+            _ => match refusal.at {
+                Some(number) => format!(" {number}: {}", refusal.error),
+                None => format!(": {}", refusal.error),
+            },
         });
         println!("{}{shown}", words[0]);
     }

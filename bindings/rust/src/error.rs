@@ -24,17 +24,10 @@ pub enum Error {
     TooLong,
     /// The bytes are no character reference, or one whose name is not known.
     NoReference,
+    /// In HTML of many contents, definitions bring more bytes to links and images than the limit.
+    References,
     /// A string has a part that is not given, or one that is no text of the bytes.
     NoString,
-}
-
-/// Why a call answers nothing, and which of many is to blame.
-#[derive(Clone, Copy, Debug, PartialEq, Eq, Hash)]
-pub struct Blame {
-    /// Why.
-    pub error: Error,
-    /// The number of the string.
-    pub at: Option<usize>,
 }
 
 impl Error {
@@ -47,6 +40,7 @@ impl Error {
             8 => Error::Definition,
             9 => Error::TooLong,
             10 => Error::NoReference,
+            11 => Error::References,
             12 => Error::NoString,
             _ => Error::NoMemory,
         }
@@ -64,26 +58,10 @@ impl fmt::Display for Error {
             Error::Definition => "range of a definition is no text of the labels",
             Error::TooLong => "document too long",
             Error::NoReference => "no character reference",
+            Error::References => "references bring more than the limit",
             Error::NoString => "part of a string is no text of the bytes",
         })
     }
 }
 
 impl error::Error for Error {}
-
-impl From<Error> for Blame {
-    fn from(error: Error) -> Blame {
-        Blame { error, at: None }
-    }
-}
-
-impl fmt::Display for Blame {
-    fn fmt(&self, f: &mut fmt::Formatter<'_>) -> fmt::Result {
-        match self.at {
-            Some(at) => write!(f, "{}, number {at}", self.error),
-            None => self.error.fmt(f),
-        }
-    }
-}
-
-impl error::Error for Blame {}

@@ -2,7 +2,8 @@
 
 use crate::fill::{fill, fitted};
 use crate::raw::{self, Call, RawContent, RawInput, RawRange, RawTarget};
-use crate::{Error, Events, HtmlOptions, Leaves, Options, Piece, TextContent, Texts};
+use crate::{Error, Events, HtmlOptions, Htmls, Leaves, Options, Piece};
+use crate::{Refusal, TextContent, Texts};
 use std::borrow::Cow;
 use std::mem;
 
@@ -38,7 +39,11 @@ pub struct Input<'a> {
     targets: Vec<RawTarget>,
     footnotes: Vec<RawRange>,
     options: Options,
+    reference_limit: usize,
 }
+
+/// How many bytes definitions may bring by default, if the document is not longer: as many as cmark lets them bring.
+const REFERENCE_LIMIT: usize = 100_000;
 
 impl<'a> Input<'a> {
     /// A whole document, with CommonMark's constructs and nothing defined.
@@ -56,6 +61,7 @@ impl<'a> Input<'a> {
             targets: Vec::new(),
             footnotes: Vec::new(),
             options: Options::default(),
+            reference_limit: document.len().max(REFERENCE_LIMIT),
         }
     }
 
@@ -126,6 +132,19 @@ impl<'a> Input<'a> {
             .into_iter()
             .for_each(|label| self.define_footnote(label));
         self
+    }
+
+    /// How many bytes definitions may bring to all contents of `htmls` together: those of the destination and of the title, for each link and image that refers to
+    /// one. 0 is no limit. By default it is the length of the document, or 100,000 where the document is shorter.
+    #[must_use]
+    pub fn reference_limit(mut self, limit: usize) -> Input<'a> {
+        self.set_reference_limit(limit);
+        self
+    }
+
+    /// Sets another limit, as `reference_limit` does.
+    pub fn set_reference_limit(&mut self, limit: usize) {
+        self.reference_limit = limit;
     }
 
     /// Sets other pieces, which are kept in the input.
@@ -207,7 +226,10 @@ impl<'a> Input<'a> {
         })
     }
 
-    /// The events of the pieces as a text, or why they are none: each [`Error`] but `NoReference` may come.
+    /// The events of the pieces as a text, or why they are none: each [`Error`] but `NoReference` and `References` may come.
+    ///
+    /// A call tests the whole document, passes all that stands before the pieces, and puts the labels in order. So a call for each paragraph of one document takes
+    /// time in proportion to its square: for many contents there is `texts`.
     pub fn text(&self) -> Result<Events, Error> {
         let mut events = Events::new();
         self.text_into(&mut events)?;
@@ -215,7 +237,8 @@ impl<'a> Input<'a> {
         Ok(events)
     }
 
-    /// The events of the pieces as a string. Definitions are not looked at, and lines may be blank; so neither `Definition` nor `BlankLine` comes.
+    /// The events of the pieces as a string. Definitions are not looked at, and lines may be blank; so neither `Definition` nor `BlankLine` comes. A call tests the
+    /// whole document, and passes all that stands before the pieces.
     pub fn string(&self) -> Result<Events, Error> {
         let mut events = Events::new();
         self.string_into(&mut events)?;
@@ -235,7 +258,7 @@ impl<'a> Input<'a> {
         self.fill(raw::markdown_inline_string, expected, &mut events.raw)
     }
 
-    /// The leaves of the pieces as a text, each with its bytes. Errors are those of `text`.
+    /// The leaves of the pieces as a text, each with its bytes. Errors are those of `text`, and so is what a call costs: for many contents there is `texts`.
     ///
     /// ```
     /// # fn main() -> Result<(), markdown_inline::Error> {
@@ -302,7 +325,8 @@ impl<'a> Input<'a> {
         Ok(())
     }
 
-    /// The HTML of the pieces as a text. Each call numbers footnotes from 1 on. Errors are those of `text`.
+    /// The HTML of the pieces as a text. Each call numbers footnotes from 1 on. Errors are those of `text`, and so is what a call costs: for many contents there
+    /// is `htmls`.
     ///
     /// ```
     /// use markdown_inline::{HtmlOptions, Input};
@@ -341,6 +365,88 @@ impl<'a> Input<'a> {
                 count,
             )
         })
+    }
+
+    /// The HTML of many contents as texts, each of some of the pieces. The document is prepared once, and each content costs what it costs by itself, wherever it
+    /// stands. Footnotes are numbered through all contents. Errors are those of `texts`, and `References` where definitions bring more than `reference_limit` says;
+    /// the refusal says which content or definition is to blame.
+    ///
+    /// ```
+    /// use markdown_inline::{HtmlOptions, Input, Piece, TextContent};
+    /// # fn main() -> Result<(), markdown_inline::Refusal> {
+    /// let pieces = [(0, 3), (5, 8)].map(|(start, end)| Piece { start, end, ..Piece::default() });
+    /// let contents = [0..1, 1..2].map(|pieces| TextContent { pieces, ..TextContent::default() });
+    /// let input = Input::new("[a]\n\n*b*").pieces(&pieces).definition_to("a", "/c", None);
+    /// let htmls = input.htmls(&contents, HtmlOptions::default())?;
+    /// assert!(htmls.iter().eq([r#"<a href="/c">a</a>"#, "<em>b</em>"]));
+    /// # Ok(())
+    /// # }
+    /// ```
+    pub fn htmls(&self, contents: &[TextContent], options: HtmlOptions) -> Result<Htmls, Refusal> {
+        let mut htmls = Htmls::new();
+        self.htmls_into(contents, options, &mut htmls)?;
+        Ok(htmls)
+    }
+
+    /// The HTML of many contents in place of what is given, in the memory of that. After an error there is none.
+    pub fn htmls_into(
+        &self,
+        contents: &[TextContent],
+        options: HtmlOptions,
+        htmls: &mut Htmls,
+    ) -> Result<(), Refusal> {
+        htmls.clear();
+        let (mut bytes, mut ends) = (mem::take(&mut htmls.html).into_bytes(), Vec::new());
+        mem::swap(&mut ends, &mut htmls.ends);
+        let filled = self.htmls_bytes(contents, options, &mut bytes, &mut ends);
+        htmls.html = String::from_utf8(bytes).map_err(|_| Error::NotUtf8)?;
+        htmls.ends = ends;
+        filled
+    }
+
+    // The bytes of the HTML of many contents, and where that of each ends.
+    fn htmls_bytes(
+        &self,
+        contents: &[TextContent],
+        options: HtmlOptions,
+        bytes: &mut Vec<u8>,
+        ends: &mut Vec<usize>,
+    ) -> Result<(), Refusal> {
+        let input = self.raw();
+        let (mut given, mut blamed) = (Vec::new(), usize::MAX);
+        let has_room = given.try_reserve_exact(contents.len()).is_ok()
+            && ends.try_reserve(contents.len()).is_ok();
+        if !has_room {
+            return Err(Error::NoMemory.into());
+        }
+        given.extend(contents.iter().map(RawContent::of));
+        let lens = contents.iter().map(|it| self.len_of(it));
+        let len = lens.fold(0, usize::saturating_add);
+        let expected = 2 * len.min(self.document.len()) + 128;
+        let (ends_at, blamed_at) = (ends.as_mut_ptr(), &mut blamed as *mut usize);
+        // SAFETY: each pointer goes with the length of its array, there is room for one end for each content and for one number, and nothing is kept.
+        let filled = fill(bytes, expected, |array, len, count| unsafe {
+            raw::markdown_inline_htmls(
+                &input,
+                self.targets.as_ptr(),
+                self.targets.len(),
+                given.as_ptr(),
+                given.len(),
+                options.bits(),
+                self.reference_limit,
+                array,
+                len,
+                ends_at,
+                given.len(),
+                count,
+                blamed_at,
+            )
+        });
+        let at = Some(blamed).filter(|number| *number < usize::MAX);
+        filled.map_err(|error| Refusal { error, at })?;
+        // SAFETY: the call is done, so that there is an end for each content.
+        unsafe { ends.set_len(given.len()) };
+        Ok(())
     }
 
     fn fill<T>(&self, call: Call<T>, expected: usize, found: &mut Vec<T>) -> Result<(), Error> {

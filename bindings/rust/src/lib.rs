@@ -53,6 +53,7 @@
 mod error;
 mod event;
 mod fill;
+mod htmls;
 mod input;
 mod leaf;
 mod name;
@@ -61,8 +62,9 @@ mod raw;
 mod strings;
 mod texts;
 
-pub use error::{Blame, Error};
+pub use error::Error;
 pub use event::{Chain, Content, Event, EventSlice, Events, Iter, Kind, Link, Point};
+pub use htmls::{Htmls, Refusal};
 pub use input::Input;
 pub use leaf::{Leaf, LeafIter, Leaves};
 pub use name::Name;

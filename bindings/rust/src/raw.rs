@@ -183,6 +183,21 @@ extern "C" {
         count: *mut usize,
         blamed: *mut usize,
     ) -> u32;
+    pub(crate) fn markdown_inline_htmls(
+        input: *const RawInput,
+        targets: *const RawTarget,
+        targets_len: usize,
+        contents: *const RawContent,
+        contents_len: usize,
+        options: u32,
+        limit: usize,
+        html: *mut u8,
+        html_len: usize,
+        ends: *mut usize,
+        ends_len: usize,
+        count: *mut usize,
+        blamed: *mut usize,
+    ) -> u32;
 }
 
 #[cfg(test)]

@@ -3,7 +3,7 @@
 use crate::event::number_of;
 use crate::fill::fill;
 use crate::raw::{self, RawRange};
-use crate::{Blame, Error};
+use crate::{Error, Refusal};
 use std::ops::Range;
 
 /// The texts of strings.
@@ -55,7 +55,7 @@ fn raw_ranges(ranges: &[Range<usize>]) -> Result<Vec<RawRange>, Error> {
 /// The error is `NoString` or `NoMemory`.
 ///
 /// ```
-/// # fn main() -> Result<(), markdown_inline::Blame> {
+/// # fn main() -> Result<(), markdown_inline::Refusal> {
 /// let found = markdown_inline::strings(r#"[a](b\*c "d &amp; e")"#, &[4..8, 10..19], &[0..1, 1..2])?;
 /// assert_eq!(found.iter().collect::<Vec<_>>(), ["b*c", "d & e"]);
 /// # Ok(())
@@ -65,7 +65,7 @@ pub fn strings<D: AsRef<[u8]> + ?Sized>(
     document: &D,
     parts: &[Range<usize>],
     strings: &[Range<usize>],
-) -> Result<Strings, Blame> {
+) -> Result<Strings, Refusal> {
     let document = document.as_ref();
     let (parts, strings) = (raw_ranges(parts)?, raw_ranges(strings)?);
     let (mut texts, mut ends) = (Vec::new(), Vec::new());
@@ -92,7 +92,7 @@ pub fn strings<D: AsRef<[u8]> + ?Sized>(
             blamed.as_ptr(),
         )
     })
-    .map_err(|error| Blame {
+    .map_err(|error| Refusal {
         error,
         at: number_of(blamed.get()),
     })?;

@@ -2,7 +2,7 @@
 
 use markdown_inline::{
     identifier, is_right_version, reference, string, strings, text, Error, Events, HtmlOptions,
-    Input, Options, Piece, TextContent,
+    Input, Options, Piece, Refusal, TextContent,
 };
 use std::thread;
 
@@ -167,8 +167,92 @@ fn strings_have_their_texts() {
     assert_eq!((error.error, error.at), (Error::NoString, Some(1)));
     assert_eq!(
         error.to_string(),
-        "part of a string is no text of the bytes, number 1"
+        "part of a string is no text of the bytes: number 1"
     );
+}
+
+#[test]
+fn footnotes_are_numbered_through_many_contents() {
+    let document = "a[^b]\n\nc[^d]\n\n[^B] [e]";
+    let piece = |start, end| Piece {
+        start,
+        end,
+        ..Piece::default()
+    };
+    let pieces = [piece(0, 5), piece(7, 12), piece(14, 22)];
+    let contents = [0..1, 1..2, 2..3].map(|pieces| TextContent {
+        pieces,
+        first_of_item: false,
+    });
+    let call = |id: &str, count: &str, number| {
+        format!(
+            "<sup><a href=\"#user-content-fn-{id}\" id=\"user-content-fnref-{id}{count}\" \
+             data-footnote-ref=\"\" aria-describedby=\"footnote-label\">{number}</a></sup>"
+        )
+    };
+    let input = Input::new(document)
+        .pieces(&pieces)
+        .options(Options::COMMONMARK | Options::GFM)
+        .footnotes(["b", "d"])
+        .definition_to("e", "/f", None);
+    let found = input.htmls(&contents, HtmlOptions::default()).unwrap();
+    let wanted = [
+        "a".to_string() + &call("b", "", 1),
+        "c".to_string() + &call("d", "", 2),
+        call("b", "-2", 1) + " <a href=\"/f\">e</a>",
+    ];
+    assert!(found.iter().eq(&wanted), "{found:?}");
+    assert_eq!(found.as_str(), wanted.concat());
+    assert!(found.len() == 3 && !found.is_empty() && found.get(3).is_none());
+}
+
+#[test]
+fn references_bring_no_more_than_a_limit() {
+    let contents = [TextContent {
+        pieces: 0..1,
+        first_of_item: false,
+    }];
+    let refused = |at| {
+        Err(Refusal {
+            error: Error::References,
+            at: Some(at),
+        })
+    };
+    let asked = |input: &Input| input.htmls(&contents, HtmlOptions::default()).map(drop);
+    let long = "x".repeat(1000);
+    let document = "[a]".repeat(101);
+    let mut input = Input::new(&document).definition_to("a", &long, None);
+    assert_eq!(asked(&input), refused(0));
+    input.set_reference_limit(101_000);
+    assert_eq!(asked(&input), Ok(()));
+    assert_eq!(asked(&input.clone().reference_limit(100_999)), refused(0));
+    assert_eq!(asked(&input.reference_limit(0)), Ok(()));
+    let document = "[a]".repeat(100) + &"x".repeat(100_000 - 300);
+    let input = Input::new(&document).definition_to("a", &long, None);
+    assert_eq!(asked(&input), Ok(()));
+}
+
+#[test]
+fn what_is_refused_is_told() {
+    let contents = [0..1, 1..2].map(|pieces| TextContent {
+        pieces,
+        first_of_item: false,
+    });
+    let input = Input::new("a");
+    let refused = |input: &Input| input.htmls(&contents, HtmlOptions::default()).unwrap_err();
+    let found = refused(&input);
+    assert_eq!((found.error, found.at), (Error::NoContent, Some(1)));
+    assert_eq!(
+        found.to_string(),
+        "pieces are no content of the document: number 1"
+    );
+    let found = refused(&input.definition("b").footnote(b"\xff"));
+    assert_eq!((found.error, found.at), (Error::Definition, Some(1)));
+    let found = refused(&Input::new(b"\xff"));
+    assert_eq!((found.error, found.at), (Error::NotUtf8, None));
+    assert_eq!(found.to_string(), "document is not UTF-8");
+    assert_eq!(Error::from(found), Error::NotUtf8);
+    assert!(std::error::Error::source(&found).is_some());
 }
 
 #[test]

@@ -2,7 +2,7 @@
 #![cfg(all(target_os = "linux", target_env = "gnu"))]
 
 use markdown_inline::{
-    identifier, reference, strings, Error, Events, HtmlOptions, Input, TextContent, Texts,
+    identifier, reference, strings, Error, Events, HtmlOptions, Htmls, Input, TextContent, Texts,
 };
 use std::cell::Cell;
 use std::ffi::c_void;
@@ -64,6 +64,8 @@ fn refused_memory_is_an_error() {
         first_of_item: false,
     }];
     let (mut html, mut texts) = (input.html(HtmlOptions::default()).unwrap(), Texts::new());
+    let (options, mut htmls) = (HtmlOptions::default(), Htmls::new());
+    input.htmls_into(&contents, options, &mut htmls).unwrap();
     let found = [
         refused(|| input.text().map(drop)),
         refused(|| input.text_into(&mut events)),
@@ -73,12 +75,15 @@ fn refused_memory_is_an_error() {
         refused(|| input.html_into(HtmlOptions::default(), &mut html)),
         refused(|| input.texts(&contents).map(drop)),
         refused(|| input.texts_into(&contents, &mut texts)),
-        refused(|| strings("a", &[0..1, 0..1], &[0..2, 0..1]).map(drop)).map_err(|it| it.error),
+        refused(|| input.htmls(&contents, options).map(drop)).map_err(Error::from),
+        refused(|| input.htmls_into(&contents, options, &mut htmls)).map_err(Error::from),
+        refused(|| strings("a", &[0..1, 0..1], &[0..2, 0..1]).map(drop)).map_err(Error::from),
         refused(|| identifier("A").map(drop)),
         refused(|| reference("&amp;").map(drop)),
     ];
-    assert_eq!(found, [Err(Error::NoMemory); 11]);
-    assert!(events.is_empty() && html.is_empty() && texts.is_empty());
+    assert_eq!(found, [Err(Error::NoMemory); 13]);
+    assert!(events.is_empty() && html.is_empty() && texts.is_empty() && htmls.is_empty());
+    assert!(input.htmls_into(&contents, options, &mut htmls).is_ok() && htmls.len() == 1);
     assert!(input.texts(&contents).is_ok());
     assert!(input.text_into(&mut events).is_ok());
 }

@@ -8,3 +8,4 @@ mod Listed
 mod Pushed
 mod Refused
 mod Targets
+mod WrittenContents

@@ -11,3 +11,8 @@ pub mod Answers
 pub mod Listings
 pub mod FlatStrings
 pub mod Refusals
+pub mod BlamedParts
+pub mod FlatHtmls
+pub mod HtmlsRefusals
+-- What serves proofs: what functions promise each other.
+pub mod HtmlsState

@@ -24,6 +24,7 @@ fault_status Fault.NoContent = 7
 fault_status Fault.Definition = 8
 fault_status Fault.TooLong = 9
 fault_status Fault.NoReference = 10
+fault_status Fault.References = 11
 fault_status Fault.NoString = 12
 
 -- of a document

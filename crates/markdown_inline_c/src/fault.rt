@@ -31,6 +31,8 @@ pub enum Fault {
     TooLong,
     /// The bytes are no character reference.
     NoReference,
+    /// References bring more than the limit.
+    References,
     /// A string has a part that is no text of the bytes, or its parts are none of those given.
     NoString,
 }
@@ -49,6 +51,7 @@ impl Fault {
             Fault::Definition => 8,
             Fault::TooLong => 9,
             Fault::NoReference => 10,
+            Fault::References => 11,
             Fault::NoString => 12,
         }
     }

@@ -25,7 +25,7 @@ use std::alloc::{AllocError, Global};
 const UNKNOWN_OPTION: u32 = 0x4;
 
 // What the bits let be written, if each bit is known.
-fn known_options(options: u32) -> Result<HtmlOptions, Fault>
+pub(crate) fn known_options(options: u32) -> Result<HtmlOptions, Fault>
     ensures ok { IfOk result (λ found. AreKnownForHtml options × (found ≡ html_options_of options)) }
     ensures err { IfErr result (λ fault. (fault ≡ UnknownOption) × (AreKnownForHtml options → ⊥)) }
 {
@@ -123,7 +123,11 @@ fn definitions_of(
 }
 
 // The definitions of the input, each with its target.
-fn definitions(alloc: Global, input: &Input, targets: &[FlatTarget]) -> Result<Targets, Fault>
+pub(crate) fn definitions(
+    alloc: Global,
+    input: &Input,
+    targets: &[FlatTarget],
+) -> Result<Targets, Fault>
     requires { All (IsLabel input.now.labels.now) input.now.definitions.now }
     ensures found { IfOk result (λ found. found ≡ defined_by input.now.labels.now input.now.definitions.now targets.now) }
     ensures targets { IfOk result (λ _. AreTargets input.now targets.now) }

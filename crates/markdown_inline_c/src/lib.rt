@@ -2,8 +2,8 @@
 //!
 //! A call answers a status: 0 where it is done, 2 for an unknown option, 3 for a document that is not UTF-8, 4 for a text with a blank line or a
 //! line ending at its end, 5 where memory was refused, 6 for an array that is too small, 7 for pieces that are no content, 8 for the range of a
-//! definition that is no text of the labels, 9 for a document longer than an eighth of `usize::MAX`, 10 for bytes that are no character reference, 12 for
-//! parts of a string that are no texts.
+//! definition that is no text of the labels, 9 for a document longer than an eighth of `usize::MAX`, 10 for bytes that are no character reference, 11 where
+//! references bring more than a limit, 12 for parts of a string that are no texts.
 //! It is that of the first thing that is wrong, in the order 2, 9, 3, 7, 4, 8.
 #![tactic(auto)]
 
@@ -21,6 +21,9 @@ ghost use Rattle.markdown_inline_c.specs.Listings.{ends_behind};
 ghost use Rattle.markdown_inline_c.specs.Refusals.{IsAnswerOrBlame, IsStringsRefusal};
 ghost use Rattle.markdown_inline_c.specs.References.{reference_text, reference_value};
 ghost use Rattle.markdown_inline_c.specs.Answers.{IsAnswer, IsAnswerTwice, IsTested};
+ghost use Rattle.markdown_inline_c.specs.FlatHtmls.{html_ends, htmls_of, one_text, IsHtmlsInput};
+ghost use Rattle.markdown_inline_c.specs.HtmlsRefusals.{AreHtmlsRefused};
+ghost use Rattle.markdown_inline_c.specs.BlamedParts.{IsAnswerBlaming};
 ghost use Rattle.markdown_inline_c.specs.Statuses.{IsContentFault, IsHtmlFault, IsPiecesFault, IsLabelFault, IsReferenceFault, IsStringFault, IsTextFault, IsTextsFault};
 ghost use Rattle.markdown_util.specs.Identifier.{identifier_of};
 ghost use Rattle.markdown_engine_content.specs.Content.{IsContent, IsTextContent};
@@ -31,6 +34,7 @@ pub mod check;
 pub mod fault;
 pub mod flat;
 pub mod html;
+pub mod htmls;
 pub mod input;
 pub mod label;
 pub mod leaf;
@@ -42,6 +46,7 @@ pub mod texts;
 use answer::{answer, answer_texts, answer_with};
 use blame::answer_strings;
 use flat::{FlatContent, FlatEvent, FlatLeaf, FlatPiece, FlatTarget, Input, Range};
+use htmls::{answer_htmls, htmls};
 use std::alloc::Global;
 
 /// The version of the functions that this library exports, and of the types that they take.
@@ -72,8 +77,9 @@ pub extern "C" fn markdown_inline_is_text(alloc: Global, bytes: &[u8], pieces: &
     fault::status_of(check::is_text(alloc, bytes, pieces))
 }
 
-/// The events of the inline tree of the input's pieces as a string: of escapes, character references and data. The labels and definitions are not
-/// looked at, nor whether the text is the first of an item.
+/// The events of the inline tree of the input's pieces as a string: of escapes, character references and data. Each call tests the whole document
+/// and passes all that stands before the pieces, so a call for each of many pieces of one document takes time in proportion to its square. The
+/// labels and definitions are not looked at, nor whether the text is the first of an item.
 ///
 /// With status 0 they stand at the front of `events`, and `count` is how many they are. With status 6 `count` is that too, and they are more than
 /// `events` has room for. Nothing else is written.
@@ -89,7 +95,9 @@ pub extern "C" fn markdown_inline_string(
     answer(input::string(alloc, input), events, count)
 }
 
-/// The events of the inline tree of the input's pieces as a text: of the inside of a paragraph, a heading or a table's cell.
+/// The events of the inline tree of the input's pieces as a text: of the inside of a paragraph, a heading or a table's cell. Each call tests the whole
+/// document, passes all that stands before the pieces, and puts the labels in order, so a call for each paragraph of one document takes time in
+/// proportion to its square: `markdown_inline_texts` is for many contents.
 ///
 /// With status 0 they stand at the front of `events`, and `count` is how many they are. With status 6 `count` is that too, and they are more than
 /// `events` has room for. Nothing else is written.
@@ -105,7 +113,8 @@ pub extern "C" fn markdown_inline_text(
     answer(input::text(alloc, input), events, count)
 }
 
-/// The leaves of the inline tree of the input's pieces as a text, in order, each with where it begins and ends and what stands there.
+/// The leaves of the inline tree of the input's pieces as a text, in order, each with where it begins and ends and what stands there. A call costs what
+/// `markdown_inline_text` does.
 ///
 /// With status 0 they stand at the front of `leaves`, and `count` is how many they are. With status 6 `count` is that too, and they are more than
 /// `leaves` has room for. Nothing else is written.
@@ -177,7 +186,9 @@ pub extern "C" fn markdown_inline_texts(
     answer_texts(texts::texts(alloc, input, contents), events, ends, count)
 }
 
-/// The HTML of the inline tree of the input's pieces as a text.
+/// The HTML of the inline tree of the input's pieces as a text. Each call tests the whole document, passes all that stands before the pieces, and puts
+/// the definitions in order, so a call for each paragraph of one document takes time in proportion to its square: `markdown_inline_htmls` is for many
+/// contents, and has a limit on what references bring.
 ///
 /// Where each definition of the input leads is told by the target of the same number. The bits of `options` are 0x1, by which raw HTML is written as it
 /// stands and not as text, and 0x2, by which links lead wherever they say and not to listed schemes alone.
@@ -228,4 +239,40 @@ pub extern "C" fn markdown_inline_strings(
         count,
         blamed,
     )
+}
+
+/// The HTML of many contents of the input as texts, one content after another. The document is prepared once, and each content costs what it costs
+/// by itself, wherever it stands. Footnotes are numbered through all contents, so that each call in them has a number and an id of the document.
+///
+/// A content is a range of numbers of the input's pieces. That the text is the first of a list item is said of each content, and not by the
+/// options. Targets and the bits of `options` are those of one content.
+///
+/// A definition brings the bytes of its destination and of its title, as the target has them, to each link and image that refers to it. Where
+/// definitions bring more than `limit` bytes to all contents together, the status is 11; 0 is no limit. That is found out before the HTML is
+/// written, which would grow with the square of the document without a limit.
+///
+/// With status 0 the HTML stands at the front of `html`, and `count` is how many bytes it has; where that of each content ends stands at the front
+/// of `ends`. With status 6 `count` is that too, and `html` has not room for them, or `ends` not for one end a content. The status is that of the
+/// first thing that is wrong, in the order 2, 9, 3, 8; then that of the first content that is refused, 7, 4 or 11.
+///
+/// `blamed` is the number of the content that is refused with status 7, 4 or 11. With status 8 it is the number of the definition whose label or
+/// target is none; numbers of footnotes are counted on behind those of the definitions. Else it is `usize::MAX`. With a status other than 0 and 6
+/// nothing else is written.
+#[unsafe(no_mangle)]
+pub extern "C" fn markdown_inline_htmls(
+    alloc: Global,
+    input: &Input,
+    targets: &[FlatTarget],
+    contents: &[FlatContent],
+    options: u32,
+    limit: usize,
+    html: &mut [u8],
+    ends: &mut [usize],
+    count: &mut usize,
+    blamed: &mut usize,
+) -> u32
+    ensures { let found = htmls_of input.now targets.now contents.now options in IsAnswerBlaming (one_text found) (html_ends 0 found) (IsHtmlsInput input.now targets.now contents.now options limit) (AreHtmlsRefused input.now targets.now contents.now options limit) html.old html.new ends.old ends.new count.old count.new blamed.new result }
+{
+    let found = htmls(alloc, input, targets, contents, options, limit);
+    answer_htmls(found, html, ends, count, blamed)
 }

@@ -1,6 +1,8 @@
 // Why a call refuses its input, and which part of it is to blame.
 
 ghost use Rattle.std.specs.Prelude.{◌≡◌, None};
+ghost use Rattle.markdown_inline_c.specs.BlamedParts.{blames, blames_none};
+ghost use Rattle.markdown_inline_c.specs.FlatEvents.{number_or_max};
 ghost use Rattle.markdown_inline_c.specs.Refusals.{refusal_at};
 ghost use Rattle.markdown_inline_c.specs.declared.fault.Fault.TheVariants.{Memory};
 
@@ -29,10 +31,25 @@ impl Refusal {
             },
         }
     }
+
+    /// The refusal for which the one of this number is to blame, whatever the reason.
+    pub fn blaming(fault: Fault, number: usize) -> Refusal
+        ensures { result ≡ blames fault number }
+    {
+        let at = Some(number);
+        Refusal { fault, at }
+    }
+
+    /// The number of what is to blame, or `usize::MAX`.
+    pub fn blamed(self) -> usize
+        ensures { result ≡ number_or_max self.at }
+    {
+        self.at.unwrap_or(usize::MAX)
+    }
 }
 
 impl From<Fault> for Refusal {
-    ghost from_gives = { λ fault r. r ≡ record { fault = fault; at = None } };
+    ghost from_gives = { λ fault r. r ≡ blames_none fault };
 
     fn from(fault: Fault) -> Refusal {
         Refusal { fault, at: None }
@@ -40,7 +57,7 @@ impl From<Fault> for Refusal {
 }
 
 impl From<AllocError> for Refusal {
-    ghost from_gives = { λ _ r. r ≡ record { fault = Memory; at = None } };
+    ghost from_gives = { λ _ r. r ≡ blames_none Memory };
 
     fn from(_error: AllocError) -> Refusal {
         Refusal {

@@ -1,0 +1,27 @@
+-- What functions promise each other where many contents are written as HTML.
+use Rattle.std.specs.Prelude.{◌≡◌, ℕ, ◌-◌, ◌<◌, ◌≤◌, ◌==◌, if◌then◌else◌, Option, None, Some}
+use Rattle.markdown_html.specs.View.{page_from}
+use Rattle.markdown_html_model.specs.Html.{Page}
+use Rattle.markdown_model.specs.Setting.{Setting}
+use Rattle.markdown_run_text.specs.RunSetting.{setting_of}
+use Rattle.markdown_inline_c.specs.declared.htmls.Given.{Given}
+
+abbrev pub page_of : Given → Page
+page_of g = page_from g.document.now g.definitions.now g.options
+
+abbrev pub setting : Given → Setting
+setting g = setting_of g.document.now
+
+-- the limit by its number, where 0 is none
+abbrev pub limit_of : ℕ → Option ℕ
+limit_of limit = if limit == 0 then None else Some limit
+
+-- what is left where so many bytes more are brought, if that is within the limit; where there is no limit it is none
+abbrev pub IsSpent : Option ℕ → ℕ → Option ℕ → Type 0
+IsSpent None n rest = rest ≡ None
+IsSpent (Some left) n rest = (n ≤ left) × (rest ≡ Some (left - n))
+
+-- they are more than what is left
+abbrev pub IsOverspent : Option ℕ → ℕ → Type 0
+IsOverspent None n = ⊥
+IsOverspent (Some left) n = left < n
