@@ -16,7 +16,7 @@ use markdown_engine_content::cursor::Cursor;
 use markdown_engine_content::parser::{ParseState, Piece};
 use markdown_engine_names::name_index::{NameIndex, Names};
 use markdown_engine_pieces::content::has_text_lines;
-use markdown_run::run::{ListRun, Run, run_through, text_through};
+use markdown_run::run::{Run, run_through, text_through};
 use markdown_state::state::StateName;
 use std::alloc::{AllocError, Global};
 use std::marker::Model;
@@ -129,21 +129,6 @@ impl<'a> Document<'a> {
         self.known_content(pieces).string(alloc)
     }
 
-    /// As `string`, with the events in the list in which the run made them.
-    ///
-    /// The pieces have to be a content, which `is_content` answers.
-    ///
-    /// The error comes only where memory is refused.
-    pub fn string_list(&self, alloc: Global, pieces: &[Piece]) -> Result<ListRun, AllocError>
-        requires { IsContent self.now.bytes.now pieces.now }
-        ensures events { IfOk result (λ run. run.events ≡ string_events (setting_of self.now) pieces.now) }
-        ensures places { IfOk result (λ run. All (IsInOrder self.now.bytes.now) (innermost run.events)) }
-        ensures leaves { let bytes = self.now.bytes.now in IfOk result (λ run. covered bytes (map (lent bytes) (innermost run.events)) ≡ content_of bytes pieces.now) }
-        ensures probes { IfOk result (λ run. run.probes ≡ 0) }
-    {
-        self.known_content(pieces).string_list(alloc)
-    }
-
     /// The events of the inline tree of a content of the document that is read as text, as those of `run::text`.
     ///
     /// The pieces have to be a text content, which `is_text` answers.
@@ -163,27 +148,6 @@ impl<'a> Document<'a> {
         ensures no_probes { let on = self.now.options.now.constructs in on.attention ≡ false → on.gfm_strikethrough ≡ false → IfOk result (λ run. run.probes ≡ 0) }
     {
         self.known_content(pieces).text(alloc, first_of_item)
-    }
-
-    /// As `text`, with the events in the list in which the run made them.
-    ///
-    /// The pieces have to be a text content, which `is_text` answers.
-    ///
-    /// The error comes only where memory is refused.
-    pub fn text_list(
-        &self,
-        alloc: Global,
-        pieces: &[Piece],
-        first_of_item: bool,
-    ) -> Result<ListRun, AllocError>
-        requires { IsTextContent self.now.bytes.now pieces.now }
-        ensures events { IfOk result (λ run. run.events ≡ text_events (text_setting_of self.now first_of_item) pieces.now) }
-        ensures places { IfOk result (λ run. All (IsInOrder self.now.bytes.now) (innermost run.events)) }
-        ensures leaves { let bytes = self.now.bytes.now in IfOk result (λ run. covered bytes (map (lent bytes) (innermost run.events)) ≡ content_of bytes pieces.now) }
-        ensures probes { let s = text_setting_of self.now first_of_item in IfOk result (λ run. IsProbed s (label_tree s (content_of s.bytes pieces.now)) run.probes) }
-        ensures no_probes { let on = self.now.options.now.constructs in on.attention ≡ false → on.gfm_strikethrough ≡ false → IfOk result (λ run. run.probes ≡ 0) }
-    {
-        self.known_content(pieces).text_list(alloc, first_of_item)
     }
 
     /// Puts these identifiers of definitions and of footnotes in place of those that it has. What is known of its places stays.
@@ -259,18 +223,6 @@ impl<'b> Content<'b> {
         ensures leaves { let bytes = self.now.parse_state.bytes.now in IfOk result (λ run. covered bytes (map (lent bytes) (innermost run.events.items)) ≡ content_of bytes self.now.pieces) }
         ensures probes { IfOk result (λ run. run.probes ≡ 0) }
     {
-        self.string_list(alloc)?.into_run(alloc)
-    }
-
-    /// As `string`, with the events in the list in which the run made them.
-    ///
-    /// The error comes only where memory is refused.
-    pub fn string_list(&self, alloc: Global) -> Result<ListRun, AllocError>
-        ensures events { IfOk result (λ run. run.events ≡ string_events (setting_of self.now.parse_state) self.now.pieces) }
-        ensures places { IfOk result (λ run. All (IsInOrder self.now.parse_state.bytes.now) (innermost run.events)) }
-        ensures leaves { let bytes = self.now.parse_state.bytes.now in IfOk result (λ run. covered bytes (map (lent bytes) (innermost run.events)) ≡ content_of bytes self.now.pieces) }
-        ensures probes { IfOk result (λ run. run.probes ≡ 0) }
-    {
         let document = self.document;
         let mut tokenizer = Tokenizer::starting_at(
             alloc,
@@ -290,22 +242,6 @@ impl<'b> Content<'b> {
         ensures events { IfOk result (λ run. run.events.items ≡ text_events (text_setting_of self.now.parse_state first_of_item) self.now.pieces) }
         ensures places { IfOk result (λ run. All (IsInOrder self.now.parse_state.bytes.now) (innermost run.events.items)) }
         ensures leaves { let bytes = self.now.parse_state.bytes.now in IfOk result (λ run. covered bytes (map (lent bytes) (innermost run.events.items)) ≡ content_of bytes self.now.pieces) }
-        ensures probes { let s = text_setting_of self.now.parse_state first_of_item in IfOk result (λ run. IsProbed s (label_tree s (content_of s.bytes self.now.pieces)) run.probes) }
-        ensures no_probes { let on = self.now.parse_state.options.now.constructs in on.attention ≡ false → on.gfm_strikethrough ≡ false → IfOk result (λ run. run.probes ≡ 0) }
-    {
-        self.text_list(alloc, first_of_item)?.into_run(alloc)
-    }
-
-    /// As `text`, with the events in the list in which the run made them.
-    ///
-    /// It has to be text, which `is_text` answers.
-    ///
-    /// The error comes only where memory is refused.
-    pub fn text_list(&self, alloc: Global, first_of_item: bool) -> Result<ListRun, AllocError>
-        requires { IsTextContent self.now.parse_state.bytes.now self.now.pieces }
-        ensures events { IfOk result (λ run. run.events ≡ text_events (text_setting_of self.now.parse_state first_of_item) self.now.pieces) }
-        ensures places { IfOk result (λ run. All (IsInOrder self.now.parse_state.bytes.now) (innermost run.events)) }
-        ensures leaves { let bytes = self.now.parse_state.bytes.now in IfOk result (λ run. covered bytes (map (lent bytes) (innermost run.events)) ≡ content_of bytes self.now.pieces) }
         ensures probes { let s = text_setting_of self.now.parse_state first_of_item in IfOk result (λ run. IsProbed s (label_tree s (content_of s.bytes self.now.pieces)) run.probes) }
         ensures no_probes { let on = self.now.parse_state.options.now.constructs in on.attention ≡ false → on.gfm_strikethrough ≡ false → IfOk result (λ run. run.probes ≡ 0) }
     {

@@ -7,7 +7,7 @@ pub mod tokenizer;
 pub mod util;
 
 pub use markdown_engine_content::{bytes, configuration, cursor, parser, walk};
-pub use markdown_engine_events::{event_list, events, subtokenize};
+pub use markdown_engine_events::{events, subtokenize};
 pub use markdown_engine_index::{run_index, sequence_index, title_index};
 pub use markdown_engine_names::{bracket_index, name_index};
 pub use markdown_event::event;

@@ -7,4 +7,3 @@ pub mod WalkedEdits
 pub mod EditOrder
 pub mod EditStretches
 pub mod EditsInPlace
-pub mod PackedLemmas

@@ -2,5 +2,3 @@
 -- What has to be believed: what public contracts and the theorem cite.
 pub mod EventChains
 pub mod Edits
-pub mod Packed
-pub mod Stored

@@ -10,7 +10,7 @@ pub mod util;
 
 pub use markdown_definitions::{definitions, labels};
 pub use markdown_document::document;
-pub use markdown_engine::{event_list, events, subtokenize, tokenizer};
+pub use markdown_engine::{events, subtokenize, tokenizer};
 pub use markdown_engine_content::{configuration, parser};
 pub use markdown_engine_pieces::content;
 pub use markdown_event::event;

@@ -3,6 +3,5 @@
 pub use markdown_leaves::leaf::{Leaf, Leaves};
 pub use markdown_leaves::leaves;
 pub use markdown_run::run::{
-    ListRun, Piece, Run, construct, is_content, is_text, string, string_list, text, text_by_states,
-    text_list,
+    Piece, Run, construct, is_content, is_text, string, text, text_by_states,
 };

@@ -3,7 +3,6 @@ ghost use Rattle.std.specs.Prelude.{◌≡◌, [], ◌++◌, ◌+◌, ◌-◌, �
 ghost use Rattle.markdown_inline_lines.specs.PrintedLines.{words_text, content_text, number_text, point_text, rest_text, link_text, line_of, lines_of};
 
 use itoa::{Buffer, write_digits};
-use markdown_engine_events::event_list::EventSlice;
 use markdown_event::event::{Content, Event, Kind, Link, NAMES, Name, Point};
 use markdown_event::event_names;
 use std::alloc::{AllocError, Global};
@@ -334,15 +333,7 @@ fn make_room(text: &mut Vec<u8>, lines: &[u8], at: usize) -> Result<usize, Alloc
 pub fn lines_of(alloc: Global, events: &[Event]) -> Result<Vec<u8>, AllocError>
     ensures { IfOk result (λ text. text.items ≡ lines_of events.now) }
 {
-    lines_of_list(alloc, &EventSlice::over(events))
-}
-
-/// As `lines_of`, of events that a list lends.
-pub fn lines_of_list(alloc: Global, events: &EventSlice) -> Result<Vec<u8>, AllocError>
-    ensures { IfOk result (λ text. text.items ≡ lines_of events.now) }
-{
-    let count = events.len();
-    let mut text = Vec::with_capacity(alloc, count.saturating_mul(MOSTLY))?;
+    let mut text = Vec::with_capacity(alloc, events.len().saturating_mul(MOSTLY))?;
     let mut lines = [0; COLLECTED];
     let mut at = 0;
     let mut place = Printed::new(Point {
@@ -351,10 +342,9 @@ pub fn lines_of_list(alloc: Global, events: &EventSlice) -> Result<Vec<u8>, Allo
         index: 0,
         vs: 0,
     });
-    for index in 0..count {
+    for event in events {
         at = make_room(&mut text, &lines, at)?;
-        let event = events.at(index);
-        at = write_event(&event, &mut place, &mut lines, at);
+        at = write_event(event, &mut place, &mut lines, at);
     }
     text.extend_from_slice(&lines[..at])?;
     Ok(text)

@@ -20,21 +20,21 @@ use Rattle.markdown_partial.specs.TrimmedEvents.{HasParts}
 use Rattle.markdown_run_text.specs.ContentPasses.{may_resolve_of, resolves_of}
 use Rattle.markdown_run.specs.ElementsOfText.{EndsAt, forgotten, text_named}
 use Rattle.markdown_run.specs.Layer.{ends_of}
-use Rattle.markdown_run.specs.declared.run.ListRun.{ListRun}
+use Rattle.markdown_run.specs.declared.run.Run.{Run}
 
 -- however a run from this state ends, the passes that it registered may be called
 abbrev pub MayPass : StateName → Tokenizer → Type 0
 MayPass name T = (held : Bool) (left : Tokenizer) → ends_of name T held left → MayResolve may_resolve_of resolves_of left.resolvers (unregistered left)
 
 -- what is found is what the passes leave that are registered: the events, and the looks of pairing
-pub record IsFoundBehind (left : Tokenizer) (run : ListRun) : Type 0 where
+pub record IsFoundBehind (left : Tokenizer) (run : Run) : Type 0 where
   pub passed : Tokenizer
   pub resolves : Resolves resolves_of left.resolvers (unregistered left) passed
-  pub events : run.events ≡ chained passed.events
+  pub events : run.events.items ≡ chained passed.events
   pub probes : run.probes ≡ passed.tokenize_state.probes
 
 -- what is found is what a run from this state leaves after its passes
-pub record IsFoundFrom (name : StateName) (T : Tokenizer) (run : ListRun) : Type 0 where
+pub record IsFoundFrom (name : StateName) (T : Tokenizer) (run : Run) : Type 0 where
   pub held : Bool
   pub left : Tokenizer
   pub ends : ends_of name T held left
@@ -62,7 +62,7 @@ abbrev pub begun_text : Global → Bor ParseState → Place → Bool → Tokeniz
 begun_text alloc parse_state place first =
     record (begun_at alloc parse_state place) { tokenize_state = record at_rest { document_at_first_paragraph_of_list_item = first } }
 
-pub record IsFoundInText (T : Tokenizer) (run : ListRun) : Type 0 where
+pub record IsFoundInText (T : Tokenizer) (run : Run) : Type 0 where
   pub left : Tokenizer
   pub ends : EndsAt (text_named T) left
   pub found : IsFoundBehind left run

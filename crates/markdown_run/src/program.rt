@@ -9,11 +9,11 @@ ghost use Rattle.markdown_run.specs.ProgramOutput.{found_events, printed};
 ghost use Rattle.markdown_inline_lines.specs.PrintedLines.{lines_of};
 ghost use Rattle.std.specs.Io.KnownBytes.{Appends};
 
-use crate::run::{self, ListRun};
+use crate::run::{self, Run};
 use markdown_engine_content::configuration::ParseOptions;
 use markdown_engine_content::parser::{ParseState, Piece};
 use markdown_engine_pieces::content::DOCUMENT_LIMIT;
-use markdown_inline_lines::lines::lines_of_list;
+use markdown_inline_lines::lines::lines_of;
 use markdown_program_words::words::{
     are_known, defined_by, drop_line_ending, has, options_of, reads_text,
 };
@@ -125,32 +125,32 @@ fn whole_document(bytes: &[u8]) -> Piece
 }
 
 // What is found in the document of this parse state, which is UTF-8. The parse state is what the words ask for.
-fn found_by(alloc: Global, words: &[String], parse_state: &ParseState) -> Result<ListRun, Fault>
+fn found_by(alloc: Global, words: &[String], parse_state: &ParseState) -> Result<Run, Fault>
     requires text { IsUtf8 parse_state.now.bytes.now }
     requires fits { length parse_state.now.bytes.now ≤ document_limit }
     requires options { parse_state.now.options.now ≡ options_of words.now }
     requires labels { map string_bytes parse_state.now.definitions.items ≡ defined_by (codes "label=") words.now }
     requires notes { map string_bytes parse_state.now.gfm_footnote_definitions.items ≡ defined_by (codes "note=") words.now }
-    ensures events { IfOk result (λ run. run.events ≡ found_events words.now parse_state.now.bytes.now) }
+    ensures events { IfOk result (λ run. run.events.items ≡ found_events words.now parse_state.now.bytes.now) }
     ensures text { IfOk result (λ _. reads_text words.now ≡ true → IsTextDocument parse_state.now.bytes.now) }
     ensures faults { IfErr result (λ fault. (fault ≡ OutOfMemory) ⊎ (fault ≡ BlankLine)) }
     ensures blank_line { IfErr result (λ fault. fault ≡ BlankLine → (reads_text words.now ≡ true) × (IsTextDocument parse_state.now.bytes.now → ⊥)) }
 {
     let pieces = [whole_document(parse_state.bytes)];
     if !reads_text(words) {
-        return Ok(run::string_list(alloc, parse_state, &pieces)?);
+        return Ok(run::string(alloc, parse_state, &pieces)?);
     }
     if !run::is_text(parse_state.bytes, &pieces) {
         return Err(Fault::BlankLine);
     }
-    Ok(run::text_list(alloc, parse_state, &pieces, has(words, "task"))?)
+    Ok(run::text(alloc, parse_state, &pieces, has(words, "task"))?)
 }
 
 // What is found in this document, which is UTF-8.
-fn found_in(alloc: Global, words: &[String], bytes: &[u8]) -> Result<ListRun, Fault>
+fn found_in(alloc: Global, words: &[String], bytes: &[u8]) -> Result<Run, Fault>
     requires text { IsUtf8 bytes.now }
     requires fits { length bytes.now ≤ document_limit }
-    ensures events { IfOk result (λ run. run.events ≡ found_events words.now bytes.now) }
+    ensures events { IfOk result (λ run. run.events.items ≡ found_events words.now bytes.now) }
     ensures text { IfOk result (λ _. reads_text words.now ≡ true → IsTextDocument bytes.now) }
     ensures faults { IfErr result (λ fault. (fault ≡ OutOfMemory) ⊎ (fault ≡ BlankLine)) }
     ensures blank_line { IfErr result (λ fault. fault ≡ BlankLine → (reads_text words.now ≡ true) × (IsTextDocument bytes.now → ⊥)) }
@@ -178,7 +178,7 @@ fn output_of(alloc: Global, words: &[String], bytes: &[u8]) -> Result<Vec<u8>, F
         return Err(Fault::NotText);
     }
     let found = found_in(alloc, words, bytes)?;
-    Ok(lines_of_list(alloc, &found.events.as_slice())?)
+    Ok(lines_of(alloc, found.events.as_slice())?)
 }
 
 // Reads, runs, and makes the whole output.

@@ -23,7 +23,6 @@ use markdown_engine::tokenizer::Tokenizer;
 use markdown_engine_content::cursor::Cursor;
 use markdown_engine_content::parser::ParseState;
 pub use markdown_engine_content::parser::Piece;
-use markdown_engine_events::event_list::EventList;
 use markdown_engine_events::events::Events;
 pub use markdown_engine_pieces::content::{is_content, is_text};
 use markdown_event::event::Event;
@@ -44,39 +43,14 @@ pub struct Run {
     pub probes: u128,
 }
 
-/// What a run finds, its events in the list in which the run made them: it takes 24 bytes for each of them, where a `Run` takes 88.
-#[derive(Debug, Drop)]
-pub struct ListRun {
-    /// The events of the content's inline tree, in order.
-    pub events: EventList,
-    /// The number of looks at a run of markers as a possible opener of one closer.
-    pub probes: u128,
-}
-
-impl ListRun {
-    /// The same with each event as it is.
-    ///
-    /// The error comes only where memory is refused.
-    pub fn into_run(self, alloc: Global) -> Result<Run, AllocError>
-        ensures events { IfOk result (λ run. run.events.items ≡ self.events) }
-        ensures probes { IfOk result (λ run. run.probes ≡ self.probes) }
-    {
-        let ListRun { events, probes } = self;
-        Ok(Run {
-            events: events.into_vec(alloc)?,
-            probes,
-        })
-    }
-}
-
 // Takes what is found out of the tokenizer, behind all passes.
-fn found_in(tokenizer: &mut Tokenizer) -> ListRun
-    ensures events { result.events ≡ chained tokenizer.old.events }
+fn found_in(tokenizer: &mut Tokenizer) -> Run
+    ensures events { result.events.items ≡ chained tokenizer.old.events }
     ensures probes { result.probes ≡ tokenizer.old.tokenize_state.probes }
 {
     let events = mem::replace(&mut tokenizer.events, Events::new(tokenizer.alloc));
-    ListRun {
-        events: events.into_list(),
+    Run {
+        events: events.into_vec(),
         probes: tokenizer.tokenize_state.probes,
     }
 }
@@ -138,7 +112,7 @@ fn resolve_text(tokenizer: &mut Tokenizer) -> Result<(), AllocError>
 
 // Runs the passes of a text that has registered none, and takes what is found out of the tokenizer. They are called at once and not registered,
 // so that no list is made for them; and what is known of the content, at which they do not look, need not be forgotten.
-fn finish_plain(tokenizer: &mut Tokenizer) -> Result<ListRun, AllocError>
+fn finish_plain(tokenizer: &mut Tokenizer) -> Result<Run, AllocError>
     requires none { tokenizer.old.resolvers ≡ [] }
     requires passes { MayFinishPlain tokenizer.old }
     ensures { IfOk result (λ run. IsFoundBehind (text_passed (forgotten tokenizer.old)) run) }
@@ -156,7 +130,7 @@ fn finish_plain(tokenizer: &mut Tokenizer) -> Result<ListRun, AllocError>
 /// passes may be called behind the states.
 ///
 /// The error comes only where memory is refused.
-pub fn run_through(name: StateName, tokenizer: &mut Tokenizer) -> Result<ListRun, AllocError>
+pub fn run_through(name: StateName, tokenizer: &mut Tokenizer) -> Result<Run, AllocError>
     requires ready { ready_of name tokenizer.old }
     requires alone { tokenizer.old.attempts ≡ [] }
     requires passes { MayPass name tokenizer.old }
@@ -172,7 +146,7 @@ pub fn run_through(name: StateName, tokenizer: &mut Tokenizer) -> Result<ListRun
 /// From the start of a content it is a run of `text`. Of the content nothing is known yet but the names of what is defined, where they are given.
 ///
 /// The error comes only where memory is refused.
-pub fn text_through(tokenizer: &mut Tokenizer) -> Result<ListRun, AllocError>
+pub fn text_through(tokenizer: &mut Tokenizer) -> Result<Run, AllocError>
     requires ready { StartReady tokenizer.old }
     requires alone { tokenizer.old.attempts ≡ [] }
     requires unknown { KnowsNothing tokenizer.old }
@@ -194,7 +168,7 @@ fn text_from<'a>(
     parse_state: &'a ParseState<'a>,
     cursor: Cursor<'a>,
     first_of_item: bool,
-) -> Result<ListRun, AllocError>
+) -> Result<Run, AllocError>
     requires ready { StartReady (begun_text alloc parse_state cursor first_of_item) }
     requires unknown { KnowsNothing (begun_text alloc parse_state cursor first_of_item) }
     requires passes { MayPassText (begun_text alloc parse_state cursor first_of_item) }
@@ -205,28 +179,6 @@ fn text_from<'a>(
         .tokenize_state
         .document_at_first_paragraph_of_list_item = first_of_item;
     let found = text_through(&mut tokenizer);
-    drop(tokenizer);
-    found
-}
-
-/// As `string`, with the events in the list in which the run made them.
-///
-/// The pieces have to be a content, which `is_content` answers.
-///
-/// The error comes only where memory is refused.
-pub fn string_list(
-    alloc: Global,
-    parse_state: &ParseState,
-    pieces: &[Piece],
-) -> Result<ListRun, AllocError>
-    requires { IsContent parse_state.now.bytes.now pieces.now }
-    ensures events { IfOk result (λ run. run.events ≡ string_events (setting_of parse_state.now) pieces.now) }
-    ensures places { IfOk result (λ run. All (IsInOrder parse_state.now.bytes.now) (innermost run.events)) }
-    ensures leaves { let bytes = parse_state.now.bytes.now in IfOk result (λ run. covered bytes (map (lent bytes) (innermost run.events)) ≡ content_of bytes pieces.now) }
-    ensures probes { IfOk result (λ run. run.probes ≡ 0) }
-{
-    let mut tokenizer = Tokenizer::new(alloc, parse_state, pieces);
-    let found = run_through(StateName::StringStart, &mut tokenizer);
     drop(tokenizer);
     found
 }
@@ -245,29 +197,10 @@ pub fn string(alloc: Global, parse_state: &ParseState, pieces: &[Piece]) -> Resu
     ensures leaves { let bytes = parse_state.now.bytes.now in IfOk result (λ run. covered bytes (map (lent bytes) (innermost run.events.items)) ≡ content_of bytes pieces.now) }
     ensures probes { IfOk result (λ run. run.probes ≡ 0) }
 {
-    string_list(alloc, parse_state, pieces)?.into_run(alloc)
-}
-
-/// As `text`, with the events in the list in which the run made them.
-///
-/// The pieces have to be a text content, which `is_text` answers.
-///
-/// The error comes only where memory is refused.
-pub fn text_list(
-    alloc: Global,
-    parse_state: &ParseState,
-    pieces: &[Piece],
-    first_of_item: bool,
-) -> Result<ListRun, AllocError>
-    requires { IsTextContent parse_state.now.bytes.now pieces.now }
-    ensures events { IfOk result (λ run. run.events ≡ text_events (text_setting_of parse_state.now first_of_item) pieces.now) }
-    ensures places { IfOk result (λ run. All (IsInOrder parse_state.now.bytes.now) (innermost run.events)) }
-    ensures leaves { let bytes = parse_state.now.bytes.now in IfOk result (λ run. covered bytes (map (lent bytes) (innermost run.events)) ≡ content_of bytes pieces.now) }
-    ensures probes { let s = text_setting_of parse_state.now first_of_item in IfOk result (λ run. IsProbed s (label_tree s (content_of s.bytes pieces.now)) run.probes) }
-    ensures no_probes { let on = parse_state.now.options.now.constructs in on.attention ≡ false → on.gfm_strikethrough ≡ false → IfOk result (λ run. run.probes ≡ 0) }
-{
-    let cursor = Cursor::new(parse_state.bytes, pieces);
-    text_from(alloc, parse_state, cursor, first_of_item)
+    let mut tokenizer = Tokenizer::new(alloc, parse_state, pieces);
+    let found = run_through(StateName::StringStart, &mut tokenizer);
+    drop(tokenizer);
+    found
 }
 
 /// The events of the inline tree of a content that is read as text: of the inside of a paragraph, a heading or a table's cell. `first_of_item`
@@ -294,7 +227,8 @@ pub fn text(
     ensures probes { let s = text_setting_of parse_state.now first_of_item in IfOk result (λ run. IsProbed s (label_tree s (content_of s.bytes pieces.now)) run.probes) }
     ensures no_probes { let on = parse_state.now.options.now.constructs in on.attention ≡ false → on.gfm_strikethrough ≡ false → IfOk result (λ run. run.probes ≡ 0) }
 {
-    text_list(alloc, parse_state, pieces, first_of_item)?.into_run(alloc)
+    let cursor = Cursor::new(parse_state.bytes, pieces);
+    text_from(alloc, parse_state, cursor, first_of_item)
 }
 
 // Puts back events, edits, open names and place.

@@ -1,2 +1,1 @@
 mod JoinedEvents
-mod EditedLists

@@ -9,8 +9,7 @@ ghost use Rattle.markdown_engine.specs.Operations.{LinkedBefore};
 use crate::answers::Answers;
 use markdown_engine::run::resume;
 use markdown_engine::tokenizer::{Attempt, Tokenizer};
-use markdown_engine_events::event_list::EventSlice;
-use markdown_event::event::{Content, Link, Name};
+use markdown_event::event::{Content, Event, Link, Name};
 use markdown_state::resolve::ResolveName;
 use markdown_state::state::{State, StateName};
 use std::alloc::AllocError;
@@ -75,12 +74,12 @@ fn opened<'a>(tokenizer: &mut Tokenizer<'a>, nok: StateName) -> Result<Attempt<'
 }
 
 // The event that the first is linked on to.
-fn next_of(events: &EventSlice) -> Option<usize> {
-    events.iter().next()?.link?.next
+fn next_of(events: &[Event]) -> Option<usize> {
+    events.first()?.link?.next
 }
 
 // Appends a state, how many events there are, and where the first is linked on to.
-fn push_row(out: &mut Answers, state: State, events: &EventSlice) {
+fn push_row(out: &mut Answers, state: State, events: &[Event]) {
     out.show(state);
     out.show(events.len());
     out.show(next_of(events));
@@ -95,7 +94,7 @@ fn fail_inner(tokenizer: &mut Tokenizer, out: &mut Answers) -> Result<(), AllocE
     let inner = checked(tokenizer, StateName::DataInside)?;
     tokenizer.enter(Name::LineEnding)?;
     let after = resume(tokenizer, &inner, false);
-    push_row(out, after, &tokenizer.events.as_slice());
+    push_row(out, after, tokenizer.events.as_slice());
     Ok(())
 }
 
@@ -105,7 +104,7 @@ fn fail_both(tokenizer: &mut Tokenizer, out: &mut Answers) -> Result<(), AllocEr
     let outer = opened(tokenizer, StateName::DataStart)?;
     fail_inner(tokenizer, out)?;
     let after = resume(tokenizer, &outer, false);
-    push_row(out, after, &tokenizer.events.as_slice());
+    push_row(out, after, tokenizer.events.as_slice());
     out.show(tokenizer.current().map(char::from));
     out.show(tokenizer.previous().map(char::from));
     Ok(())

@@ -25,7 +25,6 @@ use crate::document;
 use markdown_attention::attention::runs::{Runs, Sequence};
 use markdown_attention::attention::{inside, resolve, resolve_counted, start};
 use markdown_engine::tokenizer::Tokenizer;
-use markdown_engine_events::event_list::EventSlice;
 use markdown_engine_events::events::Events;
 use markdown_engine_pieces::content::is_content;
 use markdown_event::event::{Event, Kind, Name, Point};
@@ -178,8 +177,8 @@ fn are_small(list: &[Sequence]) -> bool
 }
 
 // Appends events, each with its name and the index of its place, as `(Data 0 1)`.
-fn push_events(out: &mut Answers, events: &EventSlice) {
-    for event in events.iter() {
+fn push_events(out: &mut Answers, events: &[Event]) {
+    for event in events {
         if event.kind == Kind::Enter {
             out.say("(");
             out.print_name(event.name);
@@ -192,7 +191,7 @@ fn push_events(out: &mut Answers, events: &EventSlice) {
 }
 
 // Whether a pair has this event between its markers.
-fn is_text(event: Event) -> bool {
+fn is_text(event: &Event) -> bool {
     matches!(
         event.name,
         Name::EmphasisText | Name::StrongText | Name::GfmStrikethroughText
@@ -200,7 +199,7 @@ fn is_text(event: Event) -> bool {
 }
 
 // Appends what the pass leaves, or whether it leaves no pair.
-fn push_left(out: &mut Answers, how: How, events: &EventSlice) {
+fn push_left(out: &mut Answers, how: How, events: &[Event]) {
     if matches!(how, How::InVain) {
         out.show(!events.iter().any(is_text));
     } else {
@@ -266,7 +265,7 @@ fn pair(tokenizer: &mut Tokenizer, how: How, out: &mut Answers) -> Result<Option
     } else {
         resolve_counted(tokenizer, &mut probes)?;
     }
-    push_left(out, how, &tokenizer.events.as_slice());
+    push_left(out, how, tokenizer.events.as_slice());
     Ok(Some(Count {
         runs: runs.len(),
         probes,
@@ -337,5 +336,5 @@ fn pass_run(tokenizer: &mut Tokenizer, out: &mut Answers) {
     }
     out.show(tokenizer.resolvers.as_slice());
     out.say(" ");
-    push_events(out, &tokenizer.events.as_slice());
+    push_events(out, tokenizer.events.as_slice());
 }

@@ -21,7 +21,6 @@ use crate::document;
 use markdown_engine::tokenizer::Tokenizer;
 use markdown_engine_content::parser::Piece;
 use markdown_engine_content::walk::walk_to;
-use markdown_engine_events::event_list::EventSlice;
 use markdown_engine_events::events::Events;
 use markdown_engine_pieces::content::is_content;
 use markdown_event::event::{Content, Event, Kind, Link, Name, Point};
@@ -93,9 +92,9 @@ fn data_in(
 }
 
 // Appends the innermost events.
-fn push_innermost(out: &mut Answers, events: &EventSlice) {
+fn push_innermost(out: &mut Answers, events: &[Event]) {
     for index in 1..events.len() {
-        let (enter, exit) = (events.at(index - 1), events.at(index));
+        let (enter, exit) = (&events[index - 1], &events[index]);
         if matches!((enter.kind, exit.kind), (Kind::Enter, Kind::Exit)) {
             out.show(enter.name);
             out.show(enter.point.index);
@@ -135,7 +134,7 @@ pub(crate) fn find(tokenizer: &mut Tokenizer, word: &str, out: &mut Answers)
         Err(AllocError) => return out.end(),
     }
     out.keep(resolve(tokenizer));
-    push_innermost(out, &tokenizer.events.as_slice());
+    push_innermost(out, tokenizer.events.as_slice());
 }
 
 // Appends what is lent for an innermost event.

@@ -9,8 +9,7 @@ use crate::paths;
 use markdown_engine::run::resume;
 use markdown_engine::tokenizer::{Attempt, TokenizeState, Tokenizer};
 use markdown_engine_content::parser::{ParseState, Piece};
-use markdown_engine_events::event_list::EventSlice;
-use markdown_event::event::{Content, Kind, Name};
+use markdown_event::event::{Content, Event, Kind, Name};
 use markdown_inline::state;
 use markdown_lists::seq::Stack;
 use markdown_state::state::{State, StateName};
@@ -131,7 +130,7 @@ fn print_fields(fields: &TokenizeState, out: &mut Answers) {
 }
 
 // Prints the events from this one on, each by its name.
-fn print_entered(events: &EventSlice, from: usize, out: &mut Answers) {
+fn print_entered(events: &[Event], from: usize, out: &mut Answers) {
     for event in events.iter().skip(from) {
         out.say(if event.kind == Kind::Enter {
             " +"
@@ -162,7 +161,7 @@ fn print_call(answer: State, tokenizer: &mut Tokenizer, from: usize, out: &mut A
     out.show(answer);
     out.count(" at ", point.index);
     out.count(".", point.vs);
-    print_entered(&tokenizer.events.as_slice(), from, out);
+    print_entered(tokenizer.events.as_slice(), from, out);
     out.say(";");
     print_fields(&tokenizer.tokenize_state, out);
     out.say(";");

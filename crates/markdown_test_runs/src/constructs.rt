@@ -11,7 +11,7 @@ ghost use Rattle.markdown_run.specs.RunConstruct.{IsConstruct};
 
 use crate::answers::Answers;
 use crate::ends::read_end;
-use crate::lines::print_list;
+use crate::lines::print_events;
 use crate::paths::read_plain;
 use crate::row::Asked;
 use markdown_engine::tokenizer::Tokenizer;
@@ -303,7 +303,7 @@ fn is_at_rest(tokenizer: &Tokenizer) -> bool {
 // Prints what a construct left: whether it holds, the events, how many starts of labels are open, and where the tokenizer stands.
 fn print_left(tokenizer: &Tokenizer, held: bool, out: &mut Answers) {
     out.say(if held { " holds" } else { " no" });
-    print_list(&tokenizer.events.as_slice(), out);
+    print_events(tokenizer.events.as_slice(), usize::MAX, out);
     out.count("; starts ", tokenizer.tokenize_state.label_starts.len());
     out.count(" at ", tokenizer.point().index);
     if !is_at_rest(tokenizer) {

@@ -24,7 +24,7 @@
 //! The others are these, in any order but that pieces, definitions and parts of the document are taken as they come:
 //!
 //! - `+NAME` and `-NAME` turn a construct or an option on or off; at first CommonMark's constructs are on, as `ParseOptions::default` says. Of a
-//!   case, `first_of_item` says that the text is the first of a list item, `leaves` asks for the innermost events, `lists` for the events in a list, and `flushes` says that a narrow
+//!   case, `first_of_item` says that the text is the first of a list item, `leaves` asks for the innermost events, and `flushes` says that a narrow
 //!   writer hands on what it took.
 //! - `definition=TEXT` and `footnote=TEXT` define an identifier.
 //! - `word=TEXT` is a word of the program. `fault=KIND` is a kind of error.
@@ -53,7 +53,6 @@ mod counted;
 mod ends;
 mod fakes;
 mod lines;
-mod listed;
 mod met;
 mod moved;
 mod pairing;

@@ -352,8 +352,7 @@ pub(crate) fn resolve(tokenizer: &mut Tokenizer) -> Result<(), AllocError>
     let alloc = tokenizer.alloc;
     let bytes = tokenizer.parse_state.bytes;
     let options = tokenizer.parse_state.options;
-    let events = tokenizer.events.as_slice().to_vec(alloc)?;
-    let paired = paired(alloc, events.as_slice(), bytes, options)?;
+    let paired = paired(alloc, tokenizer.events.as_slice(), bytes, options)?;
     tokenizer.events = listed(alloc, paired.as_slice())?;
     Ok(())
 }

@@ -186,8 +186,7 @@ fn are_left(
         Ok(is_whole) => is_whole,
         Err(AllocError) => answer_again(tokenizer)?,
     };
-    let others = tokenizer.events.as_slice().to_vec(tokenizer.alloc)?;
-    let others = others.as_slice();
+    let others = tokenizer.events.as_slice();
     Ok(
         is_whole
             && match how {

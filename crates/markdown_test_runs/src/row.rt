@@ -32,8 +32,6 @@ pub(crate) struct Asked {
     pub(crate) first_of_item: bool,
     /// Whether the innermost events are asked for.
     pub(crate) leaves: bool,
-    /// Whether the events are asked for in a list.
-    pub(crate) lists: bool,
     /// Whether a narrow writer hands on what it took.
     pub(crate) flushes: bool,
     /// In fewer than so many others an event lies that is printed.
@@ -58,7 +56,6 @@ impl Row {
             asked: Asked {
                 first_of_item: false,
                 leaves: false,
-                lists: false,
                 flushes: false,
                 depth: usize::MAX,
                 least: 0,
@@ -116,7 +113,6 @@ impl Row {
         match name {
             "first_of_item" => self.asked.first_of_item = on,
             "leaves" => self.asked.leaves = on,
-            "lists" => self.asked.lists = on,
             "flushes" => self.asked.flushes = on,
             _ => return false,
         }

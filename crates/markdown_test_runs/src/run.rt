@@ -4,7 +4,6 @@ use crate::calls::{Sought, print_string_call, print_text_call};
 use crate::constructs::print_construct;
 use crate::counted::print_counts;
 use crate::lines::{print_events, print_leaf, print_probes};
-use crate::listed::{print_string_list, print_text_list};
 use crate::met::print_met;
 use crate::moved::is_found_again;
 use crate::pairs::{print_likeness, print_string_likeness};
@@ -141,9 +140,6 @@ fn print_text(
         out.say(" no text");
         return Ok(());
     };
-    if asked.lists {
-        return print_text_list(alloc, parse_state, pieces, first, out);
-    }
     if asked.leaves {
         print_leaves(leaves(bytes, &run.events), out);
     } else {
@@ -175,9 +171,6 @@ fn print_string(
         out.say(" no content");
         return Ok(());
     };
-    if asked.lists {
-        return print_string_list(alloc, parse_state, pieces, out);
-    }
     if asked.leaves {
         print_leaves(leaves(bytes, &run.events), out);
     } else {

@@ -119,8 +119,8 @@ def run_case(kind, words, document, pieces, answer):
     """A whole run."""
     data = examples.plain(document).encode()
     at = examples.points(data)
-    asked = [w for w in words if w not in ('leaves', 'lists') and not w.startswith('probes=')]
-    fields = word_fields(asked) + ['+' + w for w in ('leaves', 'lists') if w in words]
+    asked = [w for w in words if w != 'leaves' and not w.startswith('probes=')]
+    fields = word_fields(asked) + ['+leaves'] * ('leaves' in words)
     fields += bound_fields(kind, words, answer) + piece_fields(pieces, data) + list(document_fields(document))
     if kind == 'text' and has_blank_line(data, pieces):
         answer = REFUSED[0]
@@ -236,7 +236,7 @@ def own_cases(line):
         yield program_case(kind, words, document, answer)
     elif kind in examples.RUNS:
         yield run_case(kind, words, document, pieces, answer)
-        if 'leaves' not in words and 'lists' not in words and answer not in REFUSED and kind not in COUNTED:
+        if 'leaves' not in words and answer not in REFUSED and kind not in COUNTED:
             yield from passes_cases(kind, words, document, pieces, answer)
     else:
         yield construct_case(kind, words, document, pieces, answer)

@@ -5,7 +5,6 @@ ghost use Rattle.std.specs.List.Sorted.{IsNonDecreasingBy};
 ghost use Rattle.markdown_engine_events.specs.EventChains.{bare, EndsChain, IsFresh, IsLinked, IsUnlinked};
 ghost use Rattle.markdown_engine_events.specs.Edits.{removed_at, front_at, back_at, added_at, edit_of, kept, edits_of, number_of, renumbered, noted, edited, AreBrought, AreKept, IsRest, CanEdit};
 
-use crate::event_list::{EventList, EventSlice};
 use crate::events::Events;
 use markdown_event::event::{Event, Link};
 use markdown_lists::seq::{Seq, Stack};
@@ -48,7 +47,7 @@ pub(crate) struct Entry {
 pub struct EditMap {
     log: Seq<Entry>,
     // the events that come, those of an edit behind those of the edits before it
-    comes: EventList,
+    comes: Seq<Event>,
     alloc: Global,
 }
 
@@ -68,16 +67,16 @@ impl Model for EditMap {
 #[derive(Clone, Copy)]
 pub(crate) struct Kept<'a> {
     pub(crate) entries: &'a [Entry],
-    pub(crate) comes: &'a EventList,
+    pub(crate) comes: &'a [Event],
 }
 
 // The events that an edit brings.
-pub(crate) fn brought<'a>(comes: &'a EventList, edit: &Entry) -> EventSlice<'a>
+pub(crate) fn brought<'a>(comes: &'a [Event], edit: &Entry) -> &'a [Event]
     requires order { edit.now.from ≤ edit.now.to }
     requires within { edit.now.to ≤ length comes.now }
-    ensures { result ≡ (edit_of comes.now edit.now).events }
+    ensures { result.now ≡ (edit_of comes.now edit.now).events }
 {
-    comes.slice(edit.from, edit.to)
+    &comes[edit.from..edit.to]
 }
 
 // Whether each edit stands at a place not before that of the edit before it.
@@ -136,7 +135,7 @@ fn push_fronts(done: &mut Events, edits: &Kept, at: usize) -> Result<(), AllocEr
     for index in (0..edits.entries.len()).rev() {
         let edit = &edits.entries[index];
         if edit.at == at && edit.before {
-            done.extend_fresh(&brought(edits.comes, edit))?;
+            done.extend_fresh(brought(edits.comes, edit))?;
         }
     }
     Ok(())
@@ -149,7 +148,7 @@ fn push_backs(done: &mut Events, edits: &Kept, at: usize) -> Result<(), AllocErr
 {
     for edit in edits.entries {
         if edit.at == at && !edit.before {
-            done.extend_fresh(&brought(edits.comes, edit))?;
+            done.extend_fresh(brought(edits.comes, edit))?;
         }
     }
     Ok(())
@@ -179,7 +178,7 @@ fn push_here(done: &mut Events, edits: &Kept, at: usize) -> Result<usize, AllocE
 {
     if edits.entries.len() == 1 {
         let edit = &edits.entries[0];
-        done.extend_fresh(&brought(edits.comes, edit))?;
+        done.extend_fresh(brought(edits.comes, edit))?;
         return Ok(edit.remove);
     }
     push_fronts(done, edits, at)?;
@@ -350,7 +349,7 @@ fn pass_alone(
     let end = events.len().min(from.saturating_add(AT_ONCE));
     let to = next_place(edits, passed, end);
     let alone = events.alone(from, to);
-    done.extend_fresh(&alone)?;
+    done.extend_fresh(alone)?;
     Ok(from + alone.len())
 }
 
@@ -367,7 +366,7 @@ fn count_after(count: usize, comes: usize, log: &[Entry]) -> usize
 
 // Adds so many events, each of them written straight to its place.
 #[inline(always)]
-fn push_each<const N: usize>(comes: &mut EventList, events: [Event; N]) -> Result<(), AllocError>
+fn push_each<const N: usize>(comes: &mut Seq<Event>, events: [Event; N]) -> Result<(), AllocError>
     ensures ok { OnOk result (comes.new ≡ comes.old ++ events.entry) }
     ensures err { OnErr result (comes.new ≡ comes.old) }
 {
@@ -388,7 +387,7 @@ impl EditMap {
     {
         EditMap {
             log: Seq::new(alloc),
-            comes: EventList::new(alloc),
+            comes: Seq::new(alloc),
             alloc,
         }
     }
@@ -422,7 +421,7 @@ impl EditMap {
         ensures err { OnErr result (self.new ≡ self.old) }
     {
         let from = self.comes.len();
-        self.comes.push_all(events)?;
+        self.comes.extend_from_slice(events)?;
         let entry = Entry {
             at,
             remove,
@@ -544,7 +543,7 @@ impl EditMap {
     {
         Ok(Kept {
             entries: by_place(self.log.as_slice(), room)?,
-            comes: &self.comes,
+            comes: self.comes.as_slice(),
         })
     }
 
@@ -613,7 +612,7 @@ impl EditMap {
     {
         Kept {
             entries: self.log.as_slice(),
-            comes: &self.comes,
+            comes: self.comes.as_slice(),
         }
     }
 
