@@ -83,7 +83,7 @@ static void test_statuses(void) {
 static void test_words(void) {
     static const char *const words[] = {"done", NULL, "unknown option", "document is not UTF-8", "blank line in text, or line ending at its end", "out of memory",
         "array too small", "pieces are no content of the document", "range of a definition is no text of the labels", "document too long",
-        "no character reference", "references bring more than the limit", NULL};
+        "no character reference", "references bring more than the limit", "part of a string is no text of the bytes", NULL};
     for (uint32_t status = 0; status < sizeof words / sizeof *words; status++) {
         const char *found = markdown_inline_status_text(status);
         want("words of a status", words[status] ? found && !strcmp(found, words[status]) : !found);
