@@ -658,9 +658,12 @@ static void look_at_htmls(const drawn *all) {
     lend_case(&limited);
     if (brought[len] > 0) want("as much as the limit", called(HTMLS, &limited, sizeof found, len) == MARKDOWN_INLINE_DONE);
     if (brought[len] < 2) return;
-    limited.limit = 1 + below(brought[len] - 1);
-    for (model_blames = 0; brought[model_blames + 1] <= limited.limit;) model_blames++;
-    want("more than the limit", called(HTMLS, &limited, sizeof found, len) == MARKDOWN_INLINE_REFERENCES);
+    /* Few cases have references to what is defined, so several limits are tried of each. */
+    for (int turn = 0; turn < 8; turn++) {
+        limited.limit = 1 + below(brought[len] - 1);
+        for (model_blames = 0; brought[model_blames + 1] <= limited.limit;) model_blames++;
+        want("more than the limit", called(HTMLS, &limited, sizeof found, len) == MARKDOWN_INLINE_REFERENCES);
+    }
     model_blames = MARKDOWN_INLINE_NONE;
 }
 
