@@ -148,13 +148,13 @@ class Calls(unittest.TestCase):
             self.assertEqual(found, [html(document, it.pieces, task=it.first_of_item, definitions=defined, **asked) for it in contents])
 
     def test_references_bring_no_more_than_a_limit(self):
-        one, defined = [Content([(0, 303)])], {'a': 'x' * 1000}
-        document = '[a]' * 101
+        one, defined = [Content([(0, 404)])], {'a': 'x' * 1000}
+        document = '[a] ' * 101
         self.assertRaises(References, htmls, document, one, definitions=defined)
         self.assertRaises(References, htmls, document, one, definitions=defined, reference_limit=100_999)
         for asked in ({'reference_limit': 101_000}, {'reference_limit': 0}):
             self.assertEqual(htmls(document, one, definitions=defined, **asked), [html(document, definitions=defined)])
-        self.assertEqual(len(htmls(document + '\n\n' + 'x' * 100_695, one, definitions=defined)), 1)
+        self.assertEqual(len(htmls(document + '\n\n' + 'x' * 100_594, one, definitions=defined)), 1)
         for wrong, error in ((-1, OverflowError), (2 ** 64, OverflowError), (True, TypeError), ('1', TypeError)):
             self.assertRaises(error, htmls, document, one, reference_limit=wrong)
 

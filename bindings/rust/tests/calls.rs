@@ -220,14 +220,14 @@ fn references_bring_no_more_than_a_limit() {
     };
     let asked = |input: &Input| input.htmls(&contents, HtmlOptions::default()).map(drop);
     let long = "x".repeat(1000);
-    let document = "[a]".repeat(101);
+    let document = "[a] ".repeat(101);
     let mut input = Input::new(&document).definition_to("a", &long, None);
     assert_eq!(asked(&input), refused(0));
     input.set_reference_limit(101_000);
     assert_eq!(asked(&input), Ok(()));
     assert_eq!(asked(&input.clone().reference_limit(100_999)), refused(0));
     assert_eq!(asked(&input.reference_limit(0)), Ok(()));
-    let document = "[a]".repeat(100) + &"x".repeat(100_000 - 300);
+    let document = "[a] ".repeat(100) + &"x".repeat(100_000 - 400);
     let input = Input::new(&document).definition_to("a", &long, None);
     assert_eq!(asked(&input), Ok(()));
 }
