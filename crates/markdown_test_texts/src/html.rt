@@ -158,14 +158,7 @@ fn written(alloc: Global, row: Row, calls: &mut FootnoteCalls) -> Result<Vec<u8>
         let left = left_of_limit(alloc, &parse_state, events, &targets, html_options, 20)?;
         return left_shown(alloc, left);
     }
-    to_html(
-        alloc,
-        &parse_state,
-        events,
-        &targets,
-        calls,
-        html_options,
-    )
+    to_html(alloc, &parse_state, events, &targets, calls, html_options)
 }
 
 // Appends the answer to a row, behind these footnote calls if it goes on.
