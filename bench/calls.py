@@ -1,12 +1,20 @@
 #!/usr/bin/env python3
-"""Reads small contents, parted by blank lines, so many times with the Python package, as calls.c does from C.
+"""Reads contents that are parted by blank lines, so many times with the Python package, as calls.c does from C; with `html` it makes HTML of all of them.
 
-usage: calls.py REPEATS < CONTENTS"""
+usage: calls.py REPEATS [html] < CONTENTS"""
 import sys
 
-from markdown_inline import text
+from markdown_inline import Content, htmls, text
 
-contents = sys.stdin.read().rstrip('\n').split('\n\n')
+document = sys.stdin.read().rstrip('\n')
+contents = document.split('\n\n')
 for _ in range(int(sys.argv[1])):
-    for content in contents:
-        text(content, gfm=False)
+    if sys.argv[2:] == ['html']:
+        at, pieces = 0, []
+        for content in contents:
+            pieces.append(Content([(at, at + len(content))]))
+            at += len(content) + 2
+        htmls(document, pieces, gfm=False)
+    else:
+        for content in contents:
+            text(content, gfm=False)

@@ -15,17 +15,16 @@ WHOLE_FOLDER = os.path.join(HERE, 'crates', 'mdinline')
 MDINLINE = os.path.join(WHOLE_FOLDER, 'out', 'mdinline')
 HTML_FOLDER = os.path.join(HERE, 'crates', 'inline_html')
 INLINE_HTML = os.path.join(HTML_FOLDER, 'out', 'inline_html')
-FOLDER = os.path.join(HERE, 'crates', 'mdinline_example')
-CONTENTS = os.path.join(FOLDER, 'out', 'mdinline_example')
-# The function of `mdinline_example` that a run over a whole document is called in.
-COUNTED = 'mdinline_example::counts::count_runs'
+FOLDER = os.path.join(HERE, 'crates', 'bench_counts')
+CONTENTS = os.path.join(FOLDER, 'out', 'bench_counts')
+# The function of `bench_counts` that a run over a whole document is called in.
+COUNTED = 'bench_counts::counts::count_runs'
 # How the names begin of all functions of it that read contents: the one that calls the others has the whole cost.
-READING = 'mdinline_example::counts::count_'
-# The lines of figures that the library has: their names, the word of `mdinline_example` that reads a paragraph by itself, and the one that reads contents of
+READING = 'bench_counts::counts::count_'
+# The lines of figures that the library has: their names, the word of `bench_counts` that reads a paragraph by itself, and the one that reads contents of
 # one `Document`. A line is measured where the head of that program's sources has the word.
 WAYS = [
     ('library', 'documents', 'document'),
-    ('library, compact', 'compact', 'compact-document'),
 ]
 TIME = '/usr/bin/time'
 # How often memory is measured: what a run holds varies by some pages.
@@ -69,7 +68,7 @@ def say(text):
 
 def build(html=False):
     """Proves and builds our two programs, and with `html` the one that writes HTML, where that is not done yet, all by LLVM."""
-    for words, folder in ((['--', 'text'], WHOLE_FOLDER), ([], FOLDER), (['--', 'text'], HTML_FOLDER))[:3 if html else 2]:
+    for words, folder in ((['--', 'text'], WHOLE_FOLDER), (['--', 'run'], FOLDER), (['--', 'text'], HTML_FOLDER))[:3 if html else 2]:
         done = subprocess.run(['rt', 'run'] + words, cwd=folder, stdin=subprocess.DEVNULL, stdout=subprocess.PIPE, stderr=subprocess.PIPE)
         if done.returncode != 0:
             sys.exit(done.stderr.decode() + 'the programs were not built')
@@ -115,7 +114,7 @@ def writers():
 
 
 def known_ways():
-    """The words that `mdinline_example` knows, as the table at the head of its sources has them."""
+    """The words that `bench_counts` knows, as the table at the head of its sources has them."""
     with open(os.path.join(FOLDER, 'src', 'main.rt'), encoding='utf-8') as file:
         rows = [line.split('|')[1] for line in file if line.startswith('//! |')]
     return set(re.findall(r'`([^`]+)`', ' '.join(rows)))

@@ -1,5 +1,5 @@
 /* Prints the events of standard input as the program mdinline does, with the same words:
- * events text|string [gfm] [math] [task] [cm-lengths] [cm-shortcut] [label=TEXT].. [note=TEXT].. */
+ * events text|string [gfm] [math] [task] [cm-lengths] [cm-shortcut] [commonmark] [label=TEXT].. [note=TEXT].. */
 #include "markdown_inline.h"
 
 #include <stdio.h>
@@ -40,7 +40,8 @@ static uint32_t bit_of(const char *word) {
         {"math", MARKDOWN_INLINE_MATH},
         {"task", MARKDOWN_INLINE_OPTION_FIRST_OF_ITEM},
         {"cm-lengths", MARKDOWN_INLINE_OPTION_ATTENTION_FIRST_LENGTHS},
-        {"cm-shortcut", MARKDOWN_INLINE_OPTION_LABEL_SHORTCUT_BEFORE_BRACKET}};
+        {"cm-shortcut", MARKDOWN_INLINE_OPTION_LABEL_SHORTCUT_BEFORE_BRACKET},
+        {"commonmark", MARKDOWN_INLINE_OPTION_COMMONMARK_RULES}};
     for (size_t at = 0; at < sizeof bits / sizeof *bits; at++)
         if (!strcmp(bits[at].word, word)) return bits[at].bits;
     return 0;

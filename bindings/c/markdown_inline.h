@@ -29,7 +29,7 @@ extern "C" {
 #define MARKDOWN_INLINE_VERSION 1
 
 /* Statuses, with what each says. A status is that of the first thing that is wrong, in the order 2, 9, 3, 7, 4, 8, but where a call says another;
- * memory may be refused at any time. But for DONE and TOO_SMALL nothing is written, except what is to blame where a call tells that. */
+ * memory may be refused at any time. But for DONE and TOO_SMALL nothing is written, except by calls for many, which have an outcome. */
 #define MARKDOWN_INLINE_EACH_STATUS(X) \
     X(DONE, 0, "done") \
     X(UNKNOWN_OPTION, 2, "unknown option") \
@@ -87,7 +87,9 @@ extern "C" {
     /* Whether a defined label before a `[` that begins no label of its own is a shortcut reference, as CommonMark says. */ \
     X(LABEL_SHORTCUT_BEFORE_BRACKET, "label_shortcut_before_bracket", 0x80000) \
     /* Whether the text is the first of a list item, where the check of a task may stand. */ \
-    X(FIRST_OF_ITEM, "first_of_item", 0x100000)
+    X(FIRST_OF_ITEM, "first_of_item", 0x100000) \
+    /* Whether CommonMark's rule holds in each point that `Rules` names, in which the crate that is ported departs from it. The two options above are implied. */ \
+    X(COMMONMARK_RULES, "commonmark", 0x200000)
 
 /* Names of events, by their numbers from 0. */
 #define MARKDOWN_INLINE_EACH_NAME(X) \
@@ -263,8 +265,11 @@ enum { MARKDOWN_INLINE_UNLINKED = 0, MARKDOWN_INLINE_LINKED_STRING = 1, MARKDOWN
 /* What HTML may hold, each by a bit: raw HTML as it stands, and not as text; links that lead wherever they say, and not to listed schemes alone. */
 enum { MARKDOWN_INLINE_HTML_RAW = 0x1, MARKDOWN_INLINE_HTML_ANY_LINK = 0x2 };
 
-/* The number of no event, and of no content and no definition that is to blame. */
+/* The number of no event, and of no content, no string and no definition that is to blame. */
 #define MARKDOWN_INLINE_NONE SIZE_MAX
+
+/* The number of no definition, in a short event. */
+#define MARKDOWN_INLINE_NO_DEFINITION UINT32_MAX
 
 /* A piece of a document, from a place to a place. A place is a byte, and the columns of the tab there that come before; 0 outside of tabs. Each
  * piece but the last one ends just after a line ending, and the next one starts on the line after it. */
@@ -302,6 +307,16 @@ typedef struct markdown_inline_event {
     size_t previous, next;
 } markdown_inline_event;
 
+/* An event in 16 bytes, without its line, its column and the numbers of its chain. Of an event where a link or an image begins that refers to a definition,
+ * `definition` is the number of that among the definitions of the input; where a footnote call begins, it is the number of the footnote among those of
+ * the input. Of several with one identifier the first counts. At all other events it is MARKDOWN_INLINE_NO_DEFINITION, which also stands for higher
+ * numbers. `vs` is 255 where it would be more. */
+typedef struct markdown_inline_short_event {
+    uint8_t kind, name, link, vs;
+    uint32_t definition;
+    size_t index;
+} markdown_inline_short_event;
+
 /* A leaf: an event with no other inside it, from where it begins to where it ends, and what stands there. Its bytes begin at `start`, or at the byte
  * behind where `start_vs` is above 0; `before` and `after` count virtual spaces of tabs on either side of them. */
 typedef struct markdown_inline_leaf {
@@ -325,10 +340,16 @@ typedef struct markdown_inline_content {
     uint32_t first_of_item;
 } markdown_inline_content;
 
+/* How far a call for many comes: how many of the first contents or strings are written, how many elements all have that are read, and the number of what is
+ * to blame, or MARKDOWN_INLINE_NONE. */
+typedef struct markdown_inline_outcome {
+    size_t done, count, blamed;
+} markdown_inline_outcome;
+
 /* Sizes and alignment, in bytes. */
 typedef char markdown_inline_checks_sizes[sizeof(size_t) == 8 && sizeof(void *) == 8 && sizeof(markdown_inline_piece) == 32
     && sizeof(markdown_inline_range) == 16 && sizeof(markdown_inline_input) == 88 && sizeof(markdown_inline_event) == 56 && sizeof(markdown_inline_leaf) == 96
-    && sizeof(markdown_inline_target) == 40 && sizeof(markdown_inline_content) == 24
+    && sizeof(markdown_inline_target) == 40 && sizeof(markdown_inline_content) == 24 && sizeof(markdown_inline_short_event) == 16 && sizeof(markdown_inline_outcome) == 24
     && offsetof(markdown_inline_input, options) == 80 && offsetof(markdown_inline_event, line) == 8 ? 1 : -1];
 
 /* The version of the library. */
@@ -364,13 +385,28 @@ uint32_t markdown_inline_identifier(const uint8_t *label, size_t label_len, uint
  * are as above. */
 uint32_t markdown_inline_reference(const uint8_t *reference, size_t reference_len, uint8_t *text, size_t text_len, size_t *count);
 
+/* Calls for many contents or strings read one after another, and write what they find in each at the front of an array, one behind another; at the front of
+ * `ends` they write for each how many elements end with it. As many of the first are written as have room whole, with an end each: nothing else of the two
+ * arrays is written. The outcome is written with each status, and `done` always says how many these are.
+ * DONE: all are read and written. `count` is how many elements they have.
+ * TOO_SMALL: all are read, and there is not room for all. `count` is how many elements they have. A call for those from number `done` on wants room for
+ *     the elements that are missing: then none is read more than twice.
+ * NO_CONTENT, BLANK_LINE, REFERENCES, NO_STRING: `blamed` is the number of the first that is refused. Those before it are read, and `count` is how many
+ *     elements they have: so a caller can go on behind it.
+ * NO_MEMORY: some of the first are read, and `count` is how many elements they have.
+ * DEFINITION: `blamed` is the number of the definition that is refused, where footnotes are counted on behind the definitions. Nothing is read.
+ * UNKNOWN_OPTION, TOO_LONG, NOT_UTF8: nothing is read. */
+
 /* Finds the events of many contents of a document as texts, which is prepared once: each content costs what it costs by itself, wherever it stands.
- * The input has the pieces of all contents; whether a text is the first of a list item is said of each content, and not by the options. DONE: the
- * events stand at the front of the first array, one content after another, and `*count` is how many they are; at the front of `ends` stands for each
- * content how many events end with it. Numbers of events count within a content. TOO_SMALL: `*count` is how many events there are, and there is not
- * room for them, or not for one end a content. Of what is wrong the order is 2, 9, 3, 8; then 7 or 4 for the first content that is no text. */
+ * The input has the pieces of all contents; whether a text is the first of a list item is said of each content, and not by the options. Numbers of events
+ * count within a content. Of what is wrong the order is 2, 9, 3, 8; then 7 or 4 for the first content that is no text.
+ * Threads may share the contents of one input: each thread calls with some of them, and with arrays of its own. Each call prepares the document for itself. */
 uint32_t markdown_inline_texts(const markdown_inline_input *input, const markdown_inline_content *contents, size_t contents_len,
-    markdown_inline_event *events, size_t events_len, size_t *ends, size_t ends_len, size_t *count);
+    markdown_inline_event *events, size_t events_len, size_t *ends, size_t ends_len, markdown_inline_outcome *outcome);
+
+/* Finds the same events in 16 bytes each, with the definitions that links, images and footnote calls refer to: all that a renderer needs that walks them. */
+uint32_t markdown_inline_short_texts(const markdown_inline_input *input, const markdown_inline_content *contents, size_t contents_len,
+    markdown_inline_short_event *events, size_t events_len, size_t *ends, size_t ends_len, markdown_inline_outcome *outcome);
 
 /* Writes the HTML of the input's pieces as a text, in UTF-8. Each call tests the whole document, passes all that stands before the pieces, and puts
  * the definitions in order, so a call for each paragraph of one document takes time in proportion to its square: for many contents call
@@ -389,16 +425,13 @@ uint32_t markdown_inline_html(const markdown_inline_input *input, const markdown
  * image with a resource is brought nothing. `limit` is how many bytes definitions may bring to all contents together, and 0 is no limit. Without one,
  * n references to a definition of n bytes write n * n bytes; for text that is not trusted take the larger of 100000 and the document's length, as
  * cmark does.
- * DONE: the HTML stands at the front of the first array, one content after another, and `*count` is how many bytes it has; at the front of `ends`
- * stands for each content how many bytes end with it. TOO_SMALL: `*count` is how many bytes there are, and there is not room for them, or not for one
- * end a content. Of what is wrong the order is 2, 9, 3, 8; then 7, 4 or 11 for the first content that is no text, or to which with those before it
- * definitions bring more than the limit.
- * `*blamed` is written with each status. With 7, 4 and 11 it is the number of the content. With 8 it is the number of the definition whose label or
- * target is no text of the labels; footnotes are counted on behind the definitions. Else, and where there is not one target for each definition, it
- * is MARKDOWN_INLINE_NONE. */
+ * The HTML is written as calls for many write. Since footnotes are numbered through the contents of one call, a call after TOO_SMALL is for all of them where
+ * footnotes are called, with room for `count` bytes. Of what is wrong the order is 2, 9, 3, 8; then 7, 4 or 11 for the first content that is no text, or
+ * to which with those before it definitions bring more than the limit. With 8 the definition is refused whose label or target is no text of the
+ * labels; where there is not one target for each definition, none is to blame. */
 uint32_t markdown_inline_htmls(const markdown_inline_input *input, const markdown_inline_target *targets, size_t targets_len,
     const markdown_inline_content *contents, size_t contents_len, uint32_t options, size_t limit, uint8_t *html, size_t html_len, size_t *ends,
-    size_t ends_len, size_t *count, size_t *blamed);
+    size_t ends_len, markdown_inline_outcome *outcome);
 
 /* Finds the texts of strings: of a link's destination or title, of a definition's, of an info string. Escaped punctuation stands in place of its escape, and
  * in place of each character reference its text (CommonMark 2.4 and 2.5), by HTML's names as far as they are known; all other bytes stay, line endings and NUL
@@ -408,12 +441,10 @@ uint32_t markdown_inline_htmls(const markdown_inline_input *input, const markdow
  * parts are what the events Data and LineEnding between the Enter and the Exit of ResourceDestinationString or ResourceTitleString cover: so prefixes of lines,
  * and whitespace that begins them, are no part of it. A string that stands alone is one part; an empty one may have none.
  *
- * DONE: the texts stand at the front of the first array, one behind another, and `*count` is how many bytes they have; at the front of `ends` stands for each
- * string how many bytes end with it. TOO_SMALL: `*count` is how many bytes there are, and there is not room for them, or not for one end a string. NO_STRING:
- * `*blamed` is the number of the first string that has a part that is not given, or one that is no text of the bytes. With other statuses `*blamed` is
- * MARKDOWN_INLINE_NONE. But for `*blamed` nothing else is written. By the names that are known, no text is longer than its parts; that is tested and not proved. */
+ * The texts are written as calls for many write. NO_STRING: a string has a part that is not given, or one that is no text of the bytes. By the names that are
+ * known, no text is longer than its parts; that is tested and not proved. */
 uint32_t markdown_inline_strings(const uint8_t *bytes, size_t bytes_len, const markdown_inline_range *parts, size_t parts_len,
-    const markdown_inline_range *strings, size_t strings_len, uint8_t *texts, size_t texts_len, size_t *ends, size_t ends_len, size_t *count, size_t *blamed);
+    const markdown_inline_range *strings, size_t strings_len, uint8_t *texts, size_t texts_len, size_t *ends, size_t ends_len, markdown_inline_outcome *outcome);
 
 /* What a status says, or a null pointer for a number that is none. */
 static inline const char *markdown_inline_status_text(uint32_t status) {

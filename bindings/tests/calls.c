@@ -210,60 +210,151 @@ static void test_references(void) {
     want("no bytes are no reference", markdown_inline_reference(NULL, 0, NULL, 0, &count) == MARKDOWN_INLINE_NO_REFERENCE && count == 77);
 }
 
-/* Many contents have the events that each has by itself. */
-static void test_texts(void) {
-    const char *text = "[x] *a*\n\n> b\n> `c` [d]\n\n";
-    markdown_inline_piece pieces[] = {{0, 0, 7, 0}, {11, 0, 13, 0}, {15, 0, 22, 0}, {0, 0, 9, 0}, {0, 0, 99, 0}};
-    markdown_inline_content contents[] = {{{0, 1}, 1}, {{0, 1}, 0}, {{1, 3}, 0}, {{3, 3}, 0}};
-    markdown_inline_range label = {0, 1}, past = {0, 2};
-    markdown_inline_input input = input_of(text, pieces);
-    markdown_inline_event events[128], before[128], one[64];
-    size_t ends[6], at = 0, count = 77, needed = 0;
-    memset(events, 1, sizeof events);
-    memset(before, 1, sizeof before);
-    memset(ends, 1, sizeof ends);
+/* A document with a task, and a block quote of two lines, and contents of it. */
+static const char some[] = "[x] *a*\n\n> b\n> `c` [d]\n\n";
+static const markdown_inline_piece some_pieces[] = {{0, 0, 7, 0}, {11, 0, 13, 0}, {15, 0, 22, 0}, {0, 0, 9, 0}, {0, 0, 99, 0}};
+static const markdown_inline_content some_contents[] = {{{0, 1}, 1}, {{0, 1}, 0}, {{1, 3}, 0}, {{3, 3}, 0}};
+static const markdown_inline_range some_label = {0, 1};
+
+static markdown_inline_input some_input(void) {
+    markdown_inline_input input = input_of(some, some_pieces);
     input.pieces_len = 5;
     input.options |= MARKDOWN_INLINE_GFM;
     input.labels = (const uint8_t *)"D";
     input.labels_len = 1;
-    input.definitions = &label;
+    input.definitions = &some_label;
     input.definitions_len = 1;
-    want("no room for texts", markdown_inline_texts(&input, contents, 4, events, 3, ends, 6, &needed) == MARKDOWN_INLINE_TOO_SMALL && needed > 3);
-    want("no room for ends", markdown_inline_texts(&input, contents, 4, events, 128, ends, 3, &count) == MARKDOWN_INLINE_TOO_SMALL && count == needed);
-    want("texts without room", !memcmp(events, before, sizeof events) && !memcmp(ends, before, sizeof ends));
-    want("texts", markdown_inline_texts(&input, contents, 4, events, 128, ends, 6, &count) == MARKDOWN_INLINE_DONE && count == needed && ends[3] == count);
-    want("what stands past texts", !memcmp(events + count, before, (128 - count) * sizeof *events) && !memcmp(ends + 4, before, 2 * sizeof *ends));
+    return input;
+}
+
+static int is_outcome(const markdown_inline_outcome *it, size_t done, size_t count, size_t blamed) {
+    return it->done == done && it->count == count && it->blamed == blamed;
+}
+
+/* Many contents have the events that each has by itself, and as many as have room are written. */
+static void test_texts(void) {
+    markdown_inline_input input = some_input();
+    markdown_inline_event events[128], before[128], one[64];
+    markdown_inline_outcome outcome = {77, 77, 77};
+    size_t ends[6], at = 0, count = 77, all = 0;
+    memset(before, 1, sizeof before);
     for (size_t number = 0; number < 4; number++) {
         markdown_inline_input alone = input;
-        alone.pieces = pieces + contents[number].pieces.start;
-        alone.pieces_len = contents[number].pieces.end - contents[number].pieces.start;
-        if (contents[number].first_of_item) alone.options |= MARKDOWN_INLINE_OPTION_FIRST_OF_ITEM;
-        memset(one, 0, sizeof one);
-        want("one of the texts", markdown_inline_text(&alone, one, 64, &count) == MARKDOWN_INLINE_DONE && at + count == ends[number]);
+        alone.pieces = some_pieces + some_contents[number].pieces.start;
+        alone.pieces_len = some_contents[number].pieces.end - some_contents[number].pieces.start;
+        if (some_contents[number].first_of_item) alone.options |= MARKDOWN_INLINE_OPTION_FIRST_OF_ITEM;
+        want("one of the texts", markdown_inline_text(&alone, one, 64, &count) == MARKDOWN_INLINE_DONE && all + count < 128);
+        all += count;
+    }
+    for (size_t room = 0; room <= all + 1; room++) {
+        memset(events, 1, sizeof events);
+        memset(ends, 1, sizeof ends);
+        uint32_t status = markdown_inline_texts(&input, some_contents, 4, events, room, ends, 6, &outcome);
+        want("a status by the room for texts", status == (room < all ? (uint32_t)MARKDOWN_INLINE_TOO_SMALL : (uint32_t)MARKDOWN_INLINE_DONE));
+        size_t done = outcome.done, written = done > 0 && done <= 4 ? ends[done - 1] : 0;
+        want("all texts are counted", is_outcome(&outcome, done, all, MARKDOWN_INLINE_NONE) && done <= 4 && written <= room && (done == 4) == (room >= all));
+        want("what stands past texts", !memcmp(events + written, before, (128 - written) * sizeof *events) && !memcmp(ends + done, before, (6 - done) * sizeof *ends));
+        if (done >= 4) continue;
+        /* It goes on from there, and the next one has not had room. */
+        status = markdown_inline_texts(&input, some_contents + done, 4 - done, events + written, all - written, ends + done, 4 - done, &outcome);
+        want("texts go on", status == MARKDOWN_INLINE_DONE && is_outcome(&outcome, 4 - done, all - written, MARKDOWN_INLINE_NONE) && written + ends[done] > room);
+    }
+    for (size_t number = 0; number < 4; number++) {
+        memset(ends, 1, sizeof ends);
+        want("no room for ends", markdown_inline_texts(&input, some_contents, 4, events, 128, ends, number, &outcome) == MARKDOWN_INLINE_TOO_SMALL);
+        want("as many as have ends", is_outcome(&outcome, number, all, MARKDOWN_INLINE_NONE) && !memcmp(ends + number, before, (6 - number) * sizeof *ends));
+    }
+    want("texts", markdown_inline_texts(&input, some_contents, 4, events, 128, ends, 6, &outcome) == MARKDOWN_INLINE_DONE && ends[3] == all);
+    for (size_t number = 0; number < 4; number++) {
+        markdown_inline_input alone = input;
+        alone.pieces = some_pieces + some_contents[number].pieces.start;
+        alone.pieces_len = some_contents[number].pieces.end - some_contents[number].pieces.start;
+        if (some_contents[number].first_of_item) alone.options |= MARKDOWN_INLINE_OPTION_FIRST_OF_ITEM;
+        want("one of the texts again", markdown_inline_text(&alone, one, 64, &count) == MARKDOWN_INLINE_DONE && at + count == ends[number]);
         for (size_t event = 0; event < count && at < 128; event++, at++)
             want("an event of many", one[event].name == events[at].name && one[event].index == events[at].index && one[event].next == events[at].next);
     }
+    memset(&input, 0, sizeof input);
+    want("no texts", markdown_inline_texts(&input, NULL, 0, NULL, 0, NULL, 0, &outcome) == MARKDOWN_INLINE_DONE && is_outcome(&outcome, 0, 0, MARKDOWN_INLINE_NONE));
+}
+
+/* Whether texts and short texts are refused with this status, and blame this, and so many are read before. */
+static void want_texts_refused(const char *what, const markdown_inline_input *input, const markdown_inline_content *contents, uint32_t wanted, size_t done, size_t to_blame) {
+    markdown_inline_event events[128];
+    markdown_inline_short_event short_events[128];
+    markdown_inline_outcome outcome = {77, 77, 77};
+    size_t ends[6] = {77, 77, 77, 77, 77, 77};
+    uint32_t status = markdown_inline_texts(input, contents, 4, events, 128, ends, 6, &outcome);
+    if (status != wanted || outcome.blamed != to_blame) printf("calls: %s: status %u, blamed %zu\n", what, status, outcome.blamed);
+    want(what, status == wanted && is_outcome(&outcome, done, done > 0 ? ends[done - 1] : 0, to_blame) && ends[done] == 77);
+    want(what, markdown_inline_short_texts(input, contents, 4, short_events, 128, ends, 6, &outcome) == wanted && is_outcome(&outcome, done, done > 0 ? ends[done - 1] : 0, to_blame));
+}
+
+static void test_texts_refused(void) {
     static const struct {
         markdown_inline_content content;
         uint32_t status;
     } wrong[] = {{{{4, 5}, 0}, MARKDOWN_INLINE_NO_CONTENT}, {{{5, 6}, 0}, MARKDOWN_INLINE_NO_CONTENT}, {{{1, 0}, 0}, MARKDOWN_INLINE_NO_CONTENT},
         {{{SIZE_MAX, SIZE_MAX}, 0}, MARKDOWN_INLINE_NO_CONTENT}, {{{3, 4}, 0}, MARKDOWN_INLINE_BLANK_LINE}};
-    for (size_t number = 0; number < sizeof wrong / sizeof *wrong; number++) {
-        contents[3] = wrong[number].content;
-        count = 77;
-        want("one of many that is no text", markdown_inline_texts(&input, contents, 4, events, 128, ends, 6, &count) == wrong[number].status && count == 77);
+    static const markdown_inline_range ranges[] = {{0, 1}, {0, 2}, {1, 0}};
+    markdown_inline_input input = some_input();
+    markdown_inline_content contents[4];
+    for (size_t number = 0; number < 4 * (sizeof wrong / sizeof *wrong); number++) {
+        memcpy(contents, some_contents, sizeof contents);
+        contents[number % 4] = wrong[number / 4].content;
+        want_texts_refused("one of many that is no text", &input, contents, wrong[number / 4].status, number % 4, number % 4);
     }
-    input.definitions = &past;
-    want("definitions before texts", markdown_inline_texts(&input, contents, 4, events, 128, ends, 6, &count) == MARKDOWN_INLINE_DEFINITION);
+    input.footnotes = ranges;
+    input.footnotes_len = 3;
+    want_texts_refused("a footnote before texts", &input, contents, MARKDOWN_INLINE_DEFINITION, 0, 2);
+    input.definitions = ranges;
+    input.definitions_len = 3;
+    want_texts_refused("a definition before a footnote of texts", &input, contents, MARKDOWN_INLINE_DEFINITION, 0, 1);
     input.bytes = (const uint8_t *)"\xff";
     input.bytes_len = 1;
-    want("no UTF-8 before definitions", markdown_inline_texts(&input, contents, 4, events, 128, ends, 6, &count) == MARKDOWN_INLINE_NOT_UTF8);
+    want_texts_refused("no UTF-8 before definitions", &input, contents, MARKDOWN_INLINE_NOT_UTF8, 0, MARKDOWN_INLINE_NONE);
     input.bytes_len = (SIZE_MAX >> 3) + 1;
-    want("too long for texts", markdown_inline_texts(&input, NULL, 0, events, 128, ends, 6, &count) == MARKDOWN_INLINE_TOO_LONG);
+    want_texts_refused("too long for texts", &input, contents, MARKDOWN_INLINE_TOO_LONG, 0, MARKDOWN_INLINE_NONE);
     input.options |= 1u << 31;
-    want("an unknown option of texts", markdown_inline_texts(&input, NULL, 0, events, 128, ends, 6, &count) == MARKDOWN_INLINE_UNKNOWN_OPTION && count == 77);
-    memset(&input, 0, sizeof input);
-    want("no texts", markdown_inline_texts(&input, NULL, 0, NULL, 0, NULL, 0, &count) == MARKDOWN_INLINE_DONE && count == 0);
+    want_texts_refused("an unknown option of texts", &input, contents, MARKDOWN_INLINE_UNKNOWN_OPTION, 0, MARKDOWN_INLINE_NONE);
+}
+
+/* Short events are those of texts, and tell the definitions that links, images and footnote calls refer to. */
+static void test_short_texts(void) {
+    static const char text[] = "[a] [b][A] ![c][ d\nE ] [f](g) [x[^n]][no] [b] [^M] [a][]";
+    static const char labels[] = "b" "a" "d e" "A" "M" "n";
+    static const markdown_inline_range definitions[] = {{0, 1}, {1, 2}, {2, 5}, {5, 6}}, footnotes[] = {{6, 7}, {7, 8}};
+    /* In the order in which they begin: `[a]`, `[b][A]`, the image, `[f](g)` that refers to none, `[^n]` inside brackets, `[b]`, `[^M]`, `[a][]`. */
+    static const uint32_t wanted[] = {1, 1, 2, MARKDOWN_INLINE_NO_DEFINITION, 1, 0, 0, 1};
+    markdown_inline_piece piece = whole(text);
+    markdown_inline_content content = {{0, 1}, 0};
+    markdown_inline_input input = input_of(text, &piece);
+    markdown_inline_event events[256];
+    markdown_inline_short_event found[256];
+    markdown_inline_outcome outcome;
+    size_t end = 0, count = 0, met = 0;
+    input.options |= MARKDOWN_INLINE_GFM;
+    input.labels = (const uint8_t *)labels;
+    input.labels_len = sizeof labels - 1;
+    input.definitions = definitions;
+    input.definitions_len = 4;
+    input.footnotes = footnotes;
+    input.footnotes_len = 2;
+    memset(found, 1, sizeof found);
+    want("events of a text with definitions", markdown_inline_text(&input, events, 256, &count) == MARKDOWN_INLINE_DONE);
+    want("no room for short events", markdown_inline_short_texts(&input, &content, 1, found, count - 1, &end, 1, &outcome) == MARKDOWN_INLINE_TOO_SMALL);
+    want("how many short events there are", is_outcome(&outcome, 0, count, MARKDOWN_INLINE_NONE) && found[0].kind == 1 && end == 0);
+    want("short events", markdown_inline_short_texts(&input, &content, 1, found, 256, &end, 1, &outcome) == MARKDOWN_INLINE_DONE && end == count);
+    for (size_t at = 0; at < count; at++) {
+        const markdown_inline_short_event *it = &found[at];
+        int refers = it->kind == MARKDOWN_INLINE_ENTER
+            && (it->name == MARKDOWN_INLINE_NAME_LINK || it->name == MARKDOWN_INLINE_NAME_IMAGE || it->name == MARKDOWN_INLINE_NAME_GFM_FOOTNOTE_CALL);
+        want("a short event is an event", it->kind == events[at].kind && it->name == events[at].name && it->link == events[at].link && it->vs == events[at].vs
+                && it->index == events[at].index);
+        want("which definition is met", refers ? met < 8 && it->definition == wanted[met] : it->definition == MARKDOWN_INLINE_NO_DEFINITION);
+        met += refers;
+    }
+    want("how many refer to a definition", met == 8);
 }
 
 /* Whether a text has this HTML, and nothing is written without room for it. */
@@ -318,7 +409,7 @@ static void test_html(void) {
     want("HTML of nothing", markdown_inline_html(&input, NULL, 0, 0, NULL, 0, &count) == MARKDOWN_INLINE_DONE && count == 0);
 }
 
-/* Whether strings of these parts have these texts, and none is written where there is no room for all. */
+/* Strings have the texts of their parts, and as many as have room are written. */
 static void test_strings(void) {
     /* Two lines in a block quote, a destination with an escape and a reference, NUL, and a part that is no UTF-8. */
     static const char text[] = "> [a](b\\*c&amp;d (e &copy;\r\n>  f\\\n&nothing; \0&#0;\xc3\xa9)";
@@ -326,29 +417,33 @@ static void test_strings(void) {
     static const markdown_inline_range strings[] = {{0, 1}, {1, 6}, {0, 0}, {10, 10}, {4, 5}, {0, 1}};
     static const char texts[] = "b*c&d" "e \xc2\xa9\r\nf\\\n&nothing; \0\xef\xbf\xbd\xc3\xa9" "" "" "\n" "b*c&d";
     const uint8_t *bytes = (const uint8_t *)text;
-    const size_t len = sizeof text - 1, wanted = sizeof texts - 1;
+    const size_t len = sizeof text - 1, wanted = sizeof texts - 1, past = strlen("b*c&d"), ends_wanted[] = {past, wanted - past - 1, wanted - past - 1, wanted - past - 1, wanted - past, wanted};
     uint8_t found[64], before[64];
-    size_t ends[8], ends_before[8], count = 77, blamed = 77, past = strlen("b*c&d");
-    memset(found, 1, sizeof found);
+    size_t ends[8], ends_before[8];
+    markdown_inline_outcome outcome;
     memset(before, 1, sizeof before);
-    memset(ends, 1, sizeof ends);
     memset(ends_before, 1, sizeof ends_before);
-    want("no room for strings", markdown_inline_strings(bytes, len, parts, 10, strings, 6, found, wanted - 1, ends, 8, &count, &blamed) == MARKDOWN_INLINE_TOO_SMALL);
-    want("how much strings want", count == wanted && blamed == MARKDOWN_INLINE_NONE);
-    want("no room for ends of strings", markdown_inline_strings(bytes, len, parts, 10, strings, 6, found, 64, ends, 5, &count, &blamed) == MARKDOWN_INLINE_TOO_SMALL);
-    want("nothing is written", !memcmp(found, before, 64) && !memcmp(ends, ends_before, sizeof ends) && count == wanted);
-    want("strings", markdown_inline_strings(bytes, len, parts, 10, strings, 6, found, 64, ends, 8, &count, &blamed) == MARKDOWN_INLINE_DONE && count == wanted);
-    want("the texts of strings", !memcmp(found, texts, wanted) && !memcmp(found + wanted, before, 64 - wanted) && blamed == MARKDOWN_INLINE_NONE);
-    want("the ends of strings", ends[0] == past && ends[1] == wanted - past - 1 && ends[2] == ends[1] && ends[3] == ends[1] && ends[4] == ends[1] + 1 && ends[5] == wanted);
-    want("no more ends", !memcmp(ends + 6, ends_before, 2 * sizeof *ends));
+    for (size_t room = 0; room <= wanted + 1; room++) {
+        size_t done = 0;
+        while (done < 6 && ends_wanted[done] <= room) done++;
+        size_t written = done > 0 ? ends_wanted[done - 1] : 0;
+        memset(found, 1, sizeof found);
+        memset(ends, 1, sizeof ends);
+        uint32_t status = markdown_inline_strings(bytes, len, parts, 10, strings, 6, found, room, ends, 8, &outcome);
+        want("a status by the room for strings", status == (done < 6 ? (uint32_t)MARKDOWN_INLINE_TOO_SMALL : (uint32_t)MARKDOWN_INLINE_DONE));
+        want("how much strings want", is_outcome(&outcome, done, wanted, MARKDOWN_INLINE_NONE));
+        want("the texts of strings", !memcmp(found, texts, written) && !memcmp(found + written, before, 64 - written));
+        want("the ends of strings", !memcmp(ends, ends_wanted, done * sizeof *ends) && !memcmp(ends + done, ends_before, (8 - done) * sizeof *ends));
+    }
+    want("no room for ends of strings", markdown_inline_strings(bytes, len, parts, 10, strings, 6, found, 64, ends, 5, &outcome) == MARKDOWN_INLINE_TOO_SMALL);
+    want("as many strings as have ends", is_outcome(&outcome, 5, wanted, MARKDOWN_INLINE_NONE));
     for (size_t at = 6; at < 12; at++) {
         markdown_inline_range wrong[] = {{0, 1}, {at, at + 1}};
         if (at == 11) wrong[1] = (markdown_inline_range){1, 0};
-        count = blamed = 77;
-        want("a string of no text", markdown_inline_strings(bytes, len, parts, 10, wrong, 2, found, 64, ends, 8, &count, &blamed) == MARKDOWN_INLINE_NO_STRING);
-        want("which string is no text", blamed == 1 && count == 77);
+        want("a string of no text", markdown_inline_strings(bytes, len, parts, 10, wrong, 2, found, 64, ends, 8, &outcome) == MARKDOWN_INLINE_NO_STRING);
+        want("which string is no text", is_outcome(&outcome, 1, past, 1));
     }
-    want("no strings", markdown_inline_strings(NULL, 0, NULL, 0, NULL, 0, NULL, 0, NULL, 0, &count, &blamed) == MARKDOWN_INLINE_DONE && count == 0);
+    want("no strings", markdown_inline_strings(NULL, 0, NULL, 0, NULL, 0, NULL, 0, NULL, 0, &outcome) == MARKDOWN_INLINE_DONE && is_outcome(&outcome, 0, 0, MARKDOWN_INLINE_NONE));
 }
 
 /* A document of three paragraphs, with its definition behind its labels: `d` leads to `/e` with the title `f`; and a footnote `g`. */
@@ -375,59 +470,64 @@ static markdown_inline_input many_input(void) {
     return input;
 }
 
-/* Whether many contents have the HTML of each one after another, and nothing is written without room for it. */
+/* Many contents have the HTML of each one after another, and as many as have room are written. */
 static void test_htmls(void) {
     markdown_inline_input input = many_input();
     uint8_t html[1024], before[1024];
-    size_t ends[4], kept_ends[4], count = 77, needed = 0, blamed = 77, at = 0;
-    memset(html, 1, sizeof html);
+    size_t ends[4], kept_ends[4], needed = 0, at = 0;
+    markdown_inline_outcome outcome;
     memset(before, 1, sizeof before);
-    memset(ends, 1, sizeof ends);
     memset(kept_ends, 1, sizeof kept_ends);
     for (int number = 0; number < 3; number++) needed += strlen(many_html[number]);
-    uint32_t status = markdown_inline_htmls(&input, many_targets, 1, many_contents, 3, 0, 0, html, needed - 1, ends, 4, &count, &blamed);
-    want("no room for many", status == MARKDOWN_INLINE_TOO_SMALL && count == needed && blamed == MARKDOWN_INLINE_NONE);
-    status = markdown_inline_htmls(&input, many_targets, 1, many_contents, 3, 0, 0, html, 1024, ends, 2, &count, &blamed);
-    want("no room for ends of HTML", status == MARKDOWN_INLINE_TOO_SMALL && count == needed && blamed == MARKDOWN_INLINE_NONE);
-    want("HTML without room", !memcmp(html, before, 1024) && !memcmp(ends, kept_ends, sizeof ends));
-    blamed = 77;
-    status = markdown_inline_htmls(&input, many_targets, 1, many_contents, 3, 0, 0, html, 1024, ends, 4, &count, &blamed);
-    want("HTML of many", status == MARKDOWN_INLINE_DONE && count == needed && ends[2] == needed && blamed == MARKDOWN_INLINE_NONE);
-    want("what stands past the HTML of many", !memcmp(html + count, before, 1024 - count) && ends[3] == kept_ends[3]);
+    for (size_t room = 0; room <= needed + 1; room++) {
+        size_t done = 0, written = 0;
+        while (done < 3 && written + strlen(many_html[done]) <= room) written += strlen(many_html[done++]);
+        memset(html, 1, sizeof html);
+        memset(ends, 1, sizeof ends);
+        uint32_t status = markdown_inline_htmls(&input, many_targets, 1, many_contents, 3, 0, 0, html, room, ends, 4, &outcome);
+        want("a status by the room for HTML", status == (done < 3 ? (uint32_t)MARKDOWN_INLINE_TOO_SMALL : (uint32_t)MARKDOWN_INLINE_DONE));
+        want("how much HTML wants", is_outcome(&outcome, done, needed, MARKDOWN_INLINE_NONE) && (done == 0 || ends[done - 1] == written));
+        want("what stands past the HTML", !memcmp(html + written, before, 1024 - written) && !memcmp(ends + done, kept_ends, (4 - done) * sizeof *ends));
+    }
     for (int number = 0; number < 3; at = ends[number++]) {
         size_t len = strlen(many_html[number]);
         want("the HTML of one of many", ends[number] - at == len && !memcmp(html + at, many_html[number], len));
     }
+    want("no room for ends of HTML", markdown_inline_htmls(&input, many_targets, 1, many_contents, 3, 0, 0, html, 1024, ends, 2, &outcome) == MARKDOWN_INLINE_TOO_SMALL);
+    want("as much HTML as has ends", is_outcome(&outcome, 2, needed, MARKDOWN_INLINE_NONE));
     memset(&input, 0, sizeof input);
-    status = markdown_inline_htmls(&input, NULL, 0, NULL, 0, 0, 0, NULL, 0, NULL, 0, &count, &blamed);
-    want("HTML of no contents", status == MARKDOWN_INLINE_DONE && count == 0 && blamed == MARKDOWN_INLINE_NONE);
+    uint32_t status = markdown_inline_htmls(&input, NULL, 0, NULL, 0, 0, 0, NULL, 0, NULL, 0, &outcome);
+    want("HTML of no contents", status == MARKDOWN_INLINE_DONE && is_outcome(&outcome, 0, 0, MARKDOWN_INLINE_NONE));
 }
 
-/* Whether a call for many contents is refused with this status, blames this, and writes nothing else. */
-static void want_refused(const char *what, const markdown_inline_input *input, const markdown_inline_content *contents, size_t limit, uint32_t wanted, size_t to_blame) {
+/* Whether a call for many contents is refused with this status, blames this, and writes so many contents before. */
+static void want_refused(const char *what, const markdown_inline_input *input, const markdown_inline_content *contents, size_t limit, uint32_t wanted, size_t done, size_t to_blame) {
     uint8_t html[1024], before[1024];
-    size_t ends[3] = {77, 77, 77}, count = 77, blamed = 77;
+    size_t ends[3] = {77, 77, 77};
+    markdown_inline_outcome outcome = {77, 77, 77};
     memset(html, 1, sizeof html);
     memset(before, 1, sizeof before);
-    uint32_t status = markdown_inline_htmls(input, many_targets, 1, contents, 3, 0, limit, html, 1024, ends, 3, &count, &blamed);
-    if (status != wanted || blamed != to_blame) printf("calls: %s: status %u, blamed %zu\n", what, status, blamed);
-    faults += status != wanted || blamed != to_blame;
-    want(what, !memcmp(html, before, 1024) && ends[0] == 77 && ends[1] == 77 && ends[2] == 77 && count == 77);
+    uint32_t status = markdown_inline_htmls(input, many_targets, 1, contents, 3, 0, limit, html, 1024, ends, 3, &outcome);
+    if (status != wanted || outcome.blamed != to_blame) printf("calls: %s: status %u, blamed %zu\n", what, status, outcome.blamed);
+    size_t written = done > 0 ? ends[done - 1] : 0;
+    want(what, status == wanted && is_outcome(&outcome, done, written, to_blame) && written < 1024 && !memcmp(html + written, before, 1024 - written));
+    for (size_t at = done; at < 3; at++) want(what, ends[at] == 77);
 }
 
 /* A limit on what definitions bring: three links and images of three bytes each refer to one. */
 static void test_limit(void) {
     markdown_inline_input input = many_input();
     uint8_t html[1024];
-    size_t ends[3], count = 0, blamed = 77;
+    size_t ends[3];
+    markdown_inline_outcome outcome;
     for (size_t limit = 1; limit < 9; limit++)
-        want_refused("more than the limit", &input, many_contents, limit, MARKDOWN_INLINE_REFERENCES, limit / 3);
+        want_refused("more than the limit", &input, many_contents, limit, MARKDOWN_INLINE_REFERENCES, limit / 3, limit / 3);
     for (size_t limit = 9; limit < 12; limit++)
-        want("no more than the limit", markdown_inline_htmls(&input, many_targets, 1, many_contents, 3, 0, limit, html, 1024, ends, 3, &count, &blamed) == MARKDOWN_INLINE_DONE);
+        want("no more than the limit", markdown_inline_htmls(&input, many_targets, 1, many_contents, 3, 0, limit, html, 1024, ends, 3, &outcome) == MARKDOWN_INLINE_DONE);
     input.bytes = (const uint8_t *)"[a](/e 'f')!";
     input.bytes_len = 12;
     input.pieces_len = 1;
-    want("a resource is no reference", markdown_inline_htmls(&input, many_targets, 1, many_contents, 1, 0, 1, html, 1024, ends, 3, &count, &blamed) == MARKDOWN_INLINE_DONE);
+    want("a resource is no reference", markdown_inline_htmls(&input, many_targets, 1, many_contents, 1, 0, 1, html, 1024, ends, 3, &outcome) == MARKDOWN_INLINE_DONE);
 }
 
 /* Each status of a call for many contents, and what it blames. */
@@ -439,30 +539,30 @@ static void test_blame(void) {
     contents[1].pieces.end = 9;
     contents[2].pieces.start = 3;
     contents[2].pieces.end = 4;
-    want_refused("a content past the pieces", &input, contents, 0, MARKDOWN_INLINE_NO_CONTENT, 1);
+    want_refused("a content past the pieces", &input, contents, 0, MARKDOWN_INLINE_NO_CONTENT, 1, 1);
     contents[1] = many_contents[1];
-    want_refused("a content with a blank line", &input, contents, 0, MARKDOWN_INLINE_BLANK_LINE, 2);
-    want_refused("a limit before a blank line", &input, contents, 2, MARKDOWN_INLINE_REFERENCES, 0);
+    want_refused("a content with a blank line", &input, contents, 0, MARKDOWN_INLINE_BLANK_LINE, 2, 2);
+    want_refused("a limit before a blank line", &input, contents, 2, MARKDOWN_INLINE_REFERENCES, 0, 0);
     input.footnotes = good;
     input.footnotes_len = 4;
-    want_refused("a footnote past the labels", &input, contents, 1, MARKDOWN_INLINE_DEFINITION, 3);
+    want_refused("a footnote past the labels", &input, contents, 1, MARKDOWN_INLINE_DEFINITION, 0, 3);
     input.definitions = good + 3;
-    want_refused("a definition before a footnote", &input, contents, 1, MARKDOWN_INLINE_DEFINITION, 0);
+    want_refused("a definition before a footnote", &input, contents, 1, MARKDOWN_INLINE_DEFINITION, 0, 0);
     input.definitions = good;
     input.definitions_len = 3;
-    want_refused("a definition past the labels", &input, contents, 1, MARKDOWN_INLINE_DEFINITION, 2);
+    want_refused("a definition past the labels", &input, contents, 1, MARKDOWN_INLINE_DEFINITION, 0, 2);
     input.definitions_len = input.footnotes_len = 2;
-    want_refused("a definition without a target", &input, contents, 1, MARKDOWN_INLINE_DEFINITION, MARKDOWN_INLINE_NONE);
+    want_refused("a definition without a target", &input, contents, 1, MARKDOWN_INLINE_DEFINITION, 0, MARKDOWN_INLINE_NONE);
     input.definitions_len = 1;
     input.labels_len = 3;
-    want_refused("a target past the labels", &input, contents, 1, MARKDOWN_INLINE_DEFINITION, 0);
+    want_refused("a target past the labels", &input, contents, 1, MARKDOWN_INLINE_DEFINITION, 0, 0);
     input.bytes = (const uint8_t *)"\xff";
     input.bytes_len = 1;
-    want_refused("no UTF-8 of many", &input, contents, 1, MARKDOWN_INLINE_NOT_UTF8, MARKDOWN_INLINE_NONE);
+    want_refused("no UTF-8 of many", &input, contents, 1, MARKDOWN_INLINE_NOT_UTF8, 0, MARKDOWN_INLINE_NONE);
     input.bytes_len = (SIZE_MAX >> 3) + 1;
-    want_refused("too long for many", &input, contents, 1, MARKDOWN_INLINE_TOO_LONG, MARKDOWN_INLINE_NONE);
+    want_refused("too long for many", &input, contents, 1, MARKDOWN_INLINE_TOO_LONG, 0, MARKDOWN_INLINE_NONE);
     input.options |= 1u << 31;
-    want_refused("an unknown option of many", &input, contents, 1, MARKDOWN_INLINE_UNKNOWN_OPTION, MARKDOWN_INLINE_NONE);
+    want_refused("an unknown option of many", &input, contents, 1, MARKDOWN_INLINE_UNKNOWN_OPTION, 0, MARKDOWN_INLINE_NONE);
 }
 
 static void test_empty(void) {
@@ -507,6 +607,64 @@ static void test_threads(void) {
     }
 }
 
+/* Some of the contents of an input, and what a thread finds in them. */
+typedef struct share {
+    const markdown_inline_input *input;
+    const markdown_inline_content *contents;
+    size_t count, ends[64];
+    markdown_inline_event events[2048];
+    markdown_inline_outcome outcome;
+    uint32_t status;
+} share;
+
+static void *find(void *given) {
+    share *it = (share *)given;
+    it->status = markdown_inline_texts(it->input, it->contents, it->count, it->events, 2048, it->ends, 64, &it->outcome);
+    return NULL;
+}
+
+/* Threads that share the contents of one input find together what one call finds. */
+static void test_shares(void) {
+    static const char *const words[4] = {"a *b* `c`", "[d](e \"f\")", "**g** <h> &amp;", "i\\\nj"};
+    static char text[1024];
+    static markdown_inline_piece pieces[64];
+    static markdown_inline_content contents[64];
+    static share all, shares[4];
+    pthread_t threads[4];
+    markdown_inline_input input = input_of(text, pieces);
+    size_t end = 0, at, events = 0;
+    for (at = 0; at < 64; at++) {
+        pieces[at].start = end;
+        strcpy(text + end, words[at % 4]);
+        pieces[at].end = end += strlen(words[at % 4]);
+        strcpy(text + end, "\n\n");
+        end += 2;
+        contents[at].pieces.start = at;
+        contents[at].pieces.end = at + 1;
+    }
+    input.bytes_len = end;
+    input.pieces_len = 64;
+    all.input = &input;
+    all.contents = contents;
+    all.count = 64;
+    find(&all);
+    want("contents of one call", all.status == MARKDOWN_INLINE_DONE && all.outcome.done == 64);
+    for (at = 0; at < 4; at++) {
+        shares[at].input = &input;
+        shares[at].contents = contents + 16 * at;
+        shares[at].count = 16;
+        if (pthread_create(&threads[at], NULL, find, &shares[at])) exit(1);
+    }
+    for (at = 0; at < 4; at++) {
+        pthread_join(threads[at], NULL);
+        want("a share", shares[at].status == MARKDOWN_INLINE_DONE && shares[at].outcome.done == 16);
+        want("ends of a share", shares[at].ends[15] == all.ends[16 * at + 15] - events);
+        want("events of a share", !memcmp(shares[at].events, all.events + events, shares[at].ends[15] * sizeof *all.events));
+        events += shares[at].ends[15];
+    }
+    want("events of all shares", events == all.outcome.count);
+}
+
 /* Makes one call over a text with definitions, of two pieces, and ends with its status. */
 static int call_once(const char *call) {
     static markdown_inline_event events[256];
@@ -518,7 +676,9 @@ static int call_once(const char *call) {
     markdown_inline_target target = {{0, 1}, {0, 1}, 1};
     markdown_inline_content contents[] = {{{0, 2}, 0}, {{1, 2}, 1}};
     markdown_inline_input input = input_of(text, pieces);
-    size_t count = 0, blamed = 0, ends[2];
+    static markdown_inline_short_event short_events[256];
+    markdown_inline_outcome outcome;
+    size_t count = 0, ends[2];
     pieces[1].end = input.bytes_len;
     input.pieces_len = 2;
     input.labels = (const uint8_t *)"c";
@@ -528,13 +688,14 @@ static int call_once(const char *call) {
     input.options |= MARKDOWN_INLINE_GFM;
     if (!strcmp(call, "string")) return (int)markdown_inline_string(&input, events, 256, &count);
     if (!strcmp(call, "leaves")) return (int)markdown_inline_leaves(&input, leaves, 256, &count);
-    if (!strcmp(call, "texts")) return (int)markdown_inline_texts(&input, contents, 2, events, 256, ends, 2, &count);
+    if (!strcmp(call, "texts")) return (int)markdown_inline_texts(&input, contents, 2, events, 256, ends, 2, &outcome);
+    if (!strcmp(call, "short_texts")) return (int)markdown_inline_short_texts(&input, contents, 2, short_events, 256, ends, 2, &outcome);
     if (!strcmp(call, "html")) return (int)markdown_inline_html(&input, &target, 1, 0, bytes, 512, &count);
     if (!strcmp(call, "strings")) {
         static const markdown_inline_range parts[] = {{0, 3}, {4, 9}}, strings[] = {{0, 2}, {1, 2}};
-        return (int)markdown_inline_strings((const uint8_t *)"a\\* &amp;", 9, parts, 2, strings, 2, bytes, 512, ends, 2, &count, &blamed);
+        return (int)markdown_inline_strings((const uint8_t *)"a\\* &amp;", 9, parts, 2, strings, 2, bytes, 512, ends, 2, &outcome);
     }
-    if (!strcmp(call, "htmls")) return (int)markdown_inline_htmls(&input, &target, 1, contents, 2, 0, 100, bytes, 512, ends, 2, &count, &blamed);
+    if (!strcmp(call, "htmls")) return (int)markdown_inline_htmls(&input, &target, 1, contents, 2, 0, 100, bytes, 512, ends, 2, &outcome);
     if (!strcmp(call, "identifier")) return (int)markdown_inline_identifier((const uint8_t *)" A  B ", 6, bytes, 512, &count);
     if (!strcmp(call, "reference")) return (int)markdown_inline_reference((const uint8_t *)"&amp;", 5, bytes, 512, &count);
     return (int)markdown_inline_text(&input, events, 256, &count);
@@ -552,6 +713,8 @@ int main(int argc, char **argv) {
     test_identifiers();
     test_references();
     test_texts();
+    test_texts_refused();
+    test_short_texts();
     test_html();
     test_htmls();
     test_limit();
@@ -559,5 +722,6 @@ int main(int argc, char **argv) {
     test_strings();
     test_empty();
     test_threads();
+    test_shares();
     return faults != 0;
 }

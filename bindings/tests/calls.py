@@ -6,8 +6,8 @@ from array import array
 
 import markdown_inline
 from markdown_inline import (
-    OPTIONS, BlankLine, Content, DefinitionError, Error, Name, NoContent, NoReference, NoString, NotUtf8, Piece, References, TooLong, UnknownOption, _library, html,
-    htmls, identifier, is_content, is_text, leaves, reference, string, strings, text, texts)
+    OPTIONS, BlankLine, Content, DefinitionError, Error, Kind, Name, NoContent, NoReference, NoString, NotUtf8, Piece, References, ShortTexts, TooLong,
+    UnknownOption, _library, html, htmls, identifier, is_content, is_text, leaves, reference, short_texts, string, strings, text, texts)
 
 COMMONMARK = sum(OPTIONS[it] for it in (
     'attention', 'autolink', 'character_escape', 'character_reference', 'code_text', 'hard_break_escape', 'hard_break_trailing', 'html_text', 'label_start_image',
@@ -78,7 +78,7 @@ class Calls(unittest.TestCase):
         for document, asked, bits in (
             ('~a~ www.b.c [^d] e@f.g', {'gfm': True}, gfm), ('a $b$ $$c$$', {'math': True}, OPTIONS['math_text']),
             ('[x] a', {'gfm': True, 'task': True}, gfm | OPTIONS['first_of_item']), ('*a***a* b', {'cm_lengths': True}, OPTIONS['attention_first_lengths']),
-            ('[a][', {'cm_shortcut': True}, OPTIONS['label_shortcut_before_bracket']),
+            ('[a][', {'cm_shortcut': True}, OPTIONS['label_shortcut_before_bracket']), ('a*_b_*', {'commonmark': True}, OPTIONS['commonmark']),
         ):
             last = list(asked)[-1]
             without = {name: it for name, it in asked.items() if name != last}
@@ -117,6 +117,20 @@ class Calls(unittest.TestCase):
         found = texts(document, [Content([Piece(0, 7)], True), Content(pieces), Content([])])
         self.assertEqual(found, [text(document, [Piece(0, 7)], task=True), text(document, pieces), []])
         self.assertEqual(texts(document, []), [])
+        shorts = short_texts(document, [Content([Piece(0, 7)], True), Content(pieces), Content([])])
+        self.assertIsInstance(shorts, ShortTexts)
+        for events, short in zip(found, shorts):
+            self.assertEqual([(it.kind, it.name, it.index, it.vs, it.character) for it in events], [(*it[:4], it.character) for it in short])
+            self.assertEqual([(it.kind, it.name, 2 ** 32 - 1, it.index) for it in events], list(short.flat()))
+            self.assertEqual([it.link and it.link.content for it in events], [it.link for it in short])
+
+    def test_short_events_tell_the_definitions_that_are_met(self):
+        document = '[a][B] ![c] [d](e) [f [g]] x[^h] [b]'
+        found, = short_texts(document, [Content([(0, 36)])], gfm=True, definitions=['c', 'b', 'G', 'B'], footnotes=['i', 'H'])
+        met = [(it.name, it.index, it.definition, it.kind) for it in found if it.definition is not None]
+        begins = [(Name.Link, 0, 1), (Name.Image, 7, 0), (Name.Link, 22, 2), (Name.GfmFootnoteCall, 28, 1), (Name.Link, 33, 1)]
+        self.assertEqual(met, [(*it, Kind.Enter) for it in begins])
+        self.assertEqual([it[:3] for it in found.flat() if it[2] < 2 ** 32 - 1], [(Kind.Enter, name, number) for name, _, number in begins])
 
     def test_texts_of_strings(self):
         document = '> [a](<b\\*c> (d\n>  &copy; é\\)\n> e))'
@@ -153,10 +167,24 @@ class Calls(unittest.TestCase):
         self.assertRaises(References, htmls, document, one, definitions=defined)
         self.assertRaises(References, htmls, document, one, definitions=defined, reference_limit=100_999)
         for asked in ({'reference_limit': 101_000}, {'reference_limit': 0}):
-            self.assertEqual(htmls(document, one, definitions=defined, **asked), [html(document, definitions=defined)])
+            self.assertEqual(htmls(document, one, definitions=defined, **asked), [html(document, definitions=defined, **asked)])
         self.assertEqual(len(htmls(document + '\n\n' + 'x' * 100_594, one, definitions=defined)), 1)
         for wrong, error in ((-1, OverflowError), (2 ** 64, OverflowError), (True, TypeError), ('1', TypeError)):
             self.assertRaises(error, htmls, document, one, reference_limit=wrong)
+            self.assertRaises(error, html, document, reference_limit=wrong)
+
+    def test_references_bring_no_more_than_a_limit_to_one_text(self):
+        document, asked = '[x] ![a][b] [^c] ' + '[a] ' * 99 + '[a]', {'gfm': True, 'footnotes': ['c'], 'definitions': {'a': ('x' * 999, 'y'), 'b': 'z'}}
+        self.assertRaises(References, html, document, **asked)
+        self.assertRaises(References, html, document, reference_limit=100_000, **asked)
+        for task in (False, True):
+            found = html(document, task=task, reference_limit=0, **asked)
+            self.assertEqual(found, html(document, task=task, reference_limit=100_001, **asked))
+            self.assertEqual('checkbox' in found, task)
+        # Where no references can bring more than the limit, and where they could, the same is wrong.
+        for limit in (1, 10 ** 9):
+            self.assertRaises(NoContent, html, document, [(0, 9999)], reference_limit=limit, **asked)
+            self.assertRaises(BlankLine, html, document + '\n', reference_limit=limit, **asked)
 
     def test_what_is_to_blame_is_told(self):
         good = Content([(0, 3)])
@@ -165,6 +193,9 @@ class Calls(unittest.TestCase):
             (1, lambda: htmls('[a]\n', [good, good], definitions={'a': 'bc'}, reference_limit=3)),
             (2, lambda: htmls('[a]', [good], definitions={'a': 'b', 'c': 'd', b'\xff': 'e'})), (0, lambda: htmls('[a]', [good], definitions={'a': b'\xff'})),
             (2, lambda: htmls('[a]', [good], definitions={'a': 'b'}, footnotes=['c', b'\xff'])), (None, lambda: htmls(b'\xff', [good])),
+            (1, lambda: texts('[a]\n', [good, Content([(0, 9)])])), (2, lambda: short_texts('[a]\n', [good, good, Content([(0, 4)])])),
+            (2, lambda: texts('[a]', [good], definitions=['a', 'b', b'\xff'])), (3, lambda: short_texts('[a]', [good], definitions=['a', 'b', 'c'], footnotes=[b'\xff'])),
+            (None, lambda: texts(b'\xff', [good])),
         ):
             with self.assertRaises(Error) as caught:
                 call()

@@ -1,5 +1,5 @@
 /* Reads cases of draw.py from standard input, and prints what the library finds in each: events as the program of crates/markdown_test_runs does,
- * leaves, HTML in hexadecimal, or the events of each text; where there are none, why. */
+ * leaves, HTML in hexadecimal, or the events or the short events of each text; where there are none, why. */
 #include "markdown_inline.h"
 
 #include <stdio.h>
@@ -130,6 +130,15 @@ static uint32_t answer_html(markdown_inline_input *input, char **words) {
     return status;
 }
 
+static void print_blamed(size_t blamed) {
+    if (blamed != MARKDOWN_INLINE_NONE) printf(" %zu", blamed);
+}
+
+static void print_short(const markdown_inline_short_event *it) {
+    printf(" %s%s %zu:%u:%u", it->kind == MARKDOWN_INLINE_ENTER ? "+" : "-", markdown_inline_name_text(it->name), it->index, it->vs, it->link);
+    if (it->definition != MARKDOWN_INLINE_NO_DEFINITION) printf(":%u", it->definition);
+}
+
 static size_t read_contents(char **words, markdown_inline_content *contents) {
     size_t found = 0;
     for (char *word; (word = next(words)) != NULL; found++) {
@@ -142,21 +151,22 @@ static size_t read_contents(char **words, markdown_inline_content *contents) {
 static uint32_t answer_htmls(markdown_inline_input *input, char **words) {
     markdown_inline_target targets[MOST / 16];
     markdown_inline_content contents[MOST / 16];
-    size_t found = 0, count = 0, blamed = 0, first = 0, many = read_contents(&words[2], contents), limit = strtoul(words[3], NULL, 10);
+    markdown_inline_outcome outcome = {0, 0, 0};
+    size_t found = 0, first = 0, many = read_contents(&words[2], contents), limit = strtoul(words[3], NULL, 10);
     uint8_t *html = NULL;
     uint32_t options = (uint32_t)strtoul(words[0], NULL, 10);
     for (char *word; (word = next(&words[1])) != NULL;) targets[found++] = read_target(word, &input->labels_len);
     size_t *ends = (size_t *)room(many, sizeof *ends);
-    uint32_t status = markdown_inline_htmls(input, targets, found, contents, many, options, limit, NULL, 0, ends, many, &count, &blamed);
+    uint32_t status = markdown_inline_htmls(input, targets, found, contents, many, options, limit, NULL, 0, ends, many, &outcome);
     if (status == MARKDOWN_INLINE_TOO_SMALL) {
-        html = (uint8_t *)room(count, 1);
-        status = markdown_inline_htmls(input, targets, found, contents, many, options, limit, html, count, ends, many, &count, &blamed);
+        html = (uint8_t *)room(outcome.count, 1);
+        status = markdown_inline_htmls(input, targets, found, contents, many, options, limit, html, outcome.count, ends, many, &outcome);
     }
     for (size_t at = 0; status == MARKDOWN_INLINE_DONE && at < many; first = ends[at++]) {
         printf(" |");
         print_bytes(html + first, ends[at] - first);
     }
-    if (status != MARKDOWN_INLINE_DONE && blamed != MARKDOWN_INLINE_NONE) printf(" %zu", blamed);
+    print_blamed(outcome.blamed);
     free(ends);
     free(html);
     return status;
@@ -164,18 +174,47 @@ static uint32_t answer_htmls(markdown_inline_input *input, char **words) {
 
 static uint32_t answer_texts(const markdown_inline_input *input, char **words) {
     markdown_inline_content contents[MOST / 16];
-    size_t found = read_contents(words, contents), count = 0, first = 0;
+    markdown_inline_outcome outcome = {0, 0, 0};
+    size_t found = read_contents(words, contents), first = 0;
     markdown_inline_event *events = NULL;
     size_t *ends = (size_t *)room(found, sizeof *ends);
-    uint32_t status = markdown_inline_texts(input, contents, found, NULL, 0, ends, found, &count);
+    uint32_t status = markdown_inline_texts(input, contents, found, NULL, 0, ends, found, &outcome);
     if (status == MARKDOWN_INLINE_TOO_SMALL) {
-        events = (markdown_inline_event *)room(count, sizeof *events);
-        status = markdown_inline_texts(input, contents, found, events, count, ends, found, &count);
+        events = (markdown_inline_event *)room(outcome.count, sizeof *events);
+        status = markdown_inline_texts(input, contents, found, events, outcome.count, ends, found, &outcome);
     }
     for (size_t at = 0; status == MARKDOWN_INLINE_DONE && at < found; first = ends[at++]) {
         printf(" |");
         print_events(events + first, ends[at] - first);
     }
+    print_blamed(outcome.blamed);
+    free(ends);
+    free(events);
+    return status;
+}
+
+/* The short events of texts. Those that have room at first are kept, and the others are found by a second call. */
+static uint32_t answer_shorts(const markdown_inline_input *input, char **words) {
+    markdown_inline_content contents[MOST / 16];
+    markdown_inline_outcome outcome = {0, 0, 0};
+    size_t found = read_contents(words, contents), first = 0, len = 64;
+    markdown_inline_short_event *events = (markdown_inline_short_event *)room(len, sizeof *events);
+    size_t *ends = (size_t *)room(found, sizeof *ends);
+    uint32_t status = markdown_inline_short_texts(input, contents, found, events, len, ends, found, &outcome);
+    if (status == MARKDOWN_INLINE_TOO_SMALL) {
+        size_t done = outcome.done, written = done > 0 ? ends[done - 1] : 0;
+        markdown_inline_short_event *all = (markdown_inline_short_event *)room(len = outcome.count, sizeof *all);
+        memcpy(all, events, written * sizeof *all);
+        free(events);
+        events = all;
+        status = markdown_inline_short_texts(input, contents + done, found - done, events + written, len - written, ends + done, found - done, &outcome);
+        for (size_t at = done; at < found; at++) ends[at] += written;
+    }
+    for (size_t at = 0; status == MARKDOWN_INLINE_DONE && at < found; first = ends[at++]) {
+        printf(" |");
+        for (size_t event = first; event < ends[at]; event++) print_short(&events[event]);
+    }
+    print_blamed(outcome.blamed);
     free(ends);
     free(events);
     return status;
@@ -198,7 +237,8 @@ static void answer(char **words) {
     } else {
         uint32_t status = !strcmp(words[0], "leaves") ? answer_leaves(&input)
             : !strcmp(words[0], "html") ? answer_html(&input, words + 6)
-            : !strcmp(words[0], "htmls") ? answer_htmls(&input, words + 6) : answer_texts(&input, words + 6);
+            : !strcmp(words[0], "htmls") ? answer_htmls(&input, words + 6)
+            : !strcmp(words[0], "shorts") ? answer_shorts(&input, words + 6) : answer_texts(&input, words + 6);
         if (status != MARKDOWN_INLINE_DONE) printf(": %s", markdown_inline_status_text(status));
     }
     printf("\n");

@@ -1,6 +1,6 @@
 #!/usr/bin/env python3
 """Reads cases of draw.py from standard input, and prints what the Python package finds in each: events as the program of crates/markdown_test_runs
-does, leaves, HTML in hexadecimal, or the events or the HTML of each text; where there are none, why.
+does, leaves, HTML in hexadecimal, or the events, the short events or the HTML of each text; where there are none, why.
 
 Where switches can say the options of a case, they do, and not its bits. Each other document is handed over as a `str`, and its characters are counted
 here too. The status is 1 where few cases come, or few of a kind, so that what tests nothing does not pass."""
@@ -8,14 +8,14 @@ import collections
 import sys
 from itertools import accumulate
 
-from markdown_inline import OPTIONS, Content, Error, Kind, Piece, _tables, html, htmls, leaves, string, text, texts
+from markdown_inline import OPTIONS, Content, Error, Kind, Piece, _tables, html, htmls, leaves, short_texts, string, text, texts
 
 SWITCHES = {
     'gfm': _tables.GFM, 'math': _tables.MATH, 'task': OPTIONS['first_of_item'], 'cm_lengths': OPTIONS['attention_first_lengths'],
-    'cm_shortcut': OPTIONS['label_shortcut_before_bracket'],
+    'cm_shortcut': OPTIONS['label_shortcut_before_bracket'], 'commonmark': OPTIONS['commonmark'],
 }
 # How many cases come at least in all, of each kind, and by switches. A file has kinds of one of these rows.
-LEAST, KINDS = 600, ({'text': 400, 'string': 40}, {'leaves': 300, 'html': 300, 'texts': 60, 'htmls': 60})
+LEAST, KINDS = 600, ({'text': 400, 'string': 40}, {'leaves': 300, 'html': 300, 'texts': 60, 'shorts': 60, 'htmls': 60})
 seen = collections.Counter()
 
 
@@ -45,6 +45,13 @@ def shown(event, places):
     if event.link:
         link = ':%s:%s:%s' % (event.link.content, *('-' if number is None else number for number in event.link[1:]))
     return ' %s%s %d:%d:%d:%d%s' % ('+' if event.kind == Kind.Enter else '-', event.name, event.line, event.column, event.index, event.vs, link)
+
+
+def shown_short(event, places):
+    places.check(event.index, event.character)
+    definition = '' if event.definition is None else ':%d' % event.definition
+    link = (None, 'String', 'Text').index(event.link)
+    return ' %s%s %d:%d:%d%s' % ('+' if event.kind == Kind.Enter else '-', event.name, event.index, event.vs, link, definition)
 
 
 def shown_leaf(leaf, places):
@@ -95,6 +102,9 @@ def found(how, document, spans, given, places, labels, rest):
             document, contents, definitions=defined, raw_html=bool(bits & 1), any_link=bool(bits & 2), reference_limit=int(rest[3]), **given)
         return ''.join(' |' + it.encode().hex() for it in written)
     contents = [content(it, spans) for it in listed(rest[0])]
+    if how == 'shorts':
+        found = short_texts(document, contents, definitions=labels, **given)
+        return ''.join(' |' + ''.join(shown_short(event, places) for event in it) for it in found)
     return ''.join(' |' + all_shown(it, places) for it in texts(document, contents, definitions=labels, **given))
 
 

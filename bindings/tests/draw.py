@@ -6,8 +6,8 @@ usage: draw.py SEED COUNT ROWS CASES MORE
 ROWS gets them as the program of crates/markdown_test_runs reads them, and CASES as the callers here do: how it is read, the bits of the options,
 the pieces, the labels of definitions and of footnotes, the document; texts in hexadecimal, `-` for none, commas between pieces and labels. MORE gets
 calls that the program does not make, which the callers compare among each other: a text's leaves; its HTML, with two words more, the bits of what it
-may hold, and the destination of each definition behind a `=`, with a title behind a colon where it has one; and the texts of several contents, with one word more,
-each content's first and last piece, and whether it begins a list item."""
+may hold, and the destination of each definition behind a `=`, with a title behind a colon where it has one; and the texts of several contents, also in short
+events, with one word more, each content's first and last piece, and whether it begins a list item."""
 import os
 import random
 import re
@@ -19,7 +19,7 @@ from _tables import COMMONMARK, GFM, MATH, OPTIONS  # noqa: E402
 CONSTRUCTS = list(OPTIONS)
 FIRST_OF_ITEM = OPTIONS['first_of_item']
 # Off by default, and drawn as often as not.
-RARE = sum(OPTIONS[name] for name in ('attention_first_lengths', 'label_shortcut_before_bracket', 'first_of_item'))
+RARE = sum(OPTIONS[name] for name in ('attention_first_lengths', 'label_shortcut_before_bracket', 'first_of_item', 'commonmark'))
 PARTS = ['a', 'bc', 'é', '漢', '😀', ' ', '  ', '\t', '*', '**', '_', '~', '~~', '`', '``', '$', '$$', '[', ']', '![', '](', ')', '(', '<', '>', '"', "'",
          '\\', '&', ';', '!', '#', '@', ':', '.', '/', '[x] ', '[a]', '[^n]', '[b c][]', '[d](e "f")', '![g](<h i>)', '&amp;', '&#65;', '&#x1f4a9;', '&copy;',
          '&nosuch;', '<https://j.k>', '<l@m.n>', 'https://o.p/q', 'www.r.s', 't@u.v', '<w x="y">', '</z>', '<!-- c -->', '<?p?>', '\\*', '\\\n', '  \n', '\n',
@@ -91,14 +91,14 @@ def in_html(draw, labels):
     return ' %d %s' % (draw.randrange(4), ','.join(written) or '-')
 
 
-def several(draw, cases):
+def several(draw, cases, how='texts'):
     """A call for the texts of these cases, one behind another in a document, with the options and the labels of the first."""
     document, pieces, contents = b'', [], []
     for _, _, listed, _, _, given in cases:
         contents.append('%d-%d:%d' % (len(pieces), len(pieces) + len(listed), draw.randrange(2)))
         pieces += [((start + len(document), at), (end + len(document), to)) for (start, at), (end, to) in listed]
         document += given + draw.choice([b'\n', b'\r\n\r\n'])
-    return line('texts', cases[0][1] & ~FIRST_OF_ITEM, pieces, *cases[0][3:5], document) + ' ' + ','.join(contents)
+    return line(how, cases[0][1] & ~FIRST_OF_ITEM, pieces, *cases[0][3:5], document) + ' ' + ','.join(contents)
 
 
 def several_in_html(draw, cases):
@@ -115,6 +115,7 @@ def more(draw, drawn):
         yield line('html', *it[1:]) + in_html(draw, it[3])
     for at in range(0, len(texts) - 4, 4):
         yield several(draw, texts[at:at + draw.randrange(1, 5)])
+        yield several(draw, texts[at:at + draw.randrange(1, 5)], 'shorts')
         yield several_in_html(draw, texts[at:at + draw.randrange(1, 5)])
 
 

@@ -7,7 +7,8 @@ import time
 import unittest
 from unittest import mock
 
-from markdown_inline import Content, Event, Events, Kind, Leaf, Leaves, Name, Piece, Texts, _events, _tables, leaves, string, text, texts
+from markdown_inline import (
+    Content, Event, Events, Kind, Leaf, Leaves, Name, Piece, ShortEvents, ShortTexts, Texts, _events, _tables, leaves, short_texts, string, text, texts)
 
 DOCUMENT = 'é *漢* `c` [😀](d "e\nf") &amp; \\* **g _h_**'
 PARTS = ['a ', 'é', '漢', '😀', '*b*', '`c`', '\t', '\n\td', ' \t', '&amp;', '[e](f "g")', '**h**', '\\*', '<i@j.k>', 'word ' * 30]
@@ -77,6 +78,10 @@ class Sequences(unittest.TestCase):
         self.assertEqual(found, [list(it) for it in wanted])
         self.assertTrue(all(type(it) is Events for it in found))
         self.assertEqual((texts('a', []), [], len(texts('a', []))), ([], texts('a', []), 0))
+        shorts = short_texts(document, contents)
+        self.check(shorts, [list(it) for it in shorts], ShortTexts)
+        self.check(shorts[2], list(shorts[2]), ShortEvents)
+        self.assertNotEqual(shorts, found)
 
     def test_nothing_is_made_that_is_not_looked_at(self):
         wanted = list(text(DOCUMENT))
@@ -94,6 +99,22 @@ class Sequences(unittest.TestCase):
             self.assertEqual(list(found.flat()), [(it.kind, it.name, it.index) for it in found])
             self.assertTrue(all(type(number) is int for it in found.flat() for number in it))
             self.assertEqual(list(found[3:7].flat()), list(found.flat())[3:7])
+
+    def test_flat_of_many(self):
+        parts = ['*a* `b`', '', 'c', '[d](e "f")', 'é']
+        document, at, contents = '\n\n'.join(parts).encode(), 0, []
+        for it in parts:
+            contents.append(Content([(at, at + len(it.encode()))]))
+            at += len(it.encode()) + 2
+        for call in (texts, short_texts):
+            found = call(document, contents)
+            wanted = [list(it.flat()) for it in found]
+            self.assertEqual([len(it) for it in wanted], [len(it) for it in found])
+            self.assertEqual([list(it) for it in found.flat()], wanted)
+            # What is not walked is passed over.
+            self.assertEqual([next(it, None) for it in found.flat()], [it[0] if it else None for it in wanted])
+            self.assertTrue(all(type(number) is int for it in found.flat() for event in it for number in event))
+            self.assertEqual(list(call(document, []).flat()), [])
 
     def test_spans(self):
         for seed in range(40):

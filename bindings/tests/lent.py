@@ -6,9 +6,10 @@ import signal
 import sys
 import threading
 import unittest
+from concurrent.futures import ThreadPoolExecutor
 from unittest import mock
 
-from markdown_inline import Content, _library, html, identifier, leaves, reference, string, text, texts
+from markdown_inline import Content, _library, html, htmls, identifier, leaves, reference, short_texts, string, strings, text, texts
 
 LONG = 'a' * 20 + '*b* ' * 60 + 'c'
 CALLS = (
@@ -105,6 +106,17 @@ class Lent(unittest.TestCase):
             it.join()
         self.assertEqual(wrong, [])
 
+    def test_threads_share_contents(self):
+        parts = ['*a* %d `b`' % at + ' [c](d)' * (at % 7) for at in range(200)]
+        document, at, contents = '\n\n'.join(parts), 0, []
+        for it in parts:
+            contents.append(Content([(at, at + len(it))]))
+            at += len(it) + 2
+        shares = [contents[at:at + 25] for at in range(0, 200, 25)]
+        with ThreadPoolExecutor(4) as pool:
+            found = [events for share in pool.map(lambda it: texts(document, it), shares) for events in share]
+        self.assertEqual(found, texts(document, contents))
+
     def test_an_answer_stays_where_others_come(self):
         first = text(LONG)
         wanted = repr(first)
@@ -160,6 +172,22 @@ class Lent(unittest.TestCase):
                     for memory, length in lent:
                         self.assertEqual(memory[length:], guard)
 
+    def test_what_has_room_is_kept_and_the_others_are_found_by_a_second_call(self):
+        document, contents, at = 'a*b* [c] &amp; [^d] ' * 3, [], 0
+        for length in (3, 0, 7, 12, 1, 25, 12):
+            contents.append(Content([(at, at + length)] if length else []))
+            at += length
+        parts = [[it] for content in contents for it in content.pieces] + [[]]
+        calls = (
+            lambda: texts(document, contents), lambda: short_texts(document, contents, definitions=['c']), lambda: strings(document, parts),
+            lambda: htmls(document, contents, gfm=True), lambda: htmls(document, contents, gfm=True, footnotes=['d']))
+        for call in calls:
+            wanted = call()
+            for room in range(0, 8000, 37):
+                with mock.patch.object(_library, 'KEPT_SIZE', 0), \
+                        mock.patch.object(_library, '_lend', lambda size, first=[room]: ctypes.create_string_buffer(first.pop() if first else size)):
+                    self.assertEqual(call(), wanted)
+
     def test_sixty_four_events(self):
         documents, lengths = ['a' + '\\*' * count + 'b' for count in (9, 10, 11)], []
         wanted = [text(it) for it in documents]
@@ -167,7 +195,7 @@ class Lent(unittest.TestCase):
         def give_back(lent):
             lengths.append(len(lent))
 
-        with mock.patch.object(_library, 'KEPT_SIZE', 0), mock.patch.object(_library, '_events_room', lambda _: 64 * 56), \
+        with mock.patch.object(_library, 'KEPT_SIZE', 0), mock.patch.object(_library, '_events_room', lambda *_: 64 * 56), \
                 mock.patch.object(_library, '_give_back', give_back):
             self.assertEqual([text(it) for it in documents], wanted)
         self.assertEqual([len(it) for it in wanted], [58, 64, 70])

@@ -1,14 +1,16 @@
 """The plugin for markdown-it-py makes the tokens that markdown-it's own inline parser makes. Without markdown-it-py nothing of it can be tried."""
+import os
 import random
 import unittest
 
 try:
     from markdown_it import MarkdownIt
+    from markdown_it.common.utils import normalizeReference
     from markdown_inline.markdown_it import plugin
 except ModuleNotFoundError as error:
     if error.name != 'markdown_it':
         raise
-    MarkdownIt = plugin = None
+    MarkdownIt = normalizeReference = plugin = None
 
 DOCUMENTS = [
     '', 'a', 'a *b* __c__ ***d*** `e` ``f ` g`` ` ` `  `', 'é *漢* [😀](/é?ü "ñ") `日`', 'a\nb  \nc\\\nd \n  e', '<b c="d"> <!-- e --> <?f?> </g> <h\ni="j">',
@@ -18,10 +20,31 @@ DOCUMENTS = [
     '# a *b*\n\n> c `d`\n> e\n\n- f **g**\n  h\n\n1. i\n\n| j | *k* |\n|---|---|\n| `l` | [m](n) |\n', '~~a~~ ~b~ ~~c *d~~ e*', 'a "b" -- (c) \'d\' ...',
     '[a](javascript:b) *c*', '![a *b*](javascript:c) `d`', '<javascript:a> *b*', '[x [a](javascript:b) y](c)', '[a](javascript:b)\n\n[a]: /c', '[a [b](c)](d)',
     '[a](data:text/html,b) ok *c*\n\nanother [d](e)', 'x' * 3000 + ' *y*', '*a* ' * 40, '[a]: /b\n\n[a][a] [a][] [a]', 'a&nbsp;b \u00a0c', '**a*b*c**', '*a_b_c*',
+    'a `b\n  c\td` ``e\n`` ` f ` `` ` `` `\n` > `g\né`', '> `a\n>   b` *c*\n> ``d ` ``',
 ]
 # Without what is read in two ways: by markdown-it and CommonMark a run of grave accents that is not closed in its label, and a label before a `[` that begins
 # none; by CommonMark and the library some runs of markers.
 PARTS = ['a', ' ', ' b ', ' *r s* ', ' **t u** ', ' _v **w** x_ ', '`k`', '[l](m)', '![n *o*](p "q")', ']', '(c)', '](d)', '<e:f>', '<g>', '&amp;', '\n', '  \n', 'é', '漢', '[h]', '"', '&star;']
+
+# Rows of texts with their definitions; the examples of the CommonMark Spec 0.31 are among them.
+ROWS = os.path.join(os.path.dirname(os.path.abspath(__file__)), '../../crates/markdown_test_texts/stdin')
+SIGNS = str.maketrans('␊␍␉␀␠→', '\n\r\t\0 \t')
+# The texts that version 2.1 of markdown-it-py reads in another way. It leaves a tab at the end of a line, which cmark and the library take off. And it reads
+# symbols and comments by version 0.30.
+OTHERS = ['a\t\nb', '*£*bravo.', '*€*charlie.', 'foo <!-- this is a --\ncomment - with hyphens -->', 'foo <!--> foo -->', 'foo <!---> foo -->']
+
+
+def examples():
+    """The text of each row, and its definitions as markdown-it keeps them."""
+    with open(ROWS, encoding='utf-8') as rows:
+        for name, *fields in (row.rstrip('\n').split('\t') for row in rows):
+            if name == 'html':
+                references = {}
+                for label, _, to in (it.partition(': ') for it in fields[1:]):
+                    destination, _, title = to.partition(' ')
+                    found = {'title': title.translate(SIGNS), 'href': MarkdownIt().normalizeLink(destination.translate(SIGNS))}
+                    references.setdefault(normalizeReference(label.translate(SIGNS)), found)
+                yield fields[0].translate(SIGNS), references
 
 
 def flat(tokens):
@@ -50,6 +73,16 @@ class Plugin(unittest.TestCase):
         self.same(*self.both('js-default', {'html': True, 'typographer': True, 'breaks': True}, change=lambda md: md.enable(['replacements', 'smartquotes'])))
         self.same(*self.both('commonmark', {'html': False}))
         self.same(*self.both('commonmark', {'store_labels': True}))
+
+    def test_examples(self):
+        plain, ours = self.both('commonmark')
+        other, count = [], 0
+        for count, (given, references) in enumerate(examples(), 1):
+            found, wanted = (it.render(given, {'references': dict(references)}) for it in (ours, plain))
+            if found != wanted:
+                other.append(given)
+        self.assertGreater(count, 600)
+        self.assertEqual(other, OTHERS)
 
     def test_drawn(self):
         plain, ours = self.both('commonmark')

@@ -66,6 +66,11 @@ class Program(unittest.TestCase):
             self.assertEqual(run('text', given=given, flags=['-OO']), (status, '', 'markdown_inline: %s\n' % words))
         self.assertEqual(run('text', os.fsdecode(b'label=\xff'), given=b'a'), (2, '', 'markdown_inline: a word is not UTF-8\n'))
 
+    def test_references_that_bring_too_much(self):
+        words = ['--html', 'define=a', 'to=' + 'x' * 1000]
+        self.assertEqual(run(*words, given=b'[a] ' * 101 + b'b'), (11, '', 'markdown_inline: references bring more than the limit\n'))
+        self.assertEqual(run(*words, given=b'[a] ' * 99 + b'b')[0], 0)
+
     def test_input_that_cannot_be_read(self):
         # A folder is refused by the interpreter itself, before the program begins.
         self.assertEqual(run('text', by='<&-'), (6, '', 'markdown_inline: read failed\n'))

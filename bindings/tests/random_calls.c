@@ -103,7 +103,7 @@ static int is_filled_but(const stretch *from, const void *array, size_t len) {
     return !memcmp(from->lent, filled, at) && !memcmp(from->lent + at + len, filled, from->size - at - len);
 }
 
-static stretch of_bytes, of_pieces, of_labels, of_definitions, of_footnotes, of_contents, of_targets, of_input, of_found, of_ends, of_count, of_blamed;
+static stretch of_bytes, of_pieces, of_labels, of_definitions, of_footnotes, of_contents, of_targets, of_input, of_found, of_ends, of_count, of_outcome;
 
 /* A case: what is drawn, before it is lent. */
 typedef struct drawn {
@@ -121,7 +121,7 @@ static const char *const PARTS[] = {"a", "bc", "\xc3\xa9", "\xe6\xbc\xa2", "\xf0
     "![", "](", ")", "(", "<", ">", "\"", "'", "\\", "&", ";", "!", "#", "@", ":", ".", "/", "[x] ", "[a]", "[^a]", "[b c][]", "[d](e \"f\")", "![g](<h i>)", "&amp;",
     "&#65;", "&#x1f4a9;", "&copy;", "&nosuch;", "<https://j.k>", "<l@m.n>", "https://o.p/q", "www.r.s", "t@u.v", "<w x=\"y\">", "</z>", "<!-- c -->", "<?p?>",
     "\\*", "\\\n", "  \n", "\n", "\n", "\r\n", "\r", "*a*", "**b**", "_c_ ", "~d~", "`e f`", "$g$", "word ", "[d](\\*e&amp;f 'g\\*h&lt;')",
-    "[a][b\\*c]", "[d](e \"f\ng\")", "[d](e (f\r\n&amp;g))"};
+    "[a][b\\*c]", "[d](e \"f\ng\")", "[d](e (f\r\n&amp;g))", "[a]", "[D]", "![a]", "[x][d]", "[a [d] c][B  c]", "[^a]", "[^d]", "b[^a]", "[^d][^A]", "[^a]*"};
 static const char *const BROKEN[] = {"\x80", "\xc3", "\xc0\x80", "\xed\xa0\x80", "\xf4\x90\x80\x80", "\xf8", "\xe6\xbc", "\xf0\x9f\x98", "\xff"};
 static const char *const PREFIXES[] = {"", "> ", ">", "   ", "- ", "\t", " \t", ">\t"};
 static const char *const LABELS[] = {"a", "b c", "d", " A ", "\xc3\xa9", "/u", "javascript:x", "&<\">", ""};
@@ -194,8 +194,8 @@ static markdown_inline_range draw_range(drawn *it, int may_be_off) {
 static void draw_definitions(drawn *it) {
     int may_be_off = one_in(8), may_lead_off = one_in(8);
     it->labels_len = 0;
-    it->definitions_len = one_in(2) ? 0 : below(RANGES + 1);
-    it->footnotes_len = one_in(2) ? 0 : below(RANGES + 1);
+    it->definitions_len = one_in(3) ? 0 : below(RANGES + 1);
+    it->footnotes_len = one_in(3) ? 0 : below(RANGES + 1);
     it->targets_len = one_in(40) ? below(RANGES + 2) : it->definitions_len;
     for (size_t at = 0; at < it->definitions_len; at++) it->definitions[at] = draw_range(it, may_be_off);
     for (size_t at = 0; at < it->footnotes_len; at++) it->footnotes[at] = draw_range(it, may_be_off);
@@ -228,8 +228,8 @@ static void draw_case(drawn *it) {
     draw_definitions(it);
     draw_contents(it);
     it->options = MARKDOWN_INLINE_COMMONMARK | (one_in(2) ? MARKDOWN_INLINE_GFM : 0) | (one_in(2) ? MARKDOWN_INLINE_MATH : 0);
-    if (one_in(3)) it->options ^= (uint32_t)draw() & 0x1fffff;
-    if (one_in(40)) it->options |= 0x200000u << below(11);
+    if (one_in(3)) it->options ^= (uint32_t)draw() & 0x3fffff;
+    if (one_in(40)) it->options |= 0x400000u << below(10);
     it->html_options = (uint32_t)below(4);
     it->limit = 0;
     if (one_in(40)) it->html_options |= 4u << below(30);
@@ -356,28 +356,15 @@ static uint32_t pieces_status(const drawn *it) {
     return status != MARKDOWN_INLINE_DONE ? status : is_text(it->pieces, it->pieces_len) ? (uint32_t)MARKDOWN_INLINE_DONE : (uint32_t)MARKDOWN_INLINE_BLANK_LINE;
 }
 
-static uint32_t string_status(const drawn *it) { return it->options >= 0x200000 ? (uint32_t)MARKDOWN_INLINE_UNKNOWN_OPTION : content_status(it); }
+static uint32_t string_status(const drawn *it) { return it->options >= 0x400000 ? (uint32_t)MARKDOWN_INLINE_UNKNOWN_OPTION : content_status(it); }
 
 static uint32_t text_status(const drawn *it) {
-    uint32_t status = it->options >= 0x200000 ? (uint32_t)MARKDOWN_INLINE_UNKNOWN_OPTION : pieces_status(it);
+    uint32_t status = it->options >= 0x400000 ? (uint32_t)MARKDOWN_INLINE_UNKNOWN_OPTION : pieces_status(it);
     return status != MARKDOWN_INLINE_DONE ? status : are_labels(it) ? (uint32_t)MARKDOWN_INLINE_DONE : (uint32_t)MARKDOWN_INLINE_DEFINITION;
 }
 
-static uint32_t texts_status(const drawn *it) {
-    uint32_t status = it->options >= 0x200000 ? (uint32_t)MARKDOWN_INLINE_UNKNOWN_OPTION : document_status(it);
-    if (status != MARKDOWN_INLINE_DONE) return status;
-    if (!are_labels(it)) return MARKDOWN_INLINE_DEFINITION;
-    for (size_t at = 0; at < it->contents_len; at++) {
-        markdown_inline_range range = it->contents[at].pieces;
-        if (range.start > range.end || range.end > it->pieces_len) return MARKDOWN_INLINE_NO_CONTENT;
-        if (!is_content(it, it->pieces + range.start, range.end - range.start)) return MARKDOWN_INLINE_NO_CONTENT;
-        if (!is_text(it->pieces + range.start, range.end - range.start)) return MARKDOWN_INLINE_BLANK_LINE;
-    }
-    return MARKDOWN_INLINE_DONE;
-}
-
-/* What is to blame where the last status of a model is that of one of several, if it says so. */
-static size_t model_blames;
+/* Of the last status of a model for many: what is to blame, and how many of the first are read. */
+static size_t model_blames, model_reads;
 
 /* The first of some ranges that is no label, or how many there are. */
 static size_t first_no_label(const drawn *it, const markdown_inline_range *ranges, size_t len) {
@@ -390,28 +377,44 @@ static int is_target(const drawn *it, markdown_inline_target target) {
     return is_label(it, target.destination) && (!target.has_title || is_label(it, target.title));
 }
 
+/* The status of a document and its labels, of which this says whether the options are known. */
+static uint32_t labels_status(const drawn *it, int is_known) {
+    uint32_t status = is_known ? document_status(it) : (uint32_t)MARKDOWN_INLINE_UNKNOWN_OPTION;
+    model_blames = MARKDOWN_INLINE_NONE;
+    model_reads = 0;
+    if (status != MARKDOWN_INLINE_DONE || are_labels(it)) return status;
+    size_t at = first_no_label(it, it->definitions, it->definitions_len);
+    model_blames = at < it->definitions_len ? at : at + first_no_label(it, it->footnotes, it->footnotes_len);
+    return MARKDOWN_INLINE_DEFINITION;
+}
+
+/* The status of one content after another. */
+static uint32_t contents_status(const drawn *it) {
+    for (; model_reads < it->contents_len; model_reads++) {
+        markdown_inline_range range = it->contents[model_reads].pieces;
+        int is_none = range.start > range.end || range.end > it->pieces_len || !is_content(it, it->pieces + range.start, range.end - range.start);
+        if (!is_none && is_text(it->pieces + range.start, range.end - range.start)) continue;
+        model_blames = model_reads;
+        return is_none ? MARKDOWN_INLINE_NO_CONTENT : MARKDOWN_INLINE_BLANK_LINE;
+    }
+    return MARKDOWN_INLINE_DONE;
+}
+
+static uint32_t texts_status(const drawn *it) {
+    uint32_t status = labels_status(it, it->options < 0x400000);
+    return status != MARKDOWN_INLINE_DONE ? status : contents_status(it);
+}
+
 /* The status of many contents as HTML where there is no limit. */
 static uint32_t htmls_status(const drawn *it) {
     size_t at = 0;
-    int is_known = it->options < 0x200000 && it->html_options < 4;
-    uint32_t status = is_known ? document_status(it) : (uint32_t)MARKDOWN_INLINE_UNKNOWN_OPTION;
-    model_blames = MARKDOWN_INLINE_NONE;
+    uint32_t status = labels_status(it, it->options < 0x400000 && it->html_options < 4);
     if (status != MARKDOWN_INLINE_DONE) return status;
-    if (!are_labels(it)) {
-        at = first_no_label(it, it->definitions, it->definitions_len);
-        model_blames = at < it->definitions_len ? at : at + first_no_label(it, it->footnotes, it->footnotes_len);
-        return MARKDOWN_INLINE_DEFINITION;
-    }
     if (it->targets_len != it->definitions_len) return MARKDOWN_INLINE_DEFINITION;
     while (at < it->targets_len && is_target(it, it->targets[at])) at++;
-    if (at < it->targets_len) {
-        model_blames = at;
-        return MARKDOWN_INLINE_DEFINITION;
-    }
-    drawn first = *it;
-    for (first.contents_len = 1; first.contents_len <= it->contents_len && status == MARKDOWN_INLINE_DONE; first.contents_len++) status = texts_status(&first);
-    if (status != MARKDOWN_INLINE_DONE) model_blames = first.contents_len - 2;
-    return status;
+    if (at == it->targets_len) return contents_status(it);
+    model_blames = at;
+    return MARKDOWN_INLINE_DEFINITION;
 }
 
 static uint32_t html_status(const drawn *it) {
@@ -425,13 +428,14 @@ static uint32_t html_status(const drawn *it) {
 
 /* The calls. Each is made without room, with just enough, and with another room. */
 
-typedef enum which { IS_CONTENT, IS_TEXT, STRING, TEXT, LEAVES, TEXTS, HTML, HTMLS, IDENTIFIER, REFERENCE, STRINGS } which;
-static const char *const NAMES[] = {"is_content", "is_text", "string", "text", "leaves", "texts", "html", "htmls", "identifier", "reference", "strings"};
+typedef enum which { IS_CONTENT, IS_TEXT, STRING, TEXT, LEAVES, HTML, IDENTIFIER, REFERENCE, TEXTS, SHORT_TEXTS, HTMLS, STRINGS } which;
+static const char *const NAMES[] = {"is_content", "is_text", "string", "text", "leaves", "html", "identifier", "reference", "texts", "short_texts", "htmls", "strings"};
 
 /* What a call finds. */
 typedef union answer {
     uint8_t bytes[sizeof filled];
     markdown_inline_event events[sizeof filled / sizeof(markdown_inline_event)];
+    markdown_inline_short_event short_events[sizeof filled / sizeof(markdown_inline_short_event)];
     markdown_inline_leaf leaves[sizeof filled / sizeof(markdown_inline_leaf)];
 } answer;
 
@@ -440,9 +444,15 @@ static markdown_inline_input *input;
 static const markdown_inline_content *contents;
 static const markdown_inline_target *targets;
 static size_t ends_len, found_len;
-static size_t *ends, *count, *blamed;
+static size_t *ends, *count;
+static markdown_inline_outcome *outcome;
 static answer found;
 static size_t found_ends[CONTENTS];
+
+/* The strings of a case: ranges of its labels, and ranges of these. */
+enum { PARTS_MOST = 6 };
+static const markdown_inline_range *parts, *strings;
+static size_t parts_len;
 
 static void lend_case(const drawn *it) {
     int is_long = it->bytes_len > BYTES;
@@ -457,8 +467,17 @@ static void lend_case(const drawn *it) {
     input = (markdown_inline_input *)(uintptr_t)lend(&of_input, &whole, 1, sizeof whole);
 }
 
+static int is_for_many(which call) { return call >= TEXTS; }
+
 static size_t size_of(which call) {
-    return call == STRING || call == TEXT || call == TEXTS ? sizeof(markdown_inline_event) : call == LEAVES ? sizeof(markdown_inline_leaf) : 1;
+    switch (call) {
+    case STRING:
+    case TEXT:
+    case TEXTS: return sizeof(markdown_inline_event);
+    case SHORT_TEXTS: return sizeof(markdown_inline_short_event);
+    case LEAVES: return sizeof(markdown_inline_leaf);
+    default: return 1;
+    }
 }
 
 /* Makes a call with this array. */
@@ -471,17 +490,16 @@ static uint32_t made(which call, const drawn *it, void *array, size_t len) {
     case STRING: return markdown_inline_string(input, (markdown_inline_event *)array, len, count);
     case TEXT: return markdown_inline_text(input, (markdown_inline_event *)array, len, count);
     case LEAVES: return markdown_inline_leaves(input, (markdown_inline_leaf *)array, len, count);
-    case TEXTS: return markdown_inline_texts(input, contents, it->contents_len, (markdown_inline_event *)array, len, ends, ends_len, count);
     case HTML: return markdown_inline_html(input, targets, it->targets_len, it->html_options, (uint8_t *)array, len, count);
-    case HTMLS:
-        return markdown_inline_htmls(input, targets, it->targets_len, contents, it->contents_len, it->html_options, it->limit, (uint8_t *)array, len, ends, ends_len,
-            count, blamed);
     case IDENTIFIER: return markdown_inline_identifier(input->labels, input->labels_len, (uint8_t *)array, len, count);
-    default: return markdown_inline_reference(input->labels, input->labels_len, (uint8_t *)array, len, count);
+    case REFERENCE: return markdown_inline_reference(input->labels, input->labels_len, (uint8_t *)array, len, count);
+    case TEXTS: return markdown_inline_texts(input, contents, it->contents_len, (markdown_inline_event *)array, len, ends, ends_len, outcome);
+    case SHORT_TEXTS: return markdown_inline_short_texts(input, contents, it->contents_len, (markdown_inline_short_event *)array, len, ends, ends_len, outcome);
+    case HTMLS:
+        return markdown_inline_htmls(input, targets, it->targets_len, contents, it->contents_len, it->html_options, it->limit, (uint8_t *)array, len, ends, ends_len, outcome);
+    default: return markdown_inline_strings(input->labels, input->labels_len, parts, parts_len, strings, it->contents_len, (uint8_t *)array, len, ends, ends_len, outcome);
     }
 }
-
-static int has_ends(which call) { return call == TEXTS || call == HTMLS; }
 
 /* Makes a call with room for so many elements and so many ends, and looks at what it has written. Answers its status. */
 static uint32_t called(which call, const drawn *it, size_t room, size_t room_of_ends) {
@@ -490,48 +508,80 @@ static uint32_t called(which call, const drawn *it, size_t room, size_t room_of_
     ends_len = room_of_ends;
     ends = (size_t *)lend_room(&of_ends, room_of_ends, sizeof *ends);
     count = (size_t *)lend_room(&of_count, 1, sizeof *count);
-    *count = before;
-    blamed = (size_t *)lend_room(&of_blamed, 1, sizeof *blamed);
-    *blamed = before;
+    outcome = (markdown_inline_outcome *)lend_room(&of_outcome, 1, sizeof *outcome);
+    *count = outcome->done = outcome->count = outcome->blamed = before;
     uint32_t status = made(call, it, array, room);
-    size_t written = status == MARKDOWN_INLINE_DONE && call >= STRING ? *count : 0, written_ends = status == MARKDOWN_INLINE_DONE && has_ends(call) ? it->contents_len : 0;
+    int is_done = status == MARKDOWN_INLINE_DONE && call >= STRING, is_counted = is_done || (status == MARKDOWN_INLINE_TOO_SMALL && call >= STRING);
+    size_t written = is_done ? *count : 0, written_ends = 0;
     counts[status < 16 ? status : 15]++;
+    if (is_for_many(call)) {
+        written_ends = outcome->done;
+        written = written_ends > 0 && written_ends <= room_of_ends ? ends[written_ends - 1] : 0;
+        want("no count is written by a call for many", *count == before);
+    } else {
+        want("no outcome of one", outcome->done == before && outcome->count == before && outcome->blamed == before);
+        want("no count is written where there is none", is_counted || *count == before);
+    }
     want("no more than there is room for", written <= room && written_ends <= room_of_ends);
     if (written > room || written_ends > room_of_ends) return status;
     want("nothing is written but what is counted", is_filled_but(&of_found, array, written * each) && is_filled_but(&of_ends, ends, written_ends * sizeof *ends)
-            && is_filled_but(&of_count, count, sizeof *count) && is_filled_but(&of_blamed, blamed, sizeof *blamed));
-    want("what the model blames, and nothing of other calls", *blamed == (call == HTMLS ? model_blames : before));
-    want("no count is written where there is none", (call >= STRING && (status == MARKDOWN_INLINE_DONE || status == MARKDOWN_INLINE_TOO_SMALL)) || *count == before);
-    int is_counted = call >= STRING && (status == MARKDOWN_INLINE_DONE || status == MARKDOWN_INLINE_TOO_SMALL);
-    found_len = is_counted ? *count : 0;
-    if (is_counted && status == MARKDOWN_INLINE_DONE) {
-        if (written) memcpy(found.bytes, array, written * each);
-        if (written_ends) memcpy(found_ends, ends, written_ends * sizeof *ends);
-    }
+            && is_filled_but(&of_count, count, sizeof *count) && is_filled_but(&of_outcome, outcome, sizeof *outcome));
+    found_len = is_for_many(call) ? outcome->count : is_counted ? *count : 0;
+    if (written) memcpy(found.bytes, array, written * each);
+    if (written_ends) memcpy(found_ends, ends, written_ends * sizeof *ends);
     return status;
 }
 
 /* Makes a call in each way, and compares what they answer. Answers whether it is done; then what it found stands in `found`. */
 static int is_done(which call, const drawn *it, uint32_t wanted) {
     static answer first;
-    size_t each = size_of(call), needed_ends = has_ends(call) ? it->contents_len : 0;
+    size_t each = size_of(call);
     call_name = NAMES[call];
     uint32_t status = called(call, it, 0, 0);
     size_t needed = found_len;
     if (wanted != MARKDOWN_INLINE_DONE) {
         want("the status of the model", status == wanted);
-        want("the status of the model, with room", called(call, it, below(64), below(CONTENTS + 1)) == wanted);
+        want("the status of the model, with room", called(call, it, below(64), 0) == wanted);
         return 0;
     }
-    want("the status without room", status == (needed > 0 || needed_ends > 0 ? (uint32_t)MARKDOWN_INLINE_TOO_SMALL : (uint32_t)MARKDOWN_INLINE_DONE));
+    want("the status without room", status == (needed > 0 ? (uint32_t)MARKDOWN_INLINE_TOO_SMALL : (uint32_t)MARKDOWN_INLINE_DONE));
     if (needed * each > sizeof found || call < STRING) return status == MARKDOWN_INLINE_DONE;
-    if (needed > 0) want("too little room", called(call, it, one_in(2) ? needed - 1 : below(needed), needed_ends) == MARKDOWN_INLINE_TOO_SMALL && found_len == needed);
-    if (needed_ends > 0) want("too little room for ends", called(call, it, needed, below(needed_ends)) == MARKDOWN_INLINE_TOO_SMALL && found_len == needed);
-    want("enough room", called(call, it, needed, needed_ends) == MARKDOWN_INLINE_DONE && found_len == needed);
+    if (needed > 0) want("too little room", called(call, it, one_in(2) ? needed - 1 : below(needed), 0) == MARKDOWN_INLINE_TOO_SMALL && found_len == needed);
+    want("enough room", called(call, it, needed, 0) == MARKDOWN_INLINE_DONE && found_len == needed);
     memcpy(first.bytes, found.bytes, needed * each);
-    want("more room", called(call, it, needed + below(4), needed_ends + below(3)) == MARKDOWN_INLINE_DONE && found_len == needed);
+    want("more room", called(call, it, needed + below(4), 0) == MARKDOWN_INLINE_DONE && found_len == needed);
     want("the same again", !memcmp(first.bytes, found.bytes, needed * each));
     return 1;
+}
+
+/* The same of a call for many, which reads so many of the first and then ends with this status: each call writes as many of these as have room. */
+static int are_done(which call, const drawn *it, uint32_t wanted, size_t read) {
+    static answer first;
+    size_t each = size_of(call), many = it->contents_len, all_ends[CONTENTS];
+    call_name = NAMES[call];
+    uint32_t status = called(call, it, sizeof found / each, many);
+    if (status == MARKDOWN_INLINE_TOO_SMALL) return 0; /* The room that is drawn does not do. */
+    want("the status of the model", status == wanted);
+    want("as many are read as in the model", outcome->done == read && outcome->count == (read > 0 ? found_ends[read - 1] : 0));
+    want("what the model blames", outcome->blamed == model_blames);
+    if (faults > 0) return 0;
+    size_t needed = outcome->count;
+    memcpy(first.bytes, found.bytes, needed * each);
+    memcpy(all_ends, found_ends, read * sizeof *all_ends);
+    for (int turn = 0; turn < 4; turn++) {
+        size_t room = turn == 0 ? 0 : turn == 1 ? needed : turn == 2 && needed > 0 ? needed - 1 : below(needed + 4), room_of_ends = one_in(3) ? below(many + 1) : many + below(3), done = 0;
+        if (room * each > sizeof found) room = needed;
+        while (done < read && done < room_of_ends && all_ends[done] <= room) done++;
+        status = called(call, it, room, room_of_ends);
+        want("the status by the room", status == (wanted != MARKDOWN_INLINE_DONE ? wanted : done < many ? (uint32_t)MARKDOWN_INLINE_TOO_SMALL : (uint32_t)MARKDOWN_INLINE_DONE));
+        want("as many as have room", outcome->done == done && outcome->count == needed && outcome->blamed == model_blames);
+        if (faults > 0) return 0;
+        want("the same again", !memcmp(first.bytes, found.bytes, (done > 0 ? all_ends[done - 1] : 0) * each) && !memcmp(all_ends, found_ends, done * sizeof *all_ends));
+    }
+    memcpy(found.bytes, first.bytes, needed * each);
+    memcpy(found_ends, all_ends, read * sizeof *all_ends);
+    found_len = needed;
+    return wanted == MARKDOWN_INLINE_DONE;
 }
 
 /* How the answers fit together. */
@@ -575,7 +625,7 @@ static drawn alone_of(const drawn *all, size_t at) {
     drawn alone = *all;
     memcpy(alone.pieces, all->pieces + all->contents[at].pieces.start, (PIECES - all->contents[at].pieces.start) * sizeof *alone.pieces);
     alone.pieces_len = all->contents[at].pieces.end - all->contents[at].pieces.start;
-    alone.options = (all->options & 0xfffff) | (all->contents[at].first_of_item ? (uint32_t)MARKDOWN_INLINE_OPTION_FIRST_OF_ITEM : 0);
+    alone.options = (all->options & ~(uint32_t)MARKDOWN_INLINE_OPTION_FIRST_OF_ITEM) | (all->contents[at].first_of_item ? (uint32_t)MARKDOWN_INLINE_OPTION_FIRST_OF_ITEM : 0);
     return alone;
 }
 
@@ -606,36 +656,68 @@ static int is_named(const drawn *it, markdown_inline_range range, const uint8_t 
     return status == MARKDOWN_INLINE_DONE && other_len == len && !memcmp(other, name, len);
 }
 
-/* How many bytes the definition brings that a label in the document names. */
-static size_t brought_by(const drawn *it, size_t start, size_t end) {
+/* The number of the first of these labels that a label in the document names, or how many there are. */
+static size_t named_by(const drawn *it, size_t start, size_t end, const markdown_inline_range *ranges, size_t ranges_len) {
     uint8_t name[4 * BYTES];
     size_t len = 0, at = 0;
-    if (markdown_inline_identifier(it->bytes + start, end - start, name, sizeof name, &len) != MARKDOWN_INLINE_DONE) return 0;
-    while (at < it->definitions_len && !is_named(it, it->definitions[at], name, len)) at++;
-    if (at == it->definitions_len) return 0;
-    const markdown_inline_target *target = &it->targets[at];
-    return target->destination.end - target->destination.start + (target->has_title ? target->title.end - target->title.start : 0);
+    if (markdown_inline_identifier(it->bytes + start, end - start, name, sizeof name, &len) != MARKDOWN_INLINE_DONE) return ranges_len;
+    while (at < ranges_len && !is_named(it, ranges[at], name, len)) at++;
+    return at;
 }
 
-/* How many bytes definitions bring to the text of these events: to each link and image without a resource, by its reference, or else by its label. */
+/* Which definition or footnote something refers to that begins at this event: by its reference, or else by its label, but where it has a resource. */
+static uint32_t referred(const drawn *it, const markdown_inline_event *events, size_t at) {
+    uint8_t name = events[at].name;
+    int is_call = name == MARKDOWN_INLINE_NAME_GFM_FOOTNOTE_CALL;
+    if (events[at].kind != MARKDOWN_INLINE_ENTER || (!is_call && name != MARKDOWN_INLINE_NAME_LINK && name != MARKDOWN_INLINE_NAME_IMAGE)) return MARKDOWN_INLINE_NO_DEFINITION;
+    size_t depth = 1, own = 1, start = 0, end = 0, many = is_call ? it->footnotes_len : it->definitions_len;
+    for (size_t inside = at + 1; depth > 0; inside++) {
+        const markdown_inline_event *event = &events[inside];
+        int is_enter = event->kind == MARKDOWN_INLINE_ENTER;
+        if (!is_enter) depth--;
+        /* A resource stands right in the link; the text of a label and that of a reference stand one level further in. */
+        if (depth == 1 && event->name == MARKDOWN_INLINE_NAME_RESOURCE) own = 0;
+        if (depth == 2 && (event->name == MARKDOWN_INLINE_NAME_LABEL_TEXT || event->name == MARKDOWN_INLINE_NAME_REFERENCE_STRING))
+            *(is_enter ? &start : &end) = event->index;
+        if (is_enter) depth++;
+    }
+    size_t found_at = own ? named_by(it, start, end, is_call ? it->footnotes : it->definitions, many) : many;
+    want("a reference has a definition", !own || found_at < many);
+    return found_at < many ? (uint32_t)found_at : MARKDOWN_INLINE_NO_DEFINITION;
+}
+
+/* How many bytes definitions bring to the text of these events. */
 static size_t brought_to(const drawn *it, const markdown_inline_event *events, size_t len) {
     size_t brought = 0;
     for (size_t at = 0; at < len; at++) {
-        if (events[at].kind != MARKDOWN_INLINE_ENTER || (events[at].name != MARKDOWN_INLINE_NAME_LINK && events[at].name != MARKDOWN_INLINE_NAME_IMAGE)) continue;
-        size_t depth = 1, own = 1, start = 0, end = 0;
-        for (size_t inside = at + 1; depth > 0; inside++) {
-            const markdown_inline_event *event = &events[inside];
-            int is_enter = event->kind == MARKDOWN_INLINE_ENTER;
-            if (!is_enter) depth--;
-            /* A resource stands right in the link; the text of a label and that of a reference stand one level further in. */
-            if (depth == 1 && event->name == MARKDOWN_INLINE_NAME_RESOURCE) own = 0;
-            if (depth == 2 && (event->name == MARKDOWN_INLINE_NAME_LABEL_TEXT || event->name == MARKDOWN_INLINE_NAME_REFERENCE_STRING))
-                *(is_enter ? &start : &end) = event->index;
-            if (is_enter) depth++;
-        }
-        if (own) brought += brought_by(it, start, end);
+        uint32_t number = events[at].name == MARKDOWN_INLINE_NAME_GFM_FOOTNOTE_CALL ? MARKDOWN_INLINE_NO_DEFINITION : referred(it, events, at);
+        if (number == MARKDOWN_INLINE_NO_DEFINITION) continue;
+        const markdown_inline_target *target = &it->targets[number];
+        brought += target->destination.end - target->destination.start + (target->has_title ? target->title.end - target->title.start : 0);
     }
     return brought;
+}
+
+/* Each short event is an event of a text, with the definition that is referred to. */
+static size_t met_definitions, met_footnotes;
+static void look_at_short_texts(const drawn *all) {
+    static answer many;
+    size_t starts[CONTENTS + 1] = {0}, len = all->contents_len;
+    many = found;
+    memcpy(starts + 1, found_ends, len * sizeof *starts);
+    for (size_t at = 0; at < len; at++) {
+        drawn alone = alone_of(all, at);
+        lend_case(&alone);
+        want("one of many is a text", called(TEXT, &alone, sizeof found / sizeof(markdown_inline_event), 0) == MARKDOWN_INLINE_DONE);
+        want("ends are in order", starts[at + 1] >= starts[at] && starts[at + 1] - starts[at] == found_len);
+        for (size_t event = 0; event < found_len && starts[at] + event < starts[at + 1]; event++) {
+            const markdown_inline_event *it = found.events + event;
+            const markdown_inline_short_event *other = many.short_events + starts[at] + event;
+            want("a short event is an event", it->kind == other->kind && it->name == other->name && it->link == other->link && it->vs == other->vs && it->index == other->index);
+            want("which definition is referred to", other->definition == referred(&alone, found.events, event));
+            if (other->definition != MARKDOWN_INLINE_NO_DEFINITION) (it->name == MARKDOWN_INLINE_NAME_GFM_FOOTNOTE_CALL ? met_footnotes++ : met_definitions++);
+        }
+    }
 }
 
 /* Each of many contents has the HTML of its own where no footnote is called; and a limit holds of what definitions bring to all. */
@@ -661,32 +743,10 @@ static void look_at_htmls(const drawn *all) {
     /* Few cases have references to what is defined, so several limits are tried of each. */
     for (int turn = 0; turn < 8; turn++) {
         limited.limit = 1 + below(brought[len] - 1);
-        for (model_blames = 0; brought[model_blames + 1] <= limited.limit;) model_blames++;
-        want("more than the limit", called(HTMLS, &limited, sizeof found, len) == MARKDOWN_INLINE_REFERENCES);
+        for (model_reads = 0; brought[model_reads + 1] <= limited.limit;) model_reads++;
+        model_blames = model_reads;
+        are_done(HTMLS, &limited, MARKDOWN_INLINE_REFERENCES, model_reads);
     }
-    model_blames = MARKDOWN_INLINE_NONE;
-}
-
-/* Calls that tell what is to blame. */
-
-enum { PARTS_MOST = 6, STRINGS_MOST = 4 };
-static size_t *blamed;
-
-/* Lends room for what a call writes, and numbers that it may write over. */
-static void *lend_answers(size_t room, size_t each, size_t room_of_ends, size_t number) {
-    void *array = lend_room(&of_found, room, each);
-    ends_len = room_of_ends;
-    ends = (size_t *)lend_room(&of_ends, room_of_ends, sizeof *ends);
-    count = (size_t *)lend_room(&of_count, 1, sizeof *count);
-    blamed = (size_t *)lend_room(&of_blamed, 1, sizeof *blamed);
-    *count = *blamed = number;
-    return array;
-}
-
-/* Whether so many elements and ends are written at the fronts, and the two numbers, and nothing else. */
-static void want_written(const void *array, size_t len, size_t ends_written) {
-    want("nothing else is written", is_filled_but(&of_found, array, len) && is_filled_but(&of_ends, ends, ends_written * sizeof *ends)
-            && is_filled_but(&of_count, count, sizeof *count) && is_filled_but(&of_blamed, blamed, sizeof *blamed));
 }
 
 /* The text of a string by its events: what stands in it but for backslashes of escapes, and what references stand for. */
@@ -713,13 +773,11 @@ static size_t text_by_events(const uint8_t *bytes, size_t len, uint8_t *text) {
     return written;
 }
 
-/* Strings of parts of the labels. */
-static void try_strings(drawn *it) {
+/* Draws parts of the labels, and strings of them. */
+static void draw_strings(drawn *it, markdown_inline_range *drawn_parts, markdown_inline_range *drawn_strings) {
     static const char *const PIECES_OF_STRINGS[] = {"a", "\\", "\\*", "\\a", "&", "&amp;", "&copy;", "&#0;", "&#x1f600;", "&nosuch;", "amp;", "#65;", ";", " ", "\t", "\n",
         "\r\n", "\r", "\xc3\xa9", "\xf0\x9f\x98\x80", "*", "[", "&lt;&gt;"};
-    static uint8_t wanted[16 * PARTS_MOST * BYTES], joined[PARTS_MOST * BYTES];
-    markdown_inline_range parts[PARTS_MOST], strings[STRINGS_MOST];
-    size_t parts_len = below(PARTS_MOST + 1), strings_len = below(STRINGS_MOST + 1), wanted_ends[STRINGS_MOST], wanted_len = 0, refused = strings_len;
+    parts_len = below(PARTS_MOST + 1);
     it->labels_len = 0;
     for (size_t more = below(12); more > 0; more--)
         it->labels_len = append(it->labels, it->labels_len, PIECES_OF_STRINGS[below(sizeof PIECES_OF_STRINGS / sizeof *PIECES_OF_STRINGS)]);
@@ -728,56 +786,53 @@ static void try_strings(drawn *it) {
     for (size_t at = 0; at < parts_len; at++) {
         size_t start = below(it->labels_len + 1);
         while (start < it->labels_len && (it->labels[start] & 0xc0) == 0x80) start++;
-        parts[at] = (markdown_inline_range){start, start + below(it->labels_len - start + 1)};
-        while (parts[at].end < it->labels_len && (it->labels[parts[at].end] & 0xc0) == 0x80) parts[at].end++;
-        if (one_in(30)) parts[at].start = number_to(it->labels_len);
-        if (one_in(30)) parts[at].end = number_to(it->labels_len);
+        drawn_parts[at] = (markdown_inline_range){start, start + below(it->labels_len - start + 1)};
+        while (drawn_parts[at].end < it->labels_len && (it->labels[drawn_parts[at].end] & 0xc0) == 0x80) drawn_parts[at].end++;
+        if (one_in(30)) drawn_parts[at].start = number_to(it->labels_len);
+        if (one_in(30)) drawn_parts[at].end = number_to(it->labels_len);
     }
-    for (size_t at = 0; at < strings_len; at++) {
-        strings[at].start = below(parts_len + 1);
-        strings[at].end = strings[at].start + below(parts_len - strings[at].start + 1);
-        if (one_in(30)) strings[at].start = number_to(parts_len);
-        if (one_in(30)) strings[at].end = number_to(parts_len);
+    for (size_t at = 0; at < it->contents_len; at++) {
+        drawn_strings[at].start = below(parts_len + 1);
+        drawn_strings[at].end = drawn_strings[at].start + below(parts_len - drawn_strings[at].start + 1);
+        if (one_in(30)) drawn_strings[at].start = number_to(parts_len);
+        if (one_in(30)) drawn_strings[at].end = number_to(parts_len);
     }
-    for (size_t at = 0; at < strings_len && refused == strings_len; at++) {
-        size_t len = 0;
-        if (strings[at].start > strings[at].end || strings[at].end > parts_len) refused = at;
-        for (size_t part = strings[at].start; refused == strings_len && part < strings[at].end; part++) {
-            if (!is_label(it, parts[part])) {
-                refused = at;
-                break;
-            }
-            if (parts[part].end > parts[part].start) memcpy(joined + len, it->labels + parts[part].start, parts[part].end - parts[part].start);
-            len += parts[part].end - parts[part].start;
-        }
-        if (refused < strings_len) break;
+}
+
+/* Joins the parts of a string, if it has such parts. */
+static int is_joined(const drawn *it, const markdown_inline_range *drawn_parts, markdown_inline_range string, uint8_t *joined, size_t *len) {
+    *len = 0;
+    if (string.start > string.end || string.end > parts_len) return 0;
+    for (size_t at = string.start; at < string.end; at++) {
+        size_t more = drawn_parts[at].end - drawn_parts[at].start;
+        if (!is_label(it, drawn_parts[at])) return 0;
+        if (more > 0) memcpy(joined + *len, it->labels + drawn_parts[at].start, more);
+        *len += more;
+    }
+    return 1;
+}
+
+/* Strings of parts of the labels. */
+static void try_strings(drawn *it) {
+    static uint8_t wanted[CONTENTS * 16 * PARTS_MOST * BYTES], joined[PARTS_MOST * BYTES];
+    markdown_inline_range drawn_parts[PARTS_MOST], drawn_strings[CONTENTS];
+    size_t wanted_ends[CONTENTS], wanted_len = 0, len = 0;
+    it->contents_len = below(CONTENTS + 1);
+    draw_strings(it, drawn_parts, drawn_strings);
+    for (model_reads = 0; model_reads < it->contents_len && is_joined(it, drawn_parts, drawn_strings[model_reads], joined, &len); model_reads++) {
         size_t text_len = text_by_events(joined, len, wanted + wanted_len);
         want("a text is no longer than its parts", text_len <= len);
-        wanted_ends[at] = wanted_len += text_len;
+        wanted_ends[model_reads] = wanted_len += text_len;
     }
-    call_name = NAMES[STRINGS];
-    const uint8_t *bytes = (const uint8_t *)lend(&of_bytes, it->labels, it->labels_len, 1);
-    const markdown_inline_range *lent_parts = (const markdown_inline_range *)lend(&of_definitions, parts, parts_len, sizeof *parts);
-    const markdown_inline_range *lent_strings = (const markdown_inline_range *)lend(&of_footnotes, strings, strings_len, sizeof *strings);
-    for (size_t turn = 0; turn < 4; turn++) {
-        size_t room = turn == 0 ? 0 : turn == 1 ? below(wanted_len + 1) : wanted_len + (turn - 2) * below(4), room_of_ends = turn == 1 ? below(strings_len + 1) : strings_len, number = (size_t)draw();
-        uint8_t *texts = (uint8_t *)lend_answers(room, 1, room_of_ends, number);
-        uint32_t status = markdown_inline_strings(bytes, it->labels_len, lent_parts, parts_len, lent_strings, strings_len, texts, room, ends, room_of_ends, count, blamed);
-        int is_refused = refused < strings_len, fits = wanted_len <= room && strings_len <= room_of_ends;
-        uint32_t status_wanted = is_refused ? MARKDOWN_INLINE_NO_STRING : fits ? MARKDOWN_INLINE_DONE : MARKDOWN_INLINE_TOO_SMALL;
-        calls++;
-        functions[STRINGS]++;
-        counts[status < 16 ? status : 15]++;
-        want("the status of strings", status == status_wanted);
-        want("which string is to blame", *blamed == (is_refused ? refused : MARKDOWN_INLINE_NONE));
-        want("how many bytes texts have", *count == (is_refused ? number : wanted_len));
-        if (status != status_wanted) return;
-        want_written(texts, is_refused || !fits ? 0 : wanted_len, is_refused || !fits ? 0 : strings_len);
-        if (!is_refused && fits) {
-            want("the texts of strings", wanted_len == 0 || !memcmp(texts, wanted, wanted_len));
-            want("the ends of strings", strings_len == 0 || !memcmp(ends, wanted_ends, strings_len * sizeof *ends));
-        }
-    }
+    int is_refused = model_reads < it->contents_len;
+    model_blames = is_refused ? model_reads : MARKDOWN_INLINE_NONE;
+    lend_case(it);
+    parts = (const markdown_inline_range *)lend(&of_definitions, drawn_parts, parts_len, sizeof *parts);
+    strings = (const markdown_inline_range *)lend(&of_footnotes, drawn_strings, it->contents_len, sizeof *strings);
+    are_done(STRINGS, it, is_refused ? MARKDOWN_INLINE_NO_STRING : MARKDOWN_INLINE_DONE, model_reads);
+    if (faults > 0) return;
+    want("how many bytes the texts of strings have", found_len == wanted_len);
+    want("the texts of strings", !memcmp(found.bytes, wanted, wanted_len) && !memcmp(found_ends, wanted_ends, model_reads * sizeof *found_ends));
 }
 
 /* The status of a reference by digits, or 1 for one that its name decides. */
@@ -833,9 +888,13 @@ static void try_case(void) {
     } else {
         is_done(LEAVES, &it, text_status(&it));
     }
-    if (is_done(TEXTS, &it, texts_status(&it))) look_at_texts(&it);
+    uint32_t status = texts_status(&it);
+    if (are_done(TEXTS, &it, status, model_reads)) look_at_texts(&it);
     lend_case(&it);
-    if (is_done(HTMLS, &it, htmls_status(&it))) look_at_htmls(&it);
+    if (are_done(SHORT_TEXTS, &it, status, model_reads)) look_at_short_texts(&it);
+    lend_case(&it);
+    status = htmls_status(&it);
+    if (are_done(HTMLS, &it, status, model_reads)) look_at_htmls(&it);
     try_bytes(&it);
     try_strings(&it);
 }
@@ -858,7 +917,7 @@ int main(int argc, char **argv) {
     of_found = new_stretch(sizeof found / page, 0);
     of_ends = new_stretch(1, 0);
     of_count = new_stretch(1, 0);
-    of_blamed = new_stretch(1, 0);
+    of_outcome = new_stretch(1, 0);
     signal(SIGSEGV, touched);
     signal(SIGBUS, touched);
     for (; calls < most && faults == 0; seed++) {
@@ -872,6 +931,7 @@ int main(int argc, char **argv) {
         want("each status comes often, and no other", is_drawn ? counts[status] >= FLOOR : counts[status] == 0);
     }
     for (size_t call = 0; most >= ENOUGH && faults == 0 && call <= STRINGS; call++) want("each function is called often", functions[call] >= ENOUGH / 100);
+    want("references meet definitions and footnotes", most < ENOUGH || faults > 0 || (met_definitions >= FLOOR && met_footnotes >= FLOOR / 2));
     if (faults == 0) printf("bindings: %zu drawn calls of C, %zu done, %zu without room, %zu refused\n", calls, counts[0], counts[6], calls - counts[0] - counts[6]);
     return faults != 0;
 }

@@ -15,13 +15,13 @@ from types import MappingProxyType
 from typing import Iterable, List, Mapping, NamedTuple, Optional, Sequence, Tuple, Union
 
 from . import _arguments, _library, _tables
-from ._events import Characters, Event, Events, Leaf, Leaves, Link, Texts
+from ._events import Characters, Event, Events, Leaf, Leaves, Link, ShortEvent, ShortEvents, ShortTexts, Texts
 from ._names import Kind, Name
 
 __all__ = [
     'BlankLine', 'Content', 'DefinitionError', 'Error', 'Event', 'Events', 'Kind', 'Leaf', 'Leaves', 'Link', 'Name', 'NoContent', 'NoMemory',
-    'NoReference', 'NoString', 'NotUtf8', 'OPTIONS', 'Piece', 'References', 'Texts', 'TooLong', 'UnknownOption', 'html', 'htmls', 'identifier', 'is_content',
-    'is_text', 'leaves', 'reference', 'string', 'strings', 'text', 'texts',
+    'NoReference', 'NoString', 'NotUtf8', 'OPTIONS', 'Piece', 'References', 'ShortEvent', 'ShortEvents', 'ShortTexts', 'Texts', 'TooLong', 'UnknownOption',
+    'html', 'htmls', 'identifier', 'is_content', 'is_text', 'leaves', 'reference', 'short_texts', 'string', 'strings', 'text', 'texts',
 ]
 
 #: Each option by its name, as a bit of `options`. It cannot be changed.
@@ -119,19 +119,25 @@ def _characters(document: Text, bytes_given: bytes) -> Optional[Characters]:
 _REFERENCE_LIMIT = 100_000
 _GFM, _MATH, _TASK = _tables.GFM, _tables.MATH, _tables.OPTIONS['first_of_item']
 _LENGTHS, _SHORTCUT = _tables.OPTIONS['attention_first_lengths'], _tables.OPTIONS['label_shortcut_before_bracket']
+_STANDARD = _tables.OPTIONS['commonmark']
 
 
-def _bits(options: Optional[int], gfm: bool, math: bool, task: bool, cm_lengths: bool, cm_shortcut: bool) -> int:
-    if options is None and gfm is math is task is cm_lengths is cm_shortcut is False:
+def _bits(options: Optional[int], gfm: bool, math: bool, task: bool, cm_lengths: bool, cm_shortcut: bool, commonmark: bool) -> int:
+    if options is None and gfm is math is task is cm_lengths is cm_shortcut is commonmark is False:
         return _tables.COMMONMARK
     bits = _tables.COMMONMARK
     for given, what, its_bits in (
-            (gfm, 'gfm', _GFM), (math, 'math', _MATH), (task, 'task', _TASK), (cm_lengths, 'cm_lengths', _LENGTHS), (cm_shortcut, 'cm_shortcut', _SHORTCUT)):
+            (gfm, 'gfm', _GFM), (math, 'math', _MATH), (task, 'task', _TASK), (cm_lengths, 'cm_lengths', _LENGTHS), (cm_shortcut, 'cm_shortcut', _SHORTCUT),
+            (commonmark, 'commonmark', _STANDARD)):
         if _arguments.flag_of(given, what):
             bits |= its_bits
             if options is not None:
                 raise TypeError('options says all by bits, so %s cannot be asked for beside it' % what)
     return bits if options is None else _arguments.bits_of(options)
+
+
+def _limit(reference_limit: Optional[int], document: bytes) -> int:
+    return max(_REFERENCE_LIMIT, len(document)) if reference_limit is None else _arguments.limit_of(reference_limit)
 
 
 def _given(document: bytes, pieces: Pieces, options: int, definitions: Iterable[Text], footnotes: Iterable[Text]) -> _library.Given:
@@ -141,9 +147,11 @@ def _given(document: bytes, pieces: Pieces, options: int, definitions: Iterable[
 
 
 def text(document: Text, pieces: Pieces = None, gfm: bool = False, math: bool = False, *, task: bool = False, cm_lengths: bool = False,
-         cm_shortcut: bool = False, options: Optional[int] = None, definitions: Iterable[Text] = (), footnotes: Iterable[Text] = ()) -> Events:
+         cm_shortcut: bool = False, commonmark: bool = False, options: Optional[int] = None,
+         definitions: Iterable[Text] = (), footnotes: Iterable[Text] = ()) -> Events:
     """The events of a text: of a whole document, or of pieces of it. `gfm` switches on what GitHub adds to CommonMark, `math` math spans; `task` says
-    that the text begins a list item; `cm_lengths` and `cm_shortcut` follow CommonMark in two rules. `options` says all of it by bits instead.
+    that the text begins a list item; `commonmark` follows the standard in the rules that docs/DEFINITIONS.md marks, `cm_lengths` and `cm_shortcut` in one of them
+    each. `options` says all of it by bits instead.
     `definitions` and `footnotes` are labels as they are written.
 
     A call tests the whole document, passes all that stands before the pieces, and puts the labels in order. So a call for each paragraph of one document takes
@@ -154,7 +162,7 @@ def text(document: Text, pieces: Pieces = None, gfm: bool = False, math: bool = 
     Exit Data 1 2 1 0
     """
     bytes_given = _arguments.text_of(document, 'document')
-    given = _given(bytes_given, pieces, _bits(options, gfm, math, task, cm_lengths, cm_shortcut), definitions, footnotes)
+    given = _given(bytes_given, pieces, _bits(options, gfm, math, task, cm_lengths, cm_shortcut, commonmark), definitions, footnotes)
     status, raw = _library.events('markdown_inline_text', given)
     if status:
         raise _raised(status)
@@ -172,14 +180,15 @@ def string(document: Text, pieces: Pieces = None, *, options: Optional[int] = No
 
 
 def leaves(document: Text, pieces: Pieces = None, gfm: bool = False, math: bool = False, *, task: bool = False, cm_lengths: bool = False,
-           cm_shortcut: bool = False, options: Optional[int] = None, definitions: Iterable[Text] = (), footnotes: Iterable[Text] = ()) -> Leaves:
+           cm_shortcut: bool = False, commonmark: bool = False, options: Optional[int] = None,
+           definitions: Iterable[Text] = (), footnotes: Iterable[Text] = ()) -> Leaves:
     """The leaves of a text, in order: together they cover the pieces. What is asked for is said as of `text`, and so is what a call costs.
 
     >>> [leaf.content for leaf in leaves('a *b*')]
     [b'a ', b'*', b'b', b'*']
     """
     bytes_given = _arguments.text_of(document, 'document')
-    given = _given(bytes_given, pieces, _bits(options, gfm, math, task, cm_lengths, cm_shortcut), definitions, footnotes)
+    given = _given(bytes_given, pieces, _bits(options, gfm, math, task, cm_lengths, cm_shortcut, commonmark), definitions, footnotes)
     status, raw = _library.leaves(given)
     if status:
         raise _raised(status)
@@ -187,26 +196,48 @@ def leaves(document: Text, pieces: Pieces = None, gfm: bool = False, math: bool 
 
 
 def texts(document: Text, contents: Iterable[Content], gfm: bool = False, math: bool = False, *, cm_lengths: bool = False, cm_shortcut: bool = False,
-          options: Optional[int] = None, definitions: Iterable[Text] = (), footnotes: Iterable[Text] = ()) -> Texts:
+          commonmark: bool = False, options: Optional[int] = None, definitions: Iterable[Text] = (),
+          footnotes: Iterable[Text] = ()) -> Texts:
     """The events of many contents of a document as texts, of each by itself. The document is prepared once, and each content costs what it costs by
-    itself, wherever it stands. What is asked for is said as of `text`, but for what begins a list item: that each content says."""
+    itself, wherever it stands. What is asked for is said as of `text`, but for what begins a list item: that each content says. Where an error is about a
+    content or a definition, its field `at` has the number of that."""
+    bits = _bits(options, gfm, math, False, cm_lengths, cm_shortcut, commonmark)
+    return Texts(*_texts('markdown_inline_texts', _library.EVENT_SIZE, document, contents, bits, definitions, footnotes))
+
+
+def short_texts(document: Text, contents: Iterable[Content], gfm: bool = False, math: bool = False, *, cm_lengths: bool = False,
+                cm_shortcut: bool = False, commonmark: bool = False, options: Optional[int] = None,
+                definitions: Iterable[Text] = (), footnotes: Iterable[Text] = ()) -> ShortTexts:
+    """The same events without their lines and columns, with the numbers of the definitions that links, images and footnote calls refer to. The rest is as of
+    `texts`.
+
+    >>> events = short_texts('[a](b) [c]', [Content([(0, 10)])], definitions=['d', 'C'])[0]
+    >>> [event.definition for event in events if event.kind == Kind.Enter and event.name == Name.Link]
+    [None, 1]
+    """
+    bits = _bits(options, gfm, math, False, cm_lengths, cm_shortcut, commonmark)
+    return ShortTexts(*_texts('markdown_inline_short_texts', _library.SHORT_SIZE, document, contents, bits, definitions, footnotes))
+
+
+def _texts(function: str, size: int, document: Text, contents: Iterable[Content], bits: int, definitions: Iterable[Text], footnotes: Iterable[Text]):
+    """The bytes of events of this size, where those of each content end, and what counts characters."""
     bytes_given = _arguments.text_of(document, 'document')
     pieces, listed, count = _arguments.contents_of(contents)
     given = _library.Given(
-        bytes_given, pieces, _bits(options, gfm, math, False, cm_lengths, cm_shortcut), _arguments.labels_of(definitions, 'definitions'),
-        _arguments.labels_of(footnotes, 'footnotes'))
-    status, raw, bounds = _library.texts(given, listed, count)
+        bytes_given, pieces, bits, _arguments.labels_of(definitions, 'definitions'), _arguments.labels_of(footnotes, 'footnotes'))
+    status, raw, ends, blamed = _library.texts(function, size, given, listed, count)
     if status:
-        raise _raised(status)
-    return Texts(raw, bounds, _characters(document, bytes_given))
+        raise _raised(status, blamed)
+    return raw, ends, _characters(document, bytes_given)
 
 
 def html(document: Text, pieces: Pieces = None, gfm: bool = False, math: bool = False, *, task: bool = False, cm_lengths: bool = False,
-         cm_shortcut: bool = False, options: Optional[int] = None, definitions: Optional[Mapping[Text, Target]] = None, footnotes: Iterable[Text] = (),
-         raw_html: bool = False, any_link: bool = False) -> str:
+         cm_shortcut: bool = False, commonmark: bool = False, options: Optional[int] = None, definitions: Optional[Mapping[Text, Target]] = None,
+         footnotes: Iterable[Text] = (), raw_html: bool = False, any_link: bool = False, reference_limit: Optional[int] = None) -> str:
     """The HTML of a text. `definitions` has for each label, as it is written, its destination, or the destination and a title, with escapes and
     character references resolved. `raw_html` writes raw HTML as it stands and not as text; `any_link` lets links lead wherever they say and not to
-    listed schemes alone. The rest is said as of `text`, and so is what a call costs: for many contents there is `htmls`.
+    listed schemes alone. `reference_limit` is that of `htmls`. The rest is said as of `text`, and so is what a call costs: for many contents there is
+    `htmls`.
 
     >>> html('*a* [b]', definitions={'b': ('/c', 'd')})
     '<em>a</em> <a href="/c" title="d">b</a>'
@@ -214,18 +245,24 @@ def html(document: Text, pieces: Pieces = None, gfm: bool = False, math: bool = 
     bytes_given = _arguments.text_of(document, 'document')
     defined, targets, written = _arguments.targets_of(definitions)
     given = _library.Given(
-        bytes_given, _arguments.pieces_of(pieces, len(bytes_given)), _bits(options, gfm, math, task, cm_lengths, cm_shortcut), defined,
+        bytes_given, _arguments.pieces_of(pieces, len(bytes_given)), _bits(options, gfm, math, task, cm_lengths, cm_shortcut, commonmark), defined,
         _arguments.labels_of(footnotes, 'footnotes'), written)
     asked = _arguments.flag_of(raw_html, 'raw_html') | _arguments.flag_of(any_link, 'any_link') << 1
-    status, found = _library.html(given, targets, len(defined), asked)
+    limit = _limit(reference_limit, bytes_given)
+    if limit and given.covered() // 2 * len(written) > limit:
+        # Each reference has more than two bytes, so else no references bring more than the limit. The call for many takes one.
+        content = _arguments.whole_of(given.pieces, bool(given.input.options & _TASK))
+        status, found, _, _ = _library.htmls(given, targets, len(defined), content, 1, asked, limit)
+    else:
+        status, found = _library.html(given, targets, len(defined), asked)
     if status:
         raise _raised(status)
     return found.decode()
 
 
 def htmls(document: Text, contents: Iterable[Content], gfm: bool = False, math: bool = False, *, cm_lengths: bool = False, cm_shortcut: bool = False,
-          options: Optional[int] = None, definitions: Optional[Mapping[Text, Target]] = None, footnotes: Iterable[Text] = (), raw_html: bool = False,
-          any_link: bool = False, reference_limit: Optional[int] = None) -> List[str]:
+          commonmark: bool = False, options: Optional[int] = None, definitions: Optional[Mapping[Text, Target]] = None,
+          footnotes: Iterable[Text] = (), raw_html: bool = False, any_link: bool = False, reference_limit: Optional[int] = None) -> List[str]:
     """The HTML of many contents of a document as texts. The document is prepared once, and each content costs what it costs by itself, wherever it stands.
     Footnotes are numbered through all contents. What is asked for is said as of `html`, but for what begins a list item: that each content says.
 
@@ -240,9 +277,9 @@ def htmls(document: Text, contents: Iterable[Content], gfm: bool = False, math: 
     pieces, listed, count = _arguments.contents_of(contents)
     defined, targets, written = _arguments.targets_of(definitions)
     given = _library.Given(
-        bytes_given, pieces, _bits(options, gfm, math, False, cm_lengths, cm_shortcut), defined, _arguments.labels_of(footnotes, 'footnotes'), written)
+        bytes_given, pieces, _bits(options, gfm, math, False, cm_lengths, cm_shortcut, commonmark), defined, _arguments.labels_of(footnotes, 'footnotes'), written)
     asked = _arguments.flag_of(raw_html, 'raw_html') | _arguments.flag_of(any_link, 'any_link') << 1
-    limit = max(_REFERENCE_LIMIT, len(bytes_given)) if reference_limit is None else _arguments.limit_of(reference_limit)
+    limit = _limit(reference_limit, bytes_given)
     status, found, ends, blamed = _library.htmls(given, targets, len(defined), listed, count, asked, limit)
     if status:
         raise _raised(status, blamed)

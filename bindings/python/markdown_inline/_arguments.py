@@ -3,6 +3,7 @@ OverflowError that names it; so nothing of it reaches a call."""
 import operator
 import struct
 from array import array
+from bisect import bisect_right
 from collections.abc import Mapping, Sequence
 from itertools import accumulate
 
@@ -103,21 +104,26 @@ def _numbers(piece, what):
     return start, start_vs, end, end_vs
 
 
-def _push_pieces(numbers, given, what):
-    """Puts the numbers of pieces behind others, as they cross. Tuples, which most pieces are, are looked at one by one only where one is wrong."""
-    listed, found = list(_several(given, what, 'piece')), []
+def _push_pieces(found, given, name, *names):
+    """Puts the numbers of pieces behind others, in the order in which they cross. `_crossing` sees where a number of a tuple is none. What the pieces are called
+    is put together only where one is no tuple, as few are."""
+    for at, piece in enumerate(given if type(given) is list else _several(given, name % names, 'piece')):
+        if isinstance(piece, tuple) and len(piece) == 2:
+            found += piece[0], 0, piece[1], 0
+        elif isinstance(piece, tuple) and len(piece) == 4:
+            found += piece[0], piece[2], piece[1], piece[3]
+        else:
+            found += _numbers(piece, '%s[%d]' % (name % names, at))
+
+
+def _crossing(found, name_of):
+    """The numbers of pieces as they cross. Where one is none, `name_of` tells what a piece is called, by its number among all."""
     try:
-        for piece in listed:
-            if isinstance(piece, tuple) and len(piece) == 2:
-                found += piece[0], 0, piece[1], 0
-            elif isinstance(piece, tuple) and len(piece) == 4:
-                found += piece[0], piece[2], piece[1], piece[3]
-            else:
-                found += _numbers(piece, what)
-        numbers.extend(array('Q', map(operator.index, found)))
-    except (TypeError, OverflowError, ValueError):
-        for at, piece in enumerate(listed):
-            _numbers(piece, '%s[%d]' % (what, at))
+        return array('Q', map(operator.index, found))
+    except (TypeError, OverflowError):
+        for at in range(0, len(found), 4):
+            start, start_vs, end, end_vs = found[at:at + 4]
+            _numbers((start, end, start_vs, end_vs), name_of(at // 4))
         raise
 
 
@@ -125,23 +131,33 @@ def pieces_of(given, length):
     """The pieces as they cross, four numbers each. None is the whole of a document of this length."""
     if given is None:
         return array('Q', (0, 0, length, 0))
-    numbers = array('Q')
-    _push_pieces(numbers, given, 'pieces')
-    return numbers
+    found = []
+    _push_pieces(found, given, 'pieces')
+    return _crossing(found, lambda number: 'pieces[%d]' % number)
 
 
 def contents_of(given):
     """The pieces of all contents as they cross, the contents as they cross, and how many contents there are."""
-    numbers, contents = array('Q'), []
+    found, ends, firsts = [], [], []
+
+    def name_of(number):
+        at = bisect_right(ends, number)
+        return 'the pieces of contents[%d][%d]' % (at, number - (ends[at - 1] if at else 0))
+
     for at, it in enumerate(_several(given, 'contents', 'content')):
         try:
             pieces, is_first = it
         except (TypeError, ValueError):
             raise TypeError('contents[%d] is no Content: that has pieces, and whether it is the first of a list item' % at) from None
-        start, is_first = len(numbers) // 4, flag_of(is_first, 'first_of_item of contents[%d]' % at)
-        _push_pieces(numbers, pieces, 'the pieces of contents[%d]' % at)
-        contents.append(_CONTENT.pack(start, len(numbers) // 4, is_first))
-    return numbers, b''.join(contents), len(contents)
+        firsts.append(is_first if is_first is False else flag_of(is_first, 'first_of_item of contents[%d]' % at))
+        _push_pieces(found, pieces, 'the pieces of contents[%d]', at)
+        ends.append(len(found) // 4)
+    return _crossing(found, name_of), b''.join(map(_CONTENT.pack, [0] + ends[:-1], ends, firsts)), len(ends)
+
+
+def whole_of(numbers, is_first):
+    """The content of all pieces, as it crosses."""
+    return _CONTENT.pack(0, len(numbers) // 4, is_first)
 
 
 def strings_of(given):

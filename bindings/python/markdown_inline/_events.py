@@ -3,15 +3,17 @@ import operator
 import struct
 from array import array
 from collections.abc import Sequence
-from itertools import accumulate
+from itertools import accumulate, islice
 from typing import Iterator, List, NamedTuple, Optional, Tuple
 
 from ._names import Kind, Name
 
 EVENT = struct.Struct('=BBB5x6Q')
+SHORT = struct.Struct('=BBBBIQ')
 LEAF = struct.Struct('=B7x11Q')
 _FLAT = struct.Struct('=BB22xQ24x')
-_NONE = 2 ** 64 - 1
+_FLAT_SHORT = struct.Struct('=BB2xIQ')
+_NONE, _NO_DEFINITION = 2 ** 64 - 1, 2 ** 32 - 1
 _KINDS, _NAMES = tuple(Kind), tuple(Name)
 _CONTENTS = (None, 'String', 'Text')
 # Bytes that go on with a character, in UTF-8.
@@ -45,6 +47,19 @@ class Event(NamedTuple):
         if self.link is not None:
             line += ' link %s %s %s' % (self.link.content, *('-' if number is None else number for number in self.link[1:]))
         return line
+
+
+class ShortEvent(NamedTuple):
+    """The beginning or the end of something, without its line and column. `link` is 'String' or 'Text' where it is to be read again. `definition` is the number of
+    the definition that a link or an image refers to where it begins, in the order in which they were given, or that of the footnote where a footnote call
+    begins; else it is None. Of several with one identifier it is the first."""
+    kind: Kind
+    name: Name
+    index: int
+    vs: int
+    link: Optional[str]
+    definition: Optional[int]
+    character: Optional[int]
 
 
 class Leaf(NamedTuple):
@@ -193,6 +208,25 @@ class Events(_Rows):
         return iter(spans)
 
 
+class ShortEvents(_Rows):
+    """The short events of a text: a sequence of `ShortEvent`s, each of which is made when it is looked at. It is equal to a list of the same events, and cannot
+    be changed."""
+    __slots__ = ()
+    _ROW = SHORT
+
+    def _made(self, row) -> ShortEvent:
+        kind, name, link, vs, definition, index = row
+        characters = self._characters
+        place = None if characters is None else characters.before(index)
+        return _new(ShortEvent, (
+            _KINDS[kind], _NAMES[name], index, vs, _CONTENTS[link], None if definition == _NO_DEFINITION else definition, place))
+
+    def flat(self) -> Iterator[Tuple[int, int, int, int]]:
+        """The kind, the name, the definition and the byte of each event, as plain numbers: much faster than events. The number of no definition is
+        4,294,967,295."""
+        return _FLAT_SHORT.iter_unpack(self._raw)
+
+
 class Leaves(_Rows):
     """The leaves of a text: a sequence of `Leaf`s, each of which is made when it is looked at. It is equal to a list of the same leaves, and cannot
     be changed."""
@@ -207,39 +241,70 @@ class Leaves(_Rows):
         return _new(Leaf, (_NAMES[name], line, column, index, vs, end_line, end_column, end, end_vs, before, content, after, *places))
 
 
-class Texts(Sequence):
-    """The events of many contents: a sequence with the `Events` of each, which are made when they are looked at. It is equal to a list of such
-    lists, and cannot be changed."""
-    __slots__ = ('_raw', '_bounds', '_characters')
+def _columns(raw: bytes, size: int, *columns: Tuple[int, str]):
+    """Plain numbers of rows of this size. Each column is told by its place in a row, which its size divides, and by its format. For many rows this is faster than
+    to unpack them."""
+    if not raw:
+        return iter(())
+    views = []
+    for place, form in columns:
+        width = struct.calcsize(form)
+        views.append(raw[place::size] if width == 1 else memoryview(raw).cast(form)[place // width::size // width])
+    return zip(*views)
 
-    def __init__(self, raw: bytes, bounds: array, characters: Optional[Characters]) -> None:
-        """`bounds` has the number of the event with which each content begins, and behind these how many events there are."""
-        self._raw, self._bounds, self._characters = raw, bounds, characters
+
+class _Contents(Sequence):
+    """What is found in many contents: a sequence with the rows of each, which are made when they are looked at."""
+    __slots__ = ('_raw', '_ends', '_characters')
+    _ROWS, _COLUMNS = _Rows, ()
+
+    def __init__(self, raw: bytes, ends: array, characters: Optional[Characters]) -> None:
+        """`ends` has for each content how many rows end with it."""
+        self._raw, self._ends, self._characters = raw, ends, characters
 
     def __len__(self) -> int:
-        return len(self._bounds) - 1
+        return len(self._ends)
 
     def _part(self, number: int) -> bytes:
-        return self._raw[self._bounds[number] * EVENT.size:self._bounds[number + 1] * EVENT.size]
+        size = self._ROWS._ROW.size
+        return self._raw[(self._ends[number - 1] if number else 0) * size:self._ends[number] * size]
 
     def __getitem__(self, at):
         if isinstance(at, slice):
-            parts = [self._part(it) for it in range(*at.indices(len(self)))]
-            bounds = array('Q', accumulate((len(it) // EVENT.size for it in parts), initial=0))
-            return Texts(b''.join(parts), bounds, self._characters)
+            parts, size = [self._part(it) for it in range(*at.indices(len(self)))], self._ROWS._ROW.size
+            return type(self)(b''.join(parts), array('Q', accumulate(len(it) // size for it in parts)), self._characters)
         number = operator.index(at)
         if number < 0:
             number += len(self)
         if not 0 <= number < len(self):
             raise IndexError('there are %d contents, and none has this number' % len(self))
-        return Events(self._part(number), self._characters)
+        return self._ROWS(self._part(number), self._characters)
 
-    def __iter__(self) -> Iterator[Events]:
-        for number in range(len(self)):
-            yield Events(self._part(number), self._characters)
+    def __iter__(self):
+        rows, raw, characters, size, start = self._ROWS, self._raw, self._characters, self._ROWS._ROW.size, 0
+        for end in self._ends:
+            yield rows(raw[start * size:end * size], characters)
+            start = end
+
+    def flat(self) -> Iterator[Iterator[Tuple[int, ...]]]:
+        """For each content an iterator with what `flat` of its events gives. They are parts of one iterator over all events, which is faster still. So walk a
+        content before you ask for the next one, which begins where that ends.
+
+        >>> found = texts('a\\n\\nb', [Content([(0, 1)]), Content([(3, 4)])])
+        >>> [[byte for kind, name, byte in content] for content in found.flat()]
+        [[0, 1], [3, 4]]
+        """
+        rows, start = _columns(self._raw, self._ROWS._ROW.size, *self._COLUMNS), 0
+        for end in self._ends:
+            content = islice(rows, end - start)
+            yield content
+            for _ in content:
+                # What was not walked.
+                pass
+            start = end
 
     def __eq__(self, other: object) -> bool:
-        if not isinstance(other, (list, Texts)):
+        if not isinstance(other, (list, type(self))):
             return NotImplemented
         return len(self) == len(other) and all(map(operator.eq, self, other))
 
@@ -249,4 +314,18 @@ class Texts(Sequence):
         return repr(list(self))
 
     def __reduce__(self):
-        return Texts, (self._raw, self._bounds, self._characters)
+        return type(self), (self._raw, self._ends, self._characters)
+
+
+class Texts(_Contents):
+    """The events of many contents: a sequence with the `Events` of each, which are made when they are looked at. It is equal to a list of such
+    lists, and cannot be changed."""
+    __slots__ = ()
+    _ROWS, _COLUMNS = Events, ((0, 'B'), (1, 'B'), (24, 'Q'))
+
+
+class ShortTexts(_Contents):
+    """The short events of many contents: a sequence with the `ShortEvents` of each, which are made when they are looked at. It is equal to a list of such
+    lists, and cannot be changed."""
+    __slots__ = ()
+    _ROWS, _COLUMNS = ShortEvents, ((0, 'B'), (1, 'B'), (4, 'I'), (8, 'Q'))

@@ -5,13 +5,13 @@ import os
 from array import array
 
 from . import _arguments
-from ._events import EVENT, LEAF
+from ._events import EVENT, LEAF, SHORT
 
 VERSION = 1
 DONE, TOO_SMALL = 0, 6
 #: The number of nothing.
 NONE = 2 ** 64 - 1
-EVENT_SIZE, LEAF_SIZE = EVENT.size, LEAF.size
+EVENT_SIZE, SHORT_SIZE, LEAF_SIZE = EVENT.size, SHORT.size, LEAF.size
 SHARED = 'libmarkdown_inline.so'
 #: How many bytes an array has that is lent again, and how many such arrays are kept for all threads together.
 KEPT_SIZE, KEPT = 1 << 18, 8
@@ -26,6 +26,11 @@ class Input(ctypes.Structure):
         ('labels_len', _size), ('definitions', ctypes.c_void_p), ('definitions_len', _size), ('footnotes', ctypes.c_void_p), ('footnotes_len', _size),
         ('options', ctypes.c_uint32),
     ]
+
+
+class Outcome(ctypes.Structure):
+    """How far a call for many comes."""
+    _fields_ = [('done', _size), ('count', _size), ('blamed', _size)]
 
 
 class Given:
@@ -68,13 +73,12 @@ def _load():
     if found != VERSION:
         raise ImportError('the library has version %d of the interface, and this package wants %d' % (found, VERSION))
     text, numbers, lent = [ctypes.c_char_p, _size], [ctypes.c_void_p, _size], [ctypes.c_void_p, _size, ctypes.POINTER(_size)]
-    given = [ctypes.POINTER(Input)]
+    given, outcome = [ctypes.POINTER(Input)], [ctypes.POINTER(Outcome)]
     for name, arguments in (
         ('is_content', text + numbers), ('is_text', text + numbers), ('string', given + lent), ('text', given + lent), ('leaves', given + lent),
-        ('identifier', text + lent), ('reference', text + lent), ('texts', given + numbers + numbers + numbers + lent[2:]),
-        ('html', given + numbers + [ctypes.c_uint32] + lent),
-        ('htmls', given + numbers + numbers + [ctypes.c_uint32, _size] + numbers + numbers + lent[2:] + lent[2:]),
-        ('strings', text + numbers * 4 + 2 * lent[2:]),
+        ('identifier', text + lent), ('reference', text + lent), ('texts', given + 3 * numbers + outcome), ('short_texts', given + 3 * numbers + outcome),
+        ('html', given + numbers + [ctypes.c_uint32] + lent), ('htmls', given + 2 * numbers + [ctypes.c_uint32, _size] + 2 * numbers + outcome),
+        ('strings', text + 4 * numbers + outcome),
     ):
         function = getattr(library, 'markdown_inline_' + name)
         function.restype, function.argtypes = ctypes.c_uint32, arguments
@@ -121,15 +125,37 @@ def filled(call, size, room):
     raise RuntimeError('the library wants other room for the same input')
 
 
-def _events_room(given):
+def filled_many(call, size, room, many, goes_on=True):
+    """The status of a call for so many, the bytes that it wrote, where those of each end, counted in elements of this size, and the number of what is to blame,
+    if one of several is. The call is lent the number of the first that it reads, an array with its length, an array for ends with its length, and an outcome.
+    The array has this room in bytes at first, or more. Where that is too small, a second call goes on behind those that had room; or it is for all again,
+    where calls cannot go on."""
+    ends, outcome, found, at, before = array('Q', bytes(8 * many)), Outcome(), [], 0, 0
+    for _ in range(2):
+        lent = _lend(room)
+        status = call(at, lent, len(lent) // size, ends.buffer_info()[0] + at * ends.itemsize, many - at, ctypes.byref(outcome))
+        is_kept = status == DONE or status == TOO_SMALL and goes_on
+        done = at + outcome.done if is_kept else at
+        written = ends[done - 1] if done > at else 0
+        found.append(memoryview(lent)[:written * size].tobytes())
+        _give_back(lent)
+        if before:
+            ends[at:done] = array('Q', [end + before for end in ends[at:done]])
+        if status != TOO_SMALL:
+            return status, b''.join(found), ends, None if outcome.blamed == NONE else outcome.blamed
+        room, at, before = (outcome.count - written) * size, done, before + written
+    raise RuntimeError('the library wants other room for the same input')
+
+
+def _events_room(given, size):
     # Prose has an event for every five bytes.
-    return (given.covered() // 4 + 64) * EVENT_SIZE
+    return (given.covered() // 4 + 64) * size
 
 
 def events(name, given):
     """Calls a function over an input: its status, and the bytes of the events that it found."""
     function, at = getattr(LIBRARY, name), ctypes.byref(given.input)
-    return filled(lambda *lent: function(at, *lent), EVENT_SIZE, _events_room(given))
+    return filled(lambda *lent: function(at, *lent), EVENT_SIZE, _events_room(given, EVENT_SIZE))
 
 
 def leaves(given):
@@ -144,14 +170,17 @@ def decoded(name, text):
     return filled(lambda *lent: function(text, len(text), *lent), 1, len(text))
 
 
-def texts(given, contents, count):
-    """Calls for this many contents, as they cross: the status, the events' bytes, and with which event each content begins, with how many there are
-    behind."""
-    at, bounds = ctypes.byref(given.input), array('Q', bytes(8 * (count + 1)))
-    ends_at = bounds.buffer_info()[0] + bounds.itemsize
-    status, found = filled(
-        lambda lent, room, written: LIBRARY.markdown_inline_texts(at, contents, count, lent, room, ends_at, count, written), EVENT_SIZE, _events_room(given))
-    return status, found, bounds
+def texts(name, size, given, contents, count):
+    """Calls a function for this many contents, as they cross: the status, the bytes of events of this size, where those of each content end, and what is to
+    blame."""
+    function, at = getattr(LIBRARY, name), ctypes.byref(given.input)
+    contents_at = ctypes.create_string_buffer(contents, len(contents))
+    each = len(contents) // count if count else 0
+
+    def call(start, lent, room, ends, many, outcome):
+        return function(at, ctypes.byref(contents_at, start * each), many, lent, room, ends, many, outcome)
+
+    return filled_many(call, size, _events_room(given, size), count)
 
 
 def html(given, targets, count, options):
@@ -161,14 +190,16 @@ def html(given, targets, count, options):
 
 
 def htmls(given, targets, count, contents, many, options, limit):
-    """Calls for the HTML of this many contents, with targets, both as they cross: the status, the bytes of all, where those of each end, and the number of
-    what is to blame, if one of several is."""
-    at, ends, blamed = ctypes.byref(given.input), array('Q', bytes(8 * many)), _size()
-    ends_at = ends.buffer_info()[0]
-    status, found = filled(
-        lambda lent, room, written: LIBRARY.markdown_inline_htmls(
-            at, targets, count, contents, many, options, limit, lent, room, ends_at, many, written, ctypes.byref(blamed)), 1, 2 * given.covered())
-    return status, found, ends, None if blamed.value == NONE else blamed.value
+    """Calls for the HTML of this many contents, with targets, both as they cross: the status, the bytes of all, where those of each end, and what is to blame.
+    Where there are footnotes, they are numbered through all contents, so that a second call is for all."""
+    at, contents_at = ctypes.byref(given.input), ctypes.create_string_buffer(contents, len(contents))
+    each = len(contents) // many if many else 0
+
+    def call(start, lent, room, ends, left, outcome):
+        return LIBRARY.markdown_inline_htmls(
+            at, targets, count, ctypes.byref(contents_at, start * each), left, options, limit, lent, room, ends, left, outcome)
+
+    return filled_many(call, 1, 2 * given.covered(), many, not given.input.footnotes_len)
 
 
 def tested(name, document, pieces):
@@ -178,12 +209,10 @@ def tested(name, document, pieces):
 
 def strings(document, parts, listed, count):
     """Calls for the texts of this many strings, as they cross, of these parts: the status, the texts' bytes, where each ends, and what is to blame."""
-    ends, blamed = array('Q', bytes(8 * count)), _size()
 
-    def call(lent, room, written):
+    def call(start, lent, room, ends, many, outcome):
+        strings_at = listed.buffer_info()[0] + 2 * start * listed.itemsize
         return LIBRARY.markdown_inline_strings(
-            document, len(document), parts.buffer_info()[0], len(parts) // 2, listed.buffer_info()[0], count, lent, room, ends.buffer_info()[0], count, written,
-            ctypes.byref(blamed))
+            document, len(document), parts.buffer_info()[0], len(parts) // 2, strings_at, many, lent, room, ends, many, outcome)
 
-    status, found = filled(call, 1, len(document))
-    return status, found, ends, None if blamed.value == NONE else blamed.value
+    return filled_many(call, 1, len(document), count)

@@ -19,7 +19,7 @@ from markdown_it.common.utils import fromCodePoint, isValidEntityCode, normalize
 from markdown_it.rules_core import StateCore
 from markdown_it.token import Token
 
-from . import OPTIONS, BlankLine, Events, Name, NotUtf8, identifier, text, texts
+from . import OPTIONS, BlankLine, Name, NotUtf8, identifier, text, texts
 
 __all__ = ['plugin']
 
@@ -34,12 +34,14 @@ _BITS: Dict[str, int] = {
 _BEHIND = {'balance_pairs', 'strikethrough', 'emphasis', 'text_collapse', 'fragments_join'}
 _NAMED = re.compile('&([A-Za-z][A-Za-z0-9]{1,31});')
 # Names as plain numbers, which are looked up and compared faster than members.
-_CODE, _SEQUENCE, _CODE_DATA, _LINE = Name.CodeText.value, Name.CodeTextSequence.value, Name.CodeTextData.value, Name.LineEnding.value
+_DATA, _CODE = Name.Data.value, Name.CodeText.value
 _HTML, _AUTOLINK, _RESOURCE, _REFERENCE = Name.HtmlText.value, Name.Autolink.value, Name.Resource.value, Name.Reference.value
 _LABEL, _DESTINATION, _TITLE = Name.ReferenceString.value, Name.ResourceDestinationString.value, Name.ResourceTitleString.value
 _WHOLE = Name.ResourceDestination.value
 _STRINGS = {_LABEL, _DESTINATION, _TITLE, _WHOLE}
 _ADDRESSES = {Name.AutolinkProtocol.value: '', Name.AutolinkEmail.value: 'mailto:'}
+# The kind, the name and the byte of each event.
+_Flat = Iterator[Tuple[int, int, int]]
 
 
 class _Refused(Exception):
@@ -79,7 +81,7 @@ class _Builder:
         self.identifiers: Optional[Dict[str, dict]] = None
         # What is done where something begins, and where something ends. What is not here needs nothing, or is read by what it stands in.
         enters = {
-            Name.Data: self.begin, Name.CharacterEscapeValue: self.begin, Name.CharacterReference: self.begin, Name.LineEnding: self.line,
+            Name.CharacterEscapeValue: self.begin, Name.CharacterReference: self.begin, Name.LineEnding: self.line,
             Name.CodeText: self.code, Name.HtmlText: self.raw, Name.Autolink: self.autolink, Name.HardBreakEscape: self.hard_break,
             Name.HardBreakTrailing: self.hard_break, Name.LabelText: self.label, Name.Link: self.link, Name.Image: self.image,
             Name.Resource: self.strings, Name.Reference: self.strings,
@@ -87,26 +89,35 @@ class _Builder:
             Name.GfmStrikethrough: lambda place: self.open('s', place, 2),
         }
         exits = {
-            Name.Data: self.data, Name.CharacterEscapeValue: self.value, Name.CharacterReference: self.reference, Name.LabelText: self.label_ends,
+            Name.CharacterEscapeValue: self.value, Name.CharacterReference: self.reference, Name.LabelText: self.label_ends,
             Name.Link: self.link_ends, Name.Image: self.image_ends,
             Name.Emphasis: lambda place: self.close('em', place, 1), Name.Strong: lambda place: self.close('strong', place, 2),
             Name.GfmStrikethrough: lambda place: self.close('s', place, 2),
         }
         self.handlers = tuple([table.get(name) for name in Name] for table in (enters, exits))
 
-    def build(self, events: Events) -> List[Token]:
+    def build(self, events: _Flat) -> List[Token]:
         """The tokens of a content."""
-        self.events: Iterator[Tuple[int, int, int]] = events.flat()
+        self.events = events
         self.tokens: List[Token] = []
         self.level, self.text, self.is_broken = 0, [], False
         self.opened: List[_Opened] = []
         self.outer: List[List[Token]] = []
-        enters, exits = self.handlers
-        for kind, name, place in self.events:
+        (enters, exits), start = self.handlers, 0
+        for kind, name, place in events:
+            if name == _DATA:
+                # Most events are of data.
+                if kind:
+                    found = self.cut(start, place)
+                    self.text.append(_with_names(found) if self.has_names and '&' in found else found)
+                else:
+                    start = place
+                continue
             handle = exits[name] if kind else enters[name]
             if handle is not None:
                 handle(place)
-        self.flush()
+        if self.text:
+            self.flush()
         return self.tokens
 
     def cut(self, start: int, end: int) -> str:
@@ -115,14 +126,14 @@ class _Builder:
 
     def flush(self) -> None:
         """Makes a token of the text that has come."""
-        if self.text:
-            token = Token('text', '', 0)
-            token.content, token.level = ''.join(self.text), self.level
-            self.text.clear()
-            self.tokens.append(token)
+        token = Token('text', '', 0)
+        token.content, token.level = ''.join(self.text), self.level
+        self.text.clear()
+        self.tokens.append(token)
 
     def push(self, kind: str, tag: str, nesting: int) -> Token:
-        self.flush()
+        if self.text:
+            self.flush()
         token = Token(kind, tag, nesting)
         if nesting < 0:
             self.level -= 1
@@ -136,10 +147,6 @@ class _Builder:
 
     def begin(self, place: int) -> None:
         self.start = place
-
-    def data(self, place: int) -> None:
-        found = self.cut(self.start, place)
-        self.text.append(_with_names(found) if self.has_names and '&' in found else found)
 
     def value(self, place: int) -> None:
         self.text.append(self.cut(self.start, place))
@@ -165,22 +172,16 @@ class _Builder:
     # What is read to its end at once.
 
     def code(self, place: int) -> None:
-        token, parts, begun = self.push('code_inline', 'code', 0), [], 0
-        for kind, name, byte in self.events:
+        token, begun = self.push('code_inline', 'code', 0), place
+        for _, name, end in self.events:
             if name == _CODE:
                 break
-            if kind == 0:
-                begun = byte
-            elif name == _CODE_DATA:
-                parts.append(self.cut(begun, byte))
-            elif name == _LINE:
-                parts.append(' ')
-            elif name == _SEQUENCE:
-                token.markup = '`' * (byte - begun)
-        content = ''.join(parts)
-        if content[:1] == ' ' == content[-1:] and content.strip(' '):
+        while self.source[begun] == '`':
+            begun += 1
+        content = self.cut(begun, end - (begun - place)).replace('\n', ' ')
+        if content[0] == ' ' == content[-1] and content.strip(' '):
             content = content[1:-1]
-        token.content = content
+        token.content, token.markup = content, self.source[place:begun]
 
     def raw(self, place: int) -> None:
         end = next(byte for _, name, byte in self.events if name == _HTML)
@@ -274,7 +275,8 @@ class _Builder:
         self.push('link_close', 'a', -1)
 
     def image_ends(self, place: int) -> None:
-        self.flush()
+        if self.text:
+            self.flush()
         opened = self.opened.pop()
         href, title, label = self.target(opened)
         opened.token.children, opened.token.content = self.tokens or None, self.cut(opened.label, opened.label_end)
@@ -298,12 +300,12 @@ def _options(md: MarkdownIt) -> int:
     return bits if md.options.get('html') else bits & ~OPTIONS['html_text']
 
 
-def _one_by_one(contents: List[str], options: int, references: dict) -> List[Optional[Events]]:
+def _one_by_one(contents: List[str], options: int, references: dict) -> List[Optional[_Flat]]:
     """The events of contents of which at least one is no text; None for each that is none."""
-    found: List[Optional[Events]] = []
+    found: List[Optional[_Flat]] = []
     for content in contents:
         try:
-            found.append(text(content.encode('utf-8', 'surrogatepass'), options=options, definitions=references))
+            found.append(text(content.encode('utf-8', 'surrogatepass'), options=options, definitions=references).flat())
         except (BlankLine, NotUtf8):
             found.append(None)
     return found
@@ -321,10 +323,10 @@ def _inline(state: StateCore) -> None:
         at += len(part) + 2
     document = b'\n\n'.join(parts)
     try:
-        found = list(texts(document, pieces, options=options, definitions=references))
+        found = texts(document, pieces, options=options, definitions=references).flat()
     except (BlankLine, NotUtf8):
         found = _one_by_one([it.content for it in tokens], options, references)
-        builders = [_Builder(md, env, part if it else b'', bool(options & OPTIONS['character_reference'])) for part, it in zip(parts, found)]
+        builders = [_Builder(md, env, part, bool(options & OPTIONS['character_reference'])) for part in parts]
     else:
         builders = [_Builder(md, env, document, bool(options & OPTIONS['character_reference']))] * len(tokens)
     for token, events, builder in zip(tokens, found, builders):

@@ -2,7 +2,7 @@
 //! `crates/markdown_test_runs` does, leaves, HTML in hexadecimal, or the events or the HTML of each text; where there are none, why.
 
 use markdown_inline::{
-    Error, Event, HtmlOptions, Input, Leaf, Options, Piece, Point, Refusal, TextContent,
+    Error, Event, HtmlOptions, Input, Leaf, Options, Piece, Point, Refusal, ShortEvent, TextContent,
 };
 use std::io::{self, BufRead};
 
@@ -84,12 +84,33 @@ fn content_of(word: &str) -> TextContent {
     }
 }
 
-fn texts_of(input: &Input, contents: &str) -> Result<String, Error> {
+fn texts_of(input: &Input, contents: &str) -> Result<String, Refusal> {
     let contents: Vec<TextContent> = listed(contents).map(content_of).collect();
     let texts = input.texts(&contents)?;
     let shown = texts
         .iter()
         .map(|events| " |".to_string() + &events.iter().map(shown).collect::<String>());
+    Ok(shown.collect())
+}
+
+fn shown_short(event: ShortEvent) -> String {
+    let sign = if event.is_enter() { '+' } else { '-' };
+    let link = event.link.map_or(0, |content| content as u8 + 1);
+    let definition = event
+        .definition
+        .map_or(String::new(), |it| format!(":{it}"));
+    format!(
+        " {sign}{} {}:{}:{link}{definition}",
+        event.name, event.index, event.vs
+    )
+}
+
+fn shorts_of(input: &Input, contents: &str) -> Result<String, Refusal> {
+    let contents: Vec<TextContent> = listed(contents).map(content_of).collect();
+    let texts = input.short_texts(&contents)?;
+    let shown = texts
+        .iter()
+        .map(|events| " |".to_string() + &events.map(shown_short).collect::<String>());
     Ok(shown.collect())
 }
 
@@ -139,7 +160,8 @@ fn answer(words: &[&str]) -> Result<String, Refusal> {
         "leaves" => Ok(input.leaves()?.iter().map(shown_leaf).collect()),
         "html" => Ok(html_of(&input, words[6])?),
         "htmls" => htmls_of(&input, &words[6..]),
-        _ => Ok(texts_of(&input, words[6])?),
+        "shorts" => shorts_of(&input, words[6]),
+        _ => texts_of(&input, words[6]),
     }
 }
 

@@ -24,7 +24,7 @@ pub enum Error {
     TooLong,
     /// The bytes are no character reference, or one whose name is not known.
     NoReference,
-    /// In HTML of many contents, definitions bring more bytes to links and images than the limit.
+    /// In HTML, definitions bring more bytes to links and images than the limit.
     References,
     /// A string has a part that is not given, or one that is no text of the bytes.
     NoString,
@@ -65,3 +65,40 @@ impl fmt::Display for Error {
 }
 
 impl error::Error for Error {}
+
+/// Why a call for many contents or strings answers nothing, and which of them, or which definition, is to blame.
+#[derive(Clone, Copy, Debug, PartialEq, Eq, Hash)]
+pub struct Refusal {
+    /// Why.
+    pub error: Error,
+    /// The number of the content where the error is `NoContent`, `BlankLine` or `References`; that of the string where it is `NoString`; that of the definition
+    /// where it is `Definition`, with the footnotes counted on behind the definitions.
+    pub at: Option<usize>,
+}
+
+impl From<Error> for Refusal {
+    fn from(error: Error) -> Refusal {
+        Refusal { error, at: None }
+    }
+}
+
+impl From<Refusal> for Error {
+    fn from(refusal: Refusal) -> Error {
+        refusal.error
+    }
+}
+
+impl fmt::Display for Refusal {
+    fn fmt(&self, f: &mut fmt::Formatter<'_>) -> fmt::Result {
+        match self.at {
+            Some(number) => write!(f, "{}: number {number}", self.error),
+            None => self.error.fmt(f),
+        }
+    }
+}
+
+impl error::Error for Refusal {
+    fn source(&self) -> Option<&(dyn error::Error + 'static)> {
+        Some(&self.error)
+    }
+}

@@ -66,6 +66,25 @@ pub(crate) fn number_of(number: usize) -> Option<usize> {
     (number != usize::MAX).then_some(number)
 }
 
+impl Kind {
+    pub(crate) fn of(number: u8) -> Kind {
+        match number {
+            0 => Kind::Enter,
+            _ => Kind::Exit,
+        }
+    }
+}
+
+impl Content {
+    pub(crate) fn of(number: u8) -> Option<Content> {
+        match number {
+            0 => None,
+            1 => Some(Content::String),
+            _ => Some(Content::Text),
+        }
+    }
+}
+
 impl Event {
     /// Whether it begins what it names.
     pub fn is_enter(&self) -> bool {
@@ -78,17 +97,8 @@ impl Event {
     }
 
     fn of(raw: &RawEvent) -> Event {
-        let content = match raw.link {
-            0 => None,
-            1 => Some(Content::String),
-            _ => Some(Content::Text),
-        };
         Event {
-            kind: if raw.kind == 0 {
-                Kind::Enter
-            } else {
-                Kind::Exit
-            },
+            kind: Kind::of(raw.kind),
             name: Name::ALL[usize::from(raw.name)],
             point: Point {
                 line: raw.line,
@@ -96,7 +106,7 @@ impl Event {
                 index: raw.index,
                 vs: raw.vs,
             },
-            link: content.map(|content| Link {
+            link: Content::of(raw.link).map(|content| Link {
                 content,
                 previous: number_of(raw.previous),
                 next: number_of(raw.next),

@@ -1,7 +1,9 @@
 //! Vectors that a call fills.
 
-use crate::raw;
-use crate::Error;
+use crate::event::number_of;
+use crate::raw::{self, RawOutcome};
+use crate::{Error, Refusal};
+use std::ops::Range;
 
 /// Fills a vector by a call that is lent its room, and lends more where that is too small. What is found is `expected` elements or fewer as a rule: then it is
 /// found at once, and else by a second call. Where the status is DONE, the call has written as many elements to the front of the room as it has counted.
@@ -35,4 +37,68 @@ pub(crate) fn fitted<T: Copy>(found: Vec<T>) -> Vec<T> {
     }
     fitted.extend_from_slice(&found);
     fitted
+}
+
+/// What a call for many is lent: from which one it reads on, and where it writes elements and ends.
+pub(crate) struct Lent<T> {
+    pub(crate) from: usize,
+    pub(crate) array: *mut T,
+    pub(crate) len: usize,
+    pub(crate) ends: *mut usize,
+    pub(crate) ends_len: usize,
+}
+
+/// Fills two vectors by a call for so many: with the elements that are found, and with where those of each end. `expected` elements or fewer are found as a rule,
+/// and else a second call goes on behind those that had room; where calls cannot go on, it is for all again.
+pub(crate) fn fill_many<T>(
+    found: &mut Vec<T>,
+    ends: &mut Vec<usize>,
+    many: usize,
+    expected: usize,
+    goes_on: bool,
+    call: impl Fn(Lent<T>, &mut RawOutcome) -> u32,
+) -> Result<(), Refusal> {
+    found.clear();
+    ends.clear();
+    ends.try_reserve(many).map_err(|_| Error::NoMemory)?;
+    let _ = found.try_reserve_exact(expected);
+    loop {
+        let (from, written) = (ends.len(), found.len());
+        let mut outcome = RawOutcome::default();
+        // SAFETY: what is written so far stands within the room of both vectors.
+        let lent = Lent {
+            from,
+            array: unsafe { found.as_mut_ptr().add(written) },
+            len: found.capacity() - written,
+            ends: unsafe { ends.as_mut_ptr().add(from) },
+            ends_len: many - from,
+        };
+        let status = call(lent, &mut outcome);
+        if status != raw::DONE && status != raw::TOO_SMALL {
+            let (error, at) = (Error::of(status), number_of(outcome.blamed));
+            return Err(Refusal { error, at });
+        }
+        // SAFETY: with these statuses so many ends are written behind those before, and as many elements as the last of them says.
+        unsafe { ends.set_len(from + outcome.done) };
+        ends[from..].iter_mut().for_each(|end| *end += written);
+        let end = ends.last().copied().unwrap_or(0);
+        unsafe { found.set_len(end) };
+        if status == raw::DONE {
+            return Ok(());
+        }
+        let mut missing = outcome.count - (end - written);
+        if !goes_on {
+            found.clear();
+            ends.clear();
+            missing = outcome.count;
+        }
+        found.try_reserve(missing).map_err(|_| Error::NoMemory)?;
+    }
+}
+
+/// Where the elements of one of many stand, by its number.
+pub(crate) fn range_of(ends: &[usize], number: usize) -> Option<Range<usize>> {
+    let end = *ends.get(number)?;
+    let start = number.checked_sub(1).map_or(0, |before| ends[before]);
+    Some(start..end)
 }

@@ -1,9 +1,9 @@
 //! What is to be read, and the calls that read it.
 
-use crate::fill::{fill, fitted};
-use crate::raw::{self, Call, RawContent, RawInput, RawRange, RawTarget};
+use crate::fill::{fill, fill_many, fitted};
+use crate::raw::{self, Call, RawContent, RawInput, RawRange, RawTarget, TextsCall};
 use crate::{Error, Events, HtmlOptions, Htmls, Leaves, Options, Piece};
-use crate::{Refusal, TextContent, Texts};
+use crate::{Refusal, ShortTexts, TextContent, Texts};
 use std::borrow::Cow;
 use std::mem;
 
@@ -134,8 +134,8 @@ impl<'a> Input<'a> {
         self
     }
 
-    /// How many bytes definitions may bring to all contents of `htmls` together: those of the destination and of the title, for each link and image that refers to
-    /// one. 0 is no limit. By default it is the length of the document, or 100,000 where the document is shorter.
+    /// How many bytes definitions may bring to the text of `html`, or to all contents of `htmls` together: those of the destination and of the title, for each link
+    /// and image that refers to one. 0 is no limit. By default it is the length of the document, or 100,000 where the document is shorter.
     #[must_use]
     pub fn reference_limit(mut self, limit: usize) -> Input<'a> {
         self.set_reference_limit(limit);
@@ -284,8 +284,28 @@ impl<'a> Input<'a> {
 
     /// The events of many contents as texts, each of some of the pieces. The document is prepared once, and each content costs what it costs by
     /// itself, wherever it stands. Whether a text is the first of a list item is said of each, and not by the options. Errors are those of `text`; a content whose
-    /// range is none of the pieces is `NoContent`.
-    pub fn texts(&self, contents: &[TextContent]) -> Result<Texts, Error> {
+    /// range is none of the pieces is `NoContent`. The refusal says which content or definition is to blame.
+    ///
+    /// Several threads may share the contents of one input. Each thread prepares the document for itself, so hand it many contents:
+    ///
+    /// ```
+    /// use markdown_inline::{Input, Piece, TextContent};
+    /// use std::thread;
+    /// # fn main() -> Result<(), markdown_inline::Refusal> {
+    /// let places = [(0, 5), (7, 12), (14, 20), (22, 23)];
+    /// let pieces = places.map(|(start, end)| Piece { start, end, ..Piece::default() });
+    /// let contents: Vec<_> = (0..4).map(|at| TextContent { pieces: at..at + 1, ..TextContent::default() }).collect();
+    /// let input = Input::new("a *b*\n\nc `d`\n\n[e](f)\n\ng").pieces(&pieces);
+    /// let parts = thread::scope(|scope| {
+    ///     let calls: Vec<_> = contents.chunks(2).map(|part| scope.spawn(|| input.texts(part))).collect();
+    ///     calls.into_iter().map(|call| call.join().unwrap()).collect::<Result<Vec<_>, _>>()
+    /// })?;
+    /// let found = parts.iter().flat_map(|part| part.iter());
+    /// assert!(found.flatten().eq(input.texts(&contents)?.iter().flatten()));
+    /// # Ok(())
+    /// # }
+    /// ```
+    pub fn texts(&self, contents: &[TextContent]) -> Result<Texts, Refusal> {
         let mut texts = Texts::new();
         self.texts_into(contents, &mut texts)?;
         texts.events = fitted(texts.events);
@@ -293,40 +313,80 @@ impl<'a> Input<'a> {
     }
 
     /// The events of many contents in place of those given, in the memory of those. After an error there are none.
-    pub fn texts_into(&self, contents: &[TextContent], texts: &mut Texts) -> Result<(), Error> {
-        texts.clear();
-        let input = self.raw();
-        let mut given = Vec::new();
-        let has_room = given.try_reserve_exact(contents.len()).is_ok()
-            && texts.ends.try_reserve(contents.len()).is_ok();
-        if !has_room {
-            return Err(Error::NoMemory);
-        }
-        given.extend(contents.iter().map(RawContent::of));
-        let lens = contents.iter().map(|it| self.len_of(it));
-        let len = lens.fold(0, usize::saturating_add);
-        let expected = many_of(len.min(self.document.len())) + 8 * contents.len();
-        let ends = texts.ends.as_mut_ptr();
-        // SAFETY: each pointer goes with the length of its array, there is room for one end for each content, and nothing is kept.
-        fill(&mut texts.events, expected, |array, len, count| unsafe {
-            raw::markdown_inline_texts(
-                &input,
-                given.as_ptr(),
-                given.len(),
-                array,
-                len,
-                ends,
-                given.len(),
-                count,
-            )
-        })?;
-        // SAFETY: the call is done, so that there is an end for each content.
-        unsafe { texts.ends.set_len(given.len()) };
-        Ok(())
+    pub fn texts_into(&self, contents: &[TextContent], texts: &mut Texts) -> Result<(), Refusal> {
+        let call = raw::markdown_inline_texts;
+        self.fill_texts(call, contents, &mut texts.events, &mut texts.ends)
     }
 
-    /// The HTML of the pieces as a text. Each call numbers footnotes from 1 on. Errors are those of `text`, and so is what a call costs: for many contents there
-    /// is `htmls`.
+    /// The same events in 16 bytes each, with the definitions that links, images and footnote calls refer to. Errors are those of `texts`.
+    ///
+    /// ```
+    /// use markdown_inline::{Input, Name, TextContent};
+    /// # fn main() -> Result<(), markdown_inline::Refusal> {
+    /// let input = Input::new("[a](b) [c] [D]").definitions(["d", "c"]);
+    /// let texts = input.short_texts(&[TextContent { pieces: 0..1, ..TextContent::default() }])?;
+    /// let links = texts.get(0).unwrap().filter(|event| event.is_enter() && event.name == Name::Link);
+    /// assert!(links.map(|link| link.definition).eq([None, Some(1), Some(0)]));
+    /// # Ok(())
+    /// # }
+    /// ```
+    pub fn short_texts(&self, contents: &[TextContent]) -> Result<ShortTexts, Refusal> {
+        let mut texts = ShortTexts::new();
+        self.short_texts_into(contents, &mut texts)?;
+        texts.events = fitted(texts.events);
+        Ok(texts)
+    }
+
+    /// The short events of many contents in place of those given, in the memory of those. After an error there are none.
+    pub fn short_texts_into(
+        &self,
+        contents: &[TextContent],
+        texts: &mut ShortTexts,
+    ) -> Result<(), Refusal> {
+        let call = raw::markdown_inline_short_texts;
+        self.fill_texts(call, contents, &mut texts.events, &mut texts.ends)
+    }
+
+    fn fill_texts<T>(
+        &self,
+        call: TextsCall<T>,
+        contents: &[TextContent],
+        events: &mut Vec<T>,
+        ends: &mut Vec<usize>,
+    ) -> Result<(), Refusal> {
+        let (input, given) = (self.raw(), raw_contents(contents)?);
+        let expected = many_of(self.len_of_all(contents)) + 8 * contents.len();
+        // SAFETY: each pointer goes with the length of its array, and nothing is kept.
+        let filled = fill_many(
+            events,
+            ends,
+            given.len(),
+            expected,
+            true,
+            |lent, outcome| unsafe {
+                let contents = given.as_ptr().add(lent.from);
+                let many = given.len() - lent.from;
+                call(
+                    &input,
+                    contents,
+                    many,
+                    lent.array,
+                    lent.len,
+                    lent.ends,
+                    lent.ends_len,
+                    outcome,
+                )
+            },
+        );
+        if filled.is_err() {
+            events.clear();
+            ends.clear();
+        }
+        filled
+    }
+
+    /// The HTML of the pieces as a text. Each call numbers footnotes from 1 on. Errors are those of `text`, and `References` where definitions bring more than
+    /// `reference_limit` says. A call costs what `text` costs: for many contents there is `htmls`.
     ///
     /// ```
     /// use markdown_inline::{HtmlOptions, Input};
@@ -351,6 +411,23 @@ impl<'a> Input<'a> {
     }
 
     fn html_bytes(&self, options: HtmlOptions, bytes: &mut Vec<u8>) -> Result<(), Error> {
+        // Each reference has more than two bytes, so references bring no more than this.
+        let most = (self.len() / 2).saturating_mul(self.labels.len());
+        if self.reference_limit == 0 || most <= self.reference_limit {
+            return self.html_without_limit(options, bytes);
+        }
+        let whole = TextContent {
+            pieces: 0..self.pieces.len(),
+            first_of_item: self.options.bits() & Options::FIRST_OF_ITEM.bits() != 0,
+        };
+        let filled = self.htmls_bytes(&[whole], options, bytes, &mut Vec::new());
+        if filled.is_err() {
+            bytes.clear();
+        }
+        Ok(filled?)
+    }
+
+    fn html_without_limit(&self, options: HtmlOptions, bytes: &mut Vec<u8>) -> Result<(), Error> {
         let input = self.raw();
         let expected = 2 * self.len() + 128;
         // SAFETY: each pointer goes with the length of its array, and nothing is kept.
@@ -395,16 +472,18 @@ impl<'a> Input<'a> {
         options: HtmlOptions,
         htmls: &mut Htmls,
     ) -> Result<(), Refusal> {
-        htmls.clear();
-        let (mut bytes, mut ends) = (mem::take(&mut htmls.html).into_bytes(), Vec::new());
-        mem::swap(&mut ends, &mut htmls.ends);
-        let filled = self.htmls_bytes(contents, options, &mut bytes, &mut ends);
+        let mut bytes = mem::take(&mut htmls.html).into_bytes();
+        let filled = self.htmls_bytes(contents, options, &mut bytes, &mut htmls.ends);
+        if filled.is_err() {
+            bytes.clear();
+            htmls.ends.clear();
+        }
         htmls.html = String::from_utf8(bytes).map_err(|_| Error::NotUtf8)?;
-        htmls.ends = ends;
         filled
     }
 
-    // The bytes of the HTML of many contents, and where that of each ends.
+    // The bytes of the HTML of many contents, and where that of each ends. Where there are footnotes, which are numbered through all contents, a second call is for
+    // all of them too.
     fn htmls_bytes(
         &self,
         contents: &[TextContent],
@@ -412,41 +491,33 @@ impl<'a> Input<'a> {
         bytes: &mut Vec<u8>,
         ends: &mut Vec<usize>,
     ) -> Result<(), Refusal> {
-        let input = self.raw();
-        let (mut given, mut blamed) = (Vec::new(), usize::MAX);
-        let has_room = given.try_reserve_exact(contents.len()).is_ok()
-            && ends.try_reserve(contents.len()).is_ok();
-        if !has_room {
-            return Err(Error::NoMemory.into());
-        }
-        given.extend(contents.iter().map(RawContent::of));
-        let lens = contents.iter().map(|it| self.len_of(it));
-        let len = lens.fold(0, usize::saturating_add);
-        let expected = 2 * len.min(self.document.len()) + 128;
-        let (ends_at, blamed_at) = (ends.as_mut_ptr(), &mut blamed as *mut usize);
-        // SAFETY: each pointer goes with the length of its array, there is room for one end for each content and for one number, and nothing is kept.
-        let filled = fill(bytes, expected, |array, len, count| unsafe {
-            raw::markdown_inline_htmls(
-                &input,
-                self.targets.as_ptr(),
-                self.targets.len(),
-                given.as_ptr(),
-                given.len(),
-                options.bits(),
-                self.reference_limit,
-                array,
-                len,
-                ends_at,
-                given.len(),
-                count,
-                blamed_at,
-            )
-        });
-        let at = Some(blamed).filter(|number| *number < usize::MAX);
-        filled.map_err(|error| Refusal { error, at })?;
-        // SAFETY: the call is done, so that there is an end for each content.
-        unsafe { ends.set_len(given.len()) };
-        Ok(())
+        let (input, given) = (self.raw(), raw_contents(contents)?);
+        let expected = 2 * self.len_of_all(contents) + 128;
+        let goes_on = self.footnotes.is_empty();
+        // SAFETY: each pointer goes with the length of its array, and nothing is kept.
+        fill_many(
+            bytes,
+            ends,
+            given.len(),
+            expected,
+            goes_on,
+            |lent, outcome| unsafe {
+                raw::markdown_inline_htmls(
+                    &input,
+                    self.targets.as_ptr(),
+                    self.targets.len(),
+                    given.as_ptr().add(lent.from),
+                    given.len() - lent.from,
+                    options.bits(),
+                    self.reference_limit,
+                    lent.array,
+                    lent.len,
+                    lent.ends,
+                    lent.ends_len,
+                    outcome,
+                )
+            },
+        )
     }
 
     fn fill<T>(&self, call: Call<T>, expected: usize, found: &mut Vec<T>) -> Result<(), Error> {
@@ -462,10 +533,11 @@ impl<'a> Input<'a> {
         len_of(&self.pieces).min(self.document.len())
     }
 
-    /// How many bytes a content has, as far as its pieces are right.
-    fn len_of(&self, content: &TextContent) -> usize {
-        let pieces = self.pieces.get(content.pieces.clone()).unwrap_or_default();
-        len_of(pieces).min(self.document.len())
+    /// How many bytes contents have, as far as their pieces are right: no more than the document has.
+    fn len_of_all(&self, contents: &[TextContent]) -> usize {
+        let pieces = |it: &TextContent| self.pieces.get(it.pieces.clone()).unwrap_or_default();
+        let lens = contents.iter().map(|it| len_of(pieces(it)));
+        lens.fold(0, usize::saturating_add).min(self.document.len())
     }
 
     fn raw(&self) -> RawInput {
@@ -483,6 +555,15 @@ impl<'a> Input<'a> {
             options: self.options.bits(),
         }
     }
+}
+
+fn raw_contents(contents: &[TextContent]) -> Result<Vec<RawContent>, Error> {
+    let mut found = Vec::new();
+    found
+        .try_reserve_exact(contents.len())
+        .map_err(|_| Error::NoMemory)?;
+    found.extend(contents.iter().map(RawContent::of));
+    Ok(found)
 }
 
 fn len_of(pieces: &[Piece]) -> usize {

@@ -59,17 +59,19 @@ mod leaf;
 mod name;
 mod options;
 mod raw;
+mod short;
 mod strings;
 mod texts;
 
-pub use error::Error;
+pub use error::{Error, Refusal};
 pub use event::{Chain, Content, Event, EventSlice, Events, Iter, Kind, Link, Point};
-pub use htmls::{Htmls, Refusal};
+pub use htmls::Htmls;
 pub use input::Input;
 pub use leaf::{Leaf, LeafIter, Leaves};
 pub use name::Name;
 pub use options::{HtmlOptions, Options};
 pub use raw::Piece;
+pub use short::{ShortEvent, ShortTexts};
 pub use strings::{strings, Strings};
 pub use texts::{TextContent, Texts};
 

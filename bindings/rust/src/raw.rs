@@ -57,6 +57,18 @@ pub(crate) struct RawEvent {
     pub(crate) next: usize,
 }
 
+/// A short event as it crosses.
+#[derive(Clone, Copy, Debug)]
+#[repr(C)]
+pub(crate) struct RawShortEvent {
+    pub(crate) kind: u8,
+    pub(crate) name: u8,
+    pub(crate) link: u8,
+    pub(crate) vs: u8,
+    pub(crate) definition: u32,
+    pub(crate) index: usize,
+}
+
 /// A leaf as it crosses.
 #[derive(Clone, Copy, Debug)]
 #[repr(C)]
@@ -92,13 +104,35 @@ pub(crate) struct RawContent {
     pub first_of_item: u32,
 }
 
+/// How far a call for many comes.
+#[derive(Clone, Copy, Debug, Default)]
+#[repr(C)]
+pub(crate) struct RawOutcome {
+    pub done: usize,
+    pub count: usize,
+    pub blamed: usize,
+}
+
 const _: () = assert!(size_of::<usize>() == 8 && size_of::<Piece>() == 32);
 const _: () = assert!(size_of::<RawInput>() == 88 && size_of::<RawEvent>() == 56);
 const _: () = assert!(size_of::<RawLeaf>() == 96 && size_of::<RawTarget>() == 40);
-const _: () = assert!(size_of::<RawContent>() == 24);
+const _: () = assert!(size_of::<RawContent>() == 24 && size_of::<RawOutcome>() == 24);
+const _: () = assert!(size_of::<RawShortEvent>() == 16);
 
 /// A call that fills an array by what is found in an input.
 pub(crate) type Call<T> = unsafe extern "C" fn(*const RawInput, *mut T, usize, *mut usize) -> u32;
+
+/// A call that fills an array by what is found in many contents of an input.
+pub(crate) type TextsCall<T> = unsafe extern "C" fn(
+    *const RawInput,
+    *const RawContent,
+    usize,
+    *mut T,
+    usize,
+    *mut usize,
+    usize,
+    *mut RawOutcome,
+) -> u32;
 
 /// A call that fills an array of bytes by what stands for other bytes.
 pub(crate) type BytesCall =
@@ -158,7 +192,17 @@ extern "C" {
         events_len: usize,
         ends: *mut usize,
         ends_len: usize,
-        count: *mut usize,
+        outcome: *mut RawOutcome,
+    ) -> u32;
+    pub(crate) fn markdown_inline_short_texts(
+        input: *const RawInput,
+        contents: *const RawContent,
+        contents_len: usize,
+        events: *mut RawShortEvent,
+        events_len: usize,
+        ends: *mut usize,
+        ends_len: usize,
+        outcome: *mut RawOutcome,
     ) -> u32;
     pub(crate) fn markdown_inline_html(
         input: *const RawInput,
@@ -180,8 +224,7 @@ extern "C" {
         texts_len: usize,
         ends: *mut usize,
         ends_len: usize,
-        count: *mut usize,
-        blamed: *mut usize,
+        outcome: *mut RawOutcome,
     ) -> u32;
     pub(crate) fn markdown_inline_htmls(
         input: *const RawInput,
@@ -195,8 +238,7 @@ extern "C" {
         html_len: usize,
         ends: *mut usize,
         ends_len: usize,
-        count: *mut usize,
-        blamed: *mut usize,
+        outcome: *mut RawOutcome,
     ) -> u32;
 }
 

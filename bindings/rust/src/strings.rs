@@ -1,7 +1,6 @@
 //! The texts of strings.
 
-use crate::event::number_of;
-use crate::fill::fill;
+use crate::fill::{fill_many, range_of};
 use crate::raw::{self, RawRange};
 use crate::{Error, Refusal};
 use std::ops::Range;
@@ -26,9 +25,7 @@ impl Strings {
 
     /// The text of the string with this number.
     pub fn get(&self, number: usize) -> Option<&str> {
-        let end = *self.ends.get(number)?;
-        let start = number.checked_sub(1).map_or(0, |before| self.ends[before]);
-        self.texts.get(start..end)
+        self.texts.get(range_of(&self.ends, number)?)
     }
 
     /// The texts one after another.
@@ -69,35 +66,32 @@ pub fn strings<D: AsRef<[u8]> + ?Sized>(
     let document = document.as_ref();
     let (parts, strings) = (raw_ranges(parts)?, raw_ranges(strings)?);
     let (mut texts, mut ends) = (Vec::new(), Vec::new());
-    ends.try_reserve_exact(strings.len())
-        .map_err(|_| Error::NoMemory)?;
-    let ends_at: *mut usize = ends.as_mut_ptr();
-    let blamed = std::cell::Cell::new(usize::MAX);
     let len = |part: &RawRange| part.end.saturating_sub(part.start).min(document.len());
     let expected = parts.iter().map(len).fold(0, usize::saturating_add);
-    // SAFETY: each pointer goes with the length of its array, there is room for one end for each string, and nothing is kept.
-    fill(&mut texts, expected, |array, room, count| unsafe {
-        raw::markdown_inline_strings(
-            document.as_ptr(),
-            document.len(),
-            parts.as_ptr(),
-            parts.len(),
-            strings.as_ptr(),
-            strings.len(),
-            array,
-            room,
-            ends_at,
-            strings.len(),
-            count,
-            blamed.as_ptr(),
-        )
-    })
-    .map_err(|error| Refusal {
-        error,
-        at: number_of(blamed.get()),
-    })?;
-    // SAFETY: the call is done, so that there is an end for each string.
-    unsafe { ends.set_len(strings.len()) };
+    let many = strings.len();
+    // SAFETY: each pointer goes with the length of its array, and nothing is kept.
+    fill_many(
+        &mut texts,
+        &mut ends,
+        many,
+        expected,
+        true,
+        |lent, outcome| unsafe {
+            raw::markdown_inline_strings(
+                document.as_ptr(),
+                document.len(),
+                parts.as_ptr(),
+                parts.len(),
+                strings.as_ptr().add(lent.from),
+                many - lent.from,
+                lent.array,
+                lent.len,
+                lent.ends,
+                lent.ends_len,
+                outcome,
+            )
+        },
+    )?;
     let texts = String::from_utf8(texts).map_err(|_| Error::NotUtf8)?;
     Ok(Strings { texts, ends })
 }

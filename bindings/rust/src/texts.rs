@@ -1,6 +1,7 @@
 //! Many contents of one document.
 
 use crate::event::EventSlice;
+use crate::fill::range_of;
 use crate::raw::{RawContent, RawEvent, RawRange};
 use std::fmt;
 use std::ops::Range;
@@ -39,11 +40,6 @@ impl Texts {
         Texts::default()
     }
 
-    pub(crate) fn clear(&mut self) {
-        self.events.clear();
-        self.ends.clear();
-    }
-
     /// How many contents there are.
     pub fn len(&self) -> usize {
         self.ends.len()
@@ -56,9 +52,7 @@ impl Texts {
 
     /// The events of the content with this number.
     pub fn get(&self, number: usize) -> Option<EventSlice<'_>> {
-        let end = *self.ends.get(number)?;
-        let start = number.checked_sub(1).map_or(0, |before| self.ends[before]);
-        Some(EventSlice::of(&self.events[start..end]))
+        Some(EventSlice::of(&self.events[range_of(&self.ends, number)?]))
     }
 
     /// The contents one after another, of each its events.

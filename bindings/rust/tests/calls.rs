@@ -1,8 +1,8 @@
 //! Statuses, memory that is used again, and calls on several threads.
 
 use markdown_inline::{
-    identifier, is_right_version, reference, string, strings, text, Error, Events, HtmlOptions,
-    Input, Options, Piece, Refusal, TextContent,
+    identifier, is_right_version, reference, string, strings, text, Error, Event, Events,
+    HtmlOptions, Input, Name, Options, Piece, Refusal, ShortEvent, TextContent,
 };
 use std::thread;
 
@@ -152,7 +152,47 @@ fn many_contents_are_read_as_each_by_itself() {
     assert!(found.get(1).unwrap().iter().eq(&second.text().unwrap()));
     assert!(found.get(2).is_none() && found.len() == 2 && found.iter().count() == 2);
     let wrong = [content(0..1, false), content(2..4, false)];
-    assert_eq!(input.texts(&wrong).unwrap_err(), Error::NoContent);
+    let refusal = Refusal {
+        error: Error::NoContent,
+        at: Some(1),
+    };
+    assert_eq!(input.texts(&wrong).unwrap_err(), refusal);
+    assert_eq!(input.short_texts(&wrong).unwrap_err(), refusal);
+    let shorts = input
+        .short_texts(&[content(0..1, true), content(1..3, false)])
+        .unwrap();
+    for (events, shorts) in found.iter().zip(shorts.iter()) {
+        let short = |it: &ShortEvent| (it.kind, it.name, it.index, usize::from(it.vs));
+        let large = |it: Event| (it.kind, it.name, it.point.index, it.point.vs);
+        assert!(events.iter().map(large).eq(shorts.map(|it| short(&it))));
+    }
+}
+
+#[test]
+fn short_events_tell_the_definitions_that_are_met() {
+    let input = Input::new("[a][B] ![c] [d](e) [f [g]] x[^h] [b]")
+        .options(Options::COMMONMARK | Options::GFM)
+        .definitions(["c", "b", "G", "B"])
+        .footnotes(["i", "H"]);
+    let content = TextContent {
+        pieces: 0..1,
+        ..TextContent::default()
+    };
+    let texts = input.short_texts(&[content]).unwrap();
+    let met: Vec<_> = texts
+        .get(0)
+        .unwrap()
+        .filter(|it| it.definition.is_some())
+        .map(|it| (it.name, it.index, it.definition.unwrap(), it.is_enter()))
+        .collect();
+    let wanted = [
+        (Name::Link, 0, 1, true),
+        (Name::Image, 7, 0, true),
+        (Name::Link, 22, 2, true),
+        (Name::GfmFootnoteCall, 28, 1, true),
+        (Name::Link, 33, 1, true),
+    ];
+    assert_eq!(met, wanted);
 }
 
 #[test]
@@ -204,6 +244,36 @@ fn footnotes_are_numbered_through_many_contents() {
     assert!(found.iter().eq(&wanted), "{found:?}");
     assert_eq!(found.as_str(), wanted.concat());
     assert!(found.len() == 3 && !found.is_empty() && found.get(3).is_none());
+}
+
+#[test]
+fn references_bring_no_more_than_a_limit_to_one_text() {
+    let long = "x".repeat(999);
+    let document = String::from("[x] ![a][b] [^c]") + &" [a]".repeat(100);
+    let input = Input::new(&document)
+        .options(Options::COMMONMARK | Options::GFM | Options::FIRST_OF_ITEM)
+        .definition_to("a", &long, Some("y"))
+        .definition_to("b", "z", None)
+        .footnote("c");
+    let asked = |limit| {
+        let input = input.clone().reference_limit(limit);
+        input.html(HtmlOptions::default())
+    };
+    let mut html = String::from("before");
+    let refused = input.html_into(HtmlOptions::default(), &mut html);
+    assert_eq!((refused, html.as_str()), (Err(Error::References), ""));
+    assert_eq!(asked(100_000), Err(Error::References));
+    let found = asked(0).unwrap();
+    assert!(found.contains("checkbox") && found.len() > 100_001);
+    assert_eq!(asked(100_001).unwrap(), found);
+    let past_end = [Piece {
+        end: 9999,
+        ..Piece::default()
+    }];
+    for limit in [1, usize::MAX] {
+        let input = input.clone().pieces(&past_end).reference_limit(limit);
+        assert_eq!(input.html(HtmlOptions::default()), Err(Error::NoContent));
+    }
 }
 
 #[test]

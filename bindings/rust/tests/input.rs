@@ -1,7 +1,8 @@
 //! Inputs that are built in chains, in loops and by lists, and memory that is used again.
 
 use markdown_inline::{
-    text, Error, Events, HtmlOptions, Input, Leaves, Name, Options, Piece, TextContent, Texts,
+    text, Error, Events, HtmlOptions, Input, Leaves, Name, Options, Piece, Refusal, ShortTexts,
+    TextContent, Texts,
 };
 
 fn piece(start: usize, end: usize) -> Piece {
@@ -107,11 +108,14 @@ fn answers_take_the_place_of_earlier_ones() {
     let wrong = Input::new("a\n\nb");
     assert_eq!(wrong.leaves_into(&mut leaves), Err(Error::BlankLine));
     assert_eq!(wrong.html_into(options, &mut html), Err(Error::BlankLine));
-    assert_eq!(
-        wrong.texts_into(&[content(0..1)], &mut texts),
-        Err(Error::BlankLine)
-    );
-    assert!(leaves.is_empty() && html.is_empty() && texts.is_empty());
+    let refusal = Err(Refusal {
+        error: Error::BlankLine,
+        at: Some(1),
+    });
+    let (contents, mut shorts) = ([content(0..0), content(0..1)], ShortTexts::new());
+    assert_eq!(wrong.texts_into(&contents, &mut texts), refusal);
+    assert_eq!(wrong.short_texts_into(&contents, &mut shorts), refusal);
+    assert!(leaves.is_empty() && html.is_empty() && texts.is_empty() && shorts.is_empty());
 }
 
 /// A text of little else than constructs has more than is expected of its length.
@@ -130,11 +134,40 @@ fn what_is_more_than_expected_is_found_too() {
             .sum::<usize>(),
         2 * events.len()
     );
+    let contents = [content(0..1), content(0..0), content(0..1)];
+    let shorts = input.short_texts(&contents).unwrap();
+    let lens: Vec<_> = shorts.iter().map(|it| it.len()).collect();
+    assert_eq!(lens, [events.len(), 0, events.len()]);
+    assert!(shorts.get(2).unwrap().eq(shorts.get(0).unwrap()));
     assert_eq!(input.leaves().unwrap().len(), document.len());
     assert_eq!(
         input.html(HtmlOptions::default()).unwrap(),
         "<a href=\"b\">a</a>".repeat(3000)
     );
+}
+
+/// HTML that is longer than expected is found by a second call: with footnotes, which are numbered from the first content on, and without.
+#[test]
+fn footnotes_are_numbered_through_all_contents() {
+    let document = "[^n]\n\n".repeat(60);
+    let pieces: Vec<_> = (0..60).map(|it| piece(6 * it, 6 * it + 4)).collect();
+    let contents: Vec<_> = (0..60).map(|it| content(it..it + 1)).collect();
+    let options = Options::COMMONMARK | Options::GFM;
+    let input = Input::new(&document).pieces(&pieces).options(options);
+    let without = input.htmls(&contents, HtmlOptions::default()).unwrap();
+    assert!(without.iter().all(|it| it == "[^n]") && without.len() == 60);
+    let htmls = input
+        .footnote("n")
+        .htmls(&contents, HtmlOptions::default())
+        .unwrap();
+    assert!(htmls.as_str().len() > 4 * document.len());
+    for (number, html) in htmls.iter().enumerate().skip(1) {
+        assert!(html.contains(&format!("id=\"user-content-fnref-n-{}\"", number + 1)));
+    }
+    let links = "&<".repeat(40);
+    let linked = Input::new(&links);
+    let html = linked.htmls(&[content(0..1), content(0..1)], HtmlOptions::default());
+    assert_eq!(html.unwrap().get(1), Some(&*"&amp;&lt;".repeat(40)));
 }
 
 #[test]

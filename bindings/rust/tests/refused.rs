@@ -73,15 +73,16 @@ fn refused_memory_is_an_error() {
         refused(|| input.leaves().map(drop)),
         refused(|| input.html(HtmlOptions::default()).map(drop)),
         refused(|| input.html_into(HtmlOptions::default(), &mut html)),
-        refused(|| input.texts(&contents).map(drop)),
-        refused(|| input.texts_into(&contents, &mut texts)),
+        refused(|| input.texts(&contents).map(drop)).map_err(Error::from),
+        refused(|| input.texts_into(&contents, &mut texts)).map_err(Error::from),
+        refused(|| input.short_texts(&contents).map(drop)).map_err(Error::from),
         refused(|| input.htmls(&contents, options).map(drop)).map_err(Error::from),
         refused(|| input.htmls_into(&contents, options, &mut htmls)).map_err(Error::from),
         refused(|| strings("a", &[0..1, 0..1], &[0..2, 0..1]).map(drop)).map_err(Error::from),
         refused(|| identifier("A").map(drop)),
         refused(|| reference("&amp;").map(drop)),
     ];
-    assert_eq!(found, [Err(Error::NoMemory); 13]);
+    assert_eq!(found, [Err(Error::NoMemory); 14]);
     assert!(events.is_empty() && html.is_empty() && texts.is_empty() && htmls.is_empty());
     assert!(input.htmls_into(&contents, options, &mut htmls).is_ok() && htmls.len() == 1);
     assert!(input.texts(&contents).is_ok());

@@ -51,7 +51,10 @@ fn options_are_those_of_the_header() {
         ("MATH", Options::MATH),
     ] {
         let line = format!("    MARKDOWN_INLINE_{name} = {:#x}", set.bits());
-        assert!(HEADER.contains(&line), "{line}");
+        assert!(
+            HEADER.lines().any(|it| it.trim_end_matches(',') == line),
+            "{line}"
+        );
     }
 }
 

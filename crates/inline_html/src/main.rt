@@ -9,7 +9,7 @@
 #![tactic(auto)]
 
 ghost use Rattle.std.specs.Prelude.{◌≡◌, [], IfOk, IfSome};
-ghost use Rattle.markdown_engine_content.specs.Content.{content_of};
+ghost use Rattle.markdown_content.specs.Content.{content_of};
 ghost use Rattle.markdown_html.specs.View.{page_from};
 ghost use Rattle.markdown_html_model.specs.Html.{html};
 ghost use Rattle.markdown_model.specs.InlineTree.{text_tree};
@@ -80,16 +80,17 @@ fn html_of(
     definitions: &Targets,
     options: HtmlOptions,
 ) -> Result<Option<Vec<u8>>, AllocError>
-    ensures { let s = text_setting_of parse_state.now first_of_item in let tree = text_tree s (content_of s.bytes pieces.now) in IfOk result (λ found. IfSome found (λ written. written.items ≡ html (page_from parse_state.now definitions.now options) [] tree)) }
+    ensures { let s = text_setting_of parse_state.now first_of_item in let tree = text_tree s (content_of s.bytes pieces.now) in
+        IfOk result (λ found. IfSome found (λ written. written.items ≡ html (page_from parse_state.now definitions.now options) [] tree)) }
 {
     if !run::is_text(parse_state.bytes, pieces) {
         return Ok(None);
     }
-    let found = run::text(alloc, parse_state, pieces, first_of_item)?;
+    let found = run::text_list(alloc, parse_state, pieces, first_of_item)?;
     let html = to_html(
         alloc,
         parse_state,
-        found.events.as_slice(),
+        &found.events.as_slice(),
         definitions,
         &mut FootnoteCalls::new(alloc),
         options,

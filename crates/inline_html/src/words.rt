@@ -1,4 +1,4 @@
-// The words of the program.
+//! The words of the program.
 use markdown_html::targets::Targets;
 use markdown_html_model::options::{Definition, HtmlOptions, LineEnds};
 use markdown_inline::configuration::ParseOptions;
@@ -45,6 +45,7 @@ impl Asked {
             "task" => self.first_of_item = true,
             "cm-lengths" => self.options.attention_first_lengths = true,
             "cm-shortcut" => self.options.label_shortcut_before_bracket = true,
+            "commonmark" => self.options.commonmark = true,
             "raw" => self.html.raw_html = true,
             "any-link" => self.html.any_link = true,
             "lf" => self.html.line_ends = LineEnds::Lf,

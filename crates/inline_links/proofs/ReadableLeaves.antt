@@ -5,7 +5,7 @@ use Rattle.std.specs.Str.{IsUtf8}
 use Rattle.markdown_event.specs.declared.event.Event.{Event}
 use Rattle.markdown_event.specs.declared.event.Name.{Name}
 use Rattle.markdown_event.specs.declared.event.Name.TheVariants as N
-use Rattle.markdown_run_leaves.specs.InnermostEvents.{Lent, innermost, lent}
+use Rattle.markdown_innermost.specs.InnermostEvents.{Lent, innermost, lent}
 use Rattle.markdown_model_laws.specs.DecodableValues.{EventsHaveValues, HaveValues, IsDecodable, marker_of}
 use Rattle.markdown_model_laws.specs.LentTexts.{LendTexts}
 

@@ -1,8 +1,8 @@
-// Finds the texts of a document: paragraphs and headings, each as pieces of it.
-//
-// This is no block parser of CommonMark, but what serves to find links. It knows block quotes, list items, ATX headings, headings that are
-// underlined, thematic breaks, fenced and indented code, and definitions that stand on one line. A table is read as a paragraph, and so is a
-// block of HTML. A line ends with LF, or with CR LF.
+//! Finds the texts of a document: paragraphs and headings, each as pieces of it.
+//!
+//! This is no block parser of CommonMark, but what serves to find links. It knows block quotes, list items, ATX headings, headings that are
+//! underlined, thematic breaks, fenced and indented code, and definitions that stand on one line. A table is read as a paragraph, and so is a
+//! block of HTML. A line ends with LF, or with CR LF.
 
 use crate::definition::{Definition, Target, definition_at};
 use crate::rest::{Container, Fence, Rest};

@@ -1,4 +1,4 @@
-// Definitions that links refer to.
+//! Definitions that links refer to.
 
 use crate::rest::from_index;
 use crate::strings::text_between;

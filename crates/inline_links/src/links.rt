@@ -1,17 +1,18 @@
-// The links, images, autolinks and literals of a text.
+//! The links, images, autolinks and literals of a text.
 
 use crate::definition::Target;
 use crate::strings::one_line;
 use markdown_inline::configuration::{COMMONMARK, Constructs, ParseOptions};
 use markdown_inline::definitions::Definitions;
 use markdown_inline::document::Document;
-use markdown_inline::event::{Event, Name, Point};
+use markdown_inline::event::{Name, Point};
+use markdown_inline::event_list::{EventList, EventSlice};
 use markdown_inline::labels::Labels;
 use markdown_inline::node::Node;
 use markdown_inline::parser::{ParseState, Piece};
 use markdown_inline::tree::Tree;
-use markdown_links::links::target_of;
-use markdown_links::target::{Address, Target as Leads};
+use markdown_targets::links::target_of;
+use markdown_targets::target::{Address, Target as Leads};
 use std::alloc::{AllocError, Global};
 
 /// The constructs and the rules of CommonMark, and autolink literals: the options that `mdinline` calls `cm-lengths` and `cm-shortcut` are on.
@@ -24,6 +25,7 @@ pub const OPTIONS: ParseOptions = ParseOptions {
     math_text_single_dollar: true,
     attention_first_lengths: true,
     label_shortcut_before_bracket: true,
+    commonmark: false,
 };
 
 /// What a document is read with.
@@ -45,10 +47,10 @@ fn events_of(
     alloc: Global,
     document: &Document,
     pieces: &[Piece],
-) -> Result<Vec<Event>, AllocError> {
+) -> Result<EventList, AllocError> {
     match document.content(pieces) {
-        Some(content) if content.is_text() => Ok(content.text(alloc, false)?.events),
-        _ => Ok(Vec::new(alloc)),
+        Some(content) if content.is_text() => Ok(content.text_list(alloc, false)?.events),
+        _ => Ok(EventList::new(alloc)),
     }
 }
 
@@ -160,7 +162,7 @@ fn push_lines(
     alloc: Global,
     lines: &mut String,
     labels: &Labels,
-    events: &[Event],
+    events: &EventSlice,
     targets: &[Target],
 ) -> Result<(), AllocError> {
     let tree = Tree::new(alloc, events)?;
@@ -186,5 +188,5 @@ pub fn push_text(
     targets: &[Target],
 ) -> Result<(), AllocError> {
     let events = events_of(alloc, document, text)?;
-    push_lines(alloc, lines, labels, events.as_slice(), targets)
+    push_lines(alloc, lines, labels, &events.as_slice(), targets)
 }

@@ -1,4 +1,4 @@
-// The rest of a line, which knows its column, and what may begin there.
+//! The rest of a line, which knows its column, and what may begin there.
 
 /// The rest of a line, without the line ending.
 #[derive(Clone, Copy, Debug)]

@@ -1,15 +1,16 @@
-// Strings of a document, with escapes and references resolved.
+//! Strings of a document, with escapes and references resolved.
 
 ghost use Rattle.std.specs.Prelude.{◌≡◌, ◌≤◌, length, IsUtf8};
 ghost use Rattle.std.specs.List.{All};
-ghost use Rattle.markdown_engine_content.specs.Content.{document_limit};
+ghost use Rattle.markdown_content.specs.Content.{document_limit};
 ghost use Rattle.markdown_event.specs.declared.event.Name.TheVariants as N;
-ghost use Rattle.markdown_run_leaves.specs.InnermostEvents.{IsInOrder, innermost};
+ghost use Rattle.markdown_innermost.specs.InnermostEvents.{IsSpanInOrder, innermost};
 ghost use Rattle.markdown_model_laws.specs.LentTexts.{LendTexts};
 ghost use Rattle.markdown_model_laws.specs.DecodableValues.{EventsHaveValues, IsDecodable, marker_of};
 
 use markdown_inline::configuration::ParseOptions;
-use markdown_inline::event::{Event, Name};
+use markdown_inline::event::Name;
+use markdown_inline::event_list::EventSlice;
 use markdown_inline::laws;
 use markdown_inline::parser::{ParseState, Piece};
 use markdown_inline::run::{self, Leaf};
@@ -65,9 +66,9 @@ fn push_leaf(alloc: Global, text: &mut String, before: Name, leaf: Leaf) -> Resu
 }
 
 // The text that the events of a string stand for.
-fn resolved(alloc: Global, bytes: &[u8], events: &[Event]) -> Result<String, AllocError>
+fn resolved(alloc: Global, bytes: &[u8], events: &EventSlice) -> Result<String, AllocError>
     requires fits { length bytes.now ≤ document_limit }
-    requires places { All (IsInOrder bytes.now) (innermost events.now) }
+    requires places { All (IsSpanInOrder bytes.now) (innermost events.now) }
     requires texts { LendTexts bytes.now events.now }
     requires values { EventsHaveValues bytes.now events.now }
 {
@@ -92,11 +93,11 @@ fn string_of(alloc: Global, bytes: &[u8], pieces: &[Piece]) -> Result<String, Al
     if !run::is_content(bytes, pieces) {
         return Ok(String::new(alloc));
     }
-    let found = run::string(alloc, &parse_state, pieces)?;
+    let found = run::string_list(alloc, &parse_state, pieces)?;
     // so each leaf is a text, and `decode` takes each value as it is
     laws::leaves_are_texts();
     laws::values_are_decodable();
-    resolved(alloc, bytes, found.events.as_slice())
+    resolved(alloc, bytes, &found.events.as_slice())
 }
 
 /// The text of a string from a start to an end.

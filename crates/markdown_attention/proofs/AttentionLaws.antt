@@ -1,34 +1,34 @@
 -- The laws of the states of a run of markers.
 use Rattle.std.proofs.Common.{◌≡◌, ℕ, ◌+◌, ◌==◌, Bool, true, false, Option, Some, None, List, [], ◌∷◌, ◌++◌, refl, sym, ap, subst, ◌∙◌, arith, append-nil}
 use Rattle.std.proofs.lemmas.Bool.{eq-eqb}
-use Rattle.markdown_engine_content.specs.Codes.{Code}
-use Rattle.markdown_engine_content.specs.ListFunctions.{rest_of}
+use Rattle.markdown_content.specs.Codes.{Code}
+use Rattle.markdown_content.specs.ListFunctions.{rest_of}
 use Rattle.markdown_engine.specs.Operations.{Enter, Exit, Consume, ahead, applied, current_of, done, entered, exited, registered, scratched}
 use Rattle.markdown_engine.specs.PastTree.{past, passed}
 use Rattle.markdown_engine.specs.StateRuns.{Stepped}
 use Rattle.markdown_engine.specs.StateWords.{StateWords, Words, GoesIn, Law}
-use Rattle.markdown_engine_content.specs.Tree.{Forest, leaf, leaf_codes}
+use Rattle.markdown_content.specs.Tree.{Forest, leaf, leaf_codes}
 use Rattle.markdown_engine.specs.Weights.{codes_left, weight_at}
 use Rattle.markdown_model.specs.CodeTests.{is_empty, is_value}
 use Rattle.markdown_model.specs.Elements.{attention_run, switched}
 use Rattle.markdown_model.specs.Grammar.{◌>>◌, ◌>>=◌, provided, gives, some, span}
 use Rattle.markdown_model.specs.LabelEnd.{Element, plain}
-use Rattle.markdown_attention.specs.Attention.{switches_of, with_marker, start_at, left_run, leaving, inside_at, StartReady, InsideReady, run_tree, ReadsRun, start_ends, markers_ahead, inside_ends, start_words, inside_words, states}
+use Rattle.markdown_attention.specs.Attention.{switches_of, with_marker, start_at, left_run, leaving, inside_at, AttentionStartReady, AttentionInsideReady, run_tree, ReadsRun, start_ends, markers_ahead, inside_ends, start_words, inside_words, states}
 use Rattle.markdown_model.specs.SingleConstructs.{begins_run, plain_tree}
 use Rattle.markdown_event.specs.declared.event.Name.TheVariants as N
-use Rattle.markdown_state.specs.declared.resolve.ResolveName.TheVariants as R
-use Rattle.markdown_state.specs.declared.state.State.TheVariants.{Next, Retry}
-use Rattle.markdown_state.specs.declared.state.StateName.{StateName}
-use Rattle.markdown_state.specs.declared.state.StateName.TheVariants as H
-use Rattle.markdown_state.specs.declared.state.StateName.TheVariants.{AttentionInside}
+use Rattle.markdown_event.specs.declared.resolve.ResolveName.TheVariants as R
+use Rattle.markdown_event.specs.declared.state.State.TheVariants.{Next, Retry}
+use Rattle.markdown_event.specs.declared.state.StateName.{StateName}
+use Rattle.markdown_event.specs.declared.state.StateName.TheVariants as H
+use Rattle.markdown_event.specs.declared.state.StateName.TheVariants.{AttentionInside}
 use Rattle.markdown_engine.specs.declared.tokenizer.TokenizeState.{TokenizeState}
 use Rattle.markdown_engine.specs.declared.tokenizer.Tokenizer.{Tokenizer}
 use Rattle.markdown_engine.proofs.ReadingSequences.{Refuses-done}
 use Rattle.markdown_engine.proofs.LawSteps.{if-step, code-step}
-use Rattle.markdown_engine.proofs.OperationFields.{Begins, ahead-none, ahead-some, attempts-applied, attempts-scratched, attempts-registered, some-codes}
+use Rattle.markdown_engine.proofs.OperationFields.{BeginsWithValue, ahead-none, ahead-some, attempts-applied, attempts-scratched, attempts-registered, some-codes}
 use Rattle.markdown_engine.proofs.OperationLemmas.{ahead-done, left-done}
 use Rattle.markdown_engine.proofs.TreeEvents.{leaf-past, ahead-past}
-use Rattle.markdown_plan.specs.LayerEquation.{Within, AreLawful}
+use Rattle.markdown_plan.specs.LayerEquation.{EqualsLayer, AreLawful}
 use Rattle.markdown_plan.proofs.PassedCodes.{passed-none, passed-one}
 use Rattle.markdown_plan.proofs.PlanSteps.{ahead-scratched}
 use Rattle.markdown_plan.proofs.LawStepsOfLayer.{Goes-plain, Goes-end, Goes-ops}
@@ -106,7 +106,7 @@ run-at T v c cs e = ap (λ n. plain_tree (switched (begins_run (switches_of T) n
 pub run-ahead : (T : Tokenizer) (v : ℕ) → current_of T ≡ Some v →
     run_tree T (ahead T) ≡ plain_tree (switched (begins_run (switches_of T) v) (attention_run v) (ahead T))
 run-ahead T v e =
-    let b : Begins v (ahead T) = ahead-some T v e in
+    let b : BeginsWithValue v (ahead T) = ahead-some T v e in
     ap (run_tree T) b.whole
     ∙ run-at T v b.code (rest_of (ahead T)) b.value
     ∙ ap (λ xs. plain_tree (switched (begins_run (switches_of T) v) (attention_run v) xs)) (sym b.whole)
@@ -117,7 +117,7 @@ scratch-consumed : (T : Tokenizer) → (done (Consume ∷ []) T).tokenize_state 
 unfolding applied
 scratch-consumed T = refl
 
-stack-consumed : (T : Tokenizer) → InsideReady T → InsideReady (done (Consume ∷ []) T)
+stack-consumed : (T : Tokenizer) → AttentionInsideReady T → AttentionInsideReady (done (Consume ∷ []) T)
 unfolding applied
 stack-consumed T h = h
 
@@ -125,7 +125,7 @@ stack-consumed T h = h
 abbrev begun : ℕ → Tokenizer → Tokenizer
 begun c T = scratched (with_marker c T.tokenize_state) (done (Enter N.AttentionSequence ∷ []) T)
 
-begun-ready : (c : ℕ) (T : Tokenizer) → InsideReady (begun c T)
+begun-ready : (c : ℕ) (T : Tokenizer) → AttentionInsideReady (begun c T)
 unfolding applied scratched
 begun-ready c T = refl
 
@@ -142,7 +142,7 @@ unfolding applied scratched
 begun-markers c T = refl
 
 -- the run from its first marker to its end
-begun-past : (c : ℕ) (ms : List Code) (T : Tokenizer) → StartReady T → scratched (with_marker 0 (passed ms (begun c T)).tokenize_state) (exited N.AttentionSequence (passed ms (begun c T)))
+begun-past : (c : ℕ) (ms : List Code) (T : Tokenizer) → AttentionStartReady T → scratched (with_marker 0 (passed ms (begun c T)).tokenize_state) (exited N.AttentionSequence (passed ms (begun c T)))
     ≡ scratched T.tokenize_state (exited N.AttentionSequence (passed ms (entered N.AttentionSequence T)))
 unfolding applied scratched passed
 begun-past c ms T rest =
@@ -156,10 +156,10 @@ scratched-past tree s T = refl
 -- The states.
 
 -- a run begins here: what is read, and where the run from it ends
-run-begins : (T : Tokenizer) (c : ℕ) → current_of T ≡ Some c → begins_run (switches_of T) c ≡ true → StartReady T
+run-begins : (T : Tokenizer) (c : ℕ) → current_of T ≡ Some c → begins_run (switches_of T) c ≡ true → AttentionStartReady T
     → (U : Tokenizer) → inside_ends (begun c T) true U → ReadsRun T U
 run-begins T c e on rest U k =
-    let b : Begins c (ahead T) = ahead-some T c e in
+    let b : BeginsWithValue c (ahead T) = ahead-some T c e in
     let cs : List Code = rest_of (ahead T) in
     let s : List Code × List Code = span (is_value c) cs in
     let ms : List Code = b.code ∷ s.0 in
@@ -185,7 +185,7 @@ run-begins T c e on rest U k =
       left = k ∙ left;
     }
 
-run-begun : (T : Tokenizer) (c : ℕ) → current_of T ≡ Some c → begins_run (switches_of T) c ≡ true → StartReady T
+run-begun : (T : Tokenizer) (c : ℕ) → current_of T ≡ Some c → begins_run (switches_of T) c ≡ true → AttentionStartReady T
     → (ok : Bool) (U : Tokenizer) → inside_ends (begun c T) ok U → start_ends T ok U
 run-begun T c e on rest true U k = run-begins T c e on rest U k
 run-begun T c e on rest false U k = absurd k
@@ -194,7 +194,7 @@ no-run : (T : Tokenizer) → run_tree T (ahead T) ≡ None → (ok : Bool) (U : 
     start_ends T ok U
 no-run T none ok U x = subst (λ b. start_ends T b U) (sym x.0) (Refuses-done (run_tree T) [] T U refl none x.1)
 
-pub start-law : (W : Words) → Within states W → Law W start_words
+pub start-law : (W : Words) → EqualsLayer states W → Law W start_words
 start-law W within T alone rest =
     let n : ℕ = weight_at 2 T in
     let P : Stepped → Type 0 = GoesIn W n (start_ends T) in
@@ -212,7 +212,7 @@ run-goes : (T : Tokenizer) (v : ℕ) → current_of T ≡ Some v → (v == T.tok
     (ok : Bool) (U : Tokenizer) → inside_ends (done (Consume ∷ []) T) ok U → inside_ends T ok U
 run-goes T v e h false U k = absurd k
 run-goes T v e h true U k =
-    let b : Begins v (ahead T) = ahead-some T v e in
+    let b : BeginsWithValue v (ahead T) = ahead-some T v e in
     let m : ℕ = T.tokenize_state.marker in
     let X : Tokenizer = done (Consume ∷ []) T in
     let next : markers_ahead X ≡ (span (is_value m) (rest_of (ahead T))).0 =
@@ -226,7 +226,7 @@ run-goes T v e h true U k =
 run-stops : (T : Tokenizer) (v : ℕ) → current_of T ≡ Some v → (v == T.tokenize_state.marker) ≡ false →
     markers_ahead T ≡ []
 run-stops T v e h =
-    let b : Begins v (ahead T) = ahead-some T v e in
+    let b : BeginsWithValue v (ahead T) = ahead-some T v e in
     let m : ℕ = T.tokenize_state.marker in
     ap (λ cs. (span (is_value m) cs).0) b.whole ∙ ap (λ (s : List Code × List Code). s.0) (span-none (is_value m) (b.code ∷ rest_of (ahead T)) (ap (λ x. x == m) b.value ∙ h))
 
@@ -240,7 +240,7 @@ left-attempts T =
     attempts-registered R.Attention (scratched (with_marker 0 T.tokenize_state) (exited N.AttentionSequence T))
     ∙ attempts-scratched (with_marker 0 T.tokenize_state) (exited N.AttentionSequence T) ∙ attempts-applied (Exit N.AttentionSequence) T
 
-pub inside-law : (W : Words) → Within states W → Law W inside_words
+pub inside-law : (W : Words) → EqualsLayer states W → Law W inside_words
 inside-law W within T alone opened =
     let n : ℕ = weight_at 1 T in
     let P : Stepped → Type 0 = GoesIn W n (inside_ends T) in
@@ -253,7 +253,7 @@ inside-law W within T alone opened =
     (λ h. leave (run-stops T v e h)))
 
 -- of these states, and of any other as it is given
-pub laws : (W : Words) → Within states W → (t : StateName → StateWords) → AreLawful W t → AreLawful W (states t)
+pub laws : (W : Words) → EqualsLayer states W → (t : StateName → StateWords) → AreLawful W t → AreLawful W (states t)
 laws W within t other H.AttentionStart = start-law W within
 laws W within t other H.AttentionInside = inside-law W within
 laws W within t other s = other s

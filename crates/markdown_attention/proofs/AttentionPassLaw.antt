@@ -2,11 +2,11 @@
 use Rattle.std.proofs.Common.{◌≡◌, ℕ, suc, ◌+◌, ◌-◌, Bool, true, false, List, [], ◌∷◌, ◌++◌, length, take, drop, reverse, map, sum_by, Option, Some, None, if◌then◌else◌, refl, sym, ap, subst, ◌∙◌, arith, append_assoc, append-nil}
 use Rattle.std.specs.Option.{option_map}
 use Rattle.std.proofs.lemmas.List.{drop_all}
-use Rattle.markdown_engine_content.specs.Codes.{Code, stop_of, document_start}
+use Rattle.markdown_content.specs.Codes.{Code, stop_of, document_start}
 use Rattle.markdown_engine_events.specs.Edits.{moved_number, edited_from, edited}
 use Rattle.markdown_engine.specs.Operations.{link_back}
 use Rattle.markdown_engine.specs.PastTree.{appended_from}
-use Rattle.markdown_engine_content.specs.Tree.{Forest, empty, leaf_then, group_then, leaf, event, event_count, start_of}
+use Rattle.markdown_content.specs.Tree.{Forest, empty, leaf_then, group_then, leaf, event, event_count, start_of}
 use Rattle.markdown_event.specs.declared.event.Content.{Content}
 use Rattle.markdown_event.specs.declared.event.Event.{Event}
 use Rattle.markdown_event.specs.declared.event.Kind.TheVariants as Kind
@@ -22,7 +22,7 @@ use Rattle.markdown_model.specs.Runs.{Run, run_of, runs_of}
 use Rattle.markdown_model.specs.Pairs.{Pair}
 use Rattle.markdown_model.specs.BracketGroups.{item, opens, closes, Token, run_tokens, assembled, tokens_of, paired, closing_sizes, opening_sizes, cut_front}
 use Rattle.markdown_attention.specs.RunsRead.{is_run, opens_run}
-use Rattle.markdown_attention.specs.TokenWord.{word_events, word_count, word_link, closed_events, opened_events, closed_all, opened_all, left_over, cut_events, run_events, begins_run, IsPassLog, IsFlat, IsReady, IsLogged}
+use Rattle.markdown_attention.specs.TokenWord.{word_events, word_count, word_link, closed_events, opened_events, closed_all, opened_all, left_over, cut_events, run_events, begins_run, IsPassLog, IsFlat, IsPairable, IsLogged}
 use Rattle.markdown_attention.proofs.BracketEventsOfGroups.{flat-events, flat-count, length-word, word-append}
 use Rattle.markdown_attention.proofs.ContainerBrackets.{run-name, tokens-empty, tokens-run, tokens-leaf, tokens-group}
 
@@ -89,35 +89,35 @@ module _ (es : List Event) (log : List Edit) (comes : ℕ → List Event) (is_lo
   pub runs-of-two : AreOfTwo log runs_at comes
   runs-of-two = record { added = is_log.added; removed = is_log.removed }
 
-  abbrev Freshly : ℕ → Type 0
-  Freshly n = Fresh log runs_at comes runs-of-two n
+  abbrev FreshForRuns : ℕ → Type 0
+  FreshForRuns n = Fresh log runs_at comes runs-of-two n
 
   -- what stands at the next event
   second : (n : ℕ) (e x : Event) (rest : List Event) → drop n es ≡ e ∷ x ∷ rest → opens_run x ≡ false → runs_at (n + 1) ≡ false
   second n e x rest h k = begins-first (drop (n + 1) es) x rest false (drop-next n es e (x ∷ rest) h) k
 
   -- past an event that stays
-  abbrev Step : ℕ → Event → List Event → Type 0
-  Step n e rest = OneStays log runs_at comes runs-of-two es n e rest
+  abbrev OneStaysForRuns : ℕ → Event → List Event → Type 0
+  OneStaysForRuns n e rest = OneStays log runs_at comes runs-of-two es n e rest
 
-  step : (n : ℕ) (e : Event) (rest : List Event) → drop n es ≡ e ∷ rest → opens_run e ≡ false → Freshly n → Step n e rest
+  step : (n : ℕ) (e : Event) (rest : List Event) → drop n es ≡ e ∷ rest → opens_run e ≡ false → FreshForRuns n → OneStaysForRuns n e rest
   step n e rest h o f = one-stays log runs_at comes runs-of-two es n e rest h (begins-first (drop n es) e rest false h o) f
 
   -- past two events that stay
-  abbrev Both : ℕ → Event → Event → List Event → Type 0
-  Both n e x rest = TwoStay log runs_at comes runs-of-two es n e x rest
+  abbrev TwoStayForRuns : ℕ → Event → Event → List Event → Type 0
+  TwoStayForRuns n e x rest = TwoStay log runs_at comes runs-of-two es n e x rest
 
   both : (n : ℕ) (e x : Event) (rest : List Event) → drop n es ≡ e ∷ x ∷ rest → opens_run e ≡ false →
-      opens_run x ≡ false → Freshly n → Both n e x rest
+      opens_run x ≡ false → FreshForRuns n → TwoStayForRuns n e x rest
   both n e x rest h o k f =
       two-stay log runs_at comes runs-of-two es n e x rest h (begins-first (drop n es) e (x ∷ rest) false h o) (second n e x rest h k) f
 
   -- past a run
-  abbrev Cut : ℕ → Event → Event → List Event → Type 0
-  Cut n e x rest = TwoGo log runs_at comes runs-of-two es n e x rest
+  abbrev TwoGoForRuns : ℕ → Event → Event → List Event → Type 0
+  TwoGoForRuns n e x rest = TwoGo log runs_at comes runs-of-two es n e x rest
 
   run-cut : (n : ℕ) (e x : Event) (rest : List Event) → drop n es ≡ e ∷ x ∷ rest → opens_run e ≡ true →
-      opens_run x ≡ false → Cut n e x rest
+      opens_run x ≡ false → TwoGoForRuns n e x rest
   run-cut n e x rest h o k =
       two-go log runs_at comes runs-of-two es n e x rest h (begins-first (drop n es) e (x ∷ rest) true h o) (second n e x rest h k)
 
@@ -128,72 +128,72 @@ module _ (es : List Event) (log : List Edit) (comes : ℕ → List Event) (is_lo
     tokens t ps i = tokens_of s pairs_of t ps i
 
     -- a row of the events: those from n on, followed by others; its first event is to have number m
-    record Here (n m : ℕ) (ps : List Pair) (i : ℕ) (previous : Option ℕ) (row : Forest) (tail : List Event) : Type 0 where
+    record RunRowHere (n m : ℕ) (ps : List Pair) (i : ℕ) (previous : Option ℕ) (row : Forest) (tail : List Event) : Type 0 where
       there : drop n es ≡ appended_from n previous row ++ tail
       placed : start log n ≡ m
-      fresh : Freshly n
-      ready : IsReady s pairs_of row
+      fresh : FreshForRuns n
+      ready : IsPairable s pairs_of row
       logged : IsLogged s pairs_of comes n ps i row
 
     -- what the edits leave of it are the events of its tokens
-    record Leaves (n m : ℕ) (previous : Option ℕ) (row : Forest) (tail : List Event) (w : List Token) : Type 0 where
+    record LeavesTokens (n m : ℕ) (previous : Option ℕ) (row : Forest) (tail : List Event) (w : List Token) : Type 0 where
       events : edited_from log n (appended_from n previous row ++ tail) ≡ word_events m (option_map (moved_number log) previous) w ++ edited_from log (n + event_count row) tail
       placed : start log (n + event_count row) ≡ m + word_count w
-      fresh : Freshly (n + event_count row)
+      fresh : FreshForRuns (n + event_count row)
 
-    abbrev Law : Forest → Type 0
-    Law row = (n m : ℕ) (ps : List Pair) (i : ℕ) (previous : Option ℕ) (tail : List Event) → Here n m ps i previous row tail → Leaves n m previous row tail (tokens row ps i)
+    abbrev RunRowLaw : Forest → Type 0
+    RunRowLaw row = (n m : ℕ) (ps : List Pair) (i : ℕ) (previous : Option ℕ) (tail : List Event) → RunRowHere n m ps i previous row tail → LeavesTokens n m previous row tail (tokens row ps i)
 
     by-tokens : (n m : ℕ) (previous : Option ℕ) (row : Forest) (tail : List Event) (v w : List Token) → v ≡ w →
-        Leaves n m previous row tail w → Leaves n m previous row tail v
-    by-tokens n m previous row tail v w e l = subst (λ (x : List Token). Leaves n m previous row tail x) (sym e) l
+        LeavesTokens n m previous row tail w → LeavesTokens n m previous row tail v
+    by-tokens n m previous row tail v w e l = subst (λ (x : List Token). LeavesTokens n m previous row tail x) (sym e) l
 
-    law-empty : Law empty
+    law-empty : RunRowLaw empty
     law-empty n m ps i previous tail h =
         let same : n ≡ n + 0 = omega arith in
         by-tokens n m previous empty tail (tokens empty ps i) [] (tokens-empty s pairs_of ps i) (record {
           events = ap (λ k. edited_from log k tail) same;
           placed = ap (start log) (sym same) ∙ h.placed ∙ omega arith;
-          fresh = subst (λ (k : ℕ). Freshly k) same h.fresh;
+          fresh = subst (λ (k : ℕ). FreshForRuns k) same h.fresh;
         })
 
-    leaf-other : (name : Name) (cs : List Code) (rest : Forest) → is_run name ≡ false → Law rest →
-        Law (leaf_then name None cs rest)
+    leaf-other : (name : Name) (cs : List Code) (rest : Forest) → is_run name ≡ false → RunRowLaw rest →
+        RunRowLaw (leaf_then name None cs rest)
     leaf-other name cs rest other law n m ps i previous tail h =
         let e : Event = event Kind.Enter name (start_of cs) in
         let x : Event = event Kind.Exit name (stop_of document_start cs) in
         let q : Option ℕ = option_map (moved_number log) previous in
         let W : List Token = tokens rest ps i in
-        let p : Both n e x (appended_from (n + 2) previous rest ++ tail) = both n e x (appended_from (n + 2) previous rest ++ tail) h.there other refl h.fresh in
-        let r : Leaves (n + 2) (m + 2) previous rest tail W =
+        let p : TwoStayForRuns n e x (appended_from (n + 2) previous rest ++ tail) = both n e x (appended_from (n + 2) previous rest ++ tail) h.there other refl h.fresh in
+        let r : LeavesTokens (n + 2) (m + 2) previous rest tail W =
         law (n + 2) (m + 2) ps i previous tail (record { there = p.there; placed = omega (arith, p.placed, h.placed); fresh = p.fresh; ready = h.ready.1; logged = h.logged.1.1 other }) in
         let same : n + 2 + event_count rest ≡ n + (2 + event_count rest) = omega arith in
         by-tokens n m previous (leaf_then name None cs rest) tail (tokens (leaf_then name None cs rest) ps i) (item (leaf_then name None cs empty) ∷ W) (tokens-leaf s pairs_of name None cs rest ps i other) (record {
           events = p.events ∙ ap (λ xs. e ∷ x ∷ xs) (r.events ∙ ap (λ k. word_events (m + 2) q W ++ edited_from log k tail) same);
           placed = ap (start log) (sym same) ∙ r.placed ∙ omega arith;
-          fresh = subst (λ (k : ℕ). Freshly k) same r.fresh;
+          fresh = subst (λ (k : ℕ). FreshForRuns k) same r.fresh;
         })
 
-    leaf-linked : (name : Name) (c : Content) (cs : List Code) (rest : Forest) → is_run name ≡ false → Law rest →
-        Law (leaf_then name (Some c) cs rest)
+    leaf-linked : (name : Name) (c : Content) (cs : List Code) (rest : Forest) → is_run name ≡ false → RunRowLaw rest →
+        RunRowLaw (leaf_then name (Some c) cs rest)
     leaf-linked name c cs rest other law n m ps i previous tail h =
         let e : Event = record { kind = Kind.Enter; name = name; point = start_of cs; link = Some (link_back previous c) } in
         let x : Event = event Kind.Exit name (stop_of document_start cs) in
         let q : Option ℕ = option_map (moved_number log) previous in
         let e2 : Event = record { kind = Kind.Enter; name = name; point = start_of cs; link = Some (link_back q c) } in
         let W : List Token = tokens rest ps i in
-        let p : Both n e x (appended_from (n + 2) (Some n) rest ++ tail) = both n e x (appended_from (n + 2) (Some n) rest ++ tail) h.there other refl h.fresh in
-        let r : Leaves (n + 2) (m + 2) (Some n) rest tail W =
+        let p : TwoStayForRuns n e x (appended_from (n + 2) (Some n) rest ++ tail) = both n e x (appended_from (n + 2) (Some n) rest ++ tail) h.there other refl h.fresh in
+        let r : LeavesTokens (n + 2) (m + 2) (Some n) rest tail W =
         law (n + 2) (m + 2) ps i (Some n) tail (record { there = p.there; placed = omega (arith, p.placed, h.placed); fresh = p.fresh; ready = h.ready.1; logged = h.logged.1.1 other }) in
         let same : n + 2 + event_count rest ≡ n + (2 + event_count rest) = omega arith in
         by-tokens n m previous (leaf_then name (Some c) cs rest) tail (tokens (leaf_then name (Some c) cs rest) ps i) (item (leaf_then name (Some c) cs empty) ∷ W) (tokens-leaf s pairs_of name (Some c) cs rest ps i other) (record {
           events = p.events
               ∙ ap (λ xs. e2 ∷ x ∷ xs) (r.events ∙ ap (λ k. word_events (m + 2) (Some k) W ++ edited_from log (n + 2 + event_count rest) tail) (p.number ∙ h.placed) ∙ ap (λ k. word_events (m + 2) (Some m) W ++ edited_from log k tail) same);
           placed = ap (start log) (sym same) ∙ r.placed ∙ omega arith;
-          fresh = subst (λ (k : ℕ). Freshly k) same r.fresh;
+          fresh = subst (λ (k : ℕ). FreshForRuns k) same r.fresh;
         })
 
-    leaf-run : (cs : List Code) (rest : Forest) → Law rest → Law (leaf_then N.AttentionSequence None cs rest)
+    leaf-run : (cs : List Code) (rest : Forest) → RunRowLaw rest → RunRowLaw (leaf_then N.AttentionSequence None cs rest)
     leaf-run cs rest law n m ps i previous tail h =
         let e : Event = event Kind.Enter N.AttentionSequence (start_of cs) in
         let x : Event = event Kind.Exit N.AttentionSequence (stop_of document_start cs) in
@@ -201,10 +201,11 @@ module _ (es : List Event) (log : List Edit) (comes : ℕ → List Event) (is_lo
         let V : List Token = run_tokens ps i (run_of s cs) in
         let W : List Token = tokens rest ps (suc i) in
         let k : ℕ = word_count V in
-        let c : Cut n e x (appended_from (n + 2) previous rest ++ tail) = run-cut n e x (appended_from (n + 2) previous rest ++ tail) h.there refl refl in
+        let c : TwoGoForRuns n e x (appended_from (n + 2) previous rest ++ tail) =
+        run-cut n e x (appended_from (n + 2) previous rest ++ tail) h.there refl refl in
         let is : comes n ≡ word_events m q V = h.logged.0 refl ∙ sym (ap (run_events ps i) (run-codes s cs)) ∙ sym (run-word ps i (run_of s cs) m q) in
         let size : length (comes n) ≡ k = ap length is ∙ length-word V m q in
-        let r : Leaves (n + 2) (m + k) previous rest tail W =
+        let r : LeavesTokens (n + 2) (m + k) previous rest tail W =
         law (n + 2) (m + k) ps (suc i) previous tail (record { there = c.there; placed = omega (arith, c.placed, h.placed, size); fresh = c.fresh; ready = h.ready.1; logged = h.logged.1.0 refl }) in
         let same : n + 2 + event_count rest ≡ n + (2 + event_count rest) = omega arith in
         let Z : List Event = edited_from log (n + (2 + event_count rest)) tail in
@@ -217,7 +218,7 @@ module _ (es : List Event) (log : List Edit) (comes : ℕ → List Event) (is_lo
               ∙ sym (append_assoc (word_events m q V) (word_events (m + k) (word_link m q V) W) Z)
               ∙ ap (λ xs. xs ++ Z) (sym (word-append V W m q));
           placed = ap (start log) (sym same) ∙ r.placed ∙ omega (arith, count);
-          fresh = subst (λ (j : ℕ). Freshly j) same r.fresh;
+          fresh = subst (λ (j : ℕ). FreshForRuns j) same r.fresh;
         })
       where
         count-append : (v w : List Token) → word_count (v ++ w) ≡ word_count v + word_count w
@@ -226,8 +227,8 @@ module _ (es : List Event) (log : List Edit) (comes : ℕ → List Event) (is_lo
         count-append (opens o ∷ v) w = let y = count-append v w in omega (arith, y)
         count-append (closes o ∷ v) w = let y = count-append v w in omega (arith, y)
 
-    law-group : (name : Name) (a b : Point) (inside rest : Forest) → Law inside → Law rest →
-        Law (group_then name a b inside rest)
+    law-group : (name : Name) (a b : Point) (inside rest : Forest) → RunRowLaw inside → RunRowLaw rest →
+        RunRowLaw (group_then name a b inside rest)
     law-group name a b inside rest law_inside law_rest n m ps i previous tail h =
         let ci : ℕ = event_count inside in
         let cr : ℕ = event_count rest in
@@ -243,19 +244,19 @@ module _ (es : List Event) (log : List Edit) (comes : ℕ → List Event) (is_lo
         let inner : List Event = appended_from (n + 1) None inside in
         let more : List Event = appended_from (n + 2 + ci) previous rest ++ tail in
         let apart : (inner ++ x ∷ appended_from (n + 2 + ci) previous rest) ++ tail ≡ inner ++ x ∷ more = append_assoc inner (x ∷ appended_from (n + 2 + ci) previous rest) tail in
-        let s1 : Step n e (inner ++ x ∷ more) = step n e (inner ++ x ∷ more) (h.there ∙ ap (λ xs. e ∷ xs) apart) h.ready.0.0 h.fresh in
-        let r1 : Leaves (n + 1) (m + 1) None inside (x ∷ more) V =
+        let s1 : OneStaysForRuns n e (inner ++ x ∷ more) = step n e (inner ++ x ∷ more) (h.there ∙ ap (λ xs. e ∷ xs) apart) h.ready.0.0 h.fresh in
+        let r1 : LeavesTokens (n + 1) (m + 1) None inside (x ∷ more) V =
         law_inside (n + 1) (m + 1) own 0 None (x ∷ more) (record { there = s1.there; placed = omega (arith, s1.placed, h.placed); fresh = s1.fresh; ready = h.ready.1.0; logged = h.logged.0 }) in
         let k : ℕ = n + 1 + ci in
         let there2 : drop k es ≡ x ∷ more = drop-part (n + 1) ci es inner (x ∷ more) s1.there (length-appended_from (n + 1) None inside) in
-        let s2 : Step k x more = step k x more there2 refl r1.fresh in
+        let s2 : OneStaysForRuns k x more = step k x more there2 refl r1.fresh in
         let next : k + 1 ≡ n + 2 + ci = omega arith in
         let next2 : m + 1 + mi + 1 ≡ m + (2 + event_count A) = omega (arith, count) in
-        let r2 : Leaves (n + 2 + ci) (m + (2 + event_count A)) previous rest tail W =
+        let r2 : LeavesTokens (n + 2 + ci) (m + (2 + event_count A)) previous rest tail W =
         law_rest (n + 2 + ci) (m + (2 + event_count A)) ps i previous tail (record {
           there = ap (λ j. drop j es) (sym next) ∙ s2.there;
           placed = ap (start log) (sym next) ∙ s2.placed ∙ ap (λ j. j + 1) r1.placed ∙ next2;
-          fresh = subst (λ (j : ℕ). Freshly j) next s2.fresh;
+          fresh = subst (λ (j : ℕ). FreshForRuns j) next s2.fresh;
           ready = h.ready.1.1;
           logged = h.logged.1;
         }) in
@@ -274,29 +275,29 @@ module _ (es : List Event) (log : List Edit) (comes : ℕ → List Event) (is_lo
               ∙ ap (λ j. e ∷ (appended_from (m + 1) None A ++ (x ∷ (word_events j q W ++ Z)))) zero-more
               ∙ sym (ap (λ xs. e ∷ xs) (ap (λ xs. xs ++ Z) (append_assoc (appended_from (m + 1) None A) (x ∷ []) (word_events (m + (2 + event_count A + 0)) q W)) ∙ append_assoc (appended_from (m + 1) None A) (x ∷ word_events (m + (2 + event_count A + 0)) q W) Z));
           placed = ap (start log) (sym same) ∙ r2.placed ∙ omega arith;
-          fresh = subst (λ (j : ℕ). Freshly j) same r2.fresh;
+          fresh = subst (λ (j : ℕ). FreshForRuns j) same r2.fresh;
         })
 
-    leaf-plain : (name : Name) (cs : List Code) (rest : Forest) (b : Bool) → is_run name ≡ b → Law rest →
-        Law (leaf_then name None cs rest)
+    leaf-plain : (name : Name) (cs : List Code) (rest : Forest) (b : Bool) → is_run name ≡ b → RunRowLaw rest →
+        RunRowLaw (leaf_then name None cs rest)
     leaf-plain name cs rest true e law =
-        subst (λ (x : Name). Law (leaf_then x None cs rest)) (sym (run-name name e)) (leaf-run cs rest law)
+        subst (λ (x : Name). RunRowLaw (leaf_then x None cs rest)) (sym (run-name name e)) (leaf-run cs rest law)
     leaf-plain name cs rest false e law = leaf-other name cs rest e law
 
     -- a run is not linked
-    leaf-some : (name : Name) (c : Content) (cs : List Code) (rest : Forest) (b : Bool) → is_run name ≡ b → Law rest →
-        Law (leaf_then name (Some c) cs rest)
+    leaf-some : (name : Name) (c : Content) (cs : List Code) (rest : Forest) (b : Bool) → is_run name ≡ b → RunRowLaw rest →
+        RunRowLaw (leaf_then name (Some c) cs rest)
     leaf-some name c cs rest true e law = λ n m ps i previous tail h. absurd (no-link c (h.ready.0 e))
     leaf-some name c cs rest false e law = leaf-linked name c cs rest e law
 
-    law : (row : Forest) → Law row
+    law : (row : Forest) → RunRowLaw row
     law empty = law-empty
     law (leaf_then name None cs rest) = leaf-plain name cs rest (is_run name) refl (law rest)
     law (leaf_then name (Some c) cs rest) = leaf-some name c cs rest (is_run name) refl (law rest)
     law (group_then name a b inside rest) = law-group name a b inside rest (law inside) (law rest)
 
     -- the edits leave the events of the tree with its pairs grouped
-    pub paired-events : (t : Forest) → es ≡ appended_from 0 None t → IsReady s pairs_of t →
+    pub paired-events : (t : Forest) → es ≡ appended_from 0 None t → IsPairable s pairs_of t →
         IsFlat (tokens_of s pairs_of t (pairs_of (runs_of s t)) 0) →
         IsLogged s pairs_of comes 0 (pairs_of (runs_of s t)) 0 t →
         edited log es ≡ appended_from 0 None (paired s pairs_of t)
@@ -305,7 +306,7 @@ module _ (es : List Event) (log : List Edit) (comes : ℕ → List Event) (is_lo
         let own : List Pair = pairs_of (runs_of s t) in
         let W : List Token = tokens t own 0 in
         let all : es ≡ appended_from 0 None t ++ [] = e ∙ sym (append-nil (appended_from 0 None t)) in
-        let r : Leaves 0 0 None t [] W = law t 0 0 own 0 None [] (record { there = all; placed = refl; fresh = λ p k. absurd (omega (arith, k)); ready = ready; logged = logged }) in
+        let r : LeavesTokens 0 0 None t [] W = law t 0 0 own 0 None [] (record { there = all; placed = refl; fresh = λ p k. absurd (omega (arith, k)); ready = ready; logged = logged }) in
         let end : ℕ = 0 + event_count t in
         let size : length es ≡ event_count t = ap length e ∙ length-appended_from 0 None t in
         let left : drop end es ≡ [] = drop_all end es (omega (arith, size)) in

@@ -5,9 +5,9 @@ use Rattle.std.proofs.lemmas.Bool.{or_parts, both_ways}
 use Rattle.markdown_event.specs.declared.event.Content.{Content}
 use Rattle.markdown_event.specs.declared.event.Name.{Name}
 use Rattle.markdown_event.specs.declared.event.Point.{Point}
-use Rattle.markdown_engine_content.specs.declared.label_kind.LabelKind.{LabelKind}
-use Rattle.markdown_engine_content.specs.Codes.{Code, stop_of, document_start}
-use Rattle.markdown_engine_content.specs.Tree.{Forest, empty, leaf_then, group_then, leaf, ◌⊕◌, group, text_group, start_of}
+use Rattle.markdown_content.specs.declared.label_kind.LabelKind.{LabelKind}
+use Rattle.markdown_content.specs.Codes.{Code, stop_of, document_start}
+use Rattle.markdown_content.specs.Tree.{Forest, empty, leaf_then, group_then, leaf, ◌⊕◌, group, text_group, start_of}
 use Rattle.markdown_model.specs.LabelEnd.{Element, plain, starts, ends}
 use Rattle.markdown_model.specs.Passes.{start_marker, start_tree, label_name, label_group, labels_of}
 use Rattle.markdown_model.proofs.ElementCases.{AllAre}
@@ -20,7 +20,7 @@ use Rattle.markdown_model.specs.Laws
 use Rattle.markdown_model.specs.Laws.{is_link}
 use Rattle.markdown_model.proofs.PlainTrees
 use Rattle.markdown_model.proofs.PlainTrees.{is_mark, is_linked, marks, IsQuiet, mark_laws}
-use Rattle.markdown_attention.proofs.MarkerCodes.{IsRunLeaf, IsPlaced}
+use Rattle.markdown_attention.proofs.MarkerCodes.{AreRunCodes, IsPlaced}
 
 -- each run of a row and inside it is a leaf that passes
 abbrev pub EachRun : (List Code → Type 0) → Forest → Type 0
@@ -117,7 +117,7 @@ quiet-good bytes t h =
 no-case : {A : Type 0} → true ≡ false → A
 no-case e = cc
 
-pub good-run : (bytes : List ℕ) (cs : List Code) → IsRunLeaf bytes cs → IsGood bytes (leaf Name.AttentionSequence cs)
+pub good-run : (bytes : List ℕ) (cs : List Code) → AreRunCodes bytes cs → IsGood bytes (leaf Name.AttentionSequence cs)
 good-run bytes [] h = (tt, (tt, (tt, tt)))
 good-run bytes (c ∷ cs) h = (((refl, λ e. h.1.0), tt), (((λ e. (refl, h.0)), tt), ((refl, tt), ((λ e. h.1.1), tt))))
 
@@ -211,13 +211,13 @@ module _ (bytes : List ℕ) (kind : LabelKind) (marker : List Code) (inside : Fo
       )
 
 -- An element as it is read.
-abbrev pub IsSound : List ℕ → Element → Type 0
-IsSound bytes (plain t) = IsGood bytes t
-IsSound bytes (starts kind marker) = Unit {0}
-IsSound bytes (ends marker None) = Unit {0}
-IsSound bytes (ends marker (Some outcome)) = IsQuiet false outcome.1
+abbrev pub IsElementRead : List ℕ → Element → Type 0
+IsElementRead bytes (plain t) = IsGood bytes t
+IsElementRead bytes (starts kind marker) = Unit {0}
+IsElementRead bytes (ends marker None) = Unit {0}
+IsElementRead bytes (ends marker (Some outcome)) = IsQuiet false outcome.1
 
-pub good-labels : (bytes : List ℕ) (es : List Element) → AllAre (IsSound bytes) es → IsGood bytes (labels_of es)
+pub good-labels : (bytes : List ℕ) (es : List Element) → AllAre (IsElementRead bytes) es → IsGood bytes (labels_of es)
 good-labels bytes es h =
-    labels-have (IsGood bytes) (IsSound bytes) (tt, (tt, (tt, tt))) (good-join bytes) (λ t g. g) (λ kind marker g. good-leaf bytes Name.Data marker refl) (λ marker outcome g. good-leaf bytes Name.Data marker refl)
+    labels-have (IsGood bytes) (IsElementRead bytes) (tt, (tt, (tt, tt))) (good-join bytes) (λ t g. g) (λ kind marker g. good-leaf bytes Name.Data marker refl) (λ marker outcome g. good-leaf bytes Name.Data marker refl)
     (λ kind marker inside back outcome s g q. good-label_group bytes outcome.0 marker inside back g outcome.1 q) es h

@@ -71,12 +71,12 @@ openings-push m p [] n = append-nil (opening_at m p n) ∙ ap (λ q. opening_at 
 openings-push m p (k ∷ ns) n =
     ap (λ es. opening_at m p k ++ es) (openings-push m (shifted p k) ns n ∙ ap (λ q. openings_from m (shifted p k) ns ++ opening_at m q n) (shift-shift p k (total ns)))
 
-pub record Opened (m : ℕ) (from : Point) (sizes : List ℕ) (k : ℕ) (old : List Event) (point : Point) (now : List Event) : Type 0 where
+pub record OpenedBrackets (m : ℕ) (from : Point) (sizes : List ℕ) (k : ℕ) (old : List Event) (point : Point) (now : List Event) : Type 0 where
   pub place : point ≡ shifted from (total (reverse (drop k sizes)))
   pub events : now ≡ old ++ openings_from m from (reverse (drop k sizes))
 
 pub opened-none : (m : ℕ) (from : Point) (sizes : List ℕ) (k : ℕ) (old : List Event) → length sizes ≤ k →
-    Opened m from sizes k old from old
+    OpenedBrackets m from sizes k old from old
 opened-none m from sizes k old l =
     let none : drop k sizes ≡ [] = drop_all k sizes l in
     record {
@@ -85,7 +85,7 @@ opened-none m from sizes k old l =
     }
 
 pub opened-all : (m : ℕ) (from point : Point) (sizes : List ℕ) (k : ℕ) (old now : List Event) → k ≡ 0 →
-    Opened m from sizes k old point now → now ≡ old ++ openings_from m from (reverse sizes)
+    OpenedBrackets m from sizes k old point now → now ≡ old ++ openings_from m from (reverse sizes)
 opened-all m from point sizes k old now e h =
     h.events ∙ ap (λ j. old ++ openings_from m from (reverse (drop j sizes))) e
 
@@ -95,8 +95,8 @@ reverse-more sizes j x l h =
     ap reverse (drop_more sizes j 0 l ∙ ap (λ y. y ∷ drop (j + 1) sizes) (sym h)) ∙ reverse-append (x ∷ []) (drop (j + 1) sizes)
 
 pub opened-more : (m : ℕ) (from point next : Point) (sizes : List ℕ) (k j x : ℕ) (old now new : List Event) →
-    k ≡ j + 1 → j < length sizes → x ≡ get_or sizes j 0 → Opened m from sizes k old point now → next ≡ shifted point x →
-    new ≡ now ++ opening_at m point x → Opened m from sizes j old next new
+    k ≡ j + 1 → j < length sizes → x ≡ get_or sizes j 0 → OpenedBrackets m from sizes k old point now → next ≡ shifted point x →
+    new ≡ now ++ opening_at m point x → OpenedBrackets m from sizes j old next new
 opened-more m from point next sizes k j x old now new s l h p e f =
     let more : reverse (drop j sizes) ≡ reverse (drop k sizes) ++ x ∷ [] = reverse-more sizes j x l h ∙ ap (λ i. reverse (drop i sizes) ++ x ∷ []) (sym s) in
     let sum : total (reverse (drop k sizes)) + x ≡ total (reverse (drop j sizes)) = sym (ap total more ∙ total-push (reverse (drop k sizes)) x) in

@@ -1,8 +1,8 @@
 -- The events of the groups that brackets make are those of the brackets, one after another.
 use Rattle.std.proofs.Common.{◌≡◌, ◌≢◌, ℕ, ◌+◌, List, [], ◌∷◌, ◌++◌, length, Option, Some, None, refl, sym, ap, subst, ◌∙◌, arith, append_assoc, append-nil, length-append, inl, inr, ◌⊎◌}
-use Rattle.markdown_engine_content.specs.Codes.{Code, stop_of, document_start}
+use Rattle.markdown_content.specs.Codes.{Code, stop_of, document_start}
 use Rattle.markdown_engine.specs.PastTree.{appended_from, last_link}
-use Rattle.markdown_engine_content.specs.Tree.{Forest, empty, leaf_then, group_then, leaf, group, text_group, ◌⊕◌, event, event_count, start_of}
+use Rattle.markdown_content.specs.Tree.{Forest, empty, leaf_then, group_then, leaf, group, text_group, ◌⊕◌, event, event_count, start_of}
 use Rattle.markdown_event.specs.declared.event.Event.{Event}
 use Rattle.markdown_event.specs.declared.event.Kind.TheVariants as Kind
 use Rattle.markdown_engine.proofs.TreeEvents.{appended_from-row}
@@ -59,11 +59,11 @@ frames_events n (f ∷ fs) =
     closed_events f.0 ++ (appended_from (n + 4) None (joined f.1) ++ frames_events (n + 4 + event_count (joined f.1)) fs)
 
 -- the frames close brackets with these keys
-abbrev AreFrames : List (ℕ × ℕ) → List Frame → Type 0
-AreFrames [] [] = Unit {0}
-AreFrames [] (f ∷ fs) = ⊥
-AreFrames (key ∷ keys) [] = ⊥
-AreFrames (key ∷ keys) (f ∷ fs) = (f.0 ≢ []) × ((key ≡ key_of f.0) × (IsUnlinkedRow (joined f.1) × AreFrames keys fs))
+abbrev AreBracketFrames : List (ℕ × ℕ) → List Frame → Type 0
+AreBracketFrames [] [] = Unit {0}
+AreBracketFrames [] (f ∷ fs) = ⊥
+AreBracketFrames (key ∷ keys) [] = ⊥
+AreBracketFrames (key ∷ keys) (f ∷ fs) = (f.0 ≢ []) × ((key ≡ key_of f.0) × (IsUnlinkedRow (joined f.1) × AreBracketFrames keys fs))
 
 abbrev group_at : Name × Name × Name → List Code → List Forest → List Code → List Forest
 group_at names front inside back =
@@ -108,7 +108,7 @@ group-events n (x ∷ xs) (y ∷ ys) inside after f b e =
 
 record Nested (keys : List (ℕ × ℕ)) (w : List Token) : Type 0 where
   first : IsUnlinkedRow (joined (nest_word w).0)
-  frames : AreFrames keys (nest_word w).1
+  frames : AreBracketFrames keys (nest_word w).1
   events : (n : ℕ) →
       appended_from n None (joined (nest_word w).0) ++ frames_events (n + event_count (joined (nest_word w).0)) (nest_word w).1 ≡ word_events n None w
 
@@ -142,7 +142,7 @@ nested-closes key keys c w h e k =
 -- an opening bracket takes the first frame
 record Onto (keys : List (ℕ × ℕ)) (o : List Code) (inside : List Forest) (fs : List Frame) : Type 0 where
   first : IsUnlinkedRow (joined (onto pair_group loose loose o inside fs).0)
-  frames : AreFrames keys (onto pair_group loose loose o inside fs).1
+  frames : AreBracketFrames keys (onto pair_group loose loose o inside fs).1
   events : (n : ℕ) → appended_from n None (joined (onto pair_group loose loose o inside fs).0) ++ frames_events (n + event_count (joined (onto pair_group loose loose o inside fs).0)) (onto pair_group loose loose o inside fs).1
       ≡ opened_events o ++ (appended_from (n + 4) None (joined inside) ++ frames_events (n + 4 + event_count (joined inside)) fs)
 
@@ -157,7 +157,7 @@ regroup a b c d e =
     append_assoc a (b ++ (c ++ d)) e ∙ ap (λ es. a ++ es) (append_assoc b (c ++ d) e ∙ ap (λ es. b ++ es) (append_assoc c d e))
 
 onto-word : (keys : List (ℕ × ℕ)) (o : List Code) (inside : List Forest) (fs : List Frame) → o ≢ [] →
-    AreFrames (key_of o ∷ keys) fs → Onto keys o inside fs
+    AreBracketFrames (key_of o ∷ keys) fs → Onto keys o inside fs
 onto-word keys o inside [] h k = absurd k
 onto-word keys o inside (f ∷ fs) h k =
     let J : Forest = joined inside in
@@ -206,7 +206,7 @@ record Closed (first : List Forest) (fs : List Frame) : Type 0 where
   all : first ++ after_loose pair_group loose loose fs ≡ first
   events : (n : ℕ) → frames_events n fs ≡ []
 
-closed : (first : List Forest) (fs : List Frame) → AreFrames [] fs → Closed first fs
+closed : (first : List Forest) (fs : List Frame) → AreBracketFrames [] fs → Closed first fs
 closed first [] h = record { all = append-nil first; events = λ n. refl }
 closed first (f ∷ fs) h = absurd h
 

@@ -1,9 +1,9 @@
 -- The elements of a content are sound, so its tree of labels is striped.
 use Rattle.std.proofs.Common.{◌≡◌, ℕ, false, List, [], ◌∷◌, ◌++◌, refl, sym, subst, Option, Some, None, inl, inr}
 use Rattle.markdown_event.specs.declared.event.Name.{Name}
-use Rattle.markdown_engine_content.specs.declared.label_kind.LabelKind.{LabelKind}
-use Rattle.markdown_engine_content.specs.Codes.{Code}
-use Rattle.markdown_engine_content.specs.Tree.{Forest, leaf}
+use Rattle.markdown_content.specs.declared.label_kind.LabelKind.{LabelKind}
+use Rattle.markdown_content.specs.Codes.{Code}
+use Rattle.markdown_content.specs.Tree.{Forest, leaf}
 use Rattle.markdown_model.specs.CodeTests.{is_value}
 use Rattle.markdown_model.specs.Grammar.{Reading, ◌>>=◌, gives, some}
 use Rattle.markdown_model.specs.Setting.{Setting}
@@ -15,17 +15,17 @@ use Rattle.markdown_model.proofs.ElementsCover.{covers_text_element}
 use Rattle.markdown_model.proofs.OneElementList.{text_elements}
 use Rattle.markdown_model.proofs.LabelsCover.{element_codes, unused}
 use Rattle.markdown_model.proofs.ReadingsCover.{At}
-use Rattle.markdown_model.proofs.NoLinkInConstructs.{Passes, Yields, yields_bind, yields_gives, yields_either, then_any}
+use Rattle.markdown_model.proofs.NoLinkInConstructs.{PassesValue, Yields, yields_bind, yields_gives, yields_either, then_any}
 use Rattle.markdown_attention.specs.OpenRuns.{IsMarker}
-use Rattle.markdown_attention.proofs.AttentionTreeLabels.{IsGood, IsSound, quiet-good, good-run, good-leaf, good-labels}
+use Rattle.markdown_attention.proofs.AttentionTreeLabels.{IsGood, IsElementRead, quiet-good, good-run, good-leaf, good-labels}
 use Rattle.markdown_model.proofs.PlainTrees.{IsQuiet, plain-quiet, quiet_after_label}
 use Rattle.markdown_model.proofs.PlainConstructs.{IsPlainTree, ReadsPlain}
-use Rattle.markdown_attention.proofs.MarkerCodes.{AreSingles, IsRunLeaf, singles-back, run-leaf}
+use Rattle.markdown_attention.proofs.MarkerCodes.{AreSingles, AreRunCodes, singles-back, run-leaf}
 
 -- Readings whose values all pass, at codes of a content.
 
 record YieldsOn (bytes : List ℕ) {A : Type 0} (P : A → Type 0) (a : Reading A) : Type 0 where
-  at : (cs : List Code) → AreSingles bytes cs → Passes P (a cs)
+  at : (cs : List Code) → AreSingles bytes cs → PassesValue P (a cs)
 
 module _ (bytes : List ℕ) where
   module _ {A : Type 0} (P : A → Type 0) where
@@ -35,7 +35,7 @@ module _ (bytes : List ℕ) where
   -- Single elements.
 
   abbrev Sound : Reading Element → Type 0
-  Sound a = YieldsOn bytes (IsSound bytes) a
+  Sound a = YieldsOn bytes (IsElementRead bytes) a
 
   sound_plain : (document : List ℕ) (a : Reading Forest) → ReadsPlain document a → Sound (as_plain a)
   unfolding as_plain
@@ -56,8 +56,8 @@ module _ (bytes : List ℕ) where
   unfolding attention_run ◌>>=◌ gives
   sound_run m k = record { at = λ cs h. by_answer (some (is_value m) cs) (run-leaf bytes m cs k h) }
     where
-      by_answer : (r : Option (List Code × List Code)) → Passes (IsRunLeaf bytes) r
-          → Passes (IsSound bytes) (elim r [ None ↦ None | Some x ↦ Some (plain (leaf Name.AttentionSequence x.0), x.1) ])
+      by_answer : (r : Option (List Code × List Code)) → PassesValue (AreRunCodes bytes) r
+          → PassesValue (IsElementRead bytes) (elim r [ None ↦ None | Some x ↦ Some (plain (leaf Name.AttentionSequence x.0), x.1) ])
       by_answer None h = tt
       by_answer (Some x) h = good-run bytes x.0 h
 
@@ -80,9 +80,9 @@ module _ (bytes : List ℕ) where
 
   sound_text_element : (s : Setting) (end : ℕ) (earlier : List Element) (previous : Option Code) →
       Sound (text_element s end earlier previous)
-  sound_text_element s end earlier previous = record { at = λ cs k. text_has s end earlier previous (Passes (IsSound bytes)) cs (each cs k) (sound_data_code.at cs k) }
+  sound_text_element s end earlier previous = record { at = λ cs k. text_has s end earlier previous (PassesValue (IsElementRead bytes)) cs (each cs k) (sound_data_code.at cs k) }
     where
-      each : (cs : List Code) → AreSingles bytes cs → EachConstruct s end earlier previous (Passes (IsSound bytes)) cs
+      each : (cs : List Code) → AreSingles bytes cs → EachConstruct s end earlier previous (PassesValue (IsElementRead bytes)) cs
       each cs k = record {
         none = tt;
         ending = sound_line_ending.at cs k;
@@ -97,7 +97,7 @@ module _ (bytes : List ℕ) where
   -- Lists of elements: what is left after an element is the end of the codes.
 
   all_sound : (s : Setting) (end : ℕ) (es earlier : List Element) (previous : Option Code) (cs : List Code)
-      → AreSingles bytes cs → AreElementsFrom (text_element s end) earlier previous cs es → AllAre (IsSound bytes) es
+      → AreSingles bytes cs → AreElementsFrom (text_element s end) earlier previous cs es → AllAre (IsElementRead bytes) es
   all_sound s end [] earlier previous cs k h = tt
   all_sound s end (e ∷ es) earlier previous cs k h =
       let d : ℕ = unused earlier in
@@ -105,15 +105,15 @@ module _ (bytes : List ℕ) where
       let rest : AreSingles bytes h.0 = singles-back bytes (element_codes d e) h.0 (subst (λ (x : List Code). AreSingles bytes x) (sym whole) k) in
       (at_some (text_element s end earlier previous cs) h.1 ((sound_text_element s end earlier previous).at cs k), all_sound s end es (e ∷ earlier) (code_before cs h.0) h.0 rest h.2)
     where
-      at_some : (r : Option (Element × List Code)) → r ≡ Some (e, h.0) → Passes (IsSound bytes) r → IsSound bytes e
-      at_some r n x = subst (λ z. Passes (IsSound bytes) z) n x
+      at_some : (r : Option (Element × List Code)) → r ≡ Some (e, h.0) → PassesValue (IsElementRead bytes) r → IsElementRead bytes e
+      at_some r n x = subst (λ z. PassesValue (IsElementRead bytes) z) n x
 
       covered : (r : Option (Element × List Code)) → r ≡ Some (e, h.0) → At (element_codes (unused earlier)) [] cs r →
           element_codes (unused earlier) e ++ h.0 ≡ cs
       covered r n x = subst (λ z. At (element_codes (unused earlier)) [] cs z) n x
 
   pub sound-elements : (s : Setting) (cs : List Code) (es : List Element) → AreSingles bytes cs → AreElements s cs es →
-      AllAre (IsSound bytes) es
+      AllAre (IsElementRead bytes) es
   sound-elements s cs es k h = all_sound s _ es [] None cs k h
 
 -- The tree of labels.

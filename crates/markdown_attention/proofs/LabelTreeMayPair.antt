@@ -1,13 +1,13 @@
 -- What a caller of the pass of runs has from the tree of labels of a content.
-use Rattle.std.proofs.Common.{◌≡◌, ℕ, ◌+◌, ◌*◌, ◌^◌, ◌<◌, ◌≤◌, Bool, List, [], length, None, sym, ap, subst, ◌∙◌, arith, append-nil}
+use Rattle.std.proofs.Common.{◌≡◌, ℕ, ◌+◌, ◌*◌, ◌^◌, ◌<◌, ◌≤◌, List, [], length, None, sym, ap, subst, ◌∙◌, arith, append-nil}
 use Rattle.std.specs.List.{count_by}
-use Rattle.markdown_engine_content.specs.Codes.{Code}
-use Rattle.markdown_engine_content.specs.Content.{content_of, IsContent}
+use Rattle.markdown_content.specs.Codes.{Code}
+use Rattle.markdown_content.specs.Content.{content_of, IsContent}
 use Rattle.markdown_engine.specs.PastTree.{appended_from}
-use Rattle.markdown_engine_content.specs.Tree.{Forest, leaf_codes}
-use Rattle.markdown_engine_content.specs.declared.configuration.ParseOptions.{ParseOptions}
+use Rattle.markdown_content.specs.Tree.{Forest, leaf_codes}
+use Rattle.markdown_content.specs.declared.configuration.ParseOptions.{ParseOptions}
 use Rattle.markdown_event.specs.declared.event.Event.{Event}
-use Rattle.markdown_engine_content.specs.declared.parser.Piece.{Piece}
+use Rattle.markdown_content.specs.declared.parser.Piece.{Piece}
 use Rattle.markdown_engine.specs.declared.tokenizer.Tokenizer.{Tokenizer}
 use Rattle.markdown_engine.proofs.PlaceBounds.{content_fits}
 use Rattle.markdown_model.specs.Elements.{elements_of, text_choice}
@@ -18,7 +18,7 @@ use Rattle.markdown_model.specs.Setting.{Setting}
 use Rattle.markdown_model.proofs.ElementsCover.{codes-elements, covers_text_element}
 use Rattle.markdown_model.proofs.OneElementList.{text_elements}
 use Rattle.markdown_model.proofs.LabelsCover.{codes-labels_of}
-use Rattle.markdown_attention.specs.RunContainers.{ArePairLists, AreWithin}
+use Rattle.markdown_attention.specs.RunContainers.{ArePairLists, ArePairsWithin}
 use Rattle.markdown_attention.specs.RunsRead.{outermost, runs_from, HaveRunPlaces}
 use Rattle.markdown_attention.specs.RunsOfEvents.{runs_of_events}
 use Rattle.markdown_attention.specs.RunsOfTree.{tree_runs, HasRuns, IsOf}
@@ -39,47 +39,47 @@ codes-tree s cs =
     ∙ codes-elements (text_choice s cs) (λ earlier previous. covers_text_element s _ earlier previous) (elements_of s cs) [] None cs (text_elements s cs)
 
 -- the runs of a tree's events
-pub events-runs : (tildes : Bool) (bytes : List ℕ) (t : Forest) (es : List Event) → HasRuns bytes t → es ≡ appended_from 0 None t
-    → runs_from tildes bytes 0 0 outermost es ≡ tree_runs tildes bytes 0 0 0 None t
-events-runs tildes bytes t es h e =
-    let runs : List Sequence = tree_runs tildes bytes 0 0 0 None t in
-    ap (runs_from tildes bytes 0 0 outermost) (e ∙ sym (append-nil (appended_from 0 None t))) ∙ tree-runs tildes bytes t 0 0 None outermost [] h ∙ append-nil runs
+pub events-runs : (options : ParseOptions) (bytes : List ℕ) (t : Forest) (es : List Event) → HasRuns bytes t → es ≡ appended_from 0 None t
+    → runs_from options bytes 0 0 outermost es ≡ tree_runs options bytes 0 0 0 None t
+events-runs options bytes t es h e =
+    let runs : List Sequence = tree_runs options bytes 0 0 0 None t in
+    ap (runs_from options bytes 0 0 outermost) (e ∙ sym (append-nil (appended_from 0 None t))) ∙ tree-runs options bytes t 0 0 None outermost [] h ∙ append-nil runs
 
 -- The runs of a content are few.
 
-pub tree-small : (tildes : Bool) (bytes : List ℕ) (t : Forest) (es : List Event) → HasRuns bytes t → es ≡ appended_from 0 None t → length (leaf_codes t) < 2 ^ 63
-    → IsSmall (runs_from tildes bytes 0 0 outermost es)
-tree-small tildes bytes t es h e l =
-    let few = tree-few tildes bytes t 0 0 0 None h in
-    subst IsSmall (sym (events-runs tildes bytes t es h e)) (record { markers = omega (arith, few.0, l); count = omega (arith, few.1, l) })
+pub tree-small : (options : ParseOptions) (bytes : List ℕ) (t : Forest) (es : List Event) → HasRuns bytes t → es ≡ appended_from 0 None t → length (leaf_codes t) < 2 ^ 63
+    → IsSmall (runs_from options bytes 0 0 outermost es)
+tree-small options bytes t es h e l =
+    let few = tree-few options bytes t 0 0 0 None h in
+    subst IsSmall (sym (events-runs options bytes t es h e)) (record { markers = omega (arith, few.0, l); count = omega (arith, few.1, l) })
 
-pub content-small : (s : Setting) (tildes : Bool) (bytes : List ℕ) (pieces : List Piece) (es : List Event) → IsContent bytes pieces → es ≡ appended_from 0 None (label_tree s (content_of bytes pieces))
-    → IsSmall (runs_from tildes bytes 0 0 outermost es)
-content-small s tildes bytes pieces es h e =
+pub content-small : (s : Setting) (options : ParseOptions) (bytes : List ℕ) (pieces : List Piece) (es : List Event) → IsContent bytes pieces → es ≡ appended_from 0 None (label_tree s (content_of bytes pieces))
+    → IsSmall (runs_from options bytes 0 0 outermost es)
+content-small s options bytes pieces es h e =
     let cs : List Code = content_of bytes pieces in
     let codes : length (leaf_codes (label_tree s cs)) ≡ length cs = ap length (codes-tree s cs) in
-    tree-small tildes bytes (label_tree s cs) es (tree-meets bytes s pieces h).runs e (omega (arith, codes, content_fits bytes pieces h))
+    tree-small options bytes (label_tree s cs) es (tree-meets bytes s pieces h).runs e (omega (arith, codes, content_fits bytes pieces h))
 
 -- What the pass leaves of the events of a tree of labels.
 
-module _ (s : Setting) (tildes : Bool) (bytes : List ℕ) (same : s.bytes ≡ bytes) (on : s.options.constructs.gfm_strikethrough ≡ tildes) (options : ParseOptions) (given : s.options ≡ options)
+module _ (s : Setting) (options : ParseOptions) (bytes : List ℕ) (same : s.bytes ≡ bytes) (given : s.options ≡ options)
     (t : Forest) (h : HasRuns bytes t) (es : List Event) (e : es ≡ appended_from 0 None t) where
   abbrev list : List Sequence
-  list = runs_from tildes bytes 0 0 outermost es
+  list = runs_from options bytes 0 0 outermost es
 
   pub tree-grouped : (after : List Event) (probes : ℕ) → IsStriped t → HaveRunPlaces bytes es →
       IsGrouped options list es after probes → after ≡ appended_from 0 None (paired s (pair_list s) t)
   tree-grouped after probes st places g =
-      g.events ∙ group-events s tildes bytes same on es places g.pairs options given g.lists g.within t h st e
+      g.events ∙ group-events s options bytes same given es places g.pairs g.lists g.within t h st e
 
   pub tree-probed : (after : List Event) (probes : ℕ) → IsGrouped options list es after probes → IsProbed s t probes
   tree-probed after probes g =
-      let is : list ≡ tree_runs tildes bytes 0 0 0 None t = events-runs tildes bytes t es h e in
+      let is : list ≡ tree_runs options bytes 0 0 0 None t = events-runs options bytes t es h e in
       let n : pair_count s t ≡ length g.pairs =
-      pair-count s tildes bytes same on t h options given g.pairs (subst (λ (x : List Sequence). ArePairLists options x g.pairs) is g.lists) (subst (λ (x : List Sequence). AreWithin x g.pairs) is g.within) in
-      let runs : run_count s t ≡ length list = run-count s tildes bytes same on t h ∙ ap length (sym is) in
-      let openers : opener_count s t ≡ count_by (λ r. r.may_open) list = opener-count s tildes bytes same on t h ∙ ap (λ (x : List Sequence). count_by (λ r. r.may_open) x) (sym is) in
-      let closers : closer_count s t ≡ count_by (λ r. r.may_close) list = closer-count s tildes bytes same on t h ∙ ap (λ (x : List Sequence). count_by (λ r. r.may_close) x) (sym is) in
+      pair-count s options bytes same given t h g.pairs (subst (λ (x : List Sequence). ArePairLists options x g.pairs) is g.lists) (subst (λ (x : List Sequence). ArePairsWithin x g.pairs) is g.within) in
+      let runs : run_count s t ≡ length list = run-count s options bytes same given t h ∙ ap length (sym is) in
+      let openers : opener_count s t ≡ count_by (λ r. r.may_open) list = opener-count s options bytes same given t h ∙ ap (λ (x : List Sequence). count_by (λ r. r.may_open) x) (sym is) in
+      let closers : closer_count s t ≡ count_by (λ r. r.may_close) list = closer-count s options bytes same given t h ∙ ap (λ (x : List Sequence). count_by (λ r. r.may_close) x) (sym is) in
       let least = g.at_least in
       let most = g.at_most in
       record {
@@ -94,11 +94,9 @@ module _ (T : Tokenizer) (after : List Event) (probes : ℕ) (g : IsGrouped T.pa
   pub left-paired : HaveRunPlaces T.parse_state.now.bytes.now T.events → (s : Setting) (t : Forest) → IsOf s T → HasRuns T.parse_state.now.bytes.now t → IsStriped t
       → T.events ≡ appended_from 0 None t → after ≡ appended_from 0 None (paired s (pair_list s) t)
   left-paired places s t is runs striped e =
-      tree-grouped s T.parse_state.now.options.now.constructs.gfm_strikethrough T.parse_state.now.bytes.now is.bytes (ap (λ (o : ParseOptions). o.constructs.gfm_strikethrough) is.options)
-      T.parse_state.now.options.now is.options t runs T.events e after probes striped places g
+      tree-grouped s T.parse_state.now.options.now T.parse_state.now.bytes.now is.bytes is.options t runs T.events e after probes striped places g
 
   pub left-probed : (s : Setting) (t : Forest) → IsOf s T → HasRuns T.parse_state.now.bytes.now t →
       T.events ≡ appended_from 0 None t → IsProbed s t probes
   left-probed s t is runs e =
-      tree-probed s T.parse_state.now.options.now.constructs.gfm_strikethrough T.parse_state.now.bytes.now is.bytes (ap (λ (o : ParseOptions). o.constructs.gfm_strikethrough) is.options)
-      T.parse_state.now.options.now is.options t runs T.events e after probes g
+      tree-probed s T.parse_state.now.options.now T.parse_state.now.bytes.now is.bytes is.options t runs T.events e after probes g

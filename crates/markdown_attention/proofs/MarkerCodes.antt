@@ -6,20 +6,20 @@ use Rattle.std.proofs.lemmas.Str.{IsCharBoundary-before_ascii, IsCharBoundary-af
 use Rattle.std.proofs.lemmas.Bool.{eqb-true, cases_lt, both_ways}
 use Rattle.std.proofs.lemmas.List.{append-nil}
 use Rattle.markdown_event.specs.declared.event.Point.{Point}
-use Rattle.markdown_engine_content.specs.declared.parser.Piece.{Piece}
-use Rattle.markdown_engine_content.specs.Codes.{Code, tab_value, space_value, is_line_ending, is_line_ending_byte, next_column, codes_of, document_start, stop_of}
-use Rattle.markdown_engine_content.specs.Content.{piece_codes, content_of, ends_line, are_pieces}
-use Rattle.markdown_engine_content.specs.Tree.{start_of}
-use Rattle.markdown_engine_content.specs.DocumentWalk.{codes_after}
-use Rattle.markdown_engine_content.proofs.AdjacentCodes.{IsChain, before_in, from_in, split-at, chain-back}
-use Rattle.markdown_engine_content.proofs.DocumentPlaces.{chain-document, document-split}
-use Rattle.markdown_engine_content.proofs.ContentCodes.{piece-codes-is, piece_row, followed_by}
-use Rattle.markdown_engine_content.proofs.DocumentCodes.{codes_at, value_at, stop_at, code_here, Stands}
-use Rattle.markdown_engine_content.proofs.DocumentWalkLemmas.{IsFirst, first-of, stands-start, value-ending, value-plain, stop-plain, value-tab}
+use Rattle.markdown_content.specs.declared.parser.Piece.{Piece}
+use Rattle.markdown_content.specs.Codes.{Code, tab_value, space_value, is_line_ending, is_line_ending_byte, next_column, codes_of, document_start, stop_of}
+use Rattle.markdown_content.specs.Content.{piece_codes, content_of, ends_line, are_pieces}
+use Rattle.markdown_content.specs.Tree.{start_of}
+use Rattle.markdown_content.specs.DocumentWalk.{codes_after}
+use Rattle.markdown_content.proofs.AdjacentCodes.{IsChain, before_in, from_in, split-at, chain-back}
+use Rattle.markdown_content.proofs.DocumentPlaces.{chain-document, document-split}
+use Rattle.markdown_content.proofs.ContentCodes.{piece-codes-is, piece_row, followed_by}
+use Rattle.markdown_content.proofs.DocumentCodes.{codes_at, value_at, stop_at, code_here, HasPlaceNumbers}
+use Rattle.markdown_content.proofs.DocumentWalkLemmas.{IsFirstCode, first-of, stands-start, value-ending, value-plain, stop-plain, value-tab}
 use Rattle.markdown_model.specs.CodeTests.{is_value, is_empty}
 use Rattle.markdown_model.specs.Grammar.{span, some}
 use Rattle.markdown_model.specs.Runs.{marker_of}
-use Rattle.markdown_model.proofs.NoLinkInConstructs.{Passes}
+use Rattle.markdown_model.proofs.NoLinkInConstructs.{PassesValue}
 use Rattle.markdown_attention.specs.OpenRuns.{IsMarker}
 use Rattle.markdown_attention.specs.RunsRead.{IsRunPlace}
 use Rattle.markdown_attention.specs.RunsOfTree.{IsRun}
@@ -31,7 +31,7 @@ abbrev pub StartAt : Point → List Code → Type 0
 StartAt p [] = Unit {0}
 StartAt p (c ∷ cs) = c.start ≡ p
 
-pub record IsSingle (bytes : List ℕ) (c : Code) (cs : List Code) : Type 0 where
+pub record IsSingleByte (bytes : List ℕ) (c : Code) (cs : List Code) : Type 0 where
   pub within : c.start.index < length bytes
   pub column : c.start.column ≤ 4 * c.start.index + 1
   pub byte : slice_index_or bytes c.start.index 0 ≡ c.value
@@ -41,7 +41,7 @@ pub record IsSingle (bytes : List ℕ) (c : Code) (cs : List Code) : Type 0 wher
 -- each marker among these codes is one byte, and the code after it begins where it ends
 abbrev pub AreSingles : List ℕ → List Code → Type 0
 AreSingles bytes [] = Unit {0}
-AreSingles bytes (c ∷ cs) = (IsMarker c.value → IsSingle bytes c cs) × AreSingles bytes cs
+AreSingles bytes (c ∷ cs) = (IsMarker c.value → IsSingleByte bytes c cs) × AreSingles bytes cs
 
 -- Parts.
 
@@ -56,7 +56,7 @@ start-front p (c ∷ cs) b h = h
 pub singles-front : (bytes : List ℕ) (a b : List Code) → AreSingles bytes (a ++ b) → AreSingles bytes a
 singles-front bytes [] b h = tt
 singles-front bytes (c ∷ cs) b h =
-    (λ m. let one : IsSingle bytes c (cs ++ b) = h.0 m in record { within = one.within; column = one.column; byte = one.byte; stop = one.stop; next = start-front c.stop cs b one.next }, singles-front bytes cs b h.1)
+    (λ m. let one : IsSingleByte bytes c (cs ++ b) = h.0 m in record { within = one.within; column = one.column; byte = one.byte; stop = one.stop; next = start-front c.stop cs b one.next }, singles-front bytes cs b h.1)
 
 -- no line ending, space or tab is a marker
 other-marker : (n : ℕ) → n < 42 → IsMarker n → ⊥
@@ -72,7 +72,7 @@ pub singles-join : (bytes : List ℕ) (a b : List Code) → ends_line a ≡ true
 singles-join bytes [] b e h k = k
 singles-join bytes (c ∷ []) b e h k = ((λ m. absurd (ending-marker c e m)), k)
 singles-join bytes (c ∷ d ∷ ds) b e h k =
-    (λ m. let one : IsSingle bytes c (d ∷ ds) = h.0 m in record { within = one.within; column = one.column; byte = one.byte; stop = one.stop; next = one.next }, singles-join bytes (d ∷ ds) b e h.1 k)
+    (λ m. let one : IsSingleByte bytes c (d ∷ ds) = h.0 m in record { within = one.within; column = one.column; byte = one.byte; stop = one.stop; next = one.next }, singles-join bytes (d ∷ ds) b e h.1 k)
 
 -- The codes of a document.
 
@@ -81,7 +81,7 @@ chain-start p [] h = tt
 chain-start p (c ∷ cs) h = h.0
 
 -- a marker at a place
-module _ (bytes : List ℕ) (p : Point) (s : Stands bytes p) where
+module _ (bytes : List ℕ) (p : Point) (s : HasPlaceNumbers bytes p) where
   by-tests : (e t : Bool) → is_line_ending_byte (get_or bytes p.index 0) ≡ e → (get_or bytes p.index 0 == tab_value) ≡ t → IsMarker (value_at bytes p)
       → (get_or bytes p.index 0 ≡ value_at bytes p) × (stop_at bytes p ≡ shifted p 1)
   by-tests true t h k m = absurd (other-marker 10 (omega arith) (subst IsMarker (sym (value-ending bytes p h)) m))
@@ -106,7 +106,7 @@ module _ (bytes : List ℕ) (p : Point) (s : Stands bytes p) where
   marker-here = by-tests (is_line_ending_byte (get_or bytes p.index 0)) (get_or bytes p.index 0 == tab_value) refl refl
 
 -- a marker is no column of a tab
-no-tab : (bytes : List ℕ) (p : Point) → Stands bytes p → IsMarker (value_at bytes p) → p.vs ≡ 0
+no-tab : (bytes : List ℕ) (p : Point) → HasPlaceNumbers bytes p → IsMarker (value_at bytes p) → p.vs ≡ 0
 no-tab bytes p s m = elim (cases_lt 0 p.vs) [
   | inl l ↦
       let here = marker-here bytes p s m in
@@ -115,8 +115,8 @@ no-tab bytes p s m = elim (cases_lt 0 p.vs) [
   | inr l ↦ omega (arith, l)
 ]
 
-single-first : (bytes : List ℕ) (p : Point) (c : Code) (cs : List Code) → Stands bytes p → p.index < length bytes →
-    c ≡ code_here bytes p → StartAt c.stop cs → IsMarker c.value → IsSingle bytes c cs
+single-first : (bytes : List ℕ) (p : Point) (c : Code) (cs : List Code) → HasPlaceNumbers bytes p → p.index < length bytes →
+    c ≡ code_here bytes p → StartAt c.stop cs → IsMarker c.value → IsSingleByte bytes c cs
 single-first bytes p c cs s w e n m =
     let here : (get_or bytes p.index 0 ≡ value_at bytes p) × (stop_at bytes p ≡ shifted p 1) = marker-here bytes p s (subst (λ (x : Code). IsMarker x.value) e m) in
     let start : c.start ≡ p = ap (λ (x : Code). x.start) e in
@@ -128,11 +128,11 @@ single-first bytes p c cs s w e n m =
       next = n;
     }
 
-singles-at : (bytes : List ℕ) (p : Point) (cs : List Code) → Stands bytes p → codes_at bytes p ≡ cs → IsChain p cs →
+singles-at : (bytes : List ℕ) (p : Point) (cs : List Code) → HasPlaceNumbers bytes p → codes_at bytes p ≡ cs → IsChain p cs →
     AreSingles bytes cs
 singles-at bytes p [] s e h = tt
 singles-at bytes p (c ∷ cs) s e h =
-    let one : IsFirst bytes p c cs = first-of bytes p c cs s e in
+    let one : IsFirstCode bytes p c cs = first-of bytes p c cs s e in
     (λ m. single-first bytes p c cs s one.in_bytes one.code (chain-start c.stop cs h.2) m, singles-at bytes c.stop cs one.stands (sym one.rest) h.2)
 
 singles-document : (bytes : List ℕ) → AreSingles bytes (codes_of bytes)
@@ -169,8 +169,8 @@ IsPlaced bytes cs =
     IsUtf8 bytes → IsRunPlace bytes (start_of cs) (stop_of document_start cs) × ((stop_of document_start cs).column ≤ 4 * (stop_of document_start cs).index + 1)
 
 -- what a leaf of a run covers
-abbrev pub IsRunLeaf : List ℕ → List Code → Type 0
-IsRunLeaf bytes cs = ((cs ≢ []) × IsStripe (marker_of cs) (start_of cs) cs) × (IsRun bytes cs × IsPlaced bytes cs)
+abbrev pub AreRunCodes : List ℕ → List Code → Type 0
+AreRunCodes bytes cs = ((cs ≢ []) × IsStripe (marker_of cs) (start_of cs) cs) × (IsRun bytes cs × IsPlaced bytes cs)
 
 pub marker-ascii : (n : ℕ) → IsMarker n → n < 128
 marker-ascii n (inl e) = omega (arith, e)
@@ -188,7 +188,7 @@ run-between bytes m p (c ∷ cs) u k h b = by_test (is_value m c) refl (λ x. ru
     by_test true e more =
         let same : c.value ≡ m = eqb-true c.value m e in
         let mark : IsMarker c.value = subst IsMarker (sym same) k in
-        let one : IsSingle bytes c cs = h.0 mark in
+        let one : IsSingleByte bytes c cs = h.0 mark in
         let low : get_or bytes c.start.index 0 < 128 = subst (λ (n : ℕ). n < 128) (sym one.byte) (marker-ascii c.value mark) in
         let stop : c.start.index + 1 ≡ c.stop.index = ap (λ (x : Point). x.index) (sym one.stop) in
         more (subst (λ (n : ℕ). IsCharBoundary bytes n) stop (IsCharBoundary-after_ascii bytes c.start.index u one.within low))
@@ -203,23 +203,23 @@ run-stripe bytes m p (c ∷ cs) k h s = by_test (is_value m c) refl (λ n. run-s
         → let r : List Code × List Code = elim b [ true ↦ let s = span (is_value m) cs in (c ∷ s.0, s.1) | false ↦ ([], c ∷ cs) ] in IsStripe m p r.0
     by_test true e more =
         let same : c.value ≡ m = eqb-true c.value m e in
-        let one : IsSingle bytes c cs = h.0 (subst IsMarker (sym same) k) in
+        let one : IsSingleByte bytes c cs = h.0 (subst IsMarker (sym same) k) in
         let stop : c.stop ≡ shifted p 1 = one.stop ∙ ap (λ (x : Point). shifted x 1) s in
         (same, (s, (stop, more (subst (λ (x : Point). StartAt x cs) stop one.next))))
     by_test false e more = tt
 
 pub run-leaf : (bytes : List ℕ) (m : ℕ) (cs : List Code) → IsMarker m → AreSingles bytes cs →
-    Passes (IsRunLeaf bytes) (some (is_value m) cs)
+    PassesValue (AreRunCodes bytes) (some (is_value m) cs)
 unfolding some
 run-leaf bytes m [] k h = tt
 run-leaf bytes m (c ∷ cs) k h = by_test (is_value m c) refl (run-stripe bytes m c.start (c ∷ cs) k h refl) (λ u b. run-between bytes m c.start (c ∷ cs) u k h b)
   where
     leaf-of : (ds : List Code) → c.value ≡ m → IsStripe m c.start (c ∷ ds) →
         (IsUtf8 bytes → IsCharBoundary bytes c.start.index → IsCharBoundary bytes (stop_of c.stop ds).index) →
-        IsRunLeaf bytes (c ∷ ds)
+        AreRunCodes bytes (c ∷ ds)
     leaf-of ds e x y =
         let stop : stop_of c.stop ds ≡ shifted c.start (suc (length ds)) = stripe-stop m c.start c.start (c ∷ ds) x refl in
-        let one : IsSingle bytes c cs = h.0 (subst IsMarker (sym e) k) in
+        let one : IsSingleByte bytes c cs = h.0 (subst IsMarker (sym e) k) in
         (((λ n. cons n), subst (λ n. IsStripe n c.start (c ∷ ds)) (sym e) x), ((one.byte, ap (λ (q : Point). q.index) stop), placed))
       where
         cons : c ∷ ds ≡ [] → ⊥
@@ -228,7 +228,7 @@ run-leaf bytes m (c ∷ cs) k h = by_test (is_value m c) refl (run-stripe bytes 
         mark : IsMarker c.value
         mark = subst IsMarker (sym e) k
 
-        here : IsSingle bytes c cs
+        here : IsSingleByte bytes c cs
         here = h.0 mark
 
         low : get_or bytes c.start.index 0 < 128
@@ -251,6 +251,6 @@ run-leaf bytes m (c ∷ cs) k h = by_test (is_value m c) refl (run-stripe bytes 
         → (IsUtf8 bytes → IsCharBoundary bytes c.start.index
         → let r : List Code × List Code = elim b [ true ↦ let s = span (is_value m) cs in (c ∷ s.0, s.1) | false ↦ ([], c ∷ cs) ] in IsCharBoundary bytes (stop_of c.start r.0).index)
         → let r : List Code × List Code = elim b [ true ↦ let s = span (is_value m) cs in (c ∷ s.0, s.1) | false ↦ ([], c ∷ cs) ] in
-        Passes (IsRunLeaf bytes) (elim (is_empty r.0) [ true ↦ None | false ↦ Some r ])
+        PassesValue (AreRunCodes bytes) (elim (is_empty r.0) [ true ↦ None | false ↦ Some r ])
     by_test true e x y = leaf-of (span (is_value m) cs).0 (eqb-true c.value m e) x y
     by_test false e x y = tt

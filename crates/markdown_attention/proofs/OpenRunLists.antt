@@ -4,8 +4,8 @@ use Rattle.std.proofs.lemmas.Bool.{cases_eq, cases_lt, cases_Bool, and_parts, an
 use Rattle.std.specs.Prelude.{IsTrue}
 use Rattle.markdown_attention.specs.declared.attention.runs.Sequence.{Sequence}
 use Rattle.markdown_attention.specs.declared.attention.pairing.Pair.{Pair}
-use Rattle.markdown_engine_content.specs.declared.configuration.ParseOptions.{ParseOptions}
-use Rattle.markdown_attention.specs.PairScan.{Stands, standing}
+use Rattle.markdown_content.specs.declared.configuration.ParseOptions.{ParseOptions}
+use Rattle.markdown_attention.specs.PairScan.{AreRunsAfter, standing}
 use Rattle.markdown_attention.specs.NumberedPairs.{row_of, Eligible, left, run_at, pairs_in, lower, after_taking, taken, takes, is_shut, is_around, sizes_fit}
 use Rattle.markdown_attention.specs.OpenRuns.{IsMarker, HaveMarkers, kind_of, key_of, Newest, list_of, is_open}
 use Rattle.markdown_attention.proofs.PairScanInvariant.{in_own, in_other}
@@ -42,24 +42,24 @@ by-marker runs h i j l l' e = kind-decides (run_at runs i).marker (run_at runs j
 abbrev pub own : List Sequence → List Pair → ℕ → List Pair
 own runs pairs r = pairs_in runs (row_of (run_at runs r).text) pairs
 
-pub record Open (runs : List Sequence) (pairs : List Pair) (r : ℕ) : Type 0 where
+pub record IsOpenRun (runs : List Sequence) (pairs : List Pair) (r : ℕ) : Type 0 where
   pub may_open : IsTrue (run_at runs r).may_open
   pub some_left : 0 < left runs (own runs pairs r) r
   pub unshut : is_shut (own runs pairs r) r ≡ false
 
-pub open_parts : (runs : List Sequence) (pairs : List Pair) (r : ℕ) → is_open runs pairs r ≡ true → Open runs pairs r
+pub open_parts : (runs : List Sequence) (pairs : List Pair) (r : ℕ) → is_open runs pairs r ≡ true → IsOpenRun runs pairs r
 unfolding is_open
 open_parts runs pairs r e =
     let p = and_parts _ _ e in
     let p' = and_parts _ _ p.1 in
     record { may_open = p.0; some_left = ltb-true _ _ p'.0; unshut = not-true _ p'.1 }
 
-pub open_from : (runs : List Sequence) (pairs : List Pair) (r : ℕ) → Open runs pairs r → is_open runs pairs r ≡ true
+pub open_from : (runs : List Sequence) (pairs : List Pair) (r : ℕ) → IsOpenRun runs pairs r → is_open runs pairs r ≡ true
 unfolding is_open
 open_from runs pairs r o =
     and_from _ _ o.may_open (and_from _ _ (lt-ltb _ _ o.some_left) (not_from_false _ o.unshut))
 
-pub shut_from : (runs : List Sequence) (pairs : List Pair) (r : ℕ) → (Open runs pairs r → ⊥) →
+pub shut_from : (runs : List Sequence) (pairs : List Pair) (r : ℕ) → (IsOpenRun runs pairs r → ⊥) →
     is_open runs pairs r ≡ false
 shut_from runs pairs r n =
     elim (cases_Bool (is_open runs pairs r)) [ inl y ↦ absurd (n (open_parts runs pairs r y)) | inr f ↦ f ]
@@ -213,7 +213,7 @@ module _ (runs : List Sequence) (turn : ℕ) (pairs : List Pair) (q : Pair) (at 
             })
       ]
 
-  lowered : (list : List Sequence) → Stands runs list pairs → (i : ℕ) → i < length runs → (row_of (run_at runs i).text) ≡ (row_of (run_at runs turn).text)
+  lowered : (list : List Sequence) → AreRunsAfter runs list pairs → (i : ℕ) → i < length runs → (row_of (run_at runs i).text) ≡ (row_of (run_at runs turn).text)
       → takes i q ≡ q.size → lower (run_at list i) q.size ≡ standing runs pairs' i
   lowered list h i inside mine took =
       let more : taken (own runs pairs' i) i ≡ taken (own runs pairs i) i + q.size =
@@ -222,8 +222,8 @@ module _ (runs : List Sequence) (turn : ℕ) (pairs : List Pair) (q : Pair) (at 
       let set_left : ℕ → Sequence = λ x. record (run_at runs i) { remaining = x } in
       ap (λ r. lower r q.size) (h.stands i inside) ∙ ap set_left rest
 
-  pub stands_pair : (list : List Sequence) → Stands runs list pairs → turn < length runs →
-      Stands runs (after_taking list q.opener turn q.size) pairs'
+  pub stands_pair : (list : List Sequence) → AreRunsAfter runs list pairs → turn < length runs →
+      AreRunsAfter runs (after_taking list q.opener turn q.size) pairs'
   stands_pair list h here =
       let fits : turn < length list = (let e = h.same_length in omega arith) in
       let list' : List Sequence = after_taking list q.opener turn q.size in

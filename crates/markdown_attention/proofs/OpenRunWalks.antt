@@ -2,7 +2,7 @@
 use Rattle.std.proofs.Common.{◌≡◌, ℕ, zero, suc, ◌+◌, ◌-◌, ◌<◌, ◌≤◌, Bool, true, cond, ◌&&◌, eqb, leb, List, get_or, refl, sym, ◌∙◌, ap, subst, inl, inr, arith}
 use Rattle.std.proofs.lemmas.Bool.{cases_eq, cases_lt, cases_Bool, eq-eqb, ne_eqb, and_parts, and_from, le-leb, leb-true, both_ways, eqb-true}
 use Rattle.markdown_attention.specs.declared.attention.runs.Sequence.{Sequence}
-use Rattle.markdown_engine_content.specs.declared.configuration.ParseOptions.{ParseOptions}
+use Rattle.markdown_content.specs.declared.configuration.ParseOptions.{ParseOptions}
 use Rattle.markdown_attention.proofs.ProbePotential.{upto}
 use Rattle.markdown_attention.specs.OpenRuns.{Newest, Passed, Refused, WalkFound, WalkEnded}
 use Rattle.markdown_attention.proofs.ProbePotential.{upto_le, upto_add, upto_has, looked}

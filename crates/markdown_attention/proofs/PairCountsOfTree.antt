@@ -5,9 +5,9 @@ use Rattle.std.proofs.lemmas.Bool.{cases_lt, eq-eqb, ne_eqb, cases_Bool}
 use Rattle.std.proofs.lemmas.List.{length-map}
 use Rattle.std.proofs.lemmas.List.Elements.{All-head, All-tail}
 use Rattle.std.proofs.lemmas.List.Sums.{sum_by-append, sum_by-cons}
-use Rattle.markdown_engine_content.specs.Codes.{stop_of, document_start}
-use Rattle.markdown_engine_content.specs.Tree.{Forest, empty, leaf_then, group_then, event_count, start_of}
-use Rattle.markdown_engine_content.specs.declared.configuration.ParseOptions.{ParseOptions}
+use Rattle.markdown_content.specs.Codes.{stop_of, document_start}
+use Rattle.markdown_content.specs.Tree.{Forest, empty, leaf_then, group_then, event_count, start_of}
+use Rattle.markdown_content.specs.declared.configuration.ParseOptions.{ParseOptions}
 use Rattle.markdown_event.specs.declared.event.Name.{Name}
 use Rattle.markdown_event.specs.declared.event.Point.{Point}
 use Rattle.markdown_model.specs.InlineTree.{pair_count}
@@ -17,7 +17,7 @@ use Rattle.markdown_model.specs.Runs.{Run, runs_of, rows_inside, containers_of}
 use Rattle.markdown_model.specs.Setting.{Setting}
 use Rattle.markdown_model.proofs.PairListFacts.{pairs_are_sound}
 use Rattle.markdown_model.proofs.OnePairList.{some_pair_list, same_pair_list}
-use Rattle.markdown_attention.specs.RunContainers.{whole_shape, runs_in, placed, pairs_of, ArePairLists, AreWithin}
+use Rattle.markdown_attention.specs.RunContainers.{whole_shape, runs_in, placed, pairs_of, ArePairLists, ArePairsWithin}
 use Rattle.markdown_attention.specs.NumberedPairs.{row_of, run_at, pairs_in}
 use Rattle.markdown_attention.specs.RunsRead.{Container, row_around, is_run, is_text}
 use Rattle.markdown_attention.specs.RunsOfTree.{HasRows, leaf_run, inner, as_text, text_count, tree_runs, texts_of, HasRuns}
@@ -179,29 +179,29 @@ every-at P (x ∷ xs) zero l h = h.0
 every-at P (x ∷ xs) (suc i) l h = every-at P xs i (omega (arith, l)) h.1
 
 -- in this row, or in that of one of the texts
-abbrev Stays : ℕ → Texts → Sequence → Type 0
-Stays r xs q = (row_of q.text ≡ r) ⊎ (1 ≤ hits (row_of q.text) xs)
+abbrev IsInRowOrTexts : ℕ → Texts → Sequence → Type 0
+IsInRowOrTexts r xs q = (row_of q.text ≡ r) ⊎ (1 ≤ hits (row_of q.text) xs)
 
-module _ (tildes : Bool) (bytes : List ℕ) where
+module _ (options : ParseOptions) (bytes : List ℕ) where
   stays-tree : (t : Forest) (n i m : ℕ) (k : Container) →
-      Every (Stays (row_around k) (texts_of m t)) (tree_runs tildes bytes n i m k t)
+      Every (IsInRowOrTexts (row_around k) (texts_of m t)) (tree_runs options bytes n i m k t)
   stays-tree empty n i m k = tt
   stays-tree (leaf_then name link cs rest) n i m k =
-      let here : List Sequence = leaf_run tildes bytes n i k name (start_of cs) (stop_of document_start cs) in
-      let P : Sequence → Type 0 = Stays (row_around k) (texts_of m rest) in
+      let here : List Sequence = leaf_run options bytes n i k name (start_of cs) (stop_of document_start cs) in
+      let P : Sequence → Type 0 = IsInRowOrTexts (row_around k) (texts_of m rest) in
       let one : Every P here = elim (cases_Bool (is_run name)) [
-        | inl e ↦ subst (λ (xs : List Sequence). Every P xs) (sym (leaf-run-yes tildes bytes n i k name (start_of cs) (stop_of document_start cs) e)) (inl refl, tt)
-        | inr e ↦ subst (λ (xs : List Sequence). Every P xs) (sym (leaf-run-no tildes bytes n i k name (start_of cs) (stop_of document_start cs) e)) tt
+        | inl e ↦ subst (λ (xs : List Sequence). Every P xs) (sym (leaf-run-yes options bytes n i k name (start_of cs) (stop_of document_start cs) e)) (inl refl, tt)
+        | inr e ↦ subst (λ (xs : List Sequence). Every P xs) (sym (leaf-run-no options bytes n i k name (start_of cs) (stop_of document_start cs) e)) tt
       ] in
-      every-append P here (tree_runs tildes bytes (n + length here) (i + 2) m k rest) one (stays-tree rest (n + length here) (i + 2) m k)
+      every-append P here (tree_runs options bytes (n + length here) (i + 2) m k rest) one (stays-tree rest (n + length here) (i + 2) m k)
   stays-tree (group_then name a b inside rest) n i m k =
       let j : ℕ = i + 2 + event_count inside in
       let m' : ℕ = m + as_text name in
       let past : ℕ = m' + text_count inside in
       let whole : Texts = texts_of m (group_then name a b inside rest) in
-      let front : List Sequence = tree_runs tildes bytes n (i + 1) m' (inner i m k name) inside in
-      let back : List Sequence = tree_runs tildes bytes (n + length front) j past k rest in
-      let P : Sequence → Type 0 = Stays (row_around k) whole in
+      let front : List Sequence = tree_runs options bytes n (i + 1) m' (inner i m k name) inside in
+      let back : List Sequence = tree_runs options bytes (n + length front) j past k rest in
+      let P : Sequence → Type 0 = IsInRowOrTexts (row_around k) whole in
       let parts : (r : ℕ) → hits r whole ≡ hits r (own m name inside) + (hits r (texts_of m' inside) + hits r (texts_of past rest)) = λ r. group-sums (is_row r) m name a b inside rest in
       let outer : (q : Sequence) → row_of q.text ≡ row_around (inner i m k name) → P q = λ q e. elim (cases_Bool (is_text name)) [
         | inl x ↦
@@ -210,17 +210,17 @@ module _ (tildes : Bool) (bytes : List ℕ) where
             inr (omega (arith, parts (row_of q.text), one, row-yes (row_of q.text) (m + 1) (e ∙ at)))
         | inr x ↦ inl (e ∙ ap (λ (b : Bool). row_around (if b then Some (record { event = i; number = m }) else k)) x)
       ] in
-      let from_front : (q : Sequence) → Stays (row_around (inner i m k name)) (texts_of m' inside) q → P q = λ q h. elim h [
+      let from_front : (q : Sequence) → IsInRowOrTexts (row_around (inner i m k name)) (texts_of m' inside) q → P q = λ q h. elim h [
         | inl e ↦ outer q e
         | inr l ↦ inr (omega (arith, parts (row_of q.text), l))
       ] in
-      let from_back : (q : Sequence) → Stays (row_around k) (texts_of past rest) q → P q = λ q h. elim h [
+      let from_back : (q : Sequence) → IsInRowOrTexts (row_around k) (texts_of past rest) q → P q = λ q h. elim h [
         | inl e ↦ inl e
         | inr l ↦ inr (omega (arith, parts (row_of q.text), l))
       ] in
       every-append P front back
-      (every-map (Stays (row_around (inner i m k name)) (texts_of m' inside)) P front from_front (stays-tree inside n (i + 1) m' (inner i m k name)))
-      (every-map (Stays (row_around k) (texts_of past rest)) P back from_back (stays-tree rest (n + length front) j past k))
+      (every-map (IsInRowOrTexts (row_around (inner i m k name)) (texts_of m' inside)) P front from_front (stays-tree inside n (i + 1) m' (inner i m k name)))
+      (every-map (IsInRowOrTexts (row_around k) (texts_of past rest)) P back from_back (stays-tree rest (n + length front) j past k))
 
 -- Pairs by rows.
 
@@ -257,7 +257,7 @@ module _ (list : List Sequence) (texts : Texts) where
 empty-list : (s : Setting) → length (pair_list s []) ≡ 0
 empty-list s = let x = (pairs_are_sound s [] (pair_list s []) (some_pair_list s [])).half in omega (arith, x)
 
-module _ (s : Setting) (tildes : Bool) (bytes : List ℕ) (same : s.bytes ≡ bytes) (on : s.options.constructs.gfm_strikethrough ≡ tildes) (list : List Sequence) (pairs : List Pair) where
+module _ (s : Setting) (options : ParseOptions) (bytes : List ℕ) (same : s.bytes ≡ bytes) (given : s.options ≡ options) (list : List Sequence) (pairs : List Pair) where
   abbrev count_of : List Run → ℕ
   count_of rs = length (pair_list s rs)
 
@@ -296,16 +296,16 @@ module _ (s : Setting) (tildes : Bool) (bytes : List ℕ) (same : s.bytes ≡ by
             let w : sums of_row (own m name inside) ≡ of_row (m + 1) + 0 = own-yes of_row m name inside e in
             omega (arith, z.0, w)
         | inr e ↦
-            ap (λ z. count_of z) (none-in s tildes bytes same on inside (h.0.1 e)) ∙ empty-list s ∙ sym (own-no of_row m name inside e)
+            ap (λ z. count_of z) (none-in s options bytes same given inside (h.0.1 e)) ∙ empty-list s ∙ sym (own-no of_row m name inside e)
       ] in
       omega (arith, front, back, rows, first, it, group-sums of_row m name a b inside rest)
 
-module _ (s : Setting) (tildes : Bool) (bytes : List ℕ) (same : s.bytes ≡ bytes) (on : s.options.constructs.gfm_strikethrough ≡ tildes) (t : Forest) (h : HasRuns bytes t)
-    (options : ParseOptions) (given : s.options ≡ options) (pairs : List Pair) where
+module _ (s : Setting) (options : ParseOptions) (bytes : List ℕ) (same : s.bytes ≡ bytes) (given : s.options ≡ options) (t : Forest) (h : HasRuns bytes t)
+    (pairs : List Pair) where
   abbrev all_runs : List Sequence
-  all_runs = tree_runs tildes bytes 0 0 0 None t
+  all_runs = tree_runs options bytes 0 0 0 None t
 
-  module _ (lists : ArePairLists options all_runs pairs) (within : AreWithin all_runs pairs) where
+  module _ (lists : ArePairLists options all_runs pairs) (within : ArePairsWithin all_runs pairs) where
     counted : (k : Option ℕ) (rs : List Run) → map shape_of rs ≡ map whole_shape (runs_in (row_of k) all_runs) →
         length (pair_list s rs) ≡ length (pairs_in all_runs (row_of k) pairs)
     counted k rs e =
@@ -315,17 +315,17 @@ module _ (s : Setting) (tildes : Bool) (bytes : List ℕ) (same : s.bytes ≡ by
     abbrev IsShaped : ℕ × Forest → Type 0
     IsShaped text = map shape_of (runs_of s text.1) ≡ map whole_shape (runs_in (text.0 + 1) all_runs)
 
-    each-counted : (xs : Texts) → All IsShaped xs → EachText s tildes bytes same on all_runs pairs xs
+    each-counted : (xs : Texts) → All IsShaped xs → EachText s options bytes same given all_runs pairs xs
     each-counted [] a = tt
     each-counted (x ∷ xs) a =
         (counted (Some x.0) (runs_of s x.1) (All-head IsShaped x xs a), each-counted xs (All-tail IsShaped x xs a))
 
-    once-all : (ps : List Pair) → AreWithin all_runs ps → AreOnce all_runs (texts_of 0 t) ps
+    once-all : (ps : List Pair) → ArePairsWithin all_runs ps → AreOnce all_runs (texts_of 0 t) ps
     once-all [] w = tt
     once-all (p ∷ ps) w =
         let r : ℕ = row_of (run_at all_runs p.closer).text in
         let few : hits r (texts_of 0 t) ≤ 1 = hits-once t 0 r in
-        let here : is_row r 0 + hits r (texts_of 0 t) ≡ 1 = elim (every-at (Stays 0 (texts_of 0 t)) all_runs p.closer w.0.within (stays-tree tildes bytes t 0 0 0 None)) [
+        let here : is_row r 0 + hits r (texts_of 0 t) ≡ 1 = elim (every-at (IsInRowOrTexts 0 (texts_of 0 t)) all_runs p.closer w.0.within (stays-tree options bytes t 0 0 0 None)) [
           | inl e ↦
               let low : hits r (texts_of 0 t) ≡ 0 = hits-low t 0 r (omega (arith, e)) in
               omega (arith, row-yes r 0 e, low)
@@ -338,9 +338,9 @@ module _ (s : Setting) (tildes : Bool) (bytes : List ℕ) (same : s.bytes ≡ by
     pub pair-count : pair_count s t ≡ length pairs
     unfolding containers_of
     pair-count =
-        let rows : HasRows s t all_runs = has-rows s tildes bytes same on t h in
+        let rows : HasRows s t all_runs = has-rows s options bytes same given t h in
         let whole : length (pair_list s (runs_of s t)) ≡ length (pairs_in all_runs 0 pairs) = counted None (runs_of s t) rows.whole in
         let inside : sum_by (λ rs. length (pair_list s rs)) (rows_inside s t) ≡ sums (λ m. length (pairs_in all_runs m pairs)) (texts_of 0 t) =
-        rows-paired s tildes bytes same on all_runs pairs t 0 h (each-counted (texts_of 0 t) rows.texts) in
+        rows-paired s options bytes same given all_runs pairs t 0 h (each-counted (texts_of 0 t) rows.texts) in
         let sum : pair_count s t ≡ length (pair_list s (runs_of s t)) + sum_by (λ rs. length (pair_list s rs)) (rows_inside s t) = sum_by-cons (λ rs. length (pair_list s rs)) (runs_of s t) (rows_inside s t) in
         omega (arith, whole, inside, sum, pairs-once all_runs (texts_of 0 t) pairs (once-all pairs within))

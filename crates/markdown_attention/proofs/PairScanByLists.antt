@@ -5,11 +5,11 @@ use Rattle.std.proofs.lemmas.List.{length_push, get_or_append_left, get_or_push}
 use Rattle.std.specs.Prelude.{IsTrue, All}
 use Rattle.markdown_attention.specs.declared.attention.runs.Sequence.{Sequence}
 use Rattle.markdown_attention.specs.declared.attention.pairing.Pair.{Pair}
-use Rattle.markdown_engine_content.specs.declared.configuration.ParseOptions.{ParseOptions}
-use Rattle.markdown_attention.specs.NumberedPairs.{row_of, Eligible, IsNext, left, run_at, pairs_in, size_of_pair, after_taking, markers_left, taken, sizes_fit}
-use Rattle.markdown_attention.specs.PairScan.{Stands, standing, Whole}
+use Rattle.markdown_content.specs.declared.configuration.ParseOptions.{ParseOptions}
+use Rattle.markdown_attention.specs.NumberedPairs.{row_of, Eligible, IsNextNumbered, left, run_at, pairs_in, size_of_pair, after_taking, markers_left, taken, sizes_fit}
+use Rattle.markdown_attention.specs.PairScan.{AreRunsAfter, standing, AreUntaken}
 use Rattle.markdown_attention.proofs.ProbePotential.{upto, count_if, openers, closers}
-use Rattle.markdown_attention.specs.OpenRuns.{class_of, Newest, list_of, is_open, Refuses, Refused, CutFrom, IsCut, WalkFound, WalkEnded, mark_of}
+use Rattle.markdown_attention.specs.OpenRuns.{class_of, Newest, list_of, is_open, RefusesCloser, Refused, CutFrom, IsCut, WalkFound, WalkEnded, mark_of}
 use Rattle.markdown_attention.proofs.OpenRunLists.{Layout, ListsByMarker}
 use Rattle.markdown_attention.proofs.PairScanInvariant.{Scanned, scanned_none, scanned_next, scanned_pair}
 use Rattle.markdown_attention.proofs.RemainingSizes.{not_shut_past, markers_taking, taking_opener, fits_size}
@@ -28,10 +28,10 @@ pub record Lists (line : ℕ → ℕ) (options : ParseOptions) (runs : List Sequ
       Newest (list_of line runs) (is_open runs pairs) (list_of line runs r) r (get_or older r 0)
   pub marks_le : (k c : ℕ) → k < length heads → c < 6 → mark_of marks k c ≤ turn
   pub refusals : (r c : ℕ) → r < turn → c < 6 → is_open runs pairs r ≡ true → r < mark_of marks (list_of line runs r) c
-      → Refuses options (run_at runs r) (left runs (own runs pairs r) r) c
+      → RefusesCloser options (run_at runs r) (left runs (own runs pairs r) r) c
 
 pub record Inv (line : ℕ → ℕ) (options : ParseOptions) (runs list : List Sequence) (turn : ℕ) (pairs : List Pair) (probes : ℕ) (heads older marks : List ℕ) : Type 0 where
-  pub stands : Stands runs list pairs
+  pub stands : AreRunsAfter runs list pairs
   pub scanned : Scanned options runs turn pairs
   pub within : turn ≤ length runs
   pub half : 2 * length pairs + markers_left list ≤ markers_left runs
@@ -55,13 +55,13 @@ open_turn runs pairs turn up may some =
     })
 
 -- the test on two runs as they stand
-pub standing_fit : (options : ParseOptions) (runs list : List Sequence) (pairs : List Pair) (o c : ℕ) → Stands runs list pairs → o < length runs → c < length runs
+pub standing_fit : (options : ParseOptions) (runs list : List Sequence) (pairs : List Pair) (o c : ℕ) → AreRunsAfter runs list pairs → o < length runs → c < length runs
     → sizes_fit options (run_at list o) (run_at list c) (run_at list o).remaining (run_at list c).remaining
     ≡ sizes_fit options (run_at runs o) (run_at runs c) (left runs (own runs pairs o) o) (left runs (own runs pairs c) c)
 unfolding sizes_fit
 standing_fit options runs list pairs o c h lo lc = rw (h.stands o lo, h.stands c lc) refl
 
-pub standing_class : (options : ParseOptions) (runs list : List Sequence) (pairs : List Pair) (c : ℕ) → Stands runs list pairs → c < length runs
+pub standing_class : (options : ParseOptions) (runs list : List Sequence) (pairs : List Pair) (c : ℕ) → AreRunsAfter runs list pairs → c < length runs
     → class_of options (run_at list c) (run_at list c).remaining ≡ class_of options (run_at runs c) (left runs (own runs pairs c) c)
 unfolding class_of
 standing_class options runs list pairs c h lc = rw (h.stands c lc) refl
@@ -120,7 +120,7 @@ module _ (layout : Layout) (options : ParseOptions) (runs list : List Sequence) 
       → (is_open runs pairs turn ≡ false → get_or heads' k 0 ≡ get_or heads k 0)
       → ((i c : ℕ) → i < length heads → c < 6 → mark_of marks' i c ≤ turn)
       → ((r c : ℕ) → r < turn → c < 6 → is_open runs pairs r ≡ true → r < mark_of marks' (list_of layout.line runs r) c
-      → Refuses options (run_at runs r) (left runs (own runs pairs r) r) c)
+      → RefusesCloser options (run_at runs r) (left runs (own runs pairs r) r) c)
       → probes' + upto (kept (list_of layout.line runs) (is_open runs pairs) (mark_of marks')) turn
       ≤ 6 * openers runs turn + closers runs turn + 7 * length pairs + count_if (run_at runs turn).may_close
       → Inv layout.line options runs list (turn + 1) pairs probes' heads' (older ++ get_or heads k 0 ∷ []) marks'
@@ -212,7 +212,7 @@ module _ (layout : Layout) (options : ParseOptions) (runs list : List Sequence) 
   -- a refused run refuses the whole class
   refuses : (r : ℕ) → r < turn → list_of layout.line runs r ≡ k
       → sizes_fit options (run_at runs r) (run_at runs turn) (left runs (own runs pairs r) r) (left runs (own runs pairs turn) turn) ≡ false
-      → Refuses options (run_at runs r) (left runs (own runs pairs r) r) class
+      → RefusesCloser options (run_at runs r) (left runs (own runs pairs r) r) class
   refuses r l key unfit = λ b y m e.
       class_decides options (run_at runs r) b (run_at runs turn) (left runs (own runs pairs r) r) y (left runs (own runs pairs turn) turn)
       (m ∙ same_marker layout runs r turn by (omega arith) here key) (e ∙ sym class_is)
@@ -222,7 +222,7 @@ module _ (layout : Layout) (options : ParseOptions) (runs list : List Sequence) 
       → sizes_fit options (run_at runs r) (run_at runs turn) (left runs (own runs pairs r) r) (left runs (own runs pairs turn) turn) ≡ false
   unfit_of mark r l f = sym (standing_fit options runs list pairs r turn h.stands (omega arith) here) ∙ f.unfit
 
-  refused_class : (r : ℕ) → r < turn → list_of layout.line runs r ≡ k → Refuses options (run_at runs r) (left runs (own runs pairs r) r) class
+  refused_class : (r : ℕ) → r < turn → list_of layout.line runs r ≡ k → RefusesCloser options (run_at runs r) (left runs (own runs pairs r) r) class
       → sizes_fit options (run_at runs r) (run_at runs turn) (left runs (own runs pairs r) r) (left runs (own runs pairs turn) turn) ≡ false
   refused_class r l key f =
       f (run_at runs turn) (left runs (own runs pairs turn) turn) (sym (same_marker layout runs r turn by (omega arith) here key)) class_is
@@ -243,7 +243,7 @@ module _ (layout : Layout) (options : ParseOptions) (runs list : List Sequence) 
       let n = none_open options list older (mark_of marks k class) turn (list_of layout.line runs) (is_open runs pairs) k h.lists.older_are (get_or heads k 0) looks
       (h.lists.heads_are k (keys turn here)) walk in
       let small : class < 6 = class_small options (run_at list turn) (run_at list turn).remaining in
-      let refused_all : (r : ℕ) → r < turn → list_of layout.line runs r ≡ k → is_open runs pairs r ≡ true → Refuses options (run_at runs r) (left runs (own runs pairs r) r) class =
+      let refused_all : (r : ℕ) → r < turn → list_of layout.line runs r ≡ k → is_open runs pairs r ≡ true → RefusesCloser options (run_at runs r) (left runs (own runs pairs r) r) class =
       λ r l key e. elim (cases_lt r (mark_of marks k class)) [
         | inl below ↦ h.lists.refusals r class l small e (subst (λ x. r < mark_of marks x class) (sym key) below)
         | inr above ↦ refuses r l key (unfit_of (mark_of marks k class) r l (n.refused r above l key e))
@@ -263,7 +263,7 @@ module _ (layout : Layout) (options : ParseOptions) (runs list : List Sequence) 
       (λ r c lr lc e low. elim (cases_eq (list_of layout.line runs r) k) [
         | inr ne ↦ h.lists.refusals r c lr lc e (let s = same_list (list_of layout.line runs r) c lc ne in omega arith)
         | inl key ↦ elim (cases_eq c class) [
-          | inl e' ↦ subst (λ x. Refuses options (run_at runs r) (left runs (own runs pairs r) r) x) (sym e') (refused_all r lr key e)
+          | inl e' ↦ subst (λ x. RefusesCloser options (run_at runs r) (left runs (own runs pairs r) r) x) (sym e') (refused_all r lr key e)
           | inr ne ↦ h.lists.refusals r c lr lc e (let s : mark_of marks' (list_of layout.line runs r) c ≡ mark_of marks (list_of layout.line runs r) c = rw key (same_class c lc ne) in omega arith)
         ]
       ])
@@ -293,7 +293,7 @@ module _ (layout : Layout) (options : ParseOptions) (runs list : List Sequence) 
         eligible_open layout options runs pairs o turn by before here found.listed found.is_open closes some_left
         (sym (standing_fit options runs list pairs o turn h.stands (omega arith) here) ∙ walk.fit)
 
-    is_next : IsNext options runs (row_of (run_at runs turn).text) (own runs pairs turn) turn q
+    is_next : IsNextNumbered options runs (row_of (run_at runs turn).text) (own runs pairs turn) turn q
     is_next =
         let before : o < turn = found.before in
         let c_is : run_at list turn ≡ standing runs pairs turn = h.stands.stands turn here in
@@ -429,7 +429,7 @@ module _ (layout : Layout) (options : ParseOptions) (runs list : List Sequence) 
             ];
             refusals = λ r c l lc e low.
                 let s = still_open runs turn pairs q refl before one r l e in
-                let old : (r ≡ o → ⊥) → r < mark_of marks (list_of layout.line runs r) c → Refuses options (run_at runs r) (left runs (own runs (pairs ++ q ∷ []) r) r) c =
+                let old : (r ≡ o → ⊥) → r < mark_of marks (list_of layout.line runs r) c → RefusesCloser options (run_at runs r) (left runs (own runs (pairs ++ q ∷ []) r) r) c =
                 (λ ne lm. rw (left_kept runs turn pairs q refl before one r ne (λ x. omega arith)) (h.lists.refusals r c l lc s.0 lm)) in
                 elim (cases_eq (list_of layout.line runs r) k) [
                   | inr ne ↦ old (λ at. ne (ap (λ x. list_of layout.line runs x) at ∙ found.listed)) (let t = same_list (list_of layout.line runs r) c lc ne in omega arith)
@@ -446,7 +446,7 @@ module _ (layout : Layout) (options : ParseOptions) (runs list : List Sequence) 
         }
 
 -- the start
-pub inv_start : (layout : Layout) (options : ParseOptions) (runs : List Sequence) (heads marks : List ℕ) → Whole runs
+pub inv_start : (layout : Layout) (options : ParseOptions) (runs : List Sequence) (heads marks : List ℕ) → AreUntaken runs
     → ((i : ℕ) → get_or heads i 0 ≡ 0) → ((i : ℕ) → get_or marks i 0 ≡ 0) → Inv layout.line options runs runs 0 [] 0 heads [] marks
 unfolding taken
 inv_start layout options runs heads marks whole no_heads no_marks =

@@ -5,9 +5,9 @@ use Rattle.std.proofs.lemmas.List.Elements.{All-head, All-tail, All-push, All-ni
 use Rattle.std.specs.Prelude.{All}
 use Rattle.markdown_attention.specs.declared.attention.runs.Sequence.{Sequence}
 use Rattle.markdown_attention.specs.declared.attention.pairing.Pair.{Pair}
-use Rattle.markdown_engine_content.specs.declared.configuration.ParseOptions.{ParseOptions}
-use Rattle.markdown_attention.specs.RunContainers.{AreWithin, AreTakenOnce}
-use Rattle.markdown_attention.specs.NumberedPairs.{row_of, Eligible, IsNext, PairsFrom, NoneEligible, run_at, pairs_in, taken, takes, left}
+use Rattle.markdown_content.specs.declared.configuration.ParseOptions.{ParseOptions}
+use Rattle.markdown_attention.specs.RunContainers.{ArePairsWithin, AreTakenOnce}
+use Rattle.markdown_attention.specs.NumberedPairs.{row_of, Eligible, IsNextNumbered, PairsFrom, NoneEligibleBetween, run_at, pairs_in, taken, takes, left}
 use Rattle.markdown_attention.proofs.RemainingSizes.{taken_push, takes_opener, takes_closer, takes_other, fits_size}
 
 module _ (options : ParseOptions) (runs : List Sequence) (k : ℕ) where
@@ -32,15 +32,15 @@ module _ (options : ParseOptions) (runs : List Sequence) (k : ℕ) where
 
   pub pairs_push : (end : ℕ) (done : List Pair) (last : ℕ) (ps : List Pair) (q : Pair)
       → PairsFrom options runs k end done last ps → last ≤ end → All (λ p. p.closer ≤ end) ps → q.closer ≡ end
-      → IsNext options runs k (done ++ ps) end q
+      → IsNextNumbered options runs k (done ++ ps) end q
       → PairsFrom options runs k end done last (ps ++ q ∷ [])
   pairs_push end done last [] q h up all at next =
-      let next' : IsNext options runs k done end q = subst (λ x. IsNext options runs k x end q) (append-nil done) next in (
+      let next' : IsNextNumbered options runs k done end q = subst (λ x. IsNextNumbered options runs k x end q) (append-nil done) next in (
         record {
           eligible = next'.eligible;
           size = next'.size;
           forward = omega arith;
-          leftmost = subst (λ x. NoneEligible options runs k done last x) (sym at) h;
+          leftmost = subst (λ x. NoneEligibleBetween options runs k done last x) (sym at) h;
           nearest = next'.nearest;
         },
         (λ o c low high e. absurd (omega arith)),
@@ -49,7 +49,7 @@ module _ (options : ParseOptions) (runs : List Sequence) (k : ℕ) where
     h.0,
     pairs_push end (done ++ p ∷ []) p.closer ps q h.1 (All-head (λ p. p.closer ≤ end) p ps all)
         (All-tail (λ p. p.closer ≤ end) p ps all) at
-        (subst (λ x. IsNext options runs k x end q) (sym (append_assoc done (p ∷ []) ps)) next),
+        (subst (λ x. IsNextNumbered options runs k x end q) (sym (append_assoc done (p ∷ []) ps)) next),
   )
 
 pub record Scanned (options : ParseOptions) (runs : List Sequence) (turn : ℕ) (pairs : List Pair) : Type 0 where
@@ -86,7 +86,7 @@ module _ (options : ParseOptions) (runs : List Sequence) where
       }
 
   pub scanned_pair : (turn : ℕ) (pairs : List Pair) (q : Pair) → Scanned options runs turn pairs → q.closer ≡ turn
-      → IsNext options runs (row_of (run_at runs turn).text) (pairs_in runs (row_of (run_at runs turn).text) pairs) turn q
+      → IsNextNumbered options runs (row_of (run_at runs turn).text) (pairs_in runs (row_of (run_at runs turn).text) pairs) turn q
       → Scanned options runs turn (pairs ++ q ∷ [])
   scanned_pair turn pairs q h at next =
       record {
@@ -96,7 +96,7 @@ module _ (options : ParseOptions) (runs : List Sequence) where
               subst (λ x. PairsFrom options runs k turn [] 0 x) (sym (in_own runs k pairs q own))
               (pairs_push options runs k turn [] 0 (pairs_in runs k pairs) q (h.lists k) (omega arith)
               (All-filter (λ p. eqb (row_of (run_at runs p.closer).text) k) (λ p. p.closer ≤ turn) pairs h.closers) at
-              (subst (λ x. IsNext options runs x (pairs_in runs x pairs) turn q) own' next))
+              (subst (λ x. IsNextNumbered options runs x (pairs_in runs x pairs) turn q) own' next))
           | inr other ↦ subst (λ x. PairsFrom options runs k turn [] 0 x) (sym (in_other runs k pairs q other)) (h.lists k)
         ];
         closers = All-push (λ p. p.closer ≤ turn) pairs q h.closers (omega arith);
@@ -104,35 +104,35 @@ module _ (options : ParseOptions) (runs : List Sequence) where
 
 -- the pairs are of two runs of one container
 within-from : (options : ParseOptions) (runs : List Sequence) (k end : ℕ) (done : List Pair) (last : ℕ) (ps : List Pair) →
-    PairsFrom options runs k end done last ps → AreWithin runs ps
+    PairsFrom options runs k end done last ps → ArePairsWithin runs ps
 within-from options runs k end done last [] h = tt
 within-from options runs k end done last (p ∷ ps) h =
     let e = h.0.eligible in
     (record { order = e.before; within = e.within; row = e.opener_in ∙ sym e.closer_in }, within-from options runs k end (done ++ p ∷ []) p.closer ps h.1)
 
 -- what holds of the pairs of each container holds of all
-within-each : (runs : List Sequence) (ps : List Pair) → ((k : ℕ) → AreWithin runs (pairs_in runs k ps)) →
-    AreWithin runs ps
+within-each : (runs : List Sequence) (ps : List Pair) → ((k : ℕ) → ArePairsWithin runs (pairs_in runs k ps)) →
+    ArePairsWithin runs ps
 within-each runs [] h = tt
 within-each runs (p ∷ ps) h =
     let k : ℕ = row_of (run_at runs p.closer).text in (
-      (subst (λ (b : Bool). AreWithin runs (cond b (p ∷ pairs_in runs k ps) (pairs_in runs k ps))) (eq-eqb k k refl) (h k)).0,
+      (subst (λ (b : Bool). ArePairsWithin runs (cond b (p ∷ pairs_in runs k ps) (pairs_in runs k ps))) (eq-eqb k k refl) (h k)).0,
       within-each runs ps (λ j. rest j (eqb k j) (h j)),
     )
   where
-    rest : (j : ℕ) (b : Bool) → AreWithin runs (cond b (p ∷ pairs_in runs j ps) (pairs_in runs j ps)) →
-        AreWithin runs (pairs_in runs j ps)
+    rest : (j : ℕ) (b : Bool) → ArePairsWithin runs (cond b (p ∷ pairs_in runs j ps) (pairs_in runs j ps)) →
+        ArePairsWithin runs (pairs_in runs j ps)
     rest j true a = a.1
     rest j false a = a
 
 pub all-within : (options : ParseOptions) (runs : List Sequence) (turn : ℕ) (pairs : List Pair) →
-    Scanned options runs turn pairs → AreWithin runs pairs
+    Scanned options runs turn pairs → ArePairsWithin runs pairs
 all-within options runs turn pairs h =
     within-each runs pairs (λ k. within-from options runs k turn [] 0 (pairs_in runs k pairs) (h.lists k))
 
 -- of a run no more is taken than it has
 once-next : (options : ParseOptions) (runs : List Sequence) (k : ℕ) (done : List Pair) (last : ℕ) (p : Pair) (g : ℕ) →
-    IsNext options runs k done last p → taken done g ≤ (run_at runs g).size →
+    IsNextNumbered options runs k done last p → taken done g ≤ (run_at runs g).size →
     taken (done ++ p ∷ []) g ≤ (run_at runs g).size
 once-next options runs k done last p g n h =
     let f = fits_size (left runs done p.opener) (left runs done p.closer) p.size n.eligible.opener_left n.eligible.closer_left n.size in

@@ -7,17 +7,18 @@ use Rattle.std.proofs.lemmas.List.Sums.{sum_by-cons}
 use Rattle.std.specs.Prelude.{All, sum_by, min}
 use Rattle.std.proofs.Math.Bool.{and-false}
 use Rattle.std.specs.List.{list_any}
-use Rattle.markdown_engine_content.specs.declared.configuration.ParseOptions.{ParseOptions}
+use Rattle.markdown_content.specs.CommonMark.{rules_of}
+use Rattle.markdown_content.specs.declared.configuration.ParseOptions.{ParseOptions}
 use Rattle.markdown_model.specs.Laws.{shape_of}
 use Rattle.markdown_model.specs.Pairs as Model
 use Rattle.markdown_model.specs.Runs.{Run, marker_of}
-use Rattle.markdown_model.specs.Setting.{Setting}
+use Rattle.markdown_model.specs.Setting.{Setting, rules}
 use Rattle.markdown_attention.specs.RunContainers.{whole_shape, is_in, runs_in, place_in, placed, ArePairLists}
-use Rattle.markdown_attention.specs.NumberedPairs.{row_of, Eligible, IsNext, PairsFrom, left, run_at, taken, takes, is_shut, is_around, sizes_fit, ruled_size, size_of_pair, is_tilde_pair, is_refused_by_three, AreItsPairs, pairs_in}
+use Rattle.markdown_attention.specs.NumberedPairs.{row_of, Eligible, IsNextNumbered, PairsFrom, left, run_at, taken, takes, is_shut, is_around, sizes_fit, ruled_size, size_of_pair, is_tilde_pair, is_refused_by_three, AreItsPairs, pairs_in}
 use Rattle.markdown_attention.specs.declared.attention.pairing.Pair.{Pair}
 use Rattle.markdown_attention.specs.declared.attention.runs.Sequence.{Sequence}
 use Rattle.markdown_attention.proofs.RemainingSizes.{taken_push, takes_opener, takes_closer, takes_other}
-use Rattle.markdown_attention.proofs.RunNumbers.{Placed, place, find, place-order, same-shape, same-length}
+use Rattle.markdown_attention.proofs.RunNumbers.{StandsAtNumber, place, find, place-order, same-shape, same-length}
 
 -- The two rules on sizes.
 
@@ -42,7 +43,7 @@ IsTildeWhole r x = r.marker ≡ 126 → 0 < x → x ≡ r.size
 -- the size read of a whole run
 read-whole : (options : ParseOptions) (size x : ℕ) → x ≡ size → ruled_size options size x ≡ x
 read-whole options size x e =
-    elim (cases_Bool options.attention_first_lengths) [ inl w ↦ rw w (sym e) | inr r ↦ rw r refl ]
+    elim (cases_Bool (rules_of options).whole_lengths) [ inl w ↦ rw w (sym e) | inr r ↦ rw r refl ]
 
 -- what sizes of tildes the rule for them allows
 tilde-sizes : (options : ParseOptions) (x y : ℕ) → is_tilde_pair options x y ≡ true → (x ≡ y) × ((y ≡ 2) ⊎ (y ≡ 1))
@@ -123,7 +124,7 @@ module _ (options : ParseOptions) (runs : List Sequence) (k : ℕ) where
   unfolding taken
   whole-start i t l = omega arith
 
-  sizes-pair : (done : List Pair) (last : ℕ) (p : Pair) → IsNext options runs k done last p → (run_at runs p.closer).marker ≡ 126
+  sizes-pair : (done : List Pair) (last : ℕ) (p : Pair) → IsNextNumbered options runs k done last p → (run_at runs p.closer).marker ≡ 126
       → (p.size ≡ left runs done p.opener) × (p.size ≡ left runs done p.closer)
   unfolding sizes_fit
   sizes-pair done last p n is =
@@ -132,7 +133,7 @@ module _ (options : ParseOptions) (runs : List Sequence) (k : ℕ) where
       let all = n.size ∙ size-all (left runs done p.opener) (left runs done p.closer) t.0 t.1 in
       (all, all ∙ t.0)
 
-  whole-pair : (done : List Pair) (last : ℕ) (p : Pair) → IsNext options runs k done last p → AreTildesWhole done →
+  whole-pair : (done : List Pair) (last : ℕ) (p : Pair) → IsNextNumbered options runs k done last p → AreTildesWhole done →
       AreTildesWhole (done ++ p ∷ [])
   whole-pair done last p n w i is some =
       elim (cases_eq i p.opener) [
@@ -157,7 +158,7 @@ module _ (options : ParseOptions) (runs : List Sequence) (k : ℕ) where
 -- Runs and pairs by the numbers in the container.
 
 -- run j of the definition's is run i
-pub record Stands (runs : List Sequence) (rs : List Run) (i j : ℕ) : Type 0 where
+pub record IsSameRun (runs : List Sequence) (rs : List Run) (i j : ℕ) : Type 0 where
   pub marker : marker_of (Model.run_at rs j).codes ≡ (run_at runs i).marker
   pub size : length (Model.run_at rs j).codes ≡ (run_at runs i).size
   pub may_open : (Model.run_at rs j).may_open ≡ (run_at runs i).may_open
@@ -171,17 +172,17 @@ module _ (s : Setting) (runs : List Sequence) (k : ℕ) (rs : List Run) (shapes 
     pub within : i < length runs
     pub inside : row_of (run_at runs i).text ≡ k
 
-  record Both (p : Pair) : Type 0 where
+  record AreBothMembers (p : Pair) : Type 0 where
     pub opener : Member p.opener
     pub closer : Member p.closer
 
   in-row : (i : ℕ) → Member i → is_in k (run_at runs i) ≡ true
   in-row i a = eq-eqb (row_of (run_at runs i).text) k a.inside
 
-  at-place : (i : ℕ) → Member i → Placed k runs i
+  at-place : (i : ℕ) → Member i → StandsAtNumber k runs i
   at-place i a = place k runs i a.within (in-row i a)
 
-  stands : (i : ℕ) → Member i → Stands runs rs i (f i)
+  stands : (i : ℕ) → Member i → IsSameRun runs rs i (f i)
   stands i a =
       let e : shape_of (Model.run_at rs (f i)) ≡ whole_shape (run_at runs i) = same-shape rs (runs_in k runs) shapes (f i) ∙ ap whole_shape (at-place i a).is in
       record { marker = ap (λ x. x.marker) e; size = ap (λ x. x.size) e; may_open = ap (λ x. x.may_open) e; may_close = ap (λ x. x.may_close) e }
@@ -224,46 +225,46 @@ module _ (s : Setting) (runs : List Sequence) (k : ℕ) (rs : List Run) (shapes 
   abbrev moved : List Pair → List Model.Pair
   moved done = map (placed k runs) done
 
-  takes_same : (i : ℕ) (p : Pair) → Member i → Both p → Model.taken_by (f i) (placed k runs p) ≡ takes i p
+  takes_same : (i : ℕ) (p : Pair) → Member i → AreBothMembers p → Model.taken_by (f i) (placed k runs p) ≡ takes i p
   takes_same i p a b = rw (eqb_same p.opener i b.opener a, eqb_same p.closer i b.closer a)
 
-  around_same : (i : ℕ) (p : Pair) → Member i → Both p →
+  around_same : (i : ℕ) (p : Pair) → Member i → AreBothMembers p →
       Model.is_strictly_within (f i) (placed k runs p) ≡ is_around i p
   around_same i p a b = rw (ltb_same p.opener i b.opener a, ltb_same i p.closer a b.closer)
 
-  taken_same : (done : List Pair) (i : ℕ) → Member i → All Both done →
+  taken_same : (done : List Pair) (i : ℕ) → Member i → All AreBothMembers done →
       sum_by (Model.taken_by (f i)) (moved done) ≡ taken done i
   unfolding taken
   taken_same [] i a h = refl
   taken_same (p ∷ ps) i a h =
       sum_by-cons (Model.taken_by (f i)) (placed k runs p) (moved ps)
-      ∙ ap (λ x. x + sum_by (Model.taken_by (f i)) (moved ps)) (takes_same i p a (All-head Both p ps h))
-      ∙ ap (λ x. takes i p + x) (taken_same ps i a (All-tail Both p ps h))
+      ∙ ap (λ x. x + sum_by (Model.taken_by (f i)) (moved ps)) (takes_same i p a (All-head AreBothMembers p ps h))
+      ∙ ap (λ x. takes i p + x) (taken_same ps i a (All-tail AreBothMembers p ps h))
       ∙ sym (sum_by-cons (takes i) p ps)
 
-  shut_same : (done : List Pair) (i : ℕ) → Member i → All Both done →
+  shut_same : (done : List Pair) (i : ℕ) → Member i → All AreBothMembers done →
       list_any (Model.is_strictly_within (f i)) (moved done) ≡ is_shut done i
   unfolding is_shut
   shut_same [] i a h = refl
   shut_same (p ∷ ps) i a h =
-      ap (λ x. x || list_any (Model.is_strictly_within (f i)) (moved ps)) (around_same i p a (All-head Both p ps h))
-      ∙ ap (λ x. is_around i p || x) (shut_same ps i a (All-tail Both p ps h))
+      ap (λ x. x || list_any (Model.is_strictly_within (f i)) (moved ps)) (around_same i p a (All-head AreBothMembers p ps h))
+      ∙ ap (λ x. is_around i p || x) (shut_same ps i a (All-tail AreBothMembers p ps h))
 
-  left_same : (done : List Pair) (i : ℕ) → Member i → All Both done →
+  left_same : (done : List Pair) (i : ℕ) → Member i → All AreBothMembers done →
       Model.remaining rs (moved done) (f i) ≡ left runs done i
   left_same done i a h = rw ((stands i a).size, taken_same done i a h) refl
 
-  ruled_same : (done : List Pair) (i : ℕ) → Member i → All Both done →
+  ruled_same : (done : List Pair) (i : ℕ) → Member i → All AreBothMembers done →
       Model.ruled_size s rs (moved done) (f i) ≡ ruled_size s.options (run_at runs i).size (left runs done i)
-  ruled_same done i a h = λ z. cond s.options.attention_first_lengths ((stands i a).size z) (left_same done i a h z)
+  ruled_same done i a h = λ z. cond (rules s).whole_lengths ((stands i a).size z) (left_same done i a h z)
 
-  three_same : (done : List Pair) (o c : ℕ) → Member o → Member c → All Both done
+  three_same : (done : List Pair) (o c : ℕ) → Member o → Member c → All AreBothMembers done
       → Model.is_refused_by_three s rs (moved done) (f o) (f c) ≡ three s.options (run_at runs o) (run_at runs c) (left runs done o) (left runs done c)
   three_same done o c a b h = λ z.
       ((stands o a).may_close z || (stands c b).may_open z)
       && (not (eqb (ruled_same done c b h z % 3) 0) && eqb ((ruled_same done o a h z + ruled_same done c b h z) % 3) 0)
 
-  tilde_same : (done : List Pair) (o c : ℕ) → Member o → Member c → All Both done
+  tilde_same : (done : List Pair) (o c : ℕ) → Member o → Member c → All AreBothMembers done
       → Model.is_refused_as_tilde s rs (moved done) (f o) (f c) ≡ tilde s.options (run_at runs o).marker (left runs done o) (left runs done c)
   tilde_same done o c a b h = λ z.
       eqb ((stands o a).marker z) 126
@@ -276,7 +277,7 @@ module _ (s : Setting) (runs : List Sequence) (k : ℕ) (rs : List Run) (shapes 
   closer_of : (done : List Pair) (o c : ℕ) → Eligible s.options runs k done o c → Member c
   closer_of done o c e = record { within = e.within; inside = e.closer_in }
 
-  eligible_to : (done : List Pair) (o c : ℕ) → All Both done → AreTildesWhole s.options runs k done → Eligible s.options runs k done o c
+  eligible_to : (done : List Pair) (o c : ℕ) → All AreBothMembers done → AreTildesWhole s.options runs k done → Eligible s.options runs k done o c
       → Model.IsEligible s rs (moved done) (f o) (f c)
   eligible_to done o c h w e =
       let a = opener_of done o c e in
@@ -295,7 +296,7 @@ module _ (s : Setting) (runs : List Sequence) (k : ℕ) (rs : List Run) (shapes 
         tilde = tilde_same done o c a b h ∙ r.1;
       }
 
-  eligible_from : (done : List Pair) (o c : ℕ) → All Both done → Member o → Member c
+  eligible_from : (done : List Pair) (o c : ℕ) → All AreBothMembers done → Member o → Member c
       → Model.IsEligible s rs (moved done) (f o) (f c) → Eligible s.options runs k done o c
   eligible_from done o c h a b e =
       let one : (run_at runs o).marker ≡ (run_at runs c).marker = sym (stands o a).marker ∙ e.one_marker ∙ (stands c b).marker in
@@ -329,7 +330,7 @@ module _ (s : Setting) (runs : List Sequence) (k : ℕ) (rs : List Run) (shapes 
     pub closer : Source c
     pub eligible : Eligible s.options runs k done opener.run closer.run
 
-  back : (done : List Pair) (o c : ℕ) → All Both done → Model.IsEligible s rs (moved done) o c → Back done o c
+  back : (done : List Pair) (o c : ℕ) → All AreBothMembers done → Model.IsEligible s rs (moved done) o c → Back done o c
   back done o c h e =
       let a : Source o = source o (let x = e.in_order in let y = e.in_container in omega arith) in
       let b : Source c = source c e.in_container in
@@ -350,8 +351,9 @@ module _ (s : Setting) (runs : List Sequence) (k : ℕ) (rs : List Run) (shapes 
         | inr one ↦ rw (le-ltb 1 x one) (omega arith)
       ]
 
-  next_to : (done : List Pair) (last last' : ℕ) (p : Pair) → All Both done → AreTildesWhole s.options runs k done → SamePlace last last' → Both p
-      → IsNext s.options runs k done last p → Model.IsNextPair s rs (moved done) last' (placed k runs p)
+  next_to : (done : List Pair) (last last' : ℕ) (p : Pair) → All AreBothMembers done → AreTildesWhole s.options runs k done → SamePlace last last' →
+      AreBothMembers p
+      → IsNextNumbered s.options runs k done last p → Model.IsNextPair s rs (moved done) last' (placed k runs p)
   next_to done last last' p h w at b n =
       record {
         eligible = eligible_to done p.opener p.closer h w n.eligible;
@@ -373,7 +375,7 @@ module _ (s : Setting) (runs : List Sequence) (k : ℕ) (rs : List Run) (shapes 
             n.nearest a.run (lt_from p.opener a.run b.opener a.member above') e';
       }
 
-  pairs_to : (done : List Pair) (last last' : ℕ) (ps : List Pair) → All Both done → AreTildesWhole s.options runs k done → SamePlace last last'
+  pairs_to : (done : List Pair) (last last' : ℕ) (ps : List Pair) → All AreBothMembers done → AreTildesWhole s.options runs k done → SamePlace last last'
       → PairsFrom s.options runs k (length runs) done last ps
       → Model.ArePairsFrom s rs (length rs) (moved done) last' (moved ps)
   pairs_to done last last' [] h w at n =
@@ -382,19 +384,19 @@ module _ (s : Setting) (runs : List Sequence) (k : ℕ) (rs : List Run) (shapes 
       let low' : last' ≤ f z.closer.run = (let i = z.closer.is in omega arith) in
       n z.opener.run z.closer.run (at.from z.closer.run z.closer.member low') z.closer.member.within z.eligible
   pairs_to done last last' (p ∷ ps) h w at n =
-      let b : Both p = record { opener = opener_of done p.opener p.closer n.0.eligible; closer = closer_of done p.opener p.closer n.0.eligible } in
+      let b : AreBothMembers p = record { opener = opener_of done p.opener p.closer n.0.eligible; closer = closer_of done p.opener p.closer n.0.eligible } in
       let at' : SamePlace p.closer (f p.closer) = record {
         to = λ c m l. le_to p.closer c b.closer m l;
         from = λ c m l. le_from p.closer c b.closer m l;
       } in (
         next_to done last last' p h w at b n.0,
         subst (λ x. Model.ArePairsFrom s rs (length rs) x (f p.closer) (moved ps)) (map_push (placed k runs) done p)
-            (pairs_to (done ++ p ∷ []) p.closer (f p.closer) ps (All-push Both done p h b) (whole-pair s.options runs k done last p n.0 w) at' n.1),
+            (pairs_to (done ++ p ∷ []) p.closer (f p.closer) ps (All-push AreBothMembers done p h b) (whole-pair s.options runs k done last p n.0 w) at' n.1),
       )
 
   pub to-model : (pairs : List Pair) → AreItsPairs s.options runs k pairs → Model.IsPairList s rs (moved pairs)
   to-model pairs h =
-      pairs_to [] 0 0 pairs (All-nil Both) (whole-start s.options runs k) (record { to = λ c m l. omega arith; from = λ c m l. omega arith }) h
+      pairs_to [] 0 0 pairs (All-nil AreBothMembers) (whole-start s.options runs k) (record { to = λ c m l. omega arith; from = λ c m l. omega arith }) h
 
 pub are-pair-lists : (options : ParseOptions) (runs : List Sequence) (pairs : List Pair)
     → ((k : ℕ) → AreItsPairs options runs k (pairs_in runs k pairs)) → ArePairLists options runs pairs

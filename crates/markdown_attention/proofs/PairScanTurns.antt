@@ -5,7 +5,7 @@ use Rattle.std.proofs.lemmas.List.{get_or-set_same, get_or-set_other, get_or-rep
 use Rattle.std.specs.Prelude.{IsTrue, IsFalse}
 use Rattle.markdown_attention.specs.declared.attention.runs.Sequence.{Sequence}
 use Rattle.markdown_attention.specs.declared.attention.pairing.Pair.{Pair}
-use Rattle.markdown_engine_content.specs.declared.configuration.ParseOptions.{ParseOptions}
+use Rattle.markdown_content.specs.declared.configuration.ParseOptions.{ParseOptions}
 use Rattle.markdown_attention.specs.RunContainers.{ArePairLists}
 use Rattle.markdown_attention.proofs.PairScanIsPairList.{are-pair-lists}
 use Rattle.markdown_attention.proofs.ProbePotential.{counted-all, openers, closers}
@@ -13,7 +13,7 @@ use Rattle.std.specs.Prelude.{count_by}
 use Rattle.markdown_attention.specs.NumberedPairs.{PairsFrom, row_of, left, run_at, pairs_in, size_of_pair, after_taking, markers_left, no_run}
 use Rattle.markdown_attention.specs.OpenRuns.{key_of, class_of, list_of, is_open, IsCut, WalkFound, WalkEnded, mark_of, IsClosing}
 use Rattle.markdown_attention.proofs.OpenRunLists.{Layout, ListsByMarker}
-use Rattle.markdown_attention.specs.PairScan.{standing, Whole, AreSmall}
+use Rattle.markdown_attention.specs.PairScan.{standing, AreUntaken, AreSmall}
 use Rattle.std.proofs.lemmas.List.Sums.{get_or-le-sum_by}
 use Rattle.markdown_attention.proofs.RefusalClasses.{class_small}
 use Rattle.markdown_attention.proofs.OpenRunLists.{own, open_parts, kinds}
@@ -154,7 +154,7 @@ module _ (layout : Layout) (options : ParseOptions) (runs list : List Sequence) 
         ]))
 
 pub small_runs : (layout : Layout) (options : ParseOptions) (runs list : List Sequence) (turn : ℕ) (pairs : List Pair) (probes : ℕ) (heads older marks : List ℕ)
-    → Inv layout.line options runs list turn pairs probes heads older marks → Whole runs → markers_left runs < 2 ^ 63 → AreSmall list
+    → Inv layout.line options runs list turn pairs probes heads older marks → AreUntaken runs → markers_left runs < 2 ^ 63 → AreSmall list
 small_runs layout options runs list turn pairs probes heads older marks h whole small = λ i inside.
     let fits : i < length runs = (let e = h.stands.same_length in omega arith) in
     let is : run_at list i ≡ standing runs pairs i = h.stands.stands i fits in

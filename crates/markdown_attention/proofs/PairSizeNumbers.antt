@@ -4,7 +4,7 @@ use Rattle.std.proofs.lemmas.Bool.{cases_lt, eqb-true, both_ways, cases_Bool, ne
 use Rattle.std.proofs.lemmas.List.Sums.{sum_by-cons}
 use Rattle.markdown_model.specs.BracketGroups.{closing_sizes, opening_sizes}
 use Rattle.markdown_model.specs.Pairs as Model
-use Rattle.markdown_attention.specs.RunContainers.{is_in, place_in, placed, AreWithin}
+use Rattle.markdown_attention.specs.RunContainers.{is_in, place_in, placed, ArePairsWithin}
 use Rattle.markdown_attention.specs.NumberedPairs.{row_of, run_at, takes, taken, pairs_in}
 use Rattle.markdown_attention.specs.declared.attention.pairing.Pair.{Pair}
 use Rattle.markdown_attention.specs.declared.attention.runs.Sequence.{Sequence}
@@ -66,7 +66,7 @@ module _ (k : ℕ) (list : List Sequence) (g : ℕ) (within : g < length list) (
             ]
       ])
 
-  pub closing-local : (ps : List Pair) → AreWithin list ps →
+  pub closing-local : (ps : List Pair) → ArePairsWithin list ps →
       closing_sizes (place_in k list g) (local ps) ≡ closed_sizes g ps
   closing-local [] w = refl
   closing-local (p ∷ ps) w =
@@ -92,7 +92,7 @@ module _ (k : ℕ) (list : List Sequence) (g : ℕ) (within : g < length list) (
             ]
       ]
 
-  pub opening-local : (ps : List Pair) → AreWithin list ps →
+  pub opening-local : (ps : List Pair) → ArePairsWithin list ps →
       opening_sizes (place_in k list g) (local ps) ≡ opened_sizes g ps
   opening-local [] w = refl
   opening-local (p ∷ ps) w =
@@ -124,7 +124,7 @@ module _ (k : ℕ) (list : List Sequence) (g : ℕ) (within : g < length list) (
       takes g p ≡ (if o || c then p.size else 0)
   takes-by p o c e f = λ i. if e i || f i then p.size else 0
 
-  sum-local : (ps : List Pair) → AreWithin list ps →
+  sum-local : (ps : List Pair) → ArePairsWithin list ps →
       sum_by (takes g) (pairs_in list k ps) ≡ total (closed_sizes g ps) + total (opened_sizes g ps)
   sum-local [] w = refl
   sum-local (p ∷ ps) w =
@@ -159,7 +159,7 @@ module _ (k : ℕ) (list : List Sequence) (g : ℕ) (within : g < length list) (
         ]
       ]
 
-  pub taken-local : (ps : List Pair) → AreWithin list ps →
+  pub taken-local : (ps : List Pair) → ArePairsWithin list ps →
       taken (pairs_in list k ps) g ≡ total (closed_sizes g ps) + total (opened_sizes g ps)
   unfolding taken
   taken-local ps w = sum-local ps w

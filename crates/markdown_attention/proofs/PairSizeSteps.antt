@@ -5,7 +5,7 @@ use Rattle.std.proofs.lemmas.List.{take_more, drop_more, get_or-set_same, get_or
 use Rattle.std.proofs.lemmas.List.Elements.{All-nil, All-cons, All-append}
 use Rattle.std.specs.List.{All}
 use Rattle.markdown_engine_events.specs.EventChains.{IsUnlinked}
-use Rattle.markdown_engine_content.specs.Tree.{event}
+use Rattle.markdown_content.specs.Tree.{event}
 use Rattle.markdown_event.specs.declared.event.Event.{Event}
 use Rattle.markdown_event.specs.declared.event.Kind.TheVariants as Kind
 use Rattle.markdown_event.specs.declared.event.Name.{Name}

@@ -1,8 +1,8 @@
 -- The rows of a tree with its pair lists are flat.
 use Rattle.std.proofs.Common.{◌≡◌, ℕ, zero, suc, Bool, true, false, List, [], ◌∷◌, refl, sym, subst, inl, inr}
 use Rattle.std.proofs.lemmas.Bool.{cases_Bool}
-use Rattle.markdown_engine_content.specs.Codes.{Code}
-use Rattle.markdown_engine_content.specs.Tree.{Forest, empty, leaf_then, group_then, start_of}
+use Rattle.markdown_content.specs.Codes.{Code}
+use Rattle.markdown_content.specs.Tree.{Forest, empty, leaf_then, group_then, start_of}
 use Rattle.markdown_event.specs.declared.event.Name.{Name}
 use Rattle.markdown_model.specs.BracketGroups.{tokens_of}
 use Rattle.markdown_model.specs.Pairs.{Pair, run_at, IsPairList, pair_list}
@@ -13,33 +13,33 @@ use Rattle.markdown_model.proofs.OnePairList.{some_pair_list}
 use Rattle.markdown_attention.specs.RunsRead.{is_run}
 use Rattle.markdown_attention.specs.RunsOfTree.{has_run}
 use Rattle.markdown_attention.specs.AttentionTrees.{HasStripes}
-use Rattle.markdown_attention.specs.TokenWord.{HasMarker, IsUnlinkedRow, IsFlat, IsReady}
+use Rattle.markdown_attention.specs.TokenWord.{HasMarker, IsUnlinkedRow, IsFlat, IsPairable}
 use Rattle.markdown_attention.proofs.AttentionPassLaw.{run-codes}
 use Rattle.markdown_attention.proofs.PairsInRunOrder.{ranked}
 use Rattle.markdown_attention.proofs.ContainerBrackets.{AreCut, row-matches, no-brackets, runs-empty, runs-run, runs-leaf, runs-group, run-name}
 use Rattle.markdown_attention.proofs.TokenEvents.{stripe-marker}
 
-abbrev AreMarked : List Run → Type 0
-AreMarked [] = Unit {0}
-AreMarked (r ∷ rs) = HasMarker (marker_of r.codes) r.codes × AreMarked rs
+abbrev AreOfOneMarker : List Run → Type 0
+AreOfOneMarker [] = Unit {0}
+AreOfOneMarker (r ∷ rs) = HasMarker (marker_of r.codes) r.codes × AreOfOneMarker rs
 
-marked-at : (rs : List Run) (i : ℕ) → AreMarked rs → HasMarker (marker_of (run_at rs i).codes) (run_at rs i).codes
+marked-at : (rs : List Run) (i : ℕ) → AreOfOneMarker rs → HasMarker (marker_of (run_at rs i).codes) (run_at rs i).codes
 marked-at [] i h = tt
 marked-at (r ∷ rs) zero h = h.0
 marked-at (r ∷ rs) (suc i) h = marked-at rs i h.1
 
 module _ (s : Setting) where
-  marked-row : (t : Forest) → HasStripes t → AreMarked (runs_of s t)
-  marked-row empty h = subst (λ (rs : List Run). AreMarked rs) (sym (runs-empty s)) tt
+  marked-row : (t : Forest) → HasStripes t → AreOfOneMarker (runs_of s t)
+  marked-row empty h = subst (λ (rs : List Run). AreOfOneMarker rs) (sym (runs-empty s)) tt
   marked-row (leaf_then name link cs rest) h = elim (cases_Bool (is_run name)) [
     | inl e ↦
-        subst (λ (x : Name). AreMarked (runs_of s (leaf_then x link cs rest))) (sym (run-name name e))
-        (subst (λ (rs : List Run). AreMarked rs) (sym (runs-run s link cs rest))
+        subst (λ (x : Name). AreOfOneMarker (runs_of s (leaf_then x link cs rest))) (sym (run-name name e))
+        (subst (λ (rs : List Run). AreOfOneMarker rs) (sym (runs-run s link cs rest))
         (subst (λ (ds : List Code). HasMarker (marker_of ds) ds) (sym (run-codes s cs)) (stripe-marker (marker_of cs) (start_of cs) cs (h.0 e).1.1), marked-row rest h.1))
-    | inr e ↦ subst (λ (rs : List Run). AreMarked rs) (sym (runs-leaf s name link cs rest e)) (marked-row rest h.1)
+    | inr e ↦ subst (λ (rs : List Run). AreOfOneMarker rs) (sym (runs-leaf s name link cs rest e)) (marked-row rest h.1)
   ]
   marked-row (group_then name a b inside rest) h =
-      subst (λ (rs : List Run). AreMarked rs) (sym (runs-group s name a b inside rest)) (marked-row rest h.1.1)
+      subst (λ (rs : List Run). AreOfOneMarker rs) (sym (runs-group s name a b inside rest)) (marked-row rest h.1.1)
 
   pub cut-row : (t : Forest) (ps : List Pair) → HasStripes t → IsPairList s (runs_of s t) ps → AreCut (runs_of s t) ps
   cut-row t ps h l =
@@ -54,7 +54,7 @@ module _ (s : Setting) where
           inl (row-matches s (pair_list s) t (pair_list s (runs_of s t)) (cut-row t (pair_list s (runs_of s t)) h (some_pair_list s (runs_of s t))) (u e))
       by-runs false e = inr (no-brackets s (pair_list s) t (pair_list s (runs_of s t)) 0 e)
 
-  pub ready-row : (t : Forest) → HasStripes t → IsReady s (pair_list s) t
+  pub ready-row : (t : Forest) → HasStripes t → IsPairable s (pair_list s) t
   ready-row empty h = tt
   ready-row (leaf_then name link cs rest) h = (λ e. (h.0 e).0, ready-row rest h.1)
   ready-row (group_then name a b inside rest) h =

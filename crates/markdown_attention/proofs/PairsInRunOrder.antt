@@ -67,23 +67,23 @@ with_marker m [] = []
 with_marker m (k ∷ ks) = (m, k) ∷ with_marker m ks
 
 module _ (R : List Run) where
-  pub record Placed (p : Pair) : Type 0 where
+  pub record IsPlacedPair (p : Pair) : Type 0 where
     pub some : 0 < p.size
     pub order : p.opener < p.closer
     pub within : p.closer < length R
     pub marker : marker_of (run_at R p.opener).codes ≡ marker_of (run_at R p.closer).codes
 
   -- of a pair and a later one
-  abbrev pub Later : Pair → Pair → Type 0
-  Later p q = (p.closer ≤ q.closer) × (is_strictly_within q.opener p ≡ false)
+  abbrev pub IsLaterPair : Pair → Pair → Type 0
+  IsLaterPair p q = (p.closer ≤ q.closer) × (is_strictly_within q.opener p ≡ false)
 
   abbrev pub AllLater : Pair → List Pair → Type 0
   AllLater p [] = Unit {0}
-  AllLater p (q ∷ qs) = Later p q × AllLater p qs
+  AllLater p (q ∷ qs) = IsLaterPair p q × AllLater p qs
 
   abbrev pub AreRanked : List Pair → Type 0
   AreRanked [] = Unit {0}
-  AreRanked (p ∷ ps) = Placed p × (AllLater p ps × AreRanked ps)
+  AreRanked (p ∷ ps) = IsPlacedPair p × (AllLater p ps × AreRanked ps)
 
   -- what a pair's brackets are known by
   abbrev pub key : Pair → ℕ × ℕ
@@ -105,18 +105,18 @@ module _ (R : List Run) where
   keys-no : (f : Pair → Bool) (p : Pair) (ps : List Pair) → f p ≡ false → keys_where f (p ∷ ps) ≡ keys_where f ps
   keys-no f p ps e = keys-by false f p ps e
 
-  none-where : (f : Pair → Bool) (ps : List Pair) → AreRanked ps → ((q : Pair) → Placed q → f q ≡ false) →
+  none-where : (f : Pair → Bool) (ps : List Pair) → AreRanked ps → ((q : Pair) → IsPlacedPair q → f q ≡ false) →
       keys_where f ps ≡ []
   none-where f [] r h = refl
   none-where f (q ∷ qs) r h = keys-no f q qs (h q r.0) ∙ none-where f qs r.1.1 h
 
   none-later : (g : Pair → Bool) (p : Pair) (ps : List Pair) → AllLater p ps →
-      ((q : Pair) → Later p q → g q ≡ true → ⊥) → keys_where g ps ≡ []
+      ((q : Pair) → IsLaterPair p q → g q ≡ true → ⊥) → keys_where g ps ≡ []
   none-later g p [] a h = refl
   none-later g p (q ∷ qs) a h = keys-no g q qs (false_from_ne_true (g q) (h q a.0)) ∙ none-later g p qs a.1 h
 
-  split-keys : (f g h : Pair → Bool) (ps : List Pair) → ((p : Pair) → Placed p → Sorts (f p) (g p) (h p)) →
-      ((p q : Pair) → Later p q → h p ≡ true → g q ≡ true → ⊥) → AreRanked ps →
+  split-keys : (f g h : Pair → Bool) (ps : List Pair) → ((p : Pair) → IsPlacedPair p → Sorts (f p) (g p) (h p)) →
+      ((p q : Pair) → IsLaterPair p q → h p ≡ true → g q ≡ true → ⊥) → AreRanked ps →
       keys_where f ps ≡ keys_where g ps ++ keys_where h ps
   split-keys f g h [] sorts apart r = refl
   split-keys f g h (p ∷ ps) sorts apart r =

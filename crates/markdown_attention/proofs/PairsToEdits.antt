@@ -1,6 +1,7 @@
 -- From what pairing leaves to what the edits ask for, and to what they leave.
-use Rattle.std.proofs.Common.{◌≡◌, ◌∙◌, ℕ, ◌<◌, Bool, true, false, List, length, sym, ap, subst}
+use Rattle.std.proofs.Common.{◌≡◌, ◌∙◌, ℕ, ◌<◌, true, false, List, length, sym, ap, subst}
 use Rattle.std.specs.List.{All}
+use Rattle.markdown_content.specs.declared.configuration.ParseOptions.{ParseOptions}
 use Rattle.markdown_engine_events.specs.Edits.{CanEdit, edited}
 use Rattle.markdown_event.specs.declared.event.Event.{Event}
 use Rattle.markdown_engine.specs.declared.tokenizer.Tokenizer.{Tokenizer}
@@ -18,8 +19,8 @@ use Rattle.markdown_attention.proofs.AttentionEditsLaw.{log-same, group-can}
 -- U is T; these runs and pairs are what pairing leaves of the runs of T
 module _ (T U : Tokenizer) (same : U ≡ T) (may : MayPair T) (list fin runs : List Sequence) (found pairs : List Pair) (probes : ℕ) (read : list ≡ runs_of_events T)
     (left : IsPairing T.parse_state.now.options.now list fin found probes) (are : runs ≡ fin) (as_found : pairs ≡ found) where
-  abbrev tildes : Bool
-  tildes = T.parse_state.now.options.now.constructs.gfm_strikethrough
+  abbrev options : ParseOptions
+  options = T.parse_state.now.options.now
 
   abbrev bytes : List ℕ
   bytes = T.parse_state.now.bytes.now
@@ -31,20 +32,20 @@ module _ (T U : Tokenizer) (same : U ≡ T) (may : MayPair T) (list fin runs : L
       (subst (λ (x : List Pair). IsPairing T.parse_state.now.options.now list fin x probes) (sym as_found) left))
 
   pub closers-in : All (λ p. side_of true p < length runs) pairs
-  closers-in = have-closers tildes bytes T.events may.places may.ends may.room runs pairs pairing.left pairing.within
+  closers-in = have-closers options bytes T.events may.places may.ends may.room runs pairs pairing.left pairing.within
 
   pub openers-in : All (λ p. side_of false p < length runs) pairs
-  openers-in = have-openers tildes bytes T.events may.places may.ends may.room runs pairs pairing.left pairing.within
+  openers-in = have-openers options bytes T.events may.places may.ends may.room runs pairs pairing.left pairing.within
 
   pub room-in : (i : ℕ) → i < length runs → HasRoomFor U.events (length runs) pairs (run_at runs i)
   room-in i l =
       subst (λ (X : Tokenizer). HasRoomFor X.events (length runs) pairs (run_at runs i)) (sym same)
-      (has-room tildes bytes T.events may.places may.ends may.room runs pairs pairing.left pairing.within pairing.once i l)
+      (has-room options bytes T.events may.places may.ends may.room runs pairs pairing.left pairing.within pairing.once i l)
 
   pub can-in : CanEdit (run_edits (point_in U.events) pairs runs) U.events
   can-in =
       subst (λ (X : Tokenizer). CanEdit (run_edits (point_in X.events) pairs runs) X.events) (sym same)
-      (group-can tildes bytes T.events may.places runs pairs pairing.left may.ends)
+      (group-can options bytes T.events may.places runs pairs pairing.left may.ends)
 
   pub grouped-in : (after : List Event) → after ≡ edited (run_edits (point_in U.events) pairs runs) U.events →
       IsGrouped T.parse_state.now.options.now (runs_of_events T) T.events after probes
@@ -55,7 +56,7 @@ module _ (T U : Tokenizer) (same : U ≡ T) (may : MayPair T) (list fin runs : L
     once = pairing.once;
     events =
         e ∙ ap (λ (X : Tokenizer). edited (run_edits (point_in X.events) pairs runs) X.events) same
-        ∙ ap (λ (x : List Edit). edited x T.events) (log-same tildes bytes T.events may.places runs pairs pairing.left);
+        ∙ ap (λ (x : List Edit). edited x T.events) (log-same options bytes T.events may.places runs pairs pairing.left);
     at_least = pairing.at_least;
     at_most = pairing.at_most;
     scan = pairing.scan;

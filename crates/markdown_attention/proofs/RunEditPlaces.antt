@@ -1,6 +1,7 @@
 -- What the edits of runs collect at each place.
 use Rattle.std.proofs.Common.{◌≡◌, ℕ, zero, suc, ◌+◌, ◌<◌, ◌≤◌, ◌==◌, ◌&&◌, Bool, true, false, if◌then◌else◌, List, [], ◌∷◌, ◌++◌, length, drop, refl, sym, ap, subst, ◌∙◌, arith, append-nil, inl, inr}
 use Rattle.std.proofs.lemmas.Bool.{cases_Bool, ne_eqb, eq-eqb}
+use Rattle.markdown_content.specs.declared.configuration.ParseOptions.{ParseOptions}
 use Rattle.markdown_engine_events.specs.Edits.{removed_at, front_at, back_at, added_at}
 use Rattle.markdown_event.specs.declared.event.Event.{Event}
 use Rattle.markdown_engine_events.specs.declared.util.edit_map.Edit.{Edit}
@@ -18,11 +19,11 @@ no-front true xs = refl
 no-front false xs = refl
 
 -- the events stand in order, from this one on
-abbrev pub AreFrom : ℕ → List Sequence → Type 0
-AreFrom n [] = Unit {0}
-AreFrom n (r ∷ rs) = (n ≤ r.event) × AreFrom (r.event + 1) rs
+abbrev pub AreInOrderFrom : ℕ → List Sequence → Type 0
+AreInOrderFrom n [] = Unit {0}
+AreInOrderFrom n (r ∷ rs) = (n ≤ r.event) × AreInOrderFrom (r.event + 1) rs
 
-from-less : (n m : ℕ) (rs : List Sequence) → m ≤ n → AreFrom n rs → AreFrom m rs
+from-less : (n m : ℕ) (rs : List Sequence) → m ≤ n → AreInOrderFrom n rs → AreInOrderFrom m rs
 from-less n m [] l h = tt
 from-less n m (r ∷ rs) l h = (let a = h.0 in omega (arith, a, l), h.1)
 
@@ -52,20 +53,20 @@ module _ (comes : Sequence → List Event) where
       removed_at k (edits (r ∷ rs)) ≡ (if b then 2 else 0) + removed_at k (edits rs)
   removed-by k r rs b e = ap (λ x. (if x then 2 else 0) + removed_at k (edits rs)) e
 
-  back-below : (n k : ℕ) (rs : List Sequence) → AreFrom n rs → k < n → back_at k (edits rs) ≡ []
+  back-below : (n k : ℕ) (rs : List Sequence) → AreInOrderFrom n rs → k < n → back_at k (edits rs) ≡ []
   back-below n k [] h l = refl
   back-below n k (r ∷ rs) h l =
       let a = h.0 in
       back-by k r rs false (ne_eqb r.event k (λ e. omega (arith, a, l, e))) ∙ back-below (r.event + 1) k rs h.1 (omega (arith, a, l))
 
-  removed-below : (n k : ℕ) (rs : List Sequence) → AreFrom n rs → k < n → removed_at k (edits rs) ≡ 0
+  removed-below : (n k : ℕ) (rs : List Sequence) → AreInOrderFrom n rs → k < n → removed_at k (edits rs) ≡ 0
   removed-below n k [] h l = refl
   removed-below n k (r ∷ rs) h l =
       let a = h.0 in
       removed-by k r rs false (ne_eqb r.event k (λ e. omega (arith, a, l, e))) ∙ zero-more (removed_at k (edits rs)) ∙ removed-below (r.event + 1) k rs h.1 (omega (arith, a, l))
 
   -- at the event of a run
-  pub back-run : (n k g : ℕ) (rs : List Sequence) → AreFrom n rs → g < length rs → (run_at rs g).event ≡ k →
+  pub back-run : (n k g : ℕ) (rs : List Sequence) → AreInOrderFrom n rs → g < length rs → (run_at rs g).event ≡ k →
       back_at k (edits rs) ≡ comes (run_at rs g)
   back-run n k g [] h l e = absurd (omega (arith, l))
   back-run n k zero (r ∷ rs) h l e =
@@ -76,57 +77,57 @@ module _ (comes : Sequence → List Event) where
       let a : r.event + 1 ≤ k = at-least (r.event + 1) k g rs h.1 (omega (arith, l)) e in
       back-by k r rs false (ne_eqb r.event k (λ x. omega (arith, a, x))) ∙ back-run (r.event + 1) k g rs h.1 (omega (arith, l)) e
     where
-      at-least : (n k g : ℕ) (rs : List Sequence) → AreFrom n rs → g < length rs → (run_at rs g).event ≡ k → n ≤ k
+      at-least : (n k g : ℕ) (rs : List Sequence) → AreInOrderFrom n rs → g < length rs → (run_at rs g).event ≡ k → n ≤ k
       at-least n k g [] h l e = absurd (omega (arith, l))
       at-least n k zero (r ∷ rs) h l e = let a = h.0 in omega (arith, a, e)
       at-least n k (suc g) (r ∷ rs) h l e =
           let a = h.0 in let b = at-least (r.event + 1) k g rs h.1 (omega (arith, l)) e in omega (arith, a, b)
 
-  pub added-run : (n g : ℕ) (rs : List Sequence) → AreFrom n rs → g < length rs →
+  pub added-run : (n g : ℕ) (rs : List Sequence) → AreInOrderFrom n rs → g < length rs →
       added_at (run_at rs g).event (edits rs) ≡ comes (run_at rs g)
   added-run n g rs h l =
       ap (λ xs. xs ++ back_at (run_at rs g).event (edits rs)) (fronts-none (run_at rs g).event rs) ∙ back-run n (run_at rs g).event g rs h l refl
 
   -- By the events.
 
-  module _ (tildes : Bool) (bytes : List ℕ) where
+  module _ (options : ParseOptions) (bytes : List ℕ) where
     abbrev from : ℕ → ℕ → Around → List Event → List Sequence
-    from n i w es = runs_from tildes bytes n i w es
+    from n i w es = runs_from options bytes n i w es
 
     -- the run that begins at the first event, or none
     record Begun (n i : ℕ) (c : Container) (e : Event) (es : List Event) : Type 0 where
       run : Sequence
       event : run.event ≡ i
       number : run.number ≡ n
-      is : first_run tildes bytes n i c (e ∷ es) ≡ run ∷ []
+      is : first_run options bytes n i c (e ∷ es) ≡ run ∷ []
 
     begun : (n i : ℕ) (c : Container) (e : Event) (es : List Event) → HaveRunPlaces bytes (e ∷ es) →
         opens_run e ≡ true → Begun n i c e es
     begun n i c e [] h o = absurd (h.0 o)
     begun n i c e (x ∷ es) h o =
-        record { run = sequence_at tildes bytes n i c e.point x.point; event = refl; number = refl; is = ap (λ b. if b then sequence_at tildes bytes n i c e.point x.point ∷ [] else []) o }
+        record { run = sequence_at options bytes n i c e.point x.point; event = refl; number = refl; is = ap (λ b. if b then sequence_at options bytes n i c e.point x.point ∷ [] else []) o }
 
     none-begun : (n i : ℕ) (c : Container) (e : Event) (es : List Event) → opens_run e ≡ false →
-        first_run tildes bytes n i c (e ∷ es) ≡ []
+        first_run options bytes n i c (e ∷ es) ≡ []
     none-begun n i c e [] o = refl
-    none-begun n i c e (x ∷ es) o = ap (λ b. if b then sequence_at tildes bytes n i c e.point x.point ∷ [] else []) o
+    none-begun n i c e (x ∷ es) o = ap (λ b. if b then sequence_at options bytes n i c e.point x.point ∷ [] else []) o
 
     abbrev rest_from : ℕ → ℕ → Around → Event → List Event → List Sequence
     rest_from n i w e es =
-        from (n + length (first_run tildes bytes n i w.container (e ∷ es))) (suc i) (where_after i e w) es
+        from (n + length (first_run options bytes n i w.container (e ∷ es))) (suc i) (where_after i e w) es
 
-    pub are-from : (es : List Event) (n i : ℕ) (w : Around) → HaveRunPlaces bytes es → AreFrom i (from n i w es)
+    pub are-from : (es : List Event) (n i : ℕ) (w : Around) → HaveRunPlaces bytes es → AreInOrderFrom i (from n i w es)
     are-from [] n i w h = tt
     are-from (e ∷ es) n i w h =
         let rest : List Sequence = rest_from n i w e es in
-        let later : AreFrom (suc i) rest = are-from es (n + length (first_run tildes bytes n i w.container (e ∷ es))) (suc i) (where_after i e w) h.1 in
+        let later : AreInOrderFrom (suc i) rest = are-from es (n + length (first_run options bytes n i w.container (e ∷ es))) (suc i) (where_after i e w) h.1 in
         elim (cases_Bool (opens_run e)) [
           | inl o ↦
               let b = begun n i w.container e es h o in
               let at = b.event in
               let one : suc i ≡ b.run.event + 1 = omega (arith, at) in
-              subst (λ (xs : List Sequence). AreFrom i (xs ++ rest)) (sym b.is) (omega (arith, at), subst (λ (k : ℕ). AreFrom k rest) one later)
-          | inr o ↦ subst (λ (xs : List Sequence). AreFrom i (xs ++ rest)) (sym (none-begun n i w.container e es o)) (from-less (suc i) i rest (omega arith) later)
+              subst (λ (xs : List Sequence). AreInOrderFrom i (xs ++ rest)) (sym b.is) (omega (arith, at), subst (λ (k : ℕ). AreInOrderFrom k rest) one later)
+          | inr o ↦ subst (λ (xs : List Sequence). AreInOrderFrom i (xs ++ rest)) (sym (none-begun n i w.container e es o)) (from-less (suc i) i rest (omega arith) later)
         ]
 
     removed-place : (es : List Event) (n i : ℕ) (w : Around) (k j : ℕ) → k ≡ i + j → HaveRunPlaces bytes es →
@@ -135,7 +136,7 @@ module _ (comes : Sequence → List Event) where
     removed-place [] n i w k (suc j) e h = refl
     removed-place (x ∷ es) n i w k zero e h =
         let rest : List Sequence = rest_from n i w x es in
-        let later : AreFrom (suc i) rest = are-from es (n + length (first_run tildes bytes n i w.container (x ∷ es))) (suc i) (where_after i x w) h.1 in
+        let later : AreInOrderFrom (suc i) rest = are-from es (n + length (first_run options bytes n i w.container (x ∷ es))) (suc i) (where_after i x w) h.1 in
         let none : removed_at k (edits rest) ≡ 0 = removed-below (suc i) k rest later (omega (arith, e)) in
         elim (cases_Bool (opens_run x)) [
           | inl o ↦
@@ -149,7 +150,7 @@ module _ (comes : Sequence → List Event) where
     removed-place (x ∷ es) n i w k (suc j) e h =
         let rest : List Sequence = rest_from n i w x es in
         let ih : removed_at k (edits rest) ≡ (if begins_run (drop j es) then 2 else 0) =
-        removed-place es (n + length (first_run tildes bytes n i w.container (x ∷ es))) (suc i) (where_after i x w) k j (omega (arith, e)) h.1 in
+        removed-place es (n + length (first_run options bytes n i w.container (x ∷ es))) (suc i) (where_after i x w) k j (omega (arith, e)) h.1 in
         elim (cases_Bool (opens_run x)) [
           | inl o ↦
               let b = begun n i w.container x es h o in
@@ -165,12 +166,12 @@ module _ (comes : Sequence → List Event) where
     back-place [] n i w k j e h f = refl
     back-place (x ∷ es) n i w k zero e h f =
         let rest : List Sequence = rest_from n i w x es in
-        let later : AreFrom (suc i) rest = are-from es (n + length (first_run tildes bytes n i w.container (x ∷ es))) (suc i) (where_after i x w) h.1 in
+        let later : AreInOrderFrom (suc i) rest = are-from es (n + length (first_run options bytes n i w.container (x ∷ es))) (suc i) (where_after i x w) h.1 in
         ap (λ xs. back_at k (edits (xs ++ rest))) (none-begun n i w.container x es f) ∙ back-below (suc i) k rest later (omega (arith, e))
     back-place (x ∷ es) n i w k (suc j) e h f =
         let rest : List Sequence = rest_from n i w x es in
         let ih : back_at k (edits rest) ≡ [] =
-        back-place es (n + length (first_run tildes bytes n i w.container (x ∷ es))) (suc i) (where_after i x w) k j (omega (arith, e)) h.1 f in
+        back-place es (n + length (first_run options bytes n i w.container (x ∷ es))) (suc i) (where_after i x w) k j (omega (arith, e)) h.1 f in
         elim (cases_Bool (opens_run x)) [
           | inl o ↦
               let b = begun n i w.container x es h o in
@@ -202,16 +203,16 @@ module _ (comes : Sequence → List Event) where
     numbered [] n i w g h l = absurd (omega (arith, l))
     numbered (e ∷ es) n i w g h l =
         let rest : List Sequence = rest_from n i w e es in
-        let ih = numbered es (n + length (first_run tildes bytes n i w.container (e ∷ es))) (suc i) (where_after i e w) in
+        let ih = numbered es (n + length (first_run options bytes n i w.container (e ∷ es))) (suc i) (where_after i e w) in
         elim (cases_Bool (opens_run e)) [
           | inl o ↦
               let b = begun n i w.container e es h o in
-              let size : length (first_run tildes bytes n i w.container (e ∷ es)) ≡ 1 = ap length b.is in
+              let size : length (first_run options bytes n i w.container (e ∷ es)) ≡ 1 = ap length b.is in
               subst (λ (xs : List Sequence). (run_at (xs ++ rest) g).number ≡ n + g) (sym b.is)
               (first-or g b.run rest n b.number (λ j k. ih j h.1 k ∙ omega (arith, size)) (subst (λ (xs : List Sequence). g < length (xs ++ rest)) b.is l))
           | inr o ↦
               let none = none-begun n i w.container e es o in
-              let size : length (first_run tildes bytes n i w.container (e ∷ es)) ≡ 0 = ap length none in
+              let size : length (first_run options bytes n i w.container (e ∷ es)) ≡ 0 = ap length none in
               subst (λ (xs : List Sequence). (run_at (xs ++ rest) g).number ≡ n + g) (sym none)
               (ih g h.1 (subst (λ (xs : List Sequence). g < length (xs ++ rest)) none l) ∙ omega (arith, size))
         ]

@@ -3,6 +3,7 @@ use Rattle.std.proofs.Common.{◌≡◌, ℕ, zero, suc, ◌+◌, ◌≤◌, Boo
 use Rattle.std.proofs.lemmas.Bool.{cases_Bool}
 use Rattle.std.proofs.lemmas.List.Elements.{All-nil, All-cons}
 use Rattle.std.specs.List.{All}
+use Rattle.markdown_content.specs.declared.configuration.ParseOptions.{ParseOptions}
 use Rattle.markdown_engine_events.specs.EventChains.{has_link, linked_at}
 use Rattle.markdown_engine_events.specs.Edits.{added_at, CanEdit}
 use Rattle.markdown_event.specs.declared.event.Event.{Event}
@@ -25,28 +26,28 @@ run-unlinked [] h b = cc
 run-unlinked (e ∷ []) h b = (ap has_link (h.0 b).0, refl)
 run-unlinked (e ∷ x ∷ xs) h b = (ap has_link (h.0 b).0, ap has_link (h.0 b).1.0)
 
-module _ (comes : Sequence → List Event) (tildes : Bool) (bytes : List ℕ) where
+module _ (comes : Sequence → List Event) (options : ParseOptions) (bytes : List ℕ) where
   abbrev from : ℕ → ℕ → Around → List Event → List Sequence
-  from n i w es = runs_from tildes bytes n i w es
+  from n i w es = runs_from options bytes n i w es
 
-  abbrev Within : ℕ → List Sequence → Type 0
-  Within m rs = All (λ e. e.at ≤ m) (edits_by comes rs)
+  abbrev RunEditsWithin : ℕ → List Sequence → Type 0
+  RunEditsWithin m rs = All (λ e. e.at ≤ m) (edits_by comes rs)
 
-  within : (es : List Event) (n i : ℕ) (w : Around) (m : ℕ) → i + length es ≤ m → Within m (from n i w es)
+  within : (es : List Event) (n i : ℕ) (w : Around) (m : ℕ) → i + length es ≤ m → RunEditsWithin m (from n i w es)
   within [] n i w m l = All-nil (λ e. e.at ≤ m)
   within (e ∷ []) n i w m l = All-nil (λ e. e.at ≤ m)
   within (e ∷ x ∷ es) n i w m l =
-      let r : Sequence = sequence_at tildes bytes n i w.container e.point x.point in
-      let first : List Sequence = first_run tildes bytes n i w.container (e ∷ x ∷ es) in
+      let r : Sequence = sequence_at options bytes n i w.container e.point x.point in
+      let first : List Sequence = first_run options bytes n i w.container (e ∷ x ∷ es) in
       let rest : List Sequence = from (n + length first) (suc i) (where_after i e w) (x ∷ es) in
-      let ih : Within m rest = within (x ∷ es) (n + length first) (suc i) (where_after i e w) m (omega (arith, l)) in
+      let ih : RunEditsWithin m rest = within (x ∷ es) (n + length first) (suc i) (where_after i e w) m (omega (arith, l)) in
       elim (cases_Bool (opens_run e)) [
         | inl o ↦
             let is : first ≡ r ∷ [] = ap (λ (b : Bool). if b then r ∷ [] else []) o in
-            subst (λ (xs : List Sequence). Within m (xs ++ rest)) (sym is) (All-cons (λ e. e.at ≤ m) (record { at = i; remove = 2; events = comes r; before = false }) (edits_by comes rest) (omega (arith, l)) ih)
+            subst (λ (xs : List Sequence). RunEditsWithin m (xs ++ rest)) (sym is) (All-cons (λ e. e.at ≤ m) (record { at = i; remove = 2; events = comes r; before = false }) (edits_by comes rest) (omega (arith, l)) ih)
         | inr o ↦
             let is : first ≡ [] = ap (λ (b : Bool). if b then r ∷ [] else []) o in
-            subst (λ (xs : List Sequence). Within m (xs ++ rest)) (sym is) ih
+            subst (λ (xs : List Sequence). RunEditsWithin m (xs ++ rest)) (sym is) ih
       ]
 
   abbrev log_of : List Event → List Edit
@@ -57,5 +58,5 @@ module _ (comes : Sequence → List Event) (tildes : Bool) (bytes : List ℕ) wh
       let log : List Edit = log_of es in
       record {
         places = within es 0 0 outermost (length es) (omega arith);
-        unlinked = goes-unlinked log (λ k. begins_run (drop k es)) (λ k. added_at k log) (runs-of-two es log (λ k. added_at k log) (pass-log comes tildes bytes es outermost p)) es (λ k b. run-unlinked (drop k es) (ends-drop k es h) b);
+        unlinked = goes-unlinked log (λ k. begins_run (drop k es)) (λ k. added_at k log) (runs-of-two es log (λ k. added_at k log) (pass-log comes options bytes es outermost p)) es (λ k b. run-unlinked (drop k es) (ends-drop k es h) b);
       }

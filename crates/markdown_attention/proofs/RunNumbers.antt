@@ -9,39 +9,39 @@ use Rattle.markdown_attention.specs.NumberedPairs.{run_at}
 use Rattle.markdown_attention.specs.declared.attention.runs.Sequence.{Sequence}
 
 -- a run of the container stands at its number
-pub record Placed (k : ℕ) (list : List Sequence) (i : ℕ) : Type 0 where
+pub record StandsAtNumber (k : ℕ) (list : List Sequence) (i : ℕ) : Type 0 where
   pub within : place_in k list i < length (runs_in k list)
   pub is : run_at (runs_in k list) (place_in k list i) ≡ run_at list i
 
-place-later : (k : ℕ) (r : Sequence) (rs : List Sequence) (i : ℕ) → Placed k rs i → (b : Bool) → is_in k r ≡ b →
-    Placed k (r ∷ rs) (suc i)
+place-later : (k : ℕ) (r : Sequence) (rs : List Sequence) (i : ℕ) → StandsAtNumber k rs i → (b : Bool) → is_in k r ≡ b →
+    StandsAtNumber k (r ∷ rs) (suc i)
 place-later k r rs i rest true h = record { within = rw h (let w = rest.within in omega arith); is = rw h rest.is }
 place-later k r rs i rest false h = record { within = rw h rest.within; is = rw h rest.is }
 
-pub place : (k : ℕ) (list : List Sequence) (i : ℕ) → i < length list → is_in k (run_at list i) ≡ true → Placed k list i
+pub place : (k : ℕ) (list : List Sequence) (i : ℕ) → i < length list → is_in k (run_at list i) ≡ true → StandsAtNumber k list i
 place k [] i l e = absurd (omega arith)
 place k (r ∷ rs) zero l e = record { within = rw e (omega arith); is = rw e refl }
 place k (r ∷ rs) (suc i) l e = place-later k r rs i (place k rs i (omega arith) e) (is_in k r) refl
 
 -- each number in the container is that of a run
-pub record Found (k : ℕ) (list : List Sequence) (j : ℕ) : Type 0 where
+pub record IsRunNumber (k : ℕ) (list : List Sequence) (j : ℕ) : Type 0 where
   pub run : ℕ
   pub within : run < length list
   pub inside : is_in k (run_at list run) ≡ true
   pub is : place_in k list run ≡ j
 
-later : (k : ℕ) (r : Sequence) (rs : List Sequence) (j j' : ℕ) (x : Found k rs j) →
-    place_in k (r ∷ rs) (suc x.run) ≡ j' → Found k (r ∷ rs) j'
+later : (k : ℕ) (r : Sequence) (rs : List Sequence) (j j' : ℕ) (x : IsRunNumber k rs j) →
+    place_in k (r ∷ rs) (suc x.run) ≡ j' → IsRunNumber k (r ∷ rs) j'
 later k r rs j j' x e =
     record { run = suc x.run; within = (let w = x.within in omega arith); inside = x.inside; is = e }
 
-find-later : (k : ℕ) (r : Sequence) (rs : List Sequence) → ((j : ℕ) → j < length (runs_in k rs) → Found k rs j)
-    → (b : Bool) → is_in k r ≡ b → (j : ℕ) → j < length (cond b (r ∷ runs_in k rs) (runs_in k rs)) → Found k (r ∷ rs) j
+find-later : (k : ℕ) (r : Sequence) (rs : List Sequence) → ((j : ℕ) → j < length (runs_in k rs) → IsRunNumber k rs j)
+    → (b : Bool) → is_in k r ≡ b → (j : ℕ) → j < length (cond b (r ∷ runs_in k rs) (runs_in k rs)) → IsRunNumber k (r ∷ rs) j
 find-later k r rs rest true h zero l = record { run = 0; within = omega arith; inside = h; is = refl }
 find-later k r rs rest true h (suc j) l = let x = rest j (omega arith) in later k r rs j (suc j) x (rw h (ap suc x.is))
 find-later k r rs rest false h j l = let x = rest j l in later k r rs j j x (rw h x.is)
 
-pub find : (k : ℕ) (list : List Sequence) (j : ℕ) → j < length (runs_in k list) → Found k list j
+pub find : (k : ℕ) (list : List Sequence) (j : ℕ) → j < length (runs_in k list) → IsRunNumber k list j
 find k [] j l = absurd (omega arith)
 find k (r ∷ rs) j l = find-later k r rs (find k rs) (is_in k r) refl j l
 

@@ -1,24 +1,25 @@
 -- Events whose runs stand in order over a document may be given to the pass.
 use Rattle.std.proofs.Common.{◌≡◌, ◌≢◌, ℕ, suc, ◌+◌, ◌-◌, ◌*◌, ◌<◌, ◌≤◌, Bool, true, false, if◌then◌else◌, List, [], ◌∷◌, ◌++◌, length, drop, get_or, refl, sym, ap, subst, ◌∙◌, arith, inl, inr}
 use Rattle.std.specs.Prelude.{IsUtf8}
+use Rattle.markdown_content.specs.declared.configuration.ParseOptions.{ParseOptions}
 use Rattle.markdown_attention.proofs.BracketAppends.{shift-shift}
 use Rattle.std.specs.Str.{IsCharBoundary}
 use Rattle.std.proofs.lemmas.Str.{IsCharBoundary-before_ascii, IsCharBoundary-after_ascii}
 use Rattle.std.proofs.lemmas.Bool.{cases_Bool}
 use Rattle.std.proofs.lemmas.List.Sums.{sum_by-cons}
-use Rattle.markdown_engine_content.specs.Codes.{Code, place_of, point_at}
-use Rattle.markdown_engine_content.specs.Content.{document_limit}
-use Rattle.markdown_engine_content.specs.Slices.{codes_between}
-use Rattle.markdown_engine_content.specs.DocumentWalk.{IsPoint}
+use Rattle.markdown_content.specs.Codes.{Code, place_of, point_at}
+use Rattle.markdown_content.specs.Content.{document_limit}
+use Rattle.markdown_content.specs.Slices.{codes_between}
+use Rattle.markdown_content.specs.DocumentWalk.{IsPoint}
 use Rattle.markdown_event.specs.declared.event.Event.{Event}
 use Rattle.markdown_event.specs.declared.event.Point.{Point}
 use Rattle.markdown_engine.specs.declared.tokenizer.Tokenizer.{Tokenizer}
-use Rattle.markdown_engine_content.proofs.CodesBetween.{codes_to, first-to, IsFirstTo}
-use Rattle.markdown_engine_content.proofs.AdjacentCodes.{head_same, tail_same, cons≢nil}
-use Rattle.markdown_engine_content.proofs.PlaceOrder.{is_before, same_place, before-asym}
-use Rattle.markdown_engine_content.proofs.DocumentPlaces.{stands-point, there-point, toward, IsToward, same-pair}
-use Rattle.markdown_engine_content.proofs.ContentCodes.{none-before, piece-codes-is}
-use Rattle.markdown_engine_content.proofs.DocumentCodes.{value_at, stop_at, code_here, Stands}
+use Rattle.markdown_content.proofs.CodesBetween.{codes_to, first-to, IsFirstTo}
+use Rattle.markdown_content.proofs.AdjacentCodes.{head_same, tail_same, cons≢nil}
+use Rattle.markdown_content.proofs.PlaceOrder.{is_before, same_place, before-asym}
+use Rattle.markdown_content.proofs.DocumentPlaces.{stands-point, there-point, toward, IsToward, same-pair}
+use Rattle.markdown_content.proofs.ContentCodes.{none-before, piece-codes-is}
+use Rattle.markdown_content.proofs.DocumentCodes.{value_at, stop_at, code_here, HasPlaceNumbers}
 use Rattle.markdown_attention.specs.OpenRuns.{IsMarker}
 use Rattle.markdown_attention.specs.NumberedPairs.{markers_left}
 use Rattle.markdown_attention.specs.RunsRead.{Around, opens_run, sequence_at, where_after, outermost, first_run, runs_from, IsRunPlace, HaveRunPlaces}
@@ -95,7 +96,7 @@ module _ (bytes : List ℕ) (u : IsUtf8 bytes) (m : ℕ) (is : IsMarker m) where
       ]
 
 -- what the pass asks of one run
-record IsFit (bytes : List ℕ) (p q : Point) : Type 0 where
+record IsFitRun (bytes : List ℕ) (p q : Point) : Type 0 where
   place : IsRunPlace bytes p q
   end : q ≡ shifted p (q.index - p.index)
   some : p.index < q.index
@@ -104,7 +105,7 @@ record IsFit (bytes : List ℕ) (p q : Point) : Type 0 where
 
 module _ (bytes : List ℕ) (u : IsUtf8 bytes) where
   fit-codes : (m : ℕ) → IsMarker m → (p q : Point) (cs : List Code) → codes_to bytes p q ≡ cs → cs ≢ [] →
-      HasMarker m cs → IsPoint bytes p → IsPoint bytes q → IsFit bytes p q
+      HasMarker m cs → IsPoint bytes p → IsPoint bytes q → IsFitRun bytes p q
   fit-codes m is p q [] e some marks h k = absurd (some refl)
   fit-codes m is p q (c ∷ cs) e some marks h k =
       elim (cases_Bool (is_before (place_of p) (place_of q))) [
@@ -113,7 +114,7 @@ module _ (bytes : List ℕ) (u : IsUtf8 bytes) where
             let from : IsCharBoundary bytes p.index = IsCharBoundary-before_ascii bytes p.index f.within (marker-ascii (get_or bytes p.index 0) f.byte) in
             let x : IsFurther bytes p q (length (c ∷ cs)) = along-markers bytes u m is p q (c ∷ cs) e marks h k (before-asym (place_of p) (place_of q) before) in
             let by : q.index ≡ p.index + length (c ∷ cs) = ap (λ (z : Point). z.index) x.end in
-            let s : Stands bytes q = stands-point bytes q k in
+            let s : HasPlaceNumbers bytes q = stands-point bytes q k in
             record {
               place = record { from_between = from; to_between = x.between from; within = f.within; marker = f.byte; forward = omega (arith, by) };
               end = x.end ∙ shift-same p (length (c ∷ cs)) (q.index - p.index) (omega (arith, by));
@@ -124,7 +125,7 @@ module _ (bytes : List ℕ) (u : IsUtf8 bytes) where
         | inr there ↦ absurd (cons≢nil c cs (sym e ∙ none-before bytes p (place_of q) h there))
       ]
 
-  fit : (enter exit : Event) → IsRunOver bytes enter exit → IsFit bytes enter.point exit.point
+  fit : (enter exit : Event) → IsRunOver bytes enter exit → IsFitRun bytes enter.point exit.point
   fit enter exit r =
       fit-codes r.markers.marker r.markers.is_marker enter.point exit.point (codes_between bytes enter.point exit.point)
       (sym (piece-codes-is bytes (record { start = place_of enter.point; end = place_of exit.point })))
@@ -156,28 +157,28 @@ module _ (bytes : List ℕ) (u : IsUtf8 bytes) where
   room-in few [] h = tt
   room-in few (e ∷ []) h = (λ o. absurd (h.runs 0 o), tt)
   room-in few (e ∷ x ∷ es) h =
-      (λ o. let f : IsFit bytes e.point x.point = fit bytes u e x (h.runs 0 o) in (omega (arith, f.column, f.within, few), omega (arith, f.within, few)), room-in few (x ∷ es) (behind bytes e (x ∷ es) h))
+      (λ o. let f : IsFitRun bytes e.point x.point = fit bytes u e x (h.runs 0 o) in (omega (arith, f.column, f.within, few), omega (arith, f.within, few)), room-in few (x ∷ es) (behind bytes e (x ∷ es) h))
 
   -- runs from this byte on have at most as many markers as bytes follow, and are at most as many
   abbrev AreFew : ℕ → List Sequence → Type 0
   AreFew low list = (markers_left list + low ≤ length bytes) × (length list + low ≤ length bytes)
 
-  few-in : (tildes : Bool) (es : List Event) (n i : ℕ) (w : Around) (low : ℕ) → HaveRunsInOrder bytes es →
-      BeginFrom low es → low ≤ length bytes → AreFew low (runs_from tildes bytes n i w es)
-  few-in tildes [] n i w low h b l = (omega (arith, l), omega (arith, l))
-  few-in tildes (e ∷ []) n i w low h b l = (omega (arith, l), omega (arith, l))
-  few-in tildes (e ∷ x ∷ es) n i w low h b l =
+  few-in : (options : ParseOptions) (es : List Event) (n i : ℕ) (w : Around) (low : ℕ) → HaveRunsInOrder bytes es →
+      BeginFrom low es → low ≤ length bytes → AreFew low (runs_from options bytes n i w es)
+  few-in options [] n i w low h b l = (omega (arith, l), omega (arith, l))
+  few-in options (e ∷ []) n i w low h b l = (omega (arith, l), omega (arith, l))
+  few-in options (e ∷ x ∷ es) n i w low h b l =
       elim (cases_Bool (opens_run e)) [
         | inl o ↦
-            let f : IsFit bytes e.point x.point = fit bytes u e x (h.runs 0 o) in
+            let f : IsFitRun bytes e.point x.point = fit bytes u e x (h.runs 0 o) in
             let more : AreFew x.point.index (rest (q ∷ [])) =
-            few-in tildes (x ∷ es) (n + 1) (suc i) next x.point.index later (λ j c. h.order 0 (suc j) (omega arith) o c) f.within in
+            few-in options (x ∷ es) (n + 1) (suc i) next x.point.index later (λ j c. h.order 0 (suc j) (omega arith) o c) f.within in
             let first : low ≤ e.point.index = b 0 o in
             let sum : markers_left (q ∷ rest (q ∷ [])) ≡ q.remaining + markers_left (rest (q ∷ [])) = sum_by-cons (λ (r : Sequence). r.remaining) q (rest (q ∷ [])) in
             subst (λ (xs : List Sequence). AreFew low (xs ++ rest xs)) (sym (by_test true o)) (omega (arith, sum, first, f.some, more.0), omega (arith, first, f.some, more.1))
         | inr o ↦
             subst (λ (xs : List Sequence). AreFew low (xs ++ rest xs)) (sym (by_test false o))
-            (few-in tildes (x ∷ es) (n + 0) (suc i) next low later (λ j c. b (suc j) c) l)
+            (few-in options (x ∷ es) (n + 0) (suc i) next low later (λ j c. b (suc j) c) l)
       ]
     where
       next : Around
@@ -187,20 +188,20 @@ module _ (bytes : List ℕ) (u : IsUtf8 bytes) where
       later = behind bytes e (x ∷ es) h
 
       q : Sequence
-      q = sequence_at tildes bytes n i w.container e.point x.point
+      q = sequence_at options bytes n i w.container e.point x.point
 
       rest : List Sequence → List Sequence
-      rest xs = runs_from tildes bytes (n + length xs) (suc i) next (x ∷ es)
+      rest xs = runs_from options bytes (n + length xs) (suc i) next (x ∷ es)
 
       by_test : (t : Bool) → opens_run e ≡ t →
-          first_run tildes bytes n i w.container (e ∷ x ∷ es) ≡ (if t then q ∷ [] else [])
+          first_run options bytes n i w.container (e ∷ x ∷ es) ≡ (if t then q ∷ [] else [])
       by_test t o = ap (λ (z : Bool). if z then q ∷ [] else []) o
 
 pub in-order-may_pair : (T : Tokenizer) → T.map ≡ [] → IsUtf8 T.parse_state.now.bytes.now → length T.parse_state.now.bytes.now ≤ document_limit
     → HaveRunsInOrder T.parse_state.now.bytes.now T.events → MayPair T
 in-order-may_pair T map u few h =
     let bytes : List ℕ = T.parse_state.now.bytes.now in
-    let all = few-in bytes u T.parse_state.now.options.now.constructs.gfm_strikethrough T.events 0 0 outermost 0 h (λ j c. omega arith) (omega arith) in
+    let all = few-in bytes u T.parse_state.now.options.now T.events 0 0 outermost 0 h (λ j c. omega arith) (omega arith) in
     record {
       map = map;
       utf8 = u;

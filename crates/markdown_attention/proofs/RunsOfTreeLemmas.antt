@@ -1,12 +1,13 @@
 -- The runs of a tree's events are those of its rows.
-use Rattle.std.proofs.Common.{◌≡◌, ℕ, suc, ◌+◌, ◌-◌, ◌<◌, ◌≤◌, Bool, true, false, not, cond, ◌&&◌, ◌||◌, List, [], ◌∷◌, ◌++◌, length, map, Option, Some, None, refl, sym, ap, subst, ◌∙◌, arith, append_assoc, append-nil, length-append, inl, inr, ◌⊎◌}
+use Rattle.std.proofs.Common.{◌≡◌, ℕ, suc, ◌+◌, ◌-◌, ◌<◌, ◌≤◌, Bool, true, false, cond, ◌||◌, List, [], ◌∷◌, ◌++◌, length, map, Option, Some, None, refl, sym, ap, subst, ◌∙◌, arith, append_assoc, append-nil, length-append, inl, inr, ◌⊎◌}
 use Rattle.std.proofs.lemmas.Bool.{both_ways, cases_Bool, eq-eqb, ne_eqb}
 use Rattle.std.proofs.lemmas.List.{map-append}
 use Rattle.std.proofs.lemmas.List.Elements.{filter-append, All-append, All-nil, All-cons}
 use Rattle.std.specs.Prelude.{All}
-use Rattle.markdown_engine_content.specs.Codes.{Code, stop_of, document_start}
+use Rattle.markdown_content.specs.declared.configuration.ParseOptions.{ParseOptions}
+use Rattle.markdown_content.specs.Codes.{Code, stop_of, document_start}
 use Rattle.markdown_engine.specs.PastTree.{appended_from, link_of}
-use Rattle.markdown_engine_content.specs.Tree.{Forest, empty, leaf_then, group_then, event, event_count, start_of}
+use Rattle.markdown_content.specs.Tree.{Forest, empty, leaf_then, group_then, event, event_count, start_of}
 use Rattle.markdown_event.specs.declared.event.Event.{Event}
 use Rattle.markdown_event.specs.declared.event.Kind.TheVariants as Kind
 use Rattle.markdown_event.specs.declared.event.Link.{Link}
@@ -14,27 +15,25 @@ use Rattle.markdown_event.specs.declared.event.Name.{Name}
 use Rattle.markdown_event.specs.declared.event.Name.TheVariants as N
 use Rattle.markdown_event.specs.declared.event.Point.{Point}
 use Rattle.markdown_model.specs.Laws.{Shape, shape_of}
-use Rattle.markdown_model.specs.GfmAutolinkLiteral.{is_other}
-use Rattle.markdown_model.specs.Runs.{Run, run_of, runs_of}
-use Rattle.markdown_model.specs.Runs as Runs
-use Rattle.markdown_util.specs.Neighbours.{class_of, before_index, after_index}
+use Rattle.markdown_model.specs.Runs.{Run, is_flanking, may_act, run_of, runs_of}
+use Rattle.markdown_util.specs.Neighbours.{before_index, after_index}
 use Rattle.markdown_event.specs.declared.event.Content.{Content}
 use Rattle.markdown_model.specs.Setting.{Setting}
 use Rattle.markdown_attention.specs.RunContainers.{whole_shape, is_in, runs_in}
-use Rattle.markdown_attention.specs.RunsRead.{Container, row_around, outermost, is_run, is_text, opens_run, is_beside_marker, is_flanking, may_act, sequence_at, where_after, first_run, runs_from}
+use Rattle.markdown_attention.specs.RunsRead.{Container, row_around, outermost, is_run, is_text, opens_run, sequence_at, where_after, first_run, runs_from}
 use Rattle.markdown_attention.specs.RunsOfTree.{HasRows, leaf_run, inner, as_text, text_count, tree_runs, texts_of, IsRun, has_run, HasRuns}
 use Rattle.markdown_attention.specs.declared.attention.reading.Where.{Where}
 use Rattle.markdown_attention.specs.declared.attention.runs.Sequence.{Sequence}
 
 -- From events to the tree.
 
-module _ (tildes : Bool) (bytes : List ℕ) where
+module _ (options : ParseOptions) (bytes : List ℕ) where
   abbrev from : ℕ → ℕ → Where → List Event → List Sequence
-  from n i w es = runs_from tildes bytes n i w es
+  from n i w es = runs_from options bytes n i w es
 
   -- an event that begins no run
   no-first : (n i : ℕ) (k : Container) (e : Event) (es : List Event) → opens_run e ≡ false →
-      first_run tildes bytes n i k (e ∷ es) ≡ []
+      first_run options bytes n i k (e ∷ es) ≡ []
   no-first n i k e [] h = refl
   no-first n i k e (x ∷ es) h = rw h refl
 
@@ -49,11 +48,11 @@ module _ (tildes : Bool) (bytes : List ℕ) where
 
   leaf-runs : (n i : ℕ) (w : Where) (name : Name) (p q : Point) (link : Option Link) (es : List Event) → is_text name ≡ false
       → from n i w (record { kind = Kind.Enter; name = name; point = p; link = link } ∷ event Kind.Exit name q ∷ es)
-      ≡ leaf_run tildes bytes n i w.container name p q ++ from (n + length (leaf_run tildes bytes n i w.container name p q)) (i + 2) w es
+      ≡ leaf_run options bytes n i w.container name p q ++ from (n + length (leaf_run options bytes n i w.container name p q)) (i + 2) w es
   leaf-runs n i w name p q link es h =
       let e : Event = record { kind = Kind.Enter; name = name; point = p; link = link } in
       let x : Event = event Kind.Exit name q in
-      let here : List Sequence = leaf_run tildes bytes n i w.container name p q in
+      let here : List Sequence = leaf_run options bytes n i w.container name p q in
       let m : ℕ = n + length here in
       let next : from m (suc i) (where_after i e w) (x ∷ es) ≡ from m (i + 2) w es =
       ap (λ v. from m (suc i) v (x ∷ es)) (stays i e w h) ∙ passes m (suc i) w x es refl
@@ -85,29 +84,29 @@ module _ (tildes : Bool) (bytes : List ℕ) where
 
   pub tree-runs : (t : Forest) (n i : ℕ) (previous : Option ℕ) (w : Where) (es : List Event) → HasRuns bytes t
       → from n i w (appended_from i previous t ++ es)
-      ≡ tree_runs tildes bytes n i w.texts w.container t ++ from (n + length (tree_runs tildes bytes n i w.texts w.container t)) (i + event_count t) (counted (w.texts + text_count t) w) es
+      ≡ tree_runs options bytes n i w.texts w.container t ++ from (n + length (tree_runs options bytes n i w.texts w.container t)) (i + event_count t) (counted (w.texts + text_count t) w) es
   tree-runs empty n i previous w es h =
       let a : n ≡ n + 0 = omega arith in
       let b : i ≡ i + 0 = omega arith in
       let c : w.texts ≡ w.texts + 0 = omega arith in
       λ z. from (a z) (b z) (counted (c z) w) es
   tree-runs (leaf_then name None cs rest) n i previous w es h =
-      let here : List Sequence = leaf_run tildes bytes n i w.container name (start_of cs) (stop_of document_start cs) in
+      let here : List Sequence = leaf_run options bytes n i w.container name (start_of cs) (stop_of document_start cs) in
       leaf-runs n i w name (start_of cs) (stop_of document_start cs) None (appended_from (i + 2) previous rest ++ es) h.0.0
       ∙ ap (λ xs. here ++ xs) (tree-runs rest (n + length here) (i + 2) previous w es h.1)
-      ∙ behind here (tree_runs tildes bytes (n + length here) (i + 2) w.texts w.container rest) n (i + 2 + event_count rest) (i + (2 + event_count rest)) _ _ w es (omega arith) refl
+      ∙ behind here (tree_runs options bytes (n + length here) (i + 2) w.texts w.container rest) n (i + 2 + event_count rest) (i + (2 + event_count rest)) _ _ w es (omega arith) refl
   tree-runs (leaf_then name (Some c) cs rest) n i previous w es h =
-      let here : List Sequence = leaf_run tildes bytes n i w.container name (start_of cs) (stop_of document_start cs) in
+      let here : List Sequence = leaf_run options bytes n i w.container name (start_of cs) (stop_of document_start cs) in
       leaf-runs n i w name (start_of cs) (stop_of document_start cs) (link_of previous (Some c)) (appended_from (i + 2) (Some i) rest ++ es) h.0.0
       ∙ ap (λ xs. here ++ xs) (tree-runs rest (n + length here) (i + 2) (Some i) w es h.1)
-      ∙ behind here (tree_runs tildes bytes (n + length here) (i + 2) w.texts w.container rest) n (i + 2 + event_count rest) (i + (2 + event_count rest)) _ _ w es (omega arith) refl
+      ∙ behind here (tree_runs options bytes (n + length here) (i + 2) w.texts w.container rest) n (i + 2 + event_count rest) (i + (2 + event_count rest)) _ _ w es (omega arith) refl
   tree-runs (group_then name enter exit inside rest) n i previous w es h =
       let a : Event = event Kind.Enter name enter in
       let c : Event = event Kind.Exit name exit in
       let w' : Where = where_after i a w in
       let front : List Event = appended_from (i + 1) None inside in
       let back : List Event = appended_from (i + 2 + event_count inside) previous rest in
-      let of : ℕ → Container → List Sequence = λ m k. tree_runs tildes bytes n (i + 1) m k inside in
+      let of : ℕ → Container → List Sequence = λ m k. tree_runs options bytes n (i + 1) m k inside in
       let k : Container = inner i w.texts w.container name in
       let m : ℕ = w.texts + as_text name in
       let past : ℕ = m + text_count inside in
@@ -122,49 +121,37 @@ module _ (tildes : Bool) (bytes : List ℕ) where
       passes l j (counted past w') c (back ++ es) refl
       ∙ (let e : j + 1 ≡ i + 2 + event_count inside = omega arith in λ z. from l (e z) (back-out i j past name enter exit w z) (back ++ es))
       ∙ tree-runs rest l (i + 2 + event_count inside) previous (counted past w) es h.1.1)
-      ∙ behind (of m k) (tree_runs tildes bytes l (i + 2 + event_count inside) past w.container rest) n (i + 2 + event_count inside + event_count rest)
+      ∙ behind (of m k) (tree_runs options bytes l (i + 2 + event_count inside) past w.container rest) n (i + 2 + event_count inside + event_count rest)
       (i + (2 + event_count inside + event_count rest)) _ _ w es (omega arith) total
 
 -- From the tree to its rows.
 
-module _ (s : Setting) (tildes : Bool) (bytes : List ℕ) (same : s.bytes ≡ bytes) (on : s.options.constructs.gfm_strikethrough ≡ tildes) where
+module _ (s : Setting) (options : ParseOptions) (bytes : List ℕ) (same : s.bytes ≡ bytes) (given : s.options ≡ options) where
   abbrev runs : ℕ → ℕ → ℕ → Container → Forest → List Sequence
-  runs n i m k t = tree_runs tildes bytes n i m k t
+  runs n i m k t = tree_runs options bytes n i m k t
 
-  abbrev Whole : Forest → List Sequence → Type 0
-  Whole t list = map shape_of (runs_of s t) ≡ map whole_shape list
+  abbrev HaveWholeShapes : Forest → List Sequence → Type 0
+  HaveWholeShapes t list = map shape_of (runs_of s t) ≡ map whole_shape list
 
   pub filters : (k : ℕ) (xs ys : List Sequence) → runs_in k (xs ++ ys) ≡ runs_in k xs ++ runs_in k ys
   filters k xs ys = filter-append (is_in k) xs ys
 
-  beside : (v : ℕ) (o : Option ℕ) →
-      is_beside_marker s.options.constructs.gfm_strikethrough v o ≡ Runs.is_beside_marker s v o
-  beside v None = refl
-  beside v (Some c) = refl
-
-  flanking : (v : ℕ) (b a : Option ℕ) →
-      is_flanking s.options.constructs.gfm_strikethrough v b a ≡ Runs.is_flanking s v b a
-  flanking v b a =
-      ap (λ x. (is_other (class_of a) || (Runs.is_punctuation_class (class_of a) && not (is_other (class_of b)))) || x) (beside v a)
-
   pub leaf-shape : (n i : ℕ) (k : Container) (cs : List Code) → IsRun bytes cs →
-      shape_of (run_of s cs) ≡ whole_shape (sequence_at tildes bytes n i k (start_of cs) (stop_of document_start cs))
+      shape_of (run_of s cs) ≡ whole_shape (sequence_at options bytes n i k (start_of cs) (stop_of document_start cs))
   unfolding run_of
   leaf-shape n i k [] h = absurd h
   leaf-shape n i k (c ∷ cs) h =
       let to : ℕ = (stop_of c.stop cs).index in
       let size : to - c.start.index ≡ suc (length cs) = (let e = h.1 in omega arith) in
-      let shape : List ℕ → ℕ → ℕ → Bool → Bool → Shape = λ bs v m left right. record {
+      let left : ParseOptions → List ℕ → ℕ → Bool = λ o bs v. is_flanking o v (before_index bs c.start.index) (after_index bs to) in
+      let right : ParseOptions → List ℕ → ℕ → Bool = λ o bs v. is_flanking o v (after_index bs to) (before_index bs c.start.index) in
+      let shape : ParseOptions → List ℕ → ℕ → ℕ → Shape = λ o bs v m. record {
         marker = v;
         size = m;
-        may_open = may_act v (before_index bs c.start.index) left right;
-        may_close = may_act v (after_index bs to) right left;
+        may_open = may_act o v (before_index bs c.start.index) (left o bs v) (right o bs v);
+        may_close = may_act o v (after_index bs to) (right o bs v) (left o bs v);
       } in
-      let b : Option ℕ = before_index s.bytes c.start.index in
-      let a : Option ℕ = after_index s.bytes to in
-      (λ z. shape s.bytes c.value (suc (length cs)) (sym (flanking c.value b a) z) (sym (flanking c.value a b) z))
-      ∙ (λ z. shape (same z) (sym h.0 z) (sym size z) (is_flanking (on z) (sym h.0 z) (before_index (same z) c.start.index) (after_index (same z) to))
-      (is_flanking (on z) (sym h.0 z) (after_index (same z) to) (before_index (same z) c.start.index)))
+      λ z. shape (given z) (same z) (sym h.0 z) (sym size z)
 
   runs-leaf : (name : Name) (link : Option Content) (cs : List Code) (rest : Forest) →
       runs_of s (leaf_then name link cs rest) ≡ cond (is_run name) (run_of s cs ∷ runs_of s rest) (runs_of s rest)
@@ -189,12 +176,12 @@ module _ (s : Setting) (tildes : Bool) (bytes : List ℕ) (same : s.bytes ≡ by
 
   -- a leaf's run, in a row and in others
   pub leaf-in : (n i : ℕ) (k : Container) (r : ℕ) (name : Name) (p q : Point) → row_around k ≡ r →
-      runs_in r (leaf_run tildes bytes n i k name p q) ≡ leaf_run tildes bytes n i k name p q
+      runs_in r (leaf_run options bytes n i k name p q) ≡ leaf_run options bytes n i k name p q
   leaf-in n i k r name p q e =
       elim (cases_Bool (is_run name)) [ inl is ↦ rw (is, eq-eqb (row_around k) r e) refl | inr off ↦ rw off refl ]
 
   pub leaf-out : (n i : ℕ) (k : Container) (r : ℕ) (name : Name) (p q : Point) → (row_around k ≡ r → ⊥) →
-      runs_in r (leaf_run tildes bytes n i k name p q) ≡ []
+      runs_in r (leaf_run options bytes n i k name p q) ≡ []
   leaf-out n i k r name p q e =
       elim (cases_Bool (is_run name)) [ inl is ↦ rw (is, ne_eqb (row_around k) r e) refl | inr off ↦ rw off refl ]
 
@@ -209,7 +196,7 @@ module _ (s : Setting) (tildes : Bool) (bytes : List ℕ) (same : s.bytes ≡ by
       (r ≤ m) ⊎ (m + text_count t < r) → runs_in r (runs n i m k t) ≡ []
   others empty n i m k r ne far = refl
   others (leaf_then name link cs rest) n i m k r ne far =
-      let here : List Sequence = leaf_run tildes bytes n i k name (start_of cs) (stop_of document_start cs) in
+      let here : List Sequence = leaf_run options bytes n i k name (start_of cs) (stop_of document_start cs) in
       filters r here _ ∙ ap (λ xs. xs ++ runs_in r (runs (n + length here) (i + 2) m k rest)) (leaf-out n i k r name (start_of cs) (stop_of document_start cs) ne)
       ∙ others rest (n + length here) (i + 2) m k r ne far
   others (group_then name p q inside rest) n i m k r ne far =
@@ -231,18 +218,18 @@ module _ (s : Setting) (tildes : Bool) (bytes : List ℕ) (same : s.bytes ≡ by
 
   -- the runs of a row, in its container
   pub row-is : (t : Forest) (n i m : ℕ) (k : Container) (r : ℕ) → HasRuns bytes t → row_around k ≡ r → r ≤ m →
-      Whole t (runs_in r (runs n i m k t))
+      HaveWholeShapes t (runs_in r (runs n i m k t))
   unfolding runs_of
   row-is empty n i m k r h e low = refl
   row-is (leaf_then name link cs rest) n i m k r h e low =
       let p : Point = start_of cs in
       let q : Point = stop_of document_start cs in
-      let here : List Sequence = leaf_run tildes bytes n i k name p q in
+      let here : List Sequence = leaf_run options bytes n i k name p q in
       let more : List Sequence = runs (n + length here) (i + 2) m k rest in
-      let next : Whole rest (runs_in r more) = row-is rest (n + length here) (i + 2) m k r h.1 e low in
+      let next : HaveWholeShapes rest (runs_in r more) = row-is rest (n + length here) (i + 2) m k r h.1 e low in
       let split : runs_in r (here ++ more) ≡ here ++ runs_in r more = filters r here more ∙ ap (λ xs. xs ++ runs_in r more) (leaf-in n i k r name p q e) in
       ap (map shape_of) (runs-leaf name link cs rest)
-      ∙ leaf-row (is_run name) (run_of s cs) (sequence_at tildes bytes n i k p q) (runs_of s rest) (runs_in r more) (λ is. leaf-shape n i k cs (h.0.1 is)) next
+      ∙ leaf-row (is_run name) (run_of s cs) (sequence_at options bytes n i k p q) (runs_of s rest) (runs_in r more) (λ is. leaf-shape n i k cs (h.0.1 is)) next
       ∙ ap (map whole_shape) (sym split)
   row-is (group_then name p q inside rest) n i m k r h e low =
       let m' : ℕ = m + as_text name in
@@ -250,7 +237,7 @@ module _ (s : Setting) (tildes : Bool) (bytes : List ℕ) (same : s.bytes ≡ by
       let l : ℕ = n + length front in
       let past : ℕ = m' + text_count inside in
       let more : List Sequence = runs l (i + 2 + event_count inside) past k rest in
-      let next : Whole rest (runs_in r more) = row-is rest l (i + 2 + event_count inside) past k r h.1.1 e (omega arith) in
+      let next : HaveWholeShapes rest (runs_in r more) = row-is rest l (i + 2 + event_count inside) past k r h.1.1 e (omega arith) in
       let none : map whole_shape (runs_in r front) ≡ [] = elim (inner-row i m k name) [
         | inl x ↦ ap (map whole_shape) (others inside n (i + 1) m' (inner i m k name) r (λ y. let z = x.1.0 in omega arith) (inl (omega arith)))
         | inr x ↦ sym (row-is inside n (i + 1) m' (inner i m k name) r h.1.0 (ap row_around x.1 ∙ e) (omega arith)) ∙ ap (map shape_of) (none-in inside (h.0.1 x.0))
@@ -274,23 +261,23 @@ module _ (s : Setting) (tildes : Bool) (bytes : List ℕ) (same : s.bytes ≡ by
   all-one P x false h = All-nil P
 
   -- the runs of each label's text
-  abbrev IsText : List Sequence → ℕ × Forest → Type 0
-  IsText list text = Whole text.1 (runs_in (text.0 + 1) list)
+  abbrev TextHasRuns : List Sequence → ℕ × Forest → Type 0
+  TextHasRuns list text = HaveWholeShapes text.1 (runs_in (text.0 + 1) list)
 
-  abbrev Texts : List Sequence → List (ℕ × Forest) → Type 0
-  Texts list texts = All (IsText list) texts
+  abbrev TextsHaveRuns : List Sequence → List (ℕ × Forest) → Type 0
+  TextsHaveRuns list texts = All (TextHasRuns list) texts
 
   texts-are : (t : Forest) (n i m : ℕ) (k : Container) (front back : List Sequence) → HasRuns bytes t → row_around k ≤ m
-      → Lacks m (m + text_count t) front → Lacks m (m + text_count t) back → Texts (front ++ (runs n i m k t ++ back)) (texts_of m t)
+      → Lacks m (m + text_count t) front → Lacks m (m + text_count t) back → TextsHaveRuns (front ++ (runs n i m k t ++ back)) (texts_of m t)
   unfolding Lacks
-  texts-are empty n i m k front back h low f b = All-nil (IsText (front ++ back))
+  texts-are empty n i m k front back h low f b = All-nil (TextHasRuns (front ++ back))
   texts-are (leaf_then name link cs rest) n i m k front back h low f b =
       let p : Point = start_of cs in
       let q : Point = stop_of document_start cs in
-      let here : List Sequence = leaf_run tildes bytes n i k name p q in
+      let here : List Sequence = leaf_run options bytes n i k name p q in
       let more : List Sequence = runs (n + length here) (i + 2) m k rest in
       let apart : front ++ ((here ++ more) ++ back) ≡ (front ++ here) ++ (more ++ back) = ap (λ xs. front ++ xs) (append_assoc here more back) ∙ sym (append_assoc front here (more ++ back)) in
-      subst (λ xs. Texts xs (texts_of m rest)) (sym apart)
+      subst (λ xs. TextsHaveRuns xs (texts_of m rest)) (sym apart)
       (texts-are rest (n + length here) (i + 2) m k (front ++ here) back h.1 low
       (λ r l u. filters r front here ∙ ap (λ zs. zs ++ runs_in r here) (f r l u) ∙ leaf-out n i k r name p q (λ e. omega arith)) b)
   texts-are (group_then name p q inside rest) n i m k front back h low f b =
@@ -302,16 +289,16 @@ module _ (s : Setting) (tildes : Bool) (bytes : List ℕ) (same : s.bytes ≡ by
       let apart : front ++ ((of ++ more) ++ back) ≡ front ++ (of ++ (more ++ back)) = ap (λ xs. front ++ xs) (append_assoc of more back) in
       let behind : (r : ℕ) → m < r → r ≤ past → runs_in r (more ++ back) ≡ [] =
       λ r l' u. filters r more back ∙ ap (λ zs. zs ++ runs_in r back) (others rest l (i + 2 + event_count inside) past k r (λ e. omega arith) (inl u)) ∙ b r (omega arith) (omega arith) in
-      let first : Texts (front ++ (of ++ (more ++ back))) (cond (is_text name) ((m, inside) ∷ []) []) =
-      all-one (IsText (front ++ (of ++ (more ++ back)))) (m, inside) (is_text name) (λ is.
+      let first : TextsHaveRuns (front ++ (of ++ (more ++ back))) (cond (is_text name) ((m, inside) ∷ []) []) =
+      all-one (TextHasRuns (front ++ (of ++ (more ++ back)))) (m, inside) (is_text name) (λ is.
       let one : as_text name ≡ 1 = rw is refl in
       row-is inside n (i + 1) m' (inner i m k name) (m + 1) h.1.0 (rw is refl) (omega arith)
       ∙ ap (map whole_shape) (sym (between (m + 1) front of (more ++ back) (f (m + 1) (omega arith) (omega arith)) (behind (m + 1) (omega arith) (omega arith))))) in
       let inner_low : row_around (inner i m k name) ≤ m' = elim (inner-row i m k name) [ inl x ↦ (let y = x.1.0 in let one = x.1.1 in omega arith) | inr x ↦ (let y = ap row_around x.1 in omega arith) ] in
-      let middle : Texts (front ++ (of ++ (more ++ back))) (texts_of m' inside) =
+      let middle : TextsHaveRuns (front ++ (of ++ (more ++ back))) (texts_of m' inside) =
       texts-are inside n (i + 1) m' (inner i m k name) front (more ++ back) h.1.0 inner_low
       (λ r l' u. f r (omega arith) (omega arith)) (λ r l' u. behind r (omega arith) u) in
-      let last : Texts ((front ++ of) ++ (more ++ back)) (texts_of past rest) =
+      let last : TextsHaveRuns ((front ++ of) ++ (more ++ back)) (texts_of past rest) =
       texts-are rest l (i + 2 + event_count inside) past k (front ++ of) back h.1.1 (omega arith)
       (λ r l' u. filters r front of ∙ ap (λ zs. zs ++ runs_in r of) (f r (omega arith) (omega arith))
       ∙ others inside n (i + 1) m' (inner i m k name) r (λ e. omega (arith, inner_low, e)) (inr l'))
@@ -320,22 +307,22 @@ module _ (s : Setting) (tildes : Bool) (bytes : List ℕ) (same : s.bytes ≡ by
       let texts : List (ℕ × Forest) = texts_of m' inside in
       let later : List (ℕ × Forest) = texts_of past rest in
       let all : List Sequence = front ++ (of ++ (more ++ back)) in
-      subst (λ xs. Texts xs (here ++ (texts ++ later))) (sym apart)
-      (All-append (IsText all) here (texts ++ later) first
-      (All-append (IsText all) texts later middle (subst (λ xs. Texts xs later) (append_assoc front of (more ++ back)) last)))
+      subst (λ xs. TextsHaveRuns xs (here ++ (texts ++ later))) (sym apart)
+      (All-append (TextHasRuns all) here (texts ++ later) first
+      (All-append (TextHasRuns all) texts later middle (subst (λ xs. TextsHaveRuns xs later) (append_assoc front of (more ++ back)) last)))
 
   pub has-rows : (t : Forest) → HasRuns bytes t → HasRows s t (runs 0 0 0 None t)
   unfolding Lacks
   has-rows t h = record {
     whole = row-is t 0 0 0 None 0 h refl (omega arith);
-    texts = subst (λ xs. Texts xs (texts_of 0 t)) (append-nil (runs 0 0 0 None t)) (texts-are t 0 0 0 None [] [] h (omega arith) (λ r l u. refl) (λ r l u. refl));
+    texts = subst (λ xs. TextsHaveRuns xs (texts_of 0 t)) (append-nil (runs 0 0 0 None t)) (texts-are t 0 0 0 None [] [] h (omega arith) (λ r l u. refl) (λ r l u. refl));
   }
 
 -- the runs of a tree's events
-pub rows-of-events : (s : Setting) (tildes : Bool) (bytes : List ℕ) → s.bytes ≡ bytes → s.options.constructs.gfm_strikethrough ≡ tildes → (t : Forest) → HasRuns bytes t
-    → (es : List Event) → es ≡ appended_from 0 None t → HasRows s t (runs_from tildes bytes 0 0 outermost es)
-rows-of-events s tildes bytes same on t h es e =
-    let runs : List Sequence = tree_runs tildes bytes 0 0 0 None t in
-    let is : runs_from tildes bytes 0 0 outermost es ≡ runs =
-    ap (runs_from tildes bytes 0 0 outermost) (e ∙ sym (append-nil _)) ∙ tree-runs tildes bytes t 0 0 None outermost [] h ∙ append-nil runs in
-    subst (HasRows s t) (sym is) (has-rows s tildes bytes same on t h)
+pub rows-of-events : (s : Setting) (options : ParseOptions) (bytes : List ℕ) → s.bytes ≡ bytes → s.options ≡ options → (t : Forest) → HasRuns bytes t
+    → (es : List Event) → es ≡ appended_from 0 None t → HasRows s t (runs_from options bytes 0 0 outermost es)
+rows-of-events s options bytes same given t h es e =
+    let runs : List Sequence = tree_runs options bytes 0 0 0 None t in
+    let is : runs_from options bytes 0 0 outermost es ≡ runs =
+    ap (runs_from options bytes 0 0 outermost) (e ∙ sym (append-nil _)) ∙ tree-runs options bytes t 0 0 None outermost [] h ∙ append-nil runs in
+    subst (HasRows s t) (sym is) (has-rows s options bytes same given t h)

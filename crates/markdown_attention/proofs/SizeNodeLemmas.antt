@@ -48,13 +48,13 @@ sizes-of-run xs ns lists run d v l e =
     let within : run < length ns = omega (arith, l, seen, length-map ns (sizes_from xs)) in
     sym (ap (λ (ls : List (List ℕ)). get_or ls run []) v) ∙ get_or-map (sizes_from xs) ns run d [] within ∙ ap (sizes_from xs) (sym e)
 
-pub record Follows (xs : List SizeNode) (n : ℕ) (x : SizeNode) : Type 0 where
+pub record SizesFollow (xs : List SizeNode) (n : ℕ) (x : SizeNode) : Type 0 where
   pub sizes : sizes_from xs n ≡ x.size ∷ sizes_from xs x.next
   pub before : x.next < n
 
 -- node n, which stands so many nodes below the newest
 pub read-node : (xs : List SizeNode) (n k : ℕ) (d : SizeNode) → AreLinked xs → 0 < n → k + n ≡ length xs →
-    Follows xs n (get_or xs k d)
+    SizesFollow xs n (get_or xs k d)
 read-node [] n k d linked p h = absurd (omega (arith, p, h))
 read-node (x ∷ xs) n zero d linked p h =
     let e : n ≡ suc (length xs) = omega (arith, h) in

@@ -1,6 +1,6 @@
 -- What the states of a run of markers do, and how runs from them end.
 use Rattle.std.specs.Prelude.{◌≡◌, ℕ, Bool, true, false, ◌==◌, if◌then◌else◌, Option, Some, None, List, [], ◌∷◌}
-use Rattle.markdown_engine_content.specs.Codes.{Code}
+use Rattle.markdown_content.specs.Codes.{Code}
 use Rattle.markdown_engine.specs.Operations.{Enter, Consume, IsOpen, ahead, current_of, done, exited, registered, scratched}
 use Rattle.markdown_engine.specs.PastTree.{Reads, Refuses, TreeReading, passed}
 use Rattle.markdown_engine.specs.StateRuns.{Stepped, stepped}
@@ -8,13 +8,13 @@ use Rattle.markdown_engine.specs.StateWords.{StateWords}
 use Rattle.markdown_model.specs.CodeTests.{is_value}
 use Rattle.markdown_model.specs.Grammar.{span}
 use Rattle.markdown_model.specs.SingleConstructs.{begins_run, attention_here}
-use Rattle.markdown_engine_content.specs.declared.configuration.Constructs.{Constructs}
+use Rattle.markdown_content.specs.declared.configuration.Constructs.{Constructs}
 use Rattle.markdown_event.specs.declared.event.Name.TheVariants as N
-use Rattle.markdown_state.specs.declared.resolve.ResolveName.TheVariants as R
-use Rattle.markdown_state.specs.declared.state.State.TheVariants.{Next, Retry, Nok}
-use Rattle.markdown_state.specs.declared.state.State.TheVariants as State
-use Rattle.markdown_state.specs.declared.state.StateName.{StateName}
-use Rattle.markdown_state.specs.declared.state.StateName.TheVariants.{AttentionStart, AttentionInside}
+use Rattle.markdown_event.specs.declared.resolve.ResolveName.TheVariants as R
+use Rattle.markdown_event.specs.declared.state.State.TheVariants.{Next, Retry, Nok}
+use Rattle.markdown_event.specs.declared.state.State.TheVariants as State
+use Rattle.markdown_event.specs.declared.state.StateName.{StateName}
+use Rattle.markdown_event.specs.declared.state.StateName.TheVariants.{AttentionStart, AttentionInside}
 use Rattle.markdown_engine.specs.declared.tokenizer.TokenizeState.{TokenizeState}
 use Rattle.markdown_engine.specs.declared.tokenizer.Tokenizer.{Tokenizer}
 
@@ -54,11 +54,11 @@ inside_step T = inside_at (current_of T) T
 
 -- When they may be called.
 
-abbrev pub StartReady : Tokenizer → Type 0
-StartReady T = T.tokenize_state ≡ with_marker 0 T.tokenize_state
+abbrev pub AttentionStartReady : Tokenizer → Type 0
+AttentionStartReady T = T.tokenize_state ≡ with_marker 0 T.tokenize_state
 
-abbrev pub InsideReady : Tokenizer → Type 0
-InsideReady T = IsOpen N.AttentionSequence T
+abbrev pub AttentionInsideReady : Tokenizer → Type 0
+AttentionInsideReady T = IsOpen N.AttentionSequence T
 
 -- How runs end.
 
@@ -88,10 +88,10 @@ inside_ends T false U = ⊥
 -- The states.
 
 abbrev pub start_words : StateWords
-start_words = record { ready = StartReady; step = start_step; ends = start_ends; rank = λ T. 2 }
+start_words = record { ready = AttentionStartReady; step = start_step; ends = start_ends; rank = λ T. 2 }
 
 abbrev pub inside_words : StateWords
-inside_words = record { ready = InsideReady; step = inside_step; ends = inside_ends; rank = λ T. 1 }
+inside_words = record { ready = AttentionInsideReady; step = inside_step; ends = inside_ends; rank = λ T. 1 }
 
 -- a part of what is said of these states, and of any other as it is given
 abbrev pub said {ℓ} : {A : Type ℓ} → (StateWords → A) → (StateName → A) → StateName → A

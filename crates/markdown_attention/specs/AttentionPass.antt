@@ -2,19 +2,19 @@
 use Rattle.std.specs.Prelude.{◌≡◌, ℕ, ◌+◌, ◌*◌, ◌^◌, ◌<◌, ◌≤◌, List, [], length, IsUtf8}
 use Rattle.std.specs.List.{count_by}
 use Rattle.markdown_engine_events.specs.Edits.{edited}
-use Rattle.markdown_engine_content.specs.Tree.{Forest}
-use Rattle.markdown_engine_content.specs.declared.configuration.ParseOptions.{ParseOptions}
+use Rattle.markdown_content.specs.Tree.{Forest}
+use Rattle.markdown_content.specs.declared.configuration.ParseOptions.{ParseOptions}
 use Rattle.markdown_event.specs.declared.event.Event.{Event}
 use Rattle.markdown_event.specs.declared.event.Point.{Point}
 use Rattle.markdown_engine.specs.declared.tokenizer.Tokenizer.{Tokenizer}
 use Rattle.markdown_engine_events.specs.declared.util.edit_map.Edit.{Edit}
 use Rattle.markdown_model.specs.InlineTree.{pair_count, probe_bound, list_probe_bound}
 use Rattle.markdown_model.specs.Setting.{Setting}
-use Rattle.markdown_attention.specs.RunContainers.{ArePairLists, AreWithin, AreTakenOnce}
+use Rattle.markdown_attention.specs.RunContainers.{ArePairLists, ArePairsWithin, AreTakenOnce}
 use Rattle.markdown_attention.specs.RunsOfEvents.{runs_of_events}
 use Rattle.markdown_attention.specs.NumberedPairs.{markers_left}
 use Rattle.markdown_attention.specs.RunsRead.{HaveRunPlaces}
-use Rattle.markdown_attention.specs.PairScan.{Stands}
+use Rattle.markdown_attention.specs.PairScan.{AreRunsAfter}
 use Rattle.markdown_attention.specs.declared.attention.pairing.Pair.{Pair}
 use Rattle.markdown_attention.specs.declared.attention.runs.Sequence.{Sequence}
 use Rattle.markdown_attention.specs.RunEvents.{marker_events}
@@ -46,9 +46,9 @@ grouping es list pairs = edits_by (comes_for (point_in es) list pairs) list
 -- what pairing leaves: these pairs, the runs as they stand after them, and the number of looks
 pub record IsPairing (options : ParseOptions) (list fin : List Sequence) (pairs : List Pair) (probes : ℕ) : Type 0 where
   pub lists : ArePairLists options list pairs
-  pub within : AreWithin list pairs
+  pub within : ArePairsWithin list pairs
   pub once : AreTakenOnce list pairs
-  pub left : Stands list fin pairs
+  pub left : AreRunsAfter list fin pairs
   pub at_least : length pairs ≤ probes
   pub at_most : probes ≤ 6 * count_by (λ r. r.may_open) list + count_by (λ r. r.may_close) list + 7 * length pairs
   pub scan : probes ≤ (length list + length pairs) * length list
@@ -58,7 +58,7 @@ pub record IsPairing (options : ParseOptions) (list fin : List Sequence) (pairs 
 pub record IsGrouped (options : ParseOptions) (list : List Sequence) (before after : List Event) (probes : ℕ) : Type 0 where
   pub pairs : List Pair
   pub lists : ArePairLists options list pairs
-  pub within : AreWithin list pairs
+  pub within : ArePairsWithin list pairs
   pub once : AreTakenOnce list pairs
   pub events : after ≡ edited (grouping before list pairs) before
   pub at_least : length pairs ≤ probes

@@ -1,6 +1,6 @@
 -- Of which trees the pass is said.
 use Rattle.std.specs.Prelude.{◌≡◌, ◌≢◌, ℕ, ◌+◌, true, false, [], None}
-use Rattle.markdown_engine_content.specs.Tree.{Forest, empty, leaf_then, group_then, start_of, event_count}
+use Rattle.markdown_content.specs.Tree.{Forest, empty, leaf_then, group_then, start_of, event_count}
 use Rattle.markdown_event.specs.declared.event.Point.{Point}
 use Rattle.markdown_model.specs.Runs.{marker_of}
 use Rattle.markdown_attention.specs.RunsRead.{is_run}

@@ -4,7 +4,8 @@ use Rattle.std.specs.Str.{byte}
 use Rattle.std.specs.List.{list_any}
 use Rattle.markdown_attention.specs.declared.attention.runs.Sequence.{Sequence}
 use Rattle.markdown_attention.specs.declared.attention.pairing.Pair.{Pair}
-use Rattle.markdown_engine_content.specs.declared.configuration.ParseOptions.{ParseOptions}
+use Rattle.markdown_content.specs.CommonMark.{rules_of}
+use Rattle.markdown_content.specs.declared.configuration.ParseOptions.{ParseOptions}
 
 -- the row of a container: the first for the whole content, and one for each text of a label, by its number among the texts
 abbrev pub row_of : Option ℕ → ℕ
@@ -37,7 +38,7 @@ is_shut done i = list_any (is_around i) done
 
 -- the size that the rule of three reads
 abbrev pub ruled_size : ParseOptions → ℕ → ℕ → ℕ
-ruled_size options whole remaining = if options.attention_first_lengths then whole else remaining
+ruled_size options whole remaining = if (rules_of options).whole_lengths then whole else remaining
 
 -- one of the two may open and close, the closer's size is no multiple of 3 and the sum is
 abbrev pub is_refused_by_three : Bool → ℕ → ℕ → Bool
@@ -72,23 +73,23 @@ pub record Eligible (options : ParseOptions) (runs : List Sequence) (container :
   pub fit : IsTrue (sizes_fit options (run_at runs o) (run_at runs c) (left runs done o) (left runs done c))
 
 -- no pair is eligible with a closer from `from` on and before `end`
-abbrev pub NoneEligible : ParseOptions → List Sequence → ℕ → List Pair → ℕ → ℕ → Type 0
-NoneEligible options runs k done from end = (o c : ℕ) → from ≤ c → c < end → Eligible options runs k done o c → ⊥
+abbrev pub NoneEligibleBetween : ParseOptions → List Sequence → ℕ → List Pair → ℕ → ℕ → Type 0
+NoneEligibleBetween options runs k done from end = (o c : ℕ) → from ≤ c → c < end → Eligible options runs k done o c → ⊥
 
 -- p is the next pair after `done`, the last of which has the closer `last`
-pub record IsNext (options : ParseOptions) (runs : List Sequence) (k : ℕ) (done : List Pair) (last : ℕ) (p : Pair) : Type 0 where
+pub record IsNextNumbered (options : ParseOptions) (runs : List Sequence) (k : ℕ) (done : List Pair) (last : ℕ) (p : Pair) : Type 0 where
   pub eligible : Eligible options runs k done p.opener p.closer
   pub size : p.size ≡ size_of_pair (left runs done p.opener) (left runs done p.closer)
   pub forward : last ≤ p.closer
-  pub leftmost : NoneEligible options runs k done last p.closer
+  pub leftmost : NoneEligibleBetween options runs k done last p.closer
   pub nearest : (o : ℕ) → p.opener < o → Eligible options runs k done o p.closer → ⊥
 
 -- the pairs follow each other after `done`, the last of which has the closer `last`, and none is left
 -- with a closer before `end`
 abbrev pub PairsFrom : ParseOptions → List Sequence → ℕ → ℕ → List Pair → ℕ → List Pair → Type 0
-PairsFrom options runs k end done last [] = NoneEligible options runs k done last end
+PairsFrom options runs k end done last [] = NoneEligibleBetween options runs k done last end
 PairsFrom options runs k end done last (p ∷ ps) =
-    IsNext options runs k done last p × PairsFrom options runs k end (done ++ p ∷ []) p.closer ps
+    IsNextNumbered options runs k done last p × PairsFrom options runs k end (done ++ p ∷ []) p.closer ps
 
 -- the pair list of container k
 abbrev pub AreItsPairs : ParseOptions → List Sequence → ℕ → List Pair → Type 0

@@ -3,7 +3,7 @@ use Rattle.std.specs.Prelude.{◌⊎◌, ◌≡◌, ℕ, zero, suc, ◌+◌, ◌
 use Rattle.std.specs.Str.{byte}
 use Rattle.markdown_attention.specs.declared.attention.runs.Sequence.{Sequence}
 use Rattle.markdown_attention.specs.declared.attention.pairing.Pair.{Pair}
-use Rattle.markdown_engine_content.specs.declared.configuration.ParseOptions.{ParseOptions}
+use Rattle.markdown_content.specs.declared.configuration.ParseOptions.{ParseOptions}
 use Rattle.markdown_attention.specs.NumberedPairs.{row_of, run_at, left, is_shut, pairs_in, sizes_fit, ruled_size}
 
 -- which list of its container a marker has
@@ -71,8 +71,8 @@ is_open runs pairs r =
     && not (is_shut (pairs_in runs (row_of (run_at runs r).text) pairs) r))
 
 -- a run, of which x markers are left, is no opener of a closer of this class
-abbrev pub Refuses : ParseOptions → Sequence → ℕ → ℕ → Type 0
-Refuses options a x class =
+abbrev pub RefusesCloser : ParseOptions → Sequence → ℕ → ℕ → Type 0
+RefusesCloser options a x class =
     (b : Sequence) (y : ℕ) → b.marker ≡ a.marker → class_of options b y ≡ class → sizes_fit options a b x y ≡ false
 
 -- the markers of runs: `*`, `_` and `~`

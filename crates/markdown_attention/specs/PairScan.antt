@@ -20,8 +20,8 @@ abbrev pub StandIn : ℕ → List Sequence → Type 0
 StandIn texts list = (i : ℕ) → i < length list → row_of (run_at list i).text ≤ texts
 
 -- no pair has taken of a run
-abbrev pub Whole : List Sequence → Type 0
-Whole list = (i : ℕ) → i < length list → (run_at list i).remaining ≡ (run_at list i).size
+abbrev pub AreUntaken : List Sequence → Type 0
+AreUntaken list = (i : ℕ) → i < length list → (run_at list i).remaining ≡ (run_at list i).size
 
 -- two sizes can be added
 abbrev pub AreSmall : List Sequence → Type 0
@@ -32,6 +32,6 @@ abbrev pub standing : List Sequence → List Pair → ℕ → Sequence
 standing runs pairs i = record (run_at runs i) { remaining = left runs (pairs_in runs (row_of (run_at runs i).text) pairs) i }
 
 -- the runs as they stand after these pairs
-pub record Stands (runs list : List Sequence) (pairs : List Pair) : Type 0 where
+pub record AreRunsAfter (runs list : List Sequence) (pairs : List Pair) : Type 0 where
   pub same_length : length list ≡ length runs
   pub stands : (i : ℕ) → i < length runs → run_at list i ≡ standing runs pairs i

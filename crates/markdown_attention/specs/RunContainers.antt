@@ -1,6 +1,6 @@
 -- The runs and pairs of one container: the whole content, or the text of one label.
 use Rattle.std.specs.Prelude.{◌≡◌, ℕ, zero, suc, ◌<◌, ◌≤◌, Bool, ◌==◌, if◌then◌else◌, List, [], ◌∷◌, length, map, filter, Option}
-use Rattle.markdown_engine_content.specs.declared.configuration.ParseOptions.{ParseOptions}
+use Rattle.markdown_content.specs.declared.configuration.ParseOptions.{ParseOptions}
 use Rattle.markdown_model.specs.Laws.{Shape, shape_of}
 use Rattle.markdown_model.specs.Pairs as Model
 use Rattle.markdown_model.specs.Runs.{Run}
@@ -41,14 +41,14 @@ ArePairLists options list pairs =
     → Model.IsPairList s runs (pairs_of (row_of text) list pairs)
 
 -- a pair of two runs of one container, in order
-pub record IsWithin (list : List Sequence) (p : Pair) : Type 0 where
+pub record IsPairWithin (list : List Sequence) (p : Pair) : Type 0 where
   pub order : p.opener < p.closer
   pub within : p.closer < length list
   pub row : row_of (run_at list p.opener).text ≡ row_of (run_at list p.closer).text
 
-abbrev pub AreWithin : List Sequence → List Pair → Type 0
-AreWithin list [] = Unit {0}
-AreWithin list (p ∷ ps) = IsWithin list p × AreWithin list ps
+abbrev pub ArePairsWithin : List Sequence → List Pair → Type 0
+ArePairsWithin list [] = Unit {0}
+ArePairsWithin list (p ∷ ps) = IsPairWithin list p × ArePairsWithin list ps
 
 -- of each run no more is taken than it has
 abbrev pub AreTakenOnce : List Sequence → List Pair → Type 0

@@ -1,6 +1,6 @@
 -- The edits of the pass: one for each run, and of which events they can be made.
 use Rattle.std.specs.Prelude.{◌≡◌, ℕ, zero, suc, ◌-◌, ◌^◌, ◌<◌, true, false, ◌==◌, if◌then◌else◌, List, [], ◌∷◌, None}
-use Rattle.markdown_engine_content.specs.Codes.{document_start}
+use Rattle.markdown_content.specs.Codes.{document_start}
 use Rattle.markdown_event.specs.declared.event.Event.{Event}
 use Rattle.markdown_event.specs.declared.event.Point.{Point}
 use Rattle.markdown_engine_events.specs.declared.util.edit_map.Edit.{Edit}

@@ -1,8 +1,8 @@
 -- Events whose runs stand in order over a document.
 use Rattle.std.specs.Prelude.{◌≡◌, ◌≢◌, ℕ, suc, ◌<◌, ◌≤◌, true, List, [], ◌∷◌, drop, None}
-use Rattle.markdown_engine_content.specs.Codes.{Code}
-use Rattle.markdown_engine_content.specs.Slices.{codes_between}
-use Rattle.markdown_engine_content.specs.DocumentWalk.{IsPoint}
+use Rattle.markdown_content.specs.Codes.{Code}
+use Rattle.markdown_content.specs.Slices.{codes_between}
+use Rattle.markdown_content.specs.DocumentWalk.{IsPoint}
 use Rattle.markdown_event.specs.declared.event.Event.{Event}
 use Rattle.markdown_event.specs.declared.event.Kind.TheVariants as Kind
 use Rattle.markdown_event.specs.declared.event.Name.{Name}

@@ -1,7 +1,8 @@
 -- The runs of a tree: those of the whole, and those of each label's text.
 use Rattle.std.specs.Prelude.{◌≡◌, ℕ, suc, ◌+◌, Bool, true, false, ◌||◌, if◌then◌else◌, List, [], ◌∷◌, ◌++◌, length, map, slice_index_or, Some, All}
-use Rattle.markdown_engine_content.specs.Codes.{Code, stop_of, document_start}
-use Rattle.markdown_engine_content.specs.Tree.{Forest, empty, leaf_then, group_then, event_count, start_of}
+use Rattle.markdown_content.specs.Codes.{Code, stop_of, document_start}
+use Rattle.markdown_content.specs.declared.configuration.ParseOptions.{ParseOptions}
+use Rattle.markdown_content.specs.Tree.{Forest, empty, leaf_then, group_then, event_count, start_of}
 use Rattle.markdown_event.specs.declared.event.Name.{Name}
 use Rattle.markdown_event.specs.declared.event.Point.{Point}
 use Rattle.markdown_engine.specs.declared.tokenizer.Tokenizer.{Tokenizer}
@@ -13,8 +14,8 @@ use Rattle.markdown_attention.specs.RunsRead.{Container, is_run, is_text, sequen
 use Rattle.markdown_attention.specs.declared.attention.runs.Sequence.{Sequence}
 
 -- the run of a leaf from one place to another
-abbrev pub leaf_run : Bool → List ℕ → ℕ → ℕ → Container → Name → Point → Point → List Sequence
-leaf_run tildes bytes n i k name from to = if is_run name then sequence_at tildes bytes n i k from to ∷ [] else []
+abbrev pub leaf_run : ParseOptions → List ℕ → ℕ → ℕ → Container → Name → Point → Point → List Sequence
+leaf_run options bytes n i k name from to = if is_run name then sequence_at options bytes n i k from to ∷ [] else []
 
 -- the container of what stands in a group, where i events and m texts come before
 abbrev pub inner : ℕ → ℕ → Container → Name → Container
@@ -31,14 +32,14 @@ text_count (leaf_then name link cs rest) = text_count rest
 text_count (group_then name enter exit inside rest) = as_text name + text_count inside + text_count rest
 
 -- the runs among siblings that stand in this container, and inside them, where n runs, i events and m texts come before
-abbrev pub tree_runs : Bool → List ℕ → ℕ → ℕ → ℕ → Container → Forest → List Sequence
-tree_runs tildes bytes n i m k empty = []
-tree_runs tildes bytes n i m k (leaf_then name link cs rest) =
-    let here = leaf_run tildes bytes n i k name (start_of cs) (stop_of document_start cs) in
-    here ++ tree_runs tildes bytes (n + length here) (i + 2) m k rest
-tree_runs tildes bytes n i m k (group_then name enter exit inside rest) =
-    let front = tree_runs tildes bytes n (i + 1) (m + as_text name) (inner i m k name) inside in
-    front ++ tree_runs tildes bytes (n + length front) (i + 2 + event_count inside) (m + as_text name + text_count inside) k rest
+abbrev pub tree_runs : ParseOptions → List ℕ → ℕ → ℕ → ℕ → Container → Forest → List Sequence
+tree_runs options bytes n i m k empty = []
+tree_runs options bytes n i m k (leaf_then name link cs rest) =
+    let here = leaf_run options bytes n i k name (start_of cs) (stop_of document_start cs) in
+    here ++ tree_runs options bytes (n + length here) (i + 2) m k rest
+tree_runs options bytes n i m k (group_then name enter exit inside rest) =
+    let front = tree_runs options bytes n (i + 1) (m + as_text name) (inner i m k name) inside in
+    front ++ tree_runs options bytes (n + length front) (i + 2 + event_count inside) (m + as_text name + text_count inside) k rest
 
 -- the text of each label with its number, where m texts come before
 abbrev pub texts_of : ℕ → Forest → List (ℕ × Forest)

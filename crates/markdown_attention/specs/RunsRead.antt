@@ -1,15 +1,15 @@
 -- Reading the runs off a list of events.
-use Rattle.std.specs.Prelude.{◌≡◌, ℕ, suc, ◌+◌, ◌-◌, ◌<◌, ◌≤◌, Bool, true, false, ◌&&◌, ◌||◌, not, ◌==◌, if◌then◌else◌, List, [], ◌∷◌, ◌++◌, length, slice_index_or, Option, Some, None}
-use Rattle.std.specs.Str.{IsCharBoundary, byte}
-use Rattle.markdown_engine_content.specs.ListFunctions.{rest_of}
+use Rattle.std.specs.Prelude.{◌≡◌, ℕ, suc, ◌+◌, ◌-◌, ◌<◌, ◌≤◌, Bool, true, false, ◌&&◌, if◌then◌else◌, List, [], ◌∷◌, ◌++◌, length, slice_index_or, Option, Some, None}
+use Rattle.std.specs.Str.{IsCharBoundary}
+use Rattle.markdown_content.specs.ListFunctions.{rest_of}
+use Rattle.markdown_content.specs.declared.configuration.ParseOptions.{ParseOptions}
 use Rattle.markdown_event.specs.declared.event.Event.{Event}
 use Rattle.markdown_event.specs.declared.event.Kind.{Kind}
 use Rattle.markdown_event.specs.declared.event.Name.{Name}
 use Rattle.markdown_event.specs.declared.event.Name.TheVariants as N
 use Rattle.markdown_event.specs.declared.event.Point.{Point}
-use Rattle.markdown_model.specs.GfmAutolinkLiteral.{is_other}
-use Rattle.markdown_model.specs.Runs.{is_punctuation_class}
-use Rattle.markdown_util.specs.Neighbours.{class_of, before_index, after_index}
+use Rattle.markdown_model.specs.Runs.{is_flanking, may_act}
+use Rattle.markdown_util.specs.Neighbours.{before_index, after_index}
 use Rattle.markdown_attention.specs.OpenRuns.{IsMarker}
 use Rattle.markdown_attention.specs.NumberedPairs.{row_of}
 use Rattle.markdown_attention.specs.declared.attention.reading.Text.{Text}
@@ -34,21 +34,6 @@ opens_run e = is_enter e.kind && is_run e.name
 abbrev pub opens_text : Event → Bool
 opens_text e = is_enter e.kind && is_text e.name
 
--- What a run may do, by the characters beside it; the first argument is the switch of strikethrough.
-
-abbrev pub is_beside_marker : Bool → ℕ → Option ℕ → Bool
-is_beside_marker tildes marker None = false
-is_beside_marker tildes marker (Some c) = not (marker == byte "~") && ((c == byte "*" || c == byte "_") || (c == byte "~" && tildes))
-
--- by the characters before and after it left-flanking, and with these exchanged right-flanking
-abbrev pub is_flanking : Bool → ℕ → Option ℕ → Option ℕ → Bool
-is_flanking tildes marker b a =
-    (is_other (class_of a) || (is_punctuation_class (class_of a) && not (is_other (class_of b)))) || is_beside_marker tildes marker a
-
--- a run that is flanking on both sides may do as `_` only what the character before it lets it
-abbrev pub may_act : ℕ → Option ℕ → Bool → Bool → Bool
-may_act marker beside here there = here && (not (marker == byte "_") || (not (is_other (class_of beside)) || not there))
-
 -- A container: none for the whole content, or the text of a label, by the number of its Enter event and its number among the texts. These
 -- are counted from 0, in the order in which they begin.
 
@@ -67,13 +52,13 @@ abbrev pub row_around : Container → ℕ
 row_around k = row_of (text_around k)
 
 -- the run from one place to another
-abbrev pub sequence_at : Bool → List ℕ → ℕ → ℕ → Container → Point → Point → Sequence
-sequence_at tildes bytes n i k from to =
+abbrev pub sequence_at : ParseOptions → List ℕ → ℕ → ℕ → Container → Point → Point → Sequence
+sequence_at options bytes n i k from to =
     let marker = slice_index_or bytes from.index 0 in
     let b = before_index bytes from.index in
     let a = after_index bytes to.index in
-    let left = is_flanking tildes marker b a in
-    let right = is_flanking tildes marker a b in
+    let left = is_flanking options marker b a in
+    let right = is_flanking options marker a b in
     record {
       number = n;
       event = i;
@@ -82,8 +67,8 @@ sequence_at tildes bytes n i k from to =
       marker = marker;
       size = to.index - from.index;
       remaining = to.index - from.index;
-      may_open = may_act marker b left right;
-      may_close = may_act marker a right left;
+      may_open = may_act options marker b left right;
+      may_close = may_act options marker a right left;
     }
 
 -- In which container events stand.
@@ -111,17 +96,17 @@ abbrev pub where_after : ℕ → Event → Where → Where
 where_after i e w = if is_text e.name then (if is_enter e.kind then into_text i w else out_of_text w) else w
 
 -- the run in this container that the first of these events, which is event i, begins
-abbrev pub first_run : Bool → List ℕ → ℕ → ℕ → Container → List Event → List Sequence
-first_run tildes bytes n i k [] = []
-first_run tildes bytes n i k (e ∷ []) = []
-first_run tildes bytes n i k (e ∷ x ∷ es) = if opens_run e then sequence_at tildes bytes n i k e.point x.point ∷ [] else []
+abbrev pub first_run : ParseOptions → List ℕ → ℕ → ℕ → Container → List Event → List Sequence
+first_run options bytes n i k [] = []
+first_run options bytes n i k (e ∷ []) = []
+first_run options bytes n i k (e ∷ x ∷ es) = if opens_run e then sequence_at options bytes n i k e.point x.point ∷ [] else []
 
 -- the runs of these events, numbered from n on
-abbrev pub runs_from : Bool → List ℕ → ℕ → ℕ → Where → List Event → List Sequence
-runs_from tildes bytes n i w [] = []
-runs_from tildes bytes n i w (e ∷ es) =
-    let first = first_run tildes bytes n i w.container (e ∷ es) in
-    first ++ runs_from tildes bytes (n + length first) (suc i) (where_after i e w) es
+abbrev pub runs_from : ParseOptions → List ℕ → ℕ → ℕ → Where → List Event → List Sequence
+runs_from options bytes n i w [] = []
+runs_from options bytes n i w (e ∷ es) =
+    let first = first_run options bytes n i w.container (e ∷ es) in
+    first ++ runs_from options bytes (n + length first) (suc i) (where_after i e w) es
 
 -- Of which events this is said: behind the Enter of a run stands another event, and the two are between characters of the document, the
 -- first before a marker.

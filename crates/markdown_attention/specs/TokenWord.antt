@@ -1,8 +1,8 @@
 -- The events of a word of brackets, one token after another.
 use Rattle.std.specs.Prelude.{◌≡◌, ◌≢◌, ℕ, ◌+◌, ◌-◌, suc, List, [], ◌∷◌, ◌++◌, length, take, drop, reverse, sum_by, Option, None, Bool, true, false, ◌⊎◌, if◌then◌else◌}
-use Rattle.markdown_engine_content.specs.Codes.{Code, stop_of, document_start}
+use Rattle.markdown_content.specs.Codes.{Code, stop_of, document_start}
 use Rattle.markdown_engine.specs.PastTree.{appended_from, last_link}
-use Rattle.markdown_engine_content.specs.Tree.{Forest, empty, leaf_then, group_then, event, event_count, start_of}
+use Rattle.markdown_content.specs.Tree.{Forest, empty, leaf_then, group_then, event, event_count, start_of}
 use Rattle.markdown_event.specs.declared.event.Event.{Event}
 use Rattle.markdown_event.specs.declared.event.Kind.TheVariants as Kind
 use Rattle.markdown_event.specs.declared.event.Name.{Name}
@@ -142,11 +142,11 @@ IsFlat w = Matches [] w ⊎ AreItems w
 
 module _ (s : Setting) (pairs_of : List Run → List Pair) where
   -- no run is linked, no group is a run, and the tokens inside each group are flat
-  abbrev pub IsReady : Forest → Type 0
-  IsReady empty = Unit {0}
-  IsReady (leaf_then name link cs rest) = (is_run name ≡ true → link ≡ None) × IsReady rest
-  IsReady (group_then name enter exit inside rest) =
-      ((is_run name ≡ false) × IsFlat (tokens_of s pairs_of inside (pairs_of (runs_of s inside)) 0)) × (IsReady inside × IsReady rest)
+  abbrev pub IsPairable : Forest → Type 0
+  IsPairable empty = Unit {0}
+  IsPairable (leaf_then name link cs rest) = (is_run name ≡ true → link ≡ None) × IsPairable rest
+  IsPairable (group_then name enter exit inside rest) =
+      ((is_run name ≡ false) × IsFlat (tokens_of s pairs_of inside (pairs_of (runs_of s inside)) 0)) × (IsPairable inside × IsPairable rest)
 
   -- what comes for each run among siblings, with i runs and n events before them, are the events of its tokens
   abbrev pub IsLogged : (ℕ → List Event) → ℕ → List Pair → ℕ → Forest → Type 0

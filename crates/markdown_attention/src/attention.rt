@@ -35,11 +35,11 @@ ghost use Rattle.markdown_event.specs.declared.event.Name.TheVariants.{Attention
 ghost use Rattle.markdown_plan.specs.StateCalls.{Steps};
 
 pub use crate::attention::grouping::{resolve, resolve_counted};
+use markdown_content::configuration::Constructs;
 use markdown_engine::tokenizer::Tokenizer;
-use markdown_engine_content::configuration::Constructs;
 use markdown_event::event::Name;
-use markdown_state::resolve::ResolveName;
-use markdown_state::state::{State, StateName};
+use markdown_event::resolve::ResolveName;
+use markdown_event::state::{State, StateName};
 use std::alloc::AllocError;
 
 // Whether a run may begin with this byte.

@@ -1,7 +1,7 @@
 -- A content of a prepared document, as contracts see it.
 use Rattle.std.specs.Prelude.{List}
-use Rattle.markdown_engine_content.specs.declared.parser.ParseState.{ParseState}
-use Rattle.markdown_engine_content.specs.declared.parser.Piece.{Piece}
+use Rattle.markdown_content.specs.declared.parser.ParseState.{ParseState}
+use Rattle.markdown_content.specs.declared.parser.Piece.{Piece}
 
 -- what the document was made of, and the pieces
 pub record ContentOf : Type 0 where

@@ -3,21 +3,21 @@ ghost use Rattle.std.specs.Prelude.{◌≡◌, ◌↔◌, false, map, Some, IfOk
 ghost use Rattle.std.specs.List.{All};
 ghost use Rattle.markdown_document.specs.ContentOfDocument.{ContentOf};
 ghost use Rattle.markdown_engine.specs.RunStart.{begun};
-ghost use Rattle.markdown_engine_content.specs.Content.{IsContent, IsTextContent, content_of};
-ghost use Rattle.markdown_engine_content.specs.KnownPlaces.{IsDocument};
+ghost use Rattle.markdown_content.specs.Content.{IsContent, IsTextContent, content_of};
+ghost use Rattle.markdown_content.specs.KnownPlaces.{IsDocument};
 ghost use Rattle.markdown_run_text.specs.RunSetting.{setting_of, text_setting_of};
 ghost use Rattle.markdown_attention.specs.AttentionPass.{IsProbed};
-ghost use Rattle.markdown_run_leaves.specs.InnermostEvents.{IsInOrder, covered, innermost, lent};
+ghost use Rattle.markdown_innermost.specs.InnermostEvents.{IsSpanInOrder, covered, innermost, lent};
 ghost use Rattle.markdown_model.specs.InlineTree.{label_tree, string_events, text_events};
 
 use crate::places::Places;
+use markdown_content::content::has_text_lines;
+use markdown_content::cursor::Cursor;
+use markdown_content::parser::{ParseState, Piece};
 use markdown_engine::tokenizer::Tokenizer;
-use markdown_engine_content::cursor::Cursor;
-use markdown_engine_content::parser::{ParseState, Piece};
-use markdown_engine_names::name_index::{NameIndex, Names};
-use markdown_engine_pieces::content::has_text_lines;
-use markdown_run::run::{Run, run_through, text_through};
-use markdown_state::state::StateName;
+use markdown_event::state::StateName;
+use markdown_notes::name_index::{NameIndex, Names};
+use markdown_run::run::{ListRun, Run, run_through, text_through};
 use std::alloc::{AllocError, Global};
 use std::marker::Model;
 
@@ -35,15 +35,18 @@ pub struct Document<'a> {
 
 impl<'a> Model for Document<'a> {
     ghost use Rattle.std.specs.Prelude.{◌≡◌, map, string_bytes};
-    ghost use Rattle.markdown_engine_content.specs.KnownPlaces.{IsDocument};
-    ghost use Rattle.markdown_engine_content.specs.declared.parser.ParseState.{ParseState};
-    ghost use Rattle.markdown_engine_names.specs.NameIndex.{in_order};
+    ghost use Rattle.markdown_content.specs.KnownPlaces.{IsDocument};
+    ghost use Rattle.markdown_content.specs.declared.parser.ParseState.{ParseState};
+    ghost use Rattle.markdown_notes.specs.NameIndex.{in_order};
 
     ghost Value = { ParseState };
 
     ghost view = { λ d. d.parse_state };
 
-    ghost invariant = { λ d. IsDocument d.parse_state.bytes.now × ((d.places ≡ d.parse_state.bytes.now) × ((d.definitions ≡ in_order (map string_bytes d.parse_state.definitions.items)) × (d.footnotes ≡ in_order (map string_bytes d.parse_state.gfm_footnote_definitions.items)))) };
+    ghost invariant = { λ d. IsDocument d.parse_state.bytes.now
+        × ((d.places ≡ d.parse_state.bytes.now)
+        × ((d.definitions ≡ in_order (map string_bytes d.parse_state.definitions.items))
+        × (d.footnotes ≡ in_order (map string_bytes d.parse_state.gfm_footnote_definitions.items)))) };
 }
 
 impl<'a> Document<'a> {
@@ -54,7 +57,8 @@ impl<'a> Document<'a> {
         alloc: Global,
         parse_state: ParseState<'a>,
     ) -> Result<Option<Document<'a>>, AllocError>
-        ensures { let bytes = parse_state.entry.bytes.now in IfOk result (λ found. MatchOption found (IsDocument bytes → ⊥) (λ document. IsDocument bytes × (document ≡ parse_state.entry))) }
+        ensures { let bytes = parse_state.entry.bytes.now in
+            IfOk result (λ found. MatchOption found (IsDocument bytes → ⊥) (λ document. IsDocument bytes × (document ≡ parse_state.entry))) }
     {
         let Some(places) = Places::over(alloc, parse_state.bytes)? else {
             return Ok(None);
@@ -92,7 +96,8 @@ impl<'a> Document<'a> {
 
     /// These pieces as a content of the document, which is tested once and found once; none where they are no content.
     pub fn content<'b>(&'b self, pieces: &'b [Piece]) -> Option<Content<'b>>
-        ensures { MatchOption result (IsContent self.now.bytes.now pieces.entry.now → ⊥) (λ content. IsContent self.now.bytes.now pieces.entry.now × (content ≡ record { parse_state = self.now; pieces = pieces.entry.now })) }
+        ensures { MatchOption result (IsContent self.now.bytes.now pieces.entry.now → ⊥)
+            (λ content. IsContent self.now.bytes.now pieces.entry.now × (content ≡ record { parse_state = self.now; pieces = pieces.entry.now })) }
     {
         let cursor = self.places.content(pieces)?;
         Some(Content {
@@ -122,11 +127,28 @@ impl<'a> Document<'a> {
     pub fn string(&self, alloc: Global, pieces: &[Piece]) -> Result<Run, AllocError>
         requires { IsContent self.now.bytes.now pieces.now }
         ensures events { IfOk result (λ run. run.events.items ≡ string_events (setting_of self.now) pieces.now) }
-        ensures places { IfOk result (λ run. All (IsInOrder self.now.bytes.now) (innermost run.events.items)) }
-        ensures leaves { let bytes = self.now.bytes.now in IfOk result (λ run. covered bytes (map (lent bytes) (innermost run.events.items)) ≡ content_of bytes pieces.now) }
+        ensures places { IfOk result (λ run. All (IsSpanInOrder self.now.bytes.now) (innermost run.events.items)) }
+        ensures leaves { let bytes = self.now.bytes.now in
+            IfOk result (λ run. covered bytes (map (lent bytes) (innermost run.events.items)) ≡ content_of bytes pieces.now) }
         ensures probes { IfOk result (λ run. run.probes ≡ 0) }
     {
         self.known_content(pieces).string(alloc)
+    }
+
+    /// As `string`, with the events in the list in which the run made them.
+    ///
+    /// The pieces have to be a content, which `is_content` answers.
+    ///
+    /// The error comes only where memory is refused.
+    pub fn string_list(&self, alloc: Global, pieces: &[Piece]) -> Result<ListRun, AllocError>
+        requires { IsContent self.now.bytes.now pieces.now }
+        ensures events { IfOk result (λ run. run.events ≡ string_events (setting_of self.now) pieces.now) }
+        ensures places { IfOk result (λ run. All (IsSpanInOrder self.now.bytes.now) (innermost run.events)) }
+        ensures leaves { let bytes = self.now.bytes.now in
+            IfOk result (λ run. covered bytes (map (lent bytes) (innermost run.events)) ≡ content_of bytes pieces.now) }
+        ensures probes { IfOk result (λ run. run.probes ≡ 0) }
+    {
+        self.known_content(pieces).string_list(alloc)
     }
 
     /// The events of the inline tree of a content of the document that is read as text, as those of `run::text`.
@@ -142,12 +164,39 @@ impl<'a> Document<'a> {
     ) -> Result<Run, AllocError>
         requires { IsTextContent self.now.bytes.now pieces.now }
         ensures events { IfOk result (λ run. run.events.items ≡ text_events (text_setting_of self.now first_of_item) pieces.now) }
-        ensures places { IfOk result (λ run. All (IsInOrder self.now.bytes.now) (innermost run.events.items)) }
-        ensures leaves { let bytes = self.now.bytes.now in IfOk result (λ run. covered bytes (map (lent bytes) (innermost run.events.items)) ≡ content_of bytes pieces.now) }
-        ensures probes { let s = text_setting_of self.now first_of_item in IfOk result (λ run. IsProbed s (label_tree s (content_of s.bytes pieces.now)) run.probes) }
-        ensures no_probes { let on = self.now.options.now.constructs in on.attention ≡ false → on.gfm_strikethrough ≡ false → IfOk result (λ run. run.probes ≡ 0) }
+        ensures places { IfOk result (λ run. All (IsSpanInOrder self.now.bytes.now) (innermost run.events.items)) }
+        ensures leaves { let bytes = self.now.bytes.now in
+            IfOk result (λ run. covered bytes (map (lent bytes) (innermost run.events.items)) ≡ content_of bytes pieces.now) }
+        ensures probes { let s = text_setting_of self.now first_of_item in
+            IfOk result (λ run. IsProbed s (label_tree s (content_of s.bytes pieces.now)) run.probes) }
+        ensures no_probes { let on = self.now.options.now.constructs in on.attention ≡ false → on.gfm_strikethrough ≡ false
+            → IfOk result (λ run. run.probes ≡ 0) }
     {
         self.known_content(pieces).text(alloc, first_of_item)
+    }
+
+    /// As `text`, with the events in the list in which the run made them.
+    ///
+    /// The pieces have to be a text content, which `is_text` answers.
+    ///
+    /// The error comes only where memory is refused.
+    pub fn text_list(
+        &self,
+        alloc: Global,
+        pieces: &[Piece],
+        first_of_item: bool,
+    ) -> Result<ListRun, AllocError>
+        requires { IsTextContent self.now.bytes.now pieces.now }
+        ensures events { IfOk result (λ run. run.events ≡ text_events (text_setting_of self.now first_of_item) pieces.now) }
+        ensures places { IfOk result (λ run. All (IsSpanInOrder self.now.bytes.now) (innermost run.events)) }
+        ensures leaves { let bytes = self.now.bytes.now in
+            IfOk result (λ run. covered bytes (map (lent bytes) (innermost run.events)) ≡ content_of bytes pieces.now) }
+        ensures probes { let s = text_setting_of self.now first_of_item in
+            IfOk result (λ run. IsProbed s (label_tree s (content_of s.bytes pieces.now)) run.probes) }
+        ensures no_probes { let on = self.now.options.now.constructs in on.attention ≡ false → on.gfm_strikethrough ≡ false
+            → IfOk result (λ run. run.probes ≡ 0) }
+    {
+        self.known_content(pieces).text_list(alloc, first_of_item)
     }
 
     /// Puts these identifiers of definitions and of footnotes in place of those that it has. What is known of its places stays.
@@ -185,8 +234,8 @@ pub struct Content<'b> {
 
 impl<'b> Model for Content<'b> {
     ghost use Rattle.std.specs.Prelude.{◌≡◌};
-    ghost use Rattle.markdown_engine_content.specs.Content.{IsContent};
-    ghost use Rattle.markdown_engine_content.specs.Place.{start_of_content};
+    ghost use Rattle.markdown_content.specs.Content.{IsContent};
+    ghost use Rattle.markdown_content.specs.Place.{start_of_content};
     ghost use Rattle.markdown_document.specs.ContentOfDocument.{ContentOf};
 
     ghost Value = { ContentOf };
@@ -198,7 +247,12 @@ impl<'b> Model for Content<'b> {
 
 // Tells a tokenizer the names of what is defined, and whether its text is the first of a list item.
 fn tell<'a>(tokenizer: &mut Tokenizer<'a>, names: Names<'a>, first_of_item: bool)
-    ensures { tokenizer.new ≡ record tokenizer.old { tokenize_state = record tokenizer.old.tokenize_state { names = Some names.entry; document_at_first_paragraph_of_list_item = first_of_item } } }
+    ensures { tokenizer.new ≡ record tokenizer.old {
+      tokenize_state = record tokenizer.old.tokenize_state {
+        names = Some names.entry;
+        document_at_first_paragraph_of_list_item = first_of_item;
+      };
+    } }
 {
     tokenizer.tokenize_state.names = Some(names);
     tokenizer
@@ -219,8 +273,22 @@ impl<'b> Content<'b> {
     /// The error comes only where memory is refused.
     pub fn string(&self, alloc: Global) -> Result<Run, AllocError>
         ensures events { IfOk result (λ run. run.events.items ≡ string_events (setting_of self.now.parse_state) self.now.pieces) }
-        ensures places { IfOk result (λ run. All (IsInOrder self.now.parse_state.bytes.now) (innermost run.events.items)) }
-        ensures leaves { let bytes = self.now.parse_state.bytes.now in IfOk result (λ run. covered bytes (map (lent bytes) (innermost run.events.items)) ≡ content_of bytes self.now.pieces) }
+        ensures places { IfOk result (λ run. All (IsSpanInOrder self.now.parse_state.bytes.now) (innermost run.events.items)) }
+        ensures leaves { let bytes = self.now.parse_state.bytes.now in
+            IfOk result (λ run. covered bytes (map (lent bytes) (innermost run.events.items)) ≡ content_of bytes self.now.pieces) }
+        ensures probes { IfOk result (λ run. run.probes ≡ 0) }
+    {
+        self.string_list(alloc)?.into_run(alloc)
+    }
+
+    /// As `string`, with the events in the list in which the run made them.
+    ///
+    /// The error comes only where memory is refused.
+    pub fn string_list(&self, alloc: Global) -> Result<ListRun, AllocError>
+        ensures events { IfOk result (λ run. run.events ≡ string_events (setting_of self.now.parse_state) self.now.pieces) }
+        ensures places { IfOk result (λ run. All (IsSpanInOrder self.now.parse_state.bytes.now) (innermost run.events)) }
+        ensures leaves { let bytes = self.now.parse_state.bytes.now in
+            IfOk result (λ run. covered bytes (map (lent bytes) (innermost run.events)) ≡ content_of bytes self.now.pieces) }
         ensures probes { IfOk result (λ run. run.probes ≡ 0) }
     {
         let document = self.document;
@@ -240,10 +308,32 @@ impl<'b> Content<'b> {
     pub fn text(&self, alloc: Global, first_of_item: bool) -> Result<Run, AllocError>
         requires { IsTextContent self.now.parse_state.bytes.now self.now.pieces }
         ensures events { IfOk result (λ run. run.events.items ≡ text_events (text_setting_of self.now.parse_state first_of_item) self.now.pieces) }
-        ensures places { IfOk result (λ run. All (IsInOrder self.now.parse_state.bytes.now) (innermost run.events.items)) }
-        ensures leaves { let bytes = self.now.parse_state.bytes.now in IfOk result (λ run. covered bytes (map (lent bytes) (innermost run.events.items)) ≡ content_of bytes self.now.pieces) }
-        ensures probes { let s = text_setting_of self.now.parse_state first_of_item in IfOk result (λ run. IsProbed s (label_tree s (content_of s.bytes self.now.pieces)) run.probes) }
-        ensures no_probes { let on = self.now.parse_state.options.now.constructs in on.attention ≡ false → on.gfm_strikethrough ≡ false → IfOk result (λ run. run.probes ≡ 0) }
+        ensures places { IfOk result (λ run. All (IsSpanInOrder self.now.parse_state.bytes.now) (innermost run.events.items)) }
+        ensures leaves { let bytes = self.now.parse_state.bytes.now in
+            IfOk result (λ run. covered bytes (map (lent bytes) (innermost run.events.items)) ≡ content_of bytes self.now.pieces) }
+        ensures probes { let s = text_setting_of self.now.parse_state first_of_item in
+            IfOk result (λ run. IsProbed s (label_tree s (content_of s.bytes self.now.pieces)) run.probes) }
+        ensures no_probes { let on = self.now.parse_state.options.now.constructs in on.attention ≡ false → on.gfm_strikethrough ≡ false
+            → IfOk result (λ run. run.probes ≡ 0) }
+    {
+        self.text_list(alloc, first_of_item)?.into_run(alloc)
+    }
+
+    /// As `text`, with the events in the list in which the run made them.
+    ///
+    /// It has to be text, which `is_text` answers.
+    ///
+    /// The error comes only where memory is refused.
+    pub fn text_list(&self, alloc: Global, first_of_item: bool) -> Result<ListRun, AllocError>
+        requires { IsTextContent self.now.parse_state.bytes.now self.now.pieces }
+        ensures events { IfOk result (λ run. run.events ≡ text_events (text_setting_of self.now.parse_state first_of_item) self.now.pieces) }
+        ensures places { IfOk result (λ run. All (IsSpanInOrder self.now.parse_state.bytes.now) (innermost run.events)) }
+        ensures leaves { let bytes = self.now.parse_state.bytes.now in
+            IfOk result (λ run. covered bytes (map (lent bytes) (innermost run.events)) ≡ content_of bytes self.now.pieces) }
+        ensures probes { let s = text_setting_of self.now.parse_state first_of_item in
+            IfOk result (λ run. IsProbed s (label_tree s (content_of s.bytes self.now.pieces)) run.probes) }
+        ensures no_probes { let on = self.now.parse_state.options.now.constructs in on.attention ≡ false → on.gfm_strikethrough ≡ false
+            → IfOk result (λ run. run.probes ≡ 0) }
     {
         let document = self.document;
         let names = Names::lent(alloc, &document.definitions, &document.footnotes);

@@ -1,18 +1,18 @@
 //! The known places of a document, in which many contents are read: each is found by a short walk from one of them.
 ghost use Rattle.std.specs.Prelude.{◌≡◌, ◌+◌, ◌≤◌, ◌↔◌, length, IfOk, IsTrue, MatchOption};
-ghost use Rattle.markdown_engine_content.specs.Codes.{place_of, is_at_or_after};
-ghost use Rattle.markdown_engine_content.specs.Content.{document_limit, IsContent, IsTextContent};
-ghost use Rattle.markdown_engine_content.specs.KnownPlaces.{IsDocument, AreMarks, IsFirst};
-ghost use Rattle.markdown_engine_content.specs.Place.{start_of_content};
-ghost use Rattle.markdown_engine_content.specs.DocumentWalk.{IsPoint};
+ghost use Rattle.markdown_content.specs.Codes.{place_of, is_at_or_after};
+ghost use Rattle.markdown_content.specs.Content.{document_limit, IsContent, IsTextContent};
+ghost use Rattle.markdown_content.specs.KnownPlaces.{IsDocument, AreMarks, IsFirst};
+ghost use Rattle.markdown_content.specs.Place.{start_of_content};
+ghost use Rattle.markdown_content.specs.DocumentWalk.{IsPoint};
 
-use markdown_engine_content::cursor::Cursor;
-use markdown_engine_content::lanes::{LANES, feeds_among};
-use markdown_engine_content::parser::Piece;
-use markdown_engine_content::walk::{DOCUMENT_START, past_code, walk_to};
-use markdown_engine_pieces::content::{
+use markdown_content::content::{
     DOCUMENT_LIMIT, are_between_characters, are_pieces_from, has_text_lines, reach,
 };
+use markdown_content::cursor::Cursor;
+use markdown_content::lanes::{LANES, feeds_among};
+use markdown_content::parser::Piece;
+use markdown_content::walk::{DOCUMENT_START, past_code, walk_to};
 use markdown_event::event::Point;
 use std::alloc::{AllocError, Global};
 use std::marker::Model;
@@ -31,7 +31,7 @@ pub struct Places<'a> {
 
 impl<'a> Model for Places<'a> {
     ghost use Rattle.std.specs.Prelude.{List, ℕ};
-    ghost use Rattle.markdown_engine_content.specs.KnownPlaces.{IsDocument, AreMarks};
+    ghost use Rattle.markdown_content.specs.KnownPlaces.{IsDocument, AreMarks};
 
     ghost Value = { List ℕ };
 
@@ -180,7 +180,8 @@ impl<'a> Places<'a> {
     ///
     /// The only error is that memory was refused.
     pub fn over(alloc: Global, bytes: &'a [u8]) -> Result<Option<Places<'a>>, AllocError>
-        ensures { IfOk result (λ found. MatchOption found (IsDocument bytes.entry.now → ⊥) (λ places. IsDocument bytes.entry.now × (places ≡ bytes.entry.now))) }
+        ensures { IfOk result (λ found.
+            MatchOption found (IsDocument bytes.entry.now → ⊥) (λ places. IsDocument bytes.entry.now × (places ≡ bytes.entry.now))) }
     {
         if bytes.len() > DOCUMENT_LIMIT || str::from_utf8(bytes).is_err() {
             return Ok(None);
@@ -212,7 +213,8 @@ impl<'a> Places<'a> {
 
     /// A cursor at the start of these pieces, if they are a content of the document.
     pub fn content<'b>(&'b self, pieces: &'b [Piece]) -> Option<Cursor<'b>>
-        ensures { MatchOption result (IsContent self.now pieces.entry.now → ⊥) (λ cursor. IsContent self.now pieces.entry.now × (cursor ≡ start_of_content self.now pieces.entry.now)) }
+        ensures { MatchOption result (IsContent self.now pieces.entry.now → ⊥)
+            (λ cursor. IsContent self.now pieces.entry.now × (cursor ≡ start_of_content self.now pieces.entry.now)) }
     {
         let point = self.first_point(pieces)?;
         if are_between_characters(self.bytes, pieces)

@@ -1,8 +1,8 @@
 -- how a module proves a layer's laws at its states
 use Rattle.std.proofs.Common.{◌≡◌, ℕ, ◌-◌, ◌<◌, List, [], ◌∷◌, ◌++◌, length, take, drop, Bool, true, false, if◌then◌else◌, Option, Some, None, refl, sym, ap, subst, ◌∙◌, arith}
 use Rattle.std.proofs.lemmas.Grind.{common_steps}
-use Rattle.markdown_state.specs.declared.state.StateName.{StateName}
-use Rattle.markdown_state.specs.declared.state.State.{State}
+use Rattle.markdown_event.specs.declared.state.StateName.{StateName}
+use Rattle.markdown_event.specs.declared.state.State.{State}
 use Rattle.markdown_engine.specs.declared.tokenizer.Tokenizer.{Tokenizer}
 use Rattle.markdown_engine.specs.declared.tokenizer.Attempt.{Attempt}
 use Rattle.markdown_engine.specs.declared.tokenizer.TokenizeState.{TokenizeState}
@@ -33,7 +33,7 @@ unfolding attempted
 attempts-attempted r ok nok T e = ap (λ x. frame_of r ok nok T ∷ x) e
 
 -- what the run after an attempt has to meet
-pub record Follows (ready : StateName → Tokenizer → Type 0) (ends : StateName → Tokenizer → Bool → Tokenizer → Type 0) (weight : StateName → Tokenizer → ℕ) (n : ℕ) (End : Bool → Tokenizer → Type 0) (st : State) (U : Tokenizer) : Type 0 where
+pub record MayFollow (ready : StateName → Tokenizer → Type 0) (ends : StateName → Tokenizer → Bool → Tokenizer → Type 0) (weight : StateName → Tokenizer → ℕ) (n : ℕ) (End : Bool → Tokenizer → Type 0) (st : State) (U : Tokenizer) : Type 0 where
   pub goes_on : ready_state ready st U
   pub falls : weight_state weight st U < n
   pub closed : (ok : Bool) (V : Tokenizer) → ends_state ends st U ok V → End ok V
@@ -41,7 +41,7 @@ pub record Follows (ready : StateName → Tokenizer → Type 0) (ends : StateNam
 -- a step that opens one attempt, which restores after an Ok or not
 Goes-tried : (ready : StateName → Tokenizer → Type 0) (ends : StateName → Tokenizer → Bool → Tokenizer → Type 0) (weight : StateName → Tokenizer → ℕ) (n : ℕ) (End : Bool → Tokenizer → Type 0) (r : Bool) (st ok nok : State) (T : Tokenizer) →
     T.attempts ≡ [] → ready_state ready st T → weight_state weight st T < n →
-    ((b : Bool) (U : Tokenizer) → U.attempts ≡ [] → ends_state ends st T b U → Follows ready ends weight n End (going_state (frame_of r ok nok T) b) (going_in (frame_of r ok nok T) b U)) →
+    ((b : Bool) (U : Tokenizer) → U.attempts ≡ [] → ends_state ends st T b U → MayFollow ready ends weight n End (going_state (frame_of r ok nok T) b) (going_in (frame_of r ok nok T) b U)) →
     Goes ready ends weight n End (attempted r ok nok T).attempts st (settled (attempted r ok nok T))
 Goes-tried ready ends weight n End r st ok nok T alone on falls follows =
     rw (settled-attempted r ok nok T alone, attempts-attempted r ok nok T alone) (
@@ -52,13 +52,13 @@ Goes-tried ready ends weight n End r st ok nok T alone on falls follows =
 -- a step that opens one attempt
 pub Goes-attempt : (ready : StateName → Tokenizer → Type 0) (ends : StateName → Tokenizer → Bool → Tokenizer → Type 0) (weight : StateName → Tokenizer → ℕ) (n : ℕ) (End : Bool → Tokenizer → Type 0) (st ok nok : State) (T : Tokenizer) →
     T.attempts ≡ [] → ready_state ready st T → weight_state weight st T < n →
-    ((U : Tokenizer) → U.attempts ≡ [] → ends_state ends st T true U → Follows ready ends weight n End ok U) →
-    ((U : Tokenizer) → U.attempts ≡ [] → ends_state ends st T false U → Follows ready ends weight n End nok (restored (frame_of false ok nok T) U)) →
+    ((U : Tokenizer) → U.attempts ≡ [] → ends_state ends st T true U → MayFollow ready ends weight n End ok U) →
+    ((U : Tokenizer) → U.attempts ≡ [] → ends_state ends st T false U → MayFollow ready ends weight n End nok (restored (frame_of false ok nok T) U)) →
     Goes ready ends weight n End (attempted false ok nok T).attempts st (settled (attempted false ok nok T))
 unfolding frame_of
 Goes-attempt ready ends weight n End st ok nok T alone on falls if_ok if_nok =
     Goes-tried ready ends weight n End false st ok nok T alone on falls (λ b U now e.
-    elim b as (λ (x : Bool). ends_state ends st T x U → Follows ready ends weight n End (going_state (frame_of false ok nok T) x) (going_in (frame_of false ok nok T) x U)) [
+    elim b as (λ (x : Bool). ends_state ends st T x U → MayFollow ready ends weight n End (going_state (frame_of false ok nok T) x) (going_in (frame_of false ok nok T) x U)) [
       | true ↦ λ h. if_ok U now h
       | false ↦ λ h. if_nok U now h
     ] e)
@@ -66,13 +66,13 @@ Goes-attempt ready ends weight n End st ok nok T alone on falls if_ok if_nok =
 -- a step that opens one check: an Ok restores too
 pub Goes-check : (ready : StateName → Tokenizer → Type 0) (ends : StateName → Tokenizer → Bool → Tokenizer → Type 0) (weight : StateName → Tokenizer → ℕ) (n : ℕ) (End : Bool → Tokenizer → Type 0) (st ok nok : State) (T : Tokenizer) →
     T.attempts ≡ [] → ready_state ready st T → weight_state weight st T < n →
-    ((U : Tokenizer) → U.attempts ≡ [] → ends_state ends st T true U → Follows ready ends weight n End ok (restored (frame_of true ok nok T) U)) →
-    ((U : Tokenizer) → U.attempts ≡ [] → ends_state ends st T false U → Follows ready ends weight n End nok (restored (frame_of true ok nok T) U)) →
+    ((U : Tokenizer) → U.attempts ≡ [] → ends_state ends st T true U → MayFollow ready ends weight n End ok (restored (frame_of true ok nok T) U)) →
+    ((U : Tokenizer) → U.attempts ≡ [] → ends_state ends st T false U → MayFollow ready ends weight n End nok (restored (frame_of true ok nok T) U)) →
     Goes ready ends weight n End (attempted true ok nok T).attempts st (settled (attempted true ok nok T))
 unfolding frame_of
 Goes-check ready ends weight n End st ok nok T alone on falls if_ok if_nok =
     Goes-tried ready ends weight n End true st ok nok T alone on falls (λ b U now e.
-    elim b as (λ (x : Bool). ends_state ends st T x U → Follows ready ends weight n End (going_state (frame_of true ok nok T) x) (going_in (frame_of true ok nok T) x U)) [
+    elim b as (λ (x : Bool). ends_state ends st T x U → MayFollow ready ends weight n End (going_state (frame_of true ok nok T) x) (going_in (frame_of true ok nok T) x U)) [
       | true ↦ λ h. if_ok U now h
       | false ↦ λ h. if_nok U now h
     ] e)

@@ -1,13 +1,13 @@
 -- what the operations leave of each part of a tokenizer
 use Rattle.std.proofs.Common.{ℕ, ◌+◌, ◌≤◌, ◌++◌, [], None, Some, drop, suc, zero, sym, ap, ◌∙◌, arith, append-nil, add-one, length-drop, ◌≡◌, List, ◌∷◌, refl, length, slice_get, Bool, true, false, if◌then◌else◌}
-use Rattle.markdown_engine_content.specs.ListFunctions.{rest_of, first_of}
-use Rattle.markdown_engine_content.specs.Codes.{Code}
-use Rattle.markdown_engine_content.specs.Place.{code_at, ahead_at, value_of}
-use Rattle.markdown_engine_content.proofs.PlaceRules.{ahead-moved}
+use Rattle.markdown_content.specs.ListFunctions.{rest_of, first_of}
+use Rattle.markdown_content.specs.Codes.{Code}
+use Rattle.markdown_content.specs.Place.{code_at, ahead_at, value_of}
+use Rattle.markdown_content.proofs.PlaceRules.{ahead-moved}
 use Rattle.markdown_engine.specs.Operations.{Op, Enter, Exit, EnterLink, EnterConnected, Consume, applied, consumed, extended, op_stack, op_cursor, op_moves, current_of, ahead, scratched, registered, is_registered}
 use Rattle.markdown_engine.specs.Weights.{codes_left, left_at}
 use Rattle.markdown_event.specs.declared.event.Event.{Event}
-use Rattle.markdown_state.specs.declared.resolve.ResolveName.{ResolveName}
+use Rattle.markdown_event.specs.declared.resolve.ResolveName.{ResolveName}
 use Rattle.markdown_engine.specs.declared.tokenizer.TokenizeState.{TokenizeState}
 use Rattle.markdown_engine.specs.declared.tokenizer.Tokenizer.{Tokenizer}
 
@@ -116,16 +116,16 @@ pub ahead-none : (T : Tokenizer) → current_of T ≡ None → ahead T ≡ []
 ahead-none T e = nothing-ahead (ahead T) (sym (current-ahead T) ∙ e)
 
 -- a code of this value, and those after it
-pub record Begins (v : ℕ) (cs : List Code) : Type 0 where
+pub record BeginsWithValue (v : ℕ) (cs : List Code) : Type 0 where
   pub code : Code
   pub value : code.value ≡ v
   pub whole : cs ≡ code ∷ rest_of cs
 
-some-ahead : (cs : List Code) (v : ℕ) → value_of (first_of cs) ≡ Some v → Begins v cs
+some-ahead : (cs : List Code) (v : ℕ) → value_of (first_of cs) ≡ Some v → BeginsWithValue v cs
 some-ahead [] v e = cc
 some-ahead (c ∷ cs) v e = record { code = c; value = cc; whole = refl }
 
-pub ahead-some : (T : Tokenizer) (v : ℕ) → current_of T ≡ Some v → Begins v (ahead T)
+pub ahead-some : (T : Tokenizer) (v : ℕ) → current_of T ≡ Some v → BeginsWithValue v (ahead T)
 ahead-some T v e = some-ahead (ahead T) v (sym (current-ahead T) ∙ e)
 
 -- a code is left

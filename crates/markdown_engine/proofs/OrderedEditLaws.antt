@@ -7,10 +7,10 @@ use Rattle.std.proofs.lemmas.List.Elements.{All-nil, All-cons}
 use Rattle.std.proofs.lemmas.Bool.{ne_eqb, both_ways, eq-eqb}
 use Rattle.std.proofs.lemmas.Bool.Decides.{leb_tells, eqb_tells}
 use Rattle.markdown_engine_events.specs.EventChains.{has_link, linked_at}
-use Rattle.markdown_engine_content.specs.Codes.{stop_of, document_start}
+use Rattle.markdown_content.specs.Codes.{stop_of, document_start}
 use Rattle.markdown_engine_events.specs.Edits.{removed_at, back_at, added_at, is_removed, moved_number, moved, edited_from, edited, CanEdit}
 use Rattle.markdown_engine.specs.PastTree.{appended_from, link_of}
-use Rattle.markdown_engine_content.specs.Tree.{Forest, empty, leaf_then, group_then, event, event_count, start_of}
+use Rattle.markdown_content.specs.Tree.{Forest, empty, leaf_then, group_then, event, event_count, start_of}
 use Rattle.markdown_event.specs.declared.event.Event.{Event}
 use Rattle.markdown_event.specs.declared.event.Kind.{Kind}
 use Rattle.markdown_event.specs.declared.event.Name.{Name}
@@ -19,7 +19,7 @@ use Rattle.markdown_engine_events.specs.declared.util.edit_map.Edit.{Edit}
 use Rattle.markdown_engine_events.proofs.EditRules.{stays-where, goes-where, back-none, removed-none}
 use Rattle.markdown_engine_events.proofs.EditLemmas.{start, moved-start, start-kept}
 use Rattle.markdown_engine.proofs.TreeEvents.{length-appended_from}
-use Rattle.markdown_engine.specs.OrderedEdits.{Part, comes, goes, stays, keeps, before_from, after_from, coming, going, edits_from, Does, AreUnlinked, GoUnlinked}
+use Rattle.markdown_engine.specs.OrderedEdits.{EditPart, comes, goes, stays, keeps, before_from, after_from, coming, going, edits_from, Does, AreUnlinked, GoUnlinked}
 
 -- One edit.
 
@@ -57,7 +57,7 @@ removed-other i n k log h = ap (λ b. cond b k 0 + removed_at i log) (ne_eqb n i
 apart : (n i : ℕ) → i < n → n ≢ i
 apart n i l = λ e. omega (arith, e)
 
-not-below : (n i : ℕ) (parts : List Part) → i < n → All (λ e. e.at ≢ i) (edits_from n parts)
+not-below : (n i : ℕ) (parts : List EditPart) → i < n → All (λ e. e.at ≢ i) (edits_from n parts)
 not-below n i [] l = All-nil (λ e. e.at ≢ i)
 not-below n i (comes es ∷ parts) l =
     All-cons (λ e. e.at ≢ i) (coming n es) (edits_from n parts) (apart n i l) (not-below n i parts l)
@@ -66,10 +66,10 @@ not-below n i (goes e es ∷ parts) l =
 not-below n i (stays t ∷ parts) l = not-below (n + event_count t) i parts (omega arith)
 not-below n i (keeps kind name p ∷ parts) l = not-below (n + 1) i parts (omega arith)
 
-back-below : (n i : ℕ) (parts : List Part) → i < n → back_at i (edits_from n parts) ≡ []
+back-below : (n i : ℕ) (parts : List EditPart) → i < n → back_at i (edits_from n parts) ≡ []
 back-below n i parts l = back-none i (edits_from n parts) (not-below n i parts l)
 
-removed-below : (n i : ℕ) (parts : List Part) → i < n → removed_at i (edits_from n parts) ≡ 0
+removed-below : (n i : ℕ) (parts : List EditPart) → i < n → removed_at i (edits_from n parts) ≡ 0
 removed-below n i parts l = removed-none i (edits_from n parts) (not-below n i parts l)
 
 -- Stretches.
@@ -84,11 +84,11 @@ moved-append log [] ys = refl
 moved-append log (x ∷ xs) ys = ap (λ zs. moved log x ∷ zs) (moved-append log xs ys)
 
 -- nothing comes and nothing goes
-record IsQuiet (log : List Edit) (n k : ℕ) : Type 0 where
+record NothingIsEdited (log : List Edit) (n k : ℕ) : Type 0 where
   none : (j : ℕ) → n ≤ j → j < n + k → added_at j log ≡ []
   stay : (j : ℕ) → n ≤ j → j < n + k → is_removed log j ≡ false
 
-quiet : (log : List Edit) (n : ℕ) (xs tail : List Event) → IsQuiet log n (length xs) →
+quiet : (log : List Edit) (n : ℕ) (xs tail : List Event) → NothingIsEdited log n (length xs) →
     edited_from log n (xs ++ tail) ≡ all_moved log xs ++ edited_from log (n + length xs) tail
 unfolding all_moved
 quiet log n [] tail q = ap (λ i. edited_from log i tail) (omega arith)
@@ -173,7 +173,7 @@ shift log n m p (group_then name a b inside rest) h =
 -- What is still to come.
 
 -- from place n on the edits do what the parts say; at place n these events come before, and the event there is to have number m
-record Rest (log : List Edit) (n m : ℕ) (pre : List Event) (parts : List Part) : Type 0 where
+record Rest (log : List Edit) (n m : ℕ) (pre : List Event) (parts : List EditPart) : Type 0 where
   here : added_at n log ≡ pre ++ back_at n (edits_from n parts)
   later : (i : ℕ) → n < i → added_at i log ≡ back_at i (edits_from n parts)
   cuts : (i : ℕ) → n ≤ i → removed_at i log ≡ removed_at i (edits_from n parts)
@@ -181,17 +181,17 @@ record Rest (log : List Edit) (n m : ℕ) (pre : List Event) (parts : List Part)
   number : start log n + length pre ≡ m
 
 -- the same of no event before
-record After (log : List Edit) (n m : ℕ) (parts : List Part) : Type 0 where
+record After (log : List Edit) (n m : ℕ) (parts : List EditPart) : Type 0 where
   later : (i : ℕ) → n ≤ i → added_at i log ≡ back_at i (edits_from n parts)
   cuts : (i : ℕ) → n ≤ i → removed_at i log ≡ removed_at i (edits_from n parts)
   short : (p : ℕ) → p < n → p + removed_at p log ≤ n
   number : start log n ≡ m
 
-rest-after : (log : List Edit) (n m : ℕ) (parts : List Part) → After log n m parts → Rest log n m [] parts
+rest-after : (log : List Edit) (n m : ℕ) (parts : List EditPart) → After log n m parts → Rest log n m [] parts
 rest-after log n m parts a =
     record { here = a.later n (omega arith); later = λ i l. a.later i (omega arith); cuts = a.cuts; short = a.short; number = omega (arith, a.number) }
 
-rest-comes : (log : List Edit) (n m : ℕ) (pre es : List Event) (parts : List Part) →
+rest-comes : (log : List Edit) (n m : ℕ) (pre es : List Event) (parts : List EditPart) →
     Rest log n m pre (comes es ∷ parts) → Rest log n (m + length es) (pre ++ es) parts
 rest-comes log n m pre es parts r = record {
   here = r.here ∙ ap (λ x. pre ++ x) (back-here n es (edits_from n parts)) ∙ sym (append_assoc pre es (back_at n (edits_from n parts)));
@@ -213,14 +213,14 @@ goes-of : (log : List Edit) (n k : ℕ) → removed_at n log ≡ k → (j : ℕ)
 goes-of log n k a j l h = goes-where log j n l (omega (arith, a))
 
 -- a row that stays
-record Block (log : List Edit) (n m k : ℕ) (pre : List Event) (parts : List Part) : Type 0 where
+record Block (log : List Edit) (n m k : ℕ) (pre : List Event) (parts : List EditPart) : Type 0 where
   first : added_at n log ≡ pre
   none : (j : ℕ) → n < j → j < n + k → added_at j log ≡ []
   stay : (j : ℕ) → n ≤ j → j < n + k → is_removed log j ≡ false
   number : moved_number log n ≡ m
   after : After log (n + k) (m + k) parts
 
-block : (log : List Edit) (n m k : ℕ) (pre : List Event) (parts : List Part) → 0 < k →
+block : (log : List Edit) (n m k : ℕ) (pre : List Event) (parts : List EditPart) → 0 < k →
     added_at n log ≡ pre ++ back_at n (edits_from (n + k) parts) →
     ((i : ℕ) → n < i → added_at i log ≡ back_at i (edits_from (n + k) parts)) →
     ((i : ℕ) → n ≤ i → removed_at i log ≡ removed_at i (edits_from (n + k) parts)) →
@@ -249,11 +249,11 @@ block log n m k pre parts l here later cuts short counted =
       };
     }
 
-row-block : (log : List Edit) (n m : ℕ) (pre : List Event) (t : Forest) (parts : List Part) → 0 < event_count t →
+row-block : (log : List Edit) (n m : ℕ) (pre : List Event) (t : Forest) (parts : List EditPart) → 0 < event_count t →
     Rest log n m pre (stays t ∷ parts) → Block log n m (event_count t) pre parts
 row-block log n m pre t parts l r = block log n m (event_count t) pre parts l r.here r.later r.cuts r.short r.number
 
-one-block : (log : List Edit) (n m : ℕ) (pre : List Event) (kind : Kind) (name : Name) (p : Point) (parts : List Part) →
+one-block : (log : List Edit) (n m : ℕ) (pre : List Event) (kind : Kind) (name : Name) (p : Point) (parts : List EditPart) →
     Rest log n m pre (keeps kind name p ∷ parts) → Block log n m 1 pre parts
 one-block log n m pre kind name p parts r =
     block log n m 1 pre parts (omega arith) r.here r.later r.cuts r.short r.number
@@ -274,13 +274,13 @@ start-goes log n k (suc j) a b l =
     ∙ start-gone log (n + suc j) (b (n + suc j) (omega arith) (omega arith))
     ∙ omega (arith, start-goes log n k j a b (omega arith), ap length (a (n + suc j) (omega arith) (omega arith)))
 
-record Gone (log : List Edit) (n m k : ℕ) (pre : List Event) (parts : List Part) : Type 0 where
+record Gone (log : List Edit) (n m k : ℕ) (pre : List Event) (parts : List EditPart) : Type 0 where
   first : added_at n log ≡ pre
   none : (j : ℕ) → n < j → j < n + k → added_at j log ≡ []
   goes : (j : ℕ) → n ≤ j → j < n + k → is_removed log j ≡ true
   after : After log (n + k) m parts
 
-gone-block : (log : List Edit) (n m : ℕ) (pre : List Event) (e : Event) (es : List Event) (parts : List Part) →
+gone-block : (log : List Edit) (n m : ℕ) (pre : List Event) (e : Event) (es : List Event) (parts : List EditPart) →
     Rest log n m pre (goes e es ∷ parts) → Gone log n m (suc (length es)) pre parts
 gone-block log n m pre e es parts r =
     let k : ℕ = suc (length es) in
@@ -316,11 +316,11 @@ gone-block log n m pre e es parts r =
 
 -- The whole.
 
-Leaves : List Edit → List Part → Type 0
-Leaves log parts =
+EditsLeave : List Edit → List EditPart → Type 0
+EditsLeave log parts =
     (n m : ℕ) (pre : List Event) → Rest log n m pre parts → edited_from log n (before_from n parts) ≡ pre ++ after_from m parts
 
-rest-nothing : (log : List Edit) (n m : ℕ) (pre : List Event) (parts : List Part) →
+rest-nothing : (log : List Edit) (n m : ℕ) (pre : List Event) (parts : List EditPart) →
     Rest log n m pre (stays empty ∷ parts) → Rest log n m pre parts
 rest-nothing log n m pre parts r =
     let e : n + 0 ≡ n = omega arith in
@@ -332,9 +332,9 @@ rest-nothing log n m pre parts r =
       number = r.number;
     }
 
-leaves-nothing : (log : List Edit) (t : Forest) (parts : List Part) → event_count t ≡ 0 → Leaves log parts →
-    Leaves log (stays t ∷ parts)
-unfolding Leaves
+leaves-nothing : (log : List Edit) (t : Forest) (parts : List EditPart) → event_count t ≡ 0 → EditsLeave log parts →
+    EditsLeave log (stays t ∷ parts)
+unfolding EditsLeave
 leaves-nothing log empty parts z law n m pre r =
     let e : n + 0 ≡ n = omega arith in
     let d : m ≡ m + 0 = omega arith in
@@ -342,9 +342,9 @@ leaves-nothing log empty parts z law n m pre r =
 leaves-nothing log (leaf_then name link cs rest) parts z law n m pre r = absurd (omega (arith, z))
 leaves-nothing log (group_then name a b inside rest) parts z law n m pre r = absurd (omega (arith, z))
 
-leaves-row : (log : List Edit) (t : Forest) (parts : List Part) → 0 < event_count t → Leaves log parts →
-    Leaves log (stays t ∷ parts)
-unfolding Leaves
+leaves-row : (log : List Edit) (t : Forest) (parts : List EditPart) → 0 < event_count t → EditsLeave log parts →
+    EditsLeave log (stays t ∷ parts)
+unfolding EditsLeave
 leaves-row log t parts l law n m pre r =
     let b = row-block log n m pre t parts l r in
     let k : ℕ = event_count t in
@@ -358,8 +358,8 @@ leaves-row log t parts l law n m pre r =
 positive : (k : ℕ) → k ≢ 0 → 0 < k
 positive k h = omega (arith, h)
 
-leaves : (log : List Edit) (parts : List Part) → Leaves log parts
-unfolding Leaves all_moved
+leaves : (log : List Edit) (parts : List EditPart) → EditsLeave log parts
+unfolding EditsLeave all_moved
 leaves log [] n m pre r = r.here
 leaves log (comes es ∷ parts) n m pre r =
     leaves log parts n (m + length es) (pre ++ es) (rest-comes log n m pre es parts r) ∙ append_assoc pre es (after_from (m + length es) parts)
@@ -376,14 +376,14 @@ leaves log (keeps kind name p ∷ parts) n m pre r =
     stretch log n pre (event kind name p ∷ []) (before_from (n + 1) parts) (omega arith) b.first b.none b.stay
     ∙ ap (λ xs. pre ++ (event kind name p ∷ xs)) (leaves log parts (n + 1) (m + 1) [] (rest-after log (n + 1) (m + 1) parts b.after))
 
-rest-whole : (log : List Edit) (parts : List Part) → Does log parts → Rest log 0 0 [] parts
+rest-whole : (log : List Edit) (parts : List EditPart) → Does log parts → Rest log 0 0 [] parts
 rest-whole log parts d =
     record { here = d.added 0; later = λ i l. d.added i; cuts = λ i l. d.removed i; short = λ p l. absurd (omega (arith, l)); number = refl }
 
 -- edits that do what the parts say leave their events
-pub parts-edited : (log : List Edit) (parts : List Part) → Does log parts →
+pub parts-edited : (log : List Edit) (parts : List EditPart) → Does log parts →
     edited log (before_from 0 parts) ≡ after_from 0 parts
-unfolding Leaves
+unfolding EditsLeave
 parts-edited log parts d = leaves log parts 0 0 [] (rest-whole log parts d)
 
 -- They may be made.
@@ -398,7 +398,7 @@ linked-none [] ys i l u = absurd (omega (arith, l))
 linked-none (x ∷ xs) ys zero l u = ap has_link u.0
 linked-none (x ∷ xs) ys (suc i) l u = linked-none xs ys i (omega (arith, l)) u.1
 
-goes-unlinked : (log : List Edit) (parts : List Part) (n m : ℕ) (pre : List Event) → Rest log n m pre parts →
+goes-unlinked : (log : List Edit) (parts : List EditPart) (n m : ℕ) (pre : List Event) → Rest log n m pre parts →
     GoUnlinked parts → (i j : ℕ) → i ≡ n + j → is_removed log i ≡ true → linked_at (before_from n parts) j ≡ false
 goes-unlinked log [] n m pre r u i j e h = refl
 goes-unlinked log (comes es ∷ parts) n m pre r u i j e h =
@@ -442,7 +442,7 @@ goes-unlinked log (stays t ∷ parts) n m pre r u i j e h = elim (eqb_tells (eve
     none (leaf_then name link cs rest) z r more = absurd (omega (arith, z))
     none (group_then name a b inside rest) z r more = absurd (omega (arith, z))
 
-pub parts-may : (log : List Edit) (parts : List Part) → Does log parts →
+pub parts-may : (log : List Edit) (parts : List EditPart) → Does log parts →
     All (λ e. e.at ≤ length (before_from 0 parts)) log → GoUnlinked parts → CanEdit log (before_from 0 parts)
 parts-may log parts d places u =
     record { places = places; unlinked = λ j h. goes-unlinked log parts 0 0 [] (rest-whole log parts d) u j j (omega arith) h }

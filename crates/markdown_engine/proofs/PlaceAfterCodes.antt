@@ -1,12 +1,12 @@
 -- the place past some codes
 use Rattle.std.proofs.Common.{◌≡◌, List, [], ◌∷◌, ◌++◌, refl, ap, ◌∙◌}
-use Rattle.markdown_engine_content.specs.Codes.{Code, stop_of}
-use Rattle.markdown_engine_content.specs.ListFunctions.{rest_of}
+use Rattle.markdown_content.specs.Codes.{Code, stop_of}
+use Rattle.markdown_content.specs.ListFunctions.{rest_of}
 use Rattle.markdown_engine.specs.PastTree.{moved_by}
-use Rattle.markdown_engine_content.specs.Place.{Place, moved, ahead_at, exit_point}
+use Rattle.markdown_content.specs.Place.{Place, moved, ahead_at, exit_point}
 use Rattle.markdown_event.specs.declared.event.Point.{Point}
-use Rattle.markdown_engine_content.proofs.PlaceRules.{ahead-moved}
-use Rattle.markdown_engine_content.proofs.PlaceRules.{exit_moved}
+use Rattle.markdown_content.proofs.PlaceRules.{ahead-moved}
+use Rattle.markdown_content.proofs.PlaceRules.{exit_moved}
 
 -- the codes ahead past some of them
 pub ahead-moved_by : (cs rest : List Code) (p : Place) → ahead_at p ≡ cs ++ rest → ahead_at (moved_by cs p) ≡ rest

@@ -1,20 +1,20 @@
 -- How many codes there are, and how large their places.
 use Rattle.std.proofs.Common.{ℕ, ◌+◌, ◌*◌, ◌<◌, ◌≤◌, ◌^◌, true, false, ◌≡◌, arith, List, [], ◌∷◌, length, refl, sym, ap, subst, ◌∙◌, inl, inr, append-nil, length-append}
 use Rattle.markdown_event.specs.declared.event.Point.{Point}
-use Rattle.markdown_engine_content.specs.declared.parser.Piece.{Piece}
-use Rattle.markdown_engine_content.specs.Codes.{Code, codes_of, document_start, place_of, point_at}
-use Rattle.markdown_engine_content.specs.Content.{IsContent, content_of, are_pieces, piece_codes}
-use Rattle.markdown_engine_content.specs.Place.{start_of_content}
-use Rattle.markdown_engine_content.specs.DocumentWalk.{IsPoint}
+use Rattle.markdown_content.specs.declared.parser.Piece.{Piece}
+use Rattle.markdown_content.specs.Codes.{Code, codes_of, document_start, place_of, point_at}
+use Rattle.markdown_content.specs.Content.{IsContent, content_of, are_pieces, piece_codes}
+use Rattle.markdown_content.specs.Place.{start_of_content}
+use Rattle.markdown_content.specs.DocumentWalk.{IsPoint}
 use Rattle.markdown_engine.specs.Weights.{left_at}
-use Rattle.markdown_engine_content.proofs.PlaceOrder.{is_before}
-use Rattle.markdown_engine_content.proofs.AdjacentCodes.{cons≢nil, tail_same}
-use Rattle.markdown_engine_content.proofs.DocumentCodes.{code_here, stop_at}
-use Rattle.markdown_engine_content.proofs.DocumentWalkLemmas.{few-end, few-at, stands-start}
-use Rattle.markdown_engine_content.proofs.DocumentPlaces.{stands-point, stands-there, there, IsThere}
-use Rattle.markdown_engine_content.proofs.ContentCodes.{piece_row, IsPieceRow, followed_by, piece-codes-is}
-use Rattle.markdown_engine_content.proofs.CodesBetween.{codes_to, to-cases}
-use Rattle.markdown_engine_content.proofs.CursorInvariant.{before-keys}
+use Rattle.markdown_content.proofs.PlaceOrder.{is_before}
+use Rattle.markdown_content.proofs.AdjacentCodes.{cons≢nil, tail_same}
+use Rattle.markdown_content.proofs.DocumentCodes.{code_here, stop_at}
+use Rattle.markdown_content.proofs.DocumentWalkLemmas.{few-end, few-at, stands-start}
+use Rattle.markdown_content.proofs.DocumentPlaces.{stands-point, stands-there, there, IsThere}
+use Rattle.markdown_content.proofs.ContentCodes.{piece_row, IsPieceRow, followed_by, piece-codes-is}
+use Rattle.markdown_content.proofs.CodesBetween.{codes_to, to-cases}
+use Rattle.markdown_content.proofs.CursorInvariant.{before-keys}
 
 -- The codes of a document.
 

@@ -3,13 +3,13 @@ use Rattle.std.proofs.Common.{◌≡◌, ℕ, ◌≤◌, Bool, true, false, Opti
 use Rattle.markdown_engine.specs.FailedRun.{Grown, Fails}
 use Rattle.markdown_engine.specs.Operations.{Op, ahead, scratched, done, stays}
 use Rattle.markdown_engine.specs.PastTree.{past, last_link, TreeReading, EndsAs, Reads, Refuses, behind}
-use Rattle.markdown_engine_content.specs.Tree.{Forest, empty, leaf_then, group_then, ◌⊕◌, leaf_codes}
+use Rattle.markdown_content.specs.Tree.{Forest, empty, leaf_then, group_then, ◌⊕◌, leaf_codes}
 use Rattle.markdown_engine.specs.Weights.{codes_left}
 use Rattle.markdown_engine.specs.declared.tokenizer.TokenizeState.{TokenizeState}
 use Rattle.markdown_engine.specs.declared.tokenizer.Tokenizer.{Tokenizer}
 use Rattle.markdown_engine.proofs.OperationFields.{left-ahead}
 use Rattle.markdown_engine.proofs.OperationLemmas.{Grown-scratched, Grown-done, scratch-done}
-use Rattle.markdown_engine_content.proofs.TreeCodes.{leaf_codes-row}
+use Rattle.markdown_content.proofs.TreeCodes.{leaf_codes-row}
 use Rattle.markdown_engine.proofs.TreeEvents.{past-past, Grown-past}
 
 -- the scratch fields before a reading do not matter

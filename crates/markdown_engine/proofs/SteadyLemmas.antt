@@ -2,21 +2,21 @@
 use Rattle.std.proofs.Common.{◌≡◌, ℕ, ◌==◌, Bool, true, false, if◌then◌else◌, List, [], ◌∷◌, ◌++◌, ◌+◌, Option, Some, None, refl, sym, ap, subst, arith, ◌∙◌}
 use Rattle.std.specs.List.{list_any}
 use Rattle.std.proofs.lemmas.Bool.{both_ways, not-true, eqb-true, or_parts}
-use Rattle.markdown_engine_content.specs.Codes.{Code, line_feed}
+use Rattle.markdown_content.specs.Codes.{Code, line_feed}
 use Rattle.markdown_engine.specs.Operations.{current_of, ahead, applied, consumed}
-use Rattle.markdown_engine_content.specs.Place.{Place, ahead_at, moved}
-use Rattle.markdown_engine.specs.CallsWithAttempts.{Reaches}
+use Rattle.markdown_content.specs.Place.{Place, ahead_at, moved}
+use Rattle.markdown_engine.specs.CallsWithAttempts.{CallsReach}
 use Rattle.markdown_engine.specs.StateRuns.{Stepped, stepped, settled, MayGo, GoesOn, ends_state, Lawful}
 use Rattle.markdown_engine.specs.Steady.{IsSteady, Onward, alone_among}
-use Rattle.markdown_engine_content.specs.Stretch.{stops, is_free, past_stretch}
-use Rattle.markdown_state.specs.declared.state.State.TheVariants.{Next}
-use Rattle.markdown_state.specs.declared.state.StateName.{StateName}
+use Rattle.markdown_content.specs.Stretch.{stops, is_free, past_stretch}
+use Rattle.markdown_event.specs.declared.state.State.TheVariants.{Next}
+use Rattle.markdown_event.specs.declared.state.StateName.{StateName}
 use Rattle.markdown_engine.specs.declared.tokenizer.TokenizeState.{TokenizeState}
 use Rattle.markdown_engine.specs.declared.tokenizer.Tokenizer.{Tokenizer}
-use Rattle.markdown_engine_content.proofs.PlaceRules.{ahead_moved, code_at_end}
+use Rattle.markdown_content.proofs.PlaceRules.{ahead_moved, code_at_end}
 use Rattle.markdown_engine.proofs.CallsWithAttemptsLemmas.{Reaches-call}
 use Rattle.markdown_engine.proofs.AttemptLemmas.{goes-alone, settled-same}
-use Rattle.markdown_engine_content.proofs.StretchLemmas.{past-none, past-one}
+use Rattle.markdown_content.proofs.StretchLemmas.{past-none, past-one}
 use Rattle.markdown_engine.proofs.TurnLemmas.{later-none, later-more, ran-call}
 use Rattle.markdown_engine.specs.TurnCount.{later, ran, runs_out}
 use Rattle.markdown_engine.specs.declared.tokenizer.Attempt.{Attempt}
@@ -53,7 +53,7 @@ onward-one ready step ends weight laws s T U alone r e none =
       alone = none;
       goes_on = goes.0.goes_on;
       below = omega (arith, goes.0.falls);
-      calls = λ fs ok V k. Reaches-call ready step s T ok V r fs (subst (λ (x : Stepped). Reaches ready step (x.left.attempts ++ fs) x.state (settled x.left) ok V) (sym e) (subst (λ (gs : List Attempt). Reaches ready step (gs ++ fs) (Next s) (settled U) ok V) (sym none) (subst (λ (X : Tokenizer). Reaches ready step fs (Next s) X ok V) (sym (settled-same U none)) k)));
+      calls = λ fs ok V k. Reaches-call ready step s T ok V r fs (subst (λ (x : Stepped). CallsReach ready step (x.left.attempts ++ fs) x.state (settled x.left) ok V) (sym e) (subst (λ (gs : List Attempt). CallsReach ready step (gs ++ fs) (Next s) (settled U) ok V) (sym none) (subst (λ (X : Tokenizer). CallsReach ready step fs (Next s) X ok V) (sym (settled-same U none)) k)));
       ends_so = λ ok V k. goes.1 ok V k;
       turns = λ n lt. (1, ran-call ready step ends weight laws n s T alone r lt ∙ ap (later 1) (ap (λ (x : Stepped). runs_out (ran step n) x.left.attempts x.state (settled x.left)) e ∙ ap (λ (gs : List Attempt). runs_out (ran step n) gs (Next s) (settled U)) none ∙ ap (λ (X : Tokenizer). ran step n (Next s) X) (settled-same U none)));
     }

@@ -2,9 +2,9 @@
 use Rattle.std.proofs.Common.{◌≡◌, ◌≢◌, ℕ, suc, ◌+◌, ◌<◌, ◌≤◌, ◌==◌, false, Option, Some, None, List, [], ◌∷◌, ◌++◌, refl, sym, ap, subst, ◌∙◌, arith, append_assoc, append-nil}
 use Rattle.std.proofs.lemmas.Bool.{eq-eqb}
 use Rattle.markdown_engine_events.specs.EventChains.{chained, chained_from, follower, is_number}
-use Rattle.markdown_engine_content.specs.Codes.{stop_of, document_start}
+use Rattle.markdown_content.specs.Codes.{stop_of, document_start}
 use Rattle.markdown_engine.specs.PastTree.{appended_from}
-use Rattle.markdown_engine_content.specs.Tree.{Forest, empty, leaf_then, group_then, event_count, event, events_from, events_of, next_linked, start_of}
+use Rattle.markdown_content.specs.Tree.{Forest, empty, leaf_then, group_then, event_count, event, events_from, events_of, next_linked, start_of}
 use Rattle.markdown_event.specs.declared.event.Event.{Event}
 use Rattle.markdown_event.specs.declared.event.Kind.TheVariants as Kind
 

@@ -1,11 +1,11 @@
 -- what a tree appends
 use Rattle.std.proofs.Common.{◌≡◌, ◌≢◌, ℕ, ◌+◌, Bool, true, false, Option, Some, None, List, [], ◌∷◌, ◌++◌, length, refl, sym, ap, subst, ◌∙◌, arith, append_assoc, append-nil, length-append}
-use Rattle.markdown_engine_content.specs.Codes.{Code, stop_of, document_start}
+use Rattle.markdown_content.specs.Codes.{Code, stop_of, document_start}
 use Rattle.markdown_engine.specs.FailedRun.{Grown, unwound, Fails}
 use Rattle.markdown_engine.specs.Operations.{Op, Enter, Exit, Consume, applied, done, ahead, scratched, link_back, enter_event}
 use Rattle.markdown_engine.specs.PastTree.{moved_by, past, link_of, last_link, appended_from, entered_leaf, link_before, passed}
-use Rattle.markdown_engine_content.specs.Place.{point_of, exit_point}
-use Rattle.markdown_engine_content.specs.Tree.{Forest, empty, leaf_then, group_then, ◌⊕◌, leaf_codes, event_count, event, start_of}
+use Rattle.markdown_content.specs.Place.{point_of, exit_point}
+use Rattle.markdown_content.specs.Tree.{Forest, empty, leaf_then, group_then, ◌⊕◌, leaf_codes, event_count, event, start_of}
 use Rattle.markdown_engine.specs.TreeOps.{consumes, ops_of, IsSolid}
 use Rattle.markdown_event.specs.declared.event.Content.{Content}
 use Rattle.markdown_event.specs.declared.event.Kind.TheVariants as Kind
@@ -16,8 +16,8 @@ use Rattle.markdown_engine.proofs.LawSteps.{Grown-refl}
 use Rattle.markdown_engine.proofs.OperationFields.{ahead-applied}
 use Rattle.markdown_engine.proofs.OperationLemmas.{Grown-scratched}
 use Rattle.markdown_engine.proofs.PlaceAfterCodes.{stop-moved, ahead-moved_by, moved_by-append}
-use Rattle.markdown_engine_content.proofs.PlaceRules.{point_ahead}
-use Rattle.markdown_engine_content.proofs.TreeCodes.{leaf_codes-row}
+use Rattle.markdown_content.proofs.PlaceRules.{point_ahead}
+use Rattle.markdown_content.proofs.TreeCodes.{leaf_codes-row}
 
 pub done-consumes : (cs : List Code) (os : List Op) (T : Tokenizer) → done (consumes cs ++ os) T ≡ done os (passed cs T)
 unfolding passed applied

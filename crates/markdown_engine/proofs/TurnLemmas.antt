@@ -1,12 +1,12 @@
 -- Runs of a layer's states, turn by turn.
 use Rattle.std.proofs.Common.{◌≡◌, ℕ, zero, suc, ◌+◌, ◌⊎◌, inl, inr, ◌<◌, ◌≤◌, List, [], ◌∷◌, ◌++◌, Bool, true, false, refl, sym, ap, subst, arith, ◌∙◌}
-use Rattle.markdown_engine.specs.CallsWithAttempts.{Reaches}
+use Rattle.markdown_engine.specs.CallsWithAttempts.{CallsReach}
 use Rattle.markdown_engine.specs.StateRuns.{Stepped, stepped, settled, going_state, going_in, ends_state, MayGo, Goes, GoesOn, Lawful}
 use Rattle.markdown_engine.specs.Steady.{Onward}
 use Rattle.markdown_engine.specs.TurnCount.{Ran, later, runs_out, ran}
-use Rattle.markdown_state.specs.declared.state.StateName.{StateName}
-use Rattle.markdown_state.specs.declared.state.State.{State}
-use Rattle.markdown_state.specs.declared.state.State.TheVariants.{Next, Retry, Ok, Nok}
+use Rattle.markdown_event.specs.declared.state.StateName.{StateName}
+use Rattle.markdown_event.specs.declared.state.State.{State}
+use Rattle.markdown_event.specs.declared.state.State.TheVariants.{Next, Retry, Ok, Nok}
 use Rattle.markdown_engine.specs.declared.tokenizer.Attempt.{Attempt}
 use Rattle.markdown_engine.specs.declared.tokenizer.Tokenizer.{Tokenizer}
 use Rattle.markdown_engine.proofs.CallsWithAttemptsLemmas.{answer, Reaches-call, Reaches-state, Reaches-out}
@@ -150,7 +150,7 @@ on-from ready ends weight n End In (f ∷ fs) st T so h = λ ok U alone k. h.1 o
 -- what a turn leads to: it goes on, what is reached from there was reached before it, and fewer turns are left
 pub record Turned (ready : StateName → Tokenizer → Type 0) (step : StateName → Tokenizer → Stepped) (ends : StateName → Tokenizer → Bool → Tokenizer → Type 0) (weight : StateName → Tokenizer → ℕ) (n : ℕ) (End : Bool → Tokenizer → Type 0) (fs : List Attempt) (st : State) (T : Tokenizer) (gs : List Attempt) (on : State) (U : Tokenizer) : Type 0 where
   pub goes : Goes ready ends weight n End gs on U
-  pub calls : (ok : Bool) (V : Tokenizer) → Reaches ready step gs on U ok V → Reaches ready step fs st T ok V
+  pub calls : (ok : Bool) (V : Tokenizer) → CallsReach ready step gs on U ok V → CallsReach ready step fs st T ok V
   pub fewer : (runs_out (ran step n) gs on U).turns < (runs_out (ran step n) fs st T).turns
 
 -- the innermost attempt goes on
@@ -192,7 +192,7 @@ turned-call ready step ends weight laws n End fs st s T U on V is past e h =
     let more = past.turns n lt in
     record {
       goes = goes-more ready ends weight (weight s U) n (omega (arith, lt, past.below)) (ends s U) End fs (on-from ready ends weight n End (ends s U) fs st T (λ ok X k. ends-next ends st s T ok X is (past.ends_so ok X k)) h) V.attempts on (settled V) now;
-      calls = λ ok X k. Reaches-state ready step fs st s T ok X is (past.calls fs ok X (Reaches-call ready step s U ok X past.goes_on fs (subst (λ (x : Stepped). Reaches ready step (x.left.attempts ++ fs) x.state (settled x.left) ok X) (sym e) k)));
+      calls = λ ok X k. Reaches-state ready step fs st s T ok X is (past.calls fs ok X (Reaches-call ready step s U ok X past.goes_on fs (subst (λ (x : Stepped). CallsReach ready step (x.left.attempts ++ fs) x.state (settled x.left) ok X) (sym e) k)));
       fewer = call-counts step n fs V.attempts st T on (settled V) more.0
           (ran-next step n st s T is ∙ more.1 ∙ ap (later more.0) (ran-call ready step ends weight laws n s U past.alone past.goes_on (omega (arith, lt, past.below)) ∙ ap (λ (x : Stepped). later 1 (runs_out (ran step n) x.left.attempts x.state (settled x.left))) e));
     }

@@ -1,8 +1,8 @@
 -- what a list of calls reaches, attempts applied between them
 use Rattle.std.specs.Prelude.{◌≡◌, List, [], ◌∷◌, ◌++◌, Bool, true, false}
-use Rattle.markdown_state.specs.declared.state.StateName.{StateName}
-use Rattle.markdown_state.specs.declared.state.State.{State}
-use Rattle.markdown_state.specs.declared.state.State.TheVariants.{Next, Retry, Ok, Nok}
+use Rattle.markdown_event.specs.declared.state.StateName.{StateName}
+use Rattle.markdown_event.specs.declared.state.State.{State}
+use Rattle.markdown_event.specs.declared.state.State.TheVariants.{Next, Retry, Ok, Nok}
 use Rattle.markdown_engine.specs.declared.tokenizer.Tokenizer.{Tokenizer}
 use Rattle.markdown_engine.specs.declared.tokenizer.Attempt.{Attempt}
 use Rattle.markdown_engine.specs.StateRuns.{Stepped, settled, restored, going_in}
@@ -35,10 +35,10 @@ Called ready step s K Ok T fs = ⊥
 Called ready step s K Nok T fs = ⊥
 
 -- these calls lead from this answer, with these attempts open, to this end
-abbrev pub Leads : (StateName → Tokenizer → Type 0) → (StateName → Tokenizer → Stepped) → Bool → Tokenizer → List StateName → Then
-Leads ready step ok U [] st T fs = Applied (Ended ok U) fs st T
-Leads ready step ok U (s ∷ ss) st T fs = Applied (Called ready step s (Leads ready step ok U ss)) fs st T
+abbrev pub CallsLead : (StateName → Tokenizer → Type 0) → (StateName → Tokenizer → Stepped) → Bool → Tokenizer → List StateName → Then
+CallsLead ready step ok U [] st T fs = Applied (Ended ok U) fs st T
+CallsLead ready step ok U (s ∷ ss) st T fs = Applied (Called ready step s (CallsLead ready step ok U ss)) fs st T
 
 -- some list of calls leads there, with no attempt open at first
-abbrev pub Reaches : (StateName → Tokenizer → Type 0) → (StateName → Tokenizer → Stepped) → List Attempt → State → Tokenizer → Bool → Tokenizer → Type 0
-Reaches ready step fs st T ok U = (calls : List StateName) × Leads ready step ok U calls st T fs
+abbrev pub CallsReach : (StateName → Tokenizer → Type 0) → (StateName → Tokenizer → Stepped) → List Attempt → State → Tokenizer → Bool → Tokenizer → Type 0
+CallsReach ready step fs st T ok U = (calls : List StateName) × CallsLead ready step ok U calls st T fs

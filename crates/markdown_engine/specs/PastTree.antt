@@ -1,10 +1,10 @@
 -- A tokenizer past a tree, with the tree's events.
 use Rattle.std.specs.Prelude.{◌≡◌, ℕ, ◌+◌, ◌-◌, Bool, true, false, List, [], ◌∷◌, ◌++◌, length, Option, Some, None, if◌then◌else◌}
-use Rattle.markdown_engine_content.specs.Codes.{Code, stop_of, document_start}
+use Rattle.markdown_content.specs.Codes.{Code, stop_of, document_start}
 use Rattle.markdown_engine.specs.FailedRun.{Fails}
 use Rattle.markdown_engine.specs.Operations.{ahead, applied, Enter, EnterLink, EnterConnected, link_back, scratched}
-use Rattle.markdown_engine_content.specs.Place.{Place, moved}
-use Rattle.markdown_engine_content.specs.Tree.{Forest, empty, leaf_then, group_then, ◌⊕◌, event_count, event, start_of, leaf_codes}
+use Rattle.markdown_content.specs.Place.{Place, moved}
+use Rattle.markdown_content.specs.Tree.{Forest, empty, leaf_then, group_then, ◌⊕◌, event_count, event, start_of, leaf_codes}
 use Rattle.markdown_event.specs.declared.event.Content.{Content}
 use Rattle.markdown_event.specs.declared.event.Event.{Event}
 use Rattle.markdown_event.specs.declared.event.Kind.TheVariants as Kind

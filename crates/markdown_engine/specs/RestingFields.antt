@@ -1,6 +1,6 @@
 -- The scratch fields at rest.
 use Rattle.std.specs.Prelude.{false, [], None}
-use Rattle.markdown_engine_index.specs.RunIndex.{no_runs}
+use Rattle.markdown_notes.specs.RunIndex.{no_runs}
 use Rattle.markdown_event.specs.declared.event.Name.TheVariants as N
 use Rattle.markdown_engine.specs.declared.tokenizer.TokenizeState.{TokenizeState}
 

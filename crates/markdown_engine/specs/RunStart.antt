@@ -2,10 +2,10 @@
 use Rattle.std.specs.Prelude.{List, [], false}
 use Rattle.std.specs.Borrow.{Bor}
 use Rattle.std.specs.declared.alloc.Global.{Global}
-use Rattle.markdown_engine_content.specs.Place.{Place, start_of_content}
+use Rattle.markdown_content.specs.Place.{Place, start_of_content}
 use Rattle.markdown_engine.specs.RestingFields.{at_rest}
-use Rattle.markdown_engine_content.specs.declared.parser.ParseState.{ParseState}
-use Rattle.markdown_engine_content.specs.declared.parser.Piece.{Piece}
+use Rattle.markdown_content.specs.declared.parser.ParseState.{ParseState}
+use Rattle.markdown_content.specs.declared.parser.Piece.{Piece}
 use Rattle.markdown_engine.specs.declared.tokenizer.Tokenizer.{Tokenizer}
 
 -- at a place in a content: no events, nothing open, all scratch fields at rest

@@ -1,13 +1,13 @@
 -- States that go on by themselves.
 use Rattle.std.specs.Prelude.{◌≡◌, ℕ, ◌<◌, ◌≤◌, ◌==◌, Bool, true, List, [], ◌∷◌, Option, Some, None, if◌then◌else◌}
 use Rattle.markdown_engine.specs.Operations.{current_of, consumed}
-use Rattle.markdown_engine.specs.CallsWithAttempts.{Reaches}
+use Rattle.markdown_engine.specs.CallsWithAttempts.{CallsReach}
 use Rattle.markdown_engine.specs.StateRuns.{Stepped, stepped}
-use Rattle.markdown_engine_content.specs.Stretch.{is_free}
+use Rattle.markdown_content.specs.Stretch.{is_free}
 use Rattle.markdown_engine.specs.TurnCount.{later, ran}
 use Rattle.markdown_engine.specs.declared.tokenizer.Attempt.{Attempt}
-use Rattle.markdown_state.specs.declared.state.State.TheVariants.{Next}
-use Rattle.markdown_state.specs.declared.state.StateName.{StateName}
+use Rattle.markdown_event.specs.declared.state.State.TheVariants.{Next}
+use Rattle.markdown_event.specs.declared.state.StateName.{StateName}
 use Rattle.markdown_engine.specs.declared.tokenizer.TokenizeState.{TokenizeState}
 use Rattle.markdown_engine.specs.declared.tokenizer.Tokenizer.{Tokenizer}
 
@@ -28,6 +28,6 @@ pub record Onward (ready : StateName → Tokenizer → Type 0) (step : StateName
   pub alone : U.attempts ≡ []
   pub goes_on : ready s U
   pub below : weight s U ≤ weight s T
-  pub calls : (fs : List Attempt) (ok : Bool) (V : Tokenizer) → Reaches ready step fs (Next s) U ok V → Reaches ready step fs (Next s) T ok V
+  pub calls : (fs : List Attempt) (ok : Bool) (V : Tokenizer) → CallsReach ready step fs (Next s) U ok V → CallsReach ready step fs (Next s) T ok V
   pub ends_so : (ok : Bool) (V : Tokenizer) → ends s U ok V → ends s T ok V
   pub turns : (n : ℕ) → weight s T < n → (k : ℕ) × (ran step n (Next s) T ≡ later k (ran step n (Next s) U))

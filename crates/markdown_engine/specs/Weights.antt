@@ -1,6 +1,6 @@
 -- a number that falls at each step: the codes that are left, and then the rank of the state
 use Rattle.std.specs.Prelude.{ℕ, ◌+◌, ◌-◌, ◌*◌, length}
-use Rattle.markdown_engine_content.specs.Place.{Place}
+use Rattle.markdown_content.specs.Place.{Place}
 use Rattle.markdown_engine.specs.declared.tokenizer.Tokenizer.{Tokenizer}
 
 unfoldable pub left_at : Place → ℕ

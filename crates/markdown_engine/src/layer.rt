@@ -1,17 +1,17 @@
-// The states and passes of a layer, as the engine reaches them.
+//! The states and passes of a layer, as the engine reaches them.
 ghost use Rattle.std.specs.Prelude.{◌≡◌, ℕ, Bool, List, Option, IfOk, OnErr, IsTrue, None};
-ghost use Rattle.markdown_state.specs.declared.resolve.ResolveName.{ResolveName};
-ghost use Rattle.markdown_state.specs.declared.state.StateName.{StateName};
+ghost use Rattle.markdown_event.specs.declared.resolve.ResolveName.{ResolveName};
+ghost use Rattle.markdown_event.specs.declared.state.StateName.{StateName};
 ghost use Rattle.markdown_engine.specs.declared.tokenizer.TokenizeState.{TokenizeState};
 ghost use Rattle.markdown_engine.specs.declared.tokenizer.Tokenizer.{Tokenizer};
 ghost use Rattle.markdown_engine.specs.StateRuns.{Stepped, Lawful};
 ghost use Rattle.markdown_engine.specs.Steady.{IsSteady};
 
 use crate::tokenizer::{TokenizeState, Tokenizer};
-use markdown_engine_content::bytes::ByteSet;
+use markdown_content::bytes::ByteSet;
 use markdown_engine_events::subtokenize::Subresult;
-use markdown_state::resolve::ResolveName;
-use markdown_state::state::{State, StateName};
+use markdown_event::resolve::ResolveName;
+use markdown_event::state::{State, StateName};
 use std::alloc::AllocError;
 
 /// What the engine runs: states by their names, and passes by theirs.

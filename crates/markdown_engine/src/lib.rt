@@ -6,9 +6,7 @@ pub mod run;
 pub mod tokenizer;
 pub mod util;
 
-pub use markdown_engine_content::{bytes, configuration, cursor, parser, walk};
-pub use markdown_engine_events::{events, subtokenize};
-pub use markdown_engine_index::{run_index, sequence_index, title_index};
-pub use markdown_engine_names::{bracket_index, name_index};
-pub use markdown_event::event;
-pub use markdown_state::{resolve, state};
+pub use markdown_content::{bytes, configuration, cursor, parser, walk};
+pub use markdown_engine_events::{event_list, events, subtokenize};
+pub use markdown_event::{event, resolve, state};
+pub use markdown_notes::{bracket_index, name_index, run_index, sequence_index, title_index};

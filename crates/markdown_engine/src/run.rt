@@ -1,15 +1,15 @@
-// Runs of a layer's states, and of its passes. Each answers the error where a growth is refused; then `failed` is true.
+//! Runs of a layer's states, and of its passes. Each answers the error where a growth is refused; then `failed` is true.
 ghost use Rattle.std.specs.Prelude.{◌≡◌, ◌++◌, [], IfOk, OnOk, OnErr, IsTrue};
 ghost use Rattle.markdown_engine.specs.StateRuns.{going_state, going_in, ends_state, ready_state};
-ghost use Rattle.markdown_engine.specs.CallsWithAttempts.{Reaches};
+ghost use Rattle.markdown_engine.specs.CallsWithAttempts.{CallsReach};
 ghost use Rattle.markdown_engine.specs.Steady.{Onward};
 ghost use Rattle.markdown_engine.specs.PassesInOrder.{MayResolve, Resolves, unregistered};
-ghost use Rattle.markdown_state.specs.declared.state.State.TheVariants.{Retry};
+ghost use Rattle.markdown_event.specs.declared.state.State.TheVariants.{Retry};
 
 use crate::layer::Layer;
 use crate::tokenizer::{Attempt, Tokenizer};
-use markdown_lists::seq::{Seq, Stack};
-use markdown_state::state::{State, StateName};
+use markdown_event::seq::{Seq, Stack};
+use markdown_event::state::{State, StateName};
 use std::alloc::AllocError;
 use std::mem;
 
@@ -69,7 +69,7 @@ fn run_from<'a, L: Layer>(
     requires alone { tokenizer.old.attempts ≡ [] }
     requires empty { waiting.old ≡ [] }
     ensures alone { IfOk result (λ _. tokenizer.new.attempts ≡ []) }
-    ensures calls { IfOk result (λ ok. Reaches L.ready L.step [] start tokenizer.old ok tokenizer.new) }
+    ensures calls { IfOk result (λ ok. CallsReach L.ready L.step [] start tokenizer.old ok tokenizer.new) }
     ensures ends { IfOk result (λ ok. ends_state L.ends start tokenizer.old ok tokenizer.new) }
     ensures err { OnErr result (IsTrue tokenizer.new.failed) }
 {
@@ -100,7 +100,7 @@ impl<'a> Tokenizer<'a> {
         requires ready { L.ready name self.old }
         requires alone { self.old.attempts ≡ [] }
         ensures alone { IfOk result (λ _. self.new.attempts ≡ []) }
-        ensures calls { IfOk result (λ ok. Reaches L.ready L.step [] (Retry name) self.old ok self.new) }
+        ensures calls { IfOk result (λ ok. CallsReach L.ready L.step [] (Retry name) self.old ok self.new) }
         ensures ends { IfOk result (λ ok. L.ends name self.old ok self.new) }
         ensures err { OnErr result (IsTrue self.new.failed) }
     {

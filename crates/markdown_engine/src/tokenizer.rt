@@ -1,29 +1,29 @@
-// The tokenizer: what a state function is given.
-//
-// Each operation that may grow a list answers the error where the growth is refused; then `failed` is true.
+//! The tokenizer: what a state function is given.
+//!
+//! Each operation that may grow a list answers the error where the growth is refused; then `failed` is true.
 ghost use Rattle.std.specs.Prelude.{◌≡◌, ◌++◌, ◌∷◌, [], OnOk, OnErr, IsTrue, MatchOption, true, false, Some, None};
-ghost use Rattle.markdown_engine.specs.Operations.{applied, Enter, Exit, EnterLink, EnterConnected, Consume, attempted, registered, registered_before, is_registered, refused, current_of, previous_of, IsOpen, HasCode, link_back, enter_event, LinkedBefore};
-ghost use Rattle.markdown_engine_content.specs.Content.{IsContent};
-ghost use Rattle.markdown_engine_content.specs.Place.{point_of};
+ghost use Rattle.markdown_engine.specs.Operations.{applied, Enter, Exit, EnterLink, EnterConnected, Consume, attempted, registered, registered_before, is_registered, refused, current_of, previous_of, IsOpen, HasCode, enter_event, LinkedBefore};
+ghost use Rattle.markdown_content.specs.Content.{IsContent};
+ghost use Rattle.markdown_content.specs.Place.{point_of};
 ghost use Rattle.markdown_engine_events.specs.EventChains.{IsFresh};
 ghost use Rattle.markdown_engine.specs.RunStart.{begun, begun_at};
 ghost use Rattle.markdown_engine.specs.RestingFields.{at_rest};
 
-use markdown_engine_content::bytes::{ByteSet, NO_BYTES};
-use markdown_engine_content::cursor::Cursor;
-pub use markdown_engine_content::label_kind::LabelKind;
-use markdown_engine_content::parser::{ParseState, Piece};
+use markdown_content::bytes::{ByteSet, NO_BYTES};
+use markdown_content::cursor::Cursor;
+pub use markdown_content::label_kind::LabelKind;
+use markdown_content::parser::{ParseState, Piece};
 use markdown_engine_events::events::Events;
 use markdown_engine_events::util::edit_map::EditMap;
-use markdown_engine_index::run_index::RunIndex;
-use markdown_engine_index::sequence_index::SequenceIndex;
-use markdown_engine_index::title_index::TitleIndex;
-use markdown_engine_names::name_index::Names;
 use markdown_event::event::{Content, Event, Kind, Link, Name, Point};
-use markdown_lists::place_index::PlaceIndex;
-use markdown_lists::seq::{Seq, Stack};
-use markdown_state::resolve::ResolveName;
-use markdown_state::state::State;
+use markdown_event::place_index::PlaceIndex;
+use markdown_event::resolve::ResolveName;
+use markdown_event::seq::{Seq, Stack};
+use markdown_event::state::State;
+use markdown_notes::name_index::Names;
+use markdown_notes::run_index::RunIndex;
+use markdown_notes::sequence_index::SequenceIndex;
+use markdown_notes::title_index::TitleIndex;
 use std::alloc::{AllocError, Global};
 use std::marker::Model;
 use std::mem;
@@ -369,14 +369,18 @@ impl<'a> Tokenizer<'a> {
         self.open(name)
     }
 
-    /// Appends an Enter of linked content at the place, the first of a chain.
+    /// Appends an Enter of linked content at the place, the first of a chain. Of the link only the content counts: it names no event before or after.
     #[tactic(auto, unfolding(crate::specs::Operations::applied))]
     pub fn enter_link(&mut self, name: Name, link: Link) -> Result<(), AllocError>
-        requires { link ≡ link_back None link.content }
         ensures ok { OnOk result (self.new ≡ applied (EnterLink name link.content) self.old) }
         ensures err { OnErr result (IsTrue self.new.failed) }
     {
-        let event = self.enter_here(name, Some(link));
+        let first = Link {
+            previous: None,
+            next: None,
+            content: link.content,
+        };
+        let event = self.enter_here(name, Some(first));
         self.append(event)?;
         self.open(name)
     }

@@ -181,48 +181,48 @@ pub record Stayed (log : List Edit) (i : ℕ) (es : List Event) (k : ℕ) (x : E
   pub is : x ≡ moved log event
 
 -- what holds of each event of a list
-abbrev pub Each : (Event → Type 0) → List Event → Type 0
-Each P xs = (k : ℕ) (x : Event) → slice_get xs k ≡ Some x → P x
+abbrev pub EachEvent : (Event → Type 0) → List Event → Type 0
+EachEvent P xs = (k : ℕ) (x : Event) → slice_get xs k ≡ Some x → P x
 
-Each-tail : (P : Event → Type 0) (y : Event) (xs : List Event) → Each P (y ∷ xs) → Each P xs
+Each-tail : (P : Event → Type 0) (y : Event) (xs : List Event) → EachEvent P (y ∷ xs) → EachEvent P xs
 Each-tail P y xs h = λ k. h (suc k)
 
-Each-append : (P : Event → Type 0) (xs ys : List Event) → Each P xs → Each P ys → Each P (xs ++ ys)
+Each-append : (P : Event → Type 0) (xs ys : List Event) → EachEvent P xs → EachEvent P ys → EachEvent P (xs ++ ys)
 Each-append P [] ys h g = g
 Each-append P (x ∷ xs) ys h g = λ (k : ℕ) (y : Event). each-step P x xs ys h (Each-append P xs ys (Each-tail P x xs h) g) k y
   where
-    each-step : (P : Event → Type 0) (x : Event) (xs ys : List Event) → Each P (x ∷ xs) → Each P (xs ++ ys) →
+    each-step : (P : Event → Type 0) (x : Event) (xs ys : List Event) → EachEvent P (x ∷ xs) → EachEvent P (xs ++ ys) →
         (k : ℕ) (y : Event) → slice_get (x ∷ xs ++ ys) k ≡ Some y → P y
     each-step P x xs ys h g zero y e = h zero y e
     each-step P x xs ys h g (suc k) y e = g k y e
 
-Each-nil : (P : Event → Type 0) → Each P []
+Each-nil : (P : Event → Type 0) → EachEvent P []
 Each-nil P = λ k x h. absurd (some-none x h)
 
-Each-part : (P : Event → Type 0) (b : Bool) (xs : List Event) → Each P xs → Each P (cond b xs [])
+Each-part : (P : Event → Type 0) (b : Bool) (xs : List Event) → EachEvent P xs → EachEvent P (cond b xs [])
 Each-part P true xs h = h
 Each-part P false xs h = Each-nil P
 
-Each-all : (P : Event → Type 0) (xs : List Event) → All P xs → Each P xs
+Each-all : (P : Event → Type 0) (xs : List Event) → All P xs → EachEvent P xs
 Each-all P xs h = λ k x e. subst P (get_or_from_slice_get xs k x x e) (h k x (slice_get_within xs k x e))
 
-adds-head : (e : Edit) (log : List Edit) → AddsUnlinked (e ∷ log) → Each IsUnlinked e.events
+adds-head : (e : Edit) (log : List Edit) → AddsUnlinked (e ∷ log) → EachEvent IsUnlinked e.events
 adds-head e log u = Each-all IsUnlinked e.events (u 0 e (omega arith))
 
 adds-tail : (e : Edit) (log : List Edit) → AddsUnlinked (e ∷ log) → AddsUnlinked log
 adds-tail e log u = λ k d h. u (suc k) d (omega arith)
 
-front-unlinked : (i : ℕ) (log : List Edit) → AddsUnlinked log → Each IsUnlinked (front_at i log)
+front-unlinked : (i : ℕ) (log : List Edit) → AddsUnlinked log → EachEvent IsUnlinked (front_at i log)
 front-unlinked i [] u = Each-nil IsUnlinked
 front-unlinked i (e ∷ log) u =
     Each-append IsUnlinked (front_at i log) (cond (e.at == i && e.before) e.events []) (front-unlinked i log (adds-tail e log u)) (Each-part IsUnlinked (e.at == i && e.before) e.events (adds-head e log u))
 
-back-unlinked : (i : ℕ) (log : List Edit) → AddsUnlinked log → Each IsUnlinked (back_at i log)
+back-unlinked : (i : ℕ) (log : List Edit) → AddsUnlinked log → EachEvent IsUnlinked (back_at i log)
 back-unlinked i [] u = Each-nil IsUnlinked
 back-unlinked i (e ∷ log) u =
     Each-append IsUnlinked (cond (e.at == i && not e.before) e.events []) (back_at i log) (Each-part IsUnlinked (e.at == i && not e.before) e.events (adds-head e log u)) (back-unlinked i log (adds-tail e log u))
 
-pub added-unlinked : (log : List Edit) (i : ℕ) → AddsUnlinked log → Each IsUnlinked (added_at i log)
+pub added-unlinked : (log : List Edit) (i : ℕ) → AddsUnlinked log → EachEvent IsUnlinked (added_at i log)
 added-unlinked log i u =
     Each-append IsUnlinked (front_at i log) (back_at i log) (front-unlinked i log u) (back-unlinked i log u)
 
@@ -364,7 +364,7 @@ module _ (log : List Edit) (es : List Event) (u : AddsUnlinked log) (can : CanEd
 may-unlinked : (x : Event) → IsUnlinked x → MayLink x.kind x.link
 may-unlinked x u = let P : Option Link → Type 0 = λ l. MayLink x.kind l in subst P (sym u) tt
 
-enters-each : (xs : List Event) → Each IsUnlinked xs → OnlyEnters xs
+enters-each : (xs : List Event) → EachEvent IsUnlinked xs → OnlyEnters xs
 enters-each [] h = tt
 enters-each (x ∷ xs) h = (may-unlinked x (h 0 x refl), enters-each xs (Each-tail IsUnlinked x xs h))
 
@@ -491,8 +491,8 @@ notes-gone log es n m notes gone h = λ j by k g named.
     ]
 
 -- what the code knows at place i of where the ranges end, once those of the places before j are counted
-abbrev pub EndsAt : List Edit → ℕ → ℕ → ℕ → Type 0
-EndsAt log i j d = max d i ≡ max (min (range_end log j) (2 ^ 64 - 1)) i
+abbrev pub KnowsRangeEnds : List Edit → ℕ → ℕ → ℕ → Type 0
+KnowsRangeEnds log i j d = max d i ≡ max (min (range_end log j) (2 ^ 64 - 1)) i
 
 pub found : (es : List Event) (i : ℕ) → i < length es → (e : Event) × (e ≡ get_or es i e)
 found [] i l = absurd (omega arith)
@@ -507,16 +507,16 @@ notes-alone log es n m notes ends h = λ j by k g named.
       | inr high ↦ h j by (omega arith) g named
     ]
 
-pub range-more : (log : List Edit) (i a b c d : ℕ) → i < 2 ^ 64 - 1 → EndsAt log i i a →
-    b ≡ min (removed_at i log) (2 ^ 64 - 1) → c ≡ min (i + b) (2 ^ 64 - 1) → d ≡ max a c → EndsAt log i (i + 1) d
+pub range-more : (log : List Edit) (i a b c d : ℕ) → i < 2 ^ 64 - 1 → KnowsRangeEnds log i i a →
+    b ≡ min (removed_at i log) (2 ^ 64 - 1) → c ≡ min (i + b) (2 ^ 64 - 1) → d ≡ max a c → KnowsRangeEnds log i (i + 1) d
 range-more log i a b c d l h g k m =
     let e : i + 1 ≡ suc i = omega arith in
     rw e (omega arith)
 
-pub range-next : (log : List Edit) (i d : ℕ) → EndsAt log i (i + 1) d → EndsAt log (i + 1) (i + 1) d
+pub range-next : (log : List Edit) (i d : ℕ) → KnowsRangeEnds log i (i + 1) d → KnowsRangeEnds log (i + 1) (i + 1) d
 range-next log i d h = omega arith
 
-below-range : (log : List Edit) (i d : ℕ) → i < 2 ^ 64 - 1 → EndsAt log i (i + 1) d → is_removed log i ≡ nat_lt i d
+below-range : (log : List Edit) (i d : ℕ) → i < 2 ^ 64 - 1 → KnowsRangeEnds log i (i + 1) d → is_removed log i ≡ nat_lt i d
 below-range log i d l h =
     let e : i + 1 ≡ suc i = omega arith in
     removed-test log i ∙ tested i (range_end log (suc i)) d l (h ∙ ap (λ n. max (min (range_end log n) (2 ^ 64 - 1)) i) e)
@@ -524,7 +524,7 @@ below-range log i d l h =
     tested : (i r d : ℕ) → i < 2 ^ 64 - 1 → max d i ≡ max (min r (2 ^ 64 - 1)) i → nat_lt i r ≡ nat_lt i d
     tested i r d l h = grind (arith, nat_tests)
 
-pub stays-from : (log : List Edit) (i d : ℕ) → i < 2 ^ 64 - 1 → EndsAt log i (i + 1) d → d ≤ i →
+pub stays-from : (log : List Edit) (i d : ℕ) → i < 2 ^ 64 - 1 → KnowsRangeEnds log i (i + 1) d → d ≤ i →
     is_removed log i ≡ false
 stays-from log i d l h k = below-range log i d l h ∙ le-ltb i d k
 

@@ -16,7 +16,7 @@ use Rattle.markdown_engine_events.specs.declared.util.edit_map.Entry.{Entry}
 use Rattle.markdown_engine_events.specs.EventChains.{IsFresh, IsUnlinked}
 use Rattle.markdown_engine_events.specs.Edits.{removed_at, front_at, back_at, added_at, edit_of, kept, AddsUnlinked, AreBrought, AreKept, IsRest}
 use Rattle.markdown_engine_events.proofs.EventChainLemmas.{unlinked-fresh}
-use Rattle.markdown_engine_events.proofs.EditLemmas.{back_push, removed_push, range-more, EndsAt}
+use Rattle.markdown_engine_events.proofs.EditLemmas.{back_push, removed_push, range-more, KnowsRangeEnds}
 use Rattle.markdown_engine_events.proofs.EditRules.{added-none, removed-none, added-first, added-second, removed-first, removed-second}
 
 -- What edits collect at a place is what those at the place collect.
@@ -478,8 +478,8 @@ module _ (log : List Edit) (i p : ℕ) (es : List Edit) (left : IsRest i log (dr
   pub rest-place : (q : ℕ) → IsRest (i + 1) (drop p es) (drop q es) → IsRest (i + 1) log (drop q es)
   rest-place q r = rest-trans i (i + 1) log (drop p es) (drop q es) (omega arith) left r
 
-  pub range-place : (a b : ℕ) → i < 2 ^ 64 - 1 → EndsAt log i i a →
-      b ≡ max a (min (i + min (removed_at i (drop p es)) (2 ^ 64 - 1)) (2 ^ 64 - 1)) → EndsAt log i (i + 1) b
+  pub range-place : (a b : ℕ) → i < 2 ^ 64 - 1 → KnowsRangeEnds log i i a →
+      b ≡ max a (min (i + min (removed_at i (drop p es)) (2 ^ 64 - 1)) (2 ^ 64 - 1)) → KnowsRangeEnds log i (i + 1) b
   range-place a b l h g =
       range-more log i a _ _ b l h (ap (λ n. min n (2 ^ 64 - 1)) (left.removed i (omega arith))) refl g
 

@@ -23,8 +23,8 @@ pub record AreOfTwo (log : List Edit) (begins : ℕ → Bool) (comes : ℕ → L
   pub removed : (k : ℕ) → removed_at k log ≡ (if begins k then 2 else 0)
 
 -- neither of the two events that go carries a link
-abbrev pub GoUnlinked : List Event → (ℕ → Bool) → Type 0
-GoUnlinked es begins = (k : ℕ) → begins k ≡ true → (linked_at (drop k es) 0 ≡ false) × (linked_at (drop k es) 1 ≡ false)
+abbrev pub TwoGoUnlinked : List Event → (ℕ → Bool) → Type 0
+TwoGoUnlinked es begins = (k : ℕ) → begins k ≡ true → (linked_at (drop k es) 0 ≡ false) × (linked_at (drop k es) 1 ≡ false)
 
 linked-drop : (k j : ℕ) (es : List Event) (i : ℕ) → i ≡ j + k → linked_at es i ≡ linked_at (drop j es) k
 linked-drop k zero es i e = let same : i ≡ k = omega (arith, e) in ap (linked_at es) same
@@ -72,7 +72,7 @@ module _ (log : List Edit) (begins : ℕ → Bool) (comes : ℕ → List Event) 
   goes-second : (j : ℕ) → begins j ≡ true → is_removed log (suc j) ≡ true
   goes-second j h = let r = removed-here j true h in goes-where log (suc j) j (omega arith) (omega (arith, r))
 
-  pub goes-unlinked : (es : List Event) → GoUnlinked es begins → (j : ℕ) → is_removed log j ≡ true → linked_at es j ≡ false
+  pub goes-unlinked : (es : List Event) → TwoGoUnlinked es begins → (j : ℕ) → is_removed log j ≡ true → linked_at es j ≡ false
   goes-unlinked es h j r =
       elim (cases_Bool (begins j)) [
         | inl b ↦ linked-drop 0 j es j (omega arith) ∙ (h j b).0

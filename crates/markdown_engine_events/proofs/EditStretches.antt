@@ -10,7 +10,7 @@ use Rattle.markdown_engine_events.specs.declared.util.edit_map.Edit.{Edit}
 use Rattle.markdown_engine_events.specs.EventChains.{previous_link, link_previous, NamesNone, IsFresh}
 use Rattle.markdown_engine_events.specs.Edits.{removed_at, added_at, is_removed, moved_number, moved, edited_from, edited, IsRest}
 use Rattle.markdown_engine_events.proofs.EventChainLemmas.{fresh-unnamed}
-use Rattle.markdown_engine_events.proofs.EditLemmas.{range_end, range-next, removed-test, found, step-kept, step-gone, EndsAt}
+use Rattle.markdown_engine_events.proofs.EditLemmas.{range_end, range-next, removed-test, found, step-kept, step-gone, KnowsRangeEnds}
 use Rattle.markdown_engine_events.proofs.EditRules.{added-none, removed-none, edited_until, edited-split}
 
 pub fresh-first : (xs : List Event) → All IsFresh xs → All NamesNone xs
@@ -62,7 +62,7 @@ module _ (log rest : List Edit) (es : List Event) (n m d : ℕ) (le : n ≤ m) (
       let high = before.1 in
       rw e (omega arith, omega arith)
 
-  pub range-stretch : m < 2 ^ 64 → EndsAt log n n d → EndsAt log m m d
+  pub range-stretch : m < 2 ^ 64 → KnowsRangeEnds log n n d → KnowsRangeEnds log m m d
   range-stretch g h =
       let e : n + (m - n) ≡ m = omega arith in
       let bounds = range-quiet (m - n) (omega arith) in
@@ -70,7 +70,7 @@ module _ (log rest : List Edit) (es : List Event) (n m d : ℕ) (le : n ≤ m) (
       let high = bounds.1 in
       omega (arith, ap (range_end log) e)
 
-  quiet-stays : m < 2 ^ 64 → EndsAt log n n d → d ≤ n → (j : ℕ) → n ≤ j → j < m → is_removed log j ≡ false
+  quiet-stays : m < 2 ^ 64 → KnowsRangeEnds log n n d → d ≤ n → (j : ℕ) → n ≤ j → j < m → is_removed log j ≡ false
   quiet-stays g h f j l k =
       let e : n + (j - n) ≡ j = omega arith in
       let bounds = range-quiet (j - n) (omega arith) in
@@ -90,7 +90,7 @@ module _ (log rest : List Edit) (es : List Event) (n m d : ℕ) (le : n ≤ m) (
 -- The same of events that name none before them.
 
 module _ (log rest : List Edit) (es : List Event) (n m d : ℕ) (le : n ≤ m) (within : m ≤ length es) (left_over : IsRest n log rest) (ahead : All (λ e. m ≤ e.at) rest) (plain : All NamesNone (take (m - n) (drop n es))) where
-  events-stretch : m < 2 ^ 64 → EndsAt log n n d → (n < m → d ≤ n) → (done put : List Event) →
+  events-stretch : m < 2 ^ 64 → KnowsRangeEnds log n n d → (n < m → d ≤ n) → (done put : List Event) →
       done ++ edited_from log n (drop n es) ≡ edited log es → put ≡ done ++ take (m - n) (drop n es) →
       put ++ edited_from log m (drop m es) ≡ edited log es
   events-stretch g h f done put k s =
@@ -109,11 +109,11 @@ none-more xs ys es n m l h =
     h ∙ ap (λ k. xs ++ take k (drop n es)) none ∙ append-nil xs
 
 module _ (log rest : List Edit) (es : List Event) (i m d : ℕ) (le : i < m) (within : m ≤ length es) (left_over : IsRest (i + 1) log rest) (ahead : All (λ e. m ≤ e.at) rest) where
-  pub range-behind : m < 2 ^ 64 → EndsAt log i (i + 1) d → EndsAt log m m d
+  pub range-behind : m < 2 ^ 64 → KnowsRangeEnds log i (i + 1) d → KnowsRangeEnds log m m d
   range-behind g h = range-stretch log rest es (i + 1) m d (omega arith) within left_over ahead g (range-next log i d h)
 
   -- all events of it go
-  pub goes-behind : EndsAt log i (i + 1) d → m ≤ d → (j : ℕ) → i ≤ j → j < m → is_removed log j ≡ true
+  pub goes-behind : KnowsRangeEnds log i (i + 1) d → m ≤ d → (j : ℕ) → i ≤ j → j < m → is_removed log j ≡ true
   goes-behind h f j l k =
       let e : i + 1 + (j - i) ≡ suc j = omega arith in
       let bounds = range-quiet log rest es (i + 1) m d (omega arith) within left_over ahead (j - i) (omega arith) in
@@ -121,7 +121,7 @@ module _ (log rest : List Edit) (es : List Event) (i m d : ℕ) (le : i < m) (wi
       let past : j < range_end log (suc j) = omega (arith, ap (range_end log) e) in
       removed-test log j ∙ lt-ltb j (range_end log (suc j)) past
 
-  pub events-gone : EndsAt log i (i + 1) d → m ≤ d → (done put : List Event) →
+  pub events-gone : KnowsRangeEnds log i (i + 1) d → m ≤ d → (done put : List Event) →
       done ++ edited_from log i (drop i es) ≡ edited log es → put ≡ done ++ added_at i log →
       put ++ edited_from log m (drop m es) ≡ edited log es
   events-gone h f done put k s =
@@ -149,7 +149,7 @@ module _ (log rest : List Edit) (es : List Event) (i m d : ℕ) (le : i < m) (wi
   plain-behind : All NamesNone (take (m - (i + 1)) (drop (i + 1) es))
   plain-behind = λ k x l. plain-both (suc k) x (omega arith)
 
-  pub events-first : m < 2 ^ 64 → EndsAt log i (i + 1) d → d ≤ i → is_removed log i ≡ false →
+  pub events-first : m < 2 ^ 64 → KnowsRangeEnds log i (i + 1) d → d ≤ i → is_removed log i ≡ false →
       (done put more : List Event) → done ++ edited_from log i (drop i es) ≡ edited log es →
       put ≡ done ++ added_at i log → more ≡ put ++ take (m - i) (drop i es) →
       more ++ edited_from log m (drop m es) ≡ edited log es

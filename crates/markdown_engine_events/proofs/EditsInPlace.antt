@@ -15,11 +15,11 @@ use Rattle.markdown_engine_events.specs.declared.util.edit_map.Edit.{Edit}
 use Rattle.markdown_engine_events.specs.declared.util.edit_map.Entry.{Entry}
 use Rattle.markdown_engine_events.specs.EventChains.{NamesNone, previous_of, with_previous, bares, OnlyEnters, IsFresh, IsUnlinked, IsLinked, IsNoted}
 use Rattle.markdown_engine_events.proofs.EventChainLemmas.{fresh-unnamed, fresh-of, unlinked-fresh}
-use Rattle.markdown_engine_events.proofs.EditLemmas.{added-zero, added-more, added-unlinked, some-none, Each}
+use Rattle.markdown_engine_events.proofs.EditLemmas.{added-zero, added-more, added-unlinked, some-none, EachEvent}
 use Rattle.markdown_engine_events.specs.Edits.{edit_of, kept, removed_at, added_at, removed_by, is_removed, moved, edited_from, edited, grown, StandApart, AreGrowing, AddsUnlinked, IsRest, added_up_to, removed_before, moved_number}
 use Rattle.markdown_engine_events.proofs.EditRules.{nil-from, stays-where, goes-where, added-none, removed-none, added-first, added-second, edited_until, edited-split}
 use Rattle.markdown_engine_events.proofs.EditOrder.{one-comes, at-place, at-other, entry, kept-read, next-from}
-use Rattle.markdown_lists.proofs.PastedParts.{take-take-le, part-same, pasted-front, pasted-back, pasted-past}
+use Rattle.markdown_event.proofs.PastedParts.{take-take-le, part-same, pasted-front, pasted-back, pasted-past}
 use Rattle.markdown_engine_events.proofs.EventViewLemmas.{bares-same, enters-each, noted, noted-extended}
 use Rattle.markdown_engine_events.proofs.EditStretches.{first-moved, until-plain, until-gone}
 
@@ -374,7 +374,7 @@ module _ (cs : List Event) (E : List Entry) (i : ℕ) (some : 0 < i) (within : i
 
 -- What a list is that edits are applied in.
 
-all-fresh : (xs : List Event) → Each IsUnlinked xs → All IsFresh xs
+all-fresh : (xs : List Event) → EachEvent IsUnlinked xs → All IsFresh xs
 all-fresh xs h = λ k d l. unlinked-fresh (get_or xs k d) (h k (get_or xs k d) (slice_get-get_or xs k d l))
 
 fresh-cond : (b : Bool) (e : Event) → IsFresh e → All IsFresh (cond b [] (e ∷ []))

@@ -1,5 +1,5 @@
 -- What a change of the kept events does to the events that contracts see, and that their links stay filled in.
-use Rattle.markdown_lists.proofs.PastedParts.{take-take-le}
+use Rattle.markdown_event.proofs.PastedParts.{take-take-le}
 use Rattle.std.proofs.Common.{◌≡◌, ℕ, zero, suc, ◌+◌, ◌-◌, ◌<◌, ◌≤◌, Option, Some, None, List, [], ◌∷◌, ◌++◌, length, take, drop, get_or, Bool, true, false, refl, append_assoc, sym, ap, subst, ◌∙◌, arith}
 use Rattle.std.proofs.lemmas.Bool.{both_ways}
 use Rattle.std.proofs.lemmas.List.{take_at, same_from_push, length_push, append-nil, length-take, get_or-take, get_or-drop, get_or_append_left, get_or_push}
@@ -7,15 +7,15 @@ use Rattle.std.proofs.lemmas.List.Elements.{All-append, All-drop, All-push, All-
 use Rattle.std.specs.List.{All}
 use Rattle.markdown_event.specs.declared.event.Link.{Link}
 use Rattle.markdown_event.specs.declared.event.Event.{Event}
-use Rattle.markdown_engine_events.specs.EventChains.{with_next, with_previous, bare, bares, previous_of, chained, changed_at, previous_at, linked_at, EndsChain, IsLinked, IsFresh, IsAlone, IsFilled, IsNoted, OnlyEnters, MayLink, link_previous, next_link}
+use Rattle.markdown_engine_events.specs.EventChains.{with_next, with_previous, bare, bares, previous_of, chained, changed_at, previous_at, linked_at, EndsChain, IsLinked, IsFresh, IsAlone, IsChainedList, IsNoted, OnlyEnters, MayLink, link_previous, next_link}
 use Rattle.markdown_engine_events.proofs.EventChainLemmas.{length-changed_at, changed_at-append, length-bares, bares-append, bares-next, bares-previous, get-bares, chained-fresh, chained-push, chained-end, chained-link, IsLinked-prefix}
 use Rattle.markdown_engine_events.proofs.EventChainLemmas.{some-none, IsLinked-push, OnlyEnters-part, bare-fresh, fresh-of, chained-ends, fresh-unnamed, ends-before, last-earlier, IsLinked-connect, previous_of-bare, within-linked, changed_at-twice}
 
 -- the kept events at their view
-pub filled-at : (xs vs : List Event) → bares xs ≡ vs → IsFilled xs → xs ≡ chained vs
+pub filled-at : (xs vs : List Event) → bares xs ≡ vs → IsChainedList xs → xs ≡ chained vs
 filled-at xs vs v f = f.filled ∙ ap chained v
 
-filled-from : (ys vs : List Event) → bares ys ≡ vs → ys ≡ chained vs → IsLinked vs → IsFilled ys
+filled-from : (ys vs : List Event) → bares ys ≡ vs → ys ≡ chained vs → IsLinked vs → IsChainedList ys
 filled-from ys vs v h w = record { filled = h ∙ ap chained (sym v); linked = subst IsLinked (sym v) w }
 
 pub view-one : (xs vs ys : List Event) (e : Event) → bares xs ≡ vs → bare e ≡ e → ys ≡ xs ++ e ∷ [] →
@@ -29,14 +29,14 @@ pub view-push : (xs vs ys : List Event) (e : Event) → bares xs ≡ vs → IsFr
     bares ys ≡ vs ++ e ∷ []
 view-push xs vs ys e v f h = view-one xs vs ys e v (bare-fresh e f) h
 
-pub kept-plain : (xs vs ys : List Event) (e : Event) → bares xs ≡ vs → IsFilled xs → bare e ≡ e → previous_of e ≡ None →
-    IsLinked (vs ++ e ∷ []) → ys ≡ xs ++ e ∷ [] → IsFilled ys
+pub kept-plain : (xs vs ys : List Event) (e : Event) → bares xs ≡ vs → IsChainedList xs → bare e ≡ e → previous_of e ≡ None →
+    IsLinked (vs ++ e ∷ []) → ys ≡ xs ++ e ∷ [] → IsChainedList ys
 kept-plain xs vs ys e v k b n w h =
     let made : xs ++ e ∷ [] ≡ chained (vs ++ e ∷ []) = ap (λ x. x ++ e ∷ []) (filled-at xs vs v k) ∙ ap (λ x. chained vs ++ x ∷ []) (sym b) ∙ sym (chained-fresh 0 vs e n) in
     filled-from ys (vs ++ e ∷ []) (view-one xs vs ys e v b h) (h ∙ made) w
 
-pub kept-push : (xs vs ys : List Event) (e : Event) → bares xs ≡ vs → IsFilled xs → IsFresh e → ys ≡ xs ++ e ∷ [] →
-    IsFilled ys
+pub kept-push : (xs vs ys : List Event) (e : Event) → bares xs ≡ vs → IsChainedList xs → IsFresh e → ys ≡ xs ++ e ∷ [] →
+    IsChainedList ys
 kept-push xs vs ys e v k f h =
     kept-plain xs vs ys e v k (bare-fresh e f) (fresh-unnamed e f) (IsLinked-push vs e (subst IsLinked v k.linked) f) h
 
@@ -46,9 +46,9 @@ pub view-named : (xs vs ys zs : List Event) (e : Event) (p : ℕ) (k : Option �
     ys ≡ xs ++ e ∷ [] → zs ≡ changed_at (with_next k) p ys → bares zs ≡ vs ++ e ∷ []
 view-named xs vs ys zs e p k v b h g = ap bares g ∙ bares-next k p ys ∙ view-one xs vs ys e v b h
 
-pub kept-named : (xs vs ys zs : List Event) (e : Event) (p m : ℕ) → bares xs ≡ vs → IsFilled xs → bare e ≡ e →
+pub kept-named : (xs vs ys zs : List Event) (e : Event) (p m : ℕ) → bares xs ≡ vs → IsChainedList xs → bare e ≡ e →
     previous_of e ≡ Some p → IsLinked (vs ++ e ∷ []) → m ≡ length xs → ys ≡ xs ++ e ∷ [] →
-    zs ≡ changed_at (with_next (Some m)) p ys → IsFilled zs
+    zs ≡ changed_at (with_next (Some m)) p ys → IsChainedList zs
 kept-named xs vs ys zs e p m v k b n w s h g =
     let less : p < length vs = last-earlier vs e p w n in
     let size : length xs ≡ length vs = sym (length-bares xs) ∙ ap length v in
@@ -79,21 +79,21 @@ pub view-popped : (xs vs ys : List Event) (e : Event) → bares xs ≡ vs → xs
     bares ys ≡ take (length vs - 1) vs
 view-popped xs vs ys e v h = view-front xs vs ys e v h
 
-split-linked : (xs ys : List Event) (e : Event) → IsFilled xs → xs ≡ ys ++ e ∷ [] → IsLinked (bares ys ++ bare e ∷ [])
+split-linked : (xs ys : List Event) (e : Event) → IsChainedList xs → xs ≡ ys ++ e ∷ [] → IsLinked (bares ys ++ bare e ∷ [])
 split-linked xs ys e k h = subst IsLinked (ap bares h ∙ bares-append ys (e ∷ [])) k.linked
 
-split-filled : (xs ys : List Event) (e : Event) → IsFilled xs → xs ≡ ys ++ e ∷ [] →
+split-filled : (xs ys : List Event) (e : Event) → IsChainedList xs → xs ≡ ys ++ e ∷ [] →
     ys ++ e ∷ [] ≡ chained (bares ys ++ bare e ∷ [])
 split-filled xs ys e k h = sym h ∙ k.filled ∙ ap chained (ap bares h ∙ bares-append ys (e ∷ []))
 
-pub kept-popped : (xs ys : List Event) (e : Event) → IsFilled xs → xs ≡ ys ++ e ∷ [] → previous_of e ≡ None →
-    IsFilled ys
+pub kept-popped : (xs ys : List Event) (e : Event) → IsChainedList xs → xs ≡ ys ++ e ∷ [] → previous_of e ≡ None →
+    IsChainedList ys
 kept-popped xs ys e k h n =
     let none : previous_of (bare e) ≡ None = previous_of-bare e ∙ n in
     let made : ys ++ e ∷ [] ≡ chained (bares ys) ++ bare (bare e) ∷ [] = split-filled xs ys e k h ∙ chained-fresh 0 (bares ys) (bare e) none in
     record { filled = (same_from_push ys (chained (bares ys)) e (bare (bare e)) made).0; linked = IsLinked-prefix (bares ys) (bare e ∷ []) (split-linked xs ys e k h) }
 
-module _ (xs ys : List Event) (e : Event) (p : ℕ) (k : IsFilled xs) (h : xs ≡ ys ++ e ∷ []) (n : previous_of e ≡ Some p) where
+module _ (xs ys : List Event) (e : Event) (p : ℕ) (k : IsChainedList xs) (h : xs ≡ ys ++ e ∷ []) (n : previous_of e ≡ Some p) where
   named : previous_of (bare e) ≡ Some p
   named = previous_of-bare e ∙ n
 
@@ -111,7 +111,7 @@ module _ (xs ys : List Event) (e : Event) (p : ℕ) (k : IsFilled xs) (h : xs �
       split-filled xs ys e k h ∙ chained-push 0 p p (length (bares ys)) (bares ys) (bare e) here there less named (ends-before (bares ys) (bare e) p (split-linked xs ys e k h) named) in
       (same_from_push ys (changed_at (with_next (Some (length (bares ys)))) p (chained (bares ys))) e (bare (bare e)) made).0
 
-  pub kept-dropped : (zs : List Event) → zs ≡ changed_at (with_next None) p ys → IsFilled zs
+  pub kept-dropped : (zs : List Event) → zs ≡ changed_at (with_next None) p ys → IsChainedList zs
   kept-dropped zs g =
       let here : p ≡ 0 + p = omega arith in
       let clear : zs ≡ chained (bares ys) = g ∙ ap (changed_at (with_next None) p) kept-front ∙ changed_at-twice (Some (length (bares ys))) None p (chained (bares ys)) ∙ chained-end 0 p p (bares ys) here (ends-before (bares ys) (bare e) p (split-linked xs ys e k h) named) in
@@ -124,9 +124,9 @@ pub view-linked : (xs vs ys zs : List Event) (p i : ℕ) → bares xs ≡ vs →
 view-linked xs vs ys zs p i v h g =
     ap bares g ∙ bares-previous (Some p) i ys ∙ ap (changed_at (with_previous (Some p)) i) (ap bares h ∙ bares-next (Some i) p xs ∙ v)
 
-pub kept-linked : (xs vs ys zs : List Event) (p i : ℕ) → bares xs ≡ vs → IsFilled xs → p < i → linked_at vs p ≡ true →
+pub kept-linked : (xs vs ys zs : List Event) (p i : ℕ) → bares xs ≡ vs → IsChainedList xs → p < i → linked_at vs p ≡ true →
     linked_at vs i ≡ true → previous_at vs i ≡ None → EndsChain p vs → ys ≡ changed_at (with_next (Some i)) p xs →
-    zs ≡ changed_at (with_previous (Some p)) i ys → IsFilled zs
+    zs ≡ changed_at (with_previous (Some p)) i ys → IsChainedList zs
 kept-linked xs vs ys zs p i v k l a b n u h g =
     let here : p ≡ 0 + p = omega arith in
     let there : i ≡ 0 + i = omega arith in
@@ -199,7 +199,7 @@ module _ (xs vs ws : List Event) (n m k : ℕ) (v : bares xs ≡ vs) (w : ws ≡
       let P : List Event → Type 0 = λ ys. AreBare ys in
       once ∙ sym (bares-same (take k (drop n ws)) (subst P once u)) ∙ sym (bares-part n k ws) ∙ ap (λ y. take k (drop n (bares y))) w ∙ ap (λ y. take k (drop n y)) v ∙ ap (λ j. take j (drop n vs)) (sym size)
 
-  pub part-fresh : IsFilled xs → All (λ e. link_previous e.link ≡ None) (take k (take m (drop n ws))) →
+  pub part-fresh : IsChainedList xs → All (λ e. link_previous e.link ≡ None) (take k (take m (drop n ws))) →
       All IsFresh (take k (take m (drop n ws)))
   part-fresh f none j d h =
       let ys : List Event = take k (take m (drop n ws)) in
@@ -208,7 +208,7 @@ module _ (xs vs ws : List Event) (n m k : ℕ) (v : bares xs ≡ vs) (w : ws ≡
       let part : OnlyEnters ys = subst P (sym part-seen) (OnlyEnters-part n (length ys) vs whole) in
       fresh-of (get_or ys j d).kind (get_or ys j d).link (enters-each ys part j d h) (none j d h) (u j d h)
 
-  pub part-ends : IsFilled xs → (j : ℕ) → n ≤ j → j < n + length (take k (take m (drop n ws))) → EndsChain j vs
+  pub part-ends : IsChainedList xs → (j : ℕ) → n ≤ j → j < n + length (take k (take m (drop n ws))) → EndsChain j vs
   part-ends f j low high =
       let ys : List Event = take k (take m (drop n ws)) in
       let lt : j - n < k = omega (arith, size, low, high) in
@@ -223,24 +223,24 @@ pub view-extended : (xs vs ys zs : List Event) → bares xs ≡ vs → All IsFre
 view-extended xs vs ys zs v u h =
     ap bares h ∙ bares-append xs ys ∙ ap (λ x. bares xs ++ x) (bares-same ys (λ k d l. ap (λ (e : Event). e.link) (bare-fresh (get_or ys k d) (u k d l)))) ∙ ap (λ x. x ++ ys) v
 
-extended : (xs ys : List Event) → IsFilled xs → All IsFresh ys → IsFilled (xs ++ ys)
-extended xs [] k u = subst IsFilled (sym (append-nil xs)) k
+extended : (xs ys : List Event) → IsChainedList xs → All IsFresh ys → IsChainedList (xs ++ ys)
+extended xs [] k u = subst IsChainedList (sym (append-nil xs)) k
 extended xs (y ∷ ys) k u =
-    let one : IsFilled (xs ++ y ∷ []) = kept-push xs (bares xs) (xs ++ y ∷ []) y refl k (u 0 y (omega arith)) refl in
-    subst IsFilled (append_assoc xs (y ∷ []) ys) (extended (xs ++ y ∷ []) ys one (λ j d l. u (suc j) d (omega arith)))
+    let one : IsChainedList (xs ++ y ∷ []) = kept-push xs (bares xs) (xs ++ y ∷ []) y refl k (u 0 y (omega arith)) refl in
+    subst IsChainedList (append_assoc xs (y ∷ []) ys) (extended (xs ++ y ∷ []) ys one (λ j d l. u (suc j) d (omega arith)))
 
-pub kept-extended : (xs ys zs : List Event) → IsFilled xs → All IsFresh ys → zs ≡ xs ++ ys → IsFilled zs
-kept-extended xs ys zs k u h = subst IsFilled (sym h) (extended xs ys k u)
+pub kept-extended : (xs ys zs : List Event) → IsChainedList xs → All IsFresh ys → zs ≡ xs ++ ys → IsChainedList zs
+kept-extended xs ys zs k u h = subst IsChainedList (sym h) (extended xs ys k u)
 
 -- where no chain is noted
 
-pub filled-of : (b : Bool) (xs : List Event) → IsNoted b xs → IsFilled xs
+pub filled-of : (b : Bool) (xs : List Event) → IsNoted b xs → IsChainedList xs
 filled-of b xs n = record { filled = n.filled; linked = n.linked }
 
-pub noted : (b : Bool) (xs : List Event) → IsFilled xs → (b ≡ false → All IsAlone xs) → IsNoted b xs
+pub noted : (b : Bool) (xs : List Event) → IsChainedList xs → (b ≡ false → All IsAlone xs) → IsNoted b xs
 noted b xs f a = record { filled = f.filled; linked = f.linked; alone = a }
 
-pub noted-chain : (xs : List Event) → IsFilled xs → IsNoted true xs
+pub noted-chain : (xs : List Event) → IsChainedList xs → IsNoted true xs
 noted-chain xs f = noted true xs f (λ off. absurd (both_ways true off refl))
 
 pub part-alone : (b : Bool) (xs ws : List Event) (n m : ℕ) → ws ≡ xs → IsNoted b xs → b ≡ false → All IsAlone (take m (drop n ws))

@@ -7,3 +7,4 @@ pub mod WalkedEdits
 pub mod EditOrder
 pub mod EditStretches
 pub mod EditsInPlace
+pub mod PackedLemmas

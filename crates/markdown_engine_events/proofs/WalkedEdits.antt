@@ -6,7 +6,7 @@ use Rattle.std.specs.List.{All}
 use Rattle.markdown_event.specs.declared.event.Event.{Event}
 use Rattle.markdown_engine_events.specs.declared.util.edit_map.Edit.{Edit}
 use Rattle.markdown_engine_events.specs.Edits.{removed_at, front_at, back_at, CanEdit}
-use Rattle.markdown_engine_events.proofs.EditSteps.{AreOfTwo, GoUnlinked, goes-unlinked}
+use Rattle.markdown_engine_events.proofs.EditSteps.{AreOfTwo, TwoGoUnlinked, goes-unlinked}
 
 -- the edit of event n and the next, or none
 abbrev edit_if : Bool → ℕ → List Event → List Edit
@@ -134,7 +134,7 @@ module _ {S : Type 0} (next : S → Event → S) (begins : S → List Event → 
   within n m s (e ∷ es) h =
       within-by n m (comes s (e ∷ es)) (walked (suc n) (next s e) es) (begins s (e ∷ es)) (omega arith) (within (suc n) m (next s e) es (omega arith))
 
-  pub can-walk : (s : S) (es : List Event) → GoUnlinked es (begins_at s es) → CanEdit (walked 0 s es) es
+  pub can-walk : (s : S) (es : List Event) → TwoGoUnlinked es (begins_at s es) → CanEdit (walked 0 s es) es
   can-walk s es h = record {
     places = within 0 (length es) s es (omega arith);
     unlinked = goes-unlinked (walked 0 s es) (begins_at s es) (comes_at s es) (of-two s es) es h;

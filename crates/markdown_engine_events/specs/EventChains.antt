@@ -120,7 +120,7 @@ abbrev pub IsUnlinked : Event → Type 0
 IsUnlinked e = e.link ≡ None
 
 -- the events as a list keeps them: the events after are those that follow from the events before
-pub record IsFilled (items : List Event) : Type 0 where
+pub record IsChainedList (items : List Event) : Type 0 where
   pub filled : items ≡ chained (bares items)
   pub linked : IsLinked (bares items)
 

@@ -2,3 +2,5 @@
 -- What has to be believed: what public contracts and the theorem cite.
 pub mod EventChains
 pub mod Edits
+pub mod Packed
+pub mod Stored

@@ -1,13 +1,14 @@
-// The events so far.
-ghost use Rattle.std.specs.Prelude.{◌≡◌, ◌<◌, ◌≤◌, ◌+◌, ◌-◌, ◌++◌, ◌∷◌, ◌==◌, [], ℕ, length, take, drop, OnOk, OnErr, IfOk, IsFalse, IsTrue, Some, None, true, slice_index_or};
+//! The events so far.
+ghost use Rattle.std.specs.Prelude.{◌≡◌, ◌<◌, ◌≤◌, ◌+◌, ◌-◌, ◌^◌, ◌++◌, ◌∷◌, ◌==◌, [], ℕ, length, take, drop, OnOk, OnErr, IfOk, IsFalse, IsTrue, Some, None, true, slice_index_or};
 ghost use Rattle.markdown_engine_events.specs.EventChains.{bare, chained, changed_at, next_link, with_next, with_previous, link_previous, previous_at, linked_at, EndsChain, IsAlone, IsLinked, IsFresh};
 ghost use Rattle.markdown_engine_events.specs.Edits.{edited, edits_of, AreBrought};
 ghost use Rattle.std.specs.List.{All};
 
+use crate::event_list::{EventList, EventSlice};
 use crate::util::edit_map::Kept;
-use crate::util::edits_in_place::{apply, fit_of};
-use markdown_event::event::{Event, Link};
-use markdown_lists::seq::Seq;
+use crate::util::edits_in_place::fit_of;
+use crate::whole::with_next;
+use markdown_event::event::Event;
 use std::alloc::{AllocError, Global};
 use std::marker::Model;
 
@@ -16,10 +17,10 @@ use std::marker::Model;
 /// Contracts see each event with the event before it on its chain, and without the event after: that
 /// one follows, since it is the event that names this one as the event before. So the list that
 /// contracts see only grows and shrinks at its end, and no event in it changes when a later one is
-/// linked to it. `as_slice` and `into_vec` give the events with both numbers.
+/// linked to it. `as_slice` and `into_list` give the events with both numbers.
 #[derive(Drop)]
 pub struct Events {
-    items: Seq<Event>,
+    items: EventList,
     // whether two of the events may be linked; where not, no event need be looked at for its link
     chains: bool,
 }
@@ -46,94 +47,20 @@ fn previous_of(event: &Event) -> Option<usize>
     }
 }
 
-// The link, with another event after.
-#[inline]
-fn link_on(link: Option<Link>, next: Option<usize>) -> Option<Link>
-    ensures { result ≡ next_link next link }
-{
-    let link = link?;
-    Some(Link {
-        previous: link.previous,
-        next,
-        content: link.content,
-    })
-}
-
-// The event, with another event after.
-#[inline]
-fn linked_on(event: Event, next: Option<usize>) -> Event
-    ensures { result ≡ with_next next event }
-{
-    Event {
-        kind: event.kind,
-        name: event.name,
-        point: event.point,
-        link: link_on(event.link, next),
-    }
-}
-
-// The event, with this event before.
-fn linked_back(event: Event, previous: usize) -> Event
-    ensures { result ≡ with_previous (Some previous) event }
-{
-    match event.link {
-        None => event,
-        Some(link) => Event {
-            kind: event.kind,
-            name: event.name,
-            point: event.point,
-            link: Some(Link {
-                previous: Some(previous),
-                next: link.next,
-                content: link.content,
-            }),
-        },
-    }
-}
-
-// Writes the event after into an event.
-fn set_next(items: &mut Seq<Event>, index: usize, next: Option<usize>)
-    requires { index < length items.old }
-    ensures { items.new ≡ changed_at (with_next next) index items.old }
-{
-    let event = linked_on(*items.at(index), next);
-    items.put(index, event);
-}
-
-// Writes the event before into an event.
-fn set_previous(items: &mut Seq<Event>, index: usize, previous: usize)
-    requires { index < length items.old }
-    ensures { items.new ≡ changed_at (with_previous (Some previous)) index items.old }
-{
-    let event = linked_back(*items.at(index), previous);
-    items.put(index, event);
-}
-
-// Whether a link, where there is one, names no event before it and none after it.
-#[inline]
-fn is_alone(link: &Option<Link>) -> bool
-    ensures previous { IsTrue result → link_previous link.now ≡ None }
-    ensures next { IsTrue result → next_link None link.now ≡ link.now }
-{
-    match link {
-        None => true,
-        Some(link) => link.previous.is_none() && link.next.is_none(),
-    }
-}
-
 // How many events are looked at with no other look between.
 const FOUR: usize = 4;
 
 // How many of the four events from this index on are linked to no other, from the first.
 #[inline(always)]
-fn alone_among_four(items: &[Event], at: usize) -> usize
-    requires { at + FOUR ≤ length items.now }
+fn alone_among_four(items: &EventSlice, at: usize) -> usize
+    requires within { at + FOUR ≤ length items.now }
+    requires small { at + FOUR < 2 ^ 64 }
     ensures within { result ≤ FOUR }
     ensures previous { (i : ℕ) (e : Event) → at ≤ i → i < at + result → link_previous (slice_index_or items.now i e).link ≡ None }
     ensures next { (i : ℕ) (e : Event) → at ≤ i → i < at + result → next_link None (slice_index_or items.now i e).link ≡ (slice_index_or items.now i e).link }
 {
     for count in 0..FOUR {
-        if !is_alone(&items[at + count].link) {
+        if !items.is_alone(at + count) {
             return count;
         }
     }
@@ -142,7 +69,7 @@ fn alone_among_four(items: &[Event], at: usize) -> usize
 
 // How many events at the front are linked to no other, or up to where fewer than four are left.
 #[inline(always)]
-fn alone_fours(items: &[Event]) -> usize
+fn alone_fours(items: &EventSlice) -> usize
     ensures within { result ≤ length items.now }
     ensures previous { All (λ e. link_previous e.link ≡ None) (take result items.now) }
     ensures next { All (λ e. next_link None e.link ≡ e.link) (take result items.now) }
@@ -159,13 +86,13 @@ fn alone_fours(items: &[Event]) -> usize
 }
 
 // How many events at the front are linked to no other.
-fn alone_count(items: &[Event]) -> usize
+fn alone_count(items: &EventSlice) -> usize
     ensures within { result ≤ length items.now }
     ensures previous { All (λ e. link_previous e.link ≡ None) (take result items.now) }
     ensures next { All (λ e. next_link None e.link ≡ e.link) (take result items.now) }
 {
     let mut count = alone_fours(items);
-    while count < items.len() && is_alone(&items[count].link) {
+    while count < items.len() && items.is_alone(count) {
         count += 1;
     }
     count
@@ -173,7 +100,7 @@ fn alone_count(items: &[Event]) -> usize
 
 // How many events at the front are linked to no other: all of them where no chain is noted.
 #[inline]
-fn alone_front(items: &[Event], chains: bool) -> usize
+fn alone_front(items: &EventSlice, chains: bool) -> usize
     requires { IsFalse chains → All IsAlone items.now }
     ensures within { result ≤ length items.now }
     ensures previous { All (λ e. link_previous e.link ≡ None) (take result items.now) }
@@ -186,37 +113,13 @@ fn alone_front(items: &[Event], chains: bool) -> usize
     }
 }
 
-// How many events are added at once, at the most: what is copied is then in the nearest cache. So many events take just less than 4,096 bytes, from
-// which on the C library copies in another way.
-const AT_ONCE: usize = 46;
-
-// Adds so many events at the end, whichever they are: some of the first of those that are given, again and again.
-fn add_room(items: &mut Seq<Event>, given: &[Event], more: usize) -> Result<(), AllocError>
-    requires { more ≤ length given.now }
-    ensures stays { OnOk result (take (length items.old) items.new ≡ items.old) }
-    ensures room { OnOk result (length items.new ≡ length items.old + more) }
-    ensures err { OnErr result (items.new ≡ items.old) }
-{
-    let count = items.len();
-    let mut left = more;
-    while left > 0 {
-        let part = left.min(AT_ONCE);
-        if items.extend_from_slice(&given[..part]).is_err() {
-            items.truncate(count);
-            return Err(AllocError);
-        }
-        left -= part;
-    }
-    Ok(())
-}
-
 impl Events {
     /// No event. Takes no memory.
     pub fn new(alloc: Global) -> Events
         ensures { result ≡ [] }
     {
         Events {
-            items: Seq::new(alloc),
+            items: EventList::new(alloc),
             chains: false,
         }
     }
@@ -236,19 +139,20 @@ impl Events {
     }
 
     /// The events, lent, with both numbers of each link.
-    pub fn as_slice(&self) -> &[Event]
-        ensures events { result.now ≡ chained self.now }
+    pub fn as_slice(&self) -> EventSlice<'_>
+        ensures events { result ≡ chained self.now }
         ensures chains { IsLinked self.now }
     {
         self.items.as_slice()
     }
 
     /// An event, at an index below `len`, with both numbers of its link.
-    pub fn at(&self, index: usize) -> &Event
+    #[inline]
+    pub fn at(&self, index: usize) -> Event
         requires { index < length self.now }
-        ensures { result.now ≡ slice_index_or (chained self.now) index result.now }
+        ensures { result ≡ slice_index_or (chained self.now) index result }
     {
-        &self.as_slice()[index]
+        self.as_slice().at(index)
     }
 
     /// An event, at an index below `len`, without the event after on its chain.
@@ -259,12 +163,22 @@ impl Events {
         ensures bare { bare result ≡ result }
         ensures chains { IsLinked self.now }
     {
-        linked_on(*self.items.at(index), None)
+        with_next(self.items.at(index), None)
+    }
+
+    /// Makes room for so many more events, so that adding them does not move the list.
+    ///
+    /// `Err` only if memory is refused; the events are as they were in either case.
+    pub fn reserve(&mut self, more: usize) -> Result<(), AllocError>
+        ensures { self.new ≡ self.old }
+    {
+        self.items.reserve(more)
     }
 
     /// Adds an event that is linked to no other yet. Only an Enter may carry a link.
     ///
     /// `Err` only if memory is refused; the events are then as they were.
+    #[inline(always)]
     pub fn push(&mut self, event: Event) -> Result<(), AllocError>
         requires { IsFresh event }
         ensures ok { OnOk result (self.new ≡ self.old ++ event ∷ []) }
@@ -279,9 +193,15 @@ impl Events {
         ensures { IfOk result (λ events. events ≡ []) }
     {
         Ok(Events {
-            items: Seq::from_vec(Vec::with_capacity(alloc, capacity)?),
+            items: EventList::with_capacity(alloc, capacity)?,
             chains: false,
         })
+    }
+
+    // Whether two of the events may be linked. Where they may, `edit_in_place` applies nothing.
+    #[inline]
+    pub(crate) fn has_chains(&self) -> bool {
+        self.chains
     }
 
     // Applies edits in the list itself, where that can be: no event is linked to another, and the edits stand apart. The answer is whether they are
@@ -297,31 +217,33 @@ impl Events {
         if self.chains {
             return Ok(false);
         }
-        match fit_of(edits, count) {
-            Some(fit) if fit.more <= edits.comes.len() => {
-                add_room(&mut self.items, edits.comes, fit.more)?;
-                apply(&mut self.items, edits, count, fit.growing);
-                Ok(true)
-            }
-            _ => Ok(false),
+        let Some(fit) = fit_of(edits, count) else {
+            return Ok(false);
+        };
+        if fit.more > edits.comes.len() {
+            return Ok(false);
         }
+        if !self.items.edit_packed(edits, fit)? {
+            return Ok(false);
+        }
+        Ok(true)
     }
 
     // The events from `from` on that are linked to no other, up to the first that is, or up to `to`; lent.
-    pub(crate) fn alone(&self, from: usize, to: usize) -> &[Event]
+    pub(crate) fn alone(&self, from: usize, to: usize) -> EventSlice<'_>
         requires order { from ≤ to }
         requires within { to ≤ length self.now }
-        ensures here { result.now ≡ take (length result.now) (drop from self.now) }
-        ensures fresh { All IsFresh result.now }
-        ensures ends { (j : ℕ) → from ≤ j → j < from + length result.now → EndsChain j self.now }
-        ensures end { from + length result.now ≤ to }
+        ensures here { result ≡ take (length result) (drop from self.now) }
+        ensures fresh { All IsFresh result }
+        ensures ends { (j : ℕ) → from ≤ j → j < from + length result → EndsChain j self.now }
+        ensures end { from + length result ≤ to }
     {
-        let items = &self.items.as_slice()[from..to];
-        &items[..alone_front(items, self.chains)]
+        let items = self.items.slice(from, to);
+        items.front(alone_front(&items, self.chains))
     }
 
     // Adds events that are linked to no other yet. `Err` only if memory is refused; the events are then as they were.
-    pub(crate) fn extend_fresh(&mut self, items: &[Event]) -> Result<(), AllocError>
+    pub(crate) fn extend_fresh(&mut self, items: &EventSlice) -> Result<(), AllocError>
         requires { All IsFresh items.now }
         ensures ok { OnOk result (self.new ≡ self.old ++ items.now) }
         ensures err { OnErr result (self.new ≡ self.old) }
@@ -345,7 +267,7 @@ impl Events {
         let number = self.len();
         self.items.push(linked)?;
         if let Some(previous) = previous_of(&linked) {
-            set_next(&mut self.items, previous, Some(number));
+            self.items.set_next(previous, Some(number));
             self.chains = true;
         }
         Ok(())
@@ -361,8 +283,8 @@ impl Events {
         requires last { EndsChain previous self.old }
         ensures { self.new ≡ changed_at (with_previous (Some previous)) index self.old }
     {
-        set_next(&mut self.items, previous, Some(index));
-        set_previous(&mut self.items, index, previous);
+        self.items.set_next(previous, Some(index));
+        self.items.set_previous(index, previous);
         self.chains = true;
     }
 
@@ -374,7 +296,7 @@ impl Events {
             return;
         };
         if let Some(previous) = previous_of(&event) {
-            set_next(&mut self.items, previous, None);
+            self.items.set_next(previous, None);
         }
     }
 
@@ -390,10 +312,10 @@ impl Events {
     }
 
     /// The events, with both numbers of each link.
-    pub fn into_vec(self) -> Vec<Event>
-        ensures { result.items ≡ chained self }
+    pub fn into_list(self) -> EventList
+        ensures { result ≡ chained self }
     {
         let Events { items, chains: _ } = self;
-        items.into_vec()
+        items
     }
 }

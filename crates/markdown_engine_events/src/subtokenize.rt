@@ -1,4 +1,4 @@
-// Links between events whose content is read later as one.
+//! Links between events whose content is read later as one.
 ghost use Rattle.std.specs.Prelude.{◌≡◌, ◌≤◌, ◌-◌, Some, None, true};
 ghost use Rattle.markdown_engine_events.specs.EventChains.{changed_at, with_previous, previous_at, linked_at, EndsChain};
 

@@ -1,4 +1,4 @@
-// Edits of a list of events.
+//! Edits of a list of events.
 
 pub mod edit_map;
 pub(crate) mod edits_in_place;

@@ -1,4 +1,4 @@
-// Events: what a run answers, in order, with the places at which they stand.
+//! Events: what a run answers, in order, with the places at which they stand.
 
 /// What an event is about.
 ///

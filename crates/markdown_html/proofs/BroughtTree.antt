@@ -1,21 +1,20 @@
 -- The walk over the events of a tree takes what definitions bring to the tree.
-use Rattle.std.proofs.Common.{◌≡◌, ◌∙◌, sym, ap, refl, ℕ, ◌+◌, ◌-◌, ◌<◌, ◌≤◌, add-one, add-zero, arith, Bool, true, false, ◌||◌, if◌then◌else◌, nat_le, List, [], ◌∷◌, ◌++◌, append-nil, append_assoc, get_or, length, drop, drop-cons, Option, None, Some}
+use Rattle.std.proofs.Common.{◌≡◌, ◌∙◌, sym, ap, refl, ℕ, ◌+◌, add-zero, arith, Bool, true, false, ◌||◌, if◌then◌else◌, List, [], ◌∷◌, ◌++◌, append-nil, append_assoc, Option, None, Some}
 use Rattle.std.specs.Option.{is_some}
 use Rattle.std.proofs.lemmas.Bool.Decides.{nat_tests}
-use Rattle.std.proofs.lemmas.List.{drop_all}
-use Rattle.markdown_engine_content.specs.Codes.{stop_of, document_start}
-use Rattle.markdown_engine_content.specs.Tree.{Forest, empty, leaf_then, group_then, start_of, event, event_count, events_from, events_of, next_linked}
+use Rattle.markdown_content.specs.Codes.{stop_of, document_start}
+use Rattle.markdown_content.specs.Tree.{Forest, empty, leaf_then, group_then, start_of, event, event_count, events_from, events_of, next_linked}
 use Rattle.markdown_event.specs.declared.event.Event.{Event}
 use Rattle.markdown_event.specs.declared.event.Kind.{Kind}
 use Rattle.markdown_event.specs.declared.event.Link.{Link}
 use Rattle.markdown_event.specs.declared.event.Name.{Name}
 use Rattle.markdown_event.specs.declared.event.Point.{Point}
-use Rattle.markdown_html_model.specs.Html.{Page, Parts, Written, around, innermost, joined_parts, no_parts, or_else, own_parts, reference_target, target_of, within_of, written}
+use Rattle.markdown_html_model.specs.Html.{Page, PartsSoFar, around, innermost, joined_parts, no_parts, or_else, own_parts, reference_target, target_of, within_of, written}
 use Rattle.markdown_html_model.specs.Roles.{role_of}
 use Rattle.markdown_html_model.specs.declared.role.Role.{Role}
 use Rattle.markdown_html_model.specs.declared.role.Within.{Within}
 use Rattle.markdown_html.specs.Brought.{brought, left_of, own_brought, parts_inside, target_bytes}
-use Rattle.markdown_html.specs.BroughtWalk.{Counted, count_begun, counted, counted_apart, counted_close, counted_enter, counted_step, joined_seen, nothing_seen, own_seen, seen_brought, seen_of}
+use Rattle.markdown_html.specs.BroughtWalk.{Counted, count_begun, counted, counted_apart, joined_seen, nothing_seen, own_seen, seen_brought, seen_of}
 use Rattle.markdown_html.specs.EventWalk.{is_apart}
 use Rattle.markdown_html.specs.declared.brought.Before.{Before}
 use Rattle.markdown_html.specs.declared.brought.Seen.{Seen}
@@ -54,12 +53,12 @@ is_some-or_else : (x y : Option (List ℕ)) → is_some (or_else x y) ≡ (is_so
 is_some-or_else None y = refl
 is_some-or_else (Some x) y = refl
 
-seen-joined : (x y : Parts) → seen_of (joined_parts x y) ≡ joined_seen (seen_of x) (seen_of y)
+seen-joined : (x y : PartsSoFar) → seen_of (joined_parts x y) ≡ joined_seen (seen_of x) (seen_of y)
 unfolding seen_with
 seen-joined x y = same-seen _ _ _ _ _ _ (is_some-or_else y.destination x.destination) refl refl
 
 -- of parts that something has of its own
-seen-own : (role : Role) (a b : Point) (string : List ℕ) (inside : Parts) → seen_of (own_parts role a b string inside) ≡ own_seen role a.index b.index (seen_of inside)
+seen-own : (role : Role) (a b : Point) (string : List ℕ) (inside : PartsSoFar) → seen_of (own_parts role a b string inside) ≡ own_seen role a.index b.index (seen_of inside)
 seen-own Role.Destination a b string inside = refl
 seen-own Role.TitleText a b string inside = refl
 seen-own Role.Title a b string inside = refl
@@ -78,11 +77,11 @@ shown empty = nothing_seen
 shown (leaf_then name link cs rest) = let b = stop_of document_start cs in let a = start_of cs in joined_seen (own_seen (role_of name) a.index b.index nothing_seen) (shown rest)
 shown (group_then name a b inside rest) = joined_seen (own_seen (role_of name) a.index b.index (shown inside)) (shown rest)
 
-abbrev parts_within : Page → List (List ℕ) → Within → Forest → Parts
+abbrev parts_within : Page → List (List ℕ) → Within → Forest → PartsSoFar
 parts_within p before within t = let w = written p before within t in w.parts
 
 -- siblings, of which the first has parts of its own by these
-one-shown : (role : Role) (a b : Point) (string : List ℕ) (inside others : Parts) (i r : Seen) → seen_of inside ≡ i → seen_of others ≡ r
+one-shown : (role : Role) (a b : Point) (string : List ℕ) (inside others : PartsSoFar) (i r : Seen) → seen_of inside ≡ i → seen_of others ≡ r
     → seen_of (joined_parts (own_parts role a b string inside) others) ≡ joined_seen (own_seen role a.index b.index i) r
 one-shown role a b string inside others i r e f =
     seen-joined (own_parts role a b string inside) others
@@ -125,7 +124,7 @@ by-resource : (p : Page) (d title : Option (List ℕ)) (label reference : Option
 by-resource p None title label reference = refl
 by-resource p (Some d) title label reference = refl
 
-own-brought : (p : Page) (role : Role) (parts : Parts) → own_brought p role parts ≡ seen_brought p role (seen_of parts)
+own-brought : (p : Page) (role : Role) (parts : PartsSoFar) → own_brought p role parts ≡ seen_brought p role (seen_of parts)
 own-brought p Role.Link parts = by-resource p parts.destination parts.title parts.label parts.reference
 own-brought p Role.Image parts = by-resource p parts.destination parts.title parts.label parts.reference
 own-brought p role parts = refl
@@ -247,10 +246,9 @@ count-tree p (group_then name a b inside t) n previous s rest =
     ∙ ap (λ x. counted p x rest) (inside-more s own (shown t) taken (brought p t) (own_brought p role (parts_inside p inside) + (brought p inside + brought p t)) (omega (arith, same)))
 
 -- all events
-pub all_counted : (p : Page) (limit : ℕ) (t : Forest) (events : List Event) (s : Counted) (i : ℕ) → length events ≤ i
-    → counted p s (drop i events) ≡ counted p (count_begun (Some limit)) events → events ≡ events_of t → Counted.left s ≡ left_of (Some limit) (brought p t)
-all_counted p limit t events s i h so_far is =
-    let none : drop i events ≡ [] = drop_all i events h in
+pub all_counted : (p : Page) (limit : ℕ) (t : Forest) (events : List Event) (s : Counted) (left : List Event) → left ≡ []
+    → counted p s left ≡ counted p (count_begun (Some limit)) events → events ≡ events_of t → Counted.left s ≡ left_of (Some limit) (brought p t)
+all_counted p limit t events s left none so_far is =
     ap (λ x. Counted.left x)
     (ap (counted p s) (sym none)
     ∙ so_far

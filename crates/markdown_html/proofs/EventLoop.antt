@@ -2,7 +2,7 @@
 use Rattle.std.proofs.Common.{◌≡◌, ◌∙◌, sym, ap, refl, subst, ℕ, List, [], ◌∷◌, length, Option, Bool, true, false, if◌then◌else◌, Bor, Result, Ok, Err, MatchResult}
 use Rattle.std.specs.Str.{is_utf8, IsUtf8}
 use Rattle.std.proofs.lemmas.Str.{is_utf8-from_IsUtf8, IsUtf8-from_is_utf8}
-use Rattle.markdown_engine_content.specs.Tree.{Forest, events_from}
+use Rattle.markdown_content.specs.Tree.{Forest, events_from}
 use Rattle.markdown_event.specs.declared.event.Event.{Event}
 use Rattle.markdown_html_model.specs.Html.{Defined, Page, plain_text, text_page}
 use Rattle.markdown_html_model.specs.declared.options.HtmlOptions.{HtmlOptions}

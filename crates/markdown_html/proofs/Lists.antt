@@ -6,15 +6,15 @@ use Rattle.markdown_event.specs.declared.event.Event.{Event}
 use Rattle.markdown_event.specs.declared.event.Kind.{Kind}
 use Rattle.markdown_event.specs.declared.event.Kind.TheVariants.{Enter, Exit}
 use Rattle.markdown_event.specs.declared.event.Point.{Point}
-use Rattle.markdown_partial.specs.TrimmedData.{IsStretch}
+use Rattle.markdown_passes.specs.TrimmedData.{IsStretch}
 use Rattle.markdown_html.specs.EventWalk.{exit_first, left_behind}
-use Rattle.markdown_run_leaves.specs.InnermostEvents.{Span, innermost, has_nothing_inside, span_of, IsInOrder}
+use Rattle.markdown_innermost.specs.InnermostEvents.{Span, innermost, has_nothing_inside, span_of, IsSpanInOrder}
 
 -- the places of an Enter and of the Exit right behind it
-first_in_order : (bytes : List ℕ) (e x : Event) (es : List Event) → e.kind ≡ Enter → x.kind ≡ Exit → All (IsInOrder bytes) (innermost (e ∷ x ∷ es)) → IsStretch bytes e.point x.point
+first_in_order : (bytes : List ℕ) (e x : Event) (es : List Event) → e.kind ≡ Enter → x.kind ≡ Exit → All (IsSpanInOrder bytes) (innermost (e ∷ x ∷ es)) → IsStretch bytes e.point x.point
 first_in_order bytes e x es h g places =
     let t : has_nothing_inside e.kind x.kind ≡ true = ap (λ k. has_nothing_inside k x.kind) h ∙ ap (λ k. has_nothing_inside Enter k) g in
-    All-head (IsInOrder bytes) (span_of e x) (innermost (x ∷ es)) (subst (λ b. All (IsInOrder bytes) ((if b then span_of e x ∷ [] else []) ++ innermost (x ∷ es))) t places)
+    All-head (IsSpanInOrder bytes) (span_of e x) (innermost (x ∷ es)) (subst (λ b. All (IsSpanInOrder bytes) ((if b then span_of e x ∷ [] else []) ++ innermost (x ∷ es))) t places)
 
 exit_of : (k : Kind) (p b : Point) → (elim k [ Enter ↦ None | Exit ↦ Some p ]) ≡ Some b → (k ≡ Exit) × (p ≡ b)
 exit_of Enter p b e = cc
@@ -23,23 +23,23 @@ exit_of Exit p b e = (refl, some_same p b e)
     some_same : (p b : Point) → Some p ≡ Some b → p ≡ b
     some_same p b e = cc
 
-pub ahead_in_order : (bytes : List ℕ) (e : Event) (rest : List Event) (b : Point) → e.kind ≡ Enter → exit_first rest ≡ Some b → All (IsInOrder bytes) (innermost (e ∷ rest)) → IsStretch bytes e.point b
+pub ahead_in_order : (bytes : List ℕ) (e : Event) (rest : List Event) (b : Point) → e.kind ≡ Enter → exit_first rest ≡ Some b → All (IsSpanInOrder bytes) (innermost (e ∷ rest)) → IsStretch bytes e.point b
 ahead_in_order bytes e [] b h f places = cc
 ahead_in_order bytes e (x ∷ es) b h f places =
     let is = exit_of x.kind x.point b f in
     subst (λ p. IsStretch bytes e.point p) is.1 (first_in_order bytes e x es h is.0 places)
 
-without_first : (bytes : List ℕ) (b : Bool) (s : Span) (more : List Span) → All (IsInOrder bytes) ((if b then s ∷ [] else []) ++ more) → All (IsInOrder bytes) more
-without_first bytes true s more places = All-tail (IsInOrder bytes) s more places
+without_first : (bytes : List ℕ) (b : Bool) (s : Span) (more : List Span) → All (IsSpanInOrder bytes) ((if b then s ∷ [] else []) ++ more) → All (IsSpanInOrder bytes) more
+without_first bytes true s more places = All-tail (IsSpanInOrder bytes) s more places
 without_first bytes false s more places = places
 
 -- the places of the events behind the first
-pub later_in_order : (bytes : List ℕ) (e : Event) (es : List Event) → All (IsInOrder bytes) (innermost (e ∷ es)) → All (IsInOrder bytes) (innermost es)
-later_in_order bytes e [] places = All-nil (IsInOrder bytes)
+pub later_in_order : (bytes : List ℕ) (e : Event) (es : List Event) → All (IsSpanInOrder bytes) (innermost (e ∷ es)) → All (IsSpanInOrder bytes) (innermost es)
+later_in_order bytes e [] places = All-nil (IsSpanInOrder bytes)
 later_in_order bytes e (x ∷ es) places = without_first bytes (has_nothing_inside e.kind x.kind) (span_of e x) (innermost (x ∷ es)) places
 
 -- the places of an Enter, and of an Exit right behind it
-pub first_within : (bytes : List ℕ) (e : Event) (rest : List Event) → e.kind ≡ Enter → All (IsInOrder bytes) (innermost (e ∷ rest)) → IfSome (exit_first rest) (λ to. IsStretch bytes e.point to)
+pub first_within : (bytes : List ℕ) (e : Event) (rest : List Event) → e.kind ≡ Enter → All (IsSpanInOrder bytes) (innermost (e ∷ rest)) → IfSome (exit_first rest) (λ to. IsStretch bytes e.point to)
 first_within bytes e rest h places = first-by (exit_first rest) refl
   where
     first-by : (o : Option Point) → exit_first rest ≡ o → IfSome o (λ to. IsStretch bytes e.point to)
@@ -47,10 +47,11 @@ first_within bytes e rest h places = first-by (exit_first rest) refl
     first-by (Some b) f = ahead_in_order bytes e rest b h f places
 
 -- the places of what is left
-pub behind_in_order : (bytes : List ℕ) (rest behind : List Event) (skips : Bool) → All (IsInOrder bytes) (innermost rest) → behind ≡ left_behind rest skips → All (IsInOrder bytes) (innermost behind)
-behind_in_order bytes rest behind skips places is = subst (λ es. All (IsInOrder bytes) (innermost es)) (sym is) (left-in-order rest skips places)
+pub behind_in_order : (bytes : List ℕ) (rest behind : List Event) (skips : Bool) → All (IsSpanInOrder bytes) (innermost rest) → behind ≡ left_behind rest skips → All (IsSpanInOrder bytes) (innermost behind)
+behind_in_order bytes rest behind skips places is = subst (λ es. All (IsSpanInOrder bytes) (innermost es)) (sym is) (left-in-order rest skips places)
   where
-    left-in-order : (rest : List Event) (skips : Bool) → All (IsInOrder bytes) (innermost rest) → All (IsInOrder bytes) (innermost (left_behind rest skips))
+    left-in-order : (rest : List Event) (skips : Bool) → All (IsSpanInOrder bytes) (innermost rest) →
+        All (IsSpanInOrder bytes) (innermost (left_behind rest skips))
     left-in-order [] skips h = h
     left-in-order (x ∷ rest) true h = later_in_order bytes x rest h
     left-in-order (x ∷ rest) false h = h

@@ -2,9 +2,9 @@
 use Rattle.std.proofs.Common.{◌≡◌, ◌∙◌, sym, ap, refl, subst, ℕ, ◌+◌, ◌-◌, ◌≤◌, Bool, true, false, ◌&&◌, ◌==◌, nat_lt, if◌then◌else◌, List, ◌++◌, length, append-nil, replicate}
 use Rattle.std.specs.List.{slice_range}
 use Rattle.markdown_event.specs.declared.event.Point.{Point}
-use Rattle.markdown_engine_content.specs.Slices.{byte_from, codes_between, virtual_spaces, position_bytes, spaces_before, spaces_after}
-use Rattle.markdown_engine_content.proofs.VirtualSpaces.{after-is, byte_from-in, byte_from-order}
-use Rattle.markdown_partial.specs.TrimmedData.{IsStretch}
+use Rattle.markdown_content.specs.Slices.{byte_from, codes_between, virtual_spaces, position_bytes, spaces_before, spaces_after}
+use Rattle.markdown_content.proofs.VirtualSpaces.{after-is, byte_from-in, byte_from-order}
+use Rattle.markdown_passes.specs.TrimmedData.{IsStretch}
 use Rattle.markdown_html_model.specs.Html.{text_between}
 
 none-before : (bytes : List ℕ) (a b : Point) → a.vs ≡ 0 → spaces_before bytes a b ≡ 0

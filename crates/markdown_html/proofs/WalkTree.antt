@@ -2,18 +2,18 @@
 use Rattle.std.proofs.Common.{◌≡◌, ◌∙◌, sym, ap, refl, ℕ, ◌+◌, Bool, true, false, if◌then◌else◌, ◌&&◌, ◌||◌, List, [], ◌∷◌, ◌++◌, append-nil, append_assoc, length, take, drop, Option, None, Some}
 use Rattle.std.specs.Option.{is_some}
 use Rattle.std.proofs.Math.Seq.{drop-append_seam, take-append_seam}
-use Rattle.markdown_engine_content.specs.Codes.{stop_of, document_start}
-use Rattle.markdown_engine_content.specs.Tree.{Forest, empty, leaf_then, group_then, start_of, event, event_count, events_from, next_linked}
+use Rattle.markdown_content.specs.Codes.{stop_of, document_start}
+use Rattle.markdown_content.specs.Tree.{Forest, empty, leaf_then, group_then, start_of, event, event_count, events_from, next_linked}
 use Rattle.markdown_event.specs.declared.event.Event.{Event}
 use Rattle.markdown_event.specs.declared.event.Kind.{Kind}
 use Rattle.markdown_event.specs.declared.event.Link.{Link}
 use Rattle.markdown_event.specs.declared.event.Name.{Name}
 use Rattle.markdown_event.specs.declared.event.Point.{Point}
-use Rattle.markdown_html_model.specs.Html.{Page, Parts, Written, no_parts, joined_parts, or_else, own_calls, own_parts, string_of, text_between, leaf_html, within_of, opening, closing, group_html, written, innermost, around, beside, nothing}
+use Rattle.markdown_html_model.specs.Html.{Page, PartsSoFar, Written, no_parts, joined_parts, or_else, own_calls, own_parts, string_of, text_between, leaf_html, within_of, opening, closing, group_html, written, innermost, around, beside, nothing}
 use Rattle.markdown_html_model.specs.Roles.{role_of}
 use Rattle.markdown_html_model.specs.declared.role.Role.{Role}
 use Rattle.markdown_html_model.specs.declared.role.Within.{Within}
-use Rattle.markdown_html.specs.EventWalk.{State, Open, open_of, opened_by, has_parts, entered, filled, closed, closed_apart, closed_around, closed_out, exited, stepped, walked, beginning, keeps_inside, is_light, is_apart, is_leaf, is_bare, filled_before, left_behind}
+use Rattle.markdown_html.specs.EventWalk.{State, OpenPart, open_of, opened_by, has_parts, entered, filled, closed, closed_apart, closed_around, closed_out, exited, stepped, walked, beginning, keeps_inside, is_light, is_apart, is_leaf, is_bare, filled_before, left_behind}
 
 -- the state after this is written
 abbrev pub after : State → Written → State
@@ -27,7 +27,7 @@ pub or_else-assoc : {A : Type 0} (x y z : Option A) → or_else x (or_else y z) 
 or_else-assoc None y z = refl
 or_else-assoc (Some x) y z = refl
 
-parts_with : Option (List ℕ) → Option (List ℕ) → Option (ℕ × ℕ) → Option (ℕ × ℕ) → Parts
+parts_with : Option (List ℕ) → Option (List ℕ) → Option (ℕ × ℕ) → Option (ℕ × ℕ) → PartsSoFar
 parts_with destination title label reference = record { destination = destination; title = title; label = label; reference = reference }
 
 same-parts : (a b c d : Option (List ℕ)) (e f i j : Option (ℕ × ℕ)) → a ≡ b → c ≡ d → e ≡ f → i ≡ j → parts_with a c e i ≡ parts_with b d f j
@@ -35,7 +35,7 @@ same-parts a b c d e f i j g h k l =
     ap (λ x. parts_with x c e i) g ∙ ap (λ x. parts_with b x e i) h ∙ ap (λ x. parts_with b d x i) k ∙ ap (λ x. parts_with b d f x) l
 
 -- parts read one after the other
-joined-assoc : (x y z : Parts) → joined_parts (joined_parts x y) z ≡ joined_parts x (joined_parts y z)
+joined-assoc : (x y z : PartsSoFar) → joined_parts (joined_parts x y) z ≡ joined_parts x (joined_parts y z)
 unfolding parts_with
 joined-assoc x y z =
     same-parts _ _ _ _ _ _ _ _
@@ -44,14 +44,14 @@ joined-assoc x y z =
     (or_else-assoc z.label y.label x.label)
     (or_else-assoc z.reference y.reference x.reference)
 
-pub joined_first : (x : Parts) → joined_parts no_parts x ≡ x
+pub joined_first : (x : PartsSoFar) → joined_parts no_parts x ≡ x
 unfolding parts_with
 joined_first x = same-parts _ _ _ _ _ _ _ _ (or_else-none x.destination) (or_else-none x.title) (or_else-none x.label) (or_else-none x.reference)
 
-state_with : State → List ℕ → Parts → List (List ℕ) → State
+state_with : State → List ℕ → PartsSoFar → List (List ℕ) → State
 state_with s out parts calls = record s { out = out; parts = parts; calls = calls }
 
-same-state : (s : State) (a b : List ℕ) (c d : Parts) (e f : List (List ℕ)) → a ≡ b → c ≡ d → e ≡ f → state_with s a c e ≡ state_with s b d f
+same-state : (s : State) (a b : List ℕ) (c d : PartsSoFar) (e f : List (List ℕ)) → a ≡ b → c ≡ d → e ≡ f → state_with s a c e ≡ state_with s b d f
 same-state s a b c d e f g h k = ap (λ x. state_with s x c e) g ∙ ap (λ x. state_with s b x e) h ∙ ap (λ x. state_with s b d x) k
 
 pub after-nothing : (s : State) → s ≡ after s nothing
@@ -64,7 +64,7 @@ after-after s v w = same-state s _ _ _ _ _ _ (append_assoc s.out v.html w.html) 
 
 -- What is done at an Exit.
 
-kept : (p : Page) (before : List (List ℕ)) (within : Within) (role : Role) (a b : Point) (inside : List ℕ) (parts : Parts) → keeps_inside role ≡ true → group_html p before within role a b inside parts ≡ opening within role ++ inside ++ closing within role
+kept : (p : Page) (before : List (List ℕ)) (within : Within) (role : Role) (a b : Point) (inside : List ℕ) (parts : PartsSoFar) → keeps_inside role ≡ true → group_html p before within role a b inside parts ≡ opening within role ++ inside ++ closing within role
 kept p before within Role.Check a b inside parts e = cc
 kept p before within Role.Code a b inside parts e = cc
 kept p before within Role.Math a b inside parts e = cc
@@ -122,7 +122,7 @@ light-not-apart Role.Resource e = cc
 light-not-apart role e = refl
 
 -- what gives all that was found inside it
-own-same : (role : Role) (a b : Point) (string : List ℕ) (parts : Parts) → is_apart role ≡ false → own_parts role a b string parts ≡ parts
+own-same : (role : Role) (a b : Point) (string : List ℕ) (parts : PartsSoFar) → is_apart role ≡ false → own_parts role a b string parts ≡ parts
 own-same Role.Link a b string parts e = cc
 own-same Role.Image a b string parts e = cc
 own-same Role.Footnote a b string parts e = cc
@@ -134,20 +134,21 @@ own-same Role.Title a b string parts e = cc
 own-same Role.Resource a b string parts e = cc
 own-same role a b string parts e = refl
 
-no-calls : (p : Page) (role : Role) (parts : Parts) → is_apart role ≡ false → own_calls p role parts ≡ []
+no-calls : (p : Page) (role : Role) (parts : PartsSoFar) → is_apart role ≡ false → own_calls p role parts ≡ []
 no-calls p Role.Footnote parts e = cc
 no-calls p role parts e = refl
 
-closed_out-kept : (p : Page) (before : List (List ℕ)) (o : Open) (role : Role) (b : Point) (out : List ℕ) (parts : Parts) → keeps_inside role ≡ true → closed_out p before o role b out parts ≡ out ++ closing o.within role
+closed_out-kept : (p : Page) (before : List (List ℕ)) (o : OpenPart) (role : Role) (b : Point) (out : List ℕ) (parts : PartsSoFar) → keeps_inside role ≡ true → closed_out p before o role b out parts ≡ out ++ closing o.within role
 unfolding closed_out
 closed_out-kept p before o role b out parts k = ap (λ x. elim x [ true ↦ out ++ closing o.within role | false ↦ take o.start out ++ group_html p before o.within role o.point b (drop o.start out) parts ]) k
 
-closed_out-replaced : (p : Page) (before : List (List ℕ)) (o : Open) (role : Role) (b : Point) (out : List ℕ) (parts : Parts) → keeps_inside role ≡ false
+closed_out-replaced : (p : Page) (before : List (List ℕ)) (o : OpenPart) (role : Role) (b : Point) (out : List ℕ) (parts : PartsSoFar) →
+    keeps_inside role ≡ false
     → closed_out p before o role b out parts ≡ take o.start out ++ group_html p before o.within role o.point b (drop o.start out) parts
 unfolding closed_out
 closed_out-replaced p before o role b out parts k = ap (λ x. elim x [ true ↦ out ++ closing o.within role | false ↦ take o.start out ++ group_html p before o.within role o.point b (drop o.start out) parts ]) k
 
-out-closed : (p : Page) (before : List (List ℕ)) (s : State) (role : Role) (a b : Point) (k : Bool) (w : List ℕ) (parts : Parts) → is_light role ≡ false → (keeps : Bool) → keeps_inside role ≡ keeps
+out-closed : (p : Page) (before : List (List ℕ)) (s : State) (role : Role) (a b : Point) (k : Bool) (w : List ℕ) (parts : PartsSoFar) → is_light role ≡ false → (keeps : Bool) → keeps_inside role ≡ keeps
     → closed_out p before (open_of s a k) role b (s.out ++ w) parts ≡ s.out ++ group_html p before s.within role a b w parts
 out-closed p before s role a b k w parts heavy true e =
     closed_out-kept p before (open_of s a k) role b _ parts e
@@ -192,12 +193,12 @@ exited-heavy : (p : Page) (s : State) (role : Role) (b : Point) → is_light rol
 unfolding exited
 exited-heavy p s role b l = ap (λ x. if x then record s { out = s.out ++ closing s.within role } else closed p s s.opened role b) l
 
-abbrev closed-by : Page → State → Open → List Open → Role → Point → Bool → State
+abbrev closed-by : Page → State → OpenPart → List OpenPart → Role → Point → Bool → State
 closed-by p s o opened role b x =
     let left = record s { opened = opened } in
     if x then closed_apart p left o role b else closed_around p left o role b
 
-closed-is : (p : Page) (s : State) (o : Open) (opened : List Open) (role : Role) (b : Point) (x : Bool) → is_apart role ≡ x → closed p s (o ∷ opened) role b ≡ closed-by p s o opened role b x
+closed-is : (p : Page) (s : State) (o : OpenPart) (opened : List OpenPart) (role : Role) (b : Point) (x : Bool) → is_apart role ≡ x → closed p s (o ∷ opened) role b ≡ closed-by p s o opened role b x
 closed-is p s o opened role b x is = ap (closed-by p s o opened role b) is
 
 light-around : (p : Page) (s : State) (role : Role) (a b : Point) (w : Written) → is_light role ≡ true → exited p (after (entered s role a) w) role b ≡ after s (around p s.calls s.within role a b w)
@@ -220,7 +221,7 @@ no-parts None None (Some x) r e = cc
 no-parts None None None (Some x) e = cc
 no-parts None None None None e = refl
 
-nothing-found : (x : Parts) → has_parts x ≡ false → x ≡ no_parts
+nothing-found : (x : PartsSoFar) → has_parts x ≡ false → x ≡ no_parts
 unfolding parts_with
 nothing-found x e = no-parts x.destination x.title x.label x.reference e
 
@@ -254,7 +255,7 @@ apart-around p s role a b w false l is found =
     (ap (λ q. own_calls p role q ++ before) inside ∙ sym (append_assoc (own_calls p role w.parts) w.calls s.calls))
 
 -- parts of what gives all that was found inside it are not read
-unread-parts : (p : Page) (before : List (List ℕ)) (within : Within) (role : Role) (a b : Point) (inside : List ℕ) (x y : Parts) → is_apart role ≡ false → group_html p before within role a b inside x ≡ group_html p before within role a b inside y
+unread-parts : (p : Page) (before : List (List ℕ)) (within : Within) (role : Role) (a b : Point) (inside : List ℕ) (x y : PartsSoFar) → is_apart role ≡ false → group_html p before within role a b inside x ≡ group_html p before within role a b inside y
 unread-parts p before within Role.Link a b inside x y e = cc
 unread-parts p before within Role.Image a b inside x y e = cc
 unread-parts p before within Role.Footnote a b inside x y e = cc
@@ -419,10 +420,11 @@ leaf-step p s name a b link r =
     ∙ close-around p s role a b (record { html = leaf_html p (within_of s.within role) role (text_between p.bytes a b); parts = no_parts; calls = [] })
 
 -- the walk over the events of these trees writes them, whatever comes after
-abbrev pub Walks : Page → Forest → Type 0
-Walks p t = (n : ℕ) (previous : Option ℕ) (s : State) (rest : List Event) → walked p s (events_from n previous t ++ rest) ≡ walked p (after s (written p s.calls s.within t)) rest
+abbrev pub WritesTree : Page → Forest → Type 0
+WritesTree p t = (n : ℕ) (previous : Option ℕ) (s : State) (rest : List Event) → walked p s (events_from n previous t ++ rest) ≡ walked p (after s (written p s.calls s.within t)) rest
 
-leaf-walk : (p : Page) (name : Name) (a b : Point) (link : Option Link) (t : Forest) → Walks p t → (n : ℕ) (previous : Option ℕ) (s : State) (rest : List Event)
+leaf-walk : (p : Page) (name : Name) (a b : Point) (link : Option Link) (t : Forest) → WritesTree p t →
+    (n : ℕ) (previous : Option ℕ) (s : State) (rest : List Event)
     → (let w = innermost p s.calls s.within (role_of name) a b in
     walked p s (enter_event name a link ∷ event Kind.Exit name b ∷ events_from n previous t ++ rest) ≡ walked p (after s (beside w (written p (w.calls ++ s.calls) s.within t))) rest)
 leaf-walk p name a b link t ih n previous s rest =
@@ -432,7 +434,7 @@ leaf-walk p name a b link t ih n previous s rest =
     ∙ ap (λ x. walked p x rest) (after-after s w (written p (w.calls ++ s.calls) s.within t))
 
 -- a group around something: its Enter is not filled
-group-walk : (p : Page) (name : Name) (a b : Point) (inside t : Forest) → Walks p inside → Walks p t → (n : ℕ) (previous : Option ℕ) (s : State) (rest : List Event)
+group-walk : (p : Page) (name : Name) (a b : Point) (inside t : Forest) → WritesTree p inside → WritesTree p t → (n : ℕ) (previous : Option ℕ) (s : State) (rest : List Event)
     → ((more : List Event) → stepped p s (enter_event name a None) (events_from (n + 1) None inside ++ more) ≡ entered s (role_of name) a)
     → (let w = around p s.calls s.within (role_of name) a b (written p s.calls (within_of s.within (role_of name)) inside) in
     written p s.calls s.within (group_then name a b inside t) ≡ beside w (written p (w.calls ++ s.calls) s.within t))
@@ -454,7 +456,7 @@ group-walk p name a b inside t inner later n previous s rest not_filled whole =
     ∙ ap (λ x. walked p x rest) (after-after s done (written p (done.calls ++ s.calls) s.within t))
     ∙ ap (λ x. walked p (after s x) rest) (sym whole)
 
-group-cases : (p : Page) (name : Name) (a b : Point) (inside t : Forest) → Walks p inside → Walks p t → Walks p (group_then name a b inside t)
+group-cases : (p : Page) (name : Name) (a b : Point) (inside t : Forest) → WritesTree p inside → WritesTree p t → WritesTree p (group_then name a b inside t)
 group-cases p name a b empty t inner later n previous s rest = leaf-walk p name a b None t later (n + 2 + 0) previous s rest
 group-cases p name a b (leaf_then x None cs more) t inner later n previous s rest =
     group-walk p name a b (leaf_then x None cs more) t inner later n previous s rest (λ es. refl) refl
@@ -463,7 +465,7 @@ group-cases p name a b (leaf_then x (Some content) cs more) t inner later n prev
 group-cases p name a b (group_then x c d more others) t inner later n previous s rest =
     group-walk p name a b (group_then x c d more others) t inner later n previous s rest (λ es. refl) refl
 
-pub walk-tree : (p : Page) (t : Forest) → Walks p t
+pub walk-tree : (p : Page) (t : Forest) → WritesTree p t
 walk-tree p empty n previous s rest = ap (λ x. walked p x rest) (after-nothing s)
 walk-tree p (leaf_then name None cs t) n previous s rest = leaf-walk p name (start_of cs) (stop_of document_start cs) None t (walk-tree p t) (n + 2) previous s rest
 walk-tree p (leaf_then name (Some content) cs t) n previous s rest =

@@ -4,7 +4,7 @@ use Rattle.std.specs.Option.{is_some}
 use Rattle.markdown_event.specs.declared.event.Event.{Event}
 use Rattle.markdown_event.specs.declared.event.Kind.{Kind}
 use Rattle.markdown_event.specs.declared.event.Kind.TheVariants.{Enter, Exit}
-use Rattle.markdown_html_model.specs.Html.{Page, Parts, or_else, reference_target}
+use Rattle.markdown_html_model.specs.Html.{Page, PartsSoFar, or_else, reference_target}
 use Rattle.markdown_html_model.specs.Roles.{role_of}
 use Rattle.markdown_html_model.specs.declared.role.Role.{Role}
 use Rattle.markdown_html.specs.Brought.{left_of, target_bytes}
@@ -14,7 +14,7 @@ use Rattle.markdown_html.specs.declared.brought.Count.{Count}
 use Rattle.markdown_html.specs.declared.brought.Seen.{Seen}
 
 -- parts, without the text of a destination and of a title
-abbrev pub seen_of : Parts → Seen
+abbrev pub seen_of : PartsSoFar → Seen
 seen_of parts = record { has_destination = is_some parts.destination; label = parts.label; reference = parts.reference }
 
 abbrev pub nothing_seen : Seen

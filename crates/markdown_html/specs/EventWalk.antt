@@ -4,13 +4,13 @@ use Rattle.std.specs.Option.{is_some}
 use Rattle.markdown_event.specs.declared.event.Event.{Event}
 use Rattle.markdown_event.specs.declared.event.Kind.TheVariants.{Enter, Exit}
 use Rattle.markdown_event.specs.declared.event.Point.{Point}
-use Rattle.markdown_html_model.specs.Html.{Page, Parts, no_parts, joined_parts, own_calls, own_parts, string_of, text_between, leaf_html, within_of, opening, closing, group_html, span_html, span_text, link_html, image_html, check_html, target_of}
+use Rattle.markdown_html_model.specs.Html.{Page, PartsSoFar, no_parts, joined_parts, own_calls, own_parts, string_of, text_between, leaf_html, within_of, opening, closing, group_html, span_html, span_text, link_html, image_html, check_html, target_of}
 use Rattle.markdown_html_model.specs.Roles.{role_of}
 use Rattle.markdown_html_model.specs.declared.role.Role.{Role}
 use Rattle.markdown_html_model.specs.declared.role.Within.{Within}
 
 -- what is kept of something that is open: where its inside begins in what is written, and in the document; where it stands; and whether parts before it were set apart
-pub record Open : Type 0 where
+pub record OpenPart : Type 0 where
   pub start : ℕ
   pub point : Point
   pub within : Within
@@ -20,13 +20,13 @@ pub record Open : Type 0 where
 pub record State : Type 0 where
   pub out : List ℕ
   pub within : Within
-  pub parts : Parts
-  pub opened : List Open
-  pub before : List Parts
+  pub parts : PartsSoFar
+  pub opened : List OpenPart
+  pub before : List PartsSoFar
   pub calls : List (List ℕ)
 
 -- what is written anew around what is inside, whatever calls stand before it
-abbrev pub rewritten : Page → Within → Role → List ℕ → Parts → List ℕ
+abbrev pub rewritten : Page → Within → Role → List ℕ → PartsSoFar → List ℕ
 rewritten p within Role.Code inside parts = span_html within (codes "<code>") (span_text inside)
 rewritten p within Role.Math inside parts = span_html within (codes "<code class=\"language-math math-inline\">") (span_text inside)
 rewritten p within Role.Link inside parts = link_html p within (target_of p parts) inside
@@ -98,10 +98,10 @@ is_bare Role.Silent = true
 is_bare role = is_leaf role
 
 -- something was found
-abbrev pub has_parts : Parts → Bool
+abbrev pub has_parts : PartsSoFar → Bool
 has_parts parts = is_some parts.destination || is_some parts.title || is_some parts.label || is_some parts.reference
 
-abbrev pub open_of : State → Point → Bool → Open
+abbrev pub open_of : State → Point → Bool → OpenPart
 open_of s point kept = record { start = length s.out; point = point; within = s.within; kept = kept }
 
 -- something of which an entry is kept
@@ -126,7 +126,7 @@ is_text_alone Within.InText Role.Link = true
 is_text_alone Within.InText Role.Image = true
 is_text_alone within role = false
 
-unfoldable pub closed_out : Page → List (List ℕ) → Open → Role → Point → List ℕ → Parts → List ℕ
+unfoldable pub closed_out : Page → List (List ℕ) → OpenPart → Role → Point → List ℕ → PartsSoFar → List ℕ
 closed_out p before o role to out parts =
     elim (keeps_inside role) [
       | true ↦ out ++ closing o.within role
@@ -134,16 +134,16 @@ closed_out p before o role to out parts =
     ]
 
 -- the parts before something, where they were set apart
-abbrev pub before_parts : Bool → List Parts → Parts
+abbrev pub before_parts : Bool → List PartsSoFar → PartsSoFar
 before_parts true (parts ∷ before) = parts
 before_parts kept before = no_parts
 
-abbrev pub before_left : Bool → List Parts → List Parts
+abbrev pub before_left : Bool → List PartsSoFar → List PartsSoFar
 before_left true (parts ∷ before) = before
 before_left kept before = before
 
 -- the end of something that has parts of its own
-unfoldable pub closed_apart : Page → State → Open → Role → Point → State
+unfoldable pub closed_apart : Page → State → OpenPart → Role → Point → State
 closed_apart p s o role to = record s {
   out = closed_out p s.calls o role to s.out s.parts;
   within = o.within;
@@ -153,10 +153,10 @@ closed_apart p s o role to = record s {
 }
 
 -- the end of something around what is part of its own surroundings
-abbrev pub closed_around : Page → State → Open → Role → Point → State
+abbrev pub closed_around : Page → State → OpenPart → Role → Point → State
 closed_around p s o role to = record s { out = closed_out p s.calls o role to s.out s.parts; within = o.within }
 
-abbrev pub closed : Page → State → List Open → Role → Point → State
+abbrev pub closed : Page → State → List OpenPart → Role → Point → State
 closed p s [] role to = s
 closed p s (o ∷ opened) role to =
     let left = record s { opened = opened } in

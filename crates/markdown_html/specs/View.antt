@@ -1,10 +1,10 @@
 -- What the types of the writer are, as the definitions see them.
 use Rattle.std.specs.Prelude.{List, map, reverse}
 use Rattle.std.specs.Option.{option_map}
-use Rattle.markdown_engine_content.specs.declared.parser.ParseState.{ParseState}
-use Rattle.markdown_html_model.specs.Html.{Defined, Page, Parts, Target}
+use Rattle.markdown_content.specs.declared.parser.ParseState.{ParseState}
+use Rattle.markdown_html_model.specs.Html.{Defined, Page, PartsSoFar, Target}
 use Rattle.markdown_html_model.specs.declared.options.HtmlOptions.{HtmlOptions}
-use Rattle.markdown_html.specs.EventWalk.{Open, State}
+use Rattle.markdown_html.specs.EventWalk.{OpenPart, State}
 use Rattle.markdown_html.specs.declared.addresses.Given.{Given}
 use Rattle.markdown_html.specs.declared.found.Found.{Found}
 use Rattle.markdown_html.specs.declared.targets.Goal.{Goal}
@@ -23,13 +23,13 @@ page_from s definitions options = record {
 abbrev pub page_of : Given → Page
 page_of g = record { bytes = g.bytes.now; footnotes_on = g.footnotes_on; definitions = g.definitions.now; options = g.options }
 
-abbrev pub parts_of : Found → Parts
+abbrev pub parts_of : Found → PartsSoFar
 parts_of f = record { destination = option_map (λ v. v.items) f.destination; title = option_map (λ v. v.items) f.title; label = f.label; reference = f.reference }
 
 abbrev pub target_view : Goal → Target
 target_view g = record { destination = g.destination.now; title = option_map (λ t. t.now) g.title }
 
-abbrev pub open_view : Entry → Open
+abbrev pub open_view : Entry → OpenPart
 open_view e = record { start = e.start; point = e.point; within = e.within; kept = e.kept }
 
 -- of what is open, and of the parts that were set apart, the innermost comes first

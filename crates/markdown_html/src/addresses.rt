@@ -1,16 +1,16 @@
-// Tags, text and attributes.
+//! Tags, text and attributes.
 #![tactic(auto)]
 
 ghost use Rattle.std.specs.Prelude.{◌≡◌, ◌++◌, OnOk, option_map};
-ghost use Rattle.markdown_html_text.specs.Schemes.{link_schemes, image_schemes};
+ghost use Rattle.markdown_html_model.specs.Schemes.{link_schemes, image_schemes};
 ghost use Rattle.markdown_html_model.specs.Html.{address, tag, text_html, title_attribute};
 ghost use Rattle.markdown_html.specs.View.{page_of};
 
 use crate::targets::Targets;
+use markdown_html_model::escape::{push_address, push_escaped};
 use markdown_html_model::options::HtmlOptions;
 use markdown_html_model::role::Within;
-use markdown_html_text::escape::{push_address, push_escaped};
-use markdown_html_text::scheme::{is_safe_image, is_safe_link};
+use markdown_html_model::scheme::{is_safe_image, is_safe_link};
 use std::alloc::AllocError;
 
 // What stands beside the events.

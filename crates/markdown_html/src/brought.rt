@@ -1,8 +1,8 @@
-// How much definitions bring to a text.
+//! How much definitions bring to a text.
 #![tactic(auto)]
 
 ghost use Rattle.std.specs.Prelude.{◌≡◌, IfOk, OnOk};
-ghost use Rattle.markdown_engine_content.specs.Tree.{Forest, events_of};
+ghost use Rattle.markdown_content.specs.Tree.{Forest, events_of};
 ghost use Rattle.markdown_html.specs.Brought.{brought, left_of, target_bytes};
 ghost use Rattle.markdown_html.specs.BroughtWalk.{brought_where, count_of, counted_close, counted_enter, counted_step, joined_seen, nothing_seen, own_seen, seen_brought};
 ghost use Rattle.markdown_html.specs.View.{page_from, page_of, target_view};
@@ -11,7 +11,8 @@ use crate::addresses::Given;
 use crate::references::reference_target;
 use crate::targets::{Goal, Targets};
 use crate::writer::is_apart;
-use markdown_engine_content::parser::ParseState;
+use markdown_content::parser::ParseState;
+use markdown_engine_events::event_list::EventSlice;
 use markdown_event::event::{Event, Kind};
 use markdown_html_model::options::HtmlOptions;
 use markdown_html_model::role::{Role, role_of};
@@ -195,7 +196,7 @@ impl Count {
 pub fn left_of_limit(
     alloc: Global,
     parse_state: &ParseState,
-    events: &[Event],
+    events: &EventSlice,
     definitions: &Targets,
     options: HtmlOptions,
     limit: usize,
@@ -213,8 +214,8 @@ pub fn left_of_limit(
         opened: Vec::new(alloc),
         left: Some(limit),
     };
-    for event in events {
-        count.step(alloc, &given, event)?;
+    for event in events.iter() {
+        count.step(alloc, &given, &event)?;
     }
     Ok(count.left)
 }

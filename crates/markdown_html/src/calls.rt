@@ -1,8 +1,8 @@
-// Footnote calls: each a link to its footnote, with the footnote's number as its text.
+//! Footnote calls: each a link to its footnote, with the footnote's number as its text.
 #![tactic(auto)]
 
 ghost use Rattle.std.specs.Prelude.{◌≡◌, ◌++◌, codes, decimal, OnOk};
-ghost use Rattle.markdown_html_text.specs.Escaped.{addressed, escaped};
+ghost use Rattle.markdown_html_model.specs.Escaped.{addressed, escaped};
 ghost use Rattle.markdown_html_model.specs.Html.{call_html, call_identifier, call_link, call_suffix};
 ghost use Rattle.markdown_html.specs.View.{page_of};
 
@@ -10,8 +10,8 @@ use crate::addresses::{Given, push_tag};
 use crate::footnotes::{Footnote, FootnoteCalls};
 use crate::references::call_identifier;
 use itoa::Buffer;
+use markdown_html_model::escape::{push_address, push_escaped};
 use markdown_html_model::role::Within;
-use markdown_html_text::escape::{push_address, push_escaped};
 use std::alloc::{AllocError, Global};
 
 // Behind the id of a footnote's second call and of later ones.

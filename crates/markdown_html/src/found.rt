@@ -1,4 +1,4 @@
-// What has been read of a link or an image so far.
+//! What has been read of a link or an image so far.
 #![tactic(auto)]
 
 ghost use Rattle.std.specs.Prelude.{◌≡◌, IfOk, option_map};
@@ -7,8 +7,8 @@ ghost use Rattle.markdown_html.specs.EventWalk.{has_parts};
 ghost use Rattle.markdown_html.specs.View.{parts_of};
 
 use markdown_event::event::Point;
+use markdown_html_model::resolve::push_resolved;
 use markdown_html_model::role::Role;
-use markdown_html_text::resolve::push_resolved;
 use std::alloc::{AllocError, Global};
 
 // What has been read of a link or an image so far.

@@ -1,9 +1,9 @@
-// What holds others: what is written around its inside, or in place of it.
+//! What holds others: what is written around its inside, or in place of it.
 #![tactic(auto)]
 
 ghost use Rattle.std.specs.Prelude.{◌≡◌, ◌++◌, ◌==◌, codes, if◌then◌else◌, not, IfOk, OnOk, map};
 ghost use Rattle.std.specs.List.{list_any};
-ghost use Rattle.markdown_html_text.specs.Resolved.{resolved};
+ghost use Rattle.markdown_html_model.specs.Resolved.{resolved};
 ghost use Rattle.markdown_html_model.specs.Html.{begins_with_space, check_html, closing, ends_with_space, image_html, link_html, opening, span_html, span_text, text_html, without_padding};
 ghost use Rattle.markdown_html.specs.View.{page_of, target_view};
 
@@ -12,9 +12,9 @@ use crate::addresses::{
 };
 use crate::stretch::bytes_before;
 use crate::targets::Goal;
+use markdown_html_model::escape::push_escaped;
+use markdown_html_model::resolve::{bytes_from, push_resolved};
 use markdown_html_model::role::{Role, Within};
-use markdown_html_text::escape::push_escaped;
-use markdown_html_text::resolve::{bytes_from, push_resolved};
 use std::alloc::{AllocError, Global};
 
 // What is written before the inside.

@@ -1,19 +1,19 @@
-// Innermost things, by their text.
+//! Innermost things, by their text.
 #![tactic(auto)]
 
 ghost use Rattle.std.specs.Prelude.{◌≡◌, ◌≤◌, ◌++◌, OnOk, length, slice_range};
-ghost use Rattle.markdown_engine_content.specs.Content.{document_limit};
-ghost use Rattle.markdown_partial.specs.TrimmedData.{IsStretch};
+ghost use Rattle.markdown_content.specs.Content.{document_limit};
+ghost use Rattle.markdown_passes.specs.TrimmedData.{IsStretch};
 ghost use Rattle.markdown_html_model.specs.Html.{address, text_between, leaf_html, line_end, line_ending, own_link, own_link_outside, raw_html, text_html};
-ghost use Rattle.markdown_html_text.specs.Schemes.{link_schemes};
+ghost use Rattle.markdown_html_model.specs.Schemes.{link_schemes};
 ghost use Rattle.markdown_html.specs.View.{page_of};
 
 use crate::addresses::{Given, push_link_address, push_tag, push_text};
 use crate::stretch::text_between;
 use markdown_event::event::Point;
+use markdown_html_model::escape::{push_escaped, push_escaped_between};
 use markdown_html_model::options::LineEnds;
 use markdown_html_model::role::{Role, Within};
-use markdown_html_text::escape::{push_escaped, push_escaped_between};
 use std::alloc::{AllocError, Global};
 
 // Appends the address of a link, whose text stands behind `before` in it.

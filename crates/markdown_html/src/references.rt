@@ -1,4 +1,4 @@
-// What links and images refer to.
+//! What links and images refer to.
 #![tactic(auto)]
 
 ghost use Rattle.std.specs.Prelude.{◌≡◌, [], if◌then◌else◌, IfOk, option_map, string_bytes, true};

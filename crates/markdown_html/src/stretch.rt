@@ -1,12 +1,12 @@
-// Stretches of a document's bytes.
+//! Stretches of a document's bytes.
 #![tactic(auto)]
 
 ghost use Rattle.std.specs.Prelude.{◌≡◌, ◌++◌, ◌≤◌, IfOk, OnOk, length, replicate, take};
-ghost use Rattle.markdown_engine_content.specs.Content.{document_limit};
-ghost use Rattle.markdown_partial.specs.TrimmedData.{IsStretch};
+ghost use Rattle.markdown_content.specs.Content.{document_limit};
+ghost use Rattle.markdown_passes.specs.TrimmedData.{IsStretch};
 ghost use Rattle.markdown_html_model.specs.Html.{bytes_from, text_between};
 
-use markdown_engine_content::util::slice::{Position, Slice};
+use markdown_content::util::slice::{Position, Slice};
 use markdown_event::event::Point;
 use std::alloc::{AllocError, Global};
 
@@ -25,7 +25,7 @@ pub(crate) fn bytes_before(bytes: &[u8], index: usize) -> &[u8]
 pub(crate) fn bytes_between(bytes: &[u8], from: usize, to: usize) -> &[u8]
     ensures { result.now ≡ bytes_from bytes.now from to }
 {
-    let behind = markdown_html_text::resolve::bytes_from(bytes, from);
+    let behind = markdown_html_model::resolve::bytes_from(bytes, from);
     bytes_before(behind, to.saturating_sub(from))
 }
 

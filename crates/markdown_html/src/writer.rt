@@ -1,15 +1,15 @@
-// The walk over events.
+//! The walk over events.
 #![tactic(auto)]
 
 ghost use Rattle.std.specs.Prelude.{◌≡◌, ◌≤◌, ◌++◌, ◌∷◌, ◌&&◌, [], List, if◌then◌else◌, map, reverse, IfOk, IfSome, OnErr, OnOk, Option, drop, false, length, take, true, ℕ};
 ghost use Rattle.std.specs.List.{All};
-ghost use Rattle.markdown_engine_content.specs.Content.{document_limit};
-ghost use Rattle.markdown_engine_content.specs.Tree.{Forest, events_from, events_of};
-ghost use Rattle.markdown_partial.specs.TrimmedData.{IsStretch};
-ghost use Rattle.markdown_run_leaves.specs.InnermostEvents.{innermost, IsInOrder};
+ghost use Rattle.markdown_content.specs.Content.{document_limit};
+ghost use Rattle.markdown_content.specs.Tree.{Forest, events_from, events_of};
+ghost use Rattle.markdown_passes.specs.TrimmedData.{IsStretch};
+ghost use Rattle.markdown_innermost.specs.InnermostEvents.{innermost, IsSpanInOrder};
 ghost use Rattle.markdown_html_model.specs.Html.{calls_behind, group_html, html, joined_parts, no_parts, own_calls, plain_text, within_of, written};
 ghost use Rattle.markdown_html_model.specs.Roles.{role_of};
-ghost use Rattle.markdown_html_laws.specs.OwnMarkup.{IsOwnMarkup};
+ghost use Rattle.markdown_html_model.specs.OwnMarkup.{IsOwnMarkup};
 ghost use Rattle.markdown_html.specs.View.{open_view, page_from, page_of, parts_of, state_of};
 ghost use Rattle.markdown_html.specs.EventWalk.{before_left, before_parts, closed_apart, closed_around, entered, exit_first, exited, filled_before, has_parts, is_apart, is_bare, is_leaf, is_light, is_text_alone, keeps_inside, left_behind, opened_by, rewritten, stepped, walked};
 
@@ -25,11 +25,12 @@ use crate::leaves::push_leaf_between;
 use crate::references::{call_identifier, target};
 use crate::stretch::bytes_between;
 use crate::targets::Targets;
-use markdown_engine_content::parser::ParseState;
+use markdown_content::parser::ParseState;
+use markdown_engine_events::event_list::EventSlice;
 use markdown_event::event::{Event, Kind, Point};
 use markdown_html_model::options::HtmlOptions;
+use markdown_html_model::resolve::bytes_from;
 use markdown_html_model::role::{Role, Within, role_of};
-use markdown_html_text::resolve::bytes_from;
 use std::alloc::{AllocError, Global};
 use std::mem;
 
@@ -267,7 +268,7 @@ impl Writer {
         given: &Given,
         role: Role,
         from: Point,
-        rest: &[Event],
+        rest: &EventSlice,
     ) -> Result<bool, AllocError>
         requires fits { length given.now.bytes.now ≤ document_limit }
         requires in_order { IfSome (exit_first rest.now) (λ to. IsStretch given.now.bytes.now from to) }
@@ -389,12 +390,15 @@ impl Writer {
 }
 
 // What is left behind an event, without the first where that is done too.
-fn left_behind(rest: &[Event], skips: bool) -> &[Event]
-    ensures { result.now ≡ left_behind rest.now skips }
+fn left_behind(rest: EventSlice, skips: bool) -> EventSlice
+    ensures { result ≡ left_behind rest.entry skips }
 {
-    match rest {
-        [_, behind @ ..] if skips => behind,
-        _ => rest,
+    if !skips {
+        return rest;
+    }
+    match rest.split_first() {
+        Some((_, behind)) => behind,
+        None => rest,
     }
 }
 
@@ -404,10 +408,10 @@ fn step(
     alloc: Global,
     given: &Given,
     event: &Event,
-    rest: &[Event],
+    rest: &EventSlice,
 ) -> Result<bool, AllocError>
     requires fits { length given.now.bytes.now ≤ document_limit }
-    requires places { All (IsInOrder given.now.bytes.now) (innermost (event.now ∷ rest.now)) }
+    requires places { All (IsSpanInOrder given.now.bytes.now) (innermost (event.now ∷ rest.now)) }
     ensures { let p = page_of given.now in IfOk result (λ skips. walked p (state_of writer.new) (left_behind rest.now skips) ≡ walked p (stepped p (state_of writer.old) event.now rest.now) rest.now) }
 {
     let role = role_of(event.name);
@@ -428,10 +432,10 @@ fn written(
     given: &Given,
     calls: FootnoteCalls,
     within: Within,
-    events: &[Event],
+    events: &EventSlice,
 ) -> Result<Writer, AllocError>
     requires fits { length given.now.bytes.now ≤ document_limit }
-    requires places { All (IsInOrder given.now.bytes.now) (innermost events.now) }
+    requires places { All (IsSpanInOrder given.now.bytes.now) (innermost events.now) }
     ensures { (n : ℕ) (previous : Option ℕ) (t : Forest) → events.now ≡ events_from n previous t → IfOk result (λ writer. let w = written (page_of given.now) calls within t in (writer.out.items ≡ w.html) × (writer.calls ≡ w.calls ++ calls)) }
 {
     let mut writer = Writer {
@@ -443,9 +447,9 @@ fn written(
         calls,
         room: Vec::new(alloc),
     };
-    let mut left = events;
+    let mut left = events.slice(0, events.len());
     while let Some((event, rest)) = left.split_first() {
-        let skips = step(&mut writer, alloc, given, event, rest)?;
+        let skips = step(&mut writer, alloc, given, &event, &rest)?;
         left = left_behind(rest, skips);
     }
     Ok(writer)
@@ -469,13 +473,13 @@ fn written(
 pub fn to_html(
     alloc: Global,
     parse_state: &ParseState,
-    events: &[Event],
+    events: &EventSlice,
     definitions: &Targets,
     calls: &mut FootnoteCalls,
     options: HtmlOptions,
 ) -> Result<Vec<u8>, AllocError>
     requires fits { length parse_state.now.bytes.now ≤ document_limit }
-    requires places { All (IsInOrder parse_state.now.bytes.now) (innermost events.now) }
+    requires places { All (IsSpanInOrder parse_state.now.bytes.now) (innermost events.now) }
     ensures exact { (t : Forest) → events.now ≡ events_of t → IfOk result (λ written. written.items ≡ html (page_from parse_state.now definitions.now options) calls.old t) }
     ensures calls { (t : Forest) → events.now ≡ events_of t → OnOk result (calls.new ≡ calls_behind (page_from parse_state.now definitions.now options) calls.old t) }
     ensures err { OnErr result (calls.new ≡ []) }
@@ -500,9 +504,9 @@ pub fn to_html(
 /// a run over these bytes, of all that stands inside a node, or of a node and its later siblings.
 ///
 /// The error comes only where memory is refused.
-pub fn text_of(alloc: Global, bytes: &[u8], events: &[Event]) -> Result<Vec<u8>, AllocError>
+pub fn text_of(alloc: Global, bytes: &[u8], events: &EventSlice) -> Result<Vec<u8>, AllocError>
     requires fits { length bytes.now ≤ document_limit }
-    requires places { All (IsInOrder bytes.now) (innermost events.now) }
+    requires places { All (IsSpanInOrder bytes.now) (innermost events.now) }
     ensures { (n : ℕ) (previous : Option ℕ) (t : Forest) → events.now ≡ events_from n previous t → IfOk result (λ text. text.items ≡ plain_text bytes.now t) }
 {
     let definitions = Targets::new(alloc);

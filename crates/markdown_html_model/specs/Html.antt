@@ -2,14 +2,14 @@
 use Rattle.std.specs.Prelude.{ℕ, zero, suc, ◌-◌, Bool, true, false, not, ◌&&◌, ◌||◌, ◌==◌, if◌then◌else◌, List, [], ◌∷◌, ◌++◌, length, map, take, drop, replicate, codes, decimal, Option, None, Some}
 use Rattle.std.specs.List.{list_any}
 use Rattle.std.specs.Str.{byte, bytes_eq, is_utf8}
-use Rattle.markdown_engine_content.specs.Codes.{stop_of, document_start}
-use Rattle.markdown_engine_content.specs.Slices.{position_bytes, spaces_before, spaces_after}
-use Rattle.markdown_engine_content.specs.Tree.{Forest, empty, leaf_then, group_then, start_of}
+use Rattle.markdown_content.specs.Codes.{stop_of, document_start}
+use Rattle.markdown_content.specs.Slices.{position_bytes, spaces_before, spaces_after}
+use Rattle.markdown_content.specs.Tree.{Forest, empty, leaf_then, group_then, start_of}
 use Rattle.markdown_event.specs.declared.event.Point.{Point}
 use Rattle.markdown_util.specs.Identifier.{identifier_of}
-use Rattle.markdown_html_text.specs.Escaped.{escaped, addressed}
-use Rattle.markdown_html_text.specs.Resolved.{resolved}
-use Rattle.markdown_html_text.specs.Schemes.{is_safe, link_schemes, image_schemes}
+use Rattle.markdown_html_model.specs.Escaped.{escaped, addressed}
+use Rattle.markdown_html_model.specs.Resolved.{resolved}
+use Rattle.markdown_html_model.specs.Schemes.{is_safe, link_schemes, image_schemes}
 use Rattle.markdown_html_model.specs.Roles.{role_of}
 use Rattle.markdown_html_model.specs.declared.options.HtmlOptions.{HtmlOptions}
 use Rattle.markdown_html_model.specs.declared.options.LineEnds.{LineEnds}
@@ -42,13 +42,13 @@ bytes_from bytes from to = take (to - from) (drop from bytes)
 -- Where a link or an image leads.
 
 -- what has been read of a link or an image so far: its destination and title, and where the text of its label stands, and that of a full reference
-pub record Parts : Type 0 where
+pub record PartsSoFar : Type 0 where
   pub destination : Option (List ℕ)
   pub title : Option (List ℕ)
   pub label : Option (ℕ × ℕ)
   pub reference : Option (ℕ × ℕ)
 
-abbrev pub no_parts : Parts
+abbrev pub no_parts : PartsSoFar
 no_parts = record { destination = None; title = None; label = None; reference = None }
 
 abbrev pub or_else : {A : Type 0} → Option A → Option A → Option A
@@ -56,7 +56,7 @@ or_else None y = y
 or_else (Some x) y = Some x
 
 -- the parts of siblings: what comes later counts
-abbrev pub joined_parts : Parts → Parts → Parts
+abbrev pub joined_parts : PartsSoFar → PartsSoFar → PartsSoFar
 joined_parts x y = record {
   destination = or_else y.destination x.destination;
   title = or_else y.title x.title;
@@ -75,7 +75,7 @@ string_of Role.TitleText inside = resolved inside
 string_of role inside = []
 
 -- the parts that something from one place to another gives, by its string and the parts inside it; a link and an image use theirs up
-abbrev pub own_parts : Role → Point → Point → List ℕ → Parts → Parts
+abbrev pub own_parts : Role → Point → Point → List ℕ → PartsSoFar → PartsSoFar
 own_parts Role.Destination a b string inside = record no_parts { destination = Some string }
 own_parts Role.TitleText a b string inside = record no_parts { title = Some string }
 own_parts Role.Title a b string inside = record inside { title = Some (or_empty inside.title) }
@@ -124,7 +124,7 @@ reference_target p label None = label_target p label
 reference_target p label (Some place) = defined (text_identifier (bytes_from p.bytes place.0 place.1)) p.definitions
 
 -- the target in a resource, and else that of the definition that is referred to (CommonMark 6.3)
-abbrev pub target_of : Page → Parts → Target
+abbrev pub target_of : Page → PartsSoFar → Target
 target_of p parts =
     elim (parts.destination) [
       | Some destination ↦ record { destination = destination; title = parts.title }
@@ -161,7 +161,7 @@ call_identifier p None = []
 call_identifier p (Some place) = text_identifier (bytes_from p.bytes place.0 place.1)
 
 -- the calls that something is
-abbrev pub own_calls : Page → Role → Parts → List (List ℕ)
+abbrev pub own_calls : Page → Role → PartsSoFar → List (List ℕ)
 own_calls p Role.Footnote parts = call_identifier p parts.label ∷ []
 own_calls p role parts = []
 
@@ -301,7 +301,7 @@ abbrev pub call_html : Within → List ℕ → List (List ℕ) → List ℕ
 call_html within identifier before = tag within (codes "<sup>" ++ call_link identifier (footnote_number identifier before) (times_called identifier before) ++ codes "</sup>")
 
 -- what is from one place to another, by what is inside, behind these calls
-abbrev pub group_html : Page → List (List ℕ) → Within → Role → Point → Point → List ℕ → Parts → List ℕ
+abbrev pub group_html : Page → List (List ℕ) → Within → Role → Point → Point → List ℕ → PartsSoFar → List ℕ
 group_html p before within Role.Code a b inside parts = span_html within (codes "<code>") (span_text inside)
 group_html p before within Role.Math a b inside parts = span_html within (codes "<code class=\"language-math math-inline\">") (span_text inside)
 group_html p before within Role.Reference a b inside parts = text_html within (resolved (bytes_from p.bytes a.index b.index))
@@ -320,7 +320,7 @@ group_html p before within role a b inside parts = opening within role ++ inside
 -- what is written of trees, what they give of a link or an image around them, and the calls in them
 pub record Written : Type 0 where
   pub html : List ℕ
-  pub parts : Parts
+  pub parts : PartsSoFar
   pub calls : List (List ℕ)
 
 abbrev pub nothing : Written

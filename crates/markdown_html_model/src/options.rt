@@ -1,4 +1,4 @@
-// What is handed in beside a tree, and what may be written.
+//! What is handed in beside a tree, and what may be written.
 ghost use Rattle.std.specs.Prelude.{◌≡◌, false};
 ghost use Rattle.markdown_html_model.specs.declared.options.LineEnds.{LineEnds};
 

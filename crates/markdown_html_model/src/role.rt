@@ -1,4 +1,4 @@
-// What an event of each name does to the HTML.
+//! What an event of each name does to the HTML.
 #![tactic(auto)]
 
 ghost use Rattle.std.specs.Prelude.{◌≡◌};

@@ -2,8 +2,8 @@
 use Rattle.std.proofs.Common.{◌≡◌, ℕ, ◌+◌, ◌-◌, ◌<◌, ◌≤◌, Bool, true, false, if◌then◌else◌, List, [], ◌∷◌, ◌++◌, length, drop, get_or, map, refl, sym, ap, ◌∙◌, arith}
 use Rattle.std.proofs.lemmas.List.{drop_more, length-drop}
 use Rattle.markdown_event.specs.declared.event.Event.{Event}
-use Rattle.markdown_engine_content.specs.declared.parser.Piece.{Piece}
-use Rattle.markdown_run_leaves.specs.InnermostEvents.{innermost, has_nothing_inside, span_of}
+use Rattle.markdown_content.specs.declared.parser.Piece.{Piece}
+use Rattle.markdown_innermost.specs.InnermostEvents.{innermost, has_nothing_inside, span_of}
 use Rattle.markdown_model_laws.specs.LeafPieces.{joined_pieces, piece_of}
 use Rattle.markdown_inline.specs.LastPiece.{in_front, with_leaf}
 
@@ -18,19 +18,19 @@ adds-leaf e x es = by_test (has_nothing_inside e.kind x.kind)
     by_test true = refl
     by_test false = refl
 
-pub one-more : (es : List Event) (i : ℕ) (d : Event) → 0 < i → i < length es →
-    pieces_from i es ≡ with_leaf (get_or es (i - 1) d) (get_or es i d) (pieces_from (i + 1) es)
-one-more es i d z l =
-    let before : drop (i - 1) es ≡ get_or es (i - 1) d ∷ drop (i - 1 + 1) es = drop_more es (i - 1) d (omega (arith, z, l)) in
+pub one-more : (es : List Event) (i n : ℕ) (enter exit : Event) → 0 < i → n ≡ length es → i < n → enter ≡ get_or es (i - 1) enter → exit ≡ get_or es i exit →
+    pieces_from i es ≡ with_leaf enter exit (pieces_from (i + 1) es)
+one-more es i n enter exit z whole l first second =
+    let before : drop (i - 1) es ≡ enter ∷ drop (i - 1 + 1) es = drop_more es (i - 1) enter (omega (arith, z, l, whole)) ∙ ap (λ e. e ∷ drop (i - 1 + 1) es) (sym first) in
     let here : i - 1 + 1 ≡ i = omega (arith, z) in
     let behind : i + 1 - 1 ≡ i = omega arith in
-    let at : drop i es ≡ get_or es i d ∷ drop (i + 1) es = drop_more es i d l in
-    let all : drop (i - 1) es ≡ get_or es (i - 1) d ∷ (get_or es i d ∷ drop (i + 1) es) = before ∙ ap (λ xs. get_or es (i - 1) d ∷ xs) (ap (λ n. drop n es) here ∙ at) in
-    ap (λ xs. joined_pieces (map piece_of (innermost xs))) all ∙ adds-leaf (get_or es (i - 1) d) (get_or es i d) (drop (i + 1) es)
-    ∙ ap (λ xs. with_leaf (get_or es (i - 1) d) (get_or es i d) (joined_pieces (map piece_of (innermost xs)))) (sym at ∙ ap (λ n. drop n es) (sym behind))
+    let at : drop i es ≡ exit ∷ drop (i + 1) es = drop_more es i exit (omega (arith, l, whole)) ∙ ap (λ e. e ∷ drop (i + 1) es) (sym second) in
+    let all : drop (i - 1) es ≡ enter ∷ (exit ∷ drop (i + 1) es) = before ∙ ap (λ xs. enter ∷ xs) (ap (λ n. drop n es) here ∙ at) in
+    ap (λ xs. joined_pieces (map piece_of (innermost xs))) all ∙ adds-leaf enter exit (drop (i + 1) es)
+    ∙ ap (λ xs. with_leaf enter exit (joined_pieces (map piece_of (innermost xs)))) (sym at ∙ ap (λ n. drop n es) (sym behind))
 
-pub none-left : (es : List Event) (i : ℕ) → 0 < i → length es ≤ i → pieces_from i es ≡ []
-none-left es i z l = few (drop (i - 1) es) (let n = length-drop (i - 1) es in omega (arith, n, l))
+pub none-left : (es : List Event) (i n : ℕ) → 0 < i → n ≡ length es → n ≤ i → pieces_from i es ≡ []
+none-left es i n z whole l = few (drop (i - 1) es) (let d = length-drop (i - 1) es in omega (arith, d, l, whole))
   where
     few : (xs : List Event) → length xs ≤ 1 → joined_pieces (map piece_of (innermost xs)) ≡ []
     few [] h = refl

@@ -1,8 +1,8 @@
 -- Pieces in front of others, the last of which may meet the first of these.
 use Rattle.std.specs.Prelude.{if◌then◌else◌, List, Option, Some, None}
 use Rattle.markdown_event.specs.declared.event.Event.{Event}
-use Rattle.markdown_engine_content.specs.declared.parser.Piece.{Piece}
-use Rattle.markdown_run_leaves.specs.InnermostEvents.{has_nothing_inside, span_of}
+use Rattle.markdown_content.specs.declared.parser.Piece.{Piece}
+use Rattle.markdown_innermost.specs.InnermostEvents.{has_nothing_inside, span_of}
 use Rattle.markdown_model_laws.specs.LeafPieces.{meets, onto_pieces, piece_of}
 
 abbrev pub with_last : Option Piece → List Piece → List Piece

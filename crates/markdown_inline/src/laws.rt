@@ -1,5 +1,6 @@
 //! Laws of the definitions: each function stands for the law that its contract states.
 
+pub use markdown_innermost::laws::{events_give_content, leaves_are_stretches};
 pub use markdown_model::laws::{
     counts_suffice, ends_take_the_nearest, events_nest, labels_match, leaves_cover,
     links_are_not_mailed, links_do_not_nest, merged_data_is_apart, no_run_is_left,
@@ -12,6 +13,4 @@ pub use markdown_model_laws::{
     pairs_take_their_markers, probes_are_few, resources_are_found, runs_in_order_may_pair,
     titles_are_found, trees_are_filled, values_are_decodable, what_follows_is_found,
 };
-pub use markdown_run_leaves::laws::{events_give_content, leaves_are_stretches};
-pub use markdown_util::laws::{identifier, tables};
-pub use markdown_util_decode::laws::unchanged;
+pub use markdown_util::laws::{identifier, tables, unchanged};

@@ -1,5 +1,5 @@
 //! Options that more than one program or test runs with.
-use markdown_engine_content::configuration::{self, ParseOptions};
+use markdown_content::configuration::{self, ParseOptions};
 
 /// All constructs, and each other setting by default: what the words `gfm` and `math` ask of the program.
 pub const ALL_CONSTRUCTS: ParseOptions = ParseOptions {
@@ -8,4 +8,5 @@ pub const ALL_CONSTRUCTS: ParseOptions = ParseOptions {
     math_text_single_dollar: true,
     attention_first_lengths: false,
     label_shortcut_before_bracket: false,
+    commonmark: false,
 };

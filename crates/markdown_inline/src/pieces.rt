@@ -1,11 +1,12 @@
 //! The pieces of a document that leaves are, which a run reads as a string: a label's, a title's or a destination's.
 ghost use Rattle.std.specs.Prelude.{◌≡◌, ◌++◌, [], IfOk, OnOk, List};
-ghost use Rattle.markdown_engine_content.specs.declared.parser.Piece.{Piece};
-ghost use Rattle.markdown_run_leaves.specs.InnermostEvents.{has_nothing_inside};
+ghost use Rattle.markdown_content.specs.declared.parser.Piece.{Piece};
+ghost use Rattle.markdown_innermost.specs.InnermostEvents.{has_nothing_inside};
 ghost use Rattle.markdown_model_laws.specs.LeafPieces.{meets, leaf_pieces};
 ghost use Rattle.markdown_inline.specs.LastPiece.{with_last, in_front, with_leaf};
 
-use markdown_engine_content::parser::Piece;
+use markdown_content::parser::Piece;
+use markdown_engine::event_list::EventSlice;
 use markdown_event::event::{Event, Kind};
 use std::alloc::{AllocError, Global};
 
@@ -52,7 +53,8 @@ fn add_leaf(
     enter: Event,
     exit: Event,
 ) -> Result<(), AllocError>
-    ensures { OnOk result ((more : List Piece) → pieces.new.items ++ with_last last.new more ≡ pieces.old.items ++ with_last last.old (with_leaf enter exit more)) }
+    ensures { OnOk result ((more : List Piece)
+        → pieces.new.items ++ with_last last.new more ≡ pieces.old.items ++ with_last last.old (with_leaf enter exit more)) }
 {
     if !has_nothing_inside(enter, exit) {
         return Ok(());
@@ -80,13 +82,18 @@ fn with_last(pieces: Vec<Piece>, last: Option<Piece>) -> Result<Vec<Piece>, Allo
 /// Of the events of a node, or others that stand one after another in a run's answer, they are a content of its document: `laws::leaves_are_contents`.
 ///
 /// The error comes only where memory is refused.
-pub fn leaf_pieces(alloc: Global, events: &[Event]) -> Result<Vec<Piece>, AllocError>
+pub fn leaf_pieces(alloc: Global, events: &EventSlice) -> Result<Vec<Piece>, AllocError>
     ensures { IfOk result (λ pieces. pieces.items ≡ leaf_pieces events.now) }
 {
     let mut pieces = Vec::new(alloc);
     let mut last = None;
     for index in 1..events.len() {
-        add_leaf(&mut pieces, &mut last, events[index - 1], events[index])?;
+        add_leaf(
+            &mut pieces,
+            &mut last,
+            events.at(index - 1),
+            events.at(index),
+        )?;
     }
     with_last(pieces, last)
 }

@@ -6,18 +6,18 @@ use Rattle.std.proofs.lemmas.List.Elements.{All-more}
 use Rattle.std.specs.declared.alloc.Global.{Global}
 use Rattle.std.specs.declared.string.String.{String}
 use Rattle.markdown_util.specs.Identifier.{identifier_of}
-use Rattle.markdown_inline_c.specs.FlatInput.{range_bytes, identifiers, IsLabel}
+use Rattle.markdown_inline_c.specs.FlatInput.{range_bytes, identifiers, IsLabelRange}
 use Rattle.markdown_inline_c.specs.declared.flat.Range.{Range}
 
 -- what is found are the identifiers of the labels at the first ranges, which are labels
-pub record AreRead (labels : List ℕ) (ranges : List Range) (found : List (String Global)) (i : ℕ) : Type 0 where
+pub record LabelsAreRead (labels : List ℕ) (ranges : List Range) (found : List (String Global)) (i : ℕ) : Type 0 where
   pub read : map string_bytes found ≡ identifiers labels (take i ranges)
-  pub are_labels : All (IsLabel labels) (take i ranges)
+  pub are_labels : All (IsLabelRange labels) (take i ranges)
 
 pub one_more : (labels : List ℕ) (ranges : List Range) (i : ℕ) (d : Range) (found more : List (String Global))
-    → i < length ranges → AreRead labels ranges found i → IsLabel labels (get_or ranges i d)
+    → i < length ranges → LabelsAreRead labels ranges found i → IsLabelRange labels (get_or ranges i d)
     → map string_bytes more ≡ map string_bytes found ++ identifier_of (range_bytes labels (get_or ranges i d)) ∷ []
-    → AreRead labels ranges more (i + 1)
+    → LabelsAreRead labels ranges more (i + 1)
 one_more labels ranges i d found more h so_far is_label e =
     let f : Range → List ℕ = λ r. identifier_of (range_bytes labels r) in
     record {
@@ -26,11 +26,11 @@ one_more labels ranges i d found more h so_far is_label e =
           ∙ ap (λ xs. xs ++ f (get_or ranges i d) ∷ []) so_far.read
           ∙ sym (map-append f (take i ranges) (get_or ranges i d ∷ []))
           ∙ ap (map f) (sym (take_more ranges i d h));
-      are_labels = All-more (IsLabel labels) ranges i d h so_far.are_labels is_label;
+      are_labels = All-more (IsLabelRange labels) ranges i d h so_far.are_labels is_label;
     }
 
 pub all_read : (labels : List ℕ) (ranges : List Range) (found : List (String Global)) (i : ℕ)
-    → length ranges ≤ i → AreRead labels ranges found i → (map string_bytes found ≡ identifiers labels ranges) × All (IsLabel labels) ranges
+    → length ranges ≤ i → LabelsAreRead labels ranges found i → (map string_bytes found ≡ identifiers labels ranges) × All (IsLabelRange labels) ranges
 all_read labels ranges found i h read =
     let e : take i ranges ≡ ranges = take_all i ranges h in
-    (read.read ∙ ap (identifiers labels) e, subst (λ (x : List Range). All (IsLabel labels) x) e read.are_labels)
+    (read.read ∙ ap (identifiers labels) e, subst (λ (x : List Range). All (IsLabelRange labels) x) e read.are_labels)

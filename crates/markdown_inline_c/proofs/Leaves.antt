@@ -1,6 +1,6 @@
 -- What is lent, one after another.
 use Rattle.std.proofs.Common.{◌≡◌, ◌∙◌, sym, ap, List, [], ◌∷◌, ◌++◌, map, append_assoc, append-nil}
-use Rattle.markdown_run_leaves.specs.InnermostEvents.{Lent}
+use Rattle.markdown_innermost.specs.InnermostEvents.{Lent}
 use Rattle.markdown_inline_c.specs.FlatLeaves.{flat_leaf}
 use Rattle.markdown_inline_c.specs.declared.flat.FlatLeaf.{FlatLeaf}
 

@@ -1,11 +1,10 @@
-mod Contents
 mod Errors
 mod Filled
+mod HandedOut
+mod InTurn
 mod Joined
 mod Labels
 mod Leaves
-mod Listed
-mod Pushed
-mod Refused
+mod MetDefinitions
 mod Targets
 mod WrittenContents

@@ -34,31 +34,3 @@ abbrev pub IsAnswer : {X : Type 0} → (found : List X) (readable : Type 0) (ref
 IsAnswer found readable refuses old new count_old count_new status =
     (readable × IsHandedOut found old new count_new status)
     ⊎ (IsRefused refuses status × ((new ≡ old) × (count_new ≡ count_old)))
-
--- Two arrays at once: the count is that of the first one.
-
--- what was found stands at the front of both arrays
-pub record IsDoneTwice {X Y : Type 0} (found old new : List X) (also also_old also_new : List Y) (count status : ℕ) : Type 0 where
-  pub status_is : status ≡ 0
-  pub count_is : count ≡ length found
-  pub array : new ≡ found ++ drop (length found) old
-  pub also_array : also_new ≡ also ++ drop (length also) also_old
-
--- more was found than there is room for in one of them
-pub record IsTooSmallTwice {X Y : Type 0} (found old new : List X) (also also_old also_new : List Y) (count status : ℕ) : Type 0 where
-  pub status_is : status ≡ 6
-  pub count_is : count ≡ length found
-  pub no_room : (length old < length found) ⊎ (length also_old < length also)
-  pub array : new ≡ old
-  pub also_array : also_new ≡ also_old
-
-abbrev pub IsHandedOutTwice : {X Y : Type 0} → (found old new : List X) (also also_old also_new : List Y) (count status : ℕ) → Type 0
-IsHandedOutTwice found old new also also_old also_new count status =
-    IsDoneTwice found old new also also_old also_new count status ⊎ IsTooSmallTwice found old new also also_old also_new count status
-
--- as an answer, with both arrays
-abbrev pub IsAnswerTwice : {X Y : Type 0} → (found : List X) (also : List Y) (readable : Type 0) (refuses : Fault → Type 0) (old new : List X) (also_old also_new : List Y)
-    (count_old count_new status : ℕ) → Type 0
-IsAnswerTwice found also readable refuses old new also_old also_new count_old count_new status =
-    (readable × IsHandedOutTwice found old new also also_old also_new count_new status)
-    ⊎ (IsRefused refuses status × ((new ≡ old) × ((also_new ≡ also_old) × (count_new ≡ count_old))))

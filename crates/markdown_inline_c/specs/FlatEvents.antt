@@ -1,11 +1,12 @@
 -- Events as a caller in C gets them.
-use Rattle.std.specs.Prelude.{ℕ, Option, None, Some}
+use Rattle.std.specs.Prelude.{ℕ, min, Option, None, Some}
 use Rattle.markdown_event.specs.EventNames.{name_number}
 use Rattle.markdown_event.specs.declared.event.Content.{Content}
 use Rattle.markdown_event.specs.declared.event.Event.{Event}
 use Rattle.markdown_event.specs.declared.event.Kind.{Kind}
 use Rattle.markdown_event.specs.declared.event.Link.{Link}
 use Rattle.markdown_inline_c.specs.declared.flat.FlatEvent.{FlatEvent}
+use Rattle.markdown_inline_c.specs.declared.flat.ShortEvent.{ShortEvent}
 
 -- the number of an event, or the highest number where there is none
 abbrev pub number_or_max : Option ℕ → ℕ
@@ -37,3 +38,25 @@ flat_event e = linked (record {
   previous = 18446744073709551615;
   next = 18446744073709551615;
 }) e.link
+
+-- Short events.
+
+abbrev pub linked_as : Option Link → ℕ
+linked_as None = 0
+linked_as (Some l) = link_number l.content
+
+-- the number of a definition, or the highest number of 32 bits where there is none; it stands for those that are higher too
+abbrev pub definition_number : Option ℕ → ℕ
+definition_number None = 4294967295
+definition_number (Some n) = min n 4294967295
+
+-- the event in 16 bytes, where it refers to this definition
+abbrev pub short_event : Option ℕ → Event → ShortEvent
+short_event met e = record {
+  kind = kind_number e.kind;
+  name = name_number e.name;
+  link = linked_as e.link;
+  vs = min e.point.vs 255;
+  definition = definition_number met;
+  index = e.point.index;
+}

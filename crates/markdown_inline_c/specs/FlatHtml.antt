@@ -1,14 +1,14 @@
 -- What a caller in C hands in beside an input, and the HTML that it gets.
 use Rattle.std.specs.Prelude.{◌≡◌, ◌⊎◌, ℕ, ◌<◌, Bool, ◌==◌, if◌then◌else◌, List, [], ◌∷◌, length, Option, None, Some}
 use Rattle.std.specs.List.{All}
-use Rattle.markdown_engine_content.specs.Content.{content_of}
-use Rattle.markdown_engine_content.specs.DefaultOptions.{has_option, options_of}
+use Rattle.markdown_content.specs.Content.{content_of}
+use Rattle.markdown_content.specs.DefaultOptions.{has_option, options_of}
 use Rattle.markdown_html_model.specs.Html.{Defined, Page, html}
 use Rattle.markdown_html_model.specs.declared.options.HtmlOptions.{HtmlOptions}
 use Rattle.markdown_html_model.specs.declared.options.LineEnds.{LineEnds}
 use Rattle.markdown_model.specs.InlineTree.{text_tree}
 use Rattle.markdown_util.specs.Identifier.{identifier_of}
-use Rattle.markdown_inline_c.specs.FlatInput.{IsLabel, IsTextInput, pieces_of, range_bytes, text_setting}
+use Rattle.markdown_inline_c.specs.FlatInput.{IsLabelRange, IsTextInput, pieces_of, range_bytes, text_setting}
 use Rattle.markdown_inline_c.specs.declared.flat.FlatTarget.{FlatTarget}
 use Rattle.markdown_inline_c.specs.declared.flat.Input.{Input}
 use Rattle.markdown_inline_c.specs.declared.flat.Range.{Range}
@@ -28,13 +28,13 @@ abbrev pub title_of : List ℕ → FlatTarget → Option (List ℕ)
 title_of labels t = if t.has_title == 0 then None else Some (range_bytes labels t.title)
 
 -- there is no title, or it stands among the labels
-abbrev pub IsTitle : List ℕ → FlatTarget → Type 0
-IsTitle labels t = (t.has_title ≡ 0) ⊎ IsLabel labels t.title
+abbrev pub IsTitleRange : List ℕ → FlatTarget → Type 0
+IsTitleRange labels t = (t.has_title ≡ 0) ⊎ IsLabelRange labels t.title
 
 -- where a definition leads stands among the labels
 pub record IsTarget (labels : List ℕ) (t : FlatTarget) : Type 0 where
-  pub destination : IsLabel labels t.destination
-  pub title : IsTitle labels t
+  pub destination : IsLabelRange labels t.destination
+  pub title : IsTitleRange labels t
 
 -- each definition has a target
 pub record AreTargets (i : Input) (targets : List FlatTarget) : Type 0 where

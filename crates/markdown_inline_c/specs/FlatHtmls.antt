@@ -1,17 +1,16 @@
 -- What a caller in C hands in to write many contents of one document as HTML, and what it gets.
-use Rattle.std.specs.Prelude.{◌≡◌, ◌⊎◌, ℕ, ◌+◌, ◌≤◌, List, [], ◌∷◌, length, map}
-use Rattle.std.specs.List.{All, flat_map, sum_by}
-use Rattle.markdown_engine_content.specs.Content.{content_of}
-use Rattle.markdown_engine_content.specs.DefaultOptions.{AreKnown}
-use Rattle.markdown_engine_content.specs.KnownPlaces.{IsDocument}
-use Rattle.markdown_engine_content.specs.Tree.{Forest}
+use Rattle.std.specs.Prelude.{◌≡◌, ◌⊎◌, ℕ, ◌≤◌, List, [], ◌∷◌, ◌++◌, map}
+use Rattle.std.specs.List.{All, sum_by}
+use Rattle.markdown_content.specs.Content.{content_of}
+use Rattle.markdown_content.specs.Tree.{Forest}
 use Rattle.markdown_html.specs.Brought.{brought}
 use Rattle.markdown_html_model.specs.Html.{Page, calls_behind, html}
 use Rattle.markdown_model.specs.InlineTree.{text_tree}
 use Rattle.markdown_model.specs.Setting.{Setting}
-use Rattle.markdown_inline_c.specs.FlatHtml.{AreKnownForHtml, AreTargets, page}
-use Rattle.markdown_inline_c.specs.FlatInput.{AreLabels, text_setting}
-use Rattle.markdown_inline_c.specs.FlatTexts.{IsTextAt, is_first_of_item, pieces_at}
+use Rattle.markdown_inline_c.specs.FlatHtml.{page}
+use Rattle.markdown_inline_c.specs.FlatTexts.{IsTextAt, is_first_of_item, many_setting, pieces_at}
+use Rattle.markdown_inline_c.specs.Statuses.{IsContentAtFault}
+use Rattle.markdown_inline_c.specs.declared.fault.Fault.{Fault}
 use Rattle.markdown_inline_c.specs.declared.flat.FlatContent.{FlatContent}
 use Rattle.markdown_inline_c.specs.declared.flat.FlatPiece.{FlatPiece}
 use Rattle.markdown_inline_c.specs.declared.flat.FlatTarget.{FlatTarget}
@@ -22,9 +21,6 @@ use Rattle.markdown_inline_c.specs.declared.flat.Input.{Input}
 abbrev pub tree_at : Setting → List FlatPiece → FlatContent → Forest
 tree_at s pieces c = text_tree (record s { first_of_item = is_first_of_item c }) (content_of s.bytes (pieces_at pieces c))
 
-abbrev pub trees_at : Setting → List FlatPiece → List FlatContent → List Forest
-trees_at s pieces contents = map (tree_at s pieces) contents
-
 -- Their HTML.
 
 -- of each tree by itself, where it stands behind these footnote calls and behind those of the trees before it
@@ -32,34 +28,26 @@ abbrev pub html_of_each : Page → List (List ℕ) → List Forest → List (Lis
 html_of_each p before [] = []
 html_of_each p before (t ∷ trees) = html p before t ∷ html_of_each p (calls_behind p before t) trees
 
--- texts one after another
-abbrev pub one_text : List (List ℕ) → List ℕ
-one_text texts = flat_map (λ text. text) texts
-
--- where each of these texts ends, if they stand one after another behind so many bytes
-abbrev pub html_ends : ℕ → List (List ℕ) → List ℕ
-html_ends n [] = []
-html_ends n (text ∷ texts) = (n + length text) ∷ html_ends (n + length text) texts
-
 -- What definitions bring to them.
 
 abbrev pub brought_to : Page → List Forest → ℕ
 brought_to p trees = sum_by (brought p) trees
 
 -- so many bytes are no more than the limit; 0 is no limit
-abbrev pub IsWithin : ℕ → ℕ → Type 0
-IsWithin limit n = (limit ≡ 0) ⊎ (n ≤ limit)
+abbrev pub IsWithinLimit : ℕ → ℕ → Type 0
+IsWithinLimit limit n = (limit ≡ 0) ⊎ (n ≤ limit)
 
--- an input, and contents of it that can be written as HTML within a limit
-pub record IsHtmlsInput (i : Input) (targets : List FlatTarget) (contents : List FlatContent) (options limit : ℕ) : Type 0 where
-  pub options_known : AreKnown i.options
-  pub html_options_known : AreKnownForHtml options
-  pub document : IsDocument i.bytes.now
-  pub labels : AreLabels i
-  pub each_target : AreTargets i targets
-  pub texts : All (IsTextAt i.bytes.now i.pieces.now) contents
-  pub references : IsWithin limit (brought_to (page i targets options) (trees_at (text_setting i) i.pieces.now contents))
+-- Contents that can be written, and one that cannot, where these are their trees.
+
+abbrev pub AreWritable : Page → List FlatPiece → (FlatContent → Forest) → ℕ → List FlatContent → Type 0
+AreWritable p pieces tree limit contents = All (IsTextAt p.bytes pieces) contents × IsWithinLimit limit (brought_to p (map tree contents))
+
+-- it is no text, or definitions bring more than the limit to it with those before it
+abbrev pub IsHtmlFaultAt : Page → List FlatPiece → (FlatContent → Forest) → ℕ → List FlatContent → FlatContent → Fault → Type 0
+IsHtmlFaultAt p pieces tree limit before at fault =
+    IsContentAtFault p.bytes pieces at fault
+    ⊎ ((fault ≡ Fault.References) × (IsTextAt p.bytes pieces at × (IsWithinLimit limit (brought_to p (map tree (before ++ at ∷ []))) → ⊥)))
 
 -- the HTML of each content, with no footnote calls before the first one
 abbrev pub htmls_of : Input → List FlatTarget → List FlatContent → ℕ → List (List ℕ)
-htmls_of i targets contents options = html_of_each (page i targets options) [] (trees_at (text_setting i) i.pieces.now contents)
+htmls_of i targets contents options = html_of_each (page i targets options) [] (map (tree_at (many_setting i) i.pieces.now) contents)

@@ -1,9 +1,9 @@
 -- What a caller in C hands in.
 use Rattle.std.specs.Prelude.{ℕ, ◌≤◌, false, List, [], map, length, slice_range, IsUtf8}
 use Rattle.std.specs.List.{All}
-use Rattle.markdown_engine_content.specs.Content.{IsContent, IsTextContent}
-use Rattle.markdown_engine_content.specs.DefaultOptions.{AreKnown, has_option, options_of}
-use Rattle.markdown_engine_content.specs.declared.parser.Piece.{Piece}
+use Rattle.markdown_content.specs.Content.{IsContent, IsTextContent}
+use Rattle.markdown_content.specs.DefaultOptions.{AreKnown, has_option, options_of}
+use Rattle.markdown_content.specs.declared.parser.Piece.{Piece}
 use Rattle.markdown_model.specs.Setting.{Setting}
 use Rattle.markdown_util.specs.Identifier.{identifier_of}
 use Rattle.markdown_util.specs.Reference.{html_5_rows}
@@ -28,7 +28,7 @@ abbrev pub range_bytes : List ℕ → Range → List ℕ
 range_bytes labels r = slice_range labels r.start r.end
 
 -- the range stands among the bytes, and holds UTF-8
-pub record IsLabel (labels : List ℕ) (r : Range) : Type 0 where
+pub record IsLabelRange (labels : List ℕ) (r : Range) : Type 0 where
   pub in_order : r.start ≤ r.end
   pub within : r.end ≤ length labels
   pub is_utf_8 : IsUtf8 (range_bytes labels r)
@@ -37,7 +37,7 @@ abbrev pub identifiers : List ℕ → List Range → List (List ℕ)
 identifiers labels ranges = map (λ r. identifier_of (range_bytes labels r)) ranges
 
 abbrev pub AreLabels : Input → Type 0
-AreLabels i = All (IsLabel i.labels.now) i.definitions.now × All (IsLabel i.labels.now) i.footnotes.now
+AreLabels i = All (IsLabelRange i.labels.now) i.definitions.now × All (IsLabelRange i.labels.now) i.footnotes.now
 
 -- What a run is given.
 

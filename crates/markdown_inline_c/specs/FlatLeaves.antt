@@ -1,7 +1,7 @@
 -- Leaves as a caller in C gets them.
 use Rattle.std.specs.Prelude.{List, length, map}
 use Rattle.markdown_model.specs.InlineTree.{text_events}
-use Rattle.markdown_run_leaves.specs.InnermostEvents.{Lent, innermost, lent}
+use Rattle.markdown_innermost.specs.InnermostEvents.{Lent, innermost, lent}
 use Rattle.markdown_event.specs.EventNames.{name_number}
 use Rattle.markdown_inline_c.specs.FlatInput.{pieces_of, text_setting}
 use Rattle.markdown_inline_c.specs.declared.flat.FlatLeaf.{FlatLeaf}

@@ -1,8 +1,8 @@
 -- What a caller in C hands in to have the texts of strings, and what it gets (CommonMark 0.31, sections 2.4 and 2.5).
 use Rattle.std.specs.Prelude.{ℕ, ◌≤◌, List, length, slice_range}
 use Rattle.std.specs.List.{All, flat_map}
-use Rattle.markdown_html_text.specs.Resolved.{resolved}
-use Rattle.markdown_inline_c.specs.FlatInput.{IsLabel, range_bytes}
+use Rattle.markdown_html_model.specs.Resolved.{resolved}
+use Rattle.markdown_inline_c.specs.FlatInput.{IsLabelRange, range_bytes}
 use Rattle.markdown_inline_c.specs.declared.flat.Range.{Range}
 
 -- A string is a range of numbers of parts, and each part is a range of the bytes.
@@ -14,7 +14,7 @@ parts_at parts s = slice_range parts s.start s.end
 pub record IsStringAt (bytes : List ℕ) (parts : List Range) (s : Range) : Type 0 where
   pub in_order : s.start ≤ s.end
   pub within : s.end ≤ length parts
-  pub each : All (IsLabel bytes) (parts_at parts s)
+  pub each : All (IsLabelRange bytes) (parts_at parts s)
 
 -- the bytes of parts, one after another
 abbrev pub joined : List ℕ → List Range → List ℕ
@@ -23,6 +23,3 @@ joined bytes parts = flat_map (range_bytes bytes) parts
 -- the text of a string: its parts are one text, with escapes and references resolved
 abbrev pub string_text : List ℕ → List Range → Range → List ℕ
 string_text bytes parts s = resolved (joined bytes (parts_at parts s))
-
-abbrev pub strings_of : List ℕ → List Range → List Range → List ℕ
-strings_of bytes parts strings = flat_map (string_text bytes parts) strings

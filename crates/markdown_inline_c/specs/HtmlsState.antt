@@ -7,10 +7,10 @@ use Rattle.markdown_run_text.specs.RunSetting.{setting_of}
 use Rattle.markdown_inline_c.specs.declared.htmls.Given.{Given}
 
 abbrev pub page_of : Given → Page
-page_of g = page_from g.document.now g.definitions.now g.options
+page_of g = page_from g.contents.document.now g.definitions.now g.options
 
 abbrev pub setting : Given → Setting
-setting g = setting_of g.document.now
+setting g = setting_of g.contents.document.now
 
 -- the limit by its number, where 0 is none
 abbrev pub limit_of : ℕ → Option ℕ

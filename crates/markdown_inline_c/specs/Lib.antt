@@ -2,17 +2,18 @@
 -- What has to be believed: what public contracts cite.
 pub mod FlatInput
 pub mod FlatEvents
+pub mod ShortEvents
 pub mod FlatLeaves
 pub mod FlatHtml
 pub mod FlatTexts
+pub mod FlatStrings
+pub mod FlatHtmls
 pub mod References
 pub mod Statuses
 pub mod Answers
-pub mod Listings
-pub mod FlatStrings
 pub mod Refusals
-pub mod BlamedParts
-pub mod FlatHtmls
-pub mod HtmlsRefusals
+pub mod Many
+pub mod Calls
 -- What serves proofs: what functions promise each other.
+pub mod HandingOut
 pub mod HtmlsState

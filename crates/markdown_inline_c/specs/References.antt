@@ -1,7 +1,7 @@
 -- What a character reference stands for (CommonMark 0.31, section 2.5).
 use Rattle.std.specs.Prelude.{ℕ, ◌==◌, if◌then◌else◌, List, [], ◌∷◌, length, Option, None, Some}
 use Rattle.std.specs.Str.{byte}
-use Rattle.markdown_html_text.specs.Resolved.{reference_ahead}
+use Rattle.markdown_html_model.specs.Resolved.{reference_ahead}
 
 -- the text of a reference that takes so many bytes
 abbrev pub text_taking : ℕ → Option (List ℕ × ℕ) → Option (List ℕ)

@@ -1,39 +1,80 @@
--- What is wrong with an input that is refused, and which part of it is to blame; and what a call leaves that tells of it.
-use Rattle.std.specs.Prelude.{◌≡◌, ◌⊎◌, ℕ, List, Option, None, Some}
-use Rattle.markdown_inline_c.specs.Answers.{IsHandedOutTwice}
-use Rattle.markdown_inline_c.specs.FlatEvents.{number_or_max}
-use Rattle.markdown_inline_c.specs.FlatStrings.{IsStringAt}
-use Rattle.markdown_inline_c.specs.Listings.{IsFirstRefused}
-use Rattle.markdown_inline_c.specs.Statuses.{fault_status}
+-- What is wrong with an input that is refused, and which part of it is to blame.
+use Rattle.std.specs.Prelude.{◌≡◌, ◌⊎◌, ℕ, ◌+◌, List, ◌∷◌, ◌++◌, length, None, Some}
+use Rattle.std.specs.List.{All}
+use Rattle.markdown_content.specs.DefaultOptions.{AreKnown}
+use Rattle.markdown_content.specs.KnownPlaces.{IsDocument}
+use Rattle.markdown_inline_c.specs.FlatHtml.{AreKnownForHtml, AreTargets, IsTarget}
+use Rattle.markdown_inline_c.specs.FlatInput.{AreLabels, IsLabelRange}
+use Rattle.markdown_inline_c.specs.Statuses.{IsDocumentFault}
 use Rattle.markdown_inline_c.specs.declared.fault.Fault.{Fault}
-use Rattle.markdown_inline_c.specs.declared.flat.Range.{Range}
+use Rattle.markdown_inline_c.specs.declared.flat.FlatTarget.{FlatTarget}
+use Rattle.markdown_inline_c.specs.declared.flat.Input.{Input}
 use Rattle.markdown_inline_c.specs.declared.refusal.Refusal.{Refusal}
 
+abbrev pub blames_none : Fault → Refusal
+blames_none fault = record { fault = fault; at = None }
+
 -- the refusal of one of many, by its number; nothing is to blame where memory was refused
-abbrev pub refusal_at : Fault → ℕ → Refusal
-refusal_at Fault.Memory n = record { fault = Fault.Memory; at = None }
-refusal_at fault n = record { fault = fault; at = Some n }
+abbrev pub blames : Fault → ℕ → Refusal
+blames Fault.Memory number = blames_none Fault.Memory
+blames fault number = record { fault = fault; at = Some number }
 
--- memory may be refused at any time
-abbrev pub IsMemoryRefusal : Refusal → Type 0
-IsMemoryRefusal r = (r.fault ≡ Fault.Memory) × (r.at ≡ None)
+-- one of a list, by its number: the first of which this does not hold
+pub record IsFirstOther {X : Type 0} (P : X → Type 0) (xs : List X) (number : ℕ) : Type 0 where
+  pub before : List X
+  pub other : X
+  pub after : List X
+  pub parts : xs ≡ before ++ other ∷ after
+  pub number_is : number ≡ length before
+  pub hold : All P before
+  pub fails : P other → ⊥
 
--- of strings: the first that is none
-abbrev pub IsStringsRefusal : List ℕ → List Range → List Range → Refusal → Type 0
-IsStringsRefusal bytes parts strings r =
-    IsMemoryRefusal r
-    ⊎ ((r.fault ≡ Fault.NoString) × IsFirstRefused (IsStringAt bytes parts) (λ s. IsStringAt bytes parts s → ⊥) 0 strings r.at)
+-- the first of which this does not hold is blamed; so many others are counted before the list
+pub record IsFirstBlamed {X : Type 0} (P : X → Type 0) (before : ℕ) (xs : List X) (fault : Fault) (refusal : Refusal) : Type 0 where
+  pub number : ℕ
+  pub first : IsFirstOther P xs number
+  pub refusal_is : refusal ≡ blames fault (before + number)
 
--- a refusal that holds, its status, and the number of what is to blame
-pub record IsRefusedAt (holds : Refusal → Type 0) (status blamed : ℕ) : Type 0 where
-  pub refusal : Refusal
-  pub status_is : status ≡ fault_status refusal.fault
-  pub blamed_is : blamed ≡ number_or_max refusal.at
-  pub refusal_holds : holds refusal
+-- of a document
+abbrev pub IsDocumentRefused : List ℕ → Refusal → Type 0
+IsDocumentRefused bytes r = IsDocumentFault bytes r.fault × (r.at ≡ None)
 
--- as an answer with two arrays, which tells what is to blame too
-abbrev pub IsAnswerOrBlame : {X Y : Type 0} → (found : List X) (also : List Y) (readable : Type 0) (refuses : Refusal → Type 0) (old new : List X) (also_old also_new : List Y)
-    (count_old count_new blamed status : ℕ) → Type 0
-IsAnswerOrBlame found also readable refuses old new also_old also_new count_old count_new blamed status =
-    (readable × ((blamed ≡ number_or_max None) × IsHandedOutTwice found old new also also_old also_new count_new status))
-    ⊎ (IsRefusedAt refuses status blamed × ((new ≡ old) × ((also_new ≡ also_old) × (count_new ≡ count_old))))
+-- of labels, where footnotes are counted behind the definitions
+abbrev pub AreLabelsRefused : Input → Refusal → Type 0
+AreLabelsRefused i r =
+    IsFirstBlamed (IsLabelRange i.labels.now) 0 i.definitions.now Fault.Definition r
+    ⊎ (All (IsLabelRange i.labels.now) i.definitions.now × IsFirstBlamed (IsLabelRange i.labels.now) (length i.definitions.now) i.footnotes.now Fault.Definition r)
+
+-- of where definitions lead: there is not one target for each, which is the fault of none, or one is no text of the labels
+abbrev pub AreTargetsRefused : Input → List FlatTarget → Refusal → Type 0
+AreTargetsRefused i targets r =
+    ((r ≡ blames_none Fault.Definition) × (length targets ≡ length i.definitions.now → ⊥))
+    ⊎ ((length targets ≡ length i.definitions.now) × IsFirstBlamed (IsTarget i.labels.now) 0 targets Fault.Definition r)
+
+-- An input, whatever its contents: its options, its document and its labels.
+
+pub record IsReady (options_known : Type 0) (i : Input) : Type 0 where
+  pub options : options_known
+  pub document : IsDocument i.bytes.now
+  pub labels : AreLabels i
+
+-- in this order
+abbrev pub IsInputRefused : Type 0 → Input → Refusal → Type 0
+IsInputRefused options_known i r =
+    ((r ≡ blames_none Fault.UnknownOption) × (options_known → ⊥))
+    ⊎ (options_known × (IsDocumentRefused i.bytes.now r
+    ⊎ (IsDocument i.bytes.now × AreLabelsRefused i r)))
+
+-- the options of an input and those of HTML
+abbrev pub AreAllKnown : Input → ℕ → Type 0
+AreAllKnown i options = AreKnown i.options × AreKnownForHtml options
+
+-- an input with targets, that is to be written as HTML
+pub record IsReadyForHtml (i : Input) (targets : List FlatTarget) (options : ℕ) : Type 0 where
+  pub input : IsReady (AreAllKnown i options) i
+  pub each_target : AreTargets i targets
+
+abbrev pub IsHtmlInputRefused : Input → List FlatTarget → ℕ → Refusal → Type 0
+IsHtmlInputRefused i targets options r =
+    IsInputRefused (AreAllKnown i options) i r
+    ⊎ (IsReady (AreAllKnown i options) i × AreTargetsRefused i targets r)

@@ -1,13 +1,12 @@
 -- What is wrong with an input that is refused, and the status that says so. Each fault is the first one, in the order of their numbers below.
 use Rattle.std.specs.Prelude.{◌≡◌, ◌⊎◌, ℕ, ◌<◌, ◌≤◌, false, List, length, IsUtf8}
 use Rattle.std.specs.Option.{is_some}
-use Rattle.markdown_engine_content.specs.Content.{document_limit, IsContent, IsTextContent}
-use Rattle.markdown_engine_content.specs.DefaultOptions.{AreKnown}
-use Rattle.markdown_engine_content.specs.declared.parser.Piece.{Piece}
-use Rattle.markdown_engine_content.specs.KnownPlaces.{IsDocument}
+use Rattle.markdown_content.specs.Content.{document_limit, IsContent, IsTextContent}
+use Rattle.markdown_content.specs.DefaultOptions.{AreKnown}
+use Rattle.markdown_content.specs.declared.parser.Piece.{Piece}
 use Rattle.markdown_inline_c.specs.FlatHtml.{AreKnownForHtml, AreTargets}
 use Rattle.markdown_inline_c.specs.FlatInput.{AreLabels, IsTextInput, pieces_of}
-use Rattle.markdown_inline_c.specs.FlatTexts.{IsContentAt, IsTextAt, AreTextsBefore}
+use Rattle.markdown_inline_c.specs.FlatTexts.{IsContentAt, IsTextAt}
 use Rattle.markdown_inline_c.specs.References.{reference_value}
 use Rattle.markdown_inline_c.specs.declared.fault.Fault.{Fault}
 use Rattle.markdown_inline_c.specs.declared.flat.FlatContent.{FlatContent}
@@ -82,18 +81,3 @@ abbrev pub IsContentAtFault : List ℕ → List FlatPiece → FlatContent → Fa
 IsContentAtFault bytes pieces c fault =
     ((fault ≡ Fault.NoContent) × (IsContentAt bytes pieces c → ⊥))
     ⊎ ((fault ≡ Fault.BlankLine) × (IsContentAt bytes pieces c × (IsTextAt bytes pieces c → ⊥)))
-
--- of the first of many contents that is no text
-pub record IsFirstFault (bytes : List ℕ) (pieces : List FlatPiece) (contents : List FlatContent) (fault : Fault) : Type 0 where
-  pub at : FlatContent
-  pub texts_before : AreTextsBefore bytes pieces contents at
-  pub fault_holds : IsContentAtFault bytes pieces at fault
-
--- of an input and many contents of it that are to be texts: of the options, the document, the definitions, then of the first content that is none
-abbrev pub IsTextsFault : Input → List FlatContent → Fault → Type 0
-IsTextsFault i contents fault =
-    (fault ≡ Fault.Memory)
-    ⊎ (((fault ≡ Fault.UnknownOption) × (AreKnown i.options → ⊥))
-    ⊎ (AreKnown i.options × (IsDocumentFault i.bytes.now fault
-    ⊎ (IsDocument i.bytes.now × (((fault ≡ Fault.Definition) × (AreLabels i → ⊥))
-    ⊎ (AreLabels i × IsFirstFault i.bytes.now i.pieces.now contents fault))))))

@@ -1,14 +1,14 @@
-// Tests pieces, and finds out what is wrong with them.
+//! Tests pieces, and finds out what is wrong with them.
 
 ghost use Rattle.std.specs.Prelude.{◌≡◌, ◌⊎◌, ◌≤◌, IfErr, IfOk, IsUtf8, length};
-ghost use Rattle.markdown_engine_content.specs.Content.{document_limit, IsContent, IsTextContent};
+ghost use Rattle.markdown_content.specs.Content.{document_limit, IsContent, IsTextContent};
 ghost use Rattle.markdown_inline_c.specs.FlatInput.{pieces_of, pieces_listed};
 ghost use Rattle.markdown_inline_c.specs.Statuses.{IsDocumentFault, IsContentFault, IsPiecesFault};
 
 use crate::fault::Fault;
 use crate::flat::{FlatPiece, piece_of};
-use markdown_engine_content::parser::Piece;
-use markdown_engine_pieces::content::DOCUMENT_LIMIT;
+use markdown_content::content::DOCUMENT_LIMIT;
+use markdown_content::parser::Piece;
 use markdown_run::run;
 use std::alloc::{AllocError, Global};
 

@@ -1,4 +1,4 @@
-// Why a call refuses its input, and the statuses that say so.
+//! Why a call refuses its input, and the statuses that say so.
 
 ghost use Rattle.std.specs.Prelude.{◌≡◌, IfErr, IfOk};
 ghost use Rattle.markdown_inline_c.specs.Statuses.{fault_status};

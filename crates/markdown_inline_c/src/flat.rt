@@ -1,12 +1,12 @@
-// What crosses to C: structs of numbers and of arrays.
+//! What crosses to C: structs of numbers and of arrays.
 
-ghost use Rattle.std.specs.Prelude.{◌≡◌};
+ghost use Rattle.std.specs.Prelude.{◌≡◌, min};
 ghost use Rattle.markdown_event.specs.EventNames.{name_number};
-ghost use Rattle.markdown_inline_c.specs.FlatEvents.{flat_event, kind_number, link_number, number_or_max};
+ghost use Rattle.markdown_inline_c.specs.FlatEvents.{definition_number, flat_event, kind_number, link_number, linked_as, number_or_max, short_event};
 ghost use Rattle.markdown_inline_c.specs.FlatInput.{piece_of};
 
-use markdown_engine_content::parser::Piece;
-use markdown_event::event::{Content, Event, Kind, Name};
+use markdown_content::parser::Piece;
+use markdown_event::event::{Content, Event, Kind, Link, Name};
 
 /// A piece of a document, from a place to a place.
 #[repr(C)]
@@ -73,6 +73,25 @@ pub struct FlatEvent {
     pub previous: usize,
     /// The number of the event after on that chain, or `usize::MAX`.
     pub next: usize,
+}
+
+/// An event in 16 bytes, without its line, its column and the numbers of its chain.
+#[repr(C)]
+#[derive(Clone, Copy, Debug, PartialEq, Eq)]
+pub struct ShortEvent {
+    /// 0 where it begins, 1 where it ends.
+    pub kind: u8,
+    /// The number of its name, in the order of `Name`.
+    pub name: u8,
+    /// How what stands there is to be read again: 0 not at all, 1 as a string, 2 as a text.
+    pub link: u8,
+    /// How many columns of the tab at `index` come before the place, and 255 where it would be more; 0 outside of tabs.
+    pub vs: u8,
+    /// Where a link or an image begins, the number of the definition that it refers to; where a footnote call begins, that of the footnote. `u32::MAX`
+    /// elsewhere, and for numbers that are higher.
+    pub definition: u32,
+    /// The byte, from 0.
+    pub index: usize,
 }
 
 /// A leaf: an event with no other inside it, from where it begins to where it ends, and what stands there.
@@ -187,5 +206,43 @@ pub(crate) fn flat_event(event: &Event) -> FlatEvent
             next: number_or_max(link.next),
             ..unlinked
         },
+    }
+}
+
+fn linked_as(link: Option<Link>) -> u8
+    ensures { result ≡ linked_as link }
+{
+    match link {
+        None => 0,
+        Some(link) => link_number(link.content),
+    }
+}
+
+// A number in eight bits, of which the highest stands for all that are higher.
+fn byte_or_max(number: usize) -> u8
+    ensures { result ≡ min number 255 }
+{
+    number.min(255) as u8
+}
+
+fn definition_number(number: Option<usize>) -> u32
+    ensures { result ≡ definition_number number }
+{
+    match number {
+        None => u32::MAX,
+        Some(number) => number.min(0xffff_ffff) as u32,
+    }
+}
+
+pub(crate) fn short_event(event: &Event, met: Option<usize>) -> ShortEvent
+    ensures { result ≡ short_event met event.now }
+{
+    ShortEvent {
+        kind: kind_number(event.kind),
+        name: name_number(event.name),
+        link: linked_as(event.link),
+        vs: byte_or_max(event.point.vs),
+        definition: definition_number(met),
+        index: event.point.index,
     }
 }

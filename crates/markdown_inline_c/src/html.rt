@@ -1,10 +1,10 @@
-// The HTML of an input as a text.
+//! The HTML of an input as a text.
 
 ghost use Rattle.std.specs.Prelude.{◌≡◌, ◌⊎◌, ◌∷◌, ◌++◌, [], IfErr, IfOk, OnOk, length, option_map, string_bytes};
 ghost use Rattle.std.specs.List.{All};
 ghost use Rattle.markdown_html.specs.DefinitionView.{defined_of};
-ghost use Rattle.markdown_inline_c.specs.FlatHtml.{AreKnownForHtml, AreTargets, IsHtmlInput, IsTarget, IsTitle, defined_at, defined_by, html_of, html_options_of, title_of};
-ghost use Rattle.markdown_inline_c.specs.FlatInput.{IsLabel, range_bytes};
+ghost use Rattle.markdown_inline_c.specs.FlatHtml.{AreKnownForHtml, AreTargets, IsHtmlInput, IsTarget, IsTitleRange, defined_at, defined_by, html_of, html_options_of, title_of};
+ghost use Rattle.markdown_inline_c.specs.FlatInput.{IsLabelRange, range_bytes};
 ghost use Rattle.markdown_inline_c.specs.Statuses.{IsHtmlFault, IsTargetsFault};
 ghost use Rattle.markdown_inline_c.specs.declared.fault.Fault.TheVariants.{Definition as NoDefinition, Memory, UnknownOption};
 ghost use Rattle.markdown_util.specs.Identifier.{identifier_of};
@@ -12,8 +12,8 @@ ghost use Rattle.markdown_util.specs.Identifier.{identifier_of};
 use crate::fault::Fault;
 use crate::flat::{FlatTarget, Input, Range};
 use crate::input::{self, text_of};
-use markdown_engine_content::configuration::{ParseOptions, has_option};
-use markdown_engine_content::parser::ParseState;
+use markdown_content::configuration::{ParseOptions, has_option};
+use markdown_content::parser::ParseState;
 use markdown_html::footnotes::FootnoteCalls;
 use markdown_html::targets::Targets;
 use markdown_html::to_html;
@@ -42,8 +42,8 @@ pub(crate) fn known_options(options: u32) -> Result<HtmlOptions, Fault>
 // The text at a range of the labels.
 fn text_at(alloc: Global, labels: &[u8], range: Range) -> Result<String, Fault>
     ensures ok { IfOk result (λ text. string_bytes text ≡ range_bytes labels.now range) }
-    ensures label { IfOk result (λ _. IsLabel labels.now range) }
-    ensures err { IfErr result (λ fault. (fault ≡ Memory) ⊎ ((fault ≡ NoDefinition) × (IsLabel labels.now range → ⊥))) }
+    ensures label { IfOk result (λ _. IsLabelRange labels.now range) }
+    ensures err { IfErr result (λ fault. (fault ≡ Memory) ⊎ ((fault ≡ NoDefinition) × (IsLabelRange labels.now range → ⊥))) }
 {
     let Some(text) = text_of(labels, range) else {
         return Err(Fault::Definition);
@@ -54,7 +54,7 @@ fn text_at(alloc: Global, labels: &[u8], range: Range) -> Result<String, Fault>
 // The identifier of the label at a range.
 fn identifier_at(alloc: Global, labels: &[u8], range: Range) -> Result<String, Fault>
     ensures ok { IfOk result (λ text. string_bytes text ≡ identifier_of (range_bytes labels.now range)) }
-    ensures err { IfErr result (λ fault. (fault ≡ Memory) ⊎ ((fault ≡ NoDefinition) × (IsLabel labels.now range → ⊥))) }
+    ensures err { IfErr result (λ fault. (fault ≡ Memory) ⊎ ((fault ≡ NoDefinition) × (IsLabelRange labels.now range → ⊥))) }
 {
     let Some(text) = text_of(labels, range) else {
         return Err(Fault::Definition);
@@ -65,8 +65,8 @@ fn identifier_at(alloc: Global, labels: &[u8], range: Range) -> Result<String, F
 // The title of a definition, if it has one.
 fn title_at(alloc: Global, labels: &[u8], target: FlatTarget) -> Result<Option<String>, Fault>
     ensures ok { IfOk result (λ title. option_map string_bytes title ≡ title_of labels.now target) }
-    ensures title { IfOk result (λ _. IsTitle labels.now target) }
-    ensures err { IfErr result (λ fault. (fault ≡ Memory) ⊎ ((fault ≡ NoDefinition) × (IsTitle labels.now target → ⊥))) }
+    ensures title { IfOk result (λ _. IsTitleRange labels.now target) }
+    ensures err { IfErr result (λ fault. (fault ≡ Memory) ⊎ ((fault ≡ NoDefinition) × (IsTitleRange labels.now target → ⊥))) }
 {
     if target.has_title == 0 {
         return Ok(None);
@@ -81,7 +81,7 @@ fn definition_at(
     range: Range,
     target: FlatTarget,
 ) -> Result<Definition, Fault>
-    requires { IsLabel labels.now range }
+    requires { IsLabelRange labels.now range }
     ensures ok { IfOk result (λ found. defined_of found ≡ defined_at labels.now range target) }
     ensures target { IfOk result (λ _. IsTarget labels.now target) }
     ensures err { IfErr result (λ fault. (fault ≡ Memory) ⊎ ((fault ≡ NoDefinition) × (IsTarget labels.now target → ⊥))) }
@@ -108,7 +108,7 @@ fn definitions_of(
     ranges: &[Range],
     targets: &[FlatTarget],
 ) -> Result<Targets, Fault>
-    requires labels { All (IsLabel labels.now) ranges.now }
+    requires labels { All (IsLabelRange labels.now) ranges.now }
     requires one_each { length targets.now ≡ length ranges.now }
     ensures found { IfOk result (λ found. found ≡ defined_by labels.now ranges.now targets.now) }
     ensures targets { IfOk result (λ _. All (IsTarget labels.now) targets.now) }
@@ -128,7 +128,7 @@ pub(crate) fn definitions(
     input: &Input,
     targets: &[FlatTarget],
 ) -> Result<Targets, Fault>
-    requires { All (IsLabel input.now.labels.now) input.now.definitions.now }
+    requires { All (IsLabelRange input.now.labels.now) input.now.definitions.now }
     ensures found { IfOk result (λ found. found ≡ defined_by input.now.labels.now input.now.definitions.now targets.now) }
     ensures targets { IfOk result (λ _. AreTargets input.now targets.now) }
     ensures err { IfErr result (IsTargetsFault input.now targets.now) }
@@ -163,7 +163,7 @@ pub fn html(
     Ok(to_html(
         alloc,
         &parse_state,
-        run.events.as_slice(),
+        &run.events.as_slice(),
         &definitions,
         &mut FootnoteCalls::new(alloc),
         allowed,

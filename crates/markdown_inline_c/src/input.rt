@@ -1,21 +1,21 @@
-// Runs over an input.
+//! Runs over an input.
 
 ghost use Rattle.std.specs.Prelude.{◌≡◌, ◌⊎◌, ◌<◌, ◌∷◌, ◌++◌, [], IfErr, IfNone, IfOk, IfSome, OnOk, map, string_bytes};
 ghost use Rattle.std.specs.List.{All};
-ghost use Rattle.markdown_engine_content.specs.DefaultOptions.{AreKnown, options_of};
+ghost use Rattle.markdown_content.specs.DefaultOptions.{AreKnown, options_of};
 ghost use Rattle.markdown_model.specs.InlineTree.{string_events, text_events};
-ghost use Rattle.markdown_run_leaves.specs.InnermostEvents.{innermost, IsInOrder};
+ghost use Rattle.markdown_innermost.specs.InnermostEvents.{innermost, IsSpanInOrder};
 ghost use Rattle.markdown_util.specs.Identifier.{identifier_of};
-ghost use Rattle.markdown_inline_c.specs.FlatInput.{identifiers, IsLabel, pieces_of, range_bytes, string_setting, text_setting, IsStringInput, IsTextInput};
+ghost use Rattle.markdown_inline_c.specs.FlatInput.{identifiers, IsLabelRange, pieces_of, range_bytes, string_setting, text_setting, IsStringInput, IsTextInput};
 ghost use Rattle.markdown_inline_c.specs.Statuses.{IsStringFault, IsTextFault};
 ghost use Rattle.markdown_inline_c.specs.declared.fault.Fault.TheVariants.{Definition, Memory, UnknownOption};
 
 use crate::check::{Pieces, check_content, check_text};
 use crate::fault::Fault;
 use crate::flat::{Input, Range};
-use markdown_engine_content::configuration::{ParseOptions, UNKNOWN_OPTION, has_option};
-use markdown_engine_content::parser::ParseState;
-use markdown_run::run::{self, Run};
+use markdown_content::configuration::{ParseOptions, UNKNOWN_OPTION, has_option};
+use markdown_content::parser::ParseState;
+use markdown_run::run::{self, ListRun};
 use markdown_util::util::normalize_identifier::normalize_identifier;
 use std::alloc::{AllocError, Global};
 
@@ -35,8 +35,8 @@ pub(crate) fn known_options(options: u32) -> Result<ParseOptions, Fault>
 
 // The text of a range, if it is one.
 pub(crate) fn text_of(labels: &[u8], range: Range) -> Option<&str>
-    ensures some { IfSome result (λ text. (text.now ≡ range_bytes labels.now range) × IsLabel labels.now range) }
-    ensures none { IfNone result (IsLabel labels.now range → ⊥) }
+    ensures some { IfSome result (λ text. (text.now ≡ range_bytes labels.now range) × IsLabelRange labels.now range) }
+    ensures none { IfNone result (IsLabelRange labels.now range → ⊥) }
 {
     if range.start > range.end || range.end > labels.len() {
         return None;
@@ -57,8 +57,8 @@ fn push_identifier(alloc: Global, found: &mut Vec<String>, text: &str) -> Result
 #[tactic(auto, using(crate::proofs::Labels::all_read))]
 fn some_identifiers_of(alloc: Global, labels: &[u8], ranges: &[Range]) -> Result<Vec<String>, Fault>
     ensures found { IfOk result (λ found. map string_bytes found.items ≡ identifiers labels.now ranges.now) }
-    ensures labels { IfOk result (λ _. All (IsLabel labels.now) ranges.now) }
-    ensures err { IfErr result (λ fault. (fault ≡ Memory) ⊎ ((fault ≡ Definition) × (All (IsLabel labels.now) ranges.now → ⊥))) }
+    ensures labels { IfOk result (λ _. All (IsLabelRange labels.now) ranges.now) }
+    ensures err { IfErr result (λ fault. (fault ≡ Memory) ⊎ ((fault ≡ Definition) × (All (IsLabelRange labels.now) ranges.now → ⊥))) }
 {
     let mut found = Vec::new(alloc);
     for range in ranges {
@@ -78,8 +78,8 @@ pub(crate) fn identifiers_of(
     ranges: &[Range],
 ) -> Result<Vec<String>, Fault>
     ensures found { IfOk result (λ found. map string_bytes found.items ≡ identifiers labels.now ranges.now) }
-    ensures labels { IfOk result (λ _. All (IsLabel labels.now) ranges.now) }
-    ensures err { IfErr result (λ fault. (fault ≡ Memory) ⊎ ((fault ≡ Definition) × (All (IsLabel labels.now) ranges.now → ⊥))) }
+    ensures labels { IfOk result (λ _. All (IsLabelRange labels.now) ranges.now) }
+    ensures err { IfErr result (λ fault. (fault ≡ Memory) ⊎ ((fault ≡ Definition) × (All (IsLabelRange labels.now) ranges.now → ⊥))) }
 {
     if ranges.is_empty() {
         return Ok(Vec::new(alloc));
@@ -88,8 +88,8 @@ pub(crate) fn identifiers_of(
 }
 
 /// What is found in the input as a string, or why it is refused.
-pub fn string(alloc: Global, input: &Input) -> Result<Run, Fault>
-    ensures events { IfOk result (λ run. run.events.items ≡ string_events (string_setting input.now) (pieces_of input.now.pieces.now)) }
+pub fn string(alloc: Global, input: &Input) -> Result<ListRun, Fault>
+    ensures events { IfOk result (λ run. run.events ≡ string_events (string_setting input.now) (pieces_of input.now.pieces.now)) }
     ensures input { IfOk result (λ _. IsStringInput input.now) }
     ensures err { IfErr result (IsStringFault input.now) }
 {
@@ -102,14 +102,14 @@ pub fn string(alloc: Global, input: &Input) -> Result<Run, Fault>
         definitions: Vec::new(alloc),
         gfm_footnote_definitions: Vec::new(alloc),
     };
-    Ok(run::string(alloc, &parse_state, pieces.as_slice())?)
+    Ok(run::string_list(alloc, &parse_state, pieces.as_slice())?)
 }
 
 /// What is found in the input as a text, or why it is refused.
-pub fn text(alloc: Global, input: &Input) -> Result<Run, Fault>
-    ensures events { IfOk result (λ run. run.events.items ≡ text_events (text_setting input.now) (pieces_of input.now.pieces.now)) }
+pub fn text(alloc: Global, input: &Input) -> Result<ListRun, Fault>
+    ensures events { IfOk result (λ run. run.events ≡ text_events (text_setting input.now) (pieces_of input.now.pieces.now)) }
     ensures input { IfOk result (λ _. IsTextInput input.now) }
-    ensures places { IfOk result (λ run. All (IsInOrder input.now.bytes.now) (innermost run.events.items)) }
+    ensures places { IfOk result (λ run. All (IsSpanInOrder input.now.bytes.now) (innermost run.events)) }
     ensures err { IfErr result (IsTextFault input.now) }
 {
     let options = known_options(input.options)?;
@@ -122,5 +122,5 @@ pub fn text(alloc: Global, input: &Input) -> Result<Run, Fault>
         gfm_footnote_definitions: identifiers_of(alloc, input.labels, input.footnotes)?,
     };
     let first_of_item = has_option(input.options, FIRST_OF_ITEM);
-    Ok(run::text(alloc, &parse_state, pieces.as_slice(), first_of_item)?)
+    Ok(run::text_list(alloc, &parse_state, pieces.as_slice(), first_of_item)?)
 }

@@ -1,4 +1,4 @@
-// Identifiers of labels.
+//! Identifiers of labels.
 
 ghost use Rattle.std.specs.Prelude.{◌≡◌, IfErr, IfOk, IsUtf8};
 ghost use Rattle.markdown_inline_c.specs.Statuses.{IsLabelFault};

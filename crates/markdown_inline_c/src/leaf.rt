@@ -1,19 +1,19 @@
-// The leaves of an input as a text.
+//! The leaves of an input as a text.
 
 ghost use Rattle.std.specs.Prelude.{◌≡◌, ◌≤◌, IfErr, IfOk, length, map};
 ghost use Rattle.std.specs.List.{All};
-ghost use Rattle.markdown_engine_content.specs.Content.{document_limit};
+ghost use Rattle.markdown_content.specs.Content.{document_limit};
 ghost use Rattle.markdown_inline_c.specs.FlatInput.{IsTextInput};
 ghost use Rattle.markdown_inline_c.specs.FlatLeaves.{flat_leaf, leaves_of};
 ghost use Rattle.markdown_inline_c.specs.Statuses.{IsTextFault};
-ghost use Rattle.markdown_run_leaves.specs.InnermostEvents.{innermost, lent, IsInOrder};
-ghost use Rattle.markdown_leaves.specs.LeafView.{lent_by};
+ghost use Rattle.markdown_innermost.specs.InnermostEvents.{innermost, lent, IsSpanInOrder};
+ghost use Rattle.markdown_innermost.specs.LeafView.{lent_by};
 
 use crate::fault::Fault;
 use crate::flat::{FlatLeaf, Input, name_number};
 use crate::input;
-use markdown_event::event::Event;
-use markdown_leaves::leaf::Leaf;
+use markdown_engine_events::event_list::EventSlice;
+use markdown_innermost::leaf::Leaf;
 use std::alloc::{AllocError, Global};
 
 fn flat_leaf(leaf: &Leaf) -> FlatLeaf
@@ -37,13 +37,17 @@ fn flat_leaf(leaf: &Leaf) -> FlatLeaf
 
 // What is lent for the innermost of the events, one after another.
 #[tactic(auto, using(crate::proofs::Leaves::one_more, crate::proofs::Leaves::all_lent))]
-fn flat_leaves(alloc: Global, bytes: &[u8], events: &[Event]) -> Result<Vec<FlatLeaf>, AllocError>
+fn flat_leaves(
+    alloc: Global,
+    bytes: &[u8],
+    events: &EventSlice,
+) -> Result<Vec<FlatLeaf>, AllocError>
     requires fits { length bytes.now ≤ document_limit }
-    requires places { All (IsInOrder bytes.now) (innermost events.now) }
+    requires places { All (IsSpanInOrder bytes.now) (innermost events.now) }
     ensures { IfOk result (λ found. found.items ≡ map flat_leaf (map (lent bytes.now) (innermost events.now))) }
 {
     let mut found = Vec::new(alloc);
-    for leaf in markdown_leaves::leaves(bytes, events) {
+    for leaf in markdown_innermost::leaves(bytes, events) {
         found.push(flat_leaf(&leaf))?;
     }
     Ok(found)
@@ -56,5 +60,5 @@ pub fn leaves(alloc: Global, input: &Input) -> Result<Vec<FlatLeaf>, Fault>
     ensures err { IfErr result (IsTextFault input.now) }
 {
     let run = input::text(alloc, input)?;
-    Ok(flat_leaves(alloc, input.bytes, run.events.as_slice())?)
+    Ok(flat_leaves(alloc, input.bytes, &run.events.as_slice())?)
 }

@@ -8,46 +8,46 @@
 #![tactic(auto)]
 
 ghost use Rattle.std.specs.Prelude.{◌≡◌, IsTrue, IsUtf8, map};
-ghost use Rattle.std.specs.List.{All};
 ghost use Rattle.std.specs.Option.{is_some};
 ghost use Rattle.markdown_model.specs.InlineTree.{string_events, text_events};
 ghost use Rattle.markdown_inline_c.specs.FlatInput.{pieces_of, string_setting, text_setting, IsStringInput, IsTextInput};
 ghost use Rattle.markdown_inline_c.specs.FlatEvents.{flat_event};
+ghost use Rattle.markdown_inline_c.specs.FlatTexts.{many_setting};
+ghost use Rattle.markdown_inline_c.specs.ShortEvents.{short_events};
 ghost use Rattle.markdown_inline_c.specs.FlatLeaves.{leaves_of};
 ghost use Rattle.markdown_inline_c.specs.FlatHtml.{html_of, IsHtmlInput};
-ghost use Rattle.markdown_inline_c.specs.FlatTexts.{ends_of, texts_of, IsTextsInput};
-ghost use Rattle.markdown_inline_c.specs.FlatStrings.{IsStringAt, string_text, strings_of};
-ghost use Rattle.markdown_inline_c.specs.Listings.{ends_behind};
-ghost use Rattle.markdown_inline_c.specs.Refusals.{IsAnswerOrBlame, IsStringsRefusal};
 ghost use Rattle.markdown_inline_c.specs.References.{reference_text, reference_value};
-ghost use Rattle.markdown_inline_c.specs.Answers.{IsAnswer, IsAnswerTwice, IsTested};
-ghost use Rattle.markdown_inline_c.specs.FlatHtmls.{html_ends, htmls_of, one_text, IsHtmlsInput};
-ghost use Rattle.markdown_inline_c.specs.HtmlsRefusals.{AreHtmlsRefused};
-ghost use Rattle.markdown_inline_c.specs.BlamedParts.{IsAnswerBlaming};
-ghost use Rattle.markdown_inline_c.specs.Statuses.{IsContentFault, IsHtmlFault, IsPiecesFault, IsLabelFault, IsReferenceFault, IsStringFault, IsTextFault, IsTextsFault};
+ghost use Rattle.markdown_inline_c.specs.Answers.{IsAnswer, IsTested};
+ghost use Rattle.markdown_inline_c.specs.Calls.{AreHtmls, AreStrings, AreTexts};
+ghost use Rattle.markdown_inline_c.specs.Statuses.{IsContentFault, IsHtmlFault, IsPiecesFault, IsLabelFault, IsReferenceFault, IsStringFault, IsTextFault};
 ghost use Rattle.markdown_util.specs.Identifier.{identifier_of};
-ghost use Rattle.markdown_engine_content.specs.Content.{IsContent, IsTextContent};
+ghost use Rattle.markdown_content.specs.Content.{IsContent, IsTextContent};
 
 pub mod answer;
-pub mod blame;
 pub mod check;
+pub mod contents;
 pub mod fault;
 pub mod flat;
+pub mod form;
+pub mod found;
 pub mod html;
 pub mod htmls;
 pub mod input;
 pub mod label;
 pub mod leaf;
+pub mod outcome;
 pub mod reference;
 pub mod refusal;
 pub mod strings;
 pub mod texts;
 
-use answer::{answer, answer_texts, answer_with};
-use blame::answer_strings;
-use flat::{FlatContent, FlatEvent, FlatLeaf, FlatPiece, FlatTarget, Input, Range};
-use htmls::{answer_htmls, htmls};
+use answer::answer;
+use flat::{FlatContent, FlatEvent, FlatLeaf, FlatPiece, FlatTarget, Input, Range, ShortEvent};
+use form::{Large, Short};
+use htmls::htmls;
+use outcome::Outcome;
 use std::alloc::Global;
+use texts::texts;
 
 /// The version of the functions that this library exports, and of the types that they take.
 #[unsafe(no_mangle)]
@@ -127,7 +127,7 @@ pub extern "C" fn markdown_inline_leaves(
 ) -> u32
     ensures { IsAnswer (leaves_of input.now) (IsTextInput input.now) (IsTextFault input.now) leaves.old leaves.new count.old count.new result }
 {
-    answer_with(leaf::leaves(alloc, input), leaves, count)
+    answer(leaf::leaves(alloc, input), leaves, count)
 }
 
 /// The identifier of a label, as labels are compared: its words joined by one space and case folded.
@@ -143,7 +143,7 @@ pub extern "C" fn markdown_inline_identifier(
 ) -> u32
     ensures { IsAnswer (identifier_of label.now) (IsUtf8 label.now) (IsLabelFault label.now) identifier.old identifier.new count.old count.new result }
 {
-    answer_with(label::identifier(alloc, label), identifier, count)
+    answer(label::identifier(alloc, label), identifier, count)
 }
 
 /// The text that a character reference stands for: the bytes are the whole of it, with its `&` and its `;` (CommonMark 0.31, section 2.5).
@@ -160,7 +160,7 @@ pub extern "C" fn markdown_inline_reference(
 ) -> u32
     ensures { IsAnswer (reference_text reference.now) (IsTrue (is_some (reference_value reference.now))) (IsReferenceFault reference.now) text.old text.new count.old count.new result }
 {
-    answer_with(reference::decoded(alloc, reference), text, count)
+    answer(reference::decoded(alloc, reference), text, count)
 }
 
 /// The events of many contents of the input as texts, one content after another. The document is prepared once, and each content costs what it
@@ -169,9 +169,13 @@ pub extern "C" fn markdown_inline_reference(
 /// A content is a range of numbers of the input's pieces. That the text is the first of a list item is said of each content, and not by the
 /// options. Numbers of events count within a content.
 ///
-/// With status 0 the events stand at the front of `events`, and `count` is how many they are; where those of each content end stands at the front
-/// of `ends`. With status 6 `count` is that too, and `events` has not room for them, or `ends` not for one end a content. Nothing else is
-/// written. The status is that of the first thing that is wrong, in the order 2, 9, 3, 8; then that of the first content that is no text, 7 or 4.
+/// The events of as many of the first contents as have room whole stand at the front of `events`, and where those of each end at the front of
+/// `ends`; nothing else of the two is written. The outcome tells how many contents these are, and how many events all contents have that are read.
+///
+/// With status 0 these are all contents. With status 6 all contents are read, and there is not room for all of them. The status is that of the first
+/// thing that is wrong, in the order 2, 9, 3, 8; then that of the first content that is no text, 7 or 4: those before it are read. With status 7
+/// and 4 the outcome blames this content by its number; with status 8 the definition whose label is none, where numbers of footnotes are counted
+/// on behind those of the definitions. Else nothing is to blame, and the number is `usize::MAX`.
 #[unsafe(no_mangle)]
 pub extern "C" fn markdown_inline_texts(
     alloc: Global,
@@ -179,11 +183,31 @@ pub extern "C" fn markdown_inline_texts(
     contents: &[FlatContent],
     events: &mut [FlatEvent],
     ends: &mut [usize],
-    count: &mut usize,
+    outcome: &mut Outcome,
 ) -> u32
-    ensures { IsAnswerTwice (texts_of input.now contents.now) (ends_of input.now contents.now) (IsTextsInput input.now contents.now) (IsTextsFault input.now contents.now) events.old events.new ends.old ends.new count.old count.new result }
+    ensures { AreTexts (map flat_event) input.now contents.now events.old events.new ends.old ends.new outcome.new result }
 {
-    answer_texts(texts::texts(alloc, input, contents), events, ends, count)
+    let end = texts::<Large>(alloc, input, contents, events, ends, outcome);
+    outcome.ended(end, contents.len())
+}
+
+/// The same events in 16 bytes each, with the definitions that links, images and footnote calls refer to: of several with one identifier the first
+/// counts. It costs what `markdown_inline_texts` costs, and for each reference what it takes to find its definition.
+///
+/// The events are handed out, and inputs are refused, as by `markdown_inline_texts`.
+#[unsafe(no_mangle)]
+pub extern "C" fn markdown_inline_short_texts(
+    alloc: Global,
+    input: &Input,
+    contents: &[FlatContent],
+    events: &mut [ShortEvent],
+    ends: &mut [usize],
+    outcome: &mut Outcome,
+) -> u32
+    ensures { AreTexts (short_events (many_setting input.now)) input.now contents.now events.old events.new ends.old ends.new outcome.new result }
+{
+    let end = texts::<Short>(alloc, input, contents, events, ends, outcome);
+    outcome.ended(end, contents.len())
 }
 
 /// The HTML of the inline tree of the input's pieces as a text. Each call tests the whole document, passes all that stands before the pieces, and puts
@@ -207,7 +231,7 @@ pub extern "C" fn markdown_inline_html(
 ) -> u32
     ensures { IsAnswer (html_of input.now targets.now options) (IsHtmlInput input.now targets.now options) (IsHtmlFault input.now targets.now options) html.old html.new count.old count.new result }
 {
-    answer_with(html::html(alloc, input, targets, options), html, count)
+    answer(html::html(alloc, input, targets, options), html, count)
 }
 
 /// The texts of strings, one after another, with escaped punctuation in place of its escape, and in place of each character reference its text
@@ -216,9 +240,8 @@ pub extern "C" fn markdown_inline_html(
 ///
 /// A part is a range of the bytes; a string is a range of numbers of parts, whose bytes are one text.
 ///
-/// With status 0 the texts stand at the front of `texts`, and `count` is how many bytes they have; where that of each string ends stands at the front of
-/// `ends`. With status 6 `count` is that too, and `texts` has not room for them, or `ends` not for one end a string. With status 12 `blamed` is the number of
-/// the first string that has a part that is not given, or one that is no text of the bytes; with each other status it is `usize::MAX`. Nothing else is written.
+/// The texts are handed out as `markdown_inline_texts` hands out events. With status 12 the outcome blames the first string that has a part that is not given,
+/// or one that is no text of the bytes: those before it are read.
 #[unsafe(no_mangle)]
 pub extern "C" fn markdown_inline_strings(
     alloc: Global,
@@ -227,37 +250,26 @@ pub extern "C" fn markdown_inline_strings(
     strings: &[Range],
     texts: &mut [u8],
     ends: &mut [usize],
-    count: &mut usize,
-    blamed: &mut usize,
+    outcome: &mut Outcome,
 ) -> u32
-    ensures { IsAnswerOrBlame (strings_of bytes.now parts.now strings.now) (ends_behind 0 (string_text bytes.now parts.now) strings.now) (All (IsStringAt bytes.now parts.now) strings.now) (IsStringsRefusal bytes.now parts.now strings.now) texts.old texts.new ends.old ends.new count.old count.new blamed.new result }
+    ensures { AreStrings bytes.now parts.now strings.now texts.old texts.new ends.old ends.new outcome.new result }
 {
-    answer_strings(
-        strings::strings(alloc, bytes, parts, strings),
-        texts,
-        ends,
-        count,
-        blamed,
-    )
+    let end = strings::strings(alloc, bytes, parts, strings, texts, ends, outcome);
+    outcome.ended(end, strings.len())
 }
 
 /// The HTML of many contents of the input as texts, one content after another. The document is prepared once, and each content costs what it costs
 /// by itself, wherever it stands. Footnotes are numbered through all contents, so that each call in them has a number and an id of the document.
 ///
-/// A content is a range of numbers of the input's pieces. That the text is the first of a list item is said of each content, and not by the
-/// options. Targets and the bits of `options` are those of one content.
+/// Contents are those of `markdown_inline_texts`. Targets and the bits of `options` are those of one content.
 ///
 /// A definition brings the bytes of its destination and of its title, as the target has them, to each link and image that refers to it. Where
 /// definitions bring more than `limit` bytes to all contents together, the status is 11; 0 is no limit. That is found out before the HTML is
 /// written, which would grow with the square of the document without a limit.
 ///
-/// With status 0 the HTML stands at the front of `html`, and `count` is how many bytes it has; where that of each content ends stands at the front
-/// of `ends`. With status 6 `count` is that too, and `html` has not room for them, or `ends` not for one end a content. The status is that of the
-/// first thing that is wrong, in the order 2, 9, 3, 8; then that of the first content that is refused, 7, 4 or 11.
-///
-/// `blamed` is the number of the content that is refused with status 7, 4 or 11. With status 8 it is the number of the definition whose label or
-/// target is none; numbers of footnotes are counted on behind those of the definitions. Else it is `usize::MAX`. With a status other than 0 and 6
-/// nothing else is written.
+/// The HTML is handed out as `markdown_inline_texts` hands out events. The status is that of the first thing that is wrong, in the order 2, 9, 3, 8; then that
+/// of the first content that is refused, 7, 4 or 11, which the outcome blames: those before it are read. With status 8 it blames the definition whose label
+/// or target is none; where there is not one target for each definition, it blames none.
 #[unsafe(no_mangle)]
 pub extern "C" fn markdown_inline_htmls(
     alloc: Global,
@@ -268,11 +280,12 @@ pub extern "C" fn markdown_inline_htmls(
     limit: usize,
     html: &mut [u8],
     ends: &mut [usize],
-    count: &mut usize,
-    blamed: &mut usize,
+    outcome: &mut Outcome,
 ) -> u32
-    ensures { let found = htmls_of input.now targets.now contents.now options in IsAnswerBlaming (one_text found) (html_ends 0 found) (IsHtmlsInput input.now targets.now contents.now options limit) (AreHtmlsRefused input.now targets.now contents.now options limit) html.old html.new ends.old ends.new count.old count.new blamed.new result }
+    ensures { AreHtmls input.now targets.now contents.now options limit html.old html.new ends.old ends.new outcome.new result }
 {
-    let found = htmls(alloc, input, targets, contents, options, limit);
-    answer_htmls(found, html, ends, count, blamed)
+    let end = htmls(
+        alloc, input, targets, contents, options, limit, html, ends, outcome,
+    );
+    outcome.ended(end, contents.len())
 }

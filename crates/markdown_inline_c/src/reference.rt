@@ -1,4 +1,4 @@
-// Decoded character references.
+//! Decoded character references.
 
 ghost use Rattle.std.specs.Prelude.{◌≡◌, IfErr, IfOk, IsTrue};
 ghost use Rattle.std.specs.Option.{is_some};
@@ -6,7 +6,7 @@ ghost use Rattle.markdown_inline_c.specs.References.{reference_text, reference_v
 ghost use Rattle.markdown_inline_c.specs.Statuses.{IsReferenceFault};
 
 use crate::fault::Fault;
-use markdown_html_text::resolve::reference_ahead;
+use markdown_html_model::resolve::reference_ahead;
 use std::alloc::Global;
 
 /// The text that a character reference stands for, in UTF-8, or why there is none.

@@ -1,12 +1,12 @@
-// Why a call refuses its input, and which part of it is to blame.
+//! Why a call refuses its input, and which part of it is to blame.
 
-ghost use Rattle.std.specs.Prelude.{◌≡◌, None};
-ghost use Rattle.markdown_inline_c.specs.BlamedParts.{blames, blames_none};
+ghost use Rattle.std.specs.Prelude.{◌≡◌};
 ghost use Rattle.markdown_inline_c.specs.FlatEvents.{number_or_max};
-ghost use Rattle.markdown_inline_c.specs.Refusals.{refusal_at};
+ghost use Rattle.markdown_inline_c.specs.Refusals.{blames, blames_none};
 ghost use Rattle.markdown_inline_c.specs.declared.fault.Fault.TheVariants.{Memory};
 
 use crate::fault::Fault;
+use crate::flat::number_or_max;
 use std::alloc::AllocError;
 
 /// Why a call refuses its input, and the number of what is to blame, where that is one of many.
@@ -21,7 +21,7 @@ pub struct Refusal {
 impl Refusal {
     /// The refusal of one of many, by its number. Nothing is to blame where memory was refused.
     pub fn of(fault: Fault, number: usize) -> Refusal
-        ensures { result ≡ refusal_at fault number }
+        ensures { result ≡ blames fault number }
     {
         match fault {
             Fault::Memory => Refusal { fault, at: None },
@@ -32,19 +32,11 @@ impl Refusal {
         }
     }
 
-    /// The refusal for which the one of this number is to blame, whatever the reason.
-    pub fn blaming(fault: Fault, number: usize) -> Refusal
-        ensures { result ≡ blames fault number }
-    {
-        let at = Some(number);
-        Refusal { fault, at }
-    }
-
     /// The number of what is to blame, or `usize::MAX`.
     pub fn blamed(self) -> usize
         ensures { result ≡ number_or_max self.at }
     {
-        self.at.unwrap_or(usize::MAX)
+        number_or_max(self.at)
     }
 }
 

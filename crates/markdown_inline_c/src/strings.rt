@@ -1,29 +1,20 @@
-// The texts of strings, with escapes and character references resolved.
+//! The texts of strings, with escapes and character references resolved.
 
-ghost use Rattle.std.specs.Prelude.{◌≡◌, ◌⊎◌, ◌∷◌, ◌++◌, [], IfErr, IfOk, OnOk, length};
-ghost use Rattle.std.specs.List.{All, flat_map};
-ghost use Rattle.markdown_html_text.specs.Resolved.{resolved};
-ghost use Rattle.markdown_inline_c.specs.FlatInput.{IsLabel, range_bytes};
-ghost use Rattle.markdown_inline_c.specs.FlatStrings.{IsStringAt, joined, string_text, strings_of};
-ghost use Rattle.markdown_inline_c.specs.Listings.{ends_behind};
-ghost use Rattle.markdown_inline_c.specs.Refusals.{IsStringsRefusal};
+ghost use Rattle.std.specs.Prelude.{◌≡◌, ◌⊎◌, ◌∷◌, ◌++◌, [], IfErr, IfOk, OnOk, map};
+ghost use Rattle.std.specs.List.{All};
+ghost use Rattle.markdown_html_model.specs.Resolved.{resolved};
+ghost use Rattle.markdown_inline_c.specs.FlatInput.{IsLabelRange, range_bytes};
+ghost use Rattle.markdown_inline_c.specs.FlatStrings.{IsStringAt, joined, string_text};
+ghost use Rattle.markdown_inline_c.specs.Many.{AreFound, EndsBy};
 ghost use Rattle.markdown_inline_c.specs.declared.fault.Fault.TheVariants.{Memory, NoString};
 
 use crate::fault::Fault;
 use crate::flat::Range;
 use crate::input::text_of;
+use crate::outcome::Outcome;
 use crate::refusal::Refusal;
-use markdown_html_text::resolve::push_resolved;
+use markdown_html_model::resolve::push_resolved;
 use std::alloc::{AllocError, Global};
-
-/// The texts of strings, one after another.
-#[derive(Debug, Drop)]
-pub struct StringTexts {
-    /// The texts.
-    pub texts: Vec<u8>,
-    /// Where among them that of each string ends.
-    pub ends: Vec<usize>,
-}
 
 // Appends the bytes of one more part.
 fn push_bytes(joined: &mut Vec<u8>, part: &str) -> Result<(), AllocError>
@@ -36,8 +27,8 @@ fn push_bytes(joined: &mut Vec<u8>, part: &str) -> Result<(), AllocError>
 #[tactic(auto, using(crate::proofs::Joined::all_joined))]
 fn joined_parts(alloc: Global, bytes: &[u8], parts: &[Range]) -> Result<Vec<u8>, Fault>
     ensures joined { IfOk result (λ found. found.items ≡ joined bytes.now parts.now) }
-    ensures parts { IfOk result (λ _. All (IsLabel bytes.now) parts.now) }
-    ensures err { IfErr result (λ fault. (fault ≡ Memory) ⊎ ((fault ≡ NoString) × (All (IsLabel bytes.now) parts.now → ⊥))) }
+    ensures parts { IfOk result (λ _. All (IsLabelRange bytes.now) parts.now) }
+    ensures err { IfErr result (λ fault. (fault ≡ Memory) ⊎ ((fault ≡ NoString) × (All (IsLabelRange bytes.now) parts.now → ⊥))) }
 {
     let mut found = Vec::new(alloc);
     for part in parts {
@@ -57,8 +48,8 @@ fn push_joined(
     texts: &mut Vec<u8>,
 ) -> Result<(), Fault>
     ensures text { OnOk result (texts.new.items ≡ texts.old.items ++ resolved (joined bytes.now parts.now)) }
-    ensures parts { IfOk result (λ _. All (IsLabel bytes.now) parts.now) }
-    ensures err { IfErr result (λ fault. (fault ≡ Memory) ⊎ ((fault ≡ NoString) × (All (IsLabel bytes.now) parts.now → ⊥))) }
+    ensures parts { IfOk result (λ _. All (IsLabelRange bytes.now) parts.now) }
+    ensures err { IfErr result (λ fault. (fault ≡ Memory) ⊎ ((fault ≡ NoString) × (All (IsLabelRange bytes.now) parts.now → ⊥))) }
 {
     let joined = joined_parts(alloc, bytes, parts)?;
     push_resolved(alloc, texts, joined.as_slice())?;
@@ -69,8 +60,8 @@ fn push_joined(
 #[tactic(auto, using(crate::proofs::Joined::joined_one))]
 fn push_one(alloc: Global, bytes: &[u8], part: Range, texts: &mut Vec<u8>) -> Result<(), Fault>
     ensures text { OnOk result (texts.new.items ≡ texts.old.items ++ resolved (joined bytes.now (part ∷ []))) }
-    ensures parts { IfOk result (λ _. All (IsLabel bytes.now) (part ∷ [])) }
-    ensures err { IfErr result (λ fault. (fault ≡ Memory) ⊎ ((fault ≡ NoString) × (All (IsLabel bytes.now) (part ∷ []) → ⊥))) }
+    ensures parts { IfOk result (λ _. All (IsLabelRange bytes.now) (part ∷ [])) }
+    ensures err { IfErr result (λ fault. (fault ≡ Memory) ⊎ ((fault ≡ NoString) × (All (IsLabelRange bytes.now) (part ∷ []) → ⊥))) }
 {
     let Some(text) = text_of(bytes, part) else {
         return Err(Fault::NoString);
@@ -87,8 +78,8 @@ fn push_parts(
     texts: &mut Vec<u8>,
 ) -> Result<(), Fault>
     ensures text { OnOk result (texts.new.items ≡ texts.old.items ++ resolved (joined bytes.now parts.now)) }
-    ensures parts { IfOk result (λ _. All (IsLabel bytes.now) parts.now) }
-    ensures err { IfErr result (λ fault. (fault ≡ Memory) ⊎ ((fault ≡ NoString) × (All (IsLabel bytes.now) parts.now → ⊥))) }
+    ensures parts { IfOk result (λ _. All (IsLabelRange bytes.now) parts.now) }
+    ensures err { IfErr result (λ fault. (fault ≡ Memory) ⊎ ((fault ≡ NoString) × (All (IsLabelRange bytes.now) parts.now → ⊥))) }
 {
     match parts {
         [part] => push_one(alloc, bytes, *part, texts),
@@ -96,65 +87,43 @@ fn push_parts(
     }
 }
 
-impl StringTexts {
-    // Says that the text of a string ends where all do.
-    fn end(&mut self) -> Result<(), AllocError>
-        ensures texts { OnOk result (self.new.texts.items ≡ self.old.texts.items) }
-        ensures ends { OnOk result (self.new.ends.items ≡ self.old.ends.items ++ length self.old.texts.items ∷ []) }
-    {
-        self.ends.push(self.texts.len())?;
-        Ok(())
+// The text of a string, which has these numbers of parts.
+fn string_text(
+    alloc: Global,
+    bytes: &[u8],
+    parts: &[Range],
+    string: Range,
+) -> Result<Vec<u8>, Fault>
+    ensures text { IfOk result (λ text. text.items ≡ string_text bytes.now parts.now string) }
+    ensures string { IfOk result (λ _. IsStringAt bytes.now parts.now string) }
+    ensures err { IfErr result (λ fault. (fault ≡ Memory) ⊎ ((fault ≡ NoString) × (IsStringAt bytes.now parts.now string → ⊥))) }
+{
+    if string.start > string.end || string.end > parts.len() {
+        return Err(Fault::NoString);
     }
-
-    // Adds the text of one more string, which has these numbers of parts.
-    fn push(
-        &mut self,
-        alloc: Global,
-        bytes: &[u8],
-        parts: &[Range],
-        string: Range,
-    ) -> Result<(), Fault>
-        ensures texts { OnOk result (self.new.texts.items ≡ self.old.texts.items ++ string_text bytes.now parts.now string) }
-        ensures ends { OnOk result (self.new.ends.items ≡ self.old.ends.items ++ length self.new.texts.items ∷ []) }
-        ensures string { IfOk result (λ _. IsStringAt bytes.now parts.now string) }
-        ensures err { IfErr result (λ fault. (fault ≡ Memory) ⊎ ((fault ≡ NoString) × (IsStringAt bytes.now parts.now string → ⊥))) }
-    {
-        if string.start > string.end || string.end > parts.len() {
-            return Err(Fault::NoString);
-        }
-        push_parts(
-            alloc,
-            bytes,
-            &parts[string.start..string.end],
-            &mut self.texts,
-        )?;
-        self.end()?;
-        Ok(())
-    }
+    let mut text = Vec::new(alloc);
+    push_parts(alloc, bytes, &parts[string.start..string.end], &mut text)?;
+    Ok(text)
 }
 
-/// The texts of strings of these bytes, or why they are refused. A string is a range of numbers of parts.
-#[tactic(auto, using(crate::proofs::Listed::all_listed))]
+/// Finds the texts of strings of these bytes, and hands them out, or says why it stops. A string is a range of numbers of parts.
 pub fn strings(
     alloc: Global,
     bytes: &[u8],
     parts: &[Range],
     strings: &[Range],
-) -> Result<StringTexts, Refusal>
-    ensures texts { IfOk result (λ found. found.texts.items ≡ strings_of bytes.now parts.now strings.now) }
-    ensures ends { IfOk result (λ found. found.ends.items ≡ ends_behind 0 (string_text bytes.now parts.now) strings.now) }
-    ensures strings { IfOk result (λ _. All (IsStringAt bytes.now parts.now) strings.now) }
-    ensures err { IfErr result (IsStringsRefusal bytes.now parts.now strings.now) }
+    texts: &mut [u8],
+    ends: &mut [usize],
+    outcome: &mut Outcome,
+) -> Result<(), Refusal>
+    ensures { AreFound (map (string_text bytes.now parts.now) strings.now) texts.old texts.new ends.old ends.new outcome.new (λ read. EndsBy (All (IsStringAt bytes.now parts.now)) (λ before s fault. (fault ≡ NoString) × (IsStringAt bytes.now parts.now s → ⊥)) strings.now read result) }
 {
-    let mut found = StringTexts {
-        texts: Vec::new(alloc),
-        ends: Vec::new(alloc),
-    };
+    *outcome = Outcome::nothing();
     for at in 0..strings.len() {
-        match found.push(alloc, bytes, parts, strings[at]) {
-            Ok(()) => {}
+        match string_text(alloc, bytes, parts, strings[at]) {
+            Ok(text) => outcome.hand_out(at, &text, texts, ends)?,
             Err(fault) => return Err(Refusal::of(fault, at)),
         }
     }
-    Ok(found)
+    Ok(())
 }

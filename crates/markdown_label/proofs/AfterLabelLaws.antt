@@ -1,8 +1,8 @@
 -- What may follow the end of a label is nothing or one group, all data of which is linked.
 use Rattle.std.proofs.Common.{◌≡◌, ℕ, Bool, true, false, ◌&&◌, not, Option, Some, None, List, [], ◌∷◌, refl}
 use Rattle.std.proofs.lemmas.Bool.{both_ways}
-use Rattle.markdown_engine_content.specs.Codes.{Code, is_line_ending, is_blank}
-use Rattle.markdown_engine_content.specs.Tree.{Forest, empty, leaf_then, group_then, leaf, linked, ◌⊕◌}
+use Rattle.markdown_content.specs.Codes.{Code, is_line_ending, is_blank}
+use Rattle.markdown_content.specs.Tree.{Forest, empty, leaf_then, group_then, leaf, linked, ◌⊕◌}
 use Rattle.markdown_event.specs.declared.event.Content.{Content}
 use Rattle.markdown_event.specs.declared.event.Name.{Name}
 use Rattle.markdown_event.specs.declared.event.Name.TheVariants as N
@@ -14,11 +14,11 @@ use Rattle.markdown_model.specs.Resource.{StringNames, string_group, between_mar
 use Rattle.markdown_model.specs.Setting.{Setting}
 use Rattle.markdown_model.specs.Whitespace.{space_or_tab_eol, spaces_across, spaces_on_line}
 use Rattle.markdown_model.proofs.NoLinkInConstructs.{Yields, yields_bind, yields_gives, yields_passed, yields_either, yields_before, yields_next, yields_unless, then_any}
-use Rattle.markdown_partial.specs.DataOnLines.{HasLines}
-use Rattle.markdown_partial.specs.MergedEvents.{is_data}
-use Rattle.markdown_partial.specs.TrimmedEvents.{is_ending}
-use Rattle.markdown_partial.proofs.DataOnLinesLemmas.{HasLines-row}
-use Rattle.markdown_label.specs.AfterLabel.{IsSound}
+use Rattle.markdown_passes.specs.DataOnLines.{HasLines}
+use Rattle.markdown_passes.specs.MergedEvents.{is_data}
+use Rattle.markdown_passes.specs.TrimmedEvents.{is_ending}
+use Rattle.markdown_passes.proofs.DataOnLinesLemmas.{HasLines-row}
+use Rattle.markdown_label.specs.AfterLabel.{IsSoundTail}
 
 -- Leaves and groups.
 
@@ -97,19 +97,19 @@ lined-spacing =
     (then_any _ _ _ λ front. then_any _ _ _ λ ending. then_any _ _ _ λ back. yields_gives _ _ (HasLines-row _ _ (plain-lines N.SpaceOrTab None front refl) (HasLines-row _ _ (plain-lines N.LineEnding None ending refl) (plain-lines N.SpaceOrTab None back refl))))
     (then_any _ _ _ λ blank. yields_gives _ _ (plain-lines N.SpaceOrTab None blank refl))
 
-sound-label : Yields IsSound (label reference_names)
+sound-label : (characters : Bool) → Yields IsSoundTail (label characters reference_names)
 unfolding label
-sound-label =
+sound-label characters =
     then_any _ _ _ λ front. then_any _ _ _ λ text. yields_passed _ _ _ (yields_passed _ _ _ (then_any _ _ _ λ back. yields_passed _ _ _ (yields_gives _ _ (record { tail = (refl, refl); lines = between-lines reference_names references-plain front text back }))))
 
-lined-between : (opener closer : ℕ) → Lined (title_between opener closer title_names)
+lined-between : (both : Bool) (opener closer : ℕ) → Lined (title_between both opener closer title_names)
 unfolding title_between
-lined-between opener closer =
+lined-between both opener closer =
     then_any _ _ _ λ front. then_any _ _ _ λ text. then_any _ _ _ λ back. yields_passed _ _ _ (yields_gives _ _ (between-lines title_names titles-plain front text back))
 
-lined-title : Lined (title title_names)
+lined-title : (both : Bool) → Lined (title both title_names)
 unfolding title
-lined-title = yields_either _ _ _ (lined-between _ _) (yields_either _ _ _ (lined-between _ _) (lined-between _ _))
+lined-title both = yields_either _ _ _ (lined-between _ _ _) (yields_either _ _ _ (lined-between _ _ _) (lined-between _ _ _))
 
 lined-literal : Lined (literal_destination resource_names)
 unfolding literal_destination
@@ -126,47 +126,47 @@ lined-destination : (max : ℕ) → Lined (destination max resource_names)
 unfolding destination
 lined-destination max = yields_next _ _ _ _ lined-literal (lined-raw max)
 
-lined-spaced : Lined spaced_title
+lined-spaced : (both : Bool) → Lined (spaced_title both)
 unfolding spaced_title
-lined-spaced =
-    yields_bind HasLines _ _ _ (yields_before _ _ _ lined-spacing) λ space h. yields_bind HasLines _ _ _ lined-title λ text k.
+lined-spaced both =
+    yields_bind HasLines _ _ _ (yields_before _ _ _ lined-spacing) λ space h. yields_bind HasLines _ _ _ (lined-title both) λ text k.
     yields_bind HasLines _ _ _ (lined-optional _ lined-spacing) λ back l. yields_gives _ _ (HasLines-row space (text ⊕ back) h (HasLines-row text back k l))
 
-lined-both : Lined destination_and_title
+lined-both : (both : Bool) → Lined (destination_and_title both)
 unfolding destination_and_title
-lined-both =
+lined-both both =
     yields_bind HasLines _ _ _ (lined-destination 32) λ target h.
-    yields_bind HasLines _ _ _ (yields_either _ _ _ lined-spaced (lined-optional _ lined-spacing)) λ after k. yields_gives _ _ (HasLines-row target after h k)
+    yields_bind HasLines _ _ _ (yields_either _ _ _ (lined-spaced both) (lined-optional _ lined-spacing)) λ after k. yields_gives _ _ (HasLines-row target after h k)
 
 -- What may follow a label.
 
-sound-resource : Yields IsSound resource
+sound-resource : (both : Bool) → Yields IsSoundTail (resource both)
 unfolding resource
-sound-resource =
+sound-resource both =
     then_any _ _ _ λ front. yields_bind HasLines _ _ _ (lined-optional _ lined-spacing) λ space h.
-    yields_bind HasLines _ _ _ (yields_next _ _ _ _ (yields_gives _ _ tt) lined-both) λ inside k.
+    yields_bind HasLines _ _ _ (yields_next _ _ _ _ (yields_gives _ _ tt) (lined-both both)) λ inside k.
     then_any _ _ _ λ back. yields_gives _ _
     (record {
       tail = (refl, refl);
       lines = ((refl, refl), (HasLines-row _ _ (leaf-lines N.ResourceMarker front refl) (HasLines-row space _ h (HasLines-row inside _ k (leaf-lines N.ResourceMarker back refl))), tt));
     })
 
-sound-full : (s : Setting) → Yields IsSound (full_reference s)
+sound-full : (s : Setting) → Yields IsSoundTail (full_reference s)
 unfolding full_reference
-sound-full s = yields_bind IsSound _ _ _ sound-label λ tree h. yields_passed _ _ _ (yields_gives _ tree h)
+sound-full s = yields_bind IsSoundTail _ _ _ (sound-label _) λ tree h. yields_passed _ _ _ (yields_gives _ tree h)
 
-sound-collapsed : Yields IsSound collapsed_reference
+sound-collapsed : Yields IsSoundTail collapsed_reference
 unfolding collapsed_reference
 sound-collapsed =
     then_any _ _ _ λ front. then_any _ _ _ λ back. yields_gives _ _
     (record { tail = (refl, refl); lines = ((refl, refl), (HasLines-row _ _ (leaf-lines N.ReferenceMarker front refl) (leaf-lines N.ReferenceMarker back refl), tt)) })
 
-sound-shortcut : (defined : Bool) → Yields IsSound (shortcut defined)
+sound-shortcut : (defined : Bool) → Yields IsSoundTail (shortcut defined)
 unfolding shortcut
 sound-shortcut defined = yields_passed _ _ _ (yields_gives _ empty (record { tail = tt; lines = tt }))
 
-pub sound-after : (s : Setting) (defined : Bool) → Yields IsSound (after_label s defined)
+pub sound-after : (s : Setting) (defined : Bool) → Yields IsSoundTail (after_label s defined)
 unfolding after_label reference_after_label shortcut_before_bracket
 sound-after s defined =
-    yields_next _ _ _ _ (yields_either _ _ _ sound-resource (sound-shortcut defined))
+    yields_next _ _ _ _ (yields_either _ _ _ (sound-resource _) (sound-shortcut defined))
     (yields_next _ _ _ _ (yields_either _ _ _ (sound-full s) (yields_either _ _ _ (yields_passed _ _ _ sound-collapsed) (yields_unless _ _ _ (sound-shortcut _)))) (sound-shortcut defined))

@@ -2,8 +2,8 @@
 use Rattle.std.proofs.Common.{◌≡◌, ℕ, suc, ◌+◌, ◌-◌, List, [], ◌∷◌, ◌++◌, refl, sym, ap, ◌∙◌, arith, append_assoc}
 use Rattle.markdown_engine.proofs.ReadingSequences.{row-empty}
 use Rattle.std.proofs.lemmas.List.{append-nil}
-use Rattle.markdown_engine_content.specs.Codes.{Code}
-use Rattle.markdown_engine_content.specs.Tree.{Forest, empty, leaf, leaf_then, group_then, ◌⊕◌, event_count}
+use Rattle.markdown_content.specs.Codes.{Code}
+use Rattle.markdown_content.specs.Tree.{Forest, empty, leaf, leaf_then, group_then, ◌⊕◌, event_count}
 use Rattle.markdown_event.specs.declared.event.Name.{Name}
 use Rattle.markdown_engine.specs.declared.tokenizer.Label.{Label}
 use Rattle.markdown_model.specs.BracketGroups.{joined}

@@ -1,15 +1,15 @@
 -- the parts of brackets: their events before are those of the flat tree, and after those of the grouped one
 use Rattle.std.proofs.Common.{◌≡◌, ℕ, suc, ◌+◌, Option, Some, None, List, [], ◌∷◌, ◌++◌, length, drop, refl, sym, ap, ◌∙◌, arith, append_assoc}
 use Rattle.std.proofs.lemmas.List.{append-nil}
-use Rattle.markdown_engine_content.specs.Codes.{Code, stop_of, document_start}
+use Rattle.markdown_content.specs.Codes.{Code, stop_of, document_start}
 use Rattle.markdown_engine.specs.PastTree.{appended_from, last_link}
-use Rattle.markdown_engine_content.specs.Tree.{Forest, empty, leaf_then, group_then, leaf, ◌⊕◌, group, text_group, start_of, event, event_count}
+use Rattle.markdown_content.specs.Tree.{Forest, empty, leaf_then, group_then, leaf, ◌⊕◌, group, text_group, start_of, event, event_count}
 use Rattle.markdown_event.specs.declared.event.Event.{Event}
 use Rattle.markdown_event.specs.declared.event.Kind.{Kind}
 use Rattle.markdown_event.specs.declared.event.Name.{Name}
 use Rattle.markdown_engine.proofs.TreeEvents.{appended_from-row}
 use Rattle.markdown_model.specs.Passes.{label_group, label_name, start_marker, start_tree}
-use Rattle.markdown_engine.specs.OrderedEdits.{Part, comes, stays, before_from, after_from}
+use Rattle.markdown_engine.specs.OrderedEdits.{EditPart, comes, stays, before_from, after_from}
 use Rattle.markdown_label.specs.Brackets.{Front, link_front, image_front, call_front, caret_front, kind_of, codes_of, start_row, end_row, Tail, no_tail, one_tail, tail_row, Brackets, nothing, tree_then, label_then, unused_then}
 use Rattle.markdown_label.specs.Brackets.{failed_then, flat, grouped, IsApart, last_of, count, opened_of, ended, closed, as_data, first_start, last_stop, going_of, start_events, end_events, tail_stop, parts_of}
 
@@ -61,14 +61,14 @@ pub tail-last : (n : ℕ) (t : Tail) → last_link n None (tail_row t) ≡ None
 tail-last n no_tail = refl
 tail-last n (one_tail name a b inside) = refl
 
-before-going : (n : ℕ) (f : Front) (parts : List Part) →
+before-going : (n : ℕ) (f : Front) (parts : List EditPart) →
     before_from n (going_of (start_events f) ∷ parts) ≡ start_events f ++ before_from (n + suc (last_of f)) parts
 before-going n (link_front c) parts = refl
 before-going n (image_front c d) parts = refl
 before-going n (call_front c d) parts = refl
 before-going n (caret_front c d) parts = refl
 
-after-going : (m : ℕ) (f : Front) (parts : List Part) →
+after-going : (m : ℕ) (f : Front) (parts : List EditPart) →
     after_from m (going_of (start_events f) ∷ parts) ≡ after_from m parts
 after-going m (link_front c) parts = refl
 after-going m (image_front c d) parts = refl
@@ -131,13 +131,13 @@ flat-then n b u zs h =
 
 abbrev BeforeLaw : Brackets → Type 0
 BeforeLaw b =
-    (n : ℕ) (more : List Part) → before_from n (parts_of b ++ more) ≡ appended_from n None (flat b) ++ before_from (n + count b) more
+    (n : ℕ) (more : List EditPart) → before_from n (parts_of b ++ more) ≡ appended_from n None (flat b) ++ before_from (n + count b) more
 
-abbrev pub behind_end : Front → Code → Tail → List Part → List Part
+abbrev pub behind_end : Front → Code → Tail → List EditPart → List EditPart
 behind_end f back tail parts =
     comes (ended back.start back.stop) ∷ going_of (end_events back) ∷ stays (tail_row tail) ∷ comes (closed (kind_of f) (tail_stop back tail)) ∷ parts
 
-before-end : (e : ℕ) (f : Front) (back : Code) (tail : Tail) (rest : Brackets) (more : List Part) → BeforeLaw rest →
+before-end : (e : ℕ) (f : Front) (back : Code) (tail : Tail) (rest : Brackets) (more : List EditPart) → BeforeLaw rest →
     before_from e (behind_end f back tail (parts_of rest ++ more)) ≡ appended_from e None (end_row back ⊕ (tail_row tail ⊕ flat rest)) ++ before_from (e + (4 + (event_count (tail_row tail) + count rest))) more
 before-end e f back tail rest more law =
     let g : ℕ = e + 4 in
@@ -291,7 +291,7 @@ grouped-last n (failed_then f inside rest) h =
 
 abbrev AfterLaw : Brackets → Type 0
 AfterLaw b =
-    (m : ℕ) (more : List Part) → after_from m (parts_of b ++ more) ≡ appended_from m None (grouped b) ++ after_from (m + event_count (grouped b)) more
+    (m : ℕ) (more : List EditPart) → after_from m (parts_of b ++ more) ≡ appended_from m None (grouped b) ++ after_from (m + event_count (grouped b)) more
 
 four : (a b c d e z : List Event) → (a ++ (b ++ (c ++ (d ++ e)))) ++ z ≡ a ++ (b ++ (c ++ (d ++ (e ++ z))))
 four a b c d e z =

@@ -1,11 +1,11 @@
 -- The starts that a tokenizer keeps go on standing for the unused ones.
 use Rattle.std.proofs.Common.{◌≡◌, ℕ, zero, suc, ◌<◌, true, false, ◌&&◌, not, if◌then◌else◌, List, [], ◌∷◌, ◌++◌, map, length, slice_get, drop, Option, Some, None, refl, sym, ap, subst, ◌∙◌, arith, length-append}
 use Rattle.std.proofs.Math.Bool.{or-true, or-false}
-use Rattle.markdown_engine_content.specs.Codes.{Code, stop_of, document_start}
-use Rattle.markdown_engine_content.specs.ListFunctions.{rest_of}
-use Rattle.markdown_engine_content.specs.Tree.{Forest, start_of}
+use Rattle.markdown_content.specs.Codes.{Code, stop_of, document_start}
+use Rattle.markdown_content.specs.ListFunctions.{rest_of}
+use Rattle.markdown_content.specs.Tree.{Forest, start_of}
 use Rattle.markdown_event.specs.declared.event.Event.{Event}
-use Rattle.markdown_engine_content.specs.declared.label_kind.LabelKind.{LabelKind}
+use Rattle.markdown_content.specs.declared.label_kind.LabelKind.{LabelKind}
 use Rattle.markdown_engine.specs.declared.tokenizer.LabelStart.{LabelStart}
 use Rattle.markdown_model.specs.Grammar.{Reading, ◌>>◌, gives, provided, one}
 use Rattle.markdown_model.specs.CodeTests.{is_value}

@@ -2,37 +2,39 @@
 use Rattle.std.proofs.Common.{◌≡◌, ℕ, ◌<◌, ◌==◌, Bool, true, false, ◌&&◌, not, None, List, [], ◌∷◌, refl, sym, ap, subst, ◌∙◌, arith}
 use Rattle.std.proofs.lemmas.Bool.{false≢true}
 use Rattle.std.specs.Prelude.{is_some}
-use Rattle.markdown_engine_content.specs.ListFunctions.{rest_of}
+use Rattle.markdown_content.specs.ListFunctions.{rest_of}
 use Rattle.markdown_engine.specs.Operations.{ahead, applied, current_of, scratched}
 use Rattle.markdown_engine.specs.PastTree.{TreeReading, past}
 use Rattle.markdown_engine.specs.StateRuns.{Stepped}
 use Rattle.markdown_engine.specs.StateWords.{Words, Law, GoesIn}
-use Rattle.markdown_engine_content.specs.Tree.{empty}
+use Rattle.markdown_content.specs.Tree.{empty}
 use Rattle.markdown_engine.specs.Weights.{codes_left, weight_at}
-use Rattle.markdown_state.specs.declared.state.State.TheVariants.{Next, Retry}
-use Rattle.markdown_state.specs.declared.state.StateName.TheVariants.{LabelEndOk, LabelEndNok, LabelEndResourceStart, LabelEndReferenceFull, LabelEndReferenceNotFull, LabelEndReferenceCollapsed, LabelEndReferenceCollapsedOpen}
-use Rattle.markdown_engine_content.specs.declared.label_kind.LabelKind.{LabelKind}
+use Rattle.markdown_event.specs.declared.state.State.TheVariants.{Next, Retry}
+use Rattle.markdown_event.specs.declared.state.StateName.TheVariants.{LabelEndOk, LabelEndNok, LabelEndResourceStart, LabelEndReferenceFull, LabelEndReferenceNotFull, LabelEndReferenceCollapsed, LabelEndReferenceCollapsedOpen}
+use Rattle.markdown_content.specs.declared.label_kind.LabelKind.{LabelKind}
 use Rattle.markdown_engine.specs.declared.tokenizer.LabelStart as Kept
 use Rattle.markdown_engine.specs.declared.tokenizer.TokenizeState.{TokenizeState}
 use Rattle.markdown_engine.specs.declared.tokenizer.Tokenizer.{Tokenizer}
 use Rattle.markdown_engine.proofs.ReadingSequences.{scratched-same}
 use Rattle.markdown_engine.proofs.LawSteps.{if-step, code-step}
-use Rattle.markdown_engine.proofs.OperationFields.{Begins, ahead-some, attempts-scratched, left-scratched, some-codes}
+use Rattle.markdown_engine.proofs.OperationFields.{BeginsWithValue, ahead-some, attempts-scratched, left-scratched, some-codes}
 use Rattle.markdown_engine.proofs.OperationLemmas.{Grown-scratched}
 use Rattle.markdown_event.proofs.AndParts.{and-left}
 use Rattle.markdown_engine.proofs.TreeEvents.{past-empty}
 use Rattle.markdown_plan.specs.Plan.{Plan, plan_of, KeepsAs}
-use Rattle.markdown_plan.specs.LayerEquation.{Within}
+use Rattle.markdown_plan.specs.LayerEquation.{EqualsLayer}
 use Rattle.markdown_plan.proofs.PlanSteps.{EndsAs-plan}
 use Rattle.markdown_plan.proofs.LawStepsOfLayer.{FollowsIn, follows, GoesOn-map, Goes-end, Goes-next, Goes-no, Goes-plain, Goes-yes}
 use Rattle.markdown_model.specs.Grammar.{either}
 use Rattle.markdown_model.specs.LabelEnd.{is_footnote, full_reference, collapsed_reference, shortcut, reference_after_label, after_label, link_kind, link_identifier}
 use Rattle.markdown_model.specs.Resource.{resource, label, reference_names}
-use Rattle.markdown_model.specs.Setting.{Setting, is_defined}
+use Rattle.markdown_model.specs.Setting.{Setting, defines, is_defined}
 use Rattle.markdown_model.proofs.GrammarSteps.{either-some, either-second, if-true, if-false}
 use Rattle.markdown_label.specs.AfterLabelParts.{rested}
 use Rattle.markdown_label.proofs.NextCodeTests.{at-value, at-none}
 use Rattle.markdown_label.specs.LabelFields.{AreOrdered, with_kind, as_link}
+use Rattle.markdown_partial.specs.LinkedText.{rules_in}
+use Rattle.markdown_label.specs.Resource.{asks_both}
 use Rattle.markdown_label.specs.LabelEnd.{by_definition, not_full, tail_at, link_tried, after_by, made_here, lost_here, label_seen, label_matters, may_be_shortcut, collapsed_front, collapsed_back, collapsed_at, reference_collapsed_step, collapsed_open_at, AfterReady, FullReady, tail_ends, kind_set, made, after_reading_of}
 use Rattle.markdown_label_names.specs.LabelNames.{identifier_between}
 use Rattle.markdown_label.specs.LabelEnd.{after_reading, after_ends, ok_ends, nok_ends, not_full_reading, reference_collapsed_ends, collapsed_open_plan, reference_collapsed_open_ends, starts_set, states_and_called, ok_words, nok_words, after_words, reference_collapsed_words, reference_collapsed_open_words, reference_not_full_words}
@@ -62,7 +64,7 @@ lost-seen : (b : Bool) (T : Tokenizer) → lost_here (scratched (label_seen b T.
 unfolding scratched
 lost-seen b T = refl
 
-module _ (W : Words) (within : Within states_and_called W) where
+module _ (W : Words) (within : EqualsLayer states_and_called W) where
   -- Where all ends meet.
 
   seen-ordered : (b : Bool) (T : Tokenizer) → AreOrdered T.tokenize_state.label_starts →
@@ -93,7 +95,7 @@ module _ (W : Words) (within : Within states_and_called W) where
       (code-step P (current_of T) (λ o. collapsed_at o T)
       (λ e. Goes-no W 2 0 p T alone (collapsed-none (ahead T) (at-none T 91 e)))
       (λ c e.
-      let b : Begins c (ahead T) = ahead-some T c e in
+      let b : BeginsWithValue c (ahead T) = ahead-some T c e in
       if-step P (c == 91) _ _
       (λ h. Goes-next W 2 0 p collapsed_open_plan collapsed_front T (Next LabelEndReferenceCollapsedOpen) (within LabelEndReferenceCollapsedOpen) alone refl (some-codes T c e) (omega arith)
       (ap p b.whole ∙ collapsed-here b.code (rest_of (ahead T)) (ap (λ v. v == 91) b.value ∙ h))
@@ -131,10 +133,10 @@ module _ (W : Words) (within : Within states_and_called W) where
 
   -- where a `[` follows that begins no full reference
   not-full-goes : (n : ℕ) (defined : Bool) (M : Tokenizer) → AreOrdered M.tokenize_state.label_starts → weight_at 3 M < n → M.tokenize_state.seen ≡ false → after_label (setting_in M) defined (ahead M) ≡ reference_after_label (setting_in M) defined (ahead M) → full_reference (setting_in M) (ahead M) ≡ None
-      → FollowsIn W n (tail_ends (after_label (setting_in M) defined) M) (Next (not_full defined)) (scratched (label_seen (label_matters M && is_some (label reference_names (ahead M))) M.tokenize_state) M)
+      → FollowsIn W n (tail_ends (after_label (setting_in M) defined) M) (Next (not_full defined)) (scratched (label_seen (label_matters M && is_some (label (rules_in M).labels_by_characters reference_names (ahead M))) M.tokenize_state) M)
   unfolding scratched
   not-full-goes n true M ordered room rest is none =
-      let x : Bool = is_some (label reference_names (ahead M)) in
+      let x : Bool = is_some (label (rules_in M).labels_by_characters reference_names (ahead M)) in
       let b : Bool = label_matters M && x in
       let V : Tokenizer = scratched (label_seen b M.tokenize_state) M in
       follows W n (tail_ends (after_label (setting_in M) true) M) (Next LabelEndReferenceNotFull) (within LabelEndReferenceNotFull) V ordered room
@@ -142,7 +144,7 @@ module _ (W : Words) (within : Within states_and_called W) where
       let back : tail_ends (not_full_reading V) M ok U = subst (λ (x : Tokenizer). tail_ends (not_full_reading V) x ok U) (seen-back b M rest) h in
       tail-same (not_full_reading V) (after_label (setting_in M) true) M (ap (λ o. either collapsed_reference (shortcut o) (ahead M)) (matters-seen (label_matters M) x) ∙ sym (is ∙ defined-either (setting_in M) (ahead M) none)) ok U back)
   not-full-goes n false M ordered room rest is none =
-      let b : Bool = label_matters M && is_some (label reference_names (ahead M)) in
+      let b : Bool = label_matters M && is_some (label (rules_in M).labels_by_characters reference_names (ahead M)) in
       let V : Tokenizer = scratched (label_seen b M.tokenize_state) M in
       follows W n (tail_ends (after_label (setting_in M) false) M) (Next LabelEndNok) (within LabelEndNok) V tt (omega (arith, room))
       (λ ok U k. loses-here (after_label (setting_in M) false) M (is ∙ undefined-none (setting_in M) (ahead M) none) ok U (k.0, k.1 ∙ lost-seen b M))
@@ -157,21 +159,21 @@ module _ (W : Words) (within : Within states_and_called W) where
       (λ e. goes-definition W within n big defined M alone ordered (omega (arith, room)) (after-other s defined (ahead M) (at-none M 40 e) (at-none M 91 e)))
       (λ c e. if-step P (c == 40) _ _
       (λ h.
-      let is : big (ahead M) ≡ either resource (shortcut defined) (ahead M) = after-paren s defined (ahead M) (at-value M c 40 true e h) in
-      goes-tried W within n big LabelEndResourceStart (within LabelEndResourceStart) (by_definition defined) resource M.tokenize_state M alone
+      let is : big (ahead M) ≡ either (resource (asks_both M)) (shortcut defined) (ahead M) = after-paren s defined (ahead M) (at-value M c 40 true e h) in
+      goes-tried W within n big LabelEndResourceStart (within LabelEndResourceStart) (by_definition defined) (resource (asks_both M)) M.tokenize_state M alone
       ordered
       k.part
       room
       (omega (arith, room))
       (λ U x. x)
       (λ U x. (x.refused, x.fails))
-      (λ tree rest x. is ∙ either-some resource (shortcut defined) (ahead M) (tree, rest) x)
+      (λ tree rest x. is ∙ either-some (resource (asks_both M)) (shortcut defined) (ahead M) (tree, rest) x)
       (λ x. subst (λ (y : Tokenizer). FollowsIn W n (tail_ends big M) (Next (by_definition defined)) y) (sym (scratched-same M))
-      (on-definition W within n big defined M ordered (omega (arith, room)) (is ∙ either-second resource (shortcut defined) (ahead M) x))))
+      (on-definition W within n big defined M ordered (omega (arith, room)) (is ∙ either-second (resource (asks_both M)) (shortcut defined) (ahead M) x))))
       (λ g. if-step P (c == 91) _ _
       (λ h.
       let is : big (ahead M) ≡ reference_after_label s defined (ahead M) = after-bracket s defined (ahead M) (at-value M c 40 false e g) (at-value M c 91 true e h) in
-      goes-tried W within n big LabelEndReferenceFull (within LabelEndReferenceFull) (not_full defined) (full_reference s) (label_seen (label_matters M && is_some (label reference_names (ahead M))) M.tokenize_state) M alone
+      goes-tried W within n big LabelEndReferenceFull (within LabelEndReferenceFull) (not_full defined) (full_reference s) (label_seen (label_matters M && is_some (label (rules_in M).labels_by_characters reference_names (ahead M))) M.tokenize_state) M alone
       ordered
       k
       room
@@ -215,7 +217,7 @@ module _ (W : Words) (within : Within states_and_called W) where
       T.tokenize_state.label_starts ≡ l ∷ ls → (name : List ℕ) →
       name ≡ identifier_between T l.start.1 T.tokenize_state.end →
       is_footnote l.kind && is_defined (setting_in T).footnotes name ≡ false → (ok : Bool) (U : Tokenizer) →
-      tail_ends (after_label (setting_in T) (is_defined (setting_in T).definitions (link_identifier l.kind name))) (link_tried T) ok U →
+      tail_ends (after_label (setting_in T) (defines (setting_in T) (link_identifier l.kind name))) (link_tried T) ok U →
       after_ends T ok U
   unfolding made scratched
   tail-after l ls T e name named other true U k =
@@ -270,7 +272,7 @@ module _ (W : Words) (within : Within states_and_called W) where
       let n : ℕ = weight_at 13 T in
       let s : Setting = setting_in T in
       let name : List ℕ = identifier_between T l.start.1 T.tokenize_state.end in
-      let defined : Bool = is_defined s.definitions (link_identifier l.kind name) in
+      let defined : Bool = defines s (link_identifier l.kind name) in
       let P : Stepped → Type 0 = GoesIn W n (after_ends T) in
       if-step P (is_footnote l.kind && is_defined s.footnotes name) _ _
       (λ h. Goes-plain W n (after_ends T) (Retry LabelEndOk) (within LabelEndOk) T alone k.ordered (omega arith) (call-after l ls T e h))

@@ -1,19 +1,23 @@
 -- What follows a label, by the codes at hand.
-use Rattle.std.proofs.Common.{◌≡◌, ℕ, ◌==◌, Bool, true, false, ◌&&◌, not, if◌then◌else◌, Option, Some, None, List, [], ◌∷◌, ◌++◌, refl, sym, ap, ◌∙◌, append-nil}
+use Rattle.std.proofs.Common.{◌≡◌, ℕ, ◌==◌, Bool, true, false, ◌&&◌, not, if◌then◌else◌, Option, Some, None, List, [], ◌∷◌, refl, sym, ap, ◌∙◌}
 use Rattle.std.specs.Prelude.{is_some}
 use Rattle.markdown_partial.proofs.PartialDestinationReadings.{if-here, if-other}
 use Rattle.std.proofs.Math.Bool.{and-true, and-false}
-use Rattle.markdown_engine_content.specs.Codes.{Code}
-use Rattle.markdown_engine_content.specs.Tree.{Forest, empty, leaf, group, ◌⊕◌}
+use Rattle.markdown_content.specs.Codes.{Code}
+use Rattle.markdown_content.specs.Tree.{Forest, empty, leaf, group, ◌⊕◌}
 use Rattle.markdown_event.specs.declared.event.Name.TheVariants as N
-use Rattle.markdown_engine_content.specs.declared.label_kind.LabelKind.{LabelKind}
+use Rattle.markdown_content.specs.declared.label_kind.LabelKind.{LabelKind}
 use Rattle.markdown_plan.specs.Plan.{preceded, plan_of, tree_ops}
-use Rattle.markdown_plan.proofs.PassedByReadings.{Gives, Covers, IsSome, Gives-bind, Gives-one, Gives-gives, Covers-group, Covers-row, Covers-leaf, some-first}
+use Rattle.markdown_engine.proofs.SolidTrees.{IsSolid-leaf}
+use Rattle.markdown_model.proofs.LabelsCover.{covers_collapsed}
+use Rattle.markdown_model.proofs.NoLinkInConstructs.{yields_bind, yields_gives, then_any}
+use Rattle.markdown_model.proofs.OneLineReadings.{IsOneCode, one-one, one-some}
+use Rattle.markdown_plan.proofs.SolidReadings.{ReadsSolid, solid-marked}
 use Rattle.markdown_model.specs.CodeTests.{is_value, next_is}
 use Rattle.markdown_model.specs.Grammar.{Reading, ◌>>=◌, ◌>>◌, gives, either, unless, provided, one}
 use Rattle.markdown_model.specs.LabelEnd.{is_footnote, full_reference, collapsed_reference, shortcut, shortcut_before_bracket, reference_after_label, after_label, link_kind, link_identifier}
 use Rattle.markdown_model.specs.Resource.{resource, label, reference_names}
-use Rattle.markdown_model.specs.Setting.{Setting, is_defined}
+use Rattle.markdown_model.specs.Setting.{Setting, defines, is_defined, rules}
 use Rattle.markdown_model.proofs.GrammarSteps.{bind-some, bind-none, one-here, one-not, either-some, either-second, switched-on, switched-off}
 use Rattle.markdown_label.specs.LabelEnd.{collapsed_front, collapsed_back, collapsed_open_plan}
 use Rattle.markdown_model.specs.SingleConstructs.{outcome}
@@ -21,7 +25,7 @@ use Rattle.markdown_model.specs.SingleConstructs.{outcome}
 -- at a `(`, at a `[`, and elsewhere
 
 pub after-paren : (s : Setting) (defined : Bool) (cs : List Code) → next_is (is_value 40) cs ≡ true →
-    after_label s defined cs ≡ either resource (shortcut defined) cs
+    after_label s defined cs ≡ either (resource (rules s).escaped_parentheses) (shortcut defined) cs
 unfolding after_label
 after-paren s defined cs e = if-here (is_value 40) _ _ cs e
 
@@ -58,7 +62,7 @@ unfolding reference_after_label shortcut_before_bracket shortcut
 undefined-none s cs e =
     either-second (full_reference s) _ cs e
     ∙ either-second _ _ cs (switched-off collapsed_reference false cs refl)
-    ∙ elim (either collapsed_reference (label reference_names) cs) as (λ o. either collapsed_reference (label reference_names) cs ≡ o → unless (either collapsed_reference (label reference_names)) (shortcut (false && s.options.label_shortcut_before_bracket)) cs ≡ None) [
+    ∙ elim (either collapsed_reference (label (rules s).labels_by_characters reference_names) cs) as (λ o. either collapsed_reference (label (rules s).labels_by_characters reference_names) cs ≡ o → unless (either collapsed_reference (label (rules s).labels_by_characters reference_names)) (shortcut (false && (rules s).shortcut_before_bracket)) cs ≡ None) [
       | None ↦ λ h. unless-none _ _ cs h ∙ shortcut-off cs
       | Some r ↦ λ h. unless-some _ _ cs r h
     ] refl
@@ -68,21 +72,21 @@ undefined-none s cs e =
 
 -- it is defined: `[]`, or the shortcut that an option allows where no label stands
 pub defined-either : (s : Setting) (cs : List Code) → full_reference s cs ≡ None →
-    reference_after_label s true cs ≡ either collapsed_reference (shortcut (s.options.label_shortcut_before_bracket && not (is_some (label reference_names cs)))) cs
+    reference_after_label s true cs ≡ either collapsed_reference (shortcut ((rules s).shortcut_before_bracket && not (is_some (label (rules s).labels_by_characters reference_names cs)))) cs
 unfolding reference_after_label shortcut_before_bracket shortcut
 defined-either s cs e =
     either-second (full_reference s) _ cs e
-    ∙ by-collapsed (collapsed_reference cs) refl (label reference_names cs) refl
+    ∙ by-collapsed (collapsed_reference cs) refl (label (rules s).labels_by_characters reference_names cs) refl
   where
     option : Bool
-    option = s.options.label_shortcut_before_bracket
+    option = (rules s).shortcut_before_bracket
 
     off : (b : Bool) → b ≡ false → shortcut b cs ≡ None
     off b h = switched-off (gives empty) b cs h
 
-    by-collapsed : (o : Option (Forest × List Code)) → collapsed_reference cs ≡ o → (l : Option (Forest × List Code)) → label reference_names cs ≡ l
-        → either (provided true >> collapsed_reference) (unless (either collapsed_reference (label reference_names)) (shortcut (true && option))) cs
-        ≡ either collapsed_reference (shortcut (option && not (is_some (label reference_names cs)))) cs
+    by-collapsed : (o : Option (Forest × List Code)) → collapsed_reference cs ≡ o → (l : Option (Forest × List Code)) → label (rules s).labels_by_characters reference_names cs ≡ l
+        → either (provided true >> collapsed_reference) (unless (either collapsed_reference (label (rules s).labels_by_characters reference_names)) (shortcut (true && option))) cs
+        ≡ either collapsed_reference (shortcut (option && not (is_some (label (rules s).labels_by_characters reference_names cs)))) cs
     by-collapsed (Some r) h l k =
         either-some _ _ cs r (switched-on collapsed_reference true cs refl ∙ h) ∙ sym (either-some _ _ cs r h)
     by-collapsed None h None k =
@@ -98,14 +102,13 @@ defined-either s cs e =
 
 -- `[]`
 
-pub collapsed-whole : Gives Covers collapsed_reference
+pub collapsed-whole : ReadsSolid collapsed_reference
 unfolding collapsed_reference
-collapsed-whole =
-    Gives-bind _ _ IsSome Covers (Gives-one (is_value 91)) (λ front ws p.
-    Gives-bind _ _ IsSome _ (Gives-one (is_value 93)) (λ back us r.
-    Gives-gives (group N.Reference (leaf N.ReferenceMarker front ⊕ leaf N.ReferenceMarker back)) _
-    (Covers-group N.Reference _ _ (some-first ws _ (λ e. p.1 (p.0 ∙ e)))
-    (Covers-row _ _ ws (us ++ []) (Covers-leaf _ front ws p.0) (Covers-leaf _ back (us ++ []) (r.0 ∙ sym (append-nil us)))))))
+collapsed-whole = record {
+  covers = covers_collapsed;
+  solid = yields_bind IsOneCode _ _ _ (one-one _) λ front f. then_any _ _ _ λ back. yields_gives _ _
+      (solid-marked N.Reference N.ReferenceMarker front (leaf N.ReferenceMarker back) (one-some front f) (IsSolid-leaf N.ReferenceMarker back));
+}
 
 abbrev closes : List Code → Reading Forest
 closes front =
@@ -141,11 +144,11 @@ outcome-call s kind name cs e =
     either-some _ _ cs ((LabelKind.GfmFootnote, empty), cs) (switched-on (gives (LabelKind.GfmFootnote, empty)) _ cs e)
 
 abbrev tail_of : Setting → LabelKind → List ℕ → Reading Forest
-tail_of s kind name = after_label s (is_defined s.definitions (link_identifier kind name))
+tail_of s kind name = after_label s (defines s (link_identifier kind name))
 
 pub outcome-tail : (s : Setting) (kind : LabelKind) (name : List ℕ) (cs : List Code) (tree : Forest) (rest : List Code) →
     is_footnote kind && is_defined s.footnotes name ≡ false →
-    after_label s (is_defined s.definitions (link_identifier kind name)) cs ≡ Some (tree, rest) →
+    after_label s (defines s (link_identifier kind name)) cs ≡ Some (tree, rest) →
     outcome s kind name cs ≡ Some ((link_kind kind, tree), rest)
 unfolding outcome gives
 outcome-tail s kind name cs tree rest e h =
@@ -153,7 +156,7 @@ outcome-tail s kind name cs tree rest e h =
 
 pub outcome-none : (s : Setting) (kind : LabelKind) (name : List ℕ) (cs : List Code) →
     is_footnote kind && is_defined s.footnotes name ≡ false →
-    after_label s (is_defined s.definitions (link_identifier kind name)) cs ≡ None → outcome s kind name cs ≡ None
+    after_label s (defines s (link_identifier kind name)) cs ≡ None → outcome s kind name cs ≡ None
 unfolding outcome gives
 outcome-none s kind name cs e h =
     either-second _ _ cs (switched-off (gives (LabelKind.GfmFootnote, empty)) _ cs e) ∙ bind-none (tail_of s kind name) (λ t. gives (link_kind kind, t)) cs h

@@ -1,32 +1,32 @@
 -- The law of the start of a label's end.
 use Rattle.std.proofs.Common.{◌≡◌, ℕ, ◌+◌, ◌<◌, ◌==◌, Bool, true, false, ◌&&◌, not, Some, None, List, [], ◌∷◌, ◌++◌, length, slice_get, refl, sym, ap, subst, ◌∙◌, arith, length-append}
 use Rattle.std.proofs.Math.Bool.{and-false}
-use Rattle.markdown_engine_content.specs.Codes.{Code}
+use Rattle.markdown_content.specs.Codes.{Code}
 use Rattle.markdown_engine.specs.FailedRun.{Fails}
-use Rattle.markdown_engine_content.specs.ListFunctions.{rest_of}
+use Rattle.markdown_content.specs.ListFunctions.{rest_of}
 use Rattle.markdown_engine.specs.Operations.{ahead, current_of, done, scratched}
 use Rattle.markdown_engine.specs.PastTree.{past, appended_from}
-use Rattle.markdown_engine_content.specs.Place.{moved}
+use Rattle.markdown_content.specs.Place.{moved}
 use Rattle.markdown_engine.specs.StateRuns.{Stepped, stepped}
 use Rattle.markdown_engine.specs.StateWords.{Words, Law, GoesIn}
-use Rattle.markdown_engine_content.specs.Tree.{Forest, leaf}
+use Rattle.markdown_content.specs.Tree.{Forest, leaf}
 use Rattle.markdown_engine.specs.Weights.{codes_left, weight_at}
 use Rattle.markdown_event.specs.declared.event.Event.{Event}
 use Rattle.markdown_event.specs.declared.event.Name.TheVariants as N
-use Rattle.markdown_state.specs.declared.state.State.TheVariants.{Next, Retry, Nok}
-use Rattle.markdown_state.specs.declared.state.StateName.TheVariants.{LabelEndAfter, LabelEndNok}
-use Rattle.markdown_engine_content.specs.declared.label_kind.LabelKind.{LabelKind}
+use Rattle.markdown_event.specs.declared.state.State.TheVariants.{Next, Retry, Nok}
+use Rattle.markdown_event.specs.declared.state.StateName.TheVariants.{LabelEndAfter, LabelEndNok}
+use Rattle.markdown_content.specs.declared.label_kind.LabelKind.{LabelKind}
 use Rattle.markdown_engine.specs.declared.tokenizer.LabelStart as Kept
 use Rattle.markdown_engine.specs.declared.tokenizer.TokenizeState.{TokenizeState}
 use Rattle.markdown_engine.specs.declared.tokenizer.Tokenizer.{Tokenizer}
 use Rattle.markdown_engine.proofs.ReadingSequences.{then-fails}
 use Rattle.markdown_engine.proofs.LawSteps.{Grown-refl, if-step, code-step}
-use Rattle.markdown_engine.proofs.OperationFields.{Begins, ahead-some, left-ahead}
+use Rattle.markdown_engine.proofs.OperationFields.{BeginsWithValue, ahead-some, left-ahead}
 use Rattle.markdown_engine.proofs.OperationLemmas.{Grown-scratched}
 use Rattle.markdown_event.proofs.AndParts.{and-left, and-right}
 use Rattle.markdown_engine.proofs.SolidTrees.{IsSolid-group, IsSolid-leaf}
 use Rattle.markdown_engine.proofs.TreeEvents.{ahead-past, ops-past}
-use Rattle.markdown_plan.specs.LayerEquation.{Within}
+use Rattle.markdown_plan.specs.LayerEquation.{EqualsLayer}
 use Rattle.markdown_plan.specs.Characters.{bytes_of, later_value}
 use Rattle.markdown_plan.proofs.LawStepsOfLayer.{Goes-end, Goes-plain}
 use Rattle.markdown_plan.proofs.ContentCharacters.{text-past}
@@ -40,7 +40,7 @@ use Rattle.markdown_label.specs.LabelFields.{bars, as_link, loosened}
 use Rattle.std.specs.Str.{IsCharBoundary}
 use Rattle.std.proofs.lemmas.Bool.{eqb-true, true≢false}
 use Rattle.markdown_event.specs.declared.event.Point.{Point}
-use Rattle.markdown_label.specs.LabelEnd.{EndsBetween, end_ops, ended_at, ended, start_by, is_on, start_at, AllEndBetween, StartReady, AfterReady, after_reading_of, after_reading, after_ends, nok_ends, lost_here, end_tree, outcome_by, end_reading, lost_starts, lost_by, lost_fields, end_made, start_ends, start_words, states_and_called}
+use Rattle.markdown_label.specs.LabelEnd.{EndsBetween, end_ops, ended_at, ended, start_by, is_on, start_at, AllEndBetween, LabelEndStartReady, AfterReady, after_reading_of, after_reading, after_ends, nok_ends, lost_here, end_tree, outcome_by, end_reading, lost_starts, lost_by, lost_fields, end_made, start_ends, start_words, states_and_called}
 use Rattle.markdown_label_names.specs.LabelNames.{AreAround, point_or, place_at, identifier_between}
 use Rattle.markdown_model.specs.SingleConstructs.{outcome}
 use Rattle.markdown_label_names.specs.LabelSetting.{setting_in}
@@ -123,7 +123,7 @@ module _ (T : Tokenizer) (x : Code) (cs : List Code) (whole : ahead T ≡ x ∷ 
 
   -- what stands between the start and the end is whole characters
   around-there : (m : Kept.LabelStart) (ms : List Kept.LabelStart) → P.tokenize_state.label_starts ≡ m ∷ ms →
-      StartReady T → is_value 93 x ≡ true → AreAround P m.start.1 P.tokenize_state.end
+      LabelEndStartReady T → is_value 93 x ≡ true → AreAround P m.start.1 P.tokenize_state.end
   unfolding past scratched
   around-there m ms e k here =
       let w : EndsBetween T m = first-within T.tokenize_state.label_starts k.within.0 m ms e in
@@ -141,7 +141,7 @@ module _ (T : Tokenizer) (x : Code) (cs : List Code) (whole : ahead T ≡ x ∷ 
       }
 
   after-there : (l : Kept.LabelStart) (ls : List Kept.LabelStart) → T.tokenize_state.label_starts ≡ l ∷ ls →
-      StartReady T → is_value 93 x ≡ true → AfterReady P
+      LabelEndStartReady T → is_value 93 x ≡ true → AfterReady P
   unfolding past scratched moved
   after-there l ls e k here =
       let f : TokenizeState → TokenizeState = ended_at (length T.events) in
@@ -217,7 +217,7 @@ module _ (T : Tokenizer) (x : Code) (cs : List Code) (whole : ahead T ≡ x ∷ 
         fails = subst (λ s. Fails s T U) (barred-fields l ls e barred ∙ sym (lost-there l ls e on here)) (subst (λ y. Fails (loosened (ended T).tokenize_state.label_starts (ended T).tokenize_state) T y) (sym k.1) lost-ended);
       }
 
-module _ (W : Words) (within : Within states_and_called W) where
+module _ (W : Words) (within : EqualsLayer states_and_called W) where
   nok-here : (T : Tokenizer) → T.attempts ≡ [] → end_reading T (ahead T) ≡ None → lost_fields T ≡ T.tokenize_state →
       GoesIn W (weight_at 3 T) (start_ends T) (stepped Nok T)
   nok-here T alone none same = Goes-end W (weight_at 3 T) (start_ends T) false T alone (omega arith) fails
@@ -236,7 +236,7 @@ module _ (W : Words) (within : Within states_and_called W) where
   by-switch T true on h = reading-other T true on (sym (ap (λ y. y && next_is (is_value 93) (ahead T)) on) ∙ h)
   by-switch T false off h = reading-off T off
 
-  goes-after : (T : Tokenizer) → T.attempts ≡ [] → StartReady T → is_on T ≡ true → (x : Code) (cs : List Code) →
+  goes-after : (T : Tokenizer) → T.attempts ≡ [] → LabelEndStartReady T → is_on T ≡ true → (x : Code) (cs : List Code) →
       (whole : ahead T ≡ x ∷ cs) → is_value 93 x ≡ true → (l : Kept.LabelStart) (ls : List Kept.LabelStart) →
       T.tokenize_state.label_starts ≡ l ∷ ls → l.start.1 < length T.events → bars l ≡ false →
       GoesIn W (weight_at 3 T) (start_ends T) (stepped (Next LabelEndAfter) (past None (end_tree (x ∷ [])) (ended T)))
@@ -245,7 +245,7 @@ module _ (W : Words) (within : Within states_and_called W) where
       let P : Tokenizer = past None (end_tree (x ∷ [])) (ended T) in
       Goes-plain W (weight_at 3 T) (start_ends T) (Next LabelEndAfter) (within LabelEndAfter) P alone (after-there T x cs whole l ls e k here) (omega (arith, left-there T x cs whole)) (ends-there T x cs whole l ls e w h on here)
 
-  takes-start : (T : Tokenizer) → T.attempts ≡ [] → StartReady T → is_on T ≡ true → (x : Code) (cs : List Code) →
+  takes-start : (T : Tokenizer) → T.attempts ≡ [] → LabelEndStartReady T → is_on T ≡ true → (x : Code) (cs : List Code) →
       ahead T ≡ x ∷ cs → is_value 93 x ≡ true → (ls : List Kept.LabelStart) → T.tokenize_state.label_starts ≡ ls →
       AllEndBetween T ls → GoesIn W (weight_at 3 T) (start_ends T) (start_by ls T)
   unfolding scratched
@@ -264,7 +264,7 @@ module _ (W : Words) (within : Within states_and_called W) where
       code-step P (current_of T) (λ o. start_at o T)
       (λ e. let h : is_on T && next_is (is_value 93) (ahead T) ≡ false = ap (λ b. is_on T && b) (at-none T 93 e) ∙ and-false (is_on T) in other-here T alone h (by-switch T (is_on T) refl h))
       (λ c e.
-      let b : Begins c (ahead T) = ahead-some T c e in
+      let b : BeginsWithValue c (ahead T) = ahead-some T c e in
       if-step P (is_on T && (c == 93)) _ _
       (λ h. takes-start T alone k (and-left _ _ h) b.code (rest_of (ahead T)) b.whole (ap (λ v. v == 93) b.value ∙ and-right _ _ h) T.tokenize_state.label_starts refl k.within.0)
       (λ h. let g : is_on T && next_is (is_value 93) (ahead T) ≡ false = ap (λ y. is_on T && y) (at-value T c 93 (c == 93) e refl) ∙ h in other-here T alone g (by-switch T (is_on T) refl g)))

@@ -2,8 +2,8 @@
 use Rattle.std.proofs.Common.{◌≡◌, Bool, true, false, Option, Some, None, List, ◌∷◌, if◌then◌else◌, refl, sym, ap, ◌∙◌}
 use Rattle.markdown_engine.specs.Operations.{current_of, scratched}
 use Rattle.markdown_engine.specs.StateRuns.{Stepped, stepped}
-use Rattle.markdown_state.specs.declared.state.State.TheVariants.{Retry}
-use Rattle.markdown_state.specs.declared.state.StateName.TheVariants.{LabelEndOk}
+use Rattle.markdown_event.specs.declared.state.State.TheVariants.{Retry}
+use Rattle.markdown_event.specs.declared.state.StateName.TheVariants.{LabelEndOk}
 use Rattle.markdown_engine.specs.declared.tokenizer.LabelStart as Kept
 use Rattle.markdown_engine.specs.declared.tokenizer.Tokenizer.{Tokenizer}
 use Rattle.markdown_label.specs.LabelFields.{as_link}

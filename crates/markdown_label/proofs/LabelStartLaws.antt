@@ -2,26 +2,26 @@
 use Rattle.std.proofs.Common.{◌≡◌, ℕ, ◌+◌, ◌<◌, ◌≤◌, ◌==◌, Bool, true, false, ◌&&◌, not, Option, Some, None, List, [], ◌++◌, length, drop, refl, sym, ap, subst, ◌∙◌, arith}
 use Rattle.std.proofs.lemmas.Bool.{false≢true, true≢false}
 use Rattle.std.proofs.Math.Bool.{and-false}
-use Rattle.markdown_engine_content.specs.Codes.{Code}
+use Rattle.markdown_content.specs.Codes.{Code}
 use Rattle.markdown_engine.specs.FailedRun.{Grown}
-use Rattle.markdown_engine_content.specs.ListFunctions.{rest_of}
+use Rattle.markdown_content.specs.ListFunctions.{rest_of}
 use Rattle.markdown_engine.specs.Operations.{Op, ahead, current_of, done, moves, stays}
 use Rattle.markdown_engine.specs.StateRuns.{Stepped, stepped}
 use Rattle.markdown_engine.specs.StateWords.{StateWords, Words, words_in, Law, GoesIn}
 use Rattle.markdown_engine.specs.Weights.{weight_at}
-use Rattle.markdown_state.specs.declared.resolve.ResolveName.TheVariants as R
-use Rattle.markdown_state.specs.declared.state.State.TheVariants.{Next, Ok, Nok}
-use Rattle.markdown_state.specs.declared.state.StateName.{StateName}
-use Rattle.markdown_state.specs.declared.state.StateName.TheVariants as H
-use Rattle.markdown_state.specs.declared.state.StateName.TheVariants.{GfmLabelStartFootnoteOpen, LabelStartImageOpen, LabelStartImageAfter}
-use Rattle.markdown_engine_content.specs.declared.label_kind.LabelKind.{LabelKind}
+use Rattle.markdown_event.specs.declared.resolve.ResolveName.TheVariants as R
+use Rattle.markdown_event.specs.declared.state.State.TheVariants.{Next, Ok, Nok}
+use Rattle.markdown_event.specs.declared.state.StateName.{StateName}
+use Rattle.markdown_event.specs.declared.state.StateName.TheVariants as H
+use Rattle.markdown_event.specs.declared.state.StateName.TheVariants.{GfmLabelStartFootnoteOpen, LabelStartImageOpen, LabelStartImageAfter}
+use Rattle.markdown_content.specs.declared.label_kind.LabelKind.{LabelKind}
 use Rattle.markdown_engine.specs.declared.tokenizer.Tokenizer.{Tokenizer}
 use Rattle.markdown_engine.proofs.LawSteps.{Grown-refl, if-step, code-step}
 use Rattle.markdown_engine.proofs.OperationFields.{attempts-scratched, some-codes}
 use Rattle.markdown_engine.proofs.OperationLemmas.{ahead-done, attempts-done, left-done, scratch-done, input-done}
 use Rattle.markdown_engine.proofs.TreeEvents.{done-append}
 use Rattle.markdown_plan.specs.Plan.{depth_after}
-use Rattle.markdown_plan.specs.LayerEquation.{Within, AreLawful}
+use Rattle.markdown_plan.specs.LayerEquation.{EqualsLayer, AreLawful}
 use Rattle.markdown_plan.proofs.PlanSteps.{Grown-after}
 use Rattle.markdown_plan.proofs.LawStepsOfLayer.{Goes-end, Goes-ops}
 use Rattle.markdown_model.specs.CodeTests.{is_value, next_is}
@@ -88,7 +88,7 @@ caret-is : (T : Tokenizer) (o : Option ℕ) → current_of T ≡ o → is_caret 
 caret-is T None e = sym (at-none T 94 e)
 caret-is T (Some c) e = sym (at-value T c 94 (c == 94) e refl)
 
-module _ (W : Words) (within : Within states W) where
+module _ (W : Words) (within : EqualsLayer states W) where
   pub link-law : Law W link_words
   link-law T alone _ =
       let P : Stepped → Type 0 = GoesIn W (weight_at 1 T) (link_ends T) in
@@ -169,7 +169,7 @@ module _ (W : Words) (within : Within states W) where
           let a = sym (ahead-one image_front T refl) in let f = sym (footnotes-done image_front T) in (λ i. next_is (is_value 91) (a i) && not (f i && next_is (is_value 94) (rest_of (a i))))
 
 -- of these states, and of any other as it is given
-pub laws : (W : Words) → Within states W → (t : StateName → StateWords) → AreLawful W t → AreLawful W (states t)
+pub laws : (W : Words) → EqualsLayer states W → (t : StateName → StateWords) → AreLawful W t → AreLawful W (states t)
 laws W within t other H.GfmLabelStartFootnoteOpen = footnote_open-law W within
 laws W within t other H.LabelStartImageOpen = image_open-law W within
 laws W within t other H.LabelStartImageAfter = image_after-law W within

@@ -1,9 +1,9 @@
 -- Starts that are marked already.
 use Rattle.std.proofs.Common.{◌≡◌, ℕ, zero, suc, true, List, [], ◌∷◌, ◌++◌, take, drop, slice_index_or, sym, ap, refl, ◌∙◌}
 use Rattle.markdown_engine.specs.declared.tokenizer.LabelStart.{LabelStart}
-use Rattle.markdown_label.specs.LabelFields.{AreMarked, AreOrdered, marked}
+use Rattle.markdown_label.specs.LabelFields.{AreInactive, AreOrdered, marked}
 
-marked-again : (ls : List LabelStart) → AreMarked ls → marked ls ≡ ls
+marked-again : (ls : List LabelStart) → AreInactive ls → marked ls ≡ ls
 marked-again [] k = refl
 marked-again (l ∷ ls) k = λ i. (record l { inactive = sym k.0 i }) ∷ marked-again ls k.1 i
 

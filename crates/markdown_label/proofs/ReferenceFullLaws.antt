@@ -4,38 +4,39 @@ use Rattle.std.proofs.lemmas.Bool.{true≢false}
 use Rattle.std.proofs.Math.Bool.{and-true, and-false}
 use Rattle.std.specs.Prelude.{◌&&◌, is_some, IsUtf8}
 use Rattle.std.specs.Str.{IsCharBoundary}
-use Rattle.markdown_engine_content.specs.Codes.{Code, stop_of, document_start}
+use Rattle.markdown_content.specs.Codes.{Code, stop_of, document_start}
 use Rattle.markdown_engine.specs.FailedRun.{Fails}
 use Rattle.markdown_engine.specs.Operations.{ahead, scratched}
 use Rattle.markdown_engine.specs.PastTree.{Reads, EndsAs, past}
 use Rattle.markdown_engine.specs.StateWords.{Words, Law, GoesIn}
-use Rattle.markdown_engine_content.specs.Tree.{Forest}
+use Rattle.markdown_content.specs.Tree.{Forest}
 use Rattle.markdown_engine.specs.Weights.{codes_left, weight_at}
-use Rattle.markdown_state.specs.declared.state.State.TheVariants.{Next, Retry}
-use Rattle.markdown_state.specs.declared.state.StateName.TheVariants.{LabelEndReferenceFullAfter, LabelEndReferenceFullMissing, LabelStart}
+use Rattle.markdown_event.specs.declared.state.State.TheVariants.{Next, Retry}
+use Rattle.markdown_event.specs.declared.state.StateName.TheVariants.{LabelEndReferenceFullAfter, LabelEndReferenceFullMissing, LabelStart}
 use Rattle.markdown_engine.specs.declared.tokenizer.TokenizeState.{TokenizeState}
 use Rattle.markdown_engine.specs.declared.tokenizer.Tokenizer.{Tokenizer}
 use Rattle.markdown_engine.proofs.ReadingSequences.{left-read, scratched-same}
 use Rattle.markdown_engine.proofs.LawSteps.{Grown-refl, if-step, restored-fails}
 use Rattle.markdown_engine.proofs.OperationFields.{attempts-scratched, left-scratched}
 use Rattle.markdown_engine.proofs.TreeEvents.{Fails-past}
-use Rattle.markdown_plan.specs.LayerEquation.{Within}
+use Rattle.markdown_plan.specs.LayerEquation.{EqualsLayer}
 use Rattle.markdown_plan.specs.Characters.{bytes_of, later_value}
 use Rattle.markdown_plan.proofs.LawStepsOfLayer.{FollowsIn, follows, Goes-attempt, Goes-end}
 use Rattle.markdown_plan.proofs.CharacterPlaces.{text-places}
 use Rattle.markdown_model.specs.Grammar.{gives}
 use Rattle.markdown_model.specs.LabelEnd.{full_reference, reference_identifier}
 use Rattle.markdown_model.specs.Resource.{label, reference_names}
-use Rattle.markdown_model.specs.Setting.{Setting, is_defined}
-use Rattle.markdown_model.proofs.NoLinkInConstructs.{Passes}
+use Rattle.markdown_model.specs.Setting.{Setting, defines, rules}
+use Rattle.markdown_model.proofs.NoLinkInConstructs.{PassesValue}
 use Rattle.markdown_model.proofs.GrammarSteps.{bind-some, bind-none, switched-on, switched-off}
+use Rattle.markdown_partial.specs.LinkedText.{rules_in}
 use Rattle.markdown_partial.specs.PartialLabel as PartialLabel
 use Rattle.markdown_label.specs.LabelEnd.{names_set, label_seen, label_matters, reference_name, ReferenceIsAround, FullReady, FullFails, reference_full_ends, reference_full_after_ends, reference_full_missing_ends, states_and_called, reference_full_words, reference_full_after_words, reference_full_missing_words}
 use Rattle.markdown_label.specs.AfterLabelParts.{names_rested, rested, PartReady}
 use Rattle.markdown_label_names.specs.LabelSetting.{setting_in, IsListed}
 use Rattle.markdown_label.proofs.ReferenceFullText.{reference-around}
 use Rattle.markdown_label.proofs.ReferenceFullPlaces.{HasText, label-text}
-use Rattle.markdown_label.proofs.ReferenceFullTree.{IsReference, label-shape, name-there}
+use Rattle.markdown_label.proofs.ReferenceFullTree.{IsReferenceGroup, label-shape, name-there}
 
 -- The scratch fields.
 
@@ -48,7 +49,7 @@ seen-rest s e = ap (label_seen false) (sym e) ∙ e
 label-rest : (s : TokenizeState) → rested s ≡ s → PartialLabel.rested (names_set s) ≡ names_set s
 label-rest s e = ap (λ q. PartialLabel.rested (names_set q)) (sym e) ∙ ap names_set e
 
-label-ready : (T : Tokenizer) → PartReady T → PartialLabel.StartReady (scratched (names_set T.tokenize_state) T)
+label-ready : (T : Tokenizer) → PartReady T → PartialLabel.LabelStartReady (scratched (names_set T.tokenize_state) T)
 unfolding scratched
 label-ready T k =
     record {
@@ -56,39 +57,39 @@ label-ready T k =
       rest = label-rest T.tokenize_state k.rest;
     }
 
-shape-of : (cs : List Code) (t : Forest) (rest : List Code) → label reference_names cs ≡ Some (t, rest) → IsReference t
-shape-of cs t rest e = subst (λ o. Passes IsReference o) e (label-shape.at cs)
+shape-of : (characters : Bool) (cs : List Code) (t : Forest) (rest : List Code) → label characters reference_names cs ≡ Some (t, rest) → IsReferenceGroup t
+shape-of characters cs t rest e = subst (λ o. PassesValue IsReferenceGroup o) e ((label-shape characters).at cs)
 
 -- What is read.
 
 full-defined : (s : Setting) (cs : List Code) (t : Forest) (rest : List Code) →
-    label reference_names cs ≡ Some (t, rest) → is_defined s.definitions (reference_identifier s t) ≡ true →
+    label (rules s).labels_by_characters reference_names cs ≡ Some (t, rest) → defines s (reference_identifier s t) ≡ true →
     full_reference s cs ≡ Some (t, rest)
 unfolding full_reference gives
-full-defined s cs t rest e h = bind-some (label reference_names) _ cs t rest _ e (switched-on (gives t) _ rest h)
+full-defined s cs t rest e h = bind-some (label (rules s).labels_by_characters reference_names) _ cs t rest _ e (switched-on (gives t) _ rest h)
 
 full-undefined : (s : Setting) (cs : List Code) (t : Forest) (rest : List Code) →
-    label reference_names cs ≡ Some (t, rest) → is_defined s.definitions (reference_identifier s t) ≡ false →
+    label (rules s).labels_by_characters reference_names cs ≡ Some (t, rest) → defines s (reference_identifier s t) ≡ false →
     full_reference s cs ≡ None
 unfolding full_reference gives
-full-undefined s cs t rest e h = bind-some (label reference_names) _ cs t rest _ e (switched-off (gives t) _ rest h)
+full-undefined s cs t rest e h = bind-some (label (rules s).labels_by_characters reference_names) _ cs t rest _ e (switched-off (gives t) _ rest h)
 
-full-missing : (s : Setting) (cs : List Code) → label reference_names cs ≡ None → full_reference s cs ≡ None
+full-missing : (s : Setting) (cs : List Code) → label (rules s).labels_by_characters reference_names cs ≡ None → full_reference s cs ≡ None
 unfolding full_reference
-full-missing s cs e = bind-none (label reference_names) _ cs e
+full-missing s cs e = bind-none (label (rules s).labels_by_characters reference_names) _ cs e
 
 -- the label as it is read with the names set
 LabelRead : Tokenizer → Tokenizer → Type 0
 LabelRead T U =
-    Reads (label reference_names) None (names_set T.tokenize_state) (scratched (names_set T.tokenize_state) T) U
+    Reads (label (rules_in T).labels_by_characters reference_names) None (names_set T.tokenize_state) (scratched (names_set T.tokenize_state) T) U
 
 label-read : (T U : Tokenizer) → PartialLabel.start_ends (scratched (names_set T.tokenize_state) T) true U →
-    Reads (label reference_names) None (names_set T.tokenize_state) (scratched (names_set T.tokenize_state) T) U
+    Reads (label (rules_in T).labels_by_characters reference_names) None (names_set T.tokenize_state) (scratched (names_set T.tokenize_state) T) U
 unfolding scratched
 label-read T U k = k
 
 label-refused : (T U : Tokenizer) → PartialLabel.start_ends (scratched (names_set T.tokenize_state) T) false U →
-    (label reference_names (ahead T) ≡ None) × Fails (names_set T.tokenize_state) (scratched (names_set T.tokenize_state) T) U
+    (label (rules_in T).labels_by_characters reference_names (ahead T) ≡ None) × Fails (names_set T.tokenize_state) (scratched (names_set T.tokenize_state) T) U
 unfolding scratched
 label-refused T U k = (k.refused, k.fails)
 
@@ -112,7 +113,7 @@ kept-back t T U rest left V e =
     ∙ ap (λ (x : Tokenizer). scratched (names_rested x.tokenize_state) x) left
     ∙ ap (λ q. past None t (scratched q T)) (names-back T.tokenize_state rest)
 
-name-is : (t : Forest) (T U : Tokenizer) → IsReference t → length T.events ≡ T.tokenize_state.end + 4 →
+name-is : (t : Forest) (T U : Tokenizer) → IsReferenceGroup t → length T.events ≡ T.tokenize_state.end + 4 →
     U ≡ past None t (scratched (names_set T.tokenize_state) (scratched (names_set T.tokenize_state) T)) →
     reference_name U ≡ reference_identifier (setting_in T) t
 unfolding past scratched
@@ -132,18 +133,18 @@ unfolding past scratched
 matters-past t T U left = ap label_matters left
 
 as-label : (T U : Tokenizer) →
-    Reads (label reference_names) None (names_set T.tokenize_state) (scratched (names_set T.tokenize_state) T) U →
+    Reads (label (rules_in T).labels_by_characters reference_names) None (names_set T.tokenize_state) (scratched (names_set T.tokenize_state) T) U →
     LabelRead T U
 unfolding LabelRead
 as-label T U k = k
 
 -- what stands between its brackets is whole characters
 text-around : (T U : Tokenizer) → FullReady T →
-    (r : Reads (label reference_names) None (names_set T.tokenize_state) (scratched (names_set T.tokenize_state) T) U) →
+    (r : Reads (label (rules_in T).labels_by_characters reference_names) None (names_set T.tokenize_state) (scratched (names_set T.tokenize_state) T) U) →
     ReferenceIsAround U
 unfolding past scratched
 text-around T U f r =
-    let k : HasText r.tree = subst (λ o. Passes HasText o) r.holds (label-text.at (ahead T)) in
+    let k : HasText r.tree = subst (λ o. PassesValue HasText o) r.holds ((label-text (rules_in T).labels_by_characters).at (ahead T)) in
     let codes : ahead T ≡ k.c ∷ k.x ∷ (k.xs ++ k.d ∷ r.rest) = r.whole ∙ ap (λ cs. cs ++ r.rest) k.whole ∙ ap (λ cs. k.c ∷ k.x ∷ cs) (append_assoc k.xs (k.d ∷ []) r.rest) in
     let places = text-places (bytes_of T) T.cursor k.c k.x k.xs k.d r.rest f.text codes (ap (λ v. nat_lt v 128) k.opens) (ap later_value k.closes) in
     let same : bytes_of U ≡ bytes_of T = ap bytes_of r.left in
@@ -152,8 +153,8 @@ text-around T U f r =
     (subst (λ bs. IsCharBoundary bs (stop_of document_start (k.x ∷ k.xs)).index) (sym same) places.1)
 
 whole-read : (T U V : Tokenizer) → FullReady T →
-    (r : Reads (label reference_names) None (names_set T.tokenize_state) (scratched (names_set T.tokenize_state) T) U) →
-    is_defined (setting_in T).definitions (reference_identifier (setting_in T) r.tree) ≡ true →
+    (r : Reads (label (rules_in T).labels_by_characters reference_names) None (names_set T.tokenize_state) (scratched (names_set T.tokenize_state) T) U) →
+    defines (setting_in T) (reference_identifier (setting_in T) r.tree) ≡ true →
     V ≡ scratched (names_rested U.tokenize_state) U →
     EndsAs (full_reference (setting_in T)) None T.tokenize_state T true V
 unfolding scratched
@@ -168,8 +169,8 @@ whole-read T U V k r found e =
     }
 
 whole-refused : (T U V : Tokenizer) → FullReady T →
-    (r : Reads (label reference_names) None (names_set T.tokenize_state) (scratched (names_set T.tokenize_state) T) U) →
-    is_defined (setting_in T).definitions (reference_identifier (setting_in T) r.tree) ≡ false →
+    (r : Reads (label (rules_in T).labels_by_characters reference_names) None (names_set T.tokenize_state) (scratched (names_set T.tokenize_state) T) U) →
+    defines (setting_in T) (reference_identifier (setting_in T) r.tree) ≡ false →
     V ≡ scratched (label_seen (label_matters U) (names_rested U.tokenize_state)) U → FullFails T V
 unfolding scratched
 whole-refused T U V k r found e =
@@ -181,7 +182,7 @@ whole-refused T U V k r found e =
     }
 
 -- no label stands there
-none-there : (T V : Tokenizer) → FullReady T → label reference_names (ahead T) ≡ None →
+none-there : (T V : Tokenizer) → FullReady T → label (rules_in T).labels_by_characters reference_names (ahead T) ≡ None →
     V ≡ scratched (names_rested (names_set T.tokenize_state)) T → FullFails T V
 none-there T V k none e =
     let same : V ≡ T = e ∙ ap (λ q. scratched q T) (names-back T.tokenize_state k.part.rest) ∙ scratched-same T in
@@ -190,14 +191,14 @@ none-there T V k none e =
       fails = subst (λ s. Fails s T V) (sym (ap (λ o. label_seen (label_matters T && is_some o) T.tokenize_state) none ∙ ap (λ b. label_seen b T.tokenize_state) (and-false (label_matters T)) ∙ seen-rest T.tokenize_state k.part.rest)) (subst (λ x. Fails T.tokenize_state T x) (sym same) (record { grown = Grown-refl 0 T; scratch = refl }));
     }
 
-missing-ends : (T : Tokenizer) → FullReady T → label reference_names (ahead T) ≡ None → (ok : Bool) (V : Tokenizer) →
+missing-ends : (T : Tokenizer) → FullReady T → label (rules_in T).labels_by_characters reference_names (ahead T) ≡ None → (ok : Bool) (V : Tokenizer) →
     reference_full_missing_ends (scratched (names_set T.tokenize_state) (scratched (names_set T.tokenize_state) T)) ok V →
     reference_full_ends T ok V
 unfolding scratched
 missing-ends T k none true V h = absurd (true≢false h.0)
 missing-ends T k none false V h = none-there T V k none h.1
 
-module _ (W : Words) (within : Within states_and_called W) where
+module _ (W : Words) (within : EqualsLayer states_and_called W) where
   pub reference_full_missing-law : Law W reference_full_missing_words
   reference_full_missing-law T alone _ =
       Goes-end W (weight_at 1 T) (reference_full_missing_ends T) false (scratched (names_rested T.tokenize_state) T) (attempts-scratched _ T ∙ alone) (omega arith) (λ ok U h. h)
@@ -206,7 +207,7 @@ module _ (W : Words) (within : Within states_and_called W) where
   reference_full_after-law T alone _ =
       let n : ℕ = weight_at 1 T in
       let s : TokenizeState = names_rested T.tokenize_state in
-      let b : Bool = is_defined (setting_in T).definitions (reference_name T) in
+      let b : Bool = defines (setting_in T) (reference_name T) in
       let left : Bool → Tokenizer = λ ok. scratched (if ok then s else label_seen (label_matters T) s) T in
       if-step (GoesIn W n (reference_full_after_ends T)) b _ _
       (λ h. Goes-end W n (reference_full_after_ends T) true (scratched s T) (attempts-scratched _ T ∙ alone) (omega arith) (λ ok U x. (x.0 ∙ sym h, x.1 ∙ ap left (sym x.0))))
@@ -217,15 +218,15 @@ module _ (W : Words) (within : Within states_and_called W) where
       reference_full_after_ends U ok V → reference_full_ends T ok V
   unfolding LabelRead
   defined-ends T U k r true V h =
-      let found : is_defined (setting_in T).definitions (reference_identifier (setting_in T) r.tree) ≡ true =
-      sym (h.0 ∙ (λ i. is_defined (setting-past r.tree T U r.left i).definitions (name-is r.tree T U (shape-of _ r.tree r.rest r.holds) k.end r.left i))) in
+      let found : defines (setting_in T) (reference_identifier (setting_in T) r.tree) ≡ true =
+      sym (h.0 ∙ (λ i. defines (setting-past r.tree T U r.left i) (name-is r.tree T U (shape-of _ _ r.tree r.rest r.holds) k.end r.left i))) in
       whole-read T U V k r found h.1
   defined-ends T U k r false V h =
-      let found : is_defined (setting_in T).definitions (reference_identifier (setting_in T) r.tree) ≡ false =
-      sym (h.0 ∙ (λ i. is_defined (setting-past r.tree T U r.left i).definitions (name-is r.tree T U (shape-of _ r.tree r.rest r.holds) k.end r.left i))) in
+      let found : defines (setting_in T) (reference_identifier (setting_in T) r.tree) ≡ false =
+      sym (h.0 ∙ (λ i. defines (setting-past r.tree T U r.left i) (name-is r.tree T U (shape-of _ _ r.tree r.rest r.holds) k.end r.left i))) in
       whole-refused T U V k r found h.1
 
-  missing-goes : (T : Tokenizer) → FullReady T → label reference_names (ahead T) ≡ None →
+  missing-goes : (T : Tokenizer) → FullReady T → label (rules_in T).labels_by_characters reference_names (ahead T) ≡ None →
       FollowsIn W (weight_at 12 T) (reference_full_ends T) (Next LabelEndReferenceFullMissing) (scratched (names_set T.tokenize_state) (scratched (names_set T.tokenize_state) T))
   missing-goes T k none =
       let q : TokenizeState = names_set T.tokenize_state in

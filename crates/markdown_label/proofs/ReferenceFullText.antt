@@ -2,9 +2,9 @@
 use Rattle.std.proofs.Common.{◌≡◌, ℕ, ◌+◌, ◌-◌, ◌≤◌, None, List, [], ◌∷◌, ◌++◌, length, sym, ap, subst, ◌∙◌, arith, length-append, append_assoc}
 use Rattle.std.specs.Prelude.{IsUtf8}
 use Rattle.std.specs.Str.{IsCharBoundary}
-use Rattle.markdown_engine_content.specs.Codes.{stop_of, document_start}
+use Rattle.markdown_content.specs.Codes.{stop_of, document_start}
 use Rattle.markdown_engine.specs.PastTree.{appended_from}
-use Rattle.markdown_engine_content.specs.Tree.{Forest, event, start_of}
+use Rattle.markdown_content.specs.Tree.{Forest, event, start_of}
 use Rattle.markdown_event.specs.declared.event.Event.{Event}
 use Rattle.markdown_event.specs.declared.event.Kind.TheVariants as Kind
 use Rattle.markdown_event.specs.declared.event.Name.TheVariants as N
@@ -14,7 +14,7 @@ use Rattle.markdown_plan.specs.Characters.{bytes_of}
 use Rattle.markdown_label.specs.LabelEnd.{ReferenceIsAround}
 use Rattle.markdown_label_names.specs.LabelNames.{point_or, place_at}
 use Rattle.markdown_label_names.specs.LabelSetting.{IsListed}
-use Rattle.markdown_label.proofs.ReferenceFullTree.{IsReference, get-after}
+use Rattle.markdown_label.proofs.ReferenceFullTree.{IsReferenceGroup, get-after}
 use Rattle.markdown_label.proofs.ReferenceFullPlaces.{HasText}
 
 -- the Enter and the Exit of its text
@@ -23,7 +23,7 @@ pub record AreThere (es whole : List Event) (from to : Point) : Type 0 where
   pub exit : place_at whole (length whole - 4) ≡ to
   pub long : length es + 8 ≤ length whole
 
-pub text-there : (es : List Event) (t : Forest) (k : IsReference t) →
+pub text-there : (es : List Event) (t : Forest) (k : IsReferenceGroup t) →
     AreThere es (es ++ appended_from (length es) None t) k.from k.to
 text-there es t k =
     let n : ℕ = length es in

@@ -2,9 +2,9 @@
 use Rattle.std.proofs.Common.{◌≡◌, ◌≢◌, ℕ, suc, ◌+◌, ◌-◌, Bool, true, false, Option, Some, None, List, [], ◌∷◌, ◌++◌, length, slice_get, refl, sym, ap, subst, ◌∙◌, arith, length-append, append_assoc}
 use Rattle.std.specs.List.{list_any}
 use Rattle.markdown_model.proofs.LinksDoNotNest.{yields_passed_if}
-use Rattle.markdown_engine_content.specs.Codes.{Code, is_line_ending, stop_of, document_start}
+use Rattle.markdown_content.specs.Codes.{Code, is_line_ending, stop_of, document_start}
 use Rattle.markdown_engine.specs.PastTree.{appended_from}
-use Rattle.markdown_engine_content.specs.Tree.{Forest, empty, leaf_then, group_then, leaf, group, ◌⊕◌, event, start_of}
+use Rattle.markdown_content.specs.Tree.{Forest, empty, leaf_then, group_then, leaf, group, ◌⊕◌, event, start_of}
 use Rattle.markdown_event.specs.declared.event.Content.{Content}
 use Rattle.markdown_event.specs.declared.event.Event.{Event}
 use Rattle.markdown_event.specs.declared.event.Kind.TheVariants as Kind
@@ -17,12 +17,12 @@ use Rattle.markdown_model.specs.LabelEnd.{bytes_between, reference_identifier}
 use Rattle.markdown_model.specs.TextLines.{lines, lines_from, lines_of, linked_leaf}
 use Rattle.markdown_model.specs.Resource.{label, reference_names, between_markers, string_group}
 use Rattle.markdown_model.specs.Setting.{Setting}
-use Rattle.markdown_model.proofs.NoLinkInConstructs.{Passes, Yields, yields_bind, yields_gives, yields_passed, then_any}
+use Rattle.markdown_model.proofs.NoLinkInConstructs.{PassesValue, Yields, yields_bind, yields_gives, yields_passed, then_any}
 use Rattle.markdown_util.specs.Identifier.{identifier_of}
 use Rattle.markdown_label_names.specs.LabelNames.{point_or, place_at}
 
 -- a group of a marker, a text and a marker
-pub record IsReference (t : Forest) : Type 0 where
+pub record IsReferenceGroup (t : Forest) : Type 0 where
   pub a : Point
   pub b : Point
   pub from : Point
@@ -39,11 +39,11 @@ unfolding one
 some-one p = record { at = at }
   where
     by-test : (b : Bool) (c : Code) (cs : List Code) →
-        Passes (λ x. x ≢ []) (elim b as (λ _. Option (List Code × List Code)) [ true ↦ Some (c ∷ [], cs) | false ↦ None ])
+        PassesValue (λ x. x ≢ []) (elim b as (λ _. Option (List Code × List Code)) [ true ↦ Some (c ∷ [], cs) | false ↦ None ])
     by-test true c cs = λ e. cc
     by-test false c cs = tt
 
-    at : (cs : List Code) → Passes (λ x. x ≢ []) (one p cs)
+    at : (cs : List Code) → PassesValue (λ x. x ≢ []) (one p cs)
     at [] = tt
     at (c ∷ cs) = by-test (p c) c cs
 
@@ -71,19 +71,19 @@ any-some p [] e = cc
 any-some p (c ∷ cs) e = λ h. cc
 
 shape : (front text back : List Code) → front ≢ [] → text ≢ [] → back ≢ [] →
-    IsReference (between_markers reference_names front text back)
+    IsReferenceGroup (between_markers reference_names front text back)
 shape [] text back f t b = absurd (f refl)
 shape (x ∷ xs) text [] f t b = absurd (b refl)
 shape (x ∷ xs) text (y ∷ ys) f t b =
     let k : IsSomeLeaf (lines N.Data (Some Content.String) text) = lines-some N.Data (Some Content.String) text t in
     let X : Forest = leaf_then k.name k.link k.codes k.rest in
     let made : Forest → Forest = λ z. leaf N.ReferenceMarker (x ∷ xs) ⊕ string_group N.ReferenceString z ⊕ leaf N.ReferenceMarker (y ∷ ys) in
-    subst (λ z. IsReference (group N.Reference (made z))) (sym k.is)
+    subst (λ z. IsReferenceGroup (group N.Reference (made z))) (sym k.is)
     (record { a = _; b = _; from = _; to = _; front = x ∷ xs; inside = X; back = y ∷ ys; is = refl })
 
-pub label-shape : Yields IsReference (label reference_names)
+pub label-shape : (characters : Bool) → Yields IsReferenceGroup (label characters reference_names)
 unfolding label
-label-shape =
+label-shape characters =
     yields_bind _ _ _ _ (some-one _) λ front f.
     then_any _ _ _ λ text.
     yields_passed_if _ _ _ λ t.
@@ -102,7 +102,7 @@ get-after (x ∷ xs) ys n = next (length xs) n ∙ get-after xs ys n
     next m n = let e : suc m + n ≡ suc (m + n) = omega arith in ap (slice_get (x ∷ (xs ++ ys))) e
 
 -- the bytes of the text, by the numbers of its Enter and Exit
-pub name-there : (s : Setting) (es : List Event) (t : Forest) (enter exit : ℕ) → IsReference t → enter ≡ length es + 3 → exit ≡ length (es ++ appended_from (length es) None t) - 4
+pub name-there : (s : Setting) (es : List Event) (t : Forest) (enter exit : ℕ) → IsReferenceGroup t → enter ≡ length es + 3 → exit ≡ length (es ++ appended_from (length es) None t) - 4
     → identifier_of (bytes_between s (place_at (es ++ appended_from (length es) None t) enter) (place_at (es ++ appended_from (length es) None t) exit)) ≡ reference_identifier s t
 unfolding reference_identifier
 name-there s es t enter exit k at_enter at_exit =

@@ -1,50 +1,50 @@
 -- The laws of the states of a resource behind its opening.
 use Rattle.std.proofs.Common.{◌≡◌, ℕ, ◌<◌, ◌≤◌, ◌==◌, Bool, true, false, ◌||◌, if◌then◌else◌, Option, Some, None, List, [], ◌∷◌, ◌++◌, refl, sym, ap, subst, ◌∙◌, arith, inl, inr}
 use Rattle.std.proofs.lemmas.Bool.{eqb-true, or_cases, false≢true, true≢false}
-use Rattle.markdown_engine_content.specs.Codes.{Code}
+use Rattle.markdown_content.specs.Codes.{Code}
 use Rattle.markdown_engine.specs.FailedRun.{Grown, Fails}
-use Rattle.markdown_engine_content.specs.ListFunctions.{rest_of}
+use Rattle.markdown_content.specs.ListFunctions.{rest_of}
 use Rattle.markdown_engine.specs.Operations.{Exit, ahead, applied, current_of, done, scratched}
 use Rattle.markdown_engine.specs.PastTree.{TreeReading, Reads, past, behind}
-use Rattle.markdown_engine_content.specs.Place.{ahead_at}
+use Rattle.markdown_content.specs.Place.{ahead_at}
 use Rattle.markdown_engine.specs.StateRuns.{stepped}
-use Rattle.markdown_engine_index.specs.SequenceIndex.{closes_twice, last_where, rules_out}
+use Rattle.markdown_notes.specs.SequenceIndex.{closes_twice, last_where, rules_out}
 use Rattle.markdown_engine.specs.StateWords.{StateWords, Words, words_in, Law, GoesIn}
-use Rattle.markdown_engine_content.specs.Tree.{Forest, leaf, leaf_codes}
+use Rattle.markdown_content.specs.Tree.{Forest, leaf, leaf_codes}
 use Rattle.markdown_engine.specs.Weights.{codes_left, weight_at}
 use Rattle.markdown_event.specs.declared.event.Name.TheVariants as N
-use Rattle.markdown_engine_index.specs.declared.sequence_index.Sequence.TheVariants.{ResourceEnd}
-use Rattle.markdown_state.specs.declared.state.State.TheVariants.{Next, Retry}
-use Rattle.markdown_state.specs.declared.state.StateName.{StateName}
-use Rattle.markdown_state.specs.declared.state.StateName.TheVariants.{DestinationStart, LabelEndResourceBetween, LabelEndResourceDestinationAfter, LabelEndResourceDestinationMissing, LabelEndResourceEnd, LabelEndResourceTitleAfter, TitleStart}
+use Rattle.markdown_notes.specs.declared.sequence_index.Sequence.TheVariants.{ResourceEnd}
+use Rattle.markdown_event.specs.declared.state.State.TheVariants.{Next, Retry}
+use Rattle.markdown_event.specs.declared.state.StateName.{StateName}
+use Rattle.markdown_event.specs.declared.state.StateName.TheVariants.{DestinationStart, LabelEndResourceBetween, LabelEndResourceDestinationAfter, LabelEndResourceDestinationMissing, LabelEndResourceEnd, LabelEndResourceTitleAfter, TitleStart}
 use Rattle.markdown_engine.specs.declared.tokenizer.TokenizeState.{TokenizeState}
 use Rattle.markdown_engine.specs.declared.tokenizer.Tokenizer.{Tokenizer}
 use Rattle.markdown_engine.proofs.ReadingSequences.{left-read, scratched-same}
 use Rattle.markdown_engine.proofs.LawSteps.{Grown-refl, if-step, restored-fails}
-use Rattle.markdown_engine.proofs.OperationFields.{Begins, ahead-none, ahead-some, attempts-scratched, left-scratched}
+use Rattle.markdown_engine.proofs.OperationFields.{BeginsWithValue, ahead-none, ahead-some, attempts-scratched, left-scratched}
 use Rattle.markdown_event.proofs.AndParts.{and-left, and-right}
 use Rattle.markdown_engine.proofs.OperationLemmas.{attempts-done}
-use Rattle.markdown_engine_index.proofs.SequenceIndexLemmas as SequenceIndexLemmas
+use Rattle.markdown_notes.proofs.SequenceIndexLemmas as SequenceIndexLemmas
 use Rattle.markdown_engine.proofs.SolidTrees.{IsSolid-leaf}
-use Rattle.markdown_engine_index.proofs.TitleIndexLemmas.{ruled-out}
+use Rattle.markdown_notes.proofs.TitleIndexLemmas.{ruled-out}
 use Rattle.markdown_engine.proofs.TreeEvents.{ahead-past, ops-past}
 use Rattle.markdown_model.specs.CodeTests.{is_value, next_is}
 use Rattle.markdown_model.specs.Grammar.{gives, one}
 use Rattle.markdown_model.specs.Resource.{begins_title, destination, resource_names, literal_destination, raw_destination, title, title_names, title_between}
 use Rattle.markdown_model.specs.Whitespace.{space_or_tab_eol}
-use Rattle.markdown_model.proofs.NoLinkInConstructs.{Passes, Yields, yields_either, yields_next, yields_passed, yields_gives, then_any}
+use Rattle.markdown_model.proofs.NoLinkInConstructs.{PassesValue, Yields, yields_either, yields_next, yields_passed, yields_gives, then_any}
 use Rattle.markdown_model.proofs.GrammarSteps.{bind-some, one-here, if-true, if-false}
-use Rattle.markdown_plan.specs.LayerEquation.{Within}
+use Rattle.markdown_plan.specs.LayerEquation.{EqualsLayer}
 use Rattle.markdown_plan.proofs.LawStepsOfLayer.{FollowsIn, follows, GoesOn-map, Goes-attempt, Goes-end, Goes-plain}
 use Rattle.markdown_partial.specs.PartialSpaceOrTabEol.{WhitespaceAtRest}
 use Rattle.markdown_partial.specs.PartialDestination as PartialDestination
 use Rattle.markdown_partial.specs.PartialTitle as PartialTitle
 use Rattle.markdown_label.specs.AfterLabelParts.{PartReady, rested, names_rested}
 use Rattle.markdown_label.specs.Resource.{destination_asked, destination_rested, title_asked, front_ops, at_space, at_close, at_title, at_parenthesis, is_hopeless, spaced, destination_put, destination_after_step, title_put, title_after_step, RowReads, RowEnds, closes, or_without, and_then, after_title, between}
-use Rattle.markdown_label.specs.Resource.{after_destination_of, after_destination, opened, InReady, open_ends, destination_after_ends, missing_ends, between_ends, title_after_ends, end_ends, open_words, destination_after_words, missing_words, between_words, title_after_words, end_words, states_and_called}
+use Rattle.markdown_label.specs.Resource.{after_destination_of, after_destination, opened, asks_both, InReady, open_ends, destination_after_ends, missing_ends, between_ends, title_after_ends, end_ends, open_words, destination_after_words, missing_words, between_words, title_after_words, end_words, states_and_called}
 use Rattle.markdown_label.proofs.NextCodeTests.{at-value, at-none}
 use Rattle.markdown_label.proofs.ResourceWithoutTitleEnd.{no-title, none-twice}
-use Rattle.markdown_label.proofs.ResourceLaws.{NoLinks, indexed-same, titled-same, codes-read, row-then, row-scratched, row-same, no-space, closes-here, fields-read, in-read, spacing-unlinked, spaced-law}
+use Rattle.markdown_label.proofs.ResourceLaws.{NoLinks, indexed-same, titled-same, codes-read, row-then, row-scratched, row-same, no-space, closes-here, fields-read, asks-read, in-read, spacing-unlinked, spaced-law}
 use Rattle.markdown_label.proofs.ResourceReadings.{closes-none}
 
 -- Names that were set, put to rest.
@@ -109,44 +109,49 @@ destination-yields =
     (then_any _ _ _ λ front. then_any _ _ _ λ text. then_any _ _ _ λ back. yields_gives _ _ tt)
     (then_any _ _ _ λ text. yields_passed _ _ _ (yields_gives _ _ tt))
 
-between-yields : (opener closer : ℕ) → Yields NoLinks (title_between opener closer title_names)
+between-yields : (both : Bool) (opener closer : ℕ) → Yields NoLinks (title_between both opener closer title_names)
 unfolding title_between
-between-yields opener closer =
+between-yields both opener closer =
     then_any _ _ _ λ front. then_any _ _ _ λ text. then_any _ _ _ λ back. yields_passed _ _ _ (yields_gives _ _ tt)
 
-title-yields : Yields NoLinks (title title_names)
+title-yields : (both : Bool) → Yields NoLinks (title both title_names)
 unfolding title
-title-yields = yields_either _ _ _ (between-yields _ _) (yields_either _ _ _ (between-yields _ _) (between-yields _ _))
+title-yields both = yields_either _ _ _ (between-yields _ _ _) (yields_either _ _ _ (between-yields _ _ _) (between-yields _ _ _))
 
 given-unlinked : (r : TreeReading) → Yields NoLinks r → (cs : List Code) (t : Forest) (rest : List Code) →
     r cs ≡ Some (t, rest) → NoLinks t
-given-unlinked r y cs t rest e = subst (λ o. Passes NoLinks o) e (y.at cs)
+given-unlinked r y cs t rest e = subst (λ o. PassesValue NoLinks o) e (y.at cs)
 
 titles-here : (T : Tokenizer) (o : Option ℕ) → current_of T ≡ o → at_title o ≡ begins_title (ahead T)
 titles-here T None e = sym (ap begins_title (ahead-none T e))
 titles-here T (Some v) e =
-    let b : Begins v (ahead T) = ahead-some T v e in sym (ap begins_title b.whole ∙ ap (λ x. x == 34 || (x == 39 || (x == 40 || false))) b.value)
+    let b : BeginsWithValue v (ahead T) = ahead-some T v e in sym (ap begins_title b.whole ∙ ap (λ x. x == 34 || (x == 39 || (x == 40 || false))) b.value)
 
 parenthesis-here : (T : Tokenizer) (o : Option ℕ) → current_of T ≡ o →
     at_parenthesis o ≡ next_is (is_value 40) (ahead T)
 parenthesis-here T None e = sym (at-none T 40 e)
 parenthesis-here T (Some v) e = sym (at-value T v 40 (v == 40) e refl)
 
-hopeless-between : (T : Tokenizer) → InReady T → is_hopeless T ≡ true → between (ahead T) ≡ None
+hopeless-between : (both : Bool) (T : Tokenizer) → InReady T → is_hopeless T ≡ true → between both (ahead T) ≡ None
 unfolding ahead_at
-hopeless-between T p h = by-codes (ahead T) refl (sym (parenthesis-here T (current_of T) refl) ∙ and-left (at_parenthesis (current_of T)) _ h)
+hopeless-between both T p h = by-codes (ahead T) refl (sym (parenthesis-here T (current_of T) refl) ∙ and-left (at_parenthesis (current_of T)) _ h)
   where
     s : TokenizeState
     s = T.tokenize_state
 
-    by-codes : (cs : List Code) → ahead T ≡ cs → next_is (is_value 40) cs ≡ true → between (ahead T) ≡ None
+    by-codes : (cs : List Code) → ahead T ≡ cs → next_is (is_value 40) cs ≡ true → between both (ahead T) ≡ None
     by-codes [] e here = cc
     by-codes (c ∷ cs) e here =
-        ap between e
-        ∙ no-title c cs here (elim (or_cases (rules_out s.sequences ResourceEnd T.cursor.at) _ (and-right (at_parenthesis (current_of T)) _ h)) [
+        ap (between both) e
+        ∙ no-title both c cs here (elim (or_cases (rules_out s.sequences ResourceEnd T.cursor.at) _ (and-right (at_parenthesis (current_of T)) _ h)) [
           | inl g ↦ none-twice c cs (ap (last_where closes_twice) (sym e) ∙ SequenceIndexLemmas.ruled-out s.sequences T.cursor.codes ResourceEnd T.cursor.at p.part.indexed g)
           | inr g ↦ ruled-out s.titles T.cursor.codes cs c T.cursor.at p.part.titled g e (eqb-true c.value 40 here)
         ])
+
+asked-both : (q : TokenizeState) (r : TreeReading) (T U : Tokenizer) → (k : Reads r None q (scratched q T) U) →
+    asks_both U ≡ asks_both T
+unfolding past scratched
+asked-both q r T U k = ap asks_both k.left
 
 exited-ahead : (T : Tokenizer) → ahead (applied (Exit N.Resource) T) ≡ ahead T
 unfolding applied
@@ -161,7 +166,7 @@ size-rest : (T : Tokenizer) → InReady T → (scratched (destination_asked T.to
 unfolding scratched
 size-rest T p = ap (λ (s : TokenizeState). s.size) (sym p.part.rest)
 
-title-ready : (T : Tokenizer) → InReady T → PartialTitle.StartReady (scratched (title_asked T.tokenize_state) T)
+title-ready : (T : Tokenizer) → InReady T → PartialTitle.TitleStartReady (scratched (title_asked T.tokenize_state) T)
 unfolding scratched
 title-ready T p =
     record {
@@ -182,12 +187,12 @@ unfolding scratched
 destination-refused T U k = (k.refused, k.fails)
 
 title-read : (T U : Tokenizer) → PartialTitle.start_ends (scratched (title_asked T.tokenize_state) T) true U →
-    Reads (title title_names) None (title_asked T.tokenize_state) (scratched (title_asked T.tokenize_state) T) U
+    Reads (title (asks_both T) title_names) None (title_asked T.tokenize_state) (scratched (title_asked T.tokenize_state) T) U
 unfolding scratched
 title-read T U k = k
 
 title-refused : (T U : Tokenizer) → PartialTitle.start_ends (scratched (title_asked T.tokenize_state) T) false U →
-    (title title_names (ahead T) ≡ None) × Fails (title_asked T.tokenize_state) (scratched (title_asked T.tokenize_state) T) U
+    (title (asks_both T) title_names (ahead T) ≡ None) × Fails (title_asked T.tokenize_state) (scratched (title_asked T.tokenize_state) T) U
 unfolding scratched
 title-refused T U k = (k.refused, k.fails)
 
@@ -217,7 +222,7 @@ closed-so : (T : Tokenizer) (ok : Bool) (U : Tokenizer) → next_is (is_value 41
 closed-so T false U h x = absurd (false≢true x.0)
 closed-so T true U h x = closed-by T U (ahead T) refl h x.1
 
-module _ (W : Words) (within : Within states_and_called W) where
+module _ (W : Words) (within : EqualsLayer states_and_called W) where
   pub missing-law : Law W missing_words
   missing-law T alone _ =
       Goes-end W (weight_at 1 T) (missing_ends T) false (destination_put T) (attempts-scratched _ T ∙ alone) (omega arith) (λ ok U h. h)
@@ -261,18 +266,18 @@ module _ (W : Words) (within : Within states_and_called W) where
       (after-title-goes (weight_at 9 T) (title_put T) alone (record { part = p.part; whole = p.whole }) (omega arith))
 
   after-destination-goes : (n : ℕ) (T : Tokenizer) → T.attempts ≡ [] → InReady T → weight_at 12 T < n →
-      GoesIn W n (RowEnds after_destination T.tokenize_state T) (if at_space (current_of T) then spaced LabelEndResourceBetween LabelEndResourceEnd T else stepped (Retry LabelEndResourceEnd) T)
+      GoesIn W n (RowEnds (after_destination (asks_both T)) T.tokenize_state T) (if at_space (current_of T) then spaced LabelEndResourceBetween LabelEndResourceEnd T else stepped (Retry LabelEndResourceEnd) T)
   after-destination-goes n T alone p room =
-      if-step (GoesIn W n (RowEnds after_destination T.tokenize_state T)) (at_space (current_of T)) _ _
-      (λ h. spaced-law W within n (RowEnds after_destination T.tokenize_state T) LabelEndResourceBetween LabelEndResourceEnd T alone p.part (omega (arith, room))
-      (λ U k. space-then n after_destination between LabelEndResourceBetween (within LabelEndResourceBetween) T U k (ap (λ o. after_destination_of o (ahead T)) k.holds ∙ ap (λ xs. behind k.tree (between xs)) (sym k.after)) (in-read (space_or_tab_eol None) T U k p) (omega (arith, room, left-read (space_or_tab_eol None) None T.tokenize_state T U k)) (λ ok V x. x))
-      (λ none. end-there n after_destination T p (omega (arith, room)) (sym (ap (λ o. after_destination_of o (ahead T)) none))))
-      (λ h. end-goes n after_destination T alone p (omega (arith, room)) (sym (ap (λ o. after_destination_of o (ahead T)) (no-space T (current_of T) refl h))))
+      if-step (GoesIn W n (RowEnds (after_destination (asks_both T)) T.tokenize_state T)) (at_space (current_of T)) _ _
+      (λ h. spaced-law W within n (RowEnds (after_destination (asks_both T)) T.tokenize_state T) LabelEndResourceBetween LabelEndResourceEnd T alone p.part (omega (arith, room))
+      (λ U k. space-then n (after_destination (asks_both T)) (between (asks_both T)) LabelEndResourceBetween (within LabelEndResourceBetween) T U k (ap (λ o. after_destination_of (asks_both T) o (ahead T)) k.holds ∙ ap (λ xs. behind k.tree (between (asks_both T) xs)) (sym k.after)) (in-read (space_or_tab_eol None) T U k p) (omega (arith, room, left-read (space_or_tab_eol None) None T.tokenize_state T U k)) (λ ok V x. subst (λ b. RowEnds (between b) U.tokenize_state U ok V) (asks-read (space_or_tab_eol None) T U k) x))
+      (λ none. end-there n (after_destination (asks_both T)) T p (omega (arith, room)) (sym (ap (λ o. after_destination_of (asks_both T) o (ahead T)) none))))
+      (λ h. end-goes n (after_destination (asks_both T)) T alone p (omega (arith, room)) (sym (ap (λ o. after_destination_of (asks_both T) o (ahead T)) (no-space T (current_of T) refl h))))
 
   pub destination_after-law : Law W destination_after_words
   unfolding scratched
   destination_after-law T alone p =
-      GoesOn-map W (weight_at 13 T) (RowEnds after_destination (destination_rested T.tokenize_state) (destination_put T)) (destination_after_ends T) (destination_after_step T) (λ ok U x. row-scratched after_destination (destination_rested T.tokenize_state) (destination_rested T.tokenize_state) T ok U x)
+      GoesOn-map W (weight_at 13 T) (RowEnds (after_destination (asks_both T)) (destination_rested T.tokenize_state) (destination_put T)) (destination_after_ends T) (destination_after_step T) (λ ok U x. row-scratched (after_destination (asks_both T)) (destination_rested T.tokenize_state) (destination_rested T.tokenize_state) T ok U x)
       (after-destination-goes (weight_at 13 T) (destination_put T) alone (record { part = p.part; whole = p.whole }) (omega arith))
 
   -- nothing is read
@@ -302,10 +307,11 @@ module _ (W : Words) (within : Within states_and_called W) where
       let q : TokenizeState = destination_asked s in
       let n : ℕ = weight_at 14 T in
       let M : Tokenizer = scratched q T in
+      let both : Bool = asks_both T in
       if-step (GoesIn W n (open_ends T)) (at_close (current_of T)) _ _
-      (λ h. end-goes n opened T alone p (omega arith) (sym (if-true _ _ _ (sym (closes-here T (current_of T) refl) ∙ h))))
+      (λ h. end-goes n (opened both) T alone p (omega arith) (sym (if-true _ _ _ (sym (closes-here T (current_of T) refl) ∙ h))))
       (λ h.
-      let other : opened (ahead T) ≡ and_then (destination 32 resource_names (ahead T)) after_destination = if-false _ _ _ (sym (closes-here T (current_of T) refl) ∙ h) in
+      let other : opened both (ahead T) ≡ and_then (destination 32 resource_names (ahead T)) (after_destination both) = if-false _ _ _ (sym (closes-here T (current_of T) refl) ∙ h) in
       Goes-attempt W n (open_ends T) (Retry DestinationStart) (within DestinationStart) (Next LabelEndResourceDestinationAfter) (Next LabelEndResourceDestinationMissing) M (attempts-scratched q T ∙ alone)
       (size-rest T p)
       (omega (arith, left-scratched q T))
@@ -313,18 +319,19 @@ module _ (W : Words) (within : Within states_and_called W) where
       follows W n (open_ends T) (Next LabelEndResourceDestinationAfter) (within LabelEndResourceDestinationAfter) U (record { part = part-back destination_rested T U p.part (asked-fewer q _ T U k) (asked-codes q _ T U k) (ap destination_rested (asked-fields q _ T U k) ∙ destination-back s p.part.rest); whole = subst (λ ns. ns ≡ N.Resource ∷ rest_of ns) (sym (asked-stack q _ T U k)) p.whole })
       (omega (arith, asked-fewer q _ T U k))
       (λ ok V x.
-      row-then opened after_destination k.tree q s T U (given-unlinked (destination 32 resource_names) destination-yields (ahead T) k.tree (ahead U) (asked-holds q _ T U k)) (asked-left q _ T U k) (asked-whole q _ T U k)
-      (other ∙ ap (λ o. and_then o after_destination) (asked-holds q _ T U k)) ok V
-      (subst (λ (z : TokenizeState). RowEnds after_destination z U ok V) (ap destination_rested (asked-fields q _ T U k) ∙ destination-back s p.part.rest) x)))
+      row-then (opened both) (after_destination both) k.tree q s T U (given-unlinked (destination 32 resource_names) destination-yields (ahead T) k.tree (ahead U) (asked-holds q _ T U k)) (asked-left q _ T U k) (asked-whole q _ T U k)
+      (other ∙ ap (λ o. and_then o (after_destination both)) (asked-holds q _ T U k)) ok V
+      (subst (λ (z : TokenizeState). RowEnds (after_destination both) z U ok V) (ap destination_rested (asked-fields q _ T U k) ∙ destination-back s p.part.rest)
+      (subst (λ b. RowEnds (after_destination b) (destination_rested U.tokenize_state) U ok V) (asked-both q _ T U k) x))))
       (λ U now g. let k = destination-refused T U g in
       subst (λ (x : Tokenizer). FollowsIn W n (open_ends T) (Next LabelEndResourceDestinationMissing) x) (sym (restored-fails false (Next LabelEndResourceDestinationAfter) (Next LabelEndResourceDestinationMissing) q M U k.1))
-      (missing-there n q opened T (omega arith) (destination-back s p.part.rest) (other ∙ ap (λ o. and_then o after_destination) k.0))))
+      (missing-there n q (opened both) T (omega arith) (destination-back s p.part.rest) (other ∙ ap (λ o. and_then o (after_destination both)) k.0))))
 
   -- no resource ends behind a title in parentheses
   given-up : (T : Tokenizer) → InReady T → is_hopeless T ≡ true → (ok : Bool) (U : Tokenizer) → (ok ≡ false) × (U ≡ T) →
       between_ends T ok U
   given-up T p h true U x = absurd (true≢false x.0)
-  given-up T p h false U x = refuses-so between T U (hopeless-between T p h) x.1
+  given-up T p h false U x = refuses-so (between (asks_both T)) T U (hopeless-between (asks_both T) T p h) x.1
 
   pub between-law : Law W between_words
   between-law T alone p =
@@ -332,12 +339,13 @@ module _ (W : Words) (within : Within states_and_called W) where
       let q : TokenizeState = title_asked s in
       let n : ℕ = weight_at 12 T in
       let M : Tokenizer = scratched q T in
+      let both : Bool = asks_both T in
       if-step (GoesIn W n (between_ends T)) (is_hopeless T) _ _
       (λ h. Goes-end W n (between_ends T) false T alone (omega arith) (λ ok U x. given-up T p h ok U x))
       (λ h.
       if-step (GoesIn W n (between_ends T)) (at_title (current_of T)) _ _
       (λ h.
-      let here : between (ahead T) ≡ and_then (title title_names (ahead T)) after_title = if-true _ _ _ (sym (titles-here T (current_of T) refl) ∙ h) in
+      let here : between both (ahead T) ≡ and_then (title both title_names (ahead T)) after_title = if-true _ _ _ (sym (titles-here T (current_of T) refl) ∙ h) in
       Goes-attempt W n (between_ends T) (Retry TitleStart) (within TitleStart) (Next LabelEndResourceTitleAfter) (Next LabelEndResourceDestinationMissing) M (attempts-scratched q T ∙ alone)
       (title-ready T p)
       (omega (arith, left-scratched q T))
@@ -345,13 +353,13 @@ module _ (W : Words) (within : Within states_and_called W) where
       follows W n (between_ends T) (Next LabelEndResourceTitleAfter) (within LabelEndResourceTitleAfter) U (record { part = part-back names_rested T U p.part (asked-fewer q _ T U k) (asked-codes q _ T U k) (ap names_rested (asked-fields q _ T U k) ∙ title-back s p.part.rest); whole = subst (λ ns. ns ≡ N.Resource ∷ rest_of ns) (sym (asked-stack q _ T U k)) p.whole })
       (omega (arith, asked-fewer q _ T U k))
       (λ ok V x.
-      row-then between after_title k.tree q s T U (given-unlinked (title title_names) title-yields (ahead T) k.tree (ahead U) (asked-holds q _ T U k)) (asked-left q _ T U k) (asked-whole q _ T U k)
+      row-then (between both) after_title k.tree q s T U (given-unlinked (title both title_names) (title-yields both) (ahead T) k.tree (ahead U) (asked-holds q _ T U k)) (asked-left q _ T U k) (asked-whole q _ T U k)
       (here ∙ ap (λ o. and_then o after_title) (asked-holds q _ T U k)) ok V
       (subst (λ (z : TokenizeState). RowEnds after_title z U ok V) (ap names_rested (asked-fields q _ T U k) ∙ title-back s p.part.rest) x)))
       (λ U now g. let k = title-refused T U g in
       subst (λ (x : Tokenizer). FollowsIn W n (between_ends T) (Next LabelEndResourceDestinationMissing) x) (sym (restored-fails false (Next LabelEndResourceTitleAfter) (Next LabelEndResourceDestinationMissing) q M U k.1))
-      (missing-there n q between T (omega arith) (missing-back s p.part.rest) (here ∙ ap (λ o. and_then o after_title) k.0))))
-      (λ h. end-goes n between T alone p (omega arith) (sym (if-false _ _ _ (sym (titles-here T (current_of T) refl) ∙ h)))))
+      (missing-there n q (between both) T (omega arith) (missing-back s p.part.rest) (here ∙ ap (λ o. and_then o after_title) k.0))))
+      (λ h. end-goes n (between both) T alone p (omega arith) (sym (if-false _ _ _ (sym (titles-here T (current_of T) refl) ∙ h)))))
 
   -- the closing marker
   pub end-law : Law W end_words

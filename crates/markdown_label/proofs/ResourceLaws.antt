@@ -1,44 +1,44 @@
 -- The laws of the states of a resource.
 use Rattle.std.proofs.Common.{◌≡◌, ℕ, ◌+◌, ◌<◌, ◌==◌, Bool, true, false, ◌||◌, Option, Some, None, List, [], ◌∷◌, ◌++◌, length, refl, sym, ap, subst, ◌∙◌, arith, append_assoc}
 use Rattle.std.proofs.lemmas.Bool.{or_parts}
-use Rattle.markdown_engine_content.specs.Codes.{Code, is_blank, is_line_ending}
+use Rattle.markdown_content.specs.Codes.{Code, is_blank, is_line_ending}
 use Rattle.markdown_engine.specs.FailedRun.{Grown}
-use Rattle.markdown_engine_content.specs.ListFunctions.{rest_of}
+use Rattle.markdown_content.specs.ListFunctions.{rest_of}
 use Rattle.markdown_engine.specs.Operations.{Exit, ahead, applied, current_of, frame_of, scratched}
 use Rattle.markdown_engine.specs.PastTree.{TreeReading, Reads, Refuses, past, last_link, behind}
 use Rattle.markdown_engine.specs.StateRuns.{restored}
-use Rattle.markdown_engine_index.specs.SequenceIndex.{IsRightFor, last_begins}
+use Rattle.markdown_notes.specs.SequenceIndex.{KnowsLastBegins, last_begins}
 use Rattle.markdown_engine.specs.StateWords.{Words, Law, GoesIn}
-use Rattle.markdown_engine_index.specs.TitleIndex as Titles
-use Rattle.markdown_engine_content.specs.Tree.{Forest, empty, leaf_then, group_then, ◌⊕◌, leaf_codes, event_count}
+use Rattle.markdown_notes.specs.TitleIndex as Titles
+use Rattle.markdown_content.specs.Tree.{Forest, empty, leaf_then, group_then, ◌⊕◌, leaf_codes, event_count}
 use Rattle.markdown_engine.specs.Weights.{weight_at}
 use Rattle.markdown_event.specs.declared.event.Name.{Name}
 use Rattle.markdown_event.specs.declared.event.Name.TheVariants as N
-use Rattle.markdown_state.specs.declared.state.State.{State}
-use Rattle.markdown_state.specs.declared.state.State.TheVariants.{Next, Retry}
-use Rattle.markdown_state.specs.declared.state.StateName.{StateName}
-use Rattle.markdown_state.specs.declared.state.StateName.TheVariants.{LabelEndResourceOpen, SpaceOrTabEolStart}
+use Rattle.markdown_event.specs.declared.state.State.{State}
+use Rattle.markdown_event.specs.declared.state.State.TheVariants.{Next, Retry}
+use Rattle.markdown_event.specs.declared.state.StateName.{StateName}
+use Rattle.markdown_event.specs.declared.state.StateName.TheVariants.{LabelEndResourceOpen, SpaceOrTabEolStart}
 use Rattle.markdown_engine.specs.declared.tokenizer.TokenizeState.{TokenizeState}
 use Rattle.markdown_engine.specs.declared.tokenizer.Tokenizer.{Tokenizer}
 use Rattle.markdown_engine.proofs.ReadingSequences.{left-read, scratched-same}
 use Rattle.markdown_engine.proofs.LawSteps.{if-step, restored-fails}
-use Rattle.markdown_engine.proofs.OperationFields.{Begins, ahead-none, ahead-some, attempts-scratched, left-scratched}
+use Rattle.markdown_engine.proofs.OperationFields.{BeginsWithValue, ahead-none, ahead-some, attempts-scratched, left-scratched}
 use Rattle.markdown_engine.proofs.OperationLemmas.{Grown-scratched}
 use Rattle.markdown_engine.proofs.TreeEvents.{Grown-past, past-past}
-use Rattle.markdown_engine_content.proofs.TreeCodes.{leaf_codes-row}
+use Rattle.markdown_content.proofs.TreeCodes.{leaf_codes-row}
 use Rattle.markdown_model.specs.CodeTests.{is_value, next_is}
 use Rattle.markdown_model.specs.Whitespace.{space_or_tab_eol, spaces_across, spaces_on_line}
 use Rattle.markdown_model.specs.TextLines.{linked_leaf}
-use Rattle.markdown_model.proofs.NoLinkInConstructs.{Passes, Yields, yields_either, yields_gives, then_any}
+use Rattle.markdown_model.proofs.NoLinkInConstructs.{PassesValue, Yields, yields_either, yields_gives, then_any}
 use Rattle.markdown_model.proofs.GrammarSteps.{if-false}
-use Rattle.markdown_plan.specs.LayerEquation.{Within}
+use Rattle.markdown_plan.specs.LayerEquation.{EqualsLayer}
 use Rattle.markdown_plan.proofs.LawStepsOfLayer.{FollowsIn, follows, Goes-attempt, Goes-plain}
 use Rattle.markdown_partial.specs.PartialSpaceOrTabEol.{WhitespaceAtRest, eol_asked, at_ending}
 use Rattle.markdown_partial.proofs.WhitespaceAttempts.{eol-asked-ready, eol-asked-ends}
 use Rattle.markdown_partial.proofs.WhitespaceReadings.{spacing-none}
 use Rattle.markdown_label.specs.AfterLabelParts.{PartReady, rested}
 use Rattle.markdown_label.proofs.NextCodeTests.{same-codes}
-use Rattle.markdown_label.specs.Resource.{at_space, at_close, spaced, or_without, opened, inside, InReady, RowEnds, before_ends, open_ends, before_words, states_and_called}
+use Rattle.markdown_label.specs.Resource.{at_space, at_close, spaced, or_without, opened, inside, asks_both, InReady, RowEnds, before_ends, open_ends, before_words, states_and_called}
 
 -- Rows.
 
@@ -109,7 +109,7 @@ no-space T None e h =
     let none : ahead T ≡ [] = ahead-none T e in
     spacing-none None (ahead T) (ap (next_is is_blank) none) ∙ no-ending (ahead T) (ap (next_is is_line_ending) none)
 no-space T (Some v) e h =
-    let b : Begins v (ahead T) = ahead-some T v e in
+    let b : BeginsWithValue v (ahead T) = ahead-some T v e in
     let tab = or_parts (v == 9) (v == 10 || v == 32) h in
     let rest = or_parts (v == 10) (v == 32) tab.1 in
     spacing-none None (ahead T) (ap (next_is is_blank) b.whole ∙ ap (λ x. x == 32 || x == 9) b.value ∙ (λ i. rest.1 i || tab.0 i))
@@ -118,7 +118,7 @@ no-space T (Some v) e h =
 pub closes-here : (T : Tokenizer) (o : Option ℕ) → current_of T ≡ o → at_close o ≡ next_is (is_value 41) (ahead T)
 closes-here T None e = sym (ap (next_is (is_value 41)) (ahead-none T e))
 closes-here T (Some v) e =
-    let b : Begins v (ahead T) = ahead-some T v e in sym (ap (next_is (is_value 41)) b.whole ∙ ap (λ x. x == 41) b.value)
+    let b : BeginsWithValue v (ahead T) = ahead-some T v e in sym (ap (next_is (is_value 41)) b.whole ∙ ap (λ x. x == 41) b.value)
 
 -- Past a part with the fields as before.
 
@@ -127,20 +127,24 @@ pub fields-read : (r : TreeReading) (T U : Tokenizer) → (k : Reads r None T.to
 unfolding past scratched
 fields-read r T U k = ap (λ (x : Tokenizer). x.tokenize_state) k.left
 
+pub asks-read : (r : TreeReading) (T U : Tokenizer) → (k : Reads r None T.tokenize_state T U) → asks_both U ≡ asks_both T
+unfolding past scratched
+asks-read r T U k = ap asks_both k.left
+
 stack-read : (r : TreeReading) (T U : Tokenizer) → (k : Reads r None T.tokenize_state T U) → U.stack ≡ T.stack
 unfolding past scratched
 stack-read r T U k = ap (λ (x : Tokenizer). x.stack) k.left
 
 -- what is known of sequences is right for a tokenizer with the same codes, of which as much is known
 pub indexed-same : (T U : Tokenizer) → U.cursor.codes ≡ T.cursor.codes →
-    U.tokenize_state.sequences ≡ T.tokenize_state.sequences → IsRightFor T.cursor.codes T.tokenize_state.sequences →
-    IsRightFor U.cursor.codes U.tokenize_state.sequences
+    U.tokenize_state.sequences ≡ T.tokenize_state.sequences → KnowsLastBegins T.cursor.codes T.tokenize_state.sequences →
+    KnowsLastBegins U.cursor.codes U.tokenize_state.sequences
 indexed-same T U codes same right last known = right last (sym same ∙ known) ∙ ap last_begins (sym codes)
 
 -- and so is what is known of the ends of titles
 pub titled-same : (T U : Tokenizer) → U.cursor.codes ≡ T.cursor.codes →
-    U.tokenize_state.titles ≡ T.tokenize_state.titles → Titles.IsRightFor T.cursor.codes T.tokenize_state.titles →
-    Titles.IsRightFor U.cursor.codes U.tokenize_state.titles
+    U.tokenize_state.titles ≡ T.tokenize_state.titles → Titles.KnowsClosers T.cursor.codes T.tokenize_state.titles →
+    Titles.KnowsClosers U.cursor.codes U.tokenize_state.titles
 titled-same T U codes same right closers known = right closers (sym same ∙ known) ∙ ap Titles.closers_of (sym codes)
 
 pub codes-read : (r : TreeReading) (s : TokenizeState) (T U : Tokenizer) → (k : Reads r None s T U) →
@@ -184,14 +188,14 @@ spacing-yields =
 
 pub spacing-unlinked : (cs : List Code) (t : Forest) (rest : List Code) → space_or_tab_eol None cs ≡ Some (t, rest) →
     NoLinks t
-spacing-unlinked cs t rest e = subst (λ o. Passes NoLinks o) e (spacing-yields.at cs)
+spacing-unlinked cs t rest e = subst (λ o. PassesValue NoLinks o) e (spacing-yields.at cs)
 
 same-frame : (r : Bool) (ok nok : State) (s : TokenizeState) (T : Tokenizer) →
     frame_of r ok nok (scratched s T) ≡ frame_of r ok nok T
 unfolding frame_of scratched
 same-frame r ok nok s T = refl
 
-module _ (W : Words) (within : Within states_and_called W) where
+module _ (W : Words) (within : EqualsLayer states_and_called W) where
   -- whitespace is tried
   pub spaced-law : (n : ℕ) (End : Bool → Tokenizer → Type 0) (ok nok : StateName) (T : Tokenizer) → T.attempts ≡ [] → PartReady T → weight_at 8 T < n
       → ((U : Tokenizer) → Reads (space_or_tab_eol None) None T.tokenize_state T U → FollowsIn W n End (Next ok) U)
@@ -214,15 +218,16 @@ module _ (W : Words) (within : Within states_and_called W) where
   before-open T U p k =
       follows W (weight_at 15 T) (before_ends T) (Next LabelEndResourceOpen) (within LabelEndResourceOpen) U (in-read (space_or_tab_eol None) T U k p) (omega (arith, left-read (space_or_tab_eol None) None T.tokenize_state T U k))
       (λ ok V h.
-      row-then inside opened k.tree T.tokenize_state T.tokenize_state T U (spacing-unlinked (ahead T) k.tree k.rest k.holds) k.left (k.whole ∙ ap (λ xs. leaf_codes k.tree ++ xs) (sym k.after))
-      (ap (λ o. or_without o opened (ahead T)) k.holds ∙ ap (λ xs. behind k.tree (opened xs)) (sym k.after)) ok V
-      (subst (λ (s : TokenizeState). RowEnds opened s U ok V) (fields-read (space_or_tab_eol None) T U k) h))
+      row-then (inside (asks_both T)) (opened (asks_both T)) k.tree T.tokenize_state T.tokenize_state T U (spacing-unlinked (ahead T) k.tree k.rest k.holds) k.left (k.whole ∙ ap (λ xs. leaf_codes k.tree ++ xs) (sym k.after))
+      (ap (λ o. or_without o (opened (asks_both T)) (ahead T)) k.holds ∙ ap (λ xs. behind k.tree (opened (asks_both T) xs)) (sym k.after)) ok V
+      (subst (λ (s : TokenizeState). RowEnds (opened (asks_both T)) s U ok V) (fields-read (space_or_tab_eol None) T U k)
+      (subst (λ b. RowEnds (opened b) U.tokenize_state U ok V) (asks-read (space_or_tab_eol None) T U k) h)))
 
   -- where no whitespace stands
   open-closed : (T : Tokenizer) → space_or_tab_eol None (ahead T) ≡ None → (ok : Bool) (V : Tokenizer) →
       open_ends T ok V → before_ends T ok V
   open-closed T none ok V h =
-      row-same opened inside T.tokenize_state T (sym (ap (λ o. or_without o opened (ahead T)) none)) ok V h
+      row-same (opened (asks_both T)) (inside (asks_both T)) T.tokenize_state T (sym (ap (λ o. or_without o (opened (asks_both T)) (ahead T)) none)) ok V h
 
   pub before-law : Law W before_words
   before-law T alone p =

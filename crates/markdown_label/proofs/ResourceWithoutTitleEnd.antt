@@ -2,21 +2,22 @@
 use Rattle.std.proofs.Common.{◌≡◌, ℕ, Bool, true, false, ◌&&◌, ◌||◌, ◌==◌, if◌then◌else◌, Option, Some, None, List, [], ◌∷◌, refl, sym, ap, subst, ◌∙◌}
 use Rattle.std.proofs.lemmas.Bool.{eqb-true, or_cases, or_parts}
 use Rattle.std.proofs.Common.{inl, inr}
-use Rattle.markdown_engine_content.proofs.AdjacentCodes.{tail_same}
+use Rattle.markdown_content.proofs.AdjacentCodes.{tail_same}
 use Rattle.std.proofs.Math.Bool.{and-false, and-true}
-use Rattle.markdown_engine_content.specs.Codes.{Code, is_blank, is_line_ending}
+use Rattle.markdown_content.specs.Codes.{Code, is_blank, is_line_ending}
 use Rattle.markdown_engine.specs.PastTree.{behind}
-use Rattle.markdown_engine_index.specs.SequenceIndex.{closes_past_spacing, closes_twice, is_spacing, last_where}
-use Rattle.markdown_engine_index.specs.TitleIndex as Titles
-use Rattle.markdown_engine_index.specs.TitleIndex.{closes_resource, escapes}
-use Rattle.markdown_engine_content.specs.Tree.{Forest}
-use Rattle.markdown_engine_index.proofs.RunIndexFacts.{later-none}
-use Rattle.markdown_model.specs.CodeTests.{is_among, is_empty, is_value, next_is}
+use Rattle.markdown_notes.specs.SequenceIndex.{closes_past_spacing, closes_twice, is_spacing, last_where}
+use Rattle.markdown_notes.specs.TitleIndex as Titles
+use Rattle.markdown_notes.specs.TitleIndex.{closes_resource, escapes}
+use Rattle.markdown_content.specs.Tree.{Forest}
+use Rattle.markdown_notes.proofs.RunIndexFacts.{later-none}
+use Rattle.markdown_model.specs.CodeTests.{is_empty, is_value, next_is}
 use Rattle.markdown_model.specs.Grammar.{Reading, with_first, ◌>>=◌, ◌>>◌, gives, either, provided, before, one, some, any_number, span, escaped_from, up_to}
-use Rattle.markdown_model.specs.Resource.{begins_title, title, title_between, title_names}
+use Rattle.markdown_model.specs.Resource.{begins_title, escaped_between, is_bare_opener, title, title_between, title_names}
 use Rattle.markdown_model.specs.Whitespace.{space_or_tab_eol, spaces_across, spaces_on_line, begins_filled_line}
+use Rattle.markdown_model.proofs.GivenByReadings.{IfGiven, given-bind, given-passed, given-gives, given-either, given-before}
 use Rattle.markdown_model.proofs.GrammarSteps.{if-true, and-left}
-use Rattle.markdown_partial.proofs.EscapedTextReadings.{text-end, text-next, text-stops, text-taken}
+use Rattle.markdown_partial.proofs.EscapedTextReadings.{text-end, text-next, text-refused, text-stops, text-taken}
 use Rattle.markdown_label.specs.Resource.{closes, or_without, and_then, after_title, between}
 use Rattle.markdown_label.proofs.ResourceReadings.{closes-none}
 
@@ -24,39 +25,24 @@ use Rattle.markdown_label.proofs.ResourceReadings.{closes-none}
 
 -- the codes after what was read, if anything was
 abbrev Rests : {A : Type 0} → (List Code → Type 0) → Option (A × List Code) → Type 0
-Rests P None = Unit {0}
-Rests P (Some r) = P r.1
+Rests P o = IfGiven (λ _ rest. P rest) o
 
 rests-bind : {A B : Type 0} (P Q : List Code → Type 0) (a : Reading A) (next : A → Reading B) (cs : List Code) →
     Rests P (a cs) → ((x : A) (rest : List Code) → P rest → Rests Q (next x rest)) → Rests Q ((a >>= next) cs)
-unfolding ◌>>=◌
-rests-bind {A} {B} P Q a next cs h k =
-    elim (a cs) as (λ o. Rests P o → Rests Q (elim o as (λ _. Option (B × List Code)) [ None ↦ None | Some r ↦ next r.0 r.1 ])) [ None ↦ λ h. tt | Some r ↦ λ h. k r.0 r.1 h ] h
+rests-bind P Q a next cs h k = given-bind (λ _ rest. P rest) (λ _ rest. Q rest) a next cs h k
 
-rests-passed : {B : Type 0} (Q : List Code → Type 0) (test : Bool) (b : Reading B) (cs : List Code) → Rests Q (b cs) →
-    Rests Q ((provided test >> b) cs)
-unfolding ◌>>◌ provided
-rests-passed Q true b cs h = h
-rests-passed Q false b cs h = tt
+module _ {A : Type 0} (Q : List Code → Type 0) where
+  rests-passed : (test : Bool) (b : Reading A) (cs : List Code) → Rests Q (b cs) → Rests Q ((provided test >> b) cs)
+  rests-passed test b cs h = given-passed (λ _ rest. Q rest) test b cs (λ _. h)
 
-rests-gives : {A : Type 0} (Q : List Code → Type 0) (x : A) (cs : List Code) → Q cs → Rests Q (gives x cs)
-unfolding gives
-rests-gives Q x cs h = h
+  rests-gives : (x : A) (cs : List Code) → Q cs → Rests Q (gives x cs)
+  rests-gives x cs h = given-gives (λ _ rest. Q rest) x cs h
 
-rests-either : {A : Type 0} (Q : List Code → Type 0) (a b : Reading A) (cs : List Code) → Rests Q (a cs) →
-    Rests Q (b cs) → Rests Q (either a b cs)
-unfolding either
-rests-either {A} Q a b cs h k =
-    elim (a cs) as (λ o. Rests Q o → Rests Q (elim o as (λ _. Option (A × List Code)) [ None ↦ b cs | Some r ↦ Some r ])) [ None ↦ λ h. k | Some r ↦ λ h. h ] h
+  rests-either : (a b : Reading A) (cs : List Code) → Rests Q (a cs) → Rests Q (b cs) → Rests Q (either a b cs)
+  rests-either a b cs h k = given-either (λ _ rest. Q rest) a b cs h k
 
-rests-before : {A : Type 0} (Q : List Code → Type 0) (a : Reading A) (p : List Code → Bool) (cs : List Code) →
-    Rests Q (a cs) → Rests Q (before a p cs)
-unfolding before
-rests-before {A} Q a p cs h =
-    elim (a cs) as (λ o. Rests Q o → Rests Q (elim o as (λ _. Option (A × List Code)) [ None ↦ None | Some r ↦ elim (p r.1) as (λ _. Option (A × List Code)) [ true ↦ Some r | false ↦ None ] ])) [
-      | None ↦ λ h. tt
-      | Some r ↦ λ h. elim (p r.1) as (λ b. Rests Q (elim b as (λ _. Option (A × List Code)) [ true ↦ Some r | false ↦ None ])) [ true ↦ h | false ↦ tt ]
-    ] h
+  rests-before : (a : Reading A) (p : List Code → Bool) (cs : List Code) → Rests Q (a cs) → Rests Q (before a p cs)
+  rests-before a p cs h = given-before (λ _ rest. Q rest) a p cs h
 
 rests-one : (Q : List Code → Type 0) (p : Code → Bool) (cs : List Code) →
     ((c : Code) (ds : List Code) → cs ≡ c ∷ ds → p c ≡ true → Q ds) → Rests Q (one p cs)
@@ -146,50 +132,56 @@ rests-first : (Q : List Code → Type 0) (c : Code) (o : Option (List Code × Li
 rests-first Q c None h = tt
 rests-first Q c (Some r) h = h
 
--- what a title takes behind a backslash, and where it stops
+-- What a title takes behind a backslash, where it stops, and what it refuses; `both` says that the opening parenthesis has to be escaped too.
 
-abbrev takes : Code → Bool
-takes = is_among (92 ∷ 41 ∷ [])
+module _ (both : Bool) where
+  abbrev takes : Code → Bool
+  takes = escaped_between both 40 41
 
-abbrev titled : Bool → Reading (List Code)
-titled = escaped_from (is_value 41) takes (λ c. false)
+  abbrev bare : Code → Bool
+  bare = is_bare_opener both 40
 
-behind-slash : (c : Code) (cs : List Code) → closes_resource true (c ∷ cs) ≡ false → closes_resource false cs ≡ false
-behind-slash c cs h =
-    sym (ap (λ b. if b then closes_past_spacing cs else closes_resource (escapes true c.value) cs) (and-false (c.value == 41)) ∙ ap (λ b. closes_resource b cs) (and-false (c.value == 92)))
-    ∙ h
+  abbrev titled : Bool → Reading (List Code)
+  titled = escaped_from (is_value 41) takes bare
 
-past-slash : (c : Code) (cs : List Code) (b : Bool) → takes c ≡ b → Rests NoEnd (titled false cs) →
-    Rests NoEnd (titled true (c ∷ cs))
-past-slash c cs true e k =
-    subst (Rests NoEnd) (sym (text-taken (is_value 41) takes (λ c. false) true c cs e)) (rests-first NoEnd c (titled false cs) k)
-past-slash c cs false e k =
-    let slash = or_parts (c.value == 92) (c.value == 41 || false) e in
-    let other = or_parts (c.value == 41) false slash.1 in
-    subst (Rests NoEnd) (sym (text-next (is_value 41) takes (λ c. false) true c cs e other.0 refl ∙ ap (λ b. with_first c (titled b cs)) slash.0))
-    (rests-first NoEnd c (titled false cs) k)
+  behind-slash : (c : Code) (cs : List Code) → closes_resource true (c ∷ cs) ≡ false → closes_resource false cs ≡ false
+  behind-slash c cs h =
+      sym (ap (λ b. if b then closes_past_spacing cs else closes_resource (escapes true c.value) cs) (and-false (c.value == 41)) ∙ ap (λ b. closes_resource b cs) (and-false (c.value == 92)))
+      ∙ h
 
-past-other : (c : Code) (cs : List Code) (b : Bool) → (c.value == 41) ≡ b → closes_resource false (c ∷ cs) ≡ false →
-    ((slash : Bool) → closes_resource slash cs ≡ false → Rests NoEnd (titled slash cs)) →
-    Rests NoEnd (titled false (c ∷ cs))
-past-other c cs true e h k =
-    subst (Rests NoEnd) (sym (text-stops (is_value 41) takes (λ c. false) false c cs refl e))
-    (ap (λ b. b && closes_past_spacing cs) e ∙ sym (ap (λ b. if b && true then closes_past_spacing cs else closes_resource (escapes false c.value) cs) e) ∙ h)
-past-other c cs false e h k =
-    subst (Rests NoEnd) (sym (text-next (is_value 41) takes (λ c. false) false c cs refl e refl))
-    (rests-first NoEnd c (titled (c.value == 92) cs)
-    (k (c.value == 92)
-    (ap (λ b. closes_resource b cs) (sym (and-true (c.value == 92))) ∙ sym (ap (λ b. if b && true then closes_past_spacing cs else closes_resource (escapes false c.value) cs) e) ∙ h)))
+  past-slash : (c : Code) (cs : List Code) (b : Bool) → takes c ≡ b → Rests NoEnd (titled false cs) →
+      Rests NoEnd (titled true (c ∷ cs))
+  past-slash c cs true e k =
+      subst (Rests NoEnd) (sym (text-taken (is_value 41) takes bare true c cs e)) (rests-first NoEnd c (titled false cs) k)
+  past-slash c cs false e k =
+      let slash = or_parts (c.value == 92) (c.value == 41 || bare c) e in
+      let other = or_parts (c.value == 41) (bare c) slash.1 in
+      subst (Rests NoEnd) (sym (text-next (is_value 41) takes bare true c cs e other.0 other.1 ∙ ap (λ b. with_first c (titled b cs)) slash.0))
+      (rests-first NoEnd c (titled false cs) k)
 
-text-rest : (slash : Bool) (cs : List Code) → closes_resource slash cs ≡ false → Rests NoEnd (titled slash cs)
-text-rest slash [] h = subst (Rests NoEnd) (sym (text-end (is_value 41) takes (λ c. false) slash)) tt
-text-rest true (c ∷ cs) h = past-slash c cs (takes c) refl (text-rest false cs (behind-slash c cs h))
-text-rest false (c ∷ cs) h = past-other c cs (c.value == 41) refl h (λ slash k. text-rest slash cs k)
+  past-other : (c : Code) (cs : List Code) (b r : Bool) → (c.value == 41) ≡ b → bare c ≡ r → closes_resource false (c ∷ cs) ≡ false →
+      ((slash : Bool) → closes_resource slash cs ≡ false → Rests NoEnd (titled slash cs)) →
+      Rests NoEnd (titled false (c ∷ cs))
+  past-other c cs true r e f h k =
+      subst (Rests NoEnd) (sym (text-stops (is_value 41) takes bare false c cs refl e))
+      (ap (λ b. b && closes_past_spacing cs) e ∙ sym (ap (λ b. if b && true then closes_past_spacing cs else closes_resource (escapes false c.value) cs) e) ∙ h)
+  past-other c cs false true e f h k =
+      subst (Rests NoEnd) (sym (text-refused (is_value 41) takes bare false c cs refl e f)) tt
+  past-other c cs false false e f h k =
+      subst (Rests NoEnd) (sym (text-next (is_value 41) takes bare false c cs refl e f))
+      (rests-first NoEnd c (titled (c.value == 92) cs)
+      (k (c.value == 92)
+      (ap (λ b. closes_resource b cs) (sym (and-true (c.value == 92))) ∙ sym (ap (λ b. if b && true then closes_past_spacing cs else closes_resource (escapes false c.value) cs) e) ∙ h)))
 
-whole-rest : (cs : List Code) → closes_resource false cs ≡ false →
-    Rests NoEnd (up_to (is_value 41) takes (λ c. false) cs)
-unfolding up_to
-whole-rest cs h = text-rest false cs h
+  text-rest : (slash : Bool) (cs : List Code) → closes_resource slash cs ≡ false → Rests NoEnd (titled slash cs)
+  text-rest slash [] h = subst (Rests NoEnd) (sym (text-end (is_value 41) takes bare slash)) tt
+  text-rest true (c ∷ cs) h = past-slash c cs (takes c) refl (text-rest false cs (behind-slash c cs h))
+  text-rest false (c ∷ cs) h = past-other c cs (c.value == 41) (bare c) refl refl h (λ slash k. text-rest slash cs k)
+
+  whole-rest : (cs : List Code) → closes_resource false cs ≡ false →
+      Rests NoEnd (up_to (is_value 41) takes bare cs)
+  unfolding up_to
+  whole-rest cs h = text-rest false cs h
 
 other-value : (n m : ℕ) (c : Code) (cs ds : List Code) (d : Code) → (n == m) ≡ false → is_value n c ≡ true →
     c ∷ cs ≡ d ∷ ds → is_value m d ≡ true → ⊥
@@ -198,25 +190,25 @@ other-value n m c cs ds d other e same k = differ (sym (ap (λ v. v == m) (eqb-t
     differ : false ≡ true → ⊥
     differ x = cc
 
-title-rest : (c : Code) (cs : List Code) → is_value 40 c ≡ true → closes_resource false cs ≡ false →
-    Rests Unclosed (title title_names (c ∷ cs))
+title-rest : (both : Bool) (c : Code) (cs : List Code) → is_value 40 c ≡ true → closes_resource false cs ≡ false →
+    Rests Unclosed (title both title_names (c ∷ cs))
 unfolding title title_between
-title-rest c cs e h =
+title-rest both c cs e h =
     rests-either Unclosed _ _ (c ∷ cs)
     (rests-bind (λ _. ⊥) Unclosed (one (is_value 34)) _ (c ∷ cs) (rests-one (λ _. ⊥) (is_value 34) (c ∷ cs) (λ d ds same k. other-value 40 34 c cs ds d refl e same k)) λ x r k. absurd k)
     (rests-either Unclosed _ _ (c ∷ cs)
     (rests-bind (λ _. ⊥) Unclosed (one (is_value 39)) _ (c ∷ cs) (rests-one (λ _. ⊥) (is_value 39) (c ∷ cs) (λ d ds same k. other-value 40 39 c cs ds d refl e same k)) λ x r k. absurd k)
     (rests-bind (λ r. closes_resource false r ≡ false) Unclosed (one (is_value 40)) _ (c ∷ cs) (rests-one (λ r. closes_resource false r ≡ false) (is_value 40) (c ∷ cs) (λ d ds same k. subst (λ r. closes_resource false r ≡ false) (tail_same c d cs ds same) h)) λ front r k.
-    rests-bind NoEnd Unclosed (up_to (is_value 41) takes (λ c. false)) _ r (whole-rest r k) λ inside r k.
+    rests-bind NoEnd Unclosed (up_to (is_value 41) (takes both) (bare both)) _ r (whole-rest both r k) λ inside r k.
     rests-bind Unclosed Unclosed (one (is_value 41)) _ r (rests-one Unclosed (is_value 41) r (λ d ds same t. no-end-closed d ds t (subst NoEnd same k))) λ back r k. rests-passed Unclosed _ _ r (rests-gives Unclosed _ r k)))
 
-pub no-title : (c : Code) (cs : List Code) → is_value 40 c ≡ true → closes_resource false cs ≡ false →
-    between (c ∷ cs) ≡ None
-no-title c cs e h = if-true (begins_title (c ∷ cs)) _ _ (ap (λ v. v == 34 || (v == 39 || (v == 40 || false))) (eqb-true c.value 40 e)) ∙ by-title (title title_names (c ∷ cs)) refl
+pub no-title : (both : Bool) (c : Code) (cs : List Code) → is_value 40 c ≡ true → closes_resource false cs ≡ false →
+    between both (c ∷ cs) ≡ None
+no-title both c cs e h = if-true (begins_title (c ∷ cs)) _ _ (ap (λ v. v == 34 || (v == 39 || (v == 40 || false))) (eqb-true c.value 40 e)) ∙ by-title (title both title_names (c ∷ cs)) refl
   where
-    by-title : (o : Option (Forest × List Code)) → title title_names (c ∷ cs) ≡ o → and_then o after_title ≡ None
+    by-title : (o : Option (Forest × List Code)) → title both title_names (c ∷ cs) ≡ o → and_then o after_title ≡ None
     by-title None g = refl
-    by-title (Some r) g = ap (behind r.0) (after-none r.1 (subst (λ o. Rests Unclosed o) g (title-rest c cs e h)))
+    by-title (Some r) g = ap (behind r.0) (after-none r.1 (subst (λ o. Rests Unclosed o) g (title-rest both c cs e h)))
 
 -- so it is where no closing parenthesis further on has another one behind it
 

@@ -1,7 +1,7 @@
 -- What the parts ask for that may follow a label: resources and references.
 use Rattle.std.specs.Prelude.{◌≡◌, ◌≤◌, false}
-use Rattle.markdown_engine_index.specs.SequenceIndex.{IsRightFor}
-use Rattle.markdown_engine_index.specs.TitleIndex as Titles
+use Rattle.markdown_notes.specs.SequenceIndex.{KnowsLastBegins}
+use Rattle.markdown_notes.specs.TitleIndex as Titles
 use Rattle.markdown_engine.specs.Weights.{codes_left}
 use Rattle.markdown_event.specs.declared.event.Name.TheVariants as N
 use Rattle.markdown_engine.specs.declared.tokenizer.TokenizeState.{TokenizeState}
@@ -31,7 +31,7 @@ rested s = record s {
 -- what is known of the sequences that end constructs, and of the ends of titles, is right; it may be nothing
 pub record PartReady (T : Tokenizer) : Type 0 where
   pub short : codes_left T ≤ most
-  pub indexed : IsRightFor T.cursor.codes T.tokenize_state.sequences
-  pub titled : Titles.IsRightFor T.cursor.codes T.tokenize_state.titles
+  pub indexed : KnowsLastBegins T.cursor.codes T.tokenize_state.sequences
+  pub titled : Titles.KnowsClosers T.cursor.codes T.tokenize_state.titles
   pub spaces : WhitespaceAtRest T.tokenize_state
   pub rest : rested T.tokenize_state ≡ T.tokenize_state

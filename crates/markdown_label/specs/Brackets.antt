@@ -1,18 +1,18 @@
 -- What a run over a text leaves of labels: starts and ends among other trees, and the lists of labels and of unused starts.
 use Rattle.std.specs.Prelude.{◌≡◌, ℕ, zero, suc, ◌+◌, ◌-◌, ◌<◌, ◌≤◌, List, [], ◌∷◌, ◌++◌, None, false}
-use Rattle.markdown_engine_content.specs.Codes.{Code, document_start}
+use Rattle.markdown_content.specs.Codes.{Code, document_start}
 use Rattle.markdown_engine.specs.PastTree.{appended_from, last_link}
-use Rattle.markdown_engine_content.specs.Tree.{Forest, empty, group_then, leaf, ◌⊕◌, group, event, event_count}
+use Rattle.markdown_content.specs.Tree.{Forest, empty, group_then, leaf, ◌⊕◌, group, event, event_count}
 use Rattle.markdown_event.specs.declared.event.Event.{Event}
 use Rattle.markdown_event.specs.declared.event.Kind.{Kind}
 use Rattle.markdown_event.specs.declared.event.Name.{Name}
 use Rattle.markdown_event.specs.declared.event.Point.{Point}
 use Rattle.markdown_engine.specs.declared.tokenizer.Label.{Label}
-use Rattle.markdown_engine_content.specs.declared.label_kind.LabelKind.{LabelKind}
-use Rattle.markdown_engine_content.specs.declared.label_kind.LabelKind.TheVariants as K
+use Rattle.markdown_content.specs.declared.label_kind.LabelKind.{LabelKind}
+use Rattle.markdown_content.specs.declared.label_kind.LabelKind.TheVariants as K
 use Rattle.markdown_engine_events.specs.declared.util.edit_map.Edit.{Edit}
 use Rattle.markdown_model.specs.Passes.{start_tree, label_name, label_group}
-use Rattle.markdown_engine.specs.OrderedEdits.{Part, comes, goes, stays}
+use Rattle.markdown_engine.specs.OrderedEdits.{EditPart, comes, goes, stays}
 
 -- the start of a label with its codes: `[`, `![`, `[^` of a call, `[^` of a link whose text begins with the caret
 pub data Front : Type 0 where
@@ -224,7 +224,7 @@ last_stop (image_front c d) = d.stop
 last_stop (call_front c d) = d.stop
 last_stop (caret_front c d) = d.stop
 
-abbrev pub going_of : List Event → Part
+abbrev pub going_of : List Event → EditPart
 going_of [] = comes []
 going_of (e ∷ es) = goes e es
 
@@ -239,7 +239,7 @@ abbrev pub tail_stop : Code → Tail → Point
 tail_stop back no_tail = back.stop
 tail_stop back (one_tail name a b inside) = b
 
-abbrev pub parts_of : Brackets → List Part
+abbrev pub parts_of : Brackets → List EditPart
 parts_of nothing = []
 parts_of (tree_then t rest) = stays t ∷ parts_of rest
 parts_of (label_then f inside back tail rest) =
@@ -256,7 +256,7 @@ abbrev pub all_edits : List Event → List Label → List (ℕ × ℕ) → List 
 all_edits es labels unused failed = labels_edits es labels ++ (loose_edits es unused ++ loose_edits es failed)
 
 -- the numbers of a label are those of events, of which there are so many
-pub record IsWithin (n : ℕ) (l : Label) : Type 0 where
+pub record IsLabelWithin (n : ℕ) (l : Label) : Type 0 where
   pub start : l.start.0 + 3 ≤ l.start.1
   pub before : l.start.1 < n
   pub end : l.end.0 + 3 ≤ l.end.1

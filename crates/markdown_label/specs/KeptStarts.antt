@@ -1,6 +1,6 @@
 -- How the starts that a tokenizer keeps stand for the unused starts of the elements read so far.
 use Rattle.std.specs.Prelude.{◌≡◌, ◌<◌, List, [], ◌∷◌, length}
-use Rattle.markdown_engine_content.specs.Codes.{stop_of, document_start}
+use Rattle.markdown_content.specs.Codes.{stop_of, document_start}
 use Rattle.markdown_event.specs.declared.event.Event.{Event}
 use Rattle.markdown_engine.specs.declared.tokenizer.LabelStart.{LabelStart}
 use Rattle.markdown_engine.specs.declared.tokenizer.Tokenizer.{Tokenizer}

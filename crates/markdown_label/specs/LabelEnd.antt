@@ -1,20 +1,20 @@
 -- What the states of the end of a label do, and how runs from them end.
 use Rattle.std.specs.Prelude.{◌≡◌, ◌≢◌, ◌≤◌, ◌<◌, ℕ, ◌+◌, ◌-◌, Bool, true, false, ◌==◌, ◌&&◌, not, is_some, if◌then◌else◌, List, [], ◌∷◌, ◌++◌, length, Option, Some, None}
 use Rattle.std.specs.Str.{IsCharBoundary, byte}
-use Rattle.markdown_engine_content.specs.Codes.{Code}
+use Rattle.markdown_content.specs.Codes.{Code}
 use Rattle.markdown_engine.specs.FailedRun.{Fails}
 use Rattle.markdown_engine.specs.Operations.{Op, Enter, Exit, Consume, IsOpen, ahead, attempted, current_of, done, registered_before, scratched}
 use Rattle.markdown_engine.specs.PastTree.{EndsAs, TreeReading, past}
 use Rattle.markdown_engine.specs.StateRuns.{Stepped, stepped}
 use Rattle.markdown_engine.specs.StateWords.{StateWords}
-use Rattle.markdown_engine_content.specs.Tree.{Forest, leaf, group, leaf_codes}
+use Rattle.markdown_content.specs.Tree.{Forest, leaf, group, leaf_codes}
 use Rattle.markdown_event.specs.declared.event.Event.{Event}
 use Rattle.markdown_event.specs.declared.event.Name.TheVariants as N
-use Rattle.markdown_state.specs.declared.resolve.ResolveName.TheVariants as R
-use Rattle.markdown_state.specs.declared.state.State.TheVariants.{Next, Retry, Ok, Nok}
-use Rattle.markdown_state.specs.declared.state.StateName.{StateName}
-use Rattle.markdown_state.specs.declared.state.StateName.TheVariants.{LabelEndStart, LabelEndAfter, LabelEndOk, LabelEndNok, LabelEndResourceStart, LabelEndReferenceFull, LabelEndReferenceFullAfter, LabelEndReferenceFullMissing, LabelEndReferenceNotFull, LabelEndReferenceCollapsed, LabelEndReferenceCollapsedOpen, LabelStart}
-use Rattle.markdown_engine_content.specs.declared.label_kind.LabelKind.{LabelKind}
+use Rattle.markdown_event.specs.declared.resolve.ResolveName.TheVariants as R
+use Rattle.markdown_event.specs.declared.state.State.TheVariants.{Next, Retry, Ok, Nok}
+use Rattle.markdown_event.specs.declared.state.StateName.{StateName}
+use Rattle.markdown_event.specs.declared.state.StateName.TheVariants.{LabelEndStart, LabelEndAfter, LabelEndOk, LabelEndNok, LabelEndResourceStart, LabelEndReferenceFull, LabelEndReferenceFullAfter, LabelEndReferenceFullMissing, LabelEndReferenceNotFull, LabelEndReferenceCollapsed, LabelEndReferenceCollapsedOpen, LabelStart}
+use Rattle.markdown_content.specs.declared.label_kind.LabelKind.{LabelKind}
 use Rattle.markdown_engine.specs.declared.tokenizer.LabelStart as Kept
 use Rattle.markdown_engine.specs.declared.tokenizer.TokenizeState.{TokenizeState}
 use Rattle.markdown_engine.specs.declared.tokenizer.Tokenizer.{Tokenizer}
@@ -24,8 +24,9 @@ use Rattle.markdown_model.specs.CodeTests.{is_value, next_is}
 use Rattle.markdown_model.specs.Grammar.{Reading, either}
 use Rattle.markdown_model.specs.LabelEnd.{is_footnote, full_reference, collapsed_reference, shortcut, link_identifier}
 use Rattle.markdown_model.specs.Resource.{label, reference_names}
-use Rattle.markdown_model.specs.Setting.{is_defined}
-use Rattle.markdown_model.specs.SingleConstructs.{Start, outcome, outcome_at, label_end_here}
+use Rattle.markdown_model.specs.Setting.{defines, is_defined}
+use Rattle.markdown_model.specs.SingleConstructs.{WaitingStart, outcome, outcome_at, label_end_here}
+use Rattle.markdown_partial.specs.LinkedText.{rules_in}
 use Rattle.markdown_label.specs.AfterLabelParts.{names_rested, PartReady}
 use Rattle.markdown_label.specs.Resource as Resource
 use Rattle.markdown_partial.specs.PartialLabel as PartialLabel
@@ -92,7 +93,7 @@ link_tried T = scratched (starts_set (as_link T.tokenize_state.label_starts) T.t
 abbrev pub after_as : LabelKind → List ℕ → Tokenizer → Stepped
 after_as kind name T =
     if is_footnote kind && is_defined (setting_in T).footnotes name then stepped (Retry LabelEndOk) T
-    else tail_at (is_defined (setting_in T).definitions (link_identifier kind name)) (current_of T) (link_tried T)
+    else tail_at (defines (setting_in T) (link_identifier kind name)) (current_of T) (link_tried T)
 
 abbrev pub after_by : List Kept.LabelStart → Tokenizer → Stepped
 after_by [] T = stepped Nok T
@@ -125,7 +126,7 @@ label_seen b s = record s { seen = b }
 
 -- a shortcut may stand before a `[`, so that it matters whether a label stands there
 abbrev pub label_matters : Tokenizer → Bool
-label_matters T = T.parse_state.now.options.now.label_shortcut_before_bracket
+label_matters T = (rules_in T).shortcut_before_bracket
 
 abbrev pub reference_full_step : Tokenizer → Stepped
 reference_full_step T = stepped (Retry LabelStart) (attempted false (Next LabelEndReferenceFullAfter) (Next LabelEndReferenceFullMissing) (scratched (names_set T.tokenize_state) T))
@@ -136,7 +137,7 @@ reference_name T = identifier_between T (T.tokenize_state.end + 7) (length T.eve
 
 abbrev pub reference_full_after_step : Tokenizer → Stepped
 reference_full_after_step T =
-    if is_defined (setting_in T).definitions (reference_name T)
+    if defines (setting_in T) (reference_name T)
     then stepped Ok (scratched (names_rested T.tokenize_state) T)
     else stepped Nok (scratched (label_seen (label_matters T) (names_rested T.tokenize_state)) T)
 
@@ -183,14 +184,14 @@ AllEndBetween T [] = Unit {0}
 AllEndBetween T (l ∷ ls) = EndsBetween T l × AllEndBetween T ls
 
 -- so of all starts, last one first; and a link or a call that was made behind one was made behind those before it too
-abbrev pub AreWithin : Tokenizer → List Kept.LabelStart → Type 0
-AreWithin T ls = AllEndBetween T ls × AreOrdered ls
+abbrev pub AreStartsWithin : Tokenizer → List Kept.LabelStart → Type 0
+AreStartsWithin T ls = AllEndBetween T ls × AreOrdered ls
 
-pub record StartReady (T : Tokenizer) : Type 0 where
+pub record LabelEndStartReady (T : Tokenizer) : Type 0 where
   pub part : PartReady T
   pub listed : IsListed T
   pub text : ReadsText T
-  pub within : AreWithin T T.tokenize_state.label_starts
+  pub within : AreStartsWithin T T.tokenize_state.label_starts
   pub resting : T.tokenize_state.end ≡ 0
 
 -- the end's four events are the last ones
@@ -276,7 +277,7 @@ abbrev pub end_tree : List Code → Forest
 end_tree back = group N.LabelEnd (leaf N.LabelMarker back)
 
 -- the last start kept, as the definitions see it
-abbrev pub last_start : List Event → List Kept.LabelStart → Option Start
+abbrev pub last_start : List Event → List Kept.LabelStart → Option WaitingStart
 last_start es [] = None
 last_start es (l ∷ ls) = Some (record { kind = l.kind; stop = place_at es l.start.1; barred = bars l })
 
@@ -326,7 +327,7 @@ start_ends T false U = EndFails T U
 -- a full reference, or not; then it shows whether a label stands there, where that matters
 pub record FullFails (T U : Tokenizer) : Type 0 where
   pub refused : full_reference (setting_in T) (ahead T) ≡ None
-  pub fails : Fails (label_seen (label_matters T && is_some (label reference_names (ahead T))) T.tokenize_state) T U
+  pub fails : Fails (label_seen (label_matters T && is_some (label (rules_in T).labels_by_characters reference_names (ahead T))) T.tokenize_state) T U
 
 abbrev pub reference_full_ends : Tokenizer → Bool → Tokenizer → Type 0
 reference_full_ends T true U = EndsAs (full_reference (setting_in T)) None T.tokenize_state T true U
@@ -334,7 +335,7 @@ reference_full_ends T false U = FullFails T U
 
 abbrev pub reference_full_after_ends : Tokenizer → Bool → Tokenizer → Type 0
 reference_full_after_ends T ok U =
-    (ok ≡ is_defined (setting_in T).definitions (reference_name T))
+    (ok ≡ defines (setting_in T) (reference_name T))
     × (U ≡ scratched (if ok then names_rested T.tokenize_state else label_seen (label_matters T) (names_rested T.tokenize_state)) T)
 
 abbrev pub reference_full_missing_ends : Tokenizer → Bool → Tokenizer → Type 0
@@ -359,7 +360,7 @@ reference_collapsed_open_ends T ok U = KeepsAs 1 collapsed_open_plan T ok U
 -- The states.
 
 abbrev pub start_words : StateWords
-start_words = record { ready = StartReady; step = start_step; ends = start_ends; rank = λ T. 3 }
+start_words = record { ready = LabelEndStartReady; step = start_step; ends = start_ends; rank = λ T. 3 }
 
 abbrev pub after_words : StateWords
 after_words = record { ready = AfterReady; step = after_step; ends = after_ends; rank = λ T. 13 }

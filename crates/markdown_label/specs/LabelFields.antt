@@ -1,7 +1,7 @@
 -- What starts and ends of labels do to the scratch fields.
 use Rattle.std.specs.Prelude.{◌≡◌, ℕ, Bool, true, false, map, ◌&&◌, not, if◌then◌else◌, List, [], ◌∷◌, ◌++◌, take}
-use Rattle.markdown_engine_content.specs.ListFunctions.{rest_of}
-use Rattle.markdown_engine_content.specs.declared.label_kind.LabelKind.{LabelKind}
+use Rattle.markdown_content.specs.ListFunctions.{rest_of}
+use Rattle.markdown_content.specs.declared.label_kind.LabelKind.{LabelKind}
 use Rattle.markdown_engine.specs.declared.tokenizer.LabelStart.{LabelStart}
 use Rattle.markdown_engine.specs.declared.tokenizer.TokenizeState.{TokenizeState}
 use Rattle.markdown_model.specs.LabelEnd.{is_image, link_kind}
@@ -29,14 +29,14 @@ abbrev pub marked : List LabelStart → List LabelStart
 marked ls = map (λ (l : LabelStart). record l { inactive = true }) ls
 
 -- a link or a call was made behind each of these starts
-abbrev pub AreMarked : List LabelStart → Type 0
-AreMarked [] = Unit {0}
-AreMarked (l ∷ ls) = (l.inactive ≡ true) × AreMarked ls
+abbrev pub AreInactive : List LabelStart → Type 0
+AreInactive [] = Unit {0}
+AreInactive (l ∷ ls) = (l.inactive ≡ true) × AreInactive ls
 
 -- of these starts, last one first: what was made behind one was made behind all before it
 abbrev pub AreOrdered : List LabelStart → Type 0
 AreOrdered [] = Unit {0}
-AreOrdered (l ∷ ls) = (l.inactive ≡ true → AreMarked ls) × AreOrdered ls
+AreOrdered (l ∷ ls) = (l.inactive ≡ true → AreInactive ls) × AreOrdered ls
 
 -- the starts before a label of this kind
 abbrev pub barred_by : LabelKind → List LabelStart → List LabelStart

@@ -1,18 +1,18 @@
 -- What the states of the starts of labels do, and how runs from them end.
 use Rattle.std.specs.Prelude.{◌≡◌, ◌≤◌, ℕ, ◌-◌, Bool, true, false, ◌==◌, ◌&&◌, not, if◌then◌else◌, List, [], ◌∷◌, ◌++◌, length, Option, Some, None}
 use Rattle.std.specs.Str.{byte}
-use Rattle.markdown_engine_content.specs.Codes.{Code}
+use Rattle.markdown_content.specs.Codes.{Code}
 use Rattle.markdown_engine.specs.FailedRun.{Grown}
-use Rattle.markdown_engine_content.specs.ListFunctions.{rest_of}
+use Rattle.markdown_content.specs.ListFunctions.{rest_of}
 use Rattle.markdown_engine.specs.Operations.{Op, Enter, Exit, Consume, IsOpen, ahead, current_of, done, registered_before, scratched}
 use Rattle.markdown_engine.specs.StateRuns.{Stepped, stepped}
 use Rattle.markdown_engine.specs.StateWords.{StateWords}
 use Rattle.markdown_event.specs.declared.event.Name.TheVariants as N
-use Rattle.markdown_state.specs.declared.resolve.ResolveName.TheVariants as R
-use Rattle.markdown_state.specs.declared.state.State.TheVariants.{Next, Ok, Nok}
-use Rattle.markdown_state.specs.declared.state.StateName.{StateName}
-use Rattle.markdown_state.specs.declared.state.StateName.TheVariants.{GfmLabelStartFootnoteStart, LabelStartImageStart, LabelStartLinkStart, GfmLabelStartFootnoteOpen, LabelStartImageOpen, LabelStartImageAfter}
-use Rattle.markdown_engine_content.specs.declared.label_kind.LabelKind.{LabelKind}
+use Rattle.markdown_event.specs.declared.resolve.ResolveName.TheVariants as R
+use Rattle.markdown_event.specs.declared.state.State.TheVariants.{Next, Ok, Nok}
+use Rattle.markdown_event.specs.declared.state.StateName.{StateName}
+use Rattle.markdown_event.specs.declared.state.StateName.TheVariants.{GfmLabelStartFootnoteStart, LabelStartImageStart, LabelStartLinkStart, GfmLabelStartFootnoteOpen, LabelStartImageOpen, LabelStartImageAfter}
+use Rattle.markdown_content.specs.declared.label_kind.LabelKind.{LabelKind}
 use Rattle.markdown_engine.specs.declared.tokenizer.Tokenizer.{Tokenizer}
 use Rattle.markdown_model.specs.CodeTests.{is_value, next_is}
 use Rattle.markdown_label.specs.LabelFields.{begun}
@@ -113,7 +113,7 @@ ImageAfterReady T = 6 ≤ length T.events
 -- How runs end.
 
 -- a start of this kind is made, if the codes pass the test
-pub record Begins (kind : LabelKind) (size : ℕ) (ops : List Op) (test : List Code → Bool) (T U : Tokenizer) : Type 0 where
+pub record MakesStart (kind : LabelKind) (size : ℕ) (ops : List Op) (test : List Code → Bool) (T U : Tokenizer) : Type 0 where
   pub holds : test (ahead T) ≡ true
   pub left : U ≡ kept_start kind size (done ops T)
 
@@ -123,7 +123,7 @@ pub record BeginsNot (d : ℕ) (test : List Code → Bool) (T U : Tokenizer) : T
   pub scratch : U.tokenize_state ≡ T.tokenize_state
 
 abbrev pub begins_as : ℕ → LabelKind → ℕ → List Op → (List Code → Bool) → Tokenizer → Bool → Tokenizer → Type 0
-begins_as d kind size ops test T true U = Begins kind size ops test T U
+begins_as d kind size ops test T true U = MakesStart kind size ops test T U
 begins_as d kind size ops test T false U = BeginsNot d test T U
 
 abbrev pub link_test : Tokenizer → List Code → Bool

@@ -1,26 +1,27 @@
 -- What the states of a resource do, and how runs from them end.
 use Rattle.std.specs.Prelude.{◌≡◌, ℕ, Bool, true, false, ◌==◌, ◌&&◌, ◌||◌, if◌then◌else◌, List, [], ◌∷◌, ◌++◌, Option, Some, None}
 use Rattle.std.specs.Str.{byte}
-use Rattle.markdown_engine_content.specs.Codes.{Code}
+use Rattle.markdown_content.specs.Codes.{Code}
 use Rattle.markdown_engine.specs.FailedRun.{Grown}
 use Rattle.markdown_engine.specs.Operations.{Op, Enter, Exit, Consume, IsOpen, ahead, applied, attempted, current_of, done, scratched}
 use Rattle.markdown_engine.specs.PastTree.{EndsAs, TreeReading, past, behind}
 use Rattle.markdown_engine.specs.StateRuns.{Stepped, stepped}
-use Rattle.markdown_engine_index.specs.SequenceIndex.{rules_out}
+use Rattle.markdown_notes.specs.SequenceIndex.{rules_out}
 use Rattle.markdown_engine.specs.StateWords.{StateWords}
-use Rattle.markdown_engine_index.specs.TitleIndex as Titles
-use Rattle.markdown_engine_content.specs.Tree.{Forest, leaf, leaf_codes}
+use Rattle.markdown_notes.specs.TitleIndex as Titles
+use Rattle.markdown_content.specs.Tree.{Forest, leaf, leaf_codes}
 use Rattle.markdown_event.specs.declared.event.Name.TheVariants as N
-use Rattle.markdown_engine_index.specs.declared.sequence_index.Sequence.TheVariants.{ResourceEnd}
-use Rattle.markdown_state.specs.declared.state.State.TheVariants.{Next, Retry, Ok, Nok}
-use Rattle.markdown_state.specs.declared.state.StateName.{StateName}
-use Rattle.markdown_state.specs.declared.state.StateName.TheVariants.{DestinationStart, LabelEndResourceBefore, LabelEndResourceBetween, LabelEndResourceDestinationAfter, LabelEndResourceDestinationMissing, LabelEndResourceEnd, LabelEndResourceOpen, LabelEndResourceStart, LabelEndResourceTitleAfter, SpaceOrTabEolStart, TitleStart}
+use Rattle.markdown_notes.specs.declared.sequence_index.Sequence.TheVariants.{ResourceEnd}
+use Rattle.markdown_event.specs.declared.state.State.TheVariants.{Next, Retry, Ok, Nok}
+use Rattle.markdown_event.specs.declared.state.StateName.{StateName}
+use Rattle.markdown_event.specs.declared.state.StateName.TheVariants.{DestinationStart, LabelEndResourceBefore, LabelEndResourceBetween, LabelEndResourceDestinationAfter, LabelEndResourceDestinationMissing, LabelEndResourceEnd, LabelEndResourceOpen, LabelEndResourceStart, LabelEndResourceTitleAfter, SpaceOrTabEolStart, TitleStart}
 use Rattle.markdown_engine.specs.declared.tokenizer.TokenizeState.{TokenizeState}
 use Rattle.markdown_engine.specs.declared.tokenizer.Tokenizer.{Tokenizer}
 use Rattle.markdown_model.specs.CodeTests.{is_value, next_is}
 use Rattle.markdown_model.specs.Grammar.{◌>>=◌, gives, one}
 use Rattle.markdown_model.specs.Resource.{begins_title, destination, resource, resource_names, title, title_names}
 use Rattle.markdown_model.specs.Whitespace.{space_or_tab_eol}
+use Rattle.markdown_partial.specs.LinkedText.{rules_in}
 use Rattle.markdown_partial.specs.PartialSpaceOrTabEol as PartialSpaceOrTabEol
 use Rattle.markdown_partial.specs.PartialSpaceOrTabEol.{eol_asked}
 use Rattle.markdown_partial.specs.PartialDestination as PartialDestination
@@ -150,22 +151,28 @@ and_then (Some r) next = behind r.0 (next r.1)
 abbrev pub after_title : TreeReading
 after_title cs = or_without (space_or_tab_eol None cs) closes cs
 
-abbrev pub between : TreeReading
-between cs = if begins_title cs then and_then (title title_names cs) after_title else closes cs
+-- `both` says that the opening parenthesis of a title has to be escaped too
+module _ (both : Bool) where
+  abbrev pub between : TreeReading
+  between cs = if begins_title cs then and_then (title both title_names cs) after_title else closes cs
 
--- behind a destination: whitespace and what may follow it, or the end
-abbrev pub after_destination_of : Option (Forest × List Code) → List Code → Option (Forest × List Code)
-after_destination_of None cs = closes cs
-after_destination_of (Some r) cs = behind r.0 (between r.1)
+  -- behind a destination: whitespace and what may follow it, or the end
+  abbrev pub after_destination_of : Option (Forest × List Code) → List Code → Option (Forest × List Code)
+  after_destination_of None cs = closes cs
+  after_destination_of (Some r) cs = behind r.0 (between r.1)
 
-abbrev pub after_destination : TreeReading
-after_destination cs = after_destination_of (space_or_tab_eol None cs) cs
+  abbrev pub after_destination : TreeReading
+  after_destination cs = after_destination_of (space_or_tab_eol None cs) cs
 
-abbrev pub opened : TreeReading
-opened cs = if next_is (is_value (byte ")")) cs then closes cs else and_then (destination 32 resource_names cs) after_destination
+  abbrev pub opened : TreeReading
+  opened cs = if next_is (is_value (byte ")")) cs then closes cs else and_then (destination 32 resource_names cs) after_destination
 
-abbrev pub inside : TreeReading
-inside cs = or_without (space_or_tab_eol None cs) opened cs
+  abbrev pub inside : TreeReading
+  inside cs = or_without (space_or_tab_eol None cs) opened cs
+
+-- by CommonMark's rule it has to be
+abbrev pub asks_both : Tokenizer → Bool
+asks_both T = (rules_in T).escaped_parentheses
 
 -- When they may be called.
 
@@ -179,19 +186,19 @@ pub record BehindReady (put : Tokenizer → Tokenizer) (T : Tokenizer) : Type 0 
   pub whole : IsOpen N.Resource T
 
 abbrev pub before_ends : Tokenizer → Bool → Tokenizer → Type 0
-before_ends T ok U = RowEnds inside T.tokenize_state T ok U
+before_ends T ok U = RowEnds (inside (asks_both T)) T.tokenize_state T ok U
 
 abbrev pub open_ends : Tokenizer → Bool → Tokenizer → Type 0
-open_ends T ok U = RowEnds opened T.tokenize_state T ok U
+open_ends T ok U = RowEnds (opened (asks_both T)) T.tokenize_state T ok U
 
 abbrev pub destination_after_ends : Tokenizer → Bool → Tokenizer → Type 0
-destination_after_ends T ok U = RowEnds after_destination (destination_rested T.tokenize_state) T ok U
+destination_after_ends T ok U = RowEnds (after_destination (asks_both T)) (destination_rested T.tokenize_state) T ok U
 
 abbrev pub missing_ends : Tokenizer → Bool → Tokenizer → Type 0
 missing_ends T ok U = (ok ≡ false) × (U ≡ destination_put T)
 
 abbrev pub between_ends : Tokenizer → Bool → Tokenizer → Type 0
-between_ends T ok U = RowEnds between T.tokenize_state T ok U
+between_ends T ok U = RowEnds (between (asks_both T)) T.tokenize_state T ok U
 
 abbrev pub title_after_ends : Tokenizer → Bool → Tokenizer → Type 0
 title_after_ends T ok U = RowEnds after_title (names_rested T.tokenize_state) T ok U
@@ -201,7 +208,7 @@ end_ends T ok U = RowEnds closes T.tokenize_state T ok U
 
 -- the whole of it
 abbrev pub resource_ends : Tokenizer → Bool → Tokenizer → Type 0
-resource_ends T ok U = EndsAs resource None T.tokenize_state T ok U
+resource_ends T ok U = EndsAs (resource (asks_both T)) None T.tokenize_state T ok U
 
 -- The states.
 

@@ -1,21 +1,21 @@
-// The states of starts of footnote calls: a bracket and a caret. GitHub has footnotes; the GFM specification has no section on them.
-//
-//     gfm_label_start_footnote ::= '[^'
-//
-// Events:
-//
-//     GfmFootnoteCallLabel
-//       LabelMarker              `[`
-//       GfmFootnoteCallMarker    `^`
-//
-// The start is kept until an end takes it. After the run the pass `label_groups` makes a footnote call of it, a link whose text begins with
-// the caret where the footnote is not defined, or data.
-//
-// Example: the codes `[^` of `[^a]`.
-//
-// Definition: `gfm_label_start_footnote` in `markdown_model/specs/Elements.antt`.
-//
-// Each state answers the error where a growth is refused; then `failed` is true.
+//! The states of starts of footnote calls: a bracket and a caret. GitHub has footnotes; the GFM specification has no section on them.
+//!
+//!     gfm_label_start_footnote ::= '[^'
+//!
+//! Events:
+//!
+//!     GfmFootnoteCallLabel
+//!       LabelMarker              `[`
+//!       GfmFootnoteCallMarker    `^`
+//!
+//! The start is kept until an end takes it. After the run the pass `label_groups` makes a footnote call of it, a link whose text begins with
+//! the caret where the footnote is not defined, or data.
+//!
+//! Example: the codes `[^` of `[^a]`.
+//!
+//! Definition: `gfm_label_start_footnote` in `markdown_model/specs/Elements.antt`.
+//!
+//! Each state answers the error where a growth is refused; then `failed` is true.
 #![tactic(auto, using(markdown_engine::proofs::OperationFields::law_rules), unfolding(markdown_engine::specs::Operations::scratched))]
 
 ghost use Rattle.std.specs.Prelude.{◌≡◌, IfOk, OnErr, IsTrue};
@@ -25,7 +25,7 @@ use crate::parts;
 use crate::starts::keep_start;
 use markdown_engine::tokenizer::{LabelKind, Tokenizer};
 use markdown_event::event::Name;
-use markdown_state::state::{State, StateName};
+use markdown_event::state::{State, StateName};
 use std::alloc::AllocError;
 
 /// At the start of a footnote call's label: its bracket.

@@ -1,30 +1,30 @@
-// The states of ends of labels: a closing bracket, with what follows it (CommonMark 6.3 and 6.4, and footnote calls).
-//
-//     label_end ::= ']' (resource | full | collapsed)?
-//     full ::= label                                           as in `partial_label`; it has a definition
-//     collapsed ::= '[' ']'                                    the label before it has a definition
-//
-// An end takes the last start that no end has used. With a footnote's start and a defined footnote it makes a call, and nothing
-// follows. Else what follows makes a link or an image. Where the label has a definition, nothing has to follow; before a `[` this asks for
-// the option `label_shortcut_before_bracket`, and for no label there. Else the start is used up in vain. A start behind which a link or a call
-// was made is no link's.
-//
-// Events:
-//
-//     LabelEnd
-//       LabelMarker              `]`
-//     Resource                   as in `resource`, or
-//     Reference
-//       ReferenceMarker          `[`
-//       ReferenceString          of a full reference: `Data`, `LineEnding` and `SpaceOrTab`, linked as a string
-//       ReferenceMarker          `]`
-//
-// Example: in `[a][b]` the first `]`, with the full reference `[b]`.
-//
-// Definition: `label_end` in `markdown_model/specs/LabelEnd.antt`.
-//
-// Each state answers the error where a growth is refused; then `failed` is true.
-// A reader of plain resources and references stands beside: `readers::label_end` of `markdown_run_text`.
+//! The states of ends of labels: a closing bracket, with what follows it (CommonMark 6.3 and 6.4, and footnote calls).
+//!
+//!     label_end ::= ']' (resource | full | collapsed)?
+//!     full ::= label                                           as in `partial_label`; it has a definition
+//!     collapsed ::= '[' ']'                                    the label before it has a definition
+//!
+//! An end takes the last start that no end has used. With a footnote's start and a defined footnote it makes a call, and nothing
+//! follows. Else what follows makes a link or an image. Where the label has a definition, nothing has to follow; before a `[` this asks for
+//! the option `label_shortcut_before_bracket`, and for no label there. Else the start is used up in vain. A start behind which a link or a call
+//! was made is no link's.
+//!
+//! Events:
+//!
+//!     LabelEnd
+//!       LabelMarker              `]`
+//!     Resource                   as in `resource`, or
+//!     Reference
+//!       ReferenceMarker          `[`
+//!       ReferenceString          of a full reference: `Data`, `LineEnding` and `SpaceOrTab`, linked as a string
+//!       ReferenceMarker          `]`
+//!
+//! Example: in `[a][b]` the first `]`, with the full reference `[b]`.
+//!
+//! Definition: `label_end` in `markdown_model/specs/LabelEnd.antt`.
+//!
+//! Each state answers the error where a growth is refused; then `failed` is true.
+//! A reader of plain resources and references stands beside: `readers::label_end` of `markdown_run_text`.
 #![tactic(auto, using(markdown_engine::proofs::OperationFields::law_rules), unfolding(markdown_engine::specs::Operations::scratched, markdown_engine::specs::Operations::attempted, markdown_engine::specs::Operations::frame_of))]
 
 ghost use Rattle.std.specs.Prelude.{◌≡◌, IfOk, OnErr, IsTrue};
@@ -42,10 +42,10 @@ pub use crate::resource::{
 };
 use markdown_engine::tokenizer::{Label, LabelKind, LabelStart, TokenizeState, Tokenizer};
 use markdown_event::event::Name;
+use markdown_event::resolve::ResolveName;
+use markdown_event::seq::Stack;
+use markdown_event::state::{State, StateName};
 use markdown_label_names::identifier::{is_defined_between, link_between};
-use markdown_lists::seq::Stack;
-use markdown_state::resolve::ResolveName;
-use markdown_state::state::{State, StateName};
 use std::alloc::AllocError;
 
 // Whether a label of this kind is an image.
@@ -249,7 +249,11 @@ pub fn reference_full_after(tokenizer: &mut Tokenizer) -> Result<State, AllocErr
     let to = tokenizer.events.len() - 4;
     let from = tokenizer.tokenize_state.end + 7;
     let defined = is_defined_between(tokenizer, from, to)?;
-    let matters = tokenizer.parse_state.options.label_shortcut_before_bracket;
+    let matters = tokenizer
+        .parse_state
+        .options
+        .rules()
+        .shortcut_before_bracket;
     let state = &mut tokenizer.tokenize_state;
     rest_names(state);
     if defined {
@@ -317,7 +321,11 @@ pub fn reference_not_full(tokenizer: &mut Tokenizer) -> Result<State, AllocError
     ensures ok { IfOk result (λ s. reference_not_full_step tokenizer.old ≡ record { state = s; left = tokenizer.new }) }
     ensures err { OnErr result (IsTrue tokenizer.new.failed) }
 {
-    let shortcut = tokenizer.parse_state.options.label_shortcut_before_bracket
+    let shortcut = tokenizer
+        .parse_state
+        .options
+        .rules()
+        .shortcut_before_bracket
         && !tokenizer.tokenize_state.seen;
     tokenizer.tokenize_state.seen = false;
     let otherwise = if shortcut {

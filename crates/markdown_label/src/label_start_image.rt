@@ -1,22 +1,22 @@
-// The states of starts of images: the exclamation mark and the bracket before an image's description (CommonMark 6.4).
-//
-//     label_start_image ::= '!['
-//
-// Where footnotes are on and a caret follows, the start does not hold: the mark is data, and a footnote call begins at the bracket.
-//
-// Events:
-//
-//     LabelImage
-//       LabelImageMarker    `!`
-//       LabelMarker         `[`
-//
-// The start is kept until an end takes it. After the run the pass `label_groups` makes an image of it, or data.
-//
-// Example: the codes `![` of `![a](b)`.
-//
-// Definition: `label_start_image` in `markdown_model/specs/Elements.antt`.
-//
-// Each state answers the error where a growth is refused; then `failed` is true.
+//! The states of starts of images: the exclamation mark and the bracket before an image's description (CommonMark 6.4).
+//!
+//!     label_start_image ::= '!['
+//!
+//! Where footnotes are on and a caret follows, the start does not hold: the mark is data, and a footnote call begins at the bracket.
+//!
+//! Events:
+//!
+//!     LabelImage
+//!       LabelImageMarker    `!`
+//!       LabelMarker         `[`
+//!
+//! The start is kept until an end takes it. After the run the pass `label_groups` makes an image of it, or data.
+//!
+//! Example: the codes `![` of `![a](b)`.
+//!
+//! Definition: `label_start_image` in `markdown_model/specs/Elements.antt`.
+//!
+//! Each state answers the error where a growth is refused; then `failed` is true.
 #![tactic(auto, using(markdown_engine::proofs::OperationFields::law_rules), unfolding(markdown_engine::specs::Operations::scratched))]
 
 ghost use Rattle.std.specs.Prelude.{◌≡◌, IfOk, OnErr, IsTrue};
@@ -26,7 +26,7 @@ use crate::parts;
 use crate::starts::keep_start;
 use markdown_engine::tokenizer::{LabelKind, Tokenizer};
 use markdown_event::event::Name;
-use markdown_state::state::{State, StateName};
+use markdown_event::state::{State, StateName};
 use std::alloc::AllocError;
 
 /// At the start of an image's label: its exclamation mark.

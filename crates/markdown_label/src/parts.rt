@@ -1,16 +1,16 @@
-// What states of links, images and footnote calls share: the events around a marker, and attempts.
-//
-// Each function answers the error where a growth is refused; then `failed` is true.
+//! What states of links, images and footnote calls share: the events around a marker, and attempts.
+//!
+//! Each function answers the error where a growth is refused; then `failed` is true.
 #![tactic(auto, using(markdown_engine::proofs::OperationFields::law_rules), unfolding(markdown_engine::specs::Operations::attempted, markdown_engine::specs::Operations::frame_of))]
 
 ghost use Rattle.std.specs.Prelude.{◌≡◌, ◌∷◌, [], false, IfOk, OnOk, OnErr, IsTrue};
 ghost use Rattle.markdown_engine.specs.Operations.{Enter, Exit, Consume, HasCode, IsOpen, attempted, done};
 ghost use Rattle.markdown_engine.specs.StateRuns.{stepped};
-ghost use Rattle.markdown_state.specs.declared.state.State.TheVariants.{Next, Retry};
+ghost use Rattle.markdown_event.specs.declared.state.State.TheVariants.{Next, Retry};
 
 use markdown_engine::tokenizer::Tokenizer;
 use markdown_event::event::Name;
-use markdown_state::state::{State, StateName};
+use markdown_event::state::{State, StateName};
 use std::alloc::AllocError;
 
 // Enters a whole, takes the code at the place as its first marker, and goes on with a state.
@@ -22,7 +22,8 @@ pub(crate) fn open(
     next: StateName,
 ) -> Result<State, AllocError>
     requires { HasCode tokenizer.old }
-    ensures ok { IfOk result (λ s. stepped (Next next) (done (Enter whole ∷ Enter marker ∷ Consume ∷ Exit marker ∷ []) tokenizer.old) ≡ record { state = s; left = tokenizer.new }) }
+    ensures ok { IfOk result (λ s. stepped (Next next) (done (Enter whole ∷ Enter marker ∷ Consume ∷ Exit marker ∷ []) tokenizer.old)
+        ≡ record { state = s; left = tokenizer.new }) }
     ensures err { OnErr result (IsTrue tokenizer.new.failed) }
 {
     tokenizer.enter(whole)?;

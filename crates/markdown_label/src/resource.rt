@@ -1,46 +1,46 @@
-// The states of resources: in parentheses a destination and a title, behind the label of a link or an image (CommonMark 6.3).
-//
-//     resource ::= '(' space? (destination (space title)? space?)? ')'
-//
-// `space` is that of `partial_space_or_tab_eol`, `destination` that of `partial_destination`, with parentheses 32 deep at most, and `title` that
-// of `partial_title`.
-//
-// Events, with `SpaceOrTab` and `LineEnding` between the parts:
-//
-//     Resource
-//       ResourceMarker                          `(`
-//       ResourceDestination
-//         ResourceDestinationLiteral            in angle brackets, or
-//         ResourceDestinationRaw                without
-//       ResourceTitle
-//         ResourceTitleMarker                   a quote or a parenthesis
-//         ResourceTitleString                   what stands between
-//         ResourceTitleMarker                   the other one
-//       ResourceMarker                          `)`
-//
-// Example: `(b "c")`, behind the label of `[a](b "c")`.
-//
-// Definition: `resource` in `markdown_model/specs/Resource.antt`.
-//
-// Each state answers the error where a growth is refused; then `failed` is true.
+//! The states of resources: in parentheses a destination and a title, behind the label of a link or an image (CommonMark 6.3).
+//!
+//!     resource ::= '(' space? (destination (space title)? space?)? ')'
+//!
+//! `space` is that of `partial_space_or_tab_eol`, `destination` that of `partial_destination`, with parentheses 32 deep at most, and `title` that
+//! of `partial_title`.
+//!
+//! Events, with `SpaceOrTab` and `LineEnding` between the parts:
+//!
+//!     Resource
+//!       ResourceMarker                          `(`
+//!       ResourceDestination
+//!         ResourceDestinationLiteral            in angle brackets, or
+//!         ResourceDestinationRaw                without
+//!       ResourceTitle
+//!         ResourceTitleMarker                   a quote or a parenthesis
+//!         ResourceTitleString                   what stands between
+//!         ResourceTitleMarker                   the other one
+//!       ResourceMarker                          `)`
+//!
+//! Example: `(b "c")`, behind the label of `[a](b "c")`.
+//!
+//! Definition: `resource` in `markdown_model/specs/Resource.antt`.
+//!
+//! Each state answers the error where a growth is refused; then `failed` is true.
 #![tactic(auto, using(markdown_engine::proofs::OperationFields::law_rules), unfolding(markdown_engine::specs::Operations::scratched, markdown_engine::specs::Operations::attempted, markdown_engine::specs::Operations::frame_of))]
 
 ghost use Rattle.std.specs.Prelude.{◌≡◌, if◌then◌else◌, IfOk, OnErr, IsTrue};
 ghost use Rattle.markdown_engine.specs.Operations.{IsOpen, current_of};
 ghost use Rattle.markdown_engine.specs.StateRuns.{stepped};
-ghost use Rattle.markdown_state.specs.declared.state.State.TheVariants.{Retry};
-ghost use Rattle.markdown_engine_index.specs.TitleIndex as Titles;
+ghost use Rattle.markdown_event.specs.declared.state.State.TheVariants.{Retry};
+ghost use Rattle.markdown_notes.specs.TitleIndex as Titles;
 ghost use Rattle.markdown_event.specs.declared.event.Name.TheVariants.{Resource};
 ghost use Rattle.markdown_label.specs.AfterLabelParts.{names_rested};
 ghost use Rattle.markdown_label.specs.Resource.{destination_asked, destination_rested, title_asked, at_space, spaced, start_step, before_step, open_step, destination_after_step, missing_step, is_hopeless, between_step, title_after_step, end_step};
 
 use crate::parts;
 use markdown_engine::tokenizer::{TokenizeState, Tokenizer};
-use markdown_engine_index::sequence_index::Sequence;
-use markdown_engine_index::title_index::TitleIndex;
 use markdown_event::event::Name;
+use markdown_event::state::{State, StateName};
+use markdown_notes::sequence_index::Sequence;
+use markdown_notes::title_index::TitleIndex;
 use markdown_partial::partial_space_or_tab_eol::space_or_tab_eol;
-use markdown_state::state::{State, StateName};
 use markdown_util::util::constant::RESOURCE_DESTINATION_BALANCE_MAX;
 use std::alloc::AllocError;
 
@@ -93,7 +93,8 @@ fn past_space(
     behind: StateName,
     otherwise: StateName,
 ) -> Result<State, AllocError>
-    ensures ok { IfOk result (λ s. (if at_space (current_of tokenizer.old) then spaced behind otherwise tokenizer.old else stepped (Retry otherwise) tokenizer.old) ≡ record { state = s; left = tokenizer.new }) }
+    ensures ok { IfOk result (λ s. (if at_space (current_of tokenizer.old) then spaced behind otherwise tokenizer.old
+        else stepped (Retry otherwise) tokenizer.old) ≡ record { state = s; left = tokenizer.new }) }
     ensures err { OnErr result (IsTrue tokenizer.new.failed) }
 {
     match tokenizer.current() {

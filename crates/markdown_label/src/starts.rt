@@ -3,7 +3,7 @@ ghost use Rattle.std.specs.Prelude.{◌≡◌, ◌≤◌, length, OnOk, OnErr, I
 ghost use Rattle.markdown_label.specs.LabelStarts.{kept_start};
 
 use markdown_engine::tokenizer::{LabelKind, LabelStart, Tokenizer};
-use markdown_state::resolve::ResolveName;
+use markdown_event::resolve::ResolveName;
 use std::alloc::AllocError;
 
 /// Keeps a start of this kind, whose events are the last ones, so many, and registers the pass of labels before all others.

@@ -13,7 +13,7 @@ use Rattle.ucd_table.proofs.Computing.{tables}
 use Rattle.ucd_case.specs.CaseFolding.{full_folding, or_itself, full_fold}
 use Rattle.ucd_case.proofs.CaseFoldingLemmas.{full_folding_stepped, full_fold-ascii}
 use Rattle.caseless.specs.Caseless.{default_case_fold}
-use Rattle.markdown_engine_names.specs.BracketIndex.{brackets_of}
+use Rattle.markdown_notes.specs.BracketIndex.{brackets_of}
 use Rattle.markdown_util.specs.Identifier.{separates_words, is_nonempty, joined_words, identifier_of}
 
 abbrev count : Bool → ℕ

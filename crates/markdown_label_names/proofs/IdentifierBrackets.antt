@@ -7,11 +7,11 @@ use Rattle.std.proofs.lemmas.Bool.{false≢true, not-true, or_parts, or_from}
 use Rattle.std.proofs.lemmas.Bool.Decides.{Decides-eqb}
 use Rattle.std.proofs.lemmas.List.Sums.{sum_by-append}
 use Rattle.std.proofs.lemmas.Slice.Eq.{bytes_eq-Decides}
-use Rattle.markdown_engine_names.specs.BracketIndex.{BracketPlaces, brackets_of, brackets_between, has_brackets, counted}
-use Rattle.markdown_engine_names.specs.declared.name_index.Names.{Names}
-use Rattle.markdown_engine_content.specs.declared.label_kind.LabelKind.{LabelKind}
+use Rattle.markdown_notes.specs.BracketIndex.{BracketPlaces, brackets_of, brackets_between, has_brackets, counted}
+use Rattle.markdown_notes.specs.declared.name_index.Names.{Names}
+use Rattle.markdown_content.specs.declared.label_kind.LabelKind.{LabelKind}
 use Rattle.markdown_engine.specs.declared.tokenizer.Tokenizer.{Tokenizer}
-use Rattle.markdown_engine_names.proofs.BracketIndexLemmas.{count-first, counted-is}
+use Rattle.markdown_notes.proofs.BracketIndexLemmas.{count-first, counted-is}
 use Rattle.markdown_plan.specs.Characters.{bytes_of}
 use Rattle.markdown_util.specs.Identifier.{identifier_of}
 use Rattle.markdown_label_names.proofs.BracketCounts.{of-identifier}

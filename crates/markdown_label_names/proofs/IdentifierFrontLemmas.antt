@@ -14,14 +14,14 @@ use Rattle.std.proofs.lemmas.Str.{chars-append, encodes-append, IsUtf8-between}
 use Rattle.caseless.proofs.CaselessLemmas.{default_case_fold-append}
 use Rattle.caseless.specs.Caseless.{default_case_fold}
 use Rattle.markdown_util.specs.Identifier.{separates_words, is_nonempty, joined_words, identifier_of}
-use Rattle.markdown_engine_content.specs.declared.label_kind.LabelKind.{LabelKind}
+use Rattle.markdown_content.specs.declared.label_kind.LabelKind.{LabelKind}
 use Rattle.markdown_model.specs.LabelEnd.{is_footnote, link_identifier}
 use Rattle.markdown_model.specs.Setting.{Setting, is_defined}
 use Rattle.markdown_label_names.specs.IdentifierFronts.{AreCuts, IsUnknown, begins_one, begins_defined}
 
 -- the second begins with the first
-abbrev pub Begins : List ℕ → List ℕ → Type 0
-Begins front whole = (more : List ℕ) × (whole ≡ front ++ more)
+abbrev pub IsFrontOf : List ℕ → List ℕ → Type 0
+IsFrontOf front whole = (more : List ℕ) × (whole ≡ front ++ more)
 
 -- Where a text is cut, one part may be cut in two.
 
@@ -75,7 +75,7 @@ abbrev spaced : List ℕ → List ℕ
 spaced [] = []
 spaced (c ∷ cs) = 32 ∷ c ∷ cs
 
-spaced-begins : (left right : List ℕ) → Begins (spaced left) (spaced (left ++ right))
+spaced-begins : (left right : List ℕ) → IsFrontOf (spaced left) (spaced (left ++ right))
 spaced-begins [] right = (spaced right, refl)
 spaced-begins (c ∷ cs) right = (right, refl)
 
@@ -97,7 +97,7 @@ joined-drop cs =
     join-drop (filter is_nonempty (slice_split separates_words cs)) ∙ ap (drop 1) (spaced-words (slice_split separates_words cs))
 
 spaced-front : (xs ys : List ℕ) →
-    Begins (flat_map spaced (slice_split separates_words xs)) (flat_map spaced (slice_split separates_words (xs ++ ys)))
+    IsFrontOf (flat_map spaced (slice_split separates_words xs)) (flat_map spaced (slice_split separates_words (xs ++ ys)))
 spaced-front xs ys =
     let s = seam xs ys in
     let b = spaced-begins s.left s.right in
@@ -110,28 +110,28 @@ spaced-front xs ys =
           ∙ ap (λ xs. xs ++ (b.0 ++ rest)) (sym (ap (flat_map spaced) s.front ∙ flat_map-append spaced s.before (s.left ∷ []) ∙ ap (λ xs. all ++ xs) (append-nil (spaced s.left)))),
     )
 
-drop-begins : (front whole : List ℕ) → Begins front whole → Begins (drop 1 front) (drop 1 whole)
+drop-begins : (front whole : List ℕ) → IsFrontOf front whole → IsFrontOf (drop 1 front) (drop 1 whole)
 drop-begins [] whole b = (drop 1 whole, refl)
 drop-begins (x ∷ front) whole b = (b.0, ap (drop 1) b.1)
 
-joined-front : (xs ys : List ℕ) → Begins (joined_words xs) (joined_words (xs ++ ys))
+joined-front : (xs ys : List ℕ) → IsFrontOf (joined_words xs) (joined_words (xs ++ ys))
 joined-front xs ys =
     let b = drop-begins _ _ (spaced-front xs ys) in
     (b.0, joined-drop (xs ++ ys) ∙ b.1 ∙ ap (λ zs. zs ++ b.0) (sym (joined-drop xs)))
 
 -- Case folding and UTF-8 go character by character.
 
-folded-front : (front whole : List ℕ) → Begins front whole →
-    Begins (encode_utf8_all (default_case_fold front)) (encode_utf8_all (default_case_fold whole))
+folded-front : (front whole : List ℕ) → IsFrontOf front whole →
+    IsFrontOf (encode_utf8_all (default_case_fold front)) (encode_utf8_all (default_case_fold whole))
 folded-front front whole b = (
   encode_utf8_all (default_case_fold b.0),
   ap (λ cs. encode_utf8_all (default_case_fold cs)) b.1 ∙ ap encode_utf8_all (default_case_fold-append front b.0) ∙ encodes-append (default_case_fold front) (default_case_fold b.0),
 )
 
-pub identifier-front : (xs ys : List ℕ) → IsUtf8 xs → Begins (identifier_of xs) (identifier_of (xs ++ ys))
+pub identifier-front : (xs ys : List ℕ) → IsUtf8 xs → IsFrontOf (identifier_of xs) (identifier_of (xs ++ ys))
 unfolding identifier_of
 identifier-front xs ys u =
-    folded-front _ _ (subst (λ cs. Begins (joined_words (chars xs)) (joined_words cs)) (sym (chars-append xs ys u)) (joined-front (chars xs) (chars ys)))
+    folded-front _ _ (subst (λ cs. IsFrontOf (joined_words (chars xs)) (joined_words cs)) (sym (chars-append xs ys u)) (joined-front (chars xs) (chars ys)))
 
 -- What begins unlike all of these is none of them.
 
@@ -158,7 +158,7 @@ link-front kind front more = go (is_footnote kind)
     go true = refl
     go false = refl
 
-pub unknown-by : (s : Setting) (kind : LabelKind) (front name : List ℕ) → Begins front name →
+pub unknown-by : (s : Setting) (kind : LabelKind) (front name : List ℕ) → IsFrontOf front name →
     begins_defined s kind front ≡ false → IsUnknown s kind name
 unknown-by s kind front name b h =
     let parts = or_parts (is_footnote kind && begins_one s.footnotes front) (begins_one s.definitions (link_identifier kind front)) h in
@@ -193,9 +193,9 @@ pub unknown-from : (s : Setting) (kind : LabelKind) (bs front : List ℕ) (i j k
     IsUnknown s kind (identifier_of (slice_range bs i k))
 unknown-from s kind bs front i j k cuts jk e h =
     let whole : slice_range bs i k ≡ slice_range bs i j ++ slice_range bs j k = range-parts bs i j k cuts.in_order jk cuts.last.0 in
-    let begins : Begins (identifier_of (slice_range bs i j)) (identifier_of (slice_range bs i k)) =
-    subst (λ xs. Begins (identifier_of (slice_range bs i j)) (identifier_of xs)) (sym whole) (identifier-front (slice_range bs i j) (slice_range bs j k) (cuts-text bs i j cuts)) in
-    unknown-by s kind front _ (subst (λ f. Begins f (identifier_of (slice_range bs i k))) (sym e) begins) h
+    let begins : IsFrontOf (identifier_of (slice_range bs i j)) (identifier_of (slice_range bs i k)) =
+    subst (λ xs. IsFrontOf (identifier_of (slice_range bs i j)) (identifier_of xs)) (sym whole) (identifier-front (slice_range bs i j) (slice_range bs j k) (cuts-text bs i j cuts)) in
+    unknown-by s kind front _ (subst (λ f. IsFrontOf f (identifier_of (slice_range bs i k))) (sym e) begins) h
 
 -- and where nothing is defined
 pub unknown-nothing : (s : Setting) (kind : LabelKind) (name : List ℕ) → s.definitions ≡ [] → s.footnotes ≡ [] →

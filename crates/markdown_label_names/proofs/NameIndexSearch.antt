@@ -1,9 +1,9 @@
 -- A test of names in order is that of what is defined.
 use Rattle.std.proofs.Common.{◌≡◌, ℕ, Bool, List, Some, None, sym, ap, ◌∙◌}
 use Rattle.std.specs.List.{list_any}
-use Rattle.markdown_engine_names.specs.declared.name_index.Names.{Names}
+use Rattle.markdown_notes.specs.declared.name_index.Names.{Names}
 use Rattle.markdown_engine.specs.declared.tokenizer.Tokenizer.{Tokenizer}
-use Rattle.markdown_engine_names.proofs.NameSort.{any-order}
+use Rattle.markdown_notes.proofs.NameSort.{any-order}
 use Rattle.markdown_label_names.specs.LabelSetting.{setting_in, IsListed}
 
 module _ (T : Tokenizer) (names : Names) (listed : IsListed T) (known : T.tokenize_state.names ≡ Some names) (p : List ℕ → Bool) where

@@ -2,9 +2,9 @@
 use Rattle.std.specs.Prelude.{◌≡◌, ◌≤◌, ℕ, Bool, false, ◌==◌, ◌&&◌, ◌||◌, not, List, Some, None, IsUtf8}
 use Rattle.std.specs.List.{list_any, starts_with}
 use Rattle.std.specs.Str.{IsCharBoundary}
-use Rattle.markdown_engine_names.specs.BracketIndex.{counted, has_brackets}
-use Rattle.markdown_engine_names.specs.declared.name_index.Names.{Names}
-use Rattle.markdown_engine_content.specs.declared.label_kind.LabelKind.{LabelKind}
+use Rattle.markdown_notes.specs.BracketIndex.{counted, has_brackets}
+use Rattle.markdown_notes.specs.declared.name_index.Names.{Names}
+use Rattle.markdown_content.specs.declared.label_kind.LabelKind.{LabelKind}
 use Rattle.markdown_model.specs.LabelEnd.{is_footnote, link_identifier}
 use Rattle.markdown_model.specs.Setting.{Setting, is_defined}
 

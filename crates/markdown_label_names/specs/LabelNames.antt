@@ -1,21 +1,21 @@
 -- What a label stands for, by the events around it.
 use Rattle.std.specs.Prelude.{ℕ, Bool, ◌<◌, ◌&&◌, if◌then◌else◌, List, length, slice_get, Option, Some, None, IsUtf8}
 use Rattle.std.specs.Str.{IsCharBoundary}
-use Rattle.markdown_engine_content.specs.Codes.{document_start}
-use Rattle.markdown_engine_content.specs.declared.label_kind.LabelKind.{LabelKind}
+use Rattle.markdown_content.specs.Codes.{document_start}
+use Rattle.markdown_content.specs.declared.label_kind.LabelKind.{LabelKind}
 use Rattle.markdown_event.specs.declared.event.Event.{Event}
 use Rattle.markdown_event.specs.declared.event.Point.{Point}
 use Rattle.markdown_engine.specs.declared.tokenizer.Tokenizer.{Tokenizer}
 use Rattle.markdown_plan.specs.Characters.{bytes_of}
 use Rattle.markdown_model.specs.LabelEnd.{is_footnote, bytes_between, link_identifier}
-use Rattle.markdown_model.specs.Setting.{Setting, is_defined}
+use Rattle.markdown_model.specs.Setting.{Setting, defines, is_defined}
 use Rattle.markdown_util.specs.Identifier.{identifier_of}
 use Rattle.markdown_label_names.specs.LabelSetting.{setting_in, IsListed}
 
 -- whether a label of this kind with this identifier is defined as a link's, and none where it is a footnote call
 abbrev pub link_as : Setting → LabelKind → List ℕ → Option Bool
 link_as s kind name =
-    if is_footnote kind && is_defined s.footnotes name then None else Some (is_defined s.definitions (link_identifier kind name))
+    if is_footnote kind && is_defined s.footnotes name then None else Some (defines s (link_identifier kind name))
 
 abbrev pub point_or : Option Event → Point
 point_or None = document_start

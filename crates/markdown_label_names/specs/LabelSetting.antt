@@ -1,9 +1,9 @@
 -- What a run is given, and what an end of a label reads by, as the definitions see it.
 use Rattle.std.specs.Prelude.{◌≡◌, Some, false, map, string_bytes}
-use Rattle.markdown_engine_names.specs.BracketIndex.{brackets_between}
-use Rattle.markdown_engine_names.specs.NameIndex.{names_in_order}
-use Rattle.markdown_engine_names.specs.declared.name_index.Names.{Names}
-use Rattle.markdown_engine_content.specs.declared.parser.ParseState.{ParseState}
+use Rattle.markdown_notes.specs.BracketIndex.{brackets_between}
+use Rattle.markdown_notes.specs.NameIndex.{names_in_order}
+use Rattle.markdown_notes.specs.declared.name_index.Names.{Names}
+use Rattle.markdown_content.specs.declared.parser.ParseState.{ParseState}
 use Rattle.markdown_engine.specs.declared.tokenizer.Tokenizer.{Tokenizer}
 use Rattle.markdown_model.specs.Setting.{Setting}
 use Rattle.markdown_util.specs.Reference.{html_5_rows}

@@ -1,7 +1,7 @@
 //! Identifiers of labels.
 #![tactic(auto)]
 
-ghost use Rattle.std.specs.Prelude.{◌≡◌, map, slice_range, ◌&&◌, string_bytes, IfOk, OnOk, OnErr, IsTrue};
+ghost use Rattle.std.specs.Prelude.{◌≡◌, map, slice_range, ◌&&◌, string_bytes, IfOk, OnOk, OnErr, IsTrue, false};
 ghost use Rattle.std.specs.List.{list_any};
 ghost use Rattle.std.specs.Str.{bytes_eq};
 ghost use Rattle.markdown_plan.specs.Characters.{bytes_of};
@@ -11,11 +11,11 @@ ghost use Rattle.markdown_label_names.specs.IdentifierFronts.{AreCuts};
 ghost use Rattle.markdown_label_names.specs.LabelNames.{identifier_between, link_as};
 ghost use Rattle.markdown_label_names.specs.LabelSetting.{setting_in, IsListed};
 ghost use Rattle.markdown_model.specs.LabelEnd.{is_footnote, link_identifier};
-ghost use Rattle.markdown_model.specs.Setting.{is_defined};
+ghost use Rattle.markdown_model.specs.Setting.{brackets_are_escaped, defines, is_defined, is_of_label};
 
 use crate::lookup::{is_ruled_out, letters_end};
+use markdown_content::util::slice::Slice;
 use markdown_engine::tokenizer::{LabelKind, Tokenizer};
-use markdown_engine_content::util::slice::Slice;
 use markdown_util::util::normalize_identifier::normalize_identifier;
 use std::alloc::{AllocError, Global};
 
@@ -85,8 +85,8 @@ fn names_footnote(tokenizer: &Tokenizer, name: &str) -> bool
     }
 }
 
-// Whether the identifier is that of a definition: by a search, where the names are known in order.
-fn names_definition(tokenizer: &Tokenizer, name: &str) -> bool
+// Whether the identifier is listed among those of definitions: by a search, where the names are known in order.
+fn lists_definition(tokenizer: &Tokenizer, name: &str) -> bool
     requires { IsListed tokenizer.now }
     ensures { result ≡ is_defined (setting_in tokenizer.now).definitions name.now }
 {
@@ -94,6 +94,36 @@ fn names_definition(tokenizer: &Tokenizer, name: &str) -> bool
         Some(names) => names.definitions.has(name),
         None => is_defined(tokenizer.parse_state.definitions.as_slice(), name),
     }
+}
+
+// Whether each bracket has a backslash of its own.
+fn brackets_are_escaped(name: &[u8]) -> bool
+    ensures { result ≡ brackets_are_escaped false name.now }
+{
+    let mut taken = false;
+    for &byte in name {
+        if !taken && matches!(byte, b'[' | b']') {
+            return false;
+        }
+        taken = !taken && byte == b'\\';
+    }
+    true
+}
+
+// Whether a link label may have this identifier.
+fn is_of_label(name: &str) -> bool
+    ensures { result ≡ is_of_label name.now }
+{
+    !name.is_empty() && brackets_are_escaped(name.as_bytes())
+}
+
+// Whether the identifier is that of a definition.
+fn names_definition(tokenizer: &Tokenizer, name: &str) -> bool
+    requires { IsListed tokenizer.now }
+    ensures { result ≡ defines (setting_in tokenizer.now) name.now }
+{
+    let rules = tokenizer.parse_state.options.rules();
+    lists_definition(tokenizer, name) && (!rules.definitions_have_labels || is_of_label(name))
 }
 
 // Whether a label of this kind with this identifier is defined as a link's. `None` where it is a footnote call.
@@ -156,7 +186,8 @@ pub fn link_between(
 fn is_defined_within(tokenizer: &Tokenizer, start: usize, end: usize) -> Result<bool, AllocError>
     requires cuts { AreCuts (bytes_of tokenizer.now) start end }
     requires listed { IsListed tokenizer.now }
-    ensures { IfOk result (λ defined. defined ≡ is_defined (setting_in tokenizer.now).definitions (identifier_of (slice_range (bytes_of tokenizer.now) start end))) }
+    ensures { IfOk result (λ defined. defined
+        ≡ defines (setting_in tokenizer.now) (identifier_of (slice_range (bytes_of tokenizer.now) start end))) }
 {
     let bytes = tokenizer.parse_state.bytes;
     if letters_end(bytes, start, end) == end {
@@ -178,7 +209,8 @@ pub fn is_defined_from(
 ) -> Result<bool, AllocError>
     requires cuts { AreCuts (bytes_of tokenizer.old) start end }
     requires listed { IsListed tokenizer.old }
-    ensures defined { IfOk result (λ defined. defined ≡ is_defined (setting_in tokenizer.old).definitions (identifier_of (slice_range (bytes_of tokenizer.old) start end))) }
+    ensures defined { IfOk result (λ defined. defined
+        ≡ defines (setting_in tokenizer.old) (identifier_of (slice_range (bytes_of tokenizer.old) start end))) }
     ensures same { OnOk result (tokenizer.new ≡ tokenizer.old) }
     ensures err { OnErr result (IsTrue tokenizer.new.failed) }
 {
@@ -195,7 +227,7 @@ pub fn is_defined_between(
     to: usize,
 ) -> Result<bool, AllocError>
     requires { AreAround tokenizer.old from to }
-    ensures defined { IfOk result (λ defined. defined ≡ is_defined (setting_in tokenizer.old).definitions (identifier_between tokenizer.old from to)) }
+    ensures defined { IfOk result (λ defined. defined ≡ defines (setting_in tokenizer.old) (identifier_between tokenizer.old from to)) }
     ensures same { OnOk result (tokenizer.new ≡ tokenizer.old) }
     ensures err { OnErr result (IsTrue tokenizer.new.failed) }
 {

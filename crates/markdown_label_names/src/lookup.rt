@@ -1,4 +1,4 @@
-// Labels that nothing is defined for, by the fronts of their identifiers.
+//! Labels that nothing is defined for, by the fronts of their identifiers.
 #![tactic(auto)]
 
 ghost use Rattle.std.specs.Prelude.{◌≡◌, ◌≤◌, ◌==◌, IfOk, IsTrue, [], map, slice_range, string_bytes};
@@ -10,9 +10,9 @@ ghost use Rattle.markdown_label_names.specs.IdentifierFronts.{AreCuts, begins_on
 ghost use Rattle.markdown_label_names.specs.LabelSetting.{setting_in, IsListed};
 
 use crate::identifier::{identifier_of, is_footnote, link_identifier};
+use markdown_content::util::slice::Slice;
 use markdown_engine::tokenizer::{LabelKind, Tokenizer};
-use markdown_engine_content::util::slice::Slice;
-use markdown_engine_names::name_index::Names;
+use markdown_notes::name_index::Names;
 use std::alloc::AllocError;
 
 // The first front of a label that an identifier is made for has two to this power bytes.

@@ -7,12 +7,12 @@ use Rattle.std.proofs.lemmas.List.Elements.{All-nil, All-cons}
 use Rattle.std.proofs.lemmas.Bool.{ne_eqb}
 use Rattle.std.proofs.lemmas.Bool.Decides.{leb_tells}
 use Rattle.markdown_engine_events.specs.Edits.{removed_at, front_at, back_at}
-use Rattle.markdown_engine_content.specs.Codes.{Code}
-use Rattle.markdown_engine_content.specs.Tree.{Forest, event_count}
+use Rattle.markdown_content.specs.Codes.{Code}
+use Rattle.markdown_content.specs.Tree.{Forest, event_count}
 use Rattle.markdown_event.specs.declared.event.Event.{Event}
 use Rattle.markdown_engine_events.specs.declared.util.edit_map.Edit.{Edit}
 use Rattle.markdown_engine_events.proofs.EditRules.{back-append, removed-append}
-use Rattle.markdown_engine.specs.OrderedEdits.{Part, comes, stays, edits_from, coming, going, Does}
+use Rattle.markdown_engine.specs.OrderedEdits.{EditPart, comes, stays, edits_from, coming, going, Does}
 use Rattle.markdown_label.specs.Brackets.{Front, link_front, image_front, call_front, caret_front, kind_of, tail_row, Tail, Brackets, nothing, tree_then, label_then, unused_then, failed_then, last_of, count, replacing, opened_of, ended, closed, as_data, first_start, last_stop, going_of, start_events, tail_stop, parts_of}
 use Rattle.markdown_engine.proofs.OrderedEditLaws.{back-going, removed-coming}
 use Rattle.markdown_label.proofs.EventsOfBrackets.{behind_end}
@@ -70,15 +70,15 @@ own_failed n (failed_then f inside rest) =
 -- Where they stand.
 
 -- each stands from one place on, and before another; none puts its events before others
-abbrev pub Within : ℕ → ℕ → List Edit → Type 0
-Within lo hi [] = Unit {0}
-Within lo hi (e ∷ log) = ((lo ≤ e.at) × ((e.at < hi) × (e.before ≡ false))) × Within lo hi log
+abbrev pub EditsWithin : ℕ → ℕ → List Edit → Type 0
+EditsWithin lo hi [] = Unit {0}
+EditsWithin lo hi (e ∷ log) = ((lo ≤ e.at) × ((e.at < hi) × (e.before ≡ false))) × EditsWithin lo hi log
 
-within-append : (lo hi : ℕ) (a b : List Edit) → Within lo hi a → Within lo hi b → Within lo hi (a ++ b)
+within-append : (lo hi : ℕ) (a b : List Edit) → EditsWithin lo hi a → EditsWithin lo hi b → EditsWithin lo hi (a ++ b)
 within-append lo hi [] b g h = h
 within-append lo hi (e ∷ a) b g h = (g.0, within-append lo hi a b g.1 h)
 
-within-wider : (lo hi low high : ℕ) (a : List Edit) → low ≤ lo → hi ≤ high → Within lo hi a → Within low high a
+within-wider : (lo hi low high : ℕ) (a : List Edit) → low ≤ lo → hi ≤ high → EditsWithin lo hi a → EditsWithin low high a
 within-wider lo hi low high [] l h g = tt
 within-wider lo hi low high (e ∷ a) l h g =
     ((omega (arith, g.0.0), (omega (arith, g.0.1.0), g.0.1.1)), within-wider lo hi low high a l h g.1)
@@ -89,26 +89,26 @@ come n i es = cond (n == i && true) es []
 come-off : (n i : ℕ) (es : List Event) → n ≢ i → come n i es ≡ []
 come-off n i es h = ap (λ b. cond (b && true) es []) (ne_eqb n i h)
 
-back-low : (lo hi i : ℕ) (a : List Edit) → Within lo hi a → i < lo → back_at i a ≡ []
+back-low : (lo hi i : ℕ) (a : List Edit) → EditsWithin lo hi a → i < lo → back_at i a ≡ []
 back-low lo hi i [] g l = refl
 back-low lo hi i (e ∷ a) g l =
     let off : (e.at == i) ≡ false = ne_eqb e.at i (λ q. omega (arith, q, g.0.0)) in
     ap (λ b. cond (b && not e.before) e.events [] ++ back_at i a) off ∙ back-low lo hi i a g.1 l
 
-back-high : (lo hi i : ℕ) (a : List Edit) → Within lo hi a → hi ≤ i → back_at i a ≡ []
+back-high : (lo hi i : ℕ) (a : List Edit) → EditsWithin lo hi a → hi ≤ i → back_at i a ≡ []
 back-high lo hi i [] g l = refl
 back-high lo hi i (e ∷ a) g l =
     let off : (e.at == i) ≡ false = ne_eqb e.at i (λ q. omega (arith, q, g.0.1.0)) in
     ap (λ b. cond (b && not e.before) e.events [] ++ back_at i a) off ∙ back-high lo hi i a g.1 l
 
-pub front-within : (lo hi i : ℕ) (a : List Edit) → Within lo hi a → front_at i a ≡ []
+pub front-within : (lo hi i : ℕ) (a : List Edit) → EditsWithin lo hi a → front_at i a ≡ []
 front-within lo hi i [] g = refl
 front-within lo hi i (e ∷ a) g =
     ap (λ x. x ++ cond (e.at == i && e.before) e.events []) (front-within lo hi i a g.1)
     ∙ ap (λ b. cond (e.at == i && b) e.events []) g.0.1.1
     ∙ ap (λ b. cond b e.events []) (and-false (e.at == i))
 
-pub within-labels : (n : ℕ) (b : Brackets) → Within n (n + count b + 1) (own_labels n b)
+pub within-labels : (n : ℕ) (b : Brackets) → EditsWithin n (n + count b + 1) (own_labels n b)
 within-labels n nothing = tt
 within-labels n (tree_then t rest) =
     within-wider (n + event_count t) (n + event_count t + count rest + 1) n (n + (event_count t + count rest) + 1) (own_labels (n + event_count t) rest) (omega arith) (omega arith) (within-labels (n + event_count t) rest)
@@ -132,11 +132,11 @@ within-labels n (failed_then f inside rest) =
 
 -- two stretches, one after the other
 two-within : (n i e hi : ℕ) (inside rest : Brackets) (a b : List Edit) → n ≤ i → i + count inside ≤ e →
-    e + count rest ≤ hi → Within i (i + count inside) a → Within e (e + count rest) b → Within n hi (a ++ b)
+    e + count rest ≤ hi → EditsWithin i (i + count inside) a → EditsWithin e (e + count rest) b → EditsWithin n hi (a ++ b)
 two-within n i e hi inside rest a b g h k u v =
     within-append n hi a b (within-wider i (i + count inside) n hi a g (omega arith) u) (within-wider e (e + count rest) n hi b (omega arith) k v)
 
-pub within-loose : (n : ℕ) (b : Brackets) → Within n (n + count b) (own_loose n b)
+pub within-loose : (n : ℕ) (b : Brackets) → EditsWithin n (n + count b) (own_loose n b)
 within-loose n nothing = tt
 within-loose n (tree_then t rest) =
     within-wider (n + event_count t) (n + event_count t + count rest) n (n + (event_count t + count rest)) (own_loose (n + event_count t) rest) (omega arith) (omega arith) (within-loose (n + event_count t) rest)
@@ -154,11 +154,11 @@ within-loose n (failed_then f inside rest) =
 
 -- two stretches, the later one first
 two-back : (n i e hi : ℕ) (inside rest : Brackets) (a b : List Edit) → n ≤ i → i + count inside ≤ e →
-    e + count rest ≤ hi → Within i (i + count inside) a → Within e (e + count rest) b → Within n hi (b ++ a)
+    e + count rest ≤ hi → EditsWithin i (i + count inside) a → EditsWithin e (e + count rest) b → EditsWithin n hi (b ++ a)
 two-back n i e hi inside rest a b g h k u v =
     within-append n hi b a (within-wider e (e + count rest) n hi b (omega arith) k v) (within-wider i (i + count inside) n hi a g (omega arith) u)
 
-pub within-unused : (n : ℕ) (b : Brackets) → Within n (n + count b) (own_unused n b)
+pub within-unused : (n : ℕ) (b : Brackets) → EditsWithin n (n + count b) (own_unused n b)
 within-unused n nothing = tt
 within-unused n (tree_then t rest) =
     within-wider (n + event_count t) (n + event_count t + count rest) n (n + (event_count t + count rest)) (own_unused (n + event_count t) rest) (omega arith) (omega arith) (within-unused (n + event_count t) rest)
@@ -175,7 +175,7 @@ within-unused n (failed_then f inside rest) =
     let e : ℕ = i + count inside in
     two-back n i e (n + (suc (last_of f) + (count inside + count rest))) inside rest (own_unused i inside) (own_unused e rest) (omega arith) (omega arith) (omega arith) (within-unused i inside) (within-unused e rest)
 
-pub within-failed : (n : ℕ) (b : Brackets) → Within n (n + count b) (own_failed n b)
+pub within-failed : (n : ℕ) (b : Brackets) → EditsWithin n (n + count b) (own_failed n b)
 within-failed n nothing = tt
 within-failed n (tree_then t rest) =
     within-wider (n + event_count t) (n + event_count t + count rest) n (n + (event_count t + count rest)) (own_failed (n + event_count t) rest) (omega arith) (omega arith) (within-failed (n + event_count t) rest)
@@ -197,7 +197,7 @@ within-failed n (failed_then f inside rest) =
 -- What comes at a place.
 
 -- a start's edit, as parts
-opens-come : (n i : ℕ) (f : Front) (es : List Event) (parts : List Part) →
+opens-come : (n i : ℕ) (f : Front) (es : List Event) (parts : List EditPart) →
     back_at i (edits_from n (comes es ∷ going_of (start_events f) ∷ parts)) ≡ come n i es ++ back_at i (edits_from (n + suc (last_of f)) parts)
 opens-come n i (link_front c) es parts = ap (λ x. come n i es ++ x) (back-going i n 4 (edits_from (n + 4) parts))
 opens-come n i (image_front c d) es parts = ap (λ x. come n i es ++ x) (back-going i n 6 (edits_from (n + 6) parts))
@@ -205,26 +205,26 @@ opens-come n i (call_front c d) es parts = ap (λ x. come n i es ++ x) (back-goi
 opens-come n i (caret_front c d) es parts = ap (λ x. come n i es ++ x) (back-going i n 6 (edits_from (n + 6) parts))
 
 -- the edits of an end, as parts
-ends-come : (e i : ℕ) (f : Front) (back : Code) (tail : Tail) (parts : List Part) →
+ends-come : (e i : ℕ) (f : Front) (back : Code) (tail : Tail) (parts : List EditPart) →
     back_at i (edits_from e (behind_end f back tail parts)) ≡ come e i (ended back.start back.stop) ++ (come (e + 4 + event_count (tail_row tail)) i (closed (kind_of f) (tail_stop back tail)) ++ back_at i (edits_from (e + 4 + event_count (tail_row tail)) parts))
 ends-come e i f back tail parts =
     ap (λ x. come e i (ended back.start back.stop) ++ x) (back-going i e 4 (edits_from (e + 4) (stays (tail_row tail) ∷ comes (closed (kind_of f) (tail_stop back tail)) ∷ parts)))
 
-abbrev Whole : (a d o e c r s m : List Event) → Type 0
-Whole a d o e c r s m =
+abbrev KeepEventOrder : (a d o e c r s m : List Event) → Type 0
+KeepEventOrder a d o e c r s m =
     o ++ ((a ++ d) ++ (e ++ (c ++ ((r ++ s) ++ m)))) ≡ ((a ++ (o ++ (e ++ (c ++ r)))) ++ (d ++ s)) ++ m
 
-whole-one : (a d o e c r s m : List Event) → a ≡ [] → d ≡ [] → Whole a d o e c r s m
+whole-one : (a d o e c r s m : List Event) → a ≡ [] → d ≡ [] → KeepEventOrder a d o e c r s m
 whole-one a d o e c r s m g h = rw (g, h) (simp append_assoc refl)
 
-whole-two : (a d o e c r s m : List Event) → o ≡ [] → e ≡ [] → c ≡ [] → r ≡ [] → s ≡ [] → Whole a d o e c r s m
+whole-two : (a d o e c r s m : List Event) → o ≡ [] → e ≡ [] → c ≡ [] → r ≡ [] → s ≡ [] → KeepEventOrder a d o e c r s m
 whole-two a d o e c r s m g h k l q = rw (g, h, k, l, q) (simp (append_assoc, append-nil) refl)
 
-whole-three : (a d o e c r s m : List Event) → o ≡ [] → d ≡ [] → Whole a d o e c r s m
+whole-three : (a d o e c r s m : List Event) → o ≡ [] → d ≡ [] → KeepEventOrder a d o e c r s m
 whole-three a d o e c r s m g h = rw (g, h) (simp (append_assoc, append-nil) refl)
 
 abbrev Comes : Brackets → Type 0
-Comes b = (n i : ℕ) (more : List Part) → back_at i (edits_from n (parts_of b ++ more)) ≡ (back_at i (own_labels n b) ++ back_at i (own_loose n b)) ++ back_at i (edits_from (n + count b) more)
+Comes b = (n i : ℕ) (more : List EditPart) → back_at i (edits_from n (parts_of b ++ more)) ≡ (back_at i (own_labels n b) ++ back_at i (own_loose n b)) ++ back_at i (edits_from (n + count b) more)
 
 label-comes : (f : Front) (inside : Brackets) (back : Code) (tail : Tail) (rest : Brackets) → Comes inside →
     Comes rest → Comes (label_then f inside back tail rest)
@@ -241,7 +241,7 @@ label-comes f inside back tail rest in_law rest_law n i more =
     let r : List Event = back_at i (own_labels x rest) in
     let s : List Event = back_at i (own_loose x rest) in
     let m : List Event = back_at i (edits_from (n + (suc (last_of f) + (count inside + (4 + (event_count (tail_row tail) + count rest))))) more) in
-    let whole : Whole a d o p c r s m = elim (leb_tells i n) [
+    let whole : KeepEventOrder a d o p c r s m = elim (leb_tells i n) [
       | inl t ↦ whole-one a d o p c r s m (back-low k (e + 1) i (own_labels k inside) (within-labels k inside) (omega (arith, t.1))) (back-low k e i (own_loose k inside) (within-loose k inside) (omega (arith, t.1)))
       | inr u ↦ elim (leb_tells e i) [
         | inl t ↦ whole-three a d o p c r s m (come-off n i (opened_of f) (λ q. omega (arith, q, u.1))) (back-high k e i (own_loose k inside) (within-loose k inside) t.1)
@@ -343,7 +343,7 @@ comes-all (failed_then f inside rest) n i more = failed-comes f inside rest (com
 abbrev go : ℕ → ℕ → ℕ → ℕ
 go n i k = cond (n == i) k 0
 
-opens-go : (n i : ℕ) (f : Front) (es : List Event) (parts : List Part) →
+opens-go : (n i : ℕ) (f : Front) (es : List Event) (parts : List EditPart) →
     removed_at i (edits_from n (comes es ∷ going_of (start_events f) ∷ parts)) ≡ go n i (suc (last_of f)) + removed_at i (edits_from (n + suc (last_of f)) parts)
 opens-go n i (link_front c) es parts = removed-coming i n es (going n 4 ∷ edits_from (n + 4) parts)
 opens-go n i (image_front c d) es parts = removed-coming i n es (going n 6 ∷ edits_from (n + 6) parts)
@@ -357,17 +357,17 @@ go-none n i = zero-of (n == i)
     zero-of true = refl
     zero-of false = refl
 
-ends-go : (e i : ℕ) (f : Front) (back : Code) (tail : Tail) (parts : List Part) →
+ends-go : (e i : ℕ) (f : Front) (back : Code) (tail : Tail) (parts : List EditPart) →
     removed_at i (edits_from e (behind_end f back tail parts)) ≡ go e i 4 + removed_at i (edits_from (e + 4 + event_count (tail_row tail)) parts)
 ends-go e i f back tail parts =
     let x : ℕ = e + 4 + event_count (tail_row tail) in
     removed-coming i e (ended back.start back.stop) (going e 4 ∷ coming x (closed (kind_of f) (tail_stop back tail)) ∷ edits_from x parts)
     ∙ ap (λ k. go e i 4 + k) (removed-coming i x (closed (kind_of f) (tail_stop back tail)) (edits_from x parts))
 
-abbrev Goes : Brackets → Type 0
-Goes b = (n i : ℕ) (more : List Part) → removed_at i (edits_from n (parts_of b ++ more)) ≡ (removed_at i (own_labels n b) + removed_at i (own_loose n b)) + removed_at i (edits_from (n + count b) more)
+abbrev RemovalsAddUp : Brackets → Type 0
+RemovalsAddUp b = (n i : ℕ) (more : List EditPart) → removed_at i (edits_from n (parts_of b ++ more)) ≡ (removed_at i (own_labels n b) + removed_at i (own_loose n b)) + removed_at i (edits_from (n + count b) more)
 
-pub goes-all : (b : Brackets) → Goes b
+pub goes-all : (b : Brackets) → RemovalsAddUp b
 goes-all nothing n i more =
     let e : n ≡ n + 0 = omega arith in ap (λ j. removed_at i (edits_from j more)) e ∙ omega arith
 goes-all (tree_then t rest) n i more =
@@ -512,7 +512,7 @@ loose-goes (failed_then f inside rest) n i =
 abbrev pub own : Brackets → List Edit
 own b = own_labels 0 b ++ (own_unused 0 b ++ own_failed 0 b)
 
-own-within : (b : Brackets) → Within 0 (count b + 1) (own b)
+own-within : (b : Brackets) → EditsWithin 0 (count b + 1) (own b)
 own-within b =
     within-append 0 (count b + 1) (own_labels 0 b) (own_unused 0 b ++ own_failed 0 b)
     (within-wider 0 (0 + count b + 1) 0 (count b + 1) (own_labels 0 b) (omega arith) (omega arith) (within-labels 0 b))
@@ -541,7 +541,7 @@ pub own-does : (b : Brackets) → Does (own b) (parts_of b)
 own-does b =
     record { added = λ i. ap (λ xs. xs ++ back_at i (own b)) (front-within 0 (count b + 1) i (own b) (own-within b)) ∙ own-comes b i; removed = own-goes b }
 
-within-places : (hi : ℕ) (log : List Edit) → Within 0 (hi + 1) log → All (λ e. e.at ≤ hi) log
+within-places : (hi : ℕ) (log : List Edit) → EditsWithin 0 (hi + 1) log → All (λ e. e.at ≤ hi) log
 within-places hi [] h = All-nil (λ e. e.at ≤ hi)
 within-places hi (e ∷ log) h = All-cons (λ e. e.at ≤ hi) e log (omega (arith, h.0.1.0)) (within-places hi log h.1)
 

@@ -1,9 +1,9 @@
 -- the edits of labels and starts, read off the events, are those of the brackets
 use Rattle.std.proofs.Common.{◌≡◌, ℕ, zero, suc, ◌+◌, ◌-◌, None, List, [], ◌∷◌, ◌++◌, length, drop, refl, ap, ◌∙◌, arith, append_assoc}
 use Rattle.markdown_engine_events.proofs.EditSteps.{drop-part}
-use Rattle.markdown_engine_content.specs.Codes.{Code}
+use Rattle.markdown_content.specs.Codes.{Code}
 use Rattle.markdown_engine.specs.PastTree.{appended_from}
-use Rattle.markdown_engine_content.specs.Tree.{Forest, empty, group_then, ◌⊕◌, event, event_count}
+use Rattle.markdown_content.specs.Tree.{Forest, empty, group_then, ◌⊕◌, event, event_count}
 use Rattle.markdown_event.specs.declared.event.Event.{Event}
 use Rattle.markdown_event.specs.declared.event.Kind.{Kind}
 use Rattle.markdown_engine.specs.declared.tokenizer.Label.{Label}

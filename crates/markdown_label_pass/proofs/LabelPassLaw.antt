@@ -5,12 +5,12 @@ use Rattle.std.proofs.lemmas.List.{append-nil}
 use Rattle.std.proofs.lemmas.List.Elements.{All-nil, All-cons, All-append}
 use Rattle.markdown_engine_events.specs.Edits.{edited, CanEdit}
 use Rattle.markdown_engine.specs.PastTree.{appended_from}
-use Rattle.markdown_engine_content.specs.Tree.{event_count}
+use Rattle.markdown_content.specs.Tree.{event_count}
 use Rattle.markdown_event.specs.declared.event.Event.{Event}
 use Rattle.markdown_engine_events.specs.declared.util.edit_map.Edit.{Edit}
 use Rattle.markdown_engine.proofs.TreeEvents.{length-appended_from}
-use Rattle.markdown_engine.specs.OrderedEdits.{Part, comes, goes, stays, keeps, before_from, GoUnlinked}
-use Rattle.markdown_label.specs.Brackets.{Front, link_front, image_front, call_front, caret_front, tail_row, Brackets, nothing, tree_then, label_then, unused_then, failed_then, flat, grouped, IsApart, last_of, count, numbers_of, labels_at, unused_at, failed_at, place_at, loose_edits, start_events, going_of, parts_of, all_edits, IsWithin, IsStartWithin}
+use Rattle.markdown_engine.specs.OrderedEdits.{EditPart, comes, goes, stays, keeps, before_from, GoUnlinked}
+use Rattle.markdown_label.specs.Brackets.{Front, link_front, image_front, call_front, caret_front, tail_row, Brackets, nothing, tree_then, label_then, unused_then, failed_then, flat, grouped, IsApart, last_of, count, numbers_of, labels_at, unused_at, failed_at, place_at, loose_edits, start_events, going_of, parts_of, all_edits, IsLabelWithin, IsStartWithin}
 use Rattle.markdown_engine.proofs.OrderedEditLaws.{parts-edited, parts-may}
 use Rattle.markdown_label.proofs.EventsOfBrackets.{count-is, before-parts, after-parts}
 use Rattle.markdown_label_pass.proofs.BracketEdits.{own, own_labels, own_unused, own-does, own-places}
@@ -18,13 +18,13 @@ use Rattle.markdown_label_pass.proofs.BracketEditsRead.{labels-read, unused-read
 
 -- No event that goes carries a link.
 
-going-unlinked : (f : Front) (parts : List Part) → GoUnlinked parts → GoUnlinked (going_of (start_events f) ∷ parts)
+going-unlinked : (f : Front) (parts : List EditPart) → GoUnlinked parts → GoUnlinked (going_of (start_events f) ∷ parts)
 going-unlinked (link_front c) parts h = ((refl, (refl, (refl, (refl, tt)))), h)
 going-unlinked (image_front c d) parts h = ((refl, (refl, (refl, (refl, (refl, (refl, tt)))))), h)
 going-unlinked (call_front c d) parts h = ((refl, (refl, (refl, (refl, (refl, (refl, tt)))))), h)
 going-unlinked (caret_front c d) parts h = ((refl, (refl, (refl, (refl, (refl, (refl, tt)))))), h)
 
-go-append : (a b : List Part) → GoUnlinked a → GoUnlinked b → GoUnlinked (a ++ b)
+go-append : (a b : List EditPart) → GoUnlinked a → GoUnlinked b → GoUnlinked (a ++ b)
 go-append [] b g h = h
 go-append (comes es ∷ a) b g h = go-append a b g h
 go-append (goes e es ∷ a) b g h = (g.0, go-append a b g.1 h)
@@ -75,15 +75,15 @@ module _ (b : Brackets) (es : List Event) (h : IsApart b) (there : es ≡ append
 
 -- Numbers are those of events.
 
-pub labels-within : (n hi : ℕ) (b : Brackets) → n + count b ≤ hi → All (IsWithin hi) (labels_at n b)
-labels-within n hi nothing l = All-nil (IsWithin hi)
+pub labels-within : (n hi : ℕ) (b : Brackets) → n + count b ≤ hi → All (IsLabelWithin hi) (labels_at n b)
+labels-within n hi nothing l = All-nil (IsLabelWithin hi)
 labels-within n hi (tree_then t rest) l = labels-within (n + event_count t) hi rest (omega arith)
 labels-within n hi (label_then f inside back tail rest) l =
     let k : ℕ = n + suc (last_of f) in
     let e : ℕ = k + count inside in
     let x : ℕ = e + 4 + event_count (tail_row tail) in
-    All-append (IsWithin hi) (labels_at k inside) _ (labels-within k hi inside (omega arith))
-    (All-cons (IsWithin hi) _ (labels_at x rest) (record { start = start-long n f; before = omega arith; end = omega arith; last = omega arith }) (labels-within x hi rest (omega arith)))
+    All-append (IsLabelWithin hi) (labels_at k inside) _ (labels-within k hi inside (omega arith))
+    (All-cons (IsLabelWithin hi) _ (labels_at x rest) (record { start = start-long n f; before = omega arith; end = omega arith; last = omega arith }) (labels-within x hi rest (omega arith)))
   where
     start-long : (n : ℕ) (f : Front) → n + 3 ≤ n + last_of f
     start-long n (link_front c) = omega arith
@@ -92,7 +92,7 @@ labels-within n hi (label_then f inside back tail rest) l =
     start-long n (caret_front c d) = omega arith
 labels-within n hi (unused_then f rest) l = labels-within (n + suc (last_of f)) hi rest (omega arith)
 labels-within n hi (failed_then f inside rest) l =
-    All-append (IsWithin hi) (labels_at (n + suc (last_of f)) inside) (labels_at (n + suc (last_of f) + count inside) rest) (labels-within (n + suc (last_of f)) hi inside (omega arith)) (labels-within (n + suc (last_of f) + count inside) hi rest (omega arith))
+    All-append (IsLabelWithin hi) (labels_at (n + suc (last_of f)) inside) (labels_at (n + suc (last_of f) + count inside) rest) (labels-within (n + suc (last_of f)) hi inside (omega arith)) (labels-within (n + suc (last_of f) + count inside) hi rest (omega arith))
 
 pub unused-within : (n hi : ℕ) (b : Brackets) → n + count b ≤ hi → All (IsStartWithin hi) (unused_at n b)
 unused-within n hi nothing l = All-nil (IsStartWithin hi)

@@ -10,7 +10,7 @@ use Rattle.markdown_engine.specs.declared.tokenizer.LabelStart.{LabelStart}
 use Rattle.markdown_engine.specs.declared.tokenizer.TokenizeState.{TokenizeState}
 use Rattle.markdown_engine_events.specs.declared.util.edit_map.Edit.{Edit}
 use Rattle.markdown_engine.proofs.TreeEvents.{length-appended_from}
-use Rattle.markdown_label.specs.Brackets.{Brackets, flat, grouped, count, labels_at, unused_at, failed_at, label_edits, labels_edits, loose_edit, loose_edits, all_edits, IsWithin, IsStartWithin}
+use Rattle.markdown_label.specs.Brackets.{Brackets, flat, grouped, count, labels_at, unused_at, failed_at, label_edits, labels_edits, loose_edit, loose_edits, all_edits, IsLabelWithin, IsStartWithin}
 use Rattle.markdown_label.specs.LabelsHandedOver.{HasBrackets, starts_of}
 use Rattle.markdown_label.proofs.EventsOfBrackets.{count-is}
 use Rattle.markdown_label_pass.proofs.BracketEditsRead.{labels_edits-append, loose_edits-append}
@@ -68,9 +68,9 @@ module _ (b : Brackets) (s : TokenizeState) (es : List Event) (h : HasBrackets b
   sized : 0 + count b ≤ length es
   sized = omega (arith, ap length h.events, length-appended_from 0 None (flat b), count-is b)
 
-  pub has-labels : All (IsWithin (length es)) s.labels
+  pub has-labels : All (IsLabelWithin (length es)) s.labels
   has-labels =
-      subst (λ (ls : List Label). All (IsWithin (length es)) ls) (sym h.labels) (labels-within 0 (length es) b sized)
+      subst (λ (ls : List Label). All (IsLabelWithin (length es)) ls) (sym h.labels) (labels-within 0 (length es) b sized)
 
   pub has-unused : All (IsStartWithin (length es)) (starts_of s.label_starts)
   has-unused =

@@ -1,36 +1,36 @@
-// The pass of labels, which makes groups of links, images and footnote calls (CommonMark 6.3 and 6.4, and footnote calls).
-//
-//     link ::= '[' text ']' (resource | reference)?
-//     image ::= '![' text ']' (resource | reference)?
-//     footnote_call ::= '[^' text ']'
-//
-// A run leaves the starts and the ends of labels as events, and in scratch fields which belong together. Other starts become data, and so does
-// the caret of a footnote's start that makes a link: it is the first in the text.
-//
-// Events, in place of those of the start and the end:
-//
-//     Link, Image or GfmFootnoteCall
-//       Label
-//         LabelLink                `LabelMarker`, of a link, or
-//         LabelImage               `LabelImageMarker` and `LabelMarker`, of an image, or
-//         GfmFootnoteCallLabel     `LabelMarker` and `GfmFootnoteCallMarker`, of a call
-//         LabelText                what stands between, also where that is nothing
-//         LabelEnd                 `LabelMarker`
-//       Resource or Reference      where one follows
-//
-// Example: in `[a](b)` a link around the whole, with a label around `[a]`.
-//
-// Definition: `labels_of` in `markdown_model/specs/Passes.antt`.
+//! The pass of labels, which makes groups of links, images and footnote calls (CommonMark 6.3 and 6.4, and footnote calls).
+//!
+//!     link ::= '[' text ']' (resource | reference)?
+//!     image ::= '![' text ']' (resource | reference)?
+//!     footnote_call ::= '[^' text ']'
+//!
+//! A run leaves the starts and the ends of labels as events, and in scratch fields which belong together. Other starts become data, and so does
+//! the caret of a footnote's start that makes a link: it is the first in the text.
+//!
+//! Events, in place of those of the start and the end:
+//!
+//!     Link, Image or GfmFootnoteCall
+//!       Label
+//!         LabelLink                `LabelMarker`, of a link, or
+//!         LabelImage               `LabelImageMarker` and `LabelMarker`, of an image, or
+//!         GfmFootnoteCallLabel     `LabelMarker` and `GfmFootnoteCallMarker`, of a call
+//!         LabelText                what stands between, also where that is nothing
+//!         LabelEnd                 `LabelMarker`
+//!       Resource or Reference      where one follows
+//!
+//! Example: in `[a](b)` a link around the whole, with a label around `[a]`.
+//!
+//! Definition: `labels_of` in `markdown_model/specs/Passes.antt`.
 #![tactic(auto)]
 
 ghost use Rattle.std.specs.Prelude.{◌≡◌, ◌+◌, ◌-◌, ◌<◌, ◌++◌, ◌∷◌, [], length, IfOk, OnOk, OnErr, IsTrue, None};
 ghost use Rattle.std.specs.List.{All};
 ghost use Rattle.markdown_engine.specs.PastTree.{appended_from};
-ghost use Rattle.markdown_engine_content.specs.Tree.{event};
+ghost use Rattle.markdown_content.specs.Tree.{event};
 ghost use Rattle.markdown_event.specs.declared.event.Kind.{Kind};
-ghost use Rattle.markdown_engine_content.specs.declared.label_kind.LabelKind.{LabelKind};
+ghost use Rattle.markdown_content.specs.declared.label_kind.LabelKind.{LabelKind};
 ghost use Rattle.markdown_model.specs.Passes.{label_name};
-ghost use Rattle.markdown_label.specs.Brackets.{Brackets, grouped, place_at, opened, ended, closed, label_edits, labels_edits, loose_edits, loose_edit, replacing, IsWithin, IsStartWithin};
+ghost use Rattle.markdown_label.specs.Brackets.{Brackets, grouped, place_at, opened, ended, closed, label_edits, labels_edits, loose_edits, loose_edit, replacing, IsLabelWithin, IsStartWithin};
 ghost use Rattle.markdown_label.specs.LabelsHandedOver.{HasBrackets, MayGroup, starts_of, unlabelled};
 
 use markdown_engine::tokenizer::{Label, LabelKind, LabelStart, TokenizeState, Tokenizer};
@@ -38,7 +38,7 @@ use markdown_engine_events::events::Events;
 use markdown_engine_events::subtokenize::Subresult;
 use markdown_engine_events::util::edit_map::EditMap;
 use markdown_event::event::{Event, Kind, Name, Point};
-use markdown_lists::seq::Stack;
+use markdown_event::seq::Stack;
 use std::alloc::AllocError;
 
 // Where an event stands.
@@ -173,7 +173,7 @@ fn ended(start: Point, end: Point) -> [Event; 6]
 
 // Marks the start of a link. Each kind has a function of its own, so that none makes room for another kind's events.
 fn mark_link(label: &Label, events: &Events, map: &mut EditMap) -> Result<(), AllocError>
-    requires within { IsWithin (length events.now) label.now }
+    requires within { IsLabelWithin (length events.now) label.now }
     requires kind { label.now.kind ≡ LabelKind.Link }
     ensures { let l = label.now in OnOk result (map.new ≡ map.old ++ replacing l.start.0 (l.start.1 + 1 - l.start.0)
         (opened l.kind (place_at events.now l.start.0) (place_at events.now (l.start.0 + 2)) (place_at events.now (l.start.0 + 3)) (place_at events.now l.start.1)) ∷ []) }
@@ -187,7 +187,7 @@ fn mark_link(label: &Label, events: &Events, map: &mut EditMap) -> Result<(), Al
 
 // The same for a link whose text begins with the caret of a footnote start.
 fn mark_caret(label: &Label, events: &Events, map: &mut EditMap) -> Result<(), AllocError>
-    requires within { IsWithin (length events.now) label.now }
+    requires within { IsLabelWithin (length events.now) label.now }
     requires kind { label.now.kind ≡ LabelKind.GfmUndefinedFootnote }
     ensures { let l = label.now in OnOk result (map.new ≡ map.old ++ replacing l.start.0 (l.start.1 + 1 - l.start.0)
         (opened l.kind (place_at events.now l.start.0) (place_at events.now (l.start.0 + 2)) (place_at events.now (l.start.0 + 3)) (place_at events.now l.start.1)) ∷ []) }
@@ -202,7 +202,7 @@ fn mark_caret(label: &Label, events: &Events, map: &mut EditMap) -> Result<(), A
 
 // The same for an image.
 fn mark_image(label: &Label, events: &Events, map: &mut EditMap) -> Result<(), AllocError>
-    requires within { IsWithin (length events.now) label.now }
+    requires within { IsLabelWithin (length events.now) label.now }
     requires kind { label.now.kind ≡ LabelKind.Image }
     ensures { let l = label.now in OnOk result (map.new ≡ map.old ++ replacing l.start.0 (l.start.1 + 1 - l.start.0)
         (opened l.kind (place_at events.now l.start.0) (place_at events.now (l.start.0 + 2)) (place_at events.now (l.start.0 + 3)) (place_at events.now l.start.1)) ∷ []) }
@@ -217,7 +217,7 @@ fn mark_image(label: &Label, events: &Events, map: &mut EditMap) -> Result<(), A
 
 // The same for a footnote call.
 fn mark_call(label: &Label, events: &Events, map: &mut EditMap) -> Result<(), AllocError>
-    requires within { IsWithin (length events.now) label.now }
+    requires within { IsLabelWithin (length events.now) label.now }
     requires kind { label.now.kind ≡ LabelKind.GfmFootnote }
     ensures { let l = label.now in OnOk result (map.new ≡ map.old ++ replacing l.start.0 (l.start.1 + 1 - l.start.0)
         (opened l.kind (place_at events.now l.start.0) (place_at events.now (l.start.0 + 2)) (place_at events.now (l.start.0 + 3)) (place_at events.now l.start.1)) ∷ []) }
@@ -232,7 +232,7 @@ fn mark_call(label: &Label, events: &Events, map: &mut EditMap) -> Result<(), Al
 
 // Marks the start of a label.
 fn mark_start(label: &Label, events: &Events, map: &mut EditMap) -> Result<(), AllocError>
-    requires { IsWithin (length events.now) label.now }
+    requires { IsLabelWithin (length events.now) label.now }
     ensures { let l = label.now in OnOk result (map.new ≡ map.old ++ replacing l.start.0 (l.start.1 + 1 - l.start.0)
         (opened l.kind (place_at events.now l.start.0) (place_at events.now (l.start.0 + 2)) (place_at events.now (l.start.0 + 3)) (place_at events.now l.start.1)) ∷ []) }
 {
@@ -246,8 +246,9 @@ fn mark_start(label: &Label, events: &Events, map: &mut EditMap) -> Result<(), A
 
 // Marks the end of a label.
 fn mark_end(label: &Label, events: &Events, map: &mut EditMap) -> Result<(), AllocError>
-    requires { IsWithin (length events.now) label.now }
-    ensures { let l = label.now in OnOk result (map.new ≡ map.old ++ replacing l.end.0 4 (ended (place_at events.now l.end.0) (place_at events.now (l.end.0 + 3))) ∷ []) }
+    requires { IsLabelWithin (length events.now) label.now }
+    ensures { let l = label.now in OnOk result (map.new
+        ≡ map.old ++ replacing l.end.0 4 (ended (place_at events.now l.end.0) (place_at events.now (l.end.0 + 3))) ∷ []) }
 {
     let (first, _last) = label.end;
     let comes = ended(place(events, first), place(events, first + 3));
@@ -256,7 +257,7 @@ fn mark_end(label: &Label, events: &Events, map: &mut EditMap) -> Result<(), All
 
 // Marks where a label's group ends.
 fn mark_close(label: &Label, events: &Events, map: &mut EditMap) -> Result<(), AllocError>
-    requires { IsWithin (length events.now) label.now }
+    requires { IsLabelWithin (length events.now) label.now }
     ensures { let l = label.now in OnOk result (map.new ≡ map.old ++ replacing (l.end.1 + 1) 0 (closed l.kind (place_at events.now l.end.1)) ∷ []) }
 {
     let last = label.end.1;
@@ -266,7 +267,7 @@ fn mark_close(label: &Label, events: &Events, map: &mut EditMap) -> Result<(), A
 
 // Marks what a label changes.
 fn mark_label(label: &Label, events: &Events, map: &mut EditMap) -> Result<(), AllocError>
-    requires { IsWithin (length events.now) label.now }
+    requires { IsLabelWithin (length events.now) label.now }
     ensures { OnOk result (map.new ≡ map.old ++ label_edits events.now label.now) }
 {
     mark_start(label, events, map)?;
@@ -276,7 +277,7 @@ fn mark_label(label: &Label, events: &Events, map: &mut EditMap) -> Result<(), A
 
 // Marks what the labels change, in the order of their ends.
 fn mark_labels(labels: &[Label], events: &Events, map: &mut EditMap) -> Result<(), AllocError>
-    requires { All (IsWithin (length events.now)) labels.now }
+    requires { All (IsLabelWithin (length events.now)) labels.now }
     ensures { OnOk result (map.new ≡ map.old ++ labels_edits events.now labels.now) }
 {
     for label in labels {
@@ -352,8 +353,10 @@ fn group(
 pub fn resolve(tokenizer: &mut Tokenizer) -> Result<Option<Subresult>, AllocError>
     requires { MayGroup tokenizer.old }
     ensures none { IfOk result (λ r. r ≡ None) }
-    ensures same { OnOk result (tokenizer.new ≡ record tokenizer.old { events = tokenizer.new.events; tokenize_state = unlabelled tokenizer.old.tokenize_state }) }
-    ensures grouped { (b : Brackets) → HasBrackets b tokenizer.old.tokenize_state tokenizer.old.events → OnOk result (tokenizer.new.events ≡ appended_from 0 None (grouped b)) }
+    ensures same { OnOk result (tokenizer.new
+        ≡ record tokenizer.old { events = tokenizer.new.events; tokenize_state = unlabelled tokenizer.old.tokenize_state }) }
+    ensures grouped { (b : Brackets) → HasBrackets b tokenizer.old.tokenize_state tokenizer.old.events
+        → OnOk result (tokenizer.new.events ≡ appended_from 0 None (grouped b)) }
     ensures err { OnErr result (IsTrue tokenizer.new.failed) }
 {
     let done = group(

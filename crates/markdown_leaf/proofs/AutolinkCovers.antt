@@ -1,15 +1,16 @@
 -- Whole autolinks: the codes that their readings pass, and the operations of their trees.
-use Rattle.std.proofs.Common.{◌≡◌, ◌≢◌, ◌==◌, Bool, true, false, ◌&&◌, if◌then◌else◌, Option, Some, None, List, [], ◌∷◌, ◌++◌, refl, sym, ap, ◌∙◌, append_assoc, append-nil}
+use Rattle.std.proofs.Common.{◌≡◌, ◌≢◌, ◌==◌, Bool, true, false, ◌&&◌, if◌then◌else◌, Option, Some, None, List, [], ◌∷◌, ◌++◌, refl, sym, ap, subst, ◌∙◌, append_assoc}
 use Rattle.std.proofs.lemmas.Bool.{eqb-true}
-use Rattle.markdown_engine_content.specs.Codes.{Code}
+use Rattle.markdown_content.specs.Codes.{Code}
+use Rattle.markdown_content.specs.declared.configuration.Rules.{Rules}
 use Rattle.markdown_engine.specs.Operations.{Op, Enter, Exit, Consume}
-use Rattle.markdown_engine_content.specs.Tree.{Forest, ◌⊕◌, leaf, group}
+use Rattle.markdown_content.specs.Tree.{Forest, ◌⊕◌, leaf, group}
 use Rattle.markdown_engine.specs.TreeOps.{consumes, ops_of}
 use Rattle.markdown_event.specs.declared.event.Name.{Name}
 use Rattle.markdown_event.specs.declared.event.Name.TheVariants as N
 use Rattle.markdown_model.specs.CodeTests.{is_value, is_letter, next_is}
-use Rattle.markdown_model.specs.Grammar.{Reading, ◌>>=◌, ◌>>◌, ◌then_◌, gives, one, some, provided, either, any_number, with_first}
-use Rattle.markdown_model.specs.LeafConstructs.{scheme, uri, email_address, domain_label, in_angle_brackets, autolink, is_scheme_code, is_uri_code, is_local_code}
+use Rattle.markdown_model.specs.Grammar.{Reading, ◌>>=◌, ◌>>◌, ◌then_◌, gives, one, some, provided, either, with_first}
+use Rattle.markdown_model.specs.LeafConstructs.{scheme, uri, email_address, domain_label, in_angle_brackets, autolink, is_scheme_code, is_local_code}
 use Rattle.markdown_plan.specs.PrecededReadings.{after}
 use Rattle.markdown_leaf.specs.Autolink.{ended, up_to_bracket, or_else, ending, domains, more_labels, open_naming}
 use Rattle.markdown_plan.specs.Plan.{preceded, tree_ops, plan_of}
@@ -17,24 +18,12 @@ use Rattle.markdown_plan.specs.LateNames.{opened, preceded_by}
 use Rattle.markdown_plan.proofs.PrecededReadingLemmas.{then-after}
 use Rattle.markdown_leaf.proofs.AutolinkReadings.{bracket-next}
 use Rattle.markdown_model.proofs.GrammarSteps.{bind-some, bind-none, one-here, one-not, then-none, switched-on, switched-off}
-use Rattle.markdown_model.proofs.DefinitionSteps.{and_then, repeatedly-next, repeatedly-holds, Holds, read-codes}
-use Rattle.markdown_model.proofs.ReadingsCover.{itself, takes_one, takes_then, takes_repeatedly, takes_domain_label}
-use Rattle.markdown_model.proofs.ReadsACode.{Consumes, one_takes, then_takes, takes_no_more}
-use Rattle.markdown_plan.proofs.PassedByReadings.{Gives, IsSome, Covers, Gives-bind, Gives-switched, Gives-either, Gives-gives, Gives-one, Gives-some, Gives-any, Gives-then, Covers-leaf, Covers-row, Covers-group, some-first}
-
--- What the readings pass.
-
-weaker : (a : Reading (List Code)) → Gives IsSome a → Gives (λ x ws. x ≡ ws) a
-weaker a g cs x rest k = let r = g cs x rest k in record { codes = r.codes; whole = r.whole; holds = r.holds.0 }
-
-given : (test : Bool) (text ws : List Code) → IsSome text ws →
-    Gives (λ y vs. IsSome y (ws ++ vs)) (provided test >> gives text)
-given test text ws p =
-    Gives-switched test (gives text) (λ y vs. IsSome y (ws ++ vs)) (Gives-gives text (λ y vs. IsSome y (ws ++ vs)) (p.0 ∙ sym (append-nil ws), p.1))
-
-label-gives : Gives IsSome domain_label
-unfolding domain_label
-label-gives = Gives-bind _ _ IsSome IsSome (Gives-some _) (λ text ws p. given _ text ws p)
+use Rattle.markdown_model.proofs.DefinitionSteps.{and_then, repeatedly-next, repeatedly-holds, Holds}
+use Rattle.markdown_model.proofs.ReadingsCover.{itself, given, if_passed, takes_one, takes_any_number, takes_then, takes_repeatedly, takes_domain_label, takes_uri, takes_email_address}
+use Rattle.markdown_model.proofs.ReadsACode.{Consumes, SomeCodes, weaker, one_takes, some_takes, then_takes, first_takes, takes_no_more, some_yields}
+use Rattle.markdown_model.proofs.PlainConstructs.{reads_switched, reads_autolink}
+use Rattle.markdown_model.proofs.NoLinkInConstructs.{PassesValue, Yields}
+use Rattle.markdown_plan.proofs.SolidReadings.{ReadsSolid, plain-reads}
 
 abbrev dot_label : Reading (List Code)
 dot_label = one (is_value 46) then_ domain_label
@@ -42,43 +31,23 @@ dot_label = one (is_value 46) then_ domain_label
 dot_takes : Consumes 1 dot_label
 dot_takes = then_takes (one (is_value 46)) domain_label (one_takes (is_value 46)) (takes_no_more itself domain_label takes_domain_label)
 
-more-gives : Gives (λ x ws. x ≡ ws) more_labels
-more-gives cs x rest k =
-    record { codes = x; whole = read-codes itself more_labels (takes_repeatedly dot_label (takes_then (one (is_value 46)) domain_label (takes_one (is_value 46)) takes_domain_label)) cs rest x k; holds = refl }
+pub whole-link : (on : Bool) (rules : Rules) → ReadsSolid (provided on >> autolink rules)
+whole-link on rules = plain-reads [] _ (reads_switched [] on (autolink rules) (reads_autolink [] rules))
 
-domains-gives : Gives IsSome domains
-domains-gives = Gives-then domain_label more_labels label-gives more-gives
-
-scheme-gives : Gives IsSome scheme
+-- an address has a code
+scheme-takes : Consumes 1 scheme
 unfolding scheme
-scheme-gives =
-    Gives-bind _ _ IsSome IsSome (Gives-then (one is_letter) (some is_scheme_code) (Gives-one is_letter) (weaker (some is_scheme_code) (Gives-some is_scheme_code))) (λ text ws p. given _ text ws p)
+scheme-takes =
+    first_takes _ _ (then_takes _ _ (one_takes is_letter) (weaker _ (some_takes is_scheme_code))) (λ text. takes_no_more (λ x. []) _ (if_passed _ _ _ _ (given _ _ text refl)))
 
-uri-gives : Gives IsSome uri
+uri-some : Yields SomeCodes uri
 unfolding uri
-uri-gives = Gives-then scheme (one (is_value 58) then_ any_number is_uri_code) scheme-gives (weaker (one (is_value 58) then_ any_number is_uri_code) (Gives-then (one (is_value 58)) (any_number is_uri_code) (Gives-one (is_value 58)) (Gives-any is_uri_code)))
+uri-some = some_yields uri takes_uri (then_takes _ _ scheme-takes (takes_no_more itself _ (takes_then _ _ (takes_one _) (takes_any_number _))))
 
-email-gives : Gives IsSome email_address
+email-some : (all : Bool) → Yields SomeCodes (email_address all)
 unfolding email_address
-email-gives =
-    Gives-then (some is_local_code) (one (is_value 64) then_ domains) (Gives-some is_local_code) (weaker (one (is_value 64) then_ domains) (Gives-then (one (is_value 64)) domains (Gives-one (is_value 64)) (weaker domains domains-gives)))
-
-brackets-cover : (inside : Reading (List Code)) (name : Name) → Gives IsSome inside →
-    Gives Covers (in_angle_brackets inside name)
-unfolding in_angle_brackets
-brackets-cover inside name g =
-    Gives-bind _ _ IsSome Covers (Gives-one (is_value 60)) (λ front ws p.
-    Gives-bind _ _ IsSome _ g (λ text vs q.
-    Gives-bind _ _ IsSome _ (Gives-one (is_value 62)) (λ back us r.
-    Gives-gives (group N.Autolink (leaf N.AutolinkMarker front ⊕ leaf name text ⊕ leaf N.AutolinkMarker back)) _
-    (Covers-group N.Autolink _ _ (some-first ws _ (λ e. p.1 (p.0 ∙ e)))
-    (Covers-row (leaf N.AutolinkMarker front) (leaf name text ⊕ leaf N.AutolinkMarker back) ws (vs ++ (us ++ [])) (Covers-leaf N.AutolinkMarker front ws p.0)
-    (Covers-row (leaf name text) (leaf N.AutolinkMarker back) vs (us ++ []) (Covers-leaf name text vs q.0) (Covers-leaf N.AutolinkMarker back (us ++ []) (r.0 ∙ sym (append-nil us)))))))))
-
-pub whole-link : (on : Bool) → Gives Covers (provided on >> autolink)
-unfolding autolink
-whole-link on =
-    Gives-switched on _ Covers (Gives-either _ _ Covers (brackets-cover uri N.AutolinkProtocol uri-gives) (brackets-cover email_address N.AutolinkEmail email-gives))
+email-some all =
+    some_yields (email_address all) (takes_email_address all) (then_takes _ _ (some_takes (is_local_code all)) (takes_no_more itself _ (takes_then _ _ (takes_one _) (takes_then _ _ takes_domain_label (takes_repeatedly dot_label (takes_then _ _ (takes_one _) takes_domain_label))))))
 
 -- The end of the link.
 
@@ -142,14 +111,14 @@ back-by name c (t ∷ text) (d ∷ rest) true some e =
     ap tree_ops (bind-some _ _ (d ∷ rest) (d ∷ []) rest _ (one-here (is_value 62) d rest e) refl) ∙ ap (λ os. Some os) (link-ops name c t d text)
 
 inside-by : (inside : Reading (List Code)) (name : Name) (c : Code) (cs : List Code) (o : Option (List Code × List Code)) →
-    Gives IsSome inside → is_value 60 c ≡ true → inside cs ≡ o →
+    Yields SomeCodes inside → is_value 60 c ≡ true → inside cs ≡ o →
     tree_ops (in_angle_brackets inside name (c ∷ cs)) ≡ preceded bracket_ops (opened (ended name o))
 unfolding in_angle_brackets
 inside-by inside name c cs None g h e =
     ap tree_ops (bind-some _ _ (c ∷ cs) (c ∷ []) cs _ (one-here (is_value 60) c cs h) (bind-none _ _ cs e))
 inside-by inside name c cs (Some r) g h e =
     ap tree_ops (bind-some _ _ (c ∷ cs) (c ∷ []) cs _ (one-here (is_value 60) c cs h) (bind-some _ _ cs r.0 r.1 _ e refl))
-    ∙ back-by name c r.0 r.1 (next_is (is_value 62) r.1) (g cs r.0 r.1 e).holds.1 refl
+    ∙ back-by name c r.0 r.1 (next_is (is_value 62) r.1) (subst (PassesValue SomeCodes) e (g.at cs)) refl
 
 either-by : (os : List Op) (o p : Option (Forest × List Code)) (a b : Option (Name × List Op)) →
     tree_ops o ≡ preceded os (opened a) → tree_ops p ≡ preceded os (opened b) →
@@ -159,22 +128,24 @@ either-by os None p (Some x) b e f = cc
 either-by os (Some r) p None b e f = cc
 either-by os (Some r) p (Some x) b e f = e
 
-pub link-here : (on : Bool) (c : Code) (cs : List Code) → on ≡ true → is_value 60 c ≡ true →
-    plan_of (provided on >> autolink) (c ∷ cs) ≡ preceded bracket_ops (opened (open_naming cs))
+pub link-here : (on : Bool) (rules : Rules) (c : Code) (cs : List Code) → on ≡ true → is_value 60 c ≡ true →
+    plan_of (provided on >> autolink rules) (c ∷ cs) ≡ preceded bracket_ops (opened (open_naming rules.all_address_marks cs))
 unfolding autolink either
-link-here on c cs e h =
-    ap tree_ops (switched-on autolink on (c ∷ cs) e)
-    ∙ either-by bracket_ops (in_angle_brackets uri N.AutolinkProtocol (c ∷ cs)) (in_angle_brackets email_address N.AutolinkEmail (c ∷ cs)) (up_to_bracket N.AutolinkProtocol uri cs) (up_to_bracket N.AutolinkEmail email_address cs) (inside-by uri N.AutolinkProtocol c cs (uri cs) uri-gives h refl) (inside-by email_address N.AutolinkEmail c cs (email_address cs) email-gives h refl)
+link-here on rules c cs e h =
+    let all : Bool = rules.all_address_marks in
+    ap tree_ops (switched-on (autolink rules) on (c ∷ cs) e)
+    ∙ either-by bracket_ops (in_angle_brackets uri N.AutolinkProtocol (c ∷ cs)) (in_angle_brackets (email_address all) N.AutolinkEmail (c ∷ cs)) (up_to_bracket N.AutolinkProtocol uri cs) (up_to_bracket N.AutolinkEmail (email_address all) cs) (inside-by uri N.AutolinkProtocol c cs (uri cs) uri-some h refl) (inside-by (email_address all) N.AutolinkEmail c cs (email_address all cs) (email-some all) h refl)
 
 no-brackets : (inside : Reading (List Code)) (name : Name) (cs : List Code) → next_is (is_value 60) cs ≡ false →
     in_angle_brackets inside name cs ≡ None
 unfolding in_angle_brackets
 no-brackets inside name cs h = bind-none _ _ cs (one-not (is_value 60) cs h)
 
-pub no-link : (on : Bool) (cs : List Code) → on && next_is (is_value 60) cs ≡ false →
-    plan_of (provided on >> autolink) cs ≡ None
+pub no-link : (on : Bool) (rules : Rules) (cs : List Code) → on && next_is (is_value 60) cs ≡ false →
+    plan_of (provided on >> autolink rules) cs ≡ None
 unfolding autolink either
-no-link false cs e = ap tree_ops (switched-off autolink false cs refl)
-no-link true cs e =
-    ap tree_ops (switched-on autolink true cs refl)
-    ∙ either-by [] (in_angle_brackets uri N.AutolinkProtocol cs) (in_angle_brackets email_address N.AutolinkEmail cs) None None (ap tree_ops (no-brackets uri N.AutolinkProtocol cs e)) (ap tree_ops (no-brackets email_address N.AutolinkEmail cs e))
+no-link false rules cs e = ap tree_ops (switched-off (autolink rules) false cs refl)
+no-link true rules cs e =
+    let all : Bool = rules.all_address_marks in
+    ap tree_ops (switched-on (autolink rules) true cs refl)
+    ∙ either-by [] (in_angle_brackets uri N.AutolinkProtocol cs) (in_angle_brackets (email_address all) N.AutolinkEmail cs) None None (ap tree_ops (no-brackets uri N.AutolinkProtocol cs e)) (ap tree_ops (no-brackets (email_address all) N.AutolinkEmail cs e))

@@ -3,32 +3,32 @@ use Rattle.std.proofs.Common.{◌≡◌, ℕ, ◌+◌, ◌<◌, ◌≤◌, ◌==
 use Rattle.std.proofs.Math.Bool.{and-false}
 use Rattle.std.proofs.lemmas.Bool.{eqb-true, or_left, or_parts, ltb-true, ltb-false, leb-true, le-leb}
 use Rattle.std.specs.List.{list_any}
-use Rattle.markdown_engine_content.specs.Codes.{Code}
-use Rattle.markdown_engine_content.specs.ListFunctions.{rest_of}
+use Rattle.markdown_content.specs.Codes.{Code}
+use Rattle.markdown_content.specs.ListFunctions.{rest_of}
 use Rattle.markdown_engine.specs.FailedRun.{unwound}
 use Rattle.markdown_engine.specs.Operations.{Op, Consume, current_of, ahead, applied, consumed, done, scratched}
 use Rattle.markdown_engine.specs.StateRuns.{Stepped, stepped}
-use Rattle.markdown_engine_content.specs.Stretch.{is_free}
+use Rattle.markdown_content.specs.Stretch.{is_free}
 use Rattle.markdown_engine.proofs.SteadyLemmas.{steady-at}
 use Rattle.markdown_plan.proofs.ByteTestLemmas.{no-control}
 use Rattle.markdown_engine.specs.Weights.{weight_at}
 use Rattle.markdown_event.specs.declared.event.Name.{Name}
 use Rattle.markdown_event.specs.declared.event.Name.TheVariants as N
-use Rattle.markdown_state.specs.declared.state.State.TheVariants.{Next, Retry}
-use Rattle.markdown_state.specs.declared.state.State.TheVariants as State
-use Rattle.markdown_state.specs.declared.state.StateName.{StateName}
-use Rattle.markdown_state.specs.declared.state.StateName.TheVariants as H
-use Rattle.markdown_state.specs.declared.state.StateName.TheVariants.{AutolinkOpen, AutolinkSchemeOrEmailAtext, AutolinkSchemeInsideOrEmailAtext, AutolinkUrlInside, AutolinkEmailAtext, AutolinkEmailAtSignOrDot, AutolinkEmailLabel, AutolinkEmailValue}
+use Rattle.markdown_event.specs.declared.state.State.TheVariants.{Next, Retry}
+use Rattle.markdown_event.specs.declared.state.State.TheVariants as State
+use Rattle.markdown_event.specs.declared.state.StateName.{StateName}
+use Rattle.markdown_event.specs.declared.state.StateName.TheVariants as H
+use Rattle.markdown_event.specs.declared.state.StateName.TheVariants.{AutolinkOpen, AutolinkSchemeOrEmailAtext, AutolinkSchemeInsideOrEmailAtext, AutolinkUrlInside, AutolinkEmailAtext, AutolinkEmailAtSignOrDot, AutolinkEmailLabel, AutolinkEmailValue}
 use Rattle.markdown_engine.specs.declared.tokenizer.TokenizeState.{TokenizeState}
 use Rattle.markdown_engine.specs.declared.tokenizer.Tokenizer.{Tokenizer}
 use Rattle.markdown_engine.proofs.LawSteps.{if-step, code-step}
-use Rattle.markdown_engine.proofs.OperationFields.{ahead-none, ahead-some, attempts-scratched, left-scratched, Begins, some-codes}
+use Rattle.markdown_engine.proofs.OperationFields.{ahead-none, ahead-some, attempts-scratched, left-scratched, BeginsWithValue, some-codes}
 use Rattle.markdown_model.specs.CodeTests.{is_value, is_alphanumeric, is_letter, next_is}
 use Rattle.markdown_model.specs.Grammar.{any_number, with_first}
 use Rattle.markdown_model.specs.LeafConstructs.{uri, email_address, is_scheme_code, is_uri_code, is_local_code}
 use Rattle.markdown_plan.specs.ByteTests.{letter_value, alphanumeric_value}
-use Rattle.markdown_leaf.specs.Autolink.{scheme_value, local_value, uri_value, is_on, opening, ending, start_at, start_step, open_at, scheme_or_at, scheme_inside_at, url_inside_at, url_inside_step, uri_stops, email_atext_at, email_at_sign_or_dot_at, in_label_at, email_label_at}
-use Rattle.markdown_leaf.specs.Autolink.{InsideReady, FreshReady, LabelReady, no_scheme, link_here, start_ends, ended, up_to_bracket, or_else, scheme_rest, local_rest, domains, is_label_code, label_rest, open_naming, scheme_naming, open_ends, scheme_or_ends, scheme_inside_ends, url_inside_ends}
+use Rattle.markdown_leaf.specs.Autolink.{all_marks, rules_here, scheme_value, local_value, uri_value, is_on, opening, ending, start_at, start_step, open_at, scheme_or_at, scheme_inside_at, url_inside_at, url_inside_step, uri_stops, email_atext_at, email_at_sign_or_dot_at, in_label_at, email_label_at}
+use Rattle.markdown_leaf.specs.Autolink.{AutolinkInsideReady, FreshReady, LabelReady, no_scheme, link_here, start_ends, ended, up_to_bracket, or_else, scheme_rest, local_rest, domains, is_label_code, label_rest, open_naming, scheme_naming, open_ends, scheme_or_ends, scheme_inside_ends, url_inside_ends}
 use Rattle.markdown_leaf.specs.Autolink.{email_atext_ends, email_at_sign_or_dot_ends, email_label_ends, states, email_at_sign_or_dot_words, email_atext_words, email_label_words, email_value_words, open_words, scheme_inside_words, scheme_or_words, start_words, url_inside_words}
 use Rattle.markdown_plan.specs.Plan.{Plan, preceded, plan_of, DoesAs, KeepsAs}
 use Rattle.markdown_plan.specs.ScratchFields.{with_size}
@@ -41,24 +41,24 @@ use Rattle.markdown_leaf.proofs.RawTextReady.{some-event}
 use Rattle.markdown_model.proofs.GrammarSteps.{and-left, and-right}
 use Rattle.markdown_engine.specs.StateWords.{StateWords, Words, words_in, Law, GoesIn}
 use Rattle.markdown_plan.proofs.LawStepsOfLayer.{GoesOn-map, Goes-plain, Goes-to, Goes-inside, Goes-inside-kept, Goes-over, Goes-no, Goes-named, Goes-refused}
-use Rattle.markdown_plan.specs.LayerEquation.{Within, AreLawful}
+use Rattle.markdown_plan.specs.LayerEquation.{EqualsLayer, AreLawful}
 
 -- Tests.
 
-letter-local : (c : Code) → is_letter c ≡ true → is_local_code c ≡ true
-letter-local c h = or_left (is_alphanumeric c) _ (or_left (is_letter c) _ h)
+letter-local : (all : Bool) (c : Code) → is_letter c ≡ true → is_local_code all c ≡ true
+letter-local all c h = or_left _ _ (or_left (is_alphanumeric c) _ (or_left (is_letter c) _ h))
 
 or-here : (a b e : Bool) → a || b ≡ true → (a ≡ true → e ≡ true) → (b ≡ true → e ≡ true) → e ≡ true
 or-here true b e h f g = f refl
 or-here false b e h f g = g h
 
 -- a code of a scheme may stand in an address
-pub scheme-local : (v : ℕ) → scheme_value v ≡ true → local_value v ≡ true
-scheme-local v h =
-    or-here (alphanumeric_value v) _ (local_value v) h (λ e. or_left (alphanumeric_value v) _ e) (λ e.
-    or-here (v == 43) _ (local_value v) e (λ f. ap local_value (eqb-true v 43 f)) (λ f.
-    or-here (v == 45) _ (local_value v) f (λ g. ap local_value (eqb-true v 45 g)) (λ g.
-    or-here (v == 46) false (local_value v) g (λ i. ap local_value (eqb-true v 46 i)) (λ i. cc))))
+pub scheme-local : (all : Bool) (v : ℕ) → scheme_value v ≡ true → local_value all v ≡ true
+scheme-local all v h =
+    or-here (alphanumeric_value v) _ (local_value all v) h (λ e. or_left _ _ (or_left (alphanumeric_value v) _ e)) (λ e.
+    or-here (v == 43) _ (local_value all v) e (λ f. ap (local_value all) (eqb-true v 43 f)) (λ f.
+    or-here (v == 45) _ (local_value all v) f (λ g. ap (local_value all) (eqb-true v 45 g)) (λ g.
+    or-here (v == 46) false (local_value all v) g (λ i. ap (local_value all) (eqb-true v 46 i)) (λ i. cc))))
 
 pub or-both : (os : List Op) (a b x y : Option (Name × List Op)) → a ≡ preceded_by os x → b ≡ preceded_by os y →
     or_else a b ≡ preceded_by os (or_else x y)
@@ -81,12 +81,12 @@ left-test true false b e f g = sym g ∙ f
 
 -- Between the brackets.
 
-inside-kept : (T : Tokenizer) → InsideReady T → InsideReady (done (Consume ∷ []) T)
+inside-kept : (T : Tokenizer) → AutolinkInsideReady T → AutolinkInsideReady (done (Consume ∷ []) T)
 unfolding applied
 inside-kept T k =
     record { stand_open = k.stand_open; some = k.some; entered = renamed-consumed N.AutolinkProtocol T ∙ ap (λ (x : Tokenizer). applied Consume x) k.entered }
 
-inside-next : (r : TokenizeState) (T : Tokenizer) → InsideReady T → InsideReady (scratched r (done (Consume ∷ []) T))
+inside-next : (r : TokenizeState) (T : Tokenizer) → AutolinkInsideReady T → AutolinkInsideReady (scratched r (done (Consume ∷ []) T))
 unfolding applied scratched
 inside-next r T k =
     record {
@@ -95,12 +95,12 @@ inside-next r T k =
       entered = renamed-scratched N.AutolinkProtocol r (applied Consume T) ∙ ap (λ (x : Tokenizer). scratched r x) (renamed-consumed N.AutolinkProtocol T ∙ ap (λ (x : Tokenizer). applied Consume x) k.entered);
     }
 
-inside-entered : (T : Tokenizer) → InsideReady (done opening T)
+inside-entered : (T : Tokenizer) → AutolinkInsideReady (done opening T)
 unfolding applied
 inside-entered T =
     record { stand_open = refl; some = some-event (done bracket_ops T) N.AutolinkProtocol; entered = renamed-entered N.AutolinkProtocol N.AutolinkProtocol (done bracket_ops T) }
 
-inside-scratched : (r : TokenizeState) (T : Tokenizer) → InsideReady T → InsideReady (scratched r T)
+inside-scratched : (r : TokenizeState) (T : Tokenizer) → AutolinkInsideReady T → AutolinkInsideReady (scratched r T)
 unfolding scratched
 inside-scratched r T k =
     record { stand_open = k.stand_open; some = k.some; entered = renamed-scratched N.AutolinkProtocol r T ∙ ap (λ (x : Tokenizer). scratched r x) k.entered }
@@ -119,12 +119,12 @@ NamesAs-over p q s r T e false U k =
     }
 
 -- an address begins with a code that may stand before its `@`, so before another that is no `@` it is the rest of one
-email-here : (cs : List Code) → next_is (is_value 64) cs ≡ false → email_address cs ≡ local_rest cs
-email-here [] h = email-none [] refl ∙ sym (local-other [] refl refl)
-email-here (c ∷ cs) h =
-    (elim (is_local_code c) as (λ z. is_local_code c ≡ z → email_address (c ∷ cs) ≡ local_rest (c ∷ cs)) [
-      | true ↦ λ i. email-first c cs i ∙ sym (local-more c cs i)
-      | false ↦ λ i. email-none (c ∷ cs) i ∙ sym (local-other (c ∷ cs) i h)
+email-here : (all : Bool) (cs : List Code) → next_is (is_value 64) cs ≡ false → email_address all cs ≡ local_rest all cs
+email-here all [] h = email-none all [] refl ∙ sym (local-other all [] refl refl)
+email-here all (c ∷ cs) h =
+    (elim (is_local_code all c) as (λ z. is_local_code all c ≡ z → email_address all (c ∷ cs) ≡ local_rest all (c ∷ cs)) [
+      | true ↦ λ i. email-first all c cs i ∙ sym (local-more all c cs i)
+      | false ↦ λ i. email-none all (c ∷ cs) i ∙ sym (local-other all (c ∷ cs) i h)
     ]) refl
 
 -- a domain whose first code is a letter or a digit is the rest of a label
@@ -157,12 +157,12 @@ fresh-entered T k = record { inside = inside-entered T; none_yet = k }
 
 -- what the run after the bracket says
 open-says : (T : Tokenizer) (ok : Bool) (U : Tokenizer) → T.tokenize_state.size ≡ 0 → open_ends (done opening T) ok U →
-    NamesAs 1 open_naming T.tokenize_state (done opening T) ok U
+    NamesAs 1 (open_naming (all_marks T)) T.tokenize_state (done opening T) ok U
 unfolding applied
 open-says T ok U k x =
-    subst (λ (s : TokenizeState). NamesAs 1 open_naming s (done opening T) ok U) (ap (λ n. with_size n T.tokenize_state) (sym k)) x
+    subst (λ (s : TokenizeState). NamesAs 1 (open_naming (all_marks T)) s (done opening T) ok U) (ap (λ n. with_size n T.tokenize_state) (sym k)) x
 
-module _ (W : Words) (within : Within states W) where
+module _ (W : Words) (within : EqualsLayer states W) where
   -- on with a state at the same place, with these scratch fields
   goes-over : (k : ℕ) (p q : Naming) (s r : TokenizeState) (T : Tokenizer) (st : StateName) {w : StateWords} → words_in W st ≡ w →
       T.attempts ≡ [] → w.rank (scratched r T) < k → p (ahead T) ≡ q (ahead T) → w.ready (scratched r T) →
@@ -175,45 +175,47 @@ module _ (W : Words) (within : Within states W) where
   unfolding applied scratched
   open-law T alone k =
       let s : TokenizeState = with_size 0 T.tokenize_state in
-      let q : Naming = up_to_bracket N.AutolinkEmail local_rest in
+      let m : Bool = all_marks T in
+      let q : Naming = up_to_bracket N.AutolinkEmail (local_rest m) in
       let P : Stepped → Type 0 = GoesIn W (weight_at 2 T) (open_ends T) in
       let address : next_is is_letter (ahead T) ≡ false → next_is (is_value 64) (ahead T) ≡ false → P (stepped (Retry AutolinkEmailAtext) T) = λ h l.
-      Goes-over W 2 1 open_naming q s T (Retry AutolinkEmailAtext) (within AutolinkEmailAtext) alone (omega arith)
-      (or-right (up_to_bracket N.AutolinkProtocol uri (ahead T)) (up_to_bracket N.AutolinkEmail email_address (ahead T)) (q (ahead T)) (ap (ended N.AutolinkProtocol) (uri-none (ahead T) h)) (ap (ended N.AutolinkEmail) (email-here (ahead T) l)))
+      Goes-over W 2 1 (open_naming m) q s T (Retry AutolinkEmailAtext) (within AutolinkEmailAtext) alone (omega arith)
+      (or-right (up_to_bracket N.AutolinkProtocol uri (ahead T)) (up_to_bracket N.AutolinkEmail (email_address m) (ahead T)) (q (ahead T)) (ap (ended N.AutolinkProtocol) (uri-none (ahead T) h)) (ap (ended N.AutolinkEmail) (email-here m (ahead T) l)))
       k (λ ok U x. x) in
       code-step P (current_of T) (λ o. open_at o T)
       (λ e. address (ap (λ cs. next_is is_letter cs) (ahead-none T e)) (ap (λ cs. next_is (is_value 64) cs) (ahead-none T e)))
       (λ c e.
-      let b : Begins c (ahead T) = ahead-some T c e in
+      let b : BeginsWithValue c (ahead T) = ahead-some T c e in
       let cs : List Code = rest_of (ahead T) in
       if-step P (letter_value c) _ _
       (λ h. let letter : is_letter b.code ≡ true = ap letter_value b.value ∙ h in
-      Goes-inside-kept W 2 1 open_naming (scheme_naming 1) s T (Next AutolinkSchemeOrEmailAtext) (within AutolinkSchemeOrEmailAtext) alone refl (some-codes T c e) (omega arith)
-      (ap open_naming b.whole ∙ or-both (Consume ∷ []) _ _ _ _ (bracket-next N.AutolinkProtocol uri (scheme_rest 1) b.code cs (uri-first b.code cs letter)) (bracket-next N.AutolinkEmail email_address local_rest b.code cs (email-first b.code cs (letter-local b.code letter))))
+      Goes-inside-kept W 2 1 (open_naming m) (scheme_naming m 1) s T (Next AutolinkSchemeOrEmailAtext) (within AutolinkSchemeOrEmailAtext) alone refl (some-codes T c e) (omega arith)
+      (ap (open_naming m) b.whole ∙ or-both (Consume ∷ []) _ _ _ _ (bracket-next N.AutolinkProtocol uri (scheme_rest 1) b.code cs (uri-first b.code cs letter)) (bracket-next N.AutolinkEmail (email_address m) (local_rest m) b.code cs (email-first m b.code cs (letter-local m b.code letter))))
       (fresh-kept T k) (λ ok U x. x))
       (λ h. let letter : is_letter b.code ≡ false = ap letter_value b.value ∙ h in
       if-step P (c == 64) _ _
       (λ l. let at : is_value 64 b.code ≡ true = ap (λ v. v == 64) b.value ∙ l in
-      Goes-refused W 2 1 open_naming s T alone
-      (ap open_naming b.whole ∙ or-right (up_to_bracket N.AutolinkProtocol uri (b.code ∷ cs)) (up_to_bracket N.AutolinkEmail email_address (b.code ∷ cs)) None (ap (ended N.AutolinkProtocol) (uri-none (b.code ∷ cs) letter)) (ap (ended N.AutolinkEmail) (email-none (b.code ∷ cs) (ap local_value (eqb-true b.code.value 64 at))))))
+      Goes-refused W 2 1 (open_naming m) s T alone
+      (ap (open_naming m) b.whole ∙ or-right (up_to_bracket N.AutolinkProtocol uri (b.code ∷ cs)) (up_to_bracket N.AutolinkEmail (email_address m) (b.code ∷ cs)) None (ap (ended N.AutolinkProtocol) (uri-none (b.code ∷ cs) letter)) (ap (ended N.AutolinkEmail) (email-none m (b.code ∷ cs) (ap (local_value m) (eqb-true b.code.value 64 at))))))
       (λ l. address (ap (λ xs. next_is is_letter xs) b.whole ∙ letter) (ap (λ xs. next_is (is_value 64) xs) b.whole ∙ ap (λ v. v == 64) b.value ∙ l))))
 
   pub scheme_or-law : Law W scheme_or_words
   unfolding applied scratched
   scheme_or-law T alone k =
       let s : TokenizeState = with_size 0 T.tokenize_state in
+      let m : Bool = all_marks T in
       let P : Stepped → Type 0 = GoesIn W (weight_at 3 T) (scheme_or_ends T) in
       let other : next_is is_scheme_code (ahead T) ≡ false → P (stepped (Retry AutolinkEmailAtext) T) = λ h.
-      Goes-over W 3 1 (scheme_naming 1) (up_to_bracket N.AutolinkEmail local_rest) s T (Retry AutolinkEmailAtext) (within AutolinkEmailAtext) alone (omega arith)
+      Goes-over W 3 1 (scheme_naming m 1) (up_to_bracket N.AutolinkEmail (local_rest m)) s T (Retry AutolinkEmailAtext) (within AutolinkEmailAtext) alone (omega arith)
       (or-right _ _ _ (ap (ended N.AutolinkProtocol) (scheme-here 1 (ahead T) h)) refl)
       k (λ ok U x. x) in
       code-step P (current_of T) (λ o. scheme_or_at o T)
       (λ e. other (ap (λ cs. next_is is_scheme_code cs) (ahead-none T e)))
       (λ c e.
-      let b : Begins c (ahead T) = ahead-some T c e in
+      let b : BeginsWithValue c (ahead T) = ahead-some T c e in
       if-step P (scheme_value c) _ _
       (λ h. let here : next_is is_scheme_code (ahead T) ≡ true = ap (λ xs. next_is is_scheme_code xs) b.whole ∙ ap scheme_value b.value ∙ h in
-      goes-over 3 (scheme_naming 1) (scheme_naming 1) s (with_size 1 T.tokenize_state) T AutolinkSchemeInsideOrEmailAtext (within AutolinkSchemeInsideOrEmailAtext) alone (omega arith) refl
+      goes-over 3 (scheme_naming m 1) (scheme_naming m 1) s (with_size 1 T.tokenize_state) T AutolinkSchemeInsideOrEmailAtext (within AutolinkSchemeInsideOrEmailAtext) alone (omega arith) refl
       (record { inside = inside-scratched (with_size 1 T.tokenize_state) T k.inside; some = omega arith; least = here; most = omega arith }) (λ ok U x. x))
       (λ h. other (ap (λ xs. next_is is_scheme_code xs) b.whole ∙ ap scheme_value b.value ∙ h)))
 
@@ -222,28 +224,29 @@ module _ (W : Words) (within : Within states W) where
   scheme_inside-law T alone k =
       let n : ℕ = T.tokenize_state.size in
       let s : TokenizeState = with_size 0 T.tokenize_state in
+      let m : Bool = all_marks T in
       let P : Stepped → Type 0 = GoesIn W (weight_at 2 T) (scheme_inside_ends T) in
       let other : scheme_rest n (ahead T) ≡ None → P (no_scheme T) = λ h.
-      goes-over 2 (scheme_naming n) (up_to_bracket N.AutolinkEmail local_rest) s s T AutolinkEmailAtext (within AutolinkEmailAtext) alone (omega arith)
+      goes-over 2 (scheme_naming m n) (up_to_bracket N.AutolinkEmail (local_rest m)) s s T AutolinkEmailAtext (within AutolinkEmailAtext) alone (omega arith)
       (or-right _ _ _ (ap (ended N.AutolinkProtocol) h) refl)
       (record { inside = inside-scratched s T k.inside; none_yet = refl }) (λ ok U x. x) in
       code-step P (current_of T) (λ o. scheme_inside_at o T)
       (λ e. other (ap (scheme_rest n) (ahead-none T e) ∙ scheme-other n [] refl refl))
       (λ c e.
-      let b : Begins c (ahead T) = ahead-some T c e in
+      let b : BeginsWithValue c (ahead T) = ahead-some T c e in
       let cs : List Code = rest_of (ahead T) in
       let more : 1 ≤ length (ahead T) = some-codes T c e in
       if-step P (c == 58) _ _
       (λ h. let colon : is_value 58 b.code ≡ true = ap (λ v. v == 58) b.value ∙ h in
       let two : 2 ≤ n = at-least-two n _ k.least (ap (λ xs. next_is is_scheme_code xs) b.whole ∙ ap scheme_value (eqb-true b.code.value 58 colon)) in
-      Goes-inside W 2 1 (scheme_naming n) (up_to_bracket N.AutolinkProtocol (any_number is_uri_code)) s s T (Next AutolinkUrlInside) (within AutolinkUrlInside) alone refl more (omega arith)
-      (ap (scheme_naming n) b.whole ∙ or-left _ _ _ (bracket-next N.AutolinkProtocol (scheme_rest n) (any_number is_uri_code) b.code cs (scheme-colon n b.code cs colon two k.most)) (ap (ended N.AutolinkEmail) (local-other (b.code ∷ cs) (ap local_value (eqb-true b.code.value 58 colon)) (ap (λ v. v == 64) (eqb-true b.code.value 58 colon)))))
+      Goes-inside W 2 1 (scheme_naming m n) (up_to_bracket N.AutolinkProtocol (any_number is_uri_code)) s s T (Next AutolinkUrlInside) (within AutolinkUrlInside) alone refl more (omega arith)
+      (ap (scheme_naming m n) b.whole ∙ or-left _ _ _ (bracket-next N.AutolinkProtocol (scheme_rest n) (any_number is_uri_code) b.code cs (scheme-colon n b.code cs colon two k.most)) (ap (ended N.AutolinkEmail) (local-other m (b.code ∷ cs) (ap (local_value m) (eqb-true b.code.value 58 colon)) (ap (λ v. v == 64) (eqb-true b.code.value 58 colon)))))
       (inside-next s T k.inside) (λ ok U x. x))
       (λ g. if-step P (scheme_value c && nat_lt n 32) _ _
       (λ h. let here : is_scheme_code b.code ≡ true = ap scheme_value b.value ∙ and-left (scheme_value c) _ h in
       let less : n < 32 = ltb-true n 32 (and-right (scheme_value c) _ h) in
-      Goes-inside W 2 1 (scheme_naming n) (scheme_naming (n + 1)) s (with_size (n + 1) T.tokenize_state) T (Next AutolinkSchemeInsideOrEmailAtext) (within AutolinkSchemeInsideOrEmailAtext) alone refl more (omega arith)
-      (ap (scheme_naming n) b.whole ∙ or-both (Consume ∷ []) _ _ _ _ (bracket-next N.AutolinkProtocol (scheme_rest n) (scheme_rest (n + 1)) b.code cs (scheme-more n b.code cs here)) (bracket-next N.AutolinkEmail local_rest local_rest b.code cs (local-more b.code cs (scheme-local b.code.value here))))
+      Goes-inside W 2 1 (scheme_naming m n) (scheme_naming m (n + 1)) s (with_size (n + 1) T.tokenize_state) T (Next AutolinkSchemeInsideOrEmailAtext) (within AutolinkSchemeInsideOrEmailAtext) alone refl more (omega arith)
+      (ap (scheme_naming m n) b.whole ∙ or-both (Consume ∷ []) _ _ _ _ (bracket-next N.AutolinkProtocol (scheme_rest n) (scheme_rest (n + 1)) b.code cs (scheme-more n b.code cs here)) (bracket-next N.AutolinkEmail (local_rest m) (local_rest m) b.code cs (local-more m b.code cs (scheme-local m b.code.value here))))
       (record { inside = inside-next (with_size (n + 1) T.tokenize_state) T k.inside; some = omega arith; least = two-codes n _ k.some; most = omega (arith, less) }) (λ ok U x. x))
       (λ h. other (ap (scheme_rest n) b.whole ∙ (elim (is_scheme_code b.code) as (λ z. is_scheme_code b.code ≡ z → scheme_rest n (b.code ∷ cs) ≡ None) [
         | true ↦ λ i. scheme-long n b.code cs i (ltb-false n 32 (ap (λ z. z && nat_lt n 32) (sym (sym (ap scheme_value b.value) ∙ i)) ∙ h))
@@ -260,7 +263,7 @@ module _ (W : Words) (within : Within states W) where
       code-step P (current_of T) (λ o. url_inside_at o T)
       (λ e. Goes-refused W 1 1 p s T alone (ap p (ahead-none T e) ∙ none [] refl refl))
       (λ c e.
-      let b : Begins c (ahead T) = ahead-some T c e in
+      let b : BeginsWithValue c (ahead T) = ahead-some T c e in
       let cs : List Code = rest_of (ahead T) in
       if-step P (c == 62) _ _
       (λ h. let here : is_value 62 b.code ≡ true = ap (λ v. v == 62) b.value ∙ h in
@@ -277,23 +280,24 @@ module _ (W : Words) (within : Within states W) where
   unfolding applied scratched
   email_atext-law T alone k =
       let s : TokenizeState = with_size 0 T.tokenize_state in
-      let p : Naming = up_to_bracket N.AutolinkEmail local_rest in
+      let m : Bool = all_marks T in
+      let p : Naming = up_to_bracket N.AutolinkEmail (local_rest m) in
       let P : Stepped → Type 0 = GoesIn W (weight_at 1 T) (email_atext_ends T) in
       code-step P (current_of T) (λ o. email_atext_at o T)
-      (λ e. Goes-refused W 1 1 p s T alone (ap p (ahead-none T e) ∙ ap (ended N.AutolinkEmail) (local-other [] refl refl)))
+      (λ e. Goes-refused W 1 1 p s T alone (ap p (ahead-none T e) ∙ ap (ended N.AutolinkEmail) (local-other m [] refl refl)))
       (λ c e.
-      let b : Begins c (ahead T) = ahead-some T c e in
+      let b : BeginsWithValue c (ahead T) = ahead-some T c e in
       let cs : List Code = rest_of (ahead T) in
       let more : 1 ≤ length (ahead T) = some-codes T c e in
       if-step P (c == 64) _ _
       (λ h. Goes-inside-kept W 1 1 p (up_to_bracket N.AutolinkEmail domains) s T (Next AutolinkEmailAtSignOrDot) (within AutolinkEmailAtSignOrDot) alone refl more (omega arith)
-      (ap p b.whole ∙ bracket-next N.AutolinkEmail local_rest domains b.code cs (local-at b.code cs (ap (λ v. v == 64) b.value ∙ h)))
+      (ap p b.whole ∙ bracket-next N.AutolinkEmail (local_rest m) domains b.code cs (local-at m b.code cs (ap (λ v. v == 64) b.value ∙ h)))
       (fresh-kept T k) (λ ok U x. x))
-      (λ g. if-step P (local_value c) _ _
+      (λ g. if-step P (local_value m c) _ _
       (λ h. Goes-inside-kept W 1 1 p p s T (Next AutolinkEmailAtext) (within AutolinkEmailAtext) alone refl more (omega arith)
-      (ap p b.whole ∙ bracket-next N.AutolinkEmail local_rest local_rest b.code cs (local-more b.code cs (ap local_value b.value ∙ h)))
+      (ap p b.whole ∙ bracket-next N.AutolinkEmail (local_rest m) (local_rest m) b.code cs (local-more m b.code cs (ap (local_value m) b.value ∙ h)))
       (fresh-kept T k) (λ ok U x. x))
-      (λ h. Goes-refused W 1 1 p s T alone (ap p b.whole ∙ ap (ended N.AutolinkEmail) (local-other (b.code ∷ cs) (ap local_value b.value ∙ h) (ap (λ v. v == 64) b.value ∙ g))))))
+      (λ h. Goes-refused W 1 1 p s T alone (ap p b.whole ∙ ap (ended N.AutolinkEmail) (local-other m (b.code ∷ cs) (ap (local_value m) b.value ∙ h) (ap (λ v. v == 64) b.value ∙ g))))))
 
   pub email_at_sign_or_dot-law : Law W email_at_sign_or_dot_words
   unfolding applied scratched
@@ -306,7 +310,7 @@ module _ (W : Words) (within : Within states W) where
       code-step P (current_of T) (λ o. email_at_sign_or_dot_at o T)
       (λ e. Goes-refused W 2 1 p s T alone (ap p (ahead-none T e) ∙ ap (ended N.AutolinkEmail) (domains-none [] refl)))
       (λ c e.
-      let b : Begins c (ahead T) = ahead-some T c e in
+      let b : BeginsWithValue c (ahead T) = ahead-some T c e in
       let cs : List Code = rest_of (ahead T) in
       if-step P (alphanumeric_value c) _ _
       (λ h. Goes-over W 2 1 p q s T (Retry AutolinkEmailValue) (within AutolinkEmailValue) alone (omega arith)
@@ -327,7 +331,7 @@ module _ (W : Words) (within : Within states W) where
       code-step P (current_of T) (λ o. in_label_at o T)
       (λ e. Goes-refused W 1 1 p s T alone (end (ap (λ cs. next_is is_label_code cs) (ahead-none T e))))
       (λ c e.
-      let b : Begins c (ahead T) = ahead-some T c e in
+      let b : BeginsWithValue c (ahead T) = ahead-some T c e in
       let cs : List Code = rest_of (ahead T) in
       let more : 1 ≤ length (ahead T) = some-codes T c e in
       if-step P (nat_lt n 63 && alphanumeric_value c) _ _
@@ -367,7 +371,7 @@ module _ (W : Words) (within : Within states W) where
       code-step P (current_of T) (λ o. email_label_at o T)
       (λ e. on (ap p (ahead-none T e) ∙ end [] refl refl refl ∙ ap q (sym (ahead-none T e))))
       (λ c e.
-      let b : Begins c (ahead T) = ahead-some T c e in
+      let b : BeginsWithValue c (ahead T) = ahead-some T c e in
       let cs : List Code = rest_of (ahead T) in
       if-step P (c == 46) _ _
       (λ h. let dot : is_value 46 b.code ≡ true = ap (λ v. v == 46) b.value ∙ h in
@@ -385,7 +389,7 @@ module _ (W : Words) (within : Within states W) where
 
   -- past the bracket, the leaf entered
   link-opened : (T : Tokenizer) → 1 ≤ length (ahead T) → T.attempts ≡ [] → T.tokenize_state.size ≡ 0 →
-      plan_of (link_here T) (ahead T) ≡ preceded bracket_ops (opening_of open_naming (drop 1 (ahead T))) →
+      plan_of (link_here T) (ahead T) ≡ preceded bracket_ops (opening_of (open_naming (all_marks T)) (drop 1 (ahead T))) →
       GoesIn W (weight_at 3 T) (KeepsAs 0 (plan_of (link_here T)) T) (stepped (Next AutolinkOpen) (done opening T))
   link-opened T more alone k e =
       let s : TokenizeState = T.tokenize_state in
@@ -394,23 +398,23 @@ module _ (W : Words) (within : Within states W) where
       subst (λ (V : Tokenizer). FreshReady V → ((ok : Bool) (U : Tokenizer) → open_ends V ok U → E ok U) → GoesIn W (weight_at 3 T) E (stepped (Next AutolinkOpen) V)) (kept opening T)
       (Goes-to W 3 E opening s T T (Next AutolinkOpen) (within AutolinkOpen) alone refl more (omega arith))
       (fresh-entered T k)
-      (λ ok U x. DoesAs-then 0 p (opening_of open_naming) bracket_ops s s T refl e ok U
-      (subst (λ (V : Tokenizer). DoesAs 1 (opening_of open_naming) s V ok U) (sym (kept bracket_ops T))
-      (DoesAs-entered 1 (opening_of open_naming) open_naming N.AutolinkProtocol s (done bracket_ops T) refl ok U (open-says T ok U k x))))
+      (λ ok U x. DoesAs-then 0 p (opening_of (open_naming (all_marks T))) bracket_ops s s T refl e ok U
+      (subst (λ (V : Tokenizer). DoesAs 1 (opening_of (open_naming (all_marks T))) s V ok U) (sym (kept bracket_ops T))
+      (DoesAs-entered 1 (opening_of (open_naming (all_marks T))) (open_naming (all_marks T)) N.AutolinkProtocol s (done bracket_ops T) refl ok U (open-says T ok U k x))))
 
   pub start-law : Law W start_words
   start-law T alone k =
       let p : Plan = plan_of (link_here T) in
       let E : Bool → Tokenizer → Type 0 = KeepsAs 0 p T in
       let P : Stepped → Type 0 = GoesIn W (weight_at 3 T) E in
-      GoesOn-map W (weight_at 3 T) E (start_ends T) (start_step T) (λ ok U x. EndsAs-plan (link_here T) (whole-link (is_on T)) T.tokenize_state T ok U x)
+      GoesOn-map W (weight_at 3 T) E (start_ends T) (start_step T) (λ ok U x. EndsAs-plan (link_here T) (whole-link (is_on T) (rules_here T)) T.tokenize_state T ok U x)
       (code-step P (current_of T) (λ o. start_at o T)
-      (λ e. Goes-no W 3 0 p T alone (ap p (ahead-none T e) ∙ no-link (is_on T) [] (and-false (is_on T))))
+      (λ e. Goes-no W 3 0 p T alone (ap p (ahead-none T e) ∙ no-link (is_on T) (rules_here T) [] (and-false (is_on T))))
       (λ c e.
-      let b : Begins c (ahead T) = ahead-some T c e in
+      let b : BeginsWithValue c (ahead T) = ahead-some T c e in
       if-step P (is_on T && (c == 60)) _ _
-      (λ h. link-opened T (some-codes T c e) alone k (ap p b.whole ∙ link-here (is_on T) b.code (rest_of (ahead T)) (and-left (is_on T) _ h) (ap (λ v. v == 60) b.value ∙ and-right (is_on T) _ h)))
-      (λ h. Goes-no W 3 0 p T alone (ap p b.whole ∙ no-link (is_on T) (b.code ∷ rest_of (ahead T)) (ap (λ v. is_on T && (v == 60)) b.value ∙ h)))))
+      (λ h. link-opened T (some-codes T c e) alone k (ap p b.whole ∙ link-here (is_on T) (rules_here T) b.code (rest_of (ahead T)) (and-left (is_on T) _ h) (ap (λ v. v == 60) b.value ∙ and-right (is_on T) _ h)))
+      (λ h. Goes-no W 3 0 p T alone (ap p b.whole ∙ no-link (is_on T) (rules_here T) (b.code ∷ rest_of (ahead T)) (ap (λ v. is_on T && (v == 60)) b.value ∙ h)))))
 
 -- over a code that is none of those at which a URI ends, a call does no more than pass it
 pub uri-steady : (T : Tokenizer) (set : List ℕ) → Some uri_stops ≡ Some set → is_free set (current_of T) ≡ true →
@@ -427,7 +431,7 @@ uri-steady T set known free =
     rw (greater.0, nul.0, space.0, less.0, control.0, control.1) refl)
 
 -- of these states, and of any other as it is given
-pub laws : (W : Words) → Within states W → (t : StateName → StateWords) → AreLawful W t → AreLawful W (states t)
+pub laws : (W : Words) → EqualsLayer states W → (t : StateName → StateWords) → AreLawful W t → AreLawful W (states t)
 laws W within t other H.AutolinkStart = start-law W within
 laws W within t other H.AutolinkOpen = open-law W within
 laws W within t other H.AutolinkSchemeOrEmailAtext = scheme_or-law W within

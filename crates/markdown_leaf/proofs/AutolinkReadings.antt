@@ -3,7 +3,7 @@ use Rattle.std.proofs.Common.{◌≡◌, ℕ, ◌+◌, ◌<◌, ◌≤◌, Bool,
 use Rattle.std.proofs.lemmas.Bool.{eqb-true}
 use Rattle.std.proofs.lemmas.Bool.Decides.{nat_tests}
 use Rattle.std.proofs.lemmas.Grind.{common_steps}
-use Rattle.markdown_engine_content.specs.Codes.{Code}
+use Rattle.markdown_content.specs.Codes.{Code}
 use Rattle.markdown_engine.specs.Operations.{Op, Consume}
 use Rattle.markdown_engine.specs.TreeOps.{consumes}
 use Rattle.markdown_event.specs.declared.event.Name.{Name}
@@ -147,36 +147,36 @@ url-end cs h = any-number-is is_uri_code cs ∙ ap (λ (r : List Code × List Co
 abbrev at_sign : Reading (List Code)
 at_sign = one (is_value 64) then_ domains
 
-pub local-more : (c : Code) (cs : List Code) → is_local_code c ≡ true →
-    local_rest (c ∷ cs) ≡ with_first c (local_rest cs)
-local-more c cs h =
-    let s : List Code × List Code = span is_local_code cs in
-    ap (λ (r : List Code × List Code). after r.0 (at_sign r.1)) (span-takes is_local_code c cs h) ∙ after-more c s.0 (at_sign s.1)
+pub local-more : (all : Bool) (c : Code) (cs : List Code) → is_local_code all c ≡ true →
+    local_rest all (c ∷ cs) ≡ with_first c (local_rest all cs)
+local-more all c cs h =
+    let s : List Code × List Code = span (is_local_code all) cs in
+    ap (λ (r : List Code × List Code). after r.0 (at_sign r.1)) (span-takes (is_local_code all) c cs h) ∙ after-more c s.0 (at_sign s.1)
 
-local-here : (cs : List Code) → next_is is_local_code cs ≡ false → local_rest cs ≡ at_sign cs
-local-here cs h =
-    ap (λ (r : List Code × List Code). after r.0 (at_sign r.1)) (span-none is_local_code cs h) ∙ after-none (at_sign cs)
+local-here : (all : Bool) (cs : List Code) → next_is (is_local_code all) cs ≡ false → local_rest all cs ≡ at_sign cs
+local-here all cs h =
+    ap (λ (r : List Code × List Code). after r.0 (at_sign r.1)) (span-none (is_local_code all) cs h) ∙ after-none (at_sign cs)
 
-pub local-at : (c : Code) (cs : List Code) → is_value 64 c ≡ true → local_rest (c ∷ cs) ≡ with_first c (domains cs)
-local-at c cs h =
-    local-here (c ∷ cs) (ap local_value (eqb-true c.value 64 h))
+pub local-at : (all : Bool) (c : Code) (cs : List Code) → is_value 64 c ≡ true → local_rest all (c ∷ cs) ≡ with_first c (domains cs)
+local-at all c cs h =
+    local-here all (c ∷ cs) (ap (local_value all) (eqb-true c.value 64 h))
     ∙ then-after (one (is_value 64)) domains (c ∷ cs) (c ∷ []) cs (one-here (is_value 64) c cs h)
     ∙ after-one c (domains cs)
 
-pub local-other : (cs : List Code) → next_is is_local_code cs ≡ false → next_is (is_value 64) cs ≡ false →
-    local_rest cs ≡ None
-local-other cs h l = local-here cs h ∙ then-none (one (is_value 64)) domains cs (one-not (is_value 64) cs l)
+pub local-other : (all : Bool) (cs : List Code) → next_is (is_local_code all) cs ≡ false → next_is (is_value 64) cs ≡ false →
+    local_rest all cs ≡ None
+local-other all cs h l = local-here all cs h ∙ then-none (one (is_value 64)) domains cs (one-not (is_value 64) cs l)
 
-pub email-first : (c : Code) (cs : List Code) → is_local_code c ≡ true →
-    email_address (c ∷ cs) ≡ with_first c (local_rest cs)
+pub email-first : (all : Bool) (c : Code) (cs : List Code) → is_local_code all c ≡ true →
+    email_address all (c ∷ cs) ≡ with_first c (local_rest all cs)
 unfolding email_address
-email-first c cs h =
-    let s : List Code × List Code = span is_local_code cs in
-    then-after (some is_local_code) at_sign (c ∷ cs) (c ∷ s.0) s.1 (some-here is_local_code c cs h) ∙ after-more c s.0 (at_sign s.1)
+email-first all c cs h =
+    let s : List Code × List Code = span (is_local_code all) cs in
+    then-after (some (is_local_code all)) at_sign (c ∷ cs) (c ∷ s.0) s.1 (some-here (is_local_code all) c cs h) ∙ after-more c s.0 (at_sign s.1)
 
-pub email-none : (cs : List Code) → next_is is_local_code cs ≡ false → email_address cs ≡ None
+pub email-none : (all : Bool) (cs : List Code) → next_is (is_local_code all) cs ≡ false → email_address all cs ≡ None
 unfolding email_address
-email-none cs h = then-none (some is_local_code) at_sign cs (some-none is_local_code cs h)
+email-none all cs h = then-none (some (is_local_code all)) at_sign cs (some-none (is_local_code all) cs h)
 
 -- Labels.
 

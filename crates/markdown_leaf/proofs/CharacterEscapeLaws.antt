@@ -1,16 +1,16 @@
 -- The laws of the states of a character escape.
-use Rattle.std.proofs.Common.{◌≡◌, ◌==◌, ◌&&◌, Bool, true, false, if◌then◌else◌, Some, None, List, [], ◌∷◌, ◌++◌, refl, sym, ap, ◌∙◌, arith, append-nil}
+use Rattle.std.proofs.Common.{◌≡◌, ◌==◌, ◌&&◌, Bool, true, false, if◌then◌else◌, Some, None, List, [], ◌∷◌, refl, ap, ◌∙◌, arith}
 use Rattle.std.proofs.Math.Bool.{and-false}
-use Rattle.markdown_engine_content.specs.Codes.{Code}
-use Rattle.markdown_engine_content.specs.ListFunctions.{rest_of}
+use Rattle.markdown_content.specs.Codes.{Code}
+use Rattle.markdown_content.specs.ListFunctions.{rest_of}
 use Rattle.markdown_engine.specs.Operations.{current_of, ahead}
 use Rattle.markdown_engine.specs.StateRuns.{Stepped}
 use Rattle.markdown_engine.specs.Weights.{weight_at}
 use Rattle.markdown_event.specs.declared.event.Name.TheVariants as N
-use Rattle.markdown_state.specs.declared.state.State.TheVariants.{Next}
-use Rattle.markdown_state.specs.declared.state.StateName.{StateName}
-use Rattle.markdown_state.specs.declared.state.StateName.TheVariants as H
-use Rattle.markdown_state.specs.declared.state.StateName.TheVariants.{CharacterEscapeInside}
+use Rattle.markdown_event.specs.declared.state.State.TheVariants.{Next}
+use Rattle.markdown_event.specs.declared.state.StateName.{StateName}
+use Rattle.markdown_event.specs.declared.state.StateName.TheVariants as H
+use Rattle.markdown_event.specs.declared.state.StateName.TheVariants.{CharacterEscapeInside}
 use Rattle.markdown_engine.specs.declared.tokenizer.Tokenizer.{Tokenizer}
 use Rattle.markdown_engine.proofs.LawSteps.{if-step, code-step}
 use Rattle.markdown_engine.proofs.OperationFields.{law_rules, ahead-none, ahead-some, some-codes}
@@ -21,10 +21,11 @@ use Rattle.markdown_leaf.specs.CharacterEscape.{is_punctuation, is_on, opening, 
 use Rattle.markdown_plan.specs.Plan.{preceded, tree_ops, plan_of, KeepsAs}
 use Rattle.markdown_plan.proofs.PlanSteps.{EndsAs-plan}
 use Rattle.markdown_model.proofs.GrammarSteps.{bind-some, bind-none, one-here, one-not, switched-on, switched-off, and-left, and-right, if-true, if-false}
-use Rattle.markdown_plan.proofs.PassedByReadings.{Gives, Covers, IsSome, Gives-bind, Gives-switched, Gives-one, Gives-gives, Covers-group, Covers-row, Covers-leaf, some-first}
+use Rattle.markdown_model.proofs.PlainConstructs.{reads_switched, reads_character_escape}
+use Rattle.markdown_plan.proofs.SolidReadings.{ReadsSolid, plain-reads}
 use Rattle.markdown_engine.specs.StateWords.{StateWords, Words, Law, GoesIn}
 use Rattle.markdown_plan.proofs.LawStepsOfLayer.{GoesOn-map, Goes-next, Goes-yes, Goes-no}
-use Rattle.markdown_plan.specs.LayerEquation.{Within, AreLawful}
+use Rattle.markdown_plan.specs.LayerEquation.{EqualsLayer, AreLawful}
 
 -- The reading, by what stands there.
 
@@ -52,19 +53,12 @@ no-escape false cs e = ap tree_ops (switched-off character_escape false cs refl)
 no-escape true cs e =
     ap tree_ops (switched-on character_escape true cs refl ∙ bind-none _ _ _ (one-not (is_value 92) cs e))
 
-whole : (on : Bool) → Gives Covers (provided on >> character_escape)
-unfolding character_escape
-whole on =
-    Gives-switched on character_escape Covers
-    (Gives-bind _ _ IsSome Covers (Gives-one (is_value 92)) (λ slash ws p.
-    Gives-bind _ _ IsSome _ (Gives-one is_ascii_punctuation) (λ read vs q.
-    Gives-gives (escape_tree slash read) _
-    (Covers-group N.CharacterEscape _ _ (some-first ws _ (λ e. p.1 (p.0 ∙ e)))
-    (Covers-row _ _ ws (vs ++ []) (Covers-leaf _ slash ws p.0) (Covers-leaf _ read (vs ++ []) (q.0 ∙ sym (append-nil vs))))))))
+whole : (on : Bool) → ReadsSolid (provided on >> character_escape)
+whole on = plain-reads [] _ (reads_switched [] on character_escape (reads_character_escape []))
 
 -- The states.
 
-pub start-law : (W : Words) → Within states W → Law W start_words
+pub start-law : (W : Words) → EqualsLayer states W → Law W start_words
 start-law W within T alone _ =
     let E : Bool → Tokenizer → Type 0 = KeepsAs 0 (plan_of (escape_here T)) T in
     let P : Stepped → Type 0 = GoesIn W (weight_at 2 T) E in
@@ -90,7 +84,7 @@ inside-law W T alone _ =
     (λ h. Goes-no W 1 1 inside_plan T alone (ap inside_plan b.whole ∙ if-false _ _ _ (ap is_punctuation b.value ∙ h))))
 
 -- of these states, and of any other as it is given
-pub laws : (W : Words) → Within states W → (t : StateName → StateWords) → AreLawful W t → AreLawful W (states t)
+pub laws : (W : Words) → EqualsLayer states W → (t : StateName → StateWords) → AreLawful W t → AreLawful W (states t)
 laws W within t other H.CharacterEscapeStart = start-law W within
 laws W within t other H.CharacterEscapeInside = inside-law W
 laws W within t other s = other s

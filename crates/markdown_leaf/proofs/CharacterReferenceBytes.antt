@@ -3,13 +3,13 @@ use Rattle.std.proofs.Common.{◌≡◌, ℕ, zero, suc, ◌+◌, ◌-◌, ◌<�
 use Rattle.std.specs.Prelude.{get_or}
 use Rattle.std.proofs.lemmas.List.{take_more, length-take, length-drop, get_or_past, get_or-drop}
 use Rattle.std.specs.List.{list_all, slice_range}
-use Rattle.markdown_engine_content.specs.Codes.{Code}
-use Rattle.markdown_engine_content.specs.PlaceInDocument.{IsPlaceOf}
-use Rattle.markdown_engine_content.specs.Place.{Place, moved, code_at, point_of, start_or, value_of}
+use Rattle.markdown_content.specs.Codes.{Code}
+use Rattle.markdown_content.specs.PlaceInDocument.{IsPlaceOf}
+use Rattle.markdown_content.specs.Place.{Place, moved, code_at, point_of, start_or, value_of}
 use Rattle.markdown_engine.specs.Operations.{Consume, applied, current_of, done, scratched}
 use Rattle.markdown_engine.specs.declared.tokenizer.Tokenizer.{Tokenizer}
 use Rattle.markdown_leaf.specs.CharacterReference.{IsValue, read_of, sized}
-use Rattle.markdown_util.specs.Reference.{IsMarker, is_value_byte}
+use Rattle.markdown_util.specs.Reference.{IsReferenceMarker, is_value_byte}
 use Rattle.std.proofs.lemmas.Grind.{common_steps}
 use Rattle.markdown_model.proofs.GrammarSteps.{and-left, and-right}
 use Rattle.markdown_model.specs.CodeTests.{is_between, is_later_byte, values_of}
@@ -118,7 +118,7 @@ are-bytes bytes p k (suc n) m l h = by_code (slice_get p.codes m) (are-bytes byt
 -- The codes of a value are above the space.
 
 -- a code of a value is above the space
-value-high : (m c : ℕ) → IsMarker m → is_value_byte m c ≡ true → 32 < c
+value-high : (m c : ℕ) → IsReferenceMarker m → is_value_byte m c ≡ true → 32 < c
 value-high m c (inl e) h = name-high c (subst (λ k. is_value_byte k c ≡ true) e h)
   where
     name-high : (c : ℕ) → is_value_byte 38 c ≡ true → 32 < c
@@ -132,7 +132,7 @@ value-high m c (inr (inr e)) h = hexadecimal-high c (subst (λ k. is_value_byte 
     hexadecimal-high : (c : ℕ) → is_value_byte 120 c ≡ true → 32 < c
     hexadecimal-high c h = grind (arith, common_steps)
 
-all-high : (m : ℕ) (vs : List ℕ) → IsMarker m → list_all (is_value_byte m) vs ≡ true → list_all is_high vs ≡ true
+all-high : (m : ℕ) (vs : List ℕ) → IsReferenceMarker m → list_all (is_value_byte m) vs ≡ true → list_all is_high vs ≡ true
 all-high m [] k e = refl
 all-high m (v ∷ vs) k e =
     ap (λ b. b && list_all is_high vs) (high-true v (value-high m v k (and-left _ _ e))) ∙ all-high m vs k (and-right _ _ e)
@@ -187,23 +187,23 @@ range-more xs a i h k =
     ∙ take_more (drop a xs) (i - a) 0 room
     ∙ ap (λ x. take (i - a) (drop a xs) ++ x ∷ []) (get_or-drop a xs (i - a) 0 ∙ ap (λ m. get_or xs m 0) there)
 
-pub record IsHere (cs : List Code) (n v : ℕ) : Type 0 where
+pub record IsValueHere (cs : List Code) (n v : ℕ) : Type 0 where
   pub inside : n < length (values_of cs)
   pub value : get_or (values_of cs) n 0 ≡ v
 
-code-here : (cs : List Code) (n v : ℕ) → value_of (slice_get cs n) ≡ Some v → IsHere cs n v
+code-here : (cs : List Code) (n v : ℕ) → value_of (slice_get cs n) ≡ Some v → IsValueHere cs n v
 code-here [] zero v e = cc
 code-here [] (suc n) v e = cc
 code-here (c ∷ cs) zero v e = record { inside = omega arith; value = cc }
 code-here (c ∷ cs) (suc n) v e =
-    let k : IsHere cs n v = code-here cs n v e in record { inside = omega (arith, k.inside); value = k.value }
+    let k : IsValueHere cs n v = code-here cs n v e in record { inside = omega (arith, k.inside); value = k.value }
 
 -- one code further on
 pub read-more : (T : Tokenizer) (c : ℕ) → current_of T ≡ Some c →
     read_of (scratched (sized (T.tokenize_state.size + 1) T.tokenize_state) (done (Consume ∷ []) T)) ≡ read_of T ++ c ∷ []
 unfolding scratched applied moved code_at
 read-more T c e =
-    let k : IsHere T.cursor.codes T.cursor.at c = code-here T.cursor.codes T.cursor.at c e in
+    let k : IsValueHere T.cursor.codes T.cursor.at c = code-here T.cursor.codes T.cursor.at c e in
     let i : ℕ = T.cursor.at in
     let n : ℕ = T.tokenize_state.size in
     ap (λ a. slice_range (values_of T.cursor.codes) a (i + 1)) (omega arith)

@@ -1,28 +1,28 @@
 -- The laws of the states of a character reference.
-use Rattle.std.proofs.Common.{◌≡◌, ◌≢◌, ℕ, ◌+◌, ◌≤◌, ◌==◌, ◌&&◌, ◌||◌, nat_lt, Bool, true, false, List, [], ◌∷◌, ◌++◌, drop, length, Some, refl, sym, ap, subst, ◌∙◌, arith, append-nil, length-append, inl, inr}
+use Rattle.std.proofs.Common.{◌≡◌, ℕ, ◌+◌, ◌≤◌, ◌==◌, ◌&&◌, ◌||◌, nat_lt, Bool, true, false, List, [], ◌∷◌, ◌++◌, drop, length, Some, refl, sym, ap, subst, ◌∙◌, arith, length-append, inl, inr}
 use Rattle.std.specs.Prelude.{codes}
 use Rattle.std.specs.List.{list_all}
 use Rattle.std.proofs.Math.Bool.{or-false, and-false}
-use Rattle.markdown_engine_content.specs.Codes.{Code}
-use Rattle.markdown_engine_content.specs.ListFunctions.{rest_of}
+use Rattle.markdown_content.specs.Codes.{Code}
+use Rattle.markdown_content.specs.ListFunctions.{rest_of}
 use Rattle.markdown_engine.specs.Operations.{Op, Consume, applied, current_of, ahead, done, scratched}
 use Rattle.markdown_engine.specs.StateRuns.{Stepped, stepped}
 use Rattle.markdown_engine.specs.Weights.{weight_at}
 use Rattle.markdown_event.specs.declared.event.Name.{Name}
 use Rattle.markdown_event.specs.declared.event.Name.TheVariants as N
-use Rattle.markdown_state.specs.declared.state.State.TheVariants.{Next, Retry}
-use Rattle.markdown_state.specs.declared.state.StateName.{StateName}
-use Rattle.markdown_state.specs.declared.state.StateName.TheVariants as H
-use Rattle.markdown_state.specs.declared.state.StateName.TheVariants.{CharacterReferenceOpen, CharacterReferenceNumeric, CharacterReferenceValue}
+use Rattle.markdown_event.specs.declared.state.State.TheVariants.{Next, Retry}
+use Rattle.markdown_event.specs.declared.state.StateName.{StateName}
+use Rattle.markdown_event.specs.declared.state.StateName.TheVariants as H
+use Rattle.markdown_event.specs.declared.state.StateName.TheVariants.{CharacterReferenceOpen, CharacterReferenceNumeric, CharacterReferenceValue}
 use Rattle.markdown_engine.specs.declared.tokenizer.TokenizeState.{TokenizeState}
 use Rattle.markdown_engine.specs.declared.tokenizer.Tokenizer.{Tokenizer}
 use Rattle.markdown_engine.proofs.LawSteps.{if-step, code-step}
 use Rattle.markdown_engine.proofs.OperationFields.{law_rules, ahead-none, ahead-some, scratch-scratched, some-codes}
 use Rattle.markdown_engine.proofs.OperationLemmas.{scratch-done}
-use Rattle.markdown_model.specs.CodeTests.{is_value, is_among, is_alphanumeric, is_digit, is_hex_digit, next_is}
-use Rattle.markdown_model.specs.Grammar.{◌>>◌, provided, some}
-use Rattle.markdown_model.specs.LeafConstructs.{Parts, character_reference, reference_tree, named_parts, decimal_parts, hexadecimal_parts}
-use Rattle.markdown_util.specs.Reference.{html_5_rows, IsMarker, value_size_max, is_value_byte}
+use Rattle.markdown_model.specs.CodeTests.{is_value, is_among, next_is}
+use Rattle.markdown_model.specs.Grammar.{◌>>◌, provided}
+use Rattle.markdown_model.specs.LeafConstructs.{character_reference}
+use Rattle.markdown_util.specs.Reference.{html_5_rows, IsReferenceMarker, value_size_max, is_value_byte}
 use Rattle.markdown_leaf.specs.CharacterReference.{IsAtRest, IsOpened, IsValue, is_on, marked, sized, rested, opening, number_sign, hexadecimal_sign, value_start, closing, is_known, is_taken, read_of, start_at, start_step, named_step, open_at, decimal_step}
 use Rattle.markdown_leaf.specs.CharacterReference.{numeric_at, value_at, reference_here, value_plan, numeric_plan, open_plan, start_ends, open_ends, numeric_ends, value_ends, states, numeric_words, open_words, start_words, value_words}
 use Rattle.markdown_plan.specs.Plan.{Plan, preceded, plan_of, DoesAs, KeepsAs}
@@ -30,62 +30,15 @@ use Rattle.markdown_leaf.proofs.CharacterReferenceBytes.{read-more, read-none}
 use Rattle.markdown_leaf.proofs.CharacterReferenceReadings.{reference-start, no-reference, value-close, value-more, value-end, value-stop}
 use Rattle.markdown_plan.proofs.PlanSteps.{EndsAs-plan, no-codes}
 use Rattle.markdown_model.proofs.GrammarSteps.{and-left, and-right, if-true, if-false}
-use Rattle.markdown_plan.proofs.PassedByReadings.{Gives, Covers, IsSome, IsNothing, Gives-bind, Gives-after, Gives-either, Gives-switched, Gives-one, Gives-some, Gives-test, Gives-gives, Covers-group, Covers-row, Covers-leaf, some-first}
+use Rattle.markdown_model.proofs.PlainConstructs.{reads_switched, reads_character_reference}
+use Rattle.markdown_plan.proofs.SolidReadings.{ReadsSolid, plain-reads}
 use Rattle.markdown_engine.specs.StateWords.{StateWords, Words, Law, GoesIn}
 use Rattle.markdown_plan.proofs.LawStepsOfLayer.{GoesOn-map, Goes-on, Goes-kept, Goes-next, Goes-ok, Goes-nok, Goes-no}
-use Rattle.markdown_plan.specs.LayerEquation.{Within, AreLawful}
+use Rattle.markdown_plan.specs.LayerEquation.{EqualsLayer, AreLawful}
 
--- What a reference passes.
-
-record IsParts (p : Parts) (ws : List Code) : Type 0 where
-  pub some : p.front ≢ []
-  pub whole : p.front ++ (p.number ++ (p.hexadecimal ++ (p.value ++ p.back))) ≡ ws
-
-whole-named : Gives IsParts (named_parts html_5_rows)
-unfolding named_parts
-whole-named =
-    Gives-bind _ _ IsSome IsParts (Gives-one (is_value 38)) (λ front ws p.
-    Gives-bind _ _ IsSome _ (Gives-some is_alphanumeric) (λ value vs q.
-    Gives-after _ _ IsNothing _ (Gives-test _) (λ x us u.
-    Gives-bind _ _ IsSome _ (Gives-one (is_value 59)) (λ back bs b.
-    Gives-gives _ _ (record { some = p.1; whole = rw (p.0, q.0, u, b.0, append-nil) refl })))))
-
-whole-decimal : Gives IsParts decimal_parts
-unfolding decimal_parts
-whole-decimal =
-    Gives-bind _ _ IsSome IsParts (Gives-one (is_value 38)) (λ front ws p.
-    Gives-bind _ _ IsSome _ (Gives-one (is_value 35)) (λ number ns n.
-    Gives-bind _ _ IsSome _ (Gives-some is_digit) (λ value vs q.
-    Gives-after _ _ IsNothing _ (Gives-test _) (λ x us u.
-    Gives-bind _ _ IsSome _ (Gives-one (is_value 59)) (λ back bs b.
-    Gives-gives _ _ (record { some = p.1; whole = rw (p.0, n.0, q.0, u, b.0, append-nil) refl }))))))
-
-whole-hexadecimal : Gives IsParts hexadecimal_parts
-unfolding hexadecimal_parts
-whole-hexadecimal =
-    Gives-bind _ _ IsSome IsParts (Gives-one (is_value 38)) (λ front ws p.
-    Gives-bind _ _ IsSome _ (Gives-one (is_value 35)) (λ number ns n.
-    Gives-bind _ _ IsSome _ (Gives-one (is_among (codes "xX"))) (λ sign hs h.
-    Gives-bind _ _ IsSome _ (Gives-some is_hex_digit) (λ value vs q.
-    Gives-after _ _ IsNothing _ (Gives-test _) (λ x us u.
-    Gives-bind _ _ IsSome _ (Gives-one (is_value 59)) (λ back bs b.
-    Gives-gives _ _ (record { some = p.1; whole = rw (p.0, n.0, h.0, q.0, u, b.0, append-nil) refl })))))))
-
-parts-cover : (p : Parts) → p.front ≢ [] →
-    Covers (reference_tree p) (p.front ++ (p.number ++ (p.hexadecimal ++ (p.value ++ p.back))))
-parts-cover p some =
-    Covers-group N.CharacterReference _ _ (some-first p.front _ some)
-    (Covers-row _ _ p.front _ (Covers-leaf _ p.front p.front refl)
-    (Covers-row _ _ p.number _ (Covers-leaf _ p.number p.number refl)
-    (Covers-row _ _ p.hexadecimal _ (Covers-leaf _ p.hexadecimal p.hexadecimal refl)
-    (Covers-row _ _ p.value p.back (Covers-leaf _ p.value p.value refl) (Covers-leaf _ p.back p.back refl)))))
-
-whole : (on : Bool) → Gives Covers (provided on >> character_reference html_5_rows)
-unfolding character_reference
+whole : (on : Bool) → ReadsSolid (provided on >> character_reference html_5_rows)
 whole on =
-    Gives-switched on (character_reference html_5_rows) Covers
-    (Gives-bind _ _ IsParts Covers (Gives-either _ _ IsParts whole-named (Gives-either _ _ IsParts whole-decimal whole-hexadecimal)) (λ p ws q.
-    Gives-gives (reference_tree p) _ (subst (λ us. Covers (reference_tree p) us) (q.whole ∙ sym (append-nil ws)) (parts-cover p q.some))))
+    plain-reads [] _ (reads_switched [] on (character_reference html_5_rows) (reads_character_reference [] html_5_rows))
 
 -- The scratch fields.
 
@@ -115,7 +68,7 @@ value-from m os T o ok U k =
 -- in a value of this kind
 is-value : (m : ℕ) (V : Tokenizer) (s : TokenizeState) (more : List Name) →
     V.stack ≡ N.CharacterReferenceValue ∷ N.CharacterReference ∷ more → V.tokenize_state ≡ marked m s → s.size ≡ 0 →
-    IsMarker m → IsValue V
+    IsReferenceMarker m → IsValue V
 is-value m V s more e now z k =
     let size : V.tokenize_state.size ≡ 0 = ap (λ (q : TokenizeState). q.size) now ∙ z in
     let none : read_of V ≡ [] = read-none V size in
@@ -124,7 +77,7 @@ is-value m V s more e now z k =
       passed = ap (list_all (is_value_byte V.tokenize_state.marker)) none;
       value = e ∙ ap (λ ns. N.CharacterReferenceValue ∷ rest_of ns) (sym e);
       whole = ap rest_of e ∙ ap (λ ns. N.CharacterReference ∷ rest_of (rest_of ns)) (sym e);
-      marker = subst (λ (q : TokenizeState). IsMarker q.marker) (sym now) k;
+      marker = subst (λ (q : TokenizeState). IsReferenceMarker q.marker) (sym now) k;
       size = omega (arith, size);
     }
 
@@ -175,7 +128,7 @@ sign-test c = ap (λ b. (c.value == 120) || b) (or-false (c.value == 88))
 
 -- The states.
 
-module _ (W : Words) (within : Within states W) where
+module _ (W : Words) (within : EqualsLayer states W) where
   pub start-law : Law W start_words
   start-law T alone rest =
       let p : Plan = plan_of (reference_here T) in
@@ -277,7 +230,7 @@ module _ (W : Words) (within : Within states W) where
       (λ t. Goes-nok W 1 2 p (rested s) T alone (ap p b.whole ∙ value-stop s.marker read b.code (rest_of (ahead T)) (ap (λ x. ((x == 59) && nat_lt 0 (length read)) && is_known s.marker read) b.value ∙ ap (λ n. ((c == 59) && nat_lt 0 n) && is_known s.marker read) (sym size) ∙ h) (ap (λ n. is_taken s.marker n b.code.value) (sym size) ∙ ap (is_taken s.marker s.size) b.value ∙ t)))))
 
 -- of these states, and of any other as it is given
-pub laws : (W : Words) → Within states W → (t : StateName → StateWords) → AreLawful W t → AreLawful W (states t)
+pub laws : (W : Words) → EqualsLayer states W → (t : StateName → StateWords) → AreLawful W t → AreLawful W (states t)
 laws W within t other H.CharacterReferenceStart = start-law W within
 laws W within t other H.CharacterReferenceOpen = open-law W within
 laws W within t other H.CharacterReferenceNumeric = numeric-law W within

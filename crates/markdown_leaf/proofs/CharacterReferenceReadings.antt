@@ -5,11 +5,11 @@ use Rattle.std.specs.Prelude.{codes}
 use Rattle.markdown_util.proofs.ValueBytes.{semicolon_stops}
 use Rattle.std.proofs.Math.Bool.{and-false, and-true}
 use Rattle.std.proofs.lemmas.Bool.{le-leb, eqb-true}
-use Rattle.markdown_engine_content.specs.Codes.{Code}
-use Rattle.markdown_engine_content.specs.ListFunctions.{rest_of}
+use Rattle.markdown_content.specs.Codes.{Code}
+use Rattle.markdown_content.specs.ListFunctions.{rest_of}
 use Rattle.markdown_engine.specs.Operations.{Op, Enter, Exit, Consume}
 use Rattle.markdown_engine.specs.TreeOps.{consumes, ops_of}
-use Rattle.markdown_engine_content.specs.Tree.{Forest}
+use Rattle.markdown_content.specs.Tree.{Forest}
 use Rattle.markdown_event.specs.declared.event.Name.TheVariants as N
 use Rattle.markdown_model.specs.CodeTests.{is_value, is_among, is_between, is_alphanumeric, is_digit, is_hex_digit, is_empty, next_is, values_of}
 use Rattle.markdown_model.specs.Grammar.{Reading, ◌>>◌, ◌>>=◌, either, provided, one, some, span, gives}
@@ -126,12 +126,12 @@ part_ops None = None
 part_ops (Some r) = Some (ops_of (reference_tree r.0))
 
 -- the parts whose value is not passed yet have these operations
-abbrev Begins : List Op → (List Code → List Code → Parts) → Type 0
-Begins os f =
+abbrev HaveOpsBefore : List Op → (List Code → List Code → Parts) → Type 0
+HaveOpsBefore os f =
     (v : Code) (vs : List Code) (b : Code) → Some (ops_of (reference_tree (f (v ∷ vs) (b ∷ [])))) ≡ preceded os (Some (consumes (v ∷ vs) ++ closing))
 
 tail-by : (m : ℕ) (os : List Op) (p : Code → Bool) (ok : List Code → Bool) (f : List Code → List Code → Parts) →
-    Begins os f → (cs w r : List Code) → span p cs ≡ (w, r) →
+    HaveOpsBefore os f → (cs w r : List Code) → span p cs ≡ (w, r) →
     (is_empty w ≡ false → ok w ≡ is_whole m (values_of w)) →
     part_ops (tail p ok f cs) ≡ preceded os (value_of m [] (w, r))
 tail-by m os p ok f g cs [] r e h = ap part_ops (tail-nothing p ok f cs r e)
@@ -153,7 +153,7 @@ tail-by m os p ok f g cs (v ∷ vs) r e h =
         ap part_ops (tail-whole p ok f cs v vs b r e k t) ∙ g v vs b ∙ ap (preceded os) (sym (if-true _ _ _ (ap (λ x. x && (b.value == 59)) i ∙ t)))
 
 tail-plan : (m : ℕ) (os : List Op) (p : Code → Bool) (ok : List Code → Bool) (f : List Code → List Code → Parts) →
-    Begins os f → (cs : List Code) → ((c : Code) → p c ≡ is_value_code m c) →
+    HaveOpsBefore os f → (cs : List Code) → ((c : Code) → p c ≡ is_value_code m c) →
     (is_empty (span p cs).0 ≡ false → ok (span p cs).0 ≡ is_whole m (values_of (span p cs).0)) →
     part_ops (tail p ok f cs) ≡ preceded os (value_plan m [] cs)
 tail-plan m os p ok f g cs same h =
@@ -257,13 +257,13 @@ either-eq false false e = cc
 abbrev value_end : List Op
 value_end = Exit N.CharacterReferenceValue ∷ Enter N.CharacterReferenceMarkerSemi ∷ Consume ∷ Exit N.CharacterReferenceMarkerSemi ∷ []
 
-begins-named : (c : Code) → Begins (opening ++ value_start) (named_by c)
+begins-named : (c : Code) → HaveOpsBefore (opening ++ value_start) (named_by c)
 begins-named c v vs b = rw (append_assoc (consumes vs) value_end (Exit N.CharacterReference ∷ [])) refl
 
-begins-decimal : (c d : Code) → Begins (opening ++ number_sign ++ value_start) (decimal_by c d)
+begins-decimal : (c d : Code) → HaveOpsBefore (opening ++ number_sign ++ value_start) (decimal_by c d)
 begins-decimal c d v vs b = rw (append_assoc (consumes vs) value_end (Exit N.CharacterReference ∷ [])) refl
 
-begins-hexadecimal : (c d x : Code) → Begins (opening ++ number_sign ++ hexadecimal_sign) (hexadecimal_by c d x)
+begins-hexadecimal : (c d x : Code) → HaveOpsBefore (opening ++ number_sign ++ hexadecimal_sign) (hexadecimal_by c d x)
 begins-hexadecimal c d x v vs b = rw (append_assoc (consumes vs) value_end (Exit N.CharacterReference ∷ [])) refl
 
 named-here : (c : Code) (cs : List Code) → (c.value == 38) ≡ true →

@@ -1,17 +1,16 @@
 -- The laws of the states of a hard break by a backslash.
-use Rattle.std.proofs.Common.{◌≡◌, ◌==◌, ◌&&◌, Bool, true, false, if◌then◌else◌, Some, None, List, [], ◌∷◌, ◌++◌, refl, sym, ap, ◌∙◌, arith, append-nil}
+use Rattle.std.proofs.Common.{◌≡◌, ◌==◌, ◌&&◌, Bool, true, false, if◌then◌else◌, Some, None, List, [], ◌∷◌, refl, ap, ◌∙◌, arith}
 use Rattle.std.proofs.Math.Bool.{and-false}
-use Rattle.markdown_engine_content.specs.Codes.{Code, is_line_ending}
-use Rattle.markdown_engine_content.specs.ListFunctions.{rest_of}
+use Rattle.markdown_content.specs.Codes.{Code, is_line_ending}
+use Rattle.markdown_content.specs.ListFunctions.{rest_of}
 use Rattle.markdown_engine.specs.Operations.{current_of, ahead}
 use Rattle.markdown_engine.specs.StateRuns.{Stepped}
-use Rattle.markdown_engine_content.specs.Tree.{leaf}
 use Rattle.markdown_engine.specs.Weights.{weight_at}
 use Rattle.markdown_event.specs.declared.event.Name.TheVariants as N
-use Rattle.markdown_state.specs.declared.state.State.TheVariants.{Next}
-use Rattle.markdown_state.specs.declared.state.StateName.{StateName}
-use Rattle.markdown_state.specs.declared.state.StateName.TheVariants as H
-use Rattle.markdown_state.specs.declared.state.StateName.TheVariants.{HardBreakEscapeAfter}
+use Rattle.markdown_event.specs.declared.state.State.TheVariants.{Next}
+use Rattle.markdown_event.specs.declared.state.StateName.{StateName}
+use Rattle.markdown_event.specs.declared.state.StateName.TheVariants as H
+use Rattle.markdown_event.specs.declared.state.StateName.TheVariants.{HardBreakEscapeAfter}
 use Rattle.markdown_engine.specs.declared.tokenizer.Tokenizer.{Tokenizer}
 use Rattle.markdown_engine.proofs.LawSteps.{if-step, code-step}
 use Rattle.markdown_engine.proofs.OperationFields.{law_rules, ahead-none, ahead-some, some-codes}
@@ -22,10 +21,11 @@ use Rattle.markdown_leaf.specs.HardBreakEscape.{is_on, opening, closing, start_a
 use Rattle.markdown_plan.specs.Plan.{Plan, preceded, tree_ops, plan_of, KeepsAs}
 use Rattle.markdown_plan.proofs.PlanSteps.{EndsAs-plan}
 use Rattle.markdown_model.proofs.GrammarSteps.{bind-some, bind-none, before-some, before-none, before-other, one-here, one-not, switched-on, switched-off, and-left, and-right, if-true, if-false}
-use Rattle.markdown_plan.proofs.PassedByReadings.{Gives, Covers, IsSome, Gives-bind, Gives-before, Gives-switched, Gives-one, Gives-gives, Covers-leaf}
+use Rattle.markdown_model.proofs.PlainConstructs.{reads_switched, reads_hard_break_escape}
+use Rattle.markdown_plan.proofs.SolidReadings.{ReadsSolid, plain-reads}
 use Rattle.markdown_engine.specs.StateWords.{StateWords, Words, Law, GoesIn}
 use Rattle.markdown_plan.proofs.LawStepsOfLayer.{GoesOn-map, Goes-next, Goes-yes, Goes-no}
-use Rattle.markdown_plan.specs.LayerEquation.{Within, AreLawful}
+use Rattle.markdown_plan.specs.LayerEquation.{EqualsLayer, AreLawful}
 
 -- The reading, by what stands there.
 
@@ -46,16 +46,12 @@ no-break false cs e = ap tree_ops (switched-off hard_break_escape false cs refl)
 no-break true cs e =
     ap tree_ops (switched-on hard_break_escape true cs refl ∙ bind-none _ _ _ (before-none _ _ _ (one-not (is_value 92) cs e)))
 
-whole : (on : Bool) → Gives Covers (provided on >> hard_break_escape)
-unfolding hard_break_escape
-whole on =
-    Gives-switched on hard_break_escape Covers
-    (Gives-bind _ _ IsSome Covers (Gives-before _ _ IsSome (Gives-one (is_value 92))) (λ slash ws p.
-    Gives-gives (leaf N.HardBreakEscape slash) _ (Covers-leaf _ slash (ws ++ []) (p.0 ∙ sym (append-nil ws)))))
+whole : (on : Bool) → ReadsSolid (provided on >> hard_break_escape)
+whole on = plain-reads [] _ (reads_switched [] on hard_break_escape (reads_hard_break_escape []))
 
 -- The states.
 
-pub start-law : (W : Words) → Within states W → Law W start_words
+pub start-law : (W : Words) → EqualsLayer states W → Law W start_words
 start-law W within T alone _ =
     let p : Plan = plan_of (break_here T) in
     let E : Bool → Tokenizer → Type 0 = KeepsAs 0 p T in
@@ -82,7 +78,7 @@ after-law W T alone _ =
     (λ h. Goes-no W 1 1 after_plan T alone (ap after_plan b.whole ∙ if-false _ _ _ (ap (λ v. v == 10) b.value ∙ h))))
 
 -- of these states, and of any other as it is given
-pub laws : (W : Words) → Within states W → (t : StateName → StateWords) → AreLawful W t → AreLawful W (states t)
+pub laws : (W : Words) → EqualsLayer states W → (t : StateName → StateWords) → AreLawful W t → AreLawful W (states t)
 laws W within t other H.HardBreakEscapeStart = start-law W within
 laws W within t other H.HardBreakEscapeAfter = after-law W
 laws W within t other s = other s

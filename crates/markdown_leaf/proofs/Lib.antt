@@ -6,7 +6,6 @@ pub mod CharacterReferenceReadings
 pub mod CharacterReferenceLaws
 pub mod LastEvent
 pub mod RawTextReadings
-pub mod RawTextCovers
 pub mod RawTextReady
 pub mod RawTextLaws
 pub mod RawTextWithoutEnd

@@ -1,28 +1,28 @@
 -- The laws of the states of code spans and math spans.
 use Rattle.std.proofs.Common.{◌≡◌, ℕ, ◌+◌, ◌<◌, ◌≤◌, ◌==◌, ◌&&◌, ◌||◌, not, if◌then◌else◌, Bool, true, false, Option, Some, None, List, [], ◌∷◌, length, refl, sym, ap, subst, ◌∙◌, arith}
 use Rattle.std.specs.Prelude.{codes}
-use Rattle.markdown_engine_content.specs.Codes.{Code}
-use Rattle.markdown_engine_content.specs.ListFunctions.{rest_of}
+use Rattle.markdown_content.specs.Codes.{Code}
+use Rattle.markdown_content.specs.ListFunctions.{rest_of}
 use Rattle.markdown_engine.specs.Operations.{Op, Enter, Exit, Consume, current_of, consumed, ahead, applied, done, scratched}
-use Rattle.markdown_engine_content.specs.Place.{value_of, code_before}
+use Rattle.markdown_content.specs.Place.{value_of, code_before}
 use Rattle.markdown_engine.specs.StateRuns.{Stepped, stepped}
-use Rattle.markdown_engine_content.specs.Stretch.{is_free}
+use Rattle.markdown_content.specs.Stretch.{is_free}
 use Rattle.markdown_engine.specs.Weights.{weight_at}
 use Rattle.markdown_event.specs.declared.event.Name.TheVariants as N
-use Rattle.markdown_state.specs.declared.state.State.TheVariants.{Next, Retry}
-use Rattle.markdown_state.specs.declared.state.State.TheVariants as State
-use Rattle.markdown_state.specs.declared.state.StateName.{StateName}
-use Rattle.markdown_state.specs.declared.state.StateName.TheVariants as H
-use Rattle.markdown_state.specs.declared.state.StateName.TheVariants.{RawTextSequenceOpen, RawTextBetween, RawTextData, RawTextSequenceClose}
+use Rattle.markdown_event.specs.declared.state.State.TheVariants.{Next, Retry}
+use Rattle.markdown_event.specs.declared.state.State.TheVariants as State
+use Rattle.markdown_event.specs.declared.state.StateName.{StateName}
+use Rattle.markdown_event.specs.declared.state.StateName.TheVariants as H
+use Rattle.markdown_event.specs.declared.state.StateName.TheVariants.{RawTextSequenceOpen, RawTextBetween, RawTextData, RawTextSequenceClose}
 use Rattle.markdown_engine.specs.declared.tokenizer.TokenizeState.{TokenizeState}
 use Rattle.markdown_engine.specs.declared.tokenizer.Tokenizer.{Tokenizer}
 use Rattle.markdown_engine.proofs.LawSteps.{if-step, code-step}
 use Rattle.markdown_engine.proofs.SteadyLemmas.{steady-at, alone-is, alone-other}
-use Rattle.markdown_engine.proofs.OperationFields.{ahead-none, ahead-some, Begins, some-codes}
+use Rattle.markdown_engine.proofs.OperationFields.{ahead-none, ahead-some, BeginsWithValue, some-codes}
 use Rattle.markdown_model.specs.CodeTests.{is_value, is_some_code, next_is}
 use Rattle.markdown_model.specs.LeafConstructs.{SpanNames, code_names, math_names}
 use Rattle.markdown_plan.specs.Plan.{Plan, preceded, plan_of, KeepsAs}
-use Rattle.markdown_leaf.specs.RawText.{data_step, data_stops, names_in, begun, rested, is_same, is_barred, code_just_before, code_is_on, math_is_on, single_dollar, opened, start_at, start_step, after_opening, sequence_open_at, between_at, after_data, data_at, after_run, sequence_close_at, StartReady, SequenceOpenReady, DataReady}
+use Rattle.markdown_leaf.specs.RawText.{data_step, data_stops, names_in, begun, rested, is_same, is_barred, code_just_before, code_is_on, math_is_on, single_dollar, opened, start_at, start_step, after_opening, sequence_open_at, between_at, after_data, data_at, after_run, sequence_close_at, RawTextStartReady, SequenceOpenReady, DataReady}
 use Rattle.markdown_leaf.specs.RawText.{SequenceCloseReady, between_rank, close_rank, span_at, inside_plan, is_data, data_plan, run_naming, opening_plan, start_ends, sequence_open_ends, between_ends, data_ends, sequence_close_ends, states, between_words, data_words, sequence_close_words, sequence_open_words, start_words}
 use Rattle.markdown_model.specs.SingleConstructs.{follows_escape}
 use Rattle.markdown_plan.specs.ScratchFields.{with_size, with_size_b}
@@ -32,12 +32,12 @@ use Rattle.markdown_engine.proofs.OperationLemmas.{left-done}
 use Rattle.markdown_plan.proofs.PlanSteps.{EndsAs-plan, preceded-twice}
 use Rattle.markdown_leaf.proofs.RawTextReadings.{inside-none, inside-ending, inside-data, inside-run, data-more, data-end, run-more, run-closed, run-other, open-more, open-end, code-opens, math-opens-here, no-span}
 use Rattle.markdown_leaf.proofs.RawTextReady.{start-opened, opened-more, opened-between, between-ending, between-data, between-run, data-next, data-between, run-next, run-between, opening-says}
-use Rattle.markdown_leaf.proofs.RawTextCovers.{whole-here}
 use Rattle.markdown_model.proofs.GrammarSteps.{and-left, and-right, if-false, if-true}
-use Rattle.markdown_plan.proofs.PassedByReadings.{Gives, Covers, Gives-either}
+use Rattle.markdown_model.proofs.PlainConstructs.{reads_switched, reads_either, reads_code_text, reads_math_text}
+use Rattle.markdown_plan.proofs.SolidReadings.{ReadsSolid, plain-reads}
 use Rattle.markdown_engine.specs.StateWords.{StateWords, Words, Law, GoesIn}
 use Rattle.markdown_plan.proofs.LawStepsOfLayer.{GoesOn-map, Goes-on, Goes-ops, Goes-kept, Goes-inside, Goes-settled, Goes-nok, Goes-no, Goes-named}
-use Rattle.markdown_plan.specs.LayerEquation.{Within, AreLawful}
+use Rattle.markdown_plan.specs.LayerEquation.{EqualsLayer, AreLawful}
 
 -- Tests.
 
@@ -64,8 +64,9 @@ pub barred-is : (m : ℕ) (T : Tokenizer) →
 unfolding code_before
 barred-is m T = free-is (follows_escape T.events) m (code_just_before T)
 
-whole : (T : Tokenizer) → Gives Covers (span_at T)
-whole T = Gives-either _ _ Covers (whole-here _ _ _ _ _ _) (whole-here _ _ _ _ _ _)
+whole : (T : Tokenizer) → ReadsSolid (span_at T)
+whole T =
+    plain-reads [] _ (reads_either [] _ _ (reads_switched [] _ _ (reads_code_text [] _ _ _)) (reads_switched [] _ _ (reads_math_text [] _ _ _)))
 
 -- The ranks.
 
@@ -110,7 +111,7 @@ rank-run T c e g =
     let two : close_rank (current_of V) V ≡ 2 = ap (λ o. close_rank o V) e ∙ ap (λ b. if b then 2 else 6) g in
     omega (arith, two, between-high (current_of T) T)
 
-module _ (W : Words) (within : Within states W) where
+module _ (W : Words) (within : EqualsLayer states W) where
   -- The rest of a span, from its states.
 
   pub between-law : Law W between_words
@@ -125,7 +126,7 @@ module _ (W : Words) (within : Within states W) where
       code-step P (current_of T) (λ o. between_at o T)
       (λ e. Goes-nok W n 1 p (rested s) T alone (ap p (ahead-none T e) ∙ inside-none m (names_in s) s.size))
       (λ c e.
-      let b : Begins c (ahead T) = ahead-some T c e in
+      let b : BeginsWithValue c (ahead T) = ahead-some T c e in
       let cs : List Code = rest_of (ahead T) in
       let more : 1 ≤ length (ahead T) = some-codes T c e in
       if-step P (c == 10) _ _
@@ -182,7 +183,7 @@ module _ (W : Words) (within : Within states W) where
       code-step P (current_of T) (λ o. data_at o T)
       (λ e. data-ends-here T alone k (ap (λ cs. next_is q cs) (ahead-none T e)) (rank-end T e))
       (λ c e.
-      let b : Begins c (ahead T) = ahead-some T c e in
+      let b : BeginsWithValue c (ahead T) = ahead-some T c e in
       let here : q b.code ≡ not (c == 10 || c == m) = ap (λ v. not (v == 10 || v == m)) b.value in
       if-step P (c == 10 || c == m) _ _
       (λ h. data-ends-here T alone k (ap (λ cs. next_is q cs) b.whole ∙ here ∙ ap not h) (rank-stop T c e h))
@@ -221,7 +222,7 @@ module _ (W : Words) (within : Within states W) where
       code-step P (current_of T) (λ o. sequence_close_at o T)
       (λ e. run-ends-here n (ap (λ o. close_rank o T) e) T alone k (ap (λ cs. next_is (is_value m) cs) (ahead-none T e)))
       (λ c e.
-      let b : Begins c (ahead T) = ahead-some T c e in
+      let b : BeginsWithValue c (ahead T) = ahead-some T c e in
       let here : is_value m b.code ≡ (c == m) = ap (λ v. v == m) b.value in
       let p : Naming = run_naming m (names_in s) s.size s.size_b in
       let V : Tokenizer = scratched (with_size_b (s.size_b + 1) s) (done (Consume ∷ []) T) in
@@ -262,7 +263,7 @@ module _ (W : Words) (within : Within states W) where
       code-step P (current_of T) (λ o. sequence_open_at o T)
       (λ e. run-opened T alone k (ap (λ cs. next_is (is_value m) cs) (ahead-none T e)))
       (λ c e.
-      let b : Begins c (ahead T) = ahead-some T c e in
+      let b : BeginsWithValue c (ahead T) = ahead-some T c e in
       let here : is_value m b.code ≡ (c == m) = ap (λ v. v == m) b.value in
       let p : Plan = opening_plan (single_dollar T) m (names_in s) s.size in
       if-step P (c == m) _ _
@@ -275,8 +276,8 @@ module _ (W : Words) (within : Within states W) where
   -- The start.
 
   -- at the first marker of a span
-  span-opened : (m : ℕ) (names : SpanNames) (T : Tokenizer) → T.attempts ≡ [] → StartReady T → (m == 10) ≡ false →
-      {c : ℕ} (b : Begins c (ahead T)) → is_value m b.code ≡ true →
+  span-opened : (m : ℕ) (names : SpanNames) (T : Tokenizer) → T.attempts ≡ [] → RawTextStartReady T → (m == 10) ≡ false →
+      {c : ℕ} (b : BeginsWithValue c (ahead T)) → is_value m b.code ≡ true →
       plan_of (span_at T) (ahead T) ≡ preceded (Enter names.whole ∷ Enter names.sequence ∷ Consume ∷ []) (opening_plan (single_dollar T) m names 1 (rest_of (ahead T))) →
       GoesIn W (weight_at 7 T) (KeepsAs 0 (plan_of (span_at T)) T) (opened m names T)
   span-opened m names T alone k other b here e =
@@ -305,7 +306,7 @@ module _ (W : Words) (within : Within states W) where
       (code-step P (current_of T) (λ o. start_at o T)
       (λ e. Goes-no W 7 0 p T alone (ap p (ahead-none T e) ∙ no-span on math single escaped previous [] refl refl))
       (λ c e.
-      let b : Begins c (ahead T) = ahead-some T c e in
+      let b : BeginsWithValue c (ahead T) = ahead-some T c e in
       if-step P (c == 96 && (on && not (is_barred 96 T))) _ _
       (λ h. span-opened 96 code_names T alone k refl b (ap (λ v. v == 96) b.value ∙ and-left _ _ h)
       (ap p b.whole ∙ code-opens on math single escaped previous b.code (rest_of (ahead T)) (ap (λ v. v == 96) b.value ∙ and-left _ _ h) (and-left _ _ (and-right (c == 96) _ h)) (sym code_free ∙ and-right on _ (and-right (c == 96) _ h))))
@@ -325,7 +326,7 @@ data-steady T set known free =
     rw (a, other) refl)
 
 -- of these states, and of any other as it is given
-pub laws : (W : Words) → Within states W → (t : StateName → StateWords) → AreLawful W t → AreLawful W (states t)
+pub laws : (W : Words) → EqualsLayer states W → (t : StateName → StateWords) → AreLawful W t → AreLawful W (states t)
 laws W within t other H.RawTextStart = start-law W within
 laws W within t other H.RawTextSequenceOpen = sequence_open-law W within
 laws W within t other H.RawTextBetween = between-law W within

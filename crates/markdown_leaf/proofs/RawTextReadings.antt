@@ -4,10 +4,10 @@ use Rattle.std.proofs.Math.Bool.{and-false}
 use Rattle.std.proofs.lemmas.Bool.{eqb-true, and_left}
 use Rattle.std.proofs.lemmas.Bool.Decides.{nat_tests}
 use Rattle.std.proofs.lemmas.Grind.{common_steps}
-use Rattle.markdown_engine_content.specs.Codes.{Code, is_line_ending}
+use Rattle.markdown_content.specs.Codes.{Code, is_line_ending}
 use Rattle.markdown_engine.specs.Operations.{Op, Enter, Exit, Consume}
 use Rattle.markdown_engine.specs.PastTree.{TreeReading}
-use Rattle.markdown_engine_content.specs.Tree.{Forest, empty, leaf_then, ◌⊕◌, leaf, group}
+use Rattle.markdown_content.specs.Tree.{Forest, empty, leaf_then, ◌⊕◌, leaf, group}
 use Rattle.markdown_engine.specs.TreeOps.{consumes, ops_of}
 use Rattle.markdown_event.specs.declared.event.Name.{Name}
 use Rattle.markdown_event.specs.declared.event.Name.TheVariants as N

@@ -13,7 +13,7 @@ use Rattle.markdown_model.specs.LeafConstructs.{SpanNames}
 use Rattle.markdown_plan.proofs.OpenEvents.{second-open}
 use Rattle.markdown_plan.proofs.LateNameSteps.{renamed-entered, renamed-consumed, renamed-scratched}
 use Rattle.markdown_plan.specs.Plan.{DoesAs}
-use Rattle.markdown_leaf.specs.RawText.{begun, rested, StartReady, SequenceOpenReady, BetweenReady, DataReady, SequenceCloseReady, single_dollar, opening_plan, sequence_open_ends}
+use Rattle.markdown_leaf.specs.RawText.{begun, rested, RawTextStartReady, SequenceOpenReady, BetweenReady, DataReady, SequenceCloseReady, single_dollar, opening_plan, sequence_open_ends}
 use Rattle.markdown_plan.specs.ScratchFields.{with_size, with_size_b, Fits}
 use Rattle.markdown_plan.specs.LateNames.{renamed}
 
@@ -27,7 +27,7 @@ pub some-event : (T : Tokenizer) (m : Name) → 0 < length (applied (Enter m) T)
 unfolding applied
 some-event T m = grind (arith, common_steps)
 
-pub start-opened : (m : ℕ) (names : SpanNames) (T : Tokenizer) → (m == 10) ≡ false → StartReady T →
+pub start-opened : (m : ℕ) (names : SpanNames) (T : Tokenizer) → (m == 10) ≡ false → RawTextStartReady T →
     SequenceOpenReady (scratched (begun m names T.tokenize_state) (done (Enter names.whole ∷ Enter names.sequence ∷ []) T))
 unfolding scratched applied
 start-opened m names T h k =

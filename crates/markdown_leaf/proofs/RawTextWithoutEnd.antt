@@ -2,16 +2,16 @@
 use Rattle.std.proofs.lemmas.Bool.{and_left, eq-eqb}
 use Rattle.std.proofs.lemmas.List.{drop-drop}
 use Rattle.std.proofs.Common.{◌≡◌, ℕ, zero, suc, ◌+◌, ◌≤◌, ◌==◌, Bool, true, false, ◌&&◌, ◌||◌, not, if◌then◌else◌, Option, Some, None, List, [], ◌∷◌, ◌++◌, length, drop, refl, sym, ap, subst, ◌∙◌, arith}
-use Rattle.markdown_engine_content.specs.Codes.{Code, is_line_ending}
-use Rattle.markdown_engine_content.specs.ListFunctions.{rest_of}
+use Rattle.markdown_content.specs.Codes.{Code, is_line_ending}
+use Rattle.markdown_content.specs.ListFunctions.{rest_of}
 use Rattle.markdown_engine.specs.Operations.{Op, Enter, Exit, Consume, ahead, current_of}
-use Rattle.markdown_engine_content.specs.Place.{ahead_at}
+use Rattle.markdown_content.specs.Place.{ahead_at}
 use Rattle.markdown_event.specs.declared.event.Name.TheVariants as N
-use Rattle.markdown_engine_index.specs.RunIndex.{leading, last_run_from, last_run, begins_before, rules_out}
+use Rattle.markdown_notes.specs.RunIndex.{leading, last_run_from, last_run, begins_before, rules_out}
 use Rattle.markdown_engine.specs.declared.tokenizer.Tokenizer.{Tokenizer}
 use Rattle.markdown_engine.specs.TreeOps.{consumes}
-use Rattle.markdown_engine.proofs.OperationFields.{ahead-some, Begins}
-use Rattle.markdown_engine_index.proofs.RunIndexFacts.{later-none, none-after, ruled-out}
+use Rattle.markdown_engine.proofs.OperationFields.{ahead-some, BeginsWithValue}
+use Rattle.markdown_notes.proofs.RunIndexFacts.{later-none, none-after, ruled-out}
 use Rattle.markdown_model.specs.CodeTests.{is_value, is_some_code, next_is}
 use Rattle.markdown_model.specs.Grammar.{span}
 use Rattle.markdown_model.specs.LeafConstructs.{SpanNames, closing_run, closing, code_names, math_names}
@@ -204,7 +204,7 @@ free-so : (m : ℕ) (T : Tokenizer) → is_ruled_out m T ≡ true →
     (follows_escape T.events || not (is_some_code (is_value m) (code_just_before T))) ≡ true
 free-so m T h = sym (barred-is m T) ∙ and-left (not (is_barred m T)) _ h
 
-opening-ruled : (m : ℕ) (names : SpanNames) (T : Tokenizer) → (m == 10) ≡ false → IsIndexed T → (b : Begins m (ahead T)) →
+opening-ruled : (m : ℕ) (names : SpanNames) (T : Tokenizer) → (m == 10) ≡ false → IsIndexed T → (b : BeginsWithValue m (ahead T)) →
     is_ruled_out m T ≡ true → opening_plan (single_dollar T) m names 1 (rest_of (ahead T)) ≡ None
 opening-ruled m names T e right b h =
     opening-none (single_dollar T) m names b.code (rest_of (ahead T)) e (ap (λ v. v == m) b.value ∙ eq-eqb m m refl)
@@ -212,7 +212,7 @@ opening-ruled m names T e right b h =
 
 -- no span of a marker: where it is off none is read, and where it is on the opening run is all that is there
 ruled-out-span : (m : ℕ) (names : SpanNames) (on : Bool) (opening : List Op) (T : Tokenizer) → (m == 10) ≡ false → IsIndexed T →
-    (b : Begins m (ahead T)) → is_ruled_out m T ≡ true
+    (b : BeginsWithValue m (ahead T)) → is_ruled_out m T ≡ true
     → (on ≡ true → plan_of (span_at T) (b.code ∷ rest_of (ahead T)) ≡ preceded opening (opening_plan (single_dollar T) m names 1 (rest_of (ahead T))))
     → (on ≡ false → plan_of (span_at T) (b.code ∷ rest_of (ahead T)) ≡ None) → span_at T (ahead T) ≡ None
 ruled-out-span m names on opening T e right b h opens closed =
@@ -225,7 +225,7 @@ ruled-out-span m names on opening T e right b h opens closed =
 pub code-ruled-out : (T : Tokenizer) → IsIndexed T → current_of T ≡ Some 96 → is_ruled_out 96 T ≡ true →
     span_at T (ahead T) ≡ None
 code-ruled-out T right here h =
-    let b : Begins 96 (ahead T) = ahead-some T 96 here in
+    let b : BeginsWithValue 96 (ahead T) = ahead-some T 96 here in
     ruled-out-span 96 code_names (code_is_on T) (Enter N.CodeText ∷ Enter N.CodeTextSequence ∷ Consume ∷ []) T refl right b h
     (λ on. code-opens (code_is_on T) (math_is_on T) (single_dollar T) (follows_escape T.events) (code_just_before T) b.code (rest_of (ahead T)) (ap (λ v. v == 96) b.value) on (free-so 96 T h))
     (λ off. no-span (code_is_on T) (math_is_on T) (single_dollar T) (follows_escape T.events) (code_just_before T) (b.code ∷ rest_of (ahead T))
@@ -234,7 +234,7 @@ code-ruled-out T right here h =
 pub math-ruled-out : (T : Tokenizer) → IsIndexed T → current_of T ≡ Some 36 → is_ruled_out 36 T ≡ true →
     span_at T (ahead T) ≡ None
 math-ruled-out T right here h =
-    let b : Begins 36 (ahead T) = ahead-some T 36 here in
+    let b : BeginsWithValue 36 (ahead T) = ahead-some T 36 here in
     ruled-out-span 36 math_names (math_is_on T) (Enter N.MathText ∷ Enter N.MathTextSequence ∷ Consume ∷ []) T refl right b h
     (λ on. math-opens-here (code_is_on T) (math_is_on T) (single_dollar T) (follows_escape T.events) (code_just_before T) b.code (rest_of (ahead T)) (ap (λ v. v == 36) b.value) on (free-so 36 T h))
     (λ off. no-span (code_is_on T) (math_is_on T) (single_dollar T) (follows_escape T.events) (code_just_before T) (b.code ∷ rest_of (ahead T))

@@ -1,6 +1,8 @@
 -- What the states of an autolink do, and how runs from them end.
 use Rattle.std.specs.Prelude.{◌≡◌, ℕ, ◌+◌, ◌≤◌, Bool, true, false, ◌&&◌, ◌||◌, not, codes, nat_le, nat_lt, ◌==◌, if◌then◌else◌, Option, Some, None, List, [], ◌∷◌, ◌++◌, length}
-use Rattle.markdown_engine_content.specs.Codes.{Code}
+use Rattle.markdown_content.specs.Codes.{Code}
+use Rattle.markdown_content.specs.CommonMark.{rules_of}
+use Rattle.markdown_content.specs.declared.configuration.Rules.{Rules}
 use Rattle.markdown_engine.specs.Operations.{Op, Enter, Exit, Consume, ahead, done, current_of, scratched}
 use Rattle.markdown_engine.specs.PastTree.{EndsAs, TreeReading}
 use Rattle.markdown_engine.specs.StateRuns.{Stepped, stepped}
@@ -15,12 +17,12 @@ use Rattle.markdown_plan.specs.ByteTests.{letter_value, alphanumeric_value, amon
 use Rattle.markdown_plan.specs.LateNames.{Naming, NamesAs, renamed, HasEvent}
 use Rattle.markdown_event.specs.declared.event.Name.{Name}
 use Rattle.markdown_event.specs.declared.event.Name.TheVariants as N
-use Rattle.markdown_state.specs.declared.state.State.TheVariants.{Next, Retry, Nok}
-use Rattle.markdown_state.specs.declared.state.State.TheVariants as State
-use Rattle.markdown_state.specs.declared.state.StateName.TheVariants.{AutolinkOpen, AutolinkSchemeOrEmailAtext, AutolinkSchemeInsideOrEmailAtext, AutolinkUrlInside, AutolinkEmailAtext, AutolinkEmailAtSignOrDot, AutolinkEmailLabel, AutolinkEmailValue, AutolinkStart}
+use Rattle.markdown_event.specs.declared.state.State.TheVariants.{Next, Retry, Nok}
+use Rattle.markdown_event.specs.declared.state.State.TheVariants as State
+use Rattle.markdown_event.specs.declared.state.StateName.TheVariants.{AutolinkOpen, AutolinkSchemeOrEmailAtext, AutolinkSchemeInsideOrEmailAtext, AutolinkUrlInside, AutolinkEmailAtext, AutolinkEmailAtSignOrDot, AutolinkEmailLabel, AutolinkEmailValue, AutolinkStart}
 use Rattle.markdown_engine.specs.declared.tokenizer.Tokenizer.{Tokenizer}
 use Rattle.markdown_engine.specs.StateWords.{StateWords}
-use Rattle.markdown_state.specs.declared.state.StateName.{StateName}
+use Rattle.markdown_event.specs.declared.state.StateName.{StateName}
 use Rattle.std.specs.Str.{byte}
 
 -- Tests on the value of a code.
@@ -28,14 +30,21 @@ use Rattle.std.specs.Str.{byte}
 abbrev pub scheme_value : ℕ → Bool
 scheme_value v = alphanumeric_value v || among_values (codes "+-.") v
 
-abbrev pub local_value : ℕ → Bool
-local_value v = alphanumeric_value v || among_values (codes "#$%&'*+-./=?^_`{|}~") v
+abbrev pub local_value : Bool → ℕ → Bool
+local_value all v = alphanumeric_value v || among_values (codes "#$%&'*+-./=?^_`{|}~") v || (v == byte "!" && all)
 
 abbrev pub uri_value : ℕ → Bool
 uri_value v = not (among_values (codes "\0 <>") v || (is_between 1 31 v || v == 127))
 
 abbrev pub is_on : Tokenizer → Bool
 is_on T = T.parse_state.now.options.now.constructs.autolink
+
+abbrev pub rules_here : Tokenizer → Rules
+rules_here T = rules_of T.parse_state.now.options.now
+
+-- all of CommonMark's marks may stand in an address
+abbrev pub all_marks : Tokenizer → Bool
+all_marks T = (rules_here T).all_address_marks
 
 -- at these bytes alone a URI does other than go on, line endings aside: a space, an angle bracket and the controls
 abbrev pub uri_stops : List ℕ
@@ -109,7 +118,7 @@ abbrev pub email_atext_at : Option ℕ → Tokenizer → Stepped
 email_atext_at None T = refused T
 email_atext_at (Some c) T =
     if c == byte "@" then stepped (Next AutolinkEmailAtSignOrDot) (done (Consume ∷ []) T)
-    else (if local_value c then stepped (Next AutolinkEmailAtext) (done (Consume ∷ []) T) else refused T)
+    else (if local_value (all_marks T) c then stepped (Next AutolinkEmailAtext) (done (Consume ∷ []) T) else refused T)
 
 abbrev pub email_atext_step : Tokenizer → Stepped
 email_atext_step T = email_atext_at (current_of T) T
@@ -148,25 +157,25 @@ email_label_step T = email_label_at (current_of T) T
 -- When they may be called.
 
 -- between the brackets
-pub record InsideReady (T : Tokenizer) : Type 0 where
+pub record AutolinkInsideReady (T : Tokenizer) : Type 0 where
   pub stand_open : AreOpen N.AutolinkProtocol N.Autolink T
   pub some : HasEvent T
   pub entered : renamed N.AutolinkProtocol T ≡ T
 
 -- with no code counted
 pub record FreshReady (T : Tokenizer) : Type 0 where
-  pub inside : InsideReady T
+  pub inside : AutolinkInsideReady T
   pub none_yet : T.tokenize_state.size ≡ 0
 
 -- after one code of a scheme another one is at hand
 pub record SchemeReady (T : Tokenizer) : Type 0 where
-  pub inside : InsideReady T
+  pub inside : AutolinkInsideReady T
   pub some : 1 ≤ T.tokenize_state.size
   pub least : nat_le 2 T.tokenize_state.size || next_is is_scheme_code (ahead T) ≡ true
   pub most : T.tokenize_state.size ≤ 32
 
 pub record LabelReady (T : Tokenizer) : Type 0 where
-  pub inside : InsideReady T
+  pub inside : AutolinkInsideReady T
   pub most : T.tokenize_state.size ≤ 63
 
 -- How runs end.
@@ -191,8 +200,8 @@ abbrev pub domains : Reading (List Code)
 domains = domain_label then_ more_labels
 
 -- an address after some codes before its `@`
-abbrev pub local_rest : Reading (List Code)
-local_rest cs = let s = span is_local_code cs in after s.0 ((one (is_value (byte "@")) then_ domains) s.1)
+abbrev pub local_rest : Bool → Reading (List Code)
+local_rest all cs = let s = span (is_local_code all) cs in after s.0 ((one (is_value (byte "@")) then_ domains) s.1)
 
 abbrev pub is_label_code : Code → Bool
 is_label_code c = is_alphanumeric c || is_value (byte "-") c
@@ -221,26 +230,27 @@ abbrev pub or_else : Option (Name × List Op) → Option (Name × List Op) → O
 or_else None b = b
 or_else (Some x) b = Some x
 
-abbrev pub open_naming : Naming
-open_naming cs = or_else (up_to_bracket N.AutolinkProtocol uri cs) (up_to_bracket N.AutolinkEmail email_address cs)
+abbrev pub open_naming : Bool → Naming
+open_naming all cs = or_else (up_to_bracket N.AutolinkProtocol uri cs) (up_to_bracket N.AutolinkEmail (email_address all) cs)
 
-abbrev pub scheme_naming : ℕ → Naming
-scheme_naming passed cs = or_else (up_to_bracket N.AutolinkProtocol (scheme_rest passed) cs) (up_to_bracket N.AutolinkEmail local_rest cs)
+abbrev pub scheme_naming : Bool → ℕ → Naming
+scheme_naming all passed cs =
+    or_else (up_to_bracket N.AutolinkProtocol (scheme_rest passed) cs) (up_to_bracket N.AutolinkEmail (local_rest all) cs)
 
 abbrev pub open_ends : Tokenizer → Bool → Tokenizer → Type 0
-open_ends T ok U = NamesAs 1 open_naming (with_size 0 T.tokenize_state) T ok U
+open_ends T ok U = NamesAs 1 (open_naming (all_marks T)) (with_size 0 T.tokenize_state) T ok U
 
 abbrev pub scheme_or_ends : Tokenizer → Bool → Tokenizer → Type 0
-scheme_or_ends T ok U = NamesAs 1 (scheme_naming 1) (with_size 0 T.tokenize_state) T ok U
+scheme_or_ends T ok U = NamesAs 1 (scheme_naming (all_marks T) 1) (with_size 0 T.tokenize_state) T ok U
 
 abbrev pub scheme_inside_ends : Tokenizer → Bool → Tokenizer → Type 0
-scheme_inside_ends T ok U = NamesAs 1 (scheme_naming T.tokenize_state.size) (with_size 0 T.tokenize_state) T ok U
+scheme_inside_ends T ok U = NamesAs 1 (scheme_naming (all_marks T) T.tokenize_state.size) (with_size 0 T.tokenize_state) T ok U
 
 abbrev pub url_inside_ends : Tokenizer → Bool → Tokenizer → Type 0
 url_inside_ends T ok U = NamesAs 1 (up_to_bracket N.AutolinkProtocol (any_number is_uri_code)) (with_size 0 T.tokenize_state) T ok U
 
 abbrev pub email_atext_ends : Tokenizer → Bool → Tokenizer → Type 0
-email_atext_ends T ok U = NamesAs 1 (up_to_bracket N.AutolinkEmail local_rest) (with_size 0 T.tokenize_state) T ok U
+email_atext_ends T ok U = NamesAs 1 (up_to_bracket N.AutolinkEmail (local_rest (all_marks T))) (with_size 0 T.tokenize_state) T ok U
 
 abbrev pub email_at_sign_or_dot_ends : Tokenizer → Bool → Tokenizer → Type 0
 email_at_sign_or_dot_ends T ok U = NamesAs 1 (up_to_bracket N.AutolinkEmail domains) (with_size 0 T.tokenize_state) T ok U
@@ -266,7 +276,7 @@ abbrev pub scheme_inside_words : StateWords
 scheme_inside_words = record { ready = SchemeReady; step = scheme_inside_step; ends = scheme_inside_ends; rank = λ T. 2 }
 
 abbrev pub url_inside_words : StateWords
-url_inside_words = record { ready = InsideReady; step = url_inside_step; ends = url_inside_ends; rank = λ T. 1 }
+url_inside_words = record { ready = AutolinkInsideReady; step = url_inside_step; ends = url_inside_ends; rank = λ T. 1 }
 
 abbrev pub email_atext_words : StateWords
 email_atext_words = record { ready = FreshReady; step = email_atext_step; ends = email_atext_ends; rank = λ T. 1 }

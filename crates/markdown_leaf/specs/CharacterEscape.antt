@@ -7,12 +7,12 @@ use Rattle.markdown_model.specs.CodeTests.{is_ascii_punctuation, next_is}
 use Rattle.markdown_model.specs.SingleConstructs as SingleConstructs
 use Rattle.markdown_plan.specs.Plan.{Plan, KeepsAs}
 use Rattle.markdown_event.specs.declared.event.Name.TheVariants as N
-use Rattle.markdown_state.specs.declared.state.State.TheVariants.{Next, Nok}
-use Rattle.markdown_state.specs.declared.state.State.TheVariants as State
-use Rattle.markdown_state.specs.declared.state.StateName.TheVariants.{CharacterEscapeInside, CharacterEscapeStart}
+use Rattle.markdown_event.specs.declared.state.State.TheVariants.{Next, Nok}
+use Rattle.markdown_event.specs.declared.state.State.TheVariants as State
+use Rattle.markdown_event.specs.declared.state.StateName.TheVariants.{CharacterEscapeInside, CharacterEscapeStart}
 use Rattle.markdown_engine.specs.declared.tokenizer.Tokenizer.{Tokenizer}
 use Rattle.markdown_engine.specs.StateWords.{StateWords}
-use Rattle.markdown_state.specs.declared.state.StateName.{StateName}
+use Rattle.markdown_event.specs.declared.state.StateName.{StateName}
 use Rattle.std.specs.Str.{byte}
 
 abbrev pub is_punctuation : ℕ → Bool

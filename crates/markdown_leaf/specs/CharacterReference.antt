@@ -1,8 +1,8 @@
 -- What the states of a character reference do, and how runs from them end.
 use Rattle.std.specs.Prelude.{◌≡◌, ℕ, ◌+◌, ◌-◌, ◌≤◌, Bool, true, not, ◌&&◌, ◌||◌, ◌==◌, nat_lt, if◌then◌else◌, Option, Some, None, is_some, List, [], ◌∷◌, ◌++◌, length, codes}
 use Rattle.std.specs.List.{list_all, slice_range}
-use Rattle.markdown_engine_content.specs.Codes.{Code}
-use Rattle.markdown_engine_content.specs.ListFunctions.{rest_of}
+use Rattle.markdown_content.specs.Codes.{Code}
+use Rattle.markdown_content.specs.ListFunctions.{rest_of}
 use Rattle.markdown_engine.specs.Operations.{Op, Enter, Exit, Consume, done, current_of, IsOpen, scratched}
 use Rattle.markdown_engine.specs.PastTree.{EndsAs, TreeReading}
 use Rattle.markdown_engine.specs.StateRuns.{Stepped, stepped}
@@ -10,17 +10,17 @@ use Rattle.markdown_engine.specs.TreeOps.{consumes}
 use Rattle.markdown_model.specs.CodeTests.{is_value, is_among, is_between, next_is, values_of}
 use Rattle.markdown_model.specs.Grammar.{span}
 use Rattle.markdown_model.specs.SingleConstructs as SingleConstructs
-use Rattle.markdown_util.specs.Reference.{Table, IsMarker, html_5_rows, named_value, value_size_max, is_value_byte}
+use Rattle.markdown_util.specs.Reference.{Table, IsReferenceMarker, html_5_rows, named_value, value_size_max, is_value_byte}
 use Rattle.markdown_plan.specs.Plan.{Plan, preceded, DoesAs}
 use Rattle.markdown_event.specs.declared.event.Name.TheVariants as N
-use Rattle.markdown_state.specs.declared.state.State.TheVariants.{Next, Retry, Nok}
-use Rattle.markdown_state.specs.declared.state.State.TheVariants as State
-use Rattle.markdown_state.specs.declared.state.State.{State as StateType}
-use Rattle.markdown_state.specs.declared.state.StateName.TheVariants.{CharacterReferenceOpen, CharacterReferenceNumeric, CharacterReferenceValue, CharacterReferenceStart}
+use Rattle.markdown_event.specs.declared.state.State.TheVariants.{Next, Retry, Nok}
+use Rattle.markdown_event.specs.declared.state.State.TheVariants as State
+use Rattle.markdown_event.specs.declared.state.State.{State as StateType}
+use Rattle.markdown_event.specs.declared.state.StateName.TheVariants.{CharacterReferenceOpen, CharacterReferenceNumeric, CharacterReferenceValue, CharacterReferenceStart}
 use Rattle.markdown_engine.specs.declared.tokenizer.TokenizeState.{TokenizeState}
 use Rattle.markdown_engine.specs.declared.tokenizer.Tokenizer.{Tokenizer}
 use Rattle.markdown_engine.specs.StateWords.{StateWords}
-use Rattle.markdown_state.specs.declared.state.StateName.{StateName}
+use Rattle.markdown_event.specs.declared.state.StateName.{StateName}
 use Rattle.std.specs.Str.{byte}
 
 -- The scratch fields: the kind of the value, and how many of its codes are passed.
@@ -54,7 +54,7 @@ pub record IsValue (T : Tokenizer) : Type 0 where
   pub passed : list_all (is_value_byte T.tokenize_state.marker) (read_of T) ≡ true
   pub value : IsOpen N.CharacterReferenceValue T
   pub whole : rest_of T.stack ≡ N.CharacterReference ∷ rest_of (rest_of T.stack)
-  pub marker : IsMarker T.tokenize_state.marker
+  pub marker : IsReferenceMarker T.tokenize_state.marker
   pub size : T.tokenize_state.size ≤ value_size_max T.tokenize_state.marker
 
 -- Operations.

@@ -1,6 +1,6 @@
 -- What the states of a hard break by a backslash do, and how runs from them end.
 use Rattle.std.specs.Prelude.{ℕ, Bool, ◌&&◌, ◌==◌, if◌then◌else◌, Option, Some, None, List, [], ◌∷◌}
-use Rattle.markdown_engine_content.specs.Codes.{is_line_ending}
+use Rattle.markdown_content.specs.Codes.{is_line_ending}
 use Rattle.markdown_engine.specs.Operations.{Op, Enter, Exit, Consume, done, current_of, IsOpen}
 use Rattle.markdown_engine.specs.PastTree.{EndsAs, TreeReading}
 use Rattle.markdown_engine.specs.StateRuns.{Stepped, stepped}
@@ -8,12 +8,12 @@ use Rattle.markdown_model.specs.CodeTests.{next_is}
 use Rattle.markdown_model.specs.SingleConstructs as SingleConstructs
 use Rattle.markdown_plan.specs.Plan.{Plan, KeepsAs}
 use Rattle.markdown_event.specs.declared.event.Name.TheVariants as N
-use Rattle.markdown_state.specs.declared.state.State.TheVariants.{Next, Nok}
-use Rattle.markdown_state.specs.declared.state.State.TheVariants as State
-use Rattle.markdown_state.specs.declared.state.StateName.TheVariants.{HardBreakEscapeAfter, HardBreakEscapeStart}
+use Rattle.markdown_event.specs.declared.state.State.TheVariants.{Next, Nok}
+use Rattle.markdown_event.specs.declared.state.State.TheVariants as State
+use Rattle.markdown_event.specs.declared.state.StateName.TheVariants.{HardBreakEscapeAfter, HardBreakEscapeStart}
 use Rattle.markdown_engine.specs.declared.tokenizer.Tokenizer.{Tokenizer}
 use Rattle.markdown_engine.specs.StateWords.{StateWords}
-use Rattle.markdown_state.specs.declared.state.StateName.{StateName}
+use Rattle.markdown_event.specs.declared.state.StateName.{StateName}
 use Rattle.std.specs.Str.{byte}
 
 abbrev pub opening : List Op

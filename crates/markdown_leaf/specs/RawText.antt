@@ -1,13 +1,13 @@
 -- What the states of code spans and math spans do, and how runs from them end.
 use Rattle.std.specs.Prelude.{◌≡◌, ℕ, ◌+◌, Bool, false, ◌&&◌, ◌||◌, not, ◌==◌, if◌then◌else◌, Option, Some, None, codes, List, [], ◌∷◌, ◌++◌, length}
-use Rattle.markdown_engine_content.specs.Codes.{Code, is_line_ending}
+use Rattle.markdown_content.specs.Codes.{Code, is_line_ending}
 use Rattle.markdown_engine.specs.Operations.{Op, Enter, Exit, Consume, IsOpen, ahead, done, current_of, previous_of, scratched}
 use Rattle.markdown_engine.specs.PastTree.{EndsAs, TreeReading}
-use Rattle.markdown_engine_content.specs.Place.{last_of}
-use Rattle.markdown_engine_index.specs.RunIndex.{last_runs, leading, rules_out}
+use Rattle.markdown_content.specs.Place.{last_of}
+use Rattle.markdown_notes.specs.RunIndex.{last_runs, leading, rules_out}
 use Rattle.markdown_engine.specs.StateRuns.{Stepped, stepped}
 use Rattle.markdown_engine.specs.Steady.{alone_among}
-use Rattle.markdown_engine_content.specs.Tree.{◌⊕◌, leaf}
+use Rattle.markdown_content.specs.Tree.{◌⊕◌, leaf}
 use Rattle.markdown_engine.specs.TreeOps.{consumes, ops_of}
 use Rattle.markdown_model.specs.CodeTests.{is_value}
 use Rattle.markdown_model.specs.Grammar.{span}
@@ -18,13 +18,13 @@ use Rattle.markdown_plan.specs.Plan.{Plan, preceded, DoesAs}
 use Rattle.markdown_plan.specs.ScratchFields.{Fits, AreOpen, with_size, with_size_b}
 use Rattle.markdown_plan.specs.LateNames.{Naming, NamesAs, under, renamed, HasEvent}
 use Rattle.markdown_event.specs.declared.event.Name.TheVariants as N
-use Rattle.markdown_state.specs.declared.state.State.TheVariants.{Next, Retry, Nok}
-use Rattle.markdown_state.specs.declared.state.State.TheVariants as State
-use Rattle.markdown_state.specs.declared.state.StateName.TheVariants.{RawTextSequenceOpen, RawTextBetween, RawTextData, RawTextSequenceClose, RawTextStart}
+use Rattle.markdown_event.specs.declared.state.State.TheVariants.{Next, Retry, Nok}
+use Rattle.markdown_event.specs.declared.state.State.TheVariants as State
+use Rattle.markdown_event.specs.declared.state.StateName.TheVariants.{RawTextSequenceOpen, RawTextBetween, RawTextData, RawTextSequenceClose, RawTextStart}
 use Rattle.markdown_engine.specs.declared.tokenizer.TokenizeState.{TokenizeState}
 use Rattle.markdown_engine.specs.declared.tokenizer.Tokenizer.{Tokenizer}
 use Rattle.markdown_engine.specs.StateWords.{StateWords}
-use Rattle.markdown_state.specs.declared.state.StateName.{StateName}
+use Rattle.markdown_event.specs.declared.state.StateName.{StateName}
 use Rattle.std.specs.Str.{byte}
 
 -- The scratch fields.
@@ -140,34 +140,34 @@ sequence_close_step T = sequence_close_at (current_of T) T
 
 -- When they may be called; outside a run of markers none is counted.
 
-pub record StartReady (T : Tokenizer) : Type 0 where
+pub record RawTextStartReady (T : Tokenizer) : Type 0 where
   pub rest : T.tokenize_state ≡ rested T.tokenize_state
   pub fits : Fits 0 T
 
 -- the marker is no line ending
-abbrev pub HasMarker : Tokenizer → Type 0
-HasMarker T = (T.tokenize_state.marker == byte "\n") ≡ false
+abbrev pub MarkerIsOnLine : Tokenizer → Type 0
+MarkerIsOnLine T = (T.tokenize_state.marker == byte "\n") ≡ false
 
 pub record SequenceOpenReady (T : Tokenizer) : Type 0 where
-  pub marker : HasMarker T
+  pub marker : MarkerIsOnLine T
   pub stand_open : AreOpen T.tokenize_state.token_2 T.tokenize_state.token_1 T
   pub uncounted : T.tokenize_state.size_b ≡ 0
   pub fits : Fits T.tokenize_state.size T
 
 pub record BetweenReady (T : Tokenizer) : Type 0 where
-  pub marker : HasMarker T
+  pub marker : MarkerIsOnLine T
   pub stand_open : IsOpen T.tokenize_state.token_1 T
   pub uncounted : T.tokenize_state.size_b ≡ 0
   pub fits : Fits 0 T
 
 pub record DataReady (T : Tokenizer) : Type 0 where
-  pub marker : HasMarker T
+  pub marker : MarkerIsOnLine T
   pub stand_open : AreOpen T.tokenize_state.token_3 T.tokenize_state.token_1 T
   pub uncounted : T.tokenize_state.size_b ≡ 0
   pub fits : Fits 0 T
 
 pub record SequenceCloseReady (T : Tokenizer) : Type 0 where
-  pub marker : HasMarker T
+  pub marker : MarkerIsOnLine T
   pub stand_open : AreOpen T.tokenize_state.token_2 T.tokenize_state.token_1 T
   pub some : HasEvent T
   pub entered : renamed T.tokenize_state.token_2 T ≡ T
@@ -268,7 +268,7 @@ close_rank None T = 6
 close_rank (Some c) T = if c == T.tokenize_state.marker then 2 else 6
 
 abbrev pub start_words : StateWords
-start_words = record { ready = StartReady; step = start_step; ends = start_ends; rank = λ T. 7 }
+start_words = record { ready = RawTextStartReady; step = start_step; ends = start_ends; rank = λ T. 7 }
 
 abbrev pub sequence_open_words : StateWords
 sequence_open_words = record { ready = SequenceOpenReady; step = sequence_open_step; ends = sequence_open_ends; rank = λ T. 6 }

@@ -1,42 +1,42 @@
-// The states of autolinks: a URI or an email address between angle brackets (CommonMark 6.5).
-//
-//     autolink ::= '<' (uri | email_address) '>'
-//     uri ::= scheme ':' (code - (ascii_control | ' ' | '<' | '>'))*
-//     scheme ::= letter (letter | digit | '+' | '-' | '.'){1,31}
-//     email_address ::= local+ '@' domain_label ('.' domain_label)*
-//     local ::= letter | digit | one of # $ % & ' * + - . / = ? ^ _ ` { | } ~
-//     domain_label ::= alphanumeric ((alphanumeric | '-'){0,61} alphanumeric)?
-//     alphanumeric ::= letter | digit
-//
-// Events:
-//
-//     Autolink
-//       AutolinkMarker                       `<`
-//       AutolinkProtocol or AutolinkEmail    the URI or the address
-//       AutolinkMarker                       `>`
-//
-// Example: `<https://a.b/c>` and `<d@e.f>`.
-//
-// Definition: `autolink` in `markdown_model/specs/LeafConstructs.antt`.
-//
-// Each state answers the error where a growth is refused; then `failed` is true.
+//! The states of autolinks: a URI or an email address between angle brackets (CommonMark 6.5).
+//!
+//!     autolink ::= '<' (uri | email_address) '>'
+//!     uri ::= scheme ':' (code - (ascii_control | ' ' | '<' | '>'))*
+//!     scheme ::= letter (letter | digit | '+' | '-' | '.'){1,31}
+//!     email_address ::= local+ '@' domain_label ('.' domain_label)*
+//!     local ::= letter | digit | one of # $ % & ' * + - . / = ? ^ _ ` { | } ~, and by CommonMark's rule !
+//!     domain_label ::= alphanumeric ((alphanumeric | '-'){0,61} alphanumeric)?
+//!     alphanumeric ::= letter | digit
+//!
+//! Events:
+//!
+//!     Autolink
+//!       AutolinkMarker                       `<`
+//!       AutolinkProtocol or AutolinkEmail    the URI or the address
+//!       AutolinkMarker                       `>`
+//!
+//! Example: `<https://a.b/c>` and `<d@e.f>`.
+//!
+//! Definition: `autolink` in `markdown_model/specs/LeafConstructs.antt`.
+//!
+//! Each state answers the error where a growth is refused; then `failed` is true.
 #![tactic(auto, using(markdown_engine::proofs::OperationFields::op_rules), unfolding(markdown_engine::specs::Operations::scratched))]
 
 ghost use Rattle.std.specs.Prelude.{◌≡◌};
 ghost use Rattle.markdown_engine.specs.Operations.{HasCode, current_of};
 ghost use Rattle.markdown_event.specs.declared.event.Name.TheVariants.{Autolink};
 ghost use Rattle.markdown_plan.specs.ScratchFields.{AreOpen};
-ghost use Rattle.markdown_leaf.specs.Autolink.{scheme_value, local_value, uri_stops, uri_value, refused, finished, start_step, open_step, scheme_or_step, scheme_inside_step, url_inside_step, email_atext_step, email_at_sign_or_dot_step, in_label_at, email_value_step, email_label_step, InsideReady, FreshReady, SchemeReady, LabelReady};
+ghost use Rattle.markdown_leaf.specs.Autolink.{scheme_value, local_value, uri_stops, uri_value, refused, finished, start_step, open_step, scheme_or_step, scheme_inside_step, url_inside_step, email_atext_step, email_at_sign_or_dot_step, in_label_at, email_value_step, email_label_step, AutolinkInsideReady, FreshReady, SchemeReady, LabelReady};
 ghost use Rattle.markdown_plan.specs.StateCalls.{Steps};
 
 use crate::marks::close;
 use crate::renaming::rename_entered;
+use markdown_content::byte_table;
+use markdown_content::bytes::{ByteSet, ByteTable};
 use markdown_engine::tokenizer::Tokenizer;
-use markdown_engine_content::byte_table;
-use markdown_engine_content::bytes::{ByteSet, ByteTable};
 use markdown_event::event::Name;
+use markdown_event::state::{State, StateName};
 use markdown_plan::bytes::{is_alphanumeric, is_letter};
-use markdown_state::state::{State, StateName};
 use markdown_util::util::constant::{AUTOLINK_DOMAIN_SIZE_MAX, AUTOLINK_SCHEME_SIZE_MAX};
 use std::alloc::AllocError;
 
@@ -140,7 +140,7 @@ pub fn scheme_inside_or_email_atext(tokenizer: &mut Tokenizer) -> Result<State, 
 ///     > | <ftp:x>
 ///              ^^
 pub fn url_inside(tokenizer: &mut Tokenizer) -> Result<State, AllocError>
-    requires { InsideReady tokenizer.old }
+    requires { AutolinkInsideReady tokenizer.old }
     ensures { Steps url_inside_step tokenizer.old result tokenizer.new }
 {
     match tokenizer.current() {
@@ -170,9 +170,10 @@ pub fn email_atext(tokenizer: &mut Tokenizer) -> Result<State, AllocError>
     requires { FreshReady tokenizer.old }
     ensures { Steps email_atext_step tokenizer.old result tokenizer.new }
 {
+    let all = tokenizer.parse_state.options.rules().all_address_marks;
     let next = match tokenizer.current() {
         Some(b'@') => StateName::AutolinkEmailAtSignOrDot,
-        Some(code) if is_local(code) => StateName::AutolinkEmailAtext,
+        Some(code) if is_local(code, all) => StateName::AutolinkEmailAtext,
         _ => return Ok(refuse(tokenizer)),
     };
     tokenizer.consume();
@@ -252,12 +253,13 @@ fn is_scheme(code: u8) -> bool
     is_alphanumeric(code) || matches!(code, b'+' | b'-' | b'.')
 }
 
-// Whether an address may have it before its `@`.
-fn is_local(code: u8) -> bool
-    ensures { result ≡ local_value code }
+// Whether an address may have it before its `@`; `all` says that all of CommonMark's marks may stand there.
+fn is_local(code: u8, all: bool) -> bool
+    ensures { result ≡ local_value all code }
 {
     is_alphanumeric(code)
         || matches!(code, b'#'..=b'\'' | b'*'..=b'+' | b'-'..=b'/' | b'=' | b'?' | b'^'..=b'`' | b'{'..=b'~')
+        || code == b'!' && all
 }
 
 // Whether a URI may have it: no control, no space, no angle bracket.

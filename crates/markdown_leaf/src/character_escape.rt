@@ -1,20 +1,20 @@
-// The states of character escapes: a backslash before an ASCII punctuation character, which then stands for itself (CommonMark 2.4).
-//
-//     character_escape ::= '\' ascii_punctuation
-//     ascii_punctuation ::= '!'..'/' | ':'..'@' | '['..'`' | '{'..'~'
-//
-// Events:
-//
-//     CharacterEscape
-//       CharacterEscapeMarker    `\`
-//       CharacterEscapeValue     the punctuation character
-//
-// Example: in `5 \* 3` the codes `\*` are an escape, and the `*` is no marker.
-//
-// Definition: `character_escape` in `markdown_model/specs/LeafConstructs.antt`.
-//
-// Each state answers the error where a growth is refused; then `failed` is true.
-// A reader stands beside: `readers::character_escape` of `markdown_run_text`.
+//! The states of character escapes: a backslash before an ASCII punctuation character, which then stands for itself (CommonMark 2.4).
+//!
+//!     character_escape ::= '\' ascii_punctuation
+//!     ascii_punctuation ::= '!'..'/' | ':'..'@' | '['..'`' | '{'..'~'
+//!
+//! Events:
+//!
+//!     CharacterEscape
+//!       CharacterEscapeMarker    `\`
+//!       CharacterEscapeValue     the punctuation character
+//!
+//! Example: in `5 \* 3` the codes `\*` are an escape, and the `*` is no marker.
+//!
+//! Definition: `character_escape` in `markdown_model/specs/LeafConstructs.antt`.
+//!
+//! Each state answers the error where a growth is refused; then `failed` is true.
+//! A reader stands beside: `readers::character_escape` of `markdown_run_text`.
 #![tactic(auto, using(markdown_engine::proofs::OperationFields::op_rules))]
 
 ghost use Rattle.markdown_engine.specs.Operations.{IsOpen};
@@ -24,7 +24,7 @@ ghost use Rattle.markdown_plan.specs.StateCalls.{Steps};
 
 use markdown_engine::tokenizer::Tokenizer;
 use markdown_event::event::Name;
-use markdown_state::state::{State, StateName};
+use markdown_event::state::{State, StateName};
 use std::alloc::AllocError;
 
 /// At the start of a character escape: the backslash.

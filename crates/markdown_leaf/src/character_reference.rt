@@ -1,37 +1,37 @@
-// The states of character references: `&`, the name of a character or its number, and `;` (CommonMark 2.5).
-//
-//     character_reference ::= '&' (name | decimal | hexadecimal) ';'
-//     name ::= (letter | digit)+                               one of the table of references
-//     decimal ::= '#' digit{1,7}
-//     hexadecimal ::= '#' ('x' | 'X') hex_digit{1,6}
-//
-// Events:
-//
-//     CharacterReference
-//       CharacterReferenceMarker               `&`
-//       CharacterReferenceMarkerNumeric        `#`, of a number
-//       CharacterReferenceMarkerHexadecimal    `x` or `X`, of a hexadecimal number
-//       CharacterReferenceValue                the name or the digits
-//       CharacterReferenceMarkerSemi           `;`
-//
-// Example: `&lt;`, `&#36;` and `&#x3E;`.
-//
-// Definition: `character_reference` in `markdown_model/specs/LeafConstructs.antt`.
-//
-// Each state answers the error where a growth is refused; then `failed` is true.
+//! The states of character references: `&`, the name of a character or its number, and `;` (CommonMark 2.5).
+//!
+//!     character_reference ::= '&' (name | decimal | hexadecimal) ';'
+//!     name ::= (letter | digit)+                               one of the table of references
+//!     decimal ::= '#' digit{1,7}
+//!     hexadecimal ::= '#' ('x' | 'X') hex_digit{1,6}
+//!
+//! Events:
+//!
+//!     CharacterReference
+//!       CharacterReferenceMarker               `&`
+//!       CharacterReferenceMarkerNumeric        `#`, of a number
+//!       CharacterReferenceMarkerHexadecimal    `x` or `X`, of a hexadecimal number
+//!       CharacterReferenceValue                the name or the digits
+//!       CharacterReferenceMarkerSemi           `;`
+//!
+//! Example: `&lt;`, `&#36;` and `&#x3E;`.
+//!
+//! Definition: `character_reference` in `markdown_model/specs/LeafConstructs.antt`.
+//!
+//! Each state answers the error where a growth is refused; then `failed` is true.
 #![tactic(auto, using(markdown_engine::proofs::OperationFields::op_rules), unfolding(markdown_engine::specs::Operations::scratched))]
 
 ghost use Rattle.std.specs.Prelude.{◌≡◌, ◌<◌, IsTrue};
 ghost use Rattle.markdown_engine.specs.Operations.{scratched};
-ghost use Rattle.markdown_util.specs.Reference.{html_5_rows, IsMarker, value_size_max};
+ghost use Rattle.markdown_util.specs.Reference.{html_5_rows, IsReferenceMarker, value_size_max};
 ghost use Rattle.markdown_leaf.specs.CharacterReference.{has_value, is_known, IsValue, is_taken, value_begun, read_of, rested, start_step, open_step, numeric_step, value_step};
 ghost use Rattle.markdown_plan.specs.StateCalls.{Steps};
 
 use crate::marks::close;
+use markdown_content::util::slice::Slice;
 use markdown_engine::tokenizer::Tokenizer;
-use markdown_engine_content::util::slice::Slice;
 use markdown_event::event::Name;
-use markdown_state::state::{State, StateName};
+use markdown_event::state::{State, StateName};
 use markdown_util::util::character_reference::{decode_named, value_max, value_test};
 use std::alloc::AllocError;
 use std::str;
@@ -141,7 +141,7 @@ pub fn value(tokenizer: &mut Tokenizer) -> Result<State, AllocError>
 // Whether a value of this kind, of so many codes, goes on with this one.
 #[tactic(auto, unfolding(crate::specs::CharacterReference::is_taken))]
 fn takes(marker: u8, size: usize, byte: u8) -> bool
-    requires { IsMarker marker }
+    requires { IsReferenceMarker marker }
     ensures test { result ≡ is_taken marker size byte }
     ensures room { IsTrue result → size < value_size_max marker }
 {

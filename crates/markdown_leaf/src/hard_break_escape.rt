@@ -1,18 +1,18 @@
-// The states of hard breaks by a backslash: a backslash before a line ending is a hard line break (CommonMark 6.7).
-//
-//     hard_break_escape ::= '\'                                before line_ending
-//
-// The line ending is not read: it stays an element of its own.
-//
-// Events:
-//
-//     HardBreakEscape    `\`
-//
-// Example: `red\` on a line, and `blue` on the next.
-//
-// Definition: `hard_break_escape` in `markdown_model/specs/LeafConstructs.antt`.
-//
-// Each state answers the error where a growth is refused; then `failed` is true.
+//! The states of hard breaks by a backslash: a backslash before a line ending is a hard line break (CommonMark 6.7).
+//!
+//!     hard_break_escape ::= '\'                                before line_ending
+//!
+//! The line ending is not read: it stays an element of its own.
+//!
+//! Events:
+//!
+//!     HardBreakEscape    `\`
+//!
+//! Example: `red\` on a line, and `blue` on the next.
+//!
+//! Definition: `hard_break_escape` in `markdown_model/specs/LeafConstructs.antt`.
+//!
+//! Each state answers the error where a growth is refused; then `failed` is true.
 #![tactic(auto, using(markdown_engine::proofs::OperationFields::op_rules))]
 
 ghost use Rattle.markdown_engine.specs.Operations.{IsOpen};
@@ -22,7 +22,7 @@ ghost use Rattle.markdown_plan.specs.StateCalls.{Steps};
 
 use markdown_engine::tokenizer::Tokenizer;
 use markdown_event::event::Name;
-use markdown_state::state::{State, StateName};
+use markdown_event::state::{State, StateName};
 use std::alloc::AllocError;
 
 /// At the start of a hard break: the backslash.

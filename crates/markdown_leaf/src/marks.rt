@@ -1,4 +1,4 @@
-// Leaves that a marker ends.
+//! Leaves that a marker ends.
 #![tactic(auto, using(markdown_engine::proofs::OperationFields::op_rules))]
 
 ghost use Rattle.std.specs.Prelude.{◌≡◌, OnOk, OnErr, IsTrue};
@@ -20,7 +20,8 @@ pub(crate) fn close(
 ) -> Result<(), AllocError>
     requires open { AreOpen inner whole tokenizer.old }
     requires code { HasCode tokenizer.old }
-    ensures ok { OnOk result (tokenizer.new ≡ applied (Exit whole) (applied (Exit marker) (applied Consume (applied (Enter marker) (applied (Exit inner) tokenizer.old))))) }
+    ensures ok { OnOk result (tokenizer.new
+        ≡ applied (Exit whole) (applied (Exit marker) (applied Consume (applied (Enter marker) (applied (Exit inner) tokenizer.old))))) }
     ensures err { OnErr result (IsTrue tokenizer.new.failed) }
 {
     tokenizer.exit(inner)?;

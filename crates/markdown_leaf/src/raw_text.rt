@@ -1,25 +1,25 @@
-// The states of code spans (CommonMark 6.1), and of math spans alike: a run of markers opens a span, which ends at the next run of equal
-// length.
-//
-//     raw_text ::= code_text | math_text
-//     code_text ::= '`'{n} part+ '`'{n}                        n ≥ 1
-//     math_text ::= '$'{n} part+ '$'{n}                        n ≥ 1, or n ≥ 2 without `math_text_single_dollar`
-//     part ::= line_ending | (code - (line_ending | marker))+ | marker{k}    k ≠ n
-//
-// Runs are as long as they can be. No such marker stands right before a span, unless as the value of an escape.
-//
-// Events, with `Math` for `Code` in a math span:
-//
-//     CodeText
-//       CodeTextSequence               the opening run
-//       CodeTextData or LineEnding     one for each part
-//       CodeTextSequence               the closing run
-//
-// Example: in `` ``a`b`` `` the run of one backtick is data of the span.
-//
-// Definition: `raw_text_here` in `markdown_model/specs/SingleConstructs.antt`, by `span_of` in `LeafConstructs.antt`.
-//
-// Each state answers the error where a growth is refused; then `failed` is true.
+//! The states of code spans (CommonMark 6.1), and of math spans alike: a run of markers opens a span, which ends at the next run of equal
+//! length.
+//!
+//!     raw_text ::= code_text | math_text
+//!     code_text ::= '`'{n} part+ '`'{n}                        n ≥ 1
+//!     math_text ::= '$'{n} part+ '$'{n}                        n ≥ 1, or n ≥ 2 without `math_text_single_dollar`
+//!     part ::= line_ending | (code - (line_ending | marker))+ | marker{k}    k ≠ n
+//!
+//! Runs are as long as they can be. No such marker stands right before a span, unless as the value of an escape.
+//!
+//! Events, with `Math` for `Code` in a math span:
+//!
+//!     CodeText
+//!       CodeTextSequence               the opening run
+//!       CodeTextData or LineEnding     one for each part
+//!       CodeTextSequence               the closing run
+//!
+//! Example: in `` ``a`b`` `` the run of one backtick is data of the span.
+//!
+//! Definition: `raw_text_here` in `markdown_model/specs/SingleConstructs.antt`, by `span_of` in `LeafConstructs.antt`.
+//!
+//! Each state answers the error where a growth is refused; then `failed` is true.
 #![tactic(auto, using(markdown_engine::proofs::OperationFields::op_rules), unfolding(markdown_engine::specs::Operations::scratched))]
 
 ghost use Rattle.std.specs.Prelude.{◌≡◌};
@@ -29,11 +29,11 @@ ghost use Rattle.markdown_model.specs.SingleConstructs.{ends_escape, follows_esc
 ghost use Rattle.markdown_plan.specs.StateCalls.{Steps};
 
 use crate::renaming::rename_entered;
+use markdown_content::byte_table;
+use markdown_content::bytes::{ByteSet, ByteTable};
 use markdown_engine::tokenizer::{TokenizeState, Tokenizer};
-use markdown_engine_content::byte_table;
-use markdown_engine_content::bytes::{ByteSet, ByteTable};
 use markdown_event::event::{Event, Kind, Name};
-use markdown_state::state::{State, StateName};
+use markdown_event::state::{State, StateName};
 use std::alloc::AllocError;
 
 // Whether the event ends an escape.

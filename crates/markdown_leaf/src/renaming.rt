@@ -1,4 +1,4 @@
-// Leaves whose name is settled only at their end.
+//! Leaves whose name is settled only at their end.
 #![tactic(auto, using(markdown_engine::proofs::OperationFields::op_rules), unfolding(markdown_plan::specs::LateNames::renamed))]
 
 ghost use Rattle.std.specs.Prelude.{◌≡◌, OnOk, OnErr, IsTrue};

@@ -4,7 +4,7 @@ use Rattle.markdown_engine.specs.Operations.{attempted, frame_of}
 use Rattle.markdown_engine.specs.StateRuns.{stepped, settled, going_state, going_in, Goes}
 use Rattle.markdown_engine.specs.StateWords.{StateWords, Words, words_at, weight_in, GoesIn}
 use Rattle.markdown_engine.specs.Weights.{weight_at}
-use Rattle.markdown_state.specs.declared.state.State.{State}
+use Rattle.markdown_event.specs.declared.state.State.{State}
 use Rattle.markdown_engine.specs.declared.tokenizer.Attempt.{Attempt}
 use Rattle.markdown_engine.specs.declared.tokenizer.Tokenizer.{Tokenizer}
 use Rattle.markdown_plan.proofs.LawStepsOfLayer.{said-ready, said-ends, said-weight}

@@ -6,18 +6,18 @@ use Rattle.std.proofs.lemmas.Bool.{eqb-true, le-ltb, lt-ltb}
 use Rattle.std.proofs.lemmas.Bool.Decides.{nat_tests}
 use Rattle.std.proofs.lemmas.Grind.{common_steps}
 use Rattle.std.proofs.lemmas.List.{append_assoc}
-use Rattle.markdown_engine_content.specs.Codes.{Code}
-use Rattle.markdown_engine_content.specs.Place.{Place, ahead_at, code_at, moved}
-use Rattle.markdown_lists.specs.PlaceIndex.{is_kept}
-use Rattle.markdown_engine_content.specs.Stretch.{past_stretch}
+use Rattle.markdown_content.specs.Codes.{Code}
+use Rattle.markdown_content.specs.Place.{Place, ahead_at, code_at, moved}
+use Rattle.markdown_event.specs.PlaceIndex.{is_kept}
+use Rattle.markdown_content.specs.Stretch.{past_stretch}
 use Rattle.markdown_event.specs.declared.event.Point.{Point}
-use Rattle.markdown_engine_content.proofs.PlaceRules.{IsAhead, ahead_none, ahead_some, at_moved, end_moved, code_at_ahead, code_at_end}
-use Rattle.markdown_engine_content.proofs.StretchLemmas.{kept}
+use Rattle.markdown_content.proofs.PlaceRules.{IsAhead, ahead_none, ahead_some, at_moved, end_moved, code_at_ahead, code_at_end}
+use Rattle.markdown_content.proofs.StretchLemmas.{kept}
 use Rattle.markdown_model.specs.CodeTests.{next_is}
 use Rattle.markdown_plan.specs.Characters.{IsText}
 use Rattle.markdown_plan.proofs.CharactersAlongContent.{text-moved}
-use Rattle.markdown_leaf_gfm.specs.DomainOutlook.{begins_www, opens_www, openings, is_barred, barred_from, no_domains, rules_out, IsRightFor}
-use Rattle.markdown_leaf_gfm.specs.DomainScans.{www_at, underscores, Reaches}
+use Rattle.markdown_leaf_gfm.specs.DomainOutlook.{begins_www, opens_www, openings, is_barred, barred_from, no_domains, rules_out, KnowsNoDomains}
+use Rattle.markdown_leaf_gfm.specs.DomainScans.{www_at, underscores, ReachesOver}
 use Rattle.markdown_leaf_gfm.specs.declared.domain_outlook.Outlook.{Outlook}
 use Rattle.markdown_leaf_gfm.proofs.DomainScanLemmas.{reaches-nothing, reaches-past}
 
@@ -46,10 +46,10 @@ no-opening v b e = by_test (v == 95) e
 -- How often.
 
 -- so many are still to be found from a place on
-abbrev pub AreLeft : ℕ → List Code → ℕ → Place → Type 0
-AreLeft times cs left p = nat_le times (openings cs) ≡ nat_le left (openings (ahead_at p))
+abbrev pub OpeningsAreLeft : ℕ → List Code → ℕ → Place → Type 0
+OpeningsAreLeft times cs left p = nat_le times (openings cs) ≡ nat_le left (openings (ahead_at p))
 
-pub left-start : (times : ℕ) (p q : Place) → q ≡ record p { at = 0 } → AreLeft times p.codes times q
+pub left-start : (times : ℕ) (p q : Place) → q ≡ record p { at = 0 } → OpeningsAreLeft times p.codes times q
 unfolding ahead_at
 left-start times p q e = ap (λ (x : Place). nat_le times (openings (ahead_at x))) (sym e)
 
@@ -59,8 +59,8 @@ count-here p v here =
     let a : IsAhead p v = ahead_some p v here in
     ap openings a.codes ∙ ap (λ cs. cond (opens_www cs) 1 0 + openings (ahead_at (moved p))) (sym a.codes)
 
-pub left-one : (times : ℕ) (cs : List Code) (left v : ℕ) (p q : Place) → AreLeft times cs left p → 0 < left →
-    code_at p ≡ Some v → opens_www (ahead_at p) ≡ true → q ≡ moved p → AreLeft times cs (left - 1) q
+pub left-one : (times : ℕ) (cs : List Code) (left v : ℕ) (p q : Place) → OpeningsAreLeft times cs left p → 0 < left →
+    code_at p ≡ Some v → opens_www (ahead_at p) ≡ true → q ≡ moved p → OpeningsAreLeft times cs (left - 1) q
 left-one times cs left v p q k some here opens e =
     k
     ∙ ap (nat_le left) (count-here p v here ∙ ap (λ b. cond b 1 0 + openings (ahead_at (moved p))) opens)
@@ -70,8 +70,8 @@ left-one times cs left v p q k some here opens e =
     fewer : (n m : ℕ) → 0 < n → nat_le n (1 + m) ≡ nat_le (n - 1) m
     fewer n m h = grind (arith, nat_tests, common_steps, h)
 
-pub left-other : (times : ℕ) (cs : List Code) (left v : ℕ) (p q : Place) → AreLeft times cs left p →
-    code_at p ≡ Some v → opens_www (ahead_at p) ≡ false → q ≡ moved p → AreLeft times cs left q
+pub left-other : (times : ℕ) (cs : List Code) (left v : ℕ) (p q : Place) → OpeningsAreLeft times cs left p →
+    code_at p ≡ Some v → opens_www (ahead_at p) ≡ false → q ≡ moved p → OpeningsAreLeft times cs left q
 left-other times cs left v p q k here opens e =
     k
     ∙ ap (nat_le left) (count-here p v here ∙ ap (λ b. cond b 1 0 + openings (ahead_at (moved p))) opens ∙ none-more (openings (ahead_at (moved p))))
@@ -80,12 +80,12 @@ left-other times cs left v p q k here opens e =
     none-more : (m : ℕ) → 0 + m ≡ m
     none-more m = omega arith
 
-pub left-stretch : (times : ℕ) (cs : List Code) (left : ℕ) (p : Place) → AreLeft times cs left p →
-    AreLeft times cs left (past_stretch underscores p)
+pub left-stretch : (times : ℕ) (cs : List Code) (left : ℕ) (p : Place) → OpeningsAreLeft times cs left p →
+    OpeningsAreLeft times cs left (past_stretch underscores p)
 left-stretch times cs left p k =
-    kept underscores (λ q. AreLeft times cs left q) (λ q v h ending free k. left-other times cs left v q (moved q) k h (opens-here q v h ∙ no-opening v _ free) refl) p k
+    kept underscores (λ q. OpeningsAreLeft times cs left q) (λ q v h ending free k. left-other times cs left v q (moved q) k h (opens-here q v h ∙ no-opening v _ free) refl) p k
 
-pub left-none : (times : ℕ) (cs : List Code) (left : ℕ) (p : Place) → AreLeft times cs left p → 0 < left →
+pub left-none : (times : ℕ) (cs : List Code) (left : ℕ) (p : Place) → OpeningsAreLeft times cs left p → 0 < left →
     code_at p ≡ None → false ≡ nat_le times (openings cs)
 left-none times cs left p k some h = sym (k ∙ ap (λ xs. nat_le left (openings xs)) (ahead_none p h) ∙ never left some)
   where
@@ -98,7 +98,7 @@ left-none times cs left p k some h = sym (k ∙ ap (λ xs. nat_le left (openings
 pub record Finding (bytes : List ℕ) (start p : Place) (found : List ℕ) (o : Outlook) : Type 0 where
   pub text : IsText bytes p
   pub whole : no_domains bytes start.end.index start.codes ≡ found ++ barred_from bytes p.end.index p.at (ahead_at p)
-  pub reaches : Reaches bytes p o
+  pub reaches : ReachesOver bytes p o
 
 restarted : (bytes : List ℕ) (start : Place) → IsText bytes start → IsText bytes (record start { at = 0 })
 restarted bytes start k = record { text = k.text; end = k.end; first = k.first; next = k.next; stop = k.stop; byte = k.byte; behind = k.behind }
@@ -131,7 +131,7 @@ barred-here bytes p v here =
 -- past a code behind which none is found
 pub finding-other : (bytes : List ℕ) (start p q : Place) (v : ℕ) (found : List ℕ) (o next : Outlook) →
     code_at p ≡ Some v → q ≡ moved p → opens_www (ahead_at p) && is_barred bytes q.end.index (ahead_at q) ≡ false →
-    Reaches bytes q next → Finding bytes start p found o → Finding bytes start q found next
+    ReachesOver bytes q next → Finding bytes start p found o → Finding bytes start q found next
 finding-other bytes start p q v found o next here e other reaches k =
     record {
       text = subst (λ (x : Place). IsText bytes x) (sym e) (text-moved bytes p k.text);
@@ -146,7 +146,7 @@ finding-other bytes start p q v found o next here e other reaches k =
 -- and past one behind which one is
 pub finding-one : (bytes : List ℕ) (start p q : Place) (v : ℕ) (found more : List ℕ) (o next : Outlook) →
     code_at p ≡ Some v → q ≡ moved p → opens_www (ahead_at p) && is_barred bytes q.end.index (ahead_at q) ≡ true →
-    more ≡ found ++ q.at ∷ [] → Reaches bytes q next → Finding bytes start p found o → Finding bytes start q more next
+    more ≡ found ++ q.at ∷ [] → ReachesOver bytes q next → Finding bytes start p found o → Finding bytes start q more next
 finding-one bytes start p q v found more o next here e one added reaches k =
     record {
       text = subst (λ (x : Place). IsText bytes x) (sym e) (text-moved bytes p k.text);
@@ -189,26 +189,26 @@ finding-closed bytes start q r v found o here e closed k =
     finding-other bytes start q r v found o o here e (second-of _ _ (opening-by q r v false here e closed)) (reaches-past bytes q r v o here e k.reaches) k
 
 pub finding-plain : (bytes : List ℕ) (start q r : Place) (v n : ℕ) (found : List ℕ) (o next : Outlook) →
-    code_at q ≡ Some v → r ≡ moved q → (v == 95 && www_at (code_at r)) ≡ true → Reaches bytes r next →
+    code_at q ≡ Some v → r ≡ moved q → (v == 95 && www_at (code_at r)) ≡ true → ReachesOver bytes r next →
     is_barred bytes r.end.index (ahead_at r) ≡ nat_lt r.at next.barred → n ≡ r.at → next.barred ≤ n →
     Finding bytes start q found o → Finding bytes start r found next
 finding-plain bytes start q r v n found o next here e opens reaches known at low k =
     finding-other bytes start q r v found o next here e (both-by _ _ false (opening-by q r v true here e opens) (known ∙ le-ltb r.at next.barred (omega (arith, at, low)))) reaches k
 
 pub finding-barred : (bytes : List ℕ) (start q r : Place) (v n : ℕ) (found more : List ℕ) (o next : Outlook) →
-    code_at q ≡ Some v → r ≡ moved q → (v == 95 && www_at (code_at r)) ≡ true → Reaches bytes r next →
+    code_at q ≡ Some v → r ≡ moved q → (v == 95 && www_at (code_at r)) ≡ true → ReachesOver bytes r next →
     is_barred bytes r.end.index (ahead_at r) ≡ nat_lt r.at next.barred → n ≡ r.at → n < next.barred →
     more ≡ found ++ n ∷ [] → Finding bytes start q found o → Finding bytes start r more next
 finding-barred bytes start q r v n found more o next here e opens reaches known at high added k =
     finding-one bytes start q r v found more o next here e (both-by _ _ true (opening-by q r v true here e opens) (known ∙ lt-ltb r.at next.barred (omega (arith, at, high)))) (added ∙ ap (λ m. found ++ m ∷ []) at) reaches k
 
-pub opening-one : (times : ℕ) (cs : List Code) (left v : ℕ) (q r : Place) → AreLeft times cs left q → 0 < left →
-    code_at q ≡ Some v → (v == 95 && www_at (code_at r)) ≡ true → r ≡ moved q → AreLeft times cs (left - 1) r
+pub opening-one : (times : ℕ) (cs : List Code) (left v : ℕ) (q r : Place) → OpeningsAreLeft times cs left q → 0 < left →
+    code_at q ≡ Some v → (v == 95 && www_at (code_at r)) ≡ true → r ≡ moved q → OpeningsAreLeft times cs (left - 1) r
 opening-one times cs left v q r k some here opens e =
     left-one times cs left v q r k some here (opening-by q r v true here e opens) e
 
-pub opening-none : (times : ℕ) (cs : List Code) (left v : ℕ) (q r : Place) → AreLeft times cs left q →
-    code_at q ≡ Some v → (v == 95 && www_at (code_at r)) ≡ false → r ≡ moved q → AreLeft times cs left r
+pub opening-none : (times : ℕ) (cs : List Code) (left v : ℕ) (q r : Place) → OpeningsAreLeft times cs left q →
+    code_at q ≡ Some v → (v == 95 && www_at (code_at r)) ≡ false → r ≡ moved q → OpeningsAreLeft times cs left r
 opening-none times cs left v q r k here closed e =
     left-other times cs left v q r k here (opening-by q r v false here e closed) e
 
@@ -294,14 +294,14 @@ found-barred bytes end at (c ∷ cs) (suc k) e =
 
 -- where what is known rules a domain out, what is read from there holds a `_` in one of its last two parts
 pub ruled-out : (bytes : List ℕ) (end : ℕ) (cs : List Code) (index : Option (List ℕ)) (k : ℕ) →
-    IsRightFor bytes end cs index → rules_out index k ≡ true → is_barred bytes end (drop k cs) ≡ true
+    KnowsNoDomains bytes end cs index → rules_out index k ≡ true → is_barred bytes end (drop k cs) ≡ true
 ruled-out bytes end cs None k right e = cc
 ruled-out bytes end cs (Some places) k right e =
     found-barred bytes end 0 cs k (ap (λ n. is_kept n (no_domains bytes end cs)) (omega arith) ∙ ap (is_kept k) (sym (right places refl)) ∙ e)
 
 -- nothing is right for all codes
 pub right-unknown : (bytes : List ℕ) (end : ℕ) (cs : List Code) (index : Option (List ℕ)) → index ≡ None →
-    IsRightFor bytes end cs index
+    KnowsNoDomains bytes end cs index
 right-unknown bytes end cs index e places known = absurd (absent (sym e ∙ known))
   where
     absent : None ≡ Some places → ⊥

@@ -4,10 +4,10 @@ use Rattle.std.specs.Prelude.{codes}
 use Rattle.std.proofs.lemmas.Bool.Decides.{nat_tests}
 use Rattle.std.proofs.lemmas.Grind.{common_steps}
 use Rattle.std.proofs.lemmas.Bool.{not-true}
-use Rattle.markdown_engine_content.specs.Codes.{Code}
-use Rattle.markdown_engine_content.specs.Place.{Place, ahead_at, code_at, moved, point_of}
+use Rattle.markdown_content.specs.Codes.{Code}
+use Rattle.markdown_content.specs.Place.{Place, ahead_at, code_at, moved, point_of}
 use Rattle.markdown_event.specs.declared.event.Point.{Point}
-use Rattle.markdown_engine_content.proofs.PlaceRules.{IsAhead, ahead_none, ahead_some, at_moved, end_moved, point_ahead}
+use Rattle.markdown_content.proofs.PlaceRules.{IsAhead, ahead_none, ahead_some, at_moved, end_moved, point_ahead}
 use Rattle.markdown_model.specs.GfmAutolinkLiteral.{is_other, trails_in, is_domain_code, domain_from}
 use Rattle.markdown_util.specs.Neighbours.{class_of, after_index}
 use Rattle.markdown_plan.specs.ByteTests.{among_values}
@@ -15,7 +15,7 @@ use Rattle.markdown_plan.specs.Characters.{IsText, later_value}
 use Rattle.markdown_plan.proofs.CharactersAlongContent.{text-moved}
 use Rattle.markdown_leaf_gfm.specs.GfmAutolinkLiteral.{trail_value}
 use Rattle.markdown_leaf_gfm.specs.DomainOutlook.{is_barred}
-use Rattle.markdown_leaf_gfm.specs.DomainScans.{goes_on, domain_at, behind_code, barred_in, barred_by, Reaches}
+use Rattle.markdown_leaf_gfm.specs.DomainScans.{goes_on, domain_at, behind_code, barred_in, barred_by, ReachesOver}
 use Rattle.markdown_leaf_gfm.specs.declared.domain_outlook.Outlook.{Outlook}
 use Rattle.markdown_leaf_gfm.proofs.GfmAutolinkLiteralAddressLaws.{code-by, mark-by}
 use Rattle.markdown_leaf_gfm.proofs.TrailChecks.{trails-mark}
@@ -95,23 +95,23 @@ code-none bytes p e = by_test (goes_on bytes p) refl e
 -- Along a domain.
 
 -- what was read up to a place, and what is ahead of it, is what there is
-pub record Reading (bytes : List ℕ) (start p : Place) (barred dots : ℕ) (behind : Bool) : Type 0 where
+pub record DomainSoFar (bytes : List ℕ) (start p : Place) (barred dots : ℕ) (behind : Bool) : Type 0 where
   pub text : IsText bytes p
   pub long : p.at + length (domain_at bytes p) ≡ start.at + length (domain_at bytes start)
   pub found : barred_by p.at barred dots (domain_at bytes p) ≡ barred_by start.at 0 0 (domain_at bytes start)
   pub mark : behind ≡ true → trails_in bytes p.end.index None (ahead_at p) ≡ false
 
 pub reading-start : (bytes : List ℕ) (start p : Place) → p ≡ start → IsText bytes start →
-    Reading bytes start p 0 0 false
+    DomainSoFar bytes start p 0 0 false
 reading-start bytes start p e text =
-    subst (λ (q : Place). Reading bytes start q 0 0 false) (sym e) (record { text = text; long = refl; found = refl; mark = λ h. cc })
+    subst (λ (q : Place). DomainSoFar bytes start q 0 0 false) (sym e) (record { text = text; long = refl; found = refl; mark = λ h. cc })
 
 pub reading-on : (bytes : List ℕ) (start p q : Place) (v barred dots : ℕ) (behind next : Bool) → code_at p ≡ Some v →
     goes_on bytes p ≡ true → q ≡ moved p → next ≡ among_values (codes "._") v →
-    Reading bytes start p barred dots behind →
-    Reading bytes start q (behind_code v q.at barred dots).0 (behind_code v q.at barred dots).1 next
+    DomainSoFar bytes start p barred dots behind →
+    DomainSoFar bytes start q (behind_code v q.at barred dots).0 (behind_code v q.at barred dots).1 next
 reading-on bytes start p q v barred dots behind next here goes e mark k =
-    subst (λ (x : Place). Reading bytes start x (behind_code v x.at barred dots).0 (behind_code v x.at barred dots).1 next) (sym e)
+    subst (λ (x : Place). DomainSoFar bytes start x (behind_code v x.at barred dots).0 (behind_code v x.at barred dots).1 next) (sym e)
     (record {
       text = text-moved bytes p k.text;
       long = omega (arith, at_moved p, ap length past, k.long);
@@ -132,30 +132,30 @@ reading-on bytes start p q v barred dots behind next here goes e mark k =
     step = omega (arith, at_moved p)
 
 pub reading-long : (bytes : List ℕ) (start p : Place) (barred dots : ℕ) (behind : Bool) → domain_at bytes p ≡ [] →
-    Reading bytes start p barred dots behind → p.at ≡ start.at + length (domain_at bytes start)
+    DomainSoFar bytes start p barred dots behind → p.at ≡ start.at + length (domain_at bytes start)
 reading-long bytes start p barred dots behind none k = omega (arith, ap length none, k.long)
 
 pub reading-found : (bytes : List ℕ) (start p : Place) (barred dots : ℕ) (behind : Bool) → domain_at bytes p ≡ [] →
-    Reading bytes start p barred dots behind →
+    DomainSoFar bytes start p barred dots behind →
     (if nat_lt dots 2 then barred else 0) ≡ barred_by start.at 0 0 (domain_at bytes start)
 reading-found bytes start p barred dots behind none k = ap (barred_by p.at barred dots) (sym none) ∙ k.found
 
 -- What is known of the domain over a place.
 
-pub reaches-nothing : (bytes : List ℕ) (p : Place) (o : Outlook) → o.end ≡ 0 → Reaches bytes p o
+pub reaches-nothing : (bytes : List ℕ) (p : Place) (o : Outlook) → o.end ≡ 0 → ReachesOver bytes p o
 reaches-nothing bytes p o e =
     record { ends = λ h. absurd (omega (arith, e, h)); bars = λ h. absurd (omega (arith, e, h)) }
 
 pub reaches-read : (bytes : List ℕ) (p : Place) (o : Outlook) → o.end ≡ p.at + length (domain_at bytes p) →
-    o.barred ≡ barred_by p.at 0 0 (domain_at bytes p) → Reaches bytes p o
+    o.barred ≡ barred_by p.at 0 0 (domain_at bytes p) → ReachesOver bytes p o
 reaches-read bytes p o e h =
     record { ends = λ _. e; bars = λ _. ap (λ n. n - p.at) h ∙ front-barred (domain_at bytes p) p.at }
 
-reaches-moved : (bytes : List ℕ) (p : Place) (v : ℕ) (o : Outlook) → code_at p ≡ Some v → Reaches bytes p o →
-    Reaches bytes (moved p) o
+reaches-moved : (bytes : List ℕ) (p : Place) (v : ℕ) (o : Outlook) → code_at p ≡ Some v → ReachesOver bytes p o →
+    ReachesOver bytes (moved p) o
 reaches-moved bytes p v o here k = by_test (goes_on bytes p) refl
   where
-    by_test : (b : Bool) → goes_on bytes p ≡ b → Reaches bytes (moved p) o
+    by_test : (b : Bool) → goes_on bytes p ≡ b → ReachesOver bytes (moved p) o
     by_test true goes =
         let a : IsAhead p v = ahead_some p v here in
         let past : domain_at bytes p ≡ a.code ∷ domain_at bytes (moved p) = domain-past bytes p v here goes in
@@ -171,15 +171,15 @@ reaches-moved bytes p v o here k = by_test (goes_on bytes p) refl
         }
 
 pub reaches-past : (bytes : List ℕ) (p q : Place) (v : ℕ) (o : Outlook) → code_at p ≡ Some v → q ≡ moved p →
-    Reaches bytes p o → Reaches bytes q o
+    ReachesOver bytes p o → ReachesOver bytes q o
 reaches-past bytes p q v o here e k =
-    subst (λ (x : Place). Reaches bytes x o) (sym e) (reaches-moved bytes p v o here k)
+    subst (λ (x : Place). ReachesOver bytes x o) (sym e) (reaches-moved bytes p v o here k)
 
 -- it says whether the place is barred
 less-by : (n at b : ℕ) → n - at ≡ b → nat_lt 0 b ≡ nat_lt at n
 less-by n at b e = grind (arith, nat_tests, common_steps, e)
 
-pub barred-known : (bytes : List ℕ) (p : Place) (o : Outlook) → p.at < o.end → Reaches bytes p o →
+pub barred-known : (bytes : List ℕ) (p : Place) (o : Outlook) → p.at < o.end → ReachesOver bytes p o →
     is_barred bytes p.end.index (ahead_at p) ≡ nat_lt p.at o.barred
 barred-known bytes p o h k =
     plain-is (domain_at bytes p) ∙ less-by o.barred p.at (barred_in (domain_at bytes p)) (k.bars h)

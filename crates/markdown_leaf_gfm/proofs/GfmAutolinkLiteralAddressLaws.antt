@@ -3,14 +3,14 @@ use Rattle.std.proofs.Common.{◌≡◌, ℕ, ◌+◌, ◌<◌, ◌≤◌, ◌==
 use Rattle.std.specs.Prelude.{codes, IsSome}
 use Rattle.std.proofs.lemmas.Bool.{eqb-true, or_left}
 use Rattle.std.proofs.lemmas.Bool.Decides.{nat_tests}
-use Rattle.markdown_engine_content.specs.Codes.{Code}
-use Rattle.markdown_engine_content.specs.ListFunctions.{rest_of}
+use Rattle.markdown_content.specs.Codes.{Code}
+use Rattle.markdown_content.specs.ListFunctions.{rest_of}
 use Rattle.markdown_engine.specs.Operations.{Consume, HasCode, ahead, applied, current_of, done, scratched}
-use Rattle.markdown_engine_content.specs.Place.{moved}
+use Rattle.markdown_content.specs.Place.{moved}
 use Rattle.markdown_engine.specs.StateRuns.{Stepped, stepped}
 use Rattle.markdown_engine.specs.Weights.{weight_at}
-use Rattle.markdown_state.specs.declared.state.State.TheVariants.{Next, Retry}
-use Rattle.markdown_state.specs.declared.state.StateName.TheVariants.{GfmAutolinkLiteralDomainAfter, GfmAutolinkLiteralDomainAtPunctuation, GfmAutolinkLiteralDomainInside, GfmAutolinkLiteralPathAfter, GfmAutolinkLiteralPathAtPunctuation, GfmAutolinkLiteralPathInside, GfmAutolinkLiteralTrail}
+use Rattle.markdown_event.specs.declared.state.State.TheVariants.{Next, Retry}
+use Rattle.markdown_event.specs.declared.state.StateName.TheVariants.{GfmAutolinkLiteralDomainAfter, GfmAutolinkLiteralDomainAtPunctuation, GfmAutolinkLiteralDomainInside, GfmAutolinkLiteralPathAfter, GfmAutolinkLiteralPathAtPunctuation, GfmAutolinkLiteralPathInside, GfmAutolinkLiteralTrail}
 use Rattle.markdown_engine.specs.declared.tokenizer.TokenizeState.{TokenizeState}
 use Rattle.markdown_engine.specs.declared.tokenizer.Tokenizer.{Tokenizer}
 use Rattle.markdown_engine.proofs.LawSteps.{if-step, code-step}
@@ -32,8 +32,8 @@ use Rattle.markdown_leaf_gfm.proofs.TrailChecks.{space-here, looked-back}
 use Rattle.markdown_model.proofs.GrammarSteps.{and-left, if-true, if-false}
 use Rattle.markdown_engine.specs.StateWords.{Words, Law, GoesIn, StateWords, words_in}
 use Rattle.markdown_plan.proofs.LawStepsOfLayer.{Goes-plain, Goes-check, Goes-on, Goes-kept, Goes-ok, Goes-nok, follows, FollowsIn}
-use Rattle.markdown_plan.specs.LayerEquation.{Within}
-use Rattle.markdown_state.specs.declared.state.StateName.{StateName}
+use Rattle.markdown_plan.specs.LayerEquation.{EqualsLayer}
+use Rattle.markdown_event.specs.declared.state.StateName.{StateName}
 
 -- The conditions go on.
 
@@ -117,7 +117,7 @@ module _ (W : Words) where
       (follows W _ _ (Next st) {w = w} say T on (omega (arith, less)) (λ ok V x. does-same p q s T ok V e (closed ok V x)))
 
   -- one of two states takes over, by whether a trail begins here
-  over-look : Within states W →
+  over-look : EqualsLayer states W →
       (k : ℕ) (p q1 q2 : Plan) (s : TokenizeState) (T : Tokenizer) (held : StateName) {v : StateWords} →
       words_in W held ≡ v → (failed : StateName) {w : StateWords} → words_in W failed ≡ w → T.attempts ≡ [] →
       LookReady T → 1 < k → v.rank T < k → w.rank T < k →
@@ -204,7 +204,7 @@ none-here T e h = let no : false ≡ true = subst IsSome e h in cc
 
 -- Domains.
 
-module _ (W : Words) (within : Within states W) where
+module _ (W : Words) (within : EqualsLayer states W) where
   -- past a mark that does not trail
   mark-on : (T : Tokenizer) (c : ℕ) → current_of T ≡ Some c → among_values (codes "._") c ≡ true →
       trails_in (bytes_of T) (end_of T) None (ahead T) ≡ false →
@@ -325,7 +325,7 @@ count-few n v k = by_test (v == n)
 
 -- Paths.
 
-module _ (W : Words) (within : Within states W) where
+module _ (W : Words) (within : EqualsLayer states W) where
   path-ready : (known : ℕ) (T : Tokenizer) (c : ℕ) → LiteralReady T → current_of T ≡ Some c →
       Knows (bytes_of T) (end_of T) known (ahead T) →
       PathReady (scratched (path_passed known c T.tokenize_state) (done (Consume ∷ []) T))

@@ -1,15 +1,15 @@
 -- A literal: it is entered, its codes are attempted, and it is exited after them.
 use Rattle.std.proofs.Common.{◌≡◌, ℕ, ◌<◌, ◌≤◌, Bool, true, false, Option, Some, None, List, [], ◌∷◌, ◌++◌, length, length-drop, refl, sym, ap, subst, ◌∙◌, arith}
-use Rattle.markdown_engine_content.specs.Codes.{Code}
+use Rattle.markdown_content.specs.Codes.{Code}
 use Rattle.markdown_engine.specs.FailedRun.{Grown}
-use Rattle.markdown_engine_content.specs.ListFunctions.{rest_of}
+use Rattle.markdown_content.specs.ListFunctions.{rest_of}
 use Rattle.markdown_engine.specs.Operations.{Op, Enter, Exit, Consume, IsOpen, ahead, applied, done, frame_of, moves, scratched}
 use Rattle.markdown_engine.specs.StateRuns.{restored, going_state, going_in, Goes}
 use Rattle.markdown_engine.specs.TreeOps.{consumes}
 use Rattle.markdown_engine.specs.Weights.{codes_left, weight_at}
 use Rattle.markdown_event.specs.declared.event.Name.{Name}
-use Rattle.markdown_state.specs.declared.state.State.{State}
-use Rattle.markdown_state.specs.declared.state.State.TheVariants.{Next, Nok}
+use Rattle.markdown_event.specs.declared.state.State.{State}
+use Rattle.markdown_event.specs.declared.state.State.TheVariants.{Next, Nok}
 use Rattle.markdown_engine.specs.declared.tokenizer.TokenizeState.{TokenizeState}
 use Rattle.markdown_engine.specs.declared.tokenizer.Tokenizer.{Tokenizer}
 use Rattle.markdown_engine.proofs.ReadingSequences.{scratched-same}
@@ -23,7 +23,7 @@ use Rattle.markdown_leaf_gfm.specs.GfmAutolinkLiteral.{rested, entered_literal, 
 use Rattle.markdown_leaf_gfm.proofs.GfmAutolinkLiteralCovers.{leaf_ops, ops-leaf}
 use Rattle.markdown_engine.specs.StateWords.{Words, StateWords, words_in, weight_in}
 use Rattle.markdown_plan.proofs.LawStepsOfLayer.{follows}
-use Rattle.markdown_state.specs.declared.state.StateName.{StateName}
+use Rattle.markdown_event.specs.declared.state.StateName.{StateName}
 
 stack-consumes : (cs : List Code) (T : Tokenizer) → (done (consumes cs) T).stack ≡ T.stack
 stack-consumes [] T = refl
@@ -49,10 +49,10 @@ passed-none None e = refl
 passed-none (Some r) e = cc
 
 -- it begins with a code
-abbrev pub Begins : Option (List Op) → Type 0
-Begins o = (os : List Op) → o ≡ Some os → (more : List Op) × (os ≡ Consume ∷ more)
+abbrev pub BeginsByConsuming : Option (List Op) → Type 0
+BeginsByConsuming o = (os : List Op) → o ≡ Some os → (more : List Op) × (os ≡ Consume ∷ more)
 
-pub begins-first : (o : Option (List Op)) → Begins (preceded (Consume ∷ []) o)
+pub begins-first : (o : Option (List Op)) → BeginsByConsuming (preceded (Consume ∷ []) o)
 begins-first None os e = cc
 begins-first (Some xs) os e = (xs, cc)
 
@@ -86,7 +86,7 @@ module _ (W : Words) (name : Name) (st : State) (last : StateName) (reading : Re
   inside cs = pass_ops (reading cs)
 
   -- the codes are passed, and the literal is exited
-  passed-literal : (U V : Tokenizer) → Begins (inside (ahead T)) →
+  passed-literal : (U V : Tokenizer) → BeginsByConsuming (inside (ahead T)) →
       DoesAs 0 inside (rested T.tokenize_state) (entered_literal name T) true U → V ≡ done (Exit name ∷ []) U →
       DoesAs 0 p T.tokenize_state T true V
   passed-literal U V some k e =
@@ -136,7 +136,7 @@ module _ (W : Words) (name : Name) (st : State) (last : StateName) (reading : Re
 
   -- the attempt has ended
   pub literal-ended : (n : ℕ) {w : StateWords} → words_in W last ≡ w → 0 < n → ((U : Tokenizer) → codes_left U ≤ codes_left T → weight_at (w.rank U) U < n) →
-      Begins (inside (ahead T)) → ((U : Tokenizer) → IsOpen name U → w.ready U) →
+      BeginsByConsuming (inside (ahead T)) → ((U : Tokenizer) → IsOpen name U → w.ready U) →
       ((U : Tokenizer) (ok : Bool) (V : Tokenizer) → w.ends U ok V → (ok ≡ true) × (V ≡ done (Exit name ∷ []) U)) →
       (b : Bool) (U : Tokenizer) → DoesAs 0 inside (rested T.tokenize_state) (entered_literal name T) b U →
       Goes W.ready W.ends (weight_in W) n (DoesAs 0 p T.tokenize_state T) [] (going_state (frame_of false (Next last) Nok (entered_literal name T)) b) (going_in (frame_of false (Next last) Nok (entered_literal name T)) b U)

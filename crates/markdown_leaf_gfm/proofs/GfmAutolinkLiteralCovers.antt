@@ -1,21 +1,20 @@
 -- Whole literals: the tree that the definition gives, and the codes that it covers.
-use Rattle.std.proofs.Common.{◌≡◌, ℕ, ◌&&◌, not, Bool, true, false, if◌then◌else◌, Option, Some, None, List, [], ◌∷◌, ◌++◌, refl, sym, ap, ◌∙◌, append_assoc, append-nil}
-use Rattle.markdown_engine_content.specs.Codes.{Code}
+use Rattle.std.proofs.Common.{◌≡◌, ℕ, ◌&&◌, not, Bool, true, false, if◌then◌else◌, Option, Some, None, List, [], ◌∷◌, ◌++◌, refl, sym, ap, ◌∙◌, append_assoc}
+use Rattle.markdown_content.specs.Codes.{Code}
 use Rattle.markdown_engine.specs.Operations.{Op, Enter, Exit, Consume}
-use Rattle.markdown_engine_content.specs.Tree.{Forest, leaf}
+use Rattle.markdown_content.specs.Tree.{Forest, leaf}
 use Rattle.markdown_engine.specs.TreeOps.{consumes, ops_of}
 use Rattle.markdown_event.specs.declared.event.Name.{Name}
 use Rattle.markdown_event.specs.declared.event.Name.TheVariants as N
 use Rattle.markdown_model.specs.CodeTests.{is_letter, is_some_code}
 use Rattle.markdown_model.specs.Grammar.{Reading, ◌>>=◌, ◌>>◌, ◌then_◌, gives, provided}
-use Rattle.markdown_model.specs.GfmAutolinkLiteral.{schemes, letters, one_word_of, domain, domain_from, is_domain, path, path_from, ends_path, count_if, gfm_autolink_literal_protocol, www_from_here, gfm_autolink_literal_www, may_precede_www, begins_with_www}
-use Rattle.markdown_model.proofs.LiteralCodes.{domain_split}
+use Rattle.markdown_model.specs.GfmAutolinkLiteral.{schemes, one_word_of, domain, path, gfm_autolink_literal_protocol, www_from_here, gfm_autolink_literal_www, may_precede_www, begins_with_www}
 use Rattle.markdown_plan.specs.Plan.{tree_ops, plan_of}
 use Rattle.markdown_plan.specs.PrecededReadings.{after}
 use Rattle.markdown_plan.proofs.PrecededReadingLemmas.{then-after}
-use Rattle.markdown_plan.proofs.PassedByReadings.{Read, Gives, Covers, both-parts, Gives-bind, Gives-either, Gives-gives, Gives-one, Gives-switched, Covers-leaf}
+use Rattle.markdown_model.proofs.PlainConstructs.{reads_switched, reads_gfm_autolink_literal_protocol, reads_gfm_autolink_literal_www}
+use Rattle.markdown_plan.proofs.SolidReadings.{ReadsSolid, plain-reads}
 use Rattle.markdown_leaf_gfm.specs.GfmAutolinkLiteral.{address, protocol_reading}
-use Rattle.markdown_leaf_gfm.proofs.LettersOfWords.{letter_test}
 use Rattle.markdown_model.proofs.GrammarSteps.{bind-some, bind-none, then-none, switched-on, switched-off}
 
 -- Readings in a row give what the parts give.
@@ -99,66 +98,16 @@ module _ (bytes : List ℕ) (end : ℕ) where
 
 -- What they cover.
 
-abbrev pub Itself : List Code → List Code → Type 0
-Itself x ws = x ≡ ws
-
-gives-letters : (ns : List ℕ) → Gives Itself (letters ns)
-unfolding letters
-gives-letters [] = Gives-gives [] Itself refl
-gives-letters (n ∷ ns) =
-    Gives-bind _ _ _ Itself (Gives-one (letter_test n)) (λ a ws p.
-    Gives-bind _ _ Itself _ (gives-letters ns) (λ b vs q.
-    Gives-gives (a ++ b) _ (ap (λ x. x ++ b) p.0 ∙ ap (λ x. ws ++ x) (q ∙ sym (append-nil vs)))))
-
-pub gives-one-word : (words : List (List ℕ)) → Gives Itself (one_word_of words)
-unfolding one_word_of
-gives-one-word [] cs x rest k = cc
-gives-one-word (word ∷ words) cs x rest k =
-    Gives-either (letters word) (one_word_of words) Itself (gives-letters word) (gives-one-word words) cs x rest k
-
 module _ (bytes : List ℕ) (end : ℕ) where
-  domain-by : (cs : List Code) (b : Bool) (x rest : List Code) →
-      (elim b as (λ _. Codes) [ true ↦ Some (domain_from bytes end cs) | false ↦ None ]) ≡ Some (x, rest) →
-      Read Itself cs x rest
-  domain-by cs false x rest k = cc
-  domain-by cs true x rest k =
-      let d : List Code × List Code = domain_from bytes end cs in
-      let same = both-parts d.0 x d.1 rest k in
-      record { codes = x; whole = sym (domain_split bytes end cs) ∙ ap (λ y. y ++ d.1) same.0 ∙ ap (λ y. x ++ y) same.1; holds = refl }
-
-  gives-domain : Gives Itself (domain bytes end)
-  unfolding domain
-  gives-domain cs x rest k = domain-by cs (is_domain (domain_from bytes end cs).0) x rest k
-
-  path-by : (c : Code) (cs : List Code) (b : Bool) (s : List Code × List Code) → cs ≡ s.0 ++ s.1 →
-      (let r : List Code × List Code = elim b as (λ _. List Code × List Code) [ true ↦ ([], c ∷ cs) | false ↦ (c ∷ s.0, s.1) ] in c ∷ cs ≡ r.0 ++ r.1)
-  path-by c cs true s e = refl
-  path-by c cs false s e = ap (λ xs. c ∷ xs) e
-
-  path-parts : (o k : ℕ) (cs : List Code) → cs ≡ (path_from bytes end o k cs).0 ++ (path_from bytes end o k cs).1
-  path-parts o k [] = refl
-  path-parts o k (c ∷ cs) =
-      path-by c cs (ends_path bytes end o k (c ∷ cs)) (path_from bytes end (count_if 40 c o) (count_if 41 c k) cs) (path-parts (count_if 40 c o) (count_if 41 c k) cs)
-
-  gives-path : Gives Itself (path bytes end)
-  unfolding path
-  gives-path cs x rest k =
-      let d : List Code × List Code = path_from bytes end 0 0 cs in
-      let same = both-parts d.0 x d.1 rest k in
-      record { codes = x; whole = path-parts 0 0 cs ∙ ap (λ y. y ++ d.1) same.0 ∙ ap (λ y. x ++ y) same.1; holds = refl }
-
   pub whole-protocol : (on : Bool) (previous : Option Code) →
-      Gives Covers (provided on >> gfm_autolink_literal_protocol bytes end previous)
-  unfolding gfm_autolink_literal_protocol
+      ReadsSolid (provided on >> gfm_autolink_literal_protocol bytes end previous)
   whole-protocol on previous =
-      Gives-switched on (gfm_autolink_literal_protocol bytes end previous) Covers
-      (Gives-switched _ _ Covers
-      (Gives-bind _ _ Itself Covers (gives-one-word schemes) (λ a ws p.
-      Gives-bind _ _ Itself _ gives-domain (λ c us r.
-      Gives-bind _ _ Itself _ gives-path (λ d ts t.
-      Gives-gives (leaf N.GfmAutolinkLiteralProtocol (a ++ c ++ d)) _
-      (Covers-leaf N.GfmAutolinkLiteralProtocol _ _
-      (append_assoc a c d ∙ ap (λ x. x ++ (c ++ d)) p ∙ ap (λ x. ws ++ (x ++ d)) r ∙ ap (λ x. ws ++ (us ++ x)) (t ∙ sym (append-nil ts)))))))))
+      plain-reads bytes _ (reads_switched bytes on _ (reads_gfm_autolink_literal_protocol bytes end previous))
+
+  pub whole-www : (on : Bool) (previous : Option Code) →
+      ReadsSolid (provided on >> gfm_autolink_literal_www bytes end previous)
+  whole-www on previous =
+      plain-reads bytes _ (reads_switched bytes on _ (reads_gfm_autolink_literal_www bytes end previous))
 
   www-text : (cs : List Code) →
       www_from_here bytes end cs ≡ mapped (leaf N.GfmAutolinkLiteralWww) (address bytes end cs)
@@ -169,21 +118,6 @@ module _ (bytes : List ℕ) (end : ℕ) where
   pub from-here-is : (cs : List Code) →
       plan_of (www_from_here bytes end) cs ≡ leaf_ops N.GfmAutolinkLiteralWww (address bytes end cs)
   from-here-is cs = ap tree_ops (www-text cs) ∙ mapped-ops N.GfmAutolinkLiteralWww (address bytes end cs)
-
-  whole-from-here : Gives Covers (www_from_here bytes end)
-  unfolding www_from_here
-  whole-from-here =
-      Gives-bind _ _ Itself Covers gives-domain (λ c us r.
-      Gives-bind _ _ Itself _ gives-path (λ d ts t.
-      Gives-gives (leaf N.GfmAutolinkLiteralWww (c ++ d)) _
-      (Covers-leaf N.GfmAutolinkLiteralWww _ _ (ap (λ x. x ++ d) r ∙ ap (λ x. us ++ x) (t ∙ sym (append-nil ts))))))
-
-  pub whole-www : (on : Bool) (previous : Option Code) →
-      Gives Covers (provided on >> gfm_autolink_literal_www bytes end previous)
-  unfolding gfm_autolink_literal_www
-  whole-www on previous =
-      Gives-switched on (gfm_autolink_literal_www bytes end previous) Covers (λ cs x rest k.
-      Gives-switched (may_precede_www previous && begins_with_www cs) (www_from_here bytes end) Covers whole-from-here cs x rest k)
 
   pub www-is : (on : Bool) (previous : Option Code) (cs : List Code) →
       on && (may_precede_www previous && begins_with_www cs) ≡ true →

@@ -6,18 +6,18 @@ use Rattle.std.proofs.Math.Seq.{take-suc}
 use Rattle.std.proofs.lemmas.Bool.Decides.{nat_tests}
 use Rattle.std.proofs.lemmas.List.{get_or-drop, length-drop, length-take-le}
 use Rattle.std.proofs.lemmas.List.Folds.{list_all-append}
-use Rattle.markdown_engine_content.specs.Codes.{Code}
-use Rattle.markdown_engine_content.specs.ListFunctions.{rest_of}
+use Rattle.markdown_content.specs.Codes.{Code}
+use Rattle.markdown_content.specs.ListFunctions.{rest_of}
 use Rattle.markdown_engine.specs.Operations.{Op, Enter, Exit, Consume, ahead, applied, current_of, previous_of, done, frame_of, moves, scratched, stays}
-use Rattle.markdown_engine_content.specs.Place.{Place, moved, code_at, code_before, last_of, point_of, start_or, value_of}
+use Rattle.markdown_content.specs.Place.{Place, moved, code_at, code_before, last_of, point_of, start_or, value_of}
 use Rattle.markdown_engine.specs.StateRuns as StateRuns
 use Rattle.markdown_engine.specs.StateRuns.{Stepped, stepped, restored, going_state, going_in}
 use Rattle.markdown_engine.specs.TreeOps.{consumes}
 use Rattle.markdown_engine.specs.Weights.{codes_left, weight_at}
 use Rattle.markdown_event.specs.declared.event.Name.TheVariants as N
-use Rattle.markdown_state.specs.declared.state.State.{State}
-use Rattle.markdown_state.specs.declared.state.State.TheVariants.{Next, Nok, Ok, Retry}
-use Rattle.markdown_state.specs.declared.state.StateName.TheVariants.{GfmAutolinkLiteralProtocolAfter, GfmAutolinkLiteralProtocolPrefixInside, GfmAutolinkLiteralProtocolSlashesInside, GfmAutolinkLiteralDomainInside}
+use Rattle.markdown_event.specs.declared.state.State.{State}
+use Rattle.markdown_event.specs.declared.state.State.TheVariants.{Next, Nok, Ok, Retry}
+use Rattle.markdown_event.specs.declared.state.StateName.TheVariants.{GfmAutolinkLiteralProtocolAfter, GfmAutolinkLiteralProtocolPrefixInside, GfmAutolinkLiteralProtocolSlashesInside, GfmAutolinkLiteralDomainInside}
 use Rattle.markdown_engine.specs.declared.tokenizer.Attempt.{Attempt}
 use Rattle.markdown_engine.specs.declared.tokenizer.TokenizeState.{TokenizeState}
 use Rattle.markdown_engine.specs.declared.tokenizer.Tokenizer.{Tokenizer}
@@ -25,25 +25,27 @@ use Rattle.markdown_engine.proofs.LawSteps.{if-step, code-step, restored-grown}
 use Rattle.markdown_engine.proofs.OperationFields.{ahead-none, ahead-some, attempts-applied, attempts-scratched, left-applied, left-consumed, left-scratched, some-codes}
 use Rattle.markdown_engine.proofs.OperationLemmas.{Grown-scratched, ahead-done, scratch-done}
 use Rattle.markdown_model.specs.CodeTests.{is_letter, is_some_code}
-use Rattle.markdown_plan.specs.Plan.{Plan, preceded, plan_of, depth_after, Does, DoesAs, Stops}
-use Rattle.markdown_plan.proofs.PassedByReadings.{Read}
+use Rattle.markdown_plan.specs.Plan.{Plan, preceded, plan_of, depth_after, DoesPlan, DoesAs, Stops}
+use Rattle.markdown_model.proofs.DefinitionSteps.{read-codes}
+use Rattle.markdown_model.proofs.LiteralCodes.{takes_one_word}
+use Rattle.markdown_model.proofs.ReadingsCover.{itself}
 use Rattle.markdown_plan.proofs.PlanSteps.{DoesAs-then, EndsAs-plan, kept}
 use Rattle.markdown_plan.specs.ByteTests.{letter_value}
 use Rattle.markdown_plan.specs.Characters.{bytes_of, IsText, ReadsText}
 use Rattle.markdown_partial.specs.PartialSpaceOrTab.{most}
-use Rattle.markdown_leaf_gfm.specs.GfmAutolinkLiteral.{end_of, before_of, is_on, may_begin, is_letter_before, begins_scheme, one_named, longest, rested, sized, started, named, name_of, is_short_name, unnamed, protocol_entered, protocol_start_at, protocol_start_step, prefix_at, slashes_at, entered_literal, WordReady, MayName, SchemeReady}
-use Rattle.markdown_leaf_gfm.specs.GfmAutolinkLiteral.{LiteralReady, StartReady, pass_ops, protocol_reading, prefix_plan, slashes_plan, domain_plan, domain_ends, protocol_here, protocol_start_ends, protocol_after_ends, prefix_ends, slashes_ends, states, prefix_words, protocol_after_words, protocol_start_words, slashes_words}
+use Rattle.markdown_leaf_gfm.specs.GfmAutolinkLiteral.{end_of, before_of, is_on, may_begin, is_letter_before, begins_scheme, one_named, longest, rested, sized, started, named, name_of, is_short_name, unnamed, protocol_entered, protocol_start_at, protocol_start_step, prefix_at, slashes_at, entered_literal, WordReady, MayName, ProtocolSchemeReady}
+use Rattle.markdown_leaf_gfm.specs.GfmAutolinkLiteral.{LiteralReady, LiteralStartReady, pass_ops, protocol_reading, prefix_plan, slashes_plan, domain_plan, domain_ends, protocol_here, protocol_start_ends, protocol_after_ends, prefix_ends, slashes_ends, states, prefix_words, protocol_after_words, protocol_start_words, slashes_words}
 use Rattle.markdown_leaf_gfm.proofs.GfmAutolinkLiteralReadings.{all-schemes, prefix-more, prefix-colon, prefix-none, prefix-other, prefix-end, slashes-more, slashes-last, slashes-none, protocol-behind, protocol-none}
 use Rattle.markdown_leaf_gfm.proofs.SchemesLeft.{begins-first-letters}
 use Rattle.markdown_model.specs.GfmAutolinkLiteral.{schemes, one_word_of}
 use Rattle.markdown_plan.proofs.CharactersAlongContent.{text-consumed, text-passed}
-use Rattle.markdown_leaf_gfm.proofs.GfmAutolinkLiteralCovers.{Itself, leaf_ops, gives-one-word, protocol-is, whole-protocol}
-use Rattle.markdown_leaf_gfm.proofs.GfmAutolinkLiteralAttempts.{Begins, IsPassed, begins-first, enter-same, left-passed, literal-ended, no-literal, passed-is}
+use Rattle.markdown_leaf_gfm.proofs.GfmAutolinkLiteralCovers.{leaf_ops, protocol-is, whole-protocol}
+use Rattle.markdown_leaf_gfm.proofs.GfmAutolinkLiteralAttempts.{BeginsByConsuming, IsPassed, begins-first, enter-same, left-passed, literal-ended, no-literal, passed-is}
 use Rattle.markdown_leaf_gfm.proofs.CheckSteps.{Goes-both, goes-then}
 use Rattle.markdown_model.proofs.GrammarSteps.{if-true, if-false, and-left, and-right}
 use Rattle.markdown_engine.specs.StateWords.{Words, Law, GoesIn, end_words, weight_in}
 use Rattle.markdown_plan.proofs.LawStepsOfLayer.{GoesOn-map, Goes-end, Goes-kept, Goes-on, Goes-ok, Goes-nok, Goes-no}
-use Rattle.markdown_plan.specs.LayerEquation.{Within}
+use Rattle.markdown_plan.specs.LayerEquation.{EqualsLayer}
 
 -- The bytes of a name, along its letters.
 
@@ -137,8 +139,8 @@ word-next n T c k e =
     record { text = text-consumed (sized n T.tokenize_state) T k.text; fresh = k.fresh; short = omega (arith, k.short, left-consumed T c e, left-scratched (sized n T.tokenize_state) (done (Consume ∷ []) T)) }
 
 -- past a letter of a scheme
-scheme-next : (T : Tokenizer) (c : ℕ) → SchemeReady T → letter_value c ≡ true → current_of T ≡ Some c →
-    SchemeReady (done (Consume ∷ []) T)
+scheme-next : (T : Tokenizer) (c : ℕ) → ProtocolSchemeReady T → letter_value c ≡ true → current_of T ≡ Some c →
+    ProtocolSchemeReady (done (Consume ∷ []) T)
 unfolding applied
 scheme-next T c r l e =
     record {
@@ -150,7 +152,7 @@ scheme-next T c r l e =
     }
 
 -- and past its colon
-colon-next : (T : Tokenizer) (c : ℕ) → SchemeReady T → current_of T ≡ Some c →
+colon-next : (T : Tokenizer) (c : ℕ) → ProtocolSchemeReady T → current_of T ≡ Some c →
     WordReady (scratched (named T.tokenize_state) (done (Consume ∷ []) T))
 unfolding scratched
 colon-next T c r e =
@@ -177,7 +179,7 @@ slashes-then : (n : ℕ) (T : Tokenizer) (ok : Bool) (U : Tokenizer) →
 unfolding scratched applied moved
 slashes-then n T ok U k = k
 
-module _ (W : Words) (within : Within states W) where
+module _ (W : Words) (within : EqualsLayer states W) where
   pub prefix-law : Law W prefix_words
   prefix-law T alone on =
       code-step P (current_of T) (λ o. prefix_at o T) (λ e. unnamed-none (ap plan (ahead-none T e) ∙ prefix-end vs on.letters)) by_code
@@ -276,8 +278,8 @@ name-entered : (T : Tokenizer) → name_of (protocol_entered T) ≡ []
 unfolding applied scratched
 name-entered T = no-name (point_of T.cursor).index (bytes_of T)
 
-scheme-ready : (T : Tokenizer) (c : ℕ) → StartReady T → current_of T ≡ Some c → begins_scheme c ≡ true →
-    SchemeReady (protocol_entered T)
+scheme-ready : (T : Tokenizer) (c : ℕ) → LiteralStartReady T → current_of T ≡ Some c → begins_scheme c ≡ true →
+    ProtocolSchemeReady (protocol_entered T)
 unfolding applied scratched
 scheme-ready T c k e h =
     record {
@@ -289,10 +291,10 @@ scheme-ready T c k e h =
     }
 
 -- a first letter is passed
-first-passed : (c : Code) (cs : List Code) → Begins (prefix_plan [] (c ∷ cs))
-first-passed c cs = subst Begins (sym (prefix-more [] refl c cs)) (begins-first _)
+first-passed : (c : Code) (cs : List Code) → BeginsByConsuming (prefix_plan [] (c ∷ cs))
+first-passed c cs = subst BeginsByConsuming (sym (prefix-more [] refl c cs)) (begins-first _)
 
-begins-behind : (os more : List Op) → os ≡ Consume ∷ more → (o : Option (List Op)) → Begins (preceded os o)
+begins-behind : (os more : List Op) → os ≡ Consume ∷ more → (o : Option (List Op)) → BeginsByConsuming (preceded os o)
 begins-behind os more e None xs k = cc
 begins-behind os more e (Some ys) xs k =
     let f : Some (Consume ∷ (more ++ ys)) ≡ Some xs = ap (λ zs. Some (zs ++ ys)) (sym e) ∙ k in (more ++ ys, cc)
@@ -345,8 +347,7 @@ literal-behind : (bytes : List ℕ) (end : ℕ) (s : TokenizeState) (E : Tokeniz
     DoesAs 0 (λ cs. pass_ops (protocol_reading bytes end cs)) (rested s) E ok V
 literal-behind bytes end s E w rest read e ok V y =
     let os : List Op = consumes w in
-    let g : Read Itself (ahead E) w rest = gives-one-word schemes (ahead E) w rest read in
-    let whole : ahead E ≡ w ++ rest = g.whole ∙ ap (λ xs. xs ++ rest) (sym g.holds) in
+    let whole : ahead E ≡ w ++ rest = read-codes itself (one_word_of schemes) (takes_one_word schemes) (ahead E) rest w read in
     let left : rest ≡ drop (moves os) (ahead E) = sym (ap (drop (moves os)) whole ∙ drop-consumes w rest) in
     DoesAs-then 0 (λ cs. pass_ops (protocol_reading bytes end cs)) (domain_plan bytes end s) os (rested s) E.tokenize_state E (stays-consumes w)
     (protocol-behind bytes end (ahead E) w rest s read e ∙ ap (λ cs. preceded os (domain_plan bytes end s cs)) left)
@@ -356,7 +357,7 @@ literal-behind bytes end s E w rest read e ok V y =
 
 -- The scheme has been attempted, behind the Enter of the literal.
 
-module _ (W : Words) (within : Within states W) (T : Tokenizer) (on : StartReady T) (may : may_begin T ≡ true) where
+module _ (W : Words) (within : EqualsLayer states W) (T : Tokenizer) (on : LiteralStartReady T) (may : may_begin T ≡ true) where
   abbrev A : Tokenizer
   A = protocol_entered T
 
@@ -402,14 +403,14 @@ module _ (W : Words) (within : Within states W) (T : Tokenizer) (on : StartReady
         closed = omega (arith, size_b, few);
       }
 
-  on-address : (U : Tokenizer) → Begins (prefix_plan [] (ahead T)) → Does (prefix_plan []) (rested T.tokenize_state) E U →
+  on-address : (U : Tokenizer) → BeginsByConsuming (prefix_plan [] (ahead T)) → DoesPlan (prefix_plan []) (rested T.tokenize_state) E U →
       G (outer ∷ []) (Next GfmAutolinkLiteralDomainInside) U
   on-address U first k =
       let r : IsPassed (one_word_of schemes (ahead E)) k.ops = passed-is (one_word_of schemes (ahead E)) k.ops k.holds in
       let left : U ≡ done (consumes r.text) E = k.left ∙ ap (done k.ops) (enter-same N.GfmAutolinkLiteralProtocol T on.resting) ∙ ap (λ os. done os E) r.is in
       let begun = first k.ops (ap (prefix_plan []) (sym ahead-here) ∙ k.holds) in
       let reading : List Code → Option (List Code × List Code) = protocol_reading (bytes_of T) (end_of T) in
-      let begins : Begins (pass_ops (reading (ahead T))) = subst Begins (sym (ap (λ cs. pass_ops (reading cs)) (sym ahead-here) ∙ protocol-behind (bytes_of T) (end_of T) (ahead E) r.text r.rest T.tokenize_state r.read on.resting)) (begins-behind (consumes r.text) begun.0 (sym r.is ∙ begun.1) _) in
+      let begins : BeginsByConsuming (pass_ops (reading (ahead T))) = subst BeginsByConsuming (sym (ap (λ cs. pass_ops (reading cs)) (sym ahead-here) ∙ protocol-behind (bytes_of T) (end_of T) (ahead E) r.text r.rest T.tokenize_state r.read on.resting)) (begins-behind (consumes r.text) begun.0 (sym r.is ∙ begun.1) _) in
       goes-then W (weight_at 7 T) (DoesAs 0 (plan_of (protocol_here T)) T.tokenize_state T) outer [] (Next GfmAutolinkLiteralDomainInside) (within GfmAutolinkLiteralDomainInside) U (address-ready U r.text left) (omega (arith, ap codes_left left, left-passed (consumes r.text) E, left-here))
       (λ ok V now y. literal-ended W N.GfmAutolinkLiteralProtocol (Next GfmAutolinkLiteralDomainInside) GfmAutolinkLiteralProtocolAfter reading (plan_of (protocol_here T)) T on.resting
       (here-is T (ahead T) ∙ if-true (may_begin T) _ None may)
@@ -435,7 +436,7 @@ module _ (W : Words) (within : Within states W) (T : Tokenizer) (on : StartReady
       from-scratched true k = record { ops = k.ops; holds = k.holds; left = k.left }
       from-scratched false k = record { none = k.none; grown = Grown-scratched 0 (started i T.tokenize_state) E U k.grown; scratch = k.scratch }
 
-  scheme-tried : Begins (prefix_plan [] (ahead T)) → (b : Bool) (U : Tokenizer) → prefix_ends A b U →
+  scheme-tried : BeginsByConsuming (prefix_plan [] (ahead T)) → (b : Bool) (U : Tokenizer) → prefix_ends A b U →
       G (frame_of false (Next GfmAutolinkLiteralProtocolAfter) Nok A ∷ []) (going_state (frame_of false (Next GfmAutolinkLiteralDomainInside) Nok A) b) (going_in (frame_of false (Next GfmAutolinkLiteralDomainInside) Nok A) b U)
   unfolding frame_of scratched
   scheme-tried first true U x = on-address U first (from-entered true U x)
@@ -444,7 +445,7 @@ module _ (W : Words) (within : Within states W) (T : Tokenizer) (on : StartReady
       let back : restored (frame_of false (Next GfmAutolinkLiteralDomainInside) Nok E) U ≡ E = restored-grown false (Next GfmAutolinkLiteralDomainInside) Nok E U k.grown ∙ ap (λ (s : TokenizeState). scratched s E) k.scratch ∙ enter-same N.GfmAutolinkLiteralProtocol T on.resting in
       subst (λ (x : Tokenizer). G (outer ∷ []) Nok x) (sym back) (given-up (ap (prefix_plan []) (sym ahead-here) ∙ k.none))
 
-pub protocol_start-law : (W : Words) → Within states W → Law W protocol_start_words
+pub protocol_start-law : (W : Words) → EqualsLayer states W → Law W protocol_start_words
 protocol_start-law W within T alone on =
     let s : TokenizeState = T.tokenize_state in
     let p : Plan = plan_of (protocol_here T) in
@@ -462,7 +463,7 @@ protocol_start-law W within T alone on =
     Goes-both W n F (Retry GfmAutolinkLiteralProtocolPrefixInside) (within GfmAutolinkLiteralProtocolPrefixInside) false false (Next GfmAutolinkLiteralDomainInside) Nok (Next GfmAutolinkLiteralProtocolAfter) Nok A
     (attempts-scratched _ _ ∙ attempts-applied (Enter N.GfmAutolinkLiteralProtocol) T ∙ alone) (scheme-ready T c on e (and-right (may_begin T) (begins_scheme c) h))
     (omega (arith, left-scratched (started (point_of T.cursor).index s) (entered_literal N.GfmAutolinkLiteralProtocol T), left-applied (Enter N.GfmAutolinkLiteralProtocol) T refl))
-    (λ k U now x. scheme-tried W within T on may (subst Begins (ap (prefix_plan []) (sym b.whole)) (first-passed b.code more)) k U x))
+    (λ k U now x. scheme-tried W within T on may (subst BeginsByConsuming (ap (prefix_plan []) (sym b.whole)) (first-passed b.code more)) k U x))
     (λ h. Goes-no W 7 0 p T alone (ap p b.whole ∙ no-scheme T (b.code ∷ more) (may_begin T) refl (λ m. other-code b.code more (ap begins_scheme b.value ∙ other (may_begin T) (begins_scheme c) h m))))))
   where
     other : (a b : Bool) → a && b ≡ false → a ≡ true → b ≡ false

@@ -1,16 +1,16 @@
 -- The laws of the states of autolink literals, joined.
 use Rattle.markdown_engine.specs.StateWords.{StateWords, Words}
-use Rattle.markdown_state.specs.declared.state.StateName.{StateName}
-use Rattle.markdown_state.specs.declared.state.StateName.TheVariants as H
+use Rattle.markdown_event.specs.declared.state.StateName.{StateName}
+use Rattle.markdown_event.specs.declared.state.StateName.TheVariants as H
 use Rattle.markdown_leaf_gfm.specs.GfmAutolinkLiteral.{states}
 use Rattle.markdown_leaf_gfm.proofs.GfmAutolinkLiteralAddressLaws as GfmAutolinkLiteralAddressLaws
 use Rattle.markdown_leaf_gfm.proofs.GfmAutolinkLiteralProtocolLaws as GfmAutolinkLiteralProtocolLaws
 use Rattle.markdown_leaf_gfm.proofs.GfmAutolinkLiteralTrailLaws as GfmAutolinkLiteralTrailLaws
 use Rattle.markdown_leaf_gfm.proofs.GfmAutolinkLiteralWwwLaws as GfmAutolinkLiteralWwwLaws
-use Rattle.markdown_plan.specs.LayerEquation.{Within, AreLawful}
+use Rattle.markdown_plan.specs.LayerEquation.{EqualsLayer, AreLawful}
 
 -- of these states, and of any other as it is given
-pub laws : (W : Words) → Within states W → (t : StateName → StateWords) → AreLawful W t → AreLawful W (states t)
+pub laws : (W : Words) → EqualsLayer states W → (t : StateName → StateWords) → AreLawful W t → AreLawful W (states t)
 laws W within t other H.GfmAutolinkLiteralProtocolStart = GfmAutolinkLiteralProtocolLaws.protocol_start-law W within
 laws W within t other H.GfmAutolinkLiteralProtocolAfter = GfmAutolinkLiteralProtocolLaws.protocol_after-law W
 laws W within t other H.GfmAutolinkLiteralProtocolPrefixInside = GfmAutolinkLiteralProtocolLaws.prefix-law W within

@@ -2,13 +2,13 @@
 use Rattle.std.proofs.Common.{◌≡◌, ◌==◌, ◌||◌, Bool, true, false, Option, Some, None, List, [], ◌∷◌, refl, sym, ap, ◌∙◌, arith}
 use Rattle.std.specs.Prelude.{codes}
 use Rattle.std.proofs.lemmas.Bool.{or_left}
-use Rattle.markdown_engine_content.specs.Codes.{Code}
-use Rattle.markdown_engine_content.specs.ListFunctions.{rest_of, first_of}
+use Rattle.markdown_content.specs.Codes.{Code}
+use Rattle.markdown_content.specs.ListFunctions.{rest_of, first_of}
 use Rattle.markdown_engine.specs.Operations.{Consume, ahead, applied, current_of, done}
-use Rattle.markdown_engine_content.specs.Place.{moved, value_of}
+use Rattle.markdown_content.specs.Place.{moved, value_of}
 use Rattle.markdown_engine.specs.StateRuns.{Stepped}
 use Rattle.markdown_engine.specs.Weights.{weight_at}
-use Rattle.markdown_state.specs.declared.state.StateName.TheVariants.{GfmAutolinkLiteralTrail, GfmAutolinkLiteralTrailBracketAfter, GfmAutolinkLiteralTrailCharRefInside, GfmAutolinkLiteralTrailCharRefStart}
+use Rattle.markdown_event.specs.declared.state.StateName.TheVariants.{GfmAutolinkLiteralTrail, GfmAutolinkLiteralTrailBracketAfter, GfmAutolinkLiteralTrailCharRefInside, GfmAutolinkLiteralTrailCharRefStart}
 use Rattle.markdown_engine.specs.declared.tokenizer.Tokenizer.{Tokenizer}
 use Rattle.markdown_engine.proofs.LawSteps.{if-step, code-step}
 use Rattle.markdown_engine.proofs.OperationFields.{ahead-none, ahead-some, ahead-consumed, current-ahead}
@@ -20,7 +20,7 @@ use Rattle.markdown_plan.proofs.CharactersAlongContent.{text-passed}
 use Rattle.markdown_leaf_gfm.specs.GfmAutolinkLiteral.{end_of, kind_here, trail_value, trail_at, ends_bracket, reference_start_at, reference_at, trails_on, trail_ends, bracket_after_ends, reference_start_ends, reference_ends, states, bracket_after_words, reference_start_words, reference_words, trail_words}
 use Rattle.markdown_leaf_gfm.proofs.TrailChecks.{look-passed, space-here, space-end, trails-mark, trails-and, trails-angle, trails-bracket, trails-else, trails-end, name-letter, name-closed, name-other, name-none, name-end, look-ended, look-next, look-retry, low-by, trail-low}
 use Rattle.markdown_engine.specs.StateWords.{Words, Law, GoesIn}
-use Rattle.markdown_plan.specs.LayerEquation.{Within}
+use Rattle.markdown_plan.specs.LayerEquation.{EqualsLayer}
 
 -- past a code the document and the content's end are the same
 trails-then : (mode : Option Bool) (T : Tokenizer) →
@@ -33,7 +33,7 @@ on-then : (T : Tokenizer) →
 unfolding applied moved
 on-then T = ap (trails_on (bytes_of T) (end_of T)) (ahead-consumed T)
 
-pub trail-law : (W : Words) → Within states W → Law W trail_words
+pub trail-law : (W : Words) → EqualsLayer states W → Law W trail_words
 trail-law W within T alone look =
     let P : Stepped → Type 0 = GoesIn W (weight_at 1 T) (trail_ends T) in
     let at : List Code → Bool = trails_in (bytes_of T) (end_of T) None in
@@ -76,7 +76,7 @@ or-rest : (a b : Bool) → a ≡ false → a || b ≡ b
 or-rest true b e = cc
 or-rest false b e = refl
 
-pub bracket_after-law : (W : Words) → Within states W → Law W bracket_after_words
+pub bracket_after-law : (W : Words) → EqualsLayer states W → Law W bracket_after_words
 bracket_after-law W within T alone look =
     let P : Stepped → Type 0 = GoesIn W (weight_at 2 T) (bracket_after_ends T) in
     let test : Bool = trails_on (bytes_of T) (end_of T) (ahead T) in
@@ -85,7 +85,7 @@ bracket_after-law W within T alone look =
     (λ h. look-ended W 2 test true T alone (sym (or_left _ _ (sym here ∙ h))))
     (λ h. look-retry W 2 test _ GfmAutolinkLiteralTrail (within GfmAutolinkLiteralTrail) T alone (omega arith) (sym (or-rest _ _ (sym here ∙ h))) look (λ ok U x. x))
 
-pub reference_start-law : (W : Words) → Within states W → Law W reference_start_words
+pub reference_start-law : (W : Words) → EqualsLayer states W → Law W reference_start_words
 reference_start-law W within T alone text =
     let P : Stepped → Type 0 = GoesIn W (weight_at 2 T) (reference_start_ends T) in
     let at : Bool → List Code → Bool = λ seen. trails_in (bytes_of T) (end_of T) (Some seen) in
@@ -100,7 +100,7 @@ reference_start-law W within T alone text =
     text (λ ok U x. x))
     (λ h. look-ended W 2 (at false (ahead T)) false T alone (sym (ap (at false) b.whole ∙ name-none (bytes_of T) (end_of T) b.code more (ap letter_value b.value ∙ h)))))
 
-pub reference-law : (W : Words) → Within states W → Law W reference_words
+pub reference-law : (W : Words) → EqualsLayer states W → Law W reference_words
 reference-law W within T alone text =
     let P : Stepped → Type 0 = GoesIn W (weight_at 1 T) (reference_ends T) in
     let at : List Code → Bool = trails_in (bytes_of T) (end_of T) (Some true) in

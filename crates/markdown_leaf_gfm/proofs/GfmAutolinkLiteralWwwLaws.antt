@@ -4,18 +4,18 @@ use Rattle.std.proofs.lemmas.Bool.{eqb-true, and_right, and_from}
 use Rattle.std.proofs.lemmas.Bool.Decides.{nat_tests}
 use Rattle.std.specs.Prelude.{codes, reverse, is_some}
 use Rattle.std.specs.List.{list_any}
-use Rattle.markdown_engine_content.specs.Codes.{Code}
+use Rattle.markdown_content.specs.Codes.{Code}
 use Rattle.markdown_engine.specs.FailedRun.{Grown}
-use Rattle.markdown_engine_content.specs.ListFunctions.{rest_of}
+use Rattle.markdown_content.specs.ListFunctions.{rest_of}
 use Rattle.markdown_engine.specs.Operations.{Op, Enter, Exit, Consume, ahead, applied, current_of, previous_of, done, frame_of, scratched}
-use Rattle.markdown_engine_content.specs.Place.{ahead_at, code_before, last_of, value_of}
+use Rattle.markdown_content.specs.Place.{ahead_at, code_before, last_of, value_of}
 use Rattle.markdown_engine.specs.StateRuns.{Stepped, Goes, going_state, going_in, restored}
 use Rattle.markdown_engine.specs.TreeOps.{consumes}
 use Rattle.markdown_engine.specs.Weights.{codes_left, weight_at}
 use Rattle.markdown_event.specs.declared.event.Name.TheVariants as N
-use Rattle.markdown_state.specs.declared.state.State.{State}
-use Rattle.markdown_state.specs.declared.state.State.TheVariants.{Next, Retry, Nok}
-use Rattle.markdown_state.specs.declared.state.StateName.TheVariants.{GfmAutolinkLiteralDomainInside, GfmAutolinkLiteralWwwAfter, GfmAutolinkLiteralWwwPrefixAfter, GfmAutolinkLiteralWwwPrefixInside}
+use Rattle.markdown_event.specs.declared.state.State.{State}
+use Rattle.markdown_event.specs.declared.state.State.TheVariants.{Next, Retry, Nok}
+use Rattle.markdown_event.specs.declared.state.StateName.TheVariants.{GfmAutolinkLiteralDomainInside, GfmAutolinkLiteralWwwAfter, GfmAutolinkLiteralWwwPrefixAfter, GfmAutolinkLiteralWwwPrefixInside}
 use Rattle.markdown_engine.specs.declared.tokenizer.TokenizeState.{TokenizeState}
 use Rattle.markdown_engine.specs.declared.tokenizer.Attempt.{Attempt}
 use Rattle.markdown_engine.specs.declared.tokenizer.Tokenizer.{Tokenizer}
@@ -28,19 +28,19 @@ use Rattle.markdown_model.specs.GfmAutolinkLiteral.{domain, domain_from, path, p
 use Rattle.markdown_plan.specs.Plan.{Plan, plan_of, DoesAs}
 use Rattle.markdown_plan.proofs.PlanSteps.{EndsAs-plan, none-read}
 use Rattle.markdown_plan.specs.Characters.{bytes_of}
-use Rattle.markdown_leaf_gfm.specs.GfmAutolinkLiteral.{end_of, before_of, is_on, rested, sized, ended, unworded, precedes_www, www_letter, may_begin_www, is_ruled_out, KnowsDomains, www_start_at, www_start_step, www_prefix_at, entered_literal, StartReady, LiteralReady, WwwReady, Looks, Tries, is_well}
+use Rattle.markdown_leaf_gfm.specs.GfmAutolinkLiteral.{end_of, before_of, is_on, rested, sized, ended, unworded, precedes_www, www_letter, may_begin_www, is_ruled_out, KnowsDomains, www_start_at, www_start_step, www_prefix_at, entered_literal, LiteralStartReady, LiteralReady, WwwReady, Looks, OnlyLooks, is_well}
 use Rattle.markdown_leaf_gfm.specs.GfmAutolinkLiteral.{fields_after, domain_plan, address, pass_ops, domain_ends, www_test, www_prefix_ends, www_prefix_after_ends, www_after_ends, www_here, www_start_ends, states, www_after_words, www_prefix_after_words, www_prefix_words, www_start_words}
 use Rattle.markdown_leaf_gfm.proofs.GfmAutolinkLiteralReadings.{address-is, www-more, www-other, www-left}
 use Rattle.markdown_leaf_gfm.specs.DomainOutlook.{is_barred}
 use Rattle.markdown_leaf_gfm.proofs.DomainOutlookLemmas.{ruled-out}
 use Rattle.markdown_leaf_gfm.proofs.GfmAutolinkLiteralCovers.{leaf_ops, from-here-is, whole-www, www-is, www-none}
-use Rattle.markdown_leaf_gfm.proofs.GfmAutolinkLiteralAttempts.{Begins, literal-ended, no-literal}
+use Rattle.markdown_leaf_gfm.proofs.GfmAutolinkLiteralAttempts.{BeginsByConsuming, literal-ended, no-literal}
 use Rattle.markdown_leaf_gfm.proofs.GfmAutolinkLiteralAddressLaws.{does-same}
 use Rattle.markdown_leaf_gfm.proofs.CheckSteps.{Goes-both, goes-then}
 use Rattle.markdown_model.proofs.GrammarSteps.{if-false, and-left, then-none}
 use Rattle.markdown_engine.specs.StateWords.{Words, Law, GoesIn, end_words, weight_in}
 use Rattle.markdown_plan.proofs.LawStepsOfLayer.{GoesOn-map, Goes-plain, Goes-end, Goes-no}
-use Rattle.markdown_plan.specs.LayerEquation.{Within}
+use Rattle.markdown_plan.specs.LayerEquation.{EqualsLayer}
 
 -- In the word.
 
@@ -48,7 +48,7 @@ sized-same : (s : TokenizeState) → s.size ≡ 0 → sized 0 s ≡ s
 sized-same s e = subst (λ n. record s { size = n } ≡ s) e refl
 
 tries-here : (test : Bool) (T : Tokenizer) (ok : Bool) (U : Tokenizer) → ok ≡ test →
-    U ≡ scratched (sized 0 T.tokenize_state) T → Tries test T ok U
+    U ≡ scratched (sized 0 T.tokenize_state) T → OnlyLooks test T ok U
 tries-here test T ok U e h =
     let s : TokenizeState = sized 0 T.tokenize_state in
     record {
@@ -58,7 +58,7 @@ tries-here test T ok U e h =
     }
 
 tries-past : (n : ℕ) (test then1 : Bool) (T : Tokenizer) (ok : Bool) (U : Tokenizer) → then1 ≡ test →
-    Tries then1 (scratched (sized n T.tokenize_state) (done (Consume ∷ []) T)) ok U → Tries test T ok U
+    OnlyLooks then1 (scratched (sized n T.tokenize_state) (done (Consume ∷ []) T)) ok U → OnlyLooks test T ok U
 tries-past n test then1 T ok U e k =
     record {
       answer = k.answer ∙ e;
@@ -68,7 +68,7 @@ tries-past n test then1 T ok U e k =
 
 -- behind the last code of it
 tries-last : (test then1 : Bool) (T : Tokenizer) (ok : Bool) (U : Tokenizer) → then1 ≡ test →
-    Looks then1 (scratched (sized 0 T.tokenize_state) (done (Consume ∷ []) T)) ok U → Tries test T ok U
+    Looks then1 (scratched (sized 0 T.tokenize_state) (done (Consume ∷ []) T)) ok U → OnlyLooks test T ok U
 tries-last test then1 T ok U e k =
     record {
       answer = k.answer ∙ e;
@@ -78,10 +78,10 @@ tries-last test then1 T ok U e k =
 
 www-then : (n : ℕ) (T : Tokenizer) (ok : Bool) (U : Tokenizer) →
     www_prefix_ends (scratched (sized n T.tokenize_state) (done (Consume ∷ []) T)) ok U →
-    Tries (www_test n (rest_of (ahead T))) (scratched (sized n T.tokenize_state) (done (Consume ∷ []) T)) ok U
+    OnlyLooks (www_test n (rest_of (ahead T))) (scratched (sized n T.tokenize_state) (done (Consume ∷ []) T)) ok U
 unfolding scratched
 www-then n T ok U k =
-    subst (λ cs. Tries (www_test n cs) (scratched (sized n T.tokenize_state) (done (Consume ∷ []) T)) ok U) (ahead-consumed T) k
+    subst (λ cs. OnlyLooks (www_test n cs) (scratched (sized n T.tokenize_state) (done (Consume ∷ []) T)) ok U) (ahead-consumed T) k
 
 last-then : (T : Tokenizer) (ok : Bool) (U : Tokenizer) →
     www_prefix_after_ends (scratched (sized 0 T.tokenize_state) (done (Consume ∷ []) T)) ok U →
@@ -117,11 +117,11 @@ stands-by : (T : Tokenizer) (cs : List Code) →
 stands-by T cs =
     and-three (is_on T) (may_precede_www (before_of T)) (begins_with_www cs) ∙ ap (λ m. (is_on T && m) && begins_with_www cs) (sym (before-www T))
 
-module _ (W : Words) (within : Within states W) where
+module _ (W : Words) (within : EqualsLayer states W) where
   tries-ended : (T : Tokenizer) (test : Bool) → T.attempts ≡ [] → test ≡ false →
-      GoesIn W (weight_at 1 T) (Tries test T) (unworded T)
+      GoesIn W (weight_at 1 T) (OnlyLooks test T) (unworded T)
   tries-ended T test alone e =
-      Goes-end W (weight_at 1 T) (Tries test T) false (scratched (sized 0 T.tokenize_state) T) (attempts-scratched (sized 0 T.tokenize_state) T ∙ alone) (omega arith) (λ ok U x. tries-here test T ok U (x.0 ∙ sym e) x.1)
+      Goes-end W (weight_at 1 T) (OnlyLooks test T) false (scratched (sized 0 T.tokenize_state) T) (attempts-scratched (sized 0 T.tokenize_state) T ∙ alone) (omega arith) (λ ok U x. tries-here test T ok U (x.0 ∙ sym e) x.1)
 
   pub www_prefix-law : Law W www_prefix_words
   www_prefix-law T alone on =
@@ -168,7 +168,7 @@ module _ (W : Words) (within : Within states W) where
   -- The address.
 
   begins-by : (s : TokenizeState) (d : List Code) (os : List Op) → s.seen ≡ false →
-      Begins (if is_well (fields_after d s) then Some (consumes d ++ os) else None)
+      BeginsByConsuming (if is_well (fields_after d s) then Some (consumes d ++ os) else None)
   begins-by s [] os e xs k =
       let no : None ≡ Some xs = sym (if-false (is_well s) (Some os) None (ap (λ b. b && (not (s.marker == 95) && not (s.marker_b == 95))) e)) ∙ k in cc
   begins-by s (c ∷ cs) os e xs k = by_test (is_well (fields_after (c ∷ cs) s)) xs k
@@ -179,11 +179,11 @@ module _ (W : Words) (within : Within states W) where
       by_test false xs k = cc
 
   begins-address : (bytes : List ℕ) (end : ℕ) (s : TokenizeState) (cs : List Code) → rested s ≡ s →
-      Begins (pass_ops (address bytes end cs))
+      BeginsByConsuming (pass_ops (address bytes end cs))
   begins-address bytes end s cs e =
-      subst Begins (sym (address-is bytes end s cs e)) (begins-by s (domain_from bytes end cs).0 (consumes (path_from bytes end s.size s.size_b (domain_from bytes end cs).1).0) (ap (λ (x : TokenizeState). x.seen) (sym e)))
+      subst BeginsByConsuming (sym (address-is bytes end s cs e)) (begins-by s (domain_from bytes end cs).0 (consumes (path_from bytes end s.size s.size_b (domain_from bytes end cs).1).0) (ap (λ (x : TokenizeState). x.seen) (sym e)))
 
-  address-ready : (T : Tokenizer) → StartReady T → LiteralReady (entered_literal N.GfmAutolinkLiteralWww T)
+  address-ready : (T : Tokenizer) → LiteralStartReady T → LiteralReady (entered_literal N.GfmAutolinkLiteralWww T)
   unfolding applied
   address-ready T k =
       let opened : T.tokenize_state.size ≡ 0 = ap (λ (x : TokenizeState). x.size) (sym k.resting) in
@@ -201,7 +201,7 @@ module _ (W : Words) (within : Within states W) where
   -- The start.
 
   -- the word is looked at, and all is as before
-  back-here : (A U : Tokenizer) (test ok : Bool) → A.tokenize_state.size ≡ 0 → Tries test A ok U →
+  back-here : (A U : Tokenizer) (test ok : Bool) → A.tokenize_state.size ≡ 0 → OnlyLooks test A ok U →
       restored (frame_of true (Next GfmAutolinkLiteralDomainInside) Nok A) U ≡ A
   back-here A U test ok e k =
       restored-grown true (Next GfmAutolinkLiteralDomainInside) Nok A U k.grown ∙ ap (λ (x : TokenizeState). scratched x A) (k.scratch ∙ sized-same A.tokenize_state e) ∙ scratched-same A
@@ -218,7 +218,7 @@ module _ (W : Words) (within : Within states W) where
   no-word false b w e h = refl
 
   -- the word has been looked at, behind the Enter of the literal
-  word-tried : (T : Tokenizer) → StartReady T → may_begin_www T ≡ true → (b : Bool) (U : Tokenizer) →
+  word-tried : (T : Tokenizer) → LiteralStartReady T → may_begin_www T ≡ true → (b : Bool) (U : Tokenizer) →
       www_prefix_ends (entered_literal N.GfmAutolinkLiteralWww T) b U →
       Goes W.ready W.ends (weight_in W) (weight_at 7 T) (DoesAs 0 (plan_of (www_here T)) T.tokenize_state T) (frame_of false (Next GfmAutolinkLiteralWwwAfter) Nok (entered_literal N.GfmAutolinkLiteralWww T) ∷ []) (going_state (frame_of true (Next GfmAutolinkLiteralDomainInside) Nok (entered_literal N.GfmAutolinkLiteralWww T)) b) (going_in (frame_of true (Next GfmAutolinkLiteralDomainInside) Nok (entered_literal N.GfmAutolinkLiteralWww T)) b U)
   unfolding frame_of
@@ -251,7 +251,7 @@ module _ (W : Words) (within : Within states W) where
       outer : Attempt
       outer = frame_of false (Next GfmAutolinkLiteralWwwAfter) Nok A
 
-      here : (ok : Bool) → Tries (www_test A.tokenize_state.size (ahead A)) A ok U →
+      here : (ok : Bool) → OnlyLooks (www_test A.tokenize_state.size (ahead A)) A ok U →
           restored (frame_of true (Next GfmAutolinkLiteralDomainInside) Nok A) U ≡ A
       here ok k = back-here A U (www_test A.tokenize_state.size (ahead A)) ok size k
 
@@ -269,7 +269,7 @@ module _ (W : Words) (within : Within states W) where
           goes-then W n (DoesAs 0 p T.tokenize_state T) outer [] Nok {w = end_words false} refl A tt (omega (arith, left))
           (λ ok V now y. no-literal W n N.GfmAutolinkLiteralWww GfmAutolinkLiteralWwwAfter p T (omega arith) (www-fails T (ahead T) (and_right (may_begin_www T) (www_test 0 (ahead T)) seen)) ok V y)
 
-      by_answer : (b : Bool) → Tries (www_test A.tokenize_state.size (ahead A)) A b U →
+      by_answer : (b : Bool) → OnlyLooks (www_test A.tokenize_state.size (ahead A)) A b U →
           G (outer ∷ []) (going_state (frame_of true (Next GfmAutolinkLiteralDomainInside) Nok A) b) (going_in (frame_of true (Next GfmAutolinkLiteralDomainInside) Nok A) b U)
       by_answer true k =
           subst (λ (X : Tokenizer). G (outer ∷ []) (Next GfmAutolinkLiteralDomainInside) X) (sym (here true k)) (on-address (sym test-same ∙ sym k.answer))

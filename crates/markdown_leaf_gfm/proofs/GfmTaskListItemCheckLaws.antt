@@ -1,22 +1,22 @@
 -- The laws of the states of a check of a task list item.
-use Rattle.std.proofs.Common.{◌≡◌, ℕ, ◌==◌, ◌&&◌, ◌||◌, ◌<◌, ◌≤◌, not, Bool, true, false, if◌then◌else◌, Option, Some, None, List, [], ◌∷◌, ◌++◌, length, refl, sym, ap, subst, ◌∙◌, arith, append-nil}
+use Rattle.std.proofs.Common.{◌≡◌, ℕ, ◌==◌, ◌&&◌, ◌||◌, ◌<◌, ◌≤◌, not, Bool, true, false, if◌then◌else◌, Option, Some, None, List, [], ◌∷◌, length, refl, sym, ap, subst, ◌∙◌, arith}
 use Rattle.std.specs.Prelude.{codes}
 use Rattle.std.proofs.Math.Bool.{and-false}
 use Rattle.std.proofs.lemmas.Bool.{or_from, or_left, or_right}
-use Rattle.markdown_engine_content.specs.Codes.{Code, is_blank, is_line_ending}
+use Rattle.markdown_content.specs.Codes.{Code, is_blank, is_line_ending}
 use Rattle.markdown_engine.specs.FailedRun.{Grown, Fails}
-use Rattle.markdown_engine_content.specs.ListFunctions.{rest_of}
+use Rattle.markdown_content.specs.ListFunctions.{rest_of}
 use Rattle.markdown_engine.specs.Operations.{Op, current_of, ahead, IsOpen, done, moves, scratched, frame_of}
 use Rattle.markdown_engine.specs.StateRuns.{Stepped, stepped, Goes, restored, going_state, going_in}
-use Rattle.markdown_engine_content.specs.Tree.{Forest, ◌⊕◌, leaf, group}
+use Rattle.markdown_content.specs.Tree.{Forest, ◌⊕◌, leaf, group}
 use Rattle.markdown_engine.specs.Weights.{weight_at, codes_left}
 use Rattle.markdown_event.specs.declared.event.Name.{Name}
 use Rattle.markdown_event.specs.declared.event.Name.TheVariants as N
-use Rattle.markdown_state.specs.declared.state.State.{State}
-use Rattle.markdown_state.specs.declared.state.State.TheVariants.{Next, Retry, Nok}
-use Rattle.markdown_state.specs.declared.state.StateName.{StateName}
-use Rattle.markdown_state.specs.declared.state.StateName.TheVariants as H
-use Rattle.markdown_state.specs.declared.state.StateName.TheVariants.{GfmTaskListItemCheckInside, GfmTaskListItemCheckClose, GfmTaskListItemCheckAfter, GfmTaskListItemCheckAfterSpaceOrTab, SpaceOrTabStart}
+use Rattle.markdown_event.specs.declared.state.State.{State}
+use Rattle.markdown_event.specs.declared.state.State.TheVariants.{Next, Retry, Nok}
+use Rattle.markdown_event.specs.declared.state.StateName.{StateName}
+use Rattle.markdown_event.specs.declared.state.StateName.TheVariants as H
+use Rattle.markdown_event.specs.declared.state.StateName.TheVariants.{GfmTaskListItemCheckInside, GfmTaskListItemCheckClose, GfmTaskListItemCheckAfter, GfmTaskListItemCheckAfterSpaceOrTab, SpaceOrTabStart}
 use Rattle.markdown_engine.specs.declared.tokenizer.TokenizeState.{TokenizeState}
 use Rattle.markdown_engine.specs.declared.tokenizer.Tokenizer.{Tokenizer}
 use Rattle.markdown_engine.proofs.ReadingSequences.{scratched-same, left-read}
@@ -34,14 +34,16 @@ use Rattle.markdown_partial.specs.PartialSpaceOrTab.{most, rested}
 use Rattle.markdown_partial.proofs.WhitespaceReadings.{space-all}
 use Rattle.markdown_plan.specs.Plan.{Plan, preceded, tree_ops, plan_of, KeepsAs}
 use Rattle.markdown_plan.proofs.PlanSteps.{EndsAs-plan}
-use Rattle.markdown_plan.proofs.PassedByReadings.{Gives, Covers, IsSome, Gives-bind, Gives-before, Gives-switched, Gives-one, Gives-gives, Covers-group, Covers-row, Covers-leaf, some-first}
-use Rattle.markdown_leaf_gfm.specs.GfmTaskListItemCheck.{opening, value, closing, is_mark, is_space, may_begin, start_at, start_step, inside_at, close_at, space_asked, looked, after_at, after_space_or_tab_at, MayLook, IsOpened, check_here, start_ends, after_plan}
+use Rattle.markdown_model.proofs.PlainConstructs.{reads_switched, reads_gfm_task_list_item_check}
+use Rattle.markdown_plan.proofs.SolidReadings.{ReadsSolid, plain-reads}
+use Rattle.markdown_leaf_gfm.specs.GfmTaskListItemCheck.{opening, value, closing, is_mark, is_space, may_begin, start_at, start_step, inside_at, close_at, space_asked, looked, after_at, after_space_or_tab_at, MayLook, IsCheckOpened, check_here, start_ends, after_plan}
 use Rattle.markdown_leaf_gfm.specs.GfmTaskListItemCheck.{close_plan, inside_plan, inside_ends, close_ends, after_ends, after_space_or_tab_ends, states_and_called, after_space_or_tab_words, after_words, close_words, inside_words, start_words, states}
 use Rattle.markdown_leaf_gfm.proofs.CheckSteps.{Goes-looked, goes-then}
 use Rattle.markdown_model.proofs.GrammarSteps.{span-takes, bind-some, bind-none, before-some, before-none, before-other, one-here, one-not, switched-on, switched-off, and-left, and-right, if-true, if-false}
 use Rattle.markdown_engine.specs.StateWords.{StateWords, Words, Law, GoesIn, weight_in}
 use Rattle.markdown_plan.proofs.LawStepsOfLayer.{GoesOn-map, Goes-end, Goes-next, Goes-yes, Goes-no}
-use Rattle.markdown_plan.specs.LayerEquation.{Within, AreLawful}
+use Rattle.markdown_plan.specs.LayerEquation.{EqualsLayer, AreLawful}
+use Rattle.markdown_plan.specs.ByteTests.{at_blank}
 
 -- The reading, by what stands there.
 
@@ -109,17 +111,9 @@ no-check false cs e = ap tree_ops (switched-off gfm_task_list_item_check false c
 no-check true cs e =
     ap tree_ops (switched-on gfm_task_list_item_check true cs refl ∙ bind-none _ _ _ (one-not (is_value 91) cs e))
 
-whole : (on : Bool) → Gives Covers (provided on >> gfm_task_list_item_check)
-unfolding gfm_task_list_item_check
+whole : (on : Bool) → ReadsSolid (provided on >> gfm_task_list_item_check)
 whole on =
-    Gives-switched on gfm_task_list_item_check Covers
-    (Gives-bind _ _ IsSome Covers (Gives-one (is_value 91)) (λ front ws p.
-    Gives-bind _ _ IsSome _ (Gives-one (λ c. is_whitespace_code c || is_among (codes "xX") c)) (λ read vs q.
-    Gives-bind _ _ IsSome _ (Gives-before _ begins_task_text IsSome (Gives-one (is_value 93))) (λ back us r.
-    Gives-gives (group N.GfmTaskListItemCheck (leaf N.GfmTaskListItemMarker front ⊕ leaf (check_name read) read ⊕ leaf N.GfmTaskListItemMarker back)) _
-    (Covers-group N.GfmTaskListItemCheck _ _ (some-first ws _ (λ e. p.1 (p.0 ∙ e)))
-    (Covers-row _ _ ws (vs ++ (us ++ [])) (Covers-leaf _ front ws p.0)
-    (Covers-row _ _ vs (us ++ []) (Covers-leaf _ read vs q.0) (Covers-leaf _ back (us ++ []) (r.0 ∙ sym (append-nil us))))))))))
+    plain-reads [] _ (reads_switched [] on gfm_task_list_item_check (reads_gfm_task_list_item_check []))
 
 -- The conditions go on.
 
@@ -132,7 +126,7 @@ look-done os T h k =
 
 -- The states.
 
-pub start-law : (W : Words) → Within states_and_called W → Law W start_words
+pub start-law : (W : Words) → EqualsLayer states_and_called W → Law W start_words
 start-law W within T alone look =
     let p : Plan = plan_of (check_here T) in
     let E : Bool → Tokenizer → Type 0 = KeepsAs 0 p T in
@@ -149,7 +143,7 @@ start-law W within T alone look =
     (λ h. Goes-no W 2 0 p T alone (ap p b.whole ∙ no-check (may_begin T) (b.code ∷ rest_of (ahead T)) (ap (λ v. may_begin T && (v == 91)) b.value ∙ h)))))
 
 -- past the value of this name
-value-goes : (W : Words) → Within states_and_called W → (name : Name) (T : Tokenizer) → T.attempts ≡ [] → IsOpened T →
+value-goes : (W : Words) → EqualsLayer states_and_called W → (name : Name) (T : Tokenizer) → T.attempts ≡ [] → IsCheckOpened T →
     1 ≤ length (ahead T) → inside_plan (ahead T) ≡ preceded (value name) (close_plan (rest_of (ahead T))) →
     GoesIn W (weight_at 1 T) (inside_ends T) (stepped (Next GfmTaskListItemCheckClose) (done (value name) T))
 value-goes W within name T alone on some e =
@@ -157,7 +151,7 @@ value-goes W within name T alone on some e =
     (record { whole = (let w : IsOpen N.GfmTaskListItemCheck T = on.whole in grind (arith, law_rules)); look = look-done (value name) T some on.look })
     (λ ok U x. x)
 
-pub inside-law : (W : Words) → Within states_and_called W → Law W inside_words
+pub inside-law : (W : Words) → EqualsLayer states_and_called W → Law W inside_words
 inside-law W within T alone on =
     let P : Stepped → Type 0 = GoesIn W (weight_at 1 T) (inside_ends T) in
     code-step P (current_of T) (λ o. inside_at o T)
@@ -171,7 +165,7 @@ inside-law W within T alone on =
     (ap inside_plan b.whole ∙ if-false _ _ _ (ap is_mark b.value ∙ h) ∙ if-true _ _ _ (ap is_space b.value ∙ k)))
     (λ k. Goes-no W 1 1 inside_plan T alone (ap inside_plan b.whole ∙ if-false _ _ _ (ap is_mark b.value ∙ h) ∙ if-false _ _ _ (ap is_space b.value ∙ k)))))
 
-pub close-law : (W : Words) → Within states_and_called W → Law W close_words
+pub close-law : (W : Words) → EqualsLayer states_and_called W → Law W close_words
 close-law W within T alone on =
     let P : Stepped → Type 0 = GoesIn W (weight_at 1 T) (close_ends T) in
     code-step P (current_of T) (λ o. close_at o T)
@@ -193,7 +187,7 @@ after-keeps T false U e h =
     record { none = if-false _ _ _ (sym e); grown = subst (λ (x : Tokenizer). Grown 0 T x) (sym h) (Grown-refl 0 T); scratch = ap (λ (x : Tokenizer). x.tokenize_state) h }
 
 -- what the attempt of whitespace leaves, where a blank code stands
-record Spaced (T U : Tokenizer) : Type 0 where
+record CheckSpaced (T U : Tokenizer) : Type 0 where
   back : restored (frame_of true State.Ok Nok (scratched (space_asked T.tokenize_state) T)) U ≡ T
   after : ahead U ≡ (span is_blank (ahead T)).1
   fewer : codes_left U ≤ codes_left T
@@ -213,7 +207,7 @@ unfolding scratched
 back-there s T e h = ap (λ (x : TokenizeState). scratched x T) (e ∙ sym h) ∙ scratched-same T
 
 spaced : (T U : Tokenizer) → MayLook T → next_is is_blank (ahead T) ≡ true →
-    PartialSpaceOrTab.start_ends (scratched (space_asked T.tokenize_state) T) true U → Spaced T U
+    PartialSpaceOrTab.start_ends (scratched (space_asked T.tokenize_state) T) true U → CheckSpaced T U
 unfolding scratched rest_read
 spaced T U look h k =
     let s : TokenizeState = T.tokenize_state in
@@ -234,7 +228,7 @@ never-refused : (T U : Tokenizer) → MayLook T → next_is is_blank (ahead T) �
 unfolding scratched
 never-refused T U look h k = some-none _ _ (space-there T h look.short) k.refused
 
-space-ready : (T : Tokenizer) → MayLook T → PartialSpaceOrTab.StartReady (scratched (space_asked T.tokenize_state) T)
+space-ready : (T : Tokenizer) → MayLook T → PartialSpaceOrTab.SpaceOrTabStartReady (scratched (space_asked T.tokenize_state) T)
 unfolding scratched
 space-ready T look =
     record { none_yet = ap (λ (s : TokenizeState). s.space_or_tab_size) (sym look.resting); linked = λ h. cc }
@@ -256,7 +250,7 @@ check-ended W n End true A V X some e k =
 check-ended W n End false A V X some e k =
     (record { goes_on = tt; falls = some }, λ ok U x. subst (λ b. End b U) (sym x.0) (subst (End false) (sym (x.1 ∙ e)) k))
 
-look-law : (W : Words) → Within states_and_called W → (T : Tokenizer) → T.attempts ≡ [] → MayLook T →
+look-law : (W : Words) → EqualsLayer states_and_called W → (T : Tokenizer) → T.attempts ≡ [] → MayLook T →
     next_is is_blank (ahead T) ≡ true → begins_task_text (ahead T) ≡ not (is_empty (span is_blank (ahead T)).1) →
     GoesIn W (weight_at 4 T) (after_ends T) (stepped (Retry SpaceOrTabStart) (looked T))
 look-law W within T alone look b text =
@@ -265,12 +259,12 @@ look-law W within T alone look b text =
     let A : Tokenizer = scratched (space_asked s) T in
     Goes-looked W n (after_ends T) (Retry SpaceOrTabStart) (within SpaceOrTabStart) (Next GfmTaskListItemCheckAfterSpaceOrTab) Nok State.Ok Nok A (attempts-scratched _ T ∙ alone) (space-ready T look)
     (omega (arith, left-scratched (space_asked s) T))
-    (λ U now k. let g : Spaced T U = spaced T U look b k in (
+    (λ U now k. let g : CheckSpaced T U = spaced T U look b k in (
     goes-then W n (after_ends T) (frame_of true State.Ok Nok A) [] (Next GfmTaskListItemCheckAfterSpaceOrTab) (within GfmTaskListItemCheckAfterSpaceOrTab) U tt (omega (arith, g.fewer))
     (λ ok V now m. check-ended W n (after_ends T) ok A V T (omega arith) (ap (restored (frame_of true State.Ok Nok A)) m.1 ∙ g.back) (after-keeps T ok T (m.0 ∙ ap (λ cs. not (is_empty cs)) g.after ∙ sym text) refl))))
     (λ U now k. absurd (never-refused T U look b k))
 
-pub after-law : (W : Words) → Within states_and_called W → Law W after_words
+pub after-law : (W : Words) → EqualsLayer states_and_called W → Law W after_words
 after-law W within T alone look =
     let P : Stepped → Type 0 = GoesIn W (weight_at 4 T) (after_ends T) in
     code-step P (current_of T) (λ o. after_at o T)
@@ -280,11 +274,11 @@ after-law W within T alone look =
     if-step P (c == 10) _ _
     (λ h. Goes-yes W 4 0 after_plan [] T alone (ap after_plan b.whole ∙ if-true _ _ _ (or_left _ _ (ap (λ v. v == 10) b.value ∙ h))))
     (λ h. let line : is_line_ending b.code ≡ false = ap (λ v. v == 10) b.value ∙ h in
-    if-step P (PartialSpaceOrTab.at_blank (Some c)) _ _
-    (λ k. let blank : is_blank b.code ≡ true = ap (λ v. PartialSpaceOrTab.at_blank (Some v)) b.value ∙ k in
+    if-step P (at_blank (Some c)) _ _
+    (λ k. let blank : is_blank b.code ≡ true = ap (λ v. at_blank (Some v)) b.value ∙ k in
     look-law W within T alone look (ap (next_is is_blank) b.whole ∙ blank)
     (ap begins_task_text b.whole ∙ blank-text b.code more line blank ∙ ap (λ cs. not (is_empty (span is_blank cs).1)) (sym b.whole)))
-    (λ k. let blank : is_blank b.code ≡ false = ap (λ v. PartialSpaceOrTab.at_blank (Some v)) b.value ∙ k in
+    (λ k. let blank : is_blank b.code ≡ false = ap (λ v. at_blank (Some v)) b.value ∙ k in
     Goes-no W 4 0 after_plan T alone
     (ap after_plan b.whole ∙ if-false _ _ _ (or_from _ _ line (ap (λ x. x && not (is_empty (span is_blank more).1)) blank))))))
 
@@ -297,7 +291,7 @@ after_space_or_tab-law W T alone _ =
     (λ c e. Goes-end W n (after_space_or_tab_ends T) true T alone (omega arith) (λ ok U k. (k.0 ∙ ap (λ cs. not (is_empty cs)) (sym (ahead-some T c e).whole), k.1)))
 
 -- of these states, and of any other as it is given
-pub laws : (W : Words) → Within states_and_called W → (t : StateName → StateWords) → AreLawful W t →
+pub laws : (W : Words) → EqualsLayer states_and_called W → (t : StateName → StateWords) → AreLawful W t →
     AreLawful W (states t)
 laws W within t other H.GfmTaskListItemCheckStart = start-law W within
 laws W within t other H.GfmTaskListItemCheckInside = inside-law W within

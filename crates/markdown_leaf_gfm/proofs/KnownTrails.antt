@@ -1,7 +1,7 @@
 -- What is known of trails in a path is so behind each code too.
 use Rattle.std.proofs.Common.{◌≡◌, ℕ, ◌==◌, ◌&&◌, ◌||◌, Bool, true, false, if◌then◌else◌, Some, None, List, ◌∷◌, refl, sym, ap, ◌∙◌}
 use Rattle.std.proofs.lemmas.Bool.{eqb-true, or_parts}
-use Rattle.markdown_engine_content.specs.Codes.{Code}
+use Rattle.markdown_content.specs.Codes.{Code}
 use Rattle.markdown_model.specs.CodeTests.{is_letter}
 use Rattle.markdown_model.specs.GfmAutolinkLiteral.{trails_in}
 use Rattle.markdown_model.proofs.GrammarSteps.{and-left, and-right}

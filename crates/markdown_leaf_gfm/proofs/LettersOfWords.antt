@@ -1,6 +1,6 @@
 -- What a word reads whose letters stand in either case, letter by letter.
 use Rattle.std.proofs.Common.{◌≡◌, ℕ, ◌+◌, ◌==◌, ◌&&◌, ◌||◌, Bool, true, false, Option, Some, None, List, [], ◌∷◌, ◌++◌, refl, sym, ap, ◌∙◌}
-use Rattle.markdown_engine_content.specs.Codes.{Code}
+use Rattle.markdown_content.specs.Codes.{Code}
 use Rattle.markdown_model.specs.CodeTests.{is_letter, next_is}
 use Rattle.markdown_model.specs.Grammar.{Reading, ◌>>=◌, either, one, gives, with_first}
 use Rattle.markdown_model.specs.GfmAutolinkLiteral.{letters}

@@ -4,21 +4,21 @@ use Rattle.std.specs.Prelude.{codes, IsSome}
 use Rattle.std.specs.Str.{IsCharBoundary}
 use Rattle.std.proofs.lemmas.Bool.{eqb-true}
 use Rattle.std.proofs.lemmas.Bool.Decides.{nat_tests}
-use Rattle.markdown_engine_content.specs.Codes.{Code}
+use Rattle.markdown_content.specs.Codes.{Code}
 use Rattle.markdown_engine.specs.FailedRun.{Grown}
 use Rattle.markdown_engine.specs.Operations.{Consume, HasCode, ahead, applied, current_of, done, frame_of, scratched}
-use Rattle.markdown_engine_content.specs.Place.{Place, moved, code_at, point_of, value_of, start_or}
+use Rattle.markdown_content.specs.Place.{Place, moved, code_at, point_of, value_of, start_or}
 use Rattle.markdown_engine.specs.StateRuns.{stepped, restored}
 use Rattle.markdown_engine.specs.Weights.{weight_at}
-use Rattle.markdown_state.specs.declared.state.State.{State}
-use Rattle.markdown_state.specs.declared.state.State.TheVariants.{Next, Retry}
+use Rattle.markdown_event.specs.declared.state.State.{State}
+use Rattle.markdown_event.specs.declared.state.State.TheVariants.{Next, Retry}
 use Rattle.markdown_engine.specs.declared.tokenizer.TokenizeState.{TokenizeState}
 use Rattle.markdown_engine.specs.declared.tokenizer.Tokenizer.{Tokenizer}
 use Rattle.markdown_engine.proofs.ReadingSequences.{scratched-same}
 use Rattle.markdown_engine.proofs.LawSteps.{Grown-refl, restored-grown}
 use Rattle.markdown_engine.proofs.OperationFields.{attempts-applied, left-consumed, left-ahead, some-codes}
 use Rattle.markdown_engine.proofs.OperationLemmas.{Grown-applied, scratch-done}
-use Rattle.markdown_engine_content.proofs.PlaceRules.{point_ahead, point_end}
+use Rattle.markdown_content.proofs.PlaceRules.{point_ahead, point_end}
 use Rattle.markdown_model.specs.CodeTests.{is_among, is_letter}
 use Rattle.markdown_model.specs.GfmAutolinkLiteral.{is_space, trails_in}
 use Rattle.markdown_util.specs.Neighbours.{class_of, after_index}
@@ -27,7 +27,7 @@ use Rattle.markdown_plan.proofs.CharactersAlongContent.{text-moved}
 use Rattle.markdown_leaf_gfm.specs.GfmAutolinkLiteral.{end_of, kind_here, ended, MayClass, MayCount, TrailReady, LiteralReady, LookReady, Looks, trails_on, trail_value}
 use Rattle.markdown_engine.specs.StateWords.{Words, GoesIn, StateWords, words_in}
 use Rattle.markdown_plan.proofs.LawStepsOfLayer.{Goes-plain, Goes-end}
-use Rattle.markdown_state.specs.declared.state.StateName.{StateName}
+use Rattle.markdown_event.specs.declared.state.StateName.{StateName}
 
 -- These codes are ASCII.
 

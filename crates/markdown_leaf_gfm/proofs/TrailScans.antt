@@ -2,9 +2,9 @@
 use Rattle.std.proofs.Common.{◌≡◌, ℕ, ◌==◌, ◌||◌, nat_lt, Bool, true, false, Option, Some, None, List, [], ◌∷◌, refl, sym, ap, subst, ◌∙◌, arith}
 use Rattle.std.specs.Prelude.{codes}
 use Rattle.std.proofs.lemmas.Bool.Decides.{nat_tests}
-use Rattle.markdown_engine_content.specs.Codes.{Code}
-use Rattle.markdown_engine_content.specs.Place.{Place, ahead_at, code_at, moved, point_of}
-use Rattle.markdown_engine_content.proofs.PlaceRules.{IsAhead, ahead_none, ahead_some, code_at_ahead, code_at_end, point_ahead, point_end, end_moved}
+use Rattle.markdown_content.specs.Codes.{Code}
+use Rattle.markdown_content.specs.Place.{Place, ahead_at, code_at, moved, point_of}
+use Rattle.markdown_content.proofs.PlaceRules.{IsAhead, ahead_none, ahead_some, code_at_ahead, code_at_end, point_ahead, point_end, end_moved}
 use Rattle.markdown_model.specs.CodeTests.{is_among, is_empty, next_is, is_whitespace_code}
 use Rattle.markdown_model.specs.GfmAutolinkLiteral.{is_space, trails_in}
 use Rattle.markdown_util.specs.Neighbours.{class_of, after_index}

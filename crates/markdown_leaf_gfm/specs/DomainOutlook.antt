@@ -1,8 +1,8 @@
 -- What is known beforehand of the domains that begin behind a `_`.
 use Rattle.std.specs.Prelude.{◌≡◌, ℕ, suc, ◌+◌, Bool, false, ◌&&◌, ◌||◌, not, ◌==◌, if◌then◌else◌, cond, List, [], ◌∷◌, reverse, Option, Some, None}
 use Rattle.std.specs.Str.{byte}
-use Rattle.markdown_engine_content.specs.Codes.{Code}
-use Rattle.markdown_lists.specs.PlaceIndex.{is_kept}
+use Rattle.markdown_content.specs.Codes.{Code}
+use Rattle.markdown_event.specs.PlaceIndex.{is_kept}
 use Rattle.markdown_model.specs.CodeTests.{is_value, next_is}
 use Rattle.markdown_model.specs.GfmAutolinkLiteral.{last_parts_plain, domain_from}
 
@@ -43,5 +43,5 @@ rules_out None at = false
 rules_out (Some places) at = is_kept at places
 
 -- what is known, if anything, is right for these codes
-abbrev pub IsRightFor : List ℕ → ℕ → List Code → Option (List ℕ) → Type 0
-IsRightFor bytes end cs index = (places : List ℕ) → index ≡ Some places → places ≡ no_domains bytes end cs
+abbrev pub KnowsNoDomains : List ℕ → ℕ → List Code → Option (List ℕ) → Type 0
+KnowsNoDomains bytes end cs index = (places : List ℕ) → index ≡ Some places → places ≡ no_domains bytes end cs

@@ -1,8 +1,8 @@
 -- Domains and trails, read beforehand over the codes of a content.
 use Rattle.std.specs.Prelude.{◌≡◌, ℕ, zero, suc, ◌+◌, ◌-◌, ◌<◌, nat_lt, Bool, true, false, ◌&&◌, ◌==◌, if◌then◌else◌, List, [], ◌∷◌, length, Option, Some, None}
 use Rattle.std.specs.Str.{byte}
-use Rattle.markdown_engine_content.specs.Codes.{Code}
-use Rattle.markdown_engine_content.specs.Place.{Place, ahead_at, moved}
+use Rattle.markdown_content.specs.Codes.{Code}
+use Rattle.markdown_content.specs.Place.{Place, ahead_at, moved}
 use Rattle.markdown_model.specs.CodeTests.{is_value}
 use Rattle.markdown_plan.specs.ByteTests.{letter_value}
 use Rattle.markdown_model.specs.GfmAutolinkLiteral.{trails_in, domain_from, is_domain_code}
@@ -65,7 +65,7 @@ barred_by at barred dots (c ∷ cs) =
     barred_by (suc at) behind.0 behind.1 cs
 
 -- what is known at a place that the domain reaches over, as how many codes stand before its end, and before the place behind that `_`
-pub record Reaches (bytes : List ℕ) (p : Place) (o : Outlook) : Type 0 where
+pub record ReachesOver (bytes : List ℕ) (p : Place) (o : Outlook) : Type 0 where
   pub ends : p.at < o.end → o.end ≡ p.at + length (domain_at bytes p)
   pub bars : p.at < o.end → o.barred - p.at ≡ barred_in (domain_at bytes p)
 

@@ -2,11 +2,11 @@
 use Rattle.std.specs.Prelude.{◌≡◌, ◌<◌, ◌≤◌, ◌+◌, ℕ, Bool, true, false, ◌&&◌, ◌||◌, not, ◌-◌, ◌==◌, nat_lt, if◌then◌else◌, Option, Some, None, is_some, List, [], ◌∷◌, ◌++◌, drop, length, codes, IsUtf8}
 use Rattle.std.specs.Str.{IsCharBoundary, byte}
 use Rattle.std.specs.List.{list_all, list_any, slice_range}
-use Rattle.markdown_engine_content.specs.Codes.{Code}
+use Rattle.markdown_content.specs.Codes.{Code}
 use Rattle.markdown_engine.specs.FailedRun.{Grown}
 use Rattle.markdown_engine.specs.Operations.{Op, Enter, Exit, Consume, HasCode, ahead, attempted, done, current_of, previous_of, scratched, IsOpen}
 use Rattle.markdown_engine.specs.PastTree.{EndsAs, TreeReading}
-use Rattle.markdown_engine_content.specs.Place.{point_of, last_of}
+use Rattle.markdown_content.specs.Place.{point_of, last_of}
 use Rattle.markdown_engine.specs.StateRuns.{Stepped, stepped}
 use Rattle.markdown_engine.specs.TreeOps.{consumes}
 use Rattle.markdown_engine.specs.Weights.{codes_left}
@@ -20,14 +20,14 @@ use Rattle.markdown_plan.specs.ByteTests.{letter_value, among_values}
 use Rattle.markdown_plan.specs.Characters.{bytes_of, later_value, at_later, ReadsText}
 use Rattle.markdown_plan.specs.Plan.{Plan, preceded, DoesAs}
 use Rattle.markdown_partial.specs.PartialSpaceOrTab.{most}
-use Rattle.markdown_leaf_gfm.specs.DomainOutlook.{rules_out, IsRightFor}
+use Rattle.markdown_leaf_gfm.specs.DomainOutlook.{rules_out, KnowsNoDomains}
 use Rattle.markdown_event.specs.declared.event.Name.{Name}
 use Rattle.markdown_event.specs.declared.event.Name.TheVariants as N
-use Rattle.markdown_state.specs.declared.state.State.TheVariants.{Next, Retry, Nok}
-use Rattle.markdown_state.specs.declared.state.State.TheVariants as State
-use Rattle.markdown_state.specs.declared.state.StateName.{StateName}
-use Rattle.markdown_state.specs.declared.state.StateName.TheVariants.{GfmAutolinkLiteralDomainAfter, GfmAutolinkLiteralDomainAtPunctuation, GfmAutolinkLiteralDomainInside, GfmAutolinkLiteralPathAfter, GfmAutolinkLiteralPathAtPunctuation, GfmAutolinkLiteralPathInside, GfmAutolinkLiteralProtocolAfter, GfmAutolinkLiteralProtocolPrefixInside, GfmAutolinkLiteralProtocolSlashesInside}
-use Rattle.markdown_state.specs.declared.state.StateName.TheVariants.{GfmAutolinkLiteralTrail, GfmAutolinkLiteralTrailBracketAfter, GfmAutolinkLiteralTrailCharRefInside, GfmAutolinkLiteralTrailCharRefStart, GfmAutolinkLiteralWwwAfter, GfmAutolinkLiteralWwwPrefixAfter, GfmAutolinkLiteralWwwPrefixInside, GfmAutolinkLiteralProtocolStart, GfmAutolinkLiteralWwwStart}
+use Rattle.markdown_event.specs.declared.state.State.TheVariants.{Next, Retry, Nok}
+use Rattle.markdown_event.specs.declared.state.State.TheVariants as State
+use Rattle.markdown_event.specs.declared.state.StateName.{StateName}
+use Rattle.markdown_event.specs.declared.state.StateName.TheVariants.{GfmAutolinkLiteralDomainAfter, GfmAutolinkLiteralDomainAtPunctuation, GfmAutolinkLiteralDomainInside, GfmAutolinkLiteralPathAfter, GfmAutolinkLiteralPathAtPunctuation, GfmAutolinkLiteralPathInside, GfmAutolinkLiteralProtocolAfter, GfmAutolinkLiteralProtocolPrefixInside, GfmAutolinkLiteralProtocolSlashesInside}
+use Rattle.markdown_event.specs.declared.state.StateName.TheVariants.{GfmAutolinkLiteralTrail, GfmAutolinkLiteralTrailBracketAfter, GfmAutolinkLiteralTrailCharRefInside, GfmAutolinkLiteralTrailCharRefStart, GfmAutolinkLiteralWwwAfter, GfmAutolinkLiteralWwwPrefixAfter, GfmAutolinkLiteralWwwPrefixInside, GfmAutolinkLiteralProtocolStart, GfmAutolinkLiteralWwwStart}
 use Rattle.markdown_engine.specs.declared.tokenizer.TokenizeState.{TokenizeState}
 use Rattle.markdown_engine.specs.declared.tokenizer.Tokenizer.{Tokenizer}
 use Rattle.markdown_engine.specs.StateWords.{StateWords}
@@ -423,7 +423,7 @@ pub record MayName (T : Tokenizer) : Type 0 where
   pub within : (point_of T.cursor).index ≤ length (bytes_of T)
 
 -- in the name of a protocol: letters stand from the start of the literal on
-pub record SchemeReady (T : Tokenizer) : Type 0 where
+pub record ProtocolSchemeReady (T : Tokenizer) : Type 0 where
   pub text : ReadsText T
   pub fresh : named T.tokenize_state ≡ rested T.tokenize_state
   pub short : codes_left T ≤ most
@@ -464,7 +464,7 @@ pub record LookReady (T : Tokenizer) : Type 0 where
   pub begins : at_later (current_of T) ≡ false
 
 -- at the start of a literal
-pub record StartReady (T : Tokenizer) : Type 0 where
+pub record LiteralStartReady (T : Tokenizer) : Type 0 where
   pub text : ReadsText T
   pub resting : rested T.tokenize_state ≡ T.tokenize_state
   pub short : codes_left T ≤ most
@@ -473,7 +473,7 @@ pub record StartReady (T : Tokenizer) : Type 0 where
 
 -- what is known of domains is right for the content
 abbrev pub KnowsDomains : Tokenizer → Type 0
-KnowsDomains T = IsRightFor (bytes_of T) (end_of T) T.cursor.codes T.tokenize_state.no_domains
+KnowsDomains T = KnowsNoDomains (bytes_of T) (end_of T) T.cursor.codes T.tokenize_state.no_domains
 
 -- it is known that no domain begins at the place
 abbrev pub is_ruled_out : Tokenizer → Bool
@@ -598,7 +598,7 @@ abbrev pub www_test : ℕ → List Code → Bool
 www_test n cs = elim (letters (drop n (codes "www.")) cs) [ None ↦ false | Some r ↦ not (is_empty r.1) ]
 
 -- a run that only looks, and puts the count to rest
-pub record Tries (test : Bool) (T : Tokenizer) (ok : Bool) (U : Tokenizer) : Type 0 where
+pub record OnlyLooks (test : Bool) (T : Tokenizer) (ok : Bool) (U : Tokenizer) : Type 0 where
   pub answer : ok ≡ test
   pub grown : Grown 0 T U
   pub scratch : U.tokenize_state ≡ sized 0 T.tokenize_state
@@ -608,7 +608,7 @@ pub record WwwReady (T : Tokenizer) : Type 0 where
   pub few : T.tokenize_state.size ≤ 3
 
 abbrev pub www_prefix_ends : Tokenizer → Bool → Tokenizer → Type 0
-www_prefix_ends T ok U = Tries (www_test T.tokenize_state.size (ahead T)) T ok U
+www_prefix_ends T ok U = OnlyLooks (www_test T.tokenize_state.size (ahead T)) T ok U
 
 -- a code stands behind it
 abbrev pub www_prefix_after_ends : Tokenizer → Bool → Tokenizer → Type 0
@@ -627,10 +627,10 @@ www_start_ends T ok U = EndsAs (www_here T) None T.tokenize_state T ok U
 -- The states.
 
 abbrev pub protocol_start_words : StateWords
-protocol_start_words = record { ready = StartReady; step = protocol_start_step; ends = protocol_start_ends; rank = λ T. 7 }
+protocol_start_words = record { ready = LiteralStartReady; step = protocol_start_step; ends = protocol_start_ends; rank = λ T. 7 }
 
 abbrev pub prefix_words : StateWords
-prefix_words = record { ready = SchemeReady; step = prefix_step; ends = prefix_ends; rank = λ T. 1 }
+prefix_words = record { ready = ProtocolSchemeReady; step = prefix_step; ends = prefix_ends; rank = λ T. 1 }
 
 abbrev pub slashes_words : StateWords
 slashes_words = record { ready = WordReady; step = slashes_step; ends = slashes_ends; rank = λ T. 1 }
@@ -639,7 +639,7 @@ abbrev pub protocol_after_words : StateWords
 protocol_after_words = record { ready = IsOpen N.GfmAutolinkLiteralProtocol; step = protocol_after_step; ends = protocol_after_ends; rank = λ T. 1 }
 
 abbrev pub www_start_words : StateWords
-www_start_words = record { ready = StartReady; step = www_start_step; ends = www_start_ends; rank = λ T. 7 }
+www_start_words = record { ready = LiteralStartReady; step = www_start_step; ends = www_start_ends; rank = λ T. 7 }
 
 abbrev pub www_prefix_words : StateWords
 www_prefix_words = record { ready = WwwReady; step = www_prefix_step; ends = www_prefix_ends; rank = λ T. 1 }

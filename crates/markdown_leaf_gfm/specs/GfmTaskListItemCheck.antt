@@ -1,6 +1,6 @@
 -- What the states of a check of a task list item do, and how runs from them end.
 use Rattle.std.specs.Prelude.{◌≡◌, ◌≤◌, ℕ, Bool, true, false, ◌&&◌, ◌||◌, not, ◌==◌, if◌then◌else◌, Option, Some, None, is_none, List, [], ◌∷◌, codes}
-use Rattle.markdown_engine_content.specs.ListFunctions.{rest_of}
+use Rattle.markdown_content.specs.ListFunctions.{rest_of}
 use Rattle.markdown_engine.specs.Operations.{Op, Enter, Exit, Consume, IsOpen, ahead, attempted, done, current_of, previous_of, scratched}
 use Rattle.markdown_engine.specs.PastTree.{EndsAs, TreeReading}
 use Rattle.markdown_engine.specs.StateRuns.{Stepped, stepped}
@@ -8,19 +8,19 @@ use Rattle.markdown_engine.specs.Weights.{codes_left}
 use Rattle.markdown_model.specs.CodeTests.{is_value, is_among, is_whitespace_code, is_empty, next_is}
 use Rattle.markdown_model.specs.LeafConstructs.{begins_task_text}
 use Rattle.markdown_model.specs.SingleConstructs as SingleConstructs
-use Rattle.markdown_plan.specs.ByteTests.{among_values}
+use Rattle.markdown_plan.specs.ByteTests.{among_values, at_blank}
 use Rattle.markdown_plan.specs.Plan.{Plan, preceded, KeepsAs}
 use Rattle.markdown_partial.specs.PartialSpaceOrTab as PartialSpaceOrTab
-use Rattle.markdown_partial.specs.PartialSpaceOrTab.{most, asked, rested, at_blank}
+use Rattle.markdown_partial.specs.PartialSpaceOrTab.{most, asked, rested}
 use Rattle.markdown_event.specs.declared.event.Name.{Name}
 use Rattle.markdown_event.specs.declared.event.Name.TheVariants as N
-use Rattle.markdown_state.specs.declared.state.State.TheVariants.{Next, Retry, Nok}
-use Rattle.markdown_state.specs.declared.state.State.TheVariants as State
-use Rattle.markdown_state.specs.declared.state.StateName.TheVariants.{GfmTaskListItemCheckInside, GfmTaskListItemCheckClose, GfmTaskListItemCheckAfter, GfmTaskListItemCheckAfterSpaceOrTab, SpaceOrTabStart, GfmTaskListItemCheckStart}
+use Rattle.markdown_event.specs.declared.state.State.TheVariants.{Next, Retry, Nok}
+use Rattle.markdown_event.specs.declared.state.State.TheVariants as State
+use Rattle.markdown_event.specs.declared.state.StateName.TheVariants.{GfmTaskListItemCheckInside, GfmTaskListItemCheckClose, GfmTaskListItemCheckAfter, GfmTaskListItemCheckAfterSpaceOrTab, SpaceOrTabStart, GfmTaskListItemCheckStart}
 use Rattle.markdown_engine.specs.declared.tokenizer.TokenizeState.{TokenizeState}
 use Rattle.markdown_engine.specs.declared.tokenizer.Tokenizer.{Tokenizer}
 use Rattle.markdown_engine.specs.StateWords.{StateWords}
-use Rattle.markdown_state.specs.declared.state.StateName.{StateName}
+use Rattle.markdown_event.specs.declared.state.StateName.{StateName}
 use Rattle.std.specs.Str.{byte}
 
 -- Operations.
@@ -103,7 +103,7 @@ pub record MayLook (T : Tokenizer) : Type 0 where
   pub short : codes_left T ≤ most
 
 -- between the brackets
-pub record IsOpened (T : Tokenizer) : Type 0 where
+pub record IsCheckOpened (T : Tokenizer) : Type 0 where
   pub whole : IsOpen N.GfmTaskListItemCheck T
   pub look : MayLook T
 
@@ -147,10 +147,10 @@ abbrev pub start_words : StateWords
 start_words = record { ready = MayLook; step = start_step; ends = start_ends; rank = λ T. 2 }
 
 abbrev pub inside_words : StateWords
-inside_words = record { ready = IsOpened; step = inside_step; ends = inside_ends; rank = λ T. 1 }
+inside_words = record { ready = IsCheckOpened; step = inside_step; ends = inside_ends; rank = λ T. 1 }
 
 abbrev pub close_words : StateWords
-close_words = record { ready = IsOpened; step = close_step; ends = close_ends; rank = λ T. 1 }
+close_words = record { ready = IsCheckOpened; step = close_step; ends = close_ends; rank = λ T. 1 }
 
 abbrev pub after_words : StateWords
 after_words = record { ready = MayLook; step = after_step; ends = after_ends; rank = λ T. 4 }

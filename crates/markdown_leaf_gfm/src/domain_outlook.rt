@@ -1,26 +1,26 @@
-// Where no domain begins behind a `_`.
-//
-// A domain that holds a `_` in one of its last two parts is none, and from each place in it up to that `_` what is read ends where it does, and
-// holds that `_` as well. So such a stretch of codes is read once for all the places in it at which a literal from `www.` on may begin.
+//! Where no domain begins behind a `_`.
+//!
+//! A domain that holds a `_` in one of its last two parts is none, and from each place in it up to that `_` what is read ends where it does, and
+//! holds that `_` as well. So such a stretch of codes is read once for all the places in it at which a literal from `www.` on may begin.
 #![tactic(auto)]
 
 ghost use Rattle.std.specs.Prelude.{◌≡◌, ◌+◌, ◌==◌, ◌&&◌, ◌||◌, not, codes, nat_le, nat_lt, IfOk, IsSome, Some, None, true, false, if◌then◌else◌, length};
 ghost use Rattle.std.specs.Str.{byte};
-ghost use Rattle.markdown_engine_content.specs.Place.{ahead_at, code_at, moved, point_of};
-ghost use Rattle.markdown_engine_content.specs.Stretch.{past_stretch};
+ghost use Rattle.markdown_content.specs.Place.{ahead_at, code_at, moved, point_of};
+ghost use Rattle.markdown_content.specs.Stretch.{past_stretch};
 ghost use Rattle.markdown_plan.specs.ByteTests.{among_values};
 ghost use Rattle.markdown_plan.specs.Characters.{IsText, at_later, later_value};
 ghost use Rattle.markdown_model.specs.GfmAutolinkLiteral.{is_other, is_space, trails_in};
 ghost use Rattle.markdown_util.specs.Neighbours.{class_of, after_index};
 ghost use Rattle.markdown_leaf_gfm.specs.GfmAutolinkLiteral.{ends_bracket};
 ghost use Rattle.markdown_leaf_gfm.specs.DomainOutlook as DomainOutlook;
-ghost use Rattle.markdown_leaf_gfm.specs.DomainScans.{IsLook, Reaches, name_look, www_at, goes_on, domain_at, behind_code, barred_by, underscores};
+ghost use Rattle.markdown_leaf_gfm.specs.DomainScans.{IsLook, ReachesOver, name_look, www_at, goes_on, domain_at, behind_code, barred_by, underscores};
 
 use crate::gfm_autolink_literal::is_trail;
-use markdown_engine_content::byte_table;
-use markdown_engine_content::bytes::{ByteSet, ByteTable};
-use markdown_engine_content::cursor::Cursor;
-use markdown_lists::place_index::PlaceIndex;
+use markdown_content::byte_table;
+use markdown_content::bytes::{ByteSet, ByteTable};
+use markdown_content::cursor::Cursor;
+use markdown_event::place_index::PlaceIndex;
 use markdown_plan::bytes::is_letter;
 use markdown_util::util::char::{Kind, kind_after_index};
 use std::alloc::{AllocError, Global};
@@ -250,8 +250,8 @@ impl Outlook {
     // Of the domain over the place, which is read where it is not known yet.
     fn over(self, bytes: &[u8], place: &Cursor) -> Outlook
         requires text { IsText bytes.now place.now }
-        requires known { Reaches bytes.now place.now self }
-        ensures known { Reaches bytes.now place.now result }
+        requires known { ReachesOver bytes.now place.now self }
+        ensures known { ReachesOver bytes.now place.now result }
         ensures here { DomainOutlook.is_barred bytes.now place.now.end.index (ahead_at place.now) ≡ nat_lt place.now.at result.barred }
     {
         if place.passed() < self.end {

@@ -1,26 +1,26 @@
-// The states of autolink literals with a protocol or from `www.` on (GFM 6.9). The pass of email literals is in `markdown_leaf_email_pass`.
-//
-//     protocol_literal ::= scheme domain path                  a scheme is one of `SCHEMES`, such as 'https://'
-//     www_literal ::= domain path                              where 'www.' and a further code stand
-//     domain ::= (other | '-' | '.' | '_')+                    no '.' or '_' at which a trail begins
-//     path ::= code*                                           up to whitespace, a trail or the end
-//     trail ::= (mark | ']' | '&' letter+ ';')* trail_end
-//     mark ::= one of ! " ' ) , * . : ; ? _ ~
-//     trail_end ::= '<' | ']' before whitespace, '(', '[' or the end | nothing, before whitespace or the document's end
-//
-// Letters stand in either case. No letter stands before a protocol; before `www.` stands nothing, whitespace or one of `(*_[]~`. A domain holds
-// a character that is none of `.`, `_` and `-`, and neither of its last two parts between dots holds `_`. A `)` that closes a `(` of the path
-// belongs to it. `other` and whitespace are classes of the document's characters; literals end with the content at the latest.
-//
-// Events, over the whole literal:
-//
-//     GfmAutolinkLiteralProtocol or GfmAutolinkLiteralWww
-//
-// Example: in `see www.a.b/c.` the literal is `www.a.b/c`.
-//
-// Definition: `gfm_autolink_literal_protocol` and `gfm_autolink_literal_www` in `markdown_model/specs/GfmAutolinkLiteral.antt`.
-//
-// Each state answers the error where a growth is refused; then `failed` is true.
+//! The states of autolink literals with a protocol or from `www.` on (GFM 6.9). The pass of email literals is in `markdown_passes`.
+//!
+//!     protocol_literal ::= scheme domain path                  a scheme is one of `SCHEMES`, such as 'https://'
+//!     www_literal ::= domain path                              where 'www.' and a further code stand
+//!     domain ::= (other | '-' | '.' | '_')+                    no '.' or '_' at which a trail begins
+//!     path ::= code*                                           up to whitespace, a trail or the end
+//!     trail ::= (mark | ']' | '&' letter+ ';')* trail_end
+//!     mark ::= one of ! " ' ) , * . : ; ? _ ~
+//!     trail_end ::= '<' | ']' before whitespace, '(', '[' or the end | nothing, before whitespace or the document's end
+//!
+//! Letters stand in either case. No letter stands before a protocol; before `www.` stands nothing, whitespace or one of `(*_[]~`. A domain holds
+//! a character that is none of `.`, `_` and `-`, and neither of its last two parts between dots holds `_`. A `)` that closes a `(` of the path
+//! belongs to it. `other` and whitespace are classes of the document's characters; literals end with the content at the latest.
+//!
+//! Events, over the whole literal:
+//!
+//!     GfmAutolinkLiteralProtocol or GfmAutolinkLiteralWww
+//!
+//! Example: in `see www.a.b/c.` the literal is `www.a.b/c`.
+//!
+//! Definition: `gfm_autolink_literal_protocol` and `gfm_autolink_literal_www` in `markdown_model/specs/GfmAutolinkLiteral.antt`.
+//!
+//! Each state answers the error where a growth is refused; then `failed` is true.
 #![tactic(auto, using(markdown_engine::proofs::OperationFields::op_rules), unfolding(markdown_engine::specs::Operations::scratched))]
 
 ghost use Rattle.std.specs.Prelude.{◌≡◌, ◌<◌, ◌+◌, false, map, Some, IfOk, OnErr, IsTrue};
@@ -34,10 +34,10 @@ ghost use Rattle.markdown_leaf_gfm.specs.GfmAutolinkLiteral.{www_start_step, www
 
 use markdown_engine::tokenizer::{TokenizeState, Tokenizer};
 use markdown_event::event::Name;
+use markdown_event::state::{State, StateName};
 use markdown_partial::literal_letters;
 use markdown_partial::literal_words::SCHEMES;
 use markdown_plan::bytes::is_letter;
-use markdown_state::state::{State, StateName};
 use markdown_util::util::char::{Kind, kind_after_index};
 use std::alloc::AllocError;
 

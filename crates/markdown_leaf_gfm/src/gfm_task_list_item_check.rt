@@ -1,23 +1,23 @@
-// The states of checks of task list items, at the first code of the item's first paragraph (GFM 5.3).
-//
-//     gfm_task_list_item_check ::= '[' value ']'               before line_ending, or blank+ and a further code
-//     value ::= blank | line_ending | 'x' | 'X'
-//
-// What follows the check is not read: it is left to others.
-//
-// Events:
-//
-//     GfmTaskListItemCheck
-//       GfmTaskListItemMarker            `[`
-//       GfmTaskListItemValueChecked      `x` or `X`, or
-//       GfmTaskListItemValueUnchecked    a space, a column of a tab or a line ending
-//       GfmTaskListItemMarker            `]`
-//
-// Example: `[x] tea`, the text of the list item `- [x] tea`.
-//
-// Definition: `gfm_task_list_item_check` in `markdown_model/specs/LeafConstructs.antt`.
-//
-// Each state answers the error where a growth is refused; then `failed` is true.
+//! The states of checks of task list items, at the first code of the item's first paragraph (GFM 5.3).
+//!
+//!     gfm_task_list_item_check ::= '[' value ']'               before line_ending, or blank+ and a further code
+//!     value ::= blank | line_ending | 'x' | 'X'
+//!
+//! What follows the check is not read: it is left to others.
+//!
+//! Events:
+//!
+//!     GfmTaskListItemCheck
+//!       GfmTaskListItemMarker            `[`
+//!       GfmTaskListItemValueChecked      `x` or `X`, or
+//!       GfmTaskListItemValueUnchecked    a space, a column of a tab or a line ending
+//!       GfmTaskListItemMarker            `]`
+//!
+//! Example: `[x] tea`, the text of the list item `- [x] tea`.
+//!
+//! Definition: `gfm_task_list_item_check` in `markdown_model/specs/LeafConstructs.antt`.
+//!
+//! Each state answers the error where a growth is refused; then `failed` is true.
 #![tactic(auto, using(markdown_engine::proofs::OperationFields::op_rules))]
 
 ghost use Rattle.std.specs.Prelude.{◌≡◌, IfOk, OnErr, IsTrue};
@@ -27,8 +27,8 @@ ghost use Rattle.markdown_leaf_gfm.specs.GfmTaskListItemCheck.{start_step, insid
 
 use markdown_engine::tokenizer::Tokenizer;
 use markdown_event::event::Name;
+use markdown_event::state::{State, StateName};
 use markdown_partial::partial_space_or_tab::space_or_tab;
-use markdown_state::state::{State, StateName};
 use std::alloc::AllocError;
 
 /// At the start of a check: the opening bracket, with no code before it in the content.

@@ -1,9 +1,9 @@
 -- Readings of codes from one code on.
 use Rattle.std.proofs.Common.{◌≡◌, ℕ, ◌≤◌, ◌==◌, ◌&&◌, Bool, true, false, Option, Some, None, List, [], ◌∷◌, ◌++◌, length, refl, sym, ap, subst, ◌∙◌, append_assoc, arith}
 use Rattle.std.proofs.lemmas.Bool.{eqb-true}
-use Rattle.markdown_engine_content.specs.Codes.{Code}
-use Rattle.markdown_engine_index.specs.SequenceIndex.{stand_next, last_where}
-use Rattle.markdown_engine_index.proofs.RunIndexFacts.{later-none}
+use Rattle.markdown_content.specs.Codes.{Code}
+use Rattle.markdown_notes.specs.SequenceIndex.{stand_next, last_where}
+use Rattle.markdown_notes.proofs.RunIndexFacts.{later-none}
 use Rattle.markdown_model.specs.CodeTests.{is_value, is_whitespace_code, next_is}
 use Rattle.markdown_model.specs.Grammar.{Reading, either, if_next, before, one, any_number, with_first, word_of, up_to_word, ◌then_◌}
 use Rattle.markdown_model.proofs.ReadingsCover.{itself, takes_up_to_word}
@@ -11,7 +11,7 @@ use Rattle.markdown_model.proofs.ReadsACode.{Left, Consumes, with_takes, word_ta
 use Rattle.markdown_plan.specs.PrecededReadings.{after}
 use Rattle.markdown_plan.proofs.PrecededReadingLemmas.{then-after, after-more, after-none}
 use Rattle.markdown_leaf_html.specs.HtmlByteTests.{whitespace_value}
-use Rattle.markdown_leaf_html.proofs.HtmlLineBreaks.{Goes}
+use Rattle.markdown_leaf_html.proofs.HtmlLineBreaks.{PassesItsCodes}
 use Rattle.markdown_model.proofs.GrammarSteps.{span-takes, span-none, one-here, one-not, then-none, either-second, either-some}
 
 -- Codes before what a reading gives.
@@ -266,6 +266,6 @@ pub whitespace-other : (n : ℕ) (c : Code) → whitespace_value n ≡ false →
     is_value n c ≡ false
 whitespace-other n c e h = whitespace-by n c (is_value n c) e h refl
 
-pub up-goes : (n : ℕ) (ns : List ℕ) → whitespace_value n ≡ false → Goes (up_to_word (n ∷ ns))
+pub up-goes : (n : ℕ) (ns : List ℕ) → whitespace_value n ≡ false → PassesItsCodes (up_to_word (n ∷ ns))
 up-goes n ns e =
     record { takes = takes_up_to_word (n ∷ ns); consumes = up_takes n ns; skips = λ c cs h. up-other n ns c cs (whitespace-other n c e h) }

@@ -1,13 +1,13 @@
 -- What is still to be read of comments, instructions, declarations, CDATA sections and closing tags, from one code on.
 use Rattle.std.proofs.Common.{◌≡◌, ℕ, true, false, Some, None, List, [], ◌∷◌, refl, sym, ◌∙◌}
-use Rattle.markdown_engine_content.specs.Codes.{Code}
+use Rattle.markdown_content.specs.Codes.{Code}
 use Rattle.markdown_model.specs.CodeTests.{is_value, is_letter, is_whitespace_code, next_is}
 use Rattle.markdown_model.specs.Grammar.{Reading, either, one, any_number, with_first, word, word_of, through, ◌then_◌}
 use Rattle.markdown_model.specs.HtmlText.{optional_spaces, tag_name}
 use Rattle.markdown_model.proofs.ReadingsCover.{takes_then, takes_word, takes_optional_spaces}
 use Rattle.markdown_model.proofs.ReadsACode.{any_takes, text_takes}
 use Rattle.markdown_leaf_html.specs.HtmlTextRests.{tag_rest, closing_between, is_name_code, marked, after_mark, after_two_marks, comment_inside, cdata_opening, instruction_after_one, declaration_rest, open_rest}
-use Rattle.markdown_leaf_html.proofs.HtmlLineBreaks.{Goes}
+use Rattle.markdown_leaf_html.proofs.HtmlLineBreaks.{PassesItsCodes}
 use Rattle.markdown_leaf_html.proofs.HtmlCodeReadings.{then-first, then-nothing, either-on, either-left, either-right, either-none, either-same, either-here, one-on, one-none, any-on, any-none, word-on, word-none, word-here, word-then, word-then-none, last-then, up-other, up-first, up-end, up-here, second_takes, up-goes}
 use Rattle.markdown_model.proofs.GrammarSteps.{then-none}
 
@@ -69,7 +69,7 @@ comment-inside-none cs e =
 
 -- Declarations and instructions.
 
-pub declaration-goes : Goes (through ">")
+pub declaration-goes : PassesItsCodes (through ">")
 unfolding through
 declaration-goes = up-goes 62 [] refl
 
@@ -86,7 +86,7 @@ pub declaration-other : (c : Code) (cs : List Code) → is_value 62 c ≡ false 
 unfolding through
 declaration-other c cs e = up-other 62 [] c cs e
 
-pub instruction-goes : Goes (through "?>")
+pub instruction-goes : PassesItsCodes (through "?>")
 unfolding through
 instruction-goes = up-goes 63 (62 ∷ []) refl
 
@@ -125,7 +125,7 @@ pub spaces-none : (b : Reading (List Code)) (cs : List Code) → next_is is_whit
 unfolding optional_spaces
 spaces-none b cs e = then-nothing optional_spaces b cs (any-none is_whitespace_code cs e)
 
-pub closing-goes : Goes closing_between
+pub closing-goes : PassesItsCodes closing_between
 unfolding optional_spaces
 closing-goes =
     record {

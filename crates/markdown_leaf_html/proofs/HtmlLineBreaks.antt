@@ -2,7 +2,7 @@
 use Rattle.std.proofs.Common.{◌≡◌, ℕ, suc, ◌+◌, ◌≤◌, Bool, true, false, ◌&&◌, ◌||◌, Option, Some, None, List, [], ◌∷◌, ◌++◌, length, drop, refl, sym, ap, subst, ◌∙◌, append_assoc, arith}
 use Rattle.markdown_event.proofs.AndParts.{and-right}
 use Rattle.std.proofs.lemmas.Bool.{or_right}
-use Rattle.markdown_engine_content.specs.Codes.{Code, is_line_ending, is_blank}
+use Rattle.markdown_content.specs.Codes.{Code, is_line_ending, is_blank}
 use Rattle.markdown_engine.specs.Operations.{Op, Exit, Consume, moves, stays}
 use Rattle.markdown_event.specs.declared.event.Name.TheVariants as N
 use Rattle.markdown_model.specs.CodeTests.{is_whitespace_code}
@@ -15,7 +15,7 @@ use Rattle.markdown_leaf_html.specs.HtmlLines.{Mode, InLine, AtStart, InBlank, t
 use Rattle.markdown_leaf_html.proofs.HtmlLineLemmas.{from-ending, from-blank, from-data}
 
 -- it gives codes that it has passed, and there are some; whitespace at hand is a part of them
-pub record Goes (r : Reading (List Code)) : Type 0 where
+pub record PassesItsCodes (r : Reading (List Code)) : Type 0 where
   pub takes : Covers itself [] r
   pub consumes : Consumes 1 r
   pub skips : (c : Code) (cs : List Code) → is_whitespace_code c ≡ true → r (c ∷ cs) ≡ with_first c (r cs)
@@ -106,12 +106,12 @@ moves-on xs ys e = omega (arith, moves-row xs ys, e)
 
 -- A text from whitespace on: the break, and the text from the next line's data on.
 
-abbrev Breaks : Reading (List Code) → Mode → List Code → List Op → Type 0
-Breaks r m cs os = text_from m (r cs) ≡ preceded os (text_of r (drop (moves os) cs))
+abbrev HtmlBreaks : Reading (List Code) → Mode → List Code → List Op → Type 0
+HtmlBreaks r m cs os = text_from m (r cs) ≡ preceded os (text_of r (drop (moves os) cs))
 
 breaks-more : (r : Reading (List Code)) (m n : Mode) (c : Code) (cs : List Code) (front os : List Op) →
-    moves front ≡ 1 → text_from m (r (c ∷ cs)) ≡ preceded front (text_from n (r cs)) → Breaks r n cs os →
-    Breaks r m (c ∷ cs) (front ++ os)
+    moves front ≡ 1 → text_from m (r (c ∷ cs)) ≡ preceded front (text_from n (r cs)) → HtmlBreaks r n cs os →
+    HtmlBreaks r m (c ∷ cs) (front ++ os)
 breaks-more r m n c cs front os one e k =
     let rest : drop (moves (front ++ os)) (c ∷ cs) ≡ drop (moves os) cs = ap (λ x. drop x (c ∷ cs)) (moves-on front os one) in
     e ∙ ap (preceded front) k ∙ sym (preceded-twice front os (text_of r (drop (moves os) cs))) ∙ ap (λ xs. preceded (front ++ os) (text_of r xs)) (sym rest)
@@ -119,23 +119,23 @@ breaks-more r m n c cs front os one e k =
 whitespace-is : (c : Code) → is_blank c ≡ true → is_whitespace_code c ≡ true
 whitespace-is c e = ap (λ b. b || is_line_ending c) e
 
-breaks-by : (ending blank : Bool) (r : Reading (List Code)) → Goes r → (m : Mode) (c : Code) (cs : List Code) →
-    is_line_ending c ≡ ending → takes_blank m && is_blank c ≡ blank → ((n : Mode) → Breaks r n cs (break_from n cs)) →
-    Breaks r m (c ∷ cs) (break_from m (c ∷ cs))
+breaks-by : (ending blank : Bool) (r : Reading (List Code)) → PassesItsCodes r → (m : Mode) (c : Code) (cs : List Code) →
+    is_line_ending c ≡ ending → takes_blank m && is_blank c ≡ blank → ((n : Mode) → HtmlBreaks r n cs (break_from n cs)) →
+    HtmlBreaks r m (c ∷ cs) (break_from m (c ∷ cs))
 breaks-by true blank r g m c cs e h more =
-    subst (λ os. Breaks r m (c ∷ cs) os) (sym (break-ending m c cs e))
+    subst (λ os. HtmlBreaks r m (c ∷ cs) os) (sym (break-ending m c cs e))
     (breaks-more r m AtStart c cs (left_open m ++ ending_ops) (break_from AtStart cs) (moves-ending m)
     (ap (text_from m) (g.skips c cs (or_right (is_blank c) _ e)) ∙ text-ending m c (r cs) e) (more AtStart))
 breaks-by false true r g m c cs e h more =
-    subst (λ os. Breaks r m (c ∷ cs) os) (sym (break-blank m c cs e h))
+    subst (λ os. HtmlBreaks r m (c ∷ cs) os) (sym (break-blank m c cs e h))
     (breaks-more r m InBlank c cs (to_blank m ++ Consume ∷ []) (break_from InBlank cs) (moves-blank m)
     (ap (text_from m) (g.skips c cs (whitespace-is c (and-right (takes_blank m) _ h))) ∙ text-blank m c (r cs) e h) (more InBlank))
 breaks-by false false r g m c cs e h more =
-    subst (λ os. Breaks r m (c ∷ cs) os) (sym (break-data m c cs e h))
+    subst (λ os. HtmlBreaks r m (c ∷ cs) os) (sym (break-data m c cs e h))
     (text-data-by m c cs (r (c ∷ cs)) (g.takes.at (c ∷ cs)) (g.consumes.at (c ∷ cs)) e h
     ∙ ap (λ n. preceded (to_data m) (text_of r (drop n (c ∷ cs)))) (sym (moves-data m)))
 
-pub breaks : (r : Reading (List Code)) → Goes r → (m : Mode) (cs : List Code) → Breaks r m cs (break_from m cs)
+pub breaks : (r : Reading (List Code)) → PassesItsCodes r → (m : Mode) (cs : List Code) → HtmlBreaks r m cs (break_from m cs)
 breaks r g m [] =
     text-end-by m (r []) (g.consumes.at []) ∙ ap (λ n. preceded (to_data m) (text_of r (drop n []))) (sym (moves-data m))
 breaks r g m (c ∷ cs) =

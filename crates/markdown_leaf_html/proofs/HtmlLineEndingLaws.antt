@@ -1,21 +1,21 @@
 -- The laws of the states of HTML in text at the ends of lines.
 use Rattle.std.proofs.Common.{◌≡◌, ℕ, ◌≤◌, ◌==◌, Bool, true, false, Option, Some, None, List, [], ◌∷◌, ◌++◌, length, drop, append_assoc, refl, sym, ap, subst, ◌∙◌, arith}
 use Rattle.std.proofs.lemmas.Bool.{eqb-true}
-use Rattle.markdown_engine_content.specs.Codes.{Code, is_line_ending, is_blank}
-use Rattle.markdown_engine_content.specs.ListFunctions.{rest_of}
+use Rattle.markdown_content.specs.Codes.{Code, is_line_ending, is_blank}
+use Rattle.markdown_content.specs.ListFunctions.{rest_of}
 use Rattle.markdown_engine.specs.Operations.{Op, Enter, Exit, Consume, current_of, ahead, done, moves, scratched}
 use Rattle.markdown_engine.specs.PastTree.{past, Reads, EndsAs}
 use Rattle.markdown_engine.specs.StateRuns.{Stepped, stepped}
-use Rattle.markdown_engine_content.specs.Tree.{Forest, leaf_codes}
+use Rattle.markdown_content.specs.Tree.{Forest, leaf_codes}
 use Rattle.markdown_engine.specs.TreeOps.{ops_of, consumes, IsSolid}
 use Rattle.markdown_engine.specs.Weights.{codes_left, weight_at}
 use Rattle.markdown_event.specs.declared.event.Name.TheVariants as N
-use Rattle.markdown_state.specs.declared.state.State.TheVariants.{Next, Retry, Nok}
-use Rattle.markdown_state.specs.declared.state.StateName.TheVariants as H
+use Rattle.markdown_event.specs.declared.state.State.TheVariants.{Next, Retry, Nok}
+use Rattle.markdown_event.specs.declared.state.StateName.TheVariants as H
 use Rattle.markdown_engine.specs.declared.tokenizer.Tokenizer.{Tokenizer}
 use Rattle.markdown_engine.proofs.ReadingSequences.{scratched-same, left-read}
 use Rattle.markdown_engine.proofs.LawSteps.{code-step, if-step}
-use Rattle.markdown_engine.proofs.OperationFields.{ahead-none, ahead-some, attempts-scratched, left-scratched, left-ahead, Begins, some-codes}
+use Rattle.markdown_engine.proofs.OperationFields.{ahead-none, ahead-some, attempts-scratched, left-scratched, left-ahead, BeginsWithValue, some-codes}
 use Rattle.markdown_engine.proofs.OperationLemmas.{ahead-done, left-done, attempts-done}
 use Rattle.markdown_engine.proofs.TreeEvents.{done-append, ops-past}
 use Rattle.markdown_model.specs.CodeTests.{next_is}
@@ -27,8 +27,8 @@ use Rattle.markdown_partial.specs.PartialSpaceOrTab.{most}
 use Rattle.markdown_partial.proofs.WhitespaceAttempts.{asked-ready, asked-ends}
 use Rattle.markdown_partial.proofs.WhitespaceReadings.{space-all}
 use Rattle.markdown_leaf_html.specs.HtmlLines.{InLine, AtStart, InBlank, ending_ops, break_from, prefix_from}
-use Rattle.markdown_leaf_html.specs.HtmlTextRests.{Part, state_of}
-use Rattle.markdown_leaf_html.specs.HtmlText.{blank_asked, AfterReady, line_ending_before_ends, line_ending_after_at, line_ending_after_ends, data_entered, line_ending_after_prefix_at, line_ending_after_prefix_ends, line_ending_after_prefix_words, line_ending_after_words, line_ending_before_words, part_words, cdata_open_inside_words, tag_open_attribute_value_quoted_words}
+use Rattle.markdown_leaf_html.specs.HtmlTextRests.{HtmlPart, state_of}
+use Rattle.markdown_leaf_html.specs.HtmlText.{blank_asked, HtmlAfterReady, line_ending_before_ends, line_ending_after_at, line_ending_after_ends, data_entered, line_ending_after_prefix_at, line_ending_after_prefix_ends, line_ending_after_prefix_words, line_ending_after_words, line_ending_before_words, part_words, cdata_open_inside_words, tag_open_attribute_value_quoted_words}
 use Rattle.markdown_leaf_html.specs.HtmlByteTests.{blank_value}
 use Rattle.markdown_leaf_html.proofs.HtmlLineBreaks.{break-ending, break-blank, break-data}
 use Rattle.markdown_leaf_html.proofs.HtmlTextReady.{before-passed, ending-passed}
@@ -37,8 +37,8 @@ use Rattle.markdown_engine.specs.StateWords.{Words, Law, GoesIn, words_in}
 use Rattle.markdown_plan.proofs.LawStepsOfLayer.{Goes-plain, Goes-end, Goes-ops, Goes-attempt, follows}
 
 -- what the layer says of these states, and of the start of blank codes
-pub record Within (W : Words) : Type 1 where
-  pub parts : (k : Part) → words_in W (state_of k) ≡ part_words k
+pub record HasHtmlWords (W : Words) : Type 1 where
+  pub parts : (k : HtmlPart) → words_in W (state_of k) ≡ part_words k
   pub cdata : words_in W H.HtmlTextCdataOpenInside ≡ cdata_open_inside_words
   pub quoted : words_in W H.HtmlTextTagOpenAttributeValueQuoted ≡ tag_open_attribute_value_quoted_words
   pub before : words_in W H.HtmlTextLineEndingBefore ≡ line_ending_before_words
@@ -105,7 +105,7 @@ start-blank (c ∷ cs) h =
 pub next-at : (p : ℕ → Bool) (T : Tokenizer) (c : ℕ) → current_of T ≡ Some c →
     next_is (λ (d : Code). p d.value) (ahead T) ≡ p c
 next-at p T c e =
-    let b : Begins c (ahead T) = ahead-some T c e in ap (λ cs. next_is (λ (d : Code). p d.value) cs) b.whole ∙ ap p b.value
+    let b : BeginsWithValue c (ahead T) = ahead-some T c e in ap (λ cs. next_is (λ (d : Code). p d.value) cs) b.whole ∙ ap p b.value
 
 pub next-end : (p : ℕ → Bool) (T : Tokenizer) → current_of T ≡ None →
     next_is (λ (d : Code). p d.value) (ahead T) ≡ false
@@ -128,7 +128,7 @@ read_rest (Some r) = r.1
 abbrev blank_tree : Tokenizer → Forest
 blank_tree T = linked_leaf N.SpaceOrTab None (span is_blank (ahead T)).0
 
-record Spaced (T U : Tokenizer) : Type 0 where
+record HtmlSpaced (T U : Tokenizer) : Type 0 where
   left : U ≡ past None (blank_tree T) T
   passed : U ≡ done (ops_of (blank_tree T)) T
   after : ahead U ≡ (span is_blank (ahead T)).1
@@ -136,7 +136,7 @@ record Spaced (T U : Tokenizer) : Type 0 where
 
 spaced : (T U : Tokenizer) → next_is is_blank (ahead T) ≡ true →
     space_or_tab N.SpaceOrTab None 1 most (ahead T) ≡ Some (blank_tree T, (span is_blank (ahead T)).1) →
-    Reads (space_or_tab N.SpaceOrTab None 1 most) None T.tokenize_state T U → Spaced T U
+    Reads (space_or_tab N.SpaceOrTab None 1 most) None T.tokenize_state T U → HtmlSpaced T U
 unfolding read_tree read_rest
 spaced T U h there k =
     let same = sym k.holds ∙ there in
@@ -146,17 +146,17 @@ spaced T U h there k =
     let whole : ahead T ≡ leaf_codes (blank_tree T) ++ k.rest = k.whole ∙ ap (λ t. leaf_codes t ++ k.rest) tree in
     record { left = left; passed = left ∙ sym (ops-past (blank_tree T) k.rest T (solid-leaf (span is_blank (ahead T)).0) whole); after = k.after ∙ rest; fewer = left-read (space_or_tab N.SpaceOrTab None 1 most) None T.tokenize_state T U k }
 
-space-there : (T : Tokenizer) → AfterReady T → next_is is_blank (ahead T) ≡ true →
+space-there : (T : Tokenizer) → HtmlAfterReady T → next_is is_blank (ahead T) ≡ true →
     space_or_tab N.SpaceOrTab None 1 most (ahead T) ≡ Some (blank_tree T, (span is_blank (ahead T)).1)
 space-there T k h = space-all N.SpaceOrTab None most (ahead T) h (omega (arith, left-ahead T, k.spaces.short))
 
-spaced-ready : (T U : Tokenizer) → AfterReady T → Spaced T U → AfterReady U
+spaced-ready : (T U : Tokenizer) → HtmlAfterReady T → HtmlSpaced T U → HtmlAfterReady U
 unfolding past
 spaced-ready T U k s =
-    let now : AfterReady (past None (blank_tree T) T) = record { stand_open = k.stand_open; spaces = record { resting = k.spaces.resting; short = omega (arith, k.spaces.short, s.fewer, ap (λ (x : Tokenizer). codes_left x) s.left) } } in
-    subst (λ (x : Tokenizer). AfterReady x) (sym s.left) now
+    let now : HtmlAfterReady (past None (blank_tree T) T) = record { stand_open = k.stand_open; spaces = record { resting = k.spaces.resting; short = omega (arith, k.spaces.short, s.fewer, ap (λ (x : Tokenizer). codes_left x) s.left) } } in
+    subst (λ (x : Tokenizer). HtmlAfterReady x) (sym s.left) now
 
-module _ (W : Words) (within : Within W) where
+module _ (W : Words) (within : HasHtmlWords W) where
   -- After the blank codes at the start of a line.
 
   data-here : (T : Tokenizer) → T.attempts ≡ [] → next_is is_line_ending (ahead T) ≡ false →
@@ -167,7 +167,7 @@ module _ (W : Words) (within : Within W) where
 
   -- past a line ending, on to the start of the next line
   passed-on : (j : ℕ) (E : Bool → Tokenizer → Type 0) (os : List Op) (T : Tokenizer) → T.attempts ≡ [] → moves os ≡ 1 →
-      1 ≤ length (ahead T) → AfterReady (done os T) →
+      1 ≤ length (ahead T) → HtmlAfterReady (done os T) →
       ((ok : Bool) (U : Tokenizer) → (ok ≡ true) × (U ≡ done (os ++ break_from AtStart (rest_of (ahead T))) T) → E ok U) →
       GoesIn W (weight_at j T) E (stepped (Next H.HtmlTextLineEndingAfter) (done os T))
   passed-on j E os T alone one more k closed =
@@ -184,7 +184,7 @@ module _ (W : Words) (within : Within W) where
       code-step P (current_of T) (λ o. line_ending_after_prefix_at o T)
       (λ e. data-here T alone (next-end (λ v. v == 10) T e))
       (λ c e.
-      let b : Begins c (ahead T) = ahead-some T c e in
+      let b : BeginsWithValue c (ahead T) = ahead-some T c e in
       if-step P (c == 10) _ _
       (λ h. passed-on 1 (line_ending_after_prefix_ends T) ending_ops T alone refl (some-codes T c e) (ending-passed T (some-codes T c e) k)
       (λ ok U x. (x.0, x.1 ∙ ap (λ os. done os T) (sym (ap prefix_from b.whole ∙ prefix-ending b.code (rest_of (ahead T)) (ap (λ v. v == 10) b.value ∙ h))))))
@@ -192,17 +192,17 @@ module _ (W : Words) (within : Within W) where
 
   -- At the start of a line.
 
-  plain-here : (T : Tokenizer) → T.attempts ≡ [] → AfterReady T → next_is is_blank (ahead T) ≡ false →
+  plain-here : (T : Tokenizer) → T.attempts ≡ [] → HtmlAfterReady T → next_is is_blank (ahead T) ≡ false →
       GoesIn W (weight_at 4 T) (line_ending_after_ends T) (stepped (Retry H.HtmlTextLineEndingAfterPrefix) T)
   plain-here T alone k h =
       Goes-plain W (weight_at 4 T) (line_ending_after_ends T) (Retry H.HtmlTextLineEndingAfterPrefix) within.prefix T alone k (omega arith)
       (λ ok U x. let e = x in (e.0, e.1 ∙ ap (λ os. done os T) (sym (start-plain (ahead T) h))))
 
-  never-refused : (T U : Tokenizer) → AfterReady T → next_is is_blank (ahead T) ≡ true →
+  never-refused : (T U : Tokenizer) → HtmlAfterReady T → next_is is_blank (ahead T) ≡ true →
       EndsAs (space_or_tab N.SpaceOrTab None 1 most) None T.tokenize_state T false U → ⊥
   never-refused T U k h x = let no = sym (space-there T k h) ∙ x.refused in cc
 
-  spaced-closed : (T U : Tokenizer) → next_is is_blank (ahead T) ≡ true → Spaced T U → (ok : Bool) (V : Tokenizer) →
+  spaced-closed : (T U : Tokenizer) → next_is is_blank (ahead T) ≡ true → HtmlSpaced T U → (ok : Bool) (V : Tokenizer) →
       line_ending_after_prefix_ends U ok V → line_ending_after_ends T ok V
   spaced-closed T U h s ok V x = (
     x.0,
@@ -223,7 +223,7 @@ module _ (W : Words) (within : Within W) where
       Goes-attempt W n E (Retry H.SpaceOrTabStart) within.space (Next H.HtmlTextLineEndingAfterPrefix) Nok A (attempts-scratched _ T ∙ alone)
       (asked-ready 1 most N.SpaceOrTab false None T k.spaces.resting (λ x. cc))
       (omega (arith, left-scratched (blank_asked T.tokenize_state) T))
-      (λ U now x. let s : Spaced T U = spaced T U there (space-there T k there) (asked-ends 1 most N.SpaceOrTab false None T k.spaces.resting true U x) in
+      (λ U now x. let s : HtmlSpaced T U = spaced T U there (space-there T k there) (asked-ends 1 most N.SpaceOrTab false None T k.spaces.resting true U x) in
       follows W _ _ (Next H.HtmlTextLineEndingAfterPrefix) within.prefix U (spaced-ready T U k s) (omega (arith, s.fewer)) (λ ok V m. spaced-closed T U there s ok V m))
       (λ U now x. absurd (never-refused T U k there (asked-ends 1 most N.SpaceOrTab false None T k.spaces.resting false U x))))
       (λ h. plain-here T alone k (next-at blank_value T c e ∙ h)))
@@ -232,7 +232,7 @@ module _ (W : Words) (within : Within W) where
 
   pub before-law : Law W line_ending_before_words
   before-law T alone k =
-      let b : Begins 10 (ahead T) = ahead-some T 10 k.ending in
+      let b : BeginsWithValue 10 (ahead T) = ahead-some T 10 k.ending in
       let more : 1 ≤ length (ahead T) = some-codes T 10 k.ending in
       passed-on 1 (line_ending_before_ends T) (Exit N.HtmlTextData ∷ ending_ops) T alone refl more (before-passed T more k.inside)
       (λ ok U x. (x.0, x.1 ∙ ap (λ os. done os T) (sym (ap (break_from InLine) b.whole ∙ break-ending InLine b.code (rest_of (ahead T)) (ap (λ v. v == 10) b.value)))))

@@ -1,8 +1,8 @@
 -- The operations of the lines of a text, code by code.
 use Rattle.std.proofs.Common.{◌≡◌, Bool, true, false, ◌&&◌, ◌||◌, not, None, List, [], ◌∷◌, ◌++◌, refl, sym, ap, ◌∙◌, append_assoc}
-use Rattle.markdown_engine_content.specs.Codes.{Code, is_line_ending, is_blank}
+use Rattle.markdown_content.specs.Codes.{Code, is_line_ending, is_blank}
 use Rattle.markdown_engine.specs.Operations.{Op, Enter, Exit, Consume}
-use Rattle.markdown_engine_content.specs.Tree.{Forest, empty, leaf_then, group_then, ◌⊕◌}
+use Rattle.markdown_content.specs.Tree.{Forest, empty, leaf_then, group_then, ◌⊕◌}
 use Rattle.markdown_engine.specs.TreeOps.{ops_of, consumes}
 use Rattle.markdown_event.specs.declared.event.Name.TheVariants as N
 use Rattle.markdown_model.specs.Grammar.{span}
@@ -38,16 +38,16 @@ abbrev line_ops : Bool → List (List Code) → List Op
 line_ops later ss = ops_of (lines_from N.HtmlTextData None later ss)
 
 -- a line from one code on
-record Line (c : Code) (cs : List Code) : Type 0 where
+record HtmlLine (c : Code) (cs : List Code) : Type 0 where
   more : List Code
   others : List (List Code)
   whole : lines_of (c ∷ cs) ≡ (c ∷ more) ∷ others
   inside : ops_from InLine cs ≡ consumes more ++ Exit N.HtmlTextData ∷ line_ops false others
   blank : ops_from InBlank cs ≡ consumes (span is_blank more).0 ++ Exit N.SpaceOrTab ∷ (ops_of (linked_leaf N.HtmlTextData None (span is_blank more).1) ++ line_ops false others)
 
-record Lined (cs : List Code) : Type 0 where
+record HtmlLined (cs : List Code) : Type 0 where
   start : ops_from AtStart cs ≡ line_ops true (lines_of cs)
-  line : (c : Code) → is_line_ending c ≡ false → Line c cs
+  line : (c : Code) → is_line_ending c ≡ false → HtmlLine c cs
 
 -- the leaves of a line and those after it, by two tests
 abbrev leaves : Bool → Bool → Bool → Code → List Code → List (List Code) → Forest
@@ -69,7 +69,7 @@ ops-ending : (later : Bool) (c : Code) (ss : List (List Code)) → is_line_endin
 ops-ending true c ss e = by-leaves true true (is_blank c) c [] ss e refl
 ops-ending false c ss e = by-leaves false true (is_blank c) c [] ss e refl
 
-lined-ending : (later : Bool) (c : Code) (cs : List Code) → is_line_ending c ≡ true → Lined cs →
+lined-ending : (later : Bool) (c : Code) (cs : List Code) → is_line_ending c ≡ true → HtmlLined cs →
     line_ops later (lines_of (c ∷ cs)) ≡ ending_ops ++ ops_from AtStart cs
 lined-ending later c cs e k =
     ap (line_ops later) (lines_of-ending c cs e) ∙ ops-ending later c (lines_of cs) e ∙ ap (λ os. ending_ops ++ os) (sym k.start)
@@ -95,8 +95,8 @@ none-more : (c d : Code) (ds : List Code) → is_line_ending c ≡ false → is_
 none-more c d ds e h =
     lines_of-line c (d ∷ ds) e ∙ ap (λ (b : Bool). let s : List Code × List Code = elim b as (λ _. List Code × List Code) [ true ↦ (d ∷ (span is_in_line ds).0, (span is_in_line ds).1) | false ↦ ([], d ∷ ds) ] in (c ∷ s.0) ∷ lines_of s.1) (ap not h)
 
-line-ended : (c d : Code) (ds : List Code) → is_line_ending c ≡ false → is_line_ending d ≡ true → Lined ds →
-    Line c (d ∷ ds)
+line-ended : (c d : Code) (ds : List Code) → is_line_ending c ≡ false → is_line_ending d ≡ true → HtmlLined ds →
+    HtmlLine c (d ∷ ds)
 line-ended c d ds e h k =
     record {
       more = [];
@@ -110,7 +110,7 @@ joins-is : (c d : Code) → is_line_ending c ≡ false → is_line_ending d ≡ 
 joins-is c d e h = ap (λ a. not (a || is_line_ending d) && true) e ∙ ap (λ b. not b && true) h
 
 -- blank codes of a line whose next code is this one
-blank-by : (b : Bool) (d : Code) (ds : List Code) → is_line_ending d ≡ false → is_blank d ≡ b → (k : Line d ds) →
+blank-by : (b : Bool) (d : Code) (ds : List Code) → is_line_ending d ≡ false → is_blank d ≡ b → (k : HtmlLine d ds) →
     ops_from InBlank (d ∷ ds) ≡ consumes (span is_blank (d ∷ k.more)).0 ++ Exit N.SpaceOrTab ∷ (ops_of (linked_leaf N.HtmlTextData None (span is_blank (d ∷ k.more)).1) ++ line_ops false k.others)
 blank-by true d ds e h k =
     from-blank InBlank d ds e h ∙ ap (λ os. Consume ∷ os) k.blank
@@ -119,8 +119,8 @@ blank-by false d ds e h k =
     from-data InBlank d ds e h ∙ ap (λ os. Exit N.SpaceOrTab ∷ Enter N.HtmlTextData ∷ Consume ∷ os) (k.inside ∙ sym (append_assoc (consumes k.more) (Exit N.HtmlTextData ∷ []) (line_ops false k.others)))
     ∙ ap (λ (b : Bool). let s : List Code × List Code = elim b as (λ _. List Code × List Code) [ true ↦ (d ∷ (span is_blank k.more).0, (span is_blank k.more).1) | false ↦ ([], d ∷ k.more) ] in consumes s.0 ++ Exit N.SpaceOrTab ∷ (ops_of (linked_leaf N.HtmlTextData None s.1) ++ line_ops false k.others)) (sym h)
 
-line-joined : (c d : Code) (ds : List Code) → is_line_ending c ≡ false → is_line_ending d ≡ false → Line d ds →
-    Line c (d ∷ ds)
+line-joined : (c d : Code) (ds : List Code) → is_line_ending c ≡ false → is_line_ending d ≡ false → HtmlLine d ds →
+    HtmlLine c (d ∷ ds)
 line-joined c d ds e h k =
     record {
       more = d ∷ k.more;
@@ -130,33 +130,33 @@ line-joined c d ds e h k =
       blank = blank-by (is_blank d) d ds h refl k;
     }
 
-line-by : (b : Bool) (c d : Code) (ds : List Code) → is_line_ending c ≡ false → is_line_ending d ≡ b → Lined ds →
-    Line c (d ∷ ds)
+line-by : (b : Bool) (c d : Code) (ds : List Code) → is_line_ending c ≡ false → is_line_ending d ≡ b → HtmlLined ds →
+    HtmlLine c (d ∷ ds)
 line-by true c d ds e h k = line-ended c d ds e h k
 line-by false c d ds e h k = line-joined c d ds e h (k.line d h)
 
-start-line : (b : Bool) (c : Code) (cs : List Code) → is_line_ending c ≡ false → is_blank c ≡ b → (k : Line c cs) →
+start-line : (b : Bool) (c : Code) (cs : List Code) → is_line_ending c ≡ false → is_blank c ≡ b → (k : HtmlLine c cs) →
     ops_from AtStart (c ∷ cs) ≡ line_ops true ((c ∷ k.more) ∷ k.others)
 start-line true c cs e h k =
     from-blank AtStart c cs e h ∙ ap (λ os. Enter N.SpaceOrTab ∷ Consume ∷ os) k.blank ∙ sym (ops-blank c k.more k.others e h)
 start-line false c cs e h k =
     from-data AtStart c cs e h ∙ ap (λ os. Enter N.HtmlTextData ∷ Consume ∷ os) k.inside ∙ sym (ops-data true c k.more k.others e h)
 
-start-by : (b : Bool) (c : Code) (cs : List Code) → is_line_ending c ≡ b → Lined cs →
+start-by : (b : Bool) (c : Code) (cs : List Code) → is_line_ending c ≡ b → HtmlLined cs →
     ops_from AtStart (c ∷ cs) ≡ line_ops true (lines_of (c ∷ cs))
 start-by true c cs e k = from-ending AtStart c cs e ∙ sym (lined-ending true c cs e k)
 start-by false c cs e k =
-    let l : Line c cs = k.line c e in start-line (is_blank c) c cs e refl l ∙ ap (line_ops true) (sym l.whole)
+    let l : HtmlLine c cs = k.line c e in start-line (is_blank c) c cs e refl l ∙ ap (line_ops true) (sym l.whole)
 
-lined : (cs : List Code) → Lined cs
+lined : (cs : List Code) → HtmlLined cs
 lined [] = record { start = refl; line = λ c e. record { more = []; others = []; whole = refl; inside = refl; blank = refl } }
 lined (d ∷ ds) =
-    let k : Lined ds = lined ds in record { start = start-by (is_line_ending d) d ds refl k; line = λ c e. line-by (is_line_ending d) c d ds e refl k }
+    let k : HtmlLined ds = lined ds in record { start = start-by (is_line_ending d) d ds refl k; line = λ c e. line-by (is_line_ending d) c d ds e refl k }
 
 -- A text whose first code is no line ending.
 pub ops-lines : (c : Code) (cs : List Code) → is_line_ending c ≡ false →
     ops_of (lines_from N.HtmlTextData None false (lines_of (c ∷ cs))) ≡ Enter N.HtmlTextData ∷ Consume ∷ ops_from InLine cs
 ops-lines c cs e =
-    let k : Lined cs = lined cs in
-    let l : Line c cs = k.line c e in
+    let k : HtmlLined cs = lined cs in
+    let l : HtmlLine c cs = k.line c e in
     ap (line_ops false) l.whole ∙ ops-data false c l.more l.others e refl ∙ ap (λ os. Enter N.HtmlTextData ∷ Consume ∷ os) (sym l.inside)

@@ -3,10 +3,10 @@ use Rattle.std.proofs.Common.{◌≡◌, ℕ, ◌==◌, true, false, Some, List,
 use Rattle.std.specs.Prelude.{codes}
 use Rattle.markdown_engine.specs.Operations.{current_of, consumed}
 use Rattle.markdown_engine.specs.StateRuns.{stepped}
-use Rattle.markdown_engine_content.specs.Stretch.{is_free}
-use Rattle.markdown_state.specs.declared.state.State.TheVariants.{Next}
-use Rattle.markdown_state.specs.declared.state.StateName.{StateName}
-use Rattle.markdown_state.specs.declared.state.StateName.TheVariants as H
+use Rattle.markdown_content.specs.Stretch.{is_free}
+use Rattle.markdown_event.specs.declared.state.State.TheVariants.{Next}
+use Rattle.markdown_event.specs.declared.state.StateName.{StateName}
+use Rattle.markdown_event.specs.declared.state.StateName.TheVariants as H
 use Rattle.markdown_engine.specs.declared.tokenizer.Tokenizer.{Tokenizer}
 use Rattle.markdown_engine.proofs.SteadyLemmas.{steady-at, alone-is, alone-other}
 use Rattle.markdown_leaf_html.specs.HtmlText.{marked_at, comment_step, cdata_step, declaration_at, declaration_step, instruction_at, instruction_step, tag_open_attribute_value_quoted_at, tag_open_attribute_value_quoted_step, stops_in}

@@ -2,7 +2,7 @@
 use Rattle.std.proofs.Common.{◌≡◌, ℕ, zero, suc, ◌==◌, Bool, true, false, ◌||◌, not, Option, Some, None, List, [], ◌∷◌, ◌++◌, length, refl, sym, ap, subst, ◌∙◌}
 use Rattle.std.specs.Prelude.{codes}
 use Rattle.std.proofs.lemmas.Bool.{eqb-true, or_from, or_parts}
-use Rattle.markdown_engine_content.specs.Codes.{Code}
+use Rattle.markdown_content.specs.Codes.{Code}
 use Rattle.markdown_model.specs.CodeTests.{is_value, is_among, is_letter, is_alphanumeric, is_whitespace_code, next_is}
 use Rattle.markdown_model.specs.Grammar.{Reading, either, one, any_number, before, span, with_first, word, gives, repeated, repeatedly, optional, ◌then_◌}
 use Rattle.markdown_model.specs.HtmlText.{spaces, optional_spaces, attribute_name, quoted_value, unquoted_value, attribute_value, attribute, ends_value}
@@ -15,16 +15,16 @@ use Rattle.markdown_plan.proofs.PrecededReadingLemmas.{then-after, after-more, a
 use Rattle.markdown_leaf_html.specs.HtmlTextRests.{is_attribute_first, is_attribute_code, tag_end, tag_rest, tag_next, tag_between, initializer, name_rest, value_rest, name_next, name_after, quoted_rest, is_unquoted_code, is_after_value, unquoted_rest}
 use Rattle.markdown_leaf_html.specs.HtmlByteTests.{whitespace_value}
 use Rattle.markdown_leaf_html.specs.HtmlText.{starts_no_value, quote_value}
-use Rattle.markdown_leaf_html.proofs.HtmlLineBreaks.{Goes}
+use Rattle.markdown_leaf_html.proofs.HtmlLineBreaks.{PassesItsCodes}
 use Rattle.markdown_leaf_html.proofs.HtmlCodeReadings.{after-twice, then-first, then-nothing, then-same, either-left, either-right, either-none, either-here, next-here, next-other, before-first, one-on, one-none, any-on, any-none, word-none, word-here, second_takes, next_takes, whitespace-other}
 use Rattle.markdown_leaf_html.proofs.HtmlKindReadings.{end-none, spaces-first, spaces-none}
 use Rattle.markdown_model.proofs.GrammarSteps.{span-takes, span-none, one-here, one-not, then-none, some-span, some-nothing, before-some, before-other}
 
 -- Tests.
 
-abbrev pub Each : (ℕ → Type 0) → List ℕ → Type 0
-Each P [] = Unit {0}
-Each P (n ∷ ns) = P n × Each P ns
+abbrev pub EachByte : (ℕ → Type 0) → List ℕ → Type 0
+EachByte P [] = Unit {0}
+EachByte P (n ∷ ns) = P n × EachByte P ns
 
 among-by : (P : ℕ → Type 0) (v n : ℕ) (ns : List ℕ) (b : Bool) → (v == n) ≡ b → b || among_values ns v ≡ true → P n →
     (among_values ns v ≡ true → P v) → P v
@@ -32,7 +32,7 @@ among-by P v n ns true e h p more = subst P (sym (eqb-true v n e)) p
 among-by P v n ns false e h p more = more h
 
 -- what holds of each of some values
-pub among-each : (P : ℕ → Type 0) (v : ℕ) (ns : List ℕ) → among_values ns v ≡ true → Each P ns → P v
+pub among-each : (P : ℕ → Type 0) (v : ℕ) (ns : List ℕ) → among_values ns v ≡ true → EachByte P ns → P v
 among-each P v [] h k = cc
 among-each P v (n ∷ ns) h k = among-by P v n ns (v == n) refl h k.0 (λ e. among-each P v ns e k.1)
 
@@ -70,27 +70,27 @@ tag-end-other cs e =
 
 -- Rounds.
 
-record Found (o : Option (List Code × List Code)) : Type 0 where
+record HasAnswer (o : Option (List Code × List Code)) : Type 0 where
   codes : List Code
   rest : List Code
   is : o ≡ Some (codes, rest)
 
-repeated-found : (n : ℕ) (a : Reading (List Code)) (cs : List Code) → Found (repeated n a cs)
+repeated-found : (n : ℕ) (a : Reading (List Code)) (cs : List Code) → HasAnswer (repeated n a cs)
 unfolding repeated
 repeated-found zero a cs = record { codes = []; rest = cs; is = refl }
 repeated-found (suc n) a cs = by-first (a cs)
   where
     by-rounds : (x : List Code × List Code) (o : Option (List Code × List Code)) →
-        Found (elim o as (λ _. Option (List Code × List Code)) [ None ↦ Some x | Some s ↦ Some (x.0 ++ s.0, s.1) ])
+        HasAnswer (elim o as (λ _. Option (List Code × List Code)) [ None ↦ Some x | Some s ↦ Some (x.0 ++ s.0, s.1) ])
     by-rounds x None = record { codes = x.0; rest = x.1; is = refl }
     by-rounds x (Some s) = record { codes = x.0 ++ s.0; rest = s.1; is = refl }
 
     by-first : (o : Option (List Code × List Code)) →
-        Found (elim o as (λ _. Option (List Code × List Code)) [ None ↦ Some ([], cs) | Some x ↦ elim (repeated n a x.1) as (λ _. Option (List Code × List Code)) [ None ↦ Some x | Some s ↦ Some (x.0 ++ s.0, s.1) ] ])
+        HasAnswer (elim o as (λ _. Option (List Code × List Code)) [ None ↦ Some ([], cs) | Some x ↦ elim (repeated n a x.1) as (λ _. Option (List Code × List Code)) [ None ↦ Some x | Some s ↦ Some (x.0 ++ s.0, s.1) ] ])
     by-first None = record { codes = []; rest = cs; is = refl }
     by-first (Some x) = by-rounds x (repeated n a x.1)
 
-repeatedly-found : (a : Reading (List Code)) (cs : List Code) → Found (repeatedly a cs)
+repeatedly-found : (a : Reading (List Code)) (cs : List Code) → HasAnswer (repeatedly a cs)
 unfolding repeatedly
 repeatedly-found a cs = repeated-found (length cs) a cs
 
@@ -102,7 +102,7 @@ module _ (a : Reading (List Code)) (takes : Consumes 1 a) where
       ◌≡◌ {A = Option (List Code × List Code)} (a cs) (Some (x, q)) →
       (repeatedly a then_ b) cs ≡ after x ((repeatedly a then_ b) q)
   rounds-more b cs x q e =
-      let k : Found (repeatedly a q) = repeatedly-found a q in
+      let k : HasAnswer (repeatedly a q) = repeatedly-found a q in
       let whole : repeatedly a cs ≡ Some (x ++ k.codes, k.rest) =
       repeatedly-next a takes cs ∙ ap (and_then (repeatedly a) cs) e ∙ ap (λ (o : Option (List Code × List Code)). elim o as (λ _. Option (List Code × List Code)) [ None ↦ Some (x, q) | Some y ↦ Some (x ++ y.0, y.1) ]) k.is in
       then-after (repeatedly a) b cs (x ++ k.codes) k.rest whole ∙ after-twice x k.codes (b k.rest) ∙ ap (after x) (sym (then-after (repeatedly a) b q k.codes k.rest k.is))
@@ -152,22 +152,22 @@ attribute-first c cs e =
     then-first attribute_name (any_number is_attribute_code) (optional initializer) c cs (attribute-name-is c cs e)
 
 optional-found : (a : Reading (List Code)) (cs : List Code) (o : Option (List Code × List Code)) → a cs ≡ o →
-    Found (optional a cs)
+    HasAnswer (optional a cs)
 optional-found a cs None e = record { codes = []; rest = cs; is = optional-not a cs e }
 optional-found a cs (Some r) e = record { codes = r.0; rest = r.1; is = optional-read a cs r e }
 
-any-found : (p : Code → Bool) (b : Reading (List Code)) (cs : List Code) → ((ds : List Code) → Found (b ds)) →
-    Found ((any_number p then_ b) cs)
+any-found : (p : Code → Bool) (b : Reading (List Code)) (cs : List Code) → ((ds : List Code) → HasAnswer (b ds)) →
+    HasAnswer ((any_number p then_ b) cs)
 unfolding any_number
 any-found p b cs found =
     let s : List Code × List Code = span p cs in
-    let k : Found (b s.1) = found s.1 in
+    let k : HasAnswer (b s.1) = found s.1 in
     record { codes = s.0 ++ k.codes; rest = k.rest; is = then-after (any_number p) b cs s.0 s.1 refl ∙ ap (after s.0) k.is }
 
-attribute-found : (cs : List Code) → next_is is_attribute_first cs ≡ true → Found (attribute cs)
+attribute-found : (cs : List Code) → next_is is_attribute_first cs ≡ true → HasAnswer (attribute cs)
 attribute-found [] e = cc
 attribute-found (c ∷ cs) e =
-    let k : Found ((any_number is_attribute_code then_ optional initializer) cs) = any-found is_attribute_code (optional initializer) cs (λ ds. optional-found initializer ds (initializer ds) refl) in
+    let k : HasAnswer ((any_number is_attribute_code then_ optional initializer) cs) = any-found is_attribute_code (optional initializer) cs (λ ds. optional-found initializer ds (initializer ds) refl) in
     record { codes = c ∷ k.codes; rest = k.rest; is = attribute-first c cs e ∙ ap (with_first c) k.is }
 
 -- After a name or a value.
@@ -201,7 +201,7 @@ between-by true false cs e h k =
     ∙ ap (after (front cs)) (sym (next-other is_attribute_first (attribute then_ tag_rest) tag_end (behind cs) h))
     ∙ sym (spaced-is tag_next cs)
 between-by true true cs e h k =
-    let f : Found (attribute (behind cs)) = attribute-found (behind cs) h in
+    let f : HasAnswer (attribute (behind cs)) = attribute-found (behind cs) h in
     let here : spaced cs ≡ Some (front cs ++ f.codes, f.rest) = then-after spaces attribute cs (front cs) (behind cs) (spaces-are cs e) ∙ ap (after (front cs)) f.is in
     rounds-more spaced spaced-takes (optional_spaces then_ tag_end) cs (front cs ++ f.codes) f.rest here
     ∙ after-twice (front cs) f.codes (tag_rest f.rest)
@@ -482,11 +482,11 @@ value-takes : Consumes 1 value_rest
 value-takes =
     second_takes _ _ (takes_no_more itself _ (takes_then _ _ takes_optional_spaces takes_attribute_value)) tag-rest-takes
 
-pub between-goes : Goes tag_between
+pub between-goes : PassesItsCodes tag_between
 between-goes =
     record { takes = takes_then _ _ takes_optional_spaces takes-next; consumes = second_takes _ _ optional-spaces-take next-takes; skips = λ c cs e. spaces-first tag_next c cs e }
 
-pub name-after-goes : Goes name_after
+pub name-after-goes : PassesItsCodes name_after
 name-after-goes =
     record {
       takes = takes_then _ _ takes_optional_spaces (by_next _ _ (is_value 61) _ _ (takes_then _ _ (takes_one (is_value 61)) takes-value) takes-next);
@@ -494,10 +494,10 @@ name-after-goes =
       skips = λ c cs e. spaces-first name_next c cs e;
     }
 
-pub value-goes : Goes value_rest
+pub value-goes : PassesItsCodes value_rest
 value-goes = record { takes = takes-value; consumes = value-takes; skips = λ c cs e. value-space c cs e }
 
-pub quoted-goes : (q : ℕ) → whitespace_value q ≡ false → Goes (quoted_rest q)
+pub quoted-goes : (q : ℕ) → whitespace_value q ≡ false → PassesItsCodes (quoted_rest q)
 quoted-goes q h =
     record {
       takes = takes_then _ _ (takes_then _ _ (takes_any_number _) (takes_one _)) takes-tag-rest;

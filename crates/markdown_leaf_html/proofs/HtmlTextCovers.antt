@@ -1,22 +1,14 @@
 -- Whole HTML in text: the codes that its reading passes, and the operations of its tree.
-use Rattle.std.proofs.Common.{◌≡◌, ◌≢◌, ◌+◌, ◌≤◌, Bool, true, false, ◌&&◌, not, Option, Some, None, List, [], ◌∷◌, ◌++◌, length, append-nil, refl, sym, ap, subst, ◌∙◌, arith}
-use Rattle.markdown_engine_content.specs.Codes.{Code, is_line_ending, is_blank}
+use Rattle.std.proofs.Common.{◌≡◌, ◌+◌, Bool, true, false, ◌&&◌, Option, Some, None, List, [], ◌∷◌, ◌++◌, refl, ap, ◌∙◌}
+use Rattle.markdown_content.specs.Codes.{Code, is_line_ending}
 use Rattle.markdown_engine.specs.Operations.{Enter, Exit}
-use Rattle.markdown_engine_content.specs.Tree.{Forest, ◌⊕◌, group}
-use Rattle.markdown_engine.specs.TreeOps.{IsSolid}
-use Rattle.markdown_event.specs.declared.event.Name.{Name}
 use Rattle.markdown_event.specs.declared.event.Name.TheVariants as N
-use Rattle.markdown_engine.proofs.SolidTrees.{IsSolid-row}
 use Rattle.markdown_model.specs.CodeTests.{is_value, is_letter, next_is}
-use Rattle.markdown_model.specs.Grammar.{◌>>◌, gives, provided, either, one, span, with_first, word, through, ◌then_◌}
+use Rattle.markdown_model.specs.Grammar.{◌>>◌, gives, provided, either, one, with_first, word, through, ◌then_◌}
 use Rattle.markdown_model.specs.HtmlText.{open_tag, closing_tag, comment, instruction, declaration, cdata, html_codes, html_text, tag_name}
-use Rattle.markdown_model.specs.TextLines.{linked_leaf, line_leaf, lines_from, lines_of, lines}
-use Rattle.markdown_model.proofs.ReadingsCover.{itself, takes_html_text, codes-lines}
-use Rattle.markdown_model.proofs.ReadsACode.{html_text_takes}
-use Rattle.markdown_model.proofs.DefinitionSteps.{read-codes, read-shorter}
 use Rattle.markdown_plan.specs.Plan.{preceded, tree_ops, plan_of}
-use Rattle.markdown_plan.proofs.PassedByReadings as PassedByReadings
-use Rattle.markdown_plan.proofs.PassedByReadings.{Gives, IsSome, Gives-bind, Gives-switched, Gives-gives, Covers-group}
+use Rattle.markdown_model.proofs.PlainConstructs.{reads_switched, reads_html_text}
+use Rattle.markdown_plan.proofs.SolidReadings.{ReadsSolid, plain-reads}
 use Rattle.markdown_leaf_html.specs.HtmlText.{opening}
 use Rattle.markdown_leaf_html.specs.HtmlLines.{InLine, text_from, text_of}
 use Rattle.markdown_leaf_html.specs.HtmlTextRests.{tag_rest, closing_between, open_rest}
@@ -24,46 +16,8 @@ use Rattle.markdown_leaf_html.proofs.HtmlLineLemmas.{ops-lines}
 use Rattle.markdown_leaf_html.proofs.HtmlCodeReadings.{either-on, either-none, word-on, word-none, word-then, word-then-none, last-then}
 use Rattle.markdown_model.proofs.GrammarSteps.{bind-some, bind-none, switched-on, switched-off}
 
--- What the reading passes.
-
-some-codes-by : (x rest cs : List Code) → x ++ rest ≡ cs → 1 + length rest ≤ length cs → x ≢ []
-some-codes-by [] rest cs e h = λ i. absurd (omega (arith, ap length e, h))
-some-codes-by (x ∷ xs) rest cs e h = λ i. cc
-
-text-gives : Gives IsSome html_codes
-text-gives cs x rest k =
-    let whole : cs ≡ x ++ rest = read-codes itself html_codes takes_html_text cs rest x k in
-    record { codes = x; whole = whole; holds = (refl, some-codes-by x rest cs (sym whole) (read-shorter 1 html_codes html_text_takes cs rest x k)) }
-
-solid-leaf : (name : Name) (cs : List Code) → IsSolid (linked_leaf name None cs)
-solid-leaf name [] = tt
-solid-leaf name (c ∷ cs) = (refl, (λ e. cc, tt))
-
-solid-line : (name : Name) (s : List Code) → IsSolid (line_leaf name None s)
-solid-line name s =
-    elim (next_is is_line_ending s) as (λ b. IsSolid (elim b as (λ _. Forest) [ true ↦ linked_leaf N.LineEnding None s | false ↦ linked_leaf name None s ])) [ true ↦ solid-leaf N.LineEnding s | false ↦ solid-leaf name s ]
-
-solid-lines : (name : Name) (later : Bool) (ss : List (List Code)) → IsSolid (lines_from name None later ss)
-solid-lines name later [] = tt
-solid-lines name later (s ∷ ss) =
-    elim (later && not (next_is is_line_ending s)) as (λ b. IsSolid (elim b as (λ _. Forest) [
-      | true ↦ linked_leaf N.SpaceOrTab None (span is_blank s).0 ⊕ linked_leaf name None (span is_blank s).1 ⊕ lines_from name None false ss
-      | false ↦ line_leaf name None s ⊕ lines_from name None (next_is is_line_ending s) ss
-    ])) [
-      | true ↦ IsSolid-row _ _ (solid-leaf N.SpaceOrTab (span is_blank s).0) (IsSolid-row _ _ (solid-leaf name (span is_blank s).1) (solid-lines name false ss))
-      | false ↦ IsSolid-row _ _ (solid-line name s) (solid-lines name (next_is is_line_ending s) ss)
-    ]
-
-whole-text : Gives PassedByReadings.Covers html_text
-unfolding html_text
-whole-text =
-    Gives-bind html_codes _ IsSome PassedByReadings.Covers text-gives (λ text ws p.
-    Gives-gives (group N.HtmlText (lines N.HtmlTextData None text)) _
-    (subst (λ (us : List Code). PassedByReadings.Covers (group N.HtmlText (lines N.HtmlTextData None text)) us) (p.0 ∙ sym (append-nil ws))
-    (Covers-group N.HtmlText (lines N.HtmlTextData None text) text p.1 (solid-lines N.HtmlTextData false (lines_of text), codes-lines N.HtmlTextData None text))))
-
-pub whole-html : (on : Bool) → Gives PassedByReadings.Covers (provided on >> html_text)
-whole-html on = Gives-switched on html_text PassedByReadings.Covers whole-text
+pub whole-html : (on : Bool) → ReadsSolid (provided on >> html_text)
+whole-html on = plain-reads [] _ (reads_switched [] on html_text (reads_html_text []))
 
 -- After `<`.
 

@@ -2,18 +2,18 @@
 use Rattle.std.proofs.Common.{◌≡◌, ℕ, zero, suc, ◌+◌, ◌<◌, ◌≤◌, ◌==◌, ◌||◌, not, Bool, true, false, Some, None, List, [], ◌∷◌, ◌++◌, length, drop, refl, sym, ap, subst, ◌∙◌, arith}
 use Rattle.std.specs.Prelude.{codes}
 use Rattle.std.proofs.lemmas.Bool.{eqb-true, or_from, or_parts, eq-eqb}
-use Rattle.markdown_engine_content.specs.Codes.{Code}
-use Rattle.markdown_engine_content.specs.ListFunctions.{rest_of}
+use Rattle.markdown_content.specs.Codes.{Code}
+use Rattle.markdown_content.specs.ListFunctions.{rest_of}
 use Rattle.markdown_engine.specs.Operations.{Op, Exit, Consume, current_of, ahead, applied, done, scratched}
 use Rattle.markdown_engine.specs.StateRuns.{Stepped}
 use Rattle.markdown_engine.specs.Weights.{weight_at}
 use Rattle.markdown_event.specs.declared.event.Name.TheVariants as N
-use Rattle.markdown_state.specs.declared.state.State.TheVariants.{Next}
-use Rattle.markdown_state.specs.declared.state.StateName.TheVariants as H
+use Rattle.markdown_event.specs.declared.state.State.TheVariants.{Next}
+use Rattle.markdown_event.specs.declared.state.StateName.TheVariants as H
 use Rattle.markdown_engine.specs.declared.tokenizer.TokenizeState.{TokenizeState}
 use Rattle.markdown_engine.specs.declared.tokenizer.Tokenizer.{Tokenizer}
 use Rattle.markdown_engine.proofs.LawSteps.{code-step, if-step}
-use Rattle.markdown_engine.proofs.OperationFields.{ahead-none, ahead-some, Begins, some-codes}
+use Rattle.markdown_engine.proofs.OperationFields.{ahead-none, ahead-some, BeginsWithValue, some-codes}
 use Rattle.markdown_engine.proofs.OperationLemmas.{scratch-done}
 use Rattle.markdown_model.specs.CodeTests.{is_value, next_is}
 use Rattle.markdown_model.specs.Grammar.{Reading, with_first, word, word_of, through, ◌then_◌}
@@ -21,13 +21,13 @@ use Rattle.markdown_plan.specs.ByteTests.{letter_value, among_values}
 use Rattle.markdown_plan.specs.Plan.{DoesAs}
 use Rattle.markdown_plan.specs.ScratchFields.{with_size}
 use Rattle.markdown_leaf_html.specs.HtmlLines.{InLine, break_from, text_from, text_of}
-use Rattle.markdown_leaf_html.specs.HtmlTextRests.{Part, state_of, reading_of, Open, DeclarationOpen, CommentOpenInside, Comment, CommentClose, CommentEnd, Cdata, CdataClose, CdataEnd, Declaration, Instruction, InstructionClose, TagCloseStart, TagClose, TagCloseBetween, TagOpen, TagOpenBetween, AttributeName}
+use Rattle.markdown_leaf_html.specs.HtmlTextRests.{HtmlPart, state_of, reading_of, Open, DeclarationOpen, CommentOpenInside, Comment, CommentClose, CommentEnd, Cdata, CdataClose, CdataEnd, Declaration, Instruction, InstructionClose, TagCloseStart, TagClose, TagCloseBetween, TagOpen, TagOpenBetween, AttributeName}
 use Rattle.markdown_leaf_html.specs.HtmlTextRests.{AttributeNameAfter, ValueBefore, ValueQuotedAfter, ValueUnquoted, End, rank_of, tag_rest, tag_next, name_next, value_rest, quoted_rest, closing_between, marked, after_mark, after_two_marks, cdata_opening, instruction_after_one, declaration_rest}
 use Rattle.markdown_leaf_html.specs.HtmlByteTests.{blank_value, whitespace_value, name_value, attribute_first_value, attribute_rest_value, after_value, barred_value}
-use Rattle.markdown_leaf_html.specs.HtmlText.{rested, with_marker, closing, past_code, prefix_value, cdata_passed, starts_no_value, quote_value, quote_passed, PartReady, CdataReady, QuotedReady, part_ends, quoted_ends, open_at, declaration_open_at, comment_open_inside_at, marked_at, after_mark_at}
+use Rattle.markdown_leaf_html.specs.HtmlText.{rested, with_marker, closing, past_code, prefix_value, cdata_passed, starts_no_value, quote_value, quote_passed, HtmlPartReady, CdataReady, QuotedReady, part_ends, quoted_ends, open_at, declaration_open_at, comment_open_inside_at, marked_at, after_mark_at}
 use Rattle.markdown_leaf_html.specs.HtmlText.{after_two_marks_at, over_to, cdata_open_inside_at, cdata_open_inside_step, declaration_at, instruction_at, instruction_close_at, tag_close_start_at, tag_close_at, tag_close_between_at, tag_open_at, tag_open_between_at, tag_open_attribute_name_at, tag_open_attribute_name_after_at}
 use Rattle.markdown_leaf_html.specs.HtmlText.{tag_open_attribute_value_before_at, tag_open_attribute_value_quoted_at, tag_open_attribute_value_quoted_step, tag_open_attribute_value_quoted_after_at, tag_open_attribute_value_unquoted_at, end_at, cdata_open_inside_words, tag_open_attribute_value_quoted_words, part_words}
-use Rattle.markdown_leaf_html.proofs.HtmlLineBreaks.{Goes}
+use Rattle.markdown_leaf_html.proofs.HtmlLineBreaks.{PassesItsCodes}
 use Rattle.markdown_leaf_html.proofs.HtmlLineLemmas.{from-data}
 use Rattle.markdown_leaf_html.proofs.HtmlCodeReadings.{then-nothing, word-end, word-then, word-then-none, up-goes}
 use Rattle.markdown_leaf_html.proofs.HtmlKindReadings.{end-here, end-none, marked-end, marked-on, marked-other, after-mark-on, after-mark-other, after-two-end, after-two-one, comment-inside-dash, comment-inside-none, declaration-goes, declaration-end, declaration-here, declaration-other, instruction-goes, instruction-end, instruction-mark}
@@ -35,7 +35,7 @@ use Rattle.markdown_leaf_html.proofs.HtmlKindReadings.{instruction-other, instru
 use Rattle.markdown_leaf_html.proofs.HtmlTagReadings.{among-each, rest-between, rest-refused, between-none, between-slash, between-first, name-rest-on, name-rest-end, name-after-equals, name-after-other, value-space, value-quote, value-end}
 use Rattle.markdown_leaf_html.proofs.HtmlTagReadings.{value-none, value-plain, quoted-end, quoted-close, quoted-more, unquoted-more, unquoted-after, unquoted-none, between-goes, name-after-goes, value-goes, quoted-goes}
 use Rattle.markdown_leaf_html.proofs.HtmlTextReady.{quoted-next, quoted-broken, quoted-opened, quoted-closed, cdata-opened, cdata-next, cdata-closed, part-next}
-use Rattle.markdown_leaf_html.proofs.HtmlLineEndingLaws.{Within, next-at, next-end}
+use Rattle.markdown_leaf_html.proofs.HtmlLineEndingLaws.{HasHtmlWords, next-at, next-end}
 use Rattle.markdown_leaf_html.proofs.HtmlTextSteps.{text-next, not-ending, part-past, part-over, part-fails, text-broken, part-broken-on}
 use Rattle.markdown_engine.specs.StateWords.{Words, Law, GoesIn}
 use Rattle.markdown_plan.proofs.LawStepsOfLayer.{Goes-on, Goes-kept, Goes-yes, Goes-nok}
@@ -149,7 +149,7 @@ quoted-says os T r ok U x =
 
 -- Comments and CDATA sections end with a mark twice and a `>`: the states in one, after one mark, and after two.
 
-record IsMarked (mark : ℕ) (inside close end : Part) : Type 0 where
+record IsMarkedPart (mark : ℕ) (inside close end : HtmlPart) : Type 0 where
   pub inside_reads : reading_of inside ≡ marked mark
   pub close_reads : reading_of close ≡ after_mark mark
   pub end_reads : reading_of end ≡ after_two_marks mark
@@ -159,23 +159,23 @@ record IsMarked (mark : ℕ) (inside close end : Part) : Type 0 where
   pub plain : (mark == 10) ≡ false
   pub blank : whitespace_value mark ≡ false
 
-comments : IsMarked 45 Comment CommentClose CommentEnd
+comments : IsMarkedPart 45 Comment CommentClose CommentEnd
 comments = record { inside_reads = refl; close_reads = refl; end_reads = refl; inside_rank = refl; close_rank = refl; end_rank = refl; plain = refl; blank = refl }
 
-sections : IsMarked 93 Cdata CdataClose CdataEnd
+sections : IsMarkedPart 93 Cdata CdataClose CdataEnd
 sections = record { inside_reads = refl; close_reads = refl; end_reads = refl; inside_rank = refl; close_rank = refl; end_rank = refl; plain = refl; blank = refl }
 
 read : {r q : Reading (List Code)} → r ≡ q → (cs : List Code) → r cs ≡ q cs
 read e cs = ap (λ (f : Reading (List Code)). f cs) e
 
-module _ (W : Words) (within : Within W) where
+module _ (W : Words) (within : HasHtmlWords W) where
   pub open-law : Law W (part_words Open)
   open-law T alone r =
       let P : Stepped → Type 0 = GoesIn W (weight_at (rank_of Open) T) (part_ends Open T) in
       code-step P (current_of T) (λ o. open_at o T)
       (λ e. part-fails W within Open T alone (open-none (ahead T) (next-end letter_value T e) (next-end (λ v. v == 47) T e) (next-end (λ v. v == 33) T e) (next-end (λ v. v == 63) T e)))
       (λ c e.
-      let b : Begins c (ahead T) = ahead-some T c e in
+      let b : BeginsWithValue c (ahead T) = ahead-some T c e in
       let rest : List Code = rest_of (ahead T) in
       if-step P (c == 33) _ _
       (λ h1. part-past W within Open DeclarationOpen T c alone r e (ap (λ v. v == 10) (eqb-true c 33 h1)) (open-bang b.code rest (is-so letter_value 33 T c e h1) (is-so (λ v. v == 47) 33 T c e h1) (is-so (λ v. v == 33) 33 T c e h1) (is-so (λ v. v == 63) 33 T c e h1)))
@@ -188,13 +188,13 @@ module _ (W : Words) (within : Within W) where
       (λ h4. part-fails W within Open T alone (open-none (ahead T) (next-at letter_value T c e ∙ h4) (next-at (λ v. v == 47) T c e ∙ h2) (next-at (λ v. v == 33) T c e ∙ h1) (next-at (λ v. v == 63) T c e ∙ h3)))))))
 
   -- into the opening of a CDATA section
-  cdata-entered : (T : Tokenizer) (c : ℕ) → T.attempts ≡ [] → PartReady T → (e : current_of T ≡ Some c) →
+  cdata-entered : (T : Tokenizer) (c : ℕ) → T.attempts ≡ [] → HtmlPartReady T → (e : current_of T ≡ Some c) →
       (c == 91) ≡ true →
       GoesIn W (weight_at (rank_of DeclarationOpen) T) (part_ends DeclarationOpen T) (past_code H.HtmlTextCdataOpenInside T)
   cdata-entered T c alone r e h =
       let V : Tokenizer = done (Consume ∷ []) T in
       let more : 1 ≤ length (ahead T) = some-codes T c e in
-      let next : PartReady V = part-next T more r in
+      let next : HtmlPartReady V = part-next T more r in
       let size : V.tokenize_state.size ≡ 0 = ap (λ (s : TokenizeState). s.size) (sym next.rest) in
       Goes-kept W 2 2 (text_of declaration_rest) (text_of (cdata_opening 0)) (Consume ∷ []) T.tokenize_state T (Next H.HtmlTextCdataOpenInside) within.cdata alone refl more (omega arith)
       (text-next declaration_rest (cdata_opening 0) T c e (ap (λ v. v == 10) (eqb-true c 91 h)) (marked-bracket (ahead-some T c e).code (rest_of (ahead T)) (is-so (λ v. v == 45) 91 T c e h) (is-so letter_value 91 T c e h) (is-so (λ v. v == 91) 91 T c e h)))
@@ -208,7 +208,7 @@ module _ (W : Words) (within : Within W) where
       code-step P (current_of T) (λ o. declaration_open_at o T)
       (λ e. part-fails W within DeclarationOpen T alone (marked-none (ahead T) (next-end (λ v. v == 45) T e) (next-end letter_value T e) (next-end (λ v. v == 91) T e)))
       (λ c e.
-      let b : Begins c (ahead T) = ahead-some T c e in
+      let b : BeginsWithValue c (ahead T) = ahead-some T c e in
       let rest : List Code = rest_of (ahead T) in
       if-step P (c == 45) _ _
       (λ h1. part-past W within DeclarationOpen CommentOpenInside T c alone r e (ap (λ v. v == 10) (eqb-true c 45 h1)) (marked-dash b.code rest (is-so (λ v. v == 45) 45 T c e h1) (is-so letter_value 45 T c e h1) (is-so (λ v. v == 91) 45 T c e h1)))
@@ -224,30 +224,30 @@ module _ (W : Words) (within : Within W) where
       code-step P (current_of T) (λ o. comment_open_inside_at o T)
       (λ e. part-fails W within CommentOpenInside T alone (comment-inside-none (ahead T) (next-end (λ v. v == 45) T e)))
       (λ c e.
-      let b : Begins c (ahead T) = ahead-some T c e in
+      let b : BeginsWithValue c (ahead T) = ahead-some T c e in
       let rest : List Code = rest_of (ahead T) in
       if-step P (c == 45) _ _
       (λ h. part-past W within CommentOpenInside CommentEnd T c alone r e (ap (λ v. v == 10) (eqb-true c 45 h)) (comment-inside-dash b.code rest (at (λ v. v == 45) T c e ∙ h)))
       (λ h. part-fails W within CommentOpenInside T alone (comment-inside-none (ahead T) (next-at (λ v. v == 45) T c e ∙ h))))
 
   -- In what ends with a mark twice and a `>`, after one mark, and after two.
-  module _ (mark : ℕ) (inside close end : Part) (k : IsMarked mark inside close end) where
-    marked-law : (T : Tokenizer) → T.attempts ≡ [] → PartReady T →
+  module _ (mark : ℕ) (inside close end : HtmlPart) (k : IsMarkedPart mark inside close end) where
+    marked-law : (T : Tokenizer) → T.attempts ≡ [] → HtmlPartReady T →
         GoesIn W (weight_at (rank_of inside) T) (part_ends inside T) (marked_at mark (state_of inside) (state_of close) (current_of T) T)
     marked-law T alone r =
         let P : Stepped → Type 0 = GoesIn W (weight_at (rank_of inside) T) (part_ends inside T) in
         code-step P (current_of T) (λ o. marked_at mark (state_of inside) (state_of close) o T)
         (λ e. part-fails W within inside T alone (ap (reading_of inside) (ahead-none T e) ∙ read k.inside_reads [] ∙ marked-end mark))
         (λ c e.
-        let b : Begins c (ahead T) = ahead-some T c e in
+        let b : BeginsWithValue c (ahead T) = ahead-some T c e in
         let rest : List Code = rest_of (ahead T) in
         if-step P (c == 10) _ _
-        (λ h. part-broken-on W within inside T (omega (arith, k.inside_rank)) (subst Goes (sym k.inside_reads) (up-goes mark (mark ∷ 62 ∷ []) k.blank)) alone r (e ∙ ap (λ v. Some v) (eqb-true c 10 h)))
+        (λ h. part-broken-on W within inside T (omega (arith, k.inside_rank)) (subst PassesItsCodes (sym k.inside_reads) (up-goes mark (mark ∷ 62 ∷ []) k.blank)) alone r (e ∙ ap (λ v. Some v) (eqb-true c 10 h)))
         (λ h. if-step P (c == mark) _ _
         (λ g. part-past W within inside close T c alone r e h (read k.inside_reads _ ∙ marked-on mark b.code rest (at (λ v. v == mark) T c e ∙ g) ∙ ap (with_first b.code) (sym (read k.close_reads rest))))
         (λ g. part-past W within inside inside T c alone r e h (read k.inside_reads _ ∙ marked-other mark b.code rest (at (λ v. v == mark) T c e ∙ g) ∙ ap (with_first b.code) (sym (read k.inside_reads rest))))))
 
-    after_mark-law : (T : Tokenizer) → T.attempts ≡ [] → PartReady T →
+    after_mark-law : (T : Tokenizer) → T.attempts ≡ [] → HtmlPartReady T →
         GoesIn W (weight_at (rank_of close) T) (part_ends close T) (after_mark_at mark (state_of inside) (state_of end) (current_of T) T)
     after_mark-law T alone r =
         let P : Stepped → Type 0 = GoesIn W (weight_at (rank_of close) T) (part_ends close T) in
@@ -255,13 +255,13 @@ module _ (W : Words) (within : Within W) where
         code-step P (current_of T) (λ o. after_mark_at mark (state_of inside) (state_of end) o T)
         (λ e. over (next-end (λ v. v == mark) T e))
         (λ c e.
-        let b : Begins c (ahead T) = ahead-some T c e in
+        let b : BeginsWithValue c (ahead T) = ahead-some T c e in
         let rest : List Code = rest_of (ahead T) in
         if-step P (c == mark) _ _
         (λ h. part-past W within close end T c alone r e (ap (λ v. v == 10) (eqb-true c mark h) ∙ k.plain) (read k.close_reads _ ∙ after-mark-on mark b.code rest (at (λ v. v == mark) T c e ∙ h) ∙ ap (with_first b.code) (sym (read k.end_reads rest))))
         (λ h. over (next-at (λ v. v == mark) T c e ∙ h)))
 
-    after_two_marks-law : (T : Tokenizer) → T.attempts ≡ [] → PartReady T →
+    after_two_marks-law : (T : Tokenizer) → T.attempts ≡ [] → HtmlPartReady T →
         GoesIn W (weight_at (rank_of end) T) (part_ends end T) (after_two_marks_at mark (state_of inside) (state_of close) (current_of T) T)
     after_two_marks-law T alone r =
         let P : Stepped → Type 0 = GoesIn W (weight_at (rank_of end) T) (part_ends end T) in
@@ -270,7 +270,7 @@ module _ (W : Words) (within : Within W) where
         code-step P (current_of T) (λ o. after_two_marks_at mark (state_of inside) (state_of close) o T)
         (λ e. over (next-end (λ v. v == 62) T e) (next-end (λ v. v == mark) T e))
         (λ c e.
-        let b : Begins c (ahead T) = ahead-some T c e in
+        let b : BeginsWithValue c (ahead T) = ahead-some T c e in
         let rest : List Code = rest_of (ahead T) in
         if-step P (c == 62) _ _
         (λ h. part-over W within end End T alone r (omega (arith, k.end_rank)) (read k.end_reads _ ∙ ap (after_two_marks mark) b.whole ∙ after-two-end mark b.code rest (at (λ v. v == 62) T c e ∙ h) ∙ ap (word ">") (sym b.whole)))
@@ -302,7 +302,7 @@ module _ (W : Words) (within : Within W) where
       code-step P (current_of T) (λ o. declaration_at o T)
       (λ e. part-over W within Declaration End T alone r (omega arith) (ap (through ">") (ahead-none T e) ∙ declaration-end ∙ ap (word ">") (sym (ahead-none T e))))
       (λ c e.
-      let b : Begins c (ahead T) = ahead-some T c e in
+      let b : BeginsWithValue c (ahead T) = ahead-some T c e in
       let rest : List Code = rest_of (ahead T) in
       if-step P (c == 62) _ _
       (λ h. part-over W within Declaration End T alone r (omega arith) (ap (through ">") b.whole ∙ declaration-here b.code rest (at (λ v. v == 62) T c e ∙ h) ∙ ap (word ">") (sym b.whole)))
@@ -316,7 +316,7 @@ module _ (W : Words) (within : Within W) where
       code-step P (current_of T) (λ o. instruction_at o T)
       (λ e. part-fails W within Instruction T alone (ap (through "?>") (ahead-none T e) ∙ instruction-end))
       (λ c e.
-      let b : Begins c (ahead T) = ahead-some T c e in
+      let b : BeginsWithValue c (ahead T) = ahead-some T c e in
       let rest : List Code = rest_of (ahead T) in
       if-step P (c == 10) _ _
       (λ h. part-broken-on W within Instruction T (omega arith) (instruction-goes) alone r (e ∙ ap (λ v. Some v) (eqb-true c 10 h)))
@@ -330,7 +330,7 @@ module _ (W : Words) (within : Within W) where
       code-step P (current_of T) (λ o. instruction_close_at o T)
       (λ e. part-over W within InstructionClose Instruction T alone r (omega arith) (instruction-one-other (ahead T) (next-end (λ v. v == 62) T e)))
       (λ c e.
-      let b : Begins c (ahead T) = ahead-some T c e in
+      let b : BeginsWithValue c (ahead T) = ahead-some T c e in
       let rest : List Code = rest_of (ahead T) in
       if-step P (c == 62) _ _
       (λ h. part-over W within InstructionClose End T alone r (omega arith) (ap instruction_after_one b.whole ∙ instruction-one-end b.code rest (at (λ v. v == 62) T c e ∙ h) ∙ ap (word ">") (sym b.whole)))
@@ -342,7 +342,7 @@ module _ (W : Words) (within : Within W) where
       code-step P (current_of T) (λ o. tag_close_start_at o T)
       (λ e. part-fails W within TagCloseStart T alone (name-not closing_between (ahead T) (next-end letter_value T e)))
       (λ c e.
-      let b : Begins c (ahead T) = ahead-some T c e in
+      let b : BeginsWithValue c (ahead T) = ahead-some T c e in
       let rest : List Code = rest_of (ahead T) in
       if-step P (letter_value c) _ _
       (λ h. part-past W within TagCloseStart TagClose T c alone r e (not-ending letter_value c h refl) (name-first closing_between b.code rest (at letter_value T c e ∙ h)))
@@ -354,7 +354,7 @@ module _ (W : Words) (within : Within W) where
       code-step P (current_of T) (λ o. tag_close_at o T)
       (λ e. part-over W within TagClose TagCloseBetween T alone r (omega arith) (name-none closing_between (ahead T) (next-end name_value T e)))
       (λ c e.
-      let b : Begins c (ahead T) = ahead-some T c e in
+      let b : BeginsWithValue c (ahead T) = ahead-some T c e in
       let rest : List Code = rest_of (ahead T) in
       if-step P (name_value c) _ _
       (λ h. part-past W within TagClose TagClose T c alone r e (not-ending name_value c h refl) (name-on closing_between b.code rest (at name_value T c e ∙ h)))
@@ -366,7 +366,7 @@ module _ (W : Words) (within : Within W) where
       code-step P (current_of T) (λ o. tag_close_between_at o T)
       (λ e. part-over W within TagCloseBetween End T alone r (omega arith) (spaces-none (word ">") (ahead T) (next-end whitespace_value T e)))
       (λ c e.
-      let b : Begins c (ahead T) = ahead-some T c e in
+      let b : BeginsWithValue c (ahead T) = ahead-some T c e in
       let rest : List Code = rest_of (ahead T) in
       if-step P (c == 10) _ _
       (λ h. part-broken-on W within TagCloseBetween T (omega arith) (closing-goes) alone r (e ∙ ap (λ v. Some v) (eqb-true c 10 h)))
@@ -380,7 +380,7 @@ module _ (W : Words) (within : Within W) where
       code-step P (current_of T) (λ o. tag_open_at o T)
       (λ e. part-fails W within TagOpen T alone (name-none tag_rest (ahead T) (next-end name_value T e) ∙ rest-refused (ahead T) (next-end whitespace_value T e) (next-end (λ v. v == 47) T e) (next-end (λ v. v == 62) T e)))
       (λ c e.
-      let b : Begins c (ahead T) = ahead-some T c e in
+      let b : BeginsWithValue c (ahead T) = ahead-some T c e in
       let rest : List Code = rest_of (ahead T) in
       if-step P (after_value c) _ _
       (λ g. part-over W within TagOpen TagOpenBetween T alone r (omega arith) (name-none tag_rest (ahead T) (next-at name_value T c e ∙ after-each (λ v. name_value v ≡ false) c g refl refl refl refl refl) ∙ rest-between (ahead T) (next-at attribute_first_value T c e ∙ after-each (λ v. attribute_first_value v ≡ false) c g refl refl refl refl refl)))
@@ -394,7 +394,7 @@ module _ (W : Words) (within : Within W) where
       code-step P (current_of T) (λ o. tag_open_between_at o T)
       (λ e. part-over W within TagOpenBetween End T alone r (omega arith) (between-none (ahead T) (next-end whitespace_value T e) (next-end attribute_first_value T e) (next-end (λ v. v == 47) T e)))
       (λ c e.
-      let b : Begins c (ahead T) = ahead-some T c e in
+      let b : BeginsWithValue c (ahead T) = ahead-some T c e in
       let rest : List Code = rest_of (ahead T) in
       if-step P (c == 10) _ _
       (λ h. part-broken-on W within TagOpenBetween T (omega arith) (between-goes) alone r (e ∙ ap (λ v. Some v) (eqb-true c 10 h)))
@@ -412,7 +412,7 @@ module _ (W : Words) (within : Within W) where
       code-step P (current_of T) (λ o. tag_open_attribute_name_at o T)
       (λ e. part-over W within AttributeName AttributeNameAfter T alone r (omega arith) (name-rest-end (ahead T) (next-end attribute_rest_value T e)))
       (λ c e.
-      let b : Begins c (ahead T) = ahead-some T c e in
+      let b : BeginsWithValue c (ahead T) = ahead-some T c e in
       let rest : List Code = rest_of (ahead T) in
       if-step P (attribute_rest_value c) _ _
       (λ h. part-past W within AttributeName AttributeName T c alone r e (not-ending attribute_rest_value c h refl) (name-rest-on b.code rest (at attribute_rest_value T c e ∙ h)))
@@ -424,7 +424,7 @@ module _ (W : Words) (within : Within W) where
       code-step P (current_of T) (λ o. tag_open_attribute_name_after_at o T)
       (λ e. part-over W within AttributeNameAfter TagOpenBetween T alone r (omega arith) (name-after-other (ahead T) (next-end whitespace_value T e) (next-end (λ v. v == 61) T e)))
       (λ c e.
-      let b : Begins c (ahead T) = ahead-some T c e in
+      let b : BeginsWithValue c (ahead T) = ahead-some T c e in
       let rest : List Code = rest_of (ahead T) in
       if-step P (c == 10) _ _
       (λ h. part-broken-on W within AttributeNameAfter T (omega arith) (name-after-goes) alone r (e ∙ ap (λ v. Some v) (eqb-true c 10 h)))
@@ -435,13 +435,13 @@ module _ (W : Words) (within : Within W) where
       (λ i. part-over W within AttributeNameAfter TagOpenBetween T alone r (omega arith) (name-after-other (ahead T) (next-at whitespace_value T c e ∙ or_from (blank_value c) _ g h) (next-at (λ v. v == 61) T c e ∙ i))))))
 
   -- into a quoted value
-  quote-entered : (T : Tokenizer) (c : ℕ) → T.attempts ≡ [] → PartReady T → (e : current_of T ≡ Some c) →
+  quote-entered : (T : Tokenizer) (c : ℕ) → T.attempts ≡ [] → HtmlPartReady T → (e : current_of T ≡ Some c) →
       (c == 10) ≡ false → quote_value c ≡ true →
       GoesIn W (weight_at (rank_of ValueBefore) T) (part_ends ValueBefore T) (quote_passed c T)
   unfolding scratched
   quote-entered T c alone r e h k =
       let s : TokenizeState = T.tokenize_state in
-      let b : Begins c (ahead T) = ahead-some T c e in
+      let b : BeginsWithValue c (ahead T) = ahead-some T c e in
       let more : 1 ≤ length (ahead T) = some-codes T c e in
       Goes-on W 2 2 (text_of value_rest) (text_of (quoted_rest c)) (Consume ∷ []) s (with_marker c s) T (Next H.HtmlTextTagOpenAttributeValueQuoted) within.quoted alone refl more (omega arith)
       (text-next value_rest (quoted_rest c) T c e h (value-quote c b.code (rest_of (ahead T)) k (at (λ v. v == c) T c e ∙ eq-eqb c c refl)))
@@ -454,7 +454,7 @@ module _ (W : Words) (within : Within W) where
       code-step P (current_of T) (λ o. tag_open_attribute_value_before_at o T)
       (λ e. part-fails W within ValueBefore T alone (ap value_rest (ahead-none T e) ∙ value-end))
       (λ c e.
-      let b : Begins c (ahead T) = ahead-some T c e in
+      let b : BeginsWithValue c (ahead T) = ahead-some T c e in
       let rest : List Code = rest_of (ahead T) in
       if-step P (starts_no_value c) _ _
       (λ h0. part-fails W within ValueBefore T alone (ap value_rest b.whole ∙ value-none b.code rest (at starts_no_value T c e ∙ h0)))
@@ -472,7 +472,7 @@ module _ (W : Words) (within : Within W) where
       code-step P (current_of T) (λ o. tag_open_attribute_value_quoted_after_at o T)
       (λ e. part-fails W within ValueQuotedAfter T alone (rest-refused (ahead T) (next-end whitespace_value T e) (next-end (λ v. v == 47) T e) (next-end (λ v. v == 62) T e)))
       (λ c e.
-      let b : Begins c (ahead T) = ahead-some T c e in
+      let b : BeginsWithValue c (ahead T) = ahead-some T c e in
       let rest : List Code = rest_of (ahead T) in
       if-step P (after_value c) _ _
       (λ h. part-over W within ValueQuotedAfter TagOpenBetween T alone r (omega arith) (rest-between (ahead T) (next-at attribute_first_value T c e ∙ after-each (λ v. attribute_first_value v ≡ false) c h refl refl refl refl refl)))
@@ -484,7 +484,7 @@ module _ (W : Words) (within : Within W) where
       code-step P (current_of T) (λ o. tag_open_attribute_value_unquoted_at o T)
       (λ e. part-fails W within ValueUnquoted T alone (unquoted-none (ahead T) (next-end unquoted_value_test T e) (next-end after_value T e)))
       (λ c e.
-      let b : Begins c (ahead T) = ahead-some T c e in
+      let b : BeginsWithValue c (ahead T) = ahead-some T c e in
       let rest : List Code = rest_of (ahead T) in
       if-step P (barred_value c) _ _
       (λ h. part-fails W within ValueUnquoted T alone (unquoted-none (ahead T) (next-at unquoted_value_test T c e ∙ (barred-each c h).0) (next-at after_value T c e ∙ (barred-each c h).1)))
@@ -500,7 +500,7 @@ module _ (W : Words) (within : Within W) where
       code-step P (current_of T) (λ o. end_at o T)
       (λ e. part-fails W within End T alone (end-none (ahead T) (next-end (λ v. v == 62) T e)))
       (λ c e.
-      let b : Begins c (ahead T) = ahead-some T c e in
+      let b : BeginsWithValue c (ahead T) = ahead-some T c e in
       if-step P (c == 62) _ _
       (λ h. Goes-yes W 1 2 (text_of (word ">")) closing T alone
       (ap (text_of (word ">")) b.whole ∙ ap (text_from InLine) (end-here b.code (rest_of (ahead T)) (at (λ v. v == 62) T c e ∙ h))
@@ -516,7 +516,7 @@ module _ (W : Words) (within : Within W) where
   cdata-passed T c alone r e h =
       let s : TokenizeState = T.tokenize_state in
       let n : ℕ = s.size in
-      let b : Begins c (ahead T) = ahead-some T c e in
+      let b : BeginsWithValue c (ahead T) = ahead-some T c e in
       let rest : List Code = rest_of (ahead T) in
       let more : 1 ≤ length (ahead T) = some-codes T c e in
       let plain : (c == 10) ≡ false = ap (λ v. v == 10) (eqb-true c (prefix_value n) h) ∙ prefix-plain n r.size in
@@ -554,7 +554,7 @@ module _ (W : Words) (within : Within W) where
   quoted-ended T c alone r e h =
       let s : TokenizeState = T.tokenize_state in
       let m : ℕ = s.marker in
-      let b : Begins c (ahead T) = ahead-some T c e in
+      let b : BeginsWithValue c (ahead T) = ahead-some T c e in
       let more : 1 ≤ length (ahead T) = some-codes T c e in
       Goes-on W 2 2 (text_of (quoted_rest m)) (text_of tag_rest) (Consume ∷ []) (with_marker 0 s) (with_marker 0 s) T (Next H.HtmlTextTagOpenAttributeValueQuotedAfter) (within.parts ValueQuotedAfter) alone refl more (omega arith)
       (text-next (quoted_rest m) tag_rest T c e (ap (λ v. v == 10) (eqb-true c m h) ∙ (or_parts (blank_value m) _ r.quote).1) (quoted-close m b.code (rest_of (ahead T)) (at (λ v. v == m) T c e ∙ h)))
@@ -572,7 +572,7 @@ module _ (W : Words) (within : Within W) where
       (code-step P (current_of T) (λ o. tag_open_attribute_value_quoted_at o T)
       (λ e. Goes-nok W 2 2 (text_of (quoted_rest m)) (with_marker 0 s) T alone (ap (text_from InLine) (ap (quoted_rest m) (ahead-none T e) ∙ quoted-end m)))
       (λ c e.
-      let b : Begins c (ahead T) = ahead-some T c e in
+      let b : BeginsWithValue c (ahead T) = ahead-some T c e in
       let more : 1 ≤ length (ahead T) = some-codes T c e in
       if-step P (c == m) _ _
       (λ h. quoted-ended T c alone r e h)

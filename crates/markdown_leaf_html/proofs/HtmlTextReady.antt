@@ -1,6 +1,6 @@
 -- The states of HTML in text: when the next one may be called.
 use Rattle.std.proofs.Common.{◌≡◌, ℕ, ◌+◌, ◌<◌, ◌≤◌, ◌&&◌, Bool, true, false, List, [], ◌∷◌, ◌++◌, length, drop, refl, sym, ap, subst, ◌∙◌, arith}
-use Rattle.markdown_engine_content.specs.Codes.{Code, is_line_ending, is_blank}
+use Rattle.markdown_content.specs.Codes.{Code, is_line_ending, is_blank}
 use Rattle.markdown_engine.specs.Operations.{Op, Exit, Consume, ahead, applied, done, moves, op_stack, scratched}
 use Rattle.markdown_event.specs.declared.event.Name.{Name}
 use Rattle.markdown_event.specs.declared.event.Name.TheVariants as N
@@ -13,7 +13,7 @@ use Rattle.markdown_partial.specs.PartialSpaceOrTab as PartialSpaceOrTab
 use Rattle.markdown_plan.proofs.OpenEvents.{second-open}
 use Rattle.markdown_plan.specs.ScratchFields.{AreOpen, with_size}
 use Rattle.markdown_leaf_html.specs.HtmlLines.{Mode, InLine, AtStart, InBlank, takes_blank, left_open, to_data, to_blank, ending_ops, break_from}
-use Rattle.markdown_leaf_html.specs.HtmlText.{rested, with_marker, opening, StartReady, SpacesReady, InsideReady, PartReady, CdataReady, QuotedReady, AfterReady}
+use Rattle.markdown_leaf_html.specs.HtmlText.{rested, with_marker, opening, HtmlStartReady, SpacesReady, HtmlInsideReady, HtmlPartReady, CdataReady, QuotedReady, HtmlAfterReady}
 use Rattle.markdown_leaf_html.specs.HtmlByteTests.{whitespace_value}
 use Rattle.markdown_leaf_html.proofs.HtmlLineBreaks.{break-ending, break-blank, break-data, break-fits}
 
@@ -86,12 +86,12 @@ spaces-done os T h k =
 
 -- The states of one place.
 
-pub inside-next : (T : Tokenizer) → 1 ≤ length (ahead T) → InsideReady T → InsideReady (done (Consume ∷ []) T)
+pub inside-next : (T : Tokenizer) → 1 ≤ length (ahead T) → HtmlInsideReady T → HtmlInsideReady (done (Consume ∷ []) T)
 unfolding applied
 inside-next T more k =
     record { stand_open = k.stand_open; spaces = spaces-done (Consume ∷ []) T more k.spaces }
 
-pub inside-broken : (T : Tokenizer) → InsideReady T → InsideReady (done (break_from InLine (ahead T)) T)
+pub inside-broken : (T : Tokenizer) → HtmlInsideReady T → HtmlInsideReady (done (break_from InLine (ahead T)) T)
 inside-broken T k =
     let os : List Op = break_from InLine (ahead T) in
     record { stand_open = open-broken T (ahead T) k.stand_open; spaces = spaces-done os T (break-fits InLine (ahead T)) k.spaces }
@@ -100,11 +100,11 @@ rest-done : (os : List Op) (T : Tokenizer) (P : TokenizeState → Type 0) → P 
     P (done os T).tokenize_state
 rest-done os T P k = subst P (sym (scratch-done os T)) k
 
-pub part-next : (T : Tokenizer) → 1 ≤ length (ahead T) → PartReady T → PartReady (done (Consume ∷ []) T)
+pub part-next : (T : Tokenizer) → 1 ≤ length (ahead T) → HtmlPartReady T → HtmlPartReady (done (Consume ∷ []) T)
 part-next T more k =
     record { inside = inside-next T more k.inside; rest = rest-done (Consume ∷ []) T (λ s. rested s ≡ s) k.rest }
 
-pub part-broken : (T : Tokenizer) → PartReady T → PartReady (done (break_from InLine (ahead T)) T)
+pub part-broken : (T : Tokenizer) → HtmlPartReady T → HtmlPartReady (done (break_from InLine (ahead T)) T)
 part-broken T k =
     record { inside = inside-broken T k.inside; rest = rest-done (break_from InLine (ahead T)) T (λ s. rested s ≡ s) k.rest }
 
@@ -126,12 +126,12 @@ quoted-broken T k =
 
 -- with other scratch fields, where those of whitespace are at rest
 pub inside-scratched : (r : TokenizeState) (T : Tokenizer) → PartialSpaceOrTab.rested r ≡ r →
-    InsideReady T → InsideReady (scratched r T)
+    HtmlInsideReady T → HtmlInsideReady (scratched r T)
 unfolding scratched
 inside-scratched r T e k =
     record { stand_open = k.stand_open; spaces = record { resting = e; short = k.spaces.short } }
 
-pub quoted-opened : (c : ℕ) (T : Tokenizer) → 1 ≤ length (ahead T) → whitespace_value c ≡ false → PartReady T →
+pub quoted-opened : (c : ℕ) (T : Tokenizer) → 1 ≤ length (ahead T) → whitespace_value c ≡ false → HtmlPartReady T →
     QuotedReady (scratched (with_marker c T.tokenize_state) (done (Consume ∷ []) T))
 unfolding scratched applied
 quoted-opened c T more h k =
@@ -143,12 +143,12 @@ quoted-opened c T more h k =
     }
 
 pub quoted-closed : (T : Tokenizer) → 1 ≤ length (ahead T) → QuotedReady T →
-    PartReady (scratched (with_marker 0 T.tokenize_state) (done (Consume ∷ []) T))
+    HtmlPartReady (scratched (with_marker 0 T.tokenize_state) (done (Consume ∷ []) T))
 unfolding scratched applied
 quoted-closed T more k =
     record { inside = inside-scratched (with_marker 0 T.tokenize_state) (done (Consume ∷ []) T) (ap (with_marker 0) k.inside.spaces.resting) (inside-next T more k.inside); rest = k.rest }
 
-pub cdata-opened : (T : Tokenizer) → PartReady T → CdataReady T
+pub cdata-opened : (T : Tokenizer) → HtmlPartReady T → CdataReady T
 cdata-opened T k =
     let size : T.tokenize_state.size ≡ 0 = ap (λ (s : TokenizeState). s.size) (sym k.rest) in
     record { inside = k.inside; rest = k.rest ∙ ap (λ n. with_size n T.tokenize_state) size; size = omega (arith, size) }
@@ -165,24 +165,24 @@ cdata-next T more h k =
     }
 
 pub cdata-closed : (T : Tokenizer) → 1 ≤ length (ahead T) → CdataReady T →
-    PartReady (scratched (with_size 0 T.tokenize_state) (done (Consume ∷ []) T))
+    HtmlPartReady (scratched (with_size 0 T.tokenize_state) (done (Consume ∷ []) T))
 unfolding scratched applied
 cdata-closed T more k =
     record { inside = inside-scratched (with_size 0 T.tokenize_state) (done (Consume ∷ []) T) (ap (with_size 0) k.inside.spaces.resting) (inside-next T more k.inside); rest = k.rest }
 
-pub start-opened : (T : Tokenizer) → 1 ≤ length (ahead T) → StartReady T → PartReady (done opening T)
+pub start-opened : (T : Tokenizer) → 1 ≤ length (ahead T) → HtmlStartReady T → HtmlPartReady (done opening T)
 unfolding applied
 start-opened T more k =
     record { inside = record { stand_open = refl; spaces = spaces-done opening T more k.spaces }; rest = k.rest }
 
 -- Line endings.
 
-pub before-passed : (T : Tokenizer) → 1 ≤ length (ahead T) → InsideReady T →
-    AfterReady (done (Exit N.HtmlTextData ∷ ending_ops) T)
+pub before-passed : (T : Tokenizer) → 1 ≤ length (ahead T) → HtmlInsideReady T →
+    HtmlAfterReady (done (Exit N.HtmlTextData ∷ ending_ops) T)
 unfolding applied
 before-passed T more k =
     record { stand_open = second-open T.stack N.HtmlTextData N.HtmlText k.stand_open; spaces = spaces-done (Exit N.HtmlTextData ∷ ending_ops) T more k.spaces }
 
-pub ending-passed : (T : Tokenizer) → 1 ≤ length (ahead T) → AfterReady T → AfterReady (done ending_ops T)
+pub ending-passed : (T : Tokenizer) → 1 ≤ length (ahead T) → HtmlAfterReady T → HtmlAfterReady (done ending_ops T)
 unfolding applied
 ending-passed T more k = record { stand_open = k.stand_open; spaces = spaces-done ending_ops T more k.spaces }

@@ -1,16 +1,16 @@
 -- The laws of the states of HTML in text, joined.
 use Rattle.markdown_engine.specs.StateWords.{StateWords, Words}
-use Rattle.markdown_state.specs.declared.state.StateName.{StateName}
-use Rattle.markdown_state.specs.declared.state.StateName.TheVariants as H
+use Rattle.markdown_event.specs.declared.state.StateName.{StateName}
+use Rattle.markdown_event.specs.declared.state.StateName.TheVariants as H
 use Rattle.markdown_leaf_html.specs.HtmlText.{states}
 use Rattle.markdown_leaf_html.proofs.HtmlLineEndingLaws as HtmlLineEndingLaws
 use Rattle.markdown_leaf_html.proofs.HtmlTextLaws as HtmlTextLaws
 use Rattle.markdown_leaf_html.proofs.HtmlTextStartLaw as HtmlTextStartLaw
-use Rattle.markdown_leaf_html.proofs.HtmlLineEndingLaws.{Within}
+use Rattle.markdown_leaf_html.proofs.HtmlLineEndingLaws.{HasHtmlWords}
 use Rattle.markdown_plan.specs.LayerEquation.{AreLawful}
 
 -- of these states, and of any other as it is given
-pub laws : (W : Words) → Within W → (t : StateName → StateWords) → AreLawful W t → AreLawful W (states t)
+pub laws : (W : Words) → HasHtmlWords W → (t : StateName → StateWords) → AreLawful W t → AreLawful W (states t)
 laws W within t other H.HtmlTextStart = HtmlTextStartLaw.start-law W within
 laws W within t other H.HtmlTextOpen = HtmlTextLaws.open-law W within
 laws W within t other H.HtmlTextDeclarationOpen = HtmlTextLaws.declaration_open-law W within

@@ -1,25 +1,25 @@
 -- Where the sequence does not begin that ends a kind of HTML, none of that kind is read.
 use Rattle.std.proofs.Common.{◌≡◌, ◌==◌, ◌&&◌, Bool, true, false, if◌then◌else◌, Option, Some, None, ℕ, List, [], ◌∷◌, refl, sym, ap, subst, ◌∙◌}
 use Rattle.std.specs.Prelude.{codes}
-use Rattle.markdown_engine_content.specs.Codes.{Code}
-use Rattle.markdown_engine_content.specs.ListFunctions.{rest_of}
+use Rattle.markdown_content.specs.Codes.{Code}
+use Rattle.markdown_content.specs.ListFunctions.{rest_of}
 use Rattle.markdown_engine.specs.Operations.{ahead, current_of}
-use Rattle.markdown_engine_content.specs.Place.{ahead_at, code_at, moved}
-use Rattle.markdown_engine_content.proofs.PlaceRules.{ahead-moved}
-use Rattle.markdown_engine_index.specs.SequenceIndex.{stand_next, begins_at, last_where}
-use Rattle.markdown_engine_index.specs.declared.sequence_index.Sequence.{Sequence}
-use Rattle.markdown_engine_index.specs.declared.sequence_index.Sequence.TheVariants.{CommentEnd, SectionEnd, InstructionEnd, DeclarationEnd}
+use Rattle.markdown_content.specs.Place.{ahead_at, code_at, moved}
+use Rattle.markdown_content.proofs.PlaceRules.{ahead-moved}
+use Rattle.markdown_notes.specs.SequenceIndex.{stand_next, begins_at, last_where}
+use Rattle.markdown_notes.specs.declared.sequence_index.Sequence.{Sequence}
+use Rattle.markdown_notes.specs.declared.sequence_index.Sequence.TheVariants.{CommentEnd, SectionEnd, InstructionEnd, DeclarationEnd}
 use Rattle.markdown_engine.specs.declared.tokenizer.Tokenizer.{Tokenizer}
-use Rattle.markdown_engine.proofs.OperationFields.{ahead-some, Begins}
-use Rattle.markdown_engine_index.proofs.RunIndexFacts.{later-none}
-use Rattle.markdown_engine_index.proofs.SequenceIndexLemmas.{ruled-out}
+use Rattle.markdown_engine.proofs.OperationFields.{ahead-some, BeginsWithValue}
+use Rattle.markdown_notes.proofs.RunIndexFacts.{later-none}
+use Rattle.markdown_notes.proofs.SequenceIndexLemmas.{ruled-out}
 use Rattle.markdown_model.specs.CodeTests.{is_value, next_is}
 use Rattle.markdown_model.specs.Grammar.{with_first, word, word_of, up_to_word, through, ◌then_◌}
 use Rattle.markdown_plan.specs.ByteTests.{letter_value}
 use Rattle.markdown_plan.specs.Plan.{plan_of, preceded}
 use Rattle.markdown_plan.proofs.PlanSteps.{none-read}
 use Rattle.markdown_leaf_html.specs.HtmlLines.{InLine, text_from}
-use Rattle.markdown_leaf_html.specs.HtmlText.{IsIndexed, ending_at, html_here, is_absent, is_on, is_ruled_out, marked_ending, opening}
+use Rattle.markdown_leaf_html.specs.HtmlText.{KnowsSequences, ending_at, html_here, is_absent, is_on, is_ruled_out, marked_ending, opening}
 use Rattle.markdown_leaf_html.specs.HtmlTextRests.{comment_inside, cdata_opening, declaration_rest, open_rest}
 use Rattle.markdown_leaf_html.proofs.HtmlCodeReadings.{then-nothing, either-none, word-end, word-then, word-then-none, word-absent, up-absent}
 use Rattle.markdown_leaf_html.proofs.HtmlKindReadings.{marked-dash, marked-letter, marked-bracket, open-question, open-bang}
@@ -88,7 +88,7 @@ abbrev AbsentIn : List Code → Option Sequence → Type 0
 AbsentIn cs None = ⊥
 AbsentIn cs (Some s) = last_where (begins_at s) cs ≡ None
 
-absent-known : (T : Tokenizer) (o : Option Sequence) → IsIndexed T → is_absent o T ≡ true → AbsentIn (ahead T) o
+absent-known : (T : Tokenizer) (o : Option Sequence) → KnowsSequences T → is_absent o T ≡ true → AbsentIn (ahead T) o
 unfolding ahead_at
 absent-known T None right h = cc
 absent-known T (Some s) right h = ruled-out T.tokenize_state.sequences T.cursor.codes s T.cursor.at right h
@@ -101,7 +101,7 @@ absent-later (Some s) c cs h = absent-behind s c cs h
 marked-absent : (T : Tokenizer) (o : Option ℕ) → current_of T ≡ o → AbsentIn (ahead T) (marked_ending o) → declaration_rest (ahead T) ≡ None
 marked-absent T None e h = absurd h
 marked-absent T (Some c) e absent =
-    let b : Begins c (ahead T) = ahead-some T c e in
+    let b : BeginsWithValue c (ahead T) = ahead-some T c e in
     let rest : List Code = rest_of (ahead T) in
     let P : Option Sequence → Type 0 = λ o. AbsentIn (ahead T) o → declaration_rest (ahead T) ≡ None in
     by_test P (c == 45) _ _
@@ -117,7 +117,7 @@ open-absent : (T : Tokenizer) (o : Option ℕ) → current_of T ≡ o → Absent
     open_rest (ahead T) ≡ None
 open-absent T None e h = absurd h
 open-absent T (Some c) e absent =
-    let b : Begins c (ahead T) = ahead-some T c e in
+    let b : BeginsWithValue c (ahead T) = ahead-some T c e in
     let rest : List Code = rest_of (ahead T) in
     let P : Option Sequence → Type 0 = λ o. AbsentIn (ahead T) o → open_rest (ahead T) ≡ None in
     by_test P (c == 63) _ _
@@ -129,17 +129,17 @@ open-absent T (Some c) e absent =
     o : Option Sequence
     o = marked_ending (code_at (moved T.cursor))
 
-    declaration-behind : (b : Begins c (ahead T)) → AbsentIn (ahead T) o → declaration_rest (rest_of (ahead T)) ≡ None
+    declaration-behind : (b : BeginsWithValue c (ahead T)) → AbsentIn (ahead T) o → declaration_rest (rest_of (ahead T)) ≡ None
     declaration-behind b k =
         ap declaration_rest (sym (ahead-moved T.cursor))
         ∙ marked-absent (record T { cursor = moved T.cursor }) (code_at (moved T.cursor)) refl
         (subst (λ cs. AbsentIn cs o) (sym (ahead-moved T.cursor)) (absent-later o b.code (rest_of (ahead T)) (subst (λ cs. AbsentIn cs o) b.whole k)))
 
 -- where it is known that what begins with the `<` at hand does not end, no HTML is read
-pub html-ruled-out : (T : Tokenizer) → IsIndexed T → current_of T ≡ Some 60 → is_ruled_out T ≡ true → html_here T (ahead T) ≡ None
+pub html-ruled-out : (T : Tokenizer) → KnowsSequences T → current_of T ≡ Some 60 → is_ruled_out T ≡ true → html_here T (ahead T) ≡ None
 html-ruled-out T right here h = none-read (html_here T (ahead T)) (by_switch (is_on T) refl)
   where
-    b : Begins 60 (ahead T)
+    b : BeginsWithValue 60 (ahead T)
     b = ahead-some T 60 here
 
     o : Option Sequence

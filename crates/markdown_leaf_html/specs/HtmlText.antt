@@ -3,17 +3,17 @@ use Rattle.std.specs.Prelude.{◌≡◌, ℕ, ◌+◌, ◌<◌, ◌≤◌, Bool,
 use Rattle.markdown_engine.specs.Operations.{Op, Enter, Exit, Consume, IsOpen, ahead, attempted, current_of, done, scratched}
 use Rattle.markdown_engine.specs.PastTree.{EndsAs, TreeReading}
 use Rattle.markdown_engine.specs.StateRuns.{Stepped, stepped}
-use Rattle.markdown_engine_index.specs.SequenceIndex.{rules_out, IsRightFor}
+use Rattle.markdown_notes.specs.SequenceIndex.{rules_out, KnowsLastBegins}
 use Rattle.markdown_engine.specs.Steady.{alone_among}
 use Rattle.markdown_engine.specs.Weights.{codes_left}
-use Rattle.markdown_engine_content.specs.Place.{code_at, moved}
+use Rattle.markdown_content.specs.Place.{code_at, moved}
 use Rattle.markdown_event.specs.declared.event.Name.TheVariants as N
-use Rattle.markdown_engine_index.specs.declared.sequence_index.Sequence.{Sequence}
-use Rattle.markdown_engine_index.specs.declared.sequence_index.Sequence.TheVariants.{CommentEnd, SectionEnd, InstructionEnd, DeclarationEnd}
-use Rattle.markdown_state.specs.declared.state.State.TheVariants.{Next, Retry, Nok}
-use Rattle.markdown_state.specs.declared.state.State.TheVariants as State
-use Rattle.markdown_state.specs.declared.state.StateName.{StateName}
-use Rattle.markdown_state.specs.declared.state.StateName.TheVariants as H
+use Rattle.markdown_notes.specs.declared.sequence_index.Sequence.{Sequence}
+use Rattle.markdown_notes.specs.declared.sequence_index.Sequence.TheVariants.{CommentEnd, SectionEnd, InstructionEnd, DeclarationEnd}
+use Rattle.markdown_event.specs.declared.state.State.TheVariants.{Next, Retry, Nok}
+use Rattle.markdown_event.specs.declared.state.State.TheVariants as State
+use Rattle.markdown_event.specs.declared.state.StateName.{StateName}
+use Rattle.markdown_event.specs.declared.state.StateName.TheVariants as H
 use Rattle.markdown_engine.specs.declared.tokenizer.TokenizeState.{TokenizeState}
 use Rattle.markdown_engine.specs.declared.tokenizer.Tokenizer.{Tokenizer}
 use Rattle.markdown_partial.specs.PartialSpaceOrTab as PartialSpaceOrTab
@@ -23,7 +23,7 @@ use Rattle.markdown_plan.specs.ByteTests.{letter_value, among_values}
 use Rattle.markdown_plan.specs.Plan.{DoesAs, KeepsAs}
 use Rattle.markdown_plan.specs.ScratchFields.{AreOpen, with_size}
 use Rattle.markdown_leaf_html.specs.HtmlLines.{InLine, AtStart, break_from, prefix_from, ending_ops, text_of}
-use Rattle.markdown_leaf_html.specs.HtmlTextRests.{Part, reading_of, quoted_rest, cdata_opening, rank_of, Open, DeclarationOpen, CommentOpenInside, Comment, CommentClose, CommentEnd, Cdata, CdataClose, CdataEnd, Declaration, Instruction}
+use Rattle.markdown_leaf_html.specs.HtmlTextRests.{HtmlPart, reading_of, quoted_rest, cdata_opening, rank_of, Open, DeclarationOpen, CommentOpenInside, Comment, CommentClose, CommentEnd, Cdata, CdataClose, CdataEnd, Declaration, Instruction}
 use Rattle.markdown_leaf_html.specs.HtmlTextRests.{InstructionClose, TagCloseStart, TagClose, TagCloseBetween, TagOpen, TagOpenBetween, AttributeName, AttributeNameAfter, ValueBefore, ValueQuotedAfter, ValueUnquoted, End}
 use Rattle.markdown_leaf_html.specs.HtmlByteTests.{blank_value, whitespace_value, name_value, attribute_first_value, attribute_rest_value, after_value, barred_value}
 use Rattle.markdown_engine.specs.StateWords.{StateWords}
@@ -365,47 +365,47 @@ pub record SpacesReady (T : Tokenizer) : Type 0 where
   pub resting : PartialSpaceOrTab.rested T.tokenize_state ≡ T.tokenize_state
   pub short : codes_left T ≤ most
 
-pub record StartReady (T : Tokenizer) : Type 0 where
+pub record HtmlStartReady (T : Tokenizer) : Type 0 where
   pub spaces : SpacesReady T
   pub rest : rested T.tokenize_state ≡ T.tokenize_state
 
 -- in the data of a line
-pub record InsideReady (T : Tokenizer) : Type 0 where
+pub record HtmlInsideReady (T : Tokenizer) : Type 0 where
   pub stand_open : AreOpen N.HtmlTextData N.HtmlText T
   pub spaces : SpacesReady T
 
 -- a state that leaves the scratch fields alone
-pub record PartReady (T : Tokenizer) : Type 0 where
-  pub inside : InsideReady T
+pub record HtmlPartReady (T : Tokenizer) : Type 0 where
+  pub inside : HtmlInsideReady T
   pub rest : rested T.tokenize_state ≡ T.tokenize_state
 
 -- in the opening of a CDATA section
 pub record CdataReady (T : Tokenizer) : Type 0 where
-  pub inside : InsideReady T
+  pub inside : HtmlInsideReady T
   pub rest : rested T.tokenize_state ≡ with_size 0 T.tokenize_state
   pub size : T.tokenize_state.size < 6
 
 -- in a quoted value; no quote is whitespace
 pub record QuotedReady (T : Tokenizer) : Type 0 where
-  pub inside : InsideReady T
+  pub inside : HtmlInsideReady T
   pub rest : rested T.tokenize_state ≡ with_marker 0 T.tokenize_state
   pub quote : whitespace_value T.tokenize_state.marker ≡ false
 
 -- at a line ending
-pub record BeforeReady (T : Tokenizer) : Type 0 where
-  pub inside : InsideReady T
+pub record HtmlLineEndingReady (T : Tokenizer) : Type 0 where
+  pub inside : HtmlInsideReady T
   pub ending : current_of T ≡ Some (byte "\n")
 
 -- at the start of a later line
-pub record AfterReady (T : Tokenizer) : Type 0 where
+pub record HtmlAfterReady (T : Tokenizer) : Type 0 where
   pub stand_open : IsOpen N.HtmlText T
   pub spaces : SpacesReady T
 
 -- What rules HTML out before it is tried.
 
 -- what is known of the sequences that end HTML is right; it may be nothing
-abbrev pub IsIndexed : Tokenizer → Type 0
-IsIndexed T = IsRightFor T.cursor.codes T.tokenize_state.sequences
+abbrev pub KnowsSequences : Tokenizer → Type 0
+KnowsSequences T = KnowsLastBegins T.cursor.codes T.tokenize_state.sequences
 
 -- the sequence that ends what begins with `<!` and this code
 abbrev pub marked_ending : Option ℕ → Option Sequence
@@ -442,7 +442,7 @@ abbrev pub start_ends : Tokenizer → Bool → Tokenizer → Type 0
 start_ends T ok U = EndsAs (html_here T) None T.tokenize_state T ok U
 
 -- from a state that leaves the scratch fields alone
-abbrev pub part_ends : Part → Tokenizer → Bool → Tokenizer → Type 0
+abbrev pub part_ends : HtmlPart → Tokenizer → Bool → Tokenizer → Type 0
 part_ends k T ok U = KeepsAs 2 (text_of (reading_of k)) T ok U
 
 abbrev pub cdata_open_inside_ends : Tokenizer → Bool → Tokenizer → Type 0
@@ -464,7 +464,7 @@ line_ending_after_prefix_ends T ok U = (ok ≡ true) × (U ≡ done (prefix_from
 -- The states.
 
 -- what the states that leave the scratch fields alone do
-abbrev pub part_step : Part → Tokenizer → Stepped
+abbrev pub part_step : HtmlPart → Tokenizer → Stepped
 part_step Open = open_step
 part_step DeclarationOpen = declaration_open_step
 part_step CommentOpenInside = comment_open_inside_step
@@ -489,11 +489,11 @@ part_step ValueQuotedAfter = tag_open_attribute_value_quoted_after_step
 part_step ValueUnquoted = tag_open_attribute_value_unquoted_step
 part_step End = end_step
 
-abbrev pub part_words : Part → StateWords
-part_words k = record { ready = PartReady; step = part_step k; ends = part_ends k; rank = λ T. rank_of k }
+abbrev pub part_words : HtmlPart → StateWords
+part_words k = record { ready = HtmlPartReady; step = part_step k; ends = part_ends k; rank = λ T. rank_of k }
 
 abbrev pub start_words : StateWords
-start_words = record { ready = StartReady; step = start_step; ends = start_ends; rank = λ T. 3 }
+start_words = record { ready = HtmlStartReady; step = start_step; ends = start_ends; rank = λ T. 3 }
 
 abbrev pub cdata_open_inside_words : StateWords
 cdata_open_inside_words = record { ready = CdataReady; step = cdata_open_inside_step; ends = cdata_open_inside_ends; rank = λ T. 2 }
@@ -502,13 +502,13 @@ abbrev pub tag_open_attribute_value_quoted_words : StateWords
 tag_open_attribute_value_quoted_words = record { ready = QuotedReady; step = tag_open_attribute_value_quoted_step; ends = quoted_ends; rank = λ T. 2 }
 
 abbrev pub line_ending_before_words : StateWords
-line_ending_before_words = record { ready = BeforeReady; step = line_ending_before_step; ends = line_ending_before_ends; rank = λ T. 1 }
+line_ending_before_words = record { ready = HtmlLineEndingReady; step = line_ending_before_step; ends = line_ending_before_ends; rank = λ T. 1 }
 
 abbrev pub line_ending_after_words : StateWords
-line_ending_after_words = record { ready = AfterReady; step = line_ending_after_step; ends = line_ending_after_ends; rank = λ T. 4 }
+line_ending_after_words = record { ready = HtmlAfterReady; step = line_ending_after_step; ends = line_ending_after_ends; rank = λ T. 4 }
 
 abbrev pub line_ending_after_prefix_words : StateWords
-line_ending_after_prefix_words = record { ready = AfterReady; step = line_ending_after_prefix_step; ends = line_ending_after_prefix_ends; rank = λ T. 1 }
+line_ending_after_prefix_words = record { ready = HtmlAfterReady; step = line_ending_after_prefix_step; ends = line_ending_after_prefix_ends; rank = λ T. 1 }
 
 -- a part of what is said of these states, and of any other as it is given
 abbrev pub said {ℓ} : {A : Type ℓ} → (StateWords → A) → (StateName → A) → StateName → A

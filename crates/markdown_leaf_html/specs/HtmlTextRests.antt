@@ -1,9 +1,9 @@
 -- What is still to be read of HTML in text, from each of its states.
 use Rattle.std.specs.Prelude.{ℕ, Bool, ◌||◌, not, List, ◌∷◌, codes, drop}
 use Rattle.std.specs.Str.{byte}
-use Rattle.markdown_engine_content.specs.Codes.{Code}
-use Rattle.markdown_state.specs.declared.state.StateName.{StateName}
-use Rattle.markdown_state.specs.declared.state.StateName.TheVariants as H
+use Rattle.markdown_content.specs.Codes.{Code}
+use Rattle.markdown_event.specs.declared.state.StateName.{StateName}
+use Rattle.markdown_event.specs.declared.state.StateName.TheVariants as H
 use Rattle.markdown_model.specs.CodeTests.{is_value, is_among, next_is, is_whitespace_code, is_letter, is_alphanumeric}
 use Rattle.markdown_model.specs.Grammar.{Reading, either, one, any_number, before, word, word_of, up_to_word, through, if_next, ◌then_◌, repeatedly, optional}
 use Rattle.markdown_model.specs.HtmlText.{spaces, optional_spaces, tag_name, attribute_value, attribute, ends_value}
@@ -108,12 +108,12 @@ open_rest =
 
 -- The states that leave the scratch fields alone.
 
-pub data Part : Type 0 where
-  Open DeclarationOpen CommentOpenInside Comment CommentClose CommentEnd Cdata CdataClose CdataEnd : Part
-  Declaration Instruction InstructionClose TagCloseStart TagClose TagCloseBetween : Part
-  TagOpen TagOpenBetween AttributeName AttributeNameAfter ValueBefore ValueQuotedAfter ValueUnquoted End : Part
+pub data HtmlPart : Type 0 where
+  Open DeclarationOpen CommentOpenInside Comment CommentClose CommentEnd Cdata CdataClose CdataEnd : HtmlPart
+  Declaration Instruction InstructionClose TagCloseStart TagClose TagCloseBetween : HtmlPart
+  TagOpen TagOpenBetween AttributeName AttributeNameAfter ValueBefore ValueQuotedAfter ValueUnquoted End : HtmlPart
 
-abbrev pub state_of : Part → StateName
+abbrev pub state_of : HtmlPart → StateName
 state_of Open = H.HtmlTextOpen
 state_of DeclarationOpen = H.HtmlTextDeclarationOpen
 state_of CommentOpenInside = H.HtmlTextCommentOpenInside
@@ -139,7 +139,7 @@ state_of ValueUnquoted = H.HtmlTextTagOpenAttributeValueUnquoted
 state_of End = H.HtmlTextEnd
 
 -- what is still to be read
-abbrev pub reading_of : Part → Reading (List Code)
+abbrev pub reading_of : HtmlPart → Reading (List Code)
 reading_of Open = open_rest
 reading_of DeclarationOpen = declaration_rest
 reading_of CommentOpenInside = comment_inside
@@ -165,7 +165,7 @@ reading_of ValueUnquoted = unquoted_rest
 reading_of End = word ">"
 
 -- each state goes on at the same code with lower ones alone
-abbrev pub rank_of : Part → ℕ
+abbrev pub rank_of : HtmlPart → ℕ
 rank_of End = 1
 rank_of Open = 2
 rank_of DeclarationOpen = 2

@@ -1,31 +1,31 @@
-// The states of HTML in text, over one line or more (CommonMark 6.6).
-//
-//     html_text ::= open_tag | closing_tag | comment | instruction | declaration | cdata
-//     open_tag ::= '<' tag_name (space+ attribute)* space* '/'? '>'
-//     closing_tag ::= '</' tag_name space* '>'
-//     tag_name ::= letter (letter | digit | '-')*
-//     attribute ::= attribute_name (space* '=' space* value)?
-//     attribute_name ::= (letter | ':' | '_') (letter | digit | '-' | '.' | ':' | '_')*
-//     value ::= '"' (code - '"')* '"' | "'" (code - "'")* "'" | unquoted
-//     unquoted ::= bare (bare - '/')*                          before space, '/' or '>'
-//     bare ::= code - (space | '"' | "'" | '<' | '=' | '>' | '`')
-//     space ::= blank | line_ending
-//     comment ::= '<!-->' | '<!--->' | '<!--' code* '-->'      up to the first '-->'
-//     instruction ::= '<?' code* '?>'                          up to the first '?>'
-//     declaration ::= '<!' letter code* '>'                    up to the first '>'
-//     cdata ::= '<![CDATA[' code* ']]>'                        up to the first ']]>'
-//
-// Events: `HtmlText`, and in it `HtmlTextData` for each line, `LineEnding` between them, and `SpaceOrTab` over the blank codes that begin a
-// later line.
-//
-// Example: `<a href="b">c</a>` has an opening and a closing tag. Definition: `html_text` in `markdown_model/specs/HtmlText.antt`.
-//
-// Each state answers the error where a growth is refused; then `failed` is true.
+//! The states of HTML in text, over one line or more (CommonMark 6.6).
+//!
+//!     html_text ::= open_tag | closing_tag | comment | instruction | declaration | cdata
+//!     open_tag ::= '<' tag_name (space+ attribute)* space* '/'? '>'
+//!     closing_tag ::= '</' tag_name space* '>'
+//!     tag_name ::= letter (letter | digit | '-')*
+//!     attribute ::= attribute_name (space* '=' space* value)?
+//!     attribute_name ::= (letter | ':' | '_') (letter | digit | '-' | '.' | ':' | '_')*
+//!     value ::= '"' (code - '"')* '"' | "'" (code - "'")* "'" | unquoted
+//!     unquoted ::= bare (bare - '/')*                          before space, '/' or '>'
+//!     bare ::= code - (space | '"' | "'" | '<' | '=' | '>' | '`')
+//!     space ::= blank | line_ending
+//!     comment ::= '<!-->' | '<!--->' | '<!--' code* '-->'      up to the first '-->'
+//!     instruction ::= '<?' code* '?>'                          up to the first '?>'
+//!     declaration ::= '<!' letter code* '>'                    up to the first '>'
+//!     cdata ::= '<![CDATA[' code* ']]>'                        up to the first ']]>'
+//!
+//! Events: `HtmlText`, and in it `HtmlTextData` for each line, `LineEnding` between them, and `SpaceOrTab` over the blank codes that begin a
+//! later line.
+//!
+//! Example: `<a href="b">c</a>` has an opening and a closing tag. Definition: `html_text` in `markdown_model/specs/HtmlText.antt`.
+//!
+//! Each state answers the error where a growth is refused; then `failed` is true.
 #![tactic(auto, using(markdown_engine::proofs::OperationFields::op_rules), unfolding(markdown_engine::specs::Operations::scratched))]
 
 ghost use Rattle.std.specs.Prelude.{◌≡◌, ◌<◌, Some, IfOk, OnErr, IsTrue};
 ghost use Rattle.std.specs.Str.{byte};
-ghost use Rattle.markdown_engine_content.specs.Place.{code_at, moved};
+ghost use Rattle.markdown_content.specs.Place.{code_at, moved};
 ghost use Rattle.markdown_engine.specs.Operations.{HasCode, current_of};
 ghost use Rattle.markdown_event.specs.declared.event.Name.TheVariants.{HtmlText, HtmlTextData};
 ghost use Rattle.markdown_plan.specs.ScratchFields.{AreOpen};
@@ -34,14 +34,14 @@ ghost use Rattle.markdown_leaf_html.specs.HtmlText.{stops_in, is_ruled_out, endi
 ghost use Rattle.markdown_leaf_html.specs.HtmlText.{declaration_step, instruction_step, instruction_close_step, tag_close_start_step, tag_close_step, tag_close_between_step, tag_open_step, tag_open_between_step, tag_open_attribute_name_step, tag_open_attribute_name_after_step};
 ghost use Rattle.markdown_leaf_html.specs.HtmlText.{tag_open_attribute_value_before_step, tag_open_attribute_value_quoted_step, tag_open_attribute_value_quoted_after_step, tag_open_attribute_value_unquoted_step, end_step, line_ending_before_step, line_ending_after_step, line_ending_after_prefix_step};
 
+use markdown_content::byte_table;
+use markdown_content::bytes::{ByteSet, ByteTable};
 use markdown_engine::tokenizer::{TokenizeState, Tokenizer};
-use markdown_engine_content::byte_table;
-use markdown_engine_content::bytes::{ByteSet, ByteTable};
-use markdown_engine_index::sequence_index::Sequence;
 use markdown_event::event::Name;
+use markdown_event::state::{State, StateName};
+use markdown_notes::sequence_index::Sequence;
 use markdown_partial::partial_space_or_tab::space_or_tab;
 use markdown_plan::bytes::{is_alphanumeric, is_letter};
-use markdown_state::state::{State, StateName};
 use markdown_util::util::constant::HTML_CDATA_PREFIX;
 use std::alloc::AllocError;
 

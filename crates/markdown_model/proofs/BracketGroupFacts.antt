@@ -1,6 +1,6 @@
 -- What holds of the items of a bracket word, and of what its brackets make, holds of the grouped items.
 use Rattle.std.proofs.Common.{List, [], ◌∷◌, ◌++◌}
-use Rattle.markdown_engine_content.specs.Tree.{Forest, empty, ◌⊕◌}
+use Rattle.markdown_content.specs.Tree.{Forest, empty, ◌⊕◌}
 use Rattle.markdown_model.specs.BracketGroups.{Bracketed, item, opens, closes, nest, nested, onto, after_loose, joined}
 
 -- it holds of each tree

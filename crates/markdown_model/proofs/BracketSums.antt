@@ -1,10 +1,10 @@
 -- What adds up along rows of trees adds up over a bracket word that is grouped.
 use Rattle.std.proofs.Common.{◌≡◌, ℕ, zero, suc, List, [], ◌∷◌, ◌++◌, refl, sym, ◌∙◌, ap}
 use Rattle.std.proofs.lemmas.List.{append_assoc, append-nil}
-use Rattle.markdown_engine_content.specs.Codes.{Code}
-use Rattle.markdown_engine_content.specs.Tree.{Forest, empty, ◌⊕◌, leaf_codes}
+use Rattle.markdown_content.specs.Codes.{Code}
+use Rattle.markdown_content.specs.Tree.{Forest, empty, ◌⊕◌, leaf_codes}
 use Rattle.markdown_model.specs.BracketGroups.{Bracketed, item, opens, closes, nest, nested, onto, after_loose, joined}
-use Rattle.markdown_engine_content.proofs.TreeCodes.{leaf_codes-row}
+use Rattle.markdown_content.proofs.TreeCodes.{leaf_codes-row}
 
 pub record Adds (M : Type 0) : Type 0 where
   pub none : M
@@ -48,17 +48,17 @@ module _ {M : Type 0} (m : Adds M) where
   module _ {O C : Type 0} (wrap : O → List Forest → C → List Forest) (loose_open : O → List Forest) (loose_close : C → List Forest) (opened : O → M) (closed : C → M)
       (sum-wrap : (o : O) (inside : List Forest) (c : C) → sum_of (wrap o inside c) ≡ m.plus (opened o) (m.plus (sum_of inside) (closed c)))
       (sum-open : (o : O) → sum_of (loose_open o) ≡ opened o) where
-    abbrev Frames : Type 0
-    Frames = List Forest × List (C × List Forest)
+    abbrev GroupFrames : Type 0
+    GroupFrames = List Forest × List (C × List Forest)
 
-    abbrev nest_word : List (Bracketed O C Forest) → Frames
+    abbrev nest_word : List (Bracketed O C Forest) → GroupFrames
     nest_word w = nest wrap loose_open loose_close w
 
     abbrev frames : ℕ → List (C × List Forest) → M
     frames d fs = frame_sum loose_close opened closed d fs
 
     sum-onto : (d : ℕ) (o : O) (inside : List Forest) (more : List (C × List Forest))
-        → let r : Frames = onto wrap loose_open loose_close o inside more in
+        → let r : GroupFrames = onto wrap loose_open loose_close o inside more in
         m.plus (sum_of r.0) (frames d r.1) ≡ m.plus (opened o) (m.plus (sum_of inside) (frames (suc d) more))
     sum-onto d o inside [] =
         m.right _ ∙ sum-append (loose_open o) inside ∙ (λ i. m.plus (sum-open o i) (sym (m.right (sum_of inside)) i))

@@ -4,8 +4,8 @@ use Rattle.std.specs.List.{list_all}
 use Rattle.std.proofs.lemmas.List.{length-append}
 use Rattle.std.proofs.Math.Seq.{take-append_seam}
 use Rattle.markdown_event.specs.declared.event.Name.{Name}
-use Rattle.markdown_engine_content.specs.Codes.{Code, is_line_ending}
-use Rattle.markdown_engine_content.specs.Tree.{Forest, leaf, ◌⊕◌}
+use Rattle.markdown_content.specs.Codes.{Code, is_line_ending}
+use Rattle.markdown_content.specs.Tree.{Forest, leaf, ◌⊕◌}
 use Rattle.markdown_model.specs.CodeTests.{next_is, last_code}
 use Rattle.markdown_model.specs.Grammar.{Reading, span, repeated, repeatedly}
 use Rattle.markdown_model.specs.TextLines.{joins, onto_stretch, stretches, lines_of}

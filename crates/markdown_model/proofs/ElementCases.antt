@@ -3,14 +3,14 @@ use Rattle.std.proofs.Common.{◌≡◌, ℕ, Bool, true, false, not, ◌==◌, 
 use Rattle.std.specs.Prelude.{codes}
 use Rattle.std.specs.List.{list_any}
 use Rattle.std.specs.Str.{byte}
-use Rattle.markdown_engine_content.specs.Codes.{Code}
-use Rattle.markdown_engine_content.specs.Tree.{Forest, empty}
-use Rattle.markdown_engine_content.specs.declared.label_kind.LabelKind.{LabelKind}
+use Rattle.markdown_content.specs.Codes.{Code}
+use Rattle.markdown_content.specs.Tree.{Forest, empty}
+use Rattle.markdown_content.specs.declared.label_kind.LabelKind.{LabelKind}
 use Rattle.markdown_model.specs.Grammar.{Reading, ◌>>=◌, ◌>>◌, gives, either, provided, word}
 use Rattle.markdown_model.specs.Setting.{Setting}
 use Rattle.markdown_model.specs.LabelEnd.{Element, starts, Label, is_barred, after_label, footnote_call, link_or_image, outcome_of, label_end}
 use Rattle.markdown_model.specs.Elements.{as_plain, switched, line_ending, data_code, attention_run, label_start_image, gfm_label_start_footnote, label_start_link, code_text, math_text, Tries, tries, tried, first_check, text_element, string_element, Choice, AreElementsFrom, code_before}
-use Rattle.markdown_model.proofs.NoLinkInConstructs.{Passes, Yields, yields_bind, yields_gives, yields_passed, yields_either, yields_before}
+use Rattle.markdown_model.proofs.NoLinkInConstructs.{PassesValue, Yields, yields_bind, yields_gives, yields_passed, yields_either, yields_before}
 use Rattle.markdown_model.proofs.OneLineReadings.{one-line, word-some}
 use Rattle.markdown_model.proofs.PlainConstructs.{ReadsPlain, plain_constructs}
 use Rattle.markdown_model.proofs.ReadingsCover.{At, Takes, itself, seen_before, takes_one, takes_word_of}
@@ -51,7 +51,7 @@ module _ (P : Option (Element × List Code) → Type 0) (none : P None) (cs : Li
     unfolding ◌>>=◌ gives
     start_has kind a covers line = by_answer (a cs) (covers.at cs) (line.at cs)
       where
-        by_answer : (r : Option (List Code × List Code)) → At itself [] cs r → Passes IsSomeLine r
+        by_answer : (r : Option (List Code × List Code)) → At itself [] cs r → PassesValue IsSomeLine r
             → P (elim r as (λ _. Option (Element × List Code)) [ None ↦ None | Some x ↦ Some (starts kind x.0, x.1) ])
         by_answer None h k = none
         by_answer (Some x) h k = starts_has kind x.0 x.1 k h
@@ -144,11 +144,11 @@ AllAre P [] = Unit {0}
 AllAre P (e ∷ es) = P e × AllAre P es
 
 pub all_are : (P : Element → Type 0) (choice : Choice)
-    → ((earlier : List Element) (previous : Option Code) (cs : List Code) → Passes P (choice earlier previous cs))
+    → ((earlier : List Element) (previous : Option Code) (cs : List Code) → PassesValue P (choice earlier previous cs))
     → (es earlier : List Element) (previous : Option Code) (cs : List Code) → AreElementsFrom choice earlier previous cs es → AllAre P es
 all_are P choice h [] earlier previous cs k = tt
 all_are P choice h (e ∷ es) earlier previous cs k =
-    (subst (Passes P) k.1 (h earlier previous cs), all_are P choice h es (e ∷ earlier) (code_before cs k.0) k.0 k.2)
+    (subst (PassesValue P) k.1 (h earlier previous cs), all_are P choice h es (e ∷ earlier) (code_before cs k.0) k.0 k.2)
 
 -- What holds of no tree, and of what is read behind a label, holds of the tree of an outcome.
 pub outcome_yields : (Q : Forest → Type 0) → Q empty → (s : Setting)

@@ -1,8 +1,8 @@
 -- An element begins at each code, and what reads it takes a code at least.
 use Rattle.std.proofs.Common.{◌≡◌, ◌≢◌, ℕ, ◌+◌, ◌≤◌, List, [], ◌∷◌, ◌++◌, length, refl, ap, arith, Option, Some, None}
 use Rattle.std.proofs.lemmas.List.{length-append}
-use Rattle.markdown_engine_content.specs.Codes.{Code}
-use Rattle.markdown_engine_content.specs.Tree.{Forest}
+use Rattle.markdown_content.specs.Codes.{Code}
+use Rattle.markdown_content.specs.Tree.{Forest}
 use Rattle.markdown_model.specs.Grammar.{Reading, ◌>>=◌, gives, either, one}
 use Rattle.markdown_model.specs.Setting.{Setting}
 use Rattle.markdown_model.specs.LabelEnd.{Element, label_before, label_end}
@@ -61,28 +61,28 @@ string_element_takes s =
 
 -- Where a code is left, an element begins; data does, if nothing else.
 
-abbrev pub Holds : {A : Type 0} → Option (A × List Code) → Type 0
-Holds None = ⊥
-Holds (Some r) = Unit {0}
+abbrev pub GivesSome : {A : Type 0} → Option (A × List Code) → Type 0
+GivesSome None = ⊥
+GivesSome (Some r) = Unit {0}
 
-or_holds : {A : Type 0} (a b : Reading A) (cs : List Code) → Holds (b cs) → Holds (either a b cs)
+or_holds : {A : Type 0} (a b : Reading A) (cs : List Code) → GivesSome (b cs) → GivesSome (either a b cs)
 unfolding either
 or_holds {A} a b cs h = by_answer (a cs)
   where
-    by_answer : (r : Option (A × List Code)) → Holds (elim r [ None ↦ b cs | Some x ↦ Some x ])
+    by_answer : (r : Option (A × List Code)) → GivesSome (elim r [ None ↦ b cs | Some x ↦ Some x ])
     by_answer None = h
     by_answer (Some x) = tt
 
-data_holds : (c : Code) (cs : List Code) → Holds (data_code (c ∷ cs))
+data_holds : (c : Code) (cs : List Code) → GivesSome (data_code (c ∷ cs))
 unfolding data_code ◌>>=◌ one gives
 data_holds c cs = tt
 
 pub text_element_holds : (s : Setting) (end : ℕ) (earlier : List Element) (previous : Option Code) (c : Code) (cs : List Code) →
-    Holds (text_element s end earlier previous (c ∷ cs))
+    GivesSome (text_element s end earlier previous (c ∷ cs))
 unfolding text_element
 text_element_holds s end earlier previous c cs =
     or_holds (first_check s end earlier previous) _ (c ∷ cs) (or_holds (tried (tries s end earlier previous) c.value) data_code (c ∷ cs) (data_holds c cs))
 
-pub string_element_holds : (s : Setting) (c : Code) (cs : List Code) → Holds (string_element s (c ∷ cs))
+pub string_element_holds : (s : Setting) (c : Code) (cs : List Code) → GivesSome (string_element s (c ∷ cs))
 unfolding string_element
 string_element_holds s c cs = or_holds _ _ (c ∷ cs) (or_holds _ _ (c ∷ cs) (or_holds _ _ (c ∷ cs) (data_holds c cs)))

@@ -2,12 +2,12 @@
 use Rattle.std.proofs.Common.{◌==◌, ℕ, Bool, true, false, ◌&&◌, List, [], ◌∷◌, reverse}
 use Rattle.std.specs.Str.{byte}
 use Rattle.markdown_event.specs.declared.event.Name.{Name}
-use Rattle.markdown_engine_content.specs.Codes.{Code}
+use Rattle.markdown_content.specs.Codes.{Code}
 use Rattle.markdown_model.specs.CodeTests.{is_value, is_alphanumeric}
 use Rattle.markdown_model.specs.GfmEmailLiteral.{email_protocol, is_word}
 use Rattle.markdown_model.specs.Grammar.{span}
 use Rattle.markdown_model.specs.BracketGroups.{pair_names}
-use Rattle.markdown_model.specs.Passes.{is_hard_break_trailing, blank_name}
+use Rattle.markdown_model.specs.Passes.{HardBreaks, is_hard_break_trailing, blank_name}
 
 -- of strikethrough, of strong emphasis and of emphasis
 pub pair-named : (P : Name × Name × Name → Type 0) → P (Name.GfmStrikethrough, Name.GfmStrikethroughSequence, Name.GfmStrikethroughText)
@@ -23,9 +23,9 @@ pair-named P struck strong emphasis marker size = by_tests (marker == 126) (size
     by_tests false false = emphasis
 
 -- of a hard break and of other spaces and tabs
-pub blank-named : (P : Name → Type 0) → P Name.HardBreakTrailing → P Name.SpaceOrTab → (hard : Bool) (cs : List Code) →
+pub blank-named : (P : Name → Type 0) → P Name.HardBreakTrailing → P Name.SpaceOrTab → (hard : HardBreaks) (cs : List Code) →
     P (blank_name hard cs)
-blank-named P break blank hard cs = by_test (hard && is_hard_break_trailing cs)
+blank-named P break blank hard cs = by_test (hard.on && is_hard_break_trailing hard.two_last cs)
   where
     by_test : (b : Bool) → P (elim b as (λ _. Name) [ true ↦ Name.HardBreakTrailing | false ↦ Name.SpaceOrTab ])
     by_test true = break

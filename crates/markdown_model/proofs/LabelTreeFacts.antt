@@ -1,9 +1,9 @@
 -- What holds of the trees of elements, of their markers as data, of groups of labels and of rows of these, holds of the tree of labels.
 use Rattle.std.proofs.Common.{List, [], ◌∷◌, ◌++◌, map, Option, Some, None}
 use Rattle.markdown_event.specs.declared.event.Name.{Name}
-use Rattle.markdown_engine_content.specs.declared.label_kind.LabelKind.{LabelKind}
-use Rattle.markdown_engine_content.specs.Codes.{Code}
-use Rattle.markdown_engine_content.specs.Tree.{Forest, empty, leaf, ◌⊕◌}
+use Rattle.markdown_content.specs.declared.label_kind.LabelKind.{LabelKind}
+use Rattle.markdown_content.specs.Codes.{Code}
+use Rattle.markdown_content.specs.Tree.{Forest, empty, leaf, ◌⊕◌}
 use Rattle.markdown_model.specs.LabelEnd.{Element, plain, starts, ends}
 use Rattle.markdown_model.specs.BracketGroups.{nested, joined, loose}
 use Rattle.markdown_model.specs.Passes.{Start, End, as_bracket, label_group, loose_start, loose_end, labelled, labels_of}
@@ -17,20 +17,20 @@ module _ (P : Forest → Type 0) (Q : Element → Type 0) (none : P empty) (row 
     (end : (marker : List Code) (outcome : Option (LabelKind × Forest)) → Q (ends marker outcome) → P (leaf Name.Data marker))
     (label : (kind : LabelKind) (marker : List Code) (inside : Forest) (back : List Code) (outcome : LabelKind × Forest)
     → Q (starts kind marker) → P inside → Q (ends back (Some outcome)) → P (label_group outcome.0 marker inside back outcome.1)) where
-  abbrev IsStart : Start → Type 0
-  IsStart o = Q (starts o.0 o.1)
+  abbrev StartHolds : Start → Type 0
+  StartHolds o = Q (starts o.0 o.1)
 
   abbrev IsEnd : End → Type 0
   IsEnd c = Q (ends c.0 c.1)
 
-  labelled-has : (o : Start) (inside : List Forest) (c : End) → IsStart o → AllHave P inside → IsEnd c →
+  labelled-has : (o : Start) (inside : List Forest) (c : End) → StartHolds o → AllHave P inside → IsEnd c →
       AllHave P (labelled o inside c)
   labelled-has o inside (back, None) s h e =
       all-append P (loose o.1) (inside ++ loose back) (start o.0 o.1 s, tt) (all-append P inside (loose back) h (end back None e, tt))
   labelled-has o inside (back, Some outcome) s h e =
       (label o.0 o.1 (joined inside) back outcome s (joined-has P none row inside h) e, tt)
 
-  word-has : (es : List Element) → AllAre Q es → WordHas P IsStart IsEnd (map as_bracket es)
+  word-has : (es : List Element) → AllAre Q es → WordHas P StartHolds IsEnd (map as_bracket es)
   word-has [] h = tt
   word-has (plain t ∷ es) h = (tree t h.0, word-has es h.1)
   word-has (starts kind marker ∷ es) h = (h.0, word-has es h.1)
@@ -40,4 +40,4 @@ module _ (P : Forest → Type 0) (Q : Element → Type 0) (none : P empty) (row 
   unfolding labels_of
   labels-have es h =
       joined-has P none row (nested labelled loose_start loose_end (map as_bracket es))
-      (nested-has P IsStart IsEnd labelled loose_start loose_end labelled-has (λ o k. (start o.0 o.1 k, tt)) (λ c k. (end c.0 c.1 k, tt)) (map as_bracket es) (word-has es h))
+      (nested-has P StartHolds IsEnd labelled loose_start loose_end labelled-has (λ o k. (start o.0 o.1 k, tt)) (λ c k. (end c.0 c.1 k, tt)) (map as_bracket es) (word-has es h))

@@ -2,9 +2,9 @@
 use Rattle.std.proofs.Common.{◌≡◌, ℕ, zero, suc, ◌≤◌, Bool, not, List, [], ◌∷◌, ◌++◌, length, take, drop, map, refl, ◌∙◌, ap, arith, Option, Some, None}
 use Rattle.std.proofs.lemmas.List.{append_assoc, append-nil, take-append-drop}
 use Rattle.markdown_event.specs.declared.event.Name.{Name}
-use Rattle.markdown_engine_content.specs.declared.label_kind.LabelKind.{LabelKind}
-use Rattle.markdown_engine_content.specs.Codes.{Code, stop_of, document_start}
-use Rattle.markdown_engine_content.specs.Tree.{Forest, empty, leaf, ◌⊕◌, group, text_group, start_of, leaf_codes}
+use Rattle.markdown_content.specs.declared.label_kind.LabelKind.{LabelKind}
+use Rattle.markdown_content.specs.Codes.{Code, stop_of, document_start}
+use Rattle.markdown_content.specs.Tree.{Forest, empty, leaf, ◌⊕◌, group, text_group, start_of, leaf_codes}
 use Rattle.markdown_model.specs.Grammar.{◌>>=◌, ◌>>◌, gives, either, provided}
 use Rattle.markdown_model.specs.Resource.{reference_names}
 use Rattle.markdown_model.specs.Setting.{Setting}
@@ -15,7 +15,7 @@ use Rattle.markdown_model.proofs.LeafCodes.{codes-leaf}
 use Rattle.markdown_model.proofs.ReadingsCover.{Covers, codes_laws, bind, given, if_passed, one_of, by_next, where_not, takes_one, covers_resource, covers_label}
 use Rattle.markdown_model.proofs.BracketSums.{codes_add, codes_of_all, codes-joined, sum-append, sum-nested, word_sum}
 use Rattle.markdown_model.proofs.PassesKeepCodes.{codes-loose}
-use Rattle.markdown_engine_content.proofs.TreeCodes.{leaf_codes-row}
+use Rattle.markdown_content.proofs.TreeCodes.{leaf_codes-row}
 
 -- How many starts are unused: each end uses up one, if there is one.
 
@@ -65,7 +65,7 @@ elements_codes d (e ∷ es) = element_codes d e ++ elements_codes (depth_after d
 
 pub covers_full_reference : (s : Setting) → Covers leaf_codes [] (full_reference s)
 unfolding full_reference
-covers_full_reference s = bind _ _ _ _ _ (covers_label reference_names) λ tree. if_passed _ _ _ _ (given _ _ tree refl)
+covers_full_reference s = bind _ _ _ _ _ (covers_label _ reference_names) λ tree. if_passed _ _ _ _ (given _ _ tree refl)
 
 pub covers_collapsed : Covers leaf_codes [] collapsed_reference
 unfolding collapsed_reference
@@ -79,7 +79,7 @@ covers_shortcut defined = if_passed _ _ _ _ (given _ _ empty refl)
 pub covers_after_label : (s : Setting) (defined : Bool) → Covers leaf_codes [] (after_label s defined)
 unfolding after_label reference_after_label shortcut_before_bracket
 covers_after_label s defined =
-    by_next _ _ _ _ _ (one_of _ _ _ _ covers_resource (covers_shortcut defined))
+    by_next _ _ _ _ _ (one_of _ _ _ _ (covers_resource _) (covers_shortcut defined))
     (by_next _ _ _ _ _
     (one_of _ _ _ _ (covers_full_reference s) (one_of _ _ _ _ (if_passed _ _ _ _ covers_collapsed) (where_not _ _ _ _ (covers_shortcut _))))
     (covers_shortcut defined))

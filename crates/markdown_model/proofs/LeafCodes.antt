@@ -2,8 +2,8 @@
 use Rattle.std.proofs.Common.{◌≡◌, Bool, true, false, List, [], ◌∷◌, ◌++◌, refl, ap}
 use Rattle.std.proofs.lemmas.List.{append-nil}
 use Rattle.markdown_event.specs.declared.event.Name.{Name}
-use Rattle.markdown_engine_content.specs.Codes.{Code}
-use Rattle.markdown_engine_content.specs.Tree.{leaf, leaf_codes}
+use Rattle.markdown_content.specs.Codes.{Code}
+use Rattle.markdown_content.specs.Tree.{leaf, leaf_codes}
 use Rattle.markdown_model.specs.Grammar.{span, until}
 
 pub codes-leaf : (name : Name) (cs : List Code) → leaf_codes (leaf name cs) ≡ cs

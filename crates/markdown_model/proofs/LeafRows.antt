@@ -2,8 +2,8 @@
 use Rattle.std.proofs.Common.{◌≡◌, ◌≢◌, Bool, true, false, ◌&&◌, ◌||◌, not, List, [], ◌∷◌, Option, None, refl, ap, ◌∙◌}
 use Rattle.std.specs.List.{list_any}
 use Rattle.std.proofs.lemmas.Bool.{and_parts}
-use Rattle.markdown_engine_content.specs.Codes.{Code, is_blank, is_line_ending}
-use Rattle.markdown_engine_content.specs.Tree.{Forest, empty, leaf_then, group_then, leaf, ◌⊕◌}
+use Rattle.markdown_content.specs.Codes.{Code, is_blank, is_line_ending}
+use Rattle.markdown_content.specs.Tree.{Forest, empty, leaf_then, group_then, leaf, ◌⊕◌}
 use Rattle.markdown_event.specs.declared.event.Content.{Content}
 use Rattle.markdown_event.specs.declared.event.Name.{Name}
 use Rattle.markdown_model.specs.CodeTests.{next_is}
@@ -15,13 +15,13 @@ use Rattle.markdown_model.proofs.OneLineReadings.{filled, line-both, line-first}
 
 -- Stretches.
 
-abbrev pub IsFine : List Code → Type 0
-IsFine [] = Unit {0}
-IsFine (c ∷ cs) = IsOnLine (c ∷ cs)
+abbrev pub IsOnLineIfAny : List Code → Type 0
+IsOnLineIfAny [] = Unit {0}
+IsOnLineIfAny (c ∷ cs) = IsOnLine (c ∷ cs)
 
 abbrev pub AreFine : List (List Code) → Type 0
 AreFine [] = Unit {0}
-AreFine (s ∷ ss) = IsFine s × AreFine ss
+AreFine (s ∷ ss) = IsOnLineIfAny s × AreFine ss
 
 -- codes on a line whose first is no line ending
 on-first : (c : Code) (cs : List Code) → IsOnLine (c ∷ cs) → is_line_ending c ≡ false → IsLine (c ∷ cs)
@@ -29,7 +29,7 @@ on-first c [] h k = line-first c [] k refl
 on-first c (d ∷ cs) h k = h
 
 -- some codes that begin with no line ending
-fine-line : (s : List Code) → IsFine s → next_is is_line_ending s ≡ false → IsLine s
+fine-line : (s : List Code) → IsOnLineIfAny s → next_is is_line_ending s ≡ false → IsLine s
 fine-line [] h e = refl
 fine-line (c ∷ cs) h e = on-first c cs h e
 
@@ -81,7 +81,7 @@ module _ (L : Name → Option Content → List Code → Type 0) where
   -- Texts: what is said of a stretch, and of a line ending.
 
   module _ (name : Name) (link : Option Content) (line : (s : List Code) → IsSomeLine s → L name link s) (ending : (s : List Code) → s ≢ [] → IsOnLine s → L Name.LineEnding link s) where
-    leaves-line : (s : List Code) → IsFine s → Leaves (line_leaf name link s)
+    leaves-line : (s : List Code) → IsOnLineIfAny s → Leaves (line_leaf name link s)
     leaves-line [] h = tt
     leaves-line (c ∷ cs) h = by_test (is_line_ending c) refl
       where

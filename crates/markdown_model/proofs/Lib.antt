@@ -3,6 +3,7 @@ pub mod GivenNames
 pub mod BracketGroupFacts
 pub mod PairGroupFacts
 pub mod PassedTrees
+pub mod GivenByReadings
 pub mod ReadingsCover
 pub mod LiteralCodes
 pub mod BracketSums

@@ -3,21 +3,21 @@ use Rattle.std.proofs.Common.{◌≡◌, ℕ, Bool, true, false, ◌&&◌, ◌||
 use Rattle.std.proofs.Math.Bool.{or-false}
 use Rattle.std.proofs.lemmas.Bool.{not-true}
 use Rattle.markdown_event.specs.declared.event.Name.{Name}
-use Rattle.markdown_engine_content.specs.declared.label_kind.LabelKind.{LabelKind}
-use Rattle.markdown_engine_content.specs.Codes.{Code, stop_of, document_start}
-use Rattle.markdown_engine_content.specs.Tree.{Forest, leaf, ◌⊕◌, group, text_group, start_of}
+use Rattle.markdown_content.specs.declared.label_kind.LabelKind.{LabelKind}
+use Rattle.markdown_content.specs.Codes.{Code, stop_of, document_start}
+use Rattle.markdown_content.specs.Tree.{Forest, leaf, ◌⊕◌, group, text_group, start_of}
 use Rattle.markdown_model.specs.Grammar.{Reading, ◌>>=◌, ◌>>◌, gives, provided, either}
 use Rattle.markdown_model.specs.Setting.{Setting}
 use Rattle.markdown_model.specs.LabelEnd.{Element, plain, starts, ends, Label, label_before, is_image, is_footnote, is_barred, makes_link, footnote_call, link_or_image, link_kind, outcome_of, label_end}
 use Rattle.markdown_model.specs.Elements.{as_plain, line_ending, data_code, attention_run, text_element, Choice, AreElementsFrom, code_before, text_choice, elements_of}
 use Rattle.markdown_model.specs.Pairs.{pair_list}
 use Rattle.markdown_model.specs.BracketGroups.{paired, nest, nested, onto, after_loose, joined, loose}
-use Rattle.markdown_model.specs.Passes.{Start, End, as_bracket, start_marker, start_tree, label_name, label_group, loose_start, loose_end, labelled, labels_of, merged, trimmed, with_emails_apart}
+use Rattle.markdown_model.specs.Passes.{breaks, Start, End, as_bracket, start_marker, start_tree, label_name, label_group, loose_start, loose_end, labelled, labels_of, merged, trimmed, with_emails_apart}
 use Rattle.markdown_model.specs.InlineTree.{raw_tree, finished_text, text_tree}
 use Rattle.markdown_model.specs.Laws.{UnusedStart, with_link, unused_starts, IsLabelOf, is_link, holds_link, AreApart, LinksDoNotNest}
 use Rattle.markdown_model.proofs.OneElementList.{text_elements}
 use Rattle.markdown_model.proofs.EndsTakeTheNearest.{ends_take_the_nearest}
-use Rattle.markdown_model.proofs.NoLinkInConstructs.{IsFree, Passes, Yields, yields_bind, yields_gives, yields_either, then_any, holds-join, holds-leaf, free-apart, or_assoc}
+use Rattle.markdown_model.proofs.NoLinkInConstructs.{IsFree, PassesValue, Yields, yields_bind, yields_gives, yields_either, then_any, holds-join, holds-leaf, free-apart, or_assoc}
 use Rattle.markdown_model.proofs.PlainTrees.{IsQuiet, quiet-free, plain-quiet, quiet_after_label}
 use Rattle.markdown_model.proofs.PlainConstructs.{IsPlainTree, ReadsPlain}
 use Rattle.markdown_model.proofs.PassesKeepLinks.{apart-leaf, apart-join, apart-merged, apart-trimmed, apart-mailed, apart-paired, any_holds, holds_add, apart-joined, holds-loose}
@@ -122,12 +122,12 @@ module _ (us : List UnusedStart) where
 
 allowed_text_element : (s : Setting) (end : ℕ) (earlier : List Element) (previous : Option Code) →
     Yields (IsAllowed (unused_starts earlier)) (text_element s end earlier previous)
-allowed_text_element s end earlier previous = record { at = λ cs. text_has s end earlier previous (Passes (IsAllowed us)) cs (each cs) ((allowed_data_code us).at cs) }
+allowed_text_element s end earlier previous = record { at = λ cs. text_has s end earlier previous (PassesValue (IsAllowed us)) cs (each cs) ((allowed_data_code us).at cs) }
   where
     us : List UnusedStart
     us = unused_starts earlier
 
-    each : (cs : List Code) → EachConstruct s end earlier previous (Passes (IsAllowed us)) cs
+    each : (cs : List Code) → EachConstruct s end earlier previous (PassesValue (IsAllowed us)) cs
     each cs = record {
       none = tt;
       ending = (allowed_line_ending us).at cs;
@@ -164,9 +164,9 @@ all_allowed choice yields (e ∷ es) earlier previous cs h = (
   subst (λ x. AllAllowed x es) (starts_after-is earlier e) (all_allowed choice yields es (e ∷ earlier) (code_before cs h.0) h.0 h.2),
 )
   where
-    at_some : (r : Option (Element × List Code)) → r ≡ Some (e, h.0) → Passes (IsAllowed (unused_starts earlier)) r →
+    at_some : (r : Option (Element × List Code)) → r ≡ Some (e, h.0) → PassesValue (IsAllowed (unused_starts earlier)) r →
         IsAllowed (unused_starts earlier) e
-    at_some r k x = subst (λ z. Passes (IsAllowed (unused_starts earlier)) z) k x
+    at_some r k x = subst (λ z. PassesValue (IsAllowed (unused_starts earlier)) z) k x
 
 -- Groups of labels.
 
@@ -174,9 +174,9 @@ abbrev new_link : End → Bool
 new_link (marker, None) = false
 new_link (marker, Some outcome) = not (is_image outcome.0)
 
-abbrev TailFree : End → Type 0
-TailFree (marker, None) = Unit {0}
-TailFree (marker, Some outcome) = IsFree outcome.1
+abbrev OutcomeIsFree : End → Type 0
+OutcomeIsFree (marker, None) = Unit {0}
+OutcomeIsFree (marker, Some outcome) = IsFree outcome.1
 
 link_name : (kind : LabelKind) → is_link (label_name kind) ≡ not (is_image kind)
 link_name LabelKind.Image = refl
@@ -242,7 +242,7 @@ apart-label_group kind marker inside back tail h k a = (
 apart-loose : (cs : List Code) → AllHave AreApart (loose cs)
 apart-loose cs = (apart-leaf Name.Data cs, tt)
 
-holds-labelled : (start : Start) (inside : List Forest) (end : End) → TailFree end →
+holds-labelled : (start : Start) (inside : List Forest) (end : End) → OutcomeIsFree end →
     any_holds (labelled start inside end) ≡ (new_link end || any_holds inside)
 holds-labelled start inside (marker, None) h =
     sum-append holds_add (loose start.1) (inside ++ loose marker)
@@ -250,7 +250,7 @@ holds-labelled start inside (marker, None) h =
 holds-labelled start inside (marker, Some outcome) h =
     or-false _ ∙ holds-label_group outcome.0 start.1 (joined inside) marker outcome.1 h ∙ ap (λ x. not (is_image outcome.0) || x) (sum-joined holds_add inside)
 
-apart-labelled : (start : Start) (inside : List Forest) (end : End) → TailFree end →
+apart-labelled : (start : Start) (inside : List Forest) (end : End) → OutcomeIsFree end →
     (new_link end ≡ true → any_holds inside ≡ false) → AllHave AreApart inside →
     AllHave AreApart (labelled start inside end)
 apart-labelled start inside (marker, None) h k a =
@@ -258,22 +258,22 @@ apart-labelled start inside (marker, None) h k a =
 apart-labelled start inside (marker, Some outcome) h k a =
     (apart-label_group outcome.0 start.1 (joined inside) marker outcome.1 h (λ e. sum-joined holds_add inside ∙ k e) (apart-joined inside a), tt)
 
-abbrev Frames : Type 0
-Frames = List (End × List Forest)
+abbrev LinkFrames : Type 0
+LinkFrames = List (End × List Forest)
 
-abbrev FramesApart : Frames → Type 0
+abbrev FramesApart : LinkFrames → Type 0
 FramesApart [] = Unit {0}
 FramesApart (f ∷ fs) = AllHave AreApart f.1 × FramesApart fs
 
 -- Ends that wait for their starts: where one makes a link, none stands between; `link` says that one
 -- stands before the first of them.
-abbrev AreReady : Bool → List UnusedStart → Frames → Type 0
+abbrev AreReady : Bool → List UnusedStart → LinkFrames → Type 0
 AreReady link us [] = Unit {0}
 AreReady link [] (f ∷ fs) = Unit {0}
 AreReady link (u ∷ us) (f ∷ fs) =
-    TailFree f.0 × (new_link f.0 ≡ true → (u.before_link || link) ≡ false) × AreReady (link || (new_link f.0 || any_holds f.1)) us fs
+    OutcomeIsFree f.0 × (new_link f.0 ≡ true → (u.before_link || link) ≡ false) × AreReady (link || (new_link f.0 || any_holds f.1)) us fs
 
-earlier_link : (b link : Bool) (us : List UnusedStart) (fs : Frames) → AreReady link (map (with_link b) us) fs →
+earlier_link : (b link : Bool) (us : List UnusedStart) (fs : LinkFrames) → AreReady link (map (with_link b) us) fs →
     AreReady (b || link) us fs
 earlier_link b link us [] h = tt
 earlier_link b link [] (f ∷ fs) h = tt
@@ -283,7 +283,7 @@ earlier_link b link (u ∷ us) (f ∷ fs) h = (
   subst (λ x. AreReady x us fs) (sym (or_assoc b link (new_link f.0 || any_holds f.1))) (earlier_link b (link || (new_link f.0 || any_holds f.1)) us fs h.2),
 )
 
-abbrev nest_labels : List Element → List Forest × Frames
+abbrev nest_labels : List Element → List Forest × LinkFrames
 nest_labels es = nest labelled loose_start loose_end (map as_bracket es)
 
 exchanged : (a b c : Bool) → ((a || b) || c) ≡ (b || (a || c))
@@ -292,10 +292,10 @@ exchanged true false c = refl
 exchanged false true c = refl
 exchanged false false c = refl
 
-abbrev IsNested : List UnusedStart → List Forest × Frames → Type 0
+abbrev IsNested : List UnusedStart → List Forest × LinkFrames → Type 0
 IsNested us r = AllHave AreApart r.0 × FramesApart r.1 × AreReady (any_holds r.0) us r.1
 
-nested_start : (us : List UnusedStart) (kind : LabelKind) (marker : List Code) (inside : List Forest) (more : Frames)
+nested_start : (us : List UnusedStart) (kind : LabelKind) (marker : List Code) (inside : List Forest) (more : LinkFrames)
     → IsNested (record { kind = kind; marker = marker; before_link = false } ∷ us) (inside, more) → IsNested us (onto labelled loose_start loose_end (kind, marker) inside more)
 nested_start us kind marker inside [] h = (all-append AreApart (loose marker) inside (apart-loose marker) h.0, tt, tt)
 nested_start us kind marker inside (f ∷ fs) h = (
@@ -324,7 +324,7 @@ all_nested (u ∷ us) (ends marker (Some outcome) ∷ es) h =
     let r = all_nested (map (with_link (not (is_image outcome.0))) us) es h.1 in
     (tt, (r.0, r.1), (h.0.0, (λ e. or-false u.before_link ∙ h.0.1 e), earlier_link (not (is_image outcome.0)) (any_holds (nest_labels es).0) us (nest_labels es).1 r.2))
 
-apart-after_loose : (fs : Frames) → FramesApart fs → AllHave AreApart (after_loose labelled loose_start loose_end fs)
+apart-after_loose : (fs : LinkFrames) → FramesApart fs → AllHave AreApart (after_loose labelled loose_start loose_end fs)
 apart-after_loose [] h = tt
 apart-after_loose (f ∷ fs) h =
     all-append AreApart (loose_end f.0 ++ f.1) (after_loose labelled loose_start loose_end fs) (all-append AreApart (loose_end f.0) f.1 (apart-loose f.0.0) h.0) (apart-after_loose fs h.1)
@@ -347,11 +347,11 @@ links_do_not_nest s cs = by_test s.options.constructs.gfm_autolink_literal
     labels = apart-labels_of es (all_allowed (text_choice s cs) (λ earlier previous. allowed_text_element s _ earlier previous) es [] None cs (text_elements s cs))
 
     tree : Forest
-    tree = trimmed s.options.constructs.hard_break_trailing true true (merged (paired s (pair_list s) (labels_of es)))
+    tree = trimmed (breaks s) true true (merged (paired s (pair_list s) (labels_of es)))
 
     trimmed_apart : AreApart tree
     trimmed_apart =
-        apart-trimmed s.options.constructs.hard_break_trailing true true _ (apart-merged _ (apart-paired s (pair_list s) (labels_of es) labels))
+        apart-trimmed (breaks s) true true _ (apart-merged _ (apart-paired s (pair_list s) (labels_of es) labels))
 
     by_test : (b : Bool) → AreApart (elim b [ true ↦ with_emails_apart tree | false ↦ tree ])
     by_test true = apart-mailed tree trimmed_apart

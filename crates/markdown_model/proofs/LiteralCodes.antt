@@ -2,15 +2,15 @@
 use Rattle.std.proofs.Common.{◌≡◌, ℕ, zero, suc, Bool, true, false, ◌&&◌, not, List, [], ◌∷◌, ◌++◌, length, reverse, refl, sym, ◌∙◌, ap, Option, Some, None}
 use Rattle.std.proofs.lemmas.List.{append_assoc, append-nil, reverse-append}
 use Rattle.markdown_event.specs.declared.event.Name.{Name}
-use Rattle.markdown_engine_content.specs.Codes.{Code}
-use Rattle.markdown_engine_content.specs.Tree.{Forest, leaf, ◌⊕◌, leaf_codes}
+use Rattle.markdown_content.specs.Codes.{Code}
+use Rattle.markdown_content.specs.Tree.{Forest, leaf, ◌⊕◌, leaf_codes}
 use Rattle.markdown_model.specs.CodeTests.{is_value, is_empty, next_is, is_alphanumeric}
 use Rattle.markdown_model.specs.Grammar.{span}
 use Rattle.markdown_model.specs.GfmAutolinkLiteral.{letters, one_word_of, domain, path, path_from, ends_path, count_if, domain_from, is_domain, is_domain_code}
 use Rattle.markdown_model.specs.GfmEmailLiteral.{is_local, is_word, email_protocol, is_xmpp, email_domain, is_email_domain, email_at, email_leaves, with_emails}
 use Rattle.markdown_model.proofs.LeafCodes.{codes-leaf, span-append}
 use Rattle.markdown_model.proofs.ReadingsCover.{Takes, itself, bind, given, one_of, chosen_at, takes_one}
-use Rattle.markdown_engine_content.proofs.TreeCodes.{leaf_codes-row}
+use Rattle.markdown_content.proofs.TreeCodes.{leaf_codes-row}
 
 takes_letters : (ns : List ℕ) → Takes (letters ns)
 unfolding letters
@@ -84,11 +84,11 @@ protocol_split (c ∷ cs) =
     by_tests false false = refl
 
 -- the parts of an answer at an `@` are the codes before, the `@` and the codes after
-abbrev pub IsFound : List Code → Code → List Code → Option (List Code × Forest × List Code) → Type 0
-IsFound before at after None = Unit {0}
-IsFound before at after (Some r) = r.0 ++ (leaf_codes r.1 ++ r.2) ≡ reverse before ++ at ∷ after
+abbrev pub HasCodesAround : List Code → Code → List Code → Option (List Code × Forest × List Code) → Type 0
+HasCodesAround before at after None = Unit {0}
+HasCodesAround before at after (Some r) = r.0 ++ (leaf_codes r.1 ++ r.2) ≡ reverse before ++ at ∷ after
 
-pub found : (before : List Code) (at : Code) (after : List Code) → IsFound before at after (email_at before at after)
+pub found : (before : List Code) (at : Code) (after : List Code) → HasCodesAround before at after (email_at before at after)
 unfolding email_at
 found before at after = by_test (is_value 64 at && (not (is_empty local.0) && not (next_is (is_value 47) local.1)) && is_email_domain domain.0)
   where
@@ -112,7 +112,7 @@ found before at after = by_test (is_value 64 at && (not (is_empty local.0) && no
         ∙ sym (append_assoc (reverse protocol.2) (reverse (local.0 ++ protocol.1)) (at ∷ (domain.0 ++ domain.1)))
         ∙ (λ i. kept i ++ at ∷ domain_of_split (is_xmpp protocol.0) after i)
 
-    by_test : (b : Bool) → IsFound before at after (elim b
+    by_test : (b : Bool) → HasCodesAround before at after (elim b
         [ true ↦ Some (reverse protocol.2, leaf protocol.0 (reverse (local.0 ++ protocol.1) ++ at ∷ domain.0), domain.1) | false ↦ None ])
     by_test true = whole
     by_test false = tt
@@ -127,7 +127,7 @@ codes-email_leaves n before [] = codes-leaf Name.Data (reverse before) ∙ sym (
 codes-email_leaves zero before (c ∷ cs) = codes-leaf Name.Data (reverse before ++ c ∷ cs)
 codes-email_leaves (suc n) before (c ∷ cs) = by_answer (email_at before c cs) (found before c cs) (codes-email_leaves n)
   where
-    by_answer : (r : Option (List Code × Forest × List Code)) → IsFound before c cs r
+    by_answer : (r : Option (List Code × Forest × List Code)) → HasCodesAround before c cs r
         → ((front ds : List Code) → leaf_codes (email_leaves n front ds) ≡ reverse front ++ ds)
         → leaf_codes (elim r [ None ↦ email_leaves n (c ∷ before) cs | Some x ↦ leaf Name.Data x.0 ⊕ x.1 ⊕ email_leaves n [] x.2 ]) ≡ reverse before ++ c ∷ cs
     by_answer None h more = more (c ∷ before) cs ∙ reverse-first c before cs

@@ -1,8 +1,8 @@
 -- After merging no two data without a link are neighbours.
 use Rattle.std.proofs.Common.{List, refl, None}
 use Rattle.markdown_event.specs.declared.event.Name.{Name}
-use Rattle.markdown_engine_content.specs.Codes.{Code}
-use Rattle.markdown_engine_content.specs.Tree.{Forest, empty, leaf_then, group_then}
+use Rattle.markdown_content.specs.Codes.{Code}
+use Rattle.markdown_content.specs.Tree.{Forest, empty, leaf_then, group_then}
 use Rattle.markdown_model.specs.Passes.{data_onto, merged}
 use Rattle.markdown_model.specs.Laws.{IsDataApart, MergedDataIsApart}
 

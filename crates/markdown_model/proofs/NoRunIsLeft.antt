@@ -1,22 +1,22 @@
 -- No run of markers is left in the inline tree of a text: each is cut into markers of pairs and data.
 use Rattle.std.proofs.Common.{◌≡◌, ℕ, suc, Bool, true, false, List, [], ◌∷◌, refl}
 use Rattle.markdown_event.specs.declared.event.Name.{Name}
-use Rattle.markdown_engine_content.specs.Codes.{Code}
-use Rattle.markdown_engine_content.specs.Tree.{Forest, empty, leaf_then, group_then, leaf}
+use Rattle.markdown_content.specs.Codes.{Code}
+use Rattle.markdown_content.specs.Tree.{Forest, empty, leaf_then, group_then, leaf}
 use Rattle.markdown_model.specs.Setting.{Setting}
 use Rattle.markdown_model.specs.Runs.{Run, run_of, runs_of}
 use Rattle.markdown_model.specs.Pairs.{Pair, pair_list}
 use Rattle.markdown_model.specs.Elements.{elements_of}
 use Rattle.markdown_model.specs.BracketGroups.{Token, run_tokens, assembled, tokens_of, paired}
-use Rattle.markdown_model.specs.Passes.{merged, trimmed, with_emails_apart, labels_of}
+use Rattle.markdown_model.specs.Passes.{HardBreaks, breaks, merged, trimmed, with_emails_apart, labels_of}
 use Rattle.markdown_model.specs.InlineTree.{raw_tree, finished_text, text_tree}
 use Rattle.markdown_model.specs.Laws.{is_run, HasNoRun, NoRunIsLeft}
 use Rattle.markdown_model.proofs.GivenNames.{pair-named, email-named}
 use Rattle.markdown_model.proofs.BracketGroupFacts.{word-append}
 use Rattle.markdown_model.proofs.PairGroupFacts.{Any, any-parts, HasWord, run-has, assembled-has}
-use Rattle.markdown_model.proofs.PassedTrees.{Walks, walks-row, walks-merged, walks-trimmed, walks-mailed, trimmed_data-has, with_emails-has}
+use Rattle.markdown_model.proofs.PassedTrees.{HoldsByParts, walks-row, walks-merged, walks-trimmed, walks-mailed, trimmed_data-has, with_emails-has}
 
-no_run : Walks HasNoRun (λ name link cs. is_run name ≡ false) (λ name a b inside. Unit {0})
+no_run : HoldsByParts HasNoRun (λ name link cs. is_run name ≡ false) (λ name a b inside. Unit {0})
 no_run = record {
   none = tt;
   leaf_of = λ name link cs rest h. h;
@@ -62,7 +62,7 @@ module _ (s : Setting) (pairs_of : List Run → List Pair) where
 no_run-merged : (f : Forest) → HasNoRun f → HasNoRun (merged f)
 no_run-merged f h = walks-merged no_run (λ cs ds _ _. refl) (λ name a b inside _ g. g) f h
 
-no_run-trimmed : (hard front whole : Bool) (f : Forest) → HasNoRun f → HasNoRun (trimmed hard front whole f)
+no_run-trimmed : (hard : HardBreaks) (front whole : Bool) (f : Forest) → HasNoRun f → HasNoRun (trimmed hard front whole f)
 no_run-trimmed hard front whole f h =
     walks-trimmed no_run hard (λ x y z cs _. trimmed_data-has HasNoRun (walks-row no_run) no_run-data (λ ds. no_run-leaf Name.HardBreakTrailing ds refl) (λ ds. no_run-leaf Name.SpaceOrTab ds refl) x y z cs) (λ name a b inside _ g. g) front whole f h
 
@@ -75,10 +75,10 @@ unfolding text_tree finished_text raw_tree
 no_run_is_left s cs = by_test s.options.constructs.gfm_autolink_literal
   where
     done : Forest
-    done = trimmed s.options.constructs.hard_break_trailing true true (merged (paired s (pair_list s) (labels_of (elements_of s cs))))
+    done = trimmed (breaks s) true true (merged (paired s (pair_list s) (labels_of (elements_of s cs))))
 
     has_none : HasNoRun done
-    has_none = no_run-trimmed s.options.constructs.hard_break_trailing true true _ (no_run-merged _ (no_run-paired s (pair_list s) (labels_of (elements_of s cs))))
+    has_none = no_run-trimmed (breaks s) true true _ (no_run-merged _ (no_run-paired s (pair_list s) (labels_of (elements_of s cs))))
 
     by_test : (b : Bool) → HasNoRun (elim b [ true ↦ with_emails_apart done | false ↦ done ])
     by_test true = no_run-mailed done has_none

@@ -1,18 +1,18 @@
 -- A content has exactly one list of elements.
 use Rattle.std.proofs.Common.{◌≡◌, ℕ, zero, suc, ◌≤◌, List, [], ◌∷◌, length, refl, sym, ◌∙◌, ap, subst, arith, Option, Some, None}
-use Rattle.markdown_engine_content.specs.Codes.{Code}
+use Rattle.markdown_content.specs.Codes.{Code}
 use Rattle.markdown_model.specs.Setting.{Setting}
 use Rattle.markdown_model.specs.LabelEnd.{Element}
 use Rattle.markdown_model.specs.Elements.{Choice, AreElementsFrom, elements_from, code_before, text_choice, string_choice, AreElements, AreStringElements, elements_of, string_elements_of}
 use Rattle.markdown_model.proofs.ReadsACode.{Left, Consumes}
-use Rattle.markdown_model.proofs.ElementsReadACode.{Holds, text_element_takes, string_element_takes, text_element_holds, string_element_holds}
+use Rattle.markdown_model.proofs.ElementsReadACode.{GivesSome, text_element_takes, string_element_takes, text_element_holds, string_element_holds}
 
 none_some : {A : Type 0} (x : A) → None ≡ Some x → ⊥
 none_some x e = cc
 
 -- a choice that takes a code wherever there is one, and holds nowhere else
 module _ (choice : Choice) (takes : (earlier : List Element) (previous : Option Code) → Consumes 1 (choice earlier previous))
-    (holds : (earlier : List Element) (previous : Option Code) (c : Code) (cs : List Code) → Holds (choice earlier previous (c ∷ cs))) where
+    (holds : (earlier : List Element) (previous : Option Code) (c : Code) (cs : List Code) → GivesSome (choice earlier previous (c ∷ cs))) where
   same_elements : (earlier : List Element) (previous : Option Code) (cs : List Code) (es fs : List Element)
       → AreElementsFrom choice earlier previous cs es → AreElementsFrom choice earlier previous cs fs → es ≡ fs
   same_elements earlier previous cs [] [] a b = refl
@@ -54,7 +54,7 @@ module _ (choice : Choice) (takes : (earlier : List Element) (previous : Option 
       at_code (choice earlier previous (c ∷ cs)) refl (holds earlier previous c cs) ((takes earlier previous).at (c ∷ cs))
       (λ e rest. some_elements n (e ∷ earlier) (code_before (c ∷ cs) rest) rest)
     where
-      at_code : (r : Option (Element × List Code)) → choice earlier previous (c ∷ cs) ≡ r → Holds r → Left 1 (c ∷ cs) r
+      at_code : (r : Option (Element × List Code)) → choice earlier previous (c ∷ cs) ≡ r → GivesSome r → Left 1 (c ∷ cs) r
           → ((e : Element) (rest : List Code) → length rest ≤ n → AreElementsFrom choice (e ∷ earlier) (code_before (c ∷ cs) rest) rest (elements_from choice n (e ∷ earlier) (code_before (c ∷ cs) rest) rest))
           → AreElementsFrom choice earlier previous (c ∷ cs) (elim r [ None ↦ [] | Some x ↦ x.0 ∷ elements_from choice n (x.0 ∷ earlier) (code_before (c ∷ cs) x.1) x.1 ])
       at_code None k x y more = absurd x

@@ -1,12 +1,12 @@
 -- Literals stand on a line, as whitespace stands at each line ending.
 use Rattle.std.proofs.Common.{◌≡◌, ◌≢◌, ℕ, ◌||◌, Bool, true, false, List, [], ◌∷◌, ◌++◌, Option, Some, None, refl, ap, ◌∙◌}
 use Rattle.std.proofs.lemmas.Bool.{both_ways, eqb-true}
-use Rattle.markdown_engine_content.specs.Codes.{Code, is_line_ending}
+use Rattle.markdown_content.specs.Codes.{Code, is_line_ending}
 use Rattle.markdown_util.specs.Neighbours.{after_index, class_of}
 use Rattle.markdown_util.specs.declared.util.char.Kind.{Kind}
 use Rattle.markdown_model.specs.CodeLines.{IsLine, AreSpaced}
 use Rattle.markdown_model.specs.GfmAutolinkLiteral.{is_other, is_space, is_domain, is_domain_code, domain_from, domain, count_if, ends_path, path_from, path}
-use Rattle.markdown_model.proofs.NoLinkInConstructs.{Passes, Yields}
+use Rattle.markdown_model.proofs.NoLinkInConstructs.{PassesValue, Yields}
 use Rattle.markdown_model.proofs.OneLineReadings.{as_ending, filled, line-first, line-join}
 
 pub spaced-both : (bytes : List ℕ) (xs ys : List Code) → AreSpaced bytes (xs ++ ys) →
@@ -85,12 +85,12 @@ module _ (bytes : List ℕ) (end : ℕ) where
   domain-line = record { at = λ cs. by_front (domain_from bytes end cs) (domain-lines cs) }
     where
       by_test : (c : Code) (front rest : List Code) (b : Bool) → IsLineThere bytes (c ∷ front)
-          → Passes (IsSomeLineThere bytes) (elim b as (λ _. Option (List Code × List Code)) [ true ↦ Some (c ∷ front, rest) | false ↦ None ])
+          → PassesValue (IsSomeLineThere bytes) (elim b as (λ _. Option (List Code × List Code)) [ true ↦ Some (c ∷ front, rest) | false ↦ None ])
       by_test c front rest true h = (filled c front, h)
       by_test c front rest false h = tt
 
       by_front : (s : List Code × List Code) → IsLineThere bytes s.0
-          → Passes (IsSomeLineThere bytes) (elim (is_domain s.0) as (λ _. Option (List Code × List Code)) [ true ↦ Some s | false ↦ None ])
+          → PassesValue (IsSomeLineThere bytes) (elim (is_domain s.0) as (λ _. Option (List Code × List Code)) [ true ↦ Some s | false ↦ None ])
       by_front ([], rest) h = tt
       by_front (c ∷ front, rest) h = by_test c front rest (is_domain (c ∷ front)) h
 

@@ -142,25 +142,25 @@ module _ (s : Setting) (runs : List Run) where
 -- The search finds the next pair.
 
 module _ (s : Setting) (runs : List Run) (earlier : List Pair) where
-  abbrev Eligible : ℕ → ℕ → Type 0
-  Eligible o c = IsEligible s runs earlier o c
+  abbrev EligibleHere : ℕ → ℕ → Type 0
+  EligibleHere o c = IsEligible s runs earlier o c
 
-  refused : (o c : ℕ) → is_eligible s runs earlier o c ≡ false → Eligible o c → ⊥
+  refused : (o c : ℕ) → is_eligible s runs earlier o c ≡ false → EligibleHere o c → ⊥
   refused o c e h = both_ways _ e (is-eligible s runs earlier o c h)
 
   -- the answer is the nearest eligible opener below n
   abbrev IsNearest : ℕ → ℕ → Option ℕ → Type 0
-  IsNearest c n None = (k : ℕ) → k < n → Eligible k c → ⊥
-  IsNearest c n (Some o) = Eligible o c × ((k : ℕ) → o < k → k < n → Eligible k c → ⊥)
+  IsNearest c n None = (k : ℕ) → k < n → EligibleHere k c → ⊥
+  IsNearest c n (Some o) = EligibleHere o c × ((k : ℕ) → o < k → k < n → EligibleHere k c → ⊥)
 
   below_or_last : (k n : ℕ) → k < suc n → (k < n) ⊎ (k ≡ n)
   below_or_last k n h = grind arith
 
   widened : (c n : ℕ) (r : Option ℕ) → is_eligible s runs earlier n c ≡ false → IsNearest c n r → IsNearest c (suc n) r
   widened c n None e h =
-      λ k below fits. ⊎_elim (λ less. h k less fits) (λ same. refused n c e (subst (λ x. Eligible x c) same fits)) (below_or_last k n below)
+      λ k below fits. ⊎_elim (λ less. h k less fits) (λ same. refused n c e (subst (λ x. EligibleHere x c) same fits)) (below_or_last k n below)
   widened c n (Some o) e h =
-      (h.0, λ k after below fits. ⊎_elim (λ less. h.1 k after less fits) (λ same. refused n c e (subst (λ x. Eligible x c) same fits)) (below_or_last k n below))
+      (h.0, λ k after below fits. ⊎_elim (λ less. h.1 k after less fits) (λ same. refused n c e (subst (λ x. EligibleHere x c) same fits)) (below_or_last k n below))
 
   nearest : (c n : ℕ) → IsNearest c n (opener_below s runs earlier c n)
   unfolding opener_below
@@ -180,15 +180,16 @@ module _ (s : Setting) (runs : List Run) (earlier : List Pair) where
   here_or_later : (c d : ℕ) → c ≤ d → (suc c ≤ d) ⊎ (c ≡ d)
   here_or_later c d h = grind arith
 
-  passed_over : (c n : ℕ) (r : Option Pair) → ((k : ℕ) → Eligible k c → ⊥) → IsLeftmost (suc c) n r →
+  passed_over : (c n : ℕ) (r : Option Pair) → ((k : ℕ) → EligibleHere k c → ⊥) → IsLeftmost (suc c) n r →
       IsLeftmost c (suc n) r
   passed_over c n None none h =
-      λ o d from to fits. ⊎_elim (λ later. h o d later (omega arith) fits) (λ same. none o (subst (λ x. Eligible o x) (sym same) fits)) (here_or_later c d from)
+      λ o d from to fits. ⊎_elim (λ later. h o d later (omega arith) fits) (λ same. none o (subst (λ x. EligibleHere o x) (sym same) fits))
+      (here_or_later c d from)
   passed_over c n (Some p) none h = record {
     eligible = h.eligible;
     size = h.size;
     forward = shorter h.forward;
-    leftmost = λ o d from to fits. ⊎_elim (λ later. h.leftmost o d later to fits) (λ same. none o (subst (λ x. Eligible o x) (sym same) fits)) (here_or_later c d from);
+    leftmost = λ o d from to fits. ⊎_elim (λ later. h.leftmost o d later to fits) (λ same. none o (subst (λ x. EligibleHere o x) (sym same) fits)) (here_or_later c d from);
     nearest = h.nearest;
   }
     where
@@ -212,17 +213,17 @@ module _ (s : Setting) (runs : List Run) (earlier : List Pair) where
         nearest = λ k after fits. h.1 k after fits.in_order fits;
       }
 
-  abbrev IsNext : ℕ → Option Pair → Type 0
-  IsNext last None = NoneEligible s runs earlier last (length runs)
-  IsNext last (Some p) = IsNextPair s runs earlier last p
+  abbrev IsNextInList : ℕ → Option Pair → Type 0
+  IsNextInList last None = NoneEligible s runs earlier last (length runs)
+  IsNextInList last (Some p) = IsNextPair s runs earlier last p
 
-  found : (last : ℕ) → IsNext last (next_pair_from s runs earlier last (length runs - last))
+  found : (last : ℕ) → IsNextInList last (next_pair_from s runs earlier last (length runs - last))
   found last = as_next (next_pair_from s runs earlier last (length runs - last)) (leftmost last (length runs - last))
     where
       bound : (c : ℕ) → last ≤ c → c < length runs → c < last + (length runs - last)
       bound c a b = omega arith
 
-      as_next : (r : Option Pair) → IsLeftmost last (length runs - last) r → IsNext last r
+      as_next : (r : Option Pair) → IsLeftmost last (length runs - last) r → IsNextInList last r
       as_next None h = λ o c from to fits. h o c from (bound c from to) fits
       as_next (Some p) h = h
 
@@ -290,7 +291,7 @@ module _ (s : Setting) (runs : List Run) where
           falls : left_of (earlier ++ p ∷ []) runs 0 < left_of earlier runs 0
           falls = left_falls earlier p runs 0 p.opener p.opener (sym (zero-add p.opener)) (rw taken_opener size_left) opener
 
-      by_next : (r : Option Pair) → IsNext s runs earlier last r
+      by_next : (r : Option Pair) → IsNextInList s runs earlier last r
           → ((p : Pair) → left_of (earlier ++ p ∷ []) runs 0 ≤ n → ArePairsFrom s runs (length runs) (earlier ++ p ∷ []) p.closer (pairs_after s runs n (earlier ++ p ∷ []) p.closer))
           → ArePairsFrom s runs (length runs) earlier last (elim r [ None ↦ [] | Some p ↦ p ∷ pairs_after s runs n (earlier ++ p ∷ []) p.closer ])
       by_next None h rest = h

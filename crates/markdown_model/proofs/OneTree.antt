@@ -4,8 +4,8 @@ use Rattle.std.proofs.lemmas.List.{append_assoc, append-nil}
 use mathlib.Core.Path.{fun_ext}
 use Rattle.markdown_event.specs.declared.event.Name.{Name}
 use Rattle.markdown_event.specs.declared.event.Event.{Event}
-use Rattle.markdown_engine_content.specs.Codes.{Code}
-use Rattle.markdown_engine_content.specs.Tree.{Forest, empty, leaf_then, group_then, leaf_codes, event_count, events_from, events_of}
+use Rattle.markdown_content.specs.Codes.{Code}
+use Rattle.markdown_content.specs.Tree.{Forest, empty, leaf_then, group_then, leaf_codes, event_count, events_from, events_of}
 use Rattle.markdown_model.specs.Grammar.{Reading}
 use Rattle.markdown_model.specs.Setting.{Setting}
 use Rattle.markdown_model.specs.LabelEnd.{Element}
@@ -13,7 +13,7 @@ use Rattle.markdown_model.specs.Elements.{elements_of, string_elements_of, text_
 use Rattle.markdown_model.specs.Runs.{Run}
 use Rattle.markdown_model.specs.Pairs.{Pair, pair_list}
 use Rattle.markdown_model.specs.BracketGroups.{paired}
-use Rattle.markdown_model.specs.Passes.{labels_of, merged, trimmed, with_emails_apart}
+use Rattle.markdown_model.specs.Passes.{breaks, no_breaks, labels_of, merged, trimmed, with_emails_apart}
 use Rattle.markdown_model.specs.InlineTree.{IsTextTree, IsStringTree, raw_tree, finished_text, finished_string, text_tree, string_tree}
 use Rattle.markdown_model.specs.Laws.{OnePairList, OneElementList, OneTree, AreNestedIn, EventsNest, LeavesCover, HasOneEnd, OneEnd}
 use Rattle.markdown_model.proofs.ReadingsCover.{At, Covers, covers_label, covers_title, covers_destination, covers_resource}
@@ -81,7 +81,7 @@ codes-finished_text s pairs_of es = by_test s.options.constructs.gfm_autolink_li
   where
     trimmed_tree : Forest
     trimmed_tree =
-        trimmed s.options.constructs.hard_break_trailing true true (merged (paired s pairs_of (labels_of es)))
+        trimmed (breaks s) true true (merged (paired s pairs_of (labels_of es)))
 
     by_test : (b : Bool) →
         leaf_codes (elim b [ true ↦ with_emails_apart trimmed_tree | false ↦ trimmed_tree ]) ≡ leaf_codes trimmed_tree
@@ -90,7 +90,7 @@ codes-finished_text s pairs_of es = by_test s.options.constructs.gfm_autolink_li
 
 pub codes-finished_string : (es : List Element) → leaf_codes (finished_string es) ≡ elements_codes 0 es
 unfolding finished_string
-codes-finished_string es = codes-trimmed false false false _ ∙ codes-merged _ ∙ codes-labels_of es
+codes-finished_string es = codes-trimmed no_breaks false false _ ∙ codes-merged _ ∙ codes-labels_of es
 
 pub leaves_cover : LeavesCover
 unfolding text_tree string_tree
@@ -140,9 +140,9 @@ one_end_of a h cs tree other rest more x y = (ap trees both, ap rests both, cove
 
 pub one_end : OneEnd
 one_end = record {
-  a_label = λ names. one_end_of _ (covers_label names);
-  a_title = λ names. one_end_of _ (covers_title names);
+  a_label = λ characters names. one_end_of _ (covers_label characters names);
+  a_title = λ both names. one_end_of _ (covers_title both names);
   a_destination = λ depth names. one_end_of _ (covers_destination depth names);
-  a_resource = one_end_of _ covers_resource;
+  a_resource = λ both. one_end_of _ (covers_resource both);
   what_follows_a_label = λ s. (one_end_of _ (covers_after_label s true), one_end_of _ (covers_after_label s false));
 }

@@ -3,8 +3,8 @@ use Rattle.std.proofs.Common.{◌≡◌, ℕ, zero, suc, ◌-◌, ◌≤◌, Lis
 use Rattle.std.proofs.lemmas.List.{append_assoc, append-nil, take-append-drop, length-drop}
 use Rattle.std.proofs.lemmas.List.Sums.{sum_by-cons}
 use Rattle.markdown_event.specs.declared.event.Name.{Name}
-use Rattle.markdown_engine_content.specs.Codes.{Code}
-use Rattle.markdown_engine_content.specs.Tree.{Forest, leaf}
+use Rattle.markdown_content.specs.Codes.{Code}
+use Rattle.markdown_content.specs.Tree.{Forest, leaf}
 use Rattle.markdown_model.specs.BracketGroups.{Token, item, opens, closes, nested, loose, pair_group, closing_sizes, opening_sizes, cut_front, run_tokens, assembled}
 use Rattle.markdown_model.specs.LeafConstructs.{joined_codes}
 use Rattle.markdown_model.specs.Pairs.{Pair}

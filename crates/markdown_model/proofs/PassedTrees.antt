@@ -1,19 +1,19 @@
 -- What holds of trees of which each leaf and each group satisfies something, and what the passes make of them.
 use Rattle.std.proofs.Common.{ℕ, zero, suc, Bool, true, false, ◌&&◌, ◌||◌, List, [], ◌∷◌, ◌++◌, length, reverse, Option, Some, None}
 use Rattle.markdown_event.specs.declared.event.Name.{Name}
-use Rattle.markdown_engine_content.specs.Codes.{Code, is_blank}
-use Rattle.markdown_engine_content.specs.Tree.{Forest, empty, leaf_then, group_then, leaf, ◌⊕◌}
+use Rattle.markdown_content.specs.Codes.{Code, is_blank}
+use Rattle.markdown_content.specs.Tree.{Forest, empty, leaf_then, group_then, leaf, ◌⊕◌}
 use Rattle.markdown_event.specs.declared.event.Content.{Content}
 use Rattle.markdown_event.specs.declared.event.Point.{Point}
 use Rattle.markdown_model.specs.Grammar.{span}
 use Rattle.markdown_model.specs.GfmEmailLiteral.{email_at, email_leaves, with_emails, is_local, is_xmpp, email_protocol, email_domain}
-use Rattle.markdown_model.specs.Passes.{data_onto, merged, begins_line_ending, is_nothing, blank_name, trimmed_data, trimmed, with_emails_apart}
+use Rattle.markdown_model.specs.Passes.{HardBreaks, breaks_where, data_onto, merged, begins_line_ending, is_nothing, blank_name, trimmed_data, trimmed, with_emails_apart}
 use Rattle.markdown_model.proofs.GivenNames.{blank-named}
 
 -- What passes make of one data is a row of leaves: what holds of such leaves and of two rows holds of it.
 module _ (P : Forest → Type 0) (row : (t u : Forest) → P t → P u → P (t ⊕ u)) (plain : (cs : List Code) → P (leaf Name.Data cs)) where
   pub trimmed_data-has : ((cs : List Code) → P (leaf Name.HardBreakTrailing cs)) →
-      ((cs : List Code) → P (leaf Name.SpaceOrTab cs)) → (front back hard : Bool) (cs : List Code) →
+      ((cs : List Code) → P (leaf Name.SpaceOrTab cs)) → (front back : Bool) (hard : HardBreaks) (cs : List Code) →
       P (trimmed_data front back hard cs)
   trimmed_data-has break blank front back hard cs =
       row (leaf Name.SpaceOrTab lead.0) (leaf Name.Data lead.1 ⊕ behind) (blank lead.0)
@@ -62,7 +62,7 @@ module _ (P : Forest → Type 0) (row : (t u : Forest) → P t → P u → P (t 
     with_emails-has cs = emails-have (length cs) [] cs
 
 -- It holds of a tree where one thing holds of each leaf, and another of each group.
-pub record Walks (P : Forest → Type 0) (L : Name → Option Content → List Code → Type 0) (G : Name → Point → Point → Forest → Type 0) : Type 0 where
+pub record HoldsByParts (P : Forest → Type 0) (L : Name → Option Content → List Code → Type 0) (G : Name → Point → Point → Forest → Type 0) : Type 0 where
   pub none : P empty
   pub leaf_of : (name : Name) (link : Option Content) (cs : List Code) (rest : Forest) →
       P (leaf_then name link cs rest) → L name link cs × P rest
@@ -73,7 +73,7 @@ pub record Walks (P : Forest → Type 0) (L : Name → Option Content → List C
   pub group_to : (name : Name) (a b : Point) (inside rest : Forest) → G name a b inside → P inside → P rest →
       P (group_then name a b inside rest)
 
-module _ {P : Forest → Type 0} {L : Name → Option Content → List Code → Type 0} {G : Name → Point → Point → Forest → Type 0} (w : Walks P L G) where
+module _ {P : Forest → Type 0} {L : Name → Option Content → List Code → Type 0} {G : Name → Point → Point → Forest → Type 0} (w : HoldsByParts P L G) where
   pub walks-row : (t u : Forest) → P t → P u → P (t ⊕ u)
   walks-row empty u h k = k
   walks-row (leaf_then name link cs rest) u h k =
@@ -102,13 +102,13 @@ module _ {P : Forest → Type 0} {L : Name → Option Content → List Code → 
         let r = w.group_of name a b inside rest h in
         w.group_to name a b (merged inside) (merged rest) (keeps name a b inside r.1 r.0) (walks-merged inside r.1) (walks-merged rest r.2)
 
-  module _ (hard : Bool) (cuts : (front back hard : Bool) (cs : List Code) → L Name.Data None cs → P (trimmed_data front back hard cs)) (keeps : Keeps (trimmed hard false false)) where
+  module _ (hard : HardBreaks) (cuts : (front back : Bool) (hard : HardBreaks) (cs : List Code) → L Name.Data None cs → P (trimmed_data front back hard cs)) (keeps : Keeps (trimmed hard false false)) where
     pub walks-trimmed : (front whole : Bool) (t : Forest) → P t → P (trimmed hard front whole t)
     unfolding trimmed
     walks-trimmed front whole empty h = h
     walks-trimmed front whole (leaf_then Name.Data None cs rest) h =
         let r = w.leaf_of Name.Data None cs rest h in
-        walks-row (trimmed_data front (begins_line_ending rest || (whole && is_nothing rest)) (hard && begins_line_ending rest) cs) (trimmed hard false whole rest) (cuts _ _ _ cs r.0) (walks-trimmed false whole rest r.1)
+        walks-row (trimmed_data front (begins_line_ending rest || (whole && is_nothing rest)) (breaks_where hard (begins_line_ending rest)) cs) (trimmed hard false whole rest) (cuts _ _ _ cs r.0) (walks-trimmed false whole rest r.1)
     walks-trimmed front whole (leaf_then Name.LineEnding link cs rest) h =
         let r = w.leaf_of Name.LineEnding link cs rest h in w.leaf_to Name.LineEnding link cs (trimmed hard true whole rest) r.0 (walks-trimmed true whole rest r.1)
     walks-trimmed front whole (leaf_then name link cs rest) h =

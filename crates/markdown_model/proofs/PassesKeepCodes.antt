@@ -2,21 +2,21 @@
 use Rattle.std.proofs.Common.{◌≡◌, ℕ, suc, Bool, true, false, ◌&&◌, ◌||◌, List, [], ◌∷◌, ◌++◌, length, reverse, refl, sym, ◌∙◌, ap, None}
 use Rattle.std.proofs.lemmas.List.{append_assoc, append-nil, reverse-append, reverse-reverse}
 use Rattle.markdown_event.specs.declared.event.Name.{Name}
-use Rattle.markdown_engine_content.specs.Codes.{Code, is_blank}
-use Rattle.markdown_engine_content.specs.Tree.{Forest, empty, leaf_then, group_then, leaf, ◌⊕◌, leaf_codes}
+use Rattle.markdown_content.specs.Codes.{Code, is_blank}
+use Rattle.markdown_content.specs.Tree.{Forest, empty, leaf_then, group_then, leaf, ◌⊕◌, leaf_codes}
 use Rattle.markdown_model.specs.Grammar.{span}
 use Rattle.markdown_model.specs.Setting.{Setting}
 use Rattle.markdown_model.specs.Runs.{Run, runs_of, run_of, marker_of}
 use Rattle.markdown_model.specs.Pairs.{Pair}
 use Rattle.markdown_model.specs.BracketGroups.{Token, pair_group, loose, assembled, run_tokens, tokens_of, paired, pair_names}
-use Rattle.markdown_model.specs.Passes.{data_onto, merged, trimmed, trimmed_data, blank_name, begins_line_ending, is_nothing, with_emails_apart}
+use Rattle.markdown_model.specs.Passes.{HardBreaks, breaks_where, data_onto, merged, trimmed, trimmed_data, blank_name, begins_line_ending, is_nothing, with_emails_apart}
 use Rattle.markdown_model.specs.GfmEmailLiteral.{with_emails}
 use Rattle.markdown_model.proofs.LeafCodes.{codes-leaf, span-append}
 use Rattle.markdown_model.proofs.ReadingsCover.{itself}
 use Rattle.markdown_model.proofs.LiteralCodes.{codes-with_emails}
 use Rattle.markdown_model.proofs.BracketSums.{codes_add, codes_of_all, codes-joined}
 use Rattle.markdown_model.proofs.PairSums.{token_sum, token-append, sum-assembled, sum-run}
-use Rattle.markdown_engine_content.proofs.TreeCodes.{leaf_codes-row}
+use Rattle.markdown_content.proofs.TreeCodes.{leaf_codes-row}
 
 -- Merging.
 
@@ -56,19 +56,19 @@ codes-three a b c xs ys zs =
     ∙ (λ i. codes-leaf a xs i ++ (leaf_codes-row (leaf b ys) (leaf c zs) ∙ (λ j. codes-leaf b ys j ++ codes-leaf c zs j)) i)
     ∙ sym (append_assoc xs ys zs)
 
-pub codes-trimmed_data : (front back hard : Bool) (cs : List Code) → leaf_codes (trimmed_data front back hard cs) ≡ cs
+pub codes-trimmed_data : (front back : Bool) (hard : HardBreaks) (cs : List Code) → leaf_codes (trimmed_data front back hard cs) ≡ cs
 codes-trimmed_data front back hard cs =
     codes-three Name.SpaceOrTab Name.Data (blank_name hard (reverse (cut_back back cs).0))
     (cut_lead front (reverse (cut_back back cs).1)).0 (cut_lead front (reverse (cut_back back cs).1)).1 (reverse (cut_back back cs).0)
     ∙ ap (λ x. x ++ reverse (cut_back back cs).0) (cut_lead-append front (reverse (cut_back back cs).1))
     ∙ cut_back-append back cs
 
-pub codes-trimmed : (hard front whole : Bool) (f : Forest) → leaf_codes (trimmed hard front whole f) ≡ leaf_codes f
+pub codes-trimmed : (hard : HardBreaks) (front whole : Bool) (f : Forest) → leaf_codes (trimmed hard front whole f) ≡ leaf_codes f
 unfolding trimmed
 codes-trimmed hard front whole empty = refl
 codes-trimmed hard front whole (leaf_then Name.Data None cs rest) =
-    leaf_codes-row (trimmed_data front (begins_line_ending rest || (whole && is_nothing rest)) (hard && begins_line_ending rest) cs) (trimmed hard false whole rest)
-    ∙ (λ i. codes-trimmed_data front (begins_line_ending rest || (whole && is_nothing rest)) (hard && begins_line_ending rest) cs i ++ codes-trimmed hard false whole rest i)
+    leaf_codes-row (trimmed_data front (begins_line_ending rest || (whole && is_nothing rest)) (breaks_where hard (begins_line_ending rest)) cs) (trimmed hard false whole rest)
+    ∙ (λ i. codes-trimmed_data front (begins_line_ending rest || (whole && is_nothing rest)) (breaks_where hard (begins_line_ending rest)) cs i ++ codes-trimmed hard false whole rest i)
 codes-trimmed hard front whole (leaf_then Name.LineEnding link cs rest) =
     ap (λ x. cs ++ x) (codes-trimmed hard true whole rest)
 codes-trimmed hard front whole (leaf_then name link cs rest) = ap (λ x. cs ++ x) (codes-trimmed hard false whole rest)

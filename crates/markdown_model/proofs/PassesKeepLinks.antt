@@ -3,24 +3,24 @@ use Rattle.std.proofs.Common.{◌≡◌, ℕ, suc, Bool, true, false, ◌&&◌, 
 use Rattle.std.proofs.Math.Bool.{or-false}
 use Rattle.std.proofs.lemmas.Bool.{both_ways}
 use Rattle.markdown_event.specs.declared.event.Name.{Name}
-use Rattle.markdown_engine_content.specs.Codes.{Code, stop_of, document_start}
-use Rattle.markdown_engine_content.specs.Tree.{Forest, empty, leaf_then, group_then, leaf, ◌⊕◌, text_group, start_of}
+use Rattle.markdown_content.specs.Codes.{Code, stop_of, document_start}
+use Rattle.markdown_content.specs.Tree.{Forest, empty, leaf_then, group_then, leaf, ◌⊕◌, text_group, start_of}
 use Rattle.markdown_model.specs.GfmEmailLiteral.{with_emails}
 use Rattle.markdown_model.specs.Setting.{Setting}
 use Rattle.markdown_model.specs.Runs.{Run, run_of, runs_of, marker_of}
 use Rattle.markdown_model.specs.Pairs.{Pair}
 use Rattle.markdown_model.specs.BracketGroups.{Token, joined, loose, pair_names, pair_group, run_tokens, assembled, tokens_of, paired}
-use Rattle.markdown_model.specs.Passes.{data_onto, merged, begins_line_ending, is_nothing, trimmed_data, trimmed, with_emails_apart}
+use Rattle.markdown_model.specs.Passes.{HardBreaks, breaks_where, data_onto, merged, begins_line_ending, is_nothing, trimmed_data, trimmed, with_emails_apart}
 use Rattle.markdown_model.specs.Laws.{is_link, holds_link, AreApart}
 use Rattle.markdown_model.proofs.NoLinkInConstructs.{IsFree, holds-join, holds-leaf, free-apart, or_assoc}
 use Rattle.markdown_model.proofs.BracketSums.{Adds, sum_of, sum-joined}
 use Rattle.markdown_model.proofs.GivenNames.{pair-named}
 use Rattle.markdown_model.proofs.PairSums.{token_sum, token-append, sum-loose, sum-assembled, sum-run}
 use Rattle.markdown_model.proofs.PairGroupFacts.{Any, any-parts, HasWord, run-has, assembled-has}
-use Rattle.markdown_model.proofs.PassedTrees.{Walks, walks-row, walks-merged, walks-trimmed, walks-mailed, with_emails-has}
+use Rattle.markdown_model.proofs.PassedTrees.{HoldsByParts, walks-row, walks-merged, walks-trimmed, walks-mailed, with_emails-has}
 use Rattle.markdown_model.proofs.BracketGroupFacts.{AllHave, joined-has, word-append}
 
-apart : Walks AreApart (λ name link cs. Unit {0}) (λ name a b inside. is_link name ≡ true → holds_link inside ≡ false)
+apart : HoldsByParts AreApart (λ name link cs. Unit {0}) (λ name a b inside. is_link name ≡ true → holds_link inside ≡ false)
 apart = record {
   none = tt;
   leaf_of = λ name link cs rest h. (tt, h);
@@ -55,16 +55,16 @@ apart-merged f h = walks-merged apart (λ cs ds _ _. tt) (λ name a b inside _ g
 
 -- Trimming.
 
-holds-trimmed_data : (front back hard : Bool) (cs : List Code) → holds_link (trimmed_data front back hard cs) ≡ false
+holds-trimmed_data : (front back : Bool) (hard : HardBreaks) (cs : List Code) → holds_link (trimmed_data front back hard cs) ≡ false
 holds-trimmed_data front back hard cs = simp (holds-join, holds-leaf)
 
-module _ (hard : Bool) where
+module _ (hard : HardBreaks) where
   holds-trimmed : (front whole : Bool) (f : Forest) → holds_link (trimmed hard front whole f) ≡ holds_link f
   unfolding trimmed
   holds-trimmed front whole empty = refl
   holds-trimmed front whole (leaf_then Name.Data None cs rest) =
-      holds-join (trimmed_data front (begins_line_ending rest || (whole && is_nothing rest)) (hard && begins_line_ending rest) cs) (trimmed hard false whole rest)
-      ∙ (λ i. holds-trimmed_data front (begins_line_ending rest || (whole && is_nothing rest)) (hard && begins_line_ending rest) cs i || holds-trimmed false whole rest i)
+      holds-join (trimmed_data front (begins_line_ending rest || (whole && is_nothing rest)) (breaks_where hard (begins_line_ending rest)) cs) (trimmed hard false whole rest)
+      ∙ (λ i. holds-trimmed_data front (begins_line_ending rest || (whole && is_nothing rest)) (breaks_where hard (begins_line_ending rest)) cs i || holds-trimmed false whole rest i)
   holds-trimmed front whole (leaf_then Name.LineEnding link cs rest) = holds-trimmed true whole rest
   holds-trimmed front whole (leaf_then name link cs rest) = holds-trimmed false whole rest
   holds-trimmed front whole (group_then name enter exit inside rest) =

@@ -6,8 +6,9 @@ use Rattle.std.proofs.lemmas.List.{append_assoc, append-nil, length-append}
 use Rattle.markdown_event.specs.declared.event.Name.{Name}
 use Rattle.markdown_event.specs.declared.event.Content.{Content}
 use Rattle.markdown_event.specs.declared.event.Point.{Point}
-use Rattle.markdown_engine_content.specs.Codes.{Code}
-use Rattle.markdown_engine_content.specs.Tree.{Forest, empty, leaf_then, group_then, leaf, group, ◌⊕◌, leaf_codes, enter_of, exit_after}
+use Rattle.markdown_content.specs.Codes.{Code}
+use Rattle.markdown_content.specs.declared.configuration.Rules.{Rules}
+use Rattle.markdown_content.specs.Tree.{Forest, empty, leaf_then, group_then, leaf, group, ◌⊕◌, leaf_codes, enter_of, exit_after}
 use Rattle.markdown_util.specs.Reference.{Table}
 use Rattle.markdown_model.specs.CodeLines.{IsLine, IsSomeLine, IsOnLine, AreSpaced}
 use Rattle.markdown_model.specs.CodeTests.{is_value, is_among, next_is}
@@ -17,11 +18,11 @@ use Rattle.markdown_model.specs.HtmlText.{html_codes, html_text}
 use Rattle.markdown_model.specs.LeafConstructs.{character_escape, hard_break_escape, Parts, named_parts, decimal_parts, hexadecimal_parts, character_reference, closing_run, joined_codes, SpanNames, code_names, math_names, span_of, span_here, scheme, domain_label, uri, email_address, in_angle_brackets, autolink, gfm_task_list_item_check}
 use Rattle.markdown_model.specs.Passes.{is_nothing}
 use Rattle.markdown_model.specs.TextLines.{stretches, line_leaves, lines}
-use Rattle.markdown_model.proofs.LeafRows.{Leaves, leaves-row, leaves-leaf, IsFine, AreFine, fine-stretches, leaves-lines, leaves-stretches}
+use Rattle.markdown_model.proofs.LeafRows.{Leaves, leaves-row, leaves-leaf, IsOnLineIfAny, AreFine, fine-stretches, leaves-lines, leaves-stretches}
 use Rattle.markdown_model.proofs.LiteralCodes.{takes_one_word, takes_domain, takes_path}
-use Rattle.markdown_model.proofs.NoLinkInConstructs.{Passes, Yields, yields_bind, yields_gives, yields_passed, yields_either, yields_before}
+use Rattle.markdown_model.proofs.NoLinkInConstructs.{PassesValue, Yields, yields_bind, yields_gives, yields_passed, yields_either, yields_before}
 use Rattle.markdown_model.proofs.OneLineLiterals.{IsLineThere, IsSomeLineThere, domain-line, path-line, join-there}
-use Rattle.markdown_model.proofs.OneLineReadings.{Skips, not-ending, on-line, some-join, some-any, IsOne, one-some, one-one, one-line, some-line, any-line, then-line, repeatedly-line, one-word-some}
+use Rattle.markdown_model.proofs.OneLineReadings.{Skips, not-ending, on-line, some-join, some-any, IsOneCode, one-some, one-one, one-line, some-line, any-line, then-line, repeatedly-line, one-word-some}
 use Rattle.markdown_model.proofs.ReadingsCover.{At, Covers, codes_laws, bind, given, if_passed, one_of, seen_before, Takes, takes_one, takes_some, takes_uri, takes_email_address, takes_html_text, codes-line_leaves, codes-lines, covers_closing}
 use Rattle.markdown_model.proofs.ReadsACode.{Left, Consumes, html_text_takes}
 
@@ -106,7 +107,7 @@ pub plain-takes : (bytes : List ℕ) (a : Reading Forest) → ReadsPlain bytes a
 plain-takes bytes a h = record { at = λ cs. by_answer cs (a cs) (h.covers.at cs) (h.plain.at cs) }
   where
     by_answer : (cs : List Code) (r : Option (Forest × List Code)) → At leaf_codes [] cs r →
-        Passes (IsPlainTree bytes) r → Left 1 cs r
+        PassesValue (IsPlainTree bytes) r → Left 1 cs r
     by_answer cs None k p = tt
     by_answer cs (Some x) k p = omega (arith, plain-some bytes x.0 p, length-append (leaf_codes x.0) x.1, ap length k)
 
@@ -124,45 +125,45 @@ reads_either bytes a b h k =
 
 -- Leaves and groups.
 
-one-on : (cs : List Code) → IsOne cs → IsOnLine cs
+one-on : (cs : List Code) → IsOneCode cs → IsOnLine cs
 one-on [] h = absurd h
 one-on (c ∷ []) h = tt
 one-on (c ∷ d ∷ cs) h = absurd h
 
 module _ (bytes : List ℕ) where
-  abbrev Row : Forest → Type 0
-  Row t = Leaves (IsOwnLeaf bytes) t
+  abbrev OwnLeaves : Forest → Type 0
+  OwnLeaves t = Leaves (IsOwnLeaf bytes) t
 
-  row : (t u : Forest) → Row t → Row u → Row (t ⊕ u)
+  row : (t u : Forest) → OwnLeaves t → OwnLeaves u → OwnLeaves (t ⊕ u)
   row t u h k = leaves-row (IsOwnLeaf bytes) t u h k
 
   own-leaf : (name : Name) (cs : List Code) → is_leaf_name name ≡ true → (cs ≢ [] → AreSpaced bytes cs → IsOnLine cs) →
-      Row (leaf name cs)
+      OwnLeaves (leaf name cs)
   own-leaf name cs n h =
       leaves-leaf (IsOwnLeaf bytes) name cs (λ some. record { named = n; unlinked = refl; some = some; line = h some })
 
   -- over one code, and over codes of a line
-  one-leaf : (name : Name) (cs : List Code) → is_leaf_name name ≡ true → IsOne cs → Row (leaf name cs)
+  one-leaf : (name : Name) (cs : List Code) → is_leaf_name name ≡ true → IsOneCode cs → OwnLeaves (leaf name cs)
   one-leaf name cs n h = own-leaf name cs n (λ some spaced. one-on cs h)
 
-  line-leaf : (name : Name) (cs : List Code) → is_leaf_name name ≡ true → IsLine cs → Row (leaf name cs)
+  line-leaf : (name : Name) (cs : List Code) → is_leaf_name name ≡ true → IsLine cs → OwnLeaves (leaf name cs)
   line-leaf name cs n h = own-leaf name cs n (λ some spaced. on-line cs (some, h))
 
   -- a leaf by itself
-  leaf-alone : (name : Name) (cs : List Code) → cs ≢ [] → Row (leaf name cs) → IsPlainTree bytes (leaf name cs)
+  leaf-alone : (name : Name) (cs : List Code) → cs ≢ [] → OwnLeaves (leaf name cs) → IsPlainTree bytes (leaf name cs)
   leaf-alone name [] some h = absurd (some refl)
   leaf-alone name (c ∷ cs) some h = (h.0, refl)
 
   -- a group by itself, of which the first leaf is one over some codes
-  group-alone : (name n : Name) (cs : List Code) (more : Forest) → is_group_name name ≡ true → cs ≢ [] → Row (leaf n cs)
-      → Row more → IsPlainTree bytes (group name (leaf n cs ⊕ more))
+  group-alone : (name n : Name) (cs : List Code) (more : Forest) → is_group_name name ≡ true → cs ≢ [] → OwnLeaves (leaf n cs)
+      → OwnLeaves more → IsPlainTree bytes (group name (leaf n cs ⊕ more))
   group-alone name n [] more g some h k = absurd (some refl)
   group-alone name n (c ∷ cs) more g some h k =
       (record { named = g; some = refl; enters = refl; exits = refl; leaves = (h.0, k) }, refl)
 
   -- or one over one code
   marked : (name n : Name) (cs : List Code) (more : Forest) → is_group_name name ≡ true → is_leaf_name n ≡ true
-      → IsOne cs → Row more → IsPlainTree bytes (group name (leaf n cs ⊕ more))
+      → IsOneCode cs → OwnLeaves more → IsPlainTree bytes (group name (leaf n cs ⊕ more))
   marked name n cs more g l h k = group-alone name n cs more g (one-some cs h) (one-leaf n cs l h) k
 
   -- Escapes and hard breaks.
@@ -171,7 +172,7 @@ module _ (bytes : List ℕ) where
   unfolding character_escape
   reads_character_escape = record {
     covers = bind _ _ _ _ _ (takes_one _) λ slash. bind _ _ _ _ _ (takes_one _) λ value. given _ _ _ (simp codes_laws);
-    plain = yields_bind IsOne _ _ _ (one-one _) λ slash h. yields_bind IsOne _ _ _ (one-one _) λ value k. yields_gives _ _
+    plain = yields_bind IsOneCode _ _ _ (one-one _) λ slash h. yields_bind IsOneCode _ _ _ (one-one _) λ value k. yields_gives _ _
         (marked Name.CharacterEscape Name.CharacterEscapeMarker slash (leaf Name.CharacterEscapeValue value) refl refl h (one-leaf Name.CharacterEscapeValue value refl k));
   }
 
@@ -179,7 +180,7 @@ module _ (bytes : List ℕ) where
   unfolding hard_break_escape
   reads_hard_break_escape = record {
     covers = bind _ _ _ _ _ (seen_before _ _ _ _ (takes_one _)) λ slash. given _ _ _ (simp codes_laws);
-    plain = yields_bind IsOne _ _ _ (yields_before _ _ _ (one-one _)) λ slash h. yields_gives _ _
+    plain = yields_bind IsOneCode _ _ _ (yields_before _ _ _ (one-one _)) λ slash h. yields_gives _ _
         (leaf-alone Name.HardBreakEscape slash (one-some slash h) (one-leaf Name.HardBreakEscape slash refl h));
   }
 
@@ -264,9 +265,9 @@ uri-line : Yields IsLine uri
 unfolding uri
 uri-line = then-line _ _ scheme-line (then-line _ _ (some-any _ (one-line _ λ c. refl)) (any-line _ λ c. refl))
 
-email-line : Yields IsLine email_address
+email-line : (all : Bool) → Yields IsLine (email_address all)
 unfolding email_address
-email-line =
+email-line all =
     then-line _ _ (some-any _ (some-line _ λ c. refl)) (then-line _ _ (some-any _ (one-line _ λ c. refl)) (then-line _ _ label-line (repeatedly-line _ (then-line _ _ (some-any _ (one-line _ λ c. refl)) label-line))))
 
 module _ (bytes : List ℕ) where
@@ -276,39 +277,39 @@ module _ (bytes : List ℕ) where
   reads_in_angle_brackets inside name n takes line = record {
     covers = bind _ _ _ _ _ (takes_one _) λ front. bind _ _ _ _ _ takes λ text. bind _ _ _ _ _ (takes_one _) λ back.
         given _ _ _ (simp codes_laws);
-    plain = yields_bind IsOne _ _ _ (one-one _) λ front f. yields_bind IsLine _ _ _ line λ text t.
-        yields_bind IsOne _ _ _ (one-one _) λ back b. yields_gives _ _
+    plain = yields_bind IsOneCode _ _ _ (one-one _) λ front f. yields_bind IsLine _ _ _ line λ text t.
+        yields_bind IsOneCode _ _ _ (one-one _) λ back b. yields_gives _ _
         (marked bytes Name.Autolink Name.AutolinkMarker front _ refl refl f (row bytes (leaf name text) _ (line-leaf bytes name text n t) (one-leaf bytes Name.AutolinkMarker back refl b)));
   }
 
-  pub reads_autolink : ReadsPlain bytes autolink
+  pub reads_autolink : (rules : Rules) → ReadsPlain bytes (autolink rules)
   unfolding autolink
-  reads_autolink =
-      reads_either bytes _ _ (reads_in_angle_brackets uri Name.AutolinkProtocol refl takes_uri uri-line) (reads_in_angle_brackets email_address Name.AutolinkEmail refl takes_email_address email-line)
+  reads_autolink rules =
+      reads_either bytes _ _ (reads_in_angle_brackets uri Name.AutolinkProtocol refl takes_uri uri-line) (reads_in_angle_brackets (email_address rules.all_address_marks) Name.AutolinkEmail refl (takes_email_address _) (email-line _))
 
 -- Spans.
 
-abbrev IsClosed : List (List Code) × List Code → Type 0
-IsClosed r = AreFine r.0 × IsLine r.1
+abbrev AreClosedStretches : List (List Code) × List Code → Type 0
+AreClosedStretches r = AreFine r.0 × IsLine r.1
 
-marked-line : (p : Code → Bool) → Skips p → (s : List Code) → IsFine s → next_is p s ≡ true → IsLine s
+marked-line : (p : Code → Bool) → Skips p → (s : List Code) → IsOnLineIfAny s → next_is p s ≡ true → IsLine s
 marked-line p skips [] h e = refl
 marked-line p skips (c ∷ []) h e = ap (λ b. b || false) (not-ending p skips c e)
 marked-line p skips (c ∷ d ∷ cs) h e = h
 
 closing-lined : (p : Code → Bool) → Skips p → (n : ℕ) (ss : List (List Code)) → AreFine ss →
-    Passes IsClosed (closing_run p n ss)
+    PassesValue AreClosedStretches (closing_run p n ss)
 unfolding closing_run
 closing-lined p skips n [] h = tt
 closing-lined p skips n (s ∷ ss) h = by_test (next_is p s) (length s == n) refl (closing-lined p skips n ss h.1)
   where
-    by_rest : (r : Option ((List (List Code) × List Code) × List Code)) → Passes IsClosed r
-        → Passes IsClosed (elim r [ None ↦ None | Some r ↦ Some ((s ∷ r.0.0, r.0.1), r.1) ])
+    by_rest : (r : Option ((List (List Code) × List Code) × List Code)) → PassesValue AreClosedStretches r
+        → PassesValue AreClosedStretches (elim r [ None ↦ None | Some r ↦ Some ((s ∷ r.0.0, r.0.1), r.1) ])
     by_rest None k = tt
     by_rest (Some r) k = ((h.0, k.0), k.1)
 
-    by_test : (a b : Bool) → next_is p s ≡ a → Passes IsClosed (closing_run p n ss)
-        → Passes IsClosed (elim (a && b) [ true ↦ Some (([], s), joined_codes ss) | false ↦ elim (closing_run p n ss) [ None ↦ None | Some r ↦ Some ((s ∷ r.0.0, r.0.1), r.1) ] ])
+    by_test : (a b : Bool) → next_is p s ≡ a → PassesValue AreClosedStretches (closing_run p n ss)
+        → PassesValue AreClosedStretches (elim (a && b) [ true ↦ Some (([], s), joined_codes ss) | false ↦ elim (closing_run p n ss) [ None ↦ None | Some r ↦ Some ((s ∷ r.0.0, r.0.1), r.1) ] ])
     by_test true true e k = (tt, marked-line p skips s h.0 e)
     by_test true false e k = by_rest (closing_run p n ss) k
     by_test false b e k = by_rest (closing_run p n ss) k
@@ -334,7 +335,7 @@ module _ (bytes : List ℕ) where
         if_passed _ _ _ _ (bind _ _ _ _ _ (covers_closing (is_value marker) (length front)) λ inside.
         given _ _ (group names.whole (leaf names.sequence front ⊕ line_leaves names.text inside.0 ⊕ leaf names.sequence inside.1)) (simp (codes_laws, codes-line_leaves))));
     plain = yields_passed _ _ _ (yields_bind IsSomeLine _ _ _ (some-line (is_value marker) skips) λ front f. yields_passed _ _ _ (
-        yields_bind IsClosed _ _ _ (record { at = λ cs. closing-lined (is_value marker) skips (length front) (stretches (is_value marker) cs) (fine-stretches (is_value marker) cs) }) λ inside h. yields_gives _ _
+        yields_bind AreClosedStretches _ _ _ (record { at = λ cs. closing-lined (is_value marker) skips (length front) (stretches (is_value marker) cs) (fine-stretches (is_value marker) cs) }) λ inside h. yields_gives _ _
         (group-alone bytes names.whole names.sequence front _ n.whole f.0 (line-leaf bytes names.sequence front n.sequence f.1)
         (row bytes (line_leaves names.text inside.0) _ (leaves-stretches (IsOwnLeaf bytes) names.text (line-said names.text n.text) ending-said inside.0 h.0) (line-leaf bytes names.sequence inside.1 n.sequence h.1)))
         ));
@@ -377,7 +378,7 @@ module _ (bytes : List ℕ) where
       none xs cs rest e f l = omega (arith, l, ap length (sym f ∙ ap (λ ys. ys ++ rest) e))
 
       by_answer : (cs : List Code) (r : Option (List Code × List Code)) → At (λ xs. xs) [] cs r → Left 1 cs r
-          → Passes (λ (xs : List Code). xs ≢ []) r
+          → PassesValue (λ (xs : List Code). xs ≢ []) r
       by_answer cs None k l = tt
       by_answer cs (Some x) k l = λ e. none x.0 cs x.1 e k l
 
@@ -390,7 +391,7 @@ module _ (bytes : List ℕ) where
 
   -- Checks of list items.
 
-  check-leaf : (b : Bool) (cs : List Code) → IsOne cs
+  check-leaf : (b : Bool) (cs : List Code) → IsOneCode cs
       → Leaves (IsOwnLeaf bytes) (leaf (elim b as (λ _. Name) [ true ↦ Name.GfmTaskListItemValueChecked | false ↦ Name.GfmTaskListItemValueUnchecked ]) cs)
   check-leaf true cs h = one-leaf bytes Name.GfmTaskListItemValueChecked cs refl h
   check-leaf false cs h = one-leaf bytes Name.GfmTaskListItemValueUnchecked cs refl h
@@ -400,8 +401,8 @@ module _ (bytes : List ℕ) where
   reads_gfm_task_list_item_check = record {
     covers = bind _ _ _ _ _ (takes_one _) λ front. bind _ _ _ _ _ (takes_one _) λ value.
         bind _ _ _ _ _ (seen_before _ _ _ _ (takes_one _)) λ back. given _ _ _ (simp codes_laws);
-    plain = yields_bind IsOne _ _ _ (one-one _) λ front f. yields_bind IsOne _ _ _ (one-one _) λ value v.
-        yields_bind IsOne _ _ _ (yields_before _ _ _ (one-one _)) λ back b. yields_gives _ _
+    plain = yields_bind IsOneCode _ _ _ (one-one _) λ front f. yields_bind IsOneCode _ _ _ (one-one _) λ value v.
+        yields_bind IsOneCode _ _ _ (yields_before _ _ _ (one-one _)) λ back b. yields_gives _ _
         (marked bytes Name.GfmTaskListItemCheck Name.GfmTaskListItemMarker front _ refl refl f
         (row bytes _ (leaf Name.GfmTaskListItemMarker back) (check-leaf (next_is (is_among (codes "xX")) value) value v) (one-leaf bytes Name.GfmTaskListItemMarker back refl b)));
   }

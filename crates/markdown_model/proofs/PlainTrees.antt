@@ -4,8 +4,8 @@ use Rattle.std.proofs.lemmas.Bool.{or_parts}
 use Rattle.std.proofs.Math.Bool.{and-true, and-false, or-false}
 use Rattle.markdown_event.specs.declared.event.Name.{Name}
 use Rattle.markdown_event.specs.declared.event.Content.{Content}
-use Rattle.markdown_engine_content.specs.Codes.{Code}
-use Rattle.markdown_engine_content.specs.Tree.{Forest, empty, leaf_then, group_then, leaf, linked, ◌⊕◌}
+use Rattle.markdown_content.specs.Codes.{Code}
+use Rattle.markdown_content.specs.Tree.{Forest, empty, leaf_then, group_then, leaf, linked, ◌⊕◌}
 use Rattle.markdown_model.specs.CodeTests.{is_empty}
 use Rattle.markdown_model.specs.Grammar.{Reading, optional_tree}
 use Rattle.markdown_model.specs.TextLines.{linked_leaf, lines}
@@ -138,20 +138,20 @@ quiet_spacing = yields_either _ _ _
     (then_any _ _ _ λ front. then_any _ _ _ λ ending. then_any _ _ _ λ back. yields_gives _ _ (simp mark_laws))
     (then_any _ _ _ λ blank. yields_gives _ _ (simp mark_laws))
 
-quiet_label : TailFree (label reference_names)
+quiet_label : (characters : Bool) → TailFree (label characters reference_names)
 unfolding label
-quiet_label =
+quiet_label characters =
     then_any _ _ _ λ front. then_any _ _ _ λ text. yields_passed _ _ _ (yields_passed _ _ _ (then_any _ _ _ λ back. yields_passed _ _ _ (yields_gives _ _ (simp mark_laws))))
 
-quiet_title_between : (opener closer : ℕ) → TailFree (title_between opener closer title_names)
+quiet_title_between : (both : Bool) (opener closer : ℕ) → TailFree (title_between both opener closer title_names)
 unfolding title_between
-quiet_title_between opener closer =
+quiet_title_between both opener closer =
     then_any _ _ _ λ front. then_any _ _ _ λ text. then_any _ _ _ λ back. yields_passed _ _ _ (yields_gives _ _ (simp mark_laws))
 
-quiet_title : TailFree (title title_names)
+quiet_title : (both : Bool) → TailFree (title both title_names)
 unfolding title
-quiet_title =
-    yields_either _ _ _ (quiet_title_between _ _) (yields_either _ _ _ (quiet_title_between _ _) (quiet_title_between _ _))
+quiet_title both =
+    yields_either _ _ _ (quiet_title_between _ _ _) (yields_either _ _ _ (quiet_title_between _ _ _) (quiet_title_between _ _ _))
 
 quiet_literal_destination : TailFree (literal_destination resource_names)
 unfolding literal_destination
@@ -166,29 +166,29 @@ quiet_destination : (max : ℕ) → TailFree (destination max resource_names)
 unfolding destination
 quiet_destination max = yields_next _ _ _ _ quiet_literal_destination (quiet_raw_destination max)
 
-quiet_spaced_title : TailFree spaced_title
+quiet_spaced_title : (both : Bool) → TailFree (spaced_title both)
 unfolding spaced_title
-quiet_spaced_title =
-    yields_bind (IsQuiet false) _ _ _ (yields_before _ _ _ quiet_spacing) λ space h. yields_bind (IsQuiet false) _ _ _ quiet_title λ text k.
+quiet_spaced_title both =
+    yields_bind (IsQuiet false) _ _ _ (yields_before _ _ _ quiet_spacing) λ space h. yields_bind (IsQuiet false) _ _ _ (quiet_title both) λ text k.
     yields_bind (IsQuiet false) _ _ _ (quiet_optional _ quiet_spacing) λ back l. yields_gives _ _ (simp (mark_laws, h, k, l))
 
-quiet_destination_and_title : TailFree destination_and_title
+quiet_destination_and_title : (both : Bool) → TailFree (destination_and_title both)
 unfolding destination_and_title
-quiet_destination_and_title =
+quiet_destination_and_title both =
     yields_bind (IsQuiet false) _ _ _ (quiet_destination 32) λ target h.
-    yields_bind (IsQuiet false) _ _ _ (yields_either _ _ _ quiet_spaced_title (quiet_optional _ quiet_spacing)) λ after k. yields_gives _ _ (simp (mark_laws, h, k))
+    yields_bind (IsQuiet false) _ _ _ (yields_either _ _ _ (quiet_spaced_title both) (quiet_optional _ quiet_spacing)) λ after k. yields_gives _ _ (simp (mark_laws, h, k))
 
-quiet_resource : TailFree resource
+quiet_resource : (both : Bool) → TailFree (resource both)
 unfolding resource
-quiet_resource =
+quiet_resource both =
     then_any _ _ _ λ front. yields_bind (IsQuiet false) _ _ _ (quiet_optional _ quiet_spacing) λ space h.
-    yields_bind (IsQuiet false) _ _ _ (yields_next _ _ _ _ (yields_gives _ _ refl) quiet_destination_and_title) λ inside k.
+    yields_bind (IsQuiet false) _ _ _ (yields_next _ _ _ _ (yields_gives _ _ refl) (quiet_destination_and_title both)) λ inside k.
     then_any _ _ _ λ back. yields_gives _ _ (simp (mark_laws, h, k))
 
 quiet_full_reference : (s : Setting) → TailFree (full_reference s)
 unfolding full_reference
 quiet_full_reference s =
-    yields_bind (IsQuiet false) _ _ _ quiet_label λ tree h. yields_passed _ _ _ (yields_gives _ _ h)
+    yields_bind (IsQuiet false) _ _ _ (quiet_label _) λ tree h. yields_passed _ _ _ (yields_gives _ _ h)
 
 quiet_collapsed_reference : TailFree collapsed_reference
 unfolding collapsed_reference
@@ -201,7 +201,7 @@ quiet_shortcut defined = yields_passed _ _ _ (yields_gives _ _ refl)
 pub quiet_after_label : (s : Setting) (defined : Bool) → TailFree (after_label s defined)
 unfolding after_label reference_after_label shortcut_before_bracket
 quiet_after_label s defined =
-    yields_next _ _ _ _ (yields_either _ _ _ quiet_resource (quiet_shortcut defined))
+    yields_next _ _ _ _ (yields_either _ _ _ (quiet_resource _) (quiet_shortcut defined))
     (yields_next _ _ _ _
     (yields_either _ _ _ (quiet_full_reference s) (yields_either _ _ _ (yields_passed _ _ _ quiet_collapsed_reference) (yields_unless _ _ _ (quiet_shortcut _))))
     (quiet_shortcut defined))

@@ -5,22 +5,25 @@ use Prim.Native.String.{String}
 use Rattle.std.proofs.lemmas.List.{append_assoc, append-nil}
 use Rattle.markdown_event.specs.declared.event.Name.{Name}
 use Rattle.markdown_event.specs.declared.event.Content.{Content}
-use Rattle.markdown_engine_content.specs.Codes.{Code, is_line_ending, is_blank}
-use Rattle.markdown_engine_content.specs.Tree.{Forest, empty, leaf_then, group_then, leaf, linked, ◌⊕◌, group, leaf_codes}
-use Rattle.markdown_model.specs.CodeTests.{is_value, is_empty, is_among, next_is, is_whitespace_code, is_control}
-use Rattle.markdown_model.specs.Grammar.{word, through, Reading, ◌>>=◌, ◌>>◌, gives, either, unless, if_next, provided, span, one, any_number, some, with_first, word_of, up_to_word, before, ◌then_◌, repeated, repeatedly, optional, optional_tree, escaped_from, up_to}
+use Rattle.markdown_content.specs.Codes.{Code, is_line_ending, is_blank}
+use Rattle.markdown_content.specs.Tree.{Forest, empty, leaf_then, group_then, leaf, linked, ◌⊕◌, group, leaf_codes}
+use Rattle.markdown_model.specs.CodeTests.{is_value, is_among, next_is, is_whitespace_code, is_control}
+use Rattle.markdown_model.specs.Grammar.{word, through, Reading, ◌>>=◌, ◌>>◌, gives, either, unless, if_next, provided, span, one, any_number, some, with_first, word_of, up_to_word, before, ◌then_◌, repeatedly, optional, optional_tree, up_to}
 use Rattle.markdown_model.specs.TextLines.{stretches, onto_stretch, joins, linked_leaf, line_leaf, line_leaves, lines_from, lines}
 use Rattle.markdown_model.specs.Whitespace.{space_or_tab_eol, spaces_across, spaces_on_line}
 use Rattle.markdown_model.specs.LeafConstructs.{scheme, domain_label, uri, email_address, closing_run, closing, joined_codes}
 use Rattle.markdown_model.specs.HtmlText.{html_codes, spaces, optional_spaces, quoted_value, unquoted_value, attribute_name, attribute_value, attribute, tag_name, open_tag, closing_tag, comment, instruction, declaration, cdata}
 use Rattle.markdown_model.specs.Resource.{string_group, between_markers, StringNames, label, title_between, title, title_names, raw_from, literal_destination, raw_destination, destination, DestinationNames, resource_names, spaced_title, destination_and_title, resource}
+use Rattle.markdown_model.proofs.GivenByReadings.{IfGiven, given-map, given-bind, given-gives, given-passed, given-either, given-before, given-next, given-unless, given-one, given-some, given-then, given-repeatedly, given-first, given-word, given-up-to-word, given-escaped}
 use Rattle.markdown_model.proofs.LeafCodes.{codes-leaf, span-append}
-use Rattle.markdown_engine_content.proofs.TreeCodes.{leaf_codes-row}
+use Rattle.markdown_content.proofs.TreeCodes.{leaf_codes-row}
 
 -- `codes_of` says which codes a value covers, and `read` what was read before the reading.
+abbrev pub Splits : {A : Type 0} → (A → List Code) → List Code → A → List Code → Type 0
+Splits codes_of all x rest = codes_of x ++ rest ≡ all
+
 abbrev pub At : {A : Type 0} → (A → List Code) → List Code → List Code → Option (A × List Code) → Type 0
-At codes_of read cs None = Unit {0}
-At codes_of read cs (Some r) = codes_of r.0 ++ r.1 ≡ read ++ cs
+At codes_of read cs o = IfGiven (Splits codes_of (read ++ cs)) o
 
 -- a record, so that antt finds the reading by its parameters
 pub record Covers {A : Type 0} (codes_of : A → List Code) (read : List Code) (a : Reading A) : Type 0 where
@@ -34,51 +37,33 @@ pub ruleset codes_laws = (leaf_codes-row, codes-leaf, append-nil, append_assoc)
 module _ {A B : Type 0} (f : A → List Code) (g : B → List Code) (read : List Code) where
   pub bind : (a : Reading A) (b : A → Reading B) → Covers f [] a → ((x : A) → Covers g (read ++ f x) (b x)) →
       Covers g read (a >>= b)
-  unfolding ◌>>=◌
-  bind a b ha hb = record { at = λ cs. by_answer cs (a cs) (ha.at cs) }
+  bind a b ha hb = record { at = λ cs. given-bind (Splits f cs) (Splits g (read ++ cs)) a b cs (ha.at cs) (λ x rest e. behind cs x rest e (b x rest) ((hb x).at rest)) }
     where
-      moved : (cs : List Code) (x : A × List Code) → f x.0 ++ x.1 ≡ cs → (r : Option (B × List Code)) →
-          At g (read ++ f x.0) x.1 r → At g read cs r
-      moved cs x h None k = tt
-      moved cs x h (Some y) k = k ∙ append_assoc read (f x.0) x.1 ∙ ap (λ z. read ++ z) h
-
-      by_answer : (cs : List Code) (r : Option (A × List Code)) → At f [] cs r →
-          At g read cs (elim r [ None ↦ None | Some x ↦ b x.0 x.1 ])
-      by_answer cs None h = tt
-      by_answer cs (Some x) h = moved cs x h (b x.0 x.1) ((hb x.0).at x.1)
+      behind : (cs : List Code) (x : A) (rest : List Code) → f x ++ rest ≡ cs → (o : Option (B × List Code)) → At g (read ++ f x) rest o → At g read cs o
+      behind cs x rest e o h =
+          given-map (Splits g ((read ++ f x) ++ rest)) (Splits g (read ++ cs)) o (λ y left k. k ∙ append_assoc read (f x) rest ∙ ap (λ z. read ++ z) e) h
 
 module _ {A : Type 0} (f : A → List Code) (read : List Code) where
+  abbrev whole : List Code → A → List Code → Type 0
+  whole cs = Splits f (read ++ cs)
+
   pub given : (x : A) → f x ≡ read → Covers f read (gives x)
-  unfolding gives
-  given x e = record { at = λ cs. ap (λ z. z ++ cs) e }
+  given x e = record { at = λ cs. given-gives (whole cs) x cs (ap (λ z. z ++ cs) e) }
 
   pub if_passed : (test : Bool) (b : Reading A) → Covers f read b → Covers f read (provided test >> b)
-  unfolding provided ◌>>◌
-  if_passed true b hb = record { at = hb.at }
-  if_passed false b hb = record { at = λ cs. tt }
+  if_passed test b h = record { at = λ cs. given-passed (whole cs) test b cs (λ _. h.at cs) }
 
   pub one_of : (a b : Reading A) → Covers f read a → Covers f read b → Covers f read (either a b)
-  unfolding either
-  one_of a b ha hb = record { at = λ cs. by_answer cs (a cs) (ha.at cs) }
-    where
-      by_answer : (cs : List Code) (r : Option (A × List Code)) → At f read cs r →
-          At f read cs (elim r [ None ↦ b cs | Some x ↦ Some x ])
-      by_answer cs None h = hb.at cs
-      by_answer cs (Some x) h = h
+  one_of a b h k = record { at = λ cs. given-either (whole cs) a b cs (h.at cs) (k.at cs) }
 
   pub seen_before : (a : Reading A) (p : List Code → Bool) → Covers f read a → Covers f read (before a p)
-  unfolding before
-  seen_before a p ha = record { at = λ cs. by_answer cs (a cs) (ha.at cs) }
-    where
-      by_test : (cs : List Code) (x : A × List Code) (b : Bool) → f x.0 ++ x.1 ≡ read ++ cs →
-          At f read cs (elim b [ true ↦ Some x | false ↦ None ])
-      by_test cs x true h = h
-      by_test cs x false h = tt
+  seen_before a p h = record { at = λ cs. given-before (whole cs) a p cs (h.at cs) }
 
-      by_answer : (cs : List Code) (r : Option (A × List Code)) → At f read cs r →
-          At f read cs (elim r [ None ↦ None | Some x ↦ elim (p x.1) [ true ↦ Some x | false ↦ None ] ])
-      by_answer cs None h = tt
-      by_answer cs (Some x) h = by_test cs x (p x.1) h
+  pub by_next : (p : Code → Bool) (a b : Reading A) → Covers f read a → Covers f read b → Covers f read (if_next p a b)
+  by_next p a b h k = record { at = λ cs. given-next (whole cs) p a b cs (h.at cs) (k.at cs) }
+
+  pub where_not : {B : Type 0} (a : Reading B) (b : Reading A) → Covers f read b → Covers f read (unless a b)
+  where_not a b h = record { at = λ cs. given-unless (whole cs) a b cs (h.at cs) }
 
 -- a choice by a test
 pub chosen_at : {A : Type 0} (f : A → List Code) (read cs : List Code) (b : Bool) (x y : Option (A × List Code)) →
@@ -86,115 +71,51 @@ pub chosen_at : {A : Type 0} (f : A → List Code) (read cs : List Code) (b : Bo
 chosen_at f read cs true x y h k = h
 chosen_at f read cs false x y h k = k
 
-module _ {A : Type 0} (f : A → List Code) (read : List Code) where
-  pub by_next : (p : Code → Bool) (a b : Reading A) → Covers f read a → Covers f read b → Covers f read (if_next p a b)
-  unfolding if_next
-  by_next p a b ha hb = record { at = λ cs. chosen_at f read cs (next_is p cs) (a cs) (b cs) (ha.at cs) (hb.at cs) }
-
-  pub where_not : {B : Type 0} (a : Reading B) (b : Reading A) → Covers f read b → Covers f read (unless a b)
-  unfolding unless
-  where_not {B} a b hb = record { at = λ cs. by_answer cs (a cs) }
-    where
-      by_answer : (cs : List Code) (r : Option (B × List Code)) → At f read cs (elim r [ None ↦ b cs | Some x ↦ None ])
-      by_answer cs None = hb.at cs
-      by_answer cs (Some x) = tt
-
 abbrev pub Takes : Reading (List Code) → Type 0
 Takes a = Covers itself [] a
 
 pub takes_one : (p : Code → Bool) → Takes (one p)
-unfolding one
-takes_one p = record { at = at }
-  where
-    by_test : (c : Code) (cs : List Code) (b : Bool) →
-        At itself [] (c ∷ cs) (elim b [ true ↦ Some (c ∷ [], cs) | false ↦ None ])
-    by_test c cs true = refl
-    by_test c cs false = tt
-
-    at : (cs : List Code) → At itself [] cs (one p cs)
-    at [] = tt
-    at (c ∷ cs) = by_test c cs (p c)
+takes_one p = record { at = given-one (λ cs x rest. x ++ rest ≡ cs) p (λ c cs e. refl) }
 
 pub takes_any_number : (p : Code → Bool) → Takes (any_number p)
 unfolding any_number
 takes_any_number p = record { at = λ cs. span-append p cs }
 
 pub takes_some : (p : Code → Bool) → Takes (some p)
-unfolding some
-takes_some p = record { at = λ cs. by_test cs (is_empty (span p cs).0) }
-  where
-    by_test : (cs : List Code) (b : Bool) → At itself [] cs (elim b [ true ↦ None | false ↦ Some (span p cs) ])
-    by_test cs true = tt
-    by_test cs false = span-append p cs
+takes_some p =
+    record { at = λ cs. given-some (Splits itself cs) (Splits itself cs) p cs (span-append p cs) (λ c x rest e. e) }
 
-second_at : (cs : List Code) (x : List Code × List Code) → x.0 ++ x.1 ≡ cs → (r : Option (List Code × List Code)) → At itself [] x.1 r
-    → At itself [] cs (elim r [ None ↦ None | Some y ↦ Some (x.0 ++ y.0, y.1) ])
-second_at cs x h None k = tt
-second_at cs x h (Some y) k = append_assoc x.0 y.0 y.1 ∙ ap (λ z. x.0 ++ z) k ∙ h
+-- one after the other
+rows : (cs x rest y left : List Code) → x ++ rest ≡ cs → y ++ left ≡ rest → (x ++ y) ++ left ≡ cs
+rows cs x rest y left e k = append_assoc x y left ∙ ap (λ z. x ++ z) k ∙ e
 
 pub takes_then : (a b : Reading (List Code)) → Takes a → Takes b → Takes (a then_ b)
-unfolding ◌then_◌
-takes_then a b ha hb = record { at = λ cs. by_answer cs (a cs) (ha.at cs) }
-  where
-    by_answer : (cs : List Code) (r : Option (List Code × List Code)) → At itself [] cs r
-        → At itself [] cs (elim r [ None ↦ None | Some x ↦ elim (b x.1) [ None ↦ None | Some y ↦ Some (x.0 ++ y.0, y.1) ] ])
-    by_answer cs None h = tt
-    by_answer cs (Some x) h = second_at cs x h (b x.1) (hb.at x.1)
+takes_then a b ha hb =
+    record { at = λ cs. given-then (Splits itself cs) (Splits itself cs) a b cs (ha.at cs) (λ x rest e. given-map (Splits itself rest) (λ y left. (x ++ y) ++ left ≡ cs) (b rest) (λ y left k. rows cs x rest y left e k) (hb.at rest)) }
 
 pub takes_nothing : Takes (gives [])
-unfolding gives
-takes_nothing = record { at = λ cs. refl }
+takes_nothing = given itself [] [] refl
 
 pub takes_optional : (a : Reading (List Code)) → Takes a → Takes (optional a)
 unfolding optional
 takes_optional a h = one_of itself [] a (gives []) h takes_nothing
 
-repeated_at : (a : Reading (List Code)) → Takes a → (n : ℕ) (cs : List Code) → At itself [] cs (repeated n a cs)
-unfolding repeated
-repeated_at a h zero cs = refl
-repeated_at a h (suc n) cs = by_answer (a cs) (h.at cs) (λ ds. repeated_at a h n ds)
-  where
-    by_second : (x : List Code × List Code) → x.0 ++ x.1 ≡ cs → (r : Option (List Code × List Code)) → At itself [] x.1 r
-        → At itself [] cs (elim r [ None ↦ Some x | Some y ↦ Some (x.0 ++ y.0, y.1) ])
-    by_second x h None k = h
-    by_second x h (Some y) k = append_assoc x.0 y.0 y.1 ∙ ap (λ z. x.0 ++ z) k ∙ h
-
-    by_answer : (r : Option (List Code × List Code)) → At itself [] cs r → ((ds : List Code) → At itself [] ds (repeated n a ds))
-        → At itself [] cs (elim r [ None ↦ Some ([], cs) | Some x ↦ elim (repeated n a x.1) [ None ↦ Some x | Some y ↦ Some (x.0 ++ y.0, y.1) ] ])
-    by_answer None k more = refl
-    by_answer (Some x) k more = by_second x k (repeated n a x.1) (more x.1)
-
 pub takes_repeatedly : (a : Reading (List Code)) → Takes a → Takes (repeatedly a)
-unfolding repeatedly
-takes_repeatedly a h = record { at = λ cs. repeated_at a h (length cs) cs }
+takes_repeatedly a h = record { at = given-repeatedly (λ cs x rest. x ++ rest ≡ cs) (λ cs. refl) rows a h.at }
 
 first_at : (c : Code) (cs : List Code) (r : Option (List Code × List Code)) → At itself [] cs r →
     At itself [] (c ∷ cs) (with_first c r)
-first_at c cs None h = tt
-first_at c cs (Some x) h = ap (λ z. c ∷ z) h
+first_at c cs r h = given-first (Splits itself cs) (Splits itself (c ∷ cs)) c r (λ x rest e. ap (λ z. c ∷ z) e) h
 
 word_at : (ns : List ℕ) (cs : List Code) → At itself [] cs (word_of ns cs)
-unfolding word_of
-word_at [] cs = refl
-word_at (n ∷ ns) [] = tt
-word_at (n ∷ ns) (c ∷ cs) =
-    chosen_at itself [] (c ∷ cs) (c.value == n) (with_first c (word_of ns cs)) None (first_at c cs (word_of ns cs) (word_at ns cs)) tt
+word_at = given-word (λ ns cs x rest. x ++ rest ≡ cs) (λ cs. refl) (λ n ns c cs x rest v e. ap (λ z. c ∷ z) e)
 
 pub takes_word_of : (ns : List ℕ) → Takes (word_of ns)
 takes_word_of ns = record { at = word_at ns }
 
-up_to_at : (ns : List ℕ) (cs : List Code) → At itself [] cs (up_to_word ns cs)
-unfolding up_to_word
-up_to_at ns [] = tt
-up_to_at ns (c ∷ cs) = by_answer (word_of ns (c ∷ cs)) (word_at ns (c ∷ cs)) (up_to_at ns cs)
-  where
-    by_answer : (r : Option (List Code × List Code)) → At itself [] (c ∷ cs) r → At itself [] cs (up_to_word ns cs)
-        → At itself [] (c ∷ cs) (elim r [ Some x ↦ Some x | None ↦ with_first c (up_to_word ns cs) ])
-    by_answer (Some x) h k = h
-    by_answer None h k = first_at c cs (up_to_word ns cs) k
-
 pub takes_up_to_word : (ns : List ℕ) → Takes (up_to_word ns)
-takes_up_to_word ns = record { at = up_to_at ns }
+takes_up_to_word ns =
+    record { at = given-up-to-word (λ cs x rest. x ++ rest ≡ cs) ns (word_at ns) (λ c cs x rest e. ap (λ z. c ∷ z) e) }
 
 -- Parts of autolinks.
 
@@ -210,9 +131,9 @@ pub takes_uri : Takes uri
 unfolding uri
 takes_uri = takes_then _ _ takes_scheme (takes_then _ _ (takes_one _) (takes_any_number _))
 
-pub takes_email_address : Takes email_address
+pub takes_email_address : (all : Bool) → Takes (email_address all)
 unfolding email_address
-takes_email_address =
+takes_email_address all =
     takes_then _ _ (takes_some _) (takes_then _ _ (takes_one _) (takes_then _ _ takes_domain_label (takes_repeatedly _ (takes_then _ _ (takes_one _) takes_domain_label))))
 
 -- Lines and stretches.
@@ -360,36 +281,28 @@ codes-linked name (c ∷ cs) = append-nil (c ∷ cs)
 
 pub ruleset string_laws = (codes_laws, codes-string_group, codes-lines, codes-linked, codes-linked_leaf)
 
-module _ (stop takes refuses : Code → Bool) where
-  escaped_at : (slash : Bool) (cs : List Code) → At itself [] cs (escaped_from stop takes refuses slash cs)
-  unfolding escaped_from
-  escaped_at slash [] = tt
-  escaped_at slash (c ∷ cs) =
-      chosen_at itself [] (c ∷ cs) (slash && takes c) _ _ (first_at c cs _ (escaped_at false cs))
-      (chosen_at itself [] (c ∷ cs) (stop c) (Some ([], c ∷ cs)) _ refl
-      (chosen_at itself [] (c ∷ cs) (refuses c) None _ tt (first_at c cs _ (escaped_at (c.value == 92) cs))))
+pub takes_up_to : (stop takes refuses : Code → Bool) → Takes (up_to stop takes refuses)
+unfolding up_to
+takes_up_to stop takes refuses =
+    record { at = given-escaped (λ cs x rest. x ++ rest ≡ cs) stop takes refuses (λ c cs s. refl) (λ c cs x rest t e. ap (λ z. c ∷ z) e) (λ c cs x rest s r e. ap (λ z. c ∷ z) e) false }
 
-  pub takes_up_to : Takes (up_to stop takes refuses)
-  unfolding up_to
-  takes_up_to = record { at = escaped_at false }
-
-pub covers_label : (names : StringNames) → Covers leaf_codes [] (label names)
+pub covers_label : (characters : Bool) (names : StringNames) → Covers leaf_codes [] (label characters names)
 unfolding label
-covers_label names =
+covers_label characters names =
     bind _ _ _ _ _ (takes_one _) λ front. bind _ _ _ _ _ (takes_up_to _ _ _) λ text.
     if_passed _ _ _ _ (if_passed _ _ _ _ (bind _ _ _ _ _ (takes_one _) λ back. if_passed _ _ _ _ (given _ _ (between_markers names front text back) (simp string_laws))))
 
-covers_title_between : (opener closer : ℕ) (names : StringNames) →
-    Covers leaf_codes [] (title_between opener closer names)
+covers_title_between : (both : Bool) (opener closer : ℕ) (names : StringNames) →
+    Covers leaf_codes [] (title_between both opener closer names)
 unfolding title_between
-covers_title_between opener closer names =
+covers_title_between both opener closer names =
     bind _ _ _ _ _ (takes_one _) λ front. bind _ _ _ _ _ (takes_up_to _ _ _) λ text.
     bind _ _ _ _ _ (takes_one _) λ back. if_passed _ _ _ _ (given _ _ (between_markers names front text back) (simp string_laws))
 
-pub covers_title : (names : StringNames) → Covers leaf_codes [] (title names)
+pub covers_title : (both : Bool) (names : StringNames) → Covers leaf_codes [] (title both names)
 unfolding title
-covers_title names =
-    one_of _ _ _ _ (covers_title_between 34 34 names) (one_of _ _ _ _ (covers_title_between 39 39 names) (covers_title_between 40 41 names))
+covers_title both names =
+    one_of _ _ _ _ (covers_title_between false 34 34 names) (one_of _ _ _ _ (covers_title_between false 39 39 names) (covers_title_between both 40 41 names))
 
 covers_spaces_across : (link : Option Content) → Covers leaf_codes [] (spaces_across link)
 unfolding spaces_across
@@ -446,23 +359,23 @@ pub covers_optional_tree : (a : Reading Forest) → Covers leaf_codes [] a → C
 unfolding optional_tree
 covers_optional_tree a h = one_of _ _ a (gives empty) h (given _ _ empty refl)
 
-covers_spaced_title : Covers leaf_codes [] spaced_title
+covers_spaced_title : (both : Bool) → Covers leaf_codes [] (spaced_title both)
 unfolding spaced_title
-covers_spaced_title =
-    bind _ _ _ _ _ (seen_before _ _ _ _ (covers_spacing None)) λ space. bind _ _ _ _ _ (covers_title title_names) λ text.
+covers_spaced_title both =
+    bind _ _ _ _ _ (seen_before _ _ _ _ (covers_spacing None)) λ space. bind _ _ _ _ _ (covers_title both title_names) λ text.
     bind _ _ _ _ _ (covers_optional_tree _ (covers_spacing None)) λ back. given _ _ (space ⊕ text ⊕ back) (simp codes_laws)
 
-covers_destination_and_title : Covers leaf_codes [] destination_and_title
+covers_destination_and_title : (both : Bool) → Covers leaf_codes [] (destination_and_title both)
 unfolding destination_and_title
-covers_destination_and_title =
-    bind _ _ _ _ _ (covers_destination 32 resource_names) λ target. bind _ _ _ _ _ (one_of _ _ _ _ covers_spaced_title (covers_optional_tree _ (covers_spacing None))) λ after.
+covers_destination_and_title both =
+    bind _ _ _ _ _ (covers_destination 32 resource_names) λ target. bind _ _ _ _ _ (one_of _ _ _ _ (covers_spaced_title both) (covers_optional_tree _ (covers_spacing None))) λ after.
     given _ _ (target ⊕ after) (simp codes_laws)
 
-pub covers_resource : Covers leaf_codes [] resource
+pub covers_resource : (both : Bool) → Covers leaf_codes [] (resource both)
 unfolding resource
-covers_resource =
+covers_resource both =
     bind _ _ _ _ _ (takes_one _) λ front. bind _ _ _ _ _ (covers_optional_tree _ (covers_spacing None)) λ space.
-    bind _ _ _ _ _ (by_next _ _ _ _ _ (given _ _ empty refl) covers_destination_and_title) λ inside.
+    bind _ _ _ _ _ (by_next _ _ _ _ _ (given _ _ empty refl) (covers_destination_and_title both)) λ inside.
     bind _ _ _ _ _ (takes_one _) λ back. given _ _ (group Name.Resource (leaf Name.ResourceMarker front ⊕ space ⊕ inside ⊕ leaf Name.ResourceMarker back)) (simp codes_laws)
 
 -- Spans.

@@ -1,147 +1,92 @@
 -- Readings that take a code at least: what they leave is fewer codes.
-use Rattle.std.proofs.Common.{◌≡◌, ℕ, suc, ◌+◌, ◌≤◌, ◌==◌, Bool, true, false, List, [], ◌∷◌, ◌++◌, length, refl, sym, ap, subst, arith, Option, Some, None}
+use Rattle.std.proofs.Common.{◌≡◌, ◌≢◌, ℕ, suc, ◌+◌, ◌≤◌, Bool, List, [], ◌∷◌, ◌++◌, length, refl, sym, ap, subst, arith, Option}
 use Rattle.std.specs.Prelude.{codes}
 use Rattle.std.proofs.lemmas.List.{length-append}
 use Prim.Native.String.{String}
-use Rattle.markdown_engine_content.specs.Codes.{Code}
-use Rattle.markdown_model.specs.CodeTests.{is_empty}
-use Rattle.markdown_model.specs.Grammar.{Reading, ◌>>=◌, gives, either, one, some, any_number, span, with_first, word_of, word, ◌then_◌}
+use Rattle.markdown_content.specs.Codes.{Code}
+use Rattle.markdown_model.specs.Grammar.{Reading, ◌>>=◌, gives, either, one, some, any_number, with_first, word_of, word, ◌then_◌}
 use Rattle.markdown_model.specs.HtmlText.{html_codes, open_tag, closing_tag, comment, instruction, declaration, cdata}
+use Rattle.markdown_model.proofs.NoLinkInConstructs.{Yields}
+use Rattle.markdown_model.proofs.GivenByReadings.{IfGiven, given-map, given-both, given-bind, given-gives, given-either, given-one, given-some, given-then, given-first, given-word}
 use Rattle.markdown_model.proofs.LeafCodes.{span-append}
-use Rattle.markdown_model.proofs.ReadingsCover.{At, Covers, takes_one, takes_then, takes_optional, takes_repeatedly, takes_word, takes_through, takes_tag_name, takes_spaces, takes_optional_spaces, takes_attribute}
+use Rattle.markdown_model.proofs.ReadingsCover.{Splits, itself, Covers, Takes, takes_one, takes_any_number, takes_then, takes_optional, takes_repeatedly, takes_word, takes_through, takes_tag_name, takes_spaces, takes_optional_spaces, takes_attribute}
+
+abbrev pub LeavesFewer : {A : Type 0} → ℕ → List Code → A → List Code → Type 0
+LeavesFewer n cs x rest = n + length rest ≤ length cs
 
 abbrev pub Left : {A : Type 0} → ℕ → List Code → Option (A × List Code) → Type 0
-Left n cs None = Unit {0}
-Left n cs (Some r) = n + length r.1 ≤ length cs
+Left n cs o = IfGiven (LeavesFewer n cs) o
 
 -- the reading takes n codes at least
 pub record Consumes (n : ℕ) {A : Type 0} (a : Reading A) : Type 0 where
   pub at : (cs : List Code) → Left n cs (a cs)
 
 module _ {A B : Type 0} where
+  row : (n : ℕ) (a : Reading A) (b : A → Reading B) → Consumes n a → ((x : A) → Consumes 0 (b x)) → Consumes n (a >>= b)
+  row n a b ha hb =
+      record { at = λ cs. given-bind (LeavesFewer n cs) (LeavesFewer n cs) a b cs (ha.at cs) (λ x rest h. given-map (LeavesFewer 0 rest) (LeavesFewer n cs) (b x rest) (λ y left k. omega (arith, h, k)) ((hb x).at rest)) }
+
   -- the first reading takes one, and the second any number
   pub first_takes : (a : Reading A) (b : A → Reading B) → Consumes 1 a → ((x : A) → Consumes 0 (b x)) →
       Consumes 1 (a >>= b)
-  unfolding ◌>>=◌
-  first_takes a b ha hb = record { at = λ cs. by_answer cs (a cs) (ha.at cs) }
-    where
-      moved : (cs : List Code) (x : A × List Code) (r : Option (B × List Code)) → 1 + length x.1 ≤ length cs →
-          Left 0 x.1 r → Left 1 cs r
-      moved cs x None h k = tt
-      moved cs x (Some y) h k = omega arith
-
-      by_answer : (cs : List Code) (r : Option (A × List Code)) → Left 1 cs r →
-          Left 1 cs (elim r [ None ↦ None | Some x ↦ b x.0 x.1 ])
-      by_answer cs None h = tt
-      by_answer cs (Some x) h = moved cs x (b x.0 x.1) h ((hb x.0).at x.1)
+  first_takes a b ha hb = row 1 a b ha hb
 
   pub both_take : (a : Reading A) (b : A → Reading B) → Consumes 0 a → ((x : A) → Consumes 0 (b x)) →
       Consumes 0 (a >>= b)
-  unfolding ◌>>=◌
-  both_take a b ha hb = record { at = λ cs. by_answer cs (a cs) (ha.at cs) }
-    where
-      moved : (cs : List Code) (x : A × List Code) (r : Option (B × List Code)) → 0 + length x.1 ≤ length cs →
-          Left 0 x.1 r → Left 0 cs r
-      moved cs x None h k = tt
-      moved cs x (Some y) h k = omega arith
-
-      by_answer : (cs : List Code) (r : Option (A × List Code)) → Left 0 cs r →
-          Left 0 cs (elim r [ None ↦ None | Some x ↦ b x.0 x.1 ])
-      by_answer cs None h = tt
-      by_answer cs (Some x) h = moved cs x (b x.0 x.1) h ((hb x.0).at x.1)
+  both_take a b ha hb = row 0 a b ha hb
 
 module _ {A : Type 0} where
   pub takes_no_more : (f : A → List Code) (a : Reading A) → Covers f [] a → Consumes 0 a
-  takes_no_more f a h = record { at = λ cs. by_answer cs (a cs) (h.at cs) }
-    where
-      by_answer : (cs : List Code) (r : Option (A × List Code)) → At f [] cs r → Left 0 cs r
-      by_answer cs None k = tt
-      by_answer cs (Some x) k = omega (arith, length-append (f x.0) x.1, ap length k)
+  takes_no_more f a h =
+      record { at = λ cs. given-map (Splits f cs) (LeavesFewer 0 cs) (a cs) (λ x rest k. omega (arith, length-append (f x) rest, ap length k)) (h.at cs) }
 
   pub gives_takes : (x : A) → Consumes 0 (gives x)
-  unfolding gives
-  gives_takes x = record { at = λ cs. omega arith }
+  gives_takes x = record { at = λ cs. given-gives (LeavesFewer 0 cs) x cs (omega arith) }
 
   pub either_takes : (n : ℕ) (a b : Reading A) → Consumes n a → Consumes n b → Consumes n (either a b)
-  unfolding either
-  either_takes n a b ha hb = record { at = λ cs. by_answer cs (a cs) (ha.at cs) }
-    where
-      by_answer : (cs : List Code) (r : Option (A × List Code)) → Left n cs r →
-          Left n cs (elim r [ None ↦ b cs | Some x ↦ Some x ])
-      by_answer cs None h = hb.at cs
-      by_answer cs (Some x) h = h
+  either_takes n a b h k = record { at = λ cs. given-either (LeavesFewer n cs) a b cs (h.at cs) (k.at cs) }
 
   pub weaker : (a : Reading A) → Consumes 1 a → Consumes 0 a
-  weaker a h = record { at = λ cs. by_answer cs (a cs) (h.at cs) }
-    where
-      by_answer : (cs : List Code) (r : Option (A × List Code)) → Left 1 cs r → Left 0 cs r
-      by_answer cs None h = tt
-      by_answer cs (Some x) h = omega arith
+  weaker a h = record { at = λ cs. given-map (LeavesFewer 1 cs) (LeavesFewer 0 cs) (a cs) (λ x rest k. omega (arith, k)) (h.at cs) }
 
 pub one_takes : (p : Code → Bool) → Consumes 1 (one p)
-unfolding one
-one_takes p = record { at = at }
-  where
-    by_test : (c : Code) (cs : List Code) (b : Bool) →
-        Left {A = List Code} 1 (c ∷ cs) (elim b [ true ↦ Some (c ∷ [], cs) | false ↦ None ])
-    by_test c cs true = omega arith
-    by_test c cs false = tt
-
-    at : (cs : List Code) → Left 1 cs (one p cs)
-    at [] = tt
-    at (c ∷ cs) = by_test c cs (p c)
+one_takes p = record { at = given-one (λ cs. LeavesFewer 1 cs) p (λ c cs e. omega arith) }
 
 pub some_takes : (p : Code → Bool) → Consumes 1 (some p)
-unfolding some
-some_takes p = record { at = λ cs. by_front cs (span p cs) (span-append p cs) }
-  where
-    by_front : (cs : List Code) (s : List Code × List Code) → s.0 ++ s.1 ≡ cs →
-        Left {A = List Code} 1 cs (elim (is_empty s.0) [ true ↦ None | false ↦ Some s ])
-    by_front cs ([], rest) e = tt
-    by_front cs (c ∷ front, rest) e = omega (arith, length-append front rest, ap length e)
+some_takes p =
+    record { at = λ cs. given-some (Splits itself cs) (LeavesFewer 1 cs) p cs (span-append p cs) (λ c x rest e. omega (arith, length-append x rest, ap length e)) }
 
 pub any_takes : (p : Code → Bool) → Consumes 0 (any_number p)
-unfolding any_number
-any_takes p =
-    record { at = λ cs. omega (arith, length-append (span p cs).0 (span p cs).1, ap length (span-append p cs)) }
+any_takes p = takes_no_more itself (any_number p) (takes_any_number p)
 
 pub with_takes : (n : ℕ) (c : Code) (cs : List Code) (r : Option (List Code × List Code)) → Left n cs r →
     Left (suc n) (c ∷ cs) (with_first c r)
-with_takes n c cs None h = tt
-with_takes n c cs (Some x) h = omega arith
+with_takes n c cs r h = given-first (LeavesFewer n cs) (LeavesFewer (suc n) (c ∷ cs)) c r (λ x rest k. omega (arith, k)) h
 
 word_takes_at : (ns : List ℕ) (cs : List Code) → Left (length ns) cs (word_of ns cs)
-unfolding word_of
-word_takes_at [] cs = omega arith
-word_takes_at (n ∷ ns) [] = tt
-word_takes_at (n ∷ ns) (c ∷ cs) = by_test (c.value == n) (word_takes_at ns cs)
-  where
-    by_test : (b : Bool) → Left (length ns) cs (word_of ns cs) →
-        Left (suc (length ns)) (c ∷ cs) (elim b [ true ↦ with_first c (word_of ns cs) | false ↦ None ])
-    by_test true h = with_takes (length ns) c cs (word_of ns cs) h
-    by_test false h = tt
+word_takes_at =
+    given-word (λ ns cs. LeavesFewer (length ns) cs) (λ cs. omega arith) (λ n ns c cs x rest v k. omega (arith, k))
 
 pub word_takes : (n : ℕ) (ns : List ℕ) → Consumes 1 (word_of (n ∷ ns))
-word_takes n ns = record { at = λ cs. by_answer cs (word_of (n ∷ ns) cs) (word_takes_at (n ∷ ns) cs) }
-  where
-    by_answer : (cs : List Code) (r : Option (List Code × List Code)) → Left (suc (length ns)) cs r → Left 1 cs r
-    by_answer cs None h = tt
-    by_answer cs (Some x) h = omega arith
+word_takes n ns =
+    record { at = λ cs. given-map (LeavesFewer (suc (length ns)) cs) (LeavesFewer 1 cs) (word_of (n ∷ ns) cs) (λ x rest k. omega (arith, k)) (word_takes_at (n ∷ ns) cs) }
 
 -- in a row of two, the first takes one code
 pub then_takes : (a b : Reading (List Code)) → Consumes 1 a → Consumes 0 b → Consumes 1 (a then_ b)
-unfolding ◌then_◌
-then_takes a b ha hb = record { at = λ cs. by_answer cs (a cs) (ha.at cs) }
-  where
-    by_second : (cs : List Code) (x : List Code × List Code) (r : Option (List Code × List Code)) → 1 + length x.1 ≤ length cs → Left 0 x.1 r
-        → Left 1 cs (elim r [ None ↦ None | Some y ↦ Some (x.0 ++ y.0, y.1) ])
-    by_second cs x None h k = tt
-    by_second cs x (Some y) h k = omega arith
+then_takes a b ha hb =
+    record { at = λ cs. given-then (LeavesFewer 1 cs) (LeavesFewer 1 cs) a b cs (ha.at cs) (λ x rest h. given-map (LeavesFewer 0 rest) (LeavesFewer 1 cs) (b rest) (λ y left k. omega (arith, h, k)) (hb.at rest)) }
 
-    by_answer : (cs : List Code) (r : Option (List Code × List Code)) → Left 1 cs r
-        → Left 1 cs (elim r [ None ↦ None | Some x ↦ elim (b x.1) [ None ↦ None | Some y ↦ Some (x.0 ++ y.0, y.1) ] ])
-    by_answer cs None h = tt
-    by_answer cs (Some x) h = by_second cs x (b x.1) h (hb.at x.1)
+-- so what it gives are some codes
+abbrev pub SomeCodes : List Code → Type 0
+SomeCodes cs = cs ≢ []
+
+pub some_yields : (a : Reading (List Code)) → Takes a → Consumes 1 a → Yields SomeCodes a
+some_yields a h k =
+    record { at = λ cs. given-both (Splits itself cs) (LeavesFewer 1 cs) (λ x _. SomeCodes x) (a cs) (some cs) (h.at cs) (k.at cs) }
+  where
+    some : (cs x rest : List Code) → x ++ rest ≡ cs → 1 + length rest ≤ length cs → x ≢ []
+    some cs [] rest e l = λ i. absurd (omega (arith, ap length e, l))
+    some cs (c ∷ x) rest e l = λ i. cc
 
 pub ruleset taking = (first_takes, gives_takes, one_takes, some_takes)
 

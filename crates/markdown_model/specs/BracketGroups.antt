@@ -2,8 +2,8 @@
 use Rattle.std.specs.Prelude.{ℕ, suc, ◌-◌, true, false, ◌==◌, List, [], ◌∷◌, ◌++◌, length, take, drop, reverse, sum_by, map}
 use Rattle.std.specs.Str.{byte}
 use Rattle.markdown_event.specs.declared.event.Name.{Name}
-use Rattle.markdown_engine_content.specs.Codes.{Code, stop_of, document_start}
-use Rattle.markdown_engine_content.specs.Tree.{Forest, empty, leaf_then, group_then, leaf, ◌⊕◌, group, text_group, start_of}
+use Rattle.markdown_content.specs.Codes.{Code, stop_of, document_start}
+use Rattle.markdown_content.specs.Tree.{Forest, empty, leaf_then, group_then, leaf, ◌⊕◌, group, text_group, start_of}
 use Rattle.markdown_model.specs.Setting.{Setting}
 use Rattle.markdown_model.specs.Runs.{Run, marker_of, run_of, runs_of}
 use Rattle.markdown_model.specs.Pairs.{Pair}

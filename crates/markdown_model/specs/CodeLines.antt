@@ -1,7 +1,7 @@
 -- Codes on one line, and codes at whose line endings the document has whitespace.
 use Rattle.std.specs.Prelude.{◌≡◌, ◌≢◌, ℕ, true, false, List, [], ◌∷◌}
 use Rattle.std.specs.List.{list_any}
-use Rattle.markdown_engine_content.specs.Codes.{Code, is_line_ending}
+use Rattle.markdown_content.specs.Codes.{Code, is_line_ending}
 use Rattle.markdown_util.specs.Neighbours.{class_of, after_index}
 use Rattle.markdown_model.specs.GfmAutolinkLiteral.{is_space}
 

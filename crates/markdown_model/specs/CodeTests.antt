@@ -2,7 +2,7 @@
 use Rattle.std.specs.Prelude.{ℕ, Bool, true, false, ◌&&◌, ◌||◌, nat_le, ◌==◌, List, [], ◌∷◌, length, Option, Some, None}
 use Rattle.std.specs.Str.{byte}
 use Rattle.std.specs.List.{list_any}
-use Rattle.markdown_engine_content.specs.Codes.{Code, space_value, is_line_ending, is_blank}
+use Rattle.markdown_content.specs.Codes.{Code, space_value, is_line_ending, is_blank}
 
 abbrev pub is_value : ℕ → Code → Bool
 is_value n c = c.value == n

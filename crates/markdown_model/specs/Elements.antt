@@ -3,15 +3,15 @@ use Rattle.std.specs.Prelude.{◌≡◌, ℕ, zero, suc, ◌-◌, Bool, true, fa
 use Rattle.std.specs.Str.{byte}
 use Rattle.std.specs.List.{list_any}
 use Rattle.markdown_event.specs.declared.event.Name.{Name}
-use Rattle.markdown_engine_content.specs.declared.label_kind.LabelKind.{LabelKind}
-use Rattle.markdown_engine_content.specs.Codes.{Code, is_line_ending, stop_of, document_start}
-use Rattle.markdown_engine_content.specs.Tree.{Forest, group_then, leaf}
+use Rattle.markdown_content.specs.declared.label_kind.LabelKind.{LabelKind}
+use Rattle.markdown_content.specs.Codes.{Code, is_line_ending, stop_of, document_start}
+use Rattle.markdown_content.specs.Tree.{Forest, group_then, leaf}
 use Rattle.markdown_model.specs.CodeTests.{is_value, next_is, last_code}
 use Rattle.markdown_model.specs.Grammar.{Reading, ◌>>=◌, ◌>>◌, gives, either, provided, one, some, word, before}
 use Rattle.markdown_model.specs.LeafConstructs.{character_escape, hard_break_escape, character_reference, span_here, code_names, math_names, autolink, gfm_task_list_item_check}
 use Rattle.markdown_model.specs.HtmlText.{html_text}
 use Rattle.markdown_model.specs.GfmAutolinkLiteral.{schemes, www, first_letters, gfm_autolink_literal_protocol, gfm_autolink_literal_www}
-use Rattle.markdown_model.specs.Setting.{Setting}
+use Rattle.markdown_model.specs.Setting.{Setting, rules}
 use Rattle.markdown_model.specs.LabelEnd.{Element, plain, starts, label_end}
 
 -- Single elements.
@@ -94,7 +94,7 @@ module _ (s : Setting) (end : ℕ) (earlier : List Element) (previous : Option C
       ∷ (codes "*", switched on.attention (attention_run (byte "*")))
       ∷ (codes "_", switched on.attention (attention_run (byte "_")))
       ∷ (codes "~", switched on.gfm_strikethrough (attention_run (byte "~")))
-      ∷ (codes "<", either (switched on.autolink (as_plain autolink)) (switched on.html_text (as_plain html_text)))
+      ∷ (codes "<", either (switched on.autolink (as_plain (autolink (rules s)))) (switched on.html_text (as_plain html_text)))
       ∷ (first_letters schemes, switched on.gfm_autolink_literal (as_plain (gfm_autolink_literal_protocol s.bytes end previous)))
       ∷ (first_letters (www ∷ []), switched on.gfm_autolink_literal (as_plain (gfm_autolink_literal_www s.bytes end previous)))
       ∷ (codes "[", either (switched on.gfm_label_start_footnote gfm_label_start_footnote) (switched on.label_start_link label_start_link))

@@ -3,8 +3,8 @@ use Rattle.std.specs.Prelude.{ℕ, zero, suc, Bool, true, false, ◌&&◌, ◌||
 use Rattle.std.specs.Str.{byte}
 use Rattle.std.specs.List.{list_any}
 use Prim.Native.String.{String}
-use Rattle.markdown_engine_content.specs.Codes.{Code}
-use Rattle.markdown_engine_content.specs.Tree.{Forest, leaf, ◌⊕◌}
+use Rattle.markdown_content.specs.Codes.{Code}
+use Rattle.markdown_content.specs.Tree.{Forest, leaf, ◌⊕◌}
 use Rattle.markdown_event.specs.declared.event.Name.{Name}
 use Rattle.markdown_model.specs.CodeTests.{is_value, is_among, is_empty, next_is, is_letter, is_alphanumeric, last_code, is_some_code}
 use Rattle.markdown_model.specs.Grammar.{span}

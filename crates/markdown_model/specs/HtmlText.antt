@@ -1,8 +1,8 @@
 -- HTML in text (CommonMark 6.6): its six kinds, each over one or more lines.
 use Rattle.std.specs.Prelude.{ℕ, Bool, ◌||◌, not, List, None, codes}
 use Rattle.std.specs.Str.{byte}
-use Rattle.markdown_engine_content.specs.Codes.{Code}
-use Rattle.markdown_engine_content.specs.Tree.{Forest, group}
+use Rattle.markdown_content.specs.Codes.{Code}
+use Rattle.markdown_content.specs.Tree.{Forest, group}
 use Rattle.markdown_event.specs.declared.event.Name.{Name}
 use Rattle.markdown_model.specs.CodeTests.{is_value, is_among, next_is, is_whitespace_code, is_letter, is_alphanumeric}
 use Rattle.markdown_model.specs.Grammar.{Reading, ◌>>=◌, gives, either, one, some, any_number, before, word, through, ◌then_◌, repeatedly, optional}

@@ -1,17 +1,17 @@
 -- The inline tree of a content, its events, and the counts that bound the probes.
 use Rattle.std.specs.Prelude.{◌≡◌, ℕ, ◌+◌, ◌*◌, true, false, List, length, sum_by, count_by}
-use Rattle.markdown_engine_content.specs.declared.parser.Piece.{Piece}
+use Rattle.markdown_content.specs.declared.parser.Piece.{Piece}
 use Rattle.markdown_event.specs.declared.event.Event.{Event}
-use Rattle.markdown_engine_content.specs.Codes.{Code}
-use Rattle.markdown_engine_content.specs.Content.{content_of}
-use Rattle.markdown_engine_content.specs.Tree.{Forest, events_of}
+use Rattle.markdown_content.specs.Codes.{Code}
+use Rattle.markdown_content.specs.Content.{content_of}
+use Rattle.markdown_content.specs.Tree.{Forest, events_of}
 use Rattle.markdown_model.specs.Setting.{Setting}
 use Rattle.markdown_model.specs.LabelEnd.{Element}
 use Rattle.markdown_model.specs.Elements.{elements_of, string_elements_of, AreElements, AreStringElements}
 use Rattle.markdown_model.specs.Runs.{Run, containers_of}
 use Rattle.markdown_model.specs.Pairs.{Pair, IsPairList, pair_list}
 use Rattle.markdown_model.specs.BracketGroups.{paired}
-use Rattle.markdown_model.specs.Passes.{labels_of, merged, trimmed, with_emails_apart}
+use Rattle.markdown_model.specs.Passes.{breaks, no_breaks, labels_of, merged, trimmed, with_emails_apart}
 
 -- The tree of labels: the runs among siblings are those of a container.
 unfoldable pub label_tree : Setting → List Code → Forest
@@ -24,12 +24,12 @@ raw_tree s pairs_of es = paired s pairs_of (labels_of es)
 -- the tree of a text with these elements and pairs
 unfoldable pub finished_text : Setting → (List Run → List Pair) → List Element → Forest
 finished_text s pairs_of es =
-    let t = trimmed s.options.constructs.hard_break_trailing true true (merged (raw_tree s pairs_of es)) in
+    let t = trimmed (breaks s) true true (merged (raw_tree s pairs_of es)) in
     elim (s.options.constructs.gfm_autolink_literal) [ true ↦ with_emails_apart t | false ↦ t ]
 
 -- the tree of a string with these elements, which are no labels and hold no runs
 unfoldable pub finished_string : List Element → Forest
-finished_string es = trimmed false false false (merged (labels_of es))
+finished_string es = trimmed no_breaks false false (merged (labels_of es))
 
 -- The inline tree of a text: that of the content's elements and of each container's pairs.
 pub record IsTextTree (s : Setting) (cs : List Code) (tree : Forest) : Type 0 where

@@ -4,14 +4,14 @@ use Rattle.std.specs.Str.{byte}
 use Rattle.std.specs.List.{list_any}
 use Rattle.markdown_event.specs.declared.event.Name.{Name}
 use Rattle.markdown_event.specs.declared.event.Point.{Point}
-use Rattle.markdown_engine_content.specs.declared.label_kind.LabelKind.{LabelKind}
-use Rattle.markdown_engine_content.specs.Codes.{Code, stop_of, document_start}
-use Rattle.markdown_engine_content.specs.Tree.{Forest, empty, leaf_then, group_then, leaf, ◌⊕◌, group, start_of}
+use Rattle.markdown_content.specs.declared.label_kind.LabelKind.{LabelKind}
+use Rattle.markdown_content.specs.Codes.{Code, stop_of, document_start}
+use Rattle.markdown_content.specs.Tree.{Forest, empty, leaf_then, group_then, leaf, ◌⊕◌, group, start_of}
 use Rattle.markdown_util.specs.Identifier.{identifier_of}
 use Rattle.markdown_model.specs.CodeTests.{is_value}
 use Rattle.markdown_model.specs.Grammar.{Reading, ◌>>=◌, ◌>>◌, gives, either, provided, unless, if_next, one}
 use Rattle.markdown_model.specs.Resource.{resource, label, reference_names}
-use Rattle.markdown_model.specs.Setting.{Setting, is_defined}
+use Rattle.markdown_model.specs.Setting.{Setting, defines, is_defined, rules}
 
 -- An element of a content: a tree that stands by itself, the start of a label, or its end with the
 -- outcome: the kind of the label and what follows it, or none where the end fails.
@@ -83,8 +83,8 @@ reference_identifier s _ = identifier_of []
 
 unfoldable pub full_reference : Setting → Reading Forest
 full_reference s = do
-  tree ← label reference_names
-  provided (is_defined s.definitions (reference_identifier s tree))
+  tree ← label (rules s).labels_by_characters reference_names
+  provided (defines s (reference_identifier s tree))
   gives tree
 
 unfoldable pub collapsed_reference : Reading Forest
@@ -100,7 +100,7 @@ shortcut defined = provided defined >> gives empty
 -- the shortcut of a label before a `[` that begins no reference
 unfoldable pub shortcut_before_bracket : Setting → Bool → Reading Forest
 shortcut_before_bracket s defined =
-    unless (either collapsed_reference (label reference_names)) (shortcut (defined && s.options.label_shortcut_before_bracket))
+    unless (either collapsed_reference (label (rules s).labels_by_characters reference_names)) (shortcut (defined && (rules s).shortcut_before_bracket))
 
 -- where a `[` follows; `defined` says that the label's own identifier is
 unfoldable pub reference_after_label : Setting → Bool → Reading Forest
@@ -109,7 +109,7 @@ reference_after_label s defined =
 
 unfoldable pub after_label : Setting → Bool → Reading Forest
 after_label s defined =
-    if_next (is_value (byte "(")) (either resource (shortcut defined))
+    if_next (is_value (byte "(")) (either (resource (rules s).escaped_parentheses) (shortcut defined))
     (if_next (is_value (byte "[")) (reference_after_label s defined)
     (shortcut defined))
 
@@ -127,7 +127,7 @@ footnote_call s l back = provided (is_footnote l.kind && is_defined s.footnotes 
 
 unfoldable pub link_or_image : Setting → Label → List Code → Reading (LabelKind × Forest)
 link_or_image s l back = do
-  tail ← after_label s (is_defined s.definitions (link_identifier l.kind (label_identifier s l back)))
+  tail ← after_label s (defines s (link_identifier l.kind (label_identifier s l back)))
   gives (link_kind l.kind, tail)
 
 -- what the end `back` of a label makes, with what follows it

@@ -4,16 +4,16 @@ use Rattle.std.specs.Str.{byte}
 use Rattle.markdown_event.specs.declared.event.Name.{Name}
 use Rattle.markdown_event.specs.declared.event.Event.{Event}
 use Rattle.markdown_event.specs.declared.event.Kind.{Kind}
-use Rattle.markdown_engine_content.specs.declared.label_kind.LabelKind.{LabelKind}
-use Rattle.markdown_engine_content.specs.Codes.{Code}
-use Rattle.markdown_engine_content.specs.Tree.{Forest, empty, leaf_then, group_then, leaf_codes, events_of}
+use Rattle.markdown_content.specs.declared.label_kind.LabelKind.{LabelKind}
+use Rattle.markdown_content.specs.Codes.{Code}
+use Rattle.markdown_content.specs.Tree.{Forest, empty, leaf_then, group_then, leaf_codes, events_of}
 use Rattle.markdown_model.specs.CodeTests.{is_value}
 use Rattle.markdown_model.specs.Grammar.{Reading, one, ◌then_◌, repeatedly}
 use Rattle.markdown_model.specs.Resource.{StringNames, DestinationNames, label, title, destination, resource}
 use Rattle.markdown_model.specs.LeafConstructs.{domain_label}
 use Rattle.markdown_model.specs.HtmlText.{spaces, attribute}
 use Rattle.markdown_model.specs.GfmEmailLiteral.{email_leaves, with_emails}
-use Rattle.markdown_model.specs.Setting.{Setting}
+use Rattle.markdown_model.specs.Setting.{Setting, rules}
 use Rattle.markdown_model.specs.LabelEnd.{Element, plain, starts, ends, Label, label_before, is_image, makes_link, is_barred, after_label}
 use Rattle.markdown_model.specs.Elements.{AreElements, AreStringElements, elements_of, string_elements_of}
 use Rattle.markdown_model.specs.Runs.{Run, marker_of}
@@ -62,10 +62,10 @@ HasOneEnd a =
     → a cs ≡ Some (tree, rest) → a cs ≡ Some (other, more) → (tree ≡ other) × (rest ≡ more) × (leaf_codes tree ++ rest ≡ cs)
 
 pub record OneEnd : Type 0 where
-  pub a_label : (names : StringNames) → HasOneEnd (label names)
-  pub a_title : (names : StringNames) → HasOneEnd (title names)
+  pub a_label : (characters : Bool) (names : StringNames) → HasOneEnd (label characters names)
+  pub a_title : (both : Bool) (names : StringNames) → HasOneEnd (title both names)
   pub a_destination : (depth : ℕ) (names : DestinationNames) → HasOneEnd (destination depth names)
-  pub a_resource : HasOneEnd resource
+  pub a_resource : (both : Bool) → HasOneEnd (resource both)
   pub what_follows_a_label : (s : Setting) → HasOneEnd (after_label s true) × HasOneEnd (after_label s false)
 
 -- where the reading holds it reads a code at least
@@ -217,7 +217,7 @@ shape_of r = record { marker = marker_of r.codes; size = length r.codes; may_ope
 
 -- two settings agree in the options that pairs depend on
 pub record ReadsPairsAlike (s other : Setting) : Type 0 where
-  pub lengths : s.options.attention_first_lengths ≡ other.options.attention_first_lengths
+  pub lengths : (rules s).whole_lengths ≡ (rules other).whole_lengths
   pub tildes : s.options.gfm_strikethrough_single_tilde ≡ other.options.gfm_strikethrough_single_tilde
 
 -- containers whose runs agree in marker, size, and what they may do have the same pair list, also in two documents

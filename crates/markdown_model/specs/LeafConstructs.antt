@@ -1,8 +1,9 @@
 -- The constructs without inline content: escapes, references, spans, autolinks and task checks.
 use Rattle.std.specs.Prelude.{ℕ, Bool, true, false, ◌&&◌, ◌||◌, not, nat_le, ◌==◌, List, [], ◌∷◌, ◌++◌, length, codes, Option, Some, None, is_some}
 use Rattle.std.specs.Str.{byte}
-use Rattle.markdown_engine_content.specs.Codes.{Code, is_line_ending, is_blank}
-use Rattle.markdown_engine_content.specs.Tree.{Forest, ◌⊕◌, leaf, group}
+use Rattle.markdown_content.specs.Codes.{Code, is_line_ending, is_blank}
+use Rattle.markdown_content.specs.declared.configuration.Rules.{Rules}
+use Rattle.markdown_content.specs.Tree.{Forest, ◌⊕◌, leaf, group}
 use Rattle.markdown_event.specs.declared.event.Name.{Name}
 use Rattle.markdown_util.specs.Reference.{Table, named_value}
 use Rattle.markdown_model.specs.CodeTests.{is_value, is_among, is_whitespace_code, is_digit, is_hex_digit, is_letter, is_alphanumeric, is_ascii_punctuation, is_control, values_of, is_empty, last_code, is_some_code, next_is, is_length_in}
@@ -142,9 +143,9 @@ scheme = do
 abbrev pub is_uri_code : Code → Bool
 is_uri_code c = not (is_among (codes "\0 <>") c || is_control c)
 
--- a code of an email address before its `@`; here neither `!` nor `"` is one
-abbrev pub is_local_code : Code → Bool
-is_local_code c = is_alphanumeric c || is_among (codes "#$%&'*+-./=?^_`{|}~") c
+-- a code of an email address before its `@`; `!` is one where all of CommonMark's marks are, and `"` is none
+abbrev pub is_local_code : Bool → Code → Bool
+is_local_code all c = is_alphanumeric c || is_among (codes "#$%&'*+-./=?^_`{|}~") c || (is_value (byte "!") c && all)
 
 -- 1 to 63 letters, digits and hyphens, with no hyphen first or last
 unfoldable pub domain_label : Reading (List Code)
@@ -156,8 +157,9 @@ domain_label = do
 unfoldable pub uri : Reading (List Code)
 uri = scheme then_ one (is_value (byte ":")) then_ any_number is_uri_code
 
-unfoldable pub email_address : Reading (List Code)
-email_address = some is_local_code then_ one (is_value (byte "@")) then_ domain_label then_ repeatedly (one (is_value (byte ".")) then_ domain_label)
+unfoldable pub email_address : Bool → Reading (List Code)
+email_address all =
+    some (is_local_code all) then_ one (is_value (byte "@")) then_ domain_label then_ repeatedly (one (is_value (byte ".")) then_ domain_label)
 
 unfoldable pub in_angle_brackets : Reading (List Code) → Name → Reading Forest
 in_angle_brackets inside name = do
@@ -166,8 +168,9 @@ in_angle_brackets inside name = do
   back ← one (is_value (byte ">"))
   gives (group Name.Autolink (leaf Name.AutolinkMarker front ⊕ leaf name text ⊕ leaf Name.AutolinkMarker back))
 
-unfoldable pub autolink : Reading Forest
-autolink = either (in_angle_brackets uri Name.AutolinkProtocol) (in_angle_brackets email_address Name.AutolinkEmail)
+unfoldable pub autolink : Rules → Reading Forest
+autolink rules =
+    either (in_angle_brackets uri Name.AutolinkProtocol) (in_angle_brackets (email_address rules.all_address_marks) Name.AutolinkEmail)
 
 -- The check of a task list item (GFM 5.3), at the first code of the item's first paragraph.
 

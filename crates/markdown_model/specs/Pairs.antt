@@ -3,7 +3,7 @@
 use Rattle.std.specs.Prelude.{◌≡◌, ℕ, zero, suc, ◌+◌, ◌-◌, ◌%◌, ◌<◌, ◌≤◌, Bool, true, false, ◌&&◌, ◌||◌, not, nat_lt, ◌==◌, List, [], ◌∷◌, ◌++◌, length, sum_by, Option, Some, None, IsTrue, if◌then◌else◌, min}
 use Rattle.std.specs.Str.{byte}
 use Rattle.std.specs.List.{list_any, list_all}
-use Rattle.markdown_model.specs.Setting.{Setting}
+use Rattle.markdown_model.specs.Setting.{Setting, rules}
 use Rattle.markdown_model.specs.Runs.{Run, marker_of}
 
 -- A pair of runs by their numbers in the container, and how many markers it takes of each.
@@ -38,7 +38,7 @@ module _ (s : Setting) (runs : List Run) where
   -- pairs left of the runs; the option asks for CommonMark's, those of the whole runs.
 
   abbrev pub ruled_size : List Pair → ℕ → ℕ
-  ruled_size earlier i = if s.options.attention_first_lengths then length (run_at runs i).codes else remaining runs earlier i
+  ruled_size earlier i = if (rules s).whole_lengths then length (run_at runs i).codes else remaining runs earlier i
 
   abbrev pub is_refused_by_three : List Pair → ℕ → ℕ → Bool
   is_refused_by_three earlier o c =

@@ -1,14 +1,16 @@
 -- From elements to a tree: labels, merging, trimming and emails, each of all siblings and all inside them.
-use Rattle.std.specs.Prelude.{Bool, true, false, ◌&&◌, ◌||◌, nat_le, List, [], ◌∷◌, ◌++◌, length, take, drop, reverse, map, Option, Some, None}
+use Rattle.std.specs.Prelude.{Bool, true, false, ◌&&◌, ◌||◌, ℕ, nat_le, List, [], ◌∷◌, ◌++◌, length, take, drop, reverse, map, Option, Some, None}
 use Rattle.std.specs.List.{list_all}
 use Rattle.markdown_event.specs.declared.event.Name.{Name}
-use Rattle.markdown_engine_content.specs.declared.label_kind.LabelKind.{LabelKind}
-use Rattle.markdown_engine_content.specs.Codes.{Code, is_blank, stop_of, document_start}
-use Rattle.markdown_engine_content.specs.Tree.{Forest, empty, leaf_then, group_then, leaf, ◌⊕◌, group, text_group, start_of}
+use Rattle.markdown_content.specs.declared.configuration.Rules.{Rules}
+use Rattle.markdown_content.specs.declared.label_kind.LabelKind.{LabelKind}
+use Rattle.markdown_content.specs.Codes.{Code, is_blank, stop_of, document_start}
+use Rattle.markdown_content.specs.Tree.{Forest, empty, leaf_then, group_then, leaf, ◌⊕◌, group, text_group, start_of}
 use Rattle.markdown_model.specs.CodeTests.{is_real_space}
 use Rattle.markdown_model.specs.Grammar.{span}
 use Rattle.markdown_model.specs.GfmEmailLiteral.{with_emails}
 use Rattle.markdown_model.specs.LabelEnd.{Element, plain, starts, ends}
+use Rattle.markdown_model.specs.Setting.{Setting, rules}
 use Rattle.markdown_model.specs.BracketGroups.{Bracketed, item, opens, closes, nested, joined, loose}
 
 -- Labels: a group for each start and the end that it succeeds with; other starts and ends are data.
@@ -80,8 +82,8 @@ merged (leaf_then name link cs rest) = leaf_then name link cs (merged rest)
 merged (group_then name enter exit inside rest) = group_then name enter exit (merged inside) (merged rest)
 
 -- Trimming (CommonMark 6.7 and 6.8): data beside a line ending loses its blank codes there, and so do, in
--- a text, the first and the last of the whole. Two or more spaces before a line ending are a hard break;
--- here blank codes with a tab among them are none. Neighbours are those of the merged tree.
+-- a text, the first and the last of the whole. Blank codes before a line ending are a hard break if the last
+-- two are spaces; by the crate's rule all of them have to be spaces. Neighbours are those of the merged tree.
 
 abbrev pub begins_line_ending : Forest → Bool
 begins_line_ending (leaf_then Name.LineEnding link cs rest) = true
@@ -91,16 +93,40 @@ abbrev pub is_nothing : Forest → Bool
 is_nothing empty = true
 is_nothing _ = false
 
--- A trailing hard break (CommonMark 6.7), where it may be one before a line ending: two or more codes, all of them real spaces.
-abbrev pub is_hard_break_trailing : List Code → Bool
-is_hard_break_trailing cs = nat_le 2 (length cs) && list_all is_real_space cs
+-- Hard breaks by spaces: whether they are looked for, and whether the last two codes alone decide, as CommonMark says.
+pub record HardBreaks : Type 0 where
+  pub on : Bool
+  pub two_last : Bool
 
-abbrev pub blank_name : Bool → List Code → Name
-blank_name hard cs = elim (hard && is_hard_break_trailing cs) [ true ↦ Name.HardBreakTrailing | false ↦ Name.SpaceOrTab ]
+abbrev pub no_breaks : HardBreaks
+no_breaks = record { on = false; two_last = false }
+
+-- where they are looked for, as the rules say
+abbrev pub hard_breaks : Bool → Rules → HardBreaks
+hard_breaks on rules = record { on = on; two_last = on && rules.two_last_spaces }
+
+abbrev pub breaks : Setting → HardBreaks
+breaks s = hard_breaks s.options.constructs.hard_break_trailing (rules s)
+
+-- the same, and none where the place is none for a hard break
+abbrev pub breaks_where : HardBreaks → Bool → HardBreaks
+breaks_where hard here = record { on = hard.on && here; two_last = hard.two_last }
+
+-- how many spaces stand at the end of codes
+abbrev pub last_spaces : List Code → ℕ
+last_spaces cs = length (span is_real_space (reverse cs)).0
+
+-- A trailing hard break (CommonMark 6.7), where it may be one before a line ending: codes that end in two or more real spaces, and, unless
+-- the last two alone decide, have no other code.
+abbrev pub is_hard_break_trailing : Bool → List Code → Bool
+is_hard_break_trailing two_last cs = (two_last || list_all is_real_space cs) && nat_le 2 (last_spaces cs)
+
+abbrev pub blank_name : HardBreaks → List Code → Name
+blank_name hard cs = elim (hard.on && is_hard_break_trailing hard.two_last cs) [ true ↦ Name.HardBreakTrailing | false ↦ Name.SpaceOrTab ]
 
 -- the leaves of a data that loses its blank codes in front, at its back, or both, the back first; `hard`
 -- says that those at its back may be a hard break
-abbrev pub trimmed_data : Bool → Bool → Bool → List Code → Forest
+abbrev pub trimmed_data : Bool → Bool → HardBreaks → List Code → Forest
 trimmed_data front back hard cs =
     let cut : List Code × List Code = elim back [ true ↦ span is_blank (reverse cs) | false ↦ ([], reverse cs) ] in
     let kept = reverse cut.1 in
@@ -109,11 +135,11 @@ trimmed_data front back hard cs =
 
 -- `front` says that a line ending or the whole's start stands before, `whole` that the whole's end is
 -- trimmed too
-module _ (hard : Bool) where
+module _ (hard : HardBreaks) where
   unfoldable pub trimmed : Bool → Bool → Forest → Forest
   trimmed front whole empty = empty
   trimmed front whole (leaf_then Name.Data None cs rest) =
-      trimmed_data front (begins_line_ending rest || (whole && is_nothing rest)) (hard && begins_line_ending rest) cs
+      trimmed_data front (begins_line_ending rest || (whole && is_nothing rest)) (breaks_where hard (begins_line_ending rest)) cs
       ⊕ trimmed false whole rest
   trimmed front whole (leaf_then Name.LineEnding link cs rest) = leaf_then Name.LineEnding link cs (trimmed true whole rest)
   trimmed front whole (leaf_then name link cs rest) = leaf_then name link cs (trimmed false whole rest)

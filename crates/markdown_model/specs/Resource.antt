@@ -1,13 +1,13 @@
 -- What stands after a label: reference labels, and resources with a destination and a title.
-use Rattle.std.specs.Prelude.{ℕ, zero, suc, ◌-◌, Bool, true, false, ◌&&◌, ◌||◌, not, nat_lt, nat_le, ◌==◌, List, [], ◌∷◌, ◌++◌, codes, Some, None}
+use Rattle.std.specs.Prelude.{ℕ, zero, suc, ◌+◌, ◌-◌, Bool, true, false, ◌&&◌, ◌||◌, not, nat_lt, nat_le, ◌==◌, List, [], ◌∷◌, ◌++◌, codes, Some, None, if◌then◌else◌}
 use Rattle.std.specs.Str.{byte}
 use Rattle.std.specs.List.{list_any}
-use Rattle.markdown_engine_content.specs.Codes.{Code, is_line_ending, is_blank}
-use Rattle.markdown_engine_content.specs.Content.{has_no_blank_line}
-use Rattle.markdown_engine_content.specs.Tree.{Forest, empty, ◌⊕◌, leaf, leaf_then, group_then, linked, group}
+use Rattle.markdown_content.specs.Codes.{Code, is_line_ending, is_blank}
+use Rattle.markdown_content.specs.Content.{has_no_blank_line}
+use Rattle.markdown_content.specs.Tree.{Forest, empty, ◌⊕◌, leaf, leaf_then, group_then, linked, group}
 use Rattle.markdown_event.specs.declared.event.Name.{Name}
 use Rattle.markdown_event.specs.declared.event.Content.{Content}
-use Rattle.markdown_model.specs.CodeTests.{is_value, is_among, is_empty, next_is, is_whitespace_code, is_control}
+use Rattle.markdown_model.specs.CodeTests.{is_value, is_among, is_empty, next_is, is_whitespace_code, is_control, is_later_byte}
 use Rattle.markdown_model.specs.Grammar.{Reading, ◌>>=◌, ◌>>◌, gives, either, provided, if_next, one, before, with_first, up_to, optional_tree}
 use Rattle.markdown_model.specs.TextLines.{lines}
 use Rattle.markdown_model.specs.Whitespace.{space_or_tab_eol}
@@ -40,41 +40,60 @@ between_markers names front text back =
     ⊕ leaf names.marker back)
 
 -- Labels (CommonMark 6.3, link label): `[` up to the first `]` that is not escaped, with no bare `[`
--- inside, at least one code that is no whitespace, and at most 999 codes. Here line endings and the
--- blank codes after them do not count to the 999. A blank line cannot stand inside.
+-- inside, at least one code that is no whitespace, and at most 999 characters. Here codes count in place of
+-- characters, and line endings do not. Neither here nor in CommonMark do the blank codes count that stand
+-- behind a line ending. A blank line cannot stand inside.
 
--- how many codes count; `indent` says that a line ending and blank codes alone stand before on the line
-abbrev pub counted : Bool → List Code → ℕ
-counted indent [] = 0
-counted indent (c ∷ cs) =
+-- a code that is no line ending begins a character: it is no later byte of one, and no later column of a tab
+abbrev pub begins_character : Code → Bool
+begins_character c = not (is_later_byte c) && c.start.vs == 0
+
+-- how many count: characters, if `characters` says so, else codes; `indent` says that a line ending and
+-- blank codes alone stand before on the line
+abbrev pub counted : Bool → Bool → List Code → ℕ
+counted characters indent [] = 0
+counted characters indent (c ∷ cs) =
     elim (is_line_ending c) [
-      | true ↦ counted true cs
-      | false ↦ elim (indent && is_blank c) [ true ↦ counted true cs | false ↦ suc (counted false cs) ]
+      | true ↦ (if characters then 1 else 0) + counted characters true cs
+      | false ↦ elim (indent && is_blank c) [
+        | true ↦ counted characters true cs
+        | false ↦ (if not characters || begins_character c then 1 else 0) + counted characters false cs
+      ]
     ]
 
-unfoldable pub label : StringNames → Reading Forest
-label names = do
+unfoldable pub label : Bool → StringNames → Reading Forest
+label characters names = do
   front ← one (is_value (byte "["))
   text ← up_to (is_value (byte "]")) (is_among (codes "[\\]")) (is_value (byte "["))
   provided (list_any (λ c. not (is_whitespace_code c)) text)
-  provided (nat_le (counted false text) 999)
+  provided (nat_le (counted characters false text) 999)
   back ← one (is_value (byte "]"))
   provided (has_no_blank_line true (text ++ back))
   gives (between_markers names front text back)
 
 -- Titles (CommonMark 6.3, link title): between two `"`, two `'`, or `(` and `)`, up to the first closer
--- that is not escaped; no blank line. Here a bare `(` may stand between parentheses.
+-- that is not escaped; no blank line. By CommonMark a `(` between parentheses has to be escaped too; here it
+-- may stand bare.
 
-unfoldable pub title_between : ℕ → ℕ → StringNames → Reading Forest
-title_between opener closer names = do
+-- what a backslash escapes between these markers, and what may not stand there bare; `both` says that the
+-- opener has to be escaped as the closer has
+abbrev pub escaped_between : Bool → ℕ → ℕ → Code → Bool
+escaped_between both opener closer c = c.value == byte "\\" || (c.value == closer || (both && c.value == opener))
+
+abbrev pub is_bare_opener : Bool → ℕ → Code → Bool
+is_bare_opener both opener c = both && c.value == opener
+
+unfoldable pub title_between : Bool → ℕ → ℕ → StringNames → Reading Forest
+title_between both opener closer names = do
   front ← one (is_value opener)
-  text ← up_to (is_value closer) (is_among (byte "\\" ∷ closer ∷ [])) (λ c. false)
+  text ← up_to (is_value closer) (escaped_between both opener closer) (is_bare_opener both opener)
   back ← one (is_value closer)
   provided (has_no_blank_line true (text ++ back))
   gives (between_markers names front text back)
 
-unfoldable pub title : StringNames → Reading Forest
-title names = either (title_between (byte "\"") (byte "\"") names) (either (title_between (byte "'") (byte "'") names) (title_between (byte "(") (byte ")") names))
+-- `both` is asked of parentheses: a quote ends its title where it stands bare
+unfoldable pub title : Bool → StringNames → Reading Forest
+title both names = either (title_between false (byte "\"") (byte "\"") names) (either (title_between false (byte "'") (byte "'") names) (title_between both (byte "(") (byte ")") names))
 
 -- Destinations (CommonMark 6.3, link destination).
 
@@ -137,23 +156,24 @@ destination max names = if_next (is_value (byte "<")) (literal_destination names
 abbrev pub begins_title : List Code → Bool
 begins_title cs = next_is (is_among (codes "\"'(")) cs
 
-unfoldable pub spaced_title : Reading Forest
-spaced_title = do
+-- `both` is that of the title
+unfoldable pub spaced_title : Bool → Reading Forest
+spaced_title both = do
   space ← before (space_or_tab_eol None) begins_title
-  text ← title title_names
+  text ← title both title_names
   back ← optional_tree (space_or_tab_eol None)
   gives (space ⊕ text ⊕ back)
 
-unfoldable pub destination_and_title : Reading Forest
-destination_and_title = do
+unfoldable pub destination_and_title : Bool → Reading Forest
+destination_and_title both = do
   target ← destination 32 resource_names
-  after ← either spaced_title (optional_tree (space_or_tab_eol None))
+  after ← either (spaced_title both) (optional_tree (space_or_tab_eol None))
   gives (target ⊕ after)
 
-unfoldable pub resource : Reading Forest
-resource = do
+unfoldable pub resource : Bool → Reading Forest
+resource both = do
   front ← one (is_value (byte "("))
   space ← optional_tree (space_or_tab_eol None)
-  inside ← if_next (is_value (byte ")")) (gives empty) destination_and_title
+  inside ← if_next (is_value (byte ")")) (gives empty) (destination_and_title both)
   back ← one (is_value (byte ")"))
   gives (group Name.Resource (leaf Name.ResourceMarker front ⊕ space ⊕ inside ⊕ leaf Name.ResourceMarker back))

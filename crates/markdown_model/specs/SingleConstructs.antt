@@ -2,15 +2,16 @@
 -- is switched on, by what stands before the place.
 use Rattle.std.specs.Prelude.{ℕ, Bool, true, false, ◌&&◌, ◌||◌, not, nat_lt, ◌==◌, if◌then◌else◌, List, [], ◌∷◌, Option, Some, None}
 use Rattle.std.specs.Str.{byte}
-use Rattle.markdown_engine_content.specs.declared.configuration.Constructs.{Constructs}
-use Rattle.markdown_engine_content.specs.declared.configuration.ParseOptions.{ParseOptions}
+use Rattle.markdown_content.specs.declared.configuration.Constructs.{Constructs}
+use Rattle.markdown_content.specs.declared.configuration.ParseOptions.{ParseOptions}
 use Rattle.markdown_event.specs.declared.event.Event.{Event}
 use Rattle.markdown_event.specs.declared.event.Kind.{Kind}
 use Rattle.markdown_event.specs.declared.event.Name.{Name}
 use Rattle.markdown_event.specs.declared.event.Point.{Point}
-use Rattle.markdown_engine_content.specs.declared.label_kind.LabelKind.{LabelKind}
-use Rattle.markdown_engine_content.specs.Codes.{Code}
-use Rattle.markdown_engine_content.specs.Tree.{Forest, empty, start_of}
+use Rattle.markdown_content.specs.declared.label_kind.LabelKind.{LabelKind}
+use Rattle.markdown_content.specs.Codes.{Code}
+use Rattle.markdown_content.specs.CommonMark.{rules_of}
+use Rattle.markdown_content.specs.Tree.{Forest, empty, start_of}
 use Rattle.markdown_util.specs.Identifier.{identifier_of}
 use Rattle.markdown_util.specs.Reference.{Table}
 use Rattle.markdown_model.specs.CodeTests.{is_value}
@@ -20,7 +21,7 @@ use Rattle.markdown_model.specs.HtmlText.{html_text}
 use Rattle.markdown_model.specs.LabelEnd.{Element, plain, starts, ends, is_footnote, bytes_between, after_label, link_kind, link_identifier}
 use Rattle.markdown_model.specs.LeafConstructs.{character_escape, hard_break_escape, character_reference, span_here, code_names, math_names, autolink, gfm_task_list_item_check}
 use Rattle.markdown_model.specs.GfmAutolinkLiteral.{gfm_autolink_literal_protocol, gfm_autolink_literal_www}
-use Rattle.markdown_model.specs.Setting.{Setting, is_defined}
+use Rattle.markdown_model.specs.Setting.{Setting, defines, is_defined}
 
 -- Whether an escape ends right before the place, by the events before.
 
@@ -67,7 +68,7 @@ module _ (options : ParseOptions) where
   hard_break_escape_here = provided options.constructs.hard_break_escape >> hard_break_escape
 
   abbrev pub autolink_here : Reading Forest
-  autolink_here = provided options.constructs.autolink >> autolink
+  autolink_here = provided options.constructs.autolink >> autolink (rules_of options)
 
   abbrev pub html_text_here : Reading Forest
   html_text_here = provided options.constructs.html_text >> html_text
@@ -109,7 +110,7 @@ module _ (options : ParseOptions) where
 -- The end of a label, by the start that it takes.
 
 -- a start of a label: its kind, where its marker ends, and whether it is barred
-pub record Start : Type 0 where
+pub record WaitingStart : Type 0 where
   pub kind : LabelKind
   pub stop : Point
   pub barred : Bool
@@ -119,13 +120,13 @@ unfoldable pub outcome : Setting → LabelKind → List ℕ → Reading (LabelKi
 outcome s kind name =
     either
     (provided (is_footnote kind && is_defined s.footnotes name) >> gives (LabelKind.GfmFootnote, empty))
-    (after_label s (is_defined s.definitions (link_identifier kind name)) >>= λ tail. gives (link_kind kind, tail))
+    (after_label s (defines s (link_identifier kind name)) >>= λ tail. gives (link_kind kind, tail))
 
 -- what an end makes whose `]` this is
-abbrev pub outcome_at : Setting → Option Start → List Code → Reading (LabelKind × Forest)
+abbrev pub outcome_at : Setting → Option WaitingStart → List Code → Reading (LabelKind × Forest)
 outcome_at s None back cs = None
 outcome_at s (Some l) back cs = (provided (not l.barred) >> outcome s l.kind (identifier_of (bytes_between s l.stop (start_of back)))) cs
 
 -- the end's `]`, and what it makes with what follows it
-abbrev pub label_end_here : Setting → Option Start → Reading (List Code × (LabelKind × Forest))
+abbrev pub label_end_here : Setting → Option WaitingStart → Reading (List Code × (LabelKind × Forest))
 label_end_here s start = provided s.options.constructs.label_end >> (one (is_value (byte "]")) >>= λ back. outcome_at s start back >>= λ o. gives (back, o))

@@ -1,7 +1,7 @@
 -- Whitespace on one line, and whitespace with a line ending.
 use Rattle.std.specs.Prelude.{ℕ, Bool, true, false, not, nat_le, List, [], ◌∷◌, length, take, drop, Option, Some, None}
-use Rattle.markdown_engine_content.specs.Codes.{Code, is_line_ending, is_blank}
-use Rattle.markdown_engine_content.specs.Tree.{Forest, ◌⊕◌}
+use Rattle.markdown_content.specs.Codes.{Code, is_line_ending, is_blank}
+use Rattle.markdown_content.specs.Tree.{Forest, ◌⊕◌}
 use Rattle.markdown_event.specs.declared.event.Name.{Name}
 use Rattle.markdown_event.specs.declared.event.Content.{Content}
 use Rattle.markdown_model.specs.CodeTests.{next_is}

@@ -1,4 +1,4 @@
-// Laws on the definitions.
+//! Laws on the definitions.
 ghost use Rattle.markdown_model.specs.Laws.{OnePairList, OneElementList, OneTree, EventsNest, LeavesCover, OneEnd, LabelsMatch, EndsTakeTheNearest, LinksDoNotNest, CountsSuffice, MergedDataIsApart, NoRunIsLeft, LinksAreNotMailed, PairsAreSound, PairsAreLocal};
 
 /// Each container has exactly one pair list, whatever sizes the rule of three reads.

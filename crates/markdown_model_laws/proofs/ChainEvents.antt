@@ -1,8 +1,8 @@
 -- The events of a tree with linked leaves in groups of their own: a chain is events that stand one after another.
 use Rattle.std.proofs.Common.{◌≡◌, ℕ, zero, suc, ◌+◌, List, [], ◌∷◌, ◌++◌, slice_get, Option, Some, None, option_map, refl, sym, ap, subst, ◌∙◌, arith, append_assoc, append-nil, inl, inr}
-use Rattle.markdown_engine_content.specs.Codes.{Code, document_start, stop_of}
-use Rattle.markdown_engine_content.specs.Content.{content_of}
-use Rattle.markdown_engine_content.specs.Tree.{Forest, empty, leaf_then, group_then, event, event_count, events_from, events_of, next_linked, start_of}
+use Rattle.markdown_content.specs.Codes.{Code, document_start, stop_of}
+use Rattle.markdown_content.specs.Content.{content_of}
+use Rattle.markdown_content.specs.Tree.{Forest, empty, leaf_then, group_then, event, event_count, events_from, events_of, next_linked, start_of}
 use Rattle.markdown_event.specs.declared.event.Content.{Content}
 use Rattle.markdown_event.specs.declared.event.Event.{Event}
 use Rattle.markdown_event.specs.declared.event.Kind.{Kind}
@@ -11,7 +11,7 @@ use Rattle.markdown_event.specs.declared.event.Name.{Name}
 use Rattle.markdown_event.specs.declared.event.Point.{Point}
 use Rattle.markdown_model.specs.InlineTree.{text_tree, string_tree}
 use Rattle.markdown_model_laws.specs.UnbrokenChains.{AreUnbroken, ChainsAreUnbroken}
-use Rattle.markdown_model_laws.proofs.ChainTrees.{AreLinked, HasChains}
+use Rattle.markdown_model_laws.proofs.ChainTrees.{AreLinkedLeaves, HasChains}
 use Rattle.markdown_model_laws.proofs.ChainPasses.{trees-have-chains}
 
 -- What stands behind an event with this number and link.
@@ -20,14 +20,14 @@ abbrev FirstExits : List Event → Type 0
 FirstExits [] = ⊥
 FirstExits (x ∷ es) = x.kind ≡ Kind.Exit
 
-record Stands (n : ℕ) (l : Link) (es : List Event) : Type 0 where
+record ExitStands (n : ℕ) (l : Link) (es : List Event) : Type 0 where
   exit : FirstExits es
   next : (m : ℕ) → l.next ≡ Some m → m ≡ n + 2
 
 -- of each event, from this number on
 abbrev Go : ℕ → List Event → Type 0
 Go n [] = Unit {0}
-Go n (e ∷ es) = ((l : Link) → e.link ≡ Some l → Stands n l es) × Go (n + 1) es
+Go n (e ∷ es) = ((l : Link) → e.link ≡ Some l → ExitStands n l es) × Go (n + 1) es
 
 no-link : {A : Type 0} (l : Link) → None ≡ Some l → A
 no-link l e = cc
@@ -41,7 +41,7 @@ plain-leaf : (n : ℕ) (name : Name) (a b : Point) (es : List Event) → Go (n +
 plain-leaf n name a b es h = ((λ l e. no-link l e), ((λ l e. no-link l e), subst (λ k. Go k es) (two n) h))
 
 -- the first of linked leaves is the next one
-first-linked : (n m : ℕ) (t : Forest) → AreLinked t → next_linked n t ≡ Some m → m ≡ n
+first-linked : (n m : ℕ) (t : Forest) → AreLinkedLeaves t → next_linked n t ≡ Some m → m ≡ n
 first-linked n m empty h e = cc
 first-linked n m (leaf_then name None cs rest) h e = absurd h
 first-linked n m (leaf_then name (Some link) cs rest) h e = some-same m n (sym e)
@@ -50,7 +50,7 @@ first-linked n m (leaf_then name (Some link) cs rest) h e = some-same m n (sym e
     some-same a b k = cc
 first-linked n m (group_then name a b inside rest) h e = absurd h
 
-linked-leaf : (n : ℕ) (name : Name) (p : Option ℕ) (content : Content) (cs : List Code) (t : Forest) (es : List Event) → AreLinked t → Go (n + 2) es →
+linked-leaf : (n : ℕ) (name : Name) (p : Option ℕ) (content : Content) (cs : List Code) (t : Forest) (es : List Event) → AreLinkedLeaves t → Go (n + 2) es →
     Go n (record { kind = Kind.Enter; name = name; point = start_of cs; link = Some (record { previous = p; next = next_linked (n + 2) t; content = content }) } ∷ event Kind.Exit name (stop_of document_start cs) ∷ es)
 linked-leaf n name p content cs t es linked h =
     ((λ l e. record { exit = refl; next = λ m k. first-linked (n + 2) m t linked (ap (λ (x : Option Link). next_of x) e ∙ k) }), ((λ l e. no-link l e), subst (λ k. Go k es) (two n) h))
@@ -64,7 +64,7 @@ linked-leaf n name p content cs t es linked h =
 none : (n : ℕ) → n + 0 ≡ n
 none n = omega arith
 
-linked-go : (t : Forest) → AreLinked t → (n : ℕ) (p : Option ℕ) (more : List Event) → Go (n + event_count t) more → Go n (events_from n p t ++ more)
+linked-go : (t : Forest) → AreLinkedLeaves t → (n : ℕ) (p : Option ℕ) (more : List Event) → Go (n + event_count t) more → Go n (events_from n p t ++ more)
 linked-go empty h n p more k = subst (λ i. Go i more) (none n) k
 linked-go (leaf_then name None cs rest) h n p more k = absurd h
 linked-go (leaf_then name (Some link) cs rest) h n p more k =
@@ -127,7 +127,7 @@ at-number : (es : List Event) (b n : ℕ) (e : Event) (l : Link) → Go b es →
     (option_map (λ (x : Event). x.kind) (slice_get es (n + 1)) ≡ Some Kind.Exit) × ((m : ℕ) → l.next ≡ Some m → m ≡ b + n + 2)
 at-number [] b n e l h k q = absurd (no-event e k)
 at-number (f ∷ es) b zero e l h k q =
-    let s : Stands b l es = h.0 l (ap (λ (x : Event). x.link) (same-event f e k) ∙ q) in (first-exit es s.exit, λ m g. s.next m g ∙ first b)
+    let s : ExitStands b l es = h.0 l (ap (λ (x : Event). x.link) (same-event f e k) ∙ q) in (first-exit es s.exit, λ m g. s.next m g ∙ first b)
   where
     first : (a : ℕ) → a + 2 ≡ a + 0 + 2
     first a = omega arith

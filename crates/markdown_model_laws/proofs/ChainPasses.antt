@@ -3,35 +3,35 @@ use Rattle.std.proofs.Common.{◌≡◌, ℕ, suc, Bool, true, false, ◌&&◌, 
 use Rattle.markdown_event.specs.declared.event.Name.{Name}
 use Rattle.markdown_event.specs.declared.event.Name.TheVariants as N
 use Rattle.markdown_event.specs.declared.event.Content.{Content}
-use Rattle.markdown_engine_content.specs.Codes.{Code}
-use Rattle.markdown_engine_content.specs.Tree.{Forest, empty, leaf_then, group_then, leaf}
+use Rattle.markdown_content.specs.Codes.{Code}
+use Rattle.markdown_content.specs.Tree.{Forest, empty, leaf_then, group_then, leaf}
 use Rattle.markdown_model.specs.GfmEmailLiteral.{with_emails}
 use Rattle.markdown_model.specs.BracketGroups.{Token, run_tokens, assembled, tokens_of, paired}
 use Rattle.markdown_model.specs.InlineTree.{text_tree, string_tree}
 use Rattle.markdown_model.specs.Pairs.{Pair, pair_list}
-use Rattle.markdown_model.specs.Passes.{data_onto, merged, begins_line_ending, is_nothing, trimmed_data, trimmed, with_emails_apart}
+use Rattle.markdown_model.specs.Passes.{HardBreaks, breaks_where, data_onto, merged, begins_line_ending, is_nothing, trimmed_data, trimmed, with_emails_apart}
 use Rattle.markdown_model.specs.Runs.{Run, run_of, runs_of}
 use Rattle.markdown_model.specs.Setting.{Setting}
 use Rattle.markdown_model.proofs.BracketGroupFacts.{word-append}
 use Rattle.markdown_model.proofs.PairGroupFacts.{Any, any-parts, HasWord, run-has, assembled-has}
 use Rattle.markdown_model.proofs.PassedTrees.{trimmed_data-has, with_emails-has}
 use Rattle.markdown_model_laws.proofs.EachPass.{labels_in, trees-have}
-use Rattle.markdown_model_laws.proofs.ChainTrees.{AreLinked, HasChains, row, one-leaf, text-labels, string-labels}
+use Rattle.markdown_model_laws.proofs.ChainTrees.{AreLinkedLeaves, HasChains, row, one-leaf, text-labels, string-labels}
 
 -- Pairs.
 
 data-has : (cs : List Code) → Any cs → HasChains (leaf N.Data cs)
 data-has cs h = one-leaf N.Data cs
 
-abbrev HaveWord : List Token → Type 0
-HaveWord w = HasWord HasChains Any data-has w
+abbrev WordHasChains : List Token → Type 0
+WordHasChains w = HasWord HasChains Any data-has w
 
-assembled-chains : (w : List Token) → HaveWord w → HasChains (assembled w)
+assembled-chains : (w : List Token) → WordHasChains w → HasChains (assembled w)
 assembled-chains w h =
     assembled-has HasChains Any data-has tt row (λ m n cs _. one-leaf _ cs) (λ m n a b f k. (inl k, tt)) (λ m n a b f k. (inl k, tt)) w h
 
 module _ (s : Setting) (pairs_of : List Run → List Pair) where
-  linked-assembled : (t : Forest) (pairs : List Pair) (n : ℕ) → AreLinked t → AreLinked (assembled (tokens_of s pairs_of t pairs n))
+  linked-assembled : (t : Forest) (pairs : List Pair) (n : ℕ) → AreLinkedLeaves t → AreLinkedLeaves (assembled (tokens_of s pairs_of t pairs n))
   unfolding tokens_of
   linked-assembled empty pairs n h = tt
   linked-assembled (leaf_then name None cs rest) pairs n h = absurd h
@@ -39,7 +39,7 @@ module _ (s : Setting) (pairs_of : List Run → List Pair) where
   linked-assembled (leaf_then name (Some link) cs rest) pairs n h = (h.0, linked-assembled rest pairs n h.1)
   linked-assembled (group_then name a b inside rest) pairs n h = absurd h
 
-  tokens-chains : (f : Forest) (pairs : List Pair) (n : ℕ) → HasChains f → HaveWord (tokens_of s pairs_of f pairs n)
+  tokens-chains : (f : Forest) (pairs : List Pair) (n : ℕ) → HasChains f → WordHasChains (tokens_of s pairs_of f pairs n)
   unfolding tokens_of
   tokens-chains empty pairs n h = tt
   tokens-chains (leaf_then N.AttentionSequence link cs rest) pairs n h =
@@ -61,16 +61,16 @@ module _ (s : Setting) (pairs_of : List Run → List Pair) where
 -- what keeps each linked leaf, and nothing else, keeps a row of them
 linked-kept : (f : Forest → Forest) → f empty ≡ empty
     → ((name : Name) (link : Content) (cs : List Code) (rest : Forest) → f (leaf_then name (Some link) cs rest) ≡ leaf_then name (Some link) cs (f rest))
-    → (t : Forest) → AreLinked t → AreLinked (f t)
-linked-kept f none keeps empty h = subst AreLinked (sym none) tt
+    → (t : Forest) → AreLinkedLeaves t → AreLinkedLeaves (f t)
+linked-kept f none keeps empty h = subst AreLinkedLeaves (sym none) tt
 linked-kept f none keeps (leaf_then name None cs rest) h = absurd h
 linked-kept f none keeps (leaf_then name (Some link) cs rest) h =
-    subst AreLinked (sym (keeps name link cs rest)) (h.0, linked-kept f none keeps rest h.1)
+    subst AreLinkedLeaves (sym (keeps name link cs rest)) (h.0, linked-kept f none keeps rest h.1)
 linked-kept f none keeps (group_then name a b inside rest) h = absurd h
 
 -- Merging.
 
-linked-merged : (t : Forest) → AreLinked t → AreLinked (merged t)
+linked-merged : (t : Forest) → AreLinkedLeaves t → AreLinkedLeaves (merged t)
 unfolding merged
 linked-merged = linked-kept merged refl keeps
   where
@@ -93,12 +93,12 @@ merged-chains (group_then name a b inside rest) (inr h, more) = (inr (linked-mer
 
 -- Trimming.
 
-cut-chains : (front back hard : Bool) (cs : List Code) → HasChains (trimmed_data front back hard cs)
+cut-chains : (front back : Bool) (hard : HardBreaks) (cs : List Code) → HasChains (trimmed_data front back hard cs)
 cut-chains front back hard cs =
     trimmed_data-has HasChains row (λ ds. one-leaf N.Data ds) (λ ds. one-leaf N.HardBreakTrailing ds) (λ ds. one-leaf N.SpaceOrTab ds) front back hard cs
 
-module _ (hard : Bool) where
-  linked-trimmed : (front whole : Bool) (t : Forest) → AreLinked t → AreLinked (trimmed hard front whole t)
+module _ (hard : HardBreaks) where
+  linked-trimmed : (front whole : Bool) (t : Forest) → AreLinkedLeaves t → AreLinkedLeaves (trimmed hard front whole t)
   unfolding trimmed
   linked-trimmed front whole empty h = tt
   linked-trimmed front whole (leaf_then name None cs rest) h = absurd h
@@ -110,7 +110,7 @@ module _ (hard : Bool) where
   unfolding trimmed
   trimmed-chains front whole empty h = tt
   trimmed-chains front whole (leaf_then N.Data None cs rest) h =
-      row (trimmed_data front (begins_line_ending rest || (whole && is_nothing rest)) (hard && begins_line_ending rest) cs) (trimmed hard false whole rest) (cut-chains _ _ _ cs) (trimmed-chains false whole rest h.1)
+      row (trimmed_data front (begins_line_ending rest || (whole && is_nothing rest)) (breaks_where hard (begins_line_ending rest)) cs) (trimmed hard false whole rest) (cut-chains _ _ _ cs) (trimmed-chains false whole rest h.1)
   trimmed-chains front whole (leaf_then N.LineEnding link cs rest) h = (h.0, trimmed-chains true whole rest h.1)
   trimmed-chains front whole (leaf_then name link cs rest) h = (h.0, trimmed-chains false whole rest h.1)
   trimmed-chains front whole (group_then name a b inside rest) (inl h, more) = (inl (trimmed-chains false false inside h), trimmed-chains false whole rest more)
@@ -121,7 +121,7 @@ module _ (hard : Bool) where
 emails-chains : (cs : List Code) → HasChains (with_emails cs)
 emails-chains cs = with_emails-has HasChains row (λ ds. one-leaf N.Data ds) (λ before ds. one-leaf _ ds) cs
 
-linked-mailed : (t : Forest) → AreLinked t → AreLinked (with_emails_apart t)
+linked-mailed : (t : Forest) → AreLinkedLeaves t → AreLinkedLeaves (with_emails_apart t)
 unfolding with_emails_apart
 linked-mailed = linked-kept with_emails_apart refl keeps
   where

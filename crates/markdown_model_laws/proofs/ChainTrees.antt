@@ -4,9 +4,9 @@ use Rattle.markdown_event.specs.declared.event.Name.{Name}
 use Rattle.markdown_event.specs.declared.event.Name.TheVariants as N
 use Rattle.markdown_event.specs.declared.event.Content.{Content}
 use Rattle.markdown_event.specs.declared.event.Point.{Point}
-use Rattle.markdown_engine_content.specs.declared.label_kind.LabelKind.{LabelKind}
-use Rattle.markdown_engine_content.specs.Codes.{Code, document_start, stop_of}
-use Rattle.markdown_engine_content.specs.Tree.{Forest, empty, leaf_then, group_then, leaf, linked, group, text_group, start_of, ◌⊕◌}
+use Rattle.markdown_content.specs.declared.label_kind.LabelKind.{LabelKind}
+use Rattle.markdown_content.specs.Codes.{Code, document_start, stop_of}
+use Rattle.markdown_content.specs.Tree.{Forest, empty, leaf_then, group_then, leaf, linked, group, text_group, start_of, ◌⊕◌}
 use Rattle.markdown_model.specs.Grammar.{Reading, optional_tree}
 use Rattle.markdown_model.specs.Laws.{is_run}
 use Rattle.markdown_model.specs.Resource.{string_group, StringNames, between_markers, label, title_between, title, title_names, literal_destination, raw_destination, destination, resource_names, spaced_title, destination_and_title, resource, reference_names}
@@ -19,22 +19,22 @@ use Rattle.markdown_model.specs.Passes.{start_marker, start_tree, label_name, la
 use Rattle.markdown_model.proofs.ElementCases.{AllAre, EachConstruct, all_are, outcome_yields, string_has, text_has}
 use Rattle.markdown_model.proofs.LabelTreeFacts.{labels-have}
 use Rattle.markdown_model.proofs.LeafRows.{Leaves, leaves-lines}
-use Rattle.markdown_model.proofs.NoLinkInConstructs.{Passes, Yields, yields_bind, yields_gives, yields_passed, yields_either, yields_before, yields_next, yields_unless, then_any}
+use Rattle.markdown_model.proofs.NoLinkInConstructs.{PassesValue, Yields, yields_bind, yields_gives, yields_passed, yields_either, yields_before, yields_next, yields_unless, then_any}
 use Rattle.markdown_model.proofs.OneElementList.{text_elements, string_elements}
 use Rattle.markdown_model.proofs.PlainConstructs.{IsOwnLeaf, IsPlainTree, ReadsPlain}
 
 -- leaves with a link alone, none of them a run
-abbrev pub AreLinked : Forest → Type 0
-AreLinked empty = Unit {0}
-AreLinked (leaf_then name None cs rest) = ⊥
-AreLinked (leaf_then name (Some link) cs rest) = (is_run name ≡ false) × AreLinked rest
-AreLinked (group_then name a b inside rest) = ⊥
+abbrev pub AreLinkedLeaves : Forest → Type 0
+AreLinkedLeaves empty = Unit {0}
+AreLinkedLeaves (leaf_then name None cs rest) = ⊥
+AreLinkedLeaves (leaf_then name (Some link) cs rest) = (is_run name ≡ false) × AreLinkedLeaves rest
+AreLinkedLeaves (group_then name a b inside rest) = ⊥
 
 -- leaves without a link, and groups of such rows or of linked leaves alone
 abbrev pub HasChains : Forest → Type 0
 HasChains empty = Unit {0}
 HasChains (leaf_then name link cs rest) = (link ≡ None) × HasChains rest
-HasChains (group_then name a b inside rest) = (HasChains inside ⊎ AreLinked inside) × HasChains rest
+HasChains (group_then name a b inside rest) = (HasChains inside ⊎ AreLinkedLeaves inside) × HasChains rest
 
 -- Rows.
 
@@ -57,7 +57,7 @@ unlinked : (name : Name) (cs : List Code) → HasChains (linked_leaf name None c
 unlinked name [] = tt
 unlinked name (c ∷ cs) = (refl, tt)
 
-string-chain : (name : Name) (t : Forest) → AreLinked t → HasChains (string_group name t)
+string-chain : (name : Name) (t : Forest) → AreLinkedLeaves t → HasChains (string_group name t)
 string-chain name empty h = tt
 string-chain name (leaf_then n l cs rest) h = (inr h, tt)
 string-chain name (group_then n a b inside rest) h = absurd h
@@ -65,18 +65,18 @@ string-chain name (group_then n a b inside rest) h = absurd h
 some-link : (c : Content) → None ≡ Some c → ⊥
 some-link c e = cc
 
-linked-leaves : (t : Forest) → Leaves (λ name link cs. (is_run name ≡ false) × (link ≡ Some Content.String)) t → AreLinked t
+linked-leaves : (t : Forest) → Leaves (λ name link cs. (is_run name ≡ false) × (link ≡ Some Content.String)) t → AreLinkedLeaves t
 linked-leaves empty h = tt
 linked-leaves (leaf_then name None cs rest) h = absurd (some-link Content.String h.0.1)
 linked-leaves (leaf_then name (Some link) cs rest) h = (h.0.0, linked-leaves rest h.1)
 linked-leaves (group_then name a b inside rest) h = absurd h
 
-linked-lines : (cs : List Code) → AreLinked (lines N.Data (Some Content.String) cs)
+linked-lines : (cs : List Code) → AreLinkedLeaves (lines N.Data (Some Content.String) cs)
 linked-lines cs =
     linked-leaves (lines N.Data (Some Content.String) cs)
     (leaves-lines (λ name link ds. (is_run name ≡ false) × (link ≡ Some Content.String)) N.Data (Some Content.String) (λ s _. (refl, refl)) (λ s _ _. (refl, refl)) (λ s _. (refl, refl)) cs)
 
-linked-data : (cs : List Code) → AreLinked (linked N.Data cs)
+linked-data : (cs : List Code) → AreLinkedLeaves (linked N.Data cs)
 linked-data [] = tt
 linked-data (c ∷ cs) = (refl, tt)
 
@@ -113,21 +113,21 @@ between-chains names front text back =
     named-group names.whole _ (row (leaf names.marker front) _ (one-leaf names.marker front)
     (row (string_group names.text (lines N.Data (Some Content.String) text)) _ (string-chain names.text _ (linked-lines text)) (one-leaf names.marker back)))
 
-of_label : Chains (label reference_names)
+of_label : (characters : Bool) → Chains (label characters reference_names)
 unfolding label
-of_label =
+of_label characters =
     then_any _ _ _ λ front. then_any _ _ _ λ text. yields_passed _ _ _ (yields_passed _ _ _ (then_any _ _ _ λ back. yields_passed _ _ _
     (yields_gives _ _ (between-chains reference_names front text back))))
 
-of_title_between : (opener closer : ℕ) → Chains (title_between opener closer title_names)
+of_title_between : (both : Bool) (opener closer : ℕ) → Chains (title_between both opener closer title_names)
 unfolding title_between
-of_title_between opener closer =
+of_title_between both opener closer =
     then_any _ _ _ λ front. then_any _ _ _ λ text. then_any _ _ _ λ back. yields_passed _ _ _
     (yields_gives _ _ (between-chains title_names front text back))
 
-of_title : Chains (title title_names)
+of_title : (both : Bool) → Chains (title both title_names)
 unfolding title
-of_title = yields_either _ _ _ (of_title_between _ _) (yields_either _ _ _ (of_title_between _ _) (of_title_between _ _))
+of_title both = yields_either _ _ _ (of_title_between _ _ _) (yields_either _ _ _ (of_title_between _ _ _) (of_title_between _ _ _))
 
 of_literal_destination : Chains (literal_destination resource_names)
 unfolding literal_destination
@@ -145,28 +145,28 @@ of_raw_destination max =
     (named-group N.ResourceDestination (group N.ResourceDestinationRaw (group N.ResourceDestinationString (linked N.Data text)))
     (named-group N.ResourceDestinationRaw (group N.ResourceDestinationString (linked N.Data text)) (inr (linked-data text), tt))))
 
-of_spaced_title : Chains spaced_title
+of_spaced_title : (both : Bool) → Chains (spaced_title both)
 unfolding spaced_title
-of_spaced_title =
-    yields_bind HasChains _ _ _ (yields_before _ _ _ of_spacing) λ space h. yields_bind HasChains _ _ _ of_title λ text k.
+of_spaced_title both =
+    yields_bind HasChains _ _ _ (yields_before _ _ _ of_spacing) λ space h. yields_bind HasChains _ _ _ (of_title both) λ text k.
     yields_bind HasChains _ _ _ (of_optional _ of_spacing) λ back l. yields_gives _ _ (row space _ h (row text back k l))
 
-of_destination_and_title : Chains destination_and_title
+of_destination_and_title : (both : Bool) → Chains (destination_and_title both)
 unfolding destination_and_title destination
-of_destination_and_title =
+of_destination_and_title both =
     yields_bind HasChains _ _ _ (yields_next _ _ _ _ of_literal_destination (of_raw_destination 32)) λ target h.
-    yields_bind HasChains _ _ _ (yields_either _ _ _ of_spaced_title (of_optional _ of_spacing)) λ after k. yields_gives _ _ (row target after h k)
+    yields_bind HasChains _ _ _ (yields_either _ _ _ (of_spaced_title both) (of_optional _ of_spacing)) λ after k. yields_gives _ _ (row target after h k)
 
-of_resource : Chains resource
+of_resource : (both : Bool) → Chains (resource both)
 unfolding resource
-of_resource =
+of_resource both =
     then_any _ _ _ λ front. yields_bind HasChains _ _ _ (of_optional _ of_spacing) λ space h.
-    yields_bind HasChains _ _ _ (yields_next _ _ _ _ (yields_gives _ _ tt) of_destination_and_title) λ inside k. then_any _ _ _ λ back. yields_gives _ _
+    yields_bind HasChains _ _ _ (yields_next _ _ _ _ (yields_gives _ _ tt) (of_destination_and_title both)) λ inside k. then_any _ _ _ λ back. yields_gives _ _
     (named-group N.Resource _ (row (leaf N.ResourceMarker front) _ (one-leaf N.ResourceMarker front) (row space _ h (row inside _ k (one-leaf N.ResourceMarker back)))))
 
 of_full_reference : (s : Setting) → Chains (full_reference s)
 unfolding full_reference
-of_full_reference s = yields_bind HasChains _ _ _ of_label λ tree h. yields_passed _ _ _ (yields_gives _ _ h)
+of_full_reference s = yields_bind HasChains _ _ _ (of_label _) λ tree h. yields_passed _ _ _ (yields_gives _ _ h)
 
 of_collapsed_reference : Chains collapsed_reference
 unfolding collapsed_reference
@@ -181,50 +181,50 @@ of_shortcut defined = yields_passed _ _ _ (yields_gives _ _ tt)
 of_after_label : (s : Setting) (defined : Bool) → Chains (after_label s defined)
 unfolding after_label reference_after_label shortcut_before_bracket
 of_after_label s defined =
-    yields_next _ _ _ _ (yields_either _ _ _ of_resource (of_shortcut defined))
+    yields_next _ _ _ _ (yields_either _ _ _ (of_resource _) (of_shortcut defined))
     (yields_next _ _ _ _
     (yields_either _ _ _ (of_full_reference s) (yields_either _ _ _ (yields_passed _ _ _ of_collapsed_reference) (yields_unless _ _ _ (of_shortcut _))))
     (of_shortcut defined))
 
 -- Elements.
 
-abbrev Has : Element → Type 0
-Has (plain t) = HasChains t
-Has (starts kind marker) = Unit {0}
-Has (ends marker None) = Unit {0}
-Has (ends marker (Some outcome)) = HasChains outcome.1
+abbrev ElementHasChains : Element → Type 0
+ElementHasChains (plain t) = HasChains t
+ElementHasChains (starts kind marker) = Unit {0}
+ElementHasChains (ends marker None) = Unit {0}
+ElementHasChains (ends marker (Some outcome)) = HasChains outcome.1
 
-has-plain : (bytes : List ℕ) (a : Reading Forest) → ReadsPlain bytes a → Yields Has (as_plain a)
+has-plain : (bytes : List ℕ) (a : Reading Forest) → ReadsPlain bytes a → Yields ElementHasChains (as_plain a)
 unfolding as_plain
 has-plain bytes a h = yields_bind (IsPlainTree bytes) _ _ _ h.plain λ tree k. yields_gives _ (plain tree) (plain-chains bytes tree k)
 
-has-ending : Yields Has line_ending
+has-ending : Yields ElementHasChains line_ending
 unfolding line_ending
 has-ending = then_any _ _ _ λ c. yields_gives _ (plain (leaf N.LineEnding c)) (one-leaf N.LineEnding c)
 
-has-data : Yields Has data_code
+has-data : Yields ElementHasChains data_code
 unfolding data_code
 has-data = then_any _ _ _ λ c. yields_gives _ (plain (leaf N.Data c)) (one-leaf N.Data c)
 
-has-run : (marker : ℕ) → Yields Has (attention_run marker)
+has-run : (marker : ℕ) → Yields ElementHasChains (attention_run marker)
 unfolding attention_run
 has-run marker = then_any _ _ _ λ markers. yields_gives _ (plain (leaf N.AttentionSequence markers)) (one-leaf N.AttentionSequence markers)
 
-abbrev HasOutcome : LabelKind × Forest → Type 0
-HasOutcome o = HasChains o.1
+abbrev OutcomeHasChains : LabelKind × Forest → Type 0
+OutcomeHasChains o = HasChains o.1
 
-has-end : (s : Setting) (earlier : List Element) → Yields Has (label_end s earlier)
+has-end : (s : Setting) (earlier : List Element) → Yields ElementHasChains (label_end s earlier)
 unfolding label_end
 has-end s earlier =
     then_any _ _ _ λ back. yields_either _ _ _
-    (yields_bind HasOutcome _ _ _ (outcome_yields HasChains tt s (of_after_label s) (label_before earlier) back) λ outcome k. yields_gives _ (ends back (Some outcome)) k)
+    (yields_bind OutcomeHasChains _ _ _ (outcome_yields HasChains tt s (of_after_label s) (label_before earlier) back) λ outcome k. yields_gives _ (ends back (Some outcome)) k)
     (yields_gives _ (ends back None) tt)
 
 has-text-element : (s : Setting) (end : ℕ) (earlier : List Element) (previous : Option Code) (cs : List Code) →
-    Passes Has (text_element s end earlier previous cs)
-has-text-element s end earlier previous cs = text_has s end earlier previous (Passes Has) cs each (has-data.at cs)
+    PassesValue ElementHasChains (text_element s end earlier previous cs)
+has-text-element s end earlier previous cs = text_has s end earlier previous (PassesValue ElementHasChains) cs each (has-data.at cs)
   where
-    each : EachConstruct s end earlier previous (Passes Has) cs
+    each : EachConstruct s end earlier previous (PassesValue ElementHasChains) cs
     each = record {
       none = tt;
       ending = has-ending.at cs;
@@ -236,9 +236,9 @@ has-text-element s end earlier previous cs = text_has s end earlier previous (Pa
       ended = (has-end s earlier).at cs;
     }
 
-has-string-element : (s : Setting) (cs : List Code) → Passes Has (string_element s cs)
+has-string-element : (s : Setting) (cs : List Code) → PassesValue ElementHasChains (string_element s cs)
 has-string-element s cs =
-    string_has (Passes Has) tt cs s (λ a h. (has-plain s.bytes a h).at cs) ((yields_either Has _ _ has-ending has-data).at cs)
+    string_has (PassesValue ElementHasChains) tt cs s (λ a h. (has-plain s.bytes a h).at cs) ((yields_either ElementHasChains _ _ has-ending has-data).at cs)
 
 -- Labels.
 
@@ -264,15 +264,15 @@ label-chains kind marker inside back tail h k =
     (row text close (one-group N.LabelText (stop_of document_start front) (start_of back) (leaf N.Data caret ⊕ inside) (row (leaf N.Data caret) inside (one-leaf N.Data caret) h)) (named-group N.LabelEnd _ (one-leaf N.LabelMarker back)))))
     k)
 
-labels-chains : (es : List Element) → AllAre Has es → HasChains (labels_of es)
+labels-chains : (es : List Element) → AllAre ElementHasChains es → HasChains (labels_of es)
 labels-chains es h =
-    labels-have HasChains Has tt row (λ t k. k) (λ kind marker k. one-leaf N.Data marker) (λ marker outcome k. one-leaf N.Data marker)
+    labels-have HasChains ElementHasChains tt row (λ t k. k) (λ kind marker k. one-leaf N.Data marker) (λ marker outcome k. one-leaf N.Data marker)
     (λ kind marker inside back outcome m i e. label-chains outcome.0 marker inside back outcome.1 i e) es h
 
 pub text-labels : (s : Setting) (cs : List Code) → HasChains (labels_of (elements_of s cs))
 text-labels s cs =
-    labels-chains (elements_of s cs) (all_are Has (text_choice s cs) (λ earlier previous ds. has-text-element s _ earlier previous ds) (elements_of s cs) [] None cs (text_elements s cs))
+    labels-chains (elements_of s cs) (all_are ElementHasChains (text_choice s cs) (λ earlier previous ds. has-text-element s _ earlier previous ds) (elements_of s cs) [] None cs (text_elements s cs))
 
 pub string-labels : (s : Setting) (cs : List Code) → HasChains (labels_of (string_elements_of s cs))
 string-labels s cs =
-    labels-chains (string_elements_of s cs) (all_are Has (string_choice s) (λ earlier previous ds. has-string-element s ds) (string_elements_of s cs) [] None cs (string_elements s cs))
+    labels-chains (string_elements_of s cs) (all_are ElementHasChains (string_choice s) (λ earlier previous ds. has-string-element s ds) (string_elements_of s cs) [] None cs (string_elements s cs))

@@ -7,12 +7,13 @@ use Rattle.std.proofs.lemmas.Bool.Decides.{nat_tests}
 use Rattle.markdown_event.specs.declared.event.Name.{Name}
 use Rattle.markdown_event.specs.declared.event.Name.TheVariants as N
 use Rattle.markdown_event.specs.declared.event.Content.{Content}
-use Rattle.markdown_engine_content.specs.Codes.{Code, is_blank, is_line_ending}
-use Rattle.markdown_engine_content.specs.Tree.{Forest, empty, leaf_then, group_then, leaf, linked, ◌⊕◌}
+use Rattle.markdown_content.specs.Codes.{Code, is_blank, is_line_ending}
+use Rattle.markdown_content.specs.declared.configuration.Rules.{Rules}
+use Rattle.markdown_content.specs.Tree.{Forest, empty, leaf_then, group_then, leaf, linked, ◌⊕◌}
 use Rattle.markdown_util.specs.Neighbours.{class_of, after_index}
 use Rattle.markdown_util.specs.Reference.{Table}
 use Rattle.markdown_model.specs.CodeTests.{is_value, is_among, next_is, is_digit, is_hex_digit, is_letter, is_alphanumeric, is_ascii_punctuation, is_whitespace_code, is_later_byte}
-use Rattle.markdown_model.specs.Grammar.{Reading, ◌>>◌, provided, one, some, span, with_first, word_of, word, up_to_word, through, ◌then_◌, optional_tree}
+use Rattle.markdown_model.specs.Grammar.{Reading, ◌>>◌, provided, one, some, span, word_of, word, up_to_word, through, ◌then_◌, optional_tree}
 use Rattle.markdown_model.specs.GfmAutolinkLiteral.{schemes, letters, one_word_of, domain_from, is_domain, is_domain_code, domain, ends_path, path_from, path, trails, is_other, is_space, count_if, gfm_autolink_literal_protocol, www_from_here, gfm_autolink_literal_www, may_precede_www, begins_with_www}
 use Rattle.markdown_model.specs.HtmlText.{html_codes, html_text, open_tag, closing_tag, comment, instruction, declaration, cdata}
 use Rattle.markdown_model.specs.LabelEnd.{full_reference, collapsed_reference, shortcut, shortcut_before_bracket, reference_after_label, after_label}
@@ -22,15 +23,17 @@ use Rattle.markdown_model.specs.Resource.{string_group, StringNames, between_mar
 use Rattle.markdown_model.specs.Setting.{Setting}
 use Rattle.markdown_model.specs.TextLines.{joins, onto_stretch, stretches, lines_of, linked_leaf, line_leaf, line_leaves, lines_from, lines}
 use Rattle.markdown_model.specs.Whitespace.{space_or_tab_eol, spaces_across, spaces_on_line}
+use Rattle.markdown_model.proofs.GivenByReadings.{IfGiven, given-any, given-map, given-both, given-then, given-word, given-up-to-word}
 use Rattle.markdown_model.proofs.DefinitionSteps.{span-all}
 use Rattle.markdown_model.proofs.LeafCodes.{span-append}
 use Rattle.markdown_model.proofs.LiteralCodes.{takes_one_word, takes_domain, takes_path}
-use Rattle.markdown_model.proofs.NoLinkInConstructs.{Passes, Yields, yields_bind, yields_gives, yields_passed, yields_either}
+use Rattle.markdown_model.proofs.NoLinkInConstructs.{PassesValue, Yields, yields_bind, yields_gives, yields_passed, yields_either}
 use Rattle.markdown_model.proofs.OneLineReadings.{yields-weaker}
 use Rattle.markdown_model.proofs.OneLineLiterals.{IsSomeLineThere, domain-line}
-use Rattle.markdown_model.proofs.ReadingsCover.{At, Takes, itself, takes_any_number, takes_uri, takes_email_address, takes_html_text, takes_up_to, takes_raw, joined_codes-stretches, covers_closing, span_codes}
-use Rattle.markdown_model_laws.proofs.CharacterRows.{is_low, low-early, Early, IsSound, AllLow, Lows, EndsLow, Starts, lows-all, all-early, early-front, sound-back, sound-front, low-behind, ends-behind, ends-cons, ends-more, lows-ends, all-join, IsLowTest, value-low, among-low}
-use Rattle.markdown_model_laws.proofs.CharacterRows.{low-list, one-lows, some-lows, any-low, Goes, Reads, reads_bind, reads_gives, reads_passed, reads_either, reads_before, reads_next, reads_unless, reads_weaker, reads_anywhere, reads_lows, reads_ends, reads_some, reads_starts, reads_one, reads_some_low, reads_any_low}
+use Rattle.markdown_model.proofs.GrammarSteps.{and-left}
+use Rattle.markdown_model.proofs.ReadingsCover.{Splits, At, Takes, itself, takes_any_number, takes_uri, takes_email_address, takes_html_text, takes_up_to, takes_raw, joined_codes-stretches, covers_closing, span_codes}
+use Rattle.markdown_model_laws.proofs.CharacterRows.{is_low, low-early, Early, HasNoStrays, ToSound, AllLow, Lows, EndsLow, Starts, lows-all, all-early, early-front, sound-back, sound-front, low-behind, ends-behind, ends-cons, ends-more, lows-ends, all-join, IsLowTest, value-low, among-low}
+use Rattle.markdown_model_laws.proofs.CharacterRows.{low-list, one-lows, some-lows, any-low, GoesTo, ReadsFrom, reads_bind, reads_gives, reads_passed, reads_either, reads_before, reads_next, reads_unless, reads_weaker, reads_anywhere, reads_lows, reads_ends, reads_some, reads_starts, reads_one, reads_some_low, reads_any_low}
 
 -- Trees.
 
@@ -38,36 +41,36 @@ abbrev pub IsLead : Name → List Code → Type 0
 IsLead name cs = Early cs × ((cs ≢ []) × (is_run name ≡ false))
 
 -- each leaf begins with a character, and none is a run
-abbrev pub Leads : Forest → Type 0
-Leads empty = Unit {0}
-Leads (leaf_then name link cs rest) = IsLead name cs × Leads rest
-Leads (group_then name a b inside rest) = Leads inside × Leads rest
+abbrev pub HasLeads : Forest → Type 0
+HasLeads empty = Unit {0}
+HasLeads (leaf_then name link cs rest) = IsLead name cs × HasLeads rest
+HasLeads (group_then name a b inside rest) = HasLeads inside × HasLeads rest
 
-pub leads-row : (t u : Forest) → Leads t → Leads u → Leads (t ⊕ u)
+pub leads-row : (t u : Forest) → HasLeads t → HasLeads u → HasLeads (t ⊕ u)
 leads-row empty u h k = k
 leads-row (leaf_then name link cs rest) u h k = (h.0, leads-row rest u h.1 k)
 leads-row (group_then name a b inside rest) u h k = (h.0, leads-row rest u h.1 k)
 
-pub leads-leaf : (name : Name) (cs : List Code) → is_run name ≡ false → Early cs → Leads (leaf name cs)
+pub leads-leaf : (name : Name) (cs : List Code) → is_run name ≡ false → Early cs → HasLeads (leaf name cs)
 leads-leaf name [] n h = tt
 leads-leaf name (c ∷ cs) n h = ((h, ((λ e. cc), n)), tt)
 
-pub low-leaf : (name : Name) (cs : List Code) → is_run name ≡ false → AllLow cs → Leads (leaf name cs)
+pub low-leaf : (name : Name) (cs : List Code) → is_run name ≡ false → AllLow cs → HasLeads (leaf name cs)
 low-leaf name cs n h = leads-leaf name cs n (all-early cs h)
 
-pub marker-leaf : (name : Name) (cs : List Code) → is_run name ≡ false → Lows cs → Leads (leaf name cs)
+pub marker-leaf : (name : Name) (cs : List Code) → is_run name ≡ false → Lows cs → HasLeads (leaf name cs)
 marker-leaf name cs n h = low-leaf name cs n (lows-all cs h)
 
 leads-linked_leaf : (name : Name) (link : Option Content) (cs : List Code) → is_run name ≡ false → Early cs →
-    Leads (linked_leaf name link cs)
+    HasLeads (linked_leaf name link cs)
 leads-linked_leaf name link [] n h = tt
 leads-linked_leaf name link (c ∷ cs) n h = ((h, ((λ e. cc), n)), tt)
 
-leads-linked : (cs : List Code) → Early cs → Leads (linked N.Data cs)
+leads-linked : (cs : List Code) → Early cs → HasLeads (linked N.Data cs)
 leads-linked [] h = tt
 leads-linked (c ∷ cs) h = ((h, ((λ e. cc), refl)), tt)
 
-leads-string : (name : Name) (t : Forest) → Leads t → Leads (string_group name t)
+leads-string : (name : Name) (t : Forest) → HasLeads t → HasLeads (string_group name t)
 leads-string name empty h = tt
 leads-string name (leaf_then n l cs rest) h = (h, tt)
 leads-string name (group_then n a b inside rest) h = (h, tt)
@@ -128,7 +131,7 @@ onto-early p cut c ((d ∷ ds) ∷ more) h e = by_test (joins p c d) refl
     by_test true k = h
     by_test false k = (elim (cut c d k) [ inl l ↦ e l | inr l ↦ low-early d l ], h)
 
-later-early : (p : Code → Bool) → CutsLow p → (cs : List Code) → IsSound cs → LaterEarly (stretches p cs)
+later-early : (p : Code → Bool) → CutsLow p → (cs : List Code) → HasNoStrays cs → LaterEarly (stretches p cs)
 later-early p cut [] s = tt
 later-early p cut (c ∷ cs) s =
     onto-early p cut c (stretches p cs) (later-early p cut cs s.1) (λ l. subst Early (sym (joined_codes-stretches p cs)) (s.0 l))
@@ -141,20 +144,20 @@ each-early : (p : Code → Bool) → CutsLow p → (cs : List Code) → Starts c
 each-early p cut cs h =
     first-early (stretches p cs) (subst Early (sym (joined_codes-stretches p cs)) h.0) (later-early p cut cs h.1)
 
-leads-line_leaf : (name : Name) (link : Option Content) (s : List Code) → is_run name ≡ false → Early s → Leads (line_leaf name link s)
+leads-line_leaf : (name : Name) (link : Option Content) (s : List Code) → is_run name ≡ false → Early s → HasLeads (line_leaf name link s)
 leads-line_leaf name link s n h = by_test (next_is is_line_ending s)
   where
-    by_test : (b : Bool) → Leads (elim b as (λ _. Forest) [ true ↦ linked_leaf N.LineEnding link s | false ↦ linked_leaf name link s ])
+    by_test : (b : Bool) → HasLeads (elim b as (λ _. Forest) [ true ↦ linked_leaf N.LineEnding link s | false ↦ linked_leaf name link s ])
     by_test true = leads-linked_leaf N.LineEnding link s refl h
     by_test false = leads-linked_leaf name link s n h
 
-leads-line_leaves : (name : Name) (ss : List (List Code)) → is_run name ≡ false → EachEarly ss → Leads (line_leaves name ss)
+leads-line_leaves : (name : Name) (ss : List (List Code)) → is_run name ≡ false → EachEarly ss → HasLeads (line_leaves name ss)
 leads-line_leaves name [] n h = tt
 leads-line_leaves name (s ∷ ss) n h =
     leads-row (line_leaf name None s) (line_leaves name ss) (leads-line_leaf name None s n h.0) (leads-line_leaves name ss n h.1)
 
-leads-lines_from : (name : Name) (link : Option Content) → is_run name ≡ false → (later : Bool) (ss : List (List Code)) → IsSound (joined_codes ss) → EachEarly ss →
-    Leads (lines_from name link later ss)
+leads-lines_from : (name : Name) (link : Option Content) → is_run name ≡ false → (later : Bool) (ss : List (List Code)) → HasNoStrays (joined_codes ss) → EachEarly ss →
+    HasLeads (lines_from name link later ss)
 leads-lines_from name link n later [] s h = tt
 leads-lines_from name link n later (x ∷ ss) s h =
     by_test (later && not (next_is is_line_ending x)) (λ b. leads-lines_from name link n b ss (sound-back x (joined_codes ss) s) h.1)
@@ -172,9 +175,9 @@ leads-lines_from name link n later (x ∷ ss) s h =
     low = low-list is_blank blank-low front (span-all is_blank x)
 
     behind : Early back
-    behind = low-behind front back low (subst IsSound (sym split) (sound-front x (joined_codes ss) s)) (subst Early (sym split) h.0)
+    behind = low-behind front back low (subst HasNoStrays (sym split) (sound-front x (joined_codes ss) s)) (subst Early (sym split) h.0)
 
-    by_test : (b : Bool) → ((f : Bool) → Leads (lines_from name link f ss)) → Leads (elim b as (λ _. Forest) [
+    by_test : (b : Bool) → ((f : Bool) → HasLeads (lines_from name link f ss)) → HasLeads (elim b as (λ _. Forest) [
       | true ↦ linked_leaf N.SpaceOrTab link front ⊕ linked_leaf name link back ⊕ lines_from name link false ss
       | false ↦ line_leaf name link x ⊕ lines_from name link (next_is is_line_ending x) ss
     ])
@@ -184,20 +187,21 @@ leads-lines_from name link n later (x ∷ ss) s h =
     by_test false more =
         leads-row (line_leaf name link x) (lines_from name link (next_is is_line_ending x) ss) (leads-line_leaf name link x n h.0) (more (next_is is_line_ending x))
 
-leads-lines : (name : Name) (link : Option Content) (cs : List Code) → is_run name ≡ false → Starts cs → Leads (lines name link cs)
+leads-lines : (name : Name) (link : Option Content) (cs : List Code) → is_run name ≡ false → Starts cs → HasLeads (lines name link cs)
 leads-lines name link cs n h =
-    leads-lines_from name link n false (lines_of cs) (subst IsSound (sym (joined_codes-stretches (λ c. true) cs)) h.1) (each-early (λ c. true) cuts-lines cs h)
+    leads-lines_from name link n false (lines_of cs) (subst HasNoStrays (sym (joined_codes-stretches (λ c. true) cs)) h.1)
+    (each-early (λ c. true) cuts-lines cs h)
 
 -- What stands by itself.
 
 abbrev pub ReadsLeads : Reading Forest → Type 0
-ReadsLeads a = Reads true true Leads a
+ReadsLeads a = ReadsFrom true true HasLeads a
 
 -- one ASCII code at hand
-pub a-one : (p : Code → Bool) → IsLowTest p → Reads true true Lows (one p)
+pub a-one : (p : Code → Bool) → IsLowTest p → ReadsFrom true true Lows (one p)
 a-one p test = reads_anywhere Lows true true (one p) (reads_one p test)
 
-a-some : (p : Code → Bool) → IsLowTest p → Reads true true Lows (some p)
+a-some : (p : Code → Bool) → IsLowTest p → ReadsFrom true true Lows (some p)
 a-some p test = reads_anywhere Lows true true (some p) (reads_some_low p test)
 
 pub punctuation-low : (c : Code) → is_ascii_punctuation c ≡ true → is_low c ≡ true
@@ -225,27 +229,27 @@ record ArePartsLow (p : Parts) : Type 0 where
   value : Lows p.value
   back : Lows p.back
 
-parts-named : (table : Table) → Reads true true ArePartsLow (named_parts table)
+parts-named : (table : Table) → ReadsFrom true true ArePartsLow (named_parts table)
 unfolding named_parts
 parts-named table =
     reads_bind true true true Lows ArePartsLow _ _ (a-one _ (value-low 38 refl)) λ front f. reads_bind true true true Lows ArePartsLow _ _ (a-some _ alphanumeric-low) λ value v. reads_passed ArePartsLow true true _ _ (
     reads_bind true true true Lows ArePartsLow _ _ (a-one _ (value-low 59 refl)) λ back b. reads_gives ArePartsLow true _ (record { front = f; number = tt; hexadecimal = tt; value = v; back = b }))
 
-parts-decimal : Reads true true ArePartsLow decimal_parts
+parts-decimal : ReadsFrom true true ArePartsLow decimal_parts
 unfolding decimal_parts
 parts-decimal =
     reads_bind true true true Lows ArePartsLow _ _ (a-one _ (value-low 38 refl)) λ front f. reads_bind true true true Lows ArePartsLow _ _ (a-one _ (value-low 35 refl)) λ number n.
     reads_bind true true true Lows ArePartsLow _ _ (a-some _ digit-low) λ value v. reads_passed ArePartsLow true true _ _ (
     reads_bind true true true Lows ArePartsLow _ _ (a-one _ (value-low 59 refl)) λ back b. reads_gives ArePartsLow true _ (record { front = f; number = lows-all number n; hexadecimal = tt; value = v; back = b }))
 
-parts-hexadecimal : Reads true true ArePartsLow hexadecimal_parts
+parts-hexadecimal : ReadsFrom true true ArePartsLow hexadecimal_parts
 unfolding hexadecimal_parts
 parts-hexadecimal =
     reads_bind true true true Lows ArePartsLow _ _ (a-one _ (value-low 38 refl)) λ front f. reads_bind true true true Lows ArePartsLow _ _ (a-one _ (value-low 35 refl)) λ number n.
     reads_bind true true true Lows ArePartsLow _ _ (a-one _ (among-low (codes "xX") refl)) λ x k. reads_bind true true true Lows ArePartsLow _ _ (a-some _ hex-low) λ value v. reads_passed ArePartsLow true true _ _ (
     reads_bind true true true Lows ArePartsLow _ _ (a-one _ (value-low 59 refl)) λ back b. reads_gives ArePartsLow true _ (record { front = f; number = lows-all number n; hexadecimal = lows-all x k; value = v; back = b }))
 
-leads-reference : (p : Parts) → ArePartsLow p → Leads (reference_tree p)
+leads-reference : (p : Parts) → ArePartsLow p → HasLeads (reference_tree p)
 leads-reference p h = (
   leads-row (leaf N.CharacterReferenceMarker p.front) _ (marker-leaf N.CharacterReferenceMarker p.front refl h.front)
       (leads-row (leaf N.CharacterReferenceMarkerNumeric p.number) _ (low-leaf N.CharacterReferenceMarkerNumeric p.number refl h.number)
@@ -257,49 +261,31 @@ leads-reference p h = (
 pub leads_character_reference : (table : Table) → ReadsLeads (character_reference table)
 unfolding character_reference
 leads_character_reference table =
-    reads_bind true true true ArePartsLow Leads _ _ (reads_either ArePartsLow true true _ _ (parts-named table) (reads_either ArePartsLow true true _ _ parts-decimal parts-hexadecimal)) λ p h.
-    reads_gives Leads true _ (leads-reference p h)
+    reads_bind true true true ArePartsLow HasLeads _ _ (reads_either ArePartsLow true true _ _ (parts-named table) (reads_either ArePartsLow true true _ _ parts-decimal parts-hexadecimal)) λ p h.
+    reads_gives HasLeads true _ (leads-reference p h)
 
 -- Autolinks.
-
-then-first : (a b : Reading (List Code)) → Yields Lows a → Yields (λ cs. (cs ≢ []) × Early cs) (a then_ b)
-unfolding ◌then_◌
-then-first a b h = record { at = λ cs. by_answer (a cs) (h.at cs) }
-  where
-    first : (xs ys : List Code) → Lows xs → (xs ++ ys ≢ []) × Early (xs ++ ys)
-    first [] ys l = absurd l
-    first (x ∷ xs) ys l = ((λ e. cc), low-early x l.0)
-
-    by_more : (xs : List Code) → Lows xs → (o : Option (List Code × List Code)) →
-        Passes (λ (cs : List Code). (cs ≢ []) × Early cs) (elim o as (λ _. Option (List Code × List Code)) [ None ↦ None | Some s ↦ Some (xs ++ s.0, s.1) ])
-    by_more xs l None = tt
-    by_more xs l (Some s) = first xs s.0 l
-
-    by_answer : (o : Option (List Code × List Code)) → Passes Lows o →
-        Passes (λ (cs : List Code). (cs ≢ []) × Early cs) (elim o as (λ _. Option (List Code × List Code)) [ None ↦ None | Some r ↦ elim (b r.1) [ None ↦ None | Some s ↦ Some (r.0 ++ s.0, s.1) ] ])
-    by_answer None l = tt
-    by_answer (Some r) l = by_more r.0 l (b r.1)
 
 abbrev HasFirst : List Code → Type 0
 HasFirst cs = (cs ≢ []) × Early cs
 
+then-by : (P : List Code → Type 0) → ((xs ys : List Code) → P xs → HasFirst (xs ++ ys)) → (a b : Reading (List Code)) → Yields P a → Yields HasFirst (a then_ b)
+then-by P first a b h =
+    record { at = λ cs. given-then (λ x _. P x) (λ x _. HasFirst x) a b cs (h.at cs) (λ x rest l. given-map (λ _ _. Unit {0}) (λ y _. HasFirst (x ++ y)) (b rest) (λ y left _. first x y l) (given-any (b rest))) }
+
+then-first : (a b : Reading (List Code)) → Yields Lows a → Yields HasFirst (a then_ b)
+then-first = then-by Lows first
+  where
+    first : (xs ys : List Code) → Lows xs → HasFirst (xs ++ ys)
+    first [] ys l = absurd l
+    first (x ∷ xs) ys l = ((λ e. cc), low-early x l.0)
+
 more-first : (a b : Reading (List Code)) → Yields HasFirst a → Yields HasFirst (a then_ b)
-unfolding ◌then_◌
-more-first a b h = record { at = λ cs. by_answer (a cs) (h.at cs) }
+more-first = then-by HasFirst first
   where
     first : (xs ys : List Code) → HasFirst xs → HasFirst (xs ++ ys)
     first [] ys l = absurd (l.0 refl)
     first (x ∷ xs) ys l = ((λ e. cc), l.1)
-
-    by_more : (xs : List Code) → HasFirst xs → (o : Option (List Code × List Code)) →
-        Passes HasFirst (elim o as (λ _. Option (List Code × List Code)) [ None ↦ None | Some s ↦ Some (xs ++ s.0, s.1) ])
-    by_more xs l None = tt
-    by_more xs l (Some s) = first xs s.0 l
-
-    by_answer : (o : Option (List Code × List Code)) → Passes HasFirst o →
-        Passes HasFirst (elim o as (λ _. Option (List Code × List Code)) [ None ↦ None | Some r ↦ elim (b r.1) [ None ↦ None | Some s ↦ Some (r.0 ++ s.0, s.1) ] ])
-    by_answer None l = tt
-    by_answer (Some r) l = by_more r.0 l (b r.1)
 
 scheme-first : Yields HasFirst scheme
 unfolding scheme
@@ -310,25 +296,30 @@ uri-first : Yields HasFirst uri
 unfolding uri
 uri-first = more-first _ _ scheme-first
 
-local-low : (c : Code) → is_local_code c ≡ true → is_low c ≡ true
-local-low = either-low is_alphanumeric (is_among (codes "#$%&'*+-./=?^_`{|}~")) alphanumeric-low (among-low (codes "#$%&'*+-./=?^_`{|}~") refl)
+mark-low : (all : Bool) (c : Code) → is_value (byte "!") c && all ≡ true → is_low c ≡ true
+mark-low all c h = value-low 33 refl c (and-left (is_value 33 c) all h)
 
-email-first : Yields HasFirst email_address
+local-low : (all : Bool) (c : Code) → is_local_code all c ≡ true → is_low c ≡ true
+local-low all =
+    either-low (λ c. is_alphanumeric c || is_among (codes "#$%&'*+-./=?^_`{|}~") c) (λ c. is_value (byte "!") c && all)
+    (either-low is_alphanumeric (is_among (codes "#$%&'*+-./=?^_`{|}~")) alphanumeric-low (among-low (codes "#$%&'*+-./=?^_`{|}~") refl)) (mark-low all)
+
+email-first : (all : Bool) → Yields HasFirst (email_address all)
 unfolding email_address
-email-first = then-first _ _ (some-lows _ local-low)
+email-first all = then-first _ _ (some-lows _ (local-low all))
 
 leads_in_angle_brackets : (inside : Reading (List Code)) (name : Name) → is_run name ≡ false → Takes inside → Yields HasFirst inside →
     ReadsLeads (in_angle_brackets inside name)
 unfolding in_angle_brackets
 leads_in_angle_brackets inside name n takes first =
-    reads_bind true false true Lows Leads _ _ (reads_weaker Lows true false _ (a-one _ (value-low 60 refl))) λ front f. reads_bind false false true HasFirst Leads _ _ (reads_some inside takes HasFirst first) λ text h.
-    reads_bind false true true Lows Leads _ _ (reads_one _ (value-low 62 refl)) λ back b. reads_gives Leads true _
+    reads_bind true false true Lows HasLeads _ _ (reads_weaker Lows true false _ (a-one _ (value-low 60 refl))) λ front f. reads_bind false false true HasFirst HasLeads _ _ (reads_some inside takes HasFirst first) λ text h.
+    reads_bind false true true Lows HasLeads _ _ (reads_one _ (value-low 62 refl)) λ back b. reads_gives HasLeads true _
     (leads-row (leaf N.AutolinkMarker front) _ (marker-leaf N.AutolinkMarker front refl f) (leads-row (leaf name text) (leaf N.AutolinkMarker back) (leads-leaf name text n h.1) (marker-leaf N.AutolinkMarker back refl b)), tt)
 
-pub leads_autolink : ReadsLeads autolink
+pub leads_autolink : (rules : Rules) → ReadsLeads (autolink rules)
 unfolding autolink
-leads_autolink =
-    reads_either Leads true true _ _ (leads_in_angle_brackets uri N.AutolinkProtocol refl takes_uri uri-first) (leads_in_angle_brackets email_address N.AutolinkEmail refl takes_email_address email-first)
+leads_autolink rules =
+    reads_either HasLeads true true _ _ (leads_in_angle_brackets uri N.AutolinkProtocol refl takes_uri uri-first) (leads_in_angle_brackets (email_address rules.all_address_marks) N.AutolinkEmail refl (takes_email_address _) (email-first _))
 
 -- Spans.
 
@@ -360,33 +351,32 @@ even-stretches : (p : Code → Bool) → IsLowTest p → (cs : List Code) → Ar
 even-stretches p test [] = tt
 even-stretches p test (c ∷ cs) = even-onto p test c (stretches p cs) (even-stretches p test cs)
 
-abbrev IsClosing : List (List Code) × List Code → Type 0
-IsClosing r = EachEarly r.0 × Lows r.1
+abbrev IsClosingRun : List (List Code) × List Code → Type 0
+IsClosingRun r = EachEarly r.0 × Lows r.1
 
-closing-found : (p : Code → Bool) (n : ℕ) (ss : List (List Code)) → EachEarly ss → AreEven p ss → Passes IsClosing (closing_run p n ss)
+closing-found : (p : Code → Bool) (n : ℕ) (ss : List (List Code)) → EachEarly ss → AreEven p ss → PassesValue IsClosingRun (closing_run p n ss)
 unfolding closing_run
 closing-found p n [] h k = tt
 closing-found p n (s ∷ ss) h k = by_test (next_is p s) (length s == n) refl (closing-found p n ss h.1 k.1)
   where
-    by_rest : (r : Option ((List (List Code) × List Code) × List Code)) → Passes IsClosing r
-        → Passes IsClosing (elim r [ None ↦ None | Some r ↦ Some ((s ∷ r.0.0, r.0.1), r.1) ])
+    by_rest : (r : Option ((List (List Code) × List Code) × List Code)) → PassesValue IsClosingRun r
+        → PassesValue IsClosingRun (elim r [ None ↦ None | Some r ↦ Some ((s ∷ r.0.0, r.0.1), r.1) ])
     by_rest None l = tt
     by_rest (Some r) l = ((h.0, l.0), l.1)
 
-    by_test : (a b : Bool) → next_is p s ≡ a → Passes IsClosing (closing_run p n ss)
-        → Passes IsClosing (elim (a && b) [ true ↦ Some (([], s), joined_codes ss) | false ↦ elim (closing_run p n ss) [ None ↦ None | Some r ↦ Some ((s ∷ r.0.0, r.0.1), r.1) ] ])
+    by_test : (a b : Bool) → next_is p s ≡ a → PassesValue IsClosingRun (closing_run p n ss)
+        → PassesValue IsClosingRun (elim (a && b) [ true ↦ Some (([], s), joined_codes ss) | false ↦ elim (closing_run p n ss) [ None ↦ None | Some r ↦ Some ((s ∷ r.0.0, r.0.1), r.1) ] ])
     by_test true true e l = (tt, k.0 e)
     by_test true false e l = by_rest (closing_run p n ss) l
     by_test false b e l = by_rest (closing_run p n ss) l
 
-reads_closing : (p : Code → Bool) → IsLowTest p → (n : ℕ) → Reads true true IsClosing (closing p n)
-reads_closing p test n = record { at = λ cs s w. by_answer cs s (closing p n cs) ((covers_closing p n).at cs) (closing-found p n (stretches p cs) (each-early p (cuts-marked p test) cs (w, s)) (even-stretches p test cs)) }
+reads_closing : (p : Code → Bool) → IsLowTest p → (n : ℕ) → ReadsFrom true true IsClosingRun (closing p n)
+reads_closing p test n =
+    record { at = λ cs s w. given-both (Splits span_codes cs) (λ x _. IsClosingRun x) (ToSound true IsClosingRun) (closing p n cs) (λ x rest k l. parts x rest (subst HasNoStrays (sym k) s) l) ((covers_closing p n).at cs) (closing-found p n (stretches p cs) (each-early p (cuts-marked p test) cs (w, s)) (even-stretches p test cs)) }
   where
-    by_answer : (cs : List Code) → IsSound cs → (o : Option ((List (List Code) × List Code) × List Code)) → At span_codes [] cs o → Passes IsClosing o → Goes true IsClosing o
-    by_answer cs s None k l = tt
-    by_answer cs s (Some x) k l =
-        let sound : IsSound ((joined_codes x.0.0 ++ x.0.1) ++ x.1) = subst IsSound (sym k) s in
-        (l, (sound-back (joined_codes x.0.0 ++ x.0.1) x.1 sound, ends-behind (joined_codes x.0.0 ++ x.0.1) x.1 (ends-more (joined_codes x.0.0) x.0.1 (lows-ends x.0.1 l.1)) sound))
+    parts : (x : List (List Code) × List Code) (rest : List Code) → HasNoStrays ((joined_codes x.0 ++ x.1) ++ rest) → IsClosingRun x → ToSound true IsClosingRun x rest
+    parts x rest sound l =
+        (l, (sound-back (joined_codes x.0 ++ x.1) rest sound, ends-behind (joined_codes x.0 ++ x.1) rest (ends-more (joined_codes x.0) x.1 (lows-ends x.1 l.1)) sound))
 
 record AreNoRuns (names : SpanNames) : Type 0 where
   sequence : is_run names.sequence ≡ false
@@ -396,8 +386,10 @@ leads_span : (marker : ℕ) → nat_lt marker 128 ≡ true → (names : SpanName
     ReadsLeads (span_here marker names allowed escaped previous)
 unfolding span_here span_of
 leads_span marker low names allowed escaped previous n =
-    reads_passed Leads true true _ _ (reads_bind true true true Lows Leads _ _ (a-some _ (value-low marker low)) λ front f. reads_passed Leads true true _ _ (
-    reads_bind true true true IsClosing Leads _ _ (reads_closing (is_value marker) (value-low marker low) (length front)) λ inside h. reads_gives Leads true _
+    reads_passed HasLeads true true _ _
+    (reads_bind true true true Lows HasLeads _ _ (a-some _ (value-low marker low)) λ front f. reads_passed HasLeads true true _ _ (
+    reads_bind true true true IsClosingRun HasLeads _ _ (reads_closing (is_value marker) (value-low marker low) (length front))
+    λ inside h. reads_gives HasLeads true _
     (leads-row (leaf names.sequence front) _ (marker-leaf names.sequence front n.sequence f) (leads-row (line_leaves names.text inside.0) (leaf names.sequence inside.1) (leads-line_leaves names.text inside.0 n.text h.0) (marker-leaf names.sequence inside.1 n.sequence h.1)), tt)))
 
 pub leads_code_text : (allowed : ℕ → Bool) (escaped : Bool) (previous : Option Code) →
@@ -411,68 +403,31 @@ leads_math_text allowed escaped previous = leads_span (byte "$") refl math_names
 -- HTML.
 
 ends_then : (a b : Reading (List Code)) → Yields EndsLow b → Yields EndsLow (a then_ b)
-unfolding ◌then_◌
-ends_then a b h = record { at = λ cs. by_answer (a cs) }
-  where
-    by_more : (xs : List Code) (o : Option (List Code × List Code)) → Passes EndsLow o →
-        Passes EndsLow (elim o as (λ _. Option (List Code × List Code)) [ None ↦ None | Some s ↦ Some (xs ++ s.0, s.1) ])
-    by_more xs None l = tt
-    by_more xs (Some s) l = ends-more xs s.0 l
-
-    by_answer : (o : Option (List Code × List Code)) →
-        Passes EndsLow (elim o as (λ _. Option (List Code × List Code)) [ None ↦ None | Some r ↦ elim (b r.1) [ None ↦ None | Some s ↦ Some (r.0 ++ s.0, s.1) ] ])
-    by_answer None = tt
-    by_answer (Some r) = by_more r.0 (b r.1) (h.at r.1)
+ends_then a b h =
+    record { at = λ cs. given-then (λ _ _. Unit {0}) (λ x _. EndsLow x) a b cs (given-any (a cs)) (λ x rest _. given-map (λ y _. EndsLow y) (λ y _. EndsLow (x ++ y)) (b rest) (λ y left k. ends-more x y k) (h.at rest)) }
 
 abbrev pub AllBelow : List ℕ → Type 0
 AllBelow [] = Unit {0}
 AllBelow (n ∷ ns) = (nat_lt n 128 ≡ true) × AllBelow ns
 
-word-all : (ns : List ℕ) → AllBelow ns → (cs : List Code) → Passes AllLow (word_of ns cs)
-unfolding word_of
-word-all [] l cs = tt
-word-all (n ∷ ns) l [] = tt
-word-all (n ∷ ns) l (c ∷ cs) = by_test (c.value == n) refl (word-all ns l.1 cs)
-  where
-    by_rest : is_low c ≡ true → (o : Option (List Code × List Code)) → Passes AllLow o → Passes AllLow (with_first c o)
-    by_rest k None h = tt
-    by_rest k (Some r) h = (k, h)
+-- what holds of a word of these values
+abbrev OfLowWord : List ℕ → List Code → List Code → Type 0
+OfLowWord ns x rest = (ns ≢ [] → x ≢ []) × (AllBelow ns → AllLow x)
 
-    by_test : (b : Bool) → (c.value == n) ≡ b → Passes AllLow (word_of ns cs) →
-        Passes AllLow (elim b as (λ _. Option (List Code × List Code)) [ true ↦ with_first c (word_of ns cs) | false ↦ None ])
-    by_test true e more = by_rest (value-low n l.0 c e) (word_of ns cs) more
-    by_test false e more = tt
+word-given : (ns : List ℕ) (cs : List Code) → IfGiven (OfLowWord ns) (word_of ns cs)
+word-given =
+    given-word (λ ns cs. OfLowWord ns) (λ cs. (λ e. absurd (e refl), λ l. tt)) (λ n ns c cs x rest v k. (λ e. (λ i. cc), λ l. (value-low n l.0 c v, k.1 l.1)))
+
+some-low : (cs : List Code) → cs ≢ [] → AllLow cs → Lows cs
+some-low [] e h = absurd (e refl)
+some-low (c ∷ cs) e h = h
 
 pub word-lows : (n : ℕ) (ns : List ℕ) → AllBelow (n ∷ ns) → Yields Lows (word_of (n ∷ ns))
-unfolding word_of
-word-lows n ns l = record { at = here }
-  where
-    by_rest : (c : Code) → is_low c ≡ true → (o : Option (List Code × List Code)) → Passes AllLow o → Passes Lows (with_first c o)
-    by_rest c k None h = tt
-    by_rest c k (Some r) h = (k, h)
+word-lows n ns l =
+    record { at = λ cs. given-map (OfLowWord (n ∷ ns)) (λ x _. Lows x) (word_of (n ∷ ns) cs) (λ x rest k. some-low x (k.0 (λ e. cc)) (k.1 l)) (word-given (n ∷ ns) cs) }
 
-    by_test : (c : Code) (cs : List Code) (b : Bool) → (c.value == n) ≡ b →
-        Passes Lows (elim b as (λ _. Option (List Code × List Code)) [ true ↦ with_first c (word_of ns cs) | false ↦ None ])
-    by_test c cs true e = by_rest c (value-low n l.0 c e) (word_of ns cs) (word-all ns l.1 cs)
-    by_test c cs false e = tt
-
-    here : (cs : List Code) → Passes Lows (word_of (n ∷ ns) cs)
-    here [] = tt
-    here (c ∷ cs) = by_test c cs (c.value == n) refl
-
-through-ends : (ns : List ℕ) → Yields EndsLow (word_of ns) → (cs : List Code) → Passes EndsLow (up_to_word ns cs)
-unfolding up_to_word
-through-ends ns h [] = tt
-through-ends ns h (c ∷ cs) = by_answer (word_of ns (c ∷ cs)) (h.at (c ∷ cs)) (through-ends ns h cs)
-  where
-    by_rest : (o : Option (List Code × List Code)) → Passes EndsLow o → Passes EndsLow (with_first c o)
-    by_rest None k = tt
-    by_rest (Some r) k = ends-cons c r.0 k
-
-    by_answer : (o : Option (List Code × List Code)) → Passes EndsLow o → Passes EndsLow (up_to_word ns cs) →
-        Passes EndsLow (elim o as (λ _. Option (List Code × List Code)) [ Some r ↦ Some r | None ↦ with_first c (up_to_word ns cs) ])
-    by_answer None k l = by_rest (up_to_word ns cs) l
-    by_answer (Some r) k l = k
+through-ends : (ns : List ℕ) → Yields EndsLow (word_of ns) → (cs : List Code) → PassesValue EndsLow (up_to_word ns cs)
+through-ends ns h = given-up-to-word (λ _ x _. EndsLow x) ns h.at (λ c cs x rest k. ends-cons c x k)
 
 word-ends : (n : ℕ) (ns : List ℕ) → AllBelow (n ∷ ns) → Yields EndsLow (word_of (n ∷ ns))
 word-ends n ns l = yields-weaker Lows EndsLow lows-ends _ (word-lows n ns l)
@@ -490,16 +445,14 @@ html-ends =
     greater : Yields EndsLow (word_of (codes ">"))
     greater = word-ends 62 [] (refl, tt)
 
-reads_html : Reads true true Starts html_codes
-reads_html = record { at = λ cs s w. by_answer (html_codes cs) ((reads_starts html_codes takes_html_text).at cs s w) ((reads_ends html_codes takes_html_text html-ends).at cs s tt) }
-  where
-    by_answer : (o : Option (List Code × List Code)) → Goes false Starts o → Goes true EndsLow o → Goes true Starts o
-    by_answer None h k = tt
-    by_answer (Some x) h k = (h.0, k.1)
+reads_html : ReadsFrom true true Starts html_codes
+reads_html =
+    record { at = λ cs s w. given-both (ToSound false Starts) (ToSound true EndsLow) (ToSound true Starts) (html_codes cs) (λ x rest h k. (h.0, k.1)) ((reads_starts html_codes takes_html_text).at cs s w) ((reads_ends html_codes takes_html_text html-ends).at cs s tt) }
 
 pub leads_html_text : ReadsLeads html_text
 unfolding html_text
-leads_html_text = reads_bind true true true Starts Leads _ _ reads_html λ text h. reads_gives Leads true _ (leads-lines N.HtmlTextData None text refl h, tt)
+leads_html_text =
+    reads_bind true true true Starts HasLeads _ _ reads_html λ text h. reads_gives HasLeads true _ (leads-lines N.HtmlTextData None text refl h, tt)
 
 -- Checks of list items.
 
@@ -507,15 +460,15 @@ white-low : (c : Code) → is_whitespace_code c ≡ true → is_low c ≡ true
 white-low = either-low is_blank is_line_ending blank-low ending-low
 
 leads-check : (b : Bool) (cs : List Code) → Lows cs
-    → Leads (leaf (elim b as (λ _. Name) [ true ↦ N.GfmTaskListItemValueChecked | false ↦ N.GfmTaskListItemValueUnchecked ]) cs)
+    → HasLeads (leaf (elim b as (λ _. Name) [ true ↦ N.GfmTaskListItemValueChecked | false ↦ N.GfmTaskListItemValueUnchecked ]) cs)
 leads-check true cs h = marker-leaf N.GfmTaskListItemValueChecked cs refl h
 leads-check false cs h = marker-leaf N.GfmTaskListItemValueUnchecked cs refl h
 
 pub leads_gfm_task_list_item_check : ReadsLeads gfm_task_list_item_check
 unfolding gfm_task_list_item_check
 leads_gfm_task_list_item_check =
-    reads_bind true true true Lows Leads _ _ (a-one _ (value-low 91 refl)) λ front f. reads_bind true true true Lows Leads _ _ (a-one _ (either-low is_whitespace_code (is_among (codes "xX")) white-low (among-low (codes "xX") refl))) λ value v.
-    reads_bind true true true Lows Leads _ _ (reads_before Lows true true _ _ (a-one _ (value-low 93 refl))) λ back b. reads_gives Leads true _
+    reads_bind true true true Lows HasLeads _ _ (a-one _ (value-low 91 refl)) λ front f. reads_bind true true true Lows HasLeads _ _ (a-one _ (either-low is_whitespace_code (is_among (codes "xX")) white-low (among-low (codes "xX") refl))) λ value v.
+    reads_bind true true true Lows HasLeads _ _ (reads_before Lows true true _ _ (a-one _ (value-low 93 refl))) λ back b. reads_gives HasLeads true _
     (leads-row (leaf N.GfmTaskListItemMarker front) _ (marker-leaf N.GfmTaskListItemMarker front refl f) (leads-row _ (leaf N.GfmTaskListItemMarker back) (leads-check (next_is (is_among (codes "xX")) value) value v) (marker-leaf N.GfmTaskListItemMarker back refl b)), tt)
 
 -- Literals.
@@ -565,15 +518,15 @@ module _ (bytes : List ℕ) (end : ℕ) where
       by_test true e more = more
       by_test false e more = by_kind (is_among (codes "._") c) refl e
 
-  reads_domain : Reads false true (λ cs. cs ≢ []) (domain bytes end)
+  reads_domain : ReadsFrom false true (λ cs. cs ≢ []) (domain bytes end)
   unfolding domain
   reads_domain = record { at = λ cs s w. by_test cs s (is_domain (domain_from bytes end cs).0) ((takes_domain bytes end).at cs) ((domain-line bytes end).at cs) }
     where
-      by_test : (cs : List Code) → IsSound cs → (b : Bool) →
-          (let o : Option (List Code × List Code) = elim b [ true ↦ Some (domain_from bytes end cs) | false ↦ None ] in At itself [] cs o → Passes (IsSomeLineThere bytes) o → Goes true (λ (ds : List Code). ds ≢ []) o)
+      by_test : (cs : List Code) → HasNoStrays cs → (b : Bool) →
+          (let o : Option (List Code × List Code) = elim b [ true ↦ Some (domain_from bytes end cs) | false ↦ None ] in At itself [] cs o → PassesValue (IsSomeLineThere bytes) o → GoesTo true (λ (ds : List Code). ds ≢ []) o)
       by_test cs s true k l =
           let d : List Code × List Code = domain_from bytes end cs in
-          (l.0, (sound-back d.0 d.1 (subst IsSound (sym k) s), domain-early cs))
+          (l.0, (sound-back d.0 d.1 (subst HasNoStrays (sym k) s), domain-early cs))
       by_test cs s false k l = tt
 
   path-early : (opened closed : ℕ) (cs : List Code) → Early (path_from bytes end opened closed cs).1
@@ -592,142 +545,143 @@ module _ (bytes : List ℕ) (end : ℕ) where
           by_kind (is_later_byte c) (is_space (class_of (after_index bytes c.start.index))) (is_among (codes "!\"&'),*.:;<?]_~") c) (not (is_value (byte ")") c && nat_lt closed opened)) (trails bytes end (c ∷ cs)) e refl refl
       by_test false e more = more
 
-  reads_path : Reads false true (λ _. Unit {0}) (path bytes end)
+  reads_path : ReadsFrom false true (λ _. Unit {0}) (path bytes end)
   unfolding path
-  reads_path = record { at = λ cs s w. (tt, (sound-back (path_from bytes end 0 0 cs).0 (path_from bytes end 0 0 cs).1 (subst IsSound (sym ((takes_path bytes end).at cs)) s), path-early 0 0 cs)) }
+  reads_path = record { at = λ cs s w. (tt, (sound-back (path_from bytes end 0 0 cs).0 (path_from bytes end 0 0 cs).1 (subst HasNoStrays (sym ((takes_path bytes end).at cs)) s), path-early 0 0 cs)) }
 
-  with-scheme : (a b d : List Code) → Lows a → Leads (leaf N.GfmAutolinkLiteralProtocol (a ++ b ++ d))
+  with-scheme : (a b d : List Code) → Lows a → HasLeads (leaf N.GfmAutolinkLiteralProtocol (a ++ b ++ d))
   with-scheme [] b d h = absurd h
   with-scheme (c ∷ cs) b d h = ((low-early c h.0, ((λ e. cc), refl)), tt)
 
-  with-host : (a b : List Code) → a ≢ [] → Early a → Leads (leaf N.GfmAutolinkLiteralWww (a ++ b))
+  with-host : (a b : List Code) → a ≢ [] → Early a → HasLeads (leaf N.GfmAutolinkLiteralWww (a ++ b))
   with-host [] b n h = absurd (n refl)
   with-host (c ∷ cs) b n h = ((h, ((λ e. cc), refl)), tt)
 
   pub leads_gfm_autolink_literal_protocol : (previous : Option Code) → ReadsLeads (gfm_autolink_literal_protocol bytes end previous)
   unfolding gfm_autolink_literal_protocol
   leads_gfm_autolink_literal_protocol previous =
-      reads_passed Leads true true _ _ (reads_bind true true true Lows Leads _ _ (reads_anywhere Lows true true _ (reads_lows (one_word_of schemes) (takes_one_word schemes) schemes-lows)) λ scheme h.
-      reads_bind true true true (λ cs. cs ≢ []) Leads _ _ (reads_anywhere (λ cs. cs ≢ []) true true _ reads_domain) λ host n.
-      reads_bind true true true (λ _. Unit {0}) Leads _ _ (reads_anywhere (λ _. Unit {0}) true true _ reads_path) λ further k. reads_gives Leads true _ (with-scheme scheme host further h))
+      reads_passed HasLeads true true _ _ (reads_bind true true true Lows HasLeads _ _ (reads_anywhere Lows true true _ (reads_lows (one_word_of schemes) (takes_one_word schemes) schemes-lows)) λ scheme h.
+      reads_bind true true true (λ cs. cs ≢ []) HasLeads _ _ (reads_anywhere (λ cs. cs ≢ []) true true _ reads_domain) λ host n.
+      reads_bind true true true (λ _. Unit {0}) HasLeads _ _ (reads_anywhere (λ _. Unit {0}) true true _ reads_path) λ further k. reads_gives HasLeads true _ (with-scheme scheme host further h))
 
-  reads_host : Reads true true (λ cs. (cs ≢ []) × Early cs) (domain bytes end)
+  reads_host : ReadsFrom true true (λ cs. (cs ≢ []) × Early cs) (domain bytes end)
   reads_host = record { at = λ cs s w. by_answer (domain bytes end cs) (reads_domain.at cs s tt) ((reads_starts (domain bytes end) (takes_domain bytes end)).at cs s w) }
     where
-      by_answer : (o : Option (List Code × List Code)) → Goes true (λ (ds : List Code). ds ≢ []) o → Goes false Starts o → Goes true (λ (ds : List Code). (ds ≢ []) × Early ds) o
+      by_answer : (o : Option (List Code × List Code)) → GoesTo true (λ (ds : List Code). ds ≢ []) o → GoesTo false Starts o → GoesTo true (λ (ds : List Code). (ds ≢ []) × Early ds) o
       by_answer None h k = tt
       by_answer (Some x) h k = ((h.0, k.0.0), h.1)
 
   leads_www_from_here : ReadsLeads (www_from_here bytes end)
   unfolding www_from_here
   leads_www_from_here =
-      reads_bind true true true (λ cs. (cs ≢ []) × Early cs) Leads _ _ reads_host λ host h.
-      reads_bind true true true (λ _. Unit {0}) Leads _ _ (reads_anywhere (λ _. Unit {0}) true true _ reads_path) λ further k. reads_gives Leads true _ (with-host host further h.0 h.1)
+      reads_bind true true true (λ cs. (cs ≢ []) × Early cs) HasLeads _ _ reads_host λ host h.
+      reads_bind true true true (λ _. Unit {0}) HasLeads _ _ (reads_anywhere (λ _. Unit {0}) true true _ reads_path) λ further k. reads_gives HasLeads true _ (with-host host further h.0 h.1)
 
   pub leads_gfm_autolink_literal_www : (previous : Option Code) → ReadsLeads (gfm_autolink_literal_www bytes end previous)
   unfolding gfm_autolink_literal_www
   leads_gfm_autolink_literal_www previous = record { at = λ cs. (here cs).at cs }
     where
       here : (cs : List Code) → ReadsLeads (provided (may_precede_www previous && begins_with_www cs) >> www_from_here bytes end)
-      here cs = reads_passed Leads true true _ _ leads_www_from_here
+      here cs = reads_passed HasLeads true true _ _ leads_www_from_here
 
 -- What follows a label.
 
-leads_spacing : (link : Option Content) → Reads false true Leads (space_or_tab_eol link)
+leads_spacing : (link : Option Content) → ReadsFrom false true HasLeads (space_or_tab_eol link)
 unfolding space_or_tab_eol spaces_across spaces_on_line
-leads_spacing link = reads_either Leads false true _ _
-    (reads_bind false false true AllLow Leads _ _ (reads_some _ (takes_any_number _) AllLow (any-low _ blank-low)) λ front f. reads_bind false true true Lows Leads _ _ (reads_one _ ending-low) λ ending e.
-    reads_bind true true true AllLow Leads _ _ (reads_before AllLow true true _ _ (reads_any_low _ blank-low)) λ back b. reads_gives Leads true _
+leads_spacing link = reads_either HasLeads false true _ _
+    (reads_bind false false true AllLow HasLeads _ _ (reads_some _ (takes_any_number _) AllLow (any-low _ blank-low)) λ front f. reads_bind false true true Lows HasLeads _ _ (reads_one _ ending-low) λ ending e.
+    reads_bind true true true AllLow HasLeads _ _ (reads_before AllLow true true _ _ (reads_any_low _ blank-low)) λ back b. reads_gives HasLeads true _
     (leads-row (linked_leaf N.SpaceOrTab link front) _ (leads-linked_leaf N.SpaceOrTab link front refl (all-early front f)) (leads-row (linked_leaf N.LineEnding link ending) (linked_leaf N.SpaceOrTab link back) (leads-linked_leaf N.LineEnding link ending refl (all-early ending (lows-all ending e))) (leads-linked_leaf N.SpaceOrTab link back refl (all-early back b)))))
-    (reads_bind false true true Lows Leads _ _ (reads_before Lows false true _ _ (reads_some_low _ blank-low)) λ blank h. reads_gives Leads true _ (leads-linked_leaf N.SpaceOrTab link blank refl (all-early blank (lows-all blank h))))
+    (reads_bind false true true Lows HasLeads _ _ (reads_before Lows false true _ _ (reads_some_low _ blank-low)) λ blank h. reads_gives HasLeads true _ (leads-linked_leaf N.SpaceOrTab link blank refl (all-early blank (lows-all blank h))))
 
-optional-here : (link : Option Content) → Reads true true Leads (optional_tree (space_or_tab_eol link))
+optional-here : (link : Option Content) → ReadsFrom true true HasLeads (optional_tree (space_or_tab_eol link))
 unfolding optional_tree
-optional-here link = reads_either Leads true true _ _ (reads_anywhere Leads true true _ (leads_spacing link)) (reads_gives Leads true _ tt)
+optional-here link = reads_either HasLeads true true _ _ (reads_anywhere HasLeads true true _ (leads_spacing link)) (reads_gives HasLeads true _ tt)
 
-optional-there : (link : Option Content) → Reads false false Leads (optional_tree (space_or_tab_eol link))
+optional-there : (link : Option Content) → ReadsFrom false false HasLeads (optional_tree (space_or_tab_eol link))
 unfolding optional_tree
-optional-there link = reads_either Leads false false _ _ (reads_weaker Leads false false _ (leads_spacing link)) (reads_gives Leads false _ tt)
+optional-there link = reads_either HasLeads false false _ _ (reads_weaker HasLeads false false _ (leads_spacing link)) (reads_gives HasLeads false _ tt)
 
 record AreTextNames (names : StringNames) : Type 0 where
   marker : is_run names.marker ≡ false
 
 leads-between : (names : StringNames) (front text back : List Code) → AreTextNames names → Lows front → Starts text → Lows back →
-    Leads (between_markers names front text back)
+    HasLeads (between_markers names front text back)
 leads-between names front text back n f t b =
     (leads-row (leaf names.marker front) _ (marker-leaf names.marker front n.marker f) (leads-row (string_group names.text (lines N.Data (Some Content.String) text)) (leaf names.marker back) (leads-string names.text (lines N.Data (Some Content.String) text) (leads-lines N.Data (Some Content.String) text refl t)) (marker-leaf names.marker back n.marker b)), tt)
 
-leads_label : Reads false true Leads (label reference_names)
+leads_label : (characters : Bool) → ReadsFrom false true HasLeads (label characters reference_names)
 unfolding label
-leads_label =
-    reads_bind false true true Lows Leads _ _ (reads_one _ (value-low 91 refl)) λ front f. reads_bind true false true Starts Leads _ _ (reads_starts _ (takes_up_to _ _ _)) λ text t. reads_passed Leads false true _ _ (reads_passed Leads false true _ _ (
-    reads_bind false true true Lows Leads _ _ (reads_one _ (value-low 93 refl)) λ back b. reads_passed Leads true true _ _ (reads_gives Leads true _ (leads-between reference_names front text back (record { marker = refl }) f t b))))
+leads_label characters =
+    reads_bind false true true Lows HasLeads _ _ (reads_one _ (value-low 91 refl)) λ front f. reads_bind true false true Starts HasLeads _ _ (reads_starts _ (takes_up_to _ _ _)) λ text t. reads_passed HasLeads false true _ _ (reads_passed HasLeads false true _ _ (
+    reads_bind false true true Lows HasLeads _ _ (reads_one _ (value-low 93 refl)) λ back b. reads_passed HasLeads true true _ _ (reads_gives HasLeads true _ (leads-between reference_names front text back (record { marker = refl }) f t b))))
 
-leads_title_between : (opener closer : ℕ) → nat_lt opener 128 ≡ true → nat_lt closer 128 ≡ true → Reads false true Leads (title_between opener closer title_names)
+leads_title_between : (both : Bool) (opener closer : ℕ) → nat_lt opener 128 ≡ true → nat_lt closer 128 ≡ true → ReadsFrom false true HasLeads (title_between both opener closer title_names)
 unfolding title_between
-leads_title_between opener closer o c =
-    reads_bind false true true Lows Leads _ _ (reads_one _ (value-low opener o)) λ front f. reads_bind true false true Starts Leads _ _ (reads_starts _ (takes_up_to _ _ _)) λ text t.
-    reads_bind false true true Lows Leads _ _ (reads_one _ (value-low closer c)) λ back b. reads_passed Leads true true _ _ (reads_gives Leads true _ (leads-between title_names front text back (record { marker = refl }) f t b))
+leads_title_between both opener closer o c =
+    reads_bind false true true Lows HasLeads _ _ (reads_one _ (value-low opener o)) λ front f. reads_bind true false true Starts HasLeads _ _ (reads_starts _ (takes_up_to _ _ _)) λ text t.
+    reads_bind false true true Lows HasLeads _ _ (reads_one _ (value-low closer c)) λ back b. reads_passed HasLeads true true _ _ (reads_gives HasLeads true _ (leads-between title_names front text back (record { marker = refl }) f t b))
 
-leads_title : Reads false true Leads (title title_names)
+leads_title : (both : Bool) → ReadsFrom false true HasLeads (title both title_names)
 unfolding title
-leads_title =
-    reads_either Leads false true _ _ (leads_title_between _ _ refl refl) (reads_either Leads false true _ _ (leads_title_between _ _ refl refl) (leads_title_between _ _ refl refl))
+leads_title both =
+    reads_either HasLeads false true _ _ (leads_title_between _ _ _ refl refl) (reads_either HasLeads false true _ _ (leads_title_between _ _ _ refl refl) (leads_title_between _ _ _ refl refl))
 
-leads_literal_destination : Reads false true Leads (literal_destination resource_names)
+leads_literal_destination : ReadsFrom false true HasLeads (literal_destination resource_names)
 unfolding literal_destination
 leads_literal_destination =
-    reads_bind false true true Lows Leads _ _ (reads_one _ (value-low 60 refl)) λ front f. reads_bind true false true Starts Leads _ _ (reads_starts _ (takes_up_to _ _ _)) λ text t.
-    reads_bind false true true Lows Leads _ _ (reads_one _ (value-low 62 refl)) λ back b. reads_gives Leads true _
+    reads_bind false true true Lows HasLeads _ _ (reads_one _ (value-low 60 refl)) λ front f. reads_bind true false true Starts HasLeads _ _ (reads_starts _ (takes_up_to _ _ _)) λ text t.
+    reads_bind false true true Lows HasLeads _ _ (reads_one _ (value-low 62 refl)) λ back b. reads_gives HasLeads true _
     (((leads-row (leaf N.ResourceDestinationLiteralMarker front) _ (marker-leaf N.ResourceDestinationLiteralMarker front refl f) (leads-row (string_group N.ResourceDestinationString (linked N.Data text)) (leaf N.ResourceDestinationLiteralMarker back) (leads-string N.ResourceDestinationString (linked N.Data text) (leads-linked text t.0)) (marker-leaf N.ResourceDestinationLiteralMarker back refl b)), tt), tt))
 
-leads_raw_destination : (max : ℕ) → Reads true false Leads (raw_destination max resource_names)
+leads_raw_destination : (max : ℕ) → ReadsFrom true false HasLeads (raw_destination max resource_names)
 unfolding raw_destination
 leads_raw_destination max =
-    reads_bind true false false Starts Leads _ _ (reads_starts _ (takes_raw max)) λ text t. reads_passed Leads false false _ _ (reads_gives Leads false _ (((leads-linked text t.0, tt), tt), tt))
+    reads_bind true false false Starts HasLeads _ _ (reads_starts _ (takes_raw max)) λ text t. reads_passed HasLeads false false _ _ (reads_gives HasLeads false _ (((leads-linked text t.0, tt), tt), tt))
 
-leads_destination : (max : ℕ) → Reads true false Leads (destination max resource_names)
+leads_destination : (max : ℕ) → ReadsFrom true false HasLeads (destination max resource_names)
 unfolding destination
-leads_destination max = reads_next Leads true false _ _ _ (reads_weaker Leads true false _ (reads_anywhere Leads true true _ leads_literal_destination)) (leads_raw_destination max)
+leads_destination max = reads_next HasLeads true false _ _ _ (reads_weaker HasLeads true false _ (reads_anywhere HasLeads true true _ leads_literal_destination)) (leads_raw_destination max)
 
-leads_spaced_title : Reads false true Leads spaced_title
+leads_spaced_title : (both : Bool) → ReadsFrom false true HasLeads (spaced_title both)
 unfolding spaced_title
-leads_spaced_title =
-    reads_bind false true true Leads Leads _ _ (reads_before Leads false true _ _ (leads_spacing None)) λ space h. reads_bind true true true Leads Leads _ _ (reads_anywhere Leads true true _ leads_title) λ text k.
-    reads_bind true true true Leads Leads _ _ (optional-here None) λ back l. reads_gives Leads true _ (leads-row space _ h (leads-row text back k l))
+leads_spaced_title both =
+    reads_bind false true true HasLeads HasLeads _ _ (reads_before HasLeads false true _ _ (leads_spacing None)) λ space h. reads_bind true true true HasLeads HasLeads _ _ (reads_anywhere HasLeads true true _ (leads_title both)) λ text k.
+    reads_bind true true true HasLeads HasLeads _ _ (optional-here None) λ back l. reads_gives HasLeads true _ (leads-row space _ h (leads-row text back k l))
 
-leads_destination_and_title : Reads true false Leads destination_and_title
+leads_destination_and_title : (both : Bool) → ReadsFrom true false HasLeads (destination_and_title both)
 unfolding destination_and_title
-leads_destination_and_title =
-    reads_bind true false false Leads Leads _ _ (leads_destination 32) λ target h. reads_bind false false false Leads Leads _ _ (reads_either Leads false false _ _ (reads_weaker Leads false false _ leads_spaced_title) (optional-there None)) λ after k.
-    reads_gives Leads false _ (leads-row target after h k)
+leads_destination_and_title both =
+    reads_bind true false false HasLeads HasLeads _ _ (leads_destination 32) λ target h. reads_bind false false false HasLeads HasLeads _ _ (reads_either HasLeads false false _ _ (reads_weaker HasLeads false false _ (leads_spaced_title both)) (optional-there None)) λ after k.
+    reads_gives HasLeads false _ (leads-row target after h k)
 
-leads_resource : Reads false true Leads resource
+leads_resource : (both : Bool) → ReadsFrom false true HasLeads (resource both)
 unfolding resource
-leads_resource =
-    reads_bind false true true Lows Leads _ _ (reads_one _ (value-low 40 refl)) λ front f. reads_bind true true true Leads Leads _ _ (optional-here None) λ space h.
-    reads_bind true false true Leads Leads _ _ (reads_next Leads true false _ _ _ (reads_weaker Leads true false _ (reads_gives Leads true _ tt)) leads_destination_and_title) λ inside k.
-    reads_bind false true true Lows Leads _ _ (reads_one _ (value-low 41 refl)) λ back b. reads_gives Leads true _
+leads_resource both =
+    reads_bind false true true Lows HasLeads _ _ (reads_one _ (value-low 40 refl)) λ front f. reads_bind true true true HasLeads HasLeads _ _ (optional-here None) λ space h.
+    reads_bind true false true HasLeads HasLeads _ _ (reads_next HasLeads true false _ _ _ (reads_weaker HasLeads true false _ (reads_gives HasLeads true _ tt)) (leads_destination_and_title both)) λ inside k.
+    reads_bind false true true Lows HasLeads _ _ (reads_one _ (value-low 41 refl)) λ back b. reads_gives HasLeads true _
     (leads-row (leaf N.ResourceMarker front) _ (marker-leaf N.ResourceMarker front refl f) (leads-row space _ h (leads-row inside (leaf N.ResourceMarker back) k (marker-leaf N.ResourceMarker back refl b))), tt)
 
-leads_full_reference : (s : Setting) → Reads false true Leads (full_reference s)
+leads_full_reference : (s : Setting) → ReadsFrom false true HasLeads (full_reference s)
 unfolding full_reference
-leads_full_reference s = reads_bind false true true Leads Leads _ _ leads_label λ tree h. reads_passed Leads true true _ _ (reads_gives Leads true _ h)
+leads_full_reference s =
+    reads_bind false true true HasLeads HasLeads _ _ (leads_label _) λ tree h. reads_passed HasLeads true true _ _ (reads_gives HasLeads true _ h)
 
-leads_collapsed_reference : Reads false true Leads collapsed_reference
+leads_collapsed_reference : ReadsFrom false true HasLeads collapsed_reference
 unfolding collapsed_reference
 leads_collapsed_reference =
-    reads_bind false true true Lows Leads _ _ (reads_one _ (value-low 91 refl)) λ front f. reads_bind true true true Lows Leads _ _ (a-one _ (value-low 93 refl)) λ back b. reads_gives Leads true _
+    reads_bind false true true Lows HasLeads _ _ (reads_one _ (value-low 91 refl)) λ front f. reads_bind true true true Lows HasLeads _ _ (a-one _ (value-low 93 refl)) λ back b. reads_gives HasLeads true _
     (leads-row (leaf N.ReferenceMarker front) (leaf N.ReferenceMarker back) (marker-leaf N.ReferenceMarker front refl f) (marker-leaf N.ReferenceMarker back refl b), tt)
 
 leads_shortcut : (defined : Bool) → ReadsLeads (shortcut defined)
 unfolding shortcut
-leads_shortcut defined = reads_passed Leads true true _ _ (reads_gives Leads true _ tt)
+leads_shortcut defined = reads_passed HasLeads true true _ _ (reads_gives HasLeads true _ tt)
 
 pub leads_after_label : (s : Setting) (defined : Bool) → ReadsLeads (after_label s defined)
 unfolding after_label reference_after_label shortcut_before_bracket
 leads_after_label s defined =
-    reads_next Leads true true _ _ _ (reads_either Leads true true _ _ (reads_anywhere Leads true true _ leads_resource) (leads_shortcut defined))
-    (reads_next Leads true true _ _ _
-    (reads_either Leads true true _ _ (reads_anywhere Leads true true _ (leads_full_reference s)) (reads_either Leads true true _ _ (reads_passed Leads true true _ _ (reads_anywhere Leads true true _ leads_collapsed_reference)) (reads_unless Leads true true _ _ (leads_shortcut _))))
+    reads_next HasLeads true true _ _ _ (reads_either HasLeads true true _ _ (reads_anywhere HasLeads true true _ (leads_resource _)) (leads_shortcut defined))
+    (reads_next HasLeads true true _ _ _
+    (reads_either HasLeads true true _ _ (reads_anywhere HasLeads true true _ (leads_full_reference s)) (reads_either HasLeads true true _ _ (reads_passed HasLeads true true _ _ (reads_anywhere HasLeads true true _ leads_collapsed_reference)) (reads_unless HasLeads true true _ _ (leads_shortcut _))))
     (leads_shortcut defined))

@@ -6,9 +6,9 @@ use Rattle.std.proofs.lemmas.Bool.{both_ways, and_parts}
 use Rattle.markdown_event.specs.declared.event.Name.{Name}
 use Rattle.markdown_event.specs.declared.event.Name.TheVariants as N
 use Rattle.markdown_event.specs.declared.event.Content.{Content}
-use Rattle.markdown_engine_content.specs.declared.label_kind.LabelKind.{LabelKind}
-use Rattle.markdown_engine_content.specs.Codes.{Code, stop_of, document_start}
-use Rattle.markdown_engine_content.specs.Tree.{Forest, empty, leaf_then, group_then, leaf, group, text_group, start_of, ◌⊕◌}
+use Rattle.markdown_content.specs.declared.label_kind.LabelKind.{LabelKind}
+use Rattle.markdown_content.specs.Codes.{Code, stop_of, document_start}
+use Rattle.markdown_content.specs.Tree.{Forest, empty, leaf_then, group_then, leaf, group, text_group, start_of, ◌⊕◌}
 use Rattle.markdown_model.specs.BracketGroups.{Bracketed, item, opens, closes, onto, nest, nested, after_loose, joined, loose, Token, pair_names, pair_group, closing_sizes, opening_sizes, cut_front, run_tokens, assembled, tokens_of, paired}
 use Rattle.markdown_model.specs.CodeTests.{is_value, is_later_byte}
 use Rattle.markdown_model.specs.Elements.{as_plain, switched, line_ending, data_code, attention_run, label_start_image, gfm_label_start_footnote, label_start_link, code_text, math_text, Tries, tries, tried, first_check, text_element, string_element, text_choice, string_choice, Choice, AreElementsFrom, code_before, elements_of, string_elements_of}
@@ -20,15 +20,16 @@ use Rattle.markdown_model.specs.Pairs.{Pair}
 use Rattle.markdown_model.specs.Passes.{Start, End, as_bracket, start_marker, start_tree, label_group, labelled, labels_of}
 use Rattle.markdown_model.specs.Runs.{Run, marker_of, run_of, runs_of}
 use Rattle.markdown_model.specs.Setting.{Setting}
+use Rattle.markdown_model.proofs.GivenByReadings.{IfGiven, given-map}
 use Rattle.markdown_model.proofs.ElementCases.{either_has}
 use Rattle.markdown_model.proofs.GivenNames.{pair-named}
 use Rattle.markdown_model.proofs.GrammarSteps.{bind-none, one-other, either-second, switched-on, switched-off}
 use Rattle.markdown_model.proofs.OneElementList.{text_elements, string_elements}
 use Rattle.markdown_model.proofs.PassesKeepCodes.{codes-run_of}
 use Rattle.markdown_model.proofs.ReadingsCover.{takes_word_of}
-use Rattle.markdown_model_laws.proofs.CharacterRows.{low-early, Early, IsSound, AllLow, Lows, lows-all, value-low, Goes, Reads, reads_bind, reads_gives, reads_passed, reads_either, reads_before, reads_anywhere, reads_lows, reads_one, reads_some_low}
+use Rattle.markdown_model_laws.proofs.CharacterRows.{low-early, Early, HasNoStrays, AllLow, Lows, lows-all, value-low, ToSound, ReadsFrom, reads_bind, reads_gives, reads_passed, reads_either, reads_before, reads_anywhere, reads_lows, reads_one, reads_some_low}
 use Rattle.markdown_model_laws.proofs.EachRow.{EachRow, OfConstructs, tried-has}
-use Rattle.markdown_model_laws.proofs.CharacterConstructs.{Leads, leads-row, low-leaf, ReadsLeads, AllBelow, word-lows, leads_character_reference, leads_gfm_task_list_item_check, leads_after_label}
+use Rattle.markdown_model_laws.proofs.CharacterConstructs.{HasLeads, leads-row, low-leaf, ReadsLeads, AllBelow, word-lows, leads_character_reference, leads_gfm_task_list_item_check, leads_after_label}
 use Rattle.markdown_model_laws.proofs.ConstructLaws.{leads_character_escape, leads_constructs}
 
 -- Rows: `f` says that unlinked data stands before.
@@ -68,7 +69,7 @@ more f empty h = tt
 more f (leaf_then name link cs rest) h = ((lead-more f (is_open name link) cs h.0.0, h.0.1), h.1)
 more f (group_then name a b inside rest) h = h
 
-pub of-leads : (f : Bool) (t : Forest) → Leads t → Flagged f t
+pub of-leads : (f : Bool) (t : Forest) → HasLeads t → Flagged f t
 of-leads f empty h = tt
 of-leads f (leaf_then name link cs rest) h =
     ((lead-more f (is_open name link) cs h.0.0, (h.0.1.0, λ e. absurd (both_ways (is_run name) h.0.1.1 e))), of-leads (is_open name link) rest h.1)
@@ -79,126 +80,127 @@ low-data f cs h = of-leads f (leaf N.Data cs) (low-leaf N.Data cs refl h)
 
 -- Elements.
 
-abbrev Has : Element → Type 0
-Has (plain t) = (f : Bool) → Flagged f t
-Has (starts kind marker) = Lows marker
-Has (ends marker None) = Lows marker
-Has (ends marker (Some outcome)) = Lows marker × Leads outcome.1
+abbrev ElementHasLeads : Element → Type 0
+ElementHasLeads (plain t) = (f : Bool) → Flagged f t
+ElementHasLeads (starts kind marker) = Lows marker
+ElementHasLeads (ends marker None) = Lows marker
+ElementHasLeads (ends marker (Some outcome)) = Lows marker × HasLeads outcome.1
 
-abbrev Have : Reading Element → Type 0
-Have a = Reads true true Has a
+abbrev HaveLeads : Reading Element → Type 0
+HaveLeads a = ReadsFrom true true ElementHasLeads a
 
-alone : (a : Reading Forest) → ReadsLeads a → Have (as_plain a)
+alone : (a : Reading Forest) → ReadsLeads a → HaveLeads (as_plain a)
 unfolding as_plain
-alone a h = reads_bind true true true Leads Has a _ h λ tree k. reads_gives Has true (plain tree) (λ f. of-leads f tree k)
+alone a h = reads_bind true true true HasLeads ElementHasLeads a _ h λ tree k. reads_gives ElementHasLeads true (plain tree) (λ f. of-leads f tree k)
 
-ending : Have line_ending
+ending : HaveLeads line_ending
 unfolding line_ending
 ending =
-    reads_bind true true true Lows Has _ _ (reads_anywhere Lows true true _ (reads_one _ (value-low 10 refl))) λ c h.
-    reads_gives Has true (plain (leaf N.LineEnding c)) (λ f. of-leads f (leaf N.LineEnding c) (low-leaf N.LineEnding c refl (lows-all c h)))
+    reads_bind true true true Lows ElementHasLeads _ _ (reads_anywhere Lows true true _ (reads_one _ (value-low 10 refl))) λ c h.
+    reads_gives ElementHasLeads true (plain (leaf N.LineEnding c)) (λ f. of-leads f (leaf N.LineEnding c) (low-leaf N.LineEnding c refl (lows-all c h)))
 
 run-leaf : (f : Bool) (cs : List Code) → Lows cs → Flagged f (leaf N.AttentionSequence cs)
 run-leaf f [] h = tt
 run-leaf f (c ∷ cs) h = ((lead-more f false (c ∷ cs) (low-early c h.0), ((λ e. cc), λ e. h)), tt)
 
-run-read : (marker : ℕ) → nat_lt marker 128 ≡ true → Have (attention_run marker)
+run-read : (marker : ℕ) → nat_lt marker 128 ≡ true → HaveLeads (attention_run marker)
 unfolding attention_run
 run-read marker l =
-    reads_bind true true true Lows Has _ _ (reads_anywhere Lows true true _ (reads_some_low _ (value-low marker l))) λ markers h.
-    reads_gives Has true (plain (leaf N.AttentionSequence markers)) (λ f. run-leaf f markers h)
+    reads_bind true true true Lows ElementHasLeads _ _ (reads_anywhere Lows true true _ (reads_some_low _ (value-low marker l))) λ markers h.
+    reads_gives ElementHasLeads true (plain (leaf N.AttentionSequence markers)) (λ f. run-leaf f markers h)
 
-a-word : (n : ℕ) (ns : List ℕ) → AllBelow (n ∷ ns) → Reads true true Lows (word_of (n ∷ ns))
+a-word : (n : ℕ) (ns : List ℕ) → AllBelow (n ∷ ns) → ReadsFrom true true Lows (word_of (n ∷ ns))
 a-word n ns l = reads_anywhere Lows true true _ (reads_lows (word_of (n ∷ ns)) (takes_word_of (n ∷ ns)) (word-lows n ns l))
 
-image-read : (footnotes : Bool) → Have (label_start_image footnotes)
+image-read : (footnotes : Bool) → HaveLeads (label_start_image footnotes)
 unfolding label_start_image word
 image-read footnotes =
-    reads_bind true true true Lows Has _ _ (reads_before Lows true true _ _ (a-word 33 (codes "[") (refl, (refl, tt)))) λ marker h. reads_gives Has true (starts LabelKind.Image marker) h
+    reads_bind true true true Lows ElementHasLeads _ _ (reads_before Lows true true _ _ (a-word 33 (codes "[") (refl, (refl, tt)))) λ marker h. reads_gives ElementHasLeads true (starts LabelKind.Image marker) h
 
-footnote-read : Have gfm_label_start_footnote
+footnote-read : HaveLeads gfm_label_start_footnote
 unfolding gfm_label_start_footnote word
 footnote-read =
-    reads_bind true true true Lows Has _ _ (a-word 91 (codes "^") (refl, (refl, tt))) λ marker h. reads_gives Has true (starts LabelKind.GfmFootnote marker) h
+    reads_bind true true true Lows ElementHasLeads _ _ (a-word 91 (codes "^") (refl, (refl, tt))) λ marker h. reads_gives ElementHasLeads true
+    (starts LabelKind.GfmFootnote marker) h
 
-link-read : Have label_start_link
+link-read : HaveLeads label_start_link
 unfolding label_start_link
 link-read =
-    reads_bind true true true Lows Has _ _ (reads_anywhere Lows true true _ (reads_one _ (value-low 91 refl))) λ marker h. reads_gives Has true (starts LabelKind.Link marker) h
+    reads_bind true true true Lows ElementHasLeads _ _ (reads_anywhere Lows true true _ (reads_one _ (value-low 91 refl))) λ marker h. reads_gives ElementHasLeads true (starts LabelKind.Link marker) h
 
-abbrev HasOutcome : LabelKind × Forest → Type 0
-HasOutcome o = Leads o.1
+abbrev OutcomeHasLeads : LabelKind × Forest → Type 0
+OutcomeHasLeads o = HasLeads o.1
 
-outcome-read : (s : Setting) (l : Option Label) (back : List Code) → Reads true true HasOutcome (outcome_of s l back)
+outcome-read : (s : Setting) (l : Option Label) (back : List Code) → ReadsFrom true true OutcomeHasLeads (outcome_of s l back)
 unfolding outcome_of footnote_call link_or_image
 outcome-read s None back = record { at = λ cs x w. tt }
 outcome-read s (Some l) back = record { at = λ cs x w. whole.at cs x w }
   where
-    whole : Reads true true HasOutcome (provided (not (is_barred l)) >> either (footnote_call s l back) (link_or_image s l back))
-    whole = reads_passed HasOutcome true true _ _ (reads_either HasOutcome true true _ _ (reads_passed HasOutcome true true _ _ (reads_gives HasOutcome true _ tt)) (reads_bind true true true Leads HasOutcome _ _ (leads_after_label s _) λ tail k. reads_gives HasOutcome true _ k))
+    whole : ReadsFrom true true OutcomeHasLeads (provided (not (is_barred l)) >> either (footnote_call s l back) (link_or_image s l back))
+    whole = reads_passed OutcomeHasLeads true true _ _ (reads_either OutcomeHasLeads true true _ _ (reads_passed OutcomeHasLeads true true _ _ (reads_gives OutcomeHasLeads true _ tt)) (reads_bind true true true HasLeads OutcomeHasLeads _ _ (leads_after_label s _) λ tail k. reads_gives OutcomeHasLeads true _ k))
 
-end-read : (s : Setting) (earlier : List Element) → Have (label_end s earlier)
+end-read : (s : Setting) (earlier : List Element) → HaveLeads (label_end s earlier)
 unfolding label_end
 end-read s earlier =
-    reads_bind true true true Lows Has _ _ (reads_anywhere Lows true true _ (reads_one _ (value-low 93 refl))) λ back b. reads_either Has true true _ _
-    (reads_bind true true true HasOutcome Has _ _ (outcome-read s (label_before earlier) back) λ outcome k. reads_gives Has true (ends back (Some outcome)) (b, k))
-    (reads_gives Has true (ends back None) b)
+    reads_bind true true true Lows ElementHasLeads _ _ (reads_anywhere Lows true true _ (reads_one _ (value-low 93 refl)))
+    λ back b. reads_either ElementHasLeads true true _ _
+    (reads_bind true true true OutcomeHasLeads ElementHasLeads _ _ (outcome-read s (label_before earlier) back) λ outcome k. reads_gives ElementHasLeads true (ends back (Some outcome)) (b, k))
+    (reads_gives ElementHasLeads true (ends back None) b)
 
 -- What is read at some codes: the code at hand as data, or an element behind which no later byte of a character stands.
 
 abbrev IsCodeOf : List Code → Element → List Code → Type 0
 IsCodeOf cs e rest = (c : Code) × ((e ≡ plain (leaf_then N.Data None (c ∷ []) empty)) × (cs ≡ c ∷ rest))
 
-abbrev Fits : List Code → Element → List Code → Type 0
-Fits cs e rest = IsCodeOf cs e rest ⊎ (Has e × Early rest)
+abbrev ElementFits : List Code → Element → List Code → Type 0
+ElementFits cs e rest = IsCodeOf cs e rest ⊎ (ElementHasLeads e × Early rest)
 
-abbrev Gone : List Code → Option (Element × List Code) → Type 0
-Gone cs None = Unit {0}
-Gone cs (Some r) = Fits cs r.0 r.1 × IsSound r.1
+abbrev FitsBefore : List Code → Element → List Code → Type 0
+FitsBefore cs e rest = ElementFits cs e rest × HasNoStrays rest
 
-gone-read : (cs : List Code) (a : Reading Element) → Have a → IsSound cs → Early cs → Gone cs (a cs)
-gone-read cs a h s w = by_answer (a cs) (h.at cs s w)
-  where
-    by_answer : (o : Option (Element × List Code)) → Goes true Has o → Gone cs o
-    by_answer None k = tt
-    by_answer (Some x) k = (inr (k.0, k.1.1), k.1.0)
+abbrev AnswerFits : List Code → Option (Element × List Code) → Type 0
+AnswerFits cs o = IfGiven (FitsBefore cs) o
 
-gone-data : (c : Code) (cs : List Code) → IsSound (c ∷ cs) → Gone (c ∷ cs) (data_code (c ∷ cs))
+gone-read : (cs : List Code) (a : Reading Element) → HaveLeads a → HasNoStrays cs → Early cs → AnswerFits cs (a cs)
+gone-read cs a h s w =
+    given-map (ToSound true ElementHasLeads) (FitsBefore cs) (a cs) (λ e rest k. (inr (k.0, k.1.1), k.1.0)) (h.at cs s w)
+
+gone-data : (c : Code) (cs : List Code) → HasNoStrays (c ∷ cs) → AnswerFits (c ∷ cs) (data_code (c ∷ cs))
 unfolding data_code one ◌>>=◌ gives
 gone-data c cs s = (inl (c, (refl, refl)), s.1)
 
-gone-switched : (cs : List Code) (on : Bool) (a : Reading Element) → Gone cs (a cs) → Gone cs (switched on a cs)
+gone-switched : (cs : List Code) (on : Bool) (a : Reading Element) → AnswerFits cs (a cs) → AnswerFits cs (switched on a cs)
 unfolding switched provided ◌>>◌
 gone-switched cs true a h = h
 gone-switched cs false a h = tt
 
-gone-none : (cs : List Code) (o : Option (Element × List Code)) → o ≡ None → Gone cs o
-gone-none cs o e = subst (Gone cs) (sym e) tt
+gone-none : (cs : List Code) (o : Option (Element × List Code)) → o ≡ None → AnswerFits cs o
+gone-none cs o e = subst (AnswerFits cs) (sym e) tt
 
 nowhere : (on : Bool) (a : Reading Element) (cs : List Code) → a cs ≡ None → switched on a cs ≡ None
 unfolding switched
 nowhere true a cs h = switched-on a true cs refl ∙ h
 nowhere false a cs h = switched-off a false cs refl
 
-module _ (c : Code) (cs : List Code) (s : IsSound (c ∷ cs)) where
-  abbrev Here : Reading Element → Type 0
-  Here a = Gone (c ∷ cs) (a (c ∷ cs))
+module _ (c : Code) (cs : List Code) (s : HasNoStrays (c ∷ cs)) where
+  abbrev GoneFromHere : Reading Element → Type 0
+  GoneFromHere a = AnswerFits (c ∷ cs) (a (c ∷ cs))
 
-  both : (a b : Reading Element) → Here a → Here b → Here (either a b)
-  both a b h k = either_has (Gone (c ∷ cs)) tt (c ∷ cs) a b h k
+  both : (a b : Reading Element) → GoneFromHere a → GoneFromHere b → GoneFromHere (either a b)
+  both a b h k = either_has (AnswerFits (c ∷ cs)) tt (c ∷ cs) a b h k
 
-  here-data : Here data_code
+  here-data : GoneFromHere data_code
   here-data = gone-data c cs s
 
   -- where the code at hand begins a character
   module _ (w : is_later_byte c ≡ false) where
-    here : (a : Reading Element) → Have a → Here a
+    here : (a : Reading Element) → HaveLeads a → GoneFromHere a
     here a h = gone-read (c ∷ cs) a h s w
 
-    on : (b : Bool) (a : Reading Element) → Have a → Here (switched b a)
+    on : (b : Bool) (a : Reading Element) → HaveLeads a → GoneFromHere (switched b a)
     on b a h = gone-switched (c ∷ cs) b a (here a h)
 
-    own : (b : Bool) (a : Reading Forest) → ReadsLeads a → Here (switched b (as_plain a))
+    own : (b : Bool) (a : Reading Forest) → ReadsLeads a → GoneFromHere (switched b (as_plain a))
     own b a h = on b (as_plain a) (alone a h)
 
     module _ (set : Setting) (end : ℕ) (earlier : List Element) (previous : Option Code) where
@@ -206,8 +208,8 @@ module _ (c : Code) (cs : List Code) (s : IsSound (c ∷ cs)) where
       unfolding tries code_text math_text
       rows-have H r = search (r.ending, r.on, r.own, r.both, r.image, r.footnote, r.link, r.stars, r.underscores, r.tildes, r.last, leads_constructs) parts 20 depth 30 fits 5000
 
-      each-here : EachRow Here (tries set end earlier previous)
-      each-here = rows-have Here (record {
+      each-here : EachRow GoneFromHere (tries set end earlier previous)
+      each-here = rows-have GoneFromHere (record {
         ending = here line_ending ending;
         on = λ b a h. gone-switched (c ∷ cs) b a h;
         own = own;
@@ -221,12 +223,13 @@ module _ (c : Code) (cs : List Code) (s : IsSound (c ∷ cs)) where
         last = here _ (end-read set earlier);
       })
 
-      text-first : Here (text_element set end earlier previous)
+      text-first : GoneFromHere (text_element set end earlier previous)
       unfolding text_element first_check
       text-first =
-          both _ _ (own _ _ leads_gfm_task_list_item_check) (both _ _ (tried-has Here (tries set end earlier previous) c.value each-here here-data) here-data)
+          both _ _ (own _ _ leads_gfm_task_list_item_check)
+          (both _ _ (tried-has GoneFromHere (tries set end earlier previous) c.value each-here here-data) here-data)
 
-    string-first : (set : Setting) → Here (string_element set)
+    string-first : (set : Setting) → GoneFromHere (string_element set)
     unfolding string_element
     string-first set =
         both _ _ (own _ _ leads_character_escape) (both _ _ (own _ _ (leads_character_reference _)) (both _ _ (here line_ending ending) here-data))
@@ -248,7 +251,7 @@ module _ (c : Code) (cs : List Code) (s : IsSound (c ∷ cs)) where
     no-key (n ∷ ns) l =
         let q = and_parts (nat_lt n 128) (KeysBelow ns) l in λ i. other n q.0 i || no-key ns q.1 i
 
-    tried-later : (rows : Tries) → list_all (λ (line : List ℕ × Reading Element). KeysBelow line.0) rows ≡ true → Here (tried rows c.value)
+    tried-later : (rows : Tries) → list_all (λ (line : List ℕ × Reading Element). KeysBelow line.0) rows ≡ true → GoneFromHere (tried rows c.value)
     unfolding tried
     tried-later [] l = here-data
     tried-later (line ∷ rows) l = by_test (list_any (λ n. c.value == n) line.0) (no-key line.0 q.0) (tried-later rows q.1)
@@ -256,8 +259,8 @@ module _ (c : Code) (cs : List Code) (s : IsSound (c ∷ cs)) where
         q : (KeysBelow line.0 ≡ true) × (list_all (λ (row : List ℕ × Reading Element). KeysBelow row.0) rows ≡ true)
         q = and_parts (KeysBelow line.0) (list_all (λ (row : List ℕ × Reading Element). KeysBelow row.0) rows) l
 
-        by_test : (b : Bool) → b ≡ false → Here (tried rows c.value) →
-            Here (elim b as (λ _. Reading Element) [ true ↦ line.1 | false ↦ tried rows c.value ])
+        by_test : (b : Bool) → b ≡ false → GoneFromHere (tried rows c.value) →
+            GoneFromHere (elim b as (λ _. Reading Element) [ true ↦ line.1 | false ↦ tried rows c.value ])
         by_test true e k = cc
         by_test false e k = k
 
@@ -279,51 +282,51 @@ module _ (c : Code) (cs : List Code) (s : IsSound (c ∷ cs)) where
     unfolding line_ending
     no-ending = bind-none _ _ (c ∷ cs) (one-other _ c cs (other 10 refl))
 
-    none-here : (a : Reading Element) → a (c ∷ cs) ≡ None → Here a
+    none-here : (a : Reading Element) → a (c ∷ cs) ≡ None → GoneFromHere a
     none-here a e = gone-none (c ∷ cs) (a (c ∷ cs)) e
 
-    text-later : (set : Setting) (end : ℕ) (earlier : List Element) (previous : Option Code) → Here (text_element set end earlier previous)
+    text-later : (set : Setting) (end : ℕ) (earlier : List Element) (previous : Option Code) → GoneFromHere (text_element set end earlier previous)
     unfolding text_element first_check tries
     text-later set end earlier previous =
         both _ _ (none-here (first_check set end earlier previous) (nowhere ((is_none previous && set.first_of_item) && set.options.constructs.gfm_task_list_item) (as_plain gfm_task_list_item_check) (c ∷ cs) no-check)) (both _ _ (tried-later (tries set end earlier previous) refl) here-data)
 
-    string-later : (set : Setting) → Here (string_element set)
+    string-later : (set : Setting) → GoneFromHere (string_element set)
     unfolding string_element
     string-later set =
         both (switched set.options.constructs.character_escape (as_plain character_escape)) _ (none-here (switched set.options.constructs.character_escape (as_plain character_escape)) (nowhere set.options.constructs.character_escape (as_plain character_escape) (c ∷ cs) no-escape))
         (both (switched set.options.constructs.character_reference (as_plain (character_reference set.references))) _ (none-here (switched set.options.constructs.character_reference (as_plain (character_reference set.references))) (nowhere set.options.constructs.character_reference (as_plain (character_reference set.references)) (c ∷ cs) (no-reference set)))
         (both line_ending data_code (none-here line_ending no-ending) here-data))
 
-abbrev IsGoing : Choice → Type 0
-IsGoing choice = (earlier : List Element) (previous : Option Code) (cs : List Code) → IsSound cs → Gone cs (choice earlier previous cs)
+abbrev KeepsFitting : Choice → Type 0
+KeepsFitting choice = (earlier : List Element) (previous : Option Code) (cs : List Code) → HasNoStrays cs → AnswerFits cs (choice earlier previous cs)
 
-text-going : (set : Setting) (all : List Code) → IsGoing (text_choice set all)
+text-going : (set : Setting) (all : List Code) → KeepsFitting (text_choice set all)
 unfolding text_element
 text-going set all earlier previous [] s = tt
 text-going set all earlier previous (c ∷ cs) s = by_test (is_later_byte c) refl
   where
-    by_test : (b : Bool) → is_later_byte c ≡ b → Gone (c ∷ cs) (text_choice set all earlier previous (c ∷ cs))
+    by_test : (b : Bool) → is_later_byte c ≡ b → AnswerFits (c ∷ cs) (text_choice set all earlier previous (c ∷ cs))
     by_test true e = text-later c cs s e set (stop_of document_start all).index earlier previous
     by_test false e = text-first c cs s e set (stop_of document_start all).index earlier previous
 
-no-data : Gone [] (data_code [])
+no-data : AnswerFits [] (data_code [])
 unfolding data_code one ◌>>=◌
 no-data = tt
 
-own-nothing : (on : Bool) (a : Reading Forest) → ReadsLeads a → Gone [] (switched on (as_plain a) [])
+own-nothing : (on : Bool) (a : Reading Forest) → ReadsLeads a → AnswerFits [] (switched on (as_plain a) [])
 own-nothing on a h = gone-switched [] on (as_plain a) (gone-read [] (as_plain a) (alone a h) tt tt)
 
-string-nothing : (set : Setting) → Gone [] (string_element set [])
+string-nothing : (set : Setting) → AnswerFits [] (string_element set [])
 unfolding string_element
 string-nothing set =
-    either_has (Gone []) tt [] _ _ (own-nothing set.options.constructs.character_escape character_escape leads_character_escape)
-    (either_has (Gone []) tt [] _ _ (own-nothing set.options.constructs.character_reference (character_reference set.references) (leads_character_reference set.references)) (either_has (Gone []) tt [] line_ending data_code (gone-read [] line_ending ending tt tt) no-data))
+    either_has (AnswerFits []) tt [] _ _ (own-nothing set.options.constructs.character_escape character_escape leads_character_escape)
+    (either_has (AnswerFits []) tt [] _ _ (own-nothing set.options.constructs.character_reference (character_reference set.references) (leads_character_reference set.references)) (either_has (AnswerFits []) tt [] line_ending data_code (gone-read [] line_ending ending tt tt) no-data))
 
-string-going : (set : Setting) → IsGoing (string_choice set)
+string-going : (set : Setting) → KeepsFitting (string_choice set)
 string-going set earlier previous [] s = string-nothing set
 string-going set earlier previous (c ∷ cs) s = by_test (is_later_byte c) refl
   where
-    by_test : (b : Bool) → is_later_byte c ≡ b → Gone (c ∷ cs) (string_element set (c ∷ cs))
+    by_test : (b : Bool) → is_later_byte c ≡ b → AnswerFits (c ∷ cs) (string_element set (c ∷ cs))
     by_test true e = string-later c cs s e set
     by_test false e = string-first c cs s e set
 
@@ -334,7 +337,7 @@ ElementsFit f [] = Unit {0}
 ElementsFit f (plain t ∷ es) = Flagged f t × ElementsFit (out f t) es
 ElementsFit f (starts kind marker ∷ es) = Lows marker × ElementsFit false es
 ElementsFit f (ends marker None ∷ es) = Lows marker × ElementsFit false es
-ElementsFit f (ends marker (Some outcome) ∷ es) = (Lows marker × Leads outcome.1) × ElementsFit false es
+ElementsFit f (ends marker (Some outcome) ∷ es) = (Lows marker × HasLeads outcome.1) × ElementsFit false es
 
 lead-code : (f : Bool) (c : Code) (rest cs : List Code) → cs ≡ c ∷ rest → (f ≡ false → Early cs) → Lead (f && true) (c ∷ [])
 lead-code true c rest cs e h = tt
@@ -348,17 +351,17 @@ fit-code : (f : Bool) (e : Element) (es : List Element) (cs rest : List Code) �
 fit-code f e es cs rest (c, both_are) h k =
     subst (λ x. ElementsFit f (x ∷ es)) (sym both_are.0) (((lead-code f c rest cs both_are.1 h, ((λ e. cc), λ e. absurd (never (sym e)))), tt), k)
 
-fit-element : (f : Bool) (e : Element) (es : List Element) → Has e → ((g : Bool) → ElementsFit g es) → ElementsFit f (e ∷ es)
+fit-element : (f : Bool) (e : Element) (es : List Element) → ElementHasLeads e → ((g : Bool) → ElementsFit g es) → ElementsFit f (e ∷ es)
 fit-element f (plain t) es h k = (h f, k (out f t))
 fit-element f (starts kind marker) es h k = (h, k false)
 fit-element f (ends marker None) es h k = (h, k false)
 fit-element f (ends marker (Some outcome)) es h k = (h, k false)
 
-elements-fit : (choice : Choice) → IsGoing choice → (es earlier : List Element) (previous : Option Code) (cs : List Code) → IsSound cs → AreElementsFrom choice earlier previous cs es → (f : Bool) → (f ≡ false → Early cs) →
+elements-fit : (choice : Choice) → KeepsFitting choice → (es earlier : List Element) (previous : Option Code) (cs : List Code) → HasNoStrays cs → AreElementsFrom choice earlier previous cs es → (f : Bool) → (f ≡ false → Early cs) →
     ElementsFit f es
 elements-fit choice going [] earlier previous cs s h f k = tt
 elements-fit choice going (e ∷ es) earlier previous cs s h f k =
-    let g : Fits cs e h.0 × IsSound h.0 = subst (Gone cs) h.1 (going earlier previous cs s) in
+    let g : ElementFits cs e h.0 × HasNoStrays h.0 = subst (AnswerFits cs) h.1 (going earlier previous cs s) in
     let more_fit = elements-fit choice going es (e ∷ earlier) (code_before cs h.0) h.0 g.1 h.2 in
     elim g.0 [
       | inl code ↦ fit-code f e es cs h.0 code k (more_fit true (λ x. absurd (never x)))
@@ -447,7 +450,7 @@ front-low LabelKind.Image cs h = h
 front-low LabelKind.Link cs h = h
 front-low LabelKind.GfmFootnote cs h = h
 
-start-leads : (kind : LabelKind) (cs : List Code) → AllLow cs → Leads (start_tree kind cs)
+start-leads : (kind : LabelKind) (cs : List Code) → AllLow cs → HasLeads (start_tree kind cs)
 start-leads LabelKind.Image cs h =
     (leads-row (leaf N.LabelImageMarker (take 1 cs)) (leaf N.LabelMarker (drop 1 cs)) (low-leaf N.LabelImageMarker (take 1 cs) refl (low-take 1 cs h)) (low-leaf N.LabelMarker (drop 1 cs) refl (low-drop 1 cs h)), tt)
 start-leads LabelKind.GfmFootnote cs h =
@@ -455,7 +458,7 @@ start-leads LabelKind.GfmFootnote cs h =
 start-leads LabelKind.Link cs h = (low-leaf N.LabelMarker cs refl h, tt)
 start-leads LabelKind.GfmUndefinedFootnote cs h = (low-leaf N.LabelMarker cs refl h, tt)
 
-label-fits : (kind : LabelKind) (marker : List Code) (inside : Forest) (back : List Code) (tail : Forest) → AllLow marker → Flagged false inside → AllLow back → Leads tail →
+label-fits : (kind : LabelKind) (marker : List Code) (inside : Forest) (back : List Code) (tail : Forest) → AllLow marker → Flagged false inside → AllLow back → HasLeads tail →
     (f : Bool) → Flagged f (label_group kind marker inside back tail)
 label-fits kind marker inside back tail m h b k f =
     let front : List Code = start_marker kind marker in
@@ -468,25 +471,25 @@ label-fits kind marker inside back tail m h b k f =
     let both : Flagged (out false (start_tree kind front)) (text ⊕ close) = (inner, of-leads false close (low-leaf N.LabelMarker back refl b, tt)) in
     ((row false (start_tree kind front) (text ⊕ close) first both, of-leads false tail k), tt)
 
-abbrev IsStart : Start → Type 0
-IsStart o = Lows o.1
+abbrev HasLowStart : Start → Type 0
+HasLowStart o = Lows o.1
 
-abbrev IsEnd : End → Type 0
-IsEnd (back, None) = Lows back
-IsEnd (back, Some outcome) = Lows back × Leads outcome.1
+abbrev HasLowEnd : End → Type 0
+HasLowEnd (back, None) = Lows back
+HasLowEnd (back, Some outcome) = Lows back × HasLeads outcome.1
 
-end-low : (c : End) → IsEnd c → AllLow c.0
+end-low : (c : End) → HasLowEnd c → AllLow c.0
 end-low (back, None) h = lows-all back h
 end-low (back, Some outcome) h = lows-all back h.0
 
-labelled-fits : (o : Start) (inside : List Forest) (c : End) → IsStart o → Flagged false (joined inside) → IsEnd c → (f : Bool) → Flagged f (joined (labelled o inside c))
+labelled-fits : (o : Start) (inside : List Forest) (c : End) → HasLowStart o → Flagged false (joined inside) → HasLowEnd c → (f : Bool) → Flagged f (joined (labelled o inside c))
 labelled-fits o inside (back, None) s h e f =
     row f (leaf N.Data o.1) (joined (inside ++ loose back)) (low-data f o.1 (lows-all o.1 s))
     (more _ (joined (inside ++ loose back)) (joined-row false inside (loose back) h (row false (leaf N.Data back) empty (low-data false back (lows-all back e)) tt)))
 labelled-fits o inside (back, Some outcome) s h e f =
     row f (label_group outcome.0 o.1 (joined inside) back outcome.1) empty (label-fits outcome.0 o.1 (joined inside) back outcome.1 (lows-all o.1 s) h (lows-all back e.0) e.1 f) tt
 
-word-fits : (f : Bool) (es : List Element) → ElementsFit f es → WordFits IsStart IsEnd f (map as_bracket es)
+word-fits : (f : Bool) (es : List Element) → ElementsFit f es → WordFits HasLowStart HasLowEnd f (map as_bracket es)
 word-fits f [] h = tt
 word-fits f (plain t ∷ es) h = (h.0, word-fits (out f t) es h.1)
 word-fits f (starts kind marker ∷ es) h = (h.0, word-fits false es h.1)
@@ -496,13 +499,13 @@ word-fits f (ends marker (Some outcome) ∷ es) h = (h.0, word-fits false es h.1
 labels-fit : (f : Bool) (es : List Element) → ElementsFit f es → Flagged f (labels_of es)
 unfolding labels_of
 labels-fit f es h =
-    nested-fits IsStart IsEnd (λ o. o.1) (λ c. c.0) labelled (λ o k. lows-all o.1 k) end-low labelled-fits f (map as_bracket es) (word-fits f es h)
+    nested-fits HasLowStart HasLowEnd (λ o. o.1) (λ c. c.0) labelled (λ o k. lows-all o.1 k) end-low labelled-fits f (map as_bracket es) (word-fits f es h)
 
-pub text-labels-fit : (set : Setting) (cs : List Code) → IsSound cs → Early cs → Flagged false (labels_of (elements_of set cs))
+pub text-labels-fit : (set : Setting) (cs : List Code) → HasNoStrays cs → Early cs → Flagged false (labels_of (elements_of set cs))
 text-labels-fit set cs s w =
     labels-fit false (elements_of set cs) (elements-fit (text_choice set cs) (text-going set cs) (elements_of set cs) [] None cs s (text_elements set cs) false (λ _. w))
 
-pub string-labels-fit : (set : Setting) (cs : List Code) → IsSound cs → Early cs → Flagged false (labels_of (string_elements_of set cs))
+pub string-labels-fit : (set : Setting) (cs : List Code) → HasNoStrays cs → Early cs → Flagged false (labels_of (string_elements_of set cs))
 string-labels-fit set cs s w =
     labels-fit false (string_elements_of set cs) (elements-fit (string_choice set) (string-going set) (string_elements_of set cs) [] None cs s (string_elements set cs) false (λ _. w))
 
@@ -528,20 +531,20 @@ assembled-fits f w h =
 abbrev Anywhere : List Token → Type 0
 Anywhere w = (g : Bool) → TokensFit g w
 
-abbrev AllMarkers : List (List Code) → Type 0
-AllMarkers [] = Unit {0}
-AllMarkers (cs ∷ rest) = AllLow cs × AllMarkers rest
+abbrev AllMarkersLow : List (List Code) → Type 0
+AllMarkersLow [] = Unit {0}
+AllMarkersLow (cs ∷ rest) = AllLow cs × AllMarkersLow rest
 
-cut-low : (sizes : List ℕ) (cs : List Code) → AllLow cs → AllMarkers (cut_front sizes cs).0 × AllLow (cut_front sizes cs).1
+cut-low : (sizes : List ℕ) (cs : List Code) → AllLow cs → AllMarkersLow (cut_front sizes cs).0 × AllLow (cut_front sizes cs).1
 cut-low [] cs h = (tt, h)
 cut-low (n ∷ ns) cs h =
     let r = cut-low ns (drop n cs) (low-drop n cs h) in ((low-take n cs h, r.0), r.1)
 
-closes-fit : (cs : List (List Code)) (w : List Token) → AllMarkers cs → Anywhere w → Anywhere (map closes cs ++ w)
+closes-fit : (cs : List (List Code)) (w : List Token) → AllMarkersLow cs → Anywhere w → Anywhere (map closes cs ++ w)
 closes-fit [] w l h = h
 closes-fit (c ∷ cs) w l h = λ g. (l.0, closes-fit cs w l.1 h false)
 
-opens-fit : (cs : List (List Code)) (w : List Token) → AllMarkers cs → Anywhere w → Anywhere (map opens cs ++ w)
+opens-fit : (cs : List (List Code)) (w : List Token) → AllMarkersLow cs → Anywhere w → Anywhere (map opens cs ++ w)
 opens-fit [] w l h = h
 opens-fit (c ∷ cs) w l h = λ g. (l.0, opens-fit cs w l.1 h false)
 

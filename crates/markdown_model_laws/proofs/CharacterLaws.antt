@@ -6,39 +6,39 @@ use Rattle.std.proofs.lemmas.Bool.{ltb-true}
 use Rattle.std.proofs.lemmas.Bool.Decides.{nat_tests}
 use Rattle.std.proofs.lemmas.List.Elements.{All-cons, All-nil}
 use Rattle.std.proofs.lemmas.Str.{IsUtf8-between, IsUtf8-from_ascii, IsCharBoundary-after_ascii}
-use Rattle.markdown_engine_content.specs.Codes.{Code, document_start, is_line_ending_byte, place_of, stop_of}
-use Rattle.markdown_engine_content.specs.Content.{IsContent, content_of}
-use Rattle.markdown_engine_content.specs.DocumentWalk.{IsPoint}
-use Rattle.markdown_engine_content.specs.Place.{start_of_content, value_of}
-use Rattle.markdown_engine_content.specs.PlaceInDocument.{IsStanding, first_point, is_open, content_place}
-use Rattle.markdown_engine_content.specs.Slices.{position_bytes, byte_from}
-use Rattle.markdown_engine_content.specs.Tree.{Forest, empty, leaf_then, group_then, leaf_codes, events_of, start_of}
+use Rattle.markdown_content.specs.Codes.{Code, document_start, is_line_ending_byte, place_of, stop_of}
+use Rattle.markdown_content.specs.Content.{IsContent, content_of}
+use Rattle.markdown_content.specs.DocumentWalk.{IsPoint}
+use Rattle.markdown_content.specs.Place.{start_of_content, value_of}
+use Rattle.markdown_content.specs.PlaceInDocument.{IsStanding, first_point, is_open, content_place}
+use Rattle.markdown_content.specs.Slices.{position_bytes, byte_from}
+use Rattle.markdown_content.specs.Tree.{Forest, empty, leaf_then, group_then, leaf_codes, events_of, start_of}
 use Rattle.markdown_event.specs.declared.event.Point.{Point}
-use Rattle.markdown_engine_content.specs.declared.parser.Piece.{Piece}
-use Rattle.markdown_engine_content.proofs.ContentCodes.{piece_row}
-use Rattle.markdown_engine_content.proofs.CursorInvariant.{IsOpenStanding, open-standing, closed-standing, standing-start}
-use Rattle.markdown_engine_content.proofs.DocumentCodes.{code_here, Stands}
-use Rattle.markdown_engine_content.proofs.DocumentPlaces.{there, stands-point}
+use Rattle.markdown_content.specs.declared.parser.Piece.{Piece}
+use Rattle.markdown_content.proofs.ContentCodes.{piece_row}
+use Rattle.markdown_content.proofs.CursorInvariant.{IsOpenStanding, open-standing, closed-standing, standing-start}
+use Rattle.markdown_content.proofs.DocumentCodes.{code_here, HasPlaceNumbers}
+use Rattle.markdown_content.proofs.DocumentPlaces.{there, stands-point}
 use Rattle.markdown_model.specs.CodeTests.{is_between, is_later_byte}
 use Rattle.markdown_model.specs.InlineTree.{text_tree, string_tree}
 use Rattle.markdown_model.proofs.OneTree.{leaves_cover}
-use Rattle.markdown_partial.specs.TrimmedData.{IsStretch}
-use Rattle.markdown_partial.specs.TrimmedEvents.{IsPart}
-use Rattle.markdown_partial.proofs.TrimPassLaw.{part-of}
+use Rattle.markdown_passes.specs.TrimmedData.{IsStretch}
+use Rattle.markdown_passes.specs.TrimmedEvents.{AreDocumentCodes}
+use Rattle.markdown_passes.proofs.TrimPassLaw.{part-of}
 use Rattle.markdown_plan.specs.Characters.{IsText, at_later}
 use Rattle.markdown_plan.proofs.ContentCharacters.{content-text, same-code, none-some}
-use Rattle.markdown_run_leaves.specs.InnermostEvents.{HasLeaves, Span, lent, leaves_of}
-use Rattle.markdown_run_leaves.proofs.InnermostEventsLaws.{lent-leaves}
-use Rattle.markdown_run_leaves.proofs.LeavesAreStretches.{leaves-are-stretches}
+use Rattle.markdown_innermost.specs.InnermostEvents.{HasLeaves, Span, lent, leaves_of}
+use Rattle.markdown_innermost.proofs.InnermostEventsLaws.{lent-leaves}
+use Rattle.markdown_innermost.proofs.LeavesAreStretches.{leaves-are-stretches}
 use Rattle.markdown_model_laws.specs.LentTexts.{LendTexts, LeavesAreTexts}
 use Rattle.markdown_model_laws.proofs.LentSlices.{slice-none}
-use Rattle.markdown_model_laws.proofs.CharacterRows.{Early, IsSound, Starts}
+use Rattle.markdown_model_laws.proofs.CharacterRows.{Early, HasNoStrays, Starts}
 use Rattle.markdown_model_laws.proofs.CharacterPasses.{AreWhole, text-whole, string-whole}
 
 -- The codes of a content.
 
 sound-from : (cs : List Code) → ((n : ℕ) (c d : Code) → slice_get cs n ≡ Some c → slice_get cs (suc n) ≡ Some d → nat_lt c.value 128 ≡ true → is_later_byte d ≡ false) →
-    IsSound cs
+    HasNoStrays cs
 sound-from [] h = tt
 sound-from (c ∷ []) h = ((λ l. tt), tt)
 sound-from (c ∷ d ∷ cs) h = ((λ l. h 0 c d refl refl l), sound-from (d ∷ cs) (λ n x y e k l. h (suc n) x y e k l))
@@ -86,7 +86,7 @@ module _ (bytes : List ℕ) where
     from-bound : (p : Point) → IsPoint bytes p → IsCharBoundary bytes p.index → IsCharBoundary bytes (byte_from p)
     from-bound p h b = by_test (nat_lt 0 p.vs) refl
       where
-        s : Stands bytes p
+        s : HasPlaceNumbers bytes p
         s = stands-point bytes p h
 
         by_test : (t : Bool) → nat_lt 0 p.vs ≡ t → IsCharBoundary bytes (if t then p.index + 1 else p.index)
@@ -118,21 +118,21 @@ module _ (bytes : List ℕ) where
 
     -- What holds of a leaf that begins and ends between characters, and of a group around nothing, holds of each span.
 
-    module _ (P : Point → Point → Type 0) (over : (cs : List Code) → IsPart bytes cs → IsCharBoundary bytes (start_of cs).index → IsCharBoundary bytes (stop_of document_start cs).index → P (start_of cs) (stop_of document_start cs)) (nowhere : (a b : Point) → a ≡ b → P a b) where
+    module _ (P : Point → Point → Type 0) (over : (cs : List Code) → AreDocumentCodes bytes cs → IsCharBoundary bytes (start_of cs).index → IsCharBoundary bytes (stop_of document_start cs).index → P (start_of cs) (stop_of document_start cs)) (nowhere : (a b : Point) → a ≡ b → P a b) where
       spans-append : (ss ts : List Span) → EachSpan P ss → EachSpan P ts → EachSpan P (ss ++ ts)
       spans-append [] ts h k = k
       spans-append (s ∷ ss) ts h k = (h.0, spans-append ss ts h.1 k)
 
-      abbrev Spans : Forest → Type 0
-      Spans t = (after : List Code) → AreWhole t → HasLeaves bytes t → Bounds (leaf_codes t ++ after) → Early after → EachSpan P (leaves_of t)
+      abbrev SpansWholly : Forest → Type 0
+      SpansWholly t = (after : List Code) → AreWhole t → HasLeaves bytes t → Bounds (leaf_codes t ++ after) → Early after → EachSpan P (leaves_of t)
 
-      group-spans : (inside rest : Forest) → Spans inside → Spans rest → (after : List Code) → AreWhole inside → AreWhole rest → HasLeaves bytes inside → HasLeaves bytes rest
+      group-spans : (inside rest : Forest) → SpansWholly inside → SpansWholly rest → (after : List Code) → AreWhole inside → AreWhole rest → HasLeaves bytes inside → HasLeaves bytes rest
           → Bounds ((leaf_codes inside ++ leaf_codes rest) ++ after) → Early after → EachSpan P (leaves_of inside ++ leaves_of rest)
       group-spans inside rest in_spans rest_spans after h k l m b e =
           let bounds : Bounds (leaf_codes inside ++ (leaf_codes rest ++ after)) = subst Bounds (append_assoc (leaf_codes inside) (leaf_codes rest) after) b in
           spans-append (leaves_of inside) (leaves_of rest) (in_spans (leaf_codes rest ++ after) h l bounds (heads-early rest after k e)) (rest_spans after k m (bounds-back (leaf_codes inside) (leaf_codes rest ++ after) bounds) e)
 
-      spans : (t : Forest) → Spans t
+      spans : (t : Forest) → SpansWholly t
       spans empty after h l b e = tt
       spans (leaf_then name link cs rest) after h l b e =
           let bounds : Bounds (cs ++ (leaf_codes rest ++ after)) = subst Bounds (append_assoc cs (leaf_codes rest) after) b in

@@ -5,44 +5,44 @@ use Rattle.std.specs.Str.{byte}
 use Rattle.std.proofs.lemmas.List.{reverse-append}
 use Rattle.markdown_event.specs.declared.event.Name.{Name}
 use Rattle.markdown_event.specs.declared.event.Name.TheVariants as N
-use Rattle.markdown_engine_content.specs.Codes.{Code, is_blank}
-use Rattle.markdown_engine_content.specs.Tree.{Forest, empty, leaf_then, group_then, leaf, leaf_codes, ◌⊕◌}
-use Rattle.markdown_engine_content.proofs.TreeCodes.{leaf_codes-row}
+use Rattle.markdown_content.specs.Codes.{Code, is_blank}
+use Rattle.markdown_content.specs.Tree.{Forest, empty, leaf_then, group_then, leaf, leaf_codes, ◌⊕◌}
+use Rattle.markdown_content.proofs.TreeCodes.{leaf_codes-row}
 use Rattle.markdown_model.specs.CodeTests.{is_value, is_among, is_alphanumeric, is_empty, next_is}
 use Rattle.markdown_model.specs.Elements.{elements_of, string_elements_of}
 use Rattle.markdown_model.specs.GfmEmailLiteral.{is_local, is_word, email_protocol, is_xmpp, email_domain, is_email_domain, email_at, email_leaves, with_emails}
 use Rattle.markdown_model.specs.Grammar.{span}
 use Rattle.markdown_model.specs.InlineTree.{finished_string, text_tree, string_tree}
 use Rattle.markdown_model.specs.Pairs.{pair_list}
-use Rattle.markdown_model.specs.Passes.{data_onto, merged, trimmed_data, trimmed, with_emails_apart, labels_of, blank_name}
+use Rattle.markdown_model.specs.Passes.{no_breaks, HardBreaks, breaks, data_onto, merged, trimmed_data, trimmed, with_emails_apart, labels_of, blank_name}
 use Rattle.markdown_model.specs.Setting.{Setting}
 use Rattle.markdown_model.proofs.DefinitionSteps.{span-all}
 use Rattle.markdown_model.proofs.LabelsCover.{codes-labels_of}
 use Rattle.markdown_model.proofs.LeafCodes.{codes-leaf}
-use Rattle.markdown_model.proofs.LiteralCodes.{found, IsFound, reverse-first}
+use Rattle.markdown_model.proofs.LiteralCodes.{found, HasCodesAround, reverse-first}
 use Rattle.markdown_model.proofs.OneTree.{codes-finished_text, codes-finished_string, leaves_cover}
-use Rattle.markdown_model.proofs.PassedTrees.{Walks, walks-row, walks-trimmed, walks-mailed}
+use Rattle.markdown_model.proofs.PassedTrees.{HoldsByParts, walks-row, walks-trimmed, walks-mailed}
 use Rattle.markdown_model.proofs.PassesKeepCodes.{codes-merged, codes-paired, codes-trimmed_data}
 use Rattle.markdown_model_laws.proofs.EachPass.{pairs_in, unmailed, text-has}
-use Rattle.markdown_model_laws.proofs.CharacterRows.{is_low, Early, IsSound, AllLow, Lows, Starts, all-early, lows-all, early-front, sound-back, sound-front, low-behind, lows-behind, all-join, low-list, value-low, among-low, IsLowTest}
+use Rattle.markdown_model_laws.proofs.CharacterRows.{is_low, Early, HasNoStrays, AllLow, Lows, Starts, all-early, lows-all, early-front, sound-back, sound-front, low-behind, lows-behind, all-join, low-list, value-low, among-low, IsLowTest}
 use Rattle.markdown_model_laws.proofs.CharacterConstructs.{blank-low, alphanumeric-low, either-low}
 use Rattle.markdown_model_laws.proofs.CharacterElements.{Lead, Flagged, text-labels-fit, string-labels-fit, paired-fits}
 
 -- Merging.
 
-abbrev Led : Forest → Type 0
-Led empty = Unit {0}
-Led (leaf_then name link cs rest) = (Early cs × (cs ≢ [])) × Led rest
-Led (group_then name a b inside rest) = Led inside × Led rest
+abbrev HasEarlyLeaves : Forest → Type 0
+HasEarlyLeaves empty = Unit {0}
+HasEarlyLeaves (leaf_then name link cs rest) = (Early cs × (cs ≢ [])) × HasEarlyLeaves rest
+HasEarlyLeaves (group_then name a b inside rest) = HasEarlyLeaves inside × HasEarlyLeaves rest
 
 -- but for the first, where it is unlinked data
 abbrev LedOpen : Forest → Type 0
-LedOpen (leaf_then N.Data None cs rest) = (cs ≢ []) × Led rest
-LedOpen t = Led t
+LedOpen (leaf_then N.Data None cs rest) = (cs ≢ []) × HasEarlyLeaves rest
+LedOpen t = HasEarlyLeaves t
 
 abbrev LedAfter : Bool → Forest → Type 0
 LedAfter true t = LedOpen t
-LedAfter false t = Led t
+LedAfter false t = HasEarlyLeaves t
 
 some-more : (cs ds : List Code) → cs ≢ [] → cs ++ ds ≢ []
 some-more [] ds h e = h refl
@@ -78,14 +78,14 @@ AreWhole empty = Unit {0}
 AreWhole (leaf_then name link cs rest) = IsWhole cs × AreWhole rest
 AreWhole (group_then name a b inside rest) = AreWhole inside × AreWhole rest
 
-led-whole : (t : Forest) → Led t → IsSound (leaf_codes t) → AreWhole t
+led-whole : (t : Forest) → HasEarlyLeaves t → HasNoStrays (leaf_codes t) → AreWhole t
 led-whole empty h s = tt
 led-whole (leaf_then name link cs rest) h s =
     (((h.0.0, sound-front cs (leaf_codes rest) s), h.0.1), led-whole rest h.1 (sound-back cs (leaf_codes rest) s))
 led-whole (group_then name a b inside rest) h s =
     (led-whole inside h.0 (sound-front (leaf_codes inside) (leaf_codes rest) s), led-whole rest h.1 (sound-back (leaf_codes inside) (leaf_codes rest) s))
 
-whole : Walks AreWhole (λ name link cs. IsWhole cs) (λ name a b inside. Unit {0})
+whole : HoldsByParts AreWhole (λ name link cs. IsWhole cs) (λ name a b inside. Unit {0})
 whole = record {
   none = tt;
   leaf_of = λ name link cs rest h. h;
@@ -122,7 +122,7 @@ three : (m n : Name) (a b d cs : List Code) → leaf_codes (leaf N.SpaceOrTab a 
 three m n a b d cs e =
     sym (leaf_codes-row (leaf N.SpaceOrTab a) (leaf m b ⊕ leaf n d) ∙ (λ i. codes-leaf N.SpaceOrTab a i ++ (leaf_codes-row (leaf m b) (leaf n d) ∙ (λ j. codes-leaf m b j ++ codes-leaf n d j)) i)) ∙ e
 
-cut-whole : (front back hard : Bool) (cs : List Code) → Starts cs → AreWhole (trimmed_data front back hard cs)
+cut-whole : (front back : Bool) (hard : HardBreaks) (cs : List Code) → Starts cs → AreWhole (trimmed_data front back hard cs)
 cut-whole front back hard cs h =
     let cut : List Code × List Code = elim back [ true ↦ span is_blank (reverse cs) | false ↦ ([], reverse cs) ] in
     let kept : List Code = reverse cut.1 in
@@ -137,7 +137,7 @@ cut-whole front back hard cs h =
     whole-row (leaf N.SpaceOrTab lead.0) (leaf N.Data lead.1 ⊕ leaf name last) (whole-leaf N.SpaceOrTab lead.0 (starts-front lead.0 (lead.1 ++ last) starts))
     (whole-row (leaf N.Data lead.1) (leaf name last) (whole-leaf N.Data lead.1 (starts-front lead.1 last rest)) (whole-leaf name last (all-early last last_low, sound-back lead.1 last rest.1)))
 
-trimmed-whole : (hard front all : Bool) (t : Forest) → AreWhole t → AreWhole (trimmed hard front all t)
+trimmed-whole : (hard : HardBreaks) (front all : Bool) (t : Forest) → AreWhole t → AreWhole (trimmed hard front all t)
 trimmed-whole hard front all t h =
     walks-trimmed whole hard (λ x y z cs k. cut-whole x y z cs k.0) (λ name a b inside _ g. tt) front all t h
 
@@ -224,8 +224,8 @@ found-whole : (x : List Code × Forest × List Code) (cs : List Code) → IsLowL
 found-whole x cs (name, es, same, low) e h =
     let starts : Starts (x.0 ++ (leaf_codes x.1 ++ x.2)) = subst Starts (sym e) h in
     let lows : Lows (leaf_codes x.1) = subst Lows (sym (ap leaf_codes same ∙ codes-leaf name es)) low in
-    let sound : IsSound (leaf_codes x.1 ++ x.2) = sound-back x.0 (leaf_codes x.1 ++ x.2) starts.1 in
-    let own : IsSound es = subst IsSound (ap leaf_codes same ∙ codes-leaf name es) (sound-front (leaf_codes x.1) x.2 sound) in (
+    let sound : HasNoStrays (leaf_codes x.1 ++ x.2) = sound-back x.0 (leaf_codes x.1 ++ x.2) starts.1 in
+    let own : HasNoStrays es = subst HasNoStrays (ap leaf_codes same ∙ codes-leaf name es) (sound-front (leaf_codes x.1) x.2 sound) in (
       starts-front x.0 (leaf_codes x.1 ++ x.2) starts,
       (subst AreWhole (sym same) (whole-leaf name es (all-early es (lows-all es low), own)), (lows-behind (leaf_codes x.1) x.2 lows sound, sound-back (leaf_codes x.1) x.2 sound)),
     )
@@ -236,7 +236,7 @@ emails-whole n before [] h = whole-leaf N.Data (reverse before) (subst Starts (a
 emails-whole zero before (c ∷ cs) h = whole-leaf N.Data (reverse before ++ c ∷ cs) h
 emails-whole (suc n) before (c ∷ cs) h = by_answer (email_at before c cs) (found before c cs) (email-low before c cs) (emails-whole n)
   where
-    by_answer : (r : Option (List Code × Forest × List Code)) → IsFound before c cs r → HasLowLeaf r
+    by_answer : (r : Option (List Code × Forest × List Code)) → HasCodesAround before c cs r → HasLowLeaf r
         → ((front ds : List Code) → Starts (reverse front ++ ds) → AreWhole (email_leaves n front ds))
         → AreWhole (elim r as (λ _. Forest) [ None ↦ email_leaves n (c ∷ before) cs | Some x ↦ leaf N.Data x.0 ⊕ x.1 ⊕ email_leaves n [] x.2 ])
     by_answer None k l more = more (c ∷ before) cs (subst Starts (sym (reverse-first c before cs)) h)
@@ -251,36 +251,36 @@ mailed-whole t h = walks-mailed whole (λ cs k. emails-whole (length cs) [] cs k
 -- The inline trees.
 
 module _ (s : Setting) (cs : List Code) (starts : Starts cs) where
-  abbrev Labels : Forest
-  Labels = labels_of (elements_of s cs)
+  abbrev label_row : Forest
+  label_row = labels_of (elements_of s cs)
 
-  codes-text : leaf_codes Labels ≡ cs
+  codes-text : leaf_codes label_row ≡ cs
   unfolding text_tree
   codes-text = codes-labels_of (elements_of s cs) ∙ sym (codes-finished_text s (pair_list s) (elements_of s cs)) ∙ (leaves_cover s cs).0
 
-  abbrev Pairs : Forest
-  Pairs = pairs_in s cs
+  abbrev paired_row : Forest
+  paired_row = pairs_in s cs
 
-  merged-text : AreWhole (merged Pairs)
+  merged-text : AreWhole (merged paired_row)
   merged-text =
-      led-whole (merged Pairs) (merged-led false Pairs (paired-fits s (pair_list s) Labels (text-labels-fit s cs starts.1 starts.0)))
-      (subst IsSound (sym (codes-merged Pairs ∙ codes-paired s (pair_list s) Labels ∙ codes-text)) starts.1)
+      led-whole (merged paired_row) (merged-led false paired_row (paired-fits s (pair_list s) label_row (text-labels-fit s cs starts.1 starts.0)))
+      (subst HasNoStrays (sym (codes-merged paired_row ∙ codes-paired s (pair_list s) label_row ∙ codes-text)) starts.1)
 
   pub text-whole : AreWhole (text_tree s cs)
   text-whole = text-has AreWhole s cs (mailed-whole (unmailed s cs) done) done
     where
       done : AreWhole (unmailed s cs)
-      done = trimmed-whole s.options.constructs.hard_break_trailing true true (merged Pairs) merged-text
+      done = trimmed-whole (breaks s) true true (merged paired_row) merged-text
 
-  abbrev Plain : Forest
-  Plain = labels_of (string_elements_of s cs)
+  abbrev plain_row : Forest
+  plain_row = labels_of (string_elements_of s cs)
 
-  codes-string : leaf_codes Plain ≡ cs
+  codes-string : leaf_codes plain_row ≡ cs
   unfolding string_tree
   codes-string = codes-labels_of (string_elements_of s cs) ∙ sym (codes-finished_string (string_elements_of s cs)) ∙ (leaves_cover s cs).1
 
   pub string-whole : AreWhole (string_tree s cs)
   unfolding string_tree finished_string
   string-whole =
-      trimmed-whole false false false (merged Plain)
-      (led-whole (merged Plain) (merged-led false Plain (string-labels-fit s cs starts.1 starts.0)) (subst IsSound (sym (codes-merged Plain ∙ codes-string)) starts.1))
+      trimmed-whole no_breaks false false (merged plain_row)
+      (led-whole (merged plain_row) (merged-led false plain_row (string-labels-fit s cs starts.1 starts.0)) (subst HasNoStrays (sym (codes-merged plain_row ∙ codes-string)) starts.1))

@@ -1,15 +1,15 @@
 -- Codes of texts: which begin a character, and readings that stop between two.
-use Rattle.std.proofs.Common.{◌≡◌, ◌==◌, ◌||◌, nat_lt, ℕ, Bool, true, false, List, [], ◌∷◌, ◌++◌, Option, Some, None, refl, sym, ap, subst, ◌∙◌, arith}
+use Rattle.std.proofs.Common.{◌≡◌, ◌==◌, ◌||◌, nat_lt, ℕ, Bool, true, false, List, [], ◌∷◌, ◌++◌, Option, refl, sym, ap, subst, ◌∙◌, arith}
 use Rattle.std.specs.List.{list_all, list_any}
 use Rattle.std.proofs.lemmas.Bool.{and_parts, eqb-true}
 use Rattle.std.proofs.lemmas.Bool.Decides.{nat_tests}
-use Rattle.markdown_engine_content.specs.Codes.{Code}
-use Rattle.markdown_model.specs.CodeTests.{is_value, is_among, is_empty, is_later_byte}
+use Rattle.markdown_content.specs.Codes.{Code}
+use Rattle.markdown_model.specs.CodeTests.{is_value, is_among, is_later_byte}
 use Rattle.markdown_model.specs.Grammar.{Reading, ◌>>=◌, ◌>>◌, gives, either, unless, if_next, provided, before, one, some, any_number, span}
-use Rattle.markdown_model.specs.CodeTests.{next_is}
 use Rattle.markdown_model.proofs.DefinitionSteps.{span-all}
-use Rattle.markdown_model.proofs.NoLinkInConstructs.{Passes, Yields}
-use Rattle.markdown_model.proofs.ReadingsCover.{At, Takes, itself, takes_one, takes_some, takes_any_number}
+use Rattle.markdown_model.proofs.GivenByReadings.{IfGiven, given-map, given-both, given-bind, given-gives, given-passed, given-either, given-before, given-next, given-unless, given-one, given-some}
+use Rattle.markdown_model.proofs.NoLinkInConstructs.{Yields, yields_any}
+use Rattle.markdown_model.proofs.ReadingsCover.{Splits, Takes, itself, takes_one, takes_some, takes_any_number}
 
 -- Codes.
 
@@ -25,9 +25,9 @@ Early [] = Unit {0}
 Early (c ∷ cs) = is_later_byte c ≡ false
 
 -- no later byte follows an ASCII code
-abbrev pub IsSound : List Code → Type 0
-IsSound [] = Unit {0}
-IsSound (c ∷ cs) = (is_low c ≡ true → Early cs) × IsSound cs
+abbrev pub HasNoStrays : List Code → Type 0
+HasNoStrays [] = Unit {0}
+HasNoStrays (c ∷ cs) = (is_low c ≡ true → Early cs) × HasNoStrays cs
 
 abbrev pub AllLow : List Code → Type 0
 AllLow [] = Unit {0}
@@ -56,24 +56,24 @@ pub early-front : (xs ys : List Code) → Early (xs ++ ys) → Early xs
 early-front [] ys h = tt
 early-front (x ∷ xs) ys h = h
 
-pub sound-back : (xs ys : List Code) → IsSound (xs ++ ys) → IsSound ys
+pub sound-back : (xs ys : List Code) → HasNoStrays (xs ++ ys) → HasNoStrays ys
 sound-back [] ys h = h
 sound-back (x ∷ xs) ys h = sound-back xs ys h.1
 
-pub sound-front : (xs ys : List Code) → IsSound (xs ++ ys) → IsSound xs
+pub sound-front : (xs ys : List Code) → HasNoStrays (xs ++ ys) → HasNoStrays xs
 sound-front [] ys h = tt
 sound-front (x ∷ xs) ys h = ((λ l. early-front xs ys (h.0 l)), sound-front xs ys h.1)
 
 -- behind ASCII codes no later byte stands
-pub low-behind : (xs ys : List Code) → AllLow xs → IsSound (xs ++ ys) → Early (xs ++ ys) → Early ys
+pub low-behind : (xs ys : List Code) → AllLow xs → HasNoStrays (xs ++ ys) → Early (xs ++ ys) → Early ys
 low-behind [] ys l h e = e
 low-behind (x ∷ xs) ys l h e = low-behind xs ys l.1 h.1 (h.0 l.0)
 
-pub lows-behind : (xs ys : List Code) → Lows xs → IsSound (xs ++ ys) → Early ys
+pub lows-behind : (xs ys : List Code) → Lows xs → HasNoStrays (xs ++ ys) → Early ys
 lows-behind [] ys l h = absurd l
 lows-behind (x ∷ xs) ys l h = low-behind xs ys l.1 h.1 (h.0 l.0)
 
-pub ends-behind : (xs ys : List Code) → EndsLow xs → IsSound (xs ++ ys) → Early ys
+pub ends-behind : (xs ys : List Code) → EndsLow xs → HasNoStrays (xs ++ ys) → Early ys
 ends-behind [] ys l h = absurd l
 ends-behind (x ∷ []) ys l h = h.0 l
 ends-behind (x ∷ y ∷ xs) ys l h = ends-behind (y ∷ xs) ys l h.1
@@ -121,26 +121,12 @@ low-list p test (c ∷ cs) h = let q = and_parts (p c) (list_all p cs) h in (tes
 -- Readings of ASCII codes.
 
 pub one-lows : (p : Code → Bool) → IsLowTest p → Yields Lows (one p)
-unfolding one
-one-lows p test = record { at = here }
-  where
-    by_test : (c : Code) (cs : List Code) (b : Bool) → p c ≡ b →
-        Passes Lows (elim b as (λ _. Option (List Code × List Code)) [ true ↦ Some (c ∷ [], cs) | false ↦ None ])
-    by_test c cs true e = (test c e, tt)
-    by_test c cs false e = tt
-
-    here : (cs : List Code) → Passes Lows (one p cs)
-    here [] = tt
-    here (c ∷ cs) = by_test c cs (p c) refl
+one-lows p test = record { at = given-one (λ _ x _. Lows x) p (λ c cs e. (test c e, tt)) }
 
 pub some-lows : (p : Code → Bool) → IsLowTest p → Yields Lows (some p)
-unfolding some
-some-lows p test = record { at = λ cs. by_first (span p cs).0 (span p cs).1 (low-list p test (span p cs).0 (span-all p cs)) }
-  where
-    by_first : (front back : List Code) → AllLow front →
-        Passes Lows (elim (is_empty front) as (λ _. Option (List Code × List Code)) [ true ↦ None | false ↦ Some (front, back) ])
-    by_first [] back h = tt
-    by_first (c ∷ front) back h = h
+some-lows p test = record {
+  at = λ cs. given-some (λ x _. AllLow x) (λ x _. Lows x) p cs (low-list p test (span p cs).0 (span-all p cs)) (λ c x rest h. h);
+}
 
 pub any-low : (p : Code → Bool) → IsLowTest p → Yields AllLow (any_number p)
 unfolding any_number
@@ -152,134 +138,92 @@ abbrev pub Where : Bool → List Code → Type 0
 Where true cs = Early cs
 Where false cs = Unit {0}
 
-abbrev pub Goes : {A : Type 0} → Bool → (A → Type 0) → Option (A × List Code) → Type 0
-Goes to P None = Unit {0}
-Goes to P (Some r) = P r.0 × (IsSound r.1 × Where to r.1)
+abbrev pub ToSound : {A : Type 0} → Bool → (A → Type 0) → A → List Code → Type 0
+ToSound to P x rest = P x × (HasNoStrays rest × Where to rest)
 
-pub record Reads {A : Type 0} (from to : Bool) (P : A → Type 0) (a : Reading A) : Type 0 where
-  pub at : (cs : List Code) → IsSound cs → Where from cs → Goes to P (a cs)
+abbrev pub GoesTo : {A : Type 0} → Bool → (A → Type 0) → Option (A × List Code) → Type 0
+GoesTo to P o = IfGiven (ToSound to P) o
 
-pub reads_bind : {A B : Type 0} (p q r : Bool) (Q : A → Type 0) (P : B → Type 0) (a : Reading A) (b : A → Reading B) → Reads p q Q a →
-    ((x : A) → Q x → Reads q r P (b x)) → Reads p r P (a >>= b)
-unfolding ◌>>=◌
-reads_bind {A} {B} p q r Q P a b ha hb = record { at = λ cs s w. by_answer (a cs) (ha.at cs s w) }
-  where
-    by_answer : (o : Option (A × List Code)) → Goes q Q o → Goes r P (elim o [ None ↦ None | Some x ↦ b x.0 x.1 ])
-    by_answer None h = tt
-    by_answer (Some x) h = (hb x.0 h.0).at x.1 h.1.0 h.1.1
+pub record ReadsFrom {A : Type 0} (from to : Bool) (P : A → Type 0) (a : Reading A) : Type 0 where
+  pub at : (cs : List Code) → HasNoStrays cs → Where from cs → GoesTo to P (a cs)
+
+pub reads_bind : {A B : Type 0} (p q r : Bool) (Q : A → Type 0) (P : B → Type 0) (a : Reading A) (b : A → Reading B) → ReadsFrom p q Q a →
+    ((x : A) → Q x → ReadsFrom q r P (b x)) → ReadsFrom p r P (a >>= b)
+reads_bind p q r Q P a b ha hb =
+    record { at = λ cs s w. given-bind (ToSound q Q) (ToSound r P) a b cs (ha.at cs s w) (λ x rest h. (hb x h.0).at rest h.1.0 h.1.1) }
 
 module _ {A : Type 0} (P : A → Type 0) where
-  pub reads_gives : (p : Bool) (x : A) → P x → Reads p p P (gives x)
-  unfolding gives
-  reads_gives p x h = record { at = λ cs s w. (h, (s, w)) }
+  pub reads_gives : (p : Bool) (x : A) → P x → ReadsFrom p p P (gives x)
+  reads_gives p x h = record { at = λ cs s w. given-gives (ToSound p P) x cs (h, (s, w)) }
 
-  pub reads_passed : (p r test : Bool) (b : Reading A) → Reads p r P b → Reads p r P (provided test >> b)
-  unfolding provided ◌>>◌
-  reads_passed p r true b h = record { at = h.at }
-  reads_passed p r false b h = record { at = λ cs s w. tt }
+  module _ (p r : Bool) where
+    pub reads_passed : (test : Bool) (b : Reading A) → ReadsFrom p r P b → ReadsFrom p r P (provided test >> b)
+    reads_passed test b h = record { at = λ cs s w. given-passed (ToSound r P) test b cs (λ _. h.at cs s w) }
 
-  pub reads_either : (p r : Bool) (a b : Reading A) → Reads p r P a → Reads p r P b → Reads p r P (either a b)
-  unfolding either
-  reads_either p r a b ha hb = record { at = λ cs s w. by_answer cs s w (a cs) (ha.at cs s w) }
-    where
-      by_answer : (cs : List Code) → IsSound cs → Where p cs → (o : Option (A × List Code)) → Goes r P o →
-          Goes r P (elim o [ None ↦ b cs | Some x ↦ Some x ])
-      by_answer cs s w None h = hb.at cs s w
-      by_answer cs s w (Some x) h = h
+    pub reads_either : (a b : Reading A) → ReadsFrom p r P a → ReadsFrom p r P b → ReadsFrom p r P (either a b)
+    reads_either a b h k = record { at = λ cs s w. given-either (ToSound r P) a b cs (h.at cs s w) (k.at cs s w) }
 
-  pub reads_before : (p r : Bool) (a : Reading A) (test : List Code → Bool) → Reads p r P a → Reads p r P (before a test)
-  unfolding before
-  reads_before p r a test h = record { at = λ cs s w. by_answer (a cs) (h.at cs s w) }
-    where
-      by_test : (x : A × List Code) (b : Bool) → Goes r P (Some x) → Goes r P (elim b [ true ↦ Some x | false ↦ None ])
-      by_test x true h = h
-      by_test x false h = tt
+    pub reads_before : (a : Reading A) (test : List Code → Bool) → ReadsFrom p r P a → ReadsFrom p r P (before a test)
+    reads_before a test h = record { at = λ cs s w. given-before (ToSound r P) a test cs (h.at cs s w) }
 
-      by_answer : (o : Option (A × List Code)) → Goes r P o →
-          Goes r P (elim o [ None ↦ None | Some x ↦ elim (test x.1) [ true ↦ Some x | false ↦ None ] ])
-      by_answer None h = tt
-      by_answer (Some x) h = by_test x (test x.1) h
+    pub reads_next : (t : Code → Bool) (a b : Reading A) → ReadsFrom p r P a → ReadsFrom p r P b → ReadsFrom p r P (if_next t a b)
+    reads_next t a b h k = record { at = λ cs s w. given-next (ToSound r P) t a b cs (h.at cs s w) (k.at cs s w) }
 
-  pub reads_next : (p r : Bool) (t : Code → Bool) (a b : Reading A) → Reads p r P a → Reads p r P b → Reads p r P (if_next t a b)
-  unfolding if_next
-  reads_next p r t a b ha hb = record { at = λ cs s w. by_test cs s w (next_is t cs) }
-    where
-      by_test : (cs : List Code) → IsSound cs → Where p cs → (b' : Bool) → Goes r P (elim b' [ true ↦ a cs | false ↦ b cs ])
-      by_test cs s w true = ha.at cs s w
-      by_test cs s w false = hb.at cs s w
-
-  pub reads_unless : (p r : Bool) {B : Type 0} (a : Reading B) (b : Reading A) → Reads p r P b → Reads p r P (unless a b)
-  unfolding unless
-  reads_unless p r {B} a b h = record { at = λ cs s w. by_answer cs s w (a cs) }
-    where
-      by_answer : (cs : List Code) → IsSound cs → Where p cs → (o : Option (B × List Code)) →
-          Goes r P (elim o [ None ↦ b cs | Some x ↦ None ])
-      by_answer cs s w None = h.at cs s w
-      by_answer cs s w (Some x) = tt
+    pub reads_unless : {B : Type 0} (a : Reading B) (b : Reading A) → ReadsFrom p r P b → ReadsFrom p r P (unless a b)
+    reads_unless a b h = record { at = λ cs s w. given-unless (ToSound r P) a b cs (h.at cs s w) }
 
   forgot : (r : Bool) (cs : List Code) → Where true cs → Where r cs
   forgot true cs h = h
   forgot false cs h = tt
 
   -- where more is known in front, and less behind
-  pub reads_weaker : (p r : Bool) (a : Reading A) → Reads p true P a → Reads p r P a
-  reads_weaker p r a h = record { at = λ cs s w. by_answer (a cs) (h.at cs s w) }
-    where
-      by_answer : (o : Option (A × List Code)) → Goes true P o → Goes r P o
-      by_answer None k = tt
-      by_answer (Some x) k = (k.0, (k.1.0, forgot r x.1 k.1.1))
+  pub reads_weaker : (p r : Bool) (a : Reading A) → ReadsFrom p true P a → ReadsFrom p r P a
+  reads_weaker p r a h =
+      record { at = λ cs s w. given-map (ToSound true P) (ToSound r P) (a cs) (λ x rest k. (k.0, (k.1.0, forgot r rest k.1.1))) (h.at cs s w) }
 
-  pub reads_anywhere : (p r : Bool) (a : Reading A) → Reads false r P a → Reads p r P a
+  pub reads_anywhere : (p r : Bool) (a : Reading A) → ReadsFrom false r P a → ReadsFrom p r P a
   reads_anywhere p r a h = record { at = λ cs s w. h.at cs s tt }
 
 -- Readings of codes by what they take.
 
 abbrev pub Starts : List Code → Type 0
-Starts cs = Early cs × IsSound cs
+Starts cs = Early cs × HasNoStrays cs
 
 module _ (a : Reading (List Code)) (takes : Takes a) where
-  by_parts : (to : Bool) (P : List Code → Type 0) → ((xs ys : List Code) → IsSound (xs ++ ys) → P xs → Where to ys) → Yields P a → Reads false to P a
-  by_parts to P behind y = record { at = λ cs s w. by_answer cs s (a cs) (takes.at cs) (y.at cs) }
-    where
-      by_answer : (cs : List Code) → IsSound cs → (o : Option (List Code × List Code)) → At itself [] cs o → Passes P o → Goes to P o
-      by_answer cs s None k l = tt
-      by_answer cs s (Some x) k l =
-          let sound : IsSound (x.0 ++ x.1) = subst IsSound (sym k) s in (l, (sound-back x.0 x.1 sound, behind x.0 x.1 sound l))
+  -- what is known of the codes at hand as those that are given and those behind them
+  by_parts : (from to : Bool) (P Q : List Code → Type 0) → Yields P a → ((xs ys : List Code) → HasNoStrays (xs ++ ys) → Where from (xs ++ ys) → P xs → Q xs × Where to ys)
+      → ReadsFrom from to Q a
+  by_parts from to P Q y split =
+      record {
+        at = λ cs s w. given-both (Splits itself cs) (λ x _. P x) (ToSound to Q) (a cs) (λ x rest k l.
+            let sound : HasNoStrays (x ++ rest) = subst HasNoStrays (sym k) s in
+            let found : Q x × Where to rest = split x rest sound (subst (Where from) (sym k) w) l in
+            (found.0, (sound-back x rest sound, found.1))) (takes.at cs) (y.at cs);
+      }
 
-  pub reads_lows : Yields Lows a → Reads false true Lows a
-  reads_lows y = by_parts true Lows (λ xs ys s l. lows-behind xs ys l s) y
+  pub reads_lows : Yields Lows a → ReadsFrom false true Lows a
+  reads_lows y = by_parts false true Lows Lows y (λ xs ys s w l. (l, lows-behind xs ys l s))
 
-  pub reads_ends : Yields EndsLow a → Reads false true EndsLow a
-  reads_ends y = by_parts true EndsLow (λ xs ys s l. ends-behind xs ys l s) y
+  pub reads_ends : Yields EndsLow a → ReadsFrom false true EndsLow a
+  reads_ends y = by_parts false true EndsLow EndsLow y (λ xs ys s w l. (l, ends-behind xs ys l s))
 
-  pub reads_some : (P : List Code → Type 0) → Yields P a → Reads false false P a
-  reads_some P y = by_parts false P (λ xs ys s l. tt) y
+  pub reads_some : (P : List Code → Type 0) → Yields P a → ReadsFrom false false P a
+  reads_some P y = by_parts false false P P y (λ xs ys s w l. (l, tt))
 
   -- ASCII codes, or none
-  pub reads_low : Yields AllLow a → Reads true true AllLow a
-  reads_low y = record { at = λ cs s w. by_answer cs s w (a cs) (takes.at cs) (y.at cs) }
-    where
-      by_answer : (cs : List Code) → IsSound cs → Early cs → (o : Option (List Code × List Code)) → At itself [] cs o → Passes AllLow o → Goes true AllLow o
-      by_answer cs s w None k l = tt
-      by_answer cs s w (Some x) k l =
-          let sound : IsSound (x.0 ++ x.1) = subst IsSound (sym k) s in
-          (l, (sound-back x.0 x.1 sound, low-behind x.0 x.1 l sound (subst Early (sym k) w)))
+  pub reads_low : Yields AllLow a → ReadsFrom true true AllLow a
+  reads_low y = by_parts true true AllLow AllLow y (λ xs ys s w l. (l, low-behind xs ys l s w))
 
   -- any codes
-  pub reads_starts : Reads true false Starts a
-  reads_starts = record { at = λ cs s w. by_answer cs s w (a cs) (takes.at cs) }
-    where
-      by_answer : (cs : List Code) → IsSound cs → Early cs → (o : Option (List Code × List Code)) → At itself [] cs o → Goes false Starts o
-      by_answer cs s w None k = tt
-      by_answer cs s w (Some x) k =
-          let sound : IsSound (x.0 ++ x.1) = subst IsSound (sym k) s in
-          ((early-front x.0 x.1 (subst Early (sym k) w), sound-front x.0 x.1 sound), (sound-back x.0 x.1 sound, tt))
+  pub reads_starts : ReadsFrom true false Starts a
+  reads_starts =
+      by_parts true false (λ _. Unit {0}) Starts (yields_any a) (λ xs ys s w l. ((early-front xs ys w, sound-front xs ys s), tt))
 
-pub reads_one : (p : Code → Bool) → IsLowTest p → Reads false true Lows (one p)
+pub reads_one : (p : Code → Bool) → IsLowTest p → ReadsFrom false true Lows (one p)
 reads_one p test = reads_lows (one p) (takes_one p) (one-lows p test)
 
-pub reads_some_low : (p : Code → Bool) → IsLowTest p → Reads false true Lows (some p)
+pub reads_some_low : (p : Code → Bool) → IsLowTest p → ReadsFrom false true Lows (some p)
 reads_some_low p test = reads_lows (some p) (takes_some p) (some-lows p test)
 
-pub reads_any_low : (p : Code → Bool) → IsLowTest p → Reads true true AllLow (any_number p)
+pub reads_any_low : (p : Code → Bool) → IsLowTest p → ReadsFrom true true AllLow (any_number p)
 reads_any_low p test = reads_low (any_number p) (takes_any_number p) (any-low p test)

@@ -5,17 +5,17 @@ use Rattle.std.proofs.lemmas.Bool.{both_ways}
 use Rattle.std.proofs.lemmas.List.{reverse-append}
 use Rattle.markdown_model.proofs.GivenNames.{blank-named}
 use Rattle.markdown_event.specs.declared.event.Name.{Name}
-use Rattle.markdown_engine_content.specs.Codes.{Code, is_blank}
-use Rattle.markdown_engine_content.specs.Tree.{Forest, empty, leaf_then, group_then, leaf, ◌⊕◌, leaf_codes}
+use Rattle.markdown_content.specs.Codes.{Code, is_blank}
+use Rattle.markdown_content.specs.Tree.{Forest, empty, leaf_then, group_then, leaf, ◌⊕◌, leaf_codes}
 use Rattle.markdown_model.specs.CodeTests.{is_empty, next_is, is_some_code, last_code}
 use Rattle.markdown_model.specs.Grammar.{span}
 use Rattle.markdown_model.specs.Elements.{string_elements_of}
-use Rattle.markdown_model.specs.Passes.{begins_line_ending, is_nothing, blank_name, trimmed_data, trimmed, merged, with_emails_apart, labels_of}
+use Rattle.markdown_model.specs.Passes.{HardBreaks, breaks_where, breaks, no_breaks, begins_line_ending, is_nothing, blank_name, trimmed_data, trimmed, merged, with_emails_apart, labels_of}
 use Rattle.markdown_model.specs.GfmEmailLiteral.{email_at, email_leaves, with_emails}
 use Rattle.markdown_model.specs.InlineTree.{finished_string, string_tree}
 use Rattle.markdown_model.specs.Laws.{begins_data, IsDataApart}
 use Rattle.markdown_model.proofs.LeafCodes.{span-append}
-use Rattle.markdown_model.proofs.LiteralCodes.{IsFound, found, reverse-first}
+use Rattle.markdown_model.proofs.LiteralCodes.{HasCodesAround, found, reverse-first}
 use Rattle.markdown_model.proofs.MergedDataIsApart.{merged_data_is_apart}
 use Rattle.markdown_model.proofs.DefinitionSteps.{span-stops}
 use Rattle.markdown_model_laws.specs.EmailsInData.{is_email}
@@ -59,7 +59,7 @@ not-ending : (name : Name) (cs : List Code) (f : Forest) → is_other name ≡ t
 not-ending Name.LineEnding cs f h = cc
 not-ending name cs f h = refl
 
-blank-other : (hard : Bool) (cs : List Code) → is_other (blank_name hard cs) ≡ true
+blank-other : (hard : HardBreaks) (cs : List Code) → is_other (blank_name hard cs) ≡ true
 blank-other = blank-named (λ name. is_other name ≡ true) refl refl
 
 email-other : (name : Name) → is_email name ≡ true → is_other name ≡ true
@@ -100,7 +100,7 @@ tight-three front whole (x ∷ xs) ys zs name f o first last h k =
 
 -- Trimming.
 
-trimmed-next : (hard front whole : Bool) (f : Forest) → begins_data f ≡ false →
+trimmed-next : (hard : HardBreaks) (front whole : Bool) (f : Forest) → begins_data f ≡ false →
     ends_before whole (trimmed hard front whole f) ≡ ends_before whole f
 unfolding trimmed
 trimmed-next hard front whole empty h = refl
@@ -130,7 +130,7 @@ back-last : (back : Bool) (cs : List Code) → back ≡ true →
 back-last true cs h = last-reversed (span is_blank (reverse cs)).1 (span-stops is_blank (reverse cs))
 back-last false cs h = cc
 
-tight-data : (front whole back hard : Bool) (cs : List Code) (f : Forest) → ends_before whole f ≡ back →
+tight-data : (front whole back : Bool) (hard : HardBreaks) (cs : List Code) (f : Forest) → ends_before whole f ≡ back →
     IsTight front whole f → IsTight false whole f → IsTight front whole (trimmed_data front back hard cs ⊕ f)
 tight-data front whole back hard cs f e h k =
     tight-three front whole (front_cut front kept).0 (front_cut front kept).1 (reverse (back_cut back cs).0) (blank_name hard (reverse (back_cut back cs).0)) f (blank-other hard (reverse (back_cut back cs).0))
@@ -148,7 +148,7 @@ tight-any front whole (leaf_then Name.Data (Some link) cs rest) h k = k
 tight-any front whole (leaf_then name link cs rest) h k = k
 tight-any front whole (group_then name enter exit inside rest) h k = k
 
-trimmed-no-data : (hard front whole : Bool) (f : Forest) → begins_data f ≡ false →
+trimmed-no-data : (hard : HardBreaks) (front whole : Bool) (f : Forest) → begins_data f ≡ false →
     begins_data (trimmed hard front whole f) ≡ false
 unfolding trimmed
 trimmed-no-data hard front whole empty h = refl
@@ -158,13 +158,13 @@ trimmed-no-data hard front whole (leaf_then Name.Data (Some link) cs rest) h = r
 trimmed-no-data hard front whole (leaf_then name link cs rest) h = refl
 trimmed-no-data hard front whole (group_then name enter exit inside rest) h = refl
 
-tight-trimmed : (hard front whole : Bool) (f : Forest) → IsDataApart f →
+tight-trimmed : (hard : HardBreaks) (front whole : Bool) (f : Forest) → IsDataApart f →
     IsTight front whole (trimmed hard front whole f)
 unfolding trimmed
 tight-trimmed hard front whole empty h = tt
 tight-trimmed hard front whole (leaf_then Name.Data None cs rest) h =
     let k = tight-trimmed hard false whole rest h.1 in
-    tight-data front whole (ends_before whole rest) (hard && begins_line_ending rest) cs (trimmed hard false whole rest) (trimmed-next hard false whole rest h.0)
+    tight-data front whole (ends_before whole rest) (breaks_where hard (begins_line_ending rest)) cs (trimmed hard false whole rest) (trimmed-next hard false whole rest h.0)
     (tight-any front whole (trimmed hard false whole rest) (trimmed-no-data hard false whole rest h.0) k) k
 tight-trimmed hard front whole (leaf_then Name.LineEnding link cs rest) h = tight-trimmed hard true whole rest h
 tight-trimmed hard front whole (leaf_then Name.Data (Some link) cs rest) h = tight-trimmed hard false whole rest h
@@ -175,22 +175,22 @@ tight-trimmed hard front whole (group_then name enter exit inside rest) h =
 -- Emails.
 
 -- there are codes, or nothing is asked of the first
-abbrev Begins : Bool → List Code → Type 0
-Begins front cs = is_empty cs ≡ true → front ≡ false
+abbrev HasCodesIfAsked : Bool → List Code → Type 0
+HasCodesIfAsked front cs = is_empty cs ≡ true → front ≡ false
 
 first-of-more : (y : Code) (ys ds cs : List Code) → (y ∷ ys) ++ ds ≡ cs →
     next_is is_blank cs ≡ next_is is_blank (y ∷ ys)
 first-of-more y ys ds cs h = ap (next_is is_blank) (sym h)
 
-tight-piece : (front whole : Bool) (cs : List Code) (f : Forest) → Begins front cs → NotBlankFirst front cs →
+tight-piece : (front whole : Bool) (cs : List Code) (f : Forest) → HasCodesIfAsked front cs → NotBlankFirst front cs →
     NotBlankLast (ends_before whole f) cs → IsTight false whole f → IsTight front whole (leaf Name.Data cs ⊕ f)
 tight-piece front whole [] f b first last k = subst (λ x. IsTight x whole f) (sym (b refl)) k
 tight-piece front whole (c ∷ cs) f b first last k = (refl, first, last, k)
 
 module _ (whole : Bool) (f : Forest) (k : IsTight false whole f) where
-  abbrev Law : Bool → List Code → Forest → Type 0
-  Law front cs t =
-      Begins front cs → NotBlankFirst front cs → NotBlankLast (ends_before whole f) cs → IsTight front whole (t ⊕ f)
+  abbrev TightLaw : Bool → List Code → Forest → Type 0
+  TightLaw front cs t =
+      HasCodesIfAsked front cs → NotBlankFirst front cs → NotBlankLast (ends_before whole f) cs → IsTight front whole (t ⊕ f)
 
   email-tight : (front : Bool) (xs : List Code) (e more : Forest) → IsEmailLeaf e → NotBlankFirst front xs →
       IsTight false whole (more ⊕ f) → IsTight front whole ((leaf Name.Data xs ⊕ e ⊕ more) ⊕ f)
@@ -214,11 +214,11 @@ module _ (whole : Bool) (f : Forest) (k : IsTight false whole f) where
       last-of-back (xs ++ ys) ds (ap (λ z. is_some_code is_blank (last_code z)) (append_assoc xs ys ds ∙ e) ∙ g h)
 
   emails-tight : (n : ℕ) (front : Bool) (before cs : List Code) →
-      Law front (reverse before ++ cs) (email_leaves n before cs)
+      TightLaw front (reverse before ++ cs) (email_leaves n before cs)
   unfolding email_leaves
   emails-tight n front before [] b first last =
       let e : reverse before ++ [] ≡ reverse before = append-nil (reverse before) in
-      tight-piece front whole (reverse before) f (subst (Begins front) e b) (subst (NotBlankFirst front) e first) (subst (NotBlankLast (ends_before whole f)) e last) k
+      tight-piece front whole (reverse before) f (subst (HasCodesIfAsked front) e b) (subst (NotBlankFirst front) e first) (subst (NotBlankLast (ends_before whole f)) e last) k
   emails-tight zero front before (c ∷ cs) b first last =
       tight-piece front whole (reverse before ++ c ∷ cs) f b first last k
   emails-tight (suc n) front before (c ∷ cs) b first last =
@@ -227,12 +227,12 @@ module _ (whole : Bool) (f : Forest) (k : IsTight false whole f) where
       all : List Code
       all = reverse before ++ c ∷ cs
 
-      by_answer : (r : Option (List Code × Forest × List Code)) → IsFound before c cs r → AnswerIsEmail r
-          → Law front (reverse (c ∷ before) ++ cs) (email_leaves n (c ∷ before) cs) → ((ds : List Code) → Law false ds (email_leaves n [] ds))
+      by_answer : (r : Option (List Code × Forest × List Code)) → HasCodesAround before c cs r → AnswerIsEmail r
+          → TightLaw front (reverse (c ∷ before) ++ cs) (email_leaves n (c ∷ before) cs) → ((ds : List Code) → TightLaw false ds (email_leaves n [] ds))
           → IsTight front whole ((elim r as (λ _. Forest) [ None ↦ email_leaves n (c ∷ before) cs | Some x ↦ leaf Name.Data x.0 ⊕ x.1 ⊕ email_leaves n [] x.2 ]) ⊕ f)
       by_answer None h l more after =
           let e : all ≡ reverse (c ∷ before) ++ cs = sym (reverse-first c before cs) in
-          more (subst (Begins front) e b) (subst (NotBlankFirst front) e first) (subst (NotBlankLast (ends_before whole f)) e last)
+          more (subst (HasCodesIfAsked front) e b) (subst (NotBlankFirst front) e first) (subst (NotBlankLast (ends_before whole f)) e last)
       by_answer (Some x) h l more after =
           email-tight front x.0 x.1 (email_leaves n [] x.2) l (first-part front x.0 (leaf_codes x.1 ++ x.2) all h first)
           (after x.2 (λ _. refl) (never false refl) (last-part (ends_before whole f) x.0 (leaf_codes x.1) x.2 all h last))
@@ -292,8 +292,8 @@ tight-mailed front whole (group_then name enter exit inside rest) h =
 pub data_is_tight : DataIsTight
 unfolding string_tree finished_string
 data_is_tight s cs =
-    (text-has (IsTight true true) s cs (tight-mailed true true (unmailed s cs) is_tight) is_tight, tight-trimmed false false false (merged (labels_of (string_elements_of s cs))) (merged_data_is_apart (labels_of (string_elements_of s cs))))
+    (text-has (IsTight true true) s cs (tight-mailed true true (unmailed s cs) is_tight) is_tight, tight-trimmed no_breaks false false (merged (labels_of (string_elements_of s cs))) (merged_data_is_apart (labels_of (string_elements_of s cs))))
   where
     is_tight : IsTight true true (unmailed s cs)
     is_tight =
-        tight-trimmed s.options.constructs.hard_break_trailing true true (merged (pairs_in s cs)) (merged_data_is_apart (pairs_in s cs))
+        tight-trimmed (breaks s) true true (merged (pairs_in s cs)) (merged_data_is_apart (pairs_in s cs))

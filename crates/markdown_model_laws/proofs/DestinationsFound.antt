@@ -2,8 +2,8 @@
 use Rattle.std.proofs.Common.{◌≡◌, inl, inr, ℕ, not, Bool, true, false, Some, List, [], ◌∷◌, ◌++◌, refl, sym, ap, subst, ◌∙◌, arith}
 use Rattle.markdown_partial.proofs.PartialDestinationReadings.{if-here, if-other}
 use Rattle.std.proofs.lemmas.Bool.{not-true}
-use Rattle.markdown_engine_content.specs.Codes.{Code}
-use Rattle.markdown_engine_content.specs.Tree.{Forest, leaf_codes}
+use Rattle.markdown_content.specs.Codes.{Code}
+use Rattle.markdown_content.specs.Tree.{Forest, leaf_codes}
 use Rattle.markdown_model.specs.CodeTests.{is_value, is_empty, next_is}
 use Rattle.markdown_model.specs.Grammar.{gives}
 use Rattle.markdown_model.specs.Resource.{DestinationNames, destination, literal_destination, raw_destination, raw_from}
@@ -14,7 +14,7 @@ use Rattle.markdown_model_laws.specs.LinkParts.{opening, closing, IsEnclosed, Is
 use Rattle.markdown_model_laws.proofs.EscapedTexts.{escapes-after}
 use Rattle.markdown_model_laws.proofs.ReadingsInverted.{Went, bind-back, provided-back, gives-back}
 use Rattle.markdown_model_laws.proofs.LinkTextsFound.{enclosed-back, enclosed-found, marked-found}
-use Rattle.markdown_model_laws.proofs.RawDestinationsFound.{bare_from, bare-from, EndsAt, RawFrom, raw-reads, raw-found}
+use Rattle.markdown_model_laws.proofs.RawDestinationsFound.{bare_from, bare-from, EndsRawDestination, RawFrom, raw-reads, raw-found}
 
 opening-from : (text : List Code) → opening text ≡ bare_from 40 false text
 opening-from text = bare-from 40 false [] text refl
@@ -30,7 +30,7 @@ to-raw max text rest some first r = record {
   plain = r.plain;
   nested = λ before after e. (omega (arith, opening-from before, closing-from before, (r.nested before after e).0), omega (arith, opening-from before, closing-from before, (r.nested before after e).1));
   balanced = omega (arith, opening-from text, closing-from text, r.balanced);
-  ends = subst (λ s. EndsAt s rest) (sym (escapes-after text)) r.ends;
+  ends = subst (λ s. EndsRawDestination s rest) (sym (escapes-after text)) r.ends;
 }
 
 of-raw : (max : ℕ) (text rest : List Code) → IsRaw max text rest → RawFrom max false 0 text rest
@@ -38,7 +38,7 @@ of-raw max text rest i = record {
   plain = i.plain;
   nested = λ before after e. (omega (arith, opening-from before, closing-from before, (i.nested before after e).0), omega (arith, opening-from before, closing-from before, (i.nested before after e).1));
   balanced = omega (arith, opening-from text, closing-from text, i.balanced);
-  ends = subst (λ s. EndsAt s rest) (escapes-after text) i.ends;
+  ends = subst (λ s. EndsRawDestination s rest) (escapes-after text) i.ends;
 }
 
 -- the next code of a text is that of the codes from it on

@@ -1,11 +1,11 @@
 -- Email literals stand in data.
 use Rattle.std.proofs.Common.{◌≡◌, ℕ, zero, suc, true, false, List, [], ◌∷◌, ◌++◌, length, reverse, if◌then◌else◌, refl, sym, ap, ◌∙◌, append-nil, Option, Some, None}
 use Rattle.markdown_event.specs.declared.event.Name.{Name}
-use Rattle.markdown_engine_content.specs.Codes.{Code}
-use Rattle.markdown_engine_content.specs.Tree.{Forest, empty, leaf_then, group_then, leaf, ◌⊕◌, leaf_codes}
+use Rattle.markdown_content.specs.Codes.{Code}
+use Rattle.markdown_content.specs.Tree.{Forest, empty, leaf_then, group_then, leaf, ◌⊕◌, leaf_codes}
 use Rattle.markdown_model.specs.GfmEmailLiteral.{email_at, email_leaves, with_emails}
 use Rattle.markdown_model.specs.Passes.{data_onto, merged, with_emails_apart}
-use Rattle.markdown_model.proofs.LiteralCodes.{IsFound, found, reverse-first}
+use Rattle.markdown_model.proofs.LiteralCodes.{HasCodesAround, found, reverse-first}
 use Rattle.markdown_model.proofs.MergedParts.{data_onto-twice}
 use Rattle.markdown_model_laws.specs.EmailsInData.{is_email, as_data, EmailsStandInData}
 use Rattle.markdown_model_laws.proofs.EmailLeaves.{IsEmailLeaf, AnswerIsEmail, answer-email}
@@ -41,7 +41,7 @@ emails-data n before [] f =
 emails-data zero before (c ∷ cs) f = data-first (reverse before ++ c ∷ cs) f
 emails-data (suc n) before (c ∷ cs) f = by_answer (email_at before c cs) (found before c cs) (answer-email before c cs) (λ front ds. emails-data n front ds f)
   where
-    by_answer : (r : Option (List Code × Forest × List Code)) → IsFound before c cs r → AnswerIsEmail r
+    by_answer : (r : Option (List Code × Forest × List Code)) → HasCodesAround before c cs r → AnswerIsEmail r
         → ((front ds : List Code) → merged (as_data (email_leaves n front ds ⊕ f)) ≡ onto (reverse front ++ ds) (merged (as_data f)))
         → merged (as_data ((elim r as (λ _. Forest) [ None ↦ email_leaves n (c ∷ before) cs | Some x ↦ leaf Name.Data x.0 ⊕ x.1 ⊕ email_leaves n [] x.2 ]) ⊕ f)) ≡ onto (reverse before ++ c ∷ cs) (merged (as_data f))
     by_answer None h k more = more (c ∷ before) cs ∙ ap (λ xs. onto xs (merged (as_data f))) (reverse-first c before cs)

@@ -3,29 +3,29 @@ use Rattle.std.proofs.Common.{◌≡◌, ℕ, Bool, true, false, ◌&&◌, ◌||
 use Rattle.markdown_model_laws.proofs.TreesFilledLaws.{more-codes}
 use Rattle.std.proofs.lemmas.List.{reverse-reverse}
 use Rattle.markdown_event.specs.declared.event.Name.{Name}
-use Rattle.markdown_engine_content.specs.Codes.{Code, codes_of, document_start, stop_of, place_of}
-use Rattle.markdown_engine_content.specs.Content.{content_of, piece_codes}
-use Rattle.markdown_engine_content.specs.Tree.{Forest, empty, leaf_then, group_then, leaf, ◌⊕◌, leaf_codes, events_of}
-use Rattle.markdown_engine_content.proofs.AdjacentCodes.{IsChain, before_in, before_in-split, from_in-all}
-use Rattle.markdown_engine_content.proofs.DocumentPlaces.{chain-document}
-use Rattle.markdown_engine_content.proofs.ContentCodes.{piece-codes-is}
+use Rattle.markdown_content.specs.Codes.{Code, codes_of, document_start, stop_of, place_of}
+use Rattle.markdown_content.specs.Content.{content_of, piece_codes}
+use Rattle.markdown_content.specs.Tree.{Forest, empty, leaf_then, group_then, leaf, ◌⊕◌, leaf_codes, events_of}
+use Rattle.markdown_content.proofs.AdjacentCodes.{IsChain, before_in, before_in-split, from_in-all}
+use Rattle.markdown_content.proofs.DocumentPlaces.{chain-document}
+use Rattle.markdown_content.proofs.ContentCodes.{piece-codes-is}
 use Rattle.markdown_model.specs.CodeTests.{is_value, is_empty, is_ascii_punctuation}
 use Rattle.markdown_model.specs.Grammar.{Reading, gives}
 use Rattle.markdown_model.specs.LeafConstructs.{character_escape, escape_tree, character_reference, named_parts, decimal_parts, hexadecimal_parts}
 use Rattle.markdown_model.specs.Setting.{Setting}
 use Rattle.markdown_model.specs.LabelEnd.{Element, plain}
 use Rattle.markdown_model.specs.Elements.{as_plain, switched, line_ending, data_code, string_element, string_choice, string_elements_of, AreElementsFrom, code_before}
-use Rattle.markdown_model.specs.Passes.{data_onto, merged, trimmed, trimmed_data, begins_line_ending, is_nothing}
+use Rattle.markdown_model.specs.Passes.{no_breaks, data_onto, merged, trimmed, trimmed_data, begins_line_ending, is_nothing}
 use Rattle.markdown_model.specs.InlineTree.{finished_string, string_tree, string_events}
-use Rattle.markdown_model.proofs.StringTreeIsElements.{ArePlain, row_of, labels_of-plain}
+use Rattle.markdown_model.proofs.StringTreeIsElements.{ArePlainElements, row_of, labels_of-plain}
 use Rattle.markdown_model.proofs.OneElementList.{string_elements, same_string_elements}
 use Rattle.markdown_model.proofs.GrammarSteps.{bind-some, bind-none, one-here, one-other, either-some, either-second, switched-on, switched-off}
 use Rattle.markdown_model.proofs.OneTree.{leaves_cover}
-use Rattle.markdown_partial.specs.TrimmedEvents.{is_ending}
-use Rattle.markdown_run_leaves.proofs.InnermostEventsLaws.{lent-leaves}
+use Rattle.markdown_passes.specs.TrimmedEvents.{is_ending}
+use Rattle.markdown_innermost.proofs.InnermostEventsLaws.{lent-leaves}
 use Rattle.markdown_model_laws.specs.EscapedText.{Escapes, is_text, escaped, whole, text_of}
 use Rattle.markdown_model_laws.proofs.LentSlices.{codes_bytes, kept, HasNoTextGroup, kept-lent}
-use Rattle.markdown_model_laws.proofs.EscapedItems.{Item, itself, escape_of, item_codes, kept_codes, IsOrdinary, AreItems, IsRead, read}
+use Rattle.markdown_model_laws.proofs.EscapedItems.{Item, itself, escape_of, item_codes, kept_codes, IsOrdinary, AreEscapedItems, SpellsText, read}
 
 -- Elements.
 
@@ -67,7 +67,8 @@ elements [] = []
 elements (itself c ∷ is) = plain (leaf Name.Data (c ∷ [])) ∷ elements is
 elements (escape_of slash c ∷ is) = plain (escape_tree (slash ∷ []) (c ∷ [])) ∷ elements is
 
-are-elements : (s : Setting) (is : List Item) (earlier : List Element) (previous : Option Code) → s.options.constructs.character_escape ≡ true → AreItems is
+are-elements : (s : Setting) (is : List Item) (earlier : List Element) (previous : Option Code) → s.options.constructs.character_escape ≡ true →
+    AreEscapedItems is
     → AreElementsFrom (string_choice s) earlier previous (item_codes is) (elements is)
 unfolding elements
 are-elements s [] earlier previous on h = refl
@@ -76,7 +77,7 @@ are-elements s (itself c ∷ is) earlier previous on h =
 are-elements s (escape_of slash c ∷ is) earlier previous on h =
     (item_codes is, read-escape s slash c (item_codes is) on h.0.0 h.0.1, are-elements s is (plain (escape_tree (slash ∷ []) (c ∷ [])) ∷ earlier) (code_before (slash ∷ c ∷ item_codes is) (item_codes is)) on h.1)
 
-are-plain : (is : List Item) → ArePlain (elements is)
+are-plain : (is : List Item) → ArePlainElements (elements is)
 unfolding elements
 are-plain [] = tt
 are-plain (itself c ∷ is) = (tt, are-plain is)
@@ -85,15 +86,15 @@ are-plain (escape_of slash c ∷ is) = (tt, are-plain is)
 -- The tree.
 
 -- it has no line ending, and each leaf has a code
-abbrev IsFine : Forest → Type 0
-IsFine empty = Unit {0}
-IsFine (leaf_then name link cs rest) = (is_ending name ≡ false) × (is_empty cs ≡ false) × IsFine rest
-IsFine (group_then name enter exit inside rest) = IsFine inside × IsFine rest
+abbrev HasNoEndings : Forest → Type 0
+HasNoEndings empty = Unit {0}
+HasNoEndings (leaf_then name link cs rest) = (is_ending name ≡ false) × (is_empty cs ≡ false) × HasNoEndings rest
+HasNoEndings (group_then name enter exit inside rest) = HasNoEndings inside × HasNoEndings rest
 
 row : List Item → Forest
 row is = row_of (elements is)
 
-row-fine : (is : List Item) → IsFine (row is) × HasNoTextGroup (row is)
+row-fine : (is : List Item) → HasNoEndings (row is) × HasNoTextGroup (row is)
 unfolding row elements
 row-fine [] = (tt, tt)
 row-fine (itself c ∷ is) = let r = row-fine is in ((refl, refl, r.0), r.1)
@@ -107,11 +108,11 @@ row-kept (escape_of slash c ∷ is) = ap (λ x. c ∷ x) (row-kept is)
 
 -- Merging.
 
-fine-onto : (cs : List Code) (f : Forest) → is_empty cs ≡ false → IsFine f → IsFine (data_onto cs f)
+fine-onto : (cs : List Code) (f : Forest) → is_empty cs ≡ false → HasNoEndings f → HasNoEndings (data_onto cs f)
 fine-onto cs (leaf_then Name.Data None more rest) h k = (k.0, more-codes cs more h, k.2)
 fine-onto cs rest h k = (refl, h, k)
 
-fine-merged : (f : Forest) → IsFine f → IsFine (merged f)
+fine-merged : (f : Forest) → HasNoEndings f → HasNoEndings (merged f)
 unfolding merged
 fine-merged empty h = tt
 fine-merged (leaf_then Name.Data None cs rest) h = fine-onto cs (merged rest) h.1 (fine-merged rest h.2)
@@ -142,14 +143,14 @@ kept-merged (group_then name enter exit inside rest) = λ i. kept-merged inside 
 
 -- Trimming does nothing.
 
-fine-next : (f : Forest) → IsFine f → begins_line_ending f ≡ false
+fine-next : (f : Forest) → HasNoEndings f → begins_line_ending f ≡ false
 fine-next empty h = refl
 fine-next (leaf_then Name.LineEnding link cs rest) h = cc
 fine-next (leaf_then name link cs rest) h = refl
 fine-next (group_then name enter exit inside rest) h = refl
 
 whole-data : (cs : List Code) (f : Forest) → is_empty cs ≡ false →
-    trimmed_data false false false cs ⊕ f ≡ leaf_then Name.Data None cs f
+    trimmed_data false false no_breaks cs ⊕ f ≡ leaf_then Name.Data None cs f
 whole-data [] f h = cc
 whole-data (c ∷ cs) f h = shown (reverse (reverse (c ∷ cs))) (reverse-reverse (c ∷ cs))
   where
@@ -157,11 +158,11 @@ whole-data (c ∷ cs) f h = shown (reverse (reverse (c ∷ cs))) (reverse-revers
         (leaf Name.SpaceOrTab [] ⊕ leaf Name.Data ds ⊕ leaf Name.SpaceOrTab []) ⊕ f ≡ leaf_then Name.Data None (c ∷ cs) f
     shown ds e = ap (λ xs. (leaf Name.SpaceOrTab [] ⊕ leaf Name.Data xs ⊕ leaf Name.SpaceOrTab []) ⊕ f) e
 
-untrimmed : (f : Forest) → IsFine f → trimmed false false false f ≡ f
+untrimmed : (f : Forest) → HasNoEndings f → trimmed no_breaks false false f ≡ f
 unfolding trimmed
 untrimmed empty h = refl
 untrimmed (leaf_then Name.Data None cs rest) h =
-    (λ i. trimmed_data false (fine-next rest h.2 i || (false && is_nothing rest)) false cs ⊕ untrimmed rest h.2 i) ∙ whole-data cs rest h.1
+    (λ i. trimmed_data false (fine-next rest h.2 i || (false && is_nothing rest)) no_breaks cs ⊕ untrimmed rest h.2 i) ∙ whole-data cs rest h.1
 untrimmed (leaf_then Name.LineEnding link cs rest) h = cc
 untrimmed (leaf_then name link cs rest) h = ap (leaf_then name link cs) (untrimmed rest h.2)
 untrimmed (group_then name enter exit inside rest) h =
@@ -170,7 +171,7 @@ untrimmed (group_then name enter exit inside rest) h =
 finished : (is : List Item) → finished_string (elements is) ≡ merged (row is)
 unfolding finished_string row
 finished is =
-    ap (λ f. trimmed false false false (merged f)) (labels_of-plain (elements is) (are-plain is)) ∙ untrimmed (merged (row is)) (fine-merged (row is) (row-fine is).0)
+    ap (λ f. trimmed no_breaks false false (merged f)) (labels_of-plain (elements is) (are-plain is)) ∙ untrimmed (merged (row is)) (fine-merged (row is) (row-fine is).0)
 
 -- The content of the whole document.
 
@@ -190,8 +191,8 @@ escapes s text line on e = ap text_of (lent-leaves s.bytes tree (string_events s
     ∙ kept-lent s.bytes tree document_start [] chain (groups-merged (row r.items) (row-fine r.items).1)
     ∙ ap (codes_bytes s.bytes) (kept-merged (row r.items) ∙ row-kept r.items) ∙ r.bytes
   where
-    r : IsRead s.bytes document_start (codes_of s.bytes) text
-    r = subst (λ (bytes : List ℕ). IsRead bytes document_start (codes_of bytes) text) (sym e) (read (escaped text) text 0 document_start line (record { vs = refl; bytes = refl; size = zero-add (length (escaped text)) }))
+    r : SpellsText s.bytes document_start (codes_of s.bytes) text
+    r = subst (λ (bytes : List ℕ). SpellsText bytes document_start (codes_of bytes) text) (sym e) (read (escaped text) text 0 document_start line (record { vs = refl; bytes = refl; size = zero-add (length (escaped text)) }))
 
     tree : Forest
     tree = merged (row r.items)

@@ -7,8 +7,8 @@ use Rattle.std.specs.List.{list_any, list_all}
 use Rattle.std.proofs.lemmas.List.{drop-drop}
 use Rattle.std.proofs.lemmas.Bool.{or_cases, or_parts, and_parts, eqb-true, both_ways, lt-ltb, not-true}
 use Rattle.markdown_event.specs.declared.event.Point.{Point}
-use Rattle.markdown_engine_content.specs.Codes.{Code, codes_from, codes_of_byte, codes_of_tab, tab_width, line_start, line_ending_len, next_column, stop_of, document_start, is_line_ending_byte, tab_value, line_feed, carriage_return}
-use Rattle.markdown_engine_content.specs.Slices.{byte_from}
+use Rattle.markdown_content.specs.Codes.{Code, codes_from, codes_of_byte, codes_of_tab, tab_width, line_start, line_ending_len, next_column, stop_of, document_start, is_line_ending_byte, tab_value, line_feed, carriage_return}
+use Rattle.markdown_content.specs.Slices.{byte_from}
 use Rattle.markdown_model.specs.CodeTests.{is_ascii_punctuation}
 use Rattle.markdown_model_laws.specs.EscapedText.{punctuation, is_punctuation, escaped, has_one_line}
 use Rattle.markdown_model_laws.proofs.LentSlices.{codes_bytes, codes_bytes-append, slice-none}
@@ -36,9 +36,9 @@ abbrev pub IsItem : Item → Type 0
 IsItem (itself c) = IsOrdinary c.value
 IsItem (escape_of slash c) = (slash.value == 92 ≡ true) × (is_ascii_punctuation c ≡ true)
 
-abbrev pub AreItems : List Item → Type 0
-AreItems [] = Unit {0}
-AreItems (i ∷ is) = IsItem i × AreItems is
+abbrev pub AreEscapedItems : List Item → Type 0
+AreEscapedItems [] = Unit {0}
+AreEscapedItems (i ∷ is) = IsItem i × AreEscapedItems is
 
 -- Codes that mean themselves.
 
@@ -53,8 +53,8 @@ selves-kept : (cs : List Code) (is : List Item) → kept_codes (selves cs ++ is)
 selves-kept [] is = refl
 selves-kept (c ∷ cs) is = ap (λ x. c ∷ x) (selves-kept cs is)
 
-tab-items : (v n : ℕ) (p : Point) (is : List Item) → IsOrdinary v → AreItems is →
-    AreItems (selves (codes_of_tab v n p) ++ is)
+tab-items : (v n : ℕ) (p : Point) (is : List Item) → IsOrdinary v → AreEscapedItems is →
+    AreEscapedItems (selves (codes_of_tab v n p) ++ is)
 tab-items v zero p is h k = (h, k)
 tab-items v (suc n) p is h k = (h, tab-items 32 n (next_column p p.index (p.vs + 1)) is (refl, refl, refl) k)
 
@@ -72,11 +72,11 @@ tab-bytes all v (suc n) p =
     inside = ap (λ b. if b then p.index + 1 else p.index) later
 
 -- the place after these codes, by its index
-pub record EndsAt (p : Point) (i : ℕ) : Type 0 where
+pub record StandsAtIndex (p : Point) (i : ℕ) : Type 0 where
   pub index : p.index ≡ i
   pub vs : p.vs ≡ 0
 
-tab-end : (v n : ℕ) (p q : Point) → EndsAt (stop_of q (codes_of_tab v n p)) (p.index + 1)
+tab-end : (v n : ℕ) (p q : Point) → StandsAtIndex (stop_of q (codes_of_tab v n p)) (p.index + 1)
 tab-end v zero p q = record { index = refl; vs = refl }
 tab-end v (suc n) p q =
     let r : Point = next_column p p.index (p.vs + 1) in
@@ -106,10 +106,10 @@ is-punctuation b p q h =
     of-list (λ n. is_ascii_punctuation (record { value = n; start = document_start; stop = document_start })) punctuation b refl h
 
 -- it is neither a line ending nor a tab
-abbrev IsPlain : ℕ → Type 0
-IsPlain b = ((b == line_feed) ≡ false) × ((b == carriage_return) ≡ false) × ((b == tab_value) ≡ false)
+abbrev IsOneColumn : ℕ → Type 0
+IsOneColumn b = ((b == line_feed) ≡ false) × ((b == carriage_return) ≡ false) × ((b == tab_value) ≡ false)
 
-plain-punctuation : (b : ℕ) → is_punctuation b ≡ true → IsPlain b
+plain-punctuation : (b : ℕ) → is_punctuation b ≡ true → IsOneColumn b
 plain-punctuation b h = (not-true (b == 10) (test 10 refl), not-true (b == 13) (test 13 refl), not-true (b == 9) (test 9 refl))
   where
     test : (m : ℕ) → list_all (λ n. not (n == m)) punctuation ≡ true → not (b == m) ≡ true
@@ -118,28 +118,28 @@ plain-punctuation b h = (not-true (b == 10) (test 10 refl), not-true (b == 13) (
 -- A text, byte by byte.
 
 -- codes that begin here, and what they spell of a text in the end
-pub record IsRead (all : List ℕ) (p : Point) (cs : List Code) (text : List ℕ) : Type 0 where
+pub record SpellsText (all : List ℕ) (p : Point) (cs : List Code) (text : List ℕ) : Type 0 where
   pub items : List Item
-  pub are : AreItems items
+  pub are : AreEscapedItems items
   pub codes : item_codes items ≡ cs
   pub bytes : codes_bytes all (kept_codes items) ≡ text
-  pub ends : EndsAt (stop_of p cs) (length all)
+  pub ends : StandsAtIndex (stop_of p cs) (length all)
 
 -- the rest of the text begins at this place
-pub record IsHere (all : List ℕ) (p : Point) (rest : List ℕ) : Type 0 where
+pub record TextIsHere (all : List ℕ) (p : Point) (rest : List ℕ) : Type 0 where
   pub vs : p.vs ≡ 0
   pub bytes : drop p.index all ≡ rest
   pub size : p.index + length rest ≡ length all
 
-here-next : (all : List ℕ) (p q : Point) (b : ℕ) (rest : List ℕ) → IsHere all p (b ∷ rest) → EndsAt q (p.index + 1) →
-    IsHere all q rest
+here-next : (all : List ℕ) (p q : Point) (b : ℕ) (rest : List ℕ) → TextIsHere all p (b ∷ rest) → StandsAtIndex q (p.index + 1) →
+    TextIsHere all q rest
 here-next all p q b rest h e = record {
   vs = e.vs;
   bytes = ap (λ n. drop n all) e.index ∙ sym (drop-drop 1 p.index all) ∙ ap (λ xs. drop 1 xs) h.bytes;
   size = omega (arith, e.index, h.size);
 }
 
-here-byte : (all : List ℕ) (p : Point) (b : ℕ) (rest : List ℕ) → IsHere all p (b ∷ rest) →
+here-byte : (all : List ℕ) (p : Point) (b : ℕ) (rest : List ℕ) → TextIsHere all p (b ∷ rest) →
     slice_range all (byte_from p) (p.index + 1) ≡ b ∷ []
 here-byte all p b rest h =
     (λ i. slice_range all (if nat_lt 0 (h.vs i) then p.index + 1 else p.index) (p.index + 1))
@@ -162,11 +162,11 @@ first-codes before p b rest h k =
     here : codes_of_byte p b rest ≡ codes_here b p
     here = λ i. if h i || k i then record { value = line_feed; start = p; stop = line_start (p.line + 1) (p.index + line_ending_len b rest) } ∷ [] else codes_here b p
 
-here-end : (b : ℕ) (p q : Point) → EndsAt (stop_of q (codes_here b p)) (p.index + 1)
+here-end : (b : ℕ) (p q : Point) → StandsAtIndex (stop_of q (codes_here b p)) (p.index + 1)
 here-end b p q = by_test (b == tab_value)
   where
     by_test : (t : Bool) →
-        EndsAt (stop_of q (if t then codes_of_tab tab_value (tab_width p - 1) p else record { value = b; start = p; stop = next_column p (p.index + 1) 0 } ∷ [])) (p.index + 1)
+        StandsAtIndex (stop_of q (if t then codes_of_tab tab_value (tab_width p - 1) p else record { value = b; start = p; stop = next_column p (p.index + 1) 0 } ∷ [])) (p.index + 1)
     by_test true = tab-end tab_value (tab_width p - 1) p q
     by_test false = record { index = refl; vs = refl }
 
@@ -179,38 +179,39 @@ here-bytes all b p = by_test (b == tab_value)
     by_test true = tab-bytes all tab_value (tab_width p - 1) p
     by_test false = append-nil (slice_range all (byte_from p) (p.index + 1))
 
-here-items : (b : ℕ) (p : Point) (is : List Item) → IsOrdinary b → AreItems is →
-    AreItems (selves (codes_here b p) ++ is)
+here-items : (b : ℕ) (p : Point) (is : List Item) → IsOrdinary b → AreEscapedItems is →
+    AreEscapedItems (selves (codes_here b p) ++ is)
 here-items b p is h k = by_test (b == tab_value)
   where
     by_test : (t : Bool) →
-        AreItems (selves (if t then codes_of_tab tab_value (tab_width p - 1) p else record { value = b; start = p; stop = next_column p (p.index + 1) 0 } ∷ []) ++ is)
+        AreEscapedItems (selves (if t then codes_of_tab tab_value (tab_width p - 1) p else record { value = b; start = p; stop = next_column p (p.index + 1) 0 } ∷ []) ++ is)
     by_test true = tab-items tab_value (tab_width p - 1) p is (refl, refl, refl) k
     by_test false = (h, k)
 
 -- a byte that means itself, and the rest
-with-byte : (all : List ℕ) (before : ℕ) (p : Point) (b : ℕ) (rest text : List ℕ) → IsOrdinary b → b == carriage_return ≡ false → IsHere all p (b ∷ rest)
-    → IsRead all (stop_of p (codes_here b p)) (codes_from b (stop_of p (codes_here b p)) rest) text → IsRead all p (codes_from before p (b ∷ rest)) (b ∷ text)
+with-byte : (all : List ℕ) (before : ℕ) (p : Point) (b : ℕ) (rest text : List ℕ) → IsOrdinary b → b == carriage_return ≡ false → TextIsHere all p (b ∷ rest)
+    → SpellsText all (stop_of p (codes_here b p)) (codes_from b (stop_of p (codes_here b p)) rest) text →
+    SpellsText all p (codes_from before p (b ∷ rest)) (b ∷ text)
 with-byte all before p b rest text o cr h r = record {
   items = selves (codes_here b p) ++ r.items;
   are = here-items b p r.items o r.are;
   codes = selves-codes (codes_here b p) r.items ∙ ap (λ x. codes_here b p ++ x) r.codes ∙ sym first;
   bytes = ap (codes_bytes all) (selves-kept (codes_here b p) r.items) ∙ codes_bytes-append all (codes_here b p) (kept_codes r.items) ∙ (λ i. (here-bytes all b p ∙ here-byte all p b rest h) i ++ r.bytes i);
-  ends = subst (λ q. EndsAt q (length all)) (sym (ap (stop_of p) first ∙ stop_of-append p (codes_here b p) (codes_from b (stop_of p (codes_here b p)) rest))) r.ends;
+  ends = subst (λ q. StandsAtIndex q (length all)) (sym (ap (stop_of p) first ∙ stop_of-append p (codes_here b p) (codes_from b (stop_of p (codes_here b p)) rest))) r.ends;
 }
   where
     first : codes_from before p (b ∷ rest) ≡ codes_here b p ++ codes_from b (stop_of p (codes_here b p)) rest
     first = first-codes before p b rest o.0 cr
 
 -- an escape, and the rest
-with-escape : (all : List ℕ) (before : ℕ) (p q : Point) (b : ℕ) (rest text : List ℕ) → q ≡ next_column p (p.index + 1) 0 → is_punctuation b ≡ true → IsHere all q (b ∷ rest)
-    → IsRead all (next_column q (q.index + 1) 0) (codes_from b (next_column q (q.index + 1) 0) rest) text → IsRead all p (codes_from before p (92 ∷ b ∷ rest)) (b ∷ text)
+with-escape : (all : List ℕ) (before : ℕ) (p q : Point) (b : ℕ) (rest text : List ℕ) → q ≡ next_column p (p.index + 1) 0 → is_punctuation b ≡ true → TextIsHere all q (b ∷ rest)
+    → SpellsText all (next_column q (q.index + 1) 0) (codes_from b (next_column q (q.index + 1) 0) rest) text → SpellsText all p (codes_from before p (92 ∷ b ∷ rest)) (b ∷ text)
 with-escape all before p q b rest text e punct h r = record {
   items = escape_of slash value ∷ r.items;
   are = ((refl, is-punctuation b q (next_column q (q.index + 1) 0) punct), r.are);
   codes = ap (λ x. slash ∷ value ∷ x) r.codes ∙ sym first;
   bytes = λ i. here-byte all q b rest h i ++ r.bytes i;
-  ends = subst (λ z. EndsAt z (length all)) (sym (ap (stop_of p) first)) r.ends;
+  ends = subst (λ z. StandsAtIndex z (length all)) (sym (ap (stop_of p) first)) r.ends;
 }
   where
     slash : Code
@@ -219,7 +220,7 @@ with-escape all before p q b rest text e punct h r = record {
     value : Code
     value = record { value = b; start = q; stop = next_column q (q.index + 1) 0 }
 
-    plain : IsPlain b
+    plain : IsOneColumn b
     plain = plain-punctuation b punct
 
     alone : codes_here b q ≡ value ∷ []
@@ -239,7 +240,7 @@ one-line b bs h =
     (tests.0, tests.1, parts.1)
 
 pub read : (all : List ℕ) (text : List ℕ) (before : ℕ) (p : Point) → has_one_line text ≡ true →
-    IsHere all p (escaped text) → IsRead all p (codes_from before p (escaped text)) text
+    TextIsHere all p (escaped text) → SpellsText all p (codes_from before p (escaped text)) text
 read all [] before p one h =
     record { items = []; are = tt; codes = refl; bytes = refl; ends = record { index = omega (arith, h.size); vs = h.vs } }
 read all (b ∷ bs) before p one h = by_test (is_punctuation b) refl h (λ c q k. read all bs c q line.2 k)
@@ -247,13 +248,13 @@ read all (b ∷ bs) before p one h = by_test (is_punctuation b) refl h (λ c q k
     line : ((b == line_feed) ≡ false) × ((b == carriage_return) ≡ false) × (has_one_line bs ≡ true)
     line = one-line b bs one
 
-    by_test : (t : Bool) → is_punctuation b ≡ t → IsHere all p ((if t then 92 ∷ b ∷ [] else b ∷ []) ++ escaped bs)
-        → ((c : ℕ) (q : Point) → IsHere all q (escaped bs) → IsRead all q (codes_from c q (escaped bs)) bs)
-        → IsRead all p (codes_from before p ((if t then 92 ∷ b ∷ [] else b ∷ []) ++ escaped bs)) (b ∷ bs)
+    by_test : (t : Bool) → is_punctuation b ≡ t → TextIsHere all p ((if t then 92 ∷ b ∷ [] else b ∷ []) ++ escaped bs)
+        → ((c : ℕ) (q : Point) → TextIsHere all q (escaped bs) → SpellsText all q (codes_from c q (escaped bs)) bs)
+        → SpellsText all p (codes_from before p ((if t then 92 ∷ b ∷ [] else b ∷ []) ++ escaped bs)) (b ∷ bs)
     by_test true e k more =
         let q : Point = next_column p (p.index + 1) 0 in
         let r : Point = next_column q (q.index + 1) 0 in
-        let there : IsHere all q (b ∷ escaped bs) = here-next all p q 92 (b ∷ escaped bs) k (record { index = refl; vs = refl }) in
+        let there : TextIsHere all q (b ∷ escaped bs) = here-next all p q 92 (b ∷ escaped bs) k (record { index = refl; vs = refl }) in
         with-escape all before p q b (escaped bs) bs refl e there (more b r (here-next all q r b (escaped bs) there (record { index = refl; vs = refl })))
     by_test false e k more =
         let q : Point = stop_of p (codes_here b p) in

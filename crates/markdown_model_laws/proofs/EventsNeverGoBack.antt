@@ -9,24 +9,24 @@ use Rattle.markdown_attention.proofs.AttentionTreeLabels.{IsGood}
 use Rattle.markdown_attention.proofs.PairedContainersFlat.{flat-row, ready-row}
 use Rattle.markdown_attention.proofs.MarkerCodes.{singles-content}
 use Rattle.markdown_attention.proofs.ElementsHaveMarkerRuns.{good-tree}
-use Rattle.markdown_engine_content.specs.Codes.{Code, codes_of, document_start, is_at_or_after, place_of, stop_of}
-use Rattle.markdown_engine_content.specs.Content.{IsContent, content_of, is_in_piece, piece_codes}
-use Rattle.markdown_engine_content.specs.Tree.{Forest, empty, leaf_then, group_then, leaf_codes, event_count, events_from, events_of}
+use Rattle.markdown_content.specs.Codes.{Code, codes_of, document_start, is_at_or_after, place_of, stop_of}
+use Rattle.markdown_content.specs.Content.{IsContent, content_of, is_in_piece, piece_codes}
+use Rattle.markdown_content.specs.Tree.{Forest, empty, leaf_then, group_then, leaf_codes, event_count, events_from, events_of}
 use Rattle.markdown_event.specs.declared.event.Event.{Event}
 use Rattle.markdown_event.specs.declared.event.Kind.TheVariants as Kind
 use Rattle.markdown_event.specs.declared.event.Name.{Name}
 use Rattle.markdown_event.specs.declared.event.Point.{Point}
-use Rattle.markdown_engine_content.specs.declared.parser.Piece.{Piece}
-use Rattle.markdown_engine_content.proofs.AdjacentCodes.{IsChain}
-use Rattle.markdown_engine_content.proofs.PlaceOrder.{is_before, before-asym, at_or_after-is}
-use Rattle.markdown_engine_content.proofs.DocumentPlaces.{chain-document}
+use Rattle.markdown_content.specs.declared.parser.Piece.{Piece}
+use Rattle.markdown_content.proofs.AdjacentCodes.{IsChain}
+use Rattle.markdown_content.proofs.PlaceOrder.{is_before, before-asym, at_or_after-is}
+use Rattle.markdown_content.proofs.DocumentPlaces.{chain-document}
 use Rattle.markdown_model.specs.Elements.{elements_of, string_elements_of}
 use Rattle.markdown_model.specs.GfmEmailLiteral.{with_emails}
 use Rattle.markdown_model.specs.BracketGroups.{paired}
 use Rattle.markdown_model.specs.InlineTree.{label_tree, finished_string, text_tree, string_tree, text_events, string_events}
 use Rattle.markdown_model.specs.LabelEnd.{Element}
 use Rattle.markdown_model.specs.Pairs.{pair_list}
-use Rattle.markdown_model.specs.Passes.{data_onto, merged, begins_line_ending, is_nothing, trimmed_data, trimmed, with_emails_apart, labels_of}
+use Rattle.markdown_model.specs.Passes.{no_breaks, HardBreaks, breaks_where, breaks, data_onto, merged, begins_line_ending, is_nothing, trimmed_data, trimmed, with_emails_apart, labels_of}
 use Rattle.markdown_model.specs.Setting.{Setting}
 use Rattle.markdown_model.proofs.PassesKeepCodes.{codes-trimmed_data}
 use Rattle.markdown_model.proofs.LabelsCover.{codes-labels_of}
@@ -38,10 +38,10 @@ use Rattle.markdown_model_laws.proofs.EachPass.{unmailed, text-has}
 use Rattle.markdown_model_laws.proofs.TreesFilledLaws.{trees_are_filled}
 use Rattle.markdown_model_laws.proofs.MadeElements.{good-text, good-string}
 use Rattle.markdown_model_laws.proofs.PairPlaces.{paired-allows}
-use Rattle.markdown_model_laws.proofs.PlacesInOrder.{Place, IsOn, on-itself, on-trans, GoOn, last_of, Allows, allows-itself, allows-then, allows-join, allows-behind}
+use Rattle.markdown_model_laws.proofs.PlacesInOrder.{BytePlace, IsAtOrBehind, on-itself, on-trans, GoOn, last_of, Allows, allows-itself, allows-then, allows-join, allows-behind}
 use Rattle.markdown_model_laws.proofs.TreePlaces.{ends_of, ends-join, ends-last, places_of, places-join, fit-labels}
-use Rattle.markdown_run_leaves.proofs.LeafOrder.{Each, NotBefore, Later, content-later}
-use Rattle.markdown_run_leaves.proofs.OneLineTrees.{AreLeaves, leaves-trimmed_data, leaves-with_emails}
+use Rattle.markdown_innermost.proofs.LeafOrder.{EachCode, NotBefore, Later, content-later}
+use Rattle.markdown_innermost.proofs.OneLineTrees.{AreLeaves, leaves-trimmed_data, leaves-with_emails}
 
 -- Rows of leaves.
 
@@ -69,17 +69,17 @@ merged-places (group_then name enter exit inside rest) =
 
 -- Trimming.
 
-trimmed_data-places : (front back hard : Bool) (cs : List Code) →
+trimmed_data-places : (front back : Bool) (hard : HardBreaks) (cs : List Code) →
     places_of (trimmed_data front back hard cs) ≡ ends_of cs
 trimmed_data-places front back hard cs =
     leaves-places (trimmed_data front back hard cs) (leaves-trimmed_data front back hard cs) ∙ ap ends_of (codes-trimmed_data front back hard cs)
 
-trimmed-places : (hard front whole : Bool) (f : Forest) → places_of (trimmed hard front whole f) ≡ places_of f
+trimmed-places : (hard : HardBreaks) (front whole : Bool) (f : Forest) → places_of (trimmed hard front whole f) ≡ places_of f
 unfolding trimmed
 trimmed-places hard front whole empty = refl
 trimmed-places hard front whole (leaf_then Name.Data None cs rest) =
-    places-join (trimmed_data front (begins_line_ending rest || (whole && is_nothing rest)) (hard && begins_line_ending rest) cs) (trimmed hard false whole rest)
-    ∙ (λ i. trimmed_data-places front (begins_line_ending rest || (whole && is_nothing rest)) (hard && begins_line_ending rest) cs i ++ trimmed-places hard false whole rest i)
+    places-join (trimmed_data front (begins_line_ending rest || (whole && is_nothing rest)) (breaks_where hard (begins_line_ending rest)) cs) (trimmed hard false whole rest)
+    ∙ (λ i. trimmed_data-places front (begins_line_ending rest || (whole && is_nothing rest)) (breaks_where hard (begins_line_ending rest)) cs i ++ trimmed-places hard false whole rest i)
 trimmed-places hard front whole (leaf_then Name.LineEnding link cs rest) =
     ap (λ x. ends_of cs ++ x) (trimmed-places hard true whole rest)
 trimmed-places hard front whole (leaf_then name link cs rest) =
@@ -105,7 +105,7 @@ mailed-places (group_then name enter exit inside rest) =
 
 -- Events.
 
-abbrev event_places : List Event → List Place
+abbrev event_places : List Event → List BytePlace
 event_places [] = []
 event_places (e ∷ es) = place_of e.point ∷ event_places es
 
@@ -114,8 +114,8 @@ event-join [] fs = refl
 event-join (e ∷ es) fs = ap (λ x. place_of e.point ∷ x) (event-join es fs)
 
 -- a row goes on to its last place
-on-last : (p : Place) (xs : List Place) (high : Place) → GoOn p xs high →
-    IsOn p (last_of p xs) × IsOn (last_of p xs) high
+on-last : (p : BytePlace) (xs : List BytePlace) (high : BytePlace) → GoOn p xs high →
+    IsAtOrBehind p (last_of p xs) × IsAtOrBehind (last_of p xs) high
 on-last p [] high h = (on-itself p, h)
 on-last p (x ∷ xs) high h = let r = on-last x xs high h.1 in (on-trans p x (last_of x xs) h.0 r.0, r.1)
 
@@ -145,19 +145,19 @@ events-allow n previous (group_then name enter exit inside rest) h =
     exits : List Event
     exits = record { kind = Kind.Exit; name = name; point = exit; link = None } ∷ after
 
-abbrev StandsOn : Place → Event → Type 0
+abbrev StandsOn : BytePlace → Event → Type 0
 StandsOn p f = IsTrue (is_at_or_after p (place_of f.point))
 
-stands-on : (p q : Place) → IsOn p q → IsTrue (is_at_or_after p q)
+stands-on : (p q : BytePlace) → IsAtOrBehind p q → IsTrue (is_at_or_after p q)
 stands-on p q h = at_or_after-is p q ∙ ap not h
 
-all-on : (p q : Place) (es : List Event) (high : Place) → IsOn p q → GoOn q (event_places es) high → All (StandsOn p) es
+all-on : (p q : BytePlace) (es : List Event) (high : BytePlace) → IsAtOrBehind p q → GoOn q (event_places es) high → All (StandsOn p) es
 all-on p q [] high h k = All-nil (StandsOn p)
 all-on p q (e ∷ es) high h k =
-    let here : IsOn p (place_of e.point) = on-trans p q (place_of e.point) h k.0 in
+    let here : IsAtOrBehind p (place_of e.point) = on-trans p q (place_of e.point) h k.0 in
     All-cons (StandsOn p) e es (stands-on p (place_of e.point) here) (all-on p (place_of e.point) es high here k.1)
 
-never-back : (p : Place) (es : List Event) (high : Place) → GoOn p (event_places es) high → NeverGoBack es
+never-back : (p : BytePlace) (es : List Event) (high : BytePlace) → GoOn p (event_places es) high → NeverGoBack es
 never-back p [] high h = tt
 never-back p (e ∷ es) high h =
     (all-on (place_of e.point) (place_of e.point) es high (on-itself (place_of e.point)) h.1, never-back (place_of e.point) es high h.1)
@@ -165,37 +165,37 @@ never-back p (e ∷ es) high h =
 -- The codes of a content.
 
 abbrev IsForward : Code → Type 0
-IsForward c = IsOn (place_of c.start) (place_of c.stop)
+IsForward c = IsAtOrBehind (place_of c.start) (place_of c.stop)
 
-chain-forward : (p : Point) (cs : List Code) → IsChain p cs → Each IsForward cs
+chain-forward : (p : Point) (cs : List Code) → IsChain p cs → EachCode IsForward cs
 chain-forward p [] h = tt
 chain-forward p (c ∷ cs) h =
-    (subst (λ (q : Point). IsOn (place_of q) (place_of c.stop)) (sym h.0) (before-asym (place_of p) (place_of c.stop) h.1), chain-forward c.stop cs h.2)
+    (subst (λ (q : Point). IsAtOrBehind (place_of q) (place_of c.stop)) (sym h.0) (before-asym (place_of p) (place_of c.stop) h.1), chain-forward c.stop cs h.2)
 
-forward-join : (xs ys : List Code) → Each IsForward xs → Each IsForward ys → Each IsForward (xs ++ ys)
+forward-join : (xs ys : List Code) → EachCode IsForward xs → EachCode IsForward ys → EachCode IsForward (xs ++ ys)
 forward-join [] ys h k = k
 forward-join (c ∷ xs) ys h k = (h.0, forward-join xs ys h.1 k)
 
-forward-filter : (p : Code → Bool) (cs : List Code) → Each IsForward cs → Each IsForward (filter p cs)
+forward-filter : (p : Code → Bool) (cs : List Code) → EachCode IsForward cs → EachCode IsForward (filter p cs)
 forward-filter p [] h = tt
 forward-filter p (c ∷ cs) h = by_test (p c) (forward-filter p cs h.1)
   where
-    by_test : (b : Bool) → Each IsForward (filter p cs) → Each IsForward (cond b (c ∷ filter p cs) (filter p cs))
+    by_test : (b : Bool) → EachCode IsForward (filter p cs) → EachCode IsForward (cond b (c ∷ filter p cs) (filter p cs))
     by_test true k = (h.0, k)
     by_test false k = k
 
-forward-pieces : (bytes : List ℕ) (pieces : List Piece) → Each IsForward (codes_of bytes) →
-    Each IsForward (content_of bytes pieces)
+forward-pieces : (bytes : List ℕ) (pieces : List Piece) → EachCode IsForward (codes_of bytes) →
+    EachCode IsForward (content_of bytes pieces)
 forward-pieces bytes [] h = tt
 forward-pieces bytes (piece ∷ more) h =
     forward-join (piece_codes (codes_of bytes) piece) (content_of bytes more) (forward-filter (is_in_piece piece) (codes_of bytes) h) (forward-pieces bytes more h)
 
-codes-on : (p : Place) (cs : List Code) → Each (NotBefore p) cs → Later cs → Each IsForward cs →
+codes-on : (p : BytePlace) (cs : List Code) → EachCode (NotBefore p) cs → Later cs → EachCode IsForward cs →
     GoOn p (ends_of cs) (last_of p (ends_of cs))
 codes-on p [] h k f = on-itself p
 codes-on p (c ∷ cs) h k f = (h.0, (f.0, codes-on (place_of c.stop) cs k.0 k.1 f.1))
 
-from-start : (cs : List Code) → Each (NotBefore (place_of document_start)) cs
+from-start : (cs : List Code) → EachCode (NotBefore (place_of document_start)) cs
 from-start [] = tt
 from-start (c ∷ cs) = (first c.start.index c.start.vs, from-start cs)
   where
@@ -206,7 +206,7 @@ module _ (s : Setting) (pieces : List Piece) (content : IsContent s.bytes pieces
   abbrev all : List Code
   all = content_of s.bytes pieces
 
-  abbrev first : Place
+  abbrev first : BytePlace
   first = place_of document_start
 
   content-on : GoOn first (ends_of all) (last_of first (ends_of all))
@@ -221,59 +221,59 @@ module _ (s : Setting) (pieces : List Piece) (content : IsContent s.bytes pieces
 
   -- Texts.
 
-  abbrev Elements : List Element
-  Elements = elements_of s all
+  abbrev read_elements : List Element
+  read_elements = elements_of s all
 
-  abbrev Labels : Forest
-  Labels = labels_of Elements
+  abbrev label_row : Forest
+  label_row = labels_of read_elements
 
-  codes-labels : leaf_codes Labels ≡ all
+  codes-labels : leaf_codes label_row ≡ all
   unfolding text_tree
-  codes-labels = codes-labels_of Elements ∙ sym (codes-finished_text s (pair_list s) Elements) ∙ (leaves_cover s all).0
+  codes-labels = codes-labels_of read_elements ∙ sym (codes-finished_text s (pair_list s) read_elements) ∙ (leaves_cover s all).0
 
-  good : IsGood s.bytes Labels
+  good : IsGood s.bytes label_row
   unfolding label_tree
   good = good-tree s.bytes s all (singles-content s.bytes pieces content.in_order)
 
-  abbrev Pairs : Forest
-  Pairs = paired s (pair_list s) Labels
+  abbrev paired_row : Forest
+  paired_row = paired s (pair_list s) label_row
 
-  pairs-allow : Allows (ends_of all) (places_of Pairs)
+  pairs-allow : Allows (ends_of all) (places_of paired_row)
   pairs-allow =
-      let stripes : HasStripes Labels = good.1.0 in
-      let unlinked : IsUnlinkedRow Labels = good.1.1.0 in
-      subst (λ xs. Allows (ends_of xs) (places_of Pairs)) codes-labels
-      (allows-then (ends_of (leaf_codes Labels)) (places_of Labels) (places_of Pairs) (fit-labels Elements (good-text s all))
-      (paired-allows s (pair_list s) Labels (flat-row s Labels stripes (λ _. unlinked)) (ready-row s Labels stripes)))
+      let stripes : HasStripes label_row = good.1.0 in
+      let unlinked : IsUnlinkedRow label_row = good.1.1.0 in
+      subst (λ xs. Allows (ends_of xs) (places_of paired_row)) codes-labels
+      (allows-then (ends_of (leaf_codes label_row)) (places_of label_row) (places_of paired_row) (fit-labels read_elements (good-text s all))
+      (paired-allows s (pair_list s) label_row (flat-row s label_row stripes (λ _. unlinked)) (ready-row s label_row stripes)))
 
-  trimmed-same : places_of (unmailed s all) ≡ places_of Pairs
-  trimmed-same = trimmed-places s.options.constructs.hard_break_trailing true true (merged Pairs) ∙ merged-places Pairs
+  trimmed-same : places_of (unmailed s all) ≡ places_of paired_row
+  trimmed-same = trimmed-places (breaks s) true true (merged paired_row) ∙ merged-places paired_row
 
-  text-same : places_of (text_tree s all) ≡ places_of Pairs
+  text-same : places_of (text_tree s all) ≡ places_of paired_row
   text-same =
-      text-has (λ t. places_of t ≡ places_of Pairs) s all (mailed-places (unmailed s all) ∙ trimmed-same) trimmed-same
+      text-has (λ t. places_of t ≡ places_of paired_row) s all (mailed-places (unmailed s all) ∙ trimmed-same) trimmed-same
 
   text-back : NeverGoBack (text_events s pieces)
   text-back = tree-back (text_tree s all) (trees_are_filled s all).0 (subst (Allows (ends_of all)) (sym text-same) pairs-allow)
 
   -- Strings.
 
-  abbrev Plain : Forest
-  Plain = labels_of (string_elements_of s all)
+  abbrev plain_row : Forest
+  plain_row = labels_of (string_elements_of s all)
 
-  codes-plain : leaf_codes Plain ≡ all
+  codes-plain : leaf_codes plain_row ≡ all
   unfolding string_tree
   codes-plain =
       codes-labels_of (string_elements_of s all) ∙ sym (codes-finished_string (string_elements_of s all)) ∙ (leaves_cover s all).1
 
-  string-same : places_of (string_tree s all) ≡ places_of Plain
+  string-same : places_of (string_tree s all) ≡ places_of plain_row
   unfolding string_tree finished_string
-  string-same = trimmed-places false false false (merged Plain) ∙ merged-places Plain
+  string-same = trimmed-places no_breaks false false (merged plain_row) ∙ merged-places plain_row
 
   string-back : NeverGoBack (string_events s pieces)
   string-back =
       tree-back (string_tree s all) (trees_are_filled s all).1
-      (subst (Allows (ends_of all)) (sym string-same) (subst (λ xs. Allows (ends_of xs) (places_of Plain)) codes-plain (fit-labels (string_elements_of s all) (good-string s all))))
+      (subst (Allows (ends_of all)) (sym string-same) (subst (λ xs. Allows (ends_of xs) (places_of plain_row)) codes-plain (fit-labels (string_elements_of s all) (good-string s all))))
 
 pub events_never_go_back : EventsNeverGoBack
 events_never_go_back s pieces content = (text-back s pieces content, string-back s pieces content)

@@ -2,15 +2,15 @@
 use Rattle.std.proofs.Common.{◌≡◌, ℕ, Bool, true, false, ◌&&◌, ◌||◌, not, List, [], ◌∷◌, ◌++◌, refl, sym, ◌∙◌}
 use Rattle.std.proofs.lemmas.Bool.{and_parts, not-true}
 use Rattle.markdown_event.specs.declared.event.Name.{Name}
-use Rattle.markdown_engine_content.specs.Codes.{Code}
-use Rattle.markdown_engine_content.specs.Tree.{Forest, empty, leaf_then, group_then, leaf, ◌⊕◌, leaf_codes, enter_of, exit_after}
+use Rattle.markdown_content.specs.Codes.{Code}
+use Rattle.markdown_content.specs.Tree.{Forest, empty, leaf_then, group_then, leaf, ◌⊕◌, leaf_codes, enter_of, exit_after}
 use Rattle.markdown_model.specs.CodeTests.{is_empty}
 use Rattle.markdown_model.specs.BracketGroups.{assembled, tokens_of}
 use Rattle.markdown_model.specs.Pairs.{Pair, pair_list}
 use Rattle.markdown_model.specs.Passes.{is_nothing}
 use Rattle.markdown_model.specs.Setting.{Setting}
 use Rattle.markdown_model.proofs.PassesKeepCodes.{codes-assembled, codes-tokens_of}
-use Rattle.markdown_model.proofs.PassedTrees.{Walks, walks-row}
+use Rattle.markdown_model.proofs.PassedTrees.{HoldsByParts, walks-row}
 use Rattle.markdown_model_laws.specs.EmailsInData.{is_email}
 use Rattle.markdown_model_laws.specs.TreesFilled.{is_label_text, IsFilled}
 use Rattle.markdown_model_laws.proofs.MadeConstructs.{is_at, is_single, reaches, made}
@@ -21,7 +21,7 @@ pub filled-leaf : (name : Name) (cs : List Code) → IsFilled (leaf name cs)
 filled-leaf name [] = tt
 filled-leaf name (c ∷ cs) = (refl, tt)
 
-pub filled : Walks IsFilled (λ name link cs. is_empty cs ≡ false) (λ name a b inside. is_nothing inside ≡ true → is_label_text name ≡ true)
+pub filled : HoldsByParts IsFilled (λ name link cs. is_empty cs ≡ false) (λ name a b inside. is_nothing inside ≡ true → is_label_text name ≡ true)
 filled = record {
   none = tt;
   leaf_of = λ name link cs rest h. h;

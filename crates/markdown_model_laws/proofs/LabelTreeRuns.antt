@@ -6,9 +6,9 @@ use Rattle.std.specs.List.{list_all}
 use Rattle.std.proofs.lemmas.Bool.{and_parts, or_parts, both_ways, eqb-true}
 use Rattle.std.proofs.lemmas.Bool.Decides.{nat_tests}
 use Rattle.markdown_event.specs.declared.event.Name.{Name}
-use Rattle.markdown_engine_content.specs.declared.label_kind.LabelKind.{LabelKind}
-use Rattle.markdown_engine_content.specs.Codes.{Code, stop_of, document_start}
-use Rattle.markdown_engine_content.specs.Tree.{Forest, empty, leaf_then, group_then, leaf, ◌⊕◌, group, text_group, leaf_codes, start_of}
+use Rattle.markdown_content.specs.declared.label_kind.LabelKind.{LabelKind}
+use Rattle.markdown_content.specs.Codes.{Code, stop_of, document_start}
+use Rattle.markdown_content.specs.Tree.{Forest, empty, leaf_then, group_then, leaf, ◌⊕◌, group, text_group, leaf_codes, start_of}
 use Rattle.markdown_model.specs.CodeTests.{is_value, is_empty, next_is}
 use Rattle.markdown_model.specs.Grammar.{Reading, ◌>>=◌, gives, some, span}
 use Rattle.markdown_model.specs.Setting.{Setting}
@@ -23,7 +23,7 @@ use Rattle.markdown_model.proofs.ElementCases.{EachConstruct, outcome_yields, te
 use Rattle.markdown_model.proofs.ElementsCover.{covers_text_element}
 use Rattle.markdown_model.proofs.OneElementList.{text_elements}
 use Rattle.markdown_model.proofs.LabelsCover.{element_codes, unused}
-use Rattle.markdown_model.proofs.NoLinkInConstructs.{Passes, Yields, yields_bind, yields_gives, yields_either, then_any}
+use Rattle.markdown_model.proofs.NoLinkInConstructs.{PassesValue, Yields, yields_bind, yields_gives, yields_either, then_any}
 use Rattle.markdown_model.proofs.ReadingsCover.{At}
 use Rattle.markdown_model.proofs.DefinitionSteps.{span-all, span-stops}
 use Rattle.markdown_model.proofs.PlainTrees.{is_mark, is_linked, marks, IsQuiet, plain-quiet, quiet_after_label}
@@ -35,7 +35,7 @@ abbrev pub is_marker : ℕ → Bool
 is_marker m = m == byte "*" || (m == byte "_" || m == byte "~")
 
 -- one marker at least, and no other code
-pub record IsStripe (m : ℕ) (cs : List Code) : Type 0 where
+pub record IsMarkerStripe (m : ℕ) (cs : List Code) : Type 0 where
   pub kind : is_marker m ≡ true
   pub some : is_empty cs ≡ false
   pub all : list_all (is_value m) cs ≡ true
@@ -45,7 +45,7 @@ pub record IsStripe (m : ℕ) (cs : List Code) : Type 0 where
 abbrev pub HasApartRuns : ℕ → Forest → Type 0
 HasApartRuns p empty = Unit {0}
 HasApartRuns p (leaf_then Name.AttentionSequence link cs rest) =
-    IsStripe (marker_of cs) cs × ((marker_of cs == p) ≡ false) × HasApartRuns (marker_of cs) rest
+    IsMarkerStripe (marker_of cs) cs × ((marker_of cs == p) ≡ false) × HasApartRuns (marker_of cs) rest
 HasApartRuns p (leaf_then name link cs rest) = HasApartRuns 0 rest
 HasApartRuns p (group_then name enter exit inside rest) = HasApartRuns 0 inside × HasApartRuns 0 rest
 
@@ -129,30 +129,30 @@ after-loose p cs fs h k = (data-apart p cs, subst (λ x. ListApart x fs) (sym (d
 record IsRunTree (t : Forest) (rest : List Code) : Type 0 where
   codes : List Code
   is : t ≡ leaf_then Name.AttentionSequence None codes empty
-  stripe : IsStripe (marker_of codes) codes
+  stripe : IsMarkerStripe (marker_of codes) codes
   stops : next_is (is_value (marker_of codes)) rest ≡ false
 
-abbrev IsFine : Element → List Code → Type 0
-IsFine (plain t) rest = IsQuiet true t ⊎ IsRunTree t rest
-IsFine (starts kind marker) rest = Unit {0}
-IsFine (ends marker None) rest = Unit {0}
-IsFine (ends marker (Some outcome)) rest = IsQuiet false outcome.1
+abbrev IsQuietElement : Element → List Code → Type 0
+IsQuietElement (plain t) rest = IsQuiet true t ⊎ IsRunTree t rest
+IsQuietElement (starts kind marker) rest = Unit {0}
+IsQuietElement (ends marker None) rest = Unit {0}
+IsQuietElement (ends marker (Some outcome)) rest = IsQuiet false outcome.1
 
 abbrev AnswersFine : Option (Element × List Code) → Type 0
 AnswersFine None = Unit {0}
-AnswersFine (Some r) = IsFine r.0 r.1
+AnswersFine (Some r) = IsQuietElement r.0 r.1
 
 record Fine (a : Reading Element) : Type 0 where
   at : (cs : List Code) → AnswersFine (a cs)
 
 -- whatever the codes after it are
 abbrev Always : Element → Type 0
-Always e = (rest : List Code) → IsFine e rest
+Always e = (rest : List Code) → IsQuietElement e rest
 
 fine_always : (a : Reading Element) → Yields Always a → Fine a
 fine_always a h = record { at = λ cs. by_answer (a cs) (h.at cs) }
   where
-    by_answer : (r : Option (Element × List Code)) → Passes Always r → AnswersFine r
+    by_answer : (r : Option (Element × List Code)) → PassesValue Always r → AnswersFine r
     by_answer None k = tt
     by_answer (Some x) k = k x.1
 
@@ -226,18 +226,18 @@ fine_text_element s end earlier previous cs = text_has s end earlier previous An
 
 -- Lists of elements, where p is the marker of a run just before, or zero.
 
-abbrev AreApart : ℕ → List Element → Type 0
-AreApart p [] = Unit {0}
-AreApart p (plain t ∷ es) = HasApartRuns p t × AreApart (last_run p t) es
-AreApart p (starts kind marker ∷ es) = AreApart 0 es
-AreApart p (ends marker None ∷ es) = AreApart 0 es
-AreApart p (ends marker (Some outcome) ∷ es) = IsQuiet false outcome.1 × AreApart 0 es
+abbrev AreApartElements : ℕ → List Element → Type 0
+AreApartElements p [] = Unit {0}
+AreApartElements p (plain t ∷ es) = HasApartRuns p t × AreApartElements (last_run p t) es
+AreApartElements p (starts kind marker ∷ es) = AreApartElements 0 es
+AreApartElements p (ends marker None ∷ es) = AreApartElements 0 es
+AreApartElements p (ends marker (Some outcome) ∷ es) = IsQuiet false outcome.1 × AreApartElements 0 es
 
 -- no code of this marker is at hand
-abbrev IsPast : ℕ → List Code → Type 0
-IsPast p cs = (next_is (is_value p) cs ≡ false) ⊎ (p ≡ 0)
+abbrev IsPastMarker : ℕ → List Code → Type 0
+IsPastMarker p cs = (next_is (is_value p) cs ≡ false) ⊎ (p ≡ 0)
 
-not-before : (p : ℕ) (xs rest cs : List Code) → IsStripe (marker_of xs) xs → xs ++ rest ≡ cs → IsPast p cs →
+not-before : (p : ℕ) (xs rest cs : List Code) → IsMarkerStripe (marker_of xs) xs → xs ++ rest ≡ cs → IsPastMarker p cs →
     (marker_of xs == p) ≡ false
 not-before p [] rest cs h e k = absurd (both_ways true h.some refl)
 not-before p (x ∷ xs) rest cs h e (inl k) = ap (next_is (is_value p)) e ∙ k
@@ -253,18 +253,18 @@ module _ (s : Setting) (end : ℕ) where
   abbrev From : List Element → Option Code → List Code → List Element → Type 0
   From earlier previous cs es = AreElementsFrom (text_element s end) earlier previous cs es
 
-  apart-element : (e : Element) (es : List Element) (d p : ℕ) (rest cs : List Code) → IsFine e rest → element_codes d e ++ rest ≡ cs → 1 + length rest ≤ length cs → IsPast p cs
-      → ((q : ℕ) → IsPast q rest → AreApart q es) → AreApart p (e ∷ es)
+  apart-element : (e : Element) (es : List Element) (d p : ℕ) (rest cs : List Code) → IsQuietElement e rest → element_codes d e ++ rest ≡ cs → 1 + length rest ≤ length cs → IsPastMarker p cs
+      → ((q : ℕ) → IsPastMarker q rest → AreApartElements q es) → AreApartElements p (e ∷ es)
   apart-element (plain t) es d p rest cs (inl h) e l k more =
-      (quiet-apart true p t h, subst (λ x. AreApart x es) (sym (quiet-last true p t h (some-tree t rest cs e l))) (more 0 (inr refl)))
-  apart-element (plain t) es d p rest cs (inr h) e l k more = subst (λ x. AreApart p (plain x ∷ es)) (sym h.is)
+      (quiet-apart true p t h, subst (λ x. AreApartElements x es) (sym (quiet-last true p t h (some-tree t rest cs e l))) (more 0 (inr refl)))
+  apart-element (plain t) es d p rest cs (inr h) e l k more = subst (λ x. AreApartElements p (plain x ∷ es)) (sym h.is)
       ((h.stripe, not-before p h.codes rest cs h.stripe (sym (ap (λ x. x ++ rest) (ap leaf_codes h.is ∙ append-nil h.codes)) ∙ e) k, tt), more (marker_of h.codes) (inl h.stops))
   apart-element (starts kind marker) es d p rest cs h e l k more = more 0 (inr refl)
   apart-element (ends marker None) es d p rest cs h e l k more = more 0 (inr refl)
   apart-element (ends marker (Some outcome)) es d p rest cs h e l k more = (h, more 0 (inr refl))
 
-  all-apart : (es earlier : List Element) (previous : Option Code) (cs : List Code) (p : ℕ) → IsPast p cs →
-      From earlier previous cs es → AreApart p es
+  all-apart : (es earlier : List Element) (previous : Option Code) (cs : List Code) (p : ℕ) → IsPastMarker p cs →
+      From earlier previous cs es → AreApartElements p es
   all-apart [] earlier previous cs p k h = tt
   all-apart (e ∷ es) earlier previous cs p k h =
       apart-element e es (unused earlier) p h.0 cs
@@ -311,24 +311,24 @@ labelled-apart p start inside (back, None) after h k l m =
 labelled-apart p start inside (back, Some outcome) after h k l m =
     (apart-label p outcome.0 start.1 (joined inside) back outcome.1 (apart-joined 0 inside l) k.1, m)
 
-abbrev Frames : Type 0
-Frames = List (End × List Forest)
+abbrev LabelFrames : Type 0
+LabelFrames = List (End × List Forest)
 
-abbrev AreFrames : Frames → Type 0
-AreFrames [] = Unit {0}
-AreFrames (f ∷ fs) = QuietEnd f.0 × ListApart 0 f.1 × AreFrames fs
+abbrev AreQuietFrames : LabelFrames → Type 0
+AreQuietFrames [] = Unit {0}
+AreQuietFrames (f ∷ fs) = QuietEnd f.0 × ListApart 0 f.1 × AreQuietFrames fs
 
-abbrev nest_labels : List Element → List Forest × Frames
+abbrev nest_labels : List Element → List Forest × LabelFrames
 nest_labels es = nest labelled loose_start loose_end (map as_bracket es)
 
-apart-onto : (p : ℕ) (start : Start) (inside : List Forest) (more : Frames) → IsSome start.1 → ListApart 0 inside → AreFrames more →
-    let r : List Forest × Frames = onto labelled loose_start loose_end start inside more in
-    ListApart p r.0 × AreFrames r.1
+apart-onto : (p : ℕ) (start : Start) (inside : List Forest) (more : LabelFrames) → IsSome start.1 → ListApart 0 inside → AreQuietFrames more →
+    let r : List Forest × LabelFrames = onto labelled loose_start loose_end start inside more in
+    ListApart p r.0 × AreQuietFrames r.1
 apart-onto p start inside [] h k l = (after-loose p start.1 inside h k, tt)
 apart-onto p start inside (f ∷ fs) h k l = (labelled-apart p start inside f.0 f.1 h l.0 k l.1, l.2)
 
-apart-nest : (p : ℕ) (es : List Element) → AllGood es → AreApart p es →
-    ListApart p (nest_labels es).0 × AreFrames (nest_labels es).1
+apart-nest : (p : ℕ) (es : List Element) → AllGood es → AreApartElements p es →
+    ListApart p (nest_labels es).0 × AreQuietFrames (nest_labels es).1
 apart-nest p [] g h = (tt, tt)
 apart-nest p (plain tree ∷ es) g h = let r = apart-nest (last_run p tree) es g.1 h.1 in ((h.0, r.0), r.1)
 apart-nest p (starts kind marker ∷ es) g h =
@@ -336,7 +336,7 @@ apart-nest p (starts kind marker ∷ es) g h =
 apart-nest p (ends back None ∷ es) g h = let r = apart-nest 0 es g.1 h in (tt, (g.0, r.0, r.1))
 apart-nest p (ends back (Some outcome) ∷ es) g h = let r = apart-nest 0 es g.1 h.1 in (tt, ((g.0.0, h.0), r.0, r.1))
 
-apart-after : (p : ℕ) (fs : Frames) → AreFrames fs → ListApart p (after_loose labelled loose_start loose_end fs)
+apart-after : (p : ℕ) (fs : LabelFrames) → AreQuietFrames fs → ListApart p (after_loose labelled loose_start loose_end fs)
 apart-after p [] h = tt
 apart-after p (f ∷ fs) h =
     apart-append p (loose_end f.0 ++ f.1) (after_loose labelled loose_start loose_end fs) (after-loose p f.0.0 f.1 (end-some f.0 h.0) h.1)
@@ -351,5 +351,5 @@ apart-text-labels s cs =
     es : List Element
     es = elements_of s cs
 
-    r : ListApart 0 (nest_labels es).0 × AreFrames (nest_labels es).1
+    r : ListApart 0 (nest_labels es).0 × AreQuietFrames (nest_labels es).1
     r = apart-nest 0 es (good-text s cs) (all-apart s _ es [] None cs 0 (inr refl) (text_elements s cs))

@@ -1,18 +1,18 @@
 -- What is lent for the leaves of a tree, by the codes that they cover.
 use Rattle.std.proofs.Common.{◌≡◌, ℕ, ◌+◌, ◌-◌, ◌≤◌, nat_lt, Bool, true, false, List, [], ◌∷◌, ◌++◌, take, drop, map, if◌then◌else◌, refl, sym, ap, subst, ◌∙◌, arith, append_assoc}
 use Rattle.std.specs.Prelude.{slice_range}
-use Rattle.markdown_engine_content.proofs.VirtualSpaces.{byte-order}
+use Rattle.markdown_content.proofs.VirtualSpaces.{byte-order}
 use Rattle.std.proofs.lemmas.List.{drop-drop}
 use Rattle.std.proofs.Math.Seq.{take-add}
 use Rattle.std.proofs.lemmas.Bool.Decides.{nat_tests}
 use Rattle.markdown_event.specs.declared.event.Name.{Name}
 use Rattle.markdown_event.specs.declared.event.Point.{Point}
-use Rattle.markdown_engine_content.specs.Codes.{Code, stop_of, document_start, place_of}
-use Rattle.markdown_engine_content.specs.Slices.{position_bytes, byte_from}
-use Rattle.markdown_engine_content.specs.Tree.{Forest, empty, leaf_then, group_then, leaf_codes, start_of}
-use Rattle.markdown_engine_content.proofs.PlaceOrder.{is_before}
-use Rattle.markdown_engine_content.proofs.AdjacentCodes.{IsChain, chain-back, stop-later}
-use Rattle.markdown_run_leaves.specs.InnermostEvents.{Span, lent, leaves_of}
+use Rattle.markdown_content.specs.Codes.{Code, stop_of, document_start, place_of}
+use Rattle.markdown_content.specs.Slices.{position_bytes, byte_from}
+use Rattle.markdown_content.specs.Tree.{Forest, empty, leaf_then, group_then, leaf_codes, start_of}
+use Rattle.markdown_content.proofs.PlaceOrder.{is_before}
+use Rattle.markdown_content.proofs.AdjacentCodes.{IsChain, chain-back, stop-later}
+use Rattle.markdown_innermost.specs.InnermostEvents.{Span, lent, leaves_of}
 use Rattle.markdown_model_laws.specs.EscapedText.{is_text, text_of}
 
 -- Bytes between places.
@@ -93,8 +93,8 @@ spans_text-append bytes (s ∷ ss) ts =
     ∙ sym (append_assoc (if is_text s.name then position_bytes bytes s.start s.end else []) (spans_text bytes ss) (spans_text bytes ts))
     ∙ ap (λ x. x ++ spans_text bytes ts) (sym (span-text bytes s ss))
 
-abbrev Law : List ℕ → Forest → Type 0
-Law bytes t =
+abbrev SliceLaw : List ℕ → Forest → Type 0
+SliceLaw bytes t =
     (p : Point) (back : List Code) → IsChain p (leaf_codes t ++ back) → HasNoTextGroup t → spans_text bytes (leaves_of t) ≡ codes_bytes bytes (kept t)
 
 leaf-law : (bytes : List ℕ) (name : Name) (cs : List Code) (ss : List Span) (ds : List Code) → position_bytes bytes (start_of cs) (stop_of document_start cs) ≡ codes_bytes bytes cs
@@ -111,7 +111,7 @@ nothing-law : (bytes : List ℕ) (name : Name) (a b : Point) (ss : List Span) �
 nothing-law bytes name a b ss h =
     span-text bytes (record { name = name; start = a; end = b }) ss ∙ ap (λ x. (if x then position_bytes bytes a b else []) ++ spans_text bytes ss) h
 
-group-law : (bytes : List ℕ) (inside rest : Forest) → Law bytes inside → Law bytes rest → (p : Point) (back : List Code) → IsChain p ((leaf_codes inside ++ leaf_codes rest) ++ back)
+group-law : (bytes : List ℕ) (inside rest : Forest) → SliceLaw bytes inside → SliceLaw bytes rest → (p : Point) (back : List Code) → IsChain p ((leaf_codes inside ++ leaf_codes rest) ++ back)
     → HasNoTextGroup inside → HasNoTextGroup rest → spans_text bytes (leaves_of inside ++ leaves_of rest) ≡ codes_bytes bytes (kept inside ++ kept rest)
 group-law bytes inside rest in_law rest_law p back h k l =
     let apart : IsChain p (leaf_codes inside ++ (leaf_codes rest ++ back)) = subst (λ xs. IsChain p xs) (append_assoc (leaf_codes inside) (leaf_codes rest) back) h in
@@ -120,7 +120,7 @@ group-law bytes inside rest in_law rest_law p back h k l =
     ∙ sym (codes_bytes-append bytes (kept inside) (kept rest))
 
 -- what is lent for the leaves of a tree that are text is the bytes of their codes
-pub kept-lent : (bytes : List ℕ) (t : Forest) → Law bytes t
+pub kept-lent : (bytes : List ℕ) (t : Forest) → SliceLaw bytes t
 kept-lent bytes empty p back h k = refl
 kept-lent bytes (leaf_then name link cs rest) p back h k =
     let apart : IsChain p (cs ++ (leaf_codes rest ++ back)) = subst (λ xs. IsChain p xs) (append_assoc cs (leaf_codes rest) back) h in

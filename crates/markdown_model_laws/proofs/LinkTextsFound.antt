@@ -4,12 +4,12 @@ use Rattle.std.proofs.lemmas.Bool.{eqb-true, and_from, or_from, or_parts, or_rig
 use Rattle.std.proofs.lemmas.Grind.{common_steps}
 use Rattle.std.proofs.lemmas.Bool.Decides.{nat_tests}
 use Rattle.std.specs.List.{list_any}
-use Rattle.markdown_engine_content.specs.Codes.{Code, is_line_ending}
-use Rattle.markdown_engine_content.specs.Content.{has_no_blank_line}
-use Rattle.markdown_engine_content.specs.Tree.{Forest, leaf_codes}
+use Rattle.markdown_content.specs.Codes.{Code, is_line_ending}
+use Rattle.markdown_content.specs.Content.{has_no_blank_line}
+use Rattle.markdown_content.specs.Tree.{Forest, leaf_codes}
 use Rattle.markdown_model.specs.CodeTests.{is_value, is_among, is_whitespace_code}
 use Rattle.markdown_model.specs.Grammar.{Reading, ◌>>=◌, gives, either, up_to}
-use Rattle.markdown_model.specs.Resource.{StringNames, DestinationNames, between_markers, counted, label, title, title_between, literal_destination}
+use Rattle.markdown_model.specs.Resource.{StringNames, DestinationNames, between_markers, counted, escaped_between, is_bare_opener, label, title, title_between, literal_destination}
 use Rattle.markdown_model.proofs.ReadingsCover.{covers_label, covers_title, takes_up_to, itself}
 use Rattle.markdown_model.proofs.DefinitionSteps.{read-codes}
 use Rattle.markdown_model.proofs.GrammarSteps.{bind-some, bind-none, after-some, one-here, one-other, provided-true, either-some, either-second, and-left, and-right}
@@ -64,26 +64,32 @@ escaped-of marks stops takes text less i = record {
 
 -- Titles.
 
-module _ (opener closer : ℕ) (names : StringNames) where
+module _ (both : Bool) (opener closer : ℕ) (names : StringNames) where
   abbrev takes : Code → Bool
-  takes c = is_among (92 ∷ closer ∷ []) c
+  takes c = escaped_between both opener closer c
 
-  abbrev never : Code → Bool
-  never c = false
+  abbrev bare : Code → Bool
+  bare c = is_bare_opener both opener c
+
+  abbrev marks : Code → Bool
+  marks c = is_value closer c || bare c
 
   slashes : (c : Code) → is_value 92 c ≡ true → takes c ≡ true
   slashes c h = or_left _ _ h
 
   stops : (c : Code) → is_value closer c ≡ true → takes c ≡ true
-  stops c h = or_right (c.value == 92) _ (or_left _ false h)
+  stops c h = or_right (c.value == 92) _ (or_left _ (bare c) h)
+
+  marked : (c : Code) → marks c ≡ true → takes c ≡ true
+  marked c h = or_right (c.value == 92) _ h
 
   between-back : (cs : List Code) (tree : Forest) (rest : List Code) →
-      title_between opener closer names cs ≡ Some (tree, rest) →
-      Marked (IsBetween opener closer) (between_markers names) cs tree rest
+      title_between both opener closer names cs ≡ Some (tree, rest) →
+      Marked (IsBetween both opener closer) (between_markers names) cs tree rest
   unfolding title_between
   between-back cs tree rest e =
       let a : WentOne (is_value opener) _ cs (tree, rest) = one-back (is_value opener) _ cs (tree, rest) e in
-      let b : WentText (is_value closer) takes never _ a.after (tree, rest) = text-back (is_value closer) takes never slashes stops _ a.after (tree, rest) a.second in
+      let b : WentText (is_value closer) takes bare _ a.after (tree, rest) = text-back (is_value closer) takes bare slashes stops _ a.after (tree, rest) a.second in
       let d : WentOne (is_value closer) _ b.after (tree, rest) = one-back (is_value closer) _ b.after (tree, rest) b.second in
       let p : (has_no_blank_line true (b.text ++ (d.code ∷ [])) ≡ true) × (gives (between_markers names (a.code ∷ []) b.text (d.code ∷ [])) d.after ≡ Some (tree, rest)) = provided-back _ _ d.after (tree, rest) d.second in
       let g : (tree ≡ between_markers names (a.code ∷ []) b.text (d.code ∷ [])) × (d.after ≡ rest) = gives-back _ tree d.after rest p.1 in
@@ -95,58 +101,58 @@ module _ (opener closer : ℕ) (names : StringNames) where
         is = record {
           opens = a.passes;
           closes = d.passes;
-          escaped = escaped-in (is_value closer) (λ c. is_value closer c || never c) takes b.text (λ c h. or_left _ _ h) b.is;
+          escaped = escaped-in marks marks takes b.text (λ c h. h) b.is;
           lines = p.0;
         };
         tree_is = g.0;
       }
 
-  between-found : (front : Code) (text : List Code) (back : Code) (rest : List Code) → IsBetween opener closer front text back
-      → title_between opener closer names (front ∷ (text ++ (back ∷ rest))) ≡ Some (between_markers names (front ∷ []) text (back ∷ []), rest)
+  between-found : (front : Code) (text : List Code) (back : Code) (rest : List Code) → IsBetween both opener closer front text back
+      → title_between both opener closer names (front ∷ (text ++ (back ∷ rest))) ≡ Some (between_markers names (front ∷ []) text (back ∷ []), rest)
   unfolding title_between gives
   between-found front text back rest i =
       bind-some _ _ (front ∷ (text ++ (back ∷ rest))) (front ∷ []) (text ++ (back ∷ rest)) _ (one-here (is_value opener) front (text ++ (back ∷ rest)) i.opens)
-      (bind-some _ _ (text ++ (back ∷ rest)) text (back ∷ rest) _ (text-some (is_value closer) takes never slashes stops text back rest
-      (escaped-of (is_value closer) (λ c. is_value closer c || never c) takes text (λ before after c e h. (or-last _ h, stops c (or-last _ h))) i.escaped) i.closes)
+      (bind-some _ _ (text ++ (back ∷ rest)) text (back ∷ rest) _ (text-some (is_value closer) takes bare slashes stops text back rest
+      (escaped-of marks marks takes text (λ before after c e h. (h, marked c h)) i.escaped) i.closes)
       (bind-some _ _ (back ∷ rest) (back ∷ []) rest _ (one-here (is_value closer) back rest i.closes)
       (after-some _ _ rest [] rest _ (provided-true _ rest i.lines) refl)))
 
   -- it does not begin with another code
   between-none : (front : Code) (cs : List Code) → is_value opener front ≡ false →
-      title_between opener closer names (front ∷ cs) ≡ None
+      title_between both opener closer names (front ∷ cs) ≡ None
   unfolding title_between
   between-none front cs h = bind-none _ _ (front ∷ cs) (one-other (is_value opener) front cs h)
 
-module _ (names : StringNames) where
-  weaker : (opener closer : ℕ) (cs : List Code) (tree : Forest) (rest : List Code) → ((front : Code) (text : List Code) (back : Code) → IsBetween opener closer front text back → IsTitle front text back)
-      → Marked (IsBetween opener closer) (between_markers names) cs tree rest → Marked IsTitle (between_markers names) cs tree rest
-  weaker opener closer cs tree rest f m =
+module _ (both : Bool) (names : StringNames) where
+  weaker : (asked : Bool) (opener closer : ℕ) (cs : List Code) (tree : Forest) (rest : List Code) → ((front : Code) (text : List Code) (back : Code) → IsBetween asked opener closer front text back → IsTitle both front text back)
+      → Marked (IsBetween asked opener closer) (between_markers names) cs tree rest → Marked (IsTitle both) (between_markers names) cs tree rest
+  weaker asked opener closer cs tree rest f m =
       record { front = m.front; text = m.text; back = m.back; stands = m.stands; is = f m.front m.text m.back m.is; tree_is = m.tree_is }
 
-  pub title-back : (cs : List Code) (tree : Forest) (rest : List Code) → title names cs ≡ Some (tree, rest) →
-      Marked IsTitle (between_markers names) cs tree rest
+  pub title-back : (cs : List Code) (tree : Forest) (rest : List Code) → title both names cs ≡ Some (tree, rest) →
+      Marked (IsTitle both) (between_markers names) cs tree rest
   unfolding title
   title-back cs tree rest e =
-      elim (either-back (title_between 34 34 names) (either (title_between 39 39 names) (title_between 40 41 names)) cs (tree, rest) e) [
-        | inl h ↦ weaker 34 34 cs tree rest (λ a b c i. inl i) (between-back 34 34 names cs tree rest h)
-        | inr h ↦ elim (either-back (title_between 39 39 names) (title_between 40 41 names) cs (tree, rest) h) [
-          | inl k ↦ weaker 39 39 cs tree rest (λ a b c i. inr (inl i)) (between-back 39 39 names cs tree rest k)
-          | inr k ↦ weaker 40 41 cs tree rest (λ a b c i. inr (inr i)) (between-back 40 41 names cs tree rest k)
+      elim (either-back (title_between false 34 34 names) (either (title_between false 39 39 names) (title_between both 40 41 names)) cs (tree, rest) e) [
+        | inl h ↦ weaker false 34 34 cs tree rest (λ a b c i. inl i) (between-back false 34 34 names cs tree rest h)
+        | inr h ↦ elim (either-back (title_between false 39 39 names) (title_between both 40 41 names) cs (tree, rest) h) [
+          | inl k ↦ weaker false 39 39 cs tree rest (λ a b c i. inr (inl i)) (between-back false 39 39 names cs tree rest k)
+          | inr k ↦ weaker both 40 41 cs tree rest (λ a b c i. inr (inr i)) (between-back both 40 41 names cs tree rest k)
         ]
       ]
 
-  pub found-title : (front : Code) (text : List Code) (back : Code) (rest : List Code) → IsTitle front text back →
-      title names (front ∷ (text ++ (back ∷ rest))) ≡ Some (between_markers names (front ∷ []) text (back ∷ []), rest)
+  pub found-title : (front : Code) (text : List Code) (back : Code) (rest : List Code) → IsTitle both front text back →
+      title both names (front ∷ (text ++ (back ∷ rest))) ≡ Some (between_markers names (front ∷ []) text (back ∷ []), rest)
   unfolding title
   found-title front text back rest (inl i) =
-      either-some _ _ (front ∷ (text ++ (back ∷ rest))) _ (between-found 34 34 names front text back rest i)
+      either-some _ _ (front ∷ (text ++ (back ∷ rest))) _ (between-found false 34 34 names front text back rest i)
   found-title front text back rest (inr (inl i)) =
-      either-second _ _ (front ∷ (text ++ (back ∷ rest))) (between-none 34 34 names front (text ++ (back ∷ rest)) (other 39 34 front refl i.opens))
-      ∙ either-some _ _ (front ∷ (text ++ (back ∷ rest))) _ (between-found 39 39 names front text back rest i)
+      either-second _ _ (front ∷ (text ++ (back ∷ rest))) (between-none false 34 34 names front (text ++ (back ∷ rest)) (other 39 34 front refl i.opens))
+      ∙ either-some _ _ (front ∷ (text ++ (back ∷ rest))) _ (between-found false 39 39 names front text back rest i)
   found-title front text back rest (inr (inr i)) =
-      either-second _ _ (front ∷ (text ++ (back ∷ rest))) (between-none 34 34 names front (text ++ (back ∷ rest)) (other 40 34 front refl i.opens))
-      ∙ either-second _ _ (front ∷ (text ++ (back ∷ rest))) (between-none 39 39 names front (text ++ (back ∷ rest)) (other 40 39 front refl i.opens))
-      ∙ between-found 40 41 names front text back rest i
+      either-second _ _ (front ∷ (text ++ (back ∷ rest))) (between-none false 34 34 names front (text ++ (back ∷ rest)) (other 40 34 front refl i.opens))
+      ∙ either-second _ _ (front ∷ (text ++ (back ∷ rest))) (between-none false 39 39 names front (text ++ (back ∷ rest)) (other 40 39 front refl i.opens))
+      ∙ between-found both 40 41 names front text back rest i
 
 -- a reading that holds at three parts with their tree holds where they stand
 pub marked-found : (a : Reading Forest) (Is : Code → List Code → Code → Type 0) (tree_of : List Code → List Code → List Code → Forest)
@@ -156,11 +162,11 @@ marked-found a Is tree_of found cs tree rest m =
     ap a m.stands ∙ found m.front m.text m.back rest m.is ∙ ap (λ t. Some (t, rest)) (sym m.tree_is)
 
 pub titles_are_found : TitlesAreFound
-titles_are_found names =
-    let found : (cs : List Code) (tree : Forest) (rest : List Code) → Marked IsTitle (between_markers names) cs tree rest → title names cs ≡ Some (tree, rest) = marked-found (title names) IsTitle (between_markers names) (found-title names) in
+titles_are_found both names =
+    let found : (cs : List Code) (tree : Forest) (rest : List Code) → Marked (IsTitle both) (between_markers names) cs tree rest → title both names cs ≡ Some (tree, rest) = marked-found (title both names) (IsTitle both) (between_markers names) (found-title both names) in
     record {
-      found = λ cs tree rest. (title-back names cs tree rest, found cs tree rest);
-      covers = λ cs tree rest m. read-codes leaf_codes (title names) (covers_title names) cs rest tree (found cs tree rest m);
+      found = λ cs tree rest. (title-back both names cs tree rest, found cs tree rest);
+      covers = λ cs tree rest m. read-codes leaf_codes (title both names) (covers_title both names) cs rest tree (found cs tree rest m);
     }
 
 -- Labels.
@@ -196,18 +202,18 @@ from-bracket c h = elim (or-parts (c.value == 93) _ h) [
   | inr k ↦ (or_left _ _ k, or_left _ _ k)
 ]
 
-module _ (names : StringNames) where
+module _ (characters : Bool) (names : StringNames) where
   abbrev some_filled : List Code → Bool
   some_filled text = list_any (λ c. not (is_whitespace_code c)) text
 
-  pub label-back : (cs : List Code) (tree : Forest) (rest : List Code) → label names cs ≡ Some (tree, rest) →
-      Marked IsLabel (between_markers names) cs tree rest
+  pub label-back : (cs : List Code) (tree : Forest) (rest : List Code) → label characters names cs ≡ Some (tree, rest) →
+      Marked (IsLabel characters) (between_markers names) cs tree rest
   unfolding label
   label-back cs tree rest e =
       let a : WentOne (is_value 91) _ cs (tree, rest) = one-back (is_value 91) _ cs (tree, rest) e in
       let b : WentText (is_value 93) bracket_takes (is_value 91) _ a.after (tree, rest) = text-back (is_value 93) bracket_takes (is_value 91) bracket_slashes bracket_stops _ a.after (tree, rest) a.second in
       let f : (some_filled b.text ≡ true) × (_ ≡ Some (tree, rest)) = provided-back _ _ b.after (tree, rest) b.second in
-      let n : (nat_le (counted false b.text) 999 ≡ true) × (_ ≡ Some (tree, rest)) = provided-back _ _ b.after (tree, rest) f.1 in
+      let n : (nat_le (counted characters false b.text) 999 ≡ true) × (_ ≡ Some (tree, rest)) = provided-back _ _ b.after (tree, rest) f.1 in
       let d : WentOne (is_value 93) _ b.after (tree, rest) = one-back (is_value 93) _ b.after (tree, rest) n.1 in
       let p : (has_no_blank_line true (b.text ++ (d.code ∷ [])) ≡ true) × (gives (between_markers names (a.code ∷ []) b.text (d.code ∷ [])) d.after ≡ Some (tree, rest)) = provided-back _ _ d.after (tree, rest) d.second in
       let g : (tree ≡ between_markers names (a.code ∷ []) b.text (d.code ∷ [])) × (d.after ≡ rest) = gives-back _ tree d.after rest p.1 in
@@ -221,30 +227,30 @@ module _ (names : StringNames) where
           closes = d.passes;
           escaped = escaped-in brackets is_bracket bracket_takes b.text to-bracket b.is;
           filled = f.0;
-          size = at_most (counted false b.text) n.0;
+          size = at_most (counted characters false b.text) n.0;
           lines = p.0;
         };
         tree_is = g.0;
       }
 
-  pub label-found : (front : Code) (text : List Code) (back : Code) (rest : List Code) → IsLabel front text back
-      → label names (front ∷ (text ++ (back ∷ rest))) ≡ Some (between_markers names (front ∷ []) text (back ∷ []), rest)
+  pub label-found : (front : Code) (text : List Code) (back : Code) (rest : List Code) → IsLabel characters front text back
+      → label characters names (front ∷ (text ++ (back ∷ rest))) ≡ Some (between_markers names (front ∷ []) text (back ∷ []), rest)
   unfolding label gives
   label-found front text back rest i =
       bind-some _ _ (front ∷ (text ++ (back ∷ rest))) (front ∷ []) (text ++ (back ∷ rest)) _ (one-here (is_value 91) front (text ++ (back ∷ rest)) i.opens)
       (bind-some _ _ (text ++ (back ∷ rest)) text (back ∷ rest) _ (text-some (is_value 93) bracket_takes (is_value 91) bracket_slashes bracket_stops text back rest
       (escaped-of brackets is_bracket bracket_takes text (λ before after c e h. from-bracket c h) i.escaped) i.closes)
       (after-some _ _ (back ∷ rest) [] (back ∷ rest) _ (provided-true _ (back ∷ rest) i.filled)
-      (after-some _ _ (back ∷ rest) [] (back ∷ rest) _ (provided-true _ (back ∷ rest) (is_at_most (counted false text) i.size))
+      (after-some _ _ (back ∷ rest) [] (back ∷ rest) _ (provided-true _ (back ∷ rest) (is_at_most (counted characters false text) i.size))
       (bind-some _ _ (back ∷ rest) (back ∷ []) rest _ (one-here (is_value 93) back rest i.closes)
       (after-some _ _ rest [] rest _ (provided-true _ rest i.lines) refl)))))
 
 pub labels_are_found : LabelsAreFound
-labels_are_found names =
-    let found : (cs : List Code) (tree : Forest) (rest : List Code) → Marked IsLabel (between_markers names) cs tree rest → label names cs ≡ Some (tree, rest) = marked-found (label names) IsLabel (between_markers names) (label-found names) in
+labels_are_found characters names =
+    let found : (cs : List Code) (tree : Forest) (rest : List Code) → Marked (IsLabel characters) (between_markers names) cs tree rest → label characters names cs ≡ Some (tree, rest) = marked-found (label characters names) (IsLabel characters) (between_markers names) (label-found characters names) in
     record {
-      found = λ cs tree rest. (label-back names cs tree rest, found cs tree rest);
-      covers = λ cs tree rest m. read-codes leaf_codes (label names) (covers_label names) cs rest tree (found cs tree rest m);
+      found = λ cs tree rest. (label-back characters names cs tree rest, found cs tree rest);
+      covers = λ cs tree rest m. read-codes leaf_codes (label characters names) (covers_label characters names) cs rest tree (found cs tree rest m);
     }
 
 -- Destinations in angle brackets.

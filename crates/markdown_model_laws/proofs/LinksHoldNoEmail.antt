@@ -4,8 +4,8 @@ use Rattle.std.proofs.lemmas.Bool.{both_ways, and_parts, or_parts, or_from, and_
 use Rattle.markdown_model.proofs.GivenNames.{pair-named}
 use Rattle.markdown_event.specs.declared.event.Name.{Name}
 use Rattle.markdown_event.specs.declared.event.Point.{Point}
-use Rattle.markdown_engine_content.specs.Codes.{Code}
-use Rattle.markdown_engine_content.specs.Tree.{Forest, empty, leaf_then, group_then, leaf, ◌⊕◌}
+use Rattle.markdown_content.specs.Codes.{Code}
+use Rattle.markdown_content.specs.Tree.{Forest, empty, leaf_then, group_then, leaf, ◌⊕◌}
 use Rattle.markdown_model.specs.CodeTests.{is_empty}
 use Rattle.markdown_model.specs.Elements.{string_elements_of}
 use Rattle.markdown_model.specs.GfmEmailLiteral.{with_emails}
@@ -13,7 +13,7 @@ use Rattle.markdown_model.specs.BracketGroups.{Token, nested, loose, pair_names,
 use Rattle.markdown_model.specs.Laws.{is_run}
 use Rattle.markdown_model.specs.InlineTree.{finished_string, string_tree}
 use Rattle.markdown_model.specs.Pairs.{Pair, pair_list}
-use Rattle.markdown_model.specs.Passes.{merged, trimmed, with_emails_apart, labels_of}
+use Rattle.markdown_model.specs.Passes.{HardBreaks, breaks, no_breaks, merged, trimmed, with_emails_apart, labels_of}
 use Rattle.markdown_model.specs.Runs.{Run, run_of, runs_of}
 use Rattle.markdown_model.specs.Setting.{Setting}
 use Rattle.markdown_model_laws.specs.EmailsInData.{is_email, holds_email, HasPlainLinks, LinksHoldNoEmail}
@@ -24,7 +24,7 @@ use Rattle.markdown_model_laws.proofs.EachPass.{labels_in, pairs_in, unmailed, t
 use Rattle.markdown_model_laws.proofs.MadeConstructs.{is_autolink, is_sealed, is_shut, is_single, reaches, made}
 use Rattle.markdown_model_laws.proofs.MadeElements.{made-text-labels, made-string-labels}
 use Rattle.markdown_model.proofs.PairGroupFacts.{Any, any-parts, HasWord, run-has, assembled-has}
-use Rattle.markdown_model.proofs.PassedTrees.{Walks, walks-row, walks-merged, walks-trimmed, trimmed_data-has, with_emails-has}
+use Rattle.markdown_model.proofs.PassedTrees.{HoldsByParts, walks-row, walks-merged, walks-trimmed, trimmed_data-has, with_emails-has}
 use Rattle.markdown_model.proofs.BracketGroupFacts.{WordHas, joined-has, nested-has, word-append}
 
 -- Trees without email literals, whose autolinks hold leaves alone, none of them data or a run.
@@ -34,13 +34,13 @@ seals empty = true
 seals (leaf_then name link cs rest) = seals rest
 seals (group_then name enter exit inside rest) = is_shut name inside && (seals inside && seals rest)
 
-abbrev IsPlain : Forest → Type 0
-IsPlain f = (holds_email f ≡ false) × (seals f ≡ true)
+abbrev SealsNoEmail : Forest → Type 0
+SealsNoEmail f = (holds_email f ≡ false) × (seals f ≡ true)
 
 abbrev IsSealed : Forest → Type 0
 IsSealed f = is_sealed f ≡ true
 
-sealed : Walks IsSealed (λ name link cs. not (is_data name || is_run name) ≡ true) (λ name a b inside. ⊥)
+sealed : HoldsByParts IsSealed (λ name link cs. not (is_data name || is_run name) ≡ true) (λ name a b inside. ⊥)
 sealed = record {
   none = refl;
   leaf_of = λ name link cs rest h. and_parts (not (is_data name || is_run name)) (is_sealed rest) h;
@@ -49,20 +49,20 @@ sealed = record {
   group_to = λ name a b inside rest g h k. absurd g;
 }
 
-plain-leaf : (name : Name) (cs : List Code) → is_email name ≡ false → IsPlain (leaf name cs)
+plain-leaf : (name : Name) (cs : List Code) → is_email name ≡ false → SealsNoEmail (leaf name cs)
 plain-leaf name [] h = (refl, refl)
 plain-leaf name (c ∷ cs) h = (or_from (is_email name) false h refl, refl)
 
 -- the parts of a group
 group-parts : (name : Name) (enter exit : Point) (inside rest : Forest) →
-    IsPlain (group_then name enter exit inside rest) → (is_shut name inside ≡ true) × IsPlain inside × IsPlain rest
+    SealsNoEmail (group_then name enter exit inside rest) → (is_shut name inside ≡ true) × SealsNoEmail inside × SealsNoEmail rest
 group-parts name enter exit inside rest h =
     let p = or_parts (holds_email inside) (holds_email rest) h.0 in
     let q = and_parts (is_shut name inside) (seals inside && seals rest) h.1 in
     let r = and_parts (seals inside) (seals rest) q.1 in
     (q.0, (p.0, r.0), (p.1, r.1))
 
-is-plain : Walks IsPlain (λ name link cs. is_email name ≡ false) (λ name a b inside. is_shut name inside ≡ true)
+is-plain : HoldsByParts SealsNoEmail (λ name link cs. is_email name ≡ false) (λ name a b inside. is_shut name inside ≡ true)
 is-plain = record {
   none = (refl, refl);
   leaf_of = λ name link cs rest h. let p = or_parts (is_email name) (holds_email rest) h.0 in (p.0, (p.1, h.1));
@@ -72,15 +72,15 @@ is-plain = record {
       (or_from (holds_email inside) (holds_email rest) h.0 k.0, and_from (is_shut name inside) (seals inside && seals rest) g (and_from (seals inside) (seals rest) h.1 k.1));
 }
 
-plain-join : (a b : Forest) → IsPlain a → IsPlain b → IsPlain (a ⊕ b)
+plain-join : (a b : Forest) → SealsNoEmail a → SealsNoEmail b → SealsNoEmail (a ⊕ b)
 plain-join a b h k = walks-row is-plain a b h k
 
-plain-group : (name : Name) (enter exit : Point) (f : Forest) → is_shut name f ≡ true → IsPlain f →
-    IsPlain (group_then name enter exit f empty)
+plain-group : (name : Name) (enter exit : Point) (f : Forest) → is_shut name f ≡ true → SealsNoEmail f →
+    SealsNoEmail (group_then name enter exit f empty)
 plain-group name enter exit f k h = is-plain.group_to name enter exit f empty k h (refl, refl)
 
 -- what labels are made of
-plain-made : (f : Forest) → made true f ≡ true → IsPlain f
+plain-made : (f : Forest) → made true f ≡ true → SealsNoEmail f
 plain-made empty h = (refl, refl)
 plain-made (leaf_then name link cs rest) h =
     let p = and_parts (not (is_empty cs)) (not (is_email name) && made true rest) h in
@@ -107,15 +107,15 @@ text-open = pair-named (λ names. is_autolink names.2 ≡ false) refl refl refl
 open-shut : (name : Name) (f : Forest) → is_autolink name ≡ false → is_shut name f ≡ true
 open-shut name f h = λ i. not (h i) || is_sealed f
 
-plain-data : (cs : List Code) → Any cs → IsPlain (leaf Name.Data cs)
+plain-data : (cs : List Code) → Any cs → SealsNoEmail (leaf Name.Data cs)
 plain-data cs h = plain-leaf Name.Data cs refl
 
 abbrev PlainWord : List Token → Type 0
-PlainWord w = HasWord IsPlain Any plain-data w
+PlainWord w = HasWord SealsNoEmail Any plain-data w
 
-plain-assembled : (w : List Token) → PlainWord w → IsPlain (assembled w)
+plain-assembled : (w : List Token) → PlainWord w → SealsNoEmail (assembled w)
 plain-assembled w h =
-    assembled-has IsPlain Any plain-data (refl, refl) plain-join (λ m n cs _. plain-leaf _ cs (sequence-plain m n)) (λ m n a b f k. plain-group _ a b f (open-shut _ f (pair-open m n)) k)
+    assembled-has SealsNoEmail Any plain-data (refl, refl) plain-join (λ m n cs _. plain-leaf _ cs (sequence-plain m n)) (λ m n a b f k. plain-group _ a b f (open-shut _ f (pair-open m n)) k)
     (λ m n a b f k. plain-group _ a b f (open-shut _ f (text-open m n)) k) w h
 
 abbrev Never : List Code → Type 0
@@ -147,11 +147,11 @@ module _ (s : Setting) (pairs_of : List Run → List Pair) where
       by_test true k = sealed-assembled (tokens_of s pairs_of f pairs n) (sealed-tokens f pairs n k)
       by_test false k = refl
 
-  plain-tokens : (f : Forest) (pairs : List Pair) (n : ℕ) → IsPlain f → PlainWord (tokens_of s pairs_of f pairs n)
+  plain-tokens : (f : Forest) (pairs : List Pair) (n : ℕ) → SealsNoEmail f → PlainWord (tokens_of s pairs_of f pairs n)
   unfolding tokens_of
   plain-tokens empty pairs n h = tt
   plain-tokens (leaf_then Name.AttentionSequence link cs rest) pairs n h =
-      word-append IsPlain Any Any (run_tokens pairs n (run_of s cs)) (tokens_of s pairs_of rest pairs (suc n)) (run-has IsPlain Any plain-data any-parts pairs n (run_of s cs) tt) (plain-tokens rest pairs (suc n) h)
+      word-append SealsNoEmail Any Any (run_tokens pairs n (run_of s cs)) (tokens_of s pairs_of rest pairs (suc n)) (run-has SealsNoEmail Any plain-data any-parts pairs n (run_of s cs) tt) (plain-tokens rest pairs (suc n) h)
   plain-tokens (leaf_then name link cs rest) pairs n h =
       let p = or_parts (is_email name) (holds_email rest) h.0 in
       ((or_from (is_email name) false p.0 refl, refl), plain-tokens rest pairs n (p.1, h.1))
@@ -162,7 +162,7 @@ module _ (s : Setting) (pairs_of : List Run → List Pair) where
         plain-tokens rest pairs n p.2,
       )
 
-  plain-paired : (f : Forest) → IsPlain f → IsPlain (paired s pairs_of f)
+  plain-paired : (f : Forest) → SealsNoEmail f → SealsNoEmail (paired s pairs_of f)
   unfolding paired
   plain-paired f h =
       plain-assembled (tokens_of s pairs_of f (pairs_of (runs_of s f)) 0) (plain-tokens f (pairs_of (runs_of s f)) 0 h)
@@ -180,18 +180,18 @@ still-shut name f g more h = by_test (is_autolink name) h
     by_test true k = more k
     by_test false k = refl
 
-plain-merged : (f : Forest) → IsPlain f → IsPlain (merged f)
+plain-merged : (f : Forest) → SealsNoEmail f → SealsNoEmail (merged f)
 plain-merged f h =
     walks-merged is-plain (λ cs ds _ _. refl) (λ name a b inside _ g. still-shut name inside (merged inside) (sealed-merged inside) g) f h
 
-sealed-trimmed : (hard front whole : Bool) (f : Forest) → IsSealed f → IsSealed (trimmed hard front whole f)
+sealed-trimmed : (hard : HardBreaks) (front whole : Bool) (f : Forest) → IsSealed f → IsSealed (trimmed hard front whole f)
 sealed-trimmed hard front whole f h =
     walks-trimmed sealed hard (λ x y z cs k. absurd (both_ways false refl k)) (λ name a b inside _ g. g) front whole f h
 
-plain-trimmed : (hard front whole : Bool) (f : Forest) → IsPlain f → IsPlain (trimmed hard front whole f)
+plain-trimmed : (hard : HardBreaks) (front whole : Bool) (f : Forest) → SealsNoEmail f → SealsNoEmail (trimmed hard front whole f)
 plain-trimmed hard front whole f h =
     walks-trimmed is-plain hard
-    (λ x y z cs _. trimmed_data-has IsPlain plain-join (λ ds. plain-data ds tt) (λ ds. plain-leaf Name.HardBreakTrailing ds refl) (λ ds. plain-leaf Name.SpaceOrTab ds refl) x y z cs)
+    (λ x y z cs _. trimmed_data-has SealsNoEmail plain-join (λ ds. plain-data ds tt) (λ ds. plain-leaf Name.HardBreakTrailing ds refl) (λ ds. plain-leaf Name.SpaceOrTab ds refl) x y z cs)
     (λ name a b inside _ g. still-shut name inside (trimmed hard false false inside) (sealed-trimmed hard false false inside) g) front whole f h
 
 -- Emails.
@@ -220,7 +220,7 @@ sealed-mailed (leaf_then name link cs rest) h k =
     or_from (is_email name) (holds_email (with_emails_apart rest)) p.0 (sealed-mailed rest (and_parts (not (is_data name || is_run name)) (is_sealed rest) h).1 p.1)
 sealed-mailed (group_then name enter exit inside rest) h k = cc
 
-links-mailed : (f : Forest) → IsPlain f → HasPlainLinks (with_emails_apart f)
+links-mailed : (f : Forest) → SealsNoEmail f → HasPlainLinks (with_emails_apart f)
 unfolding with_emails_apart
 links-mailed empty h = tt
 links-mailed (leaf_then Name.Data None cs rest) h =
@@ -234,7 +234,7 @@ links-mailed (group_then Name.Autolink enter exit inside rest) h =
 links-mailed (group_then name enter exit inside rest) h =
     let p = group-parts name enter exit inside rest h in (links-mailed inside p.1, links-mailed rest p.2)
 
-links-plain : (f : Forest) → IsPlain f → HasPlainLinks f
+links-plain : (f : Forest) → SealsNoEmail f → HasPlainLinks f
 links-plain empty h = tt
 links-plain (leaf_then name link cs rest) h =
     links-plain rest ((or_parts (is_email name) (holds_email rest) h.0).1, h.1)
@@ -248,12 +248,12 @@ links-plain (group_then name enter exit inside rest) h =
 pub links_hold_no_email : LinksHoldNoEmail
 unfolding string_tree finished_string
 links_hold_no_email s cs =
-    (text-has HasPlainLinks s cs (links-mailed (unmailed s cs) is_plain) (links-plain (unmailed s cs) is_plain), (plain-trimmed false false false (merged plain) (plain-merged plain (plain-made plain (made-string-labels s cs)))).0)
+    (text-has HasPlainLinks s cs (links-mailed (unmailed s cs) is_plain) (links-plain (unmailed s cs) is_plain), (plain-trimmed no_breaks false false (merged plain) (plain-merged plain (plain-made plain (made-string-labels s cs)))).0)
   where
     plain : Forest
     plain = labels_of (string_elements_of s cs)
 
-    is_plain : IsPlain (unmailed s cs)
+    is_plain : SealsNoEmail (unmailed s cs)
     is_plain =
-        plain-trimmed s.options.constructs.hard_break_trailing true true (merged (pairs_in s cs))
+        plain-trimmed (breaks s) true true (merged (pairs_in s cs))
         (plain-merged (pairs_in s cs) (plain-paired s (pair_list s) (labels_in s cs) (plain-made (labels_in s cs) (made-text-labels s cs))))

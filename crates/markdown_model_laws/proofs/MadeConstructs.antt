@@ -7,8 +7,8 @@ use Rattle.std.proofs.Math.Bool.{and_assoc, or-true}
 use Rattle.markdown_event.specs.declared.event.Name.{Name}
 use Rattle.markdown_event.specs.declared.event.Content.{Content}
 use Rattle.markdown_event.specs.declared.event.Point.{Point}
-use Rattle.markdown_engine_content.specs.Codes.{Code}
-use Rattle.markdown_engine_content.specs.Tree.{Forest, empty, leaf_then, group_then, leaf, linked, group, ◌⊕◌, enter_of, exit_after}
+use Rattle.markdown_content.specs.Codes.{Code}
+use Rattle.markdown_content.specs.Tree.{Forest, empty, leaf_then, group_then, leaf, linked, group, ◌⊕◌, enter_of, exit_after}
 use Rattle.markdown_model.specs.CodeTests.{is_empty}
 use Rattle.markdown_model.specs.Grammar.{Reading, one, optional_tree}
 use Rattle.markdown_model.specs.TextLines.{linked_leaf, lines}
@@ -20,7 +20,7 @@ use Rattle.markdown_model.specs.Setting.{Setting}
 use Rattle.markdown_model.specs.LabelEnd.{full_reference, collapsed_reference, shortcut, shortcut_before_bracket, reference_after_label, after_label}
 use Rattle.markdown_model.proofs.LeafRows.{Leaves, leaves-lines}
 use Rattle.markdown_model.proofs.ReadsACode.{Consumes, one_takes}
-use Rattle.markdown_model.proofs.NoLinkInConstructs.{Passes, Yields, yields_bind, yields_gives, yields_passed, yields_either, yields_before, yields_next, yields_unless, then_any}
+use Rattle.markdown_model.proofs.NoLinkInConstructs.{PassesValue, Yields, yields_bind, yields_gives, yields_passed, yields_either, yields_before, yields_next, yields_unless, then_any}
 use Rattle.markdown_model.proofs.PlainConstructs.{is_own, leaf-own, group-own, IsOwnLeaf, IsPlainTree}
 use Rattle.markdown_model.proofs.ReadingsCover.{Takes, takes_one, itself}
 use Rattle.markdown_model.proofs.DefinitionSteps.{read-codes, read-shorter}
@@ -178,11 +178,11 @@ made-front name marker cs f h e k l =
 abbrev pub IsSome : List Code → Type 0
 IsSome cs = is_empty cs ≡ false
 
-abbrev pub IsMade : Forest → Type 0
-IsMade t = made false t ≡ true
+abbrev pub IsMadeTree : Forest → Type 0
+IsMadeTree t = made false t ≡ true
 
-abbrev pub Makes : Reading Forest → Type 0
-Makes a = Yields IsMade a
+abbrev pub MakesTrees : Reading Forest → Type 0
+MakesTrees a = Yields IsMadeTree a
 
 -- a reading that takes a code at least gives one
 gives-some : (a : Reading (List Code)) → Takes a → Consumes 1 a → Yields IsSome a
@@ -195,7 +195,7 @@ gives-some a h k = record { at = λ cs. by_answer cs (a cs) refl }
     some-codes [] cs rest f l = absurd (none [] cs rest refl f l)
     some-codes (x ∷ xs) cs rest f l = refl
 
-    by_answer : (cs : List Code) (r : Option (List Code × List Code)) → a cs ≡ r → Passes IsSome r
+    by_answer : (cs : List Code) (r : Option (List Code × List Code)) → a cs ≡ r → PassesValue IsSome r
     by_answer cs None e = tt
     by_answer cs (Some x) e =
         some-codes x.0 cs x.1 (read-codes itself a h cs x.1 x.0 e) (read-shorter 1 a k cs x.1 x.0 e)
@@ -203,11 +203,11 @@ gives-some a h k = record { at = λ cs. by_answer cs (a cs) refl }
 pub one-gives : (p : Code → Bool) → Yields IsSome (one p)
 one-gives p = gives-some (one p) (takes_one p) (one_takes p)
 
-makes_optional : (a : Reading Forest) → Makes a → Makes (optional_tree a)
+makes_optional : (a : Reading Forest) → MakesTrees a → MakesTrees (optional_tree a)
 unfolding optional_tree
 makes_optional a h = yields_either _ _ _ h (yields_gives _ _ refl)
 
-makes_spacing : (link : Option Content) → Makes (space_or_tab_eol link)
+makes_spacing : (link : Option Content) → MakesTrees (space_or_tab_eol link)
 unfolding space_or_tab_eol spaces_across spaces_on_line
 makes_spacing link = yields_either _ _ _
     (then_any _ _ _ λ front. then_any _ _ _ λ ending. then_any _ _ _ λ back. yields_gives _ _ (simp made_laws))
@@ -235,7 +235,7 @@ leaves-made bytes (leaf_then name link cs rest) h =
     ((λ i. not (some-not-empty cs h.0.some i) && (not (n.0 i) && k.0 i)), λ i. not (n.1.1 i) && k.1 i)
 leaves-made bytes (group_then name enter exit inside rest) h = absurd h
 
-pub plain-made : (bytes : List ℕ) (t : Forest) → IsPlainTree bytes t → IsMade t
+pub plain-made : (bytes : List ℕ) (t : Forest) → IsPlainTree bytes t → IsMadeTree t
 plain-made bytes empty h = absurd h
 plain-made bytes (leaf_then name link cs rest) h =
     let n = own-names name (leaf-own name h.0.named) in
@@ -248,24 +248,24 @@ plain-made bytes (group_then name enter exit inside rest) h =
 
 -- Resources and references.
 
-makes_label : Makes (label reference_names)
+makes_label : (characters : Bool) → MakesTrees (label characters reference_names)
 unfolding label
-makes_label =
+makes_label characters =
     yields_bind IsSome _ _ _ (one-gives _) λ front h. then_any _ _ _ λ text. yields_passed _ _ _ (yields_passed _ _ _ (then_any _ _ _ λ back. yields_passed _ _ _
     (yields_gives _ _ (made-front Name.Reference Name.ReferenceMarker front (string_group Name.ReferenceString (lines Name.Data (Some Content.String) text) ⊕ leaf Name.ReferenceMarker back) refl refl h (simp made_laws)))))
 
-makes_title_between : (opener closer : ℕ) → Makes (title_between opener closer title_names)
+makes_title_between : (both : Bool) (opener closer : ℕ) → MakesTrees (title_between both opener closer title_names)
 unfolding title_between
-makes_title_between opener closer =
+makes_title_between both opener closer =
     yields_bind IsSome _ _ _ (one-gives _) λ front h. then_any _ _ _ λ text. then_any _ _ _ λ back. yields_passed _ _ _
     (yields_gives _ _ (made-front Name.ResourceTitle Name.ResourceTitleMarker front (string_group Name.ResourceTitleString (lines Name.Data (Some Content.String) text) ⊕ leaf Name.ResourceTitleMarker back) refl refl h (simp made_laws)))
 
-makes_title : Makes (title title_names)
+makes_title : (both : Bool) → MakesTrees (title both title_names)
 unfolding title
-makes_title =
-    yields_either _ _ _ (makes_title_between _ _) (yields_either _ _ _ (makes_title_between _ _) (makes_title_between _ _))
+makes_title both =
+    yields_either _ _ _ (makes_title_between _ _ _) (yields_either _ _ _ (makes_title_between _ _ _) (makes_title_between _ _ _))
 
-makes_literal_destination : Makes (literal_destination resource_names)
+makes_literal_destination : MakesTrees (literal_destination resource_names)
 unfolding literal_destination
 makes_literal_destination =
     yields_bind IsSome _ _ _ (one-gives _) λ front h. then_any _ _ _ λ text. then_any _ _ _ λ back.
@@ -276,7 +276,7 @@ makes_literal_destination =
     literal front f h k =
         made-group false Name.ResourceDestination (group Name.ResourceDestinationLiteral (leaf Name.ResourceDestinationLiteralMarker front ⊕ f)) refl refl (made-front Name.ResourceDestinationLiteral Name.ResourceDestinationLiteralMarker front f refl refl h k)
 
-makes_raw_destination : (max : ℕ) → Makes (raw_destination max resource_names)
+makes_raw_destination : (max : ℕ) → MakesTrees (raw_destination max resource_names)
 unfolding raw_destination
 makes_raw_destination max =
     then_any _ _ _ λ text. yields_passed_if _ _ _ λ h. yields_gives _ _ (raw text (not-true (is_empty text) h))
@@ -288,46 +288,46 @@ makes_raw_destination max =
         made-group false Name.ResourceDestination (group Name.ResourceDestinationRaw (group Name.ResourceDestinationString (linked Name.Data (c ∷ cs)))) refl refl
         (made-group false Name.ResourceDestinationRaw (group Name.ResourceDestinationString (linked Name.Data (c ∷ cs))) refl refl (made-group false Name.ResourceDestinationString (linked Name.Data (c ∷ cs)) refl refl refl))
 
-makes_destination : (max : ℕ) → Makes (destination max resource_names)
+makes_destination : (max : ℕ) → MakesTrees (destination max resource_names)
 unfolding destination
 makes_destination max = yields_next _ _ _ _ makes_literal_destination (makes_raw_destination max)
 
-makes_spaced_title : Makes spaced_title
+makes_spaced_title : (both : Bool) → MakesTrees (spaced_title both)
 unfolding spaced_title
-makes_spaced_title =
-    yields_bind IsMade _ _ _ (yields_before _ _ _ (makes_spacing None)) λ space h. yields_bind IsMade _ _ _ makes_title λ text k.
-    yields_bind IsMade _ _ _ (makes_optional _ (makes_spacing None)) λ back l. yields_gives _ _ (simp (made_laws, h, k, l))
+makes_spaced_title both =
+    yields_bind IsMadeTree _ _ _ (yields_before _ _ _ (makes_spacing None)) λ space h. yields_bind IsMadeTree _ _ _ (makes_title both) λ text k.
+    yields_bind IsMadeTree _ _ _ (makes_optional _ (makes_spacing None)) λ back l. yields_gives _ _ (simp (made_laws, h, k, l))
 
-makes_destination_and_title : Makes destination_and_title
+makes_destination_and_title : (both : Bool) → MakesTrees (destination_and_title both)
 unfolding destination_and_title
-makes_destination_and_title =
-    yields_bind IsMade _ _ _ (makes_destination 32) λ target h.
-    yields_bind IsMade _ _ _ (yields_either _ _ _ makes_spaced_title (makes_optional _ (makes_spacing None))) λ after k. yields_gives _ _ (simp (made_laws, h, k))
+makes_destination_and_title both =
+    yields_bind IsMadeTree _ _ _ (makes_destination 32) λ target h.
+    yields_bind IsMadeTree _ _ _ (yields_either _ _ _ (makes_spaced_title both) (makes_optional _ (makes_spacing None))) λ after k. yields_gives _ _ (simp (made_laws, h, k))
 
-makes_resource : Makes resource
+makes_resource : (both : Bool) → MakesTrees (resource both)
 unfolding resource
-makes_resource =
-    yields_bind IsSome _ _ _ (one-gives _) λ front e. yields_bind IsMade _ _ _ (makes_optional _ (makes_spacing None)) λ space h.
-    yields_bind IsMade _ _ _ (yields_next _ _ _ _ (yields_gives _ _ refl) makes_destination_and_title) λ inside k.
+makes_resource both =
+    yields_bind IsSome _ _ _ (one-gives _) λ front e. yields_bind IsMadeTree _ _ _ (makes_optional _ (makes_spacing None)) λ space h.
+    yields_bind IsMadeTree _ _ _ (yields_next _ _ _ _ (yields_gives _ _ refl) (makes_destination_and_title both)) λ inside k.
     then_any _ _ _ λ back. yields_gives _ _ (made-front Name.Resource Name.ResourceMarker front (space ⊕ inside ⊕ leaf Name.ResourceMarker back) refl refl e (simp (made_laws, h, k)))
 
-makes_full_reference : (s : Setting) → Makes (full_reference s)
+makes_full_reference : (s : Setting) → MakesTrees (full_reference s)
 unfolding full_reference
-makes_full_reference s = yields_bind IsMade _ _ _ makes_label λ tree h. yields_passed _ _ _ (yields_gives _ _ h)
+makes_full_reference s = yields_bind IsMadeTree _ _ _ (makes_label _) λ tree h. yields_passed _ _ _ (yields_gives _ _ h)
 
-makes_collapsed_reference : Makes collapsed_reference
+makes_collapsed_reference : MakesTrees collapsed_reference
 unfolding collapsed_reference
 makes_collapsed_reference =
     yields_bind IsSome _ _ _ (one-gives _) λ front h. then_any _ _ _ λ back. yields_gives _ _ (made-front Name.Reference Name.ReferenceMarker front (leaf Name.ReferenceMarker back) refl refl h (simp made_laws))
 
-makes_shortcut : (defined : Bool) → Makes (shortcut defined)
+makes_shortcut : (defined : Bool) → MakesTrees (shortcut defined)
 unfolding shortcut
 makes_shortcut defined = yields_passed _ _ _ (yields_gives _ _ refl)
 
-pub makes_after_label : (s : Setting) (defined : Bool) → Makes (after_label s defined)
+pub makes_after_label : (s : Setting) (defined : Bool) → MakesTrees (after_label s defined)
 unfolding after_label reference_after_label shortcut_before_bracket
 makes_after_label s defined =
-    yields_next _ _ _ _ (yields_either _ _ _ makes_resource (makes_shortcut defined))
+    yields_next _ _ _ _ (yields_either _ _ _ (makes_resource _) (makes_shortcut defined))
     (yields_next _ _ _ _
     (yields_either _ _ _ (makes_full_reference s) (yields_either _ _ _ (yields_passed _ _ _ makes_collapsed_reference) (yields_unless _ _ _ (makes_shortcut _))))
     (makes_shortcut defined))

@@ -5,9 +5,9 @@ use Rattle.std.proofs.lemmas.Bool.{and_parts}
 use Rattle.std.proofs.Math.Bool.{or-true}
 use Rattle.markdown_event.specs.declared.event.Name.{Name}
 use Rattle.markdown_event.specs.declared.event.Point.{Point}
-use Rattle.markdown_engine_content.specs.declared.label_kind.LabelKind.{LabelKind}
-use Rattle.markdown_engine_content.specs.Codes.{Code, stop_of, document_start}
-use Rattle.markdown_engine_content.specs.Tree.{Forest, empty, leaf_then, group_then, leaf, group, text_group, start_of, ◌⊕◌}
+use Rattle.markdown_content.specs.declared.label_kind.LabelKind.{LabelKind}
+use Rattle.markdown_content.specs.Codes.{Code, stop_of, document_start}
+use Rattle.markdown_content.specs.Tree.{Forest, empty, leaf_then, group_then, leaf, group, text_group, start_of, ◌⊕◌}
 use Rattle.markdown_model.specs.Grammar.{Reading}
 use Rattle.markdown_model.specs.Setting.{Setting}
 use Rattle.markdown_model.specs.LabelEnd.{Element, plain, starts, ends, Label, label_before, outcome_of, label_end}
@@ -16,60 +16,60 @@ use Rattle.markdown_model.specs.Passes.{End, start_marker, start_tree, label_nam
 use Rattle.markdown_model.proofs.ElementCases.{AllAre, EachConstruct, all_are, outcome_yields, string_has, text_has}
 use Rattle.markdown_model.proofs.OneElementList.{text_elements, string_elements}
 use Rattle.markdown_model.proofs.LabelTreeFacts.{labels-have}
-use Rattle.markdown_model.proofs.NoLinkInConstructs.{Passes, Yields, yields_bind, yields_gives, yields_either, then_any}
+use Rattle.markdown_model.proofs.NoLinkInConstructs.{PassesValue, Yields, yields_bind, yields_gives, yields_either, then_any}
 use Rattle.markdown_model.specs.CodeTests.{is_empty}
 use Rattle.markdown_model_laws.specs.EmailsInData.{is_email}
 use Rattle.markdown_model_laws.specs.TreesFilled.{is_label_text}
-use Rattle.markdown_model_laws.proofs.MadeConstructs.{is_single, made, reaches, made-join, made-leaf, made-group, IsSome, IsMade, some-not-empty, one-gives, plain-made, makes_after_label}
+use Rattle.markdown_model_laws.proofs.MadeConstructs.{is_single, made, reaches, made-join, made-leaf, made-group, IsSome, IsMadeTree, some-not-empty, one-gives, plain-made, makes_after_label}
 use Rattle.markdown_model.proofs.PlainConstructs.{IsPlainTree, ReadsPlain}
 
 -- Elements.
 
 abbrev pub IsGoodEnd : End → Type 0
 IsGoodEnd (back, None) = IsSome back
-IsGoodEnd (back, Some outcome) = IsSome back × IsMade outcome.1
+IsGoodEnd (back, Some outcome) = IsSome back × IsMadeTree outcome.1
 
-abbrev pub IsGood : Element → Type 0
-IsGood (plain tree) = IsMade tree
-IsGood (starts kind marker) = IsSome marker
-IsGood (ends back outcome) = IsGoodEnd (back, outcome)
+abbrev pub IsMadeElement : Element → Type 0
+IsMadeElement (plain tree) = IsMadeTree tree
+IsMadeElement (starts kind marker) = IsSome marker
+IsMadeElement (ends back outcome) = IsGoodEnd (back, outcome)
 
 abbrev IsGoodOutcome : LabelKind × Forest → Type 0
-IsGoodOutcome o = IsMade o.1
+IsGoodOutcome o = IsMadeTree o.1
 
-good_plain : (bytes : List ℕ) (a : Reading Forest) → ReadsPlain bytes a → Yields IsGood (as_plain a)
+good_plain : (bytes : List ℕ) (a : Reading Forest) → ReadsPlain bytes a → Yields IsMadeElement (as_plain a)
 unfolding as_plain
 good_plain bytes a h =
     yields_bind (IsPlainTree bytes) _ _ _ h.plain λ tree k. yields_gives _ (plain tree) (plain-made bytes tree k)
 
-good_line_ending : Yields IsGood line_ending
+good_line_ending : Yields IsMadeElement line_ending
 unfolding line_ending
 good_line_ending =
     then_any _ _ _ λ c. yields_gives _ (plain (leaf Name.LineEnding c)) (made-leaf false Name.LineEnding c)
 
-good_data_code : Yields IsGood data_code
+good_data_code : Yields IsMadeElement data_code
 unfolding data_code
 good_data_code = then_any _ _ _ λ c. yields_gives _ (plain (leaf Name.Data c)) (made-leaf false Name.Data c)
 
-good_run : (marker : ℕ) → Yields IsGood (attention_run marker)
+good_run : (marker : ℕ) → Yields IsMadeElement (attention_run marker)
 unfolding attention_run
 good_run marker =
     then_any _ _ _ λ markers. yields_gives _ (plain (leaf Name.AttentionSequence markers)) (made-leaf false Name.AttentionSequence markers)
 
 good_outcome : (s : Setting) (l : Option Label) (back : List Code) → Yields IsGoodOutcome (outcome_of s l back)
-good_outcome s l back = outcome_yields IsMade refl s (makes_after_label s) l back
+good_outcome s l back = outcome_yields IsMadeTree refl s (makes_after_label s) l back
 
-good_label_end : (s : Setting) (earlier : List Element) → Yields IsGood (label_end s earlier)
+good_label_end : (s : Setting) (earlier : List Element) → Yields IsMadeElement (label_end s earlier)
 unfolding label_end
 good_label_end s earlier =
     yields_bind IsSome _ _ _ (one-gives _) λ back h.
     yields_either _ _ _ (yields_bind IsGoodOutcome _ _ _ (good_outcome s (label_before earlier) back) λ outcome k. yields_gives _ (ends back (Some outcome)) (h, k)) (yields_gives _ (ends back None) h)
 
 good_text_element : (s : Setting) (end : ℕ) (earlier : List Element) (previous : Option Code) (cs : List Code) →
-    Passes IsGood (text_element s end earlier previous cs)
-good_text_element s end earlier previous cs = text_has s end earlier previous (Passes IsGood) cs each (good_data_code.at cs)
+    PassesValue IsMadeElement (text_element s end earlier previous cs)
+good_text_element s end earlier previous cs = text_has s end earlier previous (PassesValue IsMadeElement) cs each (good_data_code.at cs)
   where
-    each : EachConstruct s end earlier previous (Passes IsGood) cs
+    each : EachConstruct s end earlier previous (PassesValue IsMadeElement) cs
     each = record {
       none = tt;
       ending = good_line_ending.at cs;
@@ -81,12 +81,13 @@ good_text_element s end earlier previous cs = text_has s end earlier previous (P
       ended = (good_label_end s earlier).at cs;
     }
 
-good_string_element : (s : Setting) (cs : List Code) → Passes IsGood (string_element s cs)
+good_string_element : (s : Setting) (cs : List Code) → PassesValue IsMadeElement (string_element s cs)
 good_string_element s cs =
-    string_has (Passes IsGood) tt cs s (λ a h. (good_plain s.bytes a h).at cs) ((yields_either IsGood _ _ good_line_ending good_data_code).at cs)
+    string_has (PassesValue IsMadeElement) tt cs s (λ a h. (good_plain s.bytes a h).at cs)
+    ((yields_either IsMadeElement _ _ good_line_ending good_data_code).at cs)
 
 abbrev pub AllGood : List Element → Type 0
-AllGood es = AllAre IsGood es
+AllGood es = AllAre IsMadeElement es
 
 -- Groups of labels.
 
@@ -94,7 +95,7 @@ abbrev pub IsLabelled : Forest → Type 0
 IsLabelled t = made true t ≡ true
 
 -- what constructs make, among groups of labels
-made-labelled-tree : (t : Forest) → IsMade t → IsLabelled t
+made-labelled-tree : (t : Forest) → IsMadeTree t → IsLabelled t
 made-labelled-tree empty h = refl
 made-labelled-tree (leaf_then name link cs rest) h =
     let p = and_parts (not (is_empty cs)) (not (is_email name) && made false rest) h in
@@ -166,19 +167,20 @@ made-label kind (c ∷ cs) inside back tail h k l m =
 
 made-labels : (es : List Element) → AllGood es → IsLabelled (labels_of es)
 made-labels es h =
-    labels-have IsLabelled IsGood refl made-both made-labelled-tree (λ kind marker _. made-leaf true Name.Data marker) (λ marker outcome _. made-leaf true Name.Data marker)
+    labels-have IsLabelled IsMadeElement refl made-both made-labelled-tree (λ kind marker _. made-leaf true Name.Data marker) (λ marker outcome _. made-leaf true Name.Data marker)
     (λ kind marker inside back outcome m i e. made-label outcome.0 marker inside back outcome.1 m i e.0 (made-labelled-tree outcome.1 e.1)) es h
 
 pub good-text : (s : Setting) (cs : List Code) → AllGood (elements_of s cs)
 good-text s cs =
-    all_are IsGood (text_choice s cs) (λ earlier previous ds. good_text_element s _ earlier previous ds) (elements_of s cs) [] None cs (text_elements s cs)
+    all_are IsMadeElement (text_choice s cs) (λ earlier previous ds. good_text_element s _ earlier previous ds) (elements_of s cs) [] None cs
+    (text_elements s cs)
 
 pub made-text-labels : (s : Setting) (cs : List Code) → IsLabelled (labels_of (elements_of s cs))
 made-text-labels s cs = made-labels (elements_of s cs) (good-text s cs)
 
 pub good-string : (s : Setting) (cs : List Code) → AllGood (string_elements_of s cs)
 good-string s cs =
-    all_are IsGood (string_choice s) (λ earlier previous ds. good_string_element s ds) (string_elements_of s cs) [] None cs (string_elements s cs)
+    all_are IsMadeElement (string_choice s) (λ earlier previous ds. good_string_element s ds) (string_elements_of s cs) [] None cs (string_elements s cs)
 
 pub made-string-labels : (s : Setting) (cs : List Code) → IsLabelled (labels_of (string_elements_of s cs))
 made-string-labels s cs = made-labels (string_elements_of s cs) (good-string s cs)

@@ -9,10 +9,10 @@ use Rattle.markdown_model.proofs.GivenNames.{pair-named, email-named}
 use Rattle.markdown_model.proofs.BracketSums.{Adds, sum_of, sum-joined}
 use Rattle.markdown_model.proofs.PairSums.{token_sum, token-append, sum-assembled, sum-run}
 use Rattle.markdown_model.proofs.PassedTrees.{with_emails-has}
-use Rattle.markdown_engine_content.proofs.AdjacentCodes.{head_same, tail_same}
+use Rattle.markdown_content.proofs.AdjacentCodes.{head_same, tail_same}
 use Rattle.markdown_event.specs.declared.event.Name.{Name}
-use Rattle.markdown_engine_content.specs.Codes.{Code, is_blank}
-use Rattle.markdown_engine_content.specs.Tree.{Forest, empty, leaf_then, group_then, leaf, ◌⊕◌, leaf_codes}
+use Rattle.markdown_content.specs.Codes.{Code, is_blank}
+use Rattle.markdown_content.specs.Tree.{Forest, empty, leaf_then, group_then, leaf, ◌⊕◌, leaf_codes}
 use Rattle.markdown_model.specs.CodeTests.{is_value}
 use Rattle.markdown_model.specs.Grammar.{span}
 use Rattle.markdown_model.specs.GfmEmailLiteral.{with_emails}
@@ -20,7 +20,7 @@ use Rattle.markdown_model.specs.Setting.{Setting}
 use Rattle.markdown_model.specs.Runs.{Run, run_of, runs_of, marker_of}
 use Rattle.markdown_model.specs.Pairs.{Pair, pair_list}
 use Rattle.markdown_model.specs.BracketGroups.{Token, pair_names, pair_group, run_tokens, assembled, tokens_of, paired}
-use Rattle.markdown_model.specs.Passes.{data_onto, merged, begins_line_ending, is_nothing, blank_name, trimmed_data, trimmed, with_emails_apart}
+use Rattle.markdown_model.specs.Passes.{HardBreaks, breaks_where, breaks, data_onto, merged, begins_line_ending, is_nothing, blank_name, trimmed_data, trimmed, with_emails_apart}
 use Rattle.markdown_model.specs.InlineTree.{label_tree}
 use Rattle.markdown_model.specs.Laws.{is_run}
 use Rattle.markdown_model.proofs.PassesKeepCodes.{codes-trimmed_data, codes-run_of}
@@ -32,10 +32,10 @@ use Rattle.markdown_model_laws.proofs.LabelTreeRuns.{is_marker, HasApartRuns, ap
 
 -- Codes with a mark.
 
-abbrev Marked : Type 0
-Marked = List (Bool × Code)
+abbrev MarkedCodes : Type 0
+MarkedCodes = List (Bool × Code)
 
-abbrev marked : Bool → List Code → Marked
+abbrev marked : Bool → List Code → MarkedCodes
 marked b cs = map (λ c. (b, c)) cs
 
 marked-append : (b : Bool) (cs ds : List Code) → marked b (cs ++ ds) ≡ marked b cs ++ marked b ds
@@ -43,7 +43,7 @@ marked-append b cs ds = map-append (λ c. (b, c)) cs ds
 
 -- the codes of a tree, each with whether the name of its leaf passes
 module _ (passes : Name → Bool) where
-  abbrev codes_by : Forest → Marked
+  abbrev codes_by : Forest → MarkedCodes
   codes_by empty = []
   codes_by (leaf_then name link cs rest) = marked (passes name) cs ++ codes_by rest
   codes_by (group_then name enter exit inside rest) = codes_by inside ++ codes_by rest
@@ -59,7 +59,7 @@ module _ (passes : Name → Bool) where
   by-leaf name [] = refl
   by-leaf name (c ∷ cs) = append-nil (marked (passes name) (c ∷ cs))
 
-  marks-leaf : (b : Bool) (cs : List Code) (xs : Marked) →
+  marks-leaf : (b : Bool) (cs : List Code) (xs : MarkedCodes) →
       map (λ x. x.0) (marked b cs ++ xs) ≡ map (λ c. b) cs ++ map (λ x. x.0) xs
   marks-leaf b [] xs = refl
   marks-leaf b (c ∷ cs) xs = ap (λ x. b ∷ x) (marks-leaf b cs xs)
@@ -71,43 +71,43 @@ module _ (passes : Name → Bool) where
   by-code (group_then name enter exit inside rest) =
       map-append (λ x. x.0) (codes_by inside) (codes_by rest) ∙ (λ i. by-code inside i ++ by-code rest i)
 
-abbrev held : Forest → Marked
+abbrev held : Forest → MarkedCodes
 held f = codes_by may_hold_marker f
 
 -- Code by code: what the first marks is not blank, and the second marks it.
-abbrev AreHeld : Marked → Marked → Type 0
+abbrev AreHeld : MarkedCodes → MarkedCodes → Type 0
 AreHeld [] [] = Unit {0}
 AreHeld [] (y ∷ ys) = ⊥
 AreHeld (x ∷ xs) [] = ⊥
 AreHeld (x ∷ xs) (y ∷ ys) = (x.0 ≡ true → (is_blank y.1 ≡ false) × (y.0 ≡ true)) × AreHeld xs ys
 
 -- Code by code: the same codes, and where the first marks one that is not blank, the second does.
-abbrev AreKept : Marked → Marked → Type 0
-AreKept [] [] = Unit {0}
-AreKept [] (y ∷ ys) = ⊥
-AreKept (x ∷ xs) [] = ⊥
-AreKept (x ∷ xs) (y ∷ ys) = (x.1 ≡ y.1) × (x.0 ≡ true → is_blank y.1 ≡ false → y.0 ≡ true) × AreKept xs ys
+abbrev KeepMarks : MarkedCodes → MarkedCodes → Type 0
+KeepMarks [] [] = Unit {0}
+KeepMarks [] (y ∷ ys) = ⊥
+KeepMarks (x ∷ xs) [] = ⊥
+KeepMarks (x ∷ xs) (y ∷ ys) = (x.1 ≡ y.1) × (x.0 ≡ true → is_blank y.1 ≡ false → y.0 ≡ true) × KeepMarks xs ys
 
-held-append : (xs ys zs ws : Marked) → AreHeld xs ys → AreHeld zs ws → AreHeld (xs ++ zs) (ys ++ ws)
+held-append : (xs ys zs ws : MarkedCodes) → AreHeld xs ys → AreHeld zs ws → AreHeld (xs ++ zs) (ys ++ ws)
 held-append [] [] zs ws h k = k
 held-append [] (y ∷ ys) zs ws h k = absurd h
 held-append (x ∷ xs) [] zs ws h k = absurd h
 held-append (x ∷ xs) (y ∷ ys) zs ws h k = (h.0, held-append xs ys zs ws h.1 k)
 
-kept-append : (xs ys zs ws : Marked) → AreKept xs ys → AreKept zs ws → AreKept (xs ++ zs) (ys ++ ws)
+kept-append : (xs ys zs ws : MarkedCodes) → KeepMarks xs ys → KeepMarks zs ws → KeepMarks (xs ++ zs) (ys ++ ws)
 kept-append [] [] zs ws h k = k
 kept-append [] (y ∷ ys) zs ws h k = absurd h
 kept-append (x ∷ xs) [] zs ws h k = absurd h
 kept-append (x ∷ xs) (y ∷ ys) zs ws h k = (h.0, h.1, kept-append xs ys zs ws h.2 k)
 
-kept-same : (xs : Marked) → AreKept xs xs
+kept-same : (xs : MarkedCodes) → KeepMarks xs xs
 kept-same [] = tt
 kept-same (x ∷ xs) = (refl, (λ e f. e), kept-same xs)
 
-held-kept : (xs ys zs : Marked) → AreHeld xs ys → AreKept ys zs → AreHeld xs zs
+held-kept : (xs ys zs : MarkedCodes) → AreHeld xs ys → KeepMarks ys zs → AreHeld xs zs
 held-kept [] [] zs h k = by_codes zs k
   where
-    by_codes : (ws : Marked) → AreKept [] ws → AreHeld [] ws
+    by_codes : (ws : MarkedCodes) → KeepMarks [] ws → AreHeld [] ws
     by_codes [] l = tt
     by_codes (w ∷ ws) l = l
 held-kept [] (y ∷ ys) zs h k = absurd h
@@ -116,7 +116,7 @@ held-kept (x ∷ xs) (y ∷ ys) [] h k = absurd k
 held-kept (x ∷ xs) (y ∷ ys) (z ∷ zs) h k =
     ((λ e. let f : is_blank z.1 ≡ false = ap is_blank (sym k.0) ∙ (h.0 e).0 in (f, k.1 (h.0 e).1 f)), held-kept xs ys zs h.1 k.2)
 
-marks-held : (xs ys : Marked) → AreHeld xs ys → AreAlso (map (λ x. x.0) xs) (map (λ x. x.0) ys)
+marks-held : (xs ys : MarkedCodes) → AreHeld xs ys → AreAlso (map (λ x. x.0) xs) (map (λ x. x.0) ys)
 marks-held [] [] h = tt
 marks-held [] (y ∷ ys) h = absurd h
 marks-held (x ∷ xs) [] h = absurd h
@@ -124,7 +124,7 @@ marks-held (x ∷ xs) (y ∷ ys) h = ((λ e. (h.0 e).1), marks-held xs ys h.1)
 
 -- Pairs.
 
-abbrev held_add : Adds Marked
+abbrev held_add : Adds MarkedCodes
 held_add = record {
   none = [];
   plus = ◌++◌;
@@ -136,7 +136,7 @@ held_add = record {
   row = by-join may_hold_marker;
 }
 
-abbrev held_all : List Forest → Marked
+abbrev held_all : List Forest → MarkedCodes
 held_all fs = sum_of held_add fs
 
 held-data : (cs : List Code) → held (leaf Name.Data cs) ≡ marked true cs
@@ -158,7 +158,7 @@ held-group front inside back =
     side : (cs : List Code) → held (leaf (pair_names (marker_of front) (length front)).1 cs) ≡ marked true cs
     side cs = by-leaf may_hold_marker (pair_names (marker_of front) (length front)).1 cs ∙ ap (λ b. marked b cs) (sequence-held (marker_of front) (length front))
 
-abbrev held_word : List Token → Marked
+abbrev held_word : List Token → MarkedCodes
 held_word w = token_sum held_add (marked true) held-data w
 
 held-assembled : (w : List Token) → held (assembled w) ≡ held_word w
@@ -169,7 +169,7 @@ word-run pairs i r = sum-run held_add (marked true) held-data refl (marked-appen
 
 -- Rows.
 
-abbrev runs_marked : Forest → Marked
+abbrev runs_marked : Forest → MarkedCodes
 runs_marked f = codes_by is_run f
 
 not-blank : (v m : ℕ) → is_marker m ≡ true → (v == m) ≡ true → (v == 32 || v == 9) ≡ false
@@ -228,11 +228,11 @@ held-merged (group_then name enter exit inside rest) = λ i. held-merged inside 
 
 -- Trimming.
 
-abbrev AreBlankOrMarked : Marked → Type 0
+abbrev AreBlankOrMarked : MarkedCodes → Type 0
 AreBlankOrMarked [] = Unit {0}
 AreBlankOrMarked (x ∷ xs) = (is_blank x.1 ≡ false → x.0 ≡ true) × AreBlankOrMarked xs
 
-abbrev codes_in : Marked → List Code
+abbrev codes_in : MarkedCodes → List Code
 codes_in xs = map (λ x. x.1) xs
 
 codes-marked : (b : Bool) (cs : List Code) → codes_in (marked b cs) ≡ cs
@@ -247,14 +247,14 @@ codes-held (group_then name enter exit inside rest) =
     map-append (λ x. x.1) (held inside) (held rest) ∙ (λ i. codes-held inside i ++ codes-held rest i)
 
 -- marked codes, and codes marked where they are not blank
-kept-any : (xs ys : Marked) → codes_in xs ≡ codes_in ys → AreBlankOrMarked ys → AreKept xs ys
+kept-any : (xs ys : MarkedCodes) → codes_in xs ≡ codes_in ys → AreBlankOrMarked ys → KeepMarks xs ys
 kept-any [] [] e h = tt
 kept-any [] (y ∷ ys) e h = cc
 kept-any (x ∷ xs) [] e h = cc
 kept-any (x ∷ xs) (y ∷ ys) e h =
     (head_same x.1 y.1 (codes_in xs) (codes_in ys) e, (λ f g. h.0 g), kept-any xs ys (tail_same x.1 y.1 (codes_in xs) (codes_in ys) e) h.1)
 
-either-append : (xs ys : Marked) → AreBlankOrMarked xs → AreBlankOrMarked ys → AreBlankOrMarked (xs ++ ys)
+either-append : (xs ys : MarkedCodes) → AreBlankOrMarked xs → AreBlankOrMarked ys → AreBlankOrMarked (xs ++ ys)
 either-append [] ys h k = k
 either-append (x ∷ xs) ys h k = (h.0, either-append xs ys h.1 k)
 
@@ -274,7 +274,7 @@ blank-reverse (c ∷ cs) h =
     let p = and_parts (is_blank c) (list_all is_blank cs) h in
     ap (list_all is_blank) (reverse-append (c ∷ []) cs) ∙ list_all-append is_blank (reverse cs) (c ∷ []) ∙ (λ i. blank-reverse cs p.1 i && (p.0 i && true))
 
-either-data : (front back hard : Bool) (cs : List Code) → AreBlankOrMarked (held (trimmed_data front back hard cs))
+either-data : (front back : Bool) (hard : HardBreaks) (cs : List Code) → AreBlankOrMarked (held (trimmed_data front back hard cs))
 either-data front back hard cs = three Name.SpaceOrTab (blank_name hard (reverse cut.0)) lead.0 lead.1 (reverse cut.0) (lead-blank front (reverse cut.1)) (blank-reverse cut.0 (cut-blank back cs))
   where
     cut : List Code × List Code
@@ -303,19 +303,19 @@ either-data front back hard cs = three Name.SpaceOrTab (blank_name hard (reverse
         (either-append (marked (may_hold_marker a) xs) (marked true ys ++ marked (may_hold_marker c) zs) (either-blank (may_hold_marker a) xs h)
         (either-append (marked true ys) (marked (may_hold_marker c) zs) (either-marked ys) (either-blank (may_hold_marker c) zs k)))
 
-kept-data : (front back hard : Bool) (cs : List Code) →
-    AreKept (marked true cs) (held (trimmed_data front back hard cs))
+kept-data : (front back : Bool) (hard : HardBreaks) (cs : List Code) →
+    KeepMarks (marked true cs) (held (trimmed_data front back hard cs))
 kept-data front back hard cs =
     kept-any (marked true cs) (held (trimmed_data front back hard cs)) (codes-marked true cs ∙ sym (codes-trimmed_data front back hard cs) ∙ sym (codes-held (trimmed_data front back hard cs))) (either-data front back hard cs)
 
-kept-trimmed : (hard front whole : Bool) (f : Forest) → AreKept (held f) (held (trimmed hard front whole f))
+kept-trimmed : (hard : HardBreaks) (front whole : Bool) (f : Forest) → KeepMarks (held f) (held (trimmed hard front whole f))
 unfolding trimmed
 kept-trimmed hard front whole empty = tt
 kept-trimmed hard front whole (leaf_then Name.Data None cs rest) =
     let back : Bool = begins_line_ending rest || (whole && is_nothing rest) in
-    subst (AreKept (marked true cs ++ held rest)) (sym (by-join may_hold_marker (trimmed_data front back (hard && begins_line_ending rest) cs) (trimmed hard false whole rest)))
-    (kept-append (marked true cs) (held (trimmed_data front back (hard && begins_line_ending rest) cs)) (held rest) (held (trimmed hard false whole rest))
-    (kept-data front back (hard && begins_line_ending rest) cs) (kept-trimmed hard false whole rest))
+    subst (KeepMarks (marked true cs ++ held rest)) (sym (by-join may_hold_marker (trimmed_data front back (breaks_where hard (begins_line_ending rest)) cs) (trimmed hard false whole rest)))
+    (kept-append (marked true cs) (held (trimmed_data front back (breaks_where hard (begins_line_ending rest)) cs)) (held rest) (held (trimmed hard false whole rest))
+    (kept-data front back (breaks_where hard (begins_line_ending rest)) cs) (kept-trimmed hard false whole rest))
 kept-trimmed hard front whole (leaf_then Name.LineEnding link cs rest) =
     kept-append (marked false cs) (marked false cs) (held rest) (held (trimmed hard true whole rest)) (kept-same (marked false cs)) (kept-trimmed hard true whole rest)
 kept-trimmed hard front whole (leaf_then name link cs rest) =
@@ -334,11 +334,11 @@ either-with cs =
     with_emails-has (λ t. AreBlankOrMarked (held t)) (λ t u h k. subst AreBlankOrMarked (sym (by-join may_hold_marker t u)) (either-append (held t) (held u) h k)) (λ ds. either-leaf Name.Data ds refl)
     (λ before ds. either-leaf _ ds (email-named (λ name. may_hold_marker name ≡ true) refl refl refl before)) cs
 
-kept-mailed : (f : Forest) → AreKept (held f) (held (with_emails_apart f))
+kept-mailed : (f : Forest) → KeepMarks (held f) (held (with_emails_apart f))
 unfolding with_emails_apart
 kept-mailed empty = tt
 kept-mailed (leaf_then Name.Data None cs rest) =
-    subst (AreKept (marked true cs ++ held rest)) (sym (by-join may_hold_marker (with_emails cs) (with_emails_apart rest)))
+    subst (KeepMarks (marked true cs ++ held rest)) (sym (by-join may_hold_marker (with_emails cs) (with_emails_apart rest)))
     (kept-append (marked true cs) (held (with_emails cs)) (held rest) (held (with_emails_apart rest))
     (kept-any (marked true cs) (held (with_emails cs)) (codes-marked true cs ∙ sym (codes-with_emails cs) ∙ sym (codes-held (with_emails cs))) (either-with cs)) (kept-mailed rest))
 kept-mailed (leaf_then name link cs rest) =
@@ -366,7 +366,7 @@ each_marker_is_held s cs =
     kept : AreHeld (runs_marked labels) (held done)
     kept =
         held-kept (runs_marked labels) (held pairs) (held done) (held-paired s labels (apart-text-labels s cs))
-        (subst (λ x. AreKept x (held done)) (held-merged pairs) (kept-trimmed s.options.constructs.hard_break_trailing true true (merged pairs)))
+        (subst (λ x. KeepMarks x (held done)) (held-merged pairs) (kept-trimmed (breaks s) true true (merged pairs)))
 
     also : (f : Forest) → AreHeld (runs_marked labels) (held f) →
         AreAlso (by_code is_run labels) (by_code may_hold_marker f)

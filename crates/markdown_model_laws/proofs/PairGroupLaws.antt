@@ -5,8 +5,8 @@ use Rattle.std.proofs.lemmas.List.Sums.{sum_by-append, sum_by-cons}
 use Rattle.std.proofs.lemmas.Bool.Decides.{nat_tests}
 use Rattle.markdown_model.proofs.GivenNames.{pair-named}
 use Rattle.markdown_event.specs.declared.event.Name.{Name}
-use Rattle.markdown_engine_content.specs.Codes.{Code, stop_of, document_start}
-use Rattle.markdown_engine_content.specs.Tree.{Forest, empty, leaf_then, group_then, leaf, ◌⊕◌, start_of}
+use Rattle.markdown_content.specs.Codes.{Code, stop_of, document_start}
+use Rattle.markdown_content.specs.Tree.{Forest, empty, leaf_then, group_then, leaf, ◌⊕◌, start_of}
 use Rattle.markdown_model.specs.Setting.{Setting}
 use Rattle.markdown_model.specs.Runs.{Run, runs_of, run_of, marker_of, rows_inside, containers_of}
 use Rattle.markdown_model.specs.Pairs.{Pair, pair_list, ArePairsFrom}
@@ -46,12 +46,12 @@ groups-loose : (cs : List Code) → all_groups (loose cs) ≡ 0
 groups-loose cs = omega (arith, groups-leaf Name.Data cs)
 
 -- the group of a pair is one, and its text is none
-record IsNamed (names : Name × Name × Name) : Type 0 where
+record ArePairNames (names : Name × Name × Name) : Type 0 where
   whole : is_pair names.0 ≡ true
   text : is_pair names.2 ≡ false
 
-named : (marker size : ℕ) → IsNamed (pair_names marker size)
-named = pair-named IsNamed (record { whole = refl; text = refl }) (record { whole = refl; text = refl }) (record { whole = refl; text = refl })
+named : (marker size : ℕ) → ArePairNames (pair_names marker size)
+named = pair-named ArePairNames (record { whole = refl; text = refl }) (record { whole = refl; text = refl }) (record { whole = refl; text = refl })
 
 groups-pair_group : (front : List Code) (inside : List Forest) (back : List Code) →
     all_groups (pair_group front inside back) ≡ 1 + all_groups inside
@@ -61,7 +61,7 @@ groups-pair_group front inside back =
     names : Name × Name × Name
     names = pair_names (marker_of front) (length front)
 
-    n : IsNamed names
+    n : ArePairNames names
     n = named (marker_of front) (length front)
 
     one : Bool → ℕ
@@ -122,12 +122,12 @@ made-run pairs i r d e m w h k =
 -- Pairs by the runs that they stand between.
 
 -- each opens before it closes, and closes at one of so many runs
-abbrev AreWithin : ℕ → List Pair → Type 0
-AreWithin n [] = Unit {0}
-AreWithin n (p ∷ ps) = (p.opener < p.closer) × (p.closer < n) × AreWithin n ps
+abbrev ArePairsBelow : ℕ → List Pair → Type 0
+ArePairsBelow n [] = Unit {0}
+ArePairsBelow n (p ∷ ps) = (p.opener < p.closer) × (p.closer < n) × ArePairsBelow n ps
 
 within : (s : Setting) (runs : List Run) (end : ℕ) (earlier : List Pair) (last : ℕ) (ps : List Pair) →
-    ArePairsFrom s runs end earlier last ps → AreWithin (length runs) ps
+    ArePairsFrom s runs end earlier last ps → ArePairsBelow (length runs) ps
 within s runs end earlier last [] h = tt
 within s runs end earlier last (p ∷ ps) h =
     (h.0.eligible.in_order, h.0.eligible.in_container, within s runs end (earlier ++ p ∷ []) p.closer ps h.1)
@@ -163,7 +163,7 @@ one-balance : (o c n : ℕ) → o < c →
     (if nat_lt o n && nat_le n c then 1 else 0) + (if o == n then 1 else 0) ≡ (if nat_lt o (suc n) && nat_le (suc n) c then 1 else 0) + (if c == n then 1 else 0)
 one-balance o c n h = grind (arith, nat_tests)
 
-balance : (n m : ℕ) (ps : List Pair) → AreWithin m ps →
+balance : (n m : ℕ) (ps : List Pair) → ArePairsBelow m ps →
     open_at n ps + length (opening_sizes n ps) ≡ open_at (suc n) ps + length (closing_sizes n ps)
 balance n m [] h = refl
 balance n m (p ∷ ps) h =
@@ -172,7 +172,7 @@ balance n m (p ∷ ps) h =
 one-open : (o c n : ℕ) → o < c → (if c == n then 1 else 0) ≤ (if nat_lt o n && nat_le n c then 1 else 0)
 one-open o c n h = grind (arith, nat_tests)
 
-closed-open : (n m : ℕ) (ps : List Pair) → AreWithin m ps → length (closing_sizes n ps) ≤ open_at n ps
+closed-open : (n m : ℕ) (ps : List Pair) → ArePairsBelow m ps → length (closing_sizes n ps) ≤ open_at n ps
 closed-open n m [] h = omega arith
 closed-open n m (p ∷ ps) h =
     omega (arith, one-open p.opener p.closer n h.0, closed-open n m ps h.2, length-closing n p ps)
@@ -187,7 +187,7 @@ closed-next n (p ∷ ps) = omega (arith, one-closed p.closer n, closed-next n ps
 one-past : (c n : ℕ) → c < n → ◌≡◌ {A = ℕ} (if nat_le n c then 1 else 0) 0
 one-past c n h = grind (arith, nat_tests)
 
-none-past : (n : ℕ) (ps : List Pair) → AreWithin n ps → closed_from n ps ≡ 0
+none-past : (n : ℕ) (ps : List Pair) → ArePairsBelow n ps → closed_from n ps ≡ 0
 none-past n [] h = refl
 none-past n (p ∷ ps) h = omega (arith, one-past p.closer n h.1, none-past n ps h.2)
 
@@ -211,11 +211,11 @@ module _ (s : Setting) where
   abbrev pairs_in : List (List Run) → ℕ
   pairs_in rows = sum_by (λ runs. length (pair_list s runs)) rows
 
-  abbrev Law : Forest → Type 0
-  Law f = (pairs : List Pair) (n total : ℕ) → AreWithin total pairs → n + length (runs_of s f) ≡ total
+  abbrev PairGroupLaw : Forest → Type 0
+  PairGroupLaw f = (pairs : List Pair) (n total : ℕ) → ArePairsBelow total pairs → n + length (runs_of s f) ≡ total
       → made (open_at n pairs) (tokens_of s (pair_list s) f pairs n) ≡ pair_groups f + pairs_in (rows_inside s f) + closed_from n pairs
 
-  whole-row : (f : Forest) → Law f →
+  whole-row : (f : Forest) → PairGroupLaw f →
       pair_groups (assembled (tokens_of s (pair_list s) f (pair_list s (runs_of s f)) 0)) ≡ pair_groups f + pairs_in (rows_inside s f) + length (pair_list s (runs_of s f))
   whole-row f law =
       made-assembled (tokens_of s (pair_list s) f pairs 0) ∙ ap (λ d. made d (tokens_of s (pair_list s) f pairs 0)) (sym (none-open pairs))
@@ -225,7 +225,7 @@ module _ (s : Setting) where
       pairs : List Pair
       pairs = pair_list s (runs_of s f)
 
-  law : (f : Forest) → Law f
+  law : (f : Forest) → PairGroupLaw f
   unfolding tokens_of runs_of rows_inside
   law empty pairs n total h k = sym (omega (arith, ap (λ m. closed_from m pairs) here, none-past total pairs h))
     where

@@ -3,11 +3,11 @@ use Rattle.std.proofs.Common.{◌≡◌, ℕ, ◌+◌, Bool, true, false, ◌&&�
 use Rattle.std.proofs.lemmas.Bool.{and_parts}
 use Rattle.markdown_event.specs.declared.event.Name.{Name}
 use Rattle.markdown_event.specs.declared.event.Point.{Point}
-use Rattle.markdown_engine_content.specs.Codes.{Code}
-use Rattle.markdown_engine_content.specs.Tree.{Forest, empty, leaf_then, group_then, leaf, ◌⊕◌}
+use Rattle.markdown_content.specs.Codes.{Code}
+use Rattle.markdown_content.specs.Tree.{Forest, empty, leaf_then, group_then, leaf, ◌⊕◌}
 use Rattle.markdown_model.specs.CodeTests.{is_empty}
 use Rattle.markdown_model.specs.GfmEmailLiteral.{with_emails}
-use Rattle.markdown_model.specs.Passes.{data_onto, merged, begins_line_ending, is_nothing, trimmed_data, trimmed, with_emails_apart}
+use Rattle.markdown_model.specs.Passes.{HardBreaks, breaks_where, breaks, data_onto, merged, begins_line_ending, is_nothing, trimmed_data, trimmed, with_emails_apart}
 use Rattle.markdown_model.specs.InlineTree.{label_tree, text_tree, pair_count}
 use Rattle.markdown_model.proofs.PassedTrees.{walks-merged, walks-trimmed, walks-mailed, trimmed_data-has, with_emails-has}
 use Rattle.markdown_model_laws.specs.EmailsInData.{is_email}
@@ -38,16 +38,16 @@ groups-merged (group_then name enter exit inside rest) =
 groups-both : (a b : Forest) → pair_groups a ≡ 0 → pair_groups b ≡ 0 → pair_groups (a ⊕ b) ≡ 0
 groups-both a b h k = omega (arith, groups-join a b, h, k)
 
-groups-data : (front back hard : Bool) (cs : List Code) → pair_groups (trimmed_data front back hard cs) ≡ 0
+groups-data : (front back : Bool) (hard : HardBreaks) (cs : List Code) → pair_groups (trimmed_data front back hard cs) ≡ 0
 groups-data front back hard cs =
     trimmed_data-has (λ t. pair_groups t ≡ 0) groups-both (groups-leaf Name.Data) (groups-leaf Name.HardBreakTrailing) (groups-leaf Name.SpaceOrTab) front back hard cs
 
-groups-trimmed : (hard front whole : Bool) (f : Forest) → pair_groups (trimmed hard front whole f) ≡ pair_groups f
+groups-trimmed : (hard : HardBreaks) (front whole : Bool) (f : Forest) → pair_groups (trimmed hard front whole f) ≡ pair_groups f
 unfolding trimmed
 groups-trimmed hard front whole empty = refl
 groups-trimmed hard front whole (leaf_then Name.Data None cs rest) =
     let back : Bool = begins_line_ending rest || (whole && is_nothing rest) in
-    let ending : Bool = hard && begins_line_ending rest in
+    let ending : HardBreaks = breaks_where hard (begins_line_ending rest) in
     omega (arith, groups-join (trimmed_data front back ending cs) (trimmed hard false whole rest), groups-data front back ending cs, groups-trimmed hard false whole rest)
 groups-trimmed hard front whole (leaf_then Name.LineEnding link cs rest) = groups-trimmed hard true whole rest
 groups-trimmed hard front whole (leaf_then name link cs rest) = groups-trimmed hard false whole rest
@@ -91,7 +91,7 @@ each_pair_is_a_group s cs =
   where
     kept : pair_groups (unmailed s cs) ≡ pair_count s (labels_in s cs)
     kept =
-        groups-trimmed s.options.constructs.hard_break_trailing true true (merged (pairs_in s cs))
+        groups-trimmed (breaks s) true true (merged (pairs_in s cs))
         ∙ groups-merged (pairs_in s cs)
         ∙ omega (arith, groups-paired s (labels_in s cs), no-groups (labels_in s cs) (made-text-labels s cs))
 
@@ -168,7 +168,7 @@ module _ (P : List Code → List Code → Type 0) where
       walks-merged (pairs P) (λ cs ds _ _. tt) (λ name a b inside _ g e. sides-kept merged merged-keeps inside (g e)) f h
 
   -- a pair's own row is trimmed at neither end
-  trimmed-keeps : (hard : Bool) → KeepsSides (trimmed hard false false)
+  trimmed-keeps : (hard : HardBreaks) → KeepsSides (trimmed hard false false)
   unfolding trimmed
   trimmed-keeps hard = record { sequence = sequence; group = λ name enter exit inside rest. (trimmed hard false false inside, refl); nothing = refl }
     where
@@ -178,7 +178,7 @@ module _ (P : List Code → List Code → Type 0) where
       sequence Name.LineEnding cs rest h = not-ending h
       sequence name cs rest h = refl
 
-  pairs-trimmed : (hard front whole : Bool) (f : Forest) → EachPairHas P f → EachPairHas P (trimmed hard front whole f)
+  pairs-trimmed : (hard : HardBreaks) (front whole : Bool) (f : Forest) → EachPairHas P f → EachPairHas P (trimmed hard front whole f)
   pairs-trimmed hard front whole f h =
       walks-trimmed (pairs P) hard (λ x y z cs _. trimmed_data-has (EachPairHas P) (pairs-join P) (pairs-leaf Name.Data) (pairs-leaf Name.HardBreakTrailing) (pairs-leaf Name.SpaceOrTab) x y z cs)
       (λ name a b inside _ g e. sides-kept (trimmed hard false false) (trimmed-keeps hard) inside (g e)) front whole f h
@@ -214,7 +214,7 @@ pairs_take_their_markers s cs = text-has (EachPairHas P) s cs (pairs-mailed P (u
 
     kept : EachPairHas P (unmailed s cs)
     kept =
-        pairs-trimmed P s.options.constructs.hard_break_trailing true true (merged (pairs_in s cs))
+        pairs-trimmed P (breaks s) true true (merged (pairs_in s cs))
         (pairs-merged P (pairs_in s cs) (right-paired s labels (no-groups labels (made-text-labels s cs)) (made-filled labels (made-text-labels s cs)) (apart-text-labels s cs)).0)
 
 -- What is said of the sides of pairs may be weakened.

@@ -1,9 +1,9 @@
 -- The places of a tree with its pairs grouped: wherever those of the tree go on, so do these.
 use Rattle.std.proofs.Common.{◌≡◌, ◌≢◌, ℕ, suc, List, [], ◌∷◌, ◌++◌, length, refl, sym, ap, subst, ◌∙◌, append_assoc, append-nil, inl, inr}
-use Rattle.markdown_engine_content.specs.Codes.{Code, place_of, stop_of}
-use Rattle.markdown_engine_content.specs.Tree.{Forest, empty, leaf_then, group_then, leaf, group, text_group, ◌⊕◌, enter_of, exit_after}
+use Rattle.markdown_content.specs.Codes.{Code, place_of, stop_of}
+use Rattle.markdown_content.specs.Tree.{Forest, empty, leaf_then, group_then, leaf, group, text_group, ◌⊕◌, enter_of, exit_after}
 use Rattle.markdown_event.specs.declared.event.Name.{Name}
-use Rattle.markdown_attention.specs.TokenWord.{Matches, AreItems, IsFlat, IsReady}
+use Rattle.markdown_attention.specs.TokenWord.{Matches, AreItems, IsFlat, IsPairable}
 use Rattle.markdown_model.specs.BracketGroups.{item, opens, closes, nest, nested, onto, after_loose, joined, loose, pair_names, pair_group, Token, assembled, run_tokens, tokens_of, paired}
 use Rattle.markdown_model.specs.Pairs.{Pair}
 use Rattle.markdown_model.specs.Runs.{Run, marker_of, run_of, runs_of}
@@ -12,12 +12,12 @@ use Rattle.markdown_model.proofs.PassesKeepCodes.{codes-run_of}
 use Rattle.markdown_model.proofs.BracketSums.{Adds, sum_of, sum-joined, sum-append}
 use Rattle.markdown_model.proofs.PairSums.{token_sum, token-append, sum-run}
 use Rattle.markdown_model_laws.proofs.MadeConstructs.{IsSome}
-use Rattle.markdown_model_laws.proofs.PlacesInOrder.{Place, last_of, Allows, allows-itself, allows-then, allows-join, allows-behind}
-use Rattle.markdown_model_laws.proofs.TreePlaces.{ends_of, ends-join, ends-last, places_of, places-join, places-leaf, places-around, places-between, EndsAt, begins-leaf}
+use Rattle.markdown_model_laws.proofs.PlacesInOrder.{BytePlace, last_of, Allows, allows-itself, allows-then, allows-join, allows-behind}
+use Rattle.markdown_model_laws.proofs.TreePlaces.{ends_of, ends-join, ends-last, places_of, places-join, places-leaf, places-around, places-between, EndsAtPoint, begins-leaf}
 
 -- Lists of trees.
 
-abbrev places_add : Adds (List Place)
+abbrev places_add : Adds (List BytePlace)
 places_add = record {
   none = [];
   plus = ◌++◌;
@@ -29,45 +29,45 @@ places_add = record {
   row = places-join;
 }
 
-abbrev all_places : List Forest → List Place
+abbrev all_places : List Forest → List BytePlace
 all_places fs = sum_of places_add fs
 
 -- Bracket words.
 
-abbrev word_places : List Token → List Place
+abbrev word_places : List Token → List BytePlace
 word_places w = token_sum places_add ends_of (places-leaf Name.Data) w
 
 -- each bracket has a marker
-abbrev AreSome : List Token → Type 0
-AreSome [] = Unit {0}
-AreSome (item f ∷ w) = AreSome w
-AreSome (opens o ∷ w) = IsSome o × AreSome w
-AreSome (closes c ∷ w) = IsSome c × AreSome w
+abbrev AreSomeBrackets : List Token → Type 0
+AreSomeBrackets [] = Unit {0}
+AreSomeBrackets (item f ∷ w) = AreSomeBrackets w
+AreSomeBrackets (opens o ∷ w) = IsSome o × AreSomeBrackets w
+AreSomeBrackets (closes c ∷ w) = IsSome c × AreSomeBrackets w
 
 is-some : (cs : List Code) → cs ≢ [] → IsSome cs
 is-some [] h = absurd (h refl)
 is-some (c ∷ cs) h = refl
 
-matches-some : (keys : List (ℕ × ℕ)) (w : List Token) → Matches keys w → AreSome w
+matches-some : (keys : List (ℕ × ℕ)) (w : List Token) → Matches keys w → AreSomeBrackets w
 matches-some keys [] m = tt
 matches-some keys (item f ∷ w) m = matches-some keys w m.1
 matches-some keys (opens o ∷ w) m = (is-some o m.0, matches-some _ w m.1)
 matches-some [] (closes c ∷ w) m = absurd m
 matches-some (key ∷ keys) (closes c ∷ w) m = (is-some c m.0, matches-some keys w m.1.1)
 
-items-some : (w : List Token) → AreItems w → AreSome w
+items-some : (w : List Token) → AreItems w → AreSomeBrackets w
 items-some [] m = tt
 items-some (item f ∷ w) m = items-some w m
 items-some (opens o ∷ w) m = absurd m
 items-some (closes c ∷ w) m = absurd m
 
-flat-some : (w : List Token) → IsFlat w → AreSome w
+flat-some : (w : List Token) → IsFlat w → AreSomeBrackets w
 flat-some w (inl m) = matches-some [] w m
 flat-some w (inr m) = items-some w m
 
 -- Groups of pairs.
 
-marker-ends : (name : Name) (c : Code) (cs : List Code) → EndsAt (leaf name (c ∷ cs)) (stop_of c.stop cs)
+marker-ends : (name : Name) (c : Code) (cs : List Code) → EndsAtPoint (leaf name (c ∷ cs)) (stop_of c.stop cs)
 marker-ends name c cs = record {
   first = place_of c.start;
   more = place_of c.stop ∷ (ends_of cs ++ []);
@@ -98,26 +98,26 @@ pair-allows (c ∷ cs) inside (d ∷ ds) h k =
 
 -- Nesting.
 
-abbrev Frames : Type 0
-Frames = List (List Code × List Forest)
+abbrev PlaceFrames : Type 0
+PlaceFrames = List (List Code × List Forest)
 
-abbrev frame_places : Frames → List Place
+abbrev frame_places : PlaceFrames → List BytePlace
 frame_places [] = []
 frame_places (f ∷ fs) = ends_of f.0 ++ (all_places f.1 ++ frame_places fs)
 
-abbrev AreFrames : Frames → Type 0
-AreFrames [] = Unit {0}
-AreFrames (f ∷ fs) = IsSome f.0 × AreFrames fs
+abbrev AreFilledFrames : PlaceFrames → Type 0
+AreFilledFrames [] = Unit {0}
+AreFilledFrames (f ∷ fs) = IsSome f.0 × AreFilledFrames fs
 
-abbrev nest_pairs : List Token → List Forest × Frames
+abbrev nest_pairs : List Token → List Forest × PlaceFrames
 nest_pairs w = nest pair_group loose loose w
 
-abbrev nest_places : List Forest × Frames → List Place
+abbrev nest_places : List Forest × PlaceFrames → List BytePlace
 nest_places r = all_places r.0 ++ frame_places r.1
 
-onto-allows : (o : List Code) (inside : List Forest) (more : Frames) (source : List Place) → IsSome o → AreFrames more → Allows source (all_places inside ++ frame_places more)
-    → let r : List Forest × Frames = onto pair_group loose loose o inside more in
-    Allows (ends_of o ++ source) (nest_places r) × AreFrames r.1
+onto-allows : (o : List Code) (inside : List Forest) (more : PlaceFrames) (source : List BytePlace) → IsSome o → AreFilledFrames more → Allows source (all_places inside ++ frame_places more)
+    → let r : List Forest × PlaceFrames = onto pair_group loose loose o inside more in
+    Allows (ends_of o ++ source) (nest_places r) × AreFilledFrames r.1
 onto-allows o inside [] source h k g = (
   subst (Allows (ends_of o ++ source)) (ap (λ x. x ++ (all_places inside ++ [])) (sym (places-leaf Name.Data o)) ∙ sym (append_assoc (places_of (leaf Name.Data o)) (all_places inside) []))
       (allows-behind (ends_of o) source (all_places inside ++ []) g),
@@ -132,7 +132,7 @@ onto-allows o inside (c ∷ more) source h k g = (
   k.1,
 )
   where
-    rest : List Place
+    rest : List BytePlace
     rest = all_places c.1 ++ frame_places more
 
     regroup : (ends_of o ++ (all_places inside ++ ends_of c.0)) ++ rest ≡ ends_of o ++ (all_places inside ++ (ends_of c.0 ++ rest))
@@ -141,8 +141,8 @@ onto-allows o inside (c ∷ more) source h k g = (
     joins : all_places (pair_group o inside c.0) ++ rest ≡ all_places (pair_group o inside c.0 ++ c.1) ++ frame_places more
     joins = sym (append_assoc (all_places (pair_group o inside c.0)) (all_places c.1) (frame_places more)) ∙ ap (λ x. x ++ frame_places more) (sym (sum-append places_add (pair_group o inside c.0) c.1))
 
-nest-allows : (w : List Token) → AreSome w →
-    Allows (word_places w) (nest_places (nest_pairs w)) × AreFrames (nest_pairs w).1
+nest-allows : (w : List Token) → AreSomeBrackets w →
+    Allows (word_places w) (nest_places (nest_pairs w)) × AreFilledFrames (nest_pairs w).1
 nest-allows [] h = (allows-itself [], tt)
 nest-allows (item f ∷ w) h =
     let r = nest-allows w h in
@@ -152,14 +152,14 @@ nest-allows (closes c ∷ w) h =
 nest-allows (opens o ∷ w) h =
     let r = nest-allows w h.1 in onto-allows o (nest_pairs w).0 (nest_pairs w).1 (word_places w) h.0 r.1 r.0
 
-after-places : (fs : Frames) → all_places (after_loose pair_group loose loose fs) ≡ frame_places fs
+after-places : (fs : PlaceFrames) → all_places (after_loose pair_group loose loose fs) ≡ frame_places fs
 after-places [] = refl
 after-places (f ∷ fs) =
     sum-append places_add (loose f.0 ++ f.1) (after_loose pair_group loose loose fs)
     ∙ (λ i. (places-leaf Name.Data f.0 i ++ all_places f.1) ++ after-places fs i)
     ∙ append_assoc (ends_of f.0) (all_places f.1) (frame_places fs)
 
-assembled-allows : (w : List Token) → AreSome w → Allows (word_places w) (places_of (assembled w))
+assembled-allows : (w : List Token) → AreSomeBrackets w → Allows (word_places w) (places_of (assembled w))
 assembled-allows w h =
     subst (Allows (word_places w))
     (sym (sum-joined places_add (nested pair_group loose loose w) ∙ sum-append places_add (nest_pairs w).0 (after_loose pair_group loose loose (nest_pairs w).1) ∙ ap (λ x. all_places (nest_pairs w).0 ++ x) (after-places (nest_pairs w).1)))
@@ -168,7 +168,7 @@ assembled-allows w h =
 -- Trees.
 
 module _ (s : Setting) (pairs_of : List Run → List Pair) where
-  tokens-allow : (t : Forest) (pairs : List Pair) (n : ℕ) → IsReady s pairs_of t →
+  tokens-allow : (t : Forest) (pairs : List Pair) (n : ℕ) → IsPairable s pairs_of t →
       Allows (places_of t) (word_places (tokens_of s pairs_of t pairs n))
   unfolding tokens_of
   tokens-allow empty pairs n r = allows-itself []
@@ -188,10 +188,10 @@ module _ (s : Setting) (pairs_of : List Run → List Pair) where
       word : List Token
       word = tokens_of s pairs_of inside (pairs_of (runs_of s inside)) 0
 
-      tail : List Place
+      tail : List BytePlace
       tail = word_places (tokens_of s pairs_of rest pairs n)
 
-  pub paired-allows : (t : Forest) → IsFlat (tokens_of s pairs_of t (pairs_of (runs_of s t)) 0) → IsReady s pairs_of t →
+  pub paired-allows : (t : Forest) → IsFlat (tokens_of s pairs_of t (pairs_of (runs_of s t)) 0) → IsPairable s pairs_of t →
       Allows (places_of t) (places_of (paired s pairs_of t))
   unfolding paired
   paired-allows t m r =

@@ -10,8 +10,8 @@ use Rattle.std.proofs.lemmas.List.Folds.{list_all-append}
 use Rattle.std.proofs.lemmas.List.Sums.{sum_by-append, sum_by-cons}
 use Rattle.markdown_model.proofs.GivenNames.{pair-named}
 use Rattle.markdown_event.specs.declared.event.Name.{Name}
-use Rattle.markdown_engine_content.specs.Codes.{Code}
-use Rattle.markdown_engine_content.specs.Tree.{Forest, empty, leaf_then, group_then, leaf, ◌⊕◌}
+use Rattle.markdown_content.specs.Codes.{Code}
+use Rattle.markdown_content.specs.Tree.{Forest, empty, leaf_then, group_then, leaf, ◌⊕◌}
 use Rattle.markdown_model.specs.CodeTests.{is_value, is_empty}
 use Rattle.markdown_model.specs.Setting.{Setting}
 use Rattle.markdown_model.specs.Runs.{Run, runs_of, run_of, marker_of, rows_inside, containers_of}
@@ -21,21 +21,21 @@ use Rattle.markdown_model.specs.Passes.{is_nothing}
 use Rattle.markdown_model.proofs.PassesKeepCodes.{codes-run_of}
 use Rattle.markdown_model.proofs.PairListFacts.{pairs_are_sound, within_push}
 use Rattle.markdown_model.proofs.OnePairList.{some_pair_list}
-use Rattle.markdown_model.proofs.PassedTrees.{Walks, walks-row}
+use Rattle.markdown_model.proofs.PassedTrees.{HoldsByParts, walks-row}
 use Rattle.markdown_model.proofs.BracketGroupFacts.{AllHave, all-append, joined-has}
 use Rattle.markdown_model_laws.specs.TreesFilled.{IsFilled}
-use Rattle.markdown_model_laws.specs.PairGroups.{is_pair, is_sequence, pair_groups, HasSides, EachPairHas, IsPart, AreOfPair}
+use Rattle.markdown_model_laws.specs.PairGroups.{is_pair, is_sequence, pair_groups, HasSides, EachPairHas, IsPartOf, AreOfPair}
 use Rattle.markdown_model_laws.proofs.FilledTrees.{filled-leaf, filled-join, nothing-assembled}
-use Rattle.markdown_model_laws.proofs.LabelTreeRuns.{IsStripe, HasApartRuns}
+use Rattle.markdown_model_laws.proofs.LabelTreeRuns.{IsMarkerStripe, HasApartRuns}
 
 -- Rows in which this is said of the sides of each pair, and nothing is empty but texts of labels.
 
-record IsNamed (names : Name × Name × Name) : Type 0 where
+record AreSideNames (names : Name × Name × Name) : Type 0 where
   text : is_pair names.2 ≡ false
   sequence : is_sequence names.1 ≡ true
 
-named : (marker size : ℕ) → IsNamed (pair_names marker size)
-named = pair-named IsNamed (record { text = refl; sequence = refl }) (record { text = refl; sequence = refl }) (record { text = refl; sequence = refl })
+named : (marker size : ℕ) → AreSideNames (pair_names marker size)
+named = pair-named AreSideNames (record { text = refl; sequence = refl }) (record { text = refl; sequence = refl }) (record { text = refl; sequence = refl })
 
 module _ (P : List Code → List Code → Type 0) where
   abbrev IsRight : Forest → Type 0
@@ -45,7 +45,7 @@ module _ (P : List Code → List Code → Type 0) where
   right-leaf name [] = (tt, tt)
   right-leaf name (c ∷ cs) = (tt, filled-leaf name (c ∷ cs))
 
-  pub pairs : Walks (EachPairHas P) (λ name link cs. Unit {0}) (λ name a b inside. is_pair name ≡ true → HasSides P inside)
+  pub pairs : HoldsByParts (EachPairHas P) (λ name link cs. Unit {0}) (λ name a b inside. is_pair name ≡ true → HasSides P inside)
   pairs = record {
     none = tt;
     leaf_of = λ name link cs rest h. (tt, h);
@@ -83,7 +83,7 @@ module _ (P : List Code → List Code → Type 0) where
 record IsSide (whole : List Code) (p : Pair) (cs : List Code) : Type 0 where
   size : length cs ≡ p.size
   some : 0 < p.size
-  part : IsPart cs whole
+  part : IsPartOf cs whole
   marker : marker_of cs ≡ marker_of whole
 
 part-marker : (m : ℕ) (before part after : List Code) → list_all (is_value m) (before ++ (part ++ after)) ≡ true →
@@ -113,7 +113,7 @@ AreSides of (c ∷ cs) [] = ⊥
 AreSides of (c ∷ cs) (p ∷ ps) = IsSide (of p) p c × AreSides of cs ps
 
 -- a run is cut into as many markers as are asked for, where it has them
-module _ (whole : List Code) (stripe : IsStripe (marker_of whole) whole) (of : Pair → List Code) where
+module _ (whole : List Code) (stripe : IsMarkerStripe (marker_of whole) whole) (of : Pair → List Code) where
   cut-sides : (ps : List Pair) (before cs after : List Code) → whole ≡ before ++ (cs ++ after) → AllOf (λ p. (0 < p.size) × (of p ≡ whole)) ps → total (sizes_of ps) ≤ length cs
       → AreSides of (cut_front (sizes_of ps) cs).0 ps
   cut-sides [] before cs after e h k = tt
@@ -239,9 +239,9 @@ abbrev AreLater : Pair → List Pair → Type 0
 AreLater p [] = Unit {0}
 AreLater p (q ∷ qs) = (p.closer ≤ q.closer) × (is_strictly_within q.opener p ≡ false) × AreLater p qs
 
-abbrev AreOrdered : ℕ → List Pair → Type 0
-AreOrdered n [] = Unit {0}
-AreOrdered n (p ∷ ps) = (0 < p.size) × (p.opener < p.closer) × (p.closer < n) × AreLater p ps × AreOrdered n ps
+abbrev AreOrderedPairs : ℕ → List Pair → Type 0
+AreOrderedPairs n [] = Unit {0}
+AreOrderedPairs n (p ∷ ps) = (0 < p.size) × (p.opener < p.closer) × (p.closer < n) × AreLater p ps × AreOrderedPairs n ps
 
 module _ (s : Setting) (runs : List Run) (end : ℕ) where
   later : (p : Pair) (earlier : List Pair) (last : ℕ) (ps : List Pair) → p.closer ≤ last → ((i : ℕ) → list_any (is_strictly_within i) earlier ≡ false → is_strictly_within i p ≡ false)
@@ -252,7 +252,7 @@ module _ (s : Setting) (runs : List Run) (end : ℕ) where
       (omega arith, among q.opener h.0.eligible.not_within, later p (earlier ++ q ∷ []) q.closer qs (omega arith) (λ i e. among i (within_push earlier q i e).0) h.1)
 
   ordered : (earlier : List Pair) (last : ℕ) (ps : List Pair) → ArePairsFrom s runs end earlier last ps →
-      AreOrdered (length runs) ps
+      AreOrderedPairs (length runs) ps
   ordered earlier last [] h = tt
   ordered earlier last (p ∷ ps) h =
       (size, h.0.eligible.in_order, h.0.eligible.in_container, later p (earlier ++ p ∷ []) p.closer ps (omega arith) (λ i e. (within_push earlier p i e).1) h.1, ordered (earlier ++ p ∷ []) p.closer ps h.1)
@@ -283,7 +283,7 @@ all-both : (R T : Pair → Type 0) (ps : List Pair) → AllOf R ps → AllOf T p
 all-both R T [] h k = tt
 all-both R T (p ∷ ps) h k = ((h.0, k.0), all-both R T ps h.1 k.1)
 
-all-sized : (n : ℕ) (ps : List Pair) → AreOrdered n ps → AllOf (λ p. 0 < p.size) ps
+all-sized : (n : ℕ) (ps : List Pair) → AreOrderedPairs n ps → AllOf (λ p. 0 < p.size) ps
 all-sized n [] h = tt
 all-sized n (p ∷ ps) h = (h.0, all-sized n ps h.4)
 
@@ -322,7 +322,7 @@ split-step false false false p xs ys zs e f g h = e
 split-step true false false p xs ys zs e f g h = absurd (both_ways true (g refl) refl)
 split-step false false true p xs ys zs e f g h = absurd (both_ways true (sym (g refl)) refl)
 
-close-split : (n m : ℕ) (ps : List Pair) → AreOrdered m ps → open_pairs n ps ≡ closing n ps ++ across n ps
+close-split : (n m : ℕ) (ps : List Pair) → AreOrderedPairs m ps → open_pairs n ps ≡ closing n ps ++ across n ps
 close-split n m [] h = refl
 close-split n m (p ∷ ps) h =
     split-step (nat_lt p.opener n && nat_le n p.closer) (p.closer == n) (nat_lt p.opener n && nat_le (suc n) p.closer) p (open_pairs n ps) (closing n ps) (across n ps)
@@ -340,7 +340,7 @@ close-split n m (p ∷ ps) h =
     after : (o c : ℕ) → (nat_lt o n && nat_le (suc n) c) ≡ true → n < c
     after o c e = grind (arith, nat_tests)
 
-open-split : (n m : ℕ) (ps : List Pair) → AreOrdered m ps → open_pairs (suc n) ps ≡ opening n ps ++ across n ps
+open-split : (n m : ℕ) (ps : List Pair) → AreOrderedPairs m ps → open_pairs (suc n) ps ≡ opening n ps ++ across n ps
 open-split n m [] h = refl
 open-split n m (p ∷ ps) h =
     split-step (nat_lt p.opener (suc n) && nat_le (suc n) p.closer) (p.opener == n) (nat_lt p.opener n && nat_le (suc n) p.closer) p (open_pairs (suc n) ps) (opening n ps) (across n ps)
@@ -368,7 +368,7 @@ none-open (p ∷ ps) = λ i. if_so (shut p.opener p.closer i) p (none-open ps i)
     shut : (o c : ℕ) → (nat_lt o 0 && nat_le 0 c) ≡ false
     shut o c = grind (arith, nat_tests)
 
-none-left : (n : ℕ) (ps : List Pair) → AreOrdered n ps → open_pairs n ps ≡ []
+none-left : (n : ℕ) (ps : List Pair) → AreOrderedPairs n ps → open_pairs n ps ≡ []
 none-left n [] h = refl
 none-left n (p ∷ ps) h = λ i. if_so (past p.opener p.closer h.2 i) p (none-left n ps h.4 i)
   where
@@ -376,7 +376,7 @@ none-left n (p ∷ ps) h = λ i. if_so (past p.opener p.closer h.2 i) p (none-le
     past o c l = grind (arith, nat_tests)
 
 -- what pairs take of a run as its closer and as its opener is what they take of it
-taken-sizes : (n m : ℕ) (ps : List Pair) → AreOrdered m ps →
+taken-sizes : (n m : ℕ) (ps : List Pair) → AreOrderedPairs m ps →
     total (sizes_of (closing n ps)) + total (sizes_of (opening n ps)) ≤ sum_by (taken_by n) ps
 taken-sizes n m [] h = omega arith
 taken-sizes n m (p ∷ ps) h =
@@ -401,18 +401,18 @@ NextIsNot m (item f ∷ w) = Unit {0}
 NextIsNot m (opens o ∷ w) = Unit {0}
 NextIsNot m (closes c ∷ w) = (marker_of c == m) ≡ false
 
-abbrev Frames : Type 0
-Frames = List (List Code × List Forest)
+abbrev SideFrames : Type 0
+SideFrames = List (List Code × List Forest)
 
-abbrev nest_pairs : List Token → List Forest × Frames
+abbrev nest_pairs : List Token → List Forest × SideFrames
 nest_pairs w = nest pair_group loose loose w
 
-abbrev FirstIsNot : ℕ → Frames → Type 0
+abbrev FirstIsNot : ℕ → SideFrames → Type 0
 FirstIsNot m [] = Unit {0}
 FirstIsNot m (f ∷ fs) = (marker_of f.0 == m) ≡ false
 
-first-onto : (m : ℕ) (o : List Code) (inside : List Forest) (more : Frames) →
-    let r : List Forest × Frames = onto pair_group loose loose o inside more in
+first-onto : (m : ℕ) (o : List Code) (inside : List Forest) (more : SideFrames) →
+    let r : List Forest × SideFrames = onto pair_group loose loose o inside more in
     is_nothing (joined r.0) ≡ true → FirstIsNot m r.1
 first-onto m o inside [] h = tt
 first-onto m o inside (c ∷ more) h = cc
@@ -445,29 +445,29 @@ module _ (s : Setting) (tree : Forest) (runs : List Run) (container : Contains (
   Q p = Contains (pair_list s runs) p × (marker_of (opened p) ≡ marker_of (closed p))
 
   -- what opens first closes last, and each of a pair has its markers; these pairs are pending
-  abbrev IsWord : List Pair → List Token → Type 0
-  IsWord pending [] = pending ≡ []
-  IsWord pending (item f ∷ w) = IsRight P f × IsWord pending w
-  IsWord pending (opens o ∷ w) =
-      (p : Pair) × Q p × IsSide (opened p) p o × NextIsNot (marker_of o) w × IsWord (p ∷ pending) w
-  IsWord [] (closes c ∷ w) = ⊥
-  IsWord (p ∷ pending) (closes c ∷ w) = IsSide (closed p) p c × IsWord pending w
+  abbrev IsPairWord : List Pair → List Token → Type 0
+  IsPairWord pending [] = pending ≡ []
+  IsPairWord pending (item f ∷ w) = IsRight P f × IsPairWord pending w
+  IsPairWord pending (opens o ∷ w) =
+      (p : Pair) × Q p × IsSide (opened p) p o × NextIsNot (marker_of o) w × IsPairWord (p ∷ pending) w
+  IsPairWord [] (closes c ∷ w) = ⊥
+  IsPairWord (p ∷ pending) (closes c ∷ w) = IsSide (closed p) p c × IsPairWord pending w
 
-  abbrev AreFrames : List Pair → Frames → Type 0
-  AreFrames [] [] = Unit {0}
-  AreFrames [] (f ∷ fs) = ⊥
-  AreFrames (p ∷ pending) [] = ⊥
-  AreFrames (p ∷ pending) (f ∷ fs) = IsSide (closed p) p f.0 × AllRight P f.1 × AreFrames pending fs
+  abbrev AreSideFrames : List Pair → SideFrames → Type 0
+  AreSideFrames [] [] = Unit {0}
+  AreSideFrames [] (f ∷ fs) = ⊥
+  AreSideFrames (p ∷ pending) [] = ⊥
+  AreSideFrames (p ∷ pending) (f ∷ fs) = IsSide (closed p) p f.0 × AllRight P f.1 × AreSideFrames pending fs
 
   of-pair : (p : Pair) (front back : List Code) → Q p → IsSide (opened p) p front → IsSide (closed p) p back →
       P front back
   of-pair p front back q h k =
       record { runs = runs; pair = p; container = container; listed = q.0; opener = h.part; closer = k.part; opener_size = h.size; closer_size = k.size }
 
-  word-onto : (o : List Code) (inside : List Forest) (more : Frames) (p : Pair) (pending : List Pair) → Q p → IsSide (opened p) p o → (is_nothing (joined inside) ≡ true → FirstIsNot (marker_of o) more)
-      → AllRight P inside → AreFrames (p ∷ pending) more →
-      let r : List Forest × Frames = onto pair_group loose loose o inside more in
-      AllRight P r.0 × AreFrames pending r.1
+  word-onto : (o : List Code) (inside : List Forest) (more : SideFrames) (p : Pair) (pending : List Pair) → Q p → IsSide (opened p) p o → (is_nothing (joined inside) ≡ true → FirstIsNot (marker_of o) more)
+      → AllRight P inside → AreSideFrames (p ∷ pending) more →
+      let r : List Forest × SideFrames = onto pair_group loose loose o inside more in
+      AllRight P r.0 × AreSideFrames pending r.1
   word-onto o inside [] p pending q h next r k = absurd k
   word-onto o inside (c ∷ more) p pending q h next r k = (
     all-append (IsRight P) (pair_group o inside c.0) c.1
@@ -482,9 +482,9 @@ module _ (s : Setting) (tree : Forest) (runs : List Run) (container : Contains (
       by_test true e = absurd (both_ways (marker_of c.0 == marker_of o) (next e) alike)
       by_test false e = e
 
-  word-nest : (pending : List Pair) (w : List Token) → IsWord pending w →
-      AllRight P (nest_pairs w).0 × AreFrames pending (nest_pairs w).1
-  word-nest pending [] h = (tt, subst (λ x. AreFrames x []) (sym h) tt)
+  word-nest : (pending : List Pair) (w : List Token) → IsPairWord pending w →
+      AllRight P (nest_pairs w).0 × AreSideFrames pending (nest_pairs w).1
+  word-nest pending [] h = (tt, subst (λ x. AreSideFrames x []) (sym h) tt)
   word-nest pending (item f ∷ w) h = let r = word-nest pending w h.1 in ((h.0, r.0), r.1)
   word-nest pending (opens o ∷ w) h =
       let r = word-nest (h.0 ∷ pending) w h.4 in
@@ -492,24 +492,24 @@ module _ (s : Setting) (tree : Forest) (runs : List Run) (container : Contains (
   word-nest [] (closes c ∷ w) h = absurd h
   word-nest (p ∷ pending) (closes c ∷ w) h = let r = word-nest pending w h.1 in (tt, (h.0, r.0, r.1))
 
-  no-frames : (fs : Frames) → AreFrames [] fs → AllRight P (after_loose pair_group loose loose fs)
+  no-frames : (fs : SideFrames) → AreSideFrames [] fs → AllRight P (after_loose pair_group loose loose fs)
   no-frames [] h = tt
   no-frames (f ∷ fs) h = absurd h
 
-  word-assembled : (w : List Token) → IsWord [] w → IsRight P (assembled w)
+  word-assembled : (w : List Token) → IsPairWord [] w → IsRight P (assembled w)
   word-assembled w h =
       let r = word-nest [] w h in
       right-joined P _ (all-append (IsRight P) (nest_pairs w).0 (after_loose pair_group loose loose (nest_pairs w).1) r.0 (no-frames (nest_pairs w).1 r.1))
 
   word-closes : (cs : List (List Code)) (ps pending : List Pair) (w : List Token) → AreSides closed cs ps →
-      IsWord pending w → IsWord (ps ++ pending) (map closes cs ++ w)
+      IsPairWord pending w → IsPairWord (ps ++ pending) (map closes cs ++ w)
   word-closes [] [] pending w h k = k
   word-closes [] (p ∷ ps) pending w h k = absurd h
   word-closes (c ∷ cs) [] pending w h k = absurd h
   word-closes (c ∷ cs) (p ∷ ps) pending w h k = (h.0, word-closes cs ps pending w h.1 k)
 
   word-opens : (m : ℕ) (os : List (List Code)) (ps pending : List Pair) (w : List Token) → AreSides opened os ps → AllOf (λ p. Q p × (marker_of (opened p) ≡ m)) ps → NextIsNot m w
-      → IsWord (reverse ps ++ pending) w → IsWord pending (map opens os ++ w)
+      → IsPairWord (reverse ps ++ pending) w → IsPairWord pending (map opens os ++ w)
   word-opens m [] [] pending w h q n k = k
   word-opens m [] (p ∷ ps) pending w h q n k = absurd h
   word-opens m (o ∷ os) [] pending w h q n k = absurd h
@@ -518,11 +518,11 @@ module _ (s : Setting) (tree : Forest) (runs : List Run) (container : Contains (
     q.0.0,
     h.0,
     next-opens (marker_of o) os w (subst (λ x. NextIsNot x w) (sym (h.0.marker ∙ q.0.1)) n),
-    word-opens m os ps (p ∷ pending) w h.1 q.1 n (subst (λ x. IsWord x w) (reversed-onto p ps pending) k),
+    word-opens m os ps (p ∷ pending) w h.1 q.1 n (subst (λ x. IsPairWord x w) (reversed-onto p ps pending) k),
   )
 
   -- The tokens of a run.
-  module _ (pairs : List Pair) (all : AllOf Q pairs) (sized : AllOf (λ p. 0 < p.size) pairs) (i : ℕ) (r : Run) (here : run_at runs i ≡ r) (stripe : IsStripe (marker_of r.codes) r.codes)
+  module _ (pairs : List Pair) (all : AllOf Q pairs) (sized : AllOf (λ p. 0 < p.size) pairs) (i : ℕ) (r : Run) (here : run_at runs i ≡ r) (stripe : IsMarkerStripe (marker_of r.codes) r.codes)
       (enough : total (sizes_of (closing i pairs)) + total (sizes_of (opening i pairs)) ≤ length r.codes) where
     abbrev front : List (List Code) × List Code
     front = cut_front (closing_sizes i pairs) r.codes
@@ -573,11 +573,12 @@ module _ (s : Setting) (tree : Forest) (runs : List Run) (container : Contains (
             ∙ ap (λ x. (behind.0 ++ take kept front.1) ++ x) (sym (append-nil (drop kept front.1)))
 
     word-run : (pending : List Pair) (w : List Token) → NextIsNot (marker_of r.codes) w →
-        IsWord (opening i pairs ++ pending) w → IsWord (closing i pairs ++ pending) (run_tokens pairs i r ++ w)
+        IsPairWord (opening i pairs ++ pending) w → IsPairWord (closing i pairs ++ pending) (run_tokens pairs i r ++ w)
     word-run pending w n h =
-        subst (IsWord (closing i pairs ++ pending)) (sym (append_assoc (map closes front.0) (item (leaf Name.Data (take kept front.1)) ∷ map opens back.0) w))
+        subst (IsPairWord (closing i pairs ++ pending))
+        (sym (append_assoc (map closes front.0) (item (leaf Name.Data (take kept front.1)) ∷ map opens back.0) w))
         (word-closes front.0 (closing i pairs) pending (item (leaf Name.Data (take kept front.1)) ∷ (map opens back.0 ++ w)) close-sides
-        (right-leaf P Name.Data (take kept front.1), word-opens (marker_of r.codes) back.0 (reverse (opening i pairs)) pending w open-sides marked n (subst (λ x. IsWord (x ++ pending) w) (sym (reverse-reverse (opening i pairs))) h)))
+        (right-leaf P Name.Data (take kept front.1), word-opens (marker_of r.codes) back.0 (reverse (opening i pairs)) pending w open-sides marked n (subst (λ x. IsPairWord (x ++ pending) w) (sym (reverse-reverse (opening i pairs))) h)))
       where
         marked : AllOf (λ p. Q p × (marker_of (opened p) ≡ marker_of r.codes)) (reverse (opening i pairs))
         marked =
@@ -616,17 +617,17 @@ module _ (s : Setting) where
   words f runs n = tokens_of s (pair_list s) f (pair_list s runs) n
 
   -- these runs have the row's from number n on
-  abbrev Stands : List Run → ℕ → Forest → Type 0
-  Stands runs n f = (j i : ℕ) → i ≡ n + j → run_at runs i ≡ run_at (runs_of s f) j
+  abbrev HaveRunsFrom : List Run → ℕ → Forest → Type 0
+  HaveRunsFrom runs n f = (j i : ℕ) → i ≡ n + j → run_at runs i ≡ run_at (runs_of s f) j
 
-  stripe-of : (cs : List Code) → IsStripe (marker_of cs) cs →
-      IsStripe (marker_of (run_of s cs).codes) (run_of s cs).codes
-  stripe-of cs h = subst (λ x. IsStripe (marker_of x) x) (sym (codes-run_of s cs)) h
+  stripe-of : (cs : List Code) → IsMarkerStripe (marker_of cs) cs →
+      IsMarkerStripe (marker_of (run_of s cs).codes) (run_of s cs).codes
+  stripe-of cs h = subst (λ x. IsMarkerStripe (marker_of x) x) (sym (codes-run_of s cs)) h
 
   module _ (tree : Forest) where
     -- what a container's pairs are
     module _ (runs : List Run) where
-      ordered-pairs : AreOrdered (length runs) (pair_list s runs)
+      ordered-pairs : AreOrderedPairs (length runs) (pair_list s runs)
       ordered-pairs = ordered s runs (length runs) [] 0 (pair_list s runs) (some_pair_list s runs)
 
       known-pairs : AllOf (λ p. Contains (pair_list s runs) p × (marker_of (run_at runs p.opener).codes ≡ marker_of (run_at runs p.closer).codes)) (pair_list s runs)
@@ -639,11 +640,11 @@ module _ (s : Setting) where
       enough-markers n r e =
           omega (arith, taken-sizes n (length runs) (pair_list s runs) ordered-pairs, (pairs_are_sound s runs (pair_list s runs) (some_pair_list s runs)).taken_once n, ap (λ x. length x.codes) e)
 
-    abbrev AreWithin : Forest → Type 0
-    AreWithin f = (runs : List Run) → Contains (rows_inside s f) runs → Contains (containers_of s tree) runs
+    abbrev HasContainersWithin : Forest → Type 0
+    HasContainersWithin f = (runs : List Run) → Contains (rows_inside s f) runs → Contains (containers_of s tree) runs
 
     next-tokens : (f : Forest) (runs : List Run) (container : Contains (containers_of s tree) runs) (m n : ℕ) →
-        Stands runs n f → HasApartRuns m f → NextIsNot m (words f runs n)
+        HaveRunsFrom runs n f → HasApartRuns m f → NextIsNot m (words f runs n)
     unfolding tokens_of runs_of
     next-tokens empty runs container m n k h = tt
     next-tokens (leaf_then Name.AttentionSequence link cs rest) runs container m n k h =
@@ -653,36 +654,37 @@ module _ (s : Setting) where
     next-tokens (leaf_then name link cs rest) runs container m n k h = tt
     next-tokens (group_then name enter exit inside rest) runs container m n k h = tt
 
-    abbrev Law : Forest → Type 0
-    Law f = (runs : List Run) (container : Contains (containers_of s tree) runs) (m n : ℕ) → Stands runs n f → n + length (runs_of s f) ≡ length runs → pair_groups f ≡ 0 → IsFilled f → HasApartRuns m f → AreWithin f
-        → IsWord s tree runs container (open_pairs n (pair_list s runs)) (words f runs n)
+    abbrev PairWordLaw : Forest → Type 0
+    PairWordLaw f = (runs : List Run) (container : Contains (containers_of s tree) runs) (m n : ℕ) → HaveRunsFrom runs n f → n + length (runs_of s f) ≡ length runs → pair_groups f ≡ 0 → IsFilled f → HasApartRuns m f → HasContainersWithin f
+        → IsPairWord s tree runs container (open_pairs n (pair_list s runs)) (words f runs n)
 
-    whole-row : (f : Forest) → Law f → Contains (containers_of s tree) (runs_of s f) → pair_groups f ≡ 0 → IsFilled f → HasApartRuns 0 f → AreWithin f
+    whole-row : (f : Forest) → PairWordLaw f → Contains (containers_of s tree) (runs_of s f) → pair_groups f ≡ 0 → IsFilled f → HasApartRuns 0 f →
+        HasContainersWithin f
         → IsRight (AreOfPair s tree) (assembled (words f (runs_of s f) 0))
     whole-row f law container h k l m =
         word-assembled s tree (runs_of s f) container (words f (runs_of s f) 0)
-        (subst (λ x. IsWord s tree (runs_of s f) container x (words f (runs_of s f) 0)) (none-open (pair_list s (runs_of s f)))
+        (subst (λ x. IsPairWord s tree (runs_of s f) container x (words f (runs_of s f) 0)) (none-open (pair_list s (runs_of s f)))
         (law (runs_of s f) container 0 0 (λ j i e. ap (run_at (runs_of s f)) (same i j e)) (omega arith) h k l m))
       where
         same : (i j : ℕ) → i ≡ 0 + j → i ≡ j
         same i j e = omega arith
 
-    law : (f : Forest) → Law f
+    law : (f : Forest) → PairWordLaw f
     unfolding tokens_of runs_of rows_inside
     law empty runs container m n st k g f a w = subst (λ x. open_pairs x (pair_list s runs) ≡ []) (sym here) (none-left (length runs) (pair_list s runs) (ordered-pairs runs))
       where
         here : n ≡ length runs
         here = omega arith
     law (leaf_then Name.AttentionSequence link cs rest) runs container m n st k g f a w =
-        subst (λ x. IsWord s tree runs container x (run_tokens (pair_list s runs) n (run_of s cs) ++ words rest runs (suc n))) (sym (close-split n (length runs) (pair_list s runs) (ordered-pairs runs)))
+        subst (λ x. IsPairWord s tree runs container x (run_tokens (pair_list s runs) n (run_of s cs) ++ words rest runs (suc n))) (sym (close-split n (length runs) (pair_list s runs) (ordered-pairs runs)))
         (word-run s tree runs container (pair_list s runs) (known-pairs runs) (all-sized (length runs) (pair_list s runs) (ordered-pairs runs)) n (run_of s cs) here (stripe-of cs a.0) (enough-markers runs n (run_of s cs) here)
         (across n (pair_list s runs)) (words rest runs (suc n)) (subst (λ x. NextIsNot (marker_of x) (words rest runs (suc n))) (sym (codes-run_of s cs)) (next-tokens rest runs container (marker_of cs) (suc n) later_stands a.2))
-        (subst (λ x. IsWord s tree runs container x (words rest runs (suc n))) (open-split n (length runs) (pair_list s runs) (ordered-pairs runs)) (law rest runs container (marker_of cs) (suc n) later_stands (omega (arith, k)) g f.1 a.2 w)))
+        (subst (λ x. IsPairWord s tree runs container x (words rest runs (suc n))) (open-split n (length runs) (pair_list s runs) (ordered-pairs runs)) (law rest runs container (marker_of cs) (suc n) later_stands (omega (arith, k)) g f.1 a.2 w)))
       where
         here : run_at runs n ≡ run_of s cs
         here = st 0 n (omega arith)
 
-        later_stands : Stands runs (suc n) rest
+        later_stands : HaveRunsFrom runs (suc n) rest
         later_stands j i e = st (suc j) i (omega (arith, e))
     law (leaf_then name link cs rest) runs container m n st k g f a w =
         ((tt, (f.0, tt)), law rest runs container 0 n st k g f.1 a w)
@@ -698,7 +700,7 @@ module _ (s : Setting) where
         by_name true h e = omega (arith, h)
         by_name false h e = both_ways false refl e
 
-        row : Law inside → IsRight (AreOfPair s tree) (assembled (words inside (runs_of s inside) 0))
+        row : PairWordLaw inside → IsRight (AreOfPair s tree) (assembled (words inside (runs_of s inside) 0))
         row l =
             whole-row inside l (w (runs_of s inside) (Contains-append_left (runs_of s inside ∷ rows_inside s inside) (rows_inside s rest) (runs_of s inside) (0, omega arith, refl))) (omega (arith, g)) f.1 a.0
             (λ rs h. w rs (Contains-append_left (runs_of s inside ∷ rows_inside s inside) (rows_inside s rest) rs (Contains-append_right (runs_of s inside ∷ []) (rows_inside s inside) rs h)))

@@ -3,14 +3,14 @@ use Rattle.std.proofs.Common.{◌≡◌, ℕ, Bool, true, false, ◌&&◌, ◌�
 use Rattle.std.proofs.lemmas.Bool.{and_parts}
 use Rattle.std.proofs.lemmas.List.Elements.{filter-append}
 use Rattle.markdown_event.specs.declared.event.Point.{Point}
-use Rattle.markdown_engine_content.specs.declared.parser.Piece.{Piece}
-use Rattle.markdown_engine_content.specs.Codes.{Code, codes_of, document_start, is_at_or_after, is_code_before, is_line_ending, place_of, stop_of}
-use Rattle.markdown_engine_content.specs.Content.{content_of, piece_codes, is_piece, are_pieces, ends_line, is_one_line}
-use Rattle.markdown_engine_content.specs.DocumentWalk.{codes_after}
-use Rattle.markdown_engine_content.proofs.AdjacentCodes.{IsChain, before_in, from_in, before_in-none, chain-back, split-at}
-use Rattle.markdown_engine_content.proofs.PlaceOrder.{is_before}
-use Rattle.markdown_engine_content.proofs.DocumentPlaces.{chain-split, document-split, there, IsThere}
-use Rattle.markdown_engine_content.proofs.ContentCodes.{piece-codes-is, piece_row, IsPieceRow, followed_by}
+use Rattle.markdown_content.specs.declared.parser.Piece.{Piece}
+use Rattle.markdown_content.specs.Codes.{Code, codes_of, document_start, is_at_or_after, is_code_before, is_line_ending, place_of, stop_of}
+use Rattle.markdown_content.specs.Content.{content_of, piece_codes, is_piece, are_pieces, ends_line, is_one_line}
+use Rattle.markdown_content.specs.DocumentWalk.{codes_after}
+use Rattle.markdown_content.proofs.AdjacentCodes.{IsChain, before_in, from_in, before_in-none, chain-back, split-at}
+use Rattle.markdown_content.proofs.PlaceOrder.{is_before}
+use Rattle.markdown_content.proofs.DocumentPlaces.{chain-split, document-split, there, IsThere}
+use Rattle.markdown_content.proofs.ContentCodes.{piece-codes-is, piece_row, IsPieceRow, followed_by}
 
 -- Two codes.
 
@@ -21,20 +21,20 @@ module _ (bytes : List ℕ) where
     pub after : is_at_or_after (place_of c.stop) (place_of d.start) ≡ true
     pub line : is_one_line bytes (place_of c.stop) (place_of d.start) ≡ true
 
-  abbrev pub Follows : Code → Code → Type 0
-  Follows c d = (place_of c.stop ≡ place_of d.start) ⊎ IsBreak c d
+  abbrev pub JoinsOrBreaks : Code → Code → Type 0
+  JoinsOrBreaks c d = (place_of c.stop ≡ place_of d.start) ⊎ IsBreak c d
 
   -- each follows the one before
   abbrev pub AreNext : List Code → Type 0
   AreNext [] = Unit {0}
   AreNext (c ∷ []) = Unit {0}
-  AreNext (c ∷ d ∷ cs) = Follows c d × AreNext (d ∷ cs)
+  AreNext (c ∷ d ∷ cs) = JoinsOrBreaks c d × AreNext (d ∷ cs)
 
   -- the first of the second list follows the last of the first one
   abbrev pub Border : List Code → List Code → Type 0
   Border [] ds = Unit {0}
   Border (c ∷ []) [] = Unit {0}
-  Border (c ∷ []) (d ∷ ds) = Follows c d
+  Border (c ∷ []) (d ∷ ds) = JoinsOrBreaks c d
   Border (c ∷ x ∷ cs) ds = Border (x ∷ cs) ds
 
   pub next-join : (cs ds : List Code) → AreNext cs → AreNext ds → Border cs ds → AreNext (cs ++ ds)

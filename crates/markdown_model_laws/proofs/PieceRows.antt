@@ -5,14 +5,14 @@ use Rattle.std.proofs.lemmas.List.Elements.{All-nil, All-cons}
 use Rattle.std.proofs.lemmas.Bool.{and_parts, and_from, both_ways, eq-eqb, eqb-true}
 use Rattle.std.proofs.lemmas.Bool.Decides.{nat_tests}
 use Rattle.markdown_event.specs.declared.event.Point.{Point}
-use Rattle.markdown_engine_content.specs.declared.parser.Piece.{Piece}
-use Rattle.markdown_engine_content.specs.Codes.{Code, codes_of, document_start, is_at_or_after, is_code_before, place_of, stop_of}
-use Rattle.markdown_engine_content.specs.Content.{piece_codes, is_place, is_piece, are_pieces, ends_line, is_one_line}
-use Rattle.markdown_engine_content.proofs.AdjacentCodes.{IsChain, before_in, from_in, from_in-all}
-use Rattle.markdown_engine_content.proofs.PlaceOrder.{is_before, before-asym, not_before-trans}
-use Rattle.markdown_engine_content.proofs.WalkSteps.{not_past-back}
-use Rattle.markdown_engine_content.proofs.DocumentPlaces.{chain-document, same-pair}
-use Rattle.markdown_engine_content.proofs.ContentCodes.{piece-codes-is, piece_row, IsPieceRow}
+use Rattle.markdown_content.specs.declared.parser.Piece.{Piece}
+use Rattle.markdown_content.specs.Codes.{Code, codes_of, document_start, is_at_or_after, is_code_before, place_of, stop_of}
+use Rattle.markdown_content.specs.Content.{piece_codes, is_place, is_piece, are_pieces, ends_line, is_one_line}
+use Rattle.markdown_content.proofs.AdjacentCodes.{IsChain, before_in, from_in, from_in-all}
+use Rattle.markdown_content.proofs.PlaceOrder.{is_before, before-asym, not_before-trans}
+use Rattle.markdown_content.proofs.WalkSteps.{not_past-back}
+use Rattle.markdown_content.proofs.DocumentPlaces.{chain-document, same-pair}
+use Rattle.markdown_content.proofs.ContentCodes.{piece-codes-is, piece_row, IsPieceRow}
 use Rattle.markdown_model_laws.specs.LeafPieces.{meets, onto_pieces, joined_pieces}
 use Rattle.markdown_model_laws.proofs.PieceBorders.{AreNext, Border, next-parts}
 
@@ -32,36 +32,36 @@ filtered P f d cs h k = by_test (f d)
     by_test false = k
 
 module _ (p q end : ℕ × ℕ) (h : is_before q p ≡ false) where
-  abbrev Ends : List Code → Type 0
-  Ends cs = ends_line (before_in end cs) ≡ true
+  abbrev EndsTheLine : List Code → Type 0
+  EndsTheLine cs = ends_line (before_in end cs) ≡ true
 
-  one-more : (d : Code) (cs : List Code) → Ends cs → Ends (d ∷ cs)
+  one-more : (d : Code) (cs : List Code) → EndsTheLine cs → EndsTheLine (d ∷ cs)
   one-more d cs k =
       filtered (λ xs. ends_line xs ≡ true) (is_code_before end) d cs (ends-cons d (before_in end cs) k) k
 
   -- codes from an earlier place on end a line where those from a later one do
-  longer-codes : (x : Point) (cs : List Code) → IsChain x cs → Ends (from_in q cs) → Ends (from_in p cs)
+  longer-codes : (x : Point) (cs : List Code) → IsChain x cs → EndsTheLine (from_in q cs) → EndsTheLine (from_in p cs)
   longer-codes x [] c e = e
   longer-codes x (d ∷ cs) c e = by_test (is_before (place_of x) q) refl (longer-codes d.stop cs c.2)
     where
       -- the later place is in front
-      in-front : is_before (place_of x) q ≡ false → Ends (from_in p (d ∷ cs))
+      in-front : is_before (place_of x) q ≡ false → EndsTheLine (from_in p (d ∷ cs))
       in-front k =
           let all : from_in q (d ∷ cs) ≡ d ∷ cs = from_in-all x (d ∷ cs) q c k in
           let whole : from_in p (d ∷ cs) ≡ d ∷ cs = from_in-all x (d ∷ cs) p c (not_before-trans (place_of x) q p k h) in
-          subst Ends (all ∙ sym whole) e
+          subst EndsTheLine (all ∙ sym whole) e
 
       skipped : (b : Bool) → b ≡ true → cond (not b) (d ∷ from_in q cs) (from_in q cs) ≡ from_in q cs
       skipped true l = refl
       skipped false l = cc
 
-      behind : is_before (place_of x) q ≡ true → (Ends (from_in q cs) → Ends (from_in p cs)) → Ends (from_in p (d ∷ cs))
+      behind : is_before (place_of x) q ≡ true → (EndsTheLine (from_in q cs) → EndsTheLine (from_in p cs)) → EndsTheLine (from_in p (d ∷ cs))
       behind k rest =
           let skip : from_in q (d ∷ cs) ≡ from_in q cs = skipped (is_code_before q d) (ap (λ (y : Point). is_before (place_of y) q) c.0 ∙ k) in
-          let more : Ends (from_in p cs) = rest (subst Ends skip e) in
-          filtered Ends (λ z. not (is_code_before p z)) d cs (one-more d (from_in p cs) more) more
+          let more : EndsTheLine (from_in p cs) = rest (subst EndsTheLine skip e) in
+          filtered EndsTheLine (λ z. not (is_code_before p z)) d cs (one-more d (from_in p cs) more) more
 
-      by_test : (b : Bool) → is_before (place_of x) q ≡ b → (Ends (from_in q cs) → Ends (from_in p cs)) → Ends (from_in p (d ∷ cs))
+      by_test : (b : Bool) → is_before (place_of x) q ≡ b → (EndsTheLine (from_in q cs) → EndsTheLine (from_in p cs)) → EndsTheLine (from_in p (d ∷ cs))
       by_test true k rest = behind k rest
       by_test false k rest = in-front k
 
@@ -75,7 +75,7 @@ module _ (bytes : List ℕ) where
   -- Pieces with their codes.
 
   -- the codes of a piece, one at least
-  pub record IsFilled (p : Piece) (c : Code) (cs : List Code) : Type 0 where
+  pub record IsFilledPiece (p : Piece) (c : Code) (cs : List Code) : Type 0 where
     pub start : p.start ≡ place_of c.start
     pub end : p.end ≡ place_of (stop_of c.stop cs)
     pub from_place : is_place bytes p.start ≡ true
@@ -83,14 +83,14 @@ module _ (bytes : List ℕ) where
     pub in_order : is_before p.start p.end ≡ true
     pub codes : piece_codes (codes_of bytes) p ≡ c ∷ cs
 
-  abbrev pub IsOne : Piece → List Code → Type 0
-  IsOne p [] = meets p p ≡ true
-  IsOne p (c ∷ cs) = IsFilled p c cs
+  abbrev pub IsPieceOver : Piece → List Code → Type 0
+  IsPieceOver p [] = meets p p ≡ true
+  IsPieceOver p (c ∷ cs) = IsFilledPiece p c cs
 
   -- pieces over codes, one after another
-  abbrev pub IsRow : List Piece → List Code → Type 0
-  IsRow [] cs = cs ≡ []
-  IsRow (p ∷ ps) cs = (xs : List Code) × (ys : List Code) × (cs ≡ xs ++ ys) × IsOne p xs × IsRow ps ys
+  abbrev pub ArePiecesOver : List Piece → List Code → Type 0
+  ArePiecesOver [] cs = cs ≡ []
+  ArePiecesOver (p ∷ ps) cs = (xs : List Code) × (ys : List Code) × (cs ≡ xs ++ ys) × IsPieceOver p xs × ArePiecesOver ps ys
 
   -- Joined.
 
@@ -99,7 +99,7 @@ module _ (bytes : List ℕ) where
   HeadAt (d ∷ ds) [] = ⊥
   HeadAt (d ∷ ds) (q ∷ qs) = q.start ≡ place_of d.start
 
-  record IsDone (cs : List Code) (ps : List Piece) : Type 0 where
+  record IsRowDone (cs : List Code) (ps : List Piece) : Type 0 where
     all : are_pieces bytes ps ≡ true
     head : HeadAt cs ps
 
@@ -140,11 +140,11 @@ module _ (bytes : List ℕ) where
   meet-places p q e =
       and_from (p.end.0 == q.start.0) (p.end.1 == q.start.1) (eq-eqb p.end.0 q.start.0 (ap (λ (x : ℕ × ℕ). x.0) e)) (eq-eqb p.end.1 q.start.1 (ap (λ (x : ℕ × ℕ). x.1) e))
 
-  module _ (p : Piece) (c : Code) (cs : List Code) (one : IsFilled p c cs) where
+  module _ (p : Piece) (c : Code) (cs : List Code) (one : IsFilledPiece p c cs) where
     order : is_before p.end p.start ≡ false
     order = before-asym p.start p.end one.in_order
 
-    alone : IsDone (c ∷ cs) (p ∷ [])
+    alone : IsRowDone (c ∷ cs) (p ∷ [])
     alone = record { all = pieces-from p [] one.from_place one.to_place order refl refl; head = one.start }
 
     -- in front of a piece that it meets
@@ -174,14 +174,14 @@ module _ (bytes : List ℕ) where
         (and_from (ends_line (piece_codes (codes_of bytes) p)) (is_at_or_after p.end q.start && is_one_line bytes p.end q.start) (ap ends_line one.codes ∙ b.ends)
         (and_from (is_at_or_after p.end q.start) (is_one_line bytes p.end q.start) ((λ i. is_at_or_after (one.end i) (e i)) ∙ b.after) ((λ i. is_one_line bytes (one.end i) (e i)) ∙ b.line)))
 
-    onto-done : (ds : List Code) (qs : List Piece) → Border bytes (c ∷ cs) ds → IsDone ds qs →
-        IsDone ((c ∷ cs) ++ ds) (onto_pieces p qs)
-    onto-done [] [] b h = subst (λ xs. IsDone xs (p ∷ [])) (sym (append-nil (c ∷ cs))) alone
+    onto-done : (ds : List Code) (qs : List Piece) → Border bytes (c ∷ cs) ds → IsRowDone ds qs →
+        IsRowDone ((c ∷ cs) ++ ds) (onto_pieces p qs)
+    onto-done [] [] b h = subst (λ xs. IsRowDone xs (p ∷ [])) (sym (append-nil (c ∷ cs))) alone
     onto-done [] (q ∷ qs) b h = let no : q ∷ qs ≡ [] = h.head in cc
     onto-done (d ∷ ds) [] b h = absurd h.head
     onto-done (d ∷ ds) (q ∷ qs) b h = by_test (meets p q) refl
       where
-        by_test : (t : Bool) → meets p q ≡ t → IsDone ((c ∷ cs) ++ d ∷ ds) (if t then record { start = p.start; end = q.end } ∷ qs else p ∷ q ∷ qs)
+        by_test : (t : Bool) → meets p q ≡ t → IsRowDone ((c ∷ cs) ++ d ∷ ds) (if t then record { start = p.start; end = q.end } ∷ qs else p ∷ q ∷ qs)
         by_test true m = record { all = met q qs h.all m; head = one.start }
         by_test false m = elim (at-border c cs d ds b) [
           | inl e ↦ absurd (both_ways (meets p q) m (meet-places p q (one.end ∙ e ∙ sym h.head)))
@@ -195,35 +195,35 @@ module _ (bytes : List ℕ) where
       still-numbers : (a b c d : ℕ) → is_before (a, b) (c, d) ≡ true → (c == a && d == b) ≡ false
       still-numbers a b c d k = grind (arith, nat_tests)
 
-  row-done : (ps : List Piece) (cs : List Code) → IsRow ps cs → AreNext bytes cs → IsDone cs (joined_pieces ps)
-  row-done [] cs h n = subst (λ xs. IsDone xs []) (sym h) (record { all = refl; head = refl })
+  row-done : (ps : List Piece) (cs : List Code) → ArePiecesOver ps cs → AreNext bytes cs → IsRowDone cs (joined_pieces ps)
+  row-done [] cs h n = subst (λ xs. IsRowDone xs []) (sym h) (record { all = refl; head = refl })
   row-done (p ∷ ps) cs (xs, ys, e, one, rest) n =
       let parts : AreNext bytes ys × Border bytes xs ys = next-parts bytes xs ys (subst (AreNext bytes) e n) in
-      subst (λ zs. IsDone zs (joined_pieces (p ∷ ps))) (sym e) (by_codes xs one parts.1 (row-done ps ys rest parts.0))
+      subst (λ zs. IsRowDone zs (joined_pieces (p ∷ ps))) (sym e) (by_codes xs one parts.1 (row-done ps ys rest parts.0))
     where
-      by_codes : (zs : List Code) → IsOne p zs → Border bytes zs ys → IsDone ys (joined_pieces ps) → IsDone (zs ++ ys) (joined_pieces (p ∷ ps))
+      by_codes : (zs : List Code) → IsPieceOver p zs → Border bytes zs ys → IsRowDone ys (joined_pieces ps) → IsRowDone (zs ++ ys) (joined_pieces (p ∷ ps))
       by_codes [] o b k = rw o k
       by_codes (c ∷ zs) o b k = rw (not-still p o.in_order) (onto-done p c zs o ys (joined_pieces ps) b k)
 
   -- the joined pieces of a row are those of a content
-  pub joined-content : (ps : List Piece) (cs : List Code) → IsRow ps cs → AreNext bytes cs → are_pieces bytes (joined_pieces ps) ≡ true
+  pub joined-content : (ps : List Piece) (cs : List Code) → ArePiecesOver ps cs → AreNext bytes cs → are_pieces bytes (joined_pieces ps) ≡ true
   joined-content ps cs h n = (row-done ps cs h n).all
 
 -- Something said of both ends of each piece is said of those of the joined ones.
 
 module _ (B : ℕ × ℕ → Type 0) where
-  abbrev Both : Piece → Type 0
-  Both p = B p.start × B p.end
+  abbrev HoldsAtBothEnds : Piece → Type 0
+  HoldsAtBothEnds p = B p.start × B p.end
 
-  abbrev pub Each : List Piece → Type 0
-  Each [] = Unit {0}
-  Each (p ∷ ps) = (meets p p ≡ false → Both p) × Each ps
+  abbrev pub EachPieceMeets : List Piece → Type 0
+  EachPieceMeets [] = Unit {0}
+  EachPieceMeets (p ∷ ps) = (meets p p ≡ false → HoldsAtBothEnds p) × EachPieceMeets ps
 
   abbrev AllBoth : List Piece → Type 0
   AllBoth [] = Unit {0}
-  AllBoth (p ∷ ps) = Both p × AllBoth ps
+  AllBoth (p ∷ ps) = HoldsAtBothEnds p × AllBoth ps
 
-  onto-both : (p : Piece) (qs : List Piece) → Both p → AllBoth qs → AllBoth (onto_pieces p qs)
+  onto-both : (p : Piece) (qs : List Piece) → HoldsAtBothEnds p → AllBoth qs → AllBoth (onto_pieces p qs)
   onto-both p [] h k = (h, tt)
   onto-both p (q ∷ qs) h k = by_test (meets p q)
     where
@@ -231,7 +231,7 @@ module _ (B : ℕ × ℕ → Type 0) where
       by_test true = ((h.0, k.0.1), k.1)
       by_test false = (h, k)
 
-  joined-both : (ps : List Piece) → Each ps → AllBoth (joined_pieces ps)
+  joined-both : (ps : List Piece) → EachPieceMeets ps → AllBoth (joined_pieces ps)
   joined-both [] h = tt
   joined-both (p ∷ ps) h = by_test (meets p p) refl (joined-both ps h.1)
     where
@@ -239,9 +239,9 @@ module _ (B : ℕ × ℕ → Type 0) where
       by_test true m k = k
       by_test false m k = onto-both p (joined_pieces ps) (h.0 m) k
 
-  all-both : (ps : List Piece) → AllBoth ps → All Both ps
-  all-both [] h = All-nil Both
-  all-both (p ∷ ps) h = All-cons Both p ps h.0 (all-both ps h.1)
+  all-both : (ps : List Piece) → AllBoth ps → All HoldsAtBothEnds ps
+  all-both [] h = All-nil HoldsAtBothEnds
+  all-both (p ∷ ps) h = All-cons HoldsAtBothEnds p ps h.0 (all-both ps h.1)
 
-  pub each-joined : (ps : List Piece) → Each ps → All Both (joined_pieces ps)
+  pub each-joined : (ps : List Piece) → EachPieceMeets ps → All HoldsAtBothEnds (joined_pieces ps)
   each-joined ps h = all-both (joined_pieces ps) (joined-both ps h)

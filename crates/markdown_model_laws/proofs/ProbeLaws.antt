@@ -5,8 +5,8 @@ use Rattle.std.proofs.lemmas.List.{length-append}
 use Rattle.std.proofs.lemmas.List.Sums.{sum_by-append, sum_by-cons}
 use Rattle.std.proofs.Math.Nat.{mul-le-mul_left}
 use Rattle.markdown_event.specs.declared.event.Name.{Name}
-use Rattle.markdown_engine_content.specs.Codes.{Code}
-use Rattle.markdown_engine_content.specs.Tree.{Forest, empty, leaf_then, group_then, leaf_codes}
+use Rattle.markdown_content.specs.Codes.{Code}
+use Rattle.markdown_content.specs.Tree.{Forest, empty, leaf_then, group_then, leaf_codes}
 use Rattle.markdown_model.specs.Setting.{Setting}
 use Rattle.markdown_model.specs.Elements.{elements_of, text_choice}
 use Rattle.markdown_model.specs.Runs.{Run, run_of, runs_of, rows_inside, containers_of}
@@ -59,10 +59,10 @@ module _ (s : Setting) where
   one-closer (c ∷ cs) = at-most-one _ (length (c ∷ cs)) (omega arith)
 
   -- they open and close no more often than they have markers
-  abbrev AreMarked : List Run → Type 0
-  AreMarked runs = (count_by (λ r. r.may_open) runs ≤ markers runs) × (count_by (λ r. r.may_close) runs ≤ markers runs)
+  abbrev HaveMarkersForSides : List Run → Type 0
+  HaveMarkersForSides runs = (count_by (λ r. r.may_open) runs ≤ markers runs) × (count_by (λ r. r.may_close) runs ≤ markers runs)
 
-  row-marked : (f : Forest) → AreMarked (runs_of s f)
+  row-marked : (f : Forest) → HaveMarkersForSides (runs_of s f)
   unfolding runs_of
   row-marked empty = (omega arith, omega arith)
   row-marked (leaf_then Name.AttentionSequence link cs rest) =
@@ -77,7 +77,7 @@ module _ (s : Setting) where
   AllMarked rows =
       (sum_by (count_by (λ r. r.may_open)) rows ≤ all_markers rows) × (sum_by (count_by (λ r. r.may_close)) rows ≤ all_markers rows)
 
-  marked-first : (runs : List Run) (rows : List (List Run)) → AreMarked runs → AllMarked rows → AllMarked (runs ∷ rows)
+  marked-first : (runs : List Run) (rows : List (List Run)) → HaveMarkersForSides runs → AllMarked rows → AllMarked (runs ∷ rows)
   marked-first runs rows h k = (
     omega (arith, h.0, k.0, sum_by-cons (count_by (λ r. r.may_open)) runs rows, sum_by-cons markers runs rows),
     omega (arith, h.1, k.1, sum_by-cons (count_by (λ r. r.may_close)) runs rows, sum_by-cons markers runs rows),

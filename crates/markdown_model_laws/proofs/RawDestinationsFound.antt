@@ -4,7 +4,7 @@ use Rattle.std.proofs.lemmas.Bool.{eqb-true, and_right, or_from, or_parts, or_ri
 use Rattle.std.proofs.lemmas.Grind.{common_steps}
 use Rattle.std.proofs.lemmas.Bool.Decides.{nat_tests}
 use Rattle.std.specs.List.{list_any}
-use Rattle.markdown_engine_content.specs.Codes.{Code}
+use Rattle.markdown_content.specs.Codes.{Code}
 use Rattle.markdown_model.specs.CodeTests.{is_value, is_among, next_is, is_whitespace_code, is_control}
 use Rattle.markdown_model.specs.Grammar.{with_first}
 use Rattle.markdown_model.specs.Resource.{raw_from}
@@ -36,8 +36,8 @@ abbrev pub no_part : Code → Bool
 no_part c = is_whitespace_code c || is_control c
 
 -- what a raw destination ends before
-abbrev pub EndsAt : Bool → List Code → Type 0
-EndsAt slash rest =
+abbrev pub EndsRawDestination : Bool → List Code → Type 0
+EndsRawDestination slash rest =
     rest ≡ [] ⊎ (next_is is_whitespace_code rest ≡ true ⊎ (next_is (is_value 41) rest ≡ true) × (slash ≡ false))
 
 -- the codes from here on; `slash` says that the first is escaped, and `depth` parentheses are open before it
@@ -46,7 +46,7 @@ pub record RawFrom (max : ℕ) (slash : Bool) (depth : ℕ) (text rest : List Co
   pub nested : (before after : List Code) → text ≡ before ++ after →
       (bare_from 41 slash before ≤ depth + bare_from 40 slash before) × (depth + bare_from 40 slash before ≤ bare_from 41 slash before + max)
   pub balanced : depth + bare_from 40 slash text ≡ bare_from 41 slash text
-  pub ends : EndsAt (slash_after slash text) rest
+  pub ends : EndsRawDestination (slash_after slash text) rest
 
 -- Tests on values.
 
@@ -127,7 +127,7 @@ module _ (max : ℕ) where
   plain-start true depth c cs e = raw-bare max depth c cs e
   plain-start false depth c cs e = refl
 
-  nothing : (slash : Bool) (depth : ℕ) (rest : List Code) → (depth == 0) ≡ true → depth ≤ max → EndsAt slash rest →
+  nothing : (slash : Bool) (depth : ℕ) (rest : List Code) → (depth == 0) ≡ true → depth ≤ max → EndsRawDestination slash rest →
       RawFrom max slash depth [] rest
   nothing slash depth rest e d h = record { plain = refl; nested = nested; balanced = omega (arith, eqb-true depth 0 e); ends = h }
     where
@@ -138,24 +138,24 @@ module _ (max : ℕ) where
 
   -- What the reading gives is such a text.
 
-  abbrev pub Reads : List Code → Type 0
-  Reads cs = (slash : Bool) (depth : ℕ) (r : List Code × List Code) → depth ≤ max → raw_from max slash depth cs ≡ Some r → RawFrom max slash depth r.0 r.1
+  abbrev pub ReadsRaw : List Code → Type 0
+  ReadsRaw cs = (slash : Bool) (depth : ℕ) (r : List Code × List Code) → depth ≤ max → raw_from max slash depth cs ≡ Some r → RawFrom max slash depth r.0 r.1
 
   first : (slash after : Bool) (depth more : ℕ) (c : Code) (cs : List Code) (r : List Code × List Code) → with_first c (raw_from max after more cs) ≡ Some r → depth ≤ max → more ≤ max → no_part c ≡ false
-      → depth + one_if (is_value 40 c && not slash) ≡ more + one_if (is_value 41 c && not slash) → turned slash c ≡ after → Reads cs → RawFrom max slash depth r.0 r.1
+      → depth + one_if (is_value 40 c && not slash) ≡ more + one_if (is_value 41 c && not slash) → turned slash c ≡ after → ReadsRaw cs → RawFrom max slash depth r.0 r.1
   first slash after depth more c cs r e d m p k t f =
       let b : Behind c (raw_from max after more cs) r = first-some c (raw_from max after more cs) r e in
       subst (λ (q : List Code × List Code). RawFrom max slash depth q.0 q.1) (sym b.is)
       (onto slash c depth more b.others.0 b.others.1 p d k (subst (λ s. RawFrom max s more b.others.0 b.others.1) (sym t) (f after more b.others m b.gives)))
 
   stopped : (slash : Bool) (depth : ℕ) (c : Code) (cs : List Code) → slash && parens c ≡ false → stops depth c ≡ true →
-      EndsAt slash (c ∷ cs)
+      EndsRawDestination slash (c ∷ cs)
   stopped slash depth c cs e h = elim (or-parts (is_whitespace_code c) _ h) [
     | inl k ↦ inr (inl k)
     | inr k ↦ inr (inr (and-left _ _ k, not-escaped slash c e (is-paren c 41 (and-left _ _ k) refl)))
   ]
 
-  by-tests : (t u v w x y z : Bool) (slash : Bool) (depth : ℕ) (c : Code) (cs : List Code) (r : List Code × List Code) → depth ≤ max → raw_from max slash depth (c ∷ cs) ≡ Some r → Reads cs
+  by-tests : (t u v w x y z : Bool) (slash : Bool) (depth : ℕ) (c : Code) (cs : List Code) (r : List Code × List Code) → depth ≤ max → raw_from max slash depth (c ∷ cs) ≡ Some r → ReadsRaw cs
       → slash && parens c ≡ t → stops depth c ≡ u → is_control c ≡ v → is_value 40 c ≡ w → nat_lt depth max ≡ x → is_value 41 c ≡ y → (depth == 0) ≡ z → RawFrom max slash depth r.0 r.1
   by-tests true u v w x y z slash depth c cs r d e f t1 t2 t3 t4 t5 t6 t7 =
       let on : slash ≡ true = and-left _ _ t1 in
@@ -186,7 +186,7 @@ module _ (max : ℕ) where
       first slash (c.value == 92) depth depth c cs r (sym (plain-start slash depth c cs t1 ∙ raw-next max depth c cs t2 t3 t4 t6) ∙ e) d d (or_from _ _ (or_parts _ _ t2).0 t3)
       (λ i. depth + (counts-other slash 40 c t4 ∙ sym (counts-other slash 41 c t6)) i) (next-turned parens slashes slash c t1) f
 
-  pub raw-reads : (cs : List Code) → Reads cs
+  pub raw-reads : (cs : List Code) → ReadsRaw cs
   raw-reads [] slash depth r d e = by_test (depth == 0) refl
     where
       by_test : (b : Bool) → (depth == 0) ≡ b → RawFrom max slash depth r.0 r.1
@@ -204,11 +204,11 @@ module _ (max : ℕ) where
       with_first c (raw_from max after more (text ++ rest)) ≡ Some (c ∷ text, rest)
   goes-on after more c text rest e = ap (with_first c) e
 
-  abbrev Found : List Code → List Code → Type 0
-  Found text rest =
+  abbrev FindsRaw : List Code → List Code → Type 0
+  FindsRaw text rest =
       (slash : Bool) (depth : ℕ) → RawFrom max slash depth text rest → raw_from max slash depth (text ++ rest) ≡ Some (text, rest)
 
-  by-parts : (t w y : Bool) (slash : Bool) (depth : ℕ) (c : Code) (text rest : List Code) → RawFrom max slash depth (c ∷ text) rest → Found text rest
+  by-parts : (t w y : Bool) (slash : Bool) (depth : ℕ) (c : Code) (text rest : List Code) → RawFrom max slash depth (c ∷ text) rest → FindsRaw text rest
       → slash && parens c ≡ t → is_value 40 c ≡ w → is_value 41 c ≡ y → raw_from max slash depth (c ∷ (text ++ rest)) ≡ Some (c ∷ text, rest)
   by-parts true w y slash depth c text rest r f t1 t4 t6 =
       let on : slash ≡ true = and-left _ _ t1 in
@@ -259,7 +259,7 @@ module _ (max : ℕ) where
       by_test true k = let no : true ≡ false = sym h ∙ (or_parts _ _ (paren-part c k)).0 in cc
       by_test false k = k
 
-  pub raw-found : (text rest : List Code) → Found text rest
+  pub raw-found : (text rest : List Code) → FindsRaw text rest
   raw-found [] [] slash depth r = raw-end max slash depth (is_zero depth (omega (arith, r.balanced)))
     where
       is_zero : (n : ℕ) → n ≡ 0 → (n == 0) ≡ true
@@ -269,7 +269,7 @@ module _ (max : ℕ) where
       none_open : (depth == 0) ≡ true
       none_open = let e : depth ≡ 0 = omega (arith, r.balanced) in ap (λ m. m == 0) e
 
-      by_end : EndsAt slash (c ∷ cs) → raw_from max slash depth (c ∷ cs) ≡ Some ([], c ∷ cs)
+      by_end : EndsRawDestination slash (c ∷ cs) → raw_from max slash depth (c ∷ cs) ≡ Some ([], c ∷ cs)
       by_end (inl e) = cc
       by_end (inr (inl w)) =
           plain-start slash depth c cs (and_right slash (parens c) (white-plain c w)) ∙ raw-stop max depth c cs (or_left _ _ w) none_open

@@ -1,8 +1,8 @@
 -- What readings that hold have read, step by step.
 use Rattle.std.proofs.Common.{◌≡◌, ◌⊎◌, inl, inr, Bool, true, false, Option, Some, None, List, [], ◌∷◌, ap, refl, sym, ◌∙◌}
-use Rattle.markdown_engine_content.specs.Codes.{Code}
+use Rattle.markdown_content.specs.Codes.{Code}
 use Rattle.markdown_model.specs.Grammar.{Reading, ◌>>=◌, ◌>>◌, gives, provided, either, before, one}
-use Rattle.markdown_plan.proofs.PassedByReadings.{both-parts}
+use Rattle.markdown_model.proofs.GrammarSteps.{both-parts}
 
 -- a reading and what goes on from it
 pub record Went {A B : Type 0} (a : Reading A) (next : A → Reading B) (cs : List Code) (r : B × List Code) : Type 0 where

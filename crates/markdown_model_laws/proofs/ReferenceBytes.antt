@@ -11,12 +11,12 @@ use Rattle.std.proofs.lemmas.List.Elements.{All-cons, All-nil}
 use Rattle.std.proofs.lemmas.Str.{IsUtf8-from_ascii}
 use Rattle.std.proofs.lemmas.Str.Ascii.{IsAscii-from_all}
 use Rattle.markdown_event.specs.declared.event.Point.{Point}
-use Rattle.markdown_engine_content.specs.Codes.{Code, codes_of, document_start, is_line_ending_byte, next_column, stop_of}
-use Rattle.markdown_engine_content.specs.Slices.{position_bytes, byte_from}
-use Rattle.markdown_engine_content.specs.Tree.{start_of}
-use Rattle.markdown_engine_content.proofs.DocumentCodes.{codes_at, value_at, stop_at, Stands}
-use Rattle.markdown_engine_content.proofs.DocumentPlaces.{along}
-use Rattle.markdown_engine_content.proofs.DocumentWalkLemmas.{first-of, stands-start, IsFirst}
+use Rattle.markdown_content.specs.Codes.{Code, codes_of, document_start, is_line_ending_byte, next_column, stop_of}
+use Rattle.markdown_content.specs.Slices.{position_bytes, byte_from}
+use Rattle.markdown_content.specs.Tree.{start_of}
+use Rattle.markdown_content.proofs.DocumentCodes.{codes_at, value_at, stop_at, HasPlaceNumbers}
+use Rattle.markdown_content.proofs.DocumentPlaces.{along}
+use Rattle.markdown_content.proofs.DocumentWalkLemmas.{first-of, stands-start, IsFirstCode}
 use Rattle.markdown_model.specs.CodeTests.{is_digit, is_hex_digit, is_alphanumeric, values_of}
 use Rattle.markdown_util.specs.Reference.{is_value}
 use Rattle.markdown_model_laws.proofs.LentSlices.{slice-more, slice-none}
@@ -80,7 +80,7 @@ not-tab b h = by_test (b == 9) refl
     by_test false e = e
     by_test true e = absurd (h (eqb-true b 9 e))
 
-record IsByte (bytes : List ℕ) (p : Point) : Type 0 where
+record IsByteCode (bytes : List ℕ) (p : Point) : Type 0 where
   vs : p.vs ≡ 0
   byte : value_at bytes p ≡ get_or bytes p.index 0
   stop : stop_at bytes p ≡ next_column p (p.index + 1) 0
@@ -89,7 +89,7 @@ none-inside : (n : ℕ) → (0 < n → ⊥) → n ≡ 0
 none-inside zero h = refl
 none-inside (suc n) h = absurd (h (omega arith))
 
-is-byte : (bytes : List ℕ) (p : Point) → Stands bytes p → 48 ≤ value_at bytes p → IsByte bytes p
+is-byte : (bytes : List ℕ) (p : Point) → HasPlaceNumbers bytes p → 48 ≤ value_at bytes p → IsByteCode bytes p
 is-byte bytes p s h =
     let b : ℕ = get_or bytes p.index 0 in
     let tab : b ≢ 9 = no-tab b p.vs h in
@@ -110,14 +110,14 @@ pub record IsSpelled (bytes : List ℕ) (p : Point) (cs : List Code) : Type 0 wh
   pub ends : (stop_of p cs).vs ≡ 0
   pub forward : p.index ≤ (stop_of p cs).index
 
-spelled-from : (bytes : List ℕ) (p : Point) (cs back : List Code) → Stands bytes p → p.vs ≡ 0 →
+spelled-from : (bytes : List ℕ) (p : Point) (cs back : List Code) → HasPlaceNumbers bytes p → p.vs ≡ 0 →
     codes_at bytes p ≡ cs ++ back → AreLetters cs → IsSpelled bytes p cs
 spelled-from bytes p [] back s v e l =
     record { spelled = slice-none bytes p.index; ends = v; forward = omega arith }
 spelled-from bytes p (c ∷ cs) back s v e l =
-    let one : IsFirst bytes p c (cs ++ back) = first-of bytes p c (cs ++ back) s e in
+    let one : IsFirstCode bytes p c (cs ++ back) = first-of bytes p c (cs ++ back) s e in
     let value : c.value ≡ value_at bytes p = ap (λ (x : Code). x.value) one.code in
-    let byte : IsByte bytes p = is-byte bytes p s (subst (λ (n : ℕ). 48 ≤ n) value l.0.0) in
+    let byte : IsByteCode bytes p = is-byte bytes p s (subst (λ (n : ℕ). 48 ≤ n) value l.0.0) in
     let stop : c.stop ≡ next_column p (p.index + 1) 0 = ap (λ (x : Code). x.stop) one.code ∙ byte.stop in
     let index : c.stop.index ≡ p.index + 1 = ap (λ (q : Point). q.index) stop in
     let vs : c.stop.vs ≡ 0 = ap (λ (q : Point). q.vs) stop in
@@ -138,9 +138,9 @@ lent-letters bytes [] before after e l = slice-none bytes 0
 lent-letters bytes (c ∷ cs) before after e l =
     let p : Point = stop_of document_start before in
     let here = along bytes document_start before (c ∷ cs ++ after) (stands-start bytes) e in
-    let one : IsFirst bytes p c (cs ++ after) = first-of bytes p c (cs ++ after) here.1 here.0 in
+    let one : IsFirstCode bytes p c (cs ++ after) = first-of bytes p c (cs ++ after) here.1 here.0 in
     let value : c.value ≡ value_at bytes p = ap (λ (x : Code). x.value) one.code in
-    let byte : IsByte bytes p = is-byte bytes p here.1 (subst (λ (n : ℕ). 48 ≤ n) value l.0.0) in
+    let byte : IsByteCode bytes p = is-byte bytes p here.1 (subst (λ (n : ℕ). 48 ≤ n) value l.0.0) in
     let all : IsSpelled bytes p (c ∷ cs) = spelled-from bytes p (c ∷ cs) after here.1 byte.vs here.0 l in
     let start : c.start ≡ p = ap (λ (x : Code). x.start) one.code in
     (λ i. slice_range bytes (byte_from (start i)) (byte_from (stop_of c.stop cs)))

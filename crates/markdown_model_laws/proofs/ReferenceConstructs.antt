@@ -7,8 +7,9 @@ use Rattle.std.proofs.lemmas.Bool.{leb-true}
 use Rattle.markdown_event.specs.declared.event.Name.{Name}
 use Rattle.markdown_event.specs.declared.event.Name.TheVariants as N
 use Rattle.markdown_event.specs.declared.event.Content.{Content}
-use Rattle.markdown_engine_content.specs.Codes.{Code}
-use Rattle.markdown_engine_content.specs.Tree.{Forest, leaf, linked, group, ◌⊕◌}
+use Rattle.markdown_content.specs.Codes.{Code}
+use Rattle.markdown_content.specs.declared.configuration.Rules.{Rules}
+use Rattle.markdown_content.specs.Tree.{Forest, leaf, linked, group, ◌⊕◌}
 use Rattle.markdown_util.specs.Reference.{Table}
 use Rattle.markdown_model.specs.CodeTests.{is_empty, is_among, is_digit, is_hex_digit, is_alphanumeric, next_is}
 use Rattle.markdown_model.specs.Grammar.{Reading, ◌>>◌, provided, some, span, optional_tree}
@@ -22,8 +23,8 @@ use Rattle.markdown_model.specs.TextLines.{linked_leaf, line_leaves, lines}
 use Rattle.markdown_model.specs.Whitespace.{space_or_tab_eol, spaces_across, spaces_on_line}
 use Rattle.markdown_model.proofs.DefinitionSteps.{span-all}
 use Rattle.markdown_model.proofs.LinksDoNotNest.{yields_passed_if}
-use Rattle.markdown_model.proofs.NoLinkInConstructs.{Passes, Yields, yields_bind, yields_gives, yields_passed, yields_either, yields_before, yields_next, yields_unless, then_any}
-use Rattle.markdown_model.proofs.OneLineReadings.{IsOne, one-one}
+use Rattle.markdown_model.proofs.NoLinkInConstructs.{PassesValue, Yields, yields_bind, yields_gives, yields_passed, yields_either, yields_before, yields_next, yields_unless, then_any}
+use Rattle.markdown_model.proofs.OneLineReadings.{IsOneCode, one-one}
 use Rattle.markdown_model_laws.proofs.ReferenceTrees.{is_free, IsReference, HasReferences}
 use Rattle.markdown_model_laws.proofs.ReferenceRows.{row, free-leaf, free-linked_leaf, free-linked, free-group, free-string, free-lines, free-line_leaves}
 
@@ -42,7 +43,7 @@ unfolding some
 some-passed p = record { at = λ cs. by_first (span p cs).0 (span p cs).1 (span-all p cs) }
   where
     by_first : (front back : List Code) → list_all p front ≡ true →
-        Passes (ArePassed p) (elim (is_empty front) as (λ _. Option (List Code × List Code)) [ true ↦ None | false ↦ Some (front, back) ])
+        PassesValue (ArePassed p) (elim (is_empty front) as (λ _. Option (List Code × List Code)) [ true ↦ None | false ↦ Some (front, back) ])
     by_first [] back h = tt
     by_first (c ∷ front) back h = record { some = λ e. cc; all = h }
 
@@ -61,7 +62,7 @@ abbrev parts : List Code → List Code → List Code → List Code → List Code
 parts front number x value back =
     record { front = front; number = number; hexadecimal = x; value = value; back = back }
 
-named-right : (front value back : List Code) → IsOne front → ArePassed is_alphanumeric value → IsOne back →
+named-right : (front value back : List Code) → IsOneCode front → ArePassed is_alphanumeric value → IsOneCode back →
     AreRight (parts front [] [] value back)
 named-right [] value back f v b = absurd f
 named-right (c ∷ cs) [] back f v b = absurd (v.some refl)
@@ -69,8 +70,8 @@ named-right (c ∷ cs) (d ∷ ds) [] f v b = absurd b
 named-right (c ∷ cs) (d ∷ ds) (e ∷ es) f v b =
     inl (record { front = c ∷ cs; value = d ∷ ds; back = e ∷ es; row = refl; letters = v.all })
 
-decimal-right : (front number value back : List Code) → IsOne front → IsOne number → ArePassed is_digit value →
-    nat_le (length value) 7 ≡ true → IsOne back → AreRight (parts front number [] value back)
+decimal-right : (front number value back : List Code) → IsOneCode front → IsOneCode number → ArePassed is_digit value →
+    nat_le (length value) 7 ≡ true → IsOneCode back → AreRight (parts front number [] value back)
 decimal-right [] number value back f n v l b = absurd f
 decimal-right (c ∷ cs) [] value back f n v l b = absurd n
 decimal-right (c ∷ cs) (m ∷ ms) [] back f n v l b = absurd (v.some refl)
@@ -78,8 +79,8 @@ decimal-right (c ∷ cs) (m ∷ ms) (d ∷ ds) [] f n v l b = absurd b
 decimal-right (c ∷ cs) (m ∷ ms) (d ∷ ds) (e ∷ es) f n v l b =
     inr (inl (record { front = c ∷ cs; number = m ∷ ms; value = d ∷ ds; back = e ∷ es; row = refl; some = v.some; few = leb-true (length (d ∷ ds)) 7 l; digits = v.all }))
 
-hexadecimal-right : (front number x value back : List Code) → IsOne front → IsOne number → IsOne x →
-    ArePassed is_hex_digit value → nat_le (length value) 6 ≡ true → IsOne back →
+hexadecimal-right : (front number x value back : List Code) → IsOneCode front → IsOneCode number → IsOneCode x →
+    ArePassed is_hex_digit value → nat_le (length value) 6 ≡ true → IsOneCode back →
     AreRight (parts front number x value back)
 hexadecimal-right [] number x value back f n k v l b = absurd f
 hexadecimal-right (c ∷ cs) [] x value back f n k v l b = absurd n
@@ -92,22 +93,22 @@ hexadecimal-right (c ∷ cs) (m ∷ ms) (x ∷ xs) (d ∷ ds) (e ∷ es) f n k v
 named-read : (table : Table) → Yields AreRight (named_parts table)
 unfolding named_parts
 named-read table =
-    yields_bind IsOne _ _ _ (one-one _) λ front f. yields_bind (ArePassed is_alphanumeric) _ _ _ (some-passed _) λ value v.
-    yields_passed _ _ _ (yields_bind IsOne _ _ _ (one-one _) λ back b. yields_gives _ _ (named-right front value back f v b))
+    yields_bind IsOneCode _ _ _ (one-one _) λ front f. yields_bind (ArePassed is_alphanumeric) _ _ _ (some-passed _) λ value v.
+    yields_passed _ _ _ (yields_bind IsOneCode _ _ _ (one-one _) λ back b. yields_gives _ _ (named-right front value back f v b))
 
 decimal-read : Yields AreRight decimal_parts
 unfolding decimal_parts
 decimal-read =
-    yields_bind IsOne _ _ _ (one-one _) λ front f. yields_bind IsOne _ _ _ (one-one _) λ number n.
+    yields_bind IsOneCode _ _ _ (one-one _) λ front f. yields_bind IsOneCode _ _ _ (one-one _) λ number n.
     yields_bind (ArePassed is_digit) _ _ _ (some-passed _) λ value v. yields_passed_if _ _ _ λ l.
-    yields_bind IsOne _ _ _ (one-one _) λ back b. yields_gives _ _ (decimal-right front number value back f n v l b)
+    yields_bind IsOneCode _ _ _ (one-one _) λ back b. yields_gives _ _ (decimal-right front number value back f n v l b)
 
 hexadecimal-read : Yields AreRight hexadecimal_parts
 unfolding hexadecimal_parts
 hexadecimal-read =
-    yields_bind IsOne _ _ _ (one-one _) λ front f. yields_bind IsOne _ _ _ (one-one _) λ number n. yields_bind IsOne _ _ _ (one-one _) λ x k.
+    yields_bind IsOneCode _ _ _ (one-one _) λ front f. yields_bind IsOneCode _ _ _ (one-one _) λ number n. yields_bind IsOneCode _ _ _ (one-one _) λ x k.
     yields_bind (ArePassed is_hex_digit) _ _ _ (some-passed _) λ value v. yields_passed_if _ _ _ λ l.
-    yields_bind IsOne _ _ _ (one-one _) λ back b. yields_gives _ _ (hexadecimal-right front number x value back f n k v l b)
+    yields_bind IsOneCode _ _ _ (one-one _) λ back b. yields_gives _ _ (hexadecimal-right front number x value back f n k v l b)
 
 pub refers_character_reference : (table : Table) → Refers (character_reference table)
 unfolding character_reference
@@ -123,9 +124,9 @@ refers_in_angle_brackets inside name h =
     then_any _ _ _ λ front. then_any _ _ _ λ text. then_any _ _ _ λ back. yields_gives _ _
     (free-group N.Autolink _ refl (row (leaf N.AutolinkMarker front) _ (free-leaf N.AutolinkMarker front refl) (row (leaf name text) _ (free-leaf name text h) (free-leaf N.AutolinkMarker back refl))))
 
-pub refers_autolink : Refers autolink
+pub refers_autolink : (rules : Rules) → Refers (autolink rules)
 unfolding autolink
-refers_autolink =
+refers_autolink rules =
     yields_either _ _ _ (refers_in_angle_brackets _ N.AutolinkProtocol refl) (refers_in_angle_brackets _ N.AutolinkEmail refl)
 
 record AreFreeNames (names : SpanNames) : Type 0 where
@@ -209,22 +210,22 @@ between-references names front text back n =
     free-group names.whole _ n.whole (row (leaf names.marker front) _ (free-leaf names.marker front n.marker)
     (row (string_group names.text (lines N.Data (Some Content.String) text)) _ (free-string names.text _ n.text (free-lines N.Data (Some Content.String) text refl)) (free-leaf names.marker back n.marker)))
 
-refers_label : Refers (label reference_names)
+refers_label : (characters : Bool) → Refers (label characters reference_names)
 unfolding label
-refers_label =
+refers_label characters =
     then_any _ _ _ λ front. then_any _ _ _ λ text. yields_passed _ _ _ (yields_passed _ _ _ (then_any _ _ _ λ back. yields_passed _ _ _
     (yields_gives _ _ (between-references reference_names front text back (record { whole = refl; marker = refl; text = refl })))))
 
-refers_title_between : (opener closer : ℕ) → Refers (title_between opener closer title_names)
+refers_title_between : (both : Bool) (opener closer : ℕ) → Refers (title_between both opener closer title_names)
 unfolding title_between
-refers_title_between opener closer =
+refers_title_between both opener closer =
     then_any _ _ _ λ front. then_any _ _ _ λ text. then_any _ _ _ λ back. yields_passed _ _ _
     (yields_gives _ _ (between-references title_names front text back (record { whole = refl; marker = refl; text = refl })))
 
-refers_title : Refers (title title_names)
+refers_title : (both : Bool) → Refers (title both title_names)
 unfolding title
-refers_title =
-    yields_either _ _ _ (refers_title_between _ _) (yields_either _ _ _ (refers_title_between _ _) (refers_title_between _ _))
+refers_title both =
+    yields_either _ _ _ (refers_title_between _ _ _) (yields_either _ _ _ (refers_title_between _ _ _) (refers_title_between _ _ _))
 
 refers_literal_destination : Refers (literal_destination resource_names)
 unfolding literal_destination
@@ -246,28 +247,28 @@ refers_destination : (max : ℕ) → Refers (destination max resource_names)
 unfolding destination
 refers_destination max = yields_next _ _ _ _ refers_literal_destination (refers_raw_destination max)
 
-refers_spaced_title : Refers spaced_title
+refers_spaced_title : (both : Bool) → Refers (spaced_title both)
 unfolding spaced_title
-refers_spaced_title =
-    yields_bind HasReferences _ _ _ (yields_before _ _ _ (refers_spacing None)) λ space h. yields_bind HasReferences _ _ _ refers_title λ text k.
+refers_spaced_title both =
+    yields_bind HasReferences _ _ _ (yields_before _ _ _ (refers_spacing None)) λ space h. yields_bind HasReferences _ _ _ (refers_title both) λ text k.
     yields_bind HasReferences _ _ _ (refers_optional _ (refers_spacing None)) λ back l. yields_gives _ _ (row space _ h (row text back k l))
 
-refers_destination_and_title : Refers destination_and_title
+refers_destination_and_title : (both : Bool) → Refers (destination_and_title both)
 unfolding destination_and_title
-refers_destination_and_title =
+refers_destination_and_title both =
     yields_bind HasReferences _ _ _ (refers_destination 32) λ target h.
-    yields_bind HasReferences _ _ _ (yields_either _ _ _ refers_spaced_title (refers_optional _ (refers_spacing None))) λ after k. yields_gives _ _ (row target after h k)
+    yields_bind HasReferences _ _ _ (yields_either _ _ _ (refers_spaced_title both) (refers_optional _ (refers_spacing None))) λ after k. yields_gives _ _ (row target after h k)
 
-refers_resource : Refers resource
+refers_resource : (both : Bool) → Refers (resource both)
 unfolding resource
-refers_resource =
+refers_resource both =
     then_any _ _ _ λ front. yields_bind HasReferences _ _ _ (refers_optional _ (refers_spacing None)) λ space h.
-    yields_bind HasReferences _ _ _ (yields_next _ _ _ _ (yields_gives _ _ tt) refers_destination_and_title) λ inside k. then_any _ _ _ λ back. yields_gives _ _
+    yields_bind HasReferences _ _ _ (yields_next _ _ _ _ (yields_gives _ _ tt) (refers_destination_and_title both)) λ inside k. then_any _ _ _ λ back. yields_gives _ _
     (free-group N.Resource _ refl (row (leaf N.ResourceMarker front) _ (free-leaf N.ResourceMarker front refl) (row space _ h (row inside _ k (free-leaf N.ResourceMarker back refl)))))
 
 refers_full_reference : (s : Setting) → Refers (full_reference s)
 unfolding full_reference
-refers_full_reference s = yields_bind HasReferences _ _ _ refers_label λ tree h. yields_passed _ _ _ (yields_gives _ _ h)
+refers_full_reference s = yields_bind HasReferences _ _ _ (refers_label _) λ tree h. yields_passed _ _ _ (yields_gives _ _ h)
 
 refers_collapsed_reference : Refers collapsed_reference
 unfolding collapsed_reference
@@ -282,7 +283,7 @@ refers_shortcut defined = yields_passed _ _ _ (yields_gives _ _ tt)
 pub refers_after_label : (s : Setting) (defined : Bool) → Refers (after_label s defined)
 unfolding after_label reference_after_label shortcut_before_bracket
 refers_after_label s defined =
-    yields_next _ _ _ _ (yields_either _ _ _ refers_resource (refers_shortcut defined))
+    yields_next _ _ _ _ (yields_either _ _ _ (refers_resource _) (refers_shortcut defined))
     (yields_next _ _ _ _
     (yields_either _ _ _ (refers_full_reference s) (yields_either _ _ _ (yields_passed _ _ _ refers_collapsed_reference) (yields_unless _ _ _ (refers_shortcut _))))
     (refers_shortcut defined))

@@ -1,12 +1,12 @@
 -- The inline tree of each content has references as they are read.
 use Rattle.std.proofs.Common.{◌≡◌, ℕ, suc, Bool, true, false, ◌&&◌, ◌||◌, List, None, refl, ap, ◌∙◌, inl, inr}
 use Rattle.markdown_event.specs.declared.event.Name.TheVariants as N
-use Rattle.markdown_engine_content.specs.Codes.{Code}
-use Rattle.markdown_engine_content.specs.Tree.{Forest, empty, leaf_then, group_then, leaf}
+use Rattle.markdown_content.specs.Codes.{Code}
+use Rattle.markdown_content.specs.Tree.{Forest, empty, leaf_then, group_then, leaf}
 use Rattle.markdown_model.specs.GfmEmailLiteral.{with_emails}
 use Rattle.markdown_model.specs.BracketGroups.{Token, run_tokens, assembled, tokens_of, paired}
 use Rattle.markdown_model.specs.Pairs.{Pair, pair_list}
-use Rattle.markdown_model.specs.Passes.{data_onto, merged, begins_line_ending, is_nothing, trimmed_data, trimmed, with_emails_apart}
+use Rattle.markdown_model.specs.Passes.{HardBreaks, breaks_where, data_onto, merged, begins_line_ending, is_nothing, trimmed_data, trimmed, with_emails_apart}
 use Rattle.markdown_model.specs.Runs.{Run, run_of, runs_of}
 use Rattle.markdown_model.specs.Setting.{Setting}
 use Rattle.markdown_model.proofs.BracketGroupFacts.{word-append}
@@ -35,10 +35,10 @@ reference-kept f n d x t (inr (inr h)) =
 data-has : (cs : List Code) → Any cs → HasReferences (leaf N.Data cs)
 data-has cs h = free-leaf N.Data cs refl
 
-abbrev HaveWord : List Token → Type 0
-HaveWord w = HasWord HasReferences Any data-has w
+abbrev WordHasReferences : List Token → Type 0
+WordHasReferences w = HasWord HasReferences Any data-has w
 
-assembled-refers : (w : List Token) → HaveWord w → HasReferences (assembled w)
+assembled-refers : (w : List Token) → WordHasReferences w → HasReferences (assembled w)
 assembled-refers w h =
     assembled-has HasReferences Any data-has tt row
     (λ m n cs _. free-leaf _ cs (pair-named (λ names. is_free names.1 ≡ true) refl refl refl m n))
@@ -54,7 +54,7 @@ module _ (s : Setting) (pairs_of : List Run → List Pair) where
   reference-assembled f h =
       reference-kept inner (λ front value back. refl) (λ front number value back. refl) (λ front number x value back. refl) f h
 
-  tokens-refer : (f : Forest) (pairs : List Pair) (n : ℕ) → HasReferences f → HaveWord (tokens_of s pairs_of f pairs n)
+  tokens-refer : (f : Forest) (pairs : List Pair) (n : ℕ) → HasReferences f → WordHasReferences (tokens_of s pairs_of f pairs n)
   unfolding tokens_of
   tokens-refer empty pairs n h = tt
   tokens-refer (leaf_then N.AttentionSequence link cs rest) pairs n h =
@@ -92,20 +92,20 @@ merged-refers (group_then name a b inside rest) h = (h.0, (merged-refers inside 
 
 -- Trimming.
 
-cut-refers : (front back hard : Bool) (cs : List Code) → HasReferences (trimmed_data front back hard cs)
+cut-refers : (front back : Bool) (hard : HardBreaks) (cs : List Code) → HasReferences (trimmed_data front back hard cs)
 cut-refers front back hard cs =
     trimmed_data-has HasReferences row (λ ds. free-leaf N.Data ds refl) (λ ds. free-leaf N.HardBreakTrailing ds refl) (λ ds. free-leaf N.SpaceOrTab ds refl) front back hard cs
 
-reference-trimmed : (hard : Bool) (t : Forest) → IsReference t → IsReference (trimmed hard false false t)
+reference-trimmed : (hard : HardBreaks) (t : Forest) → IsReference t → IsReference (trimmed hard false false t)
 unfolding trimmed
 reference-trimmed hard t h =
     reference-kept (trimmed hard false false) (λ front value back. refl) (λ front number value back. refl) (λ front number x value back. refl) t h
 
-trimmed-refers : (hard front whole : Bool) (t : Forest) → HasReferences t → HasReferences (trimmed hard front whole t)
+trimmed-refers : (hard : HardBreaks) (front whole : Bool) (t : Forest) → HasReferences t → HasReferences (trimmed hard front whole t)
 unfolding trimmed
 trimmed-refers hard front whole empty h = tt
 trimmed-refers hard front whole (leaf_then N.Data None cs rest) h =
-    row (trimmed_data front (begins_line_ending rest || (whole && is_nothing rest)) (hard && begins_line_ending rest) cs) (trimmed hard false whole rest) (cut-refers _ _ _ cs) (trimmed-refers hard false whole rest h.1)
+    row (trimmed_data front (begins_line_ending rest || (whole && is_nothing rest)) (breaks_where hard (begins_line_ending rest)) cs) (trimmed hard false whole rest) (cut-refers _ _ _ cs) (trimmed-refers hard false whole rest h.1)
 trimmed-refers hard front whole (leaf_then N.LineEnding link cs rest) h = (refl, trimmed-refers hard true whole rest h.1)
 trimmed-refers hard front whole (leaf_then name link cs rest) h = (h.0, trimmed-refers hard false whole rest h.1)
 trimmed-refers hard front whole (group_then N.CharacterReference a b inside rest) h =

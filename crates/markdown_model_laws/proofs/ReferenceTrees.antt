@@ -3,8 +3,8 @@ use Rattle.std.specs.Prelude.{◌≡◌, ◌≢◌, ◌≤◌, Bool, true, false
 use Rattle.std.specs.List.{list_all}
 use Rattle.markdown_event.specs.declared.event.Name.{Name}
 use Rattle.markdown_event.specs.declared.event.Name.TheVariants as N
-use Rattle.markdown_engine_content.specs.Codes.{Code}
-use Rattle.markdown_engine_content.specs.Tree.{Forest, empty, leaf_then, group_then}
+use Rattle.markdown_content.specs.Codes.{Code}
+use Rattle.markdown_content.specs.Tree.{Forest, empty, leaf_then, group_then}
 use Rattle.markdown_model.specs.CodeTests.{is_digit, is_hex_digit, is_alphanumeric}
 use Rattle.markdown_model.specs.InlineTree.{text_tree, string_tree}
 use Rattle.markdown_model.specs.Setting.{Setting}
@@ -35,14 +35,14 @@ hexadecimal_row front number x value back =
     (leaf_then N.CharacterReferenceMarkerHexadecimal None x
     (leaf_then N.CharacterReferenceValue None value (leaf_then N.CharacterReferenceMarkerSemi None back empty))))
 
-pub record IsNamed (t : Forest) : Type 0 where
+pub record IsNamedReference (t : Forest) : Type 0 where
   pub front : List Code
   pub value : List Code
   pub back : List Code
   pub row : t ≡ named_row front value back
   pub letters : list_all is_alphanumeric value ≡ true
 
-pub record IsDecimal (t : Forest) : Type 0 where
+pub record IsDecimalTree (t : Forest) : Type 0 where
   pub front : List Code
   pub number : List Code
   pub value : List Code
@@ -52,7 +52,7 @@ pub record IsDecimal (t : Forest) : Type 0 where
   pub few : length value ≤ 7
   pub digits : list_all is_digit value ≡ true
 
-pub record IsHexadecimal (t : Forest) : Type 0 where
+pub record IsHexadecimalTree (t : Forest) : Type 0 where
   pub front : List Code
   pub number : List Code
   pub x : List Code
@@ -64,7 +64,7 @@ pub record IsHexadecimal (t : Forest) : Type 0 where
   pub digits : list_all is_hex_digit value ≡ true
 
 abbrev pub IsReference : Forest → Type 0
-IsReference t = IsNamed t ⊎ (IsDecimal t ⊎ IsHexadecimal t)
+IsReference t = IsNamedReference t ⊎ (IsDecimalTree t ⊎ IsHexadecimalTree t)
 
 abbrev pub HasReferences : Forest → Type 0
 HasReferences empty = Unit {0}

@@ -1,24 +1,24 @@
 -- The places of trees: wherever the codes that a tree of labels covers stand one after another, so do the places of its groups among them.
 use Rattle.std.proofs.Common.{◌≡◌, ◌==◌, Bool, true, false, ◌&&◌, not, List, [], ◌∷◌, ◌++◌, length, drop, refl, sym, ap, subst, ◌∙◌, append_assoc, append-nil, None}
 use Rattle.std.proofs.lemmas.Bool.{and_parts, eqb-true, not-true}
-use Rattle.markdown_engine_content.specs.Codes.{Code, stop_of, document_start, place_of}
-use Rattle.markdown_engine_content.specs.Tree.{Forest, empty, leaf_then, group_then, leaf, group, text_group, ◌⊕◌, start_of, enter_of, exit_after, leaf_codes}
+use Rattle.markdown_content.specs.Codes.{Code, stop_of, document_start, place_of}
+use Rattle.markdown_content.specs.Tree.{Forest, empty, leaf_then, group_then, leaf, group, text_group, ◌⊕◌, start_of, enter_of, exit_after, leaf_codes}
 use Rattle.markdown_event.specs.declared.event.Name.{Name}
 use Rattle.markdown_event.specs.declared.event.Point.{Point}
-use Rattle.markdown_engine_content.specs.declared.label_kind.LabelKind.{LabelKind}
-use Rattle.markdown_engine_content.proofs.TreeCodes.{leaf_codes-row}
+use Rattle.markdown_content.specs.declared.label_kind.LabelKind.{LabelKind}
+use Rattle.markdown_content.proofs.TreeCodes.{leaf_codes-row}
 use Rattle.markdown_model.specs.CodeTests.{is_empty}
 use Rattle.markdown_model.specs.LabelEnd.{Element}
 use Rattle.markdown_model.specs.Passes.{start_marker, start_tree, label_name, label_group, labels_of, is_nothing}
 use Rattle.markdown_model.proofs.LeafCodes.{codes-leaf}
 use Rattle.markdown_model_laws.specs.EmailsInData.{is_email}
-use Rattle.markdown_model_laws.proofs.MadeConstructs.{IsSome, IsMade, is_at, is_single, reaches, made}
-use Rattle.markdown_model_laws.proofs.MadeElements.{AllGood, IsGood}
+use Rattle.markdown_model_laws.proofs.MadeConstructs.{IsSome, IsMadeTree, is_at, is_single, reaches, made}
+use Rattle.markdown_model_laws.proofs.MadeElements.{AllGood, IsMadeElement}
 use Rattle.markdown_model.proofs.LabelTreeFacts.{labels-have}
-use Rattle.markdown_model_laws.proofs.PlacesInOrder.{Place, last_of, last-join, Allows, allows-itself, allows-then, allows-join, allows-behind, allows-same, allows-around, allows-between}
+use Rattle.markdown_model_laws.proofs.PlacesInOrder.{BytePlace, last_of, last-join, Allows, allows-itself, allows-then, allows-join, allows-behind, allows-same, allows-around, allows-between}
 
 -- where each code begins and ends
-abbrev pub ends_of : List Code → List Place
+abbrev pub ends_of : List Code → List BytePlace
 ends_of [] = []
 ends_of (c ∷ cs) = place_of c.start ∷ place_of c.stop ∷ ends_of cs
 
@@ -31,7 +31,7 @@ ends-last p [] = refl
 ends-last p (c ∷ cs) = ends-last c.stop cs
 
 -- where each code and each group of a tree begins and ends
-abbrev pub places_of : Forest → List Place
+abbrev pub places_of : Forest → List BytePlace
 places_of empty = []
 places_of (leaf_then name link cs rest) = ends_of cs ++ places_of rest
 places_of (group_then name enter exit inside rest) =
@@ -58,11 +58,11 @@ places-last p (group_then name enter exit inside rest) =
     last-join (place_of enter) (places_of inside) (place_of exit ∷ places_of rest) ∙ places-last exit rest
 
 -- and begins at the first
-pub record Begins (f : Forest) : Type 0 where
-  pub more : List Place
+pub record BeginsAtItsEnter (f : Forest) : Type 0 where
+  pub more : List BytePlace
   pub places : places_of f ≡ place_of (enter_of f) ∷ more
 
-begins-made : (texts : Bool) (f : Forest) → made texts f ≡ true → is_nothing f ≡ false → Begins f
+begins-made : (texts : Bool) (f : Forest) → made texts f ≡ true → is_nothing f ≡ false → BeginsAtItsEnter f
 begins-made texts empty h k = cc
 begins-made texts (leaf_then name link [] rest) h k = cc
 begins-made texts (leaf_then name link (c ∷ cs) rest) h k =
@@ -85,7 +85,8 @@ fit-leaf name cs =
     allows-same (ends_of (leaf_codes (leaf name cs))) (places_of (leaf name cs)) (ap ends_of (codes-leaf name cs) ∙ sym (places-leaf name cs))
 
 -- the places of a group that reaches from the first place inside to the last
-pub places-around : (f : Forest) (enter exit : Point) → Begins f → place_of enter ≡ place_of (enter_of f) → place_of exit ≡ place_of (exit_after (enter_of f) f)
+pub places-around : (f : Forest) (enter exit : Point) → BeginsAtItsEnter f → place_of enter ≡ place_of (enter_of f) →
+    place_of exit ≡ place_of (exit_after (enter_of f) f)
     → Allows (places_of f) (place_of enter ∷ (places_of f ++ (place_of exit ∷ [])))
 places-around f enter exit b h k =
     subst (λ x. Allows (places_of f) (x ∷ (places_of f ++ (place_of exit ∷ [])))) (sym h)
@@ -95,13 +96,13 @@ places-around f enter exit b h k =
     last : last_of (place_of (enter_of f)) b.more ≡ place_of (exit_after (enter_of f) f)
     last = ap (last_of (place_of (enter_of f))) (sym b.places) ∙ places-last (enter_of f) f
 
-fit-group_then : (name : Name) (enter exit : Point) (f : Forest) → Begins f → place_of enter ≡ place_of (enter_of f) → place_of exit ≡ place_of (exit_after (enter_of f) f) → IsFit f
+fit-group_then : (name : Name) (enter exit : Point) (f : Forest) → BeginsAtItsEnter f → place_of enter ≡ place_of (enter_of f) → place_of exit ≡ place_of (exit_after (enter_of f) f) → IsFit f
     → IsFit (group_then name enter exit f empty)
 fit-group_then name enter exit f b h k g =
     subst (λ x. Allows (ends_of x) (place_of enter ∷ (places_of f ++ (place_of exit ∷ [])))) (sym (append-nil (leaf_codes f)))
     (allows-then (ends_of (leaf_codes f)) (places_of f) (place_of enter ∷ (places_of f ++ (place_of exit ∷ []))) g (places-around f enter exit b h k))
 
-pub fit-group : (name : Name) (f : Forest) → Begins f → IsFit f → IsFit (group name f)
+pub fit-group : (name : Name) (f : Forest) → BeginsAtItsEnter f → IsFit f → IsFit (group name f)
 fit-group name f b g = fit-group_then name (enter_of f) (exit_after (enter_of f) f) f b refl refl g
 
 same-place : (p q : Point) → is_at p q ≡ true → place_of p ≡ place_of q
@@ -110,7 +111,7 @@ same-place p q h =
     λ i. (eqb-true p.index q.index both.0 i, eqb-true p.vs q.vs both.1 i)
 
 -- what constructs make is so
-pub fit-made : (f : Forest) → IsMade f → IsFit f
+pub fit-made : (f : Forest) → IsMadeTree f → IsFit f
 fit-made empty h = allows-itself []
 fit-made (leaf_then name link cs rest) h =
     let p = and_parts (not (is_empty cs)) (not (is_email name) && made false rest) h in
@@ -128,13 +129,13 @@ fit-made (group_then name enter exit inside rest) h =
 
 -- A text between two markers: it begins where the first ends, and ends where the second begins.
 
-pub record EndsAt (f : Forest) (p : Point) : Type 0 where
-  pub first : Place
-  pub more : List Place
+pub record EndsAtPoint (f : Forest) (p : Point) : Type 0 where
+  pub first : BytePlace
+  pub more : List BytePlace
   pub places : places_of f ≡ first ∷ more
   pub last : last_of first more ≡ place_of p
 
-pub places-between : (name : Name) (a : Forest) (enter exit : Point) (inside b : Forest) → EndsAt a enter → Begins b → enter_of b ≡ exit
+pub places-between : (name : Name) (a : Forest) (enter exit : Point) (inside b : Forest) → EndsAtPoint a enter → BeginsAtItsEnter b → enter_of b ≡ exit
     → Allows (places_of a ++ (places_of inside ++ places_of b)) (places_of (a ⊕ (text_group name enter exit inside ⊕ b)))
 places-between name a enter exit inside b x y e =
     subst (Allows (places_of a ++ (places_of inside ++ places_of b))) (sym whole)
@@ -149,7 +150,7 @@ places-between name a enter exit inside b x y e =
     whole : places_of (a ⊕ (text_group name enter exit inside ⊕ b)) ≡ places_of a ++ (place_of enter ∷ (places_of inside ++ (place_of exit ∷ places_of b)))
     whole = places-join a (text_group name enter exit inside ⊕ b)
 
-fit-between : (name : Name) (a : Forest) (enter exit : Point) (inside b : Forest) → EndsAt a enter → Begins b → enter_of b ≡ exit → IsFit a → IsFit inside → IsFit b
+fit-between : (name : Name) (a : Forest) (enter exit : Point) (inside b : Forest) → EndsAtPoint a enter → BeginsAtItsEnter b → enter_of b ≡ exit → IsFit a → IsFit inside → IsFit b
     → IsFit (a ⊕ (text_group name enter exit inside ⊕ b))
 fit-between name a enter exit inside b x y e f g h =
     subst (λ z. Allows z (places_of (a ⊕ (text_group name enter exit inside ⊕ b)))) (sym codes)
@@ -169,7 +170,7 @@ exit-leaf : (p : Point) (name : Name) (cs : List Code) → exit_after p (leaf na
 exit-leaf p name [] = refl
 exit-leaf p name (c ∷ cs) = refl
 
-group-ends : (name : Name) (f : Forest) (p : Point) → exit_after (enter_of f) f ≡ p → EndsAt (group name f) p
+group-ends : (name : Name) (f : Forest) (p : Point) → exit_after (enter_of f) f ≡ p → EndsAtPoint (group name f) p
 group-ends name f p e = record {
   first = place_of (enter_of f);
   more = places_of f ++ (place_of (exit_after (enter_of f) f) ∷ []);
@@ -177,7 +178,7 @@ group-ends name f p e = record {
   last = last-join (place_of (enter_of f)) (places_of f) (place_of (exit_after (enter_of f) f) ∷ []) ∙ ap place_of e;
 }
 
-start-ends : (kind : LabelKind) (cs : List Code) → IsSome cs → EndsAt (start_tree kind cs) (stop_of document_start cs)
+start-ends : (kind : LabelKind) (cs : List Code) → IsSome cs → EndsAtPoint (start_tree kind cs) (stop_of document_start cs)
 start-ends kind [] h = cc
 start-ends LabelKind.Image (c ∷ cs) h =
     group-ends Name.LabelImage (leaf_then Name.LabelImageMarker None (c ∷ []) (leaf Name.LabelMarker cs)) (stop_of c.stop cs) (exit-leaf c.stop Name.LabelMarker cs)
@@ -188,7 +189,7 @@ start-ends LabelKind.Link (c ∷ cs) h =
 start-ends LabelKind.GfmUndefinedFootnote (c ∷ cs) h =
     group-ends Name.LabelLink (leaf_then Name.LabelMarker None (c ∷ cs) empty) (stop_of c.stop cs) refl
 
-pub begins-leaf : (name : Name) (c : Code) (cs : List Code) (f : Forest) → Begins (leaf_then name None (c ∷ cs) f)
+pub begins-leaf : (name : Name) (c : Code) (cs : List Code) (f : Forest) → BeginsAtItsEnter (leaf_then name None (c ∷ cs) f)
 begins-leaf name c cs f = record { more = place_of c.stop ∷ (ends_of cs ++ places_of f); places = refl }
 
 fit-start : (kind : LabelKind) (cs : List Code) → IsSome cs → IsFit (start_tree kind cs)
@@ -216,7 +217,7 @@ fit-end [] h = cc
 fit-end (c ∷ cs) h =
     fit-group Name.LabelEnd (leaf Name.LabelMarker (c ∷ cs)) (begins-leaf Name.LabelMarker c cs empty) (fit-leaf Name.LabelMarker (c ∷ cs))
 
-begins-end : (back : List Code) → Begins (group Name.LabelEnd (leaf Name.LabelMarker back))
+begins-end : (back : List Code) → BeginsAtItsEnter (group Name.LabelEnd (leaf Name.LabelMarker back))
 begins-end back =
     record { more = places_of (leaf Name.LabelMarker back) ++ (place_of (exit_after (enter_of (leaf Name.LabelMarker back)) (leaf Name.LabelMarker back)) ∷ []); places = refl }
 
@@ -225,7 +226,7 @@ end-enter : (back : List Code) → IsSome back →
 end-enter [] h = cc
 end-enter (c ∷ cs) h = refl
 
-begins-start : (kind : LabelKind) (cs : List Code) (f : Forest) → Begins (start_tree kind cs ⊕ f)
+begins-start : (kind : LabelKind) (cs : List Code) (f : Forest) → BeginsAtItsEnter (start_tree kind cs ⊕ f)
 begins-start LabelKind.Image cs f = record { more = _; places = refl }
 begins-start LabelKind.GfmFootnote cs f = record { more = _; places = refl }
 begins-start LabelKind.Link cs f = record { more = _; places = refl }
@@ -261,5 +262,6 @@ fit-label kind marker inside back tail h k l m =
 
 pub fit-labels : (es : List Element) → AllGood es → IsFit (labels_of es)
 fit-labels es h =
-    labels-have IsFit IsGood (allows-itself []) fit-join fit-made (λ kind marker _. fit-leaf Name.Data marker) (λ marker outcome _. fit-leaf Name.Data marker)
+    labels-have IsFit IsMadeElement (allows-itself []) fit-join fit-made (λ kind marker _. fit-leaf Name.Data marker)
+    (λ marker outcome _. fit-leaf Name.Data marker)
     (λ kind marker inside back outcome m i e. fit-label outcome.0 marker inside back outcome.1 m i e.0 (fit-made outcome.1 e.1)) es h

@@ -2,12 +2,12 @@
 use Rattle.std.proofs.Common.{◌≡◌, Bool, true, false, ◌&&◌, ◌||◌, List, [], ◌∷◌, ◌++◌, length, refl, sym, ap, ◌∙◌, None}
 use Rattle.std.proofs.lemmas.Bool.{both_ways}
 use Rattle.markdown_event.specs.declared.event.Name.{Name}
-use Rattle.markdown_engine_content.specs.Codes.{Code}
-use Rattle.markdown_engine_content.specs.Tree.{Forest, empty, leaf_then, group_then, ◌⊕◌}
+use Rattle.markdown_content.specs.Codes.{Code}
+use Rattle.markdown_content.specs.Tree.{Forest, empty, leaf_then, group_then, ◌⊕◌}
 use Rattle.markdown_model.specs.CodeTests.{is_empty}
 use Rattle.markdown_model.specs.GfmEmailLiteral.{email_leaves, with_emails}
 use Rattle.markdown_model.specs.Elements.{string_elements_of}
-use Rattle.markdown_model.specs.Passes.{data_onto, merged, begins_line_ending, is_nothing, trimmed_data, trimmed, with_emails_apart, labels_of}
+use Rattle.markdown_model.specs.Passes.{HardBreaks, breaks_where, data_onto, merged, begins_line_ending, is_nothing, trimmed_data, trimmed, with_emails_apart, labels_of}
 use Rattle.markdown_model.proofs.PassesKeepCodes.{codes-trimmed_data}
 use Rattle.markdown_model.proofs.PassedTrees.{walks-merged, walks-trimmed, walks-mailed, trimmed_data-has, with_emails-has}
 use Rattle.markdown_model_laws.specs.TreesFilled.{IsFilled, TreesAreFilled}
@@ -47,23 +47,23 @@ nothing-before empty f h = refl
 nothing-before (leaf_then name link cs rest) f h = h
 nothing-before (group_then name enter exit inside rest) f h = h
 
-nothing-trimmed : (hard front whole : Bool) (f : Forest) → IsFilled f → is_nothing (trimmed hard front whole f) ≡ true →
+nothing-trimmed : (hard : HardBreaks) (front whole : Bool) (f : Forest) → IsFilled f → is_nothing (trimmed hard front whole f) ≡ true →
     is_nothing f ≡ true
 unfolding trimmed
 nothing-trimmed hard front whole empty h e = refl
 nothing-trimmed hard front whole (leaf_then Name.Data None cs rest) h e =
-    absurd (both_ways (is_empty cs) h.0 (ap is_empty (sym (codes-trimmed_data front back (hard && begins_line_ending rest) cs) ∙ nothing-codes piece (nothing-before piece (trimmed hard false whole rest) e))))
+    absurd (both_ways (is_empty cs) h.0 (ap is_empty (sym (codes-trimmed_data front back (breaks_where hard (begins_line_ending rest)) cs) ∙ nothing-codes piece (nothing-before piece (trimmed hard false whole rest) e))))
   where
     back : Bool
     back = begins_line_ending rest || (whole && is_nothing rest)
 
     piece : Forest
-    piece = trimmed_data front back (hard && begins_line_ending rest) cs
+    piece = trimmed_data front back (breaks_where hard (begins_line_ending rest)) cs
 nothing-trimmed hard front whole (leaf_then Name.LineEnding link cs rest) h e = cc
 nothing-trimmed hard front whole (leaf_then name link cs rest) h e = cc
 nothing-trimmed hard front whole (group_then name enter exit inside rest) h e = cc
 
-filled-trimmed : (hard front whole : Bool) (f : Forest) → IsFilled f → IsFilled (trimmed hard front whole f)
+filled-trimmed : (hard : HardBreaks) (front whole : Bool) (f : Forest) → IsFilled f → IsFilled (trimmed hard front whole f)
 filled-trimmed hard front whole f h =
     walks-trimmed filled hard (λ x y z cs _. trimmed_data-has IsFilled filled-join (filled-leaf Name.Data) (filled-leaf Name.HardBreakTrailing) (filled-leaf Name.SpaceOrTab) x y z cs)
     (λ name a b inside k g e. g (nothing-trimmed hard false false inside k e)) front whole f h

@@ -2,8 +2,8 @@
 use Rattle.std.proofs.Common.{◌≡◌, ◌==◌, ◌⊎◌, inl, inr, ◌+◌, ◌<◌, ◌||◌, not, Bool, true, false, Option, Some, None, List, [], ◌∷◌, ◌++◌, length, refl, sym, ap, subst, ◌∙◌, length-append, arith}
 use Rattle.std.proofs.lemmas.Bool.{eqb-true, or_parts}
 use Rattle.std.specs.List.{list_all}
-use Rattle.markdown_engine_content.specs.Codes.{Code, is_line_ending, is_blank}
-use Rattle.markdown_engine_content.specs.Tree.{Forest, empty, ◌⊕◌}
+use Rattle.markdown_content.specs.Codes.{Code, is_line_ending, is_blank}
+use Rattle.markdown_content.specs.Tree.{Forest, empty, ◌⊕◌}
 use Rattle.markdown_event.specs.declared.event.Name.{Name}
 use Rattle.markdown_model.specs.CodeTests.{next_is, is_empty, is_whitespace_code}
 use Rattle.markdown_model.specs.Grammar.{gives, either, before, some, any_number, span, optional_tree}
@@ -119,22 +119,22 @@ optional-back cs tree rest e =
 
 -- And such whitespace is read, before a code that is none.
 
-pub record IsPlain (rest : List Code) : Type 0 where
+pub record BeginsUnspaced (rest : List Code) : Type 0 where
   pub code : Code
   pub more : List Code
   pub is : rest ≡ code ∷ more
   pub plain : is_whitespace_code code ≡ false
 
-no-blank : (rest : List Code) → IsPlain rest → next_is is_blank rest ≡ false
+no-blank : (rest : List Code) → BeginsUnspaced rest → next_is is_blank rest ≡ false
 no-blank rest h = ap (next_is is_blank) h.is ∙ (or_parts _ _ h.plain).0
 
-no-ending : (rest : List Code) → IsPlain rest → next_is is_line_ending rest ≡ false
+no-ending : (rest : List Code) → BeginsUnspaced rest → next_is is_line_ending rest ≡ false
 no-ending rest h = ap (next_is is_line_ending) h.is ∙ (or_parts _ _ h.plain).1
 
-filled-line : (rest : List Code) → IsPlain rest → begins_filled_line rest ≡ true
+filled-line : (rest : List Code) → BeginsUnspaced rest → begins_filled_line rest ≡ true
 filled-line rest h = ap begins_filled_line h.is ∙ ap not (or_parts _ _ h.plain).1
 
-across-found : (front : List Code) (e : Code) (back rest : List Code) → list_all is_blank front ≡ true → is_line_ending e ≡ true → list_all is_blank back ≡ true → IsPlain rest
+across-found : (front : List Code) (e : Code) (back rest : List Code) → list_all is_blank front ≡ true → is_line_ending e ≡ true → list_all is_blank back ≡ true → BeginsUnspaced rest
     → spaces_across None (front ++ (e ∷ (back ++ rest))) ≡ Some (linked_leaf Name.SpaceOrTab None front ⊕ linked_leaf Name.LineEnding None (e ∷ []) ⊕ linked_leaf Name.SpaceOrTab None back, rest)
 unfolding spaces_across gives
 across-found front e back rest h l k p =
@@ -142,13 +142,13 @@ across-found front e back rest h l k p =
     (bind-some _ _ (e ∷ (back ++ rest)) (e ∷ []) (back ++ rest) _ (one-here is_line_ending e (back ++ rest) l)
     (bind-some _ _ (back ++ rest) back rest _ (before-some (any_number is_blank) begins_filled_line (back ++ rest) back rest (any-some is_blank back rest k (no-blank rest p)) (filled-line rest p)) refl))
 
-across-none : (front rest : List Code) → list_all is_blank front ≡ true → IsPlain rest →
+across-none : (front rest : List Code) → list_all is_blank front ≡ true → BeginsUnspaced rest →
     spaces_across None (front ++ rest) ≡ None
 unfolding spaces_across
 across-none front rest h p =
     bind-some _ _ (front ++ rest) front rest _ (any-some is_blank front rest h (no-blank rest p)) (bind-none _ _ rest (one-not is_line_ending rest (no-ending rest p)))
 
-line-found : (c : Code) (front rest : List Code) → list_all is_blank (c ∷ front) ≡ true → IsPlain rest →
+line-found : (c : Code) (front rest : List Code) → list_all is_blank (c ∷ front) ≡ true → BeginsUnspaced rest →
     spaces_on_line None (c ∷ (front ++ rest)) ≡ Some (linked_leaf Name.SpaceOrTab None (c ∷ front), rest)
 unfolding spaces_on_line gives
 line-found c front rest h p =
@@ -156,7 +156,7 @@ line-found c front rest h p =
     (before-some (some is_blank) (λ ds. not (next_is is_line_ending ds)) (c ∷ (front ++ rest)) (c ∷ front) rest (some-span is_blank (c ∷ (front ++ rest)) c front rest (span-exact is_blank (c ∷ front) rest h (no-blank rest p))) (ap not (no-ending rest p)))
     refl
 
-nothing-read : (rest : List Code) → IsPlain rest → space_or_tab_eol None rest ≡ None
+nothing-read : (rest : List Code) → BeginsUnspaced rest → space_or_tab_eol None rest ≡ None
 unfolding space_or_tab_eol spaces_on_line
 nothing-read rest p =
     either-second _ _ rest (across-none [] rest refl p)
@@ -166,20 +166,20 @@ nothing-read rest p =
 pub record Read (cs : List Code) (tree : Forest) (rest : List Code) : Type 0 where
   pub is : (space_or_tab_eol None cs ≡ Some (tree, rest)) ⊎ ((space_or_tab_eol None cs ≡ None) × ((cs ≡ rest) × (tree ≡ empty)))
 
-ending-read : (front : List Code) (e : Code) (back rest : List Code) → list_all is_blank front ≡ true → is_line_ending e ≡ true → list_all is_blank back ≡ true → IsPlain rest
+ending-read : (front : List Code) (e : Code) (back rest : List Code) → list_all is_blank front ≡ true → is_line_ending e ≡ true → list_all is_blank back ≡ true → BeginsUnspaced rest
     → Read (front ++ (e ∷ (back ++ rest))) (linked_leaf Name.SpaceOrTab None front ⊕ linked_leaf Name.LineEnding None (e ∷ []) ⊕ linked_leaf Name.SpaceOrTab None back) rest
 unfolding space_or_tab_eol
 ending-read front e back rest h l k p =
     record { is = inl (either-some _ _ (front ++ (e ∷ (back ++ rest))) _ (across-found front e back rest h l k p)) }
 
-line-read : (front rest : List Code) → list_all is_blank front ≡ true → IsPlain rest →
+line-read : (front rest : List Code) → list_all is_blank front ≡ true → BeginsUnspaced rest →
     Read (front ++ rest) (linked_leaf Name.SpaceOrTab None front ⊕ empty) rest
 unfolding space_or_tab_eol
 line-read [] rest h p = record { is = inr (nothing-read rest p, (refl, refl)) }
 line-read (c ∷ front) rest h p =
     record { is = inl (either-second _ _ (c ∷ (front ++ rest)) (across-none (c ∷ front) rest h p) ∙ line-found c front rest h p) }
 
-pub spacing-read : (cs : List Code) (tree : Forest) (rest : List Code) → Spacing cs tree rest → IsPlain rest →
+pub spacing-read : (cs : List Code) (tree : Forest) (rest : List Code) → Spacing cs tree rest → BeginsUnspaced rest →
     Read cs tree rest
 spacing-read cs tree rest s p = by_lines s.up_to_one
   where
@@ -194,7 +194,7 @@ spacing-read cs tree rest s p = by_lines s.up_to_one
         let same : linked_leaf Name.SpaceOrTab None s.front ⊕ linked_leaf Name.LineEnding None (h.0 ∷ []) ⊕ linked_leaf Name.SpaceOrTab None s.back ≡ tree = sym (s.tree_is ∙ (λ i. linked_leaf Name.SpaceOrTab None s.front ⊕ linked_leaf Name.LineEnding None (h.1 i) ⊕ linked_leaf Name.SpaceOrTab None s.back)) in
         subst (λ xs. Read xs tree rest) whole (subst (λ t. Read (s.front ++ (h.0 ∷ (s.back ++ rest))) t rest) same (ending-read s.front h.0 s.back rest s.front_blank h.2 s.back_blank p))
 
-pub optional-found : (cs : List Code) (tree : Forest) (rest : List Code) → Spacing cs tree rest → IsPlain rest →
+pub optional-found : (cs : List Code) (tree : Forest) (rest : List Code) → Spacing cs tree rest → BeginsUnspaced rest →
     optional_tree (space_or_tab_eol None) cs ≡ Some (tree, rest)
 unfolding optional_tree gives
 optional-found cs tree rest s p = by_read (spacing-read cs tree rest s p).is
@@ -204,7 +204,7 @@ optional-found cs tree rest s p = by_read (spacing-read cs tree rest s p).is
     by_read (inl h) = either-some _ _ cs (tree, rest) h
     by_read (inr h) = either-second _ _ cs h.0 ∙ (λ i. Some (sym h.1.1 i, h.1.0 i))
 
-pub spacing-found : (cs : List Code) (tree : Forest) (rest : List Code) → SomeSpacing cs tree rest → IsPlain rest →
+pub spacing-found : (cs : List Code) (tree : Forest) (rest : List Code) → SomeSpacing cs tree rest → BeginsUnspaced rest →
     space_or_tab_eol None cs ≡ Some (tree, rest)
 spacing-found cs tree rest s p = by_read (spacing-read cs tree rest s.0 p).is
   where

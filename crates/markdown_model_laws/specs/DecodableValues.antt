@@ -1,19 +1,19 @@
 -- What is lent for the values of character references (CommonMark 2.5) is what is decoded.
 use Rattle.std.specs.Prelude.{◌≡◌, ◌≢◌, ℕ, List, [], ◌∷◌, map, IsUtf8}
 use Rattle.std.specs.Str.{byte}
-use Rattle.markdown_engine_content.specs.Content.{IsContent}
+use Rattle.markdown_content.specs.Content.{IsContent}
 use Rattle.markdown_event.specs.declared.event.Event.{Event}
 use Rattle.markdown_event.specs.declared.event.Name.{Name}
 use Rattle.markdown_event.specs.declared.event.Name.TheVariants as N
-use Rattle.markdown_engine_content.specs.declared.parser.Piece.{Piece}
-use Rattle.markdown_util.specs.Reference.{IsMarker, IsNumber, radix_of}
+use Rattle.markdown_content.specs.declared.parser.Piece.{Piece}
+use Rattle.markdown_util.specs.Reference.{IsReferenceMarker, IsNumber, radix_of}
 use Rattle.markdown_model.specs.InlineTree.{text_events, string_events}
 use Rattle.markdown_model.specs.Setting.{Setting}
-use Rattle.markdown_run_leaves.specs.InnermostEvents.{Lent, innermost, lent}
+use Rattle.markdown_innermost.specs.InnermostEvents.{Lent, innermost, lent}
 
 -- a text that `decode` takes with this marker
 pub record IsDecodable (marker : ℕ) (value : List ℕ) : Type 0 where
-  pub known : IsMarker marker
+  pub known : IsReferenceMarker marker
   pub text : IsUtf8 value
   pub number : marker ≢ byte "&" → IsNumber (radix_of marker) value
 

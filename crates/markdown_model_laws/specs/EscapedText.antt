@@ -3,11 +3,11 @@ use Rattle.std.specs.Prelude.{◌≡◌, ℕ, Bool, true, false, not, ◌==◌, 
 use Rattle.std.specs.Str.{byte}
 use Rattle.std.specs.List.{list_any, list_all}
 use Rattle.markdown_event.specs.declared.event.Name.{Name}
-use Rattle.markdown_engine_content.specs.declared.parser.Piece.{Piece}
-use Rattle.markdown_engine_content.specs.Codes.{is_line_ending_byte}
+use Rattle.markdown_content.specs.declared.parser.Piece.{Piece}
+use Rattle.markdown_content.specs.Codes.{is_line_ending_byte}
 use Rattle.markdown_model.specs.Setting.{Setting}
 use Rattle.markdown_model.specs.InlineTree.{string_events}
-use Rattle.markdown_run_leaves.specs.InnermostEvents.{Lent, lent, innermost}
+use Rattle.markdown_innermost.specs.InnermostEvents.{Lent, lent, innermost}
 
 -- the ASCII punctuation characters, as CommonMark 2.1 lists them
 abbrev pub punctuation : List ℕ

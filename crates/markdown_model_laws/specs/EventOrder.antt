@@ -1,10 +1,10 @@
 -- No event of a content stands before an earlier one.
 use Rattle.std.specs.Prelude.{List, [], ◌∷◌, IsTrue}
 use Rattle.std.specs.List.{All}
-use Rattle.markdown_engine_content.specs.Codes.{is_at_or_after, place_of}
-use Rattle.markdown_engine_content.specs.Content.{IsContent}
+use Rattle.markdown_content.specs.Codes.{is_at_or_after, place_of}
+use Rattle.markdown_content.specs.Content.{IsContent}
 use Rattle.markdown_event.specs.declared.event.Event.{Event}
-use Rattle.markdown_engine_content.specs.declared.parser.Piece.{Piece}
+use Rattle.markdown_content.specs.declared.parser.Piece.{Piece}
 use Rattle.markdown_model.specs.InlineTree.{text_events, string_events}
 use Rattle.markdown_model.specs.Setting.{Setting}
 

@@ -1,12 +1,12 @@
 -- The pieces of the document that leaves of a content are: a content again.
 use Rattle.std.specs.Prelude.{ℕ, ◌&&◌, ◌==◌, Bool, if◌then◌else◌, List, [], ◌∷◌, map, slice_range}
-use Rattle.markdown_engine_content.specs.Codes.{place_of}
-use Rattle.markdown_engine_content.specs.Content.{IsContent}
+use Rattle.markdown_content.specs.Codes.{place_of}
+use Rattle.markdown_content.specs.Content.{IsContent}
 use Rattle.markdown_event.specs.declared.event.Event.{Event}
-use Rattle.markdown_engine_content.specs.declared.parser.Piece.{Piece}
+use Rattle.markdown_content.specs.declared.parser.Piece.{Piece}
 use Rattle.markdown_model.specs.InlineTree.{text_events, string_events}
 use Rattle.markdown_model.specs.Setting.{Setting}
-use Rattle.markdown_run_leaves.specs.InnermostEvents.{Span, innermost}
+use Rattle.markdown_innermost.specs.InnermostEvents.{Span, innermost}
 
 -- the second begins where the first ends
 abbrev pub meets : Piece → Piece → Bool

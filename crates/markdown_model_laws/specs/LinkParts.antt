@@ -2,13 +2,13 @@
 use Rattle.std.specs.Prelude.{◌≡◌, ◌↔◌, ◌⊎◌, ℕ, zero, suc, ◌+◌, ◌≤◌, Bool, true, false, ◌&&◌, ◌||◌, not, List, [], ◌∷◌, ◌++◌, length, reverse, codes, Some, if◌then◌else◌}
 use Rattle.std.specs.Str.{byte}
 use Rattle.std.specs.List.{list_any}
-use Rattle.markdown_engine_content.specs.Codes.{Code, is_line_ending}
+use Rattle.markdown_content.specs.Codes.{Code, is_line_ending}
 use Rattle.markdown_event.specs.declared.event.Name.{Name}
-use Rattle.markdown_engine_content.specs.Content.{has_no_blank_line}
-use Rattle.markdown_engine_content.specs.Tree.{Forest, ◌⊕◌, leaf, group, linked, leaf_codes}
+use Rattle.markdown_content.specs.Content.{has_no_blank_line}
+use Rattle.markdown_content.specs.Tree.{Forest, ◌⊕◌, leaf, group, linked, leaf_codes}
 use Rattle.markdown_model.specs.CodeTests.{is_value, is_among, is_empty, next_is, is_whitespace_code, is_control}
 use Rattle.markdown_model.specs.Grammar.{Reading, span}
-use Rattle.markdown_model.specs.Resource.{StringNames, DestinationNames, string_group, between_markers, counted, label, title, destination}
+use Rattle.markdown_model.specs.Resource.{StringNames, DestinationNames, string_group, between_markers, counted, is_bare_opener, label, title, destination}
 
 -- Escapes (CommonMark 2.4): a code is escaped where an odd number of backslashes stands right before it.
 
@@ -26,26 +26,27 @@ pub record IsEscapedIn (marks : Code → Bool) (text : List Code) : Type 0 where
   pub behind : escapes_next text ≡ false
 
 -- Labels (CommonMark 6.3, link label): `[`, codes with no bracket but escaped ones, some of which is no whitespace and at most 999 of which
--- count, and `]`, with no blank line.
-pub record IsLabel (front : Code) (text : List Code) (back : Code) : Type 0 where
+-- count, and `]`, with no blank line. Whether characters count or codes is said by `characters`.
+pub record IsLabel (characters : Bool) (front : Code) (text : List Code) (back : Code) : Type 0 where
   pub opens : is_value (byte "[") front ≡ true
   pub closes : is_value (byte "]") back ≡ true
   pub escaped : IsEscapedIn (is_among (codes "[]")) text
   pub filled : list_any (λ c. not (is_whitespace_code c)) text ≡ true
-  pub size : counted false text ≤ 999
+  pub size : counted characters false text ≤ 999
   pub lines : has_no_blank_line true (text ++ (back ∷ [])) ≡ true
 
--- an opening marker, codes with no closing one but escaped ones, and a closing one, with no blank line
-pub record IsBetween (opener closer : ℕ) (front : Code) (text : List Code) (back : Code) : Type 0 where
+-- an opening marker, codes with no closing one but escaped ones, and a closing one, with no blank line; `both` says that of the opening marker
+-- too none but escaped ones stand there
+pub record IsBetween (both : Bool) (opener closer : ℕ) (front : Code) (text : List Code) (back : Code) : Type 0 where
   pub opens : is_value opener front ≡ true
   pub closes : is_value closer back ≡ true
-  pub escaped : IsEscapedIn (is_value closer) text
+  pub escaped : IsEscapedIn (λ c. is_value closer c || is_bare_opener both opener c) text
   pub lines : has_no_blank_line true (text ++ (back ∷ [])) ≡ true
 
--- Titles (CommonMark 6.3, link title): between two `"`, between two `'`, or between `(` and `)`.
-abbrev pub IsTitle : Code → List Code → Code → Type 0
-IsTitle front text back =
-    IsBetween (byte "\"") (byte "\"") front text back ⊎ (IsBetween (byte "'") (byte "'") front text back ⊎ IsBetween (byte "(") (byte ")") front text back)
+-- Titles (CommonMark 6.3, link title): between two `"`, between two `'`, or between `(` and `)`, where `both` may ask that each `(` is escaped too.
+abbrev pub IsTitle : Bool → Code → List Code → Code → Type 0
+IsTitle both front text back =
+    IsBetween false (byte "\"") (byte "\"") front text back ⊎ (IsBetween false (byte "'") (byte "'") front text back ⊎ IsBetween both (byte "(") (byte ")") front text back)
 
 -- Destinations in angle brackets (CommonMark 6.3, link destination): `<`, codes with no line ending and no angle bracket but escaped ones, and `>`.
 pub record IsEnclosed (front : Code) (text : List Code) (back : Code) : Type 0 where
@@ -106,10 +107,10 @@ pub record Finds (a : Reading Forest) (Is : List Code → Forest → List Code �
   pub covers : (cs : List Code) (tree : Forest) (rest : List Code) → Is cs tree rest → cs ≡ leaf_codes tree ++ rest
 
 abbrev pub TitlesAreFound : Type 0
-TitlesAreFound = (names : StringNames) → Finds (title names) (Marked IsTitle (between_markers names))
+TitlesAreFound = (both : Bool) (names : StringNames) → Finds (title both names) (Marked (IsTitle both) (between_markers names))
 
 abbrev pub LabelsAreFound : Type 0
-LabelsAreFound = (names : StringNames) → Finds (label names) (Marked IsLabel (between_markers names))
+LabelsAreFound = (characters : Bool) (names : StringNames) → Finds (label characters names) (Marked (IsLabel characters) (between_markers names))
 
 -- a destination of either kind
 abbrev pub IsDestination : ℕ → DestinationNames → List Code → Forest → List Code → Type 0

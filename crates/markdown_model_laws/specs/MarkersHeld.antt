@@ -1,8 +1,8 @@
 -- Where the markers of runs stand in the end.
 use Rattle.std.specs.Prelude.{◌≡◌, Bool, true, false, ◌||◌, List, [], ◌∷◌, ◌++◌, map}
 use Rattle.markdown_event.specs.declared.event.Name.{Name}
-use Rattle.markdown_engine_content.specs.Codes.{Code}
-use Rattle.markdown_engine_content.specs.Tree.{Forest, empty, leaf_then, group_then}
+use Rattle.markdown_content.specs.Codes.{Code}
+use Rattle.markdown_content.specs.Tree.{Forest, empty, leaf_then, group_then}
 use Rattle.markdown_model.specs.Setting.{Setting}
 use Rattle.markdown_model.specs.InlineTree.{label_tree, text_tree}
 use Rattle.markdown_model.specs.Laws.{is_run}

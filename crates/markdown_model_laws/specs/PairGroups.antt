@@ -1,8 +1,8 @@
 -- Each pair of a container's list is a group of the tree.
 use Rattle.std.specs.Prelude.{◌≡◌, ℕ, ◌+◌, Bool, true, false, List, ◌++◌, length, Contains, None, if◌then◌else◌}
 use Rattle.markdown_event.specs.declared.event.Name.{Name}
-use Rattle.markdown_engine_content.specs.Codes.{Code}
-use Rattle.markdown_engine_content.specs.Tree.{Forest, empty, leaf_then, group_then}
+use Rattle.markdown_content.specs.Codes.{Code}
+use Rattle.markdown_content.specs.Tree.{Forest, empty, leaf_then, group_then}
 use Rattle.markdown_model.specs.Setting.{Setting}
 use Rattle.markdown_model.specs.Runs.{Run, containers_of}
 use Rattle.markdown_model.specs.Pairs.{Pair, run_at, pair_list}
@@ -50,8 +50,8 @@ abbrev pub PairsAreEven : Type 0
 PairsAreEven = (s : Setting) (cs : List Code) → EachPairHas (λ front back. length front ≡ length back) (text_tree s cs)
 
 -- the first codes stand one after another among the others
-abbrev pub IsPart : List Code → List Code → Type 0
-IsPart part whole = (before : List Code) × (after : List Code) × (whole ≡ before ++ (part ++ after))
+abbrev pub IsPartOf : List Code → List Code → Type 0
+IsPartOf part whole = (before : List Code) × (after : List Code) × (whole ≡ before ++ (part ++ after))
 
 -- they are markers of the two runs of a pair of one container, as many of each as the pair takes
 pub record AreOfPair (s : Setting) (tree : Forest) (front back : List Code) : Type 0 where
@@ -59,8 +59,8 @@ pub record AreOfPair (s : Setting) (tree : Forest) (front back : List Code) : Ty
   pub pair : Pair
   pub container : Contains (containers_of s tree) runs
   pub listed : Contains (pair_list s runs) pair
-  pub opener : IsPart front (run_at runs pair.opener).codes
-  pub closer : IsPart back (run_at runs pair.closer).codes
+  pub opener : IsPartOf front (run_at runs pair.opener).codes
+  pub closer : IsPartOf back (run_at runs pair.closer).codes
   pub opener_size : length front ≡ pair.size
   pub closer_size : length back ≡ pair.size
 

@@ -1,6 +1,6 @@
 -- The bounds on probes, by the codes of a content.
 use Rattle.std.specs.Prelude.{◌*◌, ◌≤◌, List, length}
-use Rattle.markdown_engine_content.specs.Codes.{Code}
+use Rattle.markdown_content.specs.Codes.{Code}
 use Rattle.markdown_model.specs.Setting.{Setting}
 use Rattle.markdown_model.specs.InlineTree.{label_tree, pair_count, probe_bound, list_probe_bound}
 

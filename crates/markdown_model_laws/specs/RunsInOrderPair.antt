@@ -1,6 +1,6 @@
 -- Events whose runs stand in order may be given to the pass that pairs runs.
 use Rattle.std.specs.Prelude.{◌≡◌, ◌≤◌, [], length, IsUtf8}
-use Rattle.markdown_engine_content.specs.Content.{document_limit}
+use Rattle.markdown_content.specs.Content.{document_limit}
 use Rattle.markdown_engine.specs.declared.tokenizer.Tokenizer.{Tokenizer}
 use Rattle.markdown_attention.specs.RunsInOrder.{HaveRunsInOrder}
 use Rattle.markdown_attention.specs.AttentionPass.{MayPair}

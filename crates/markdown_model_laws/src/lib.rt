@@ -90,12 +90,13 @@ pub fn runs_in_order_may_pair()
 {}
 
 /// A title is found exactly where codes stand that are a link title: a marker, codes with no closing marker but escaped ones, and a closing marker.
+/// By CommonMark's rule there is no opening parenthesis between parentheses but escaped ones, either.
 pub fn titles_are_found()
     ensures { TitlesAreFound }
 {}
 
 /// A label is found exactly where codes stand that are a link label: brackets around codes with no bracket but escaped ones, some of them no
-/// whitespace, and at most 999 that count.
+/// whitespace, and at most 999 that count: codes that are no line endings, or by CommonMark's rule characters, of which line endings are some.
 pub fn labels_are_found()
     ensures { LabelsAreFound }
 {}

@@ -1,18 +1,18 @@
 -- blank codes at hand
 use Rattle.std.proofs.Common.{◌≡◌, ℕ, zero, suc, ◌≤◌, ◌&&◌, nat_lt, Bool, true, false, List, [], ◌∷◌, ◌++◌, length, drop, take, refl, sym, ap, subst, ◌∙◌, arith, length-append}
-use Rattle.markdown_engine_content.specs.Codes.{Code, is_blank, is_line_ending}
-use Rattle.markdown_engine_content.specs.ListFunctions.{rest_of, first_of}
+use Rattle.markdown_content.specs.Codes.{Code, is_blank, is_line_ending}
+use Rattle.markdown_content.specs.ListFunctions.{rest_of, first_of}
 use Rattle.markdown_engine.specs.Operations.{current_of, consumed, ahead}
-use Rattle.markdown_engine_content.specs.Place.{value_of}
+use Rattle.markdown_content.specs.Place.{value_of}
 use Rattle.markdown_engine.specs.declared.tokenizer.Tokenizer.{Tokenizer}
 use Rattle.markdown_engine.proofs.OperationFields.{current-ahead, ahead-consumed}
 use Rattle.markdown_model.specs.CodeTests.{next_is}
 use Rattle.markdown_model.specs.Grammar.{span}
 use Rattle.markdown_model.specs.Whitespace.{begins_filled_line}
-use Rattle.markdown_partial.specs.PartialSpaceOrTab.{at_blank}
 use Rattle.markdown_partial.specs.PartialSpaceOrTabEol.{at_line_ending, goes_on_line}
 use Rattle.markdown_model.proofs.LeafCodes.{span-append}
 use Rattle.markdown_model.proofs.GrammarSteps.{span-takes, span-none}
+use Rattle.markdown_plan.specs.ByteTests.{at_blank}
 
 -- Tests on the code at hand, as tests on the codes ahead.
 
@@ -47,12 +47,12 @@ pub filled-ahead : (T : Tokenizer) → goes_on_line (current_of T) ≡ begins_fi
 filled-ahead T = ap goes_on_line (current-ahead T) ∙ filled-value (ahead T)
 
 -- the code at hand passes, and the others stand behind it
-pub record Here (p : Code → Bool) (T : Tokenizer) : Type 0 where
+pub record CodePasses (p : Code → Bool) (T : Tokenizer) : Type 0 where
   pub code : Code
   pub passes : p code ≡ true
   pub whole : ahead T ≡ code ∷ ahead (consumed T)
 
-pub here : (p : Code → Bool) (T : Tokenizer) → next_is p (ahead T) ≡ true → Here p T
+pub here : (p : Code → Bool) (T : Tokenizer) → next_is p (ahead T) ≡ true → CodePasses p T
 here p T e =
     let h : Heads p (ahead T) = heads p (ahead T) e in
     record { code = h.code; passes = h.passes; whole = h.whole ∙ ap (λ cs. h.code ∷ cs) (sym (ahead-consumed T)) }

@@ -3,7 +3,7 @@ use Rattle.std.proofs.Common.{◌≡◌, ℕ, Bool, true, false, Option, Some, N
 use Rattle.std.proofs.lemmas.Bool.{false≢true}
 use Rattle.markdown_engine.specs.Operations.{ahead}
 use Rattle.markdown_engine.specs.PastTree.{EndsAs, TreeReading, past}
-use Rattle.markdown_engine_content.specs.Tree.{empty}
+use Rattle.markdown_content.specs.Tree.{empty}
 use Rattle.markdown_engine.specs.declared.tokenizer.TokenizeState.{TokenizeState}
 use Rattle.markdown_engine.specs.declared.tokenizer.Tokenizer.{Tokenizer}
 use Rattle.markdown_engine.proofs.ReadingSequences.{scratched-same}

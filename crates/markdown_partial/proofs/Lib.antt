@@ -1,3 +1,4 @@
+-- The proofs of this crate.
 pub mod LineCuts
 pub mod PartialDataLaws
 pub mod EndLemmas
@@ -7,18 +8,17 @@ pub mod WhitespaceReadings
 pub mod PartialSpaceOrTabLaws
 pub mod PartialSpaceOrTabEolLaws
 pub mod WhitespaceAttempts
-pub mod DataSearch
-pub mod MergeEdits
-pub mod MergePassLaw
-pub mod TrimWalks
-pub mod TrimmedLeaves
-pub mod FirstAndLastCode
-pub mod TrimEdits
-pub mod TrimPassLaw
-pub mod DataOnLinesLemmas
-pub mod TrimmedDataInDocument
 pub mod EscapedTextReadings
 pub mod LinkedTreeLemmas
 pub mod PartialDestinationReadings
 pub mod BoolLemmas
 pub mod LinkedTextLines
+pub mod PartialDestinationLaws
+pub mod LinkedTextReadings
+pub mod LinkedTextLineEnding
+pub mod LinkedTextSteps
+pub mod PartialTitleReadings
+pub mod PartialTitleLaws
+pub mod PartialLabelReadings
+pub mod PartialLabelLaws
+pub mod LinkSteadyLaws

@@ -1,9 +1,9 @@
 -- how codes are cut into lines and stretches of data
 use Rattle.std.proofs.Common.{◌≡◌, Bool, true, false, ◌&&◌, ◌||◌, not, Some, None, List, [], ◌∷◌, refl, sym, ap, subst, ◌∙◌}
 use Rattle.std.proofs.lemmas.Bool.{or_from, or_left, or_right}
-use Rattle.markdown_engine_content.specs.Codes.{Code, is_line_ending}
+use Rattle.markdown_content.specs.Codes.{Code, is_line_ending}
 use Rattle.markdown_engine.specs.PastTree.{behind}
-use Rattle.markdown_engine_content.specs.Tree.{Forest, empty, leaf, ◌⊕◌}
+use Rattle.markdown_content.specs.Tree.{Forest, empty, leaf, ◌⊕◌}
 use Rattle.markdown_event.specs.declared.event.Name.TheVariants as N
 use Rattle.markdown_model.specs.Grammar.{until}
 use Rattle.markdown_model.specs.TextLines.{joins, onto_stretch, lines_of, line_leaf, line_leaves, data_up_to}
@@ -63,37 +63,38 @@ pub break-goes : (stops : List Code → Bool) (c : Code) (cs : List Code) → is
 break-goes stops c cs e = until-goes (ends_stretch stops) c cs e
 
 -- a stretch of data, from a code that is no line ending on: the codes up to where data stops are its codes and those of what is left behind them
-abbrev Cut : (List Code → Bool) → Code → List Code × List Code → List Code × List Code → Type 0
-Cut stops c whole part =
+abbrev CutsTheLine : (List Code → Bool) → Code → List Code × List Code → List Code × List Code → Type 0
+CutsTheLine stops c whole part =
     (lines_of (c ∷ whole.0) ≡ (c ∷ part.0) ∷ lines_of (until stops part.1).0) × (whole.1 ≡ (until stops part.1).1)
 
 cut-by : (stop ending : Bool) → (stops : List Code → Bool) (c d : Code) (cs : List Code) → is_line_ending c ≡ false →
     stops (d ∷ cs) ≡ stop → is_line_ending d ≡ ending →
-    (is_line_ending d ≡ false → Cut stops d (until stops cs) (up_to_break stops cs)) →
-    Cut stops c (until stops (d ∷ cs)) (up_to_break stops (d ∷ cs))
+    (is_line_ending d ≡ false → CutsTheLine stops d (until stops cs) (up_to_break stops cs)) →
+    CutsTheLine stops c (until stops (d ∷ cs)) (up_to_break stops (d ∷ cs))
 cut-by true ending stops c d cs e f g h =
     let whole : until stops (d ∷ cs) ≡ ([], d ∷ cs) = until-stops stops d cs f in
     let part : up_to_break stops (d ∷ cs) ≡ ([], d ∷ cs) = break-stops stops d cs (or_right (is_line_ending d) (stops (d ∷ cs)) f) in
-    let now : Cut stops c ([], d ∷ cs) ([], d ∷ cs) = (ap (λ (s : List Code × List Code). (c ∷ []) ∷ lines_of s.0) (sym whole), ap (λ (s : List Code × List Code). s.1) (sym whole)) in
-    subst (λ s. Cut stops c s (up_to_break stops (d ∷ cs))) (sym whole) (subst (λ s. Cut stops c ([], d ∷ cs) s) (sym part) now)
+    let now : CutsTheLine stops c ([], d ∷ cs) ([], d ∷ cs) = (ap (λ (s : List Code × List Code). (c ∷ []) ∷ lines_of s.0) (sym whole), ap (λ (s : List Code × List Code). s.1) (sym whole)) in
+    subst (λ s. CutsTheLine stops c s (up_to_break stops (d ∷ cs))) (sym whole) (subst (λ s. CutsTheLine stops c ([], d ∷ cs) s) (sym part) now)
 cut-by false true stops c d cs e f g h =
     let whole : until stops (d ∷ cs) ≡ (d ∷ (until stops cs).0, (until stops cs).1) = until-goes stops d cs f in
     let part : up_to_break stops (d ∷ cs) ≡ ([], d ∷ cs) = break-stops stops d cs (or_left (is_line_ending d) (stops (d ∷ cs)) g) in
     let lines : lines_of (d ∷ (until stops cs).0) ≡ (d ∷ []) ∷ lines_of (until stops cs).0 = lines_of-ending d (until stops cs).0 g in
     let two : lines_of (c ∷ d ∷ (until stops cs).0) ≡ (c ∷ []) ∷ lines_of (d ∷ (until stops cs).0) =
     ap (onto_stretch (λ x. true) c) lines ∙ onto-before c d [] (lines_of (until stops cs).0) g ∙ ap (λ ss. (c ∷ []) ∷ ss) (sym lines) in
-    let now : Cut stops c (until stops (d ∷ cs)) ([], d ∷ cs) =
+    let now : CutsTheLine stops c (until stops (d ∷ cs)) ([], d ∷ cs) =
     (ap (λ (s : List Code × List Code). lines_of (c ∷ s.0)) whole ∙ two ∙ ap (λ (s : List Code × List Code). (c ∷ []) ∷ lines_of s.0) (sym whole), refl) in
-    subst (λ s. Cut stops c (until stops (d ∷ cs)) s) (sym part) now
+    subst (λ s. CutsTheLine stops c (until stops (d ∷ cs)) s) (sym part) now
 cut-by false false stops c d cs e f g h =
     let whole : until stops (d ∷ cs) ≡ (d ∷ (until stops cs).0, (until stops cs).1) = until-goes stops d cs f in
     let part : up_to_break stops (d ∷ cs) ≡ (d ∷ (up_to_break stops cs).0, (up_to_break stops cs).1) = break-goes stops d cs (or_from (is_line_ending d) (stops (d ∷ cs)) g f) in
-    let now : Cut stops c (d ∷ (until stops cs).0, (until stops cs).1) (d ∷ (up_to_break stops cs).0, (up_to_break stops cs).1) =
+    let now : CutsTheLine stops c (d ∷ (until stops cs).0, (until stops cs).1) (d ∷ (up_to_break stops cs).0, (up_to_break stops cs).1) =
     (ap (onto_stretch (λ x. true) c) (h g).0 ∙ onto-same c d (up_to_break stops cs).0 (lines_of (until stops (up_to_break stops cs).1).0) e g, (h g).1) in
-    subst (λ s. Cut stops c s (up_to_break stops (d ∷ cs))) (sym whole) (subst (λ s. Cut stops c (d ∷ (until stops cs).0, (until stops cs).1) s) (sym part) now)
+    subst (λ s. CutsTheLine stops c s (up_to_break stops (d ∷ cs))) (sym whole)
+    (subst (λ s. CutsTheLine stops c (d ∷ (until stops cs).0, (until stops cs).1) s) (sym part) now)
 
 cut : (stops : List Code → Bool) (c : Code) (cs : List Code) → is_line_ending c ≡ false →
-    Cut stops c (until stops cs) (up_to_break stops cs)
+    CutsTheLine stops c (until stops cs) (up_to_break stops cs)
 cut stops c [] e = (refl, refl)
 cut stops c (d ∷ cs) e = cut-by (stops (d ∷ cs)) (is_line_ending d) stops c d cs e refl refl (λ f. cut stops d cs f)
 

@@ -1,10 +1,10 @@
 -- Trees with linked leaves: what their operations leave.
 use Rattle.std.proofs.Common.{◌≡◌, ◌≢◌, ℕ, ◌+◌, ◌-◌, Bool, true, false, Option, Some, None, List, [], ◌∷◌, ◌++◌, length, refl, sym, ap, subst, ◌∙◌, arith, append_assoc, append-nil, length-append}
-use Rattle.markdown_engine_content.specs.Codes.{Code, stop_of, document_start}
+use Rattle.markdown_content.specs.Codes.{Code, stop_of, document_start}
 use Rattle.markdown_engine.specs.Operations.{Op, Enter, Exit, ahead, applied, done, scratched}
 use Rattle.markdown_engine.specs.PastTree.{past, passed, moved_by, entered_leaf, link_before, last_link, TreeReading, EndsAs}
-use Rattle.markdown_engine_content.specs.Place.{exit_point}
-use Rattle.markdown_engine_content.specs.Tree.{Forest, empty, leaf_then, group_then, ◌⊕◌, leaf, linked, group, leaf_codes, start_of, enter_of, exit_after}
+use Rattle.markdown_content.specs.Place.{exit_point}
+use Rattle.markdown_content.specs.Tree.{Forest, empty, leaf_then, group_then, ◌⊕◌, leaf, linked, group, leaf_codes, start_of, enter_of, exit_after}
 use Rattle.markdown_event.specs.declared.event.Content.{Content}
 use Rattle.markdown_event.specs.declared.event.Name.{Name}
 use Rattle.markdown_event.specs.declared.event.Point.{Point}
@@ -15,10 +15,13 @@ use Rattle.markdown_engine.proofs.OperationFields.{ahead-applied}
 use Rattle.markdown_engine.proofs.SolidTrees.{stop_of-append, stop_of-some, start-append}
 use Rattle.markdown_engine.proofs.TreeEvents.{done-consumes, done-append, leaf-past, group-past, past-past, past-empty, ahead-past, solid-start, solid-stop}
 use Rattle.markdown_plan.specs.Plan.{DoesAs}
-use Rattle.markdown_plan.proofs.PassedByReadings.{Gives, some-first}
+use Rattle.markdown_model.proofs.DefinitionSteps.{read-codes}
+use Rattle.markdown_model.proofs.NoLinkInConstructs.{PassesValue, Yields}
+use Rattle.markdown_model.proofs.OneLineReadings.{some-join}
+use Rattle.markdown_model.proofs.ReadingsCover.{Covers}
 use Rattle.markdown_model.specs.Resource.{string_group}
 use Rattle.markdown_plan.proofs.PlanSteps.{ahead-scratched}
-use Rattle.markdown_partial.specs.LinkedTreeOps.{enter_op, has_content, linked_ops, tree_ops, plan_of, IsRow}
+use Rattle.markdown_partial.specs.LinkedTreeOps.{enter_op, has_content, linked_ops, tree_ops, plan_of, IsLinkedInOrder}
 
 -- One leaf.
 
@@ -65,7 +68,7 @@ row-then previous q t rest T U h e =
     ap (past q rest) e ∙ ap (λ k. past k rest (past previous t T)) h ∙ past-past previous t rest T
 
 -- The operations of a row leave the tokenizer past it, its leaves linked.
-pub linked-past : (linked : Bool) (t : Forest) (rest : List Code) (T : Tokenizer) → IsRow linked t →
+pub linked-past : (linked : Bool) (t : Forest) (rest : List Code) (T : Tokenizer) → IsLinkedInOrder linked t →
     ahead T ≡ leaf_codes t ++ rest → done (linked_ops linked t) T ≡ past (link_before linked T) t T
 linked-past linked empty rest T s e = sym (past-empty (link_before linked T) T)
 linked-past linked (leaf_then n link cs more) rest T s e =
@@ -93,13 +96,13 @@ linked-past false (group_then n a b inside more) rest T s e =
 
 -- Rows as they are made.
 
-row-enter : (linked : Bool) (t : Forest) → IsRow linked t → enter_of t ≡ start_of (leaf_codes t)
+row-enter : (linked : Bool) (t : Forest) → IsLinkedInOrder linked t → enter_of t ≡ start_of (leaf_codes t)
 row-enter linked empty s = refl
 row-enter linked (leaf_then n link cs more) s = sym (start-append cs (leaf_codes more) s.1.0)
 row-enter linked (group_then n a b inside more) s =
     s.1.1.0 ∙ sym (start-append (leaf_codes inside) (leaf_codes more) s.1.0)
 
-row-exit : (linked : Bool) (p : Point) (t : Forest) → IsRow linked t → exit_after p t ≡ stop_of p (leaf_codes t)
+row-exit : (linked : Bool) (p : Point) (t : Forest) → IsLinkedInOrder linked t → exit_after p t ≡ stop_of p (leaf_codes t)
 row-exit linked p empty s = refl
 row-exit linked p (leaf_then n link cs more) s =
     row-exit (has_content link) (stop_of p cs) more s.1.1 ∙ sym (stop_of-append p cs (leaf_codes more))
@@ -110,7 +113,7 @@ row-exit linked p (group_then n a b inside more) s =
 
 -- the tree is such a row, and its leaves cover the codes
 abbrev pub CoversRow : Forest → List Code → Type 0
-CoversRow t ws = IsRow false t × (leaf_codes t ≡ ws)
+CoversRow t ws = IsLinkedInOrder false t × (leaf_codes t ≡ ws)
 
 row-leaf : (n : Name) (xs ys : List Code) (u : Forest) → CoversRow u ys → CoversRow (leaf n xs ⊕ u) (xs ++ ys)
 row-leaf n [] ys u k = k
@@ -141,9 +144,9 @@ pub Row-string : (n : Name) (xs ys : List Code) (t u : Forest) → CoversRow t x
     CoversRow (string_group n t ⊕ u) (xs ++ ys)
 Row-string n xs ys empty u k l = subst (λ zs. CoversRow u (zs ++ ys)) k.1 l
 Row-string n xs ys (leaf_then m link cs more) u k l =
-    Row-group n xs ys (leaf_then m link cs more) u (λ e. some-first cs (leaf_codes more) k.0.1.0 (k.1 ∙ e)) k l
+    Row-group n xs ys (leaf_then m link cs more) u (λ e. some-join cs (leaf_codes more) k.0.1.0 (k.1 ∙ e)) k l
 Row-string n xs ys (group_then m a b inside more) u k l =
-    Row-group n xs ys (group_then m a b inside more) u (λ e. some-first (leaf_codes inside) (leaf_codes more) k.0.1.0 (k.1 ∙ e)) k l
+    Row-group n xs ys (group_then m a b inside more) u (λ e. some-join (leaf_codes inside) (leaf_codes more) k.0.1.0 (k.1 ∙ e)) k l
 
 -- a group alone
 pub Row-whole : (n : Name) (xs : List Code) (t : Forest) → xs ≢ [] → CoversRow t xs → CoversRow (group n t) xs
@@ -165,15 +168,19 @@ none-read None e = refl
 none-read (Some r) e = cc
 
 -- a run that does what the tree of a reading asks for ends as the reading
-pub EndsAs-linked : (r : TreeReading) → Gives CoversRow r →
+pub record ReadsLinked (r : TreeReading) : Type 0 where
+  pub covers : Covers leaf_codes [] r
+  pub linked : Yields (IsLinkedInOrder false) r
+
+pub EndsAs-linked : (r : TreeReading) → ReadsLinked r →
     (s : TokenizeState) (T : Tokenizer) (ok : Bool) (U : Tokenizer) → DoesAs 0 (plan_of r) s T ok U →
     EndsAs r None s T ok U
 EndsAs-linked r whole s T true U k =
     let x = ops-read (r (ahead T)) k.ops k.holds in
-    let w = whole (ahead T) x.0.0 x.0.1 x.1.0 in
-    let codes : ahead T ≡ leaf_codes x.0.0 ++ x.0.1 = w.whole ∙ ap (λ ws. ws ++ x.0.1) (sym w.holds.1) in
+    let codes : ahead T ≡ leaf_codes x.0.0 ++ x.0.1 = read-codes leaf_codes r whole.covers (ahead T) x.0.1 x.0.0 x.1.0 in
+    let linked : IsLinkedInOrder false x.0.0 = subst (PassesValue (IsLinkedInOrder false)) x.1.0 (whole.linked.at (ahead T)) in
     let same : ahead (scratched s T) ≡ leaf_codes x.0.0 ++ x.0.1 = ahead-scratched s T ∙ codes in
-    let left : U ≡ past None x.0.0 (scratched s T) = k.left ∙ ap (λ os. done os (scratched s T)) x.1.1 ∙ linked-past false x.0.0 x.0.1 (scratched s T) w.holds.0 same in
+    let left : U ≡ past None x.0.0 (scratched s T) = k.left ∙ ap (λ os. done os (scratched s T)) x.1.1 ∙ linked-past false x.0.0 x.0.1 (scratched s T) linked same in
     record { tree = x.0.0; rest = x.0.1; holds = x.1.0; left = left; whole = codes; after = ap ahead left ∙ ahead-past None x.0.0 (scratched s T) x.0.1 same }
 EndsAs-linked r whole s T false U k =
     record { refused = none-read (r (ahead T)) k.none; fails = record { grown = k.grown; scratch = k.scratch } }

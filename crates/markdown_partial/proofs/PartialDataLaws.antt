@@ -1,25 +1,25 @@
 -- the laws of the states of data
 use Rattle.std.proofs.Common.{◌≡◌, ℕ, ◌+◌, ◌≤◌, ◌==◌, ◌||◌, if◌then◌else◌, Bool, true, false, Option, Some, None, List, [], ◌∷◌, ◌++◌, length, refl, sym, ap, subst, ◌∙◌, arith, append-nil}
-use Rattle.markdown_engine_content.specs.Codes.{Code, is_line_ending}
-use Rattle.markdown_engine_content.specs.ListFunctions.{rest_of}
+use Rattle.markdown_content.specs.Codes.{Code, is_line_ending}
+use Rattle.markdown_content.specs.ListFunctions.{rest_of}
 use Rattle.markdown_engine.specs.Operations.{current_of, ahead, exited, consumed, applied, IsOpen, done, Enter, Exit, Consume}
-use Rattle.markdown_engine_content.specs.Stretch.{is_free}
+use Rattle.markdown_content.specs.Stretch.{is_free}
 use Rattle.markdown_engine.specs.PastTree.{EndsAs, past, passed, behind, last_link}
 use Rattle.markdown_engine.specs.StateRuns.{Stepped, stepped}
-use Rattle.markdown_engine_content.specs.Tree.{Forest, empty, leaf, leaf_codes}
+use Rattle.markdown_content.specs.Tree.{Forest, empty, leaf, leaf_codes}
 use Rattle.markdown_engine.specs.Weights.{codes_left, weight_at}
 use Rattle.markdown_event.specs.declared.event.Name.TheVariants as N
-use Rattle.markdown_state.specs.declared.state.State.TheVariants.{Next, Retry}
-use Rattle.markdown_state.specs.declared.state.State.{State}
-use Rattle.markdown_state.specs.declared.state.StateName.{StateName}
-use Rattle.markdown_state.specs.declared.state.StateName.TheVariants as H
-use Rattle.markdown_state.specs.declared.state.StateName.TheVariants.{DataAtBreak, DataInside}
+use Rattle.markdown_event.specs.declared.state.State.TheVariants.{Next, Retry}
+use Rattle.markdown_event.specs.declared.state.State.{State}
+use Rattle.markdown_event.specs.declared.state.StateName.{StateName}
+use Rattle.markdown_event.specs.declared.state.StateName.TheVariants as H
+use Rattle.markdown_event.specs.declared.state.StateName.TheVariants.{DataAtBreak, DataInside}
 use Rattle.markdown_engine.specs.declared.tokenizer.TokenizeState.{TokenizeState}
 use Rattle.markdown_engine.specs.declared.tokenizer.Tokenizer.{Tokenizer}
 use Rattle.markdown_engine.proofs.ReadingSequences.{EndsAs-then, scratched-same}
 use Rattle.markdown_engine.proofs.LawSteps.{if-step, code-step}
 use Rattle.markdown_engine.proofs.SteadyLemmas.{steady-at}
-use Rattle.markdown_engine.proofs.OperationFields.{Begins, ahead-none, ahead-some, some-codes}
+use Rattle.markdown_engine.proofs.OperationFields.{BeginsWithValue, ahead-none, ahead-some, some-codes}
 use Rattle.markdown_engine.proofs.OperationLemmas.{ahead-done, left-done, scratch-done}
 use Rattle.markdown_engine.proofs.TreeEvents.{done-leaf, leaf-past, ahead-past}
 use Rattle.markdown_model.specs.TextLines.{data_up_to}
@@ -30,7 +30,7 @@ use Rattle.markdown_model.proofs.LeafCodes.{until-append}
 use Rattle.markdown_engine.specs.StateWords.{StateWords, Words, Law, GoesIn}
 use Rattle.markdown_plan.proofs.PassedCodes.{passed-none, passed-one}
 use Rattle.markdown_plan.proofs.LawStepsOfLayer.{Goes-plain, Goes-end, Goes-ops}
-use Rattle.markdown_plan.specs.LayerEquation.{Within, AreLawful}
+use Rattle.markdown_plan.specs.LayerEquation.{EqualsLayer, AreLawful}
 
 -- whether data stops at the codes ahead, by the value at hand
 stops-is : (T : Tokenizer) (v : ℕ) → (e : current_of T ≡ Some v) →
@@ -64,7 +64,7 @@ closes t rest T V unlinked e whole reads ok U k =
 ending-closes : (T : Tokenizer) (v : ℕ) → current_of T ≡ Some v → (v == 10) ≡ true → (ok : Bool) (U : Tokenizer) →
     at_break_ends (done ending T) ok U → start_ends T ok U
 ending-closes T v e h ok U k =
-    let b : Begins v (ahead T) = ahead-some T v e in
+    let b : BeginsWithValue v (ahead T) = ahead-some T v e in
     let cs : List Code = rest_of (ahead T) in
     closes (leaf N.LineEnding (b.code ∷ [])) cs T (done ending T) refl (done-leaf N.LineEnding None false b.code [] cs T b.whole) b.whole
     (ap (data_up_to (stops_of T.tokenize_state)) b.whole ∙ ending-then (stops_of T.tokenize_state) b.code cs (ap (λ x. x == 10) b.value ∙ h)) ok U k
@@ -95,7 +95,7 @@ stretch-opening T =
 opening-closes : (T : Tokenizer) (v : ℕ) → current_of T ≡ Some v → (v == 10) ≡ false → (ok : Bool) (U : Tokenizer) →
     inside_ends (done opening T) ok U → start_ends T ok U
 opening-closes T v e h ok U k =
-    let b : Begins v (ahead T) = ahead-some T v e in
+    let b : BeginsWithValue v (ahead T) = ahead-some T v e in
     let cs : List Code = rest_of (ahead T) in
     let w : List Code × List Code = up_to_break (stops_of T.tokenize_state) cs in
     let whole : ahead T ≡ (b.code ∷ w.0) ++ w.1 = b.whole ∙ ap (λ xs. b.code ∷ xs) (sym (until-append (ends_stretch (stops_of T.tokenize_state)) cs)) in
@@ -110,7 +110,7 @@ rank-low None T = omega arith
 rank-low (Some v) T =
     elim ((v == 10) || stops_here T v) as (λ b. (if b then 1 else 3) ≤ 3) [ true ↦ omega arith | false ↦ omega arith ]
 
-passing-law : (W : Words) → Within states W → (k : ℕ) (T : Tokenizer) → T.attempts ≡ [] → (v : ℕ) → current_of T ≡ Some v →
+passing-law : (W : Words) → EqualsLayer states W → (k : ℕ) (T : Tokenizer) → T.attempts ≡ [] → (v : ℕ) → current_of T ≡ Some v →
     GoesIn W (weight_at k T) (start_ends T) (passing v T)
 passing-law W within k T alone v e =
     let P : Stepped → Type 0 = GoesIn W (weight_at k T) (start_ends T) in
@@ -132,7 +132,7 @@ nothing-more T e = subst (λ cs. more_data (stops_of T.tokenize_state) cs ≡ So
 reads-more : (T : Tokenizer) (v : ℕ) → current_of T ≡ Some v → stops_here T v ≡ false →
     more_data (stops_of T.tokenize_state) (ahead T) ≡ data_up_to (stops_of T.tokenize_state) (ahead T)
 reads-more T v e h =
-    let b : Begins v (ahead T) = ahead-some T v e in
+    let b : BeginsWithValue v (ahead T) = ahead-some T v e in
     let cs : List Code = rest_of (ahead T) in
     ap (more_data (stops_of T.tokenize_state)) b.whole ∙ more-goes (stops_of T.tokenize_state) b.code cs (stops-is T v e ∙ h) ∙ ap (data_up_to (stops_of T.tokenize_state)) (sym b.whole)
 
@@ -141,7 +141,7 @@ more-here : (T : Tokenizer) (v : ℕ) → current_of T ≡ Some v → stops_here
 more-here T v e h ok U k =
     EndsAs-same (more_data (stops_of T.tokenize_state)) (data_up_to (stops_of T.tokenize_state)) None T.tokenize_state T (reads-more T v e h) ok U k
 
-pub start-law : (W : Words) → Within states W → Law W start_words
+pub start-law : (W : Words) → EqualsLayer states W → Law W start_words
 start-law W within T alone _ =
     let n : ℕ = weight_at 4 T in
     let P : Stepped → Type 0 = GoesIn W n (start_ends T) in
@@ -157,7 +157,7 @@ start-law W within T alone _ =
 stop-here : (T : Tokenizer) (v : ℕ) → current_of T ≡ Some v → stops_here T v ≡ true →
     more_data (stops_of T.tokenize_state) (ahead T) ≡ Some (empty, ahead T)
 stop-here T v e h =
-    let b : Begins v (ahead T) = ahead-some T v e in
+    let b : BeginsWithValue v (ahead T) = ahead-some T v e in
     ap (more_data (stops_of T.tokenize_state)) b.whole ∙ more-stops (stops_of T.tokenize_state) b.code (rest_of (ahead T)) (stops-is T v e ∙ h) ∙ ap (λ cs. Some (empty, cs)) (sym b.whole)
 
 -- In a stretch.
@@ -176,7 +176,7 @@ stretch-ends T e ok U k =
 stretch-same : (T : Tokenizer) (v : ℕ) → current_of T ≡ Some v → (v == 10) || stops_here T v ≡ false →
     past_stretch (done (Consume ∷ []) T) ≡ past_stretch T
 stretch-same T v e h =
-    let b : Begins v (ahead T) = ahead-some T v e in
+    let b : BeginsWithValue v (ahead T) = ahead-some T v e in
     let stops : List Code → Bool = stops_of T.tokenize_state in
     let X : Tokenizer = done (Consume ∷ []) T in
     let next : stretch_of X ≡ (up_to_break stops (rest_of (ahead T))).0 =
@@ -193,7 +193,7 @@ stretch-goes T v e h ok U k = subst (λ (V : Tokenizer). at_break_ends V ok U) (
 
 stretch-stops : (T : Tokenizer) (v : ℕ) → current_of T ≡ Some v → (v == 10) || stops_here T v ≡ true → stretch_of T ≡ []
 stretch-stops T v e h =
-    let b : Begins v (ahead T) = ahead-some T v e in
+    let b : BeginsWithValue v (ahead T) = ahead-some T v e in
     let stops : List Code → Bool = stops_of T.tokenize_state in
     ap (λ cs. (up_to_break stops cs).0) b.whole ∙ ap (λ (s : List Code × List Code). s.0) (break-stops stops b.code (rest_of (ahead T)) (breaks-is T v e ∙ h))
 
@@ -225,7 +225,7 @@ rank-where : (T : Tokenizer) (v : ℕ) → current_of T ≡ Some v → stops_her
 rank-where T v e g h =
     ap (λ o. rank_at o T) e ∙ ap (λ b. if b || stops_here T v then 1 else 3) h ∙ ap (λ b. if b then 1 else 3) g
 
-entering-law : (W : Words) → Within states W → (T : Tokenizer) → T.attempts ≡ [] → (v : ℕ) → current_of T ≡ Some v → stops_here T v ≡ false →
+entering-law : (W : Words) → EqualsLayer states W → (T : Tokenizer) → T.attempts ≡ [] → (v : ℕ) → current_of T ≡ Some v → stops_here T v ≡ false →
     GoesIn W (weight_at (rank_at (current_of T) T) T) (at_break_ends T) (entering v T)
 entering-law W within T alone v e g =
     let n : ℕ = weight_at (rank_at (current_of T) T) T in
@@ -239,7 +239,7 @@ entering-law W within T alone v e g =
     (omega (arith, rank-where T v e g h, left-done (Enter N.Data ∷ []) T (omega arith)))
     (λ ok U k. entered-closes T v e g h ok U k))
 
-pub at_break-law : (W : Words) → Within states W → Law W at_break_words
+pub at_break-law : (W : Words) → EqualsLayer states W → Law W at_break_words
 at_break-law W within T alone _ =
     let n : ℕ = weight_at (rank_at (current_of T) T) T in
     let P : Stepped → Type 0 = GoesIn W n (at_break_ends T) in
@@ -270,7 +270,7 @@ rank-none : (T : Tokenizer) → current_of T ≡ None →
     rank_at (current_of (done (Exit N.Data ∷ []) T)) (done (Exit N.Data ∷ []) T) ≡ 1
 rank-none T e = ap (λ o. rank_at o (done (Exit N.Data ∷ []) T)) (here-left T ∙ e)
 
-pub inside-law : (W : Words) → Within states W → Law W inside_words
+pub inside-law : (W : Words) → EqualsLayer states W → Law W inside_words
 inside-law W within T alone token =
     let n : ℕ = weight_at 2 T in
     let P : Stepped → Type 0 = GoesIn W n (inside_ends T) in
@@ -295,7 +295,7 @@ inside-steady T set known free =
     rw (a, other) refl)
 
 -- of these states, and of any other as it is given
-pub laws : (W : Words) → Within states W → (t : StateName → StateWords) → AreLawful W t → AreLawful W (states t)
+pub laws : (W : Words) → EqualsLayer states W → (t : StateName → StateWords) → AreLawful W t → AreLawful W (states t)
 laws W within t other H.DataStart = start-law W within
 laws W within t other H.DataAtBreak = at_break-law W within
 laws W within t other H.DataInside = inside-law W within

@@ -1,20 +1,23 @@
 -- Destinations: what their readings give, by the next code.
-use Rattle.std.proofs.Common.{◌≡◌, ◌≢◌, ℕ, zero, suc, ◌-◌, ◌==◌, ◌&&◌, ◌||◌, not, nat_lt, Bool, true, false, if◌then◌else◌, codes, Option, Some, None, List, [], ◌∷◌, ◌++◌, refl, sym, ap, subst, ◌∙◌, append-nil, arith}
+use Rattle.std.proofs.Common.{◌≡◌, ◌≢◌, ℕ, zero, suc, ◌-◌, ◌==◌, ◌&&◌, ◌||◌, not, nat_lt, Bool, true, false, if◌then◌else◌, codes, Option, Some, None, List, [], ◌∷◌, ◌++◌, refl, sym, ap, ◌∙◌, arith}
 use Rattle.std.proofs.lemmas.Bool.{eqb-true}
-use Rattle.markdown_engine_content.specs.Codes.{Code, is_line_ending}
+use Rattle.markdown_content.specs.Codes.{Code, is_line_ending}
 use Rattle.markdown_engine.specs.Operations.{Op, Enter, Exit, Consume}
-use Rattle.markdown_engine_content.specs.Tree.{Forest, ◌⊕◌, leaf, linked, group}
+use Rattle.markdown_content.specs.Tree.{Forest, ◌⊕◌, leaf, linked, group}
 use Rattle.markdown_engine.specs.TreeOps.{consumes}
 use Rattle.markdown_event.specs.declared.event.Name.TheVariants as N
 use Rattle.markdown_model.specs.CodeTests.{is_value, is_among, is_empty, is_whitespace_code, is_control, next_is}
-use Rattle.markdown_model.specs.Grammar.{Reading, ◌>>=◌, gives, provided, if_next, one, up_to, with_first}
+use Rattle.markdown_model.specs.Grammar.{Reading, ◌>>=◌, gives, if_next, one, up_to, with_first}
 use Rattle.markdown_model.specs.Resource.{DestinationNames, destination, literal_destination, raw_destination, raw_from, string_group}
 use Rattle.markdown_plan.specs.Plan.{preceded}
-use Rattle.markdown_plan.proofs.PassedByReadings.{Gives, Read, IsSome, Gives-bind, Gives-after, Gives-provided, Gives-gives, Gives-one, some-first}
+use Rattle.markdown_model.proofs.GivenByReadings.{given-passed, given-gives}
+use Rattle.markdown_model.proofs.NoLinkInConstructs.{Yields, yields_bind, yields_gives, yields_next, then_any}
+use Rattle.markdown_model.proofs.OneLineReadings.{IsOneCode, one-one, one-some, some-join}
+use Rattle.markdown_model.proofs.ReadingsCover.{covers_destination}
 use Rattle.markdown_partial.specs.PartialDestination.{opening, raw_opening, text_opening, closing, ending, raw_ending, text_then, bracketed, enclosed_plan, before_plan, raw_plan}
-use Rattle.markdown_partial.specs.LinkedTreeOps.{linked_ops, tree_ops, plan_of}
-use Rattle.markdown_partial.proofs.EscapedTextReadings.{Behind, first-some, Text, text-end, text-taken, text-stops, text-refused, text-next, text-bare, text, Gives-text}
-use Rattle.markdown_partial.proofs.LinkedTreeLemmas.{CoversRow, Row-leaf, Row-last, Row-linked, Row-string, Row-whole}
+use Rattle.markdown_partial.specs.LinkedTreeOps.{IsLinkedInOrder, linked_ops, tree_ops, plan_of}
+use Rattle.markdown_partial.proofs.EscapedTextReadings.{Text, text-end, text-taken, text-stops, text-refused, text-next, text-bare, text}
+use Rattle.markdown_partial.proofs.LinkedTreeLemmas.{ReadsLinked, Row-leaf, Row-last, Row-linked, Row-string, Row-whole}
 use Rattle.markdown_model.proofs.GrammarSteps.{bind-some, bind-none, after-some, after-none, one-here, provided-true, provided-false}
 
 -- Between the brackets.
@@ -116,17 +119,6 @@ pub if-other : {A : Type 0} (p : Code → Bool) (a b : Reading A) (cs : List Cod
     if_next p a b cs ≡ b cs
 unfolding if_next
 if-other p a b cs e = rw (e, if_next) refl
-
-if-by : {A : Type 0} (b : Bool) (x y : Reading A) (cs : List Code) (Q : A → List Code → Type 0) → Gives Q x →
-    Gives Q y → (z : A) (rest : List Code) →
-    elim b as (λ _. Option (A × List Code)) [ true ↦ x cs | false ↦ y cs ] ≡ Some (z, rest) → Read Q cs z rest
-if-by true x y cs Q g h z rest e = g cs z rest e
-if-by false x y cs Q g h z rest e = h cs z rest e
-
-Gives-if : {A : Type 0} (p : Code → Bool) (x y : Reading A) (Q : A → List Code → Type 0) → Gives Q x → Gives Q y →
-    Gives Q (if_next p x y)
-unfolding if_next
-Gives-if p x y Q g h cs z rest e = if-by (next_is p cs) x y cs Q g h z rest e
 
 pub destination-bracket : (max : ℕ) (names : DestinationNames) (c : Code) (cs : List Code) → is_value 60 c ≡ true →
     plan_of (destination max names) (c ∷ cs) ≡ preceded (opening names) (before_plan names cs)
@@ -276,85 +268,37 @@ destination-control max names c cs k e h =
 
 -- What the readings pass.
 
-Parts : List Code → List Code × List Code → Type 0
-Parts cs r = cs ≡ r.0 ++ r.1
-
-behind-raw : (c : Code) (cs : List Code) (o : Option (List Code × List Code)) (r : List Code × List Code) →
-    with_first c o ≡ Some r → ((q : List Code × List Code) → o ≡ Some q → Parts cs q) → Parts (c ∷ cs) r
-unfolding Parts
-behind-raw c cs o r e f =
-    let b : Behind c o r = first-some c o r e in
-    subst (λ (x : List Code × List Code). c ∷ cs ≡ x.0 ++ x.1) (sym b.is) (ap (λ xs. c ∷ xs) (f b.others b.gives))
-
-here-raw : (cs : List Code) (r : List Code × List Code) → Some ([], cs) ≡ Some r → Parts cs r
-unfolding Parts
-here-raw cs r e = let same : ([], cs) ≡ r = cc in subst (λ (x : List Code × List Code). cs ≡ x.0 ++ x.1) same refl
-
-depth-raw : (depth : ℕ) (cs : List Code) (r : List Code × List Code) →
-    elim depth as (λ _. Option (List Code × List Code)) [ zero ↦ Some ([], cs) | suc d ↦ None ] ≡ Some r → Parts cs r
-depth-raw zero cs r e = here-raw cs r e
-depth-raw (suc d) cs r e = cc
-
--- the tests of its definition, in their order
-raw-tests : (w x y z u v : Bool) (c : Code) (cs : List Code) (here : Option (List Code × List Code)) (f : Bool → ℕ → Option (List Code × List Code)) (up same down : ℕ) (slash : Bool) (r : List Code × List Code) →
-    elim w as (λ _. Option (List Code × List Code)) [ true ↦ with_first c (f false same) | false ↦ elim x as (λ _. Option (List Code × List Code)) [ true ↦ here | false ↦ elim y as (λ _. Option (List Code × List Code)) [ true ↦ None | false ↦ elim z as (λ _. Option (List Code × List Code)) [ true ↦ elim u as (λ _. Option (List Code × List Code)) [ true ↦ with_first c (f false up) | false ↦ None ] | false ↦ elim v as (λ _. Option (List Code × List Code)) [ true ↦ with_first c (f false down) | false ↦ with_first c (f slash same) ] ] ] ] ] ≡ Some r →
-    (here ≡ Some r → Parts (c ∷ cs) r) →
-    ((b : Bool) (n : ℕ) (q : List Code × List Code) → f b n ≡ Some q → Parts cs q) → Parts (c ∷ cs) r
-raw-tests true x y z u v c cs here f up same down slash r e h k = behind-raw c cs (f false same) r e (k false same)
-raw-tests false true y z u v c cs here f up same down slash r e h k = h e
-raw-tests false false true z u v c cs here f up same down slash r e h k = cc
-raw-tests false false false true true v c cs here f up same down slash r e h k =
-    behind-raw c cs (f false up) r e (k false up)
-raw-tests false false false true false v c cs here f up same down slash r e h k = cc
-raw-tests false false false false u true c cs here f up same down slash r e h k =
-    behind-raw c cs (f false down) r e (k false down)
-raw-tests false false false false u false c cs here f up same down slash r e h k =
-    behind-raw c cs (f slash same) r e (k slash same)
-
-raw-parts : (max : ℕ) (slash : Bool) (depth : ℕ) (cs : List Code) (r : List Code × List Code) →
-    raw_from max slash depth cs ≡ Some r → Parts cs r
-unfolding raw_from
-raw-parts max slash depth [] r e = depth-raw depth [] r e
-raw-parts max slash depth (c ∷ cs) r e =
-    raw-tests (slash && is_among (codes "()\\") c) (is_whitespace_code c || (is_value 41 c && depth == 0)) (is_control c) (is_value 40 c) (nat_lt depth max) (is_value 41 c) c cs (elim depth as (λ _. Option (List Code × List Code)) [ zero ↦ Some ([], c ∷ cs) | suc d ↦ None ]) (λ b n. raw_from max b n cs) (suc depth) depth (depth - 1) (c.value == 92) r e (depth-raw depth (c ∷ cs) r) (λ b n q h. raw-parts max b n cs q h)
-
-Gives-raw : (max : ℕ) → Gives (λ x ws. x ≡ ws) (raw_from max false 0)
-unfolding Parts
-Gives-raw max cs x rest e = record { codes = x; whole = raw-parts max false 0 cs (x, rest) e; holds = refl }
-
 not-empty : (xs : List Code) → not (is_empty xs) ≡ true → xs ≢ []
 not-empty [] e = cc
 not-empty (x ∷ xs) e = λ h. cc
 
-raw-covers : (max : ℕ) (names : DestinationNames) → Gives CoversRow (raw_destination max names)
+abbrev IsLinkedTree : Forest → Type 0
+IsLinkedTree t = IsLinkedInOrder false t
+
+raw-tree : (names : DestinationNames) (text : List Code) → text ≢ [] →
+    IsLinkedTree (group names.whole (group names.raw (group names.text (linked N.Data text))))
+raw-tree names text some =
+    let inner : Forest = group names.text (linked N.Data text) in
+    (Row-whole names.whole text (group names.raw inner) some (Row-whole names.raw text inner some (Row-whole names.text text (linked N.Data text) some (Row-linked N.Data text text refl)))).0
+
+raw-linked : (max : ℕ) (names : DestinationNames) → Yields IsLinkedTree (raw_destination max names)
 unfolding raw_destination
-raw-covers max names =
-    Gives-bind _ _ (λ x ws. x ≡ ws) CoversRow (Gives-raw max) (λ text ws p.
-    Gives-after (provided (not (is_empty text))) _ (λ x vs. (vs ≡ []) × (text ≢ [])) _
-    (Gives-provided (not (is_empty text)) _ (λ h. (refl, not-empty text h))) (λ x vs q.
-    Gives-gives (group names.whole (group names.raw (group names.text (linked N.Data text)))) _
-    (let some : ws ≢ [] = λ e. q.1 (p ∙ e) in
-    let all : ws ++ (vs ++ []) ≡ ws = ap (λ us. ws ++ us) (append-nil vs ∙ q.0) ∙ append-nil ws in
-    subst (λ us. CoversRow (group names.whole (group names.raw (group names.text (linked N.Data text)))) us) (sym all)
-    (let inner : Forest = group names.text (linked N.Data text) in
-    Row-whole names.whole ws (group names.raw inner) some (Row-whole names.raw ws inner some (Row-whole names.text ws (linked N.Data text) some (Row-linked N.Data text ws p)))))))
+raw-linked max names =
+    then_any _ _ _ λ text. record { at = λ cs. given-passed (λ t _. IsLinkedTree t) (not (is_empty text)) _ cs (λ e. given-gives (λ t _. IsLinkedTree t) _ cs (raw-tree names text (not-empty text e))) }
 
-literal-covers : (names : DestinationNames) → Gives CoversRow (literal_destination names)
-unfolding literal_destination up_to
-literal-covers names =
-    Gives-bind _ _ IsSome CoversRow (Gives-one (is_value 60)) (λ front ws p.
-    Gives-bind _ _ (λ x vs. x ≡ vs) _ (Gives-text (is_value 62) takes refuses false) (λ text vs q.
-    Gives-bind _ _ IsSome _ (Gives-one (is_value 62)) (λ back us r.
-    Gives-gives (group names.whole (group names.literal (leaf names.marker front ⊕ string_group names.text (linked N.Data text) ⊕ leaf names.marker back))) _
-    (let some : ws ++ (vs ++ (us ++ [])) ≢ [] = some-first ws (vs ++ (us ++ [])) (λ e. p.1 (p.0 ∙ e)) in
-    let row : Forest = string_group names.text (linked N.Data text) ⊕ leaf names.marker back in
-    let all : List Code = ws ++ (vs ++ (us ++ [])) in
-    Row-whole names.whole all (group names.literal (leaf names.marker front ⊕ row)) some
+literal-linked : (names : DestinationNames) → Yields IsLinkedTree (literal_destination names)
+unfolding literal_destination
+literal-linked names =
+    yields_bind IsOneCode _ _ _ (one-one _) λ front f. then_any _ _ _ λ text. then_any _ _ _ λ back. yields_gives _ _
+    (let row : Forest = string_group names.text (linked N.Data text) ⊕ leaf names.marker back in
+    let all : List Code = front ++ (text ++ (back ++ [])) in
+    let some : all ≢ [] = some-join front (text ++ (back ++ [])) (one-some front f) in
+    (Row-whole names.whole all (group names.literal (leaf names.marker front ⊕ row)) some
     (Row-whole names.literal all (leaf names.marker front ⊕ row) some
-    (Row-leaf names.marker front ws (vs ++ (us ++ [])) row p.0
-    (Row-string names.text vs (us ++ []) (linked N.Data text) (leaf names.marker back) (Row-linked N.Data text vs q) (Row-last names.marker back us r.0))))))))
+    (Row-leaf names.marker front front (text ++ (back ++ [])) row refl
+    (Row-string names.text text (back ++ []) (linked N.Data text) (leaf names.marker back) (Row-linked N.Data text text refl) (Row-last names.marker back back refl))))).0)
 
-pub destination-covers : (max : ℕ) (names : DestinationNames) → Gives CoversRow (destination max names)
+pub destination-linked : (max : ℕ) (names : DestinationNames) → ReadsLinked (destination max names)
 unfolding destination
-destination-covers max names =
-    Gives-if (is_value 60) (literal_destination names) (raw_destination max names) CoversRow (literal-covers names) (raw-covers max names)
+destination-linked max names =
+    record { covers = covers_destination max names; linked = yields_next _ _ _ _ (literal-linked names) (raw-linked max names) }

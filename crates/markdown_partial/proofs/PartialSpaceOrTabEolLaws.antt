@@ -1,19 +1,19 @@
 -- the laws of the states of whitespace with a line ending
 use Rattle.std.proofs.Common.{◌≡◌, ℕ, ◌+◌, ◌-◌, ◌≤◌, Bool, true, false, Option, Some, None, is_some, List, [], ◌∷◌, ◌++◌, length, refl, sym, ap, subst, ◌∙◌, arith, length-append}
 use Rattle.markdown_engine_events.specs.EventChains.{has_link}
-use Rattle.markdown_engine_content.specs.Codes.{Code, is_blank, is_line_ending}
+use Rattle.markdown_content.specs.Codes.{Code, is_blank, is_line_ending}
 use Rattle.markdown_engine.specs.Operations.{current_of, consumed, exited, scratched, ahead, applied, ends_linked, LinkedBefore}
 use Rattle.markdown_engine.specs.PastTree.{EndsAs, past, passed, link_before, last_link, behind}
 use Rattle.markdown_engine.specs.StateRuns.{Stepped}
-use Rattle.markdown_engine_content.specs.Tree.{Forest, empty, leaf_codes}
+use Rattle.markdown_content.specs.Tree.{Forest, empty, leaf_codes}
 use Rattle.markdown_engine.specs.Weights.{codes_left, weight_at}
 use Rattle.markdown_event.specs.declared.event.Content.{Content}
 use Rattle.markdown_event.specs.declared.event.Event.{Event}
 use Rattle.markdown_event.specs.declared.event.Name.TheVariants as N
-use Rattle.markdown_state.specs.declared.state.State.TheVariants.{Next, Retry, Nok}
-use Rattle.markdown_state.specs.declared.state.StateName.{StateName}
-use Rattle.markdown_state.specs.declared.state.StateName.TheVariants as H
-use Rattle.markdown_state.specs.declared.state.StateName.TheVariants.{SpaceOrTabStart, SpaceOrTabEolAfterFirst, SpaceOrTabEolAtEol, SpaceOrTabEolAfterEol, SpaceOrTabEolAfterMore}
+use Rattle.markdown_event.specs.declared.state.State.TheVariants.{Next, Retry, Nok}
+use Rattle.markdown_event.specs.declared.state.StateName.{StateName}
+use Rattle.markdown_event.specs.declared.state.StateName.TheVariants as H
+use Rattle.markdown_event.specs.declared.state.StateName.TheVariants.{SpaceOrTabStart, SpaceOrTabEolAfterFirst, SpaceOrTabEolAtEol, SpaceOrTabEolAfterEol, SpaceOrTabEolAfterMore}
 use Rattle.markdown_engine.specs.declared.tokenizer.TokenizeState.{TokenizeState}
 use Rattle.markdown_engine.specs.declared.tokenizer.Tokenizer.{Tokenizer}
 use Rattle.markdown_engine.proofs.ReadingSequences.{EndsAs-scratched, EndsAs-then, left-read}
@@ -25,10 +25,10 @@ use Rattle.markdown_model.specs.Grammar.{span}
 use Rattle.markdown_model.specs.TextLines.{linked_leaf}
 use Rattle.markdown_model.specs.Whitespace.{space_or_tab, space_or_tab_eol, begins_filled_line}
 use Rattle.markdown_partial.specs.PartialSpaceOrTab as PartialSpaceOrTab
-use Rattle.markdown_partial.specs.PartialSpaceOrTab.{most, at_blank, rested}
+use Rattle.markdown_partial.specs.PartialSpaceOrTab.{most, rested}
 use Rattle.markdown_partial.specs.PartialSpaceOrTabEol.{space_asked, eol_rested, held, joins, joined, at_line_ending, ending_entered, goes_on_line, EolReady, AfterFirstReady, indent, at_ending, start_ends, after_first_ends, at_eol_ends, after_eol_ends, after_more_ends, states_and_called, after_eol_words, after_first_words, after_more_words, at_eol_words, start_words, states}
 use Rattle.markdown_partial.proofs.EndLemmas.{EndsAs-same}
-use Rattle.markdown_partial.proofs.BlankCodes.{Here, here, blank-ahead, ending-ahead, filled-ahead}
+use Rattle.markdown_partial.proofs.BlankCodes.{CodePasses, here, blank-ahead, ending-ahead, filled-ahead}
 use Rattle.markdown_partial.proofs.WhitespaceReadings.{nothing, space-all, ending-here, ending-none, spacing-then, spacing-none}
 use Rattle.markdown_partial.proofs.LinkedLeafLemmas.{entered-attempts}
 use Rattle.markdown_model.proofs.LeafCodes.{span-append}
@@ -36,7 +36,8 @@ use Rattle.markdown_model.proofs.GrammarSteps.{span-none}
 use Rattle.markdown_model.proofs.ReadingsCover.{codes-linked_leaf}
 use Rattle.markdown_engine.specs.StateWords.{StateWords, Words, Law, GoesIn}
 use Rattle.markdown_plan.proofs.LawStepsOfLayer.{Goes-end, Goes-plain, Goes-attempt, follows}
-use Rattle.markdown_plan.specs.LayerEquation.{Within, AreLawful}
+use Rattle.markdown_plan.specs.LayerEquation.{EqualsLayer, AreLawful}
+use Rattle.markdown_plan.specs.ByteTests.{at_blank}
 
 pub after_more-law : (W : Words) → Law W after_more_words
 after_more-law W T alone _ =
@@ -49,7 +50,7 @@ eol-held : (T : Tokenizer) → EolReady T → EolReady (scratched (held T.tokeni
 unfolding scratched
 eol-held T r = record { short = r.short; resting = ap held r.resting; linked = r.linked; contents = r.contents }
 
-space-ready : (T : Tokenizer) → EolReady T → PartialSpaceOrTab.StartReady (scratched (space_asked T.tokenize_state) T)
+space-ready : (T : Tokenizer) → EolReady T → PartialSpaceOrTab.SpaceOrTabStartReady (scratched (space_asked T.tokenize_state) T)
 unfolding scratched
 space-ready T r =
     record { none_yet = ap (λ (s : TokenizeState). s.space_or_tab_size) (sym r.resting); linked = r.linked }
@@ -59,7 +60,7 @@ first-closed : (T : Tokenizer) (ok : Bool) (V : Tokenizer) → at_eol_ends (scra
 unfolding scratched
 first-closed T ok V k = EndsAs-scratched _ _ _ (held T.tokenize_state) T ok V k
 
-pub after_first-law : (W : Words) → Within states_and_called W → Law W after_first_words
+pub after_first-law : (W : Words) → EqualsLayer states_and_called W → Law W after_first_words
 after_first-law W within T alone r =
     let U : Tokenizer = scratched (held T.tokenize_state) T in
     Goes-plain W (weight_at 7 T) (after_first_ends T) (Retry SpaceOrTabEolAtEol) (within SpaceOrTabEolAtEol) U (attempts-scratched _ T ∙ alone) (eol-held T r.goes_on)
@@ -71,7 +72,7 @@ after_first-law W within T alone r =
 abbrev blank_leaf : TokenizeState → Tokenizer → Forest
 blank_leaf s T = linked_leaf N.SpaceOrTab s.space_or_tab_eol_content (span is_blank (ahead T)).0
 
-record Spaced (T U : Tokenizer) : Type 0 where
+record EolSpaced (T U : Tokenizer) : Type 0 where
   left : U ≡ past (link_before T.tokenize_state.space_or_tab_eol_connect T) (blank_leaf T.tokenize_state T) (scratched (rested (space_asked T.tokenize_state)) T)
   after : ahead U ≡ (span is_blank (ahead T)).1
   fewer : codes_left U ≤ codes_left T
@@ -85,7 +86,7 @@ read_of None = (empty, [])
 read_of (Some r) = r
 
 spaced : (T U : Tokenizer) → EolReady T → next_is is_blank (ahead T) ≡ true →
-    PartialSpaceOrTab.start_ends (scratched (space_asked T.tokenize_state) T) true U → Spaced T U
+    PartialSpaceOrTab.start_ends (scratched (space_asked T.tokenize_state) T) true U → EolSpaced T U
 unfolding scratched read_of
 spaced T U r h k =
     let s : TokenizeState = T.tokenize_state in
@@ -102,7 +103,7 @@ never-refused : (T U : Tokenizer) → EolReady T → next_is is_blank (ahead T) 
 unfolding scratched
 never-refused T U r h k = some-none _ _ (space-there T T.tokenize_state.space_or_tab_eol_content h r.short) k.refused
 
-spaced-scratch : (T U : Tokenizer) → Spaced T U → U.tokenize_state ≡ rested (space_asked T.tokenize_state)
+spaced-scratch : (T U : Tokenizer) → EolSpaced T U → U.tokenize_state ≡ rested (space_asked T.tokenize_state)
 unfolding scratched past
 spaced-scratch T U k = ap (λ (x : Tokenizer). x.tokenize_state) k.left
 
@@ -120,7 +121,7 @@ indent-closed link previous s T true U h k =
     record { tree = linked_leaf N.SpaceOrTab link b.0; rest = b.1; holds = rw (← h) refl; left = k; whole = whole; after = ap ahead k ∙ ahead-past previous _ (scratched s T) _ whole }
 indent-closed link previous s T false U h k = record { refused = rw (← h) refl; fails = Fails-past previous _ s T U k }
 
-more-closed : (T U : Tokenizer) → EolReady T → Spaced T U → (ok : Bool) (V : Tokenizer) → after_more_ends U ok V →
+more-closed : (T U : Tokenizer) → EolReady T → EolSpaced T U → (ok : Bool) (V : Tokenizer) → after_more_ends U ok V →
     after_eol_ends T ok V
 unfolding scratched past
 more-closed T U r k ok V m =
@@ -137,7 +138,7 @@ none-closed T e ok V m =
     indent-closed s.space_or_tab_eol_content previous (eol_rested s) T ok V (m.0 ∙ ap (λ (b : List Code × List Code). begins_filled_line b.1) (sym e))
     (m.1 ∙ sym (past-empty previous (scratched (eol_rested s) T)) ∙ ap (λ (b : List Code × List Code). past previous (linked_leaf N.SpaceOrTab s.space_or_tab_eol_content b.0) (scratched (eol_rested s) T)) (sym e))
 
-pub after_eol-law : (W : Words) → Within states_and_called W → Law W after_eol_words
+pub after_eol-law : (W : Words) → EqualsLayer states_and_called W → Law W after_eol_words
 after_eol-law W within T alone r =
     let s : TokenizeState = T.tokenize_state in
     let n : ℕ = weight_at 5 T in
@@ -147,7 +148,7 @@ after_eol-law W within T alone r =
     (λ h. let b : next_is is_blank (ahead T) ≡ true = sym (blank-ahead T) ∙ h in
     Goes-attempt W n (after_eol_ends T) (Retry SpaceOrTabStart) (within SpaceOrTabStart) (Next SpaceOrTabEolAfterMore) Nok A (attempts-scratched _ T ∙ alone) (space-ready T r)
     (omega (arith, left-scratched (space_asked s) T))
-    (λ U now k. let g : Spaced T U = spaced T U r b k in
+    (λ U now k. let g : EolSpaced T U = spaced T U r b k in
     follows W _ _ (Next SpaceOrTabEolAfterMore) (within SpaceOrTabEolAfterMore) U tt (omega (arith, g.fewer)) (λ ok V m. more-closed T U r g ok V m))
     (λ U now k. absurd (never-refused T U r b k)))
     (λ h. Goes-plain W n (after_eol_ends T) (Retry SpaceOrTabEolAfterMore) (within SpaceOrTabEolAfterMore) T alone tt (omega arith)
@@ -192,7 +193,7 @@ abbrev past_ending : Code → Tokenizer → Tokenizer → Tokenizer
 past_ending c T U =
     past (link_before T.tokenize_state.space_or_tab_eol_connect T) (linked_leaf N.LineEnding T.tokenize_state.space_or_tab_eol_content (c ∷ [])) U
 
-ending-passed : (T : Tokenizer) (b : Here is_line_ending T) →
+ending-passed : (T : Tokenizer) (b : CodePasses is_line_ending T) →
     exited N.LineEnding (consumed (ending_entered T.tokenize_state T)) ≡ past_ending b.code T T
 unfolding passed applied past
 ending-passed T b =
@@ -207,12 +208,12 @@ record Joined (c : Code) (T U : Tokenizer) : Type 0 where
   scratch : U.tokenize_state ≡ joined T.tokenize_state
   here : ahead T ≡ c ∷ ahead U
 
-ending-joined : (T : Tokenizer) (b : Here is_line_ending T) →
+ending-joined : (T : Tokenizer) (b : CodePasses is_line_ending T) →
     left_by_ending T ≡ past_ending b.code T (scratched (joined T.tokenize_state) T)
 unfolding scratched past
 ending-joined T b = ap (scratched (joined T.tokenize_state)) (ending-passed T b)
 
-joined-here : (T : Tokenizer) (b : Here is_line_ending T) (U : Tokenizer) →
+joined-here : (T : Tokenizer) (b : CodePasses is_line_ending T) (U : Tokenizer) →
     U ≡ past_ending b.code T (scratched (joined T.tokenize_state) T) → Joined b.code T U
 unfolding scratched past applied
 joined-here T b U k =
@@ -259,14 +260,14 @@ unfolding scratched applied
 ending-alone T h =
     entered-attempts N.LineEnding T.tokenize_state.space_or_tab_eol_content T.tokenize_state.space_or_tab_eol_connect T ∙ h
 
-pub at_eol-law : (W : Words) → Within states_and_called W → Law W at_eol_words
+pub at_eol-law : (W : Words) → EqualsLayer states_and_called W → Law W at_eol_words
 at_eol-law W within T alone r =
     let s : TokenizeState = T.tokenize_state in
     let n : ℕ = weight_at 6 T in
     let P : Stepped → Type 0 = GoesIn W n (at_eol_ends T) in
     let U : Tokenizer = left_by_ending T in
     if-step P (at_line_ending (current_of T)) _ _
-    (λ h. let b : Here is_line_ending T = here is_line_ending T (sym (ending-ahead T) ∙ h) in
+    (λ h. let b : CodePasses is_line_ending T = here is_line_ending T (sym (ending-ahead T) ∙ h) in
     let j : Joined b.code T U = joined-here T b U (ending-joined T b) in
     Goes-plain W n (at_eol_ends T) (Next SpaceOrTabEolAfterEol) (within SpaceOrTabEolAfterEol) U (ending-alone T alone) (joined-ready b.code T U r j)
     (omega (arith, left-ahead T, left-ahead U, ap length j.here))
@@ -284,7 +285,7 @@ unconnected : (T : Tokenizer) → EolReady T → T.tokenize_state.space_or_tab_e
     T.tokenize_state.space_or_tab_eol_connect ≡ false
 unconnected T r e = no-connect T.tokenize_state.space_or_tab_eol_connect (λ c. sym (ap is_some e) ∙ r.contents c)
 
-first-ready : (T U : Tokenizer) → EolReady T → T.tokenize_state.space_or_tab_eol_content ≡ None → Spaced T U →
+first-ready : (T U : Tokenizer) → EolReady T → T.tokenize_state.space_or_tab_eol_content ≡ None → EolSpaced T U →
     AfterFirstReady U
 first-ready T U r e k =
     let s : TokenizeState = T.tokenize_state in
@@ -303,7 +304,7 @@ plain-previous None true cs T U e h = cc
 plain-previous (Some x) connect cs T U e h = cc
 
 start-first : (T U : Tokenizer) → EolReady T → T.tokenize_state.space_or_tab_eol_content ≡ None →
-    next_is is_blank (ahead T) ≡ true → Spaced T U → (ok : Bool) (V : Tokenizer) → after_first_ends U ok V →
+    next_is is_blank (ahead T) ≡ true → EolSpaced T U → (ok : Bool) (V : Tokenizer) → after_first_ends U ok V →
     start_ends T ok V
 start-first T U r e h g ok V k =
     let s : TokenizeState = T.tokenize_state in
@@ -327,7 +328,7 @@ start-none T z h ok V k =
     let same : space_or_tab_eol s.space_or_tab_eol_content (ahead T) ≡ at_ending s.space_or_tab_eol_content s.space_or_tab_eol_ok (ahead T) = spacing-none s.space_or_tab_eol_content (ahead T) h ∙ ap (λ b. at_ending s.space_or_tab_eol_content b (ahead T)) (sym z) in
     EndsAs-same (space_or_tab_eol s.space_or_tab_eol_content) (at_ending s.space_or_tab_eol_content s.space_or_tab_eol_ok) _ _ T same ok V k
 
-pub start-law : (W : Words) → Within states_and_called W → Law W start_words
+pub start-law : (W : Words) → EqualsLayer states_and_called W → Law W start_words
 start-law W within T alone r =
     let s : TokenizeState = T.tokenize_state in
     let n : ℕ = weight_at 8 T in
@@ -337,14 +338,14 @@ start-law W within T alone r =
     (λ h. let b : next_is is_blank (ahead T) ≡ true = sym (blank-ahead T) ∙ h in
     Goes-attempt W n (start_ends T) (Retry SpaceOrTabStart) (within SpaceOrTabStart) (Next SpaceOrTabEolAfterFirst) (Next SpaceOrTabEolAtEol) A (attempts-scratched _ T ∙ alone) (space-ready T r.begins)
     (omega (arith, left-scratched (space_asked s) T))
-    (λ U now k. let g : Spaced T U = spaced T U r.begins b k in
+    (λ U now k. let g : EolSpaced T U = spaced T U r.begins b k in
     follows W _ _ (Next SpaceOrTabEolAfterFirst) (within SpaceOrTabEolAfterFirst) U (first-ready T U r.begins (r.plain h) g) (omega (arith, g.fewer)) (λ ok V m. start-first T U r.begins (r.plain h) b g ok V m))
     (λ U now k. absurd (never-refused T U r.begins b k)))
     (λ h. Goes-plain W n (start_ends T) (Retry SpaceOrTabEolAtEol) (within SpaceOrTabEolAtEol) T alone r.begins (omega arith)
     (λ ok V m. start-none T r.none_yet (sym (blank-ahead T) ∙ h) ok V m))
 
 -- of these states, and of any other as it is given
-pub laws : (W : Words) → Within states_and_called W → (t : StateName → StateWords) → AreLawful W t →
+pub laws : (W : Words) → EqualsLayer states_and_called W → (t : StateName → StateWords) → AreLawful W t →
     AreLawful W (states t)
 laws W within t other H.SpaceOrTabEolStart = start-law W within
 laws W within t other H.SpaceOrTabEolAfterFirst = after_first-law W within

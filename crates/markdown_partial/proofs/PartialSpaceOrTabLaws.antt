@@ -1,19 +1,19 @@
 -- the laws of the states of whitespace on one line
 use Rattle.std.proofs.Common.{◌≡◌, ℕ, zero, suc, ◌+◌, ◌-◌, ◌<◌, ◌&&◌, nat_lt, nat_le, Bool, true, false, Option, List, [], ◌∷◌, ◌++◌, length, drop, take, refl, sym, ap, subst, ◌∙◌, arith}
 use Rattle.std.proofs.lemmas.Bool.{ltb-true}
-use Rattle.markdown_engine_content.specs.Codes.{Code, is_blank}
+use Rattle.markdown_content.specs.Codes.{Code, is_blank}
 use Rattle.markdown_engine.specs.Operations.{current_of, consumed, exited, scratched, ahead, applied, Exit, Consume, IsOpen}
 use Rattle.markdown_engine.specs.PastTree.{EndsAs, entered_leaf, link_before, past, passed}
-use Rattle.markdown_engine_content.specs.Place.{ahead_at}
+use Rattle.markdown_content.specs.Place.{ahead_at}
 use Rattle.markdown_engine.specs.StateRuns.{Stepped}
-use Rattle.markdown_engine_content.specs.Tree.{leaf_codes}
+use Rattle.markdown_content.specs.Tree.{leaf_codes}
 use Rattle.markdown_engine.specs.Weights.{codes_left, weight_at}
 use Rattle.markdown_event.specs.declared.event.Content.{Content}
 use Rattle.markdown_event.specs.declared.event.Name.{Name}
-use Rattle.markdown_state.specs.declared.state.State.TheVariants.{Next, Retry}
-use Rattle.markdown_state.specs.declared.state.StateName.{StateName}
-use Rattle.markdown_state.specs.declared.state.StateName.TheVariants as H
-use Rattle.markdown_state.specs.declared.state.StateName.TheVariants.{SpaceOrTabInside, SpaceOrTabAfter}
+use Rattle.markdown_event.specs.declared.state.State.TheVariants.{Next, Retry}
+use Rattle.markdown_event.specs.declared.state.StateName.{StateName}
+use Rattle.markdown_event.specs.declared.state.StateName.TheVariants as H
+use Rattle.markdown_event.specs.declared.state.StateName.TheVariants.{SpaceOrTabInside, SpaceOrTabAfter}
 use Rattle.markdown_engine.specs.declared.tokenizer.TokenizeState.{TokenizeState}
 use Rattle.markdown_engine.specs.declared.tokenizer.Tokenizer.{Tokenizer}
 use Rattle.markdown_engine.proofs.LawSteps.{if-step}
@@ -23,14 +23,15 @@ use Rattle.markdown_engine.proofs.TreeEvents.{leaf-past, ahead-past, past-empty,
 use Rattle.markdown_model.specs.Grammar.{span}
 use Rattle.markdown_model.specs.TextLines.{linked_leaf}
 use Rattle.markdown_model.specs.Whitespace.{space_or_tab}
-use Rattle.markdown_partial.specs.PartialSpaceOrTab.{at_blank, connected, sized, rested, start_ends, taken, inside_ends, after_ends, states, after_words, inside_words, start_words}
+use Rattle.markdown_partial.specs.PartialSpaceOrTab.{connected, sized, rested, start_ends, taken, inside_ends, after_ends, states, after_words, inside_words, start_words}
 use Rattle.markdown_partial.proofs.LinkedLeafLemmas.{entered-cursor, entered-attempts, entered-open, entered-left}
-use Rattle.markdown_partial.proofs.BlankCodes.{Here, here, blank-ahead, taken-parts, taken-first, taken-none}
+use Rattle.markdown_partial.proofs.BlankCodes.{CodePasses, here, blank-ahead, taken-parts, taken-first, taken-none}
 use Rattle.markdown_partial.proofs.WhitespaceReadings.{space-holds, space-refused}
 use Rattle.markdown_model.proofs.ReadingsCover.{codes-linked_leaf}
 use Rattle.markdown_engine.specs.StateWords.{StateWords, Words, Law, GoesIn}
 use Rattle.markdown_plan.proofs.LawStepsOfLayer.{Goes-plain, Goes-end}
-use Rattle.markdown_plan.specs.LayerEquation.{Within, AreLawful}
+use Rattle.markdown_plan.specs.LayerEquation.{EqualsLayer, AreLawful}
+use Rattle.markdown_plan.specs.ByteTests.{at_blank}
 
 pub after-law : (W : Words) → Law W after_words
 after-law W T alone _ =
@@ -51,7 +52,7 @@ lt-gap : (a b : ℕ) → nat_lt a b ≡ nat_lt 0 (b - a)
 lt-gap a b = grind arith
 
 inside-more : (T : Tokenizer) → T.tokenize_state.space_or_tab_size < T.tokenize_state.space_or_tab_max →
-    Here is_blank T → (ok : Bool) (U : Tokenizer) → inside_ends (more T) ok U → inside_ends T ok U
+    CodePasses is_blank T → (ok : Bool) (U : Tokenizer) → inside_ends (more T) ok U → inside_ends T ok U
 unfolding scratched applied passed
 inside-more T l b ok U k =
     let s : TokenizeState = T.tokenize_state in
@@ -74,16 +75,16 @@ unfolding scratched applied
 open-still T h = h
 
 -- past a code at hand fewer are left
-pub fewer : (p : Code → Bool) (T : Tokenizer) → Here p T → codes_left (consumed T) + 1 ≡ codes_left T
+pub fewer : (p : Code → Bool) (T : Tokenizer) → CodePasses p T → codes_left (consumed T) + 1 ≡ codes_left T
 fewer p T b = omega (arith, left-ahead T, left-ahead (consumed T), ap length b.whole)
 
-pub inside-law : (W : Words) → Within states W → Law W inside_words
+pub inside-law : (W : Words) → EqualsLayer states W → Law W inside_words
 inside-law W within T alone token =
     let s : TokenizeState = T.tokenize_state in
     let n : ℕ = weight_at 2 T in
     let P : Stepped → Type 0 = GoesIn W n (inside_ends T) in
     if-step P (at_blank (current_of T) && nat_lt s.space_or_tab_size s.space_or_tab_max) _ _
-    (λ h. let b : Here is_blank T = here is_blank T (sym (blank-ahead T) ∙ and-left _ _ h) in
+    (λ h. let b : CodePasses is_blank T = here is_blank T (sym (blank-ahead T) ∙ and-left _ _ h) in
     Goes-plain W n (inside_ends T) (Next SpaceOrTabInside) (within SpaceOrTabInside) (more T) (attempts-scratched _ (consumed T) ∙ attempts-applied Consume T ∙ alone) (open-still T token)
     (omega (arith, fewer is_blank T b, left-scratched (sized (s.space_or_tab_size + 1) s) (consumed T)))
     (λ ok U k. inside-more T (ltb-true _ _ (and-right _ _ h)) b ok U k))
@@ -109,7 +110,7 @@ space-closed name link min max previous s T true U h k =
 space-closed name link min max previous s T false U h k =
     record { refused = space-refused name link min max (ahead T) (sym h); fails = Fails-past previous _ s T U k }
 
-taken-some : (n : ℕ) (T : Tokenizer) → 0 < n → (b : Here is_blank T) →
+taken-some : (n : ℕ) (T : Tokenizer) → 0 < n → (b : CodePasses is_blank T) →
     (ws : List Code) × (take n (span is_blank (ahead T)).0 ≡ b.code ∷ ws)
 taken-some zero T h b = absurd (omega arith)
 taken-some (suc n) T h b =
@@ -123,7 +124,7 @@ abbrev connected_space : Tokenizer → Tokenizer
 connected_space T = scratched (connected T.tokenize_state) (entered_space T.tokenize_state T)
 
 start-inside : (T : Tokenizer) → 0 < T.tokenize_state.space_or_tab_max → T.tokenize_state.space_or_tab_size ≡ 0 →
-    Here is_blank T → (ok : Bool) (U : Tokenizer) → inside_ends (connected_space T) ok U →
+    CodePasses is_blank T → (ok : Bool) (U : Tokenizer) → inside_ends (connected_space T) ok U →
     start_ends T ok U
 unfolding scratched applied passed past
 start-inside T l z b ok U k =
@@ -164,7 +165,7 @@ open-entered T =
     let s : TokenizeState = T.tokenize_state in
     entered-open s.space_or_tab_token s.space_or_tab_content s.space_or_tab_connect T
 
-pub start-law : (W : Words) → Within states W → Law W start_words
+pub start-law : (W : Words) → EqualsLayer states W → Law W start_words
 start-law W within T alone on =
     let s : TokenizeState = T.tokenize_state in
     let n : ℕ = weight_at 3 T in
@@ -173,7 +174,7 @@ start-law W within T alone on =
     let V : Tokenizer = connected_space T in
     let same : codes_left V ≡ codes_left T = left-scratched (connected s) E ∙ entered-left s.space_or_tab_token s.space_or_tab_content s.space_or_tab_connect T in
     if-step P (at_blank (current_of T) && nat_lt 0 s.space_or_tab_max) _ _
-    (λ h. let b : Here is_blank T = here is_blank T (sym (blank-ahead T) ∙ and-left _ _ h) in
+    (λ h. let b : CodePasses is_blank T = here is_blank T (sym (blank-ahead T) ∙ and-left _ _ h) in
     Goes-plain W n (start_ends T) (Retry SpaceOrTabInside) (within SpaceOrTabInside) V (attempts-scratched (connected s) E ∙ entered-attempts s.space_or_tab_token s.space_or_tab_content s.space_or_tab_connect T ∙ alone) (open-entered T)
     (omega (arith, same))
     (λ ok U k. start-inside T (ltb-true _ _ (and-right _ _ h)) on.none_yet b ok U k))
@@ -181,7 +182,7 @@ start-law W within T alone on =
     Goes-plain W n (start_ends T) (Retry SpaceOrTabAfter) (within SpaceOrTabAfter) T alone tt (omega arith) (λ ok U k. start-after T on.none_yet none ok U k))
 
 -- of these states, and of any other as it is given
-pub laws : (W : Words) → Within states W → (t : StateName → StateWords) → AreLawful W t → AreLawful W (states t)
+pub laws : (W : Words) → EqualsLayer states W → (t : StateName → StateWords) → AreLawful W t → AreLawful W (states t)
 laws W within t other H.SpaceOrTabStart = start-law W within
 laws W within t other H.SpaceOrTabInside = inside-law W within
 laws W within t other H.SpaceOrTabAfter = after-law W

@@ -10,14 +10,15 @@ use Rattle.markdown_engine.specs.declared.tokenizer.Tokenizer.{Tokenizer}
 use Rattle.markdown_engine.proofs.ReadingSequences.{EndsAs-scratched}
 use Rattle.markdown_model.specs.Whitespace.{space_or_tab, space_or_tab_eol}
 use Rattle.markdown_partial.specs.PartialSpaceOrTab as PartialSpaceOrTab
-use Rattle.markdown_partial.specs.PartialSpaceOrTab.{most, asked, at_blank, rested}
+use Rattle.markdown_partial.specs.PartialSpaceOrTab.{most, asked, rested}
 use Rattle.markdown_partial.specs.PartialSpaceOrTabEol as PartialSpaceOrTabEol
 use Rattle.markdown_partial.specs.PartialSpaceOrTabEol.{WhitespaceAtRest, eol_asked, eol_rested}
+use Rattle.markdown_plan.specs.ByteTests.{at_blank}
 
 -- where the fields of whitespace are at rest it may be asked for
 pub asked-ready : (min max : ℕ) (kind : Name) (connect : Bool) (content : Option Content) (T : Tokenizer) →
     rested T.tokenize_state ≡ T.tokenize_state → (connect ≡ true → LinkedBefore T) →
-    PartialSpaceOrTab.StartReady (scratched (asked min max kind connect content T.tokenize_state) T)
+    PartialSpaceOrTab.SpaceOrTabStartReady (scratched (asked min max kind connect content T.tokenize_state) T)
 unfolding scratched
 asked-ready min max kind connect content T r linked =
     record { none_yet = ap (λ (s : TokenizeState). s.space_or_tab_size) (sym r); linked = linked }
@@ -38,7 +39,7 @@ asked-ends min max kind connect content T r ok U k =
 pub eol-asked-ready : (connect : Bool) (content : Option Content) (T : Tokenizer) → codes_left T ≤ most →
     WhitespaceAtRest T.tokenize_state → (connect ≡ true → LinkedBefore T) → (connect ≡ true → is_some content ≡ true) →
     (at_blank (current_of T) ≡ true → content ≡ None) →
-    PartialSpaceOrTabEol.StartReady (scratched (eol_asked connect content T.tokenize_state) T)
+    PartialSpaceOrTabEol.SpaceOrTabEolStartReady (scratched (eol_asked connect content T.tokenize_state) T)
 unfolding scratched
 eol-asked-ready connect content T short r linked contents plain =
     record {

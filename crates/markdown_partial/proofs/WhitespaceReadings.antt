@@ -1,8 +1,8 @@
 -- what the readings of whitespace give, by what stands there
 use Rattle.std.proofs.Common.{◌≡◌, ℕ, ◌≤◌, ◌||◌, nat_le, Bool, true, false, if◌then◌else◌, Option, Some, None, List, [], ◌∷◌, length, drop, take, refl, sym, ap, ◌∙◌, arith}
-use Rattle.markdown_engine_content.specs.Codes.{Code, is_blank, is_line_ending}
+use Rattle.markdown_content.specs.Codes.{Code, is_blank, is_line_ending}
 use Rattle.markdown_engine.specs.PastTree.{behind}
-use Rattle.markdown_engine_content.specs.Tree.{Forest, empty, ◌⊕◌}
+use Rattle.markdown_content.specs.Tree.{Forest, empty, ◌⊕◌}
 use Rattle.markdown_event.specs.declared.event.Content.{Content}
 use Rattle.markdown_event.specs.declared.event.Name.{Name}
 use Rattle.markdown_event.specs.declared.event.Name.TheVariants as N

@@ -3,11 +3,7 @@
 pub mod PartialData
 pub mod PartialSpaceOrTab
 pub mod PartialSpaceOrTabEol
-pub mod MergedEvents
-pub mod TrimmedData
-pub mod TrimmedEvents
 -- What serves proofs: what functions and proofs promise each other.
-pub mod DataOnLines
 pub mod LinkedText
 pub mod LinkedTreeOps
 pub mod PartialDestination

@@ -1,7 +1,9 @@
 -- Texts that are read as strings: the operations that pass their leaves, all of one chain, and how runs inside them end.
 use Rattle.std.specs.Prelude.{◌≤◌, Bool, true, false, ◌&&◌, ◌||◌, not, if◌then◌else◌, Option, Some, None, List, [], ◌∷◌, ◌++◌}
 use Rattle.markdown_engine_events.specs.EventChains.{has_link}
-use Rattle.markdown_engine_content.specs.Codes.{Code, is_line_ending, is_blank}
+use Rattle.markdown_content.specs.Codes.{Code, is_line_ending, is_blank}
+use Rattle.markdown_content.specs.CommonMark.{rules_of}
+use Rattle.markdown_content.specs.declared.configuration.Rules.{Rules}
 use Rattle.markdown_engine.specs.Operations.{Op, Enter, Exit, Consume, done, scratched}
 use Rattle.markdown_engine.specs.TreeOps.{consumes}
 use Rattle.markdown_engine.specs.Weights.{codes_left}
@@ -21,6 +23,10 @@ use Rattle.markdown_partial.specs.LinkedTreeOps.{enter_op, linked_ops}
 
 abbrev pub names_in : TokenizeState → StringNames
 names_in s = record { whole = s.token_1; marker = s.token_2; text = s.token_3 }
+
+-- the rules that the options choose
+abbrev pub rules_in : Tokenizer → Rules
+rules_in T = rules_of T.parse_state.now.options.now
 
 -- after a linked leaf the next one goes on with its chain
 abbrev pub joined : TokenizeState → TokenizeState

@@ -1,9 +1,9 @@
 -- The operations that pass a tree with linked leaves.
 use Rattle.std.specs.Prelude.{◌≡◌, ◌≢◌, Bool, true, false, List, [], ◌∷◌, ◌++◌, Option, Some, None, if◌then◌else◌}
-use Rattle.markdown_engine_content.specs.Codes.{Code, stop_of, document_start}
+use Rattle.markdown_content.specs.Codes.{Code, stop_of, document_start}
 use Rattle.markdown_engine.specs.Operations.{Op, Enter, Exit, EnterLink, EnterConnected}
 use Rattle.markdown_engine.specs.PastTree.{TreeReading}
-use Rattle.markdown_engine_content.specs.Tree.{Forest, empty, leaf_then, group_then, leaf_codes, start_of}
+use Rattle.markdown_content.specs.Tree.{Forest, empty, leaf_then, group_then, leaf_codes, start_of}
 use Rattle.markdown_engine.specs.TreeOps.{consumes}
 use Rattle.markdown_event.specs.declared.event.Content.{Content}
 use Rattle.markdown_event.specs.declared.event.Name.{Name}
@@ -33,10 +33,11 @@ abbrev pub plan_of : TreeReading → Plan
 plan_of reading cs = tree_ops (reading cs)
 
 -- Behind a linked leaf stand linked leaves alone as siblings; no leaf is empty, and each group reaches from its first code to its last.
-abbrev pub IsRow : Bool → Forest → Type 0
-IsRow linked empty = Unit {0}
-IsRow linked (leaf_then name link cs rest) = (linked ≡ true → has_content link ≡ true) × ((cs ≢ []) × IsRow (has_content link) rest)
-IsRow linked (group_then name enter exit inside rest) =
+abbrev pub IsLinkedInOrder : Bool → Forest → Type 0
+IsLinkedInOrder linked empty = Unit {0}
+IsLinkedInOrder linked (leaf_then name link cs rest) = (linked ≡ true → has_content link ≡ true) × ((cs ≢ []) × IsLinkedInOrder (has_content link) rest)
+IsLinkedInOrder linked (group_then name enter exit inside rest) =
     (linked ≡ false)
     × ((leaf_codes inside ≢ [])
-    × ((enter ≡ start_of (leaf_codes inside)) × ((exit ≡ stop_of document_start (leaf_codes inside)) × (IsRow false inside × IsRow false rest))))
+    × ((enter ≡ start_of (leaf_codes inside)) ×
+    ((exit ≡ stop_of document_start (leaf_codes inside)) × (IsLinkedInOrder false inside × IsLinkedInOrder false rest))))

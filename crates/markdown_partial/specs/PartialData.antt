@@ -1,7 +1,7 @@
 -- What the states of data do, and how runs from them end.
 use Rattle.std.specs.Prelude.{ℕ, Bool, ◌||◌, false, ◌==◌, if◌then◌else◌, Option, Some, None, List, [], ◌∷◌}
 use Rattle.std.specs.List.{list_any}
-use Rattle.markdown_engine_content.specs.Codes.{Code, is_line_ending}
+use Rattle.markdown_content.specs.Codes.{Code, is_line_ending}
 use Rattle.markdown_engine.specs.Operations.{Op, Enter, Exit, Consume, done, current_of, ahead, exited, IsOpen}
 use Rattle.markdown_engine.specs.PastTree.{EndsAs, TreeReading, passed}
 use Rattle.markdown_engine.specs.StateRuns.{Stepped, stepped}
@@ -9,13 +9,13 @@ use Rattle.markdown_model.specs.CodeTests.{is_among, next_is}
 use Rattle.markdown_model.specs.Grammar.{until}
 use Rattle.markdown_model.specs.TextLines.{data_up_to, line_leaves, lines_of}
 use Rattle.markdown_event.specs.declared.event.Name.TheVariants as N
-use Rattle.markdown_state.specs.declared.state.State.TheVariants.{Next, Retry}
-use Rattle.markdown_state.specs.declared.state.State.TheVariants as State
-use Rattle.markdown_state.specs.declared.state.StateName.TheVariants.{DataAtBreak, DataInside, DataStart}
+use Rattle.markdown_event.specs.declared.state.State.TheVariants.{Next, Retry}
+use Rattle.markdown_event.specs.declared.state.State.TheVariants as State
+use Rattle.markdown_event.specs.declared.state.StateName.TheVariants.{DataAtBreak, DataInside, DataStart}
 use Rattle.markdown_engine.specs.declared.tokenizer.TokenizeState.{TokenizeState}
 use Rattle.markdown_engine.specs.declared.tokenizer.Tokenizer.{Tokenizer}
 use Rattle.markdown_engine.specs.StateWords.{StateWords}
-use Rattle.markdown_state.specs.declared.state.StateName.{StateName}
+use Rattle.markdown_event.specs.declared.state.StateName.{StateName}
 use Rattle.std.specs.Str.{byte}
 
 -- one of these markers

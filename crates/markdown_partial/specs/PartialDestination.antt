@@ -1,6 +1,6 @@
 -- What the states of a destination do, and how runs from them end.
 use Rattle.std.specs.Prelude.{◌≡◌, ℕ, ◌+◌, ◌-◌, Bool, true, false, ◌&&◌, ◌||◌, nat_lt, ◌==◌, if◌then◌else◌, codes, Option, Some, None, List, [], ◌∷◌, ◌++◌, drop}
-use Rattle.markdown_engine_content.specs.Codes.{Code, is_line_ending}
+use Rattle.markdown_content.specs.Codes.{Code, is_line_ending}
 use Rattle.markdown_engine.specs.Operations.{Op, Enter, Exit, EnterLink, Consume, done, current_of, scratched}
 use Rattle.markdown_engine.specs.PastTree.{EndsAs}
 use Rattle.markdown_engine.specs.StateRuns.{Stepped, stepped}
@@ -8,9 +8,9 @@ use Rattle.markdown_engine.specs.TreeOps.{consumes}
 use Rattle.markdown_event.specs.declared.event.Content.TheVariants as Content
 use Rattle.markdown_event.specs.declared.event.Name.{Name}
 use Rattle.markdown_event.specs.declared.event.Name.TheVariants as N
-use Rattle.markdown_state.specs.declared.state.State.TheVariants.{Next, Retry, Nok}
-use Rattle.markdown_state.specs.declared.state.State.TheVariants as State
-use Rattle.markdown_state.specs.declared.state.StateName.TheVariants.{DestinationEnclosedBefore, DestinationEnclosed, DestinationEnclosedEscape, DestinationRaw, DestinationRawEscape, DestinationStart}
+use Rattle.markdown_event.specs.declared.state.State.TheVariants.{Next, Retry, Nok}
+use Rattle.markdown_event.specs.declared.state.State.TheVariants as State
+use Rattle.markdown_event.specs.declared.state.StateName.TheVariants.{DestinationEnclosedBefore, DestinationEnclosed, DestinationEnclosedEscape, DestinationRaw, DestinationRawEscape, DestinationStart}
 use Rattle.markdown_engine.specs.declared.tokenizer.TokenizeState.{TokenizeState}
 use Rattle.markdown_engine.specs.declared.tokenizer.Tokenizer.{Tokenizer}
 use Rattle.markdown_model.specs.CodeTests.{is_value, is_among, is_between, next_is}
@@ -20,7 +20,7 @@ use Rattle.markdown_plan.specs.Plan.{Plan, preceded, DoesAs, KeepsAs}
 use Rattle.markdown_plan.specs.ScratchFields.{AreOpen, with_size}
 use Rattle.markdown_plan.specs.ByteTests.{controls}
 use Rattle.markdown_engine.specs.StateWords.{StateWords}
-use Rattle.markdown_state.specs.declared.state.StateName.{StateName}
+use Rattle.markdown_event.specs.declared.state.StateName.{StateName}
 use Rattle.std.specs.Str.{byte}
 
 abbrev pub names_in : TokenizeState → DestinationNames
@@ -172,11 +172,11 @@ stops_in _ = None
 -- When they may be called.
 
 -- no parenthesis is open
-abbrev pub StartReady : Tokenizer → Type 0
-StartReady T = T.tokenize_state.size ≡ 0
+abbrev pub DestinationStartReady : Tokenizer → Type 0
+DestinationStartReady T = T.tokenize_state.size ≡ 0
 
-abbrev pub BeforeReady : Tokenizer → Type 0
-BeforeReady T = AreOpen T.tokenize_state.token_2 T.tokenize_state.token_1 T
+abbrev pub EnclosedBeforeReady : Tokenizer → Type 0
+EnclosedBeforeReady T = AreOpen T.tokenize_state.token_2 T.tokenize_state.token_1 T
 
 -- these four are the innermost open events
 abbrev pub FourOpen : Name → Name → Name → Name → Tokenizer → Type 0
@@ -239,11 +239,11 @@ before_rank None = 3
 before_rank (Some c) = if c == byte ">" then 1 else 3
 
 abbrev pub start_words : StateWords
-start_words = record { ready = StartReady; step = start_step; ends = start_ends; rank = λ T. 4 }
+start_words = record { ready = DestinationStartReady; step = start_step; ends = start_ends; rank = λ T. 4 }
 
 abbrev pub enclosed_before_words : StateWords
 enclosed_before_words =
-    record { ready = BeforeReady; step = enclosed_before_step; ends = enclosed_before_ends; rank = λ T. before_rank (current_of T) }
+    record { ready = EnclosedBeforeReady; step = enclosed_before_step; ends = enclosed_before_ends; rank = λ T. before_rank (current_of T) }
 
 abbrev pub enclosed_words : StateWords
 enclosed_words = record { ready = EnclosedReady; step = enclosed_step; ends = enclosed_ends; rank = λ T. 2 }

@@ -1,6 +1,6 @@
 -- What the states of whitespace on one line do, and how runs from them end.
-use Rattle.std.specs.Prelude.{◌≡◌, ℕ, ◌+◌, ◌-◌, Bool, true, false, ◌&&◌, ◌||◌, ◌==◌, nat_lt, nat_le, if◌then◌else◌, List, length, take, Option, Some, None}
-use Rattle.markdown_engine_content.specs.Codes.{Code, is_blank, space_value, tab_value}
+use Rattle.std.specs.Prelude.{◌≡◌, ℕ, ◌+◌, ◌-◌, Bool, true, false, ◌&&◌, nat_lt, nat_le, if◌then◌else◌, List, length, take, Option, None}
+use Rattle.markdown_content.specs.Codes.{Code, is_blank}
 use Rattle.markdown_engine.specs.Operations.{consumed, exited, scratched, current_of, ahead, LinkedBefore, IsOpen}
 use Rattle.markdown_engine.specs.PastTree.{EndsAs, entered_leaf, link_before, passed}
 use Rattle.markdown_engine.specs.StateRuns.{Stepped, stepped}
@@ -9,13 +9,14 @@ use Rattle.markdown_model.specs.Whitespace.{space_or_tab}
 use Rattle.markdown_event.specs.declared.event.Content.{Content}
 use Rattle.markdown_event.specs.declared.event.Name.{Name}
 use Rattle.markdown_event.specs.declared.event.Name.TheVariants as N
-use Rattle.markdown_state.specs.declared.state.State.{State}
-use Rattle.markdown_state.specs.declared.state.State.TheVariants.{Next, Retry, Ok, Nok}
-use Rattle.markdown_state.specs.declared.state.StateName.TheVariants.{SpaceOrTabInside, SpaceOrTabAfter, SpaceOrTabStart}
+use Rattle.markdown_event.specs.declared.state.State.{State}
+use Rattle.markdown_event.specs.declared.state.State.TheVariants.{Next, Retry, Ok, Nok}
+use Rattle.markdown_event.specs.declared.state.StateName.TheVariants.{SpaceOrTabInside, SpaceOrTabAfter, SpaceOrTabStart}
 use Rattle.markdown_engine.specs.declared.tokenizer.TokenizeState.{TokenizeState}
 use Rattle.markdown_engine.specs.declared.tokenizer.Tokenizer.{Tokenizer}
 use Rattle.markdown_engine.specs.StateWords.{StateWords}
-use Rattle.markdown_state.specs.declared.state.StateName.{StateName}
+use Rattle.markdown_event.specs.declared.state.StateName.{StateName}
+use Rattle.markdown_plan.specs.ByteTests.{at_blank}
 
 -- no bound on the number of codes: the greatest `usize`
 abbrev pub most : ℕ
@@ -37,11 +38,6 @@ sized n s = record s { space_or_tab_size = n }
 -- what follows is linked to it
 abbrev pub connected : TokenizeState → TokenizeState
 connected s = record s { space_or_tab_connect = true }
-
--- a blank code is at hand
-abbrev pub at_blank : Option ℕ → Bool
-at_blank None = false
-at_blank (Some v) = v == space_value || v == tab_value
 
 abbrev pub start_at : TokenizeState → Option ℕ → Tokenizer → Stepped
 start_at s o T =
@@ -69,7 +65,7 @@ after_step T =
     stepped (ended (nat_le T.tokenize_state.space_or_tab_min T.tokenize_state.space_or_tab_size)) (scratched (rested T.tokenize_state) T)
 
 -- when whitespace may start: no code of it is passed, and where it is to go on with a chain a linked event stands just before
-pub record StartReady (T : Tokenizer) : Type 0 where
+pub record SpaceOrTabStartReady (T : Tokenizer) : Type 0 where
   pub none_yet : T.tokenize_state.space_or_tab_size ≡ 0
   pub linked : T.tokenize_state.space_or_tab_connect ≡ true → LinkedBefore T
 
@@ -98,7 +94,7 @@ after_ends T ok U =
 -- The states.
 
 abbrev pub start_words : StateWords
-start_words = record { ready = StartReady; step = start_step; ends = start_ends; rank = λ T. 3 }
+start_words = record { ready = SpaceOrTabStartReady; step = start_step; ends = start_ends; rank = λ T. 3 }
 
 abbrev pub inside_words : StateWords
 inside_words = record { ready = λ T. IsOpen T.tokenize_state.space_or_tab_token T; step = inside_step; ends = inside_ends; rank = λ T. 2 }

@@ -1,24 +1,25 @@
 -- What the states of whitespace with a line ending do, and how runs from them end.
 use Rattle.std.specs.Prelude.{◌≡◌, ℕ, ◌≤◌, Bool, true, false, ◌==◌, not, if◌then◌else◌, [], ◌∷◌, Option, Some, None, is_some}
-use Rattle.markdown_engine_content.specs.Codes.{is_blank, is_line_ending, line_feed}
+use Rattle.markdown_content.specs.Codes.{is_blank, is_line_ending, line_feed}
 use Rattle.markdown_engine.specs.Operations.{consumed, exited, attempted, current_of, scratched, ahead, LinkedBefore}
 use Rattle.markdown_engine.specs.PastTree.{EndsAs, TreeReading, entered_leaf, link_before, behind}
 use Rattle.markdown_engine.specs.StateRuns.{Stepped, stepped}
-use Rattle.markdown_engine_content.specs.Tree.{empty}
+use Rattle.markdown_content.specs.Tree.{empty}
 use Rattle.markdown_engine.specs.Weights.{codes_left}
 use Rattle.markdown_model.specs.Grammar.{span}
 use Rattle.markdown_model.specs.TextLines.{linked_leaf}
 use Rattle.markdown_model.specs.Whitespace.{space_or_tab_eol, begins_filled_line}
 use Rattle.markdown_partial.specs.PartialSpaceOrTab as PartialSpaceOrTab
-use Rattle.markdown_partial.specs.PartialSpaceOrTab.{most, asked, rested, at_blank, ended}
+use Rattle.markdown_partial.specs.PartialSpaceOrTab.{most, asked, rested, ended}
 use Rattle.markdown_event.specs.declared.event.Content.{Content}
 use Rattle.markdown_event.specs.declared.event.Name.TheVariants as N
-use Rattle.markdown_state.specs.declared.state.State.TheVariants.{Next, Retry, Nok}
-use Rattle.markdown_state.specs.declared.state.StateName.TheVariants.{SpaceOrTabStart, SpaceOrTabEolAfterFirst, SpaceOrTabEolAtEol, SpaceOrTabEolAfterEol, SpaceOrTabEolAfterMore, SpaceOrTabEolStart}
+use Rattle.markdown_event.specs.declared.state.State.TheVariants.{Next, Retry, Nok}
+use Rattle.markdown_event.specs.declared.state.StateName.TheVariants.{SpaceOrTabStart, SpaceOrTabEolAfterFirst, SpaceOrTabEolAtEol, SpaceOrTabEolAfterEol, SpaceOrTabEolAfterMore, SpaceOrTabEolStart}
 use Rattle.markdown_engine.specs.declared.tokenizer.TokenizeState.{TokenizeState}
 use Rattle.markdown_engine.specs.declared.tokenizer.Tokenizer.{Tokenizer}
 use Rattle.markdown_engine.specs.StateWords.{StateWords}
-use Rattle.markdown_state.specs.declared.state.StateName.{StateName}
+use Rattle.markdown_event.specs.declared.state.StateName.{StateName}
+use Rattle.markdown_plan.specs.ByteTests.{at_blank}
 
 -- with whitespace with a line ending asked for
 abbrev pub eol_asked : Bool → Option Content → TokenizeState → TokenizeState
@@ -106,7 +107,7 @@ pub record EolReady (T : Tokenizer) : Type 0 where
   pub contents : T.tokenize_state.space_or_tab_eol_connect ≡ true → is_some T.tokenize_state.space_or_tab_eol_content ≡ true
 
 -- besides, where it starts no blank codes are passed, and none stand before the line ending of a linked text
-pub record StartReady (T : Tokenizer) : Type 0 where
+pub record SpaceOrTabEolStartReady (T : Tokenizer) : Type 0 where
   pub begins : EolReady T
   pub none_yet : T.tokenize_state.space_or_tab_eol_ok ≡ false
   pub plain : at_blank (current_of T) ≡ true → T.tokenize_state.space_or_tab_eol_content ≡ None
@@ -159,7 +160,7 @@ after_more_ends T ok U = (ok ≡ begins_filled_line (ahead T)) × (U ≡ scratch
 -- The states.
 
 abbrev pub start_words : StateWords
-start_words = record { ready = StartReady; step = start_step; ends = start_ends; rank = λ T. 8 }
+start_words = record { ready = SpaceOrTabEolStartReady; step = start_step; ends = start_ends; rank = λ T. 8 }
 
 abbrev pub after_first_words : StateWords
 after_first_words = record { ready = AfterFirstReady; step = after_first_step; ends = after_first_ends; rank = λ T. 7 }

@@ -1,24 +1,24 @@
 -- What the states of a title do, and how runs from them end.
-use Rattle.std.specs.Prelude.{◌≡◌, ℕ, Bool, true, false, ◌||◌, ◌==◌, if◌then◌else◌, codes, Option, Some, None, List, [], ◌∷◌, drop}
-use Rattle.markdown_engine_content.specs.Codes.{Code}
+use Rattle.std.specs.Prelude.{◌≡◌, ℕ, Bool, true, false, ◌&&◌, ◌||◌, ◌==◌, if◌then◌else◌, codes, Option, Some, None, List, [], ◌∷◌, drop}
+use Rattle.markdown_content.specs.Codes.{Code}
 use Rattle.markdown_engine.specs.Operations.{Op, Enter, Exit, Consume, IsOpen, LinkedBefore, ahead, attempted, done, current_of, scratched}
 use Rattle.markdown_engine.specs.PastTree.{EndsAs}
 use Rattle.markdown_engine.specs.StateRuns.{Stepped, stepped}
 use Rattle.markdown_event.specs.declared.event.Name.TheVariants as N
-use Rattle.markdown_state.specs.declared.state.State.{State}
-use Rattle.markdown_state.specs.declared.state.State.TheVariants.{Next, Retry, Ok, Nok}
-use Rattle.markdown_state.specs.declared.state.StateName.TheVariants.{SpaceOrTabEolStart, TitleBegin, TitleAtBreak, TitleAfterEol, TitleInside, TitleEscape, TitleNok, TitleStart}
+use Rattle.markdown_event.specs.declared.state.State.{State}
+use Rattle.markdown_event.specs.declared.state.State.TheVariants.{Next, Retry, Ok, Nok}
+use Rattle.markdown_event.specs.declared.state.StateName.TheVariants.{SpaceOrTabEolStart, TitleBegin, TitleAtBreak, TitleAfterEol, TitleInside, TitleEscape, TitleNok, TitleStart}
 use Rattle.markdown_engine.specs.declared.tokenizer.TokenizeState.{TokenizeState}
 use Rattle.markdown_engine.specs.declared.tokenizer.Tokenizer.{Tokenizer}
-use Rattle.markdown_model.specs.CodeTests.{is_value, is_among, next_is}
+use Rattle.markdown_model.specs.CodeTests.{is_value, next_is}
 use Rattle.markdown_model.specs.Grammar.{escaped_from}
-use Rattle.markdown_model.specs.Resource.{StringNames, title}
+use Rattle.markdown_model.specs.Resource.{StringNames, title, escaped_between, is_bare_opener}
 use Rattle.markdown_plan.specs.Plan.{Plan, preceded, DoesAs}
 use Rattle.markdown_plan.specs.ScratchFields.{AreOpen}
-use Rattle.markdown_partial.specs.LinkedText.{names_in, joined, text_entered, closing, ending, eol_asked_for, ends_open, TextReady, break_ops, inside_ops, ends_filled, answer}
+use Rattle.markdown_partial.specs.LinkedText.{names_in, rules_in, joined, text_entered, closing, ending, eol_asked_for, ends_open, TextReady, break_ops, inside_ops, ends_filled, answer}
 use Rattle.markdown_engine.specs.StateWords.{StateWords}
 use Rattle.markdown_partial.specs.PartialSpaceOrTabEol as PartialSpaceOrTabEol
-use Rattle.markdown_state.specs.declared.state.StateName.{StateName}
+use Rattle.markdown_event.specs.declared.state.StateName.{StateName}
 use Rattle.std.specs.Str.{byte}
 
 -- The scratch fields.
@@ -30,6 +30,14 @@ begun closer s = record s { marker = closer }
 -- at rest
 abbrev pub rested : TokenizeState → TokenizeState
 rested s = record s { marker = 0; connect = false }
+
+-- by CommonMark's rule, and between parentheses, the opening one has to be escaped too
+abbrev pub both_in : Tokenizer → Bool
+both_in T = T.tokenize_state.marker == byte ")" && (rules_in T).escaped_parentheses
+
+-- a code of this value may not stand there bare
+abbrev pub is_refused : ℕ → Tokenizer → Bool
+is_refused c T = both_in T && c == byte "("
 
 -- What the states do.
 
@@ -75,7 +83,8 @@ at_break_at None T = stepped (Retry TitleNok) T
 at_break_at (Some c) T =
     if c == T.tokenize_state.marker then stepped (Retry TitleBegin) (done (Exit T.tokenize_state.token_3 ∷ []) T)
     else (if c == byte "\n" then stepped (Retry SpaceOrTabEolStart) (attempted false (Next TitleAfterEol) (Next TitleNok) (scratched (eol_asked_for T.tokenize_state) T))
-    else stepped (Retry TitleInside) (text_entered T))
+    else (if is_refused c T then stepped (Retry TitleNok) T
+    else stepped (Retry TitleInside) (text_entered T)))
 
 abbrev pub at_break_step : Tokenizer → Stepped
 at_break_step T = at_break_at (current_of T) T
@@ -91,7 +100,7 @@ leaving T = stepped (Retry TitleAtBreak) (done (Exit N.Data ∷ []) T)
 
 abbrev pub inside_at : Option ℕ → Tokenizer → Stepped
 inside_at None T = leaving T
-inside_at (Some c) T = if c == byte "\n" || c == T.tokenize_state.marker then leaving T else passing c T
+inside_at (Some c) T = if c == byte "\n" || (c == T.tokenize_state.marker || is_refused c T) then leaving T else passing c T
 
 abbrev pub inside_step : Tokenizer → Stepped
 inside_step T = inside_at (current_of T) T
@@ -102,7 +111,7 @@ is_closer m = m == byte "\"" || (m == byte "'" || m == byte ")")
 
 -- these may be escaped
 abbrev pub escapes : ℕ → Bool
-escapes v = v == byte "\\" || is_closer v
+escapes v = v == byte "\\" || (v == byte "(" || is_closer v)
 
 abbrev pub escape_at : Option ℕ → Tokenizer → Stepped
 escape_at None T = stepped (Retry TitleInside) T
@@ -112,17 +121,17 @@ escape_at (Some c) T =
 abbrev pub escape_step : Tokenizer → Stepped
 escape_step T = escape_at (current_of T) T
 
--- the bytes at which alone the text does other than go on, line endings aside: the marker and a backslash
+-- the bytes at which alone the text does other than go on, line endings aside: the marker, a backslash, and in parentheses the opening one
 abbrev pub inside_stops : TokenizeState → Option (List ℕ)
 inside_stops s =
     if s.marker == byte "\"" then Some (codes "\"\\")
     else (if s.marker == byte "'" then Some (codes "'\\")
-    else (if s.marker == byte ")" then Some (codes ")\\")
+    else (if s.marker == byte ")" then Some (codes ")\\(")
     else None))
 
 -- When they may be called.
 
-pub record StartReady (T : Tokenizer) : Type 0 where
+pub record TitleStartReady (T : Tokenizer) : Type 0 where
   pub text : TextReady T
   pub rest : rested T.tokenize_state ≡ T.tokenize_state
 
@@ -133,7 +142,7 @@ pub record BeginReady (T : Tokenizer) : Type 0 where
   pub stand_open : IsOpen T.tokenize_state.token_1 T
   pub first : next_is (is_value T.tokenize_state.marker) (ahead T) ≡ false → T.tokenize_state.connect ≡ false
 
-pub record BreakReady (T : Tokenizer) : Type 0 where
+pub record TitleBreakReady (T : Tokenizer) : Type 0 where
   pub text : TextReady T
   pub closer : is_closer T.tokenize_state.marker ≡ true
   pub stand_open : AreOpen T.tokenize_state.token_3 T.tokenize_state.token_1 T
@@ -145,7 +154,7 @@ pub record AfterEolReady (T : Tokenizer) : Type 0 where
   pub stand_open : AreOpen T.tokenize_state.token_3 T.tokenize_state.token_1 T
   pub linked : LinkedBefore T
 
-pub record InsideReady (T : Tokenizer) : Type 0 where
+pub record TitleInsideReady (T : Tokenizer) : Type 0 where
   pub text : TextReady T
   pub closer : is_closer T.tokenize_state.marker ≡ true
   pub stand_open : T.stack ≡ N.Data ∷ T.tokenize_state.token_3 ∷ T.tokenize_state.token_1 ∷ drop 3 T.stack
@@ -155,13 +164,13 @@ pub record InsideReady (T : Tokenizer) : Type 0 where
 -- How runs end.
 
 abbrev pub start_ends : Tokenizer → Bool → Tokenizer → Type 0
-start_ends T ok U = EndsAs (title (names_in T.tokenize_state)) None T.tokenize_state T ok U
+start_ends T ok U = EndsAs (title (rules_in T).escaped_parentheses (names_in T.tokenize_state)) None T.tokenize_state T ok U
 
--- a title of this marker and these names
-module _ (marker : ℕ) (names : StringNames) where
+-- a title between these markers, of these names; `both` says that both have to be escaped
+module _ (both : Bool) (opener marker : ℕ) (names : StringNames) where
   -- the text from here on
   abbrev pub text_from : Bool → List Code → Option (List Code × List Code)
-  text_from slash cs = escaped_from (is_value marker) (is_among (byte "\\" ∷ marker ∷ [])) (λ c. false) slash cs
+  text_from slash cs = escaped_from (is_value marker) (escaped_between both opener marker) (is_bare_opener both opener) slash cs
 
   -- in a stretch; `slash` says that a backslash stands before
   abbrev pub inside_plan : Bool → Plan
@@ -178,17 +187,17 @@ module _ (marker : ℕ) (names : StringNames) where
 abbrev pub begin_ends : Tokenizer → Bool → Tokenizer → Type 0
 begin_ends T ok U =
     let s : TokenizeState = T.tokenize_state in
-    DoesAs 1 (begin_plan s.marker (names_in s)) (rested s) T ok U
+    DoesAs 1 (begin_plan (both_in T) (byte "(") s.marker (names_in s)) (rested s) T ok U
 
 abbrev pub at_break_ends : Tokenizer → Bool → Tokenizer → Type 0
 at_break_ends T ok U =
     let s : TokenizeState = T.tokenize_state in
-    DoesAs 2 (break_plan s.marker (names_in s) s.connect) (rested s) T ok U
+    DoesAs 2 (break_plan (both_in T) (byte "(") s.marker (names_in s) s.connect) (rested s) T ok U
 
 abbrev pub after_eol_ends : Tokenizer → Bool → Tokenizer → Type 0
 after_eol_ends T ok U =
     let s : TokenizeState = T.tokenize_state in
-    DoesAs 2 (break_plan s.marker (names_in s) true) (rested s) T ok U
+    DoesAs 2 (break_plan (both_in T) (byte "(") s.marker (names_in s) true) (rested s) T ok U
 
 abbrev pub nok_ends : Tokenizer → Bool → Tokenizer → Type 0
 nok_ends T ok U = (ok ≡ false) × (U ≡ scratched (rested T.tokenize_state) T)
@@ -196,12 +205,12 @@ nok_ends T ok U = (ok ≡ false) × (U ≡ scratched (rested T.tokenize_state) T
 abbrev pub inside_ends : Tokenizer → Bool → Tokenizer → Type 0
 inside_ends T ok U =
     let s : TokenizeState = T.tokenize_state in
-    DoesAs 3 (inside_plan s.marker (names_in s) false) (rested s) T ok U
+    DoesAs 3 (inside_plan (both_in T) (byte "(") s.marker (names_in s) false) (rested s) T ok U
 
 abbrev pub escape_ends : Tokenizer → Bool → Tokenizer → Type 0
 escape_ends T ok U =
     let s : TokenizeState = T.tokenize_state in
-    DoesAs 3 (inside_plan s.marker (names_in s) true) (rested s) T ok U
+    DoesAs 3 (inside_plan (both_in T) (byte "(") s.marker (names_in s) true) (rested s) T ok U
 
 -- The states.
 
@@ -212,25 +221,25 @@ begin_rank (Some c) T = if c == T.tokenize_state.marker then 9 else 13
 
 abbrev pub break_rank : Option ℕ → Tokenizer → ℕ
 break_rank None T = 10
-break_rank (Some c) T = if c == byte "\n" || c == T.tokenize_state.marker then 10 else 12
+break_rank (Some c) T = if c == byte "\n" || (c == T.tokenize_state.marker || is_refused c T) then 10 else 12
 
 abbrev pub start_words : StateWords
-start_words = record { ready = StartReady; step = start_step; ends = start_ends; rank = λ T. 11 }
+start_words = record { ready = TitleStartReady; step = start_step; ends = start_ends; rank = λ T. 11 }
 
 abbrev pub begin_words : StateWords
 begin_words = record { ready = BeginReady; step = begin_step; ends = begin_ends; rank = λ T. begin_rank (current_of T) T }
 
 abbrev pub at_break_words : StateWords
-at_break_words = record { ready = BreakReady; step = at_break_step; ends = at_break_ends; rank = λ T. break_rank (current_of T) T }
+at_break_words = record { ready = TitleBreakReady; step = at_break_step; ends = at_break_ends; rank = λ T. break_rank (current_of T) T }
 
 abbrev pub after_eol_words : StateWords
 after_eol_words = record { ready = AfterEolReady; step = after_eol_step; ends = after_eol_ends; rank = λ T. 13 }
 
 abbrev pub inside_words : StateWords
-inside_words = record { ready = InsideReady; step = inside_step; ends = inside_ends; rank = λ T. 11 }
+inside_words = record { ready = TitleInsideReady; step = inside_step; ends = inside_ends; rank = λ T. 11 }
 
 abbrev pub escape_words : StateWords
-escape_words = record { ready = InsideReady; step = escape_step; ends = escape_ends; rank = λ T. 12 }
+escape_words = record { ready = TitleInsideReady; step = escape_step; ends = escape_ends; rank = λ T. 12 }
 
 abbrev pub nok_words : StateWords
 nok_words = record { ready = λ T. Unit {0}; step = nok_step; ends = nok_ends; rank = λ T. 1 }

@@ -1,4 +1,4 @@
-// The Enter of a leaf that may be linked.
+//! The Enter of a leaf that may be linked.
 #![tactic(auto)]
 
 ghost use Rattle.std.specs.Prelude.{◌≡◌, OnOk, OnErr, IsTrue, true};

@@ -1,4 +1,4 @@
-// The words that autolink literals begin with (GFM 6.9). A scheme that is added stands here twice: as a word, and by its first letters.
+//! The words that autolink literals begin with (GFM 6.9). A scheme that is added stands here twice: as a word, and by its first letters.
 
 /// The schemes, in lower case.
 pub const SCHEMES: [&[u8]; 2] = [b"https://", b"http://"];

@@ -1,30 +1,30 @@
-// The states of whitespace on one line: spaces, tabs and virtual spaces, as many as stand there, within bounds (CommonMark 2.1 and 2.2).
-//
-//     space_or_tab ::= blank{min,max}
-//     blank ::= a space or a column of a tab
-//
-// Events, where a code stands there; the name and the link are those that are asked for:
-//
-//     SpaceOrTab    the blank codes
-//
-// Example: the two spaces of `[a](  b)`.
-//
-// Definition: `space_or_tab` in `markdown_model/specs/Whitespace.antt`.
-//
-// Each state answers the error where a growth is refused; then `failed` is true.
+//! The states of whitespace on one line: spaces, tabs and virtual spaces, as many as stand there, within bounds (CommonMark 2.1 and 2.2).
+//!
+//!     space_or_tab ::= blank{min,max}
+//!     blank ::= a space or a column of a tab
+//!
+//! Events, where a code stands there; the name and the link are those that are asked for:
+//!
+//!     SpaceOrTab    the blank codes
+//!
+//! Example: the two spaces of `[a](  b)`.
+//!
+//! Definition: `space_or_tab` in `markdown_model/specs/Whitespace.antt`.
+//!
+//! Each state answers the error where a growth is refused; then `failed` is true.
 #![tactic(auto, using(markdown_engine::proofs::OperationFields::op_rules), unfolding(markdown_engine::specs::Operations::scratched))]
 
 ghost use Rattle.std.specs.Prelude.{◌≡◌, true, false, None};
 ghost use Rattle.markdown_engine.specs.Operations.{IsOpen, LinkedBefore, scratched};
 ghost use Rattle.markdown_event.specs.declared.event.Name.TheVariants.{SpaceOrTab};
-ghost use Rattle.markdown_state.specs.declared.state.StateName.TheVariants.{SpaceOrTabStart};
+ghost use Rattle.markdown_event.specs.declared.state.StateName.TheVariants.{SpaceOrTabStart};
 ghost use Rattle.markdown_partial.specs.PartialSpaceOrTab.{most, asked, start_step, inside_step, after_step};
 ghost use Rattle.markdown_plan.specs.StateCalls.{Steps};
 
 use crate::leaf::enter_leaf;
 use markdown_engine::tokenizer::Tokenizer;
 use markdown_event::event::{Content, Name};
-use markdown_state::state::{State, StateName};
+use markdown_event::state::{State, StateName};
 use std::alloc::AllocError;
 
 /// What whitespace is asked for.
@@ -76,7 +76,8 @@ pub fn space_or_tab_min_max(tokenizer: &mut Tokenizer, min: usize, max: usize) -
 /// Only the scratch fields change. Takes no memory.
 pub fn space_or_tab_with_options(tokenizer: &mut Tokenizer, options: Options) -> StateName
     ensures start { result ≡ SpaceOrTabStart }
-    ensures asked { tokenizer.new ≡ scratched (asked options.min options.max options.kind options.connect options.content tokenizer.old.tokenize_state) tokenizer.old }
+    ensures asked { tokenizer.new
+        ≡ scratched (asked options.min options.max options.kind options.connect options.content tokenizer.old.tokenize_state) tokenizer.old }
 {
     let scratch = &mut tokenizer.tokenize_state;
     scratch.space_or_tab_min = options.min;

@@ -1,28 +1,28 @@
-// The states of whitespace with at most one line ending: blank codes on one line, or a line ending with the blank codes around it
-// (CommonMark 6.3).
-//
-//     space_or_tab_eol ::= blank* line_ending blank* | blank+
-//
-// Behind the first stands a code that is no line ending; behind the second stands no line ending.
-//
-// Events, each where it has a code, with the link that is asked for:
-//
-//     SpaceOrTab    the blank codes before the line ending
-//     LineEnding
-//     SpaceOrTab    the blank codes after it
-//
-// Example: what stands between `b` and `"c")` where a resource is on two lines, `(b` and `  "c")`.
-//
-// Definition: `space_or_tab_eol` in `markdown_model/specs/Whitespace.antt`.
-//
-// Each state answers the error where a growth is refused; then `failed` is true.
+//! The states of whitespace with at most one line ending: blank codes on one line, or a line ending with the blank codes around it
+//! (CommonMark 6.3).
+//!
+//!     space_or_tab_eol ::= blank* line_ending blank* | blank+
+//!
+//! Behind the first stands a code that is no line ending; behind the second stands no line ending.
+//!
+//! Events, each where it has a code, with the link that is asked for:
+//!
+//!     SpaceOrTab    the blank codes before the line ending
+//!     LineEnding
+//!     SpaceOrTab    the blank codes after it
+//!
+//! Example: what stands between `b` and `"c")` where a resource is on two lines, `(b` and `  "c")`.
+//!
+//! Definition: `space_or_tab_eol` in `markdown_model/specs/Whitespace.antt`.
+//!
+//! Each state answers the error where a growth is refused; then `failed` is true.
 #![tactic(auto, using(markdown_engine::proofs::OperationFields::op_rules), unfolding(markdown_engine::specs::Operations::scratched, markdown_engine::specs::Operations::attempted, markdown_engine::specs::Operations::frame_of))]
 
 ghost use Rattle.std.specs.Prelude.{◌≡◌, true, false, None};
 ghost use Rattle.markdown_engine.specs.Operations.{LinkedBefore, attempted, scratched};
 ghost use Rattle.markdown_engine.specs.StateRuns.{stepped};
-ghost use Rattle.markdown_state.specs.declared.state.State.TheVariants.{Retry};
-ghost use Rattle.markdown_state.specs.declared.state.StateName.TheVariants.{SpaceOrTabStart, SpaceOrTabEolStart};
+ghost use Rattle.markdown_event.specs.declared.state.State.TheVariants.{Retry};
+ghost use Rattle.markdown_event.specs.declared.state.StateName.TheVariants.{SpaceOrTabStart, SpaceOrTabEolStart};
 ghost use Rattle.markdown_partial.specs.PartialSpaceOrTabEol.{eol_asked, space_asked, eol_rested, start_step, after_first_step, at_eol_step, after_eol_step, after_more_step};
 ghost use Rattle.markdown_plan.specs.StateCalls.{Steps};
 
@@ -30,7 +30,7 @@ use crate::leaf::enter_leaf;
 use crate::partial_space_or_tab;
 use markdown_engine::tokenizer::Tokenizer;
 use markdown_event::event::{Content, Name};
-use markdown_state::state::{State, StateName};
+use markdown_event::state::{State, StateName};
 use std::alloc::AllocError;
 
 /// What whitespace with a line ending is asked for.
@@ -76,7 +76,8 @@ fn try_blank(
     behind: State,
     otherwise: State,
 ) -> Result<State, AllocError>
-    ensures { Steps (λ T. stepped (Retry SpaceOrTabStart) (attempted false behind otherwise (scratched (space_asked T.tokenize_state) T))) tokenizer.old result tokenizer.new }
+    ensures { Steps (λ T. stepped (Retry SpaceOrTabStart)
+        (attempted false behind otherwise (scratched (space_asked T.tokenize_state) T))) tokenizer.old result tokenizer.new }
 {
     let connect = tokenizer.tokenize_state.space_or_tab_eol_connect;
     let content = tokenizer.tokenize_state.space_or_tab_eol_content;

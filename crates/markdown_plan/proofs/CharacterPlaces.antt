@@ -1,9 +1,9 @@
 -- Places of a content that stand between characters.
 use Rattle.std.proofs.Common.{◌≡◌, ℕ, zero, suc, nat_lt, true, false, Option, Some, None, List, [], ◌∷◌, ◌++◌, drop, slice_get, refl, ap, ◌∙◌}
 use Rattle.std.specs.Str.{IsCharBoundary}
-use Rattle.markdown_engine_content.specs.Codes.{Code, stop_of, document_start}
-use Rattle.markdown_engine_content.specs.ListFunctions.{first_of, rest_of}
-use Rattle.markdown_engine_content.specs.Place.{Place, ahead_at, value_of}
+use Rattle.markdown_content.specs.Codes.{Code, stop_of, document_start}
+use Rattle.markdown_content.specs.ListFunctions.{first_of, rest_of}
+use Rattle.markdown_content.specs.Place.{Place, ahead_at, value_of}
 use Rattle.markdown_event.specs.declared.event.Point.{Point}
 use Rattle.markdown_model.specs.CodeTests.{is_later_byte}
 use Rattle.markdown_plan.specs.Characters.{at_later, IsText}

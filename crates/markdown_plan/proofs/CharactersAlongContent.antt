@@ -1,7 +1,7 @@
 -- What is known of characters goes on along a content.
 use Rattle.std.proofs.Common.{ℕ, List, [], ◌∷◌}
 use Rattle.markdown_engine.specs.Operations.{Consume, applied, done, scratched}
-use Rattle.markdown_engine_content.specs.Place.{Place, moved}
+use Rattle.markdown_content.specs.Place.{Place, moved}
 use Rattle.markdown_engine.specs.declared.tokenizer.TokenizeState.{TokenizeState}
 use Rattle.markdown_engine.specs.declared.tokenizer.Tokenizer.{Tokenizer}
 use Rattle.markdown_plan.specs.Characters.{IsText, ReadsText}

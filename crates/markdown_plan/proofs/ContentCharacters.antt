@@ -6,21 +6,21 @@ use Rattle.std.proofs.lemmas.Bool.Decides.{nat_tests}
 use Rattle.std.proofs.lemmas.Bool.{and_parts, eqb-true, not-false}
 use Rattle.std.proofs.lemmas.List.{length-drop}
 use Rattle.std.proofs.lemmas.Str.{IsCharBoundary-start, IsCharBoundary-before_ascii, IsCharBoundary-after_ascii}
-use Rattle.markdown_engine_content.specs.Codes.{Code, is_line_ending, is_line_ending_byte, line_ending_len, line_start, next_column, tab_value, place_of, point_at}
-use Rattle.markdown_engine_content.specs.Content.{IsContent, IsBetweenCharacters, are_pieces, is_place, content_of, content_end}
+use Rattle.markdown_content.specs.Codes.{Code, is_line_ending, is_line_ending_byte, line_ending_len, line_start, next_column, tab_value, place_of, point_at}
+use Rattle.markdown_content.specs.Content.{IsContent, IsBetweenCharacters, are_pieces, is_place, content_of, content_end}
 use Rattle.markdown_engine.specs.Operations.{scratched}
 use Rattle.markdown_engine.specs.PastTree.{past, moved_by}
-use Rattle.markdown_engine_content.specs.Place.{Place, moved, start_of_content, start_or, value_of}
-use Rattle.markdown_engine_content.specs.PlaceInDocument.{IsStanding, is_open, first_point, followed, content_place}
-use Rattle.markdown_engine_content.specs.Tree.{Forest, leaf_codes}
+use Rattle.markdown_content.specs.Place.{Place, moved, start_of_content, start_or, value_of}
+use Rattle.markdown_content.specs.PlaceInDocument.{IsStanding, is_open, first_point, followed, content_place}
+use Rattle.markdown_content.specs.Tree.{Forest, leaf_codes}
 use Rattle.markdown_event.specs.declared.event.Point.{Point}
-use Rattle.markdown_engine_content.specs.declared.parser.Piece.{Piece}
+use Rattle.markdown_content.specs.declared.parser.Piece.{Piece}
 use Rattle.markdown_engine.specs.declared.tokenizer.TokenizeState.{TokenizeState}
 use Rattle.markdown_engine.specs.declared.tokenizer.Tokenizer.{Tokenizer}
-use Rattle.markdown_engine_content.proofs.CursorInvariant.{IsOpenStanding, open-standing, closed-standing, standing-start, standing-next, standing-point}
-use Rattle.markdown_engine_content.proofs.DocumentPlaces.{there}
-use Rattle.markdown_engine_content.proofs.ContentCodes.{piece_row, open-row, line-last}
-use Rattle.markdown_engine_content.proofs.DocumentCodes.{tab_left, value_at, stop_at, code_here}
+use Rattle.markdown_content.proofs.CursorInvariant.{IsOpenStanding, open-standing, closed-standing, standing-start, standing-next, standing-point}
+use Rattle.markdown_content.proofs.DocumentPlaces.{there}
+use Rattle.markdown_content.proofs.ContentCodes.{piece_row, open-row, line-last}
+use Rattle.markdown_content.proofs.DocumentCodes.{tab_left, value_at, stop_at, code_here}
 use Rattle.markdown_model.specs.CodeTests.{is_later_byte}
 use Rattle.markdown_plan.specs.Characters.{later_value, at_later, IsText, ReadsText}
 use Rattle.markdown_plan.proofs.CharactersAlongContent.{text-moved}

@@ -1,14 +1,14 @@
 -- A text content ends with its last code.
 use Rattle.std.proofs.Common.{◌≡◌, ◌≢◌, ℕ, suc, ◌+◌, Bool, true, false, ◌&&◌, ◌||◌, not, if◌then◌else◌, Some, None, List, [], ◌∷◌, drop, slice_get, add-one, refl, sym, ap, subst, ◌∙◌}
 use Rattle.std.proofs.lemmas.Bool.{both_ways}
-use Rattle.markdown_engine_content.specs.Codes.{Code, is_line_ending, is_blank, place_of, point_at, stop_of, document_start}
-use Rattle.markdown_engine_content.specs.Content.{IsContent, IsTextContent, content_of, content_end, has_no_blank_line, is_text_codes}
-use Rattle.markdown_engine_content.specs.PlaceInDocument.{IsStanding, is_open, followed}
+use Rattle.markdown_content.specs.Codes.{Code, is_line_ending, is_blank, place_of, point_at, stop_of, document_start}
+use Rattle.markdown_content.specs.Content.{IsContent, IsTextContent, content_of, content_end, has_no_blank_line, is_text_codes}
+use Rattle.markdown_content.specs.PlaceInDocument.{IsStanding, is_open, followed}
 use Rattle.markdown_event.specs.declared.event.Point.{Point}
-use Rattle.markdown_engine_content.specs.declared.parser.Piece.{Piece}
-use Rattle.markdown_engine_content.proofs.CursorInvariant.{IsOpenStanding, open-standing, closed-standing, standing-next}
-use Rattle.markdown_engine_content.proofs.ContentCodes.{open-row, line-last}
-use Rattle.markdown_engine_content.proofs.DocumentCodes.{stop_at, code_here}
+use Rattle.markdown_content.specs.declared.parser.Piece.{Piece}
+use Rattle.markdown_content.proofs.CursorInvariant.{IsOpenStanding, open-standing, closed-standing, standing-next}
+use Rattle.markdown_content.proofs.ContentCodes.{open-row, line-last}
+use Rattle.markdown_content.proofs.DocumentCodes.{stop_at, code_here}
 use Rattle.markdown_plan.proofs.ContentCharacters.{Reached, reached, none-some, same-code}
 
 -- after a code that is no line ending, the next one stands in the same piece

@@ -1,13 +1,13 @@
 -- The steps of a state, where a layer says these words of the next one.
 use Rattle.std.proofs.Common.{if◌then◌else◌, ◌≡◌, ℕ, suc, ◌+◌, ◌*◌, ◌<◌, ◌≤◌, Bool, true, false, Some, None, List, [], ◌∷◌, length, drop, refl, sym, ap, subst, ◌∙◌, arith}
-use Rattle.markdown_engine_content.specs.Codes.{Code}
+use Rattle.markdown_content.specs.Codes.{Code}
 use Rattle.markdown_engine.specs.Operations.{Op, Consume, moves, ahead, attempted, done, frame_of, scratched, stays}
 use Rattle.markdown_engine.specs.StateRuns.{Stepped, stepped, restored, ready_state, ends_state, weight_state}
 use Rattle.markdown_engine.specs.StateWords.{StateWords, Words, words_in, words_at, weight_in, GoesIn, end_words}
 use Rattle.markdown_engine.specs.Weights.{codes_left, weight_at}
 use Rattle.markdown_event.specs.declared.event.Name.{Name}
-use Rattle.markdown_state.specs.declared.state.State.{State}
-use Rattle.markdown_state.specs.declared.state.State.TheVariants.{Next, Retry, Ok, Nok}
+use Rattle.markdown_event.specs.declared.state.State.{State}
+use Rattle.markdown_event.specs.declared.state.State.TheVariants.{Next, Retry, Ok, Nok}
 use Rattle.markdown_engine.specs.declared.tokenizer.TokenizeState.{TokenizeState}
 use Rattle.markdown_engine.specs.declared.tokenizer.Tokenizer.{Tokenizer}
 use Rattle.markdown_engine.proofs.LawSteps as LawSteps
@@ -24,7 +24,7 @@ use Rattle.markdown_plan.proofs.RenameLemmas.{attempts-renamed}
 
 -- what the run after an attempt has to meet
 abbrev pub FollowsIn : Words → ℕ → (Bool → Tokenizer → Type 0) → State → Tokenizer → Type 0
-FollowsIn W n E st U = LawSteps.Follows W.ready W.ends (weight_in W) n E st U
+FollowsIn W n E st U = LawSteps.MayFollow W.ready W.ends (weight_in W) n E st U
 
 module _ (W : Words) where
   -- What the layer says of a state, by its words.

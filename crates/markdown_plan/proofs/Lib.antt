@@ -1,5 +1,5 @@
 pub mod PrecededReadingLemmas
-pub mod PassedByReadings
+pub mod SolidReadings
 pub mod FirstStretch
 pub mod OpenEvents
 pub mod PassedCodes

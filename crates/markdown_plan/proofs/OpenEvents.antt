@@ -1,6 +1,6 @@
 -- Events that stand open.
 use Rattle.std.proofs.Common.{◌≡◌, List, [], ◌∷◌, drop}
-use Rattle.markdown_engine_content.specs.ListFunctions.{rest_of}
+use Rattle.markdown_content.specs.ListFunctions.{rest_of}
 use Rattle.markdown_event.specs.declared.event.Name.{Name}
 
 -- where the innermost is closed, the next is open

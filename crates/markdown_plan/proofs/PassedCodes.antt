@@ -1,6 +1,6 @@
 -- Codes passed one by one.
 use Rattle.std.proofs.Common.{◌≡◌, List, [], ◌∷◌, refl}
-use Rattle.markdown_engine_content.specs.Codes.{Code}
+use Rattle.markdown_content.specs.Codes.{Code}
 use Rattle.markdown_engine.specs.Operations.{Consume, applied, done}
 use Rattle.markdown_engine.specs.PastTree.{passed}
 use Rattle.markdown_engine.specs.declared.tokenizer.Tokenizer.{Tokenizer}

@@ -1,16 +1,16 @@
 -- How the states of a construct follow one another, by the operations that are to come.
 use Rattle.std.proofs.Common.{append_assoc, ◌≡◌, ℕ, ◌≤◌, Bool, true, false, Option, Some, None, List, [], ◌∷◌, ◌++◌, length, drop, refl, sym, ap, subst, ◌∙◌, arith}
-use Rattle.markdown_engine_content.specs.Codes.{Code}
+use Rattle.markdown_content.specs.Codes.{Code}
 use Rattle.markdown_engine.specs.FailedRun.{Grown}
 use Rattle.markdown_engine.specs.Operations.{Op, Enter, Exit, EnterLink, EnterConnected, Consume, ahead, applied, done, op_depth, op_stays, stays, moves, scratched}
 use Rattle.markdown_engine.specs.PastTree.{TreeReading, EndsAs}
 use Rattle.markdown_engine.specs.StateRuns.{Goes, GoesOn, Stepped, stepped, settled}
-use Rattle.markdown_engine_content.specs.Tree.{Forest, leaf_codes}
-use Rattle.markdown_engine.specs.TreeOps.{ops_of, consumes}
+use Rattle.markdown_content.specs.Tree.{Forest, leaf_codes}
+use Rattle.markdown_engine.specs.TreeOps.{IsSolid, ops_of, consumes}
 use Rattle.markdown_engine.specs.Weights.{weight_at}
-use Rattle.markdown_state.specs.declared.state.State.{State}
-use Rattle.markdown_state.specs.declared.state.State.TheVariants.{Nok}
-use Rattle.markdown_state.specs.declared.state.StateName.{StateName}
+use Rattle.markdown_event.specs.declared.state.State.{State}
+use Rattle.markdown_event.specs.declared.state.State.TheVariants.{Nok}
+use Rattle.markdown_event.specs.declared.state.StateName.{StateName}
 use Rattle.markdown_engine.specs.declared.tokenizer.Attempt.{Attempt}
 use Rattle.markdown_engine.specs.declared.tokenizer.TokenizeState.{TokenizeState}
 use Rattle.markdown_engine.specs.declared.tokenizer.Tokenizer.{Tokenizer}
@@ -20,7 +20,9 @@ use Rattle.markdown_engine.proofs.OperationFields.{attempts-scratched}
 use Rattle.markdown_engine.proofs.OperationLemmas.{Grown-applied, Grown-scratched, ahead-done, attempts-done, scratch-done}
 use Rattle.markdown_event.proofs.AndParts.{and-left, and-right}
 use Rattle.markdown_engine.proofs.TreeEvents.{done-append, ops-past, ahead-past}
-use Rattle.markdown_plan.proofs.PassedByReadings.{Gives, Covers}
+use Rattle.markdown_model.proofs.DefinitionSteps.{read-codes}
+use Rattle.markdown_model.proofs.NoLinkInConstructs.{PassesValue}
+use Rattle.markdown_plan.proofs.SolidReadings.{ReadsSolid}
 use Rattle.markdown_plan.specs.Plan.{Plan, preceded, tree_ops, plan_of, depth_after, DoesAs, KeepsAs}
 
 -- Operations do not read the scratch fields.
@@ -154,14 +156,14 @@ none-read None e = refl
 none-read (Some r) e = cc
 
 -- a run that does what the tree of a reading asks for ends as the reading
-pub EndsAs-plan : (r : TreeReading) → Gives Covers r → (s : TokenizeState) (T : Tokenizer) (ok : Bool) (U : Tokenizer) →
+pub EndsAs-plan : (r : TreeReading) → ReadsSolid r → (s : TokenizeState) (T : Tokenizer) (ok : Bool) (U : Tokenizer) →
     DoesAs 0 (plan_of r) s T ok U → EndsAs r None s T ok U
 EndsAs-plan r whole s T true U k =
     let x = ops-read (r (ahead T)) k.ops k.holds in
-    let w = whole (ahead T) x.0.0 x.0.1 x.1.0 in
-    let codes : ahead T ≡ leaf_codes x.0.0 ++ x.0.1 = w.whole ∙ ap (λ ws. ws ++ x.0.1) (sym w.holds.1) in
+    let codes : ahead T ≡ leaf_codes x.0.0 ++ x.0.1 = read-codes leaf_codes r whole.covers (ahead T) x.0.1 x.0.0 x.1.0 in
+    let solid : IsSolid x.0.0 = subst (PassesValue IsSolid) x.1.0 (whole.solid.at (ahead T)) in
     let same : ahead (scratched s T) ≡ leaf_codes x.0.0 ++ x.0.1 = ahead-scratched s T ∙ codes in
-    let left : U ≡ _ = k.left ∙ ap (λ os. done os (scratched s T)) x.1.1 ∙ ops-past x.0.0 x.0.1 (scratched s T) w.holds.0 same in
+    let left : U ≡ _ = k.left ∙ ap (λ os. done os (scratched s T)) x.1.1 ∙ ops-past x.0.0 x.0.1 (scratched s T) solid same in
     record { tree = x.0.0; rest = x.0.1; holds = x.1.0; left = left; whole = codes; after = ap ahead left ∙ ahead-past None x.0.0 (scratched s T) x.0.1 same }
 EndsAs-plan r whole s T false U k =
     record { refused = none-read (r (ahead T)) k.none; fails = record { grown = k.grown; scratch = k.scratch } }

@@ -1,6 +1,6 @@
 -- Codes before what a reading gives.
 use Rattle.std.proofs.Common.{◌≡◌, Option, Some, None, List, [], ◌∷◌, ◌++◌, refl}
-use Rattle.markdown_engine_content.specs.Codes.{Code}
+use Rattle.markdown_content.specs.Codes.{Code}
 use Rattle.markdown_model.specs.Grammar.{Reading, ◌then_◌, with_first}
 use Rattle.markdown_plan.specs.PrecededReadings.{after}
 

@@ -1,6 +1,6 @@
 -- Renaming the event that was entered last.
 use Rattle.std.proofs.Common.{◌≡◌, ℕ, ◌+◌, ◌<◌, ◌^◌, Some, ◌∷◌, refl, arith}
-use Rattle.markdown_engine_content.specs.ListFunctions.{rest_of}
+use Rattle.markdown_content.specs.ListFunctions.{rest_of}
 use Rattle.markdown_engine.specs.Operations.{current_of}
 use Rattle.markdown_event.specs.declared.event.Name.{Name}
 use Rattle.markdown_engine.specs.declared.tokenizer.Tokenizer.{Tokenizer}

@@ -1,8 +1,9 @@
 -- Tests on the value of a code.
-use Rattle.std.specs.Prelude.{ℕ, zero, suc, ◌+◌, Bool, ◌||◌, ◌==◌, List, [], ◌∷◌}
+use Rattle.std.specs.Prelude.{ℕ, zero, suc, ◌+◌, Bool, ◌||◌, ◌==◌, List, [], ◌∷◌, false, Option, None, Some}
 use Rattle.std.specs.List.{list_any}
 use Rattle.std.specs.Str.{byte}
 use Rattle.markdown_model.specs.CodeTests.{is_between}
+use Rattle.markdown_content.specs.Codes.{space_value, tab_value}
 
 -- an ASCII letter
 abbrev pub letter_value : ℕ → Bool
@@ -24,3 +25,8 @@ numbers first (suc n) = first ∷ numbers (first + 1) n
 -- the ASCII control characters (CommonMark 2.1) other than NUL
 abbrev pub controls : List ℕ
 controls = 127 ∷ numbers 1 31
+
+-- a blank code is at hand
+abbrev pub at_blank : Option ℕ → Bool
+at_blank None = false
+at_blank (Some v) = v == space_value || v == tab_value

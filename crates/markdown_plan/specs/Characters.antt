@@ -1,8 +1,8 @@
 -- A content as characters: where its codes begin and end between characters of the document.
 use Rattle.std.specs.Prelude.{◌≡◌, ◌<◌, ◌+◌, ℕ, suc, get_or, Bool, true, false, nat_lt, Option, Some, None, List, slice_get, IsUtf8}
 use Rattle.std.specs.Str.{IsCharBoundary}
-use Rattle.markdown_engine_content.specs.Codes.{Code}
-use Rattle.markdown_engine_content.specs.Place.{Place, start_or, value_of}
+use Rattle.markdown_content.specs.Codes.{Code}
+use Rattle.markdown_content.specs.Place.{Place, start_or, value_of}
 use Rattle.markdown_engine.specs.declared.tokenizer.Tokenizer.{Tokenizer}
 use Rattle.markdown_model.specs.CodeTests.{is_between, is_later_byte}
 

@@ -3,11 +3,11 @@
 -- A plan, as in planning: operations in their order that lead from a state to a goal, found by looking ahead. (`Script` is taken, by
 -- deferred edits, and a `Reading` gives a value and the codes after it.)
 use Rattle.std.specs.Prelude.{◌≡◌, ℕ, Bool, true, false, List, [], ◌∷◌, ◌++◌, Option, Some, None}
-use Rattle.markdown_engine_content.specs.Codes.{Code}
+use Rattle.markdown_content.specs.Codes.{Code}
 use Rattle.markdown_engine.specs.FailedRun.{Grown}
 use Rattle.markdown_engine.specs.Operations.{Op, ahead, done, op_depth, scratched}
 use Rattle.markdown_engine.specs.PastTree.{TreeReading}
-use Rattle.markdown_engine_content.specs.Tree.{Forest}
+use Rattle.markdown_content.specs.Tree.{Forest}
 use Rattle.markdown_engine.specs.TreeOps.{ops_of}
 use Rattle.markdown_engine.specs.declared.tokenizer.TokenizeState.{TokenizeState}
 use Rattle.markdown_engine.specs.declared.tokenizer.Tokenizer.{Tokenizer}
@@ -35,7 +35,7 @@ depth_after d [] = d
 depth_after d (o ∷ os) = depth_after (op_depth d o) os
 
 -- the plan holds at the codes from T on, and U is T after its operations, with these scratch fields
-pub record Does (plan : Plan) (s : TokenizeState) (T U : Tokenizer) : Type 0 where
+pub record DoesPlan (plan : Plan) (s : TokenizeState) (T U : Tokenizer) : Type 0 where
   pub ops : List Op
   pub holds : plan (ahead T) ≡ Some ops
   pub left : U ≡ done ops (scratched s T)
@@ -48,7 +48,7 @@ pub record Stops (d : ℕ) (plan : Plan) (s : TokenizeState) (T U : Tokenizer) :
 
 -- a run that ends as the plan says
 abbrev pub DoesAs : ℕ → Plan → TokenizeState → Tokenizer → Bool → Tokenizer → Type 0
-DoesAs d plan s T true U = Does plan s T U
+DoesAs d plan s T true U = DoesPlan plan s T U
 DoesAs d plan s T false U = Stops d plan s T U
 
 -- and the scratch fields are as they were in T

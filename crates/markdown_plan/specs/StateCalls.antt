@@ -2,7 +2,7 @@
 use Rattle.std.specs.Prelude.{◌≡◌, IfOk, OnErr, IsTrue}
 use Rattle.std.specs.declared.result.Result.{Result}
 use Rattle.markdown_engine.specs.StateRuns.{Stepped}
-use Rattle.markdown_state.specs.declared.state.State.{State}
+use Rattle.markdown_event.specs.declared.state.State.{State}
 use Rattle.markdown_engine.specs.declared.tokenizer.Tokenizer.{Tokenizer}
 
 -- the call is this step; or it answers the error, where a growth is refused, and then `failed` is true

@@ -1,4 +1,4 @@
-// Classes of bytes by which several constructs go on.
+//! Classes of bytes by which several constructs go on.
 #![tactic(auto)]
 
 ghost use Rattle.std.specs.Prelude.{◌≡◌};

@@ -1,20 +1,20 @@
 -- At the start of a content every construct may be read.
 use Rattle.std.proofs.Common.{◌≡◌, ℕ, ◌≤◌, true, false, Option, Some, None, is_some, List, refl, ap, sym, subst, ◌∙◌, arith}
-use Rattle.markdown_engine_content.specs.Codes.{Code}
-use Rattle.markdown_engine_content.specs.Content.{IsContent, IsTextContent}
+use Rattle.markdown_content.specs.Codes.{Code}
+use Rattle.markdown_content.specs.Content.{IsContent, IsTextContent}
 use Rattle.markdown_engine.specs.Operations.{Consume, applied, current_of, scratched}
-use Rattle.markdown_engine_content.specs.Place.{Place, start_of_content}
+use Rattle.markdown_content.specs.Place.{Place, start_of_content}
 use Rattle.markdown_engine.specs.RestingFields.{at_rest}
-use Rattle.markdown_engine_index.specs.RunIndex.{LastRuns, last_runs, no_runs}
+use Rattle.markdown_notes.specs.RunIndex.{LastRuns, last_runs, no_runs}
 use Rattle.markdown_engine.specs.Weights.{left_at, codes_left}
 use Rattle.markdown_event.specs.declared.event.Point.{Point}
-use Rattle.markdown_engine_content.specs.declared.parser.Piece.{Piece}
+use Rattle.markdown_content.specs.declared.parser.Piece.{Piece}
 use Rattle.markdown_event.specs.declared.event.Name.TheVariants as N
 use Rattle.markdown_engine.specs.declared.tokenizer.TokenizeState.{TokenizeState}
 use Rattle.markdown_engine.specs.declared.tokenizer.Tokenizer.{Tokenizer}
 use Rattle.markdown_engine.proofs.OperationFields.{left-consumed}
 use Rattle.markdown_engine.proofs.PlaceBounds.{codes-fit}
-use Rattle.markdown_engine_index.proofs.RunIndexFacts.{none-known}
+use Rattle.markdown_notes.proofs.RunIndexFacts.{none-known}
 use Rattle.markdown_plan.specs.Characters.{bytes_of, IsText, ReadsText}
 use Rattle.markdown_plan.proofs.ContentCharacters.{content-text}
 use Rattle.markdown_plan.proofs.ContentEnds.{content-ends}
@@ -34,7 +34,7 @@ start-fits bytes pieces T k e = omega (arith, codes-fit bytes pieces k, ap left_
 pub unknown-runs : (s : TokenizeState) (cs : List Code) → s.runs ≡ no_runs → s.runs ≡ last_runs s.runs.asked cs
 unknown-runs s cs e = e ∙ none-known cs ∙ ap (λ (x : LastRuns). last_runs x.asked cs) (sym e)
 
-pub start-spans : (T : Tokenizer) → T.tokenize_state ≡ at_rest → codes_left T ≤ most → RawText.StartReady T
+pub start-spans : (T : Tokenizer) → T.tokenize_state ≡ at_rest → codes_left T ≤ most → RawText.RawTextStartReady T
 start-spans T e fits =
     record { rest = e ∙ ap RawText.rested (sym e); fits = omega (arith, fits) }
 
@@ -49,7 +49,7 @@ start-reads bytes pieces T content input place =
 
 pub start-literals : (bytes : List ℕ) (pieces : List Piece) (T : Tokenizer) → IsContent bytes pieces →
     bytes_of T ≡ bytes → T.cursor ≡ start_of_content bytes pieces →
-    GfmAutolinkLiteral.rested T.tokenize_state ≡ T.tokenize_state → GfmAutolinkLiteral.StartReady T
+    GfmAutolinkLiteral.rested T.tokenize_state ≡ T.tokenize_state → GfmAutolinkLiteral.LiteralStartReady T
 start-literals bytes pieces T content input place resting =
     record {
       text = start-reads bytes pieces T content input place;
@@ -67,12 +67,12 @@ start-last bytes pieces p text place =
 -- Whitespace that is asked for, where nothing is.
 
 pub start-space : (min max : ℕ) (T : Tokenizer) → T.tokenize_state ≡ at_rest →
-    PartialSpaceOrTab.StartReady (scratched (PartialSpaceOrTab.asked min max N.SpaceOrTab false None T.tokenize_state) T)
+    PartialSpaceOrTab.SpaceOrTabStartReady (scratched (PartialSpaceOrTab.asked min max N.SpaceOrTab false None T.tokenize_state) T)
 start-space min max T e =
     asked-ready min max N.SpaceOrTab false None T (ap PartialSpaceOrTab.rested e ∙ sym e) (λ h. cc)
 
 pub start-spacing : (T : Tokenizer) → T.tokenize_state ≡ at_rest → codes_left T ≤ most →
-    PartialSpaceOrTabEol.StartReady (scratched (PartialSpaceOrTabEol.eol_asked false None T.tokenize_state) T)
+    PartialSpaceOrTabEol.SpaceOrTabEolStartReady (scratched (PartialSpaceOrTabEol.eol_asked false None T.tokenize_state) T)
 start-spacing T e fits =
     eol-asked-ready false None T fits (record { space = ap PartialSpaceOrTab.rested e ∙ sym e; eol = ap PartialSpaceOrTabEol.eol_rested e ∙ sym e }) (λ h. cc) (λ h. cc) (λ h. refl)
 

@@ -1,21 +1,20 @@
 -- The data of a content's tree is part of the document.
 use Rattle.std.proofs.Common.{◌≡◌, ◌≢◌, ℕ, true, false, List, [], ◌++◌, None, refl, sym, ◌∙◌, append-nil}
-use Rattle.markdown_plan.proofs.PassedByReadings.{some-first}
 use Rattle.std.specs.List.{list_any}
-use Rattle.markdown_engine_content.specs.Codes.{Code, is_line_ending}
-use Rattle.markdown_engine_content.specs.Content.{IsContent, content_of}
-use Rattle.markdown_engine_content.specs.Tree.{Forest, empty, leaf_then, group_then, leaf_codes}
+use Rattle.markdown_content.specs.Codes.{Code, is_line_ending}
+use Rattle.markdown_content.specs.Content.{IsContent, content_of}
+use Rattle.markdown_content.specs.Tree.{Forest, empty, leaf_then, group_then, leaf_codes}
 use Rattle.markdown_event.specs.declared.event.Name.{Name}
 use Rattle.markdown_event.specs.declared.event.Name.TheVariants as N
-use Rattle.markdown_engine_content.specs.declared.parser.Piece.{Piece}
+use Rattle.markdown_content.specs.declared.parser.Piece.{Piece}
 use Rattle.markdown_model.specs.Passes.{data_onto, merged}
 use Rattle.markdown_run_text.specs.CutData.{HasCodes}
-use Rattle.markdown_partial.specs.MergedEvents.{HasData, is_data}
-use Rattle.markdown_partial.specs.TrimmedEvents.{IsPart, HasParts}
-use Rattle.markdown_run_text.specs.RowTreeNames.{HasLines}
-use Rattle.markdown_run_leaves.specs.OneLineLeaves.{makes_data, IsIn}
-use Rattle.markdown_model.proofs.OneLineReadings.{line-join}
-use Rattle.markdown_run_leaves.proofs.LinesAreInDocument.{both-in, line-ends, part-of-content}
+use Rattle.markdown_passes.specs.MergedEvents.{HasData, is_data}
+use Rattle.markdown_passes.specs.TrimmedEvents.{AreDocumentCodes, HasParts}
+use Rattle.markdown_run_text.specs.RowTreeNames.{HasRowLines}
+use Rattle.markdown_innermost.specs.OneLineLeaves.{makes_data, IsIn}
+use Rattle.markdown_model.proofs.OneLineReadings.{line-join, some-join}
+use Rattle.markdown_innermost.proofs.LinesAreInDocument.{both-in, line-ends, part-of-content}
 
 -- Trees over a content.
 
@@ -23,8 +22,9 @@ data-makes : (n : Name) → is_data n ≡ true → makes_data n ≡ true
 data-makes N.Data e = refl
 data-makes _ e = cc
 
-module _ (bytes : List ℕ) (all : List Code) (part : (xs : List Code) → xs ≢ [] → list_any is_line_ending xs ≡ false → IsIn xs all → IsPart bytes xs) where
-  parts-row : (t : Forest) (before after : List Code) → all ≡ before ++ (leaf_codes t ++ after) → HasLines t →
+module _ (bytes : List ℕ) (all : List Code)
+    (part : (xs : List Code) → xs ≢ [] → list_any is_line_ending xs ≡ false → IsIn xs all → AreDocumentCodes bytes xs) where
+  parts-row : (t : Forest) (before after : List Code) → all ≡ before ++ (leaf_codes t ++ after) → HasRowLines t →
       HasParts bytes t
   parts-row empty before after e h = tt
   parts-row (leaf_then name link cs rest) before after e h =
@@ -36,19 +36,19 @@ module _ (bytes : List ℕ) (all : List Code) (part : (xs : List Code) → xs �
 
 -- the data of a tree over a content is part of the document
 pub parts-of : (bytes : List ℕ) (pieces : List Piece) (t : Forest) → IsContent bytes pieces →
-    leaf_codes t ≡ content_of bytes pieces → HasLines t → HasParts bytes t
+    leaf_codes t ≡ content_of bytes pieces → HasRowLines t → HasParts bytes t
 parts-of bytes pieces t content e h =
     parts-row bytes (content_of bytes pieces) (λ xs some none k. part-of-content bytes pieces xs content.in_order some (line-ends xs none) k) t [] [] (sym e ∙ sym (append-nil (leaf_codes t))) h
 
 -- Merging.
 
-lines-onto : (cs : List Code) (f : Forest) → cs ≢ [] → list_any is_line_ending cs ≡ false → HasLines f →
-    HasLines (data_onto cs f)
+lines-onto : (cs : List Code) (f : Forest) → cs ≢ [] → list_any is_line_ending cs ≡ false → HasRowLines f →
+    HasRowLines (data_onto cs f)
 lines-onto cs (leaf_then N.Data None more rest) some none h =
-    (λ e l. (some-first cs more some, line-join cs more none (h.0 refl refl).1), h.1)
+    (λ e l. (some-join cs more some, line-join cs more none (h.0 refl refl).1), h.1)
 lines-onto cs rest some none h = (λ e l. (some, none), h)
 
-pub HasLines-merged : (t : Forest) → HasLines t → HasLines (merged t)
+pub HasLines-merged : (t : Forest) → HasRowLines t → HasRowLines (merged t)
 unfolding merged
 HasLines-merged empty h = tt
 HasLines-merged (leaf_then N.Data None cs rest) h =
@@ -57,13 +57,13 @@ HasLines-merged (leaf_then name link cs rest) h = (h.0, HasLines-merged rest h.1
 HasLines-merged (group_then name enter exit inside rest) h =
     (h.0, (HasLines-merged inside h.1.0, HasLines-merged rest h.1.1))
 
-pub HasLines-HasData : (t : Forest) → HasLines t → HasData t
+pub HasLines-HasData : (t : Forest) → HasRowLines t → HasData t
 HasLines-HasData empty h = tt
 HasLines-HasData (leaf_then name link cs rest) h = (λ e l. (h.0 (data-makes name e) l).0, HasLines-HasData rest h.1)
 HasLines-HasData (group_then name enter exit inside rest) h =
     (h.0.0, (HasLines-HasData inside h.1.0, HasLines-HasData rest h.1.1))
 
-pub HasLines-HasCodes : (t : Forest) → HasLines t → HasCodes t
+pub HasLines-HasCodes : (t : Forest) → HasRowLines t → HasCodes t
 HasLines-HasCodes empty h = tt
 HasLines-HasCodes (leaf_then name link cs rest) h = (λ e l. (h.0 (data-makes name e) l).0, HasLines-HasCodes rest h.1)
 HasLines-HasCodes (group_then name enter exit inside rest) h =

@@ -4,22 +4,22 @@ use Rattle.std.specs.List.{list_any}
 use Rattle.std.proofs.lemmas.Bool.{eqb-true, ne_eqb}
 use Rattle.std.specs.Prelude.{is_some, ◌&&◌}
 use Rattle.std.specs.Str.{byte}
-use Rattle.markdown_engine_content.specs.ListFunctions.{rest_of}
-use Rattle.markdown_engine_content.specs.Place.{code_at, moved}
-use Rattle.markdown_engine_content.proofs.PlaceRules.{ahead-moved}
+use Rattle.markdown_content.specs.ListFunctions.{rest_of}
+use Rattle.markdown_content.specs.Place.{code_at, moved}
+use Rattle.markdown_content.proofs.PlaceRules.{ahead-moved}
 use Rattle.markdown_engine.specs.Operations.{HasCode, ahead, current_of, scratched}
 use Rattle.markdown_engine.specs.PastTree.{past, Reads, TreeReading}
 use Rattle.markdown_engine.specs.StateWords.{StateWords, words_in}
 use Rattle.markdown_engine.specs.Weights.{codes_left}
-use Rattle.markdown_state.specs.declared.state.StateName.{StateName}
-use Rattle.markdown_engine_index.specs.RunIndex.{is_asked}
-use Rattle.markdown_state.specs.declared.state.StateName.TheVariants.{AttentionStart, AutolinkStart, CharacterEscapeStart, GfmAutolinkLiteralWwwStart, GfmLabelStartFootnoteStart}
-use Rattle.markdown_state.specs.declared.state.StateName.TheVariants.{HardBreakEscapeStart, HtmlTextStart, LabelEndStart, LabelStartImageStart, LabelStartLinkStart, RawTextStart}
+use Rattle.markdown_event.specs.declared.state.StateName.{StateName}
+use Rattle.markdown_notes.specs.RunIndex.{is_asked}
+use Rattle.markdown_event.specs.declared.state.StateName.TheVariants.{AttentionStart, AutolinkStart, CharacterEscapeStart, GfmAutolinkLiteralWwwStart, GfmLabelStartFootnoteStart}
+use Rattle.markdown_event.specs.declared.state.StateName.TheVariants.{HardBreakEscapeStart, HtmlTextStart, LabelEndStart, LabelStartImageStart, LabelStartLinkStart, RawTextStart}
 use Rattle.markdown_engine.specs.declared.tokenizer.TokenizeState.{TokenizeState}
 use Rattle.markdown_engine.specs.declared.tokenizer.Tokenizer.{Tokenizer}
 use Rattle.markdown_engine.proofs.ReadingSequences.{scratched-same}
 use Rattle.markdown_attention.specs.Attention.{run_tree}
-use Rattle.markdown_label.specs.LabelEnd.{AreWithin}
+use Rattle.markdown_label.specs.LabelEnd.{AreStartsWithin}
 use Rattle.markdown_label.specs.LabelEnd as LabelEnd
 use Rattle.markdown_label.specs.LabelStarts.{footnotes_on, footnote_test, image_ends, link_ends, footnote_ends}
 use Rattle.markdown_label.proofs.NextCodeTests.{at-none, at-value}
@@ -48,13 +48,13 @@ use Rattle.markdown_run_text.specs.TextContent.{StandsAlone, other_markers, sole
 use Rattle.markdown_run_text.proofs.TextContentLaws.{SoleBy, SoleOrAlone, sole-or-alone, states_and_called, angle-row, slash-row}
 use Rattle.markdown_run_text.proofs.TextElements.{is_marker}
 use Rattle.markdown_run_text.proofs.TextLabelTries.{image-advances, image-alone, footnote-advances, link-advances, bracket-alone, made-advances, failed-advances, end-alone}
-use Rattle.markdown_run_text.proofs.TextSteps.{IsSame, same-row, choice-same, indexed-past, domains-past, ready-past, no-check-past, tree-kept, registered-kept, made-kept, some-none, ends-on, lost-there, not-lost, lost-left, lost-current, same-lost}
+use Rattle.markdown_run_text.proofs.TextSteps.{KeepsTheRest, same-row, choice-same, indexed-past, domains-past, ready-past, no-check-past, tree-kept, registered-kept, made-kept, some-none, ends-on, lost-there, not-lost, lost-left, lost-current, same-lost}
 use Rattle.markdown_run_text.proofs.TextTries.{ReadsElements, read-ahead, single-ahead, first-reads, second-reads, second-alone, span-reads, span-alone, run-reads, run-alone, run-leaf, www-reads, www-alone}
 use Rattle.markdown_run_text.specs.PlacesPassed.{goes_on}
 use Rattle.markdown_run_text.proofs.InnerUnderscores.{text-read}
 use Rattle.markdown_run_text.proofs.TextDataElements.{text-single}
 use Rattle.markdown_run_text.specs.TextStops.{reader_stops, text_stops}
-use Rattle.markdown_run.specs.ElementsOfText.{indexed, data_stops, MayTry, IsReady, EndsAt, EndsByData, LeadsTo, Passes, Stays, ReadsElement}
+use Rattle.markdown_run.specs.ElementsOfText.{indexed, data_stops, MayTry, IsReady, FinishesAt, EndsByData, LeadsTo, PassesSome, ReachesData, ReadsElement}
 use Rattle.markdown_run.specs.Layer.{inline, text-within}
 use Rattle.markdown_run.specs.RunConstruct.{Asks, IsConstruct, EndsBy, ConstructEnds}
 use Rattle.markdown_run_text.specs.ReaderEnds.{ReadsOrStays}
@@ -63,23 +63,23 @@ use Rattle.markdown_run.proofs.StartsAndEnds.{image-begun, link-begun, footnote-
 
 -- An element is read.
 
-data-stops-same : (T U : Tokenizer) → IsSame T U → data_stops U ≡ data_stops T
+data-stops-same : (T U : Tokenizer) → KeepsTheRest T U → data_stops U ≡ data_stops T
 data-stops-same T U e i = reader_stops (e.codes i) (e.input i).now.options.now.constructs.gfm_autolink_literal
 
 -- each code of the content where data does not stop is read as data
 as-data : (T : Tokenizer) → MayTry T → AreReadAsData (bytes_of T) (text_choice_of T) (data_stops T) T.cursor.codes
 as-data T r = text-read (text_setting T) T.cursor T.parse_state.now.options.now.constructs.gfm_autolink_literal r.start.ends.text refl
 
-pub may-past : (T U : Tokenizer) → IsSame T U → codes_left U ≤ codes_left T → AreWithin U U.tokenize_state.label_starts →
+pub may-past : (T U : Tokenizer) → KeepsTheRest T U → codes_left U ≤ codes_left T → AreStartsWithin U U.tokenize_state.label_starts →
     U.attempts ≡ [] → MayTry T → MayTry U
 may-past T U e l within alone r =
     record { start = ready-past T U e l within r.start; runs = indexed-past T U e r.runs; domains = domains-past T U e r.domains; alone = alone }
 
-pub element-passes : (T U : Tokenizer) → MayTry T → AreWithin U U.tokenize_state.label_starts →
-    Advances (text_choice_of T) T U → Passes T U
+pub element-passes : (T U : Tokenizer) → MayTry T → AreStartsWithin U U.tokenize_state.label_starts →
+    Advances (text_choice_of T) T U → PassesSome T U
 unfolding scratched
 element-passes T U r within a =
-    let e : IsSame T U = same-row a.row T U a.left a.is_row r.start.ends in
+    let e : KeepsTheRest T U = same-row a.row T U a.left a.is_row r.start.ends in
     let less : codes_left U < codes_left T = a.less in
     record {
       ready = record { may_try = may-past T U e (omega (arith, less)) within (ap (λ (x : Tokenizer). x.attempts) a.left ∙ row-alone a.row T ∙ r.alone) r; unchecked = no-check-past T U a };
@@ -87,14 +87,14 @@ element-passes T U r within a =
       leads = leads e;
     }
   where
-    leads : IsSame T U → LeadsTo T U
+    leads : KeepsTheRest T U → LeadsTo T U
     leads e s V h =
         advances-finishes (text_choice_of T) text_passed (indexed s T) (indexed s U) V (advances-indexed s (text_choice_of T) T U a) (subst (λ c. Finishes c text_passed (indexed s U) V) (choice-same T U e) h)
 
 -- None is, and the code at hand is data.
 
 alone-ends : (T : Tokenizer) → AreReadAsData (bytes_of T) (text_choice_of T) (data_stops T) T.cursor.codes → current_of T ≢ None →
-    StandsAlone T → (V : Tokenizer) → EndsByData T V → EndsAt T V
+    StandsAlone T → (V : Tokenizer) → EndsByData T V → FinishesAt T V
 alone-ends T read some alone V k =
     let a = some-ahead T (ahead T) refl some in
     advances-finishes (text_choice_of T) text_passed T k.behind V
@@ -105,15 +105,15 @@ alone-ends T read some alone V k =
 has-code : (T : Tokenizer) (v : ℕ) → current_of T ≡ Some v → HasCode T
 has-code T v e = ap is_some e
 
-pub alone-stays : (T U : Tokenizer) (v : ℕ) → IsReady T → current_of T ≡ Some v → U ≡ T → StandsAlone T → Stays T U
+pub alone-stays : (T U : Tokenizer) (v : ℕ) → IsReady T → current_of T ≡ Some v → U ≡ T → StandsAlone T → ReachesData T U
 unfolding scratched
-alone-stays T U v r here same alone = subst (λ (x : Tokenizer). Stays T x) (sym same) there
+alone-stays T U v r here same alone = subst (λ (x : Tokenizer). ReachesData T x) (sym same) there
   where
-    leads : (s : TokenizeState) (V : Tokenizer) → EndsByData (indexed s T) V → EndsAt (indexed s T) V
+    leads : (s : TokenizeState) (V : Tokenizer) → EndsByData (indexed s T) V → FinishesAt (indexed s T) V
     leads s V k =
         alone-ends (indexed s T) (as-data T r.may_try) (some-none (current_of T) v here) (λ earlier previous c cs stands w. alone earlier previous c cs (record { escaped = stands.escaped; before = stands.before; keeps = stands.keeps }) w) V k
 
-    there : Stays T T
+    there : ReachesData T T
     there = record { ready = r; some_code = has-code T v here; left = omega arith; leads = leads }
 
 -- A construct is tried.
@@ -135,14 +135,14 @@ span-ends T U ok v r here h k =
 
 -- it is known that none closes
 pub span-ruled : (T : Tokenizer) (v : ℕ) → IsReady T → current_of T ≡ Some v → is_asked span_markers v ≡ true →
-    RawText.is_ruled_out v T ≡ true → Stays T T
+    RawText.is_ruled_out v T ≡ true → ReachesData T T
 span-ruled T v r here h k = by_marker (v == 96) refl
   where
     other : (b : Bool) → (false || (b || false)) ≡ b
     other true = refl
     other false = refl
 
-    by_marker : (b : Bool) → (v == 96) ≡ b → Stays T T
+    by_marker : (b : Bool) → (v == 96) ≡ b → ReachesData T T
     by_marker true e =
         let code : v ≡ 96 = eqb-true v 96 e in
         let there : current_of T ≡ Some 96 = here ∙ ap (λ n. Some n) code in
@@ -159,7 +159,7 @@ not-true true e = cc
 not-true false e = refl
 
 pub data-stays : (T : Tokenizer) (v : ℕ) → IsReady T → current_of T ≡ Some v →
-    goes_on T.parse_state.now.options.now.constructs.gfm_autolink_literal (ahead T) ≡ true → Stays T T
+    goes_on T.parse_state.now.options.now.constructs.gfm_autolink_literal (ahead T) ≡ true → ReachesData T T
 data-stays T v r here on =
     let literals : Bool = T.parse_state.now.options.now.constructs.gfm_autolink_literal in
     alone-stays T T v r here refl
@@ -190,7 +190,7 @@ module _ (T : Tokenizer) (v : ℕ) (r : IsReady T) (here : current_of T ≡ Some
   sole-ends name U ok e k =
       sole-ends-by (tried_reading name) (states_and_called (words_in inline) name) name T U ok v r here (subst (λ (o : Option StateName). SoleOrAlone inline T o) e sole-here) k
 
-  pub none-tried : sole_try v ≡ None → Stays T T
+  pub none-tried : sole_try v ≡ None → ReachesData T T
   none-tried e = alone-stays T T v r here refl (subst (λ (o : Option StateName). SoleOrAlone inline T o) e sole-here)
 
 pub www-ends : (T U : Tokenizer) (ok : Bool) (v : ℕ) → IsReady T → current_of T ≡ Some v →
@@ -200,20 +200,20 @@ www-ends T U ok v r here h k =
 
 -- it is known that no domain begins
 pub www-ruled : (T : Tokenizer) (v : ℕ) → IsReady T → current_of T ≡ Some v → list_any (λ n. v == n) (first_letters (www ∷ [])) ≡ true →
-    GfmAutolinkLiteral.is_ruled_out T ≡ true → Stays T T
+    GfmAutolinkLiteral.is_ruled_out T ≡ true → ReachesData T T
 www-ruled T v r here h k =
     alone-stays T T v r here refl (www-alone T v r.may_try.start.last here h (www-ruled-out T r.may_try.domains k))
 
 -- Two constructs are tried, one behind the other.
 
 plain-holds : (T U : Tokenizer) (reading : TreeReading) → IsReady T → Reads reading None T.tokenize_state T U → ReadsPlain (bytes_of T) reading →
-    ReadsElements reading T → Passes T U
+    ReadsElements reading T → PassesSome T U
 plain-holds T U reading r k own elements =
     let node = node-of (bytes_of T) reading own (ahead T) k.tree k.rest k.holds in
     element-passes T U r.may_try (tree-kept T U k.tree (k.left ∙ ap (past None k.tree) (scratched-same T)) r.may_try.start.ends.within)
     (node-advances (text_choice_of T) reading T U k node.0 node.1 (elements k.tree k.rest k.holds))
 
-pub autolink-holds : (T U : Tokenizer) → IsReady T → current_of T ≡ Some (byte "<") → ConstructEnds AutolinkStart T true U → Passes T U
+pub autolink-holds : (T U : Tokenizer) → IsReady T → current_of T ≡ Some (byte "<") → ConstructEnds AutolinkStart T true U → PassesSome T U
 autolink-holds T U r here k = plain-holds T U (link_here T) r k (search plain_constructs) (first-reads T (byte "<") _ _ _ _ (angle-row T) here)
 
 pub html-ends : (T U V : Tokenizer) (ok : Bool) → IsReady T → current_of T ≡ Some (byte "<") → ConstructEnds AutolinkStart T false U →
@@ -225,13 +225,13 @@ html-ends T U V ok r here k h =
 
 -- it is known that HTML does not end
 pub html-ruled : (T U : Tokenizer) → IsReady T → current_of T ≡ Some (byte "<") → ConstructEnds AutolinkStart T false U →
-    HtmlText.is_ruled_out U ≡ true → Stays T U
+    HtmlText.is_ruled_out U ≡ true → ReachesData T U
 html-ruled T U r here k h =
     let same : U ≡ T = k.1 ∙ scratched-same T in
     alone-stays T U (byte "<") r here same
     (second-alone T (byte "<") _ _ _ _ (angle-row T) here k.0 (html-ruled-out T r.may_try.start.ends.part.indexed here (ap (λ (x : Tokenizer). HtmlText.is_ruled_out x) (sym same) ∙ h)))
 
-pub escape-holds : (T U : Tokenizer) → IsReady T → current_of T ≡ Some (byte "\\") → ConstructEnds CharacterEscapeStart T true U → Passes T U
+pub escape-holds : (T U : Tokenizer) → IsReady T → current_of T ≡ Some (byte "\\") → ConstructEnds CharacterEscapeStart T true U → PassesSome T U
 escape-holds T U r here k = plain-holds T U (escape_here T) r k (search plain_constructs) (first-reads T (byte "\\") _ _ _ _ (slash-row T) here)
 
 pub break-ends : (T U V : Tokenizer) (ok : Bool) → IsReady T → current_of T ≡ Some (byte "\\") → ConstructEnds CharacterEscapeStart T false U →
@@ -279,21 +279,21 @@ pub image-tried : (T U : Tokenizer) (ok : Bool) → IsReady T → current_of T �
 image-tried T U true r here k =
     let h : image_ends T true U = image-begun T U k in
     element-passes T U r.may_try
-    (subst (λ (x : Tokenizer). AreWithin x x.tokenize_state.label_starts) (sym h.left) (image-within T r.may_try.start.ends.text r.may_try.start.ends.within h.holds)) (image-advances T U h)
+    (subst (λ (x : Tokenizer). AreStartsWithin x x.tokenize_state.label_starts) (sym h.left) (image-within T r.may_try.start.ends.text r.may_try.start.ends.within h.holds)) (image-advances T U h)
 image-tried T U false r here k = alone-stays T U (byte "!") r here k.1 (image-alone T here (image-fails T k.0))
 
-pub footnote-holds : (T U : Tokenizer) → IsReady T → ConstructEnds GfmLabelStartFootnoteStart T true U → Passes T U
+pub footnote-holds : (T U : Tokenizer) → IsReady T → ConstructEnds GfmLabelStartFootnoteStart T true U → PassesSome T U
 footnote-holds T U r k =
     let h : footnote_ends T true U = footnote-begun T U k in
     element-passes T U r.may_try
-    (subst (λ (x : Tokenizer). AreWithin x x.tokenize_state.label_starts) (sym h.left) (footnote-within T r.may_try.start.ends.text r.may_try.start.ends.within h.holds)) (footnote-advances T U r.unchecked h)
+    (subst (λ (x : Tokenizer). AreStartsWithin x x.tokenize_state.label_starts) (sym h.left) (footnote-within T r.may_try.start.ends.text r.may_try.start.ends.within h.holds)) (footnote-advances T U r.unchecked h)
 
 pub link-tried : (T U : Tokenizer) (ok : Bool) → IsReady T → current_of T ≡ Some (byte "[") → footnote_test T (ahead T) ≡ false →
     ConstructEnds LabelStartLinkStart T ok U → ReadsElement T ok U
 link-tried T U true r here none k =
     let h : link_ends T true U = link-begun T U k in
     element-passes T U r.may_try
-    (subst (λ (x : Tokenizer). AreWithin x x.tokenize_state.label_starts) (sym h.left) (link-within T r.may_try.start.ends.text r.may_try.start.ends.within h.holds)) (link-advances T U r.unchecked none h)
+    (subst (λ (x : Tokenizer). AreStartsWithin x x.tokenize_state.label_starts) (sym h.left) (link-within T r.may_try.start.ends.text r.may_try.start.ends.within h.holds)) (link-advances T U r.unchecked none h)
 link-tried T U false r here none k =
     alone-stays T U (byte "[") r here k.1 (bracket-alone T r.unchecked here none (link-fails T k.0))
 
@@ -310,7 +310,7 @@ link-behind T U V ok r here k h =
 
 lost-ends : (T : Tokenizer) → current_of T ≡ Some (byte "]") → LabelEnd.is_on T ≡ true → LabelEnd.end_reading T (ahead T) ≡ None →
     AreReadAsData (bytes_of T) (text_choice_of T) (data_stops T) T.cursor.codes → (F : Tokenizer) → F ≡ past_mark loses T →
-    text_choice_of F ≡ text_choice_of T → data_stops F ≡ data_stops T → (V : Tokenizer) → EndsByData F V → EndsAt T V
+    text_choice_of F ≡ text_choice_of T → data_stops F ≡ data_stops T → (V : Tokenizer) → EndsByData F V → FinishesAt T V
 lost-ends T here on none read F left choice stops V k =
     let there : DataFinishes (text_choice_of T) (data_up_to (data_stops T)) text_passed F V =
     subst (λ c. DataFinishes c (data_up_to (data_stops T)) text_passed F V) choice (subst (λ stop. DataFinishes (text_choice_of F) (data_up_to stop) text_passed F V) stops k) in
@@ -318,11 +318,11 @@ lost-ends T here on none read F left choice stops V k =
     (failed-advances T here on (data_stops T) there.behind read none (subst (λ (x : Tokenizer). Reads (data_up_to (data_stops T)) None x.tokenize_state x there.behind) left there.data_read)) there.finishes
 
 lost-stays : (T : Tokenizer) → IsReady T → current_of T ≡ Some (byte "]") → LabelEnd.is_on T ≡ true → LabelEnd.end_reading T (ahead T) ≡ None →
-    Stays T (past_mark loses T)
+    ReachesData T (past_mark loses T)
 unfolding past_mark scratched
 lost-stays T r here on none =
     let F : Tokenizer = past_mark loses T in
-    let e : IsSame T F = same-lost T r.may_try.start.ends in
+    let e : KeepsTheRest T F = same-lost T r.may_try.start.ends in
     record {
       ready = record { may_try = may-past T F e (lost-left T) (lost-within T r.may_try.start.ends.within) (lost-alone ∙ r.may_try.alone) r.may_try; unchecked = lost-unchecked };
       some_code = has-code F (byte "]") (lost-current T ∙ here);
@@ -338,7 +338,7 @@ lost-stays T r here on none =
         ap (λ (s : TokenizeState). GfmTaskListItemCheck.check_here (record T { tokenize_state = record T.tokenize_state { document_at_first_paragraph_of_list_item = s.document_at_first_paragraph_of_list_item } }) (ahead T)) (same-lost T r.may_try.start.ends).fields
         ∙ r.unchecked
 
-    leads : IsSame T (past_mark loses T) → (s : TokenizeState) (V : Tokenizer) → EndsByData (indexed s (past_mark loses T)) V → EndsAt (indexed s T) V
+    leads : KeepsTheRest T (past_mark loses T) → (s : TokenizeState) (V : Tokenizer) → EndsByData (indexed s (past_mark loses T)) V → FinishesAt (indexed s T) V
     leads e s V k =
         lost-ends (indexed s T) here on none (as-data T r.may_try) (indexed s (past_mark loses T)) (sym (mark-indexed s loses T)) (choice-same T (past_mark loses T) e) (data-stops-same T (past_mark loses T) e) V k
 
@@ -349,8 +349,8 @@ end-ends T U true r here k =
     element-passes T U r.may_try (made-kept T U h r.may_try.start.ends.within) (made-advances T here (ends-on T U h) U h)
 end-ends T U false r here k = by_switch (LabelEnd.is_on T) refl
   where
-    by_switch : (b : Bool) → LabelEnd.is_on T ≡ b → Stays T U
-    by_switch true on = subst (λ (x : Tokenizer). Stays T x) (sym (k.1 ∙ lost-there T here on)) (lost-stays T r here on k.0)
+    by_switch : (b : Bool) → LabelEnd.is_on T ≡ b → ReachesData T U
+    by_switch true on = subst (λ (x : Tokenizer). ReachesData T x) (sym (k.1 ∙ lost-there T here on)) (lost-stays T r here on k.0)
     by_switch false off = alone-stays T U (byte "]") r here (k.1 ∙ not-lost T off) (end-alone T here off)
 
 -- Other codes.

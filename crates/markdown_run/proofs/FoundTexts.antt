@@ -1,8 +1,8 @@
 -- The elements of a text that a run has found, some of which are read otherwise: they pair as the text's tree of labels does.
 use Rattle.std.proofs.Common.{◌≡◌, ℕ, false, List, refl, sym, ap, subst, ◌∙◌}
-use Rattle.markdown_engine_content.specs.Codes.{Code}
+use Rattle.markdown_content.specs.Codes.{Code}
 use Rattle.markdown_attention.specs.AttentionPass.{IsProbed}
-use Rattle.markdown_attention.proofs.AttentionTreeLabels.{IsGood, IsSound}
+use Rattle.markdown_attention.proofs.AttentionTreeLabels.{IsGood, IsElementRead}
 use Rattle.markdown_attention.proofs.ElementsHaveMarkerRuns.{sound-elements}
 use Rattle.markdown_attention.proofs.MarkerCodes.{AreSingles}
 use Rattle.markdown_label.specs.Brackets.{grouped}
@@ -20,9 +20,9 @@ use Rattle.markdown_run_text.proofs.PairsAsRead.{good-read, paired-read, probed-
 use Rattle.markdown_run.proofs.MayPairOfCutData.{good-alike}
 use Rattle.markdown_run.proofs.RowsWithoutRuns.{row-still}
 use Rattle.markdown_run.proofs.TextTree.{text-labels, text-still}
-use Rattle.markdown_run.proofs.WholeRun.{IsFound}
+use Rattle.markdown_run.proofs.WholeRun.{IsRowRead}
 
-module _ (s : Setting) (cs : List Code) (row : Row) (found : IsFound s.bytes (text_choice s cs) cs row) where
+module _ (s : Setting) (cs : List Code) (row : Row) (found : IsRowRead s.bytes (text_choice s cs) cs row) where
   -- where runs are not looked for none stands in the row
   pub found-still : s.options.constructs.attention ≡ false → s.options.constructs.gfm_strikethrough ≡ false → row_has_run row ≡ false
   found-still off none =
@@ -31,7 +31,7 @@ module _ (s : Setting) (cs : List Code) (row : Row) (found : IsFound s.bytes (te
       row-still row found.read found.alike (ap (λ (es : List Element). row_has_run (row_of_elements es)) same ∙ still)
 
   module _ (singles : AreSingles s.bytes cs) where
-    sound : AllAre (IsSound s.bytes) found.elements
+    sound : AllAre (IsElementRead s.bytes) found.elements
     sound = sound-elements s.bytes s cs found.elements singles found.are
 
     -- the runs of the row with its labels grouped are such as may be paired

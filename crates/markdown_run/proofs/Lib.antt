@@ -24,4 +24,3 @@ pub mod ElementsRead
 pub mod TextEnds
 pub mod PlainEnds
 pub mod MergedEnds
-pub mod WholeDocument

@@ -1,7 +1,7 @@
 -- What the pass of data asks at the end of a text.
 use Rattle.markdown_engine.specs.declared.tokenizer.Tokenizer.{Tokenizer}
-use Rattle.markdown_partial.specs.TrimmedEvents.{HasPlaces}
-use Rattle.markdown_partial.proofs.TrimPassLaw.{places-of}
+use Rattle.markdown_passes.specs.TrimmedEvents.{HasPlaces}
+use Rattle.markdown_passes.proofs.TrimPassLaw.{places-of}
 use Rattle.markdown_run.specs.RunWithPasses.{MayMerge}
 
 -- its data stands at places of the document

@@ -1,8 +1,8 @@
 -- Pairing keeps what is said of the lines of a tree: no data that it makes is empty or holds a line ending.
 use Rattle.std.proofs.Common.{◌≡◌, ◌≢◌, ℕ, suc, true, false, Option, List, [], ◌∷◌, None, refl, ap, ◌∙◌}
 use Rattle.std.specs.List.{list_any}
-use Rattle.markdown_engine_content.specs.Codes.{Code, is_line_ending}
-use Rattle.markdown_engine_content.specs.Tree.{Forest, empty, leaf_then, group_then, leaf}
+use Rattle.markdown_content.specs.Codes.{Code, is_line_ending}
+use Rattle.markdown_content.specs.Tree.{Forest, empty, leaf_then, group_then, leaf}
 use Rattle.markdown_event.specs.declared.event.Content.{Content}
 use Rattle.markdown_event.specs.declared.event.Name.{Name}
 use Rattle.markdown_event.specs.declared.event.Name.TheVariants as N
@@ -13,24 +13,24 @@ use Rattle.markdown_model.specs.Pairs.{Pair}
 use Rattle.markdown_model.specs.Runs.{Run, run_of, runs_of}
 use Rattle.markdown_model.specs.Setting.{Setting}
 use Rattle.markdown_model.proofs.PassesKeepCodes.{codes-run_of}
-use Rattle.markdown_partial.specs.MergedEvents.{is_data}
-use Rattle.markdown_partial.specs.TrimmedEvents.{is_ending}
-use Rattle.markdown_run_leaves.specs.OneLineLeaves.{makes_data}
-use Rattle.markdown_run_text.specs.RowTreeNames.{HasLines}
+use Rattle.markdown_passes.specs.MergedEvents.{is_data}
+use Rattle.markdown_passes.specs.TrimmedEvents.{is_ending}
+use Rattle.markdown_innermost.specs.OneLineLeaves.{makes_data}
+use Rattle.markdown_run_text.specs.RowTreeNames.{HasRowLines}
 use Rattle.markdown_run_text.proofs.RowJoins.{HasLines-row}
 use Rattle.markdown_model.specs.CodeLines.{IsLine}
-use Rattle.markdown_run_leaves.proofs.OneLineTrees.{line-parts}
+use Rattle.markdown_innermost.proofs.OneLineTrees.{line-parts}
 use Rattle.markdown_model.proofs.GivenNames.{pair-named}
 use Rattle.markdown_model.proofs.PairGroupFacts.{run-has, assembled-has}
 use Rattle.markdown_model.proofs.BracketGroupFacts.{WordHas, word-append}
 
-lines-leaf : (name : Name) (cs : List Code) → IsLine cs → HasLines (leaf name cs)
+lines-leaf : (name : Name) (cs : List Code) → IsLine cs → HasRowLines (leaf name cs)
 lines-leaf name [] h = tt
 lines-leaf name (c ∷ cs) h = ((λ e l. ((λ k. cc), h)), tt)
 
 -- items on lines, and brackets on lines
-abbrev HasWord : List Token → Type 0
-HasWord w = WordHas HasLines IsLine IsLine w
+abbrev HasLineWord : List Token → Type 0
+HasLineWord w = WordHas HasRowLines IsLine IsLine w
 
 -- the groups of pairs are no data and no line ending
 abbrev IsGroupName : Name → Type 0
@@ -40,20 +40,20 @@ group-names : (marker size : ℕ) → IsGroupName (pair_names marker size).0 × 
 group-names =
     pair-named (λ names. IsGroupName names.0 × IsGroupName names.2) ((refl, refl), (refl, refl)) ((refl, refl), (refl, refl)) ((refl, refl), (refl, refl))
 
-assembled-lines : (w : List Token) → HasWord w → HasLines (assembled w)
+assembled-lines : (w : List Token) → HasLineWord w → HasRowLines (assembled w)
 assembled-lines w h =
-    assembled-has HasLines IsLine (lines-leaf N.Data) tt HasLines-row (λ m n cs k. lines-leaf _ cs k) (λ m n a b f k. ((group-names m n).0, (k, tt))) (λ m n a b f k. ((group-names m n).1, (k, tt))) w h
+    assembled-has HasRowLines IsLine (lines-leaf N.Data) tt HasLines-row (λ m n cs k. lines-leaf _ cs k) (λ m n a b f k. ((group-names m n).0, (k, tt))) (λ m n a b f k. ((group-names m n).1, (k, tt))) w h
 
 module _ (s : Setting) (pairs_of : List Run → List Pair) where
   -- of a leaf: a run is not linked, and its codes are in lines
   leaf-has : (name : Name) (link : Option Content) (cs : List Code) (rest : Forest) (ps : List Pair) (n : ℕ) → (makes_data name ≡ true → link ≡ None → (cs ≢ []) × IsLine cs) → (is_run name ≡ true → link ≡ None)
-      → ((m : ℕ) → HasWord (tokens_of s pairs_of rest ps m)) → HasWord (tokens_of s pairs_of (leaf_then name link cs rest) ps n)
+      → ((m : ℕ) → HasLineWord (tokens_of s pairs_of rest ps m)) → HasLineWord (tokens_of s pairs_of (leaf_then name link cs rest) ps n)
   unfolding tokens_of
   leaf-has N.AttentionSequence link cs rest ps n g bare h =
-      word-append HasLines IsLine IsLine (run_tokens ps n (run_of s cs)) (tokens_of s pairs_of rest ps (suc n)) (run-has HasLines IsLine (lines-leaf N.Data) line-parts ps n (run_of s cs) (ap (list_any is_line_ending) (codes-run_of s cs) ∙ (g refl (bare refl)).1)) (h (suc n))
+      word-append HasRowLines IsLine IsLine (run_tokens ps n (run_of s cs)) (tokens_of s pairs_of rest ps (suc n)) (run-has HasRowLines IsLine (lines-leaf N.Data) line-parts ps n (run_of s cs) (ap (list_any is_line_ending) (codes-run_of s cs) ∙ (g refl (bare refl)).1)) (h (suc n))
   leaf-has name link cs rest ps n g bare h = ((g, tt), h n)
 
-  tokens-has : (t : Forest) (ps : List Pair) (n : ℕ) → HasLines t → HasStripes t → HasWord (tokens_of s pairs_of t ps n)
+  tokens-has : (t : Forest) (ps : List Pair) (n : ℕ) → HasRowLines t → HasStripes t → HasLineWord (tokens_of s pairs_of t ps n)
   unfolding tokens_of
   tokens-has empty ps n h k = tt
   tokens-has (leaf_then name link cs rest) ps n h k =
@@ -61,7 +61,7 @@ module _ (s : Setting) (pairs_of : List Run → List Pair) where
   tokens-has (group_then name a b inside rest) ps n h k =
       ((h.0, (assembled-lines (tokens_of s pairs_of inside (pairs_of (runs_of s inside)) 0) (tokens-has inside (pairs_of (runs_of s inside)) 0 h.1.0 k.1.0), tt)), tokens-has rest ps n h.1.1 k.1.1)
 
-  pub HasLines-paired : (t : Forest) → HasLines t → HasStripes t → HasLines (paired s pairs_of t)
+  pub HasLines-paired : (t : Forest) → HasRowLines t → HasStripes t → HasRowLines (paired s pairs_of t)
   unfolding paired
   HasLines-paired t h k =
       assembled-lines (tokens_of s pairs_of t (pairs_of (runs_of s t)) 0) (tokens-has t (pairs_of (runs_of s t)) 0 h k)

@@ -1,17 +1,18 @@
 -- The passes of a string and of a text, after a run over a content: they may be called, and leave its tree merged and trimmed.
 use Rattle.std.proofs.Common.{◌≡◌, ℕ, Bool, true, false, List, [], ◌∷◌, length, None, refl, sym, ap, subst, ◌∙◌, ◌≤◌, arith}
 use Rattle.std.specs.Prelude.{IsUtf8}
-use Rattle.markdown_engine_content.specs.Content.{IsContent, content_of, document_limit}
+use Rattle.markdown_content.specs.CommonMark.{rules_of}
+use Rattle.markdown_content.specs.Content.{IsContent, content_of, document_limit}
 use Rattle.markdown_engine.specs.Operations.{registered, ahead}
 use Rattle.markdown_engine.specs.PastTree.{appended_from}
-use Rattle.markdown_engine_content.specs.Place.{start_of_content, ahead_at}
+use Rattle.markdown_content.specs.Place.{start_of_content, ahead_at}
 use Rattle.markdown_engine.specs.PassesInOrder.{MayResolve, Resolves}
-use Rattle.markdown_engine_content.specs.Tree.{Forest, leaf_codes}
+use Rattle.markdown_content.specs.Tree.{Forest, leaf_codes}
 use Rattle.markdown_event.specs.declared.event.Event.{Event}
-use Rattle.markdown_engine_content.specs.declared.parser.ParseState.{ParseState}
-use Rattle.markdown_engine_content.specs.declared.parser.Piece.{Piece}
-use Rattle.markdown_state.specs.declared.resolve.ResolveName.{ResolveName}
-use Rattle.markdown_state.specs.declared.resolve.ResolveName.TheVariants as R
+use Rattle.markdown_content.specs.declared.parser.ParseState.{ParseState}
+use Rattle.markdown_content.specs.declared.parser.Piece.{Piece}
+use Rattle.markdown_event.specs.declared.resolve.ResolveName.{ResolveName}
+use Rattle.markdown_event.specs.declared.resolve.ResolveName.TheVariants as R
 use Rattle.markdown_engine.specs.declared.tokenizer.Tokenizer.{Tokenizer}
 use Rattle.markdown_engine.specs.declared.tokenizer.TokenizeState.{TokenizeState}
 use Rattle.markdown_engine.proofs.PlaceBounds.{content_fits}
@@ -24,13 +25,13 @@ use Rattle.markdown_attention.proofs.AttentionTreeLabels.{IsGood}
 use Rattle.markdown_attention.proofs.RunPlaces.{MeetsPass, good-meets}
 use Rattle.markdown_model.specs.BracketGroups.{paired}
 use Rattle.markdown_model.specs.Pairs.{pair_list}
-use Rattle.markdown_model.specs.Passes.{merged, trimmed}
+use Rattle.markdown_model.specs.Passes.{no_breaks, hard_breaks, merged, trimmed}
 use Rattle.markdown_model.specs.Setting.{Setting}
 use Rattle.markdown_model.proofs.PassesKeepCodes.{codes-merged, codes-paired}
-use Rattle.markdown_partial.specs.TrimmedEvents.{HasParts}
-use Rattle.markdown_partial.proofs.TrimPassLaw.{places-of}
+use Rattle.markdown_passes.specs.TrimmedEvents.{HasParts}
+use Rattle.markdown_passes.proofs.TrimPassLaw.{places-of}
 use Rattle.markdown_run_text.specs.RowStart.{passes_of}
-use Rattle.markdown_run_text.specs.RowTreeNames.{HasLines, IsRunless}
+use Rattle.markdown_run_text.specs.RowTreeNames.{HasRowLines, IsRunless}
 use Rattle.markdown_run_text.specs.ContentPasses.{MayPair, PairsRuns, MergesData, MayFinish, mailed_where, may_resolve_of, resolves_of}
 use Rattle.markdown_run.specs.RunWithPasses.{may_end_of, MayMerge}
 use Rattle.markdown_run.proofs.DataInDocument.{parts-of, HasLines-merged, HasLines-HasData}
@@ -67,7 +68,7 @@ pub record IsTrimming (last : ResolveName) (finish : ParseState → Forest → F
 
 -- a string is trimmed beside its line endings
 abbrev pub string_finish : ParseState → Forest → Forest
-string_finish p t = trimmed false false false t
+string_finish p t = trimmed no_breaks false false t
 
 pub string-trims : IsTrimming R.String string_finish
 unfolding registered
@@ -89,7 +90,7 @@ string-trims = record {
 -- they are looked for
 abbrev pub text_finish : ParseState → Forest → Forest
 text_finish p t =
-    let on = p.options.now.constructs in mailed_where on.gfm_autolink_literal (trimmed on.hard_break_trailing true true t)
+    let on = p.options.now.constructs in mailed_where on.gfm_autolink_literal (trimmed (hard_breaks on.hard_break_trailing (rules_of p.options.now)) true true t)
 
 pub text-trims : IsTrimming R.Text text_finish
 unfolding registered
@@ -108,15 +109,15 @@ text-trims = record {
     both false false X = refl
 
 -- the events of X are those of a tree over this content, and no edit is left
-pub record IsRead (p : ParseState) (pieces : List Piece) (tree : Forest) (X : Tokenizer) : Type 0 where
+pub record HasTreeEvents (p : ParseState) (pieces : List Piece) (tree : Forest) (X : Tokenizer) : Type 0 where
   pub content : IsContent p.bytes.now pieces
-  pub has_lines : HasLines tree
+  pub has_lines : HasRowLines tree
   pub codes : leaf_codes tree ≡ content_of p.bytes.now pieces
   pub map : X.map ≡ []
   pub events : X.events ≡ appended_from 0 None tree
   pub input : X.parse_state.now ≡ p
 
-merged-parts : (p : ParseState) (pieces : List Piece) (tree : Forest) (X : Tokenizer) → IsRead p pieces tree X →
+merged-parts : (p : ParseState) (pieces : List Piece) (tree : Forest) (X : Tokenizer) → HasTreeEvents p pieces tree X →
     HasParts p.bytes.now (merged tree)
 merged-parts p pieces tree X h =
     parts-of p.bytes.now pieces (merged tree) h.content (codes-merged tree ∙ h.codes) (HasLines-merged tree h.has_lines)
@@ -127,7 +128,7 @@ record IsMerged (p : ParseState) (tree : Forest) (V : Tokenizer) : Type 0 where
   pub events : V.events ≡ appended_from 0 None (merged tree)
   pub input : V.parse_state.now ≡ p
 
-after-merging : (p : ParseState) (pieces : List Piece) (tree : Forest) (X V : Tokenizer) → IsRead p pieces tree X →
+after-merging : (p : ParseState) (pieces : List Piece) (tree : Forest) (X V : Tokenizer) → HasTreeEvents p pieces tree X →
     MergesData X V → IsMerged p tree V
 after-merging p pieces tree X V h m = record {
   map = ap (λ (x : Tokenizer). x.map) m.same ∙ h.map;
@@ -135,12 +136,12 @@ after-merging p pieces tree X V h m = record {
   input = ap (λ (x : Tokenizer). x.parse_state.now) m.same ∙ h.input;
 }
 
-merged-there : (p : ParseState) (pieces : List Piece) (tree : Forest) (X V : Tokenizer) → IsRead p pieces tree X →
+merged-there : (p : ParseState) (pieces : List Piece) (tree : Forest) (X V : Tokenizer) → HasTreeEvents p pieces tree X →
     V.parse_state.now ≡ p → HasParts V.parse_state.now.bytes.now (merged tree)
 merged-there p pieces tree X V h e =
     subst (λ (x : ParseState). HasParts x.bytes.now (merged tree)) (sym e) (merged-parts p pieces tree X h)
 
-may-finish : (p : ParseState) (pieces : List Piece) (tree : Forest) (X V : Tokenizer) → IsRead p pieces tree X →
+may-finish : (p : ParseState) (pieces : List Piece) (tree : Forest) (X V : Tokenizer) → HasTreeEvents p pieces tree X →
     MergesData X V → MayFinish V
 may-finish p pieces tree X V h m =
     let k : IsMerged p tree V = after-merging p pieces tree X V h m in
@@ -151,7 +152,7 @@ may-finish p pieces tree X V h m =
     }
 
 -- its data is part of the document before it is merged too
-may-merge : (p : ParseState) (pieces : List Piece) (tree : Forest) (X : Tokenizer) → IsRead p pieces tree X → MayMerge X
+may-merge : (p : ParseState) (pieces : List Piece) (tree : Forest) (X : Tokenizer) → HasTreeEvents p pieces tree X → MayMerge X
 may-merge p pieces tree X h =
     let there : HasParts X.parse_state.now.bytes.now tree =
     subst (λ (x : ParseState). HasParts x.bytes.now tree) (sym h.input) (parts-of p.bytes.now pieces tree h.content h.codes h.has_lines) in
@@ -163,13 +164,13 @@ may-merge p pieces tree X h =
 
 -- the passes may be run
 pub passes-may : (p : ParseState) (pieces : List Piece) (tree : Forest) (last : ResolveName) (finish : ParseState → Forest → Forest) (X : Tokenizer) →
-    IsTrimming last finish → IsRead p pieces tree X → MayResolve may_end_of resolves_of (R.Data ∷ last ∷ []) X
+    IsTrimming last finish → HasTreeEvents p pieces tree X → MayResolve may_end_of resolves_of (R.Data ∷ last ∷ []) X
 passes-may p pieces tree last finish X t h =
     (may-merge p pieces tree X h, λ V m. (t.may V (may-finish p pieces tree X V h m), λ W l. tt))
 
 -- what they leave
 pub passes-leave : (p : ParseState) (pieces : List Piece) (tree : Forest) (last : ResolveName) (finish : ParseState → Forest → Forest) (X V : Tokenizer) →
-    IsTrimming last finish → IsRead p pieces tree X → Resolves resolves_of (R.Data ∷ last ∷ []) X V →
+    IsTrimming last finish → HasTreeEvents p pieces tree X → Resolves resolves_of (R.Data ∷ last ∷ []) X V →
     (V.events ≡ appended_from 0 None (finish p (merged tree))) × (V.tokenize_state ≡ X.tokenize_state)
 passes-leave p pieces tree last finish X V t h r =
     let W : Tokenizer = r.0 in
@@ -192,7 +193,7 @@ given-of : (s : Setting) (p : ParseState) (X : Tokenizer) → IsGiven s p → X.
 given-of s p X g e =
     record { bytes = g.bytes ∙ ap (λ (x : ParseState). x.bytes.now) (sym e); options = g.options ∙ ap (λ (x : ParseState). x.options.now) (sym e) }
 
-may-pair : (p : ParseState) (pieces : List Piece) (tree : Forest) (X : Tokenizer) → IsRead p pieces tree X →
+may-pair : (p : ParseState) (pieces : List Piece) (tree : Forest) (X : Tokenizer) → HasTreeEvents p pieces tree X →
     IsGood p.bytes.now tree → MayPair X
 may-pair p pieces tree X h good =
     let m : MeetsPass p.bytes.now tree = good-meets p.bytes.now tree h.content.is_text h.content.fits good in
@@ -203,11 +204,11 @@ may-pair p pieces tree X h good =
       places = subst (λ (x : ParseState). HaveRunPlaces x.bytes.now X.events) (sym h.input) (subst (λ (es : List Event). HaveRunPlaces p.bytes.now es) (sym h.events) m.places);
       ends = subst (λ (es : List Event). HaveRunEnds es) (sym h.events) m.ends;
       room = subst (λ (es : List Event). HaveRunRoom es) (sym h.events) m.room;
-      small = subst (λ (x : ParseState). IsSmall (runs_from x.options.now.constructs.gfm_strikethrough x.bytes.now 0 0 outermost X.events)) (sym h.input)
-          (tree-small p.options.now.constructs.gfm_strikethrough p.bytes.now tree X.events m.runs h.events (omega (arith, codes, content_fits p.bytes.now pieces h.content)));
+      small = subst (λ (x : ParseState). IsSmall (runs_from x.options.now x.bytes.now 0 0 outermost X.events)) (sym h.input)
+          (tree-small p.options.now p.bytes.now tree X.events m.runs h.events (omega (arith, codes, content_fits p.bytes.now pieces h.content)));
     }
 
-module _ (p : ParseState) (pieces : List Piece) (tree : Forest) (s : Setting) (given : IsGiven s p) (X V : Tokenizer) (h : IsRead p pieces tree X) (good : IsGood p.bytes.now tree) (m : PairsRuns X V) where
+module _ (p : ParseState) (pieces : List Piece) (tree : Forest) (s : Setting) (given : IsGiven s p) (X V : Tokenizer) (h : HasTreeEvents p pieces tree X) (good : IsGood p.bytes.now tree) (m : PairsRuns X V) where
   meets : MeetsPass p.bytes.now tree
   meets = good-meets p.bytes.now tree h.content.is_text h.content.fits good
 
@@ -215,7 +216,7 @@ module _ (p : ParseState) (pieces : List Piece) (tree : Forest) (s : Setting) (g
   runs = subst (λ (x : ParseState). HasRuns x.bytes.now tree) (sym h.input) meets.runs
 
   -- it leaves the events of the paired tree
-  paired-read : IsRead p pieces (paired s (pair_list s) tree) V
+  paired-read : HasTreeEvents p pieces (paired s (pair_list s) tree) V
   paired-read = record {
     content = h.content;
     has_lines = HasLines-paired s (pair_list s) tree h.has_lines meets.striped.1;
@@ -234,7 +235,7 @@ pub record IsResolved (s : Setting) (finish : Forest → Forest) (tree : Forest)
   pub probed : IsProbed s tree V.tokenize_state.probes
 
 -- the passes behind that of labels: those of runs, if a run stands somewhere, of data and of the whole
-module _ (p : ParseState) (pieces : List Piece) (tree : Forest) (s : Setting) (given : IsGiven s p) (last : ResolveName) (finish : ParseState → Forest → Forest) (X : Tokenizer) (t : IsTrimming last finish) (read : IsRead p pieces tree X) where
+module _ (p : ParseState) (pieces : List Piece) (tree : Forest) (s : Setting) (given : IsGiven s p) (last : ResolveName) (finish : ParseState → Forest → Forest) (X : Tokenizer) (t : IsTrimming last finish) (read : HasTreeEvents p pieces tree X) where
   pub first-may : (b : Bool) → (b ≡ true → IsGood p.bytes.now tree) →
       MayResolve may_end_of resolves_of (passes_first b (R.Data ∷ last ∷ [])) X
   first-may true good = (
@@ -262,7 +263,7 @@ module _ (p : ParseState) (pieces : List Piece) (tree : Forest) (s : Setting) (g
 -- At the end of a run.
 
 -- the start of a run over this content
-pub record IsStart (p : ParseState) (pieces : List Piece) (S : Tokenizer) : Type 0 where
+pub record IsRunStart (p : ParseState) (pieces : List Piece) (S : Tokenizer) : Type 0 where
   pub content : IsContent p.bytes.now pieces
   pub place : S.cursor ≡ start_of_content p.bytes.now pieces
   pub input : S.parse_state.now ≡ p

@@ -5,14 +5,14 @@ use Rattle.std.proofs.lemmas.Bool.Decides.{eqb_tells}
 use Rattle.markdown_engine_events.specs.EventChains.{chained}
 use Rattle.markdown_engine.specs.Operations.{registered, scratched}
 use Rattle.markdown_engine.specs.PassesInOrder.{MayResolve, unregistered}
-use Rattle.markdown_state.specs.declared.resolve.ResolveName.{ResolveName}
-use Rattle.markdown_state.specs.declared.resolve.ResolveName.TheVariants as R
+use Rattle.markdown_event.specs.declared.resolve.ResolveName.{ResolveName}
+use Rattle.markdown_event.specs.declared.resolve.ResolveName.TheVariants as R
 use Rattle.markdown_engine.specs.declared.tokenizer.Tokenizer.{Tokenizer}
 use Rattle.markdown_run_text.specs.ContentPasses.{FinishesText, MayFinish, MergesData, resolves_of}
 use Rattle.markdown_run_text.specs.TextContent.{text_passed}
 use Rattle.markdown_run.specs.ElementsOfText.{forgotten}
 use Rattle.markdown_run.specs.RunWithPasses.{may_end_of, IsFoundBehind, MayFinishPlain, MayMerge}
-use Rattle.markdown_run.specs.declared.run.Run.{Run}
+use Rattle.markdown_run.specs.declared.run.ListRun.{ListRun}
 
 -- both hold of what a call leaves
 pub both-hold : {A E : Type 0} (o : Result A E) (P Q S : Type 0) → (P → Q → S) → OnOk o P → OnOk o Q → OnOk o S
@@ -63,8 +63,8 @@ plain-passes T none may =
         → MayResolve may_end_of resolves_of (R.Data ∷ R.Text ∷ []) (bare T)
     of-bare h = h
 
-pub plain-found : (T U V : Tokenizer) (run : Run) → T.resolvers ≡ [] → MergesData T U → FinishesText U V →
-    run.events.items ≡ chained V.events → run.probes ≡ V.tokenize_state.probes → IsFoundBehind (text_passed (forgotten T)) run
+pub plain-found : (T U V : Tokenizer) (run : ListRun) → T.resolvers ≡ [] → MergesData T U → FinishesText U V →
+    run.events ≡ chained V.events → run.probes ≡ V.tokenize_state.probes → IsFoundBehind (text_passed (forgotten T)) run
 unfolding registered unregistered scratched bare
 plain-found T U V run none merged finished events probes =
     subst (λ (x : Tokenizer). IsFoundBehind (text_passed x) run) (sym (forgotten-bare T none)) there

@@ -1,7 +1,7 @@
 -- The bounds of looks, and the pairs themselves, depend on the runs of a tree's containers alone.
 use Rattle.std.proofs.Common.{◌≡◌, ℕ, ◌+◌, ◌*◌, ◌≤◌, List, length, sum_by, subst}
 use Rattle.std.specs.List.{count_by}
-use Rattle.markdown_engine_content.specs.Tree.{Forest}
+use Rattle.markdown_content.specs.Tree.{Forest}
 use Rattle.markdown_run_text.specs.CutData.{split}
 use Rattle.markdown_run_text.proofs.RunsOfCutData.{containers-same}
 use Rattle.markdown_attention.specs.AttentionPass.{IsProbed}

@@ -1,8 +1,8 @@
 -- A text where constructs may be tried: at its start, and once more or less is known of the content.
 use Rattle.std.proofs.Common.{◌≡◌, [], Some, refl, sym, ap, subst, append-nil}
-use Rattle.markdown_engine_index.specs.SequenceIndex.{last_begins}
-use Rattle.markdown_engine_index.specs.TitleIndex.{closers_of}
-use Rattle.markdown_engine_index.proofs.SequenceIndexLemmas.{right-made}
+use Rattle.markdown_notes.specs.SequenceIndex.{last_begins}
+use Rattle.markdown_notes.specs.TitleIndex.{closers_of}
+use Rattle.markdown_notes.proofs.SequenceIndexLemmas.{right-made}
 use Rattle.markdown_engine.specs.Operations.{scratched}
 use Rattle.markdown_engine.specs.RestingFields.{at_rest}
 use Rattle.markdown_engine.specs.declared.tokenizer.TokenizeState.{TokenizeState}
@@ -13,13 +13,13 @@ use Rattle.markdown_leaf_gfm.proofs.DomainOutlookLemmas.{right-unknown}
 use Rattle.markdown_leaf_gfm.specs.GfmAutolinkLiteral as GfmAutolinkLiteral
 use Rattle.markdown_plan.specs.Characters.{bytes_of}
 use Rattle.markdown_plan.proofs.CharactersAlongContent.{text-scratched}
-use Rattle.markdown_run_text.specs.TextContent.{StartReady, domains_pay, indexed_fields, named_fields, titles_pay}
+use Rattle.markdown_run_text.specs.TextContent.{TextStartReady, domains_pay, indexed_fields, named_fields, titles_pay}
 use Rattle.markdown_run_text.proofs.TextSteps.{made-known, names-known}
 use Rattle.markdown_run.proofs.ConstructsAtStart.{unknown-runs}
-use Rattle.markdown_run.specs.ElementsOfText.{indexed, KnowsNothing, text_named, MayTry, IsReady, EndsAt, LeadsTo, Learns}
+use Rattle.markdown_run.specs.ElementsOfText.{indexed, KnowsNothing, text_named, MayTry, IsReady, FinishesAt, LeadsTo, Learns}
 
 -- what is known of the content is right
-ready-indexed : (T : Tokenizer) → StartReady T → StartReady (scratched (indexed_fields T.cursor T.parse_state.now T.tokenize_state) T)
+ready-indexed : (T : Tokenizer) → TextStartReady T → TextStartReady (scratched (indexed_fields T.cursor T.parse_state.now T.tokenize_state) T)
 unfolding scratched
 ready-indexed T r =
     let f : TokenizeState → TokenizeState = indexed_fields T.cursor T.parse_state.now in
@@ -64,7 +64,7 @@ unfolding scratched
 learned-nothing T r = record { ready = r; same = refl }
 
 -- at the start
-ready-named : (T : Tokenizer) → StartReady T → StartReady (text_named T)
+ready-named : (T : Tokenizer) → TextStartReady T → TextStartReady (text_named T)
 unfolding scratched
 ready-named T r =
     let f : TokenizeState → TokenizeState = named_fields T.cursor T.parse_state.now in
@@ -83,7 +83,7 @@ ready-named T r =
       last = r.last;
     }
 
-pub named-ready : (T U : Tokenizer) → StartReady T → KnowsNothing T → T.attempts ≡ [] → U ≡ text_named T → MayTry U
+pub named-ready : (T U : Tokenizer) → TextStartReady T → KnowsNothing T → T.attempts ≡ [] → U ≡ text_named T → MayTry U
 unfolding scratched
 named-ready T U r unknown alone e = subst MayTry (sym e) there
   where
@@ -97,7 +97,7 @@ named-ready T U r unknown alone e = subst MayTry (sym e) there
 
 -- it leads to where it stands
 pub named-leads : (T U : Tokenizer) → U ≡ text_named T → LeadsTo (text_named T) U
-named-leads T U e s V h = subst (λ (x : Tokenizer). EndsAt (indexed s x) V) e h
+named-leads T U e s V h = subst (λ (x : Tokenizer). FinishesAt (indexed s x) V) e h
 
 -- nothing is known there
 pub forgotten-start : (T : Tokenizer) → KnowsNothing T → indexed at_rest (text_named T) ≡ text_named T

@@ -3,18 +3,18 @@ use Rattle.std.proofs.Common.{◌≡◌, Bool, true, false, List, [], ◌∷◌,
 use Rattle.markdown_engine.specs.Operations.{registered, ahead}
 use Rattle.markdown_engine.specs.PastTree.{appended_from}
 use Rattle.markdown_engine.specs.PassesInOrder.{MayResolve, Resolves, unregistered}
-use Rattle.markdown_engine_content.specs.Tree.{Forest}
-use Rattle.markdown_engine_content.specs.declared.parser.ParseState.{ParseState}
-use Rattle.markdown_engine_content.specs.declared.parser.Piece.{Piece}
-use Rattle.markdown_state.specs.declared.resolve.ResolveName.{ResolveName}
-use Rattle.markdown_state.specs.declared.resolve.ResolveName.TheVariants as R
+use Rattle.markdown_content.specs.Tree.{Forest}
+use Rattle.markdown_content.specs.declared.parser.ParseState.{ParseState}
+use Rattle.markdown_content.specs.declared.parser.Piece.{Piece}
+use Rattle.markdown_event.specs.declared.resolve.ResolveName.{ResolveName}
+use Rattle.markdown_event.specs.declared.resolve.ResolveName.TheVariants as R
 use Rattle.markdown_engine.specs.declared.tokenizer.TokenizeState.{TokenizeState}
 use Rattle.markdown_engine.specs.declared.tokenizer.Tokenizer.{Tokenizer}
 use Rattle.markdown_attention.proofs.AttentionTreeLabels.{IsGood}
 use Rattle.markdown_label.specs.Brackets.{Brackets, grouped}
 use Rattle.markdown_label.specs.LabelsHandedOver.{HasBrackets, MayGroup}
 use Rattle.markdown_model.specs.Setting.{Setting}
-use Rattle.markdown_run_text.specs.RowStart.{IsFresh, IsPast, row_registers}
+use Rattle.markdown_run_text.specs.RowStart.{IsFreshRow, IsPastCodes, row_registers}
 use Rattle.markdown_run_text.specs.OpenStarts.{brackets_of}
 use Rattle.markdown_run_text.specs.Row.{Row, past_row, row_codes, row_has_run, IsRowAt}
 use Rattle.markdown_run_text.proofs.RowBrackets.{row-brackets}
@@ -24,9 +24,9 @@ use Rattle.markdown_run_text.proofs.RowWithoutLabels.{flat-grouped}
 use Rattle.markdown_run_text.specs.RowTreeNames.{IsRunless}
 use Rattle.markdown_run_text.specs.ContentPasses.{GroupsLabels, resolves_of}
 use Rattle.markdown_run.specs.RunWithPasses.{may_end_of}
-use Rattle.markdown_run.proofs.PassesAfterRun.{passes_first, labels_first, IsTrimming, IsRead, IsGiven, IsStart, IsResolved, codes-ahead, first-may, first-leaves}
+use Rattle.markdown_run.proofs.PassesAfterRun.{passes_first, labels_first, IsTrimming, HasTreeEvents, IsGiven, IsRunStart, IsResolved, codes-ahead, first-may, first-leaves}
 
-module _ (p : ParseState) (pieces : List Piece) (s : Setting) (given : IsGiven s p) (row : Row) (last : ResolveName) (finish : ParseState → Forest → Forest) (S U : Tokenizer) (t : IsTrimming last finish) (start : IsStart p pieces S) (fresh : IsFresh S)
+module _ (p : ParseState) (pieces : List Piece) (s : Setting) (given : IsGiven s p) (row : Row) (last : ResolveName) (finish : ParseState → Forest → Forest) (S U : Tokenizer) (t : IsTrimming last finish) (start : IsRunStart p pieces S) (fresh : IsFreshRow S)
     (at : IsRowAt [] row) (codes : row_codes row ≡ ahead S) (good : row_has_run row ≡ true → IsGood p.bytes.now (grouped (brackets_of row))) (left : U ≡ registered last (registered R.Data (past_row row S))) where
   -- the run's brackets, and the tree of their groups
   abbrev B : Brackets
@@ -42,7 +42,7 @@ module _ (p : ParseState) (pieces : List Piece) (s : Setting) (given : IsGiven s
   abbrev X : Tokenizer
   X = unregistered P
 
-  rest : IsPast (row_registers row) (row_has_run row) (row_codes row) S P
+  rest : IsPastCodes (row_registers row) (row_has_run row) (row_codes row) S P
   rest = past-rest row S at fresh start.resolvers
 
   has : HasBrackets B P.tokenize_state P.events
@@ -62,7 +62,7 @@ module _ (p : ParseState) (pieces : List Piece) (s : Setting) (given : IsGiven s
 
   -- with the events of the grouped tree
   read-with : (Y : Tokenizer) → Y.map ≡ [] → Y.events ≡ appended_from 0 None tree → Y.parse_state.now ≡ p →
-      IsRead p pieces tree Y
+      HasTreeEvents p pieces tree Y
   read-with Y map events input = record {
     content = start.content;
     has_lines = grouped-lines row at;
@@ -80,7 +80,7 @@ module _ (p : ParseState) (pieces : List Piece) (s : Setting) (given : IsGiven s
   Others = passes_first (row_has_run row) (R.Data ∷ last ∷ [])
 
   -- where no label is looked for, the brackets are trees alone
-  read-plain : row_registers row ≡ false → IsRead p pieces tree X
+  read-plain : row_registers row ≡ false → HasTreeEvents p pieces tree X
   unfolding unregistered
   read-plain e = read-with X map-none (has.events ∙ ap (appended_from 0 None) (flat-grouped row e)) input
 
@@ -93,7 +93,7 @@ module _ (p : ParseState) (pieces : List Piece) (s : Setting) (given : IsGiven s
   plain-probes = probes
 
   -- what the pass of labels leaves
-  read-grouped : (Y : Tokenizer) → GroupsLabels X Y → IsRead p pieces tree Y
+  read-grouped : (Y : Tokenizer) → GroupsLabels X Y → HasTreeEvents p pieces tree Y
   unfolding unregistered
   read-grouped Y g =
       read-with Y (ap (λ (x : Tokenizer). x.map) g.same ∙ map-none) (g.grouped B has) (ap (λ (x : Tokenizer). x.parse_state.now) g.same ∙ input)

@@ -1,6 +1,6 @@
 -- Rows in which no run of markers stands.
 use Rattle.std.proofs.Common.{◌≡◌, false, ◌||◌, List, None, Some, refl, sym, ap, ◌∙◌}
-use Rattle.markdown_engine_content.specs.Tree.{Forest, leaf}
+use Rattle.markdown_content.specs.Tree.{Forest, leaf}
 use Rattle.markdown_event.specs.declared.event.Name.TheVariants as N
 use Rattle.markdown_attention.specs.RunsOfTree.{has_run}
 use Rattle.markdown_model.specs.LabelEnd.{Element, plain, starts, ends}
@@ -10,10 +10,10 @@ use Rattle.markdown_run_text.proofs.PastTrees.{has_run-row, leaf-runless, runles
 use Rattle.markdown_run.proofs.MayPairOfCutData.{has_run-split}
 
 -- no run stands in an element
-abbrev pub IsStill : Element → Type 0
-IsStill (plain tree) = IsRunless tree
-IsStill (starts kind marker) = Unit {0}
-IsStill (ends marker outcome) = Unit {0}
+abbrev pub IsRunlessElement : Element → Type 0
+IsRunlessElement (plain tree) = IsRunless tree
+IsRunlessElement (starts kind marker) = Unit {0}
+IsRunlessElement (ends marker outcome) = Unit {0}
 
 onto-still : (t : Forest) (r : Row) → has_run t ≡ false → row_has_run r ≡ false → row_has_run (tree_onto t r) ≡ false
 onto-still t (row_end u) h k = has_run-row t u ∙ (λ i. h i || k i)
@@ -21,7 +21,7 @@ onto-still t (row_then u mark rest) h k =
     ap (λ b. b || row_has_run rest) (has_run-row t u ∙ ap (λ b. b || has_run u) h) ∙ k
 
 -- such an element before such a row
-pub still-first : (e : Element) (r : Row) → IsStill e → row_has_run r ≡ false → row_has_run (element_onto e r) ≡ false
+pub still-first : (e : Element) (r : Row) → IsRunlessElement e → row_has_run r ≡ false → row_has_run (element_onto e r) ≡ false
 still-first (plain tree) r h k = onto-still tree r (runless-no-run tree h) k
 still-first (starts kind marker) r h k = k
 still-first (ends marker (Some outcome)) r h k = k

@@ -1,11 +1,11 @@
 -- Starts and ends of labels, as the single constructs read them, are those of the states.
 use Rattle.std.proofs.Common.{◌≡◌, ℕ, Bool, true, false, not, List, [], ◌++◌, Option, None, Some, refl, sym, ap, ◌∙◌, append_assoc}
 use Rattle.std.specs.Str.{byte}
-use Rattle.markdown_engine_content.specs.Codes.{Code}
-use Rattle.markdown_engine_content.specs.Tree.{Forest, empty, leaf_codes, start_of}
-use Rattle.markdown_engine_content.specs.declared.label_kind.LabelKind.{LabelKind}
+use Rattle.markdown_content.specs.Codes.{Code}
+use Rattle.markdown_content.specs.Tree.{Forest, empty, leaf_codes, start_of}
+use Rattle.markdown_content.specs.declared.label_kind.LabelKind.{LabelKind}
 use Rattle.markdown_engine.specs.Operations.{Op, ahead, done}
-use Rattle.markdown_state.specs.declared.state.StateName.TheVariants.{GfmLabelStartFootnoteStart, LabelStartImageStart, LabelStartLinkStart}
+use Rattle.markdown_event.specs.declared.state.StateName.TheVariants.{GfmLabelStartFootnoteStart, LabelStartImageStart, LabelStartLinkStart}
 use Rattle.markdown_engine.specs.declared.tokenizer.Tokenizer.{Tokenizer}
 use Rattle.markdown_label.specs.LabelEnd.{Ends}
 use Rattle.markdown_label.specs.LabelStarts.{begins_as, kept_start, link_ops, link_test, link_ends, footnote_front, footnote_back, footnote_test, footnote_ends, image_front, image_back, image_test, image_ends}
@@ -14,7 +14,7 @@ use Rattle.markdown_model.specs.Grammar.{Reading, one, provided, ◌>>◌}
 use Rattle.markdown_model.specs.LabelEnd.{Element, plain, starts, ends, bytes_between, link_kind}
 use Rattle.markdown_model.specs.Setting.{Setting}
 use Rattle.markdown_util.specs.Identifier.{identifier_of}
-use Rattle.markdown_model.specs.SingleConstructs.{Start, outcome, outcome_at, label_end_here}
+use Rattle.markdown_model.specs.SingleConstructs.{WaitingStart, outcome, outcome_at, label_end_here}
 use Rattle.markdown_model.proofs.DefinitionSteps.{read-codes}
 use Rattle.markdown_model.proofs.LabelsCover.{covers_after_label, outcome_codes}
 use Rattle.markdown_model.proofs.ReadingsCover.{Covers, bind, given, if_passed, one_of, takes_one, itself}
@@ -42,11 +42,11 @@ some-is-none None h k = cc
 some-is-none (Some y) h k = cc
 
 module _ (T : Tokenizer) (reading : Reading Element) (kind : LabelKind) (size : ℕ) (ops : List Op) (test : List Code → Bool) (so : (U : Tokenizer) → begins_as 0 kind size ops test T true U → BeginsOrStays reading T true U) where
-  abbrev There : Tokenizer
-  There = kept_start kind size (done ops T)
+  abbrev start_kept : Tokenizer
+  start_kept = kept_start kind size (done ops T)
 
-  there : test (ahead T) ≡ true → BeginsOrStays reading T true There
-  there h = so There (record { holds = h; left = refl })
+  there : test (ahead T) ≡ true → BeginsOrStays reading T true start_kept
+  there h = so start_kept (record { holds = h; left = refl })
 
   begun-as : (not-so : test (ahead T) ≡ false → reading (ahead T) ≡ None) (U : Tokenizer) → BeginsOrStays reading T true U →
       begins_as 0 kind size ops test T true U
@@ -55,7 +55,7 @@ module _ (T : Tokenizer) (reading : Reading Element) (kind : LabelKind) (size : 
     where
       by_test : (b : Bool) → test (ahead T) ≡ b → begins_as 0 kind size ops test T true U
       by_test true h =
-          let w : BeginsOrStays reading T true There = there h in
+          let w : BeginsOrStays reading T true start_kept = there h in
           record { holds = h; left = k.1.1.1 ∙ ap (past_start T) (sym k.1.1.0 ∙ w.1.1.0) ∙ sym w.1.1.1 }
       by_test false h = absurd (some-is-none (reading (ahead T)) (not-so h) k.1.1.0)
 
@@ -93,7 +93,7 @@ footnote-fails T none =
 abbrev end_codes : List Code × (LabelKind × Forest) → List Code
 end_codes r = r.0 ++ outcome_codes r.1
 
-covers-outcome-at : (s : Setting) (l : Option Start) (back : List Code) → Covers outcome_codes [] (outcome_at s l back)
+covers-outcome-at : (s : Setting) (l : Option WaitingStart) (back : List Code) → Covers outcome_codes [] (outcome_at s l back)
 unfolding outcome
 covers-outcome-at s None back = record { at = λ cs. tt }
 covers-outcome-at s (Some l) back = record { at = λ cs. (inside).at cs }
@@ -104,7 +104,7 @@ covers-outcome-at s (Some l) back = record { at = λ cs. (inside).at cs }
         (one_of outcome_codes [] _ _ (if_passed outcome_codes [] _ _ (given outcome_codes [] (LabelKind.GfmFootnote, empty) refl))
         (bind leaf_codes outcome_codes [] _ _ (covers_after_label s _) λ tail. given outcome_codes _ (link_kind l.kind, tail) refl))
 
-covers-end : (s : Setting) (l : Option Start) → Covers end_codes [] (label_end_here s l)
+covers-end : (s : Setting) (l : Option WaitingStart) → Covers end_codes [] (label_end_here s l)
 covers-end s l =
     if_passed end_codes [] s.options.constructs.label_end _
     (bind itself end_codes [] (one (is_value (byte "]"))) _ (takes_one (is_value (byte "]"))) λ back.

@@ -1,28 +1,28 @@
 -- A whole run over a string.
 use Rattle.std.proofs.Common.{◌≡◌, Bool, true, false, List, [], None, refl, sym, ap, subst, ◌∙◌}
 use Rattle.markdown_engine_events.specs.EventChains.{chained}
-use Rattle.markdown_engine_content.specs.Content.{IsContent, content_of}
+use Rattle.markdown_content.specs.Content.{IsContent, content_of}
 use Rattle.markdown_engine.specs.Operations.{scratched}
 use Rattle.markdown_engine.specs.RestingFields.{at_rest}
 use Rattle.markdown_engine.specs.PassesInOrder.{MayResolve, Resolves, unregistered}
-use Rattle.markdown_engine_content.specs.Tree.{events_of}
-use Rattle.markdown_engine_content.specs.declared.parser.ParseState.{ParseState}
-use Rattle.markdown_engine_content.specs.declared.parser.Piece.{Piece}
-use Rattle.markdown_state.specs.declared.resolve.ResolveName.TheVariants as R
+use Rattle.markdown_content.specs.Tree.{events_of}
+use Rattle.markdown_content.specs.declared.parser.ParseState.{ParseState}
+use Rattle.markdown_content.specs.declared.parser.Piece.{Piece}
+use Rattle.markdown_event.specs.declared.resolve.ResolveName.TheVariants as R
 use Rattle.markdown_engine.specs.declared.tokenizer.TokenizeState.{TokenizeState}
 use Rattle.markdown_engine.specs.declared.tokenizer.Tokenizer.{Tokenizer}
 use Rattle.markdown_model.specs.Elements.{AreElementsFrom, AreStringElements, string_choice}
 use Rattle.markdown_model.specs.InlineTree.{string_events}
 use Rattle.markdown_model.specs.LabelEnd.{Element}
-use Rattle.markdown_model.specs.Passes.{trimmed}
+use Rattle.markdown_model.specs.Passes.{no_breaks, trimmed}
 use Rattle.markdown_run_text.specs.RunOverElements.{Finishes}
 use Rattle.markdown_run_text.specs.ContentPasses.{may_resolve_of, resolves_of}
 use Rattle.markdown_run_text.specs.RunSetting.{setting_of}
-use Rattle.markdown_run_text.specs.StringContent.{string_markers, string_marked, string_passed, string_here, StartReady, start_ends}
+use Rattle.markdown_run_text.specs.StringContent.{string_markers, string_marked, string_passed, string_here, StringStartReady, start_ends}
 use Rattle.markdown_run.proofs.PassesAfterRun.{string_finish, string-trims}
 use Rattle.std.proofs.lemmas.Bool.{both_ways}
 use Rattle.markdown_engine.proofs.TreeChains.{chained-whole}
-use Rattle.markdown_engine_content.specs.Tree.{Forest}
+use Rattle.markdown_content.specs.Tree.{Forest}
 use Rattle.markdown_label.specs.Brackets.{grouped}
 use Rattle.markdown_attention.proofs.AttentionTreeLabels.{IsGood}
 use Rattle.markdown_model.specs.BracketGroups.{paired}
@@ -35,7 +35,7 @@ use Rattle.markdown_run_text.proofs.PairsAsRead.{read-runless}
 use Rattle.markdown_run_text.proofs.RowTreeFacts.{grouped-lines, grouped-runless}
 use Rattle.markdown_run.proofs.PassesAfterRun.{IsGiven, IsResolved}
 use Rattle.markdown_run.proofs.TreesWithoutRuns.{paired-runless, probes-none}
-use Rattle.markdown_run.proofs.WholeRun.{Starts, start-with, AreFresh, IsFound, finished-may, finished-left, finished-elements}
+use Rattle.markdown_run.proofs.WholeRun.{StartsContent, start-with, AreFresh, IsRowRead, finished-may, finished-left, finished-elements}
 use Rattle.markdown_run.proofs.StringTree.{string-finished, string-labels, string-still}
 use Rattle.markdown_run.proofs.RowsWithoutRuns.{row-still}
 use Rattle.markdown_run.proofs.DataInDocument.{HasLines-HasCodes}
@@ -43,22 +43,22 @@ use Rattle.markdown_run_text.proofs.CutDataLemmas.{merged-same}
 use Rattle.markdown_model.proofs.StringTreeIsElements.{row_of}
 
 -- where data stops at the markers of a string
-marked-start : (p : ParseState) (pieces : List Piece) (T : Tokenizer) → Starts p pieces at_rest T →
-    Starts p pieces (record at_rest { markers = string_markers }) (string_marked T)
+marked-start : (p : ParseState) (pieces : List Piece) (T : Tokenizer) → StartsContent p pieces at_rest T →
+    StartsContent p pieces (record at_rest { markers = string_markers }) (string_marked T)
 unfolding scratched
 marked-start p pieces T k =
-    let m : Starts p pieces (record T.tokenize_state { markers = string_markers }) (string_marked T) = start-with p pieces at_rest (record T.tokenize_state { markers = string_markers }) T k in
-    subst (λ (s : TokenizeState). Starts p pieces (record s { markers = string_markers }) (string_marked T)) k.fields m
+    let m : StartsContent p pieces (record T.tokenize_state { markers = string_markers }) (string_marked T) = start-with p pieces at_rest (record T.tokenize_state { markers = string_markers }) T k in
+    subst (λ (s : TokenizeState). StartsContent p pieces (record s { markers = string_markers }) (string_marked T)) k.fields m
 
 -- its fields are at rest
-pub string-ready : (p : ParseState) (pieces : List Piece) (T : Tokenizer) → Starts p pieces at_rest T → StartReady T
+pub string-ready : (p : ParseState) (pieces : List Piece) (T : Tokenizer) → StartsContent p pieces at_rest T → StringStartReady T
 string-ready p pieces T k =
     record {
       rest = record { marker = ap (λ (s : TokenizeState). s.marker) k.fields; size = ap (λ (s : TokenizeState). s.size) k.fields };
       ends = record { end = ap (λ (s : TokenizeState). s.end) k.fields; seen = ap (λ (s : TokenizeState). s.seen) k.fields };
     }
 
-module _ (p : ParseState) (pieces : List Piece) (content : IsContent p.bytes.now pieces) (T U : Tokenizer) (start : Starts p pieces at_rest T) where
+module _ (p : ParseState) (pieces : List Piece) (content : IsContent p.bytes.now pieces) (T U : Tokenizer) (start : StartsContent p pieces at_rest T) where
   abbrev M : Tokenizer
   M = string_marked T
 
@@ -74,7 +74,7 @@ module _ (p : ParseState) (pieces : List Piece) (content : IsContent p.bytes.now
     abbrev E : Finishes (string_here M) string_passed M U
     E = ended ok k
 
-    abbrev S : Starts p pieces (record at_rest { markers = string_markers }) M
+    abbrev S : StartsContent p pieces (record at_rest { markers = string_markers }) M
     S = marked-start p pieces T start
 
     abbrev F : AreFresh (record at_rest { markers = string_markers })
@@ -84,10 +84,10 @@ module _ (p : ParseState) (pieces : List Piece) (content : IsContent p.bytes.now
     G = record { bytes = refl; options = refl }
 
     -- the row with its labels grouped, of which it has none
-    abbrev Tree : Forest
-    Tree = grouped (brackets_of E.row)
+    abbrev label_row : Forest
+    label_row = grouped (brackets_of E.row)
 
-    found : IsFound p.bytes.now (string_here M) (content_of p.bytes.now pieces) E.row
+    found : IsRowRead p.bytes.now (string_here M) (content_of p.bytes.now pieces) E.row
     found = finished-elements R.String string_finish string-trims (string_here M) p pieces content (setting_of p) G _ F M U S E
 
     are : AreStringElements (setting_of p) (content_of p.bytes.now pieces) found.elements
@@ -107,7 +107,7 @@ module _ (p : ParseState) (pieces : List Piece) (content : IsContent p.bytes.now
     none : row_has_run E.row ≡ false
     none = row-still E.row found.read found.alike (ap (λ (es : List Element). row_has_run (row_of_elements es)) as_they_are ∙ still)
 
-    good : row_has_run E.row ≡ true → IsGood p.bytes.now Tree
+    good : row_has_run E.row ≡ true → IsGood p.bytes.now label_row
     good e = absurd (both_ways (row_has_run E.row) none e)
 
     pub string-may : MayResolve may_resolve_of resolves_of U.resolvers (unregistered U)
@@ -115,21 +115,21 @@ module _ (p : ParseState) (pieces : List Piece) (content : IsContent p.bytes.now
         finished-may R.String string_finish string-trims (string_here M) p pieces content (setting_of p) G _ F M U S E good
 
     module _ (V : Tokenizer) (r : Resolves resolves_of U.resolvers (unregistered U) V) where
-      runless : IsRunless Tree
+      runless : IsRunless label_row
       runless = grouped-runless E.row found.is_row none
 
-      left : IsResolved (setting_of p) (string_finish p) Tree V
+      left : IsResolved (setting_of p) (string_finish p) label_row V
       left = finished-left R.String string_finish string-trims (string_here M) p pieces content (setting_of p) G _ F M U S E good V r
 
       pub string-probes : V.tokenize_state.probes ≡ 0
-      string-probes = probes-none (setting_of p) Tree V.tokenize_state.probes runless left.probed
+      string-probes = probes-none (setting_of p) label_row V.tokenize_state.probes runless left.probed
 
       -- the events after a run over a string and its passes
       pub string-run : chained V.events ≡ string_events (setting_of p) pieces
       string-run =
           ap chained left.events
-          ∙ chained-whole (trimmed false false false (merged (paired (setting_of p) (pair_list (setting_of p)) Tree)))
-          ∙ ap (λ t. events_of (trimmed false false false (merged t))) (paired-runless (setting_of p) (pair_list (setting_of p)) Tree runless)
-          ∙ ap (λ t. events_of (trimmed false false false t)) (merged-same Tree (labels_of found.read) (HasLines-HasCodes Tree (grouped-lines E.row found.is_row)) found.have_codes found.trees)
-          ∙ ap (λ t. events_of (trimmed false false false (merged t))) labels
+          ∙ chained-whole (trimmed no_breaks false false (merged (paired (setting_of p) (pair_list (setting_of p)) label_row)))
+          ∙ ap (λ t. events_of (trimmed no_breaks false false (merged t))) (paired-runless (setting_of p) (pair_list (setting_of p)) label_row runless)
+          ∙ ap (λ t. events_of (trimmed no_breaks false false t)) (merged-same label_row (labels_of found.read) (HasLines-HasCodes label_row (grouped-lines E.row found.is_row)) found.have_codes found.trees)
+          ∙ ap (λ t. events_of (trimmed no_breaks false false (merged t))) labels
           ∙ ap events_of (sym (string-finished (setting_of p) (content_of p.bytes.now pieces) found.elements are))

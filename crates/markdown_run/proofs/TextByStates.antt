@@ -1,10 +1,10 @@
 -- A whole run over a text by its states alone.
 use Rattle.std.proofs.Common.{◌≡◌, Bool, true, false, List, None, refl, subst}
 use Rattle.markdown_engine_events.specs.EventChains.{chained}
-use Rattle.markdown_engine_content.specs.Content.{IsContent, content_of}
-use Rattle.markdown_engine_content.specs.Place.{Place}
-use Rattle.markdown_engine_content.specs.declared.parser.ParseState.{ParseState}
-use Rattle.markdown_engine_content.specs.declared.parser.Piece.{Piece}
+use Rattle.markdown_content.specs.Content.{IsContent, content_of}
+use Rattle.markdown_content.specs.Place.{Place}
+use Rattle.markdown_content.specs.declared.parser.ParseState.{ParseState}
+use Rattle.markdown_content.specs.declared.parser.Piece.{Piece}
 use Rattle.markdown_engine.specs.Operations.{scratched}
 use Rattle.markdown_engine.specs.PassesInOrder.{MayResolve, Resolves, unregistered}
 use Rattle.markdown_engine.specs.declared.tokenizer.TokenizeState.{TokenizeState}
@@ -19,7 +19,7 @@ use Rattle.markdown_run_text.specs.TextContent.{marked_fields, text_choice_of, t
 use Rattle.markdown_run.proofs.FinishedTexts.{read-may, read-probes, read-no-probes, read-events}
 use Rattle.markdown_run.proofs.PassesAfterRun.{may-weaker}
 use Rattle.markdown_run.proofs.TextRun.{text_fields, text_start}
-use Rattle.markdown_run.proofs.WholeRun.{Starts, start-with, AreFresh}
+use Rattle.markdown_run.proofs.WholeRun.{StartsContent, start-with, AreFresh}
 
 -- the fields are fresh where data stops at the markers of a text
 fresh-marked : (first : Bool) (c : Place) (p : ParseState) → AreFresh (marked_fields c p (text_fields None first))
@@ -32,11 +32,11 @@ module _ (p : ParseState) (pieces : List Piece) (first : Bool) (content : IsCont
   abbrev Fields : TokenizeState
   Fields = marked_fields T.cursor T.parse_state.now (text_fields None first)
 
-  S : Starts p pieces Fields M
+  S : StartsContent p pieces Fields M
   unfolding scratched
   S =
-      let m : Starts p pieces (marked_fields T.cursor T.parse_state.now T.tokenize_state) M = start-with p pieces (text_fields None first) (marked_fields T.cursor T.parse_state.now T.tokenize_state) T start in
-      subst (λ (s : TokenizeState). Starts p pieces (marked_fields T.cursor T.parse_state.now s) M) start.fields m
+      let m : StartsContent p pieces (marked_fields T.cursor T.parse_state.now T.tokenize_state) M = start-with p pieces (text_fields None first) (marked_fields T.cursor T.parse_state.now T.tokenize_state) T start in
+      subst (λ (s : TokenizeState). StartsContent p pieces (marked_fields T.cursor T.parse_state.now s) M) start.fields m
 
   F : AreFresh Fields
   F = fresh-marked first T.cursor T.parse_state.now
@@ -51,18 +51,18 @@ module _ (p : ParseState) (pieces : List Piece) (first : Bool) (content : IsCont
     states-may = may-weaker U.resolvers (unregistered U) (read-may p pieces first content Fields F refl M U S (ended ok k))
 
     module _ (V : Tokenizer) (r : Resolves resolves_of U.resolvers (unregistered U) V) where
-      abbrev Given : Setting
-      Given = text_setting_of p first
+      abbrev setting : Setting
+      setting = text_setting_of p first
 
       -- the looks that pairing took are within the bounds of the content's tree of labels
-      pub states-probes : IsProbed Given (label_tree Given (content_of p.bytes.now pieces)) V.tokenize_state.probes
+      pub states-probes : IsProbed setting (label_tree setting (content_of p.bytes.now pieces)) V.tokenize_state.probes
       states-probes = read-probes p pieces first content Fields F refl M U S (ended ok k) V r
 
       -- where runs are not looked for none is taken
-      pub states-no-probes : Given.options.constructs.attention ≡ false →
-          Given.options.constructs.gfm_strikethrough ≡ false → V.tokenize_state.probes ≡ 0
+      pub states-no-probes : setting.options.constructs.attention ≡ false →
+          setting.options.constructs.gfm_strikethrough ≡ false → V.tokenize_state.probes ≡ 0
       states-no-probes = read-no-probes p pieces first content Fields F refl M U S (ended ok k) V r
 
       -- the events after the states and their passes
-      pub states-run : chained V.events ≡ text_events Given pieces
+      pub states-run : chained V.events ≡ text_events setting pieces
       states-run = read-events p pieces first content Fields F refl M U S (ended ok k) V r

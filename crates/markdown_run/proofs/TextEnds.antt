@@ -1,15 +1,15 @@
 -- From one element of a text to the next, and to the text's end.
 use Rattle.std.proofs.Common.{◌≡◌, ◌≢◌, ◌<◌, ◌≤◌, Bool, true, false, ◌&&◌, None, is_none, is_some, refl, sym, ap, subst, ◌∙◌, arith}
-use Rattle.markdown_engine_content.specs.Tree.{leaf_codes}
+use Rattle.markdown_content.specs.Tree.{leaf_codes}
 use Rattle.markdown_engine.specs.Operations.{HasCode, ahead, current_of, previous_of, scratched}
 use Rattle.markdown_engine.specs.PastTree.{past, Reads, TreeReading}
 use Rattle.markdown_engine.specs.RestingFields.{at_rest}
 use Rattle.markdown_engine.specs.Weights.{codes_left}
-use Rattle.markdown_state.specs.declared.state.StateName.TheVariants.{GfmTaskListItemCheckStart}
+use Rattle.markdown_event.specs.declared.state.StateName.TheVariants.{GfmTaskListItemCheckStart}
 use Rattle.markdown_engine.specs.declared.tokenizer.TokenizeState.{TokenizeState}
 use Rattle.markdown_engine.specs.declared.tokenizer.Tokenizer.{Tokenizer}
 use Rattle.markdown_engine.proofs.ReadingSequences.{scratched-same}
-use Rattle.markdown_label.specs.LabelEnd.{AreWithin}
+use Rattle.markdown_label.specs.LabelEnd.{AreStartsWithin}
 use Rattle.markdown_leaf_gfm.specs.GfmTaskListItemCheck.{check_here, may_begin}
 use Rattle.markdown_model.specs.LeafConstructs.{gfm_task_list_item_check}
 use Rattle.markdown_model.specs.TextLines.{data_up_to}
@@ -22,8 +22,8 @@ use Rattle.markdown_run_text.proofs.ConstructNodes.{node-of}
 use Rattle.markdown_run_text.proofs.ElementSteps.{DataRead, data-read, some-ahead, finishes-end, node-advances}
 use Rattle.markdown_run_text.proofs.RowFields.{row-cursor, tree-within}
 use Rattle.markdown_run_text.specs.TextContent.{text_choice_of, text_passed}
-use Rattle.markdown_run_text.proofs.TextSteps.{IsSame, same-row, choice-same, no-check-behind, tree-kept, check-elements}
-use Rattle.markdown_run.specs.ElementsOfText.{indexed, data_stops, text_named, KnowsNothing, MayTry, IsReady, EndsAt, EndsByData, LeadsTo, Passes, Stays, PassesData, GoesOn, Learns}
+use Rattle.markdown_run_text.proofs.TextSteps.{KeepsTheRest, same-row, choice-same, no-check-behind, tree-kept, check-elements}
+use Rattle.markdown_run.specs.ElementsOfText.{indexed, data_stops, text_named, KnowsNothing, MayTry, IsReady, FinishesAt, EndsByData, LeadsTo, PassesSome, ReachesData, PassesData, PassesAny, Learns}
 use Rattle.markdown_run.specs.RunConstruct.{ConstructEnds}
 use Rattle.markdown_run.proofs.ElementsRead.{element-passes, may-past}
 use Rattle.markdown_run.proofs.IndexedRows.{row-alone}
@@ -45,9 +45,9 @@ unfolding scratched
 data-read-on T U r code k =
     let a = some-ahead T (ahead T) refl (some-code T code) in
     let d : DataRead (data_stops T) T U a.0 a.1.0 = data-read (data_stops T) T U a.0 a.1.0 a.1.1 k in
-    let e : IsSame T U = same-row (row_end d.tree) T U d.left d.part r.may_try.start.ends in
+    let e : KeepsTheRest T U = same-row (row_end d.tree) T U d.left d.part r.may_try.start.ends in
     let less : codes_left U < codes_left T = d.less in
-    let kept : AreWithin U U.tokenize_state.label_starts = subst (λ (x : Tokenizer). AreWithin x x.tokenize_state.label_starts) (sym d.left) (tree-within d.tree T r.may_try.start.ends.within) in
+    let kept : AreStartsWithin U U.tokenize_state.label_starts = subst (λ (x : Tokenizer). AreStartsWithin x x.tokenize_state.label_starts) (sym d.left) (tree-within d.tree T r.may_try.start.ends.within) in
     record {
       ready = record {
         may_try = may-past T U e (omega (arith, less)) kept (ap (λ (x : Tokenizer). x.attempts) d.left ∙ row-alone (row_end d.tree) T ∙ r.may_try.alone) r.may_try;
@@ -57,26 +57,26 @@ data-read-on T U r code k =
       leads = leads e;
     }
   where
-    leads : IsSame T U → (s : TokenizeState) (V : Tokenizer) → EndsAt (indexed s U) V → EndsByData (indexed s T) V
+    leads : KeepsTheRest T U → (s : TokenizeState) (V : Tokenizer) → FinishesAt (indexed s U) V → EndsByData (indexed s T) V
     leads e s V h =
         record { behind = indexed s U; data_read = reads-indexed s (data_up_to (data_stops T)) T U k; finishes = subst (λ c. Finishes c text_passed (indexed s U) V) (choice-same T U e) h }
 
 -- Elements.
 
-pub goes-start : (T : Tokenizer) → IsReady T → GoesOn T T
+pub goes-start : (T : Tokenizer) → IsReady T → PassesAny T T
 goes-start T r = record { ready = r; leads = λ s V h. h }
 
-pub goes-next : (T U W : Tokenizer) → GoesOn T U → Passes U W → GoesOn T W
+pub goes-next : (T U W : Tokenizer) → PassesAny T U → PassesSome U W → PassesAny T W
 goes-next T U W g p = record { ready = p.ready; leads = λ s V h. g.leads s V (p.leads s V h) }
 
-pub stays-data : (T U W : Tokenizer) → Stays T U → PassesData U W → Passes T W
+pub stays-data : (T U W : Tokenizer) → ReachesData T U → PassesData U W → PassesSome T W
 stays-data T U W k p =
     let less : codes_left W < codes_left U = p.less in
     let left : codes_left U ≤ codes_left T = k.left in
     record { ready = p.ready; less = omega (arith, less, left); leads = λ s V h. k.leads s V (p.leads s V h) }
 
 -- where more is known
-pub stays-learned : (T U W : Tokenizer) → Stays T U → Learns U W → Stays T W
+pub stays-learned : (T U W : Tokenizer) → ReachesData T U → Learns U W → ReachesData T W
 unfolding scratched
 stays-learned T U W k l =
     record { ready = l.ready; some_code = subst (λ (x : Tokenizer). HasCode x) (sym l.same) code; left = subst (λ (x : Tokenizer). codes_left x ≤ codes_left T) (sym l.same) left; leads = λ s V h. k.leads s V (subst (λ (x : Tokenizer). EndsByData x V) (ap (indexed s) l.same ∙ again s) h) }
@@ -92,32 +92,33 @@ stays-learned T U W k l =
 
 -- The check.
 
-pub check-goes : (T U : Tokenizer) (ok : Bool) → MayTry T → ConstructEnds GfmTaskListItemCheckStart T ok U → GoesOn T U
+pub check-goes : (T U : Tokenizer) (ok : Bool) → MayTry T → ConstructEnds GfmTaskListItemCheckStart T ok U → PassesAny T U
 check-goes T U true r k =
     let node = node-of (bytes_of T) (check_here T) (search plain_constructs) (ahead T) k.tree k.rest k.holds in
-    let p : Passes T U = element-passes T U r (tree-kept T U k.tree (k.left ∙ ap (past None k.tree) (scratched-same T)) r.start.ends.within) (node-advances (text_choice_of T) (check_here T) T U k node.0 node.1 (check-elements T (current_of T) refl k.tree k.rest k.holds)) in
+    let p : PassesSome T U = element-passes T U r (tree-kept T U k.tree (k.left ∙ ap (past None k.tree) (scratched-same T)) r.start.ends.within) (node-advances (text_choice_of T) (check_here T) T U k node.0 node.1 (check-elements T (current_of T) refl k.tree k.rest k.holds)) in
     record { ready = p.ready; leads = p.leads }
 check-goes T U false r k =
-    subst (λ (x : Tokenizer). GoesOn T x) (sym (k.1 ∙ scratched-same T)) (goes-start T (record { may_try = r; unchecked = k.0 }))
+    subst (λ (x : Tokenizer). PassesAny T x) (sym (k.1 ∙ scratched-same T)) (goes-start T (record { may_try = r; unchecked = k.0 }))
 
 off-test : (a b c : Bool) → b ≡ false → a && (b && c) ≡ false
 off-test true true c e = cc
 off-test true false c e = refl
 off-test false b c e = refl
 
-pub check-off : (T : Tokenizer) → MayTry T → T.tokenize_state.document_at_first_paragraph_of_list_item ≡ false → GoesOn T T
+pub check-off : (T : Tokenizer) → MayTry T → T.tokenize_state.document_at_first_paragraph_of_list_item ≡ false → PassesAny T T
 check-off T r off =
     goes-start T (record { may_try = r; unchecked = switched-off gfm_task_list_item_check (may_begin T) (ahead T) (off-test T.parse_state.now.options.now.constructs.gfm_task_list_item T.tokenize_state.document_at_first_paragraph_of_list_item (is_none (previous_of T)) off) })
 
 -- The end.
 
 pub text-ends : (T U W V : Tokenizer) → KnowsNothing T → LeadsTo (text_named T) U → current_of U ≡ None → W ≡ indexed at_rest U →
-    V ≡ text_passed W → EndsAt (text_named T) V
+    V ≡ text_passed W → FinishesAt (text_named T) V
 unfolding scratched
 text-ends T U W V unknown leads end forgotten passed =
-    let there : EndsAt W V = finishes-end (text_choice_of W) text_passed W V (subst (λ (x : Tokenizer). current_of x ≡ None) (sym forgotten) ended) passed in
-    subst (λ (x : Tokenizer). EndsAt x V) (forgotten-start T unknown)
-    (leads at_rest V (subst (λ (x : Tokenizer). EndsAt x V) forgotten there))
+    let there : FinishesAt W V =
+    finishes-end (text_choice_of W) text_passed W V (subst (λ (x : Tokenizer). current_of x ≡ None) (sym forgotten) ended) passed in
+    subst (λ (x : Tokenizer). FinishesAt x V) (forgotten-start T unknown)
+    (leads at_rest V (subst (λ (x : Tokenizer). FinishesAt x V) forgotten there))
   where
     ended : current_of (indexed at_rest U) ≡ None
     ended = end

@@ -1,13 +1,14 @@
 -- The last pass of a text: trimming, and then emails where they are looked for.
 use Rattle.std.proofs.Common.{◌≡◌, ℕ, true, List, None, sym, ap, subst, ◌∙◌}
 use Rattle.markdown_engine.specs.PastTree.{appended_from}
-use Rattle.markdown_engine_content.specs.Tree.{Forest}
-use Rattle.markdown_engine_content.specs.declared.configuration.Constructs.{Constructs}
+use Rattle.markdown_content.specs.CommonMark.{rules_of}
+use Rattle.markdown_content.specs.Tree.{Forest}
+use Rattle.markdown_content.specs.declared.configuration.Constructs.{Constructs}
 use Rattle.markdown_engine.specs.declared.tokenizer.Tokenizer.{Tokenizer}
-use Rattle.markdown_model.specs.Passes.{with_emails_apart, trimmed}
-use Rattle.markdown_partial.specs.TrimmedEvents.{HasParts, HasPlaces}
-use Rattle.markdown_partial.proofs.TrimPassLaw.{places-of}
-use Rattle.markdown_partial.proofs.TrimmedDataInDocument.{parts-kept}
+use Rattle.markdown_model.specs.Passes.{HardBreaks, hard_breaks, with_emails_apart, trimmed}
+use Rattle.markdown_passes.specs.TrimmedEvents.{HasParts, HasPlaces}
+use Rattle.markdown_passes.proofs.TrimPassLaw.{places-of}
+use Rattle.markdown_passes.proofs.TrimmedDataInDocument.{parts-kept}
 use Rattle.markdown_run_text.specs.ContentPasses.{FinishesText, mailed_where}
 
 abbrev bytes_in : Tokenizer → List ℕ
@@ -16,19 +17,22 @@ bytes_in T = T.parse_state.now.bytes.now
 abbrev on_in : Tokenizer → Constructs
 on_in T = T.parse_state.now.options.now.constructs
 
+abbrev breaks_in : Tokenizer → HardBreaks
+breaks_in T = hard_breaks (on_in T).hard_break_trailing (rules_of T.parse_state.now.options.now)
+
 -- W is T trimmed
 module _ (T W : Tokenizer) (same : W ≡ record T { events = W.events })
-    (trims : (t : Forest) → HasParts (bytes_in T) t → T.events ≡ appended_from 0 None t → W.events ≡ appended_from 0 None (trimmed (on_in T).hard_break_trailing true true t)) where
+    (trims : (t : Forest) → HasParts (bytes_in T) t → T.events ≡ appended_from 0 None t → W.events ≡ appended_from 0 None (trimmed (breaks_in T) true true t)) where
   parts-there : (t : Forest) → HasParts (bytes_in T) t →
-      HasParts (bytes_in W) (trimmed (on_in T).hard_break_trailing true true t)
+      HasParts (bytes_in W) (trimmed (breaks_in T) true true t)
   parts-there t h =
-      subst (λ bs. HasParts bs (trimmed (on_in T).hard_break_trailing true true t)) (sym (ap bytes_in same)) (parts-kept (bytes_in T) (on_in T).hard_break_trailing t true true h)
+      subst (λ bs. HasParts bs (trimmed (breaks_in T) true true t)) (sym (ap bytes_in same)) (parts-kept (bytes_in T) (breaks_in T) t true true h)
 
   -- its data stands at places of the document
   pub places-there : (t : Forest) → HasParts (bytes_in T) t → T.events ≡ appended_from 0 None t →
       HasPlaces (bytes_in W) W.events
   places-there t h e =
-      places-of (bytes_in W) (trimmed (on_in T).hard_break_trailing true true t) W.events (parts-there t h) (trims t h e)
+      places-of (bytes_in W) (trimmed (breaks_in T) true true t) W.events (parts-there t h) (trims t h e)
 
   -- and V is W with its emails set apart
   pub finishes-with : (V : Tokenizer) → V ≡ record W { events = V.events } →
@@ -37,7 +41,7 @@ module _ (T W : Tokenizer) (same : W ≡ record T { events = W.events })
   finishes-with V last mails on = record {
     same = last ∙ ap (λ (x : Tokenizer). record x { events = V.events }) same;
     trims = λ t h e.
-        let u : Forest = trimmed (on_in T).hard_break_trailing true true t in
+        let u : Forest = trimmed (breaks_in T) true true t in
         mails u (parts-there t h) (trims t h e)
         ∙ ap (λ b. appended_from 0 None (mailed_where b u)) (sym on);
   }

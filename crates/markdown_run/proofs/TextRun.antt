@@ -3,21 +3,21 @@ use Rattle.markdown_partial.specs.PartialSpaceOrTab.{most}
 use Rattle.markdown_engine.specs.Weights.{codes_left}
 use Rattle.std.proofs.Common.{◌≡◌, ℕ, Bool, false, List, Option, Some, None, map, string_bytes, refl, sym, ap, subst, ◌∙◌, arith, ◌≤◌}
 use Rattle.markdown_engine_events.specs.EventChains.{chained}
-use Rattle.markdown_engine_content.specs.Content.{IsContent, IsTextContent, content_of}
+use Rattle.markdown_content.specs.Content.{IsContent, IsTextContent, content_of}
 use Rattle.markdown_engine.specs.Operations.{scratched}
-use Rattle.markdown_engine_content.specs.Place.{Place}
+use Rattle.markdown_content.specs.Place.{Place}
 use Rattle.markdown_engine.specs.RestingFields.{at_rest}
 use Rattle.markdown_engine.specs.PassesInOrder.{MayResolve, Resolves, unregistered}
-use Rattle.markdown_engine_content.specs.declared.parser.ParseState.{ParseState}
-use Rattle.markdown_engine_content.specs.declared.parser.Piece.{Piece}
+use Rattle.markdown_content.specs.declared.parser.ParseState.{ParseState}
+use Rattle.markdown_content.specs.declared.parser.Piece.{Piece}
 use Rattle.markdown_engine.specs.declared.tokenizer.TokenizeState.{TokenizeState}
 use Rattle.markdown_engine.specs.declared.tokenizer.Tokenizer.{Tokenizer}
-use Rattle.markdown_engine_index.proofs.SequenceIndexLemmas.{right-unknown}
-use Rattle.markdown_engine_index.proofs.TitleIndexLemmas as TitleIndexLemmas
+use Rattle.markdown_notes.proofs.SequenceIndexLemmas.{right-unknown}
+use Rattle.markdown_notes.proofs.TitleIndexLemmas as TitleIndexLemmas
 use Rattle.markdown_label_names.specs.LabelSetting.{setting_of, AreListed, IsListed}
-use Rattle.markdown_engine_names.specs.BracketIndex.{no_brackets}
-use Rattle.markdown_engine_names.specs.NameIndex.{in_order, names_in_order}
-use Rattle.markdown_engine_names.specs.declared.name_index.Names.{Names}
+use Rattle.markdown_notes.specs.BracketIndex.{no_brackets}
+use Rattle.markdown_notes.specs.NameIndex.{in_order, names_in_order}
+use Rattle.markdown_notes.specs.declared.name_index.Names.{Names}
 use Rattle.markdown_leaf_gfm.specs.GfmAutolinkLiteral as GfmAutolinkLiteral
 use Rattle.markdown_leaf.specs.RawText as RawText
 use Rattle.markdown_partial.specs.PartialSpaceOrTab as PartialSpaceOrTab
@@ -27,14 +27,14 @@ use Rattle.markdown_run_text.specs.RunOverElements.{Finishes}
 use Rattle.markdown_run_text.specs.ContentPasses.{resolves_of}
 use Rattle.markdown_run.specs.RunWithPasses.{may_end_of}
 use Rattle.markdown_run_text.specs.RunSetting.{text_setting_of}
-use Rattle.markdown_run_text.specs.TextContent.{StartReady, named_fields, text_passed, text_choice_of}
+use Rattle.markdown_run_text.specs.TextContent.{TextStartReady, named_fields, text_passed, text_choice_of}
 use Rattle.markdown_run.specs.ElementsOfText.{KnowsNothing, text_named, with_indexes}
-use Rattle.markdown_label.specs.LabelEnd.{AreWithin}
+use Rattle.markdown_label.specs.LabelEnd.{AreStartsWithin}
 use Rattle.markdown_partial.specs.PartialSpaceOrTabEol as PartialSpaceOrTabEol
 use Rattle.markdown_label.specs.AfterLabelParts as AfterLabelParts
 use Rattle.markdown_attention.specs.AttentionPass.{IsProbed}
 use Rattle.markdown_run.proofs.FinishedTexts.{read-may, read-probes, read-no-probes, read-events}
-use Rattle.markdown_run.proofs.WholeRun.{Starts, start-with, AreFresh}
+use Rattle.markdown_run.proofs.WholeRun.{StartsContent, start-with, AreFresh}
 use Rattle.markdown_run.proofs.ConstructsAtStart.{start-fits, start-last, start-literals, start-reads}
 
 -- Runs.
@@ -44,16 +44,16 @@ abbrev pub text_fields : Option Names → Bool → TokenizeState
 text_fields lent first = record at_rest { names = lent; document_at_first_paragraph_of_list_item = first }
 
 abbrev pub text_start : ParseState → List Piece → Option Names → Bool → Tokenizer → Type 0
-text_start p pieces lent first T = Starts p pieces (text_fields lent first) T
+text_start p pieces lent first T = StartsContent p pieces (text_fields lent first) T
 
 -- names that are lent are right
-abbrev pub AreLent : ParseState → Option Names → Type 0
-AreLent p lent = (names : Names) → lent ≡ Some names → AreListed (setting_of p) names
+abbrev pub AreRightNames : ParseState → Option Names → Type 0
+AreRightNames p lent = (names : Names) → lent ≡ Some names → AreListed (setting_of p) names
 
 absent : (names : Names) → None ≡ Some names → ⊥
 absent names e = cc
 
-pub none-lent : (p : ParseState) → AreLent p None
+pub none-lent : (p : ParseState) → AreRightNames p None
 none-lent p names e = absurd (absent names e)
 
 -- the names of a document, in order
@@ -69,33 +69,33 @@ names-of-document p definitions footnotes h k = rw (h, k) refl
 some-same : (a b : Names) → Some a ≡ Some b → a ≡ b
 some-same a b e = cc
 
-pub document-lent : (p : ParseState) (lent : Names) → lent ≡ document_names p → AreLent p (Some lent)
+pub document-lent : (p : ParseState) (lent : Names) → lent ≡ document_names p → AreRightNames p (Some lent)
 document-lent p lent h names e =
     let right : AreListed (setting_of p) lent = subst (λ (n : Names). AreListed (setting_of p) n) (sym h) refl in
     subst (λ (n : Names). AreListed (setting_of p) n) (some-same lent names e) right
 
 -- a new tokenizer that is told so
-pub started : (p : ParseState) (pieces : List Piece) (first : Bool) (B : Tokenizer) → Starts p pieces at_rest B →
+pub started : (p : ParseState) (pieces : List Piece) (first : Bool) (B : Tokenizer) → StartsContent p pieces at_rest B →
     text_start p pieces None first (record B { tokenize_state = record B.tokenize_state { document_at_first_paragraph_of_list_item = first } })
 started p pieces first B k =
-    let m : Starts p pieces (record B.tokenize_state { document_at_first_paragraph_of_list_item = first }) (record B { tokenize_state = record B.tokenize_state { document_at_first_paragraph_of_list_item = first } }) = start-with p pieces at_rest (record B.tokenize_state { document_at_first_paragraph_of_list_item = first }) B k in
-    subst (λ (s : TokenizeState). Starts p pieces (record s { document_at_first_paragraph_of_list_item = first }) (record B { tokenize_state = record B.tokenize_state { document_at_first_paragraph_of_list_item = first } })) k.fields m
+    let m : StartsContent p pieces (record B.tokenize_state { document_at_first_paragraph_of_list_item = first }) (record B { tokenize_state = record B.tokenize_state { document_at_first_paragraph_of_list_item = first } }) = start-with p pieces at_rest (record B.tokenize_state { document_at_first_paragraph_of_list_item = first }) B k in
+    subst (λ (s : TokenizeState). StartsContent p pieces (record s { document_at_first_paragraph_of_list_item = first }) (record B { tokenize_state = record B.tokenize_state { document_at_first_paragraph_of_list_item = first } })) k.fields m
 
 -- and to which names are lent
-pub started-lent : (p : ParseState) (pieces : List Piece) (lent : Option Names) (first : Bool) (B : Tokenizer) → Starts p pieces at_rest B →
+pub started-lent : (p : ParseState) (pieces : List Piece) (lent : Option Names) (first : Bool) (B : Tokenizer) → StartsContent p pieces at_rest B →
     text_start p pieces lent first (record B { tokenize_state = record B.tokenize_state { names = lent; document_at_first_paragraph_of_list_item = first } })
 started-lent p pieces lent first B k =
     let given : TokenizeState → TokenizeState = λ s. record s { names = lent; document_at_first_paragraph_of_list_item = first } in
-    subst (λ (s : TokenizeState). Starts p pieces (given s) (record B { tokenize_state = given B.tokenize_state })) k.fields
+    subst (λ (s : TokenizeState). StartsContent p pieces (given s) (record B { tokenize_state = given B.tokenize_state })) k.fields
     (start-with p pieces at_rest (given B.tokenize_state) B k)
 
-listed-lent : (p : ParseState) (pieces : List Piece) (lent : Option Names) (first : Bool) (T : Tokenizer) → AreLent p lent →
+listed-lent : (p : ParseState) (pieces : List Piece) (lent : Option Names) (first : Bool) (T : Tokenizer) → AreRightNames p lent →
     text_start p pieces lent first T → IsListed T
 listed-lent p pieces lent first T right k names known =
     subst (λ (x : ParseState). AreListed (setting_of x) names) (sym k.input) (right names (ap (λ (s : TokenizeState). s.names) (sym k.fields) ∙ known))
 
 pub text-ready : (p : ParseState) (pieces : List Piece) (lent : Option Names) (first : Bool) (T : Tokenizer) →
-    IsTextContent p.bytes.now pieces → AreLent p lent → text_start p pieces lent first T → StartReady T
+    IsTextContent p.bytes.now pieces → AreRightNames p lent → text_start p pieces lent first T → TextStartReady T
 text-ready p pieces lent first T text right k =
     let content : IsContent p.bytes.now pieces = text.is_content in
     let fits : codes_left T ≤ most = start-fits p.bytes.now pieces T content k.place in
@@ -109,18 +109,18 @@ text-ready p pieces lent first T text right k =
         part = record { short = fits; indexed = right-unknown T.cursor.codes T.tokenize_state.sequences (ap (λ (s : TokenizeState). s.sequences) k.fields); titled = TitleIndexLemmas.right-unknown T.cursor.codes T.tokenize_state.titles (ap (λ (s : TokenizeState). s.titles) k.fields); spaces = record { space = ap PartialSpaceOrTab.rested k.fields ∙ sym k.fields; eol = ap PartialSpaceOrTabEol.eol_rested k.fields ∙ sym k.fields }; rest = ap AfterLabelParts.rested k.fields ∙ sym k.fields };
         listed = listed-lent p pieces lent first T right k;
         text = start-reads p.bytes.now pieces T content input k.place;
-        within = subst (λ (s : TokenizeState). AreWithin T s.label_starts) (sym k.fields) (tt, tt);
+        within = subst (λ (s : TokenizeState). AreStartsWithin T s.label_starts) (sym k.fields) (tt, tt);
         resting = ap (λ (s : TokenizeState). s.end) k.fields;
       };
     }
 
 -- and where the names of what is defined are made known
 named-start : (p : ParseState) (pieces : List Piece) (lent : Option Names) (first : Bool) (T : Tokenizer) → text_start p pieces lent first T →
-    Starts p pieces (named_fields T.cursor T.parse_state.now (text_fields lent first)) (text_named T)
+    StartsContent p pieces (named_fields T.cursor T.parse_state.now (text_fields lent first)) (text_named T)
 unfolding scratched
 named-start p pieces lent first T k =
-    let m : Starts p pieces (named_fields T.cursor T.parse_state.now T.tokenize_state) (text_named T) = start-with p pieces (text_fields lent first) (named_fields T.cursor T.parse_state.now T.tokenize_state) T k in
-    subst (λ (s : TokenizeState). Starts p pieces (named_fields T.cursor T.parse_state.now s) (text_named T)) k.fields m
+    let m : StartsContent p pieces (named_fields T.cursor T.parse_state.now T.tokenize_state) (text_named T) = start-with p pieces (text_fields lent first) (named_fields T.cursor T.parse_state.now T.tokenize_state) T k in
+    subst (λ (s : TokenizeState). StartsContent p pieces (named_fields T.cursor T.parse_state.now s) (text_named T)) k.fields m
 
 fresh-fields : (lent : Option Names) (first : Bool) (c : Place) (p : ParseState) → AreFresh (named_fields c p (text_fields lent first))
 fresh-fields lent first c p = record { labels = refl; starts = refl; loose = refl; end = refl; seen = refl; probes = refl }
@@ -137,7 +137,7 @@ module _ (p : ParseState) (pieces : List Piece) (lent : Option Names) (first : B
   abbrev Fields : TokenizeState
   Fields = named_fields T.cursor T.parse_state.now (text_fields lent first)
 
-  S : Starts p pieces Fields M
+  S : StartsContent p pieces Fields M
   S = named-start p pieces lent first T start
 
   F : AreFresh Fields
@@ -148,18 +148,18 @@ module _ (p : ParseState) (pieces : List Piece) (lent : Option Names) (first : B
     text-may = read-may p pieces first content Fields F refl M U S E
 
     module _ (V : Tokenizer) (r : Resolves resolves_of U.resolvers (unregistered U) V) where
-      abbrev Given : Setting
-      Given = text_setting_of p first
+      abbrev setting : Setting
+      setting = text_setting_of p first
 
       -- the looks that pairing took are within the bounds of the content's tree of labels
-      pub text-probes : IsProbed Given (label_tree Given (content_of p.bytes.now pieces)) V.tokenize_state.probes
+      pub text-probes : IsProbed setting (label_tree setting (content_of p.bytes.now pieces)) V.tokenize_state.probes
       text-probes = read-probes p pieces first content Fields F refl M U S E V r
 
       -- where runs are not looked for none is taken
-      pub text-no-probes : Given.options.constructs.attention ≡ false →
-          Given.options.constructs.gfm_strikethrough ≡ false → V.tokenize_state.probes ≡ 0
+      pub text-no-probes : setting.options.constructs.attention ≡ false →
+          setting.options.constructs.gfm_strikethrough ≡ false → V.tokenize_state.probes ≡ 0
       text-no-probes = read-no-probes p pieces first content Fields F refl M U S E V r
 
       -- the events after a run over a text and its passes
-      pub text-run : chained V.events ≡ text_events Given pieces
+      pub text-run : chained V.events ≡ text_events setting pieces
       text-run = read-events p pieces first content Fields F refl M U S E V r

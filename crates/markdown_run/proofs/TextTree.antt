@@ -1,30 +1,30 @@
 -- The inline tree of a text: the labels of its elements grouped, paired, merged and trimmed, and its emails set apart.
 use Rattle.std.proofs.Common.{◌≡◌, ℕ, Bool, true, false, List, [], ◌∷◌, Option, None, Some, refl, ap, ◌∙◌}
 use Rattle.std.proofs.lemmas.Bool.{both_ways}
-use Rattle.markdown_engine_content.specs.Codes.{Code, stop_of, document_start}
-use Rattle.markdown_engine_content.specs.Tree.{Forest, leaf}
+use Rattle.markdown_content.specs.Codes.{Code, stop_of, document_start}
+use Rattle.markdown_content.specs.Tree.{Forest, leaf}
 use Rattle.markdown_event.specs.declared.event.Name.{Name}
 use Rattle.markdown_event.specs.declared.event.Name.TheVariants as N
-use Rattle.markdown_engine_content.specs.declared.configuration.Constructs.{Constructs}
-use Rattle.markdown_engine_content.specs.declared.label_kind.LabelKind.{LabelKind}
+use Rattle.markdown_content.specs.declared.configuration.Constructs.{Constructs}
+use Rattle.markdown_content.specs.declared.label_kind.LabelKind.{LabelKind}
 use Rattle.markdown_model.specs.Elements.{attention_run, as_plain, line_ending, data_code, text_element, text_choice, AreElements, elements_of}
 use Rattle.markdown_model.specs.Grammar.{Reading}
 use Rattle.markdown_model.specs.BracketGroups.{paired}
 use Rattle.markdown_model.specs.InlineTree.{label_tree, raw_tree, finished_text, text_tree}
 use Rattle.markdown_model.specs.LabelEnd.{Element, plain, starts, ends, label_end}
 use Rattle.markdown_model.specs.Pairs.{Pair, pair_list}
-use Rattle.markdown_model.specs.Passes.{labels_of, merged, trimmed, with_emails_apart}
+use Rattle.markdown_model.specs.Passes.{HardBreaks, breaks, labels_of, merged, trimmed, with_emails_apart}
 use Rattle.markdown_model.specs.Runs.{Run}
 use Rattle.markdown_model.specs.Setting.{Setting}
 use Rattle.markdown_model.proofs.ElementCases.{AllAre, EachConstruct, all_are, text_has}
 use Rattle.markdown_model.proofs.OneElementList.{text_elements, same_text_elements}
 use Rattle.markdown_model.proofs.PlainConstructs.{IsPlainTree, ReadsPlain}
-use Rattle.markdown_model.proofs.NoLinkInConstructs.{Passes, Yields, yields_bind, yields_gives, yields_either, then_any}
+use Rattle.markdown_model.proofs.NoLinkInConstructs.{PassesValue, Yields, yields_bind, yields_gives, yields_either, then_any}
 use Rattle.markdown_run_text.specs.ContentPasses.{mailed_where}
 use Rattle.markdown_attention.specs.RunsRead.{is_run}
 use Rattle.markdown_run_text.specs.RowTreeNames.{IsNode}
 use Rattle.markdown_run_text.specs.Row.{row_has_run, row_of_elements}
-use Rattle.markdown_run.proofs.RowsWithoutRuns.{IsStill, still-first}
+use Rattle.markdown_run.proofs.RowsWithoutRuns.{IsRunlessElement, still-first}
 use Rattle.markdown_run_text.proofs.PastTrees.{quiet-runless, leaf-runless}
 use Rattle.markdown_run_text.proofs.ConstructNodes.{plain-node}
 
@@ -60,10 +60,10 @@ module _ (P : Element → Type 0) (s : Setting) (h : HoldsOfParts P s.options.co
       then_any _ _ _ λ back. yields_either _ _ _ (then_any _ _ _ λ outcome. yields_gives _ _ (h.closes back (Some outcome))) (yields_gives _ _ (h.closes back None))
 
   text_passes : (end : ℕ) (earlier : List Element) (previous : Option Code) (cs : List Code) →
-      Passes P (text_element s end earlier previous cs)
-  text_passes end earlier previous cs = text_has s end earlier previous (Passes P) cs each (data_yields.at cs)
+      PassesValue P (text_element s end earlier previous cs)
+  text_passes end earlier previous cs = text_has s end earlier previous (PassesValue P) cs each (data_yields.at cs)
     where
-      each : EachConstruct s end earlier previous (Passes P) cs
+      each : EachConstruct s end earlier previous (PassesValue P) cs
       each = record {
         none = tt;
         ending = ending_yields.at cs;
@@ -77,7 +77,7 @@ module _ (P : Element → Type 0) (s : Setting) (h : HoldsOfParts P s.options.co
 
 -- Where no runs are looked for, none stands in them.
 
-parts-still : (on : Constructs) → on.attention ≡ false → on.gfm_strikethrough ≡ false → HoldsOfParts IsStill on
+parts-still : (on : Constructs) → on.attention ≡ false → on.gfm_strikethrough ≡ false → HoldsOfParts IsRunlessElement on
 parts-still on off none = record {
   nodes = λ t h. quiet-runless t h.quiet;
   leaves = leaf-runless;
@@ -88,7 +88,7 @@ parts-still on off none = record {
   closes = λ marker outcome. tt;
 }
 
-still-row : (es : List Element) → AllAre IsStill es → row_has_run (row_of_elements es) ≡ false
+still-row : (es : List Element) → AllAre IsRunlessElement es → row_has_run (row_of_elements es) ≡ false
 still-row [] h = refl
 still-row (e ∷ es) h = still-first e (row_of_elements es) h.0 (still-row es h.1)
 
@@ -97,7 +97,7 @@ pub text-still : (s : Setting) (cs : List Code) (es : List Element) → AreEleme
     s.options.constructs.attention ≡ false → s.options.constructs.gfm_strikethrough ≡ false →
     row_has_run (row_of_elements es) ≡ false
 text-still s cs es are off none =
-    still-row es (all_are IsStill (text_choice s cs) (text_passes IsStill s (parts-still s.options.constructs off none) (stop_of document_start cs).index) es [] None cs are)
+    still-row es (all_are IsRunlessElement (text_choice s cs) (text_passes IsRunlessElement s (parts-still s.options.constructs off none) (stop_of document_start cs).index) es [] None cs are)
 
 -- The tree of labels.
 
@@ -109,25 +109,25 @@ text-labels s cs es are = ap labels_of (same_text_elements s cs (elements_of s c
 -- The inline tree.
 
 -- a raw tree merged, trimmed and searched for emails, by the two switches
-finish : Bool → Bool → Forest → Forest
+finish : HardBreaks → Bool → Forest → Forest
 finish hard literals t =
     let u = trimmed hard true true (merged t) in elim literals [ true ↦ with_emails_apart u | false ↦ u ]
 
 finished-is : (s : Setting) (pairs_of : List Run → List Pair) (es : List Element)
-    → finished_text s pairs_of es ≡ finish s.options.constructs.hard_break_trailing s.options.constructs.gfm_autolink_literal (paired s pairs_of (labels_of es))
+    → finished_text s pairs_of es ≡ finish (breaks s) s.options.constructs.gfm_autolink_literal (paired s pairs_of (labels_of es))
 unfolding finished_text raw_tree finish
 finished-is s pairs_of es = refl
 
-finish-where : (hard literals : Bool) (t : Forest) →
+finish-where : (hard : HardBreaks) (literals : Bool) (t : Forest) →
     finish hard literals t ≡ mailed_where literals (trimmed hard true true (merged t))
 unfolding finish
 finish-where hard true t = refl
 finish-where hard false t = refl
 
 pub text-finished : (s : Setting) (cs : List Code) (es : List Element) → AreElements s cs es
-    → text_tree s cs ≡ mailed_where s.options.constructs.gfm_autolink_literal (trimmed s.options.constructs.hard_break_trailing true true (merged (paired s (pair_list s) (labels_of es))))
+    → text_tree s cs ≡ mailed_where s.options.constructs.gfm_autolink_literal (trimmed (breaks s) true true (merged (paired s (pair_list s) (labels_of es))))
 unfolding text_tree
 text-finished s cs es are =
     ap (finished_text s (pair_list s)) (same_text_elements s cs (elements_of s cs) es (text_elements s cs) are)
     ∙ finished-is s (pair_list s) es
-    ∙ finish-where s.options.constructs.hard_break_trailing s.options.constructs.gfm_autolink_literal (paired s (pair_list s) (labels_of es))
+    ∙ finish-where (breaks s) s.options.constructs.gfm_autolink_literal (paired s (pair_list s) (labels_of es))

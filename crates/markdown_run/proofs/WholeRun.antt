@@ -4,17 +4,17 @@ use Rattle.std.specs.Borrow.{Bor}
 use Rattle.std.specs.declared.alloc.Global.{Global}
 use Rattle.markdown_engine.specs.RunStart.{begun, begun_at}
 use Rattle.markdown_engine_events.specs.EventChains.{chained}
-use Rattle.markdown_engine_content.specs.Codes.{Code}
-use Rattle.markdown_engine_content.specs.Content.{IsContent, content_of}
+use Rattle.markdown_content.specs.Codes.{Code}
+use Rattle.markdown_content.specs.Content.{IsContent, content_of}
 use Rattle.markdown_engine.specs.Operations.{ahead, registered}
-use Rattle.markdown_engine_content.specs.Place.{Place, start_of_content, last_of}
+use Rattle.markdown_content.specs.Place.{Place, start_of_content, last_of}
 use Rattle.markdown_engine.specs.RestingFields.{at_rest}
 use Rattle.markdown_engine.specs.PassesInOrder.{MayResolve, Resolves, unregistered}
-use Rattle.markdown_engine_content.specs.Tree.{Forest, events_of}
-use Rattle.markdown_engine_content.specs.declared.parser.ParseState.{ParseState}
-use Rattle.markdown_engine_content.specs.declared.parser.Piece.{Piece}
-use Rattle.markdown_state.specs.declared.resolve.ResolveName.{ResolveName}
-use Rattle.markdown_state.specs.declared.resolve.ResolveName.TheVariants as R
+use Rattle.markdown_content.specs.Tree.{Forest, events_of}
+use Rattle.markdown_content.specs.declared.parser.ParseState.{ParseState}
+use Rattle.markdown_content.specs.declared.parser.Piece.{Piece}
+use Rattle.markdown_event.specs.declared.resolve.ResolveName.{ResolveName}
+use Rattle.markdown_event.specs.declared.resolve.ResolveName.TheVariants as R
 use Rattle.markdown_engine.specs.declared.tokenizer.LabelStart.{LabelStart}
 use Rattle.markdown_engine.specs.declared.tokenizer.TokenizeState.{TokenizeState}
 use Rattle.markdown_engine.specs.declared.tokenizer.Tokenizer.{Tokenizer}
@@ -35,7 +35,7 @@ use Rattle.markdown_model.specs.Setting.{Setting}
 use Rattle.markdown_plan.specs.Characters.{bytes_of}
 use Rattle.markdown_run_text.specs.ElementsAsRead.{AreReadAs}
 use Rattle.markdown_run_text.specs.RunOverElements.{AllElements, Finishes, StandsAfter}
-use Rattle.markdown_run_text.specs.RowStart.{IsFresh}
+use Rattle.markdown_run_text.specs.RowStart.{IsFreshRow}
 use Rattle.markdown_run_text.specs.OpenStarts.{brackets_of}
 use Rattle.markdown_run_text.specs.Row.{Row, row_has_run, IsRowAt, split_row, row_of_elements}
 use Rattle.markdown_run_text.proofs.RowElements.{grouped-alike}
@@ -44,12 +44,12 @@ use Rattle.markdown_run_text.specs.ContentPasses.{may_resolve_of, resolves_of}
 use Rattle.markdown_run.specs.RunWithPasses.{may_end_of}
 use Rattle.markdown_run.proofs.PassesAfterRun.{may-weaker}
 use Rattle.markdown_run.proofs.DataInDocument.{HasLines-HasCodes}
-use Rattle.markdown_run.proofs.PassesAfterRun.{IsTrimming, IsStart, IsGiven, IsResolved, codes-ahead}
+use Rattle.markdown_run.proofs.PassesAfterRun.{IsTrimming, IsRunStart, IsGiven, IsResolved, codes-ahead}
 use Rattle.markdown_run.proofs.ProbeBoundsOfCutData.{probes-alike}
 use Rattle.markdown_run.proofs.RowPasses.{row-may, row-left}
 
 -- T stands at the start of the content of these pieces, with no events and these scratch fields
-pub record Starts (p : ParseState) (pieces : List Piece) (s : TokenizeState) (T : Tokenizer) : Type 0 where
+pub record StartsContent (p : ParseState) (pieces : List Piece) (s : TokenizeState) (T : Tokenizer) : Type 0 where
   pub input : T.parse_state.now ≡ p
   pub place : T.cursor ≡ start_of_content p.bytes.now pieces
   pub events : T.events ≡ []
@@ -58,7 +58,7 @@ pub record Starts (p : ParseState) (pieces : List Piece) (s : TokenizeState) (T 
   pub fields : T.tokenize_state ≡ s
 
 pub begun-starts : (alloc : Global) (p : Bor ParseState) (pieces : List Piece) (T : Tokenizer) →
-    T ≡ begun alloc p pieces → Starts p.now pieces at_rest T
+    T ≡ begun alloc p pieces → StartsContent p.now pieces at_rest T
 begun-starts alloc p pieces T e =
     record {
       input = ap (λ (x : Tokenizer). x.parse_state.now) e;
@@ -71,7 +71,7 @@ begun-starts alloc p pieces T e =
 
 -- and so does one that a cursor begins at that start
 pub content-starts : (alloc : Global) (input : Bor ParseState) (p : ParseState) (pieces : List Piece) (cursor : Place) (T : Tokenizer) →
-    T ≡ begun_at alloc input cursor → input.now ≡ p → cursor ≡ start_of_content p.bytes.now pieces → Starts p pieces at_rest T
+    T ≡ begun_at alloc input cursor → input.now ≡ p → cursor ≡ start_of_content p.bytes.now pieces → StartsContent p pieces at_rest T
 content-starts alloc input p pieces cursor T e i k =
     record {
       input = ap (λ (x : Tokenizer). x.parse_state.now) e ∙ i;
@@ -83,14 +83,14 @@ content-starts alloc input p pieces cursor T e i k =
     }
 
 -- with other scratch fields
-pub start-with : (p : ParseState) (pieces : List Piece) (s r : TokenizeState) (T : Tokenizer) → Starts p pieces s T →
-    Starts p pieces r (record T { tokenize_state = r })
+pub start-with : (p : ParseState) (pieces : List Piece) (s r : TokenizeState) (T : Tokenizer) → StartsContent p pieces s T →
+    StartsContent p pieces r (record T { tokenize_state = r })
 start-with p pieces s r T k =
     record { input = k.input; place = k.place; events = k.events; map = k.map; resolvers = k.resolvers; fields = refl }
 
 -- nothing stands before the start
 pub start-stands : (p : ParseState) (pieces : List Piece) (s : TokenizeState) (T : Tokenizer) → s.label_starts ≡ [] →
-    Starts p pieces s T → StandsAfter [] None T
+    StartsContent p pieces s T → StandsAfter [] None T
 unfolding start_of_content
 start-stands p pieces s T none k =
     record {
@@ -99,7 +99,7 @@ start-stands p pieces s T none k =
       keeps = subst (λ ls. StandFor T.events [] ls) (sym (ap (λ (x : TokenizeState). x.label_starts) k.fields ∙ none)) tt;
     }
 
-pub start-ahead : (p : ParseState) (pieces : List Piece) (s : TokenizeState) (T : Tokenizer) → Starts p pieces s T →
+pub start-ahead : (p : ParseState) (pieces : List Piece) (s : TokenizeState) (T : Tokenizer) → StartsContent p pieces s T →
     ahead T ≡ content_of p.bytes.now pieces
 start-ahead p pieces s T k = codes-ahead p pieces T k.place
 
@@ -113,7 +113,7 @@ pub record AreFresh (s : TokenizeState) : Type 0 where
   pub probes : s.probes ≡ 0
 
 fresh-start : (p : ParseState) (pieces : List Piece) (s : TokenizeState) (T : Tokenizer) → AreFresh s →
-    Starts p pieces s T → IsFresh T
+    StartsContent p pieces s T → IsFreshRow T
 fresh-start p pieces s T h k = record {
   events = k.events;
   labels = ap (λ (x : TokenizeState). x.labels) k.fields ∙ h.labels;
@@ -124,7 +124,7 @@ fresh-start p pieces s T h k = record {
 }
 
 -- the elements of these codes, and how they are read: a row with its labels grouped is the tree of their labels but for how data is cut
-pub record IsFound (bytes : List ℕ) (choice : Choice) (cs : List Code) (row : Row) : Type 0 where
+pub record IsRowRead (bytes : List ℕ) (choice : Choice) (cs : List Code) (row : Row) : Type 0 where
   pub elements : List Element
   pub are : AreElementsFrom choice [] None cs elements
   pub read : List Element
@@ -134,19 +134,19 @@ pub record IsFound (bytes : List ℕ) (choice : Choice) (cs : List Code) (row : 
   pub is_row : IsRowAt [] row
   pub trees : split (grouped (brackets_of row)) ≡ split (labels_of read)
 
-module _ (last : ResolveName) (finish : ParseState → Forest → Forest) (trims : IsTrimming last finish) (choice : Choice) (p : ParseState) (pieces : List Piece) (content : IsContent p.bytes.now pieces) (setting : Setting) (is_given : IsGiven setting p) (s : TokenizeState) (fresh : AreFresh s) (T U : Tokenizer) (start : Starts p pieces s T) (k : Finishes choice (λ X. registered last (registered R.Data X)) T U) where
+module _ (last : ResolveName) (finish : ParseState → Forest → Forest) (trims : IsTrimming last finish) (choice : Choice) (p : ParseState) (pieces : List Piece) (content : IsContent p.bytes.now pieces) (setting : Setting) (is_given : IsGiven setting p) (s : TokenizeState) (fresh : AreFresh s) (T U : Tokenizer) (start : StartsContent p pieces s T) (k : Finishes choice (λ X. registered last (registered R.Data X)) T U) where
   -- the row with its labels grouped
   abbrev pub Grouped : Forest
   Grouped = grouped (brackets_of k.row)
 
-  begins : IsStart p pieces T
+  begins : IsRunStart p pieces T
   begins = record { content = content; place = start.place; input = start.input; events = start.events; map = start.map; resolvers = start.resolvers; probes = ap (λ (x : TokenizeState). x.probes) start.fields ∙ fresh.probes }
 
   -- no start waits at the run's start
   is_row : IsRowAt [] k.row
   is_row = subst (λ ks. IsRowAt ks k.row) (ap (λ (x : TokenizeState). map (λ (l : LabelStart). l.kind) x.label_starts) start.fields ∙ ap (map (λ (l : LabelStart). l.kind)) fresh.starts) k.is_row
 
-  pub finished-elements : IsFound p.bytes.now choice (content_of p.bytes.now pieces) k.row
+  pub finished-elements : IsRowRead p.bytes.now choice (content_of p.bytes.now pieces) k.row
   finished-elements =
       let all : AllElements (bytes_of T) choice [] None k.row (ahead T) = k.elements [] None (start-stands p pieces s T fresh.starts start) in
       record {

@@ -1,6 +1,6 @@
 -- What reading the elements of a text in a loop keeps: each step leads to the end that the text has, whatever is known of the content meanwhile.
 use Rattle.std.specs.Prelude.{◌≡◌, ◌<◌, ◌≤◌, Bool, true, false, List, [], None}
-use Rattle.markdown_engine_content.specs.Codes.{Code}
+use Rattle.markdown_content.specs.Codes.{Code}
 use Rattle.markdown_engine.specs.Operations.{HasCode, ahead, scratched}
 use Rattle.markdown_engine.specs.RestingFields.{at_rest}
 use Rattle.markdown_engine.specs.Weights.{codes_left}
@@ -12,7 +12,7 @@ use Rattle.markdown_leaf_gfm.specs.GfmTaskListItemCheck.{check_here}
 use Rattle.markdown_model.specs.TextLines.{data_up_to}
 use Rattle.markdown_run_text.specs.TextStops.{reader_stops}
 use Rattle.markdown_run_text.specs.RunOverElements.{DataFinishes, Finishes}
-use Rattle.markdown_run_text.specs.TextContent.{StartReady, named_fields, text_choice_of, text_passed}
+use Rattle.markdown_run_text.specs.TextContent.{TextStartReady, named_fields, text_choice_of, text_passed}
 
 -- these scratch fields, with what those know of the content
 abbrev pub with_indexes : TokenizeState → TokenizeState → TokenizeState
@@ -39,7 +39,7 @@ data_stops T = reader_stops T.cursor.codes T.parse_state.now.options.now.constru
 
 -- constructs may be tried, and what is known of runs and domains is right
 pub record MayTry (T : Tokenizer) : Type 0 where
-  pub start : StartReady T
+  pub start : TextStartReady T
   pub runs : RawText.IsIndexed T
   pub domains : GfmAutolinkLiteral.KnowsDomains T
   pub alone : T.attempts ≡ []
@@ -51,8 +51,8 @@ pub record IsReady (T : Tokenizer) : Type 0 where
 
 -- How the reading goes on: V is what is left at the end, from T on.
 
-abbrev pub EndsAt : Tokenizer → Tokenizer → Type 0
-EndsAt T V = Finishes (text_choice_of T) text_passed T V
+abbrev pub FinishesAt : Tokenizer → Tokenizer → Type 0
+FinishesAt T V = Finishes (text_choice_of T) text_passed T V
 
 -- data is read first, whatever element it begins with
 abbrev pub EndsByData : Tokenizer → Tokenizer → Type 0
@@ -60,20 +60,20 @@ EndsByData T V = DataFinishes (text_choice_of T) (data_up_to (data_stops T)) tex
 
 -- what ends the text from U on, ends it from T on, whatever is known of the content
 abbrev pub LeadsTo : Tokenizer → Tokenizer → Type 0
-LeadsTo T U = (s : TokenizeState) (V : Tokenizer) → EndsAt (indexed s U) V → EndsAt (indexed s T) V
+LeadsTo T U = (s : TokenizeState) (V : Tokenizer) → FinishesAt (indexed s U) V → FinishesAt (indexed s T) V
 
 -- the same, where data is read from U on
 abbrev pub LeadsToData : Tokenizer → Tokenizer → Type 0
-LeadsToData T U = (s : TokenizeState) (V : Tokenizer) → EndsByData (indexed s U) V → EndsAt (indexed s T) V
+LeadsToData T U = (s : TokenizeState) (V : Tokenizer) → EndsByData (indexed s U) V → FinishesAt (indexed s T) V
 
 -- an element is read or more
-pub record Passes (T U : Tokenizer) : Type 0 where
+pub record PassesSome (T U : Tokenizer) : Type 0 where
   pub ready : IsReady U
   pub less : codes_left U < codes_left T
   pub leads : LeadsTo T U
 
 -- the code at hand is that of data, and U is T but for the starts of labels and what is known
-pub record Stays (T U : Tokenizer) : Type 0 where
+pub record ReachesData (T U : Tokenizer) : Type 0 where
   pub ready : IsReady U
   pub some_code : HasCode U
   pub left : codes_left U ≤ codes_left T
@@ -81,17 +81,17 @@ pub record Stays (T U : Tokenizer) : Type 0 where
 
 -- an element is tried
 abbrev pub ReadsElement : Tokenizer → Bool → Tokenizer → Type 0
-ReadsElement T true U = Passes T U
-ReadsElement T false U = Stays T U
+ReadsElement T true U = PassesSome T U
+ReadsElement T false U = ReachesData T U
 
 -- data is read from T on
 pub record PassesData (T U : Tokenizer) : Type 0 where
   pub ready : IsReady U
   pub less : codes_left U < codes_left T
-  pub leads : (s : TokenizeState) (V : Tokenizer) → EndsAt (indexed s U) V → EndsByData (indexed s T) V
+  pub leads : (s : TokenizeState) (V : Tokenizer) → FinishesAt (indexed s U) V → EndsByData (indexed s T) V
 
 -- some elements are read, or none
-pub record GoesOn (T U : Tokenizer) : Type 0 where
+pub record PassesAny (T U : Tokenizer) : Type 0 where
   pub ready : IsReady U
   pub leads : LeadsTo T U
 

@@ -1,6 +1,6 @@
 -- The families of states, by which they are called.
-use Rattle.markdown_state.specs.declared.state.StateName.{StateName}
-use Rattle.markdown_state.specs.declared.state.StateName.TheVariants as H
+use Rattle.markdown_event.specs.declared.state.StateName.{StateName}
+use Rattle.markdown_event.specs.declared.state.StateName.TheVariants as H
 use Rattle.markdown_run.specs.declared.state.Family.{Family}
 
 abbrev pub family_of : StateName → Family

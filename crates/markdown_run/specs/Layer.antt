@@ -5,8 +5,8 @@ use Rattle.std.specs.Prelude.{ℕ, Bool, List, Option, None, Some, false}
 use Rattle.markdown_engine.specs.StateRuns.{Stepped, Lawful}
 use Rattle.markdown_engine.specs.Weights.{weight_at}
 use Rattle.markdown_engine.specs.StateWords.{StateWords, Words, Law, words_in, end_words}
-use Rattle.markdown_state.specs.declared.state.StateName.{StateName}
-use Rattle.markdown_state.specs.declared.state.StateName.TheVariants as H
+use Rattle.markdown_event.specs.declared.state.StateName.{StateName}
+use Rattle.markdown_event.specs.declared.state.StateName.TheVariants as H
 use Rattle.markdown_engine.specs.declared.tokenizer.TokenizeState.{TokenizeState}
 use Rattle.markdown_engine.specs.declared.tokenizer.Tokenizer.{Tokenizer}
 use Rattle.markdown_leaf_gfm.specs.GfmAutolinkLiteral as GfmAutolinkLiteral
@@ -31,7 +31,7 @@ use Rattle.markdown_label.specs.Resource as Resource
 use Rattle.markdown_run_text.specs.StringContent as StringContent
 use Rattle.markdown_run_text.specs.TextContent as TextContent
 use Rattle.std.proofs.Common.{◌≡◌, refl, sym, subst}
-use Rattle.markdown_plan.specs.LayerEquation.{Within, AreLawful}
+use Rattle.markdown_plan.specs.LayerEquation.{EqualsLayer, AreLawful}
 use Rattle.markdown_plan.proofs.LawStepsOfLayer.{no-laws}
 use Rattle.markdown_run_text.proofs.StringContentLaws as StringContentLaws
 use Rattle.markdown_run_text.proofs.TextContentLaws as TextContentLaws
@@ -47,11 +47,11 @@ use Rattle.markdown_leaf.proofs.RawTextLaws as RawTextLaws
 use Rattle.markdown_label.proofs.LabelStartLaws as LabelStartLaws
 use Rattle.markdown_label.proofs.LabelEndStateLaws as LabelEndStateLaws
 use Rattle.markdown_label.proofs.ResourceStateLaws as ResourceStateLaws
-use Rattle.markdown_partial_link.proofs.PartialDestinationLaws as PartialDestinationLaws
-use Rattle.markdown_partial_link.proofs.PartialTitleLaws as PartialTitleLaws
-use Rattle.markdown_partial_link.proofs.PartialLabelLaws as PartialLabelLaws
+use Rattle.markdown_partial.proofs.PartialDestinationLaws as PartialDestinationLaws
+use Rattle.markdown_partial.proofs.PartialTitleLaws as PartialTitleLaws
+use Rattle.markdown_partial.proofs.PartialLabelLaws as PartialLabelLaws
 use Rattle.markdown_leaf_html.specs.HtmlText.{part_words}
-use Rattle.markdown_leaf_html.specs.HtmlTextRests.{Part, state_of, Open}
+use Rattle.markdown_leaf_html.specs.HtmlTextRests.{HtmlPart, state_of, Open}
 use Rattle.markdown_leaf_html.proofs.HtmlLineEndingLaws as HtmlLineEndingLaws
 use Rattle.markdown_leaf_html.proofs.HtmlTextStateLaws as HtmlTextStateLaws
 use Rattle.markdown_leaf_gfm.proofs.GfmTaskListItemCheckLaws as GfmTaskListItemCheckLaws
@@ -235,87 +235,87 @@ stops_of _ s = None
 
 -- The laws. Each is proved over any layer in the crate of its construct, those of strings and texts in `markdown_run_text`.
 
-string-within : Within StringContentLaws.states_and_called inline
+string-within : EqualsLayer StringContentLaws.states_and_called inline
 string-within H.StringBefore = refl
 string-within _ = refl
 
-pub text-within : Within TextContentLaws.states_and_called inline
+pub text-within : EqualsLayer TextContentLaws.states_and_called inline
 text-within H.TextBefore = refl
 text-within _ = refl
 
-space-within : Within PartialSpaceOrTab.states inline
+space-within : EqualsLayer PartialSpaceOrTab.states inline
 space-within H.SpaceOrTabStart = refl
 space-within _ = refl
 
-eol-within : Within PartialSpaceOrTabEol.states_and_called inline
+eol-within : EqualsLayer PartialSpaceOrTabEol.states_and_called inline
 eol-within H.SpaceOrTabEolStart = refl
 eol-within _ = refl
 
-data-within : Within PartialData.states inline
+data-within : EqualsLayer PartialData.states inline
 data-within H.DataStart = refl
 data-within _ = refl
 
-attention-within : Within Attention.states inline
+attention-within : EqualsLayer Attention.states inline
 attention-within H.AttentionInside = refl
 attention-within _ = refl
 
-escape-within : Within CharacterEscape.states inline
+escape-within : EqualsLayer CharacterEscape.states inline
 escape-within H.CharacterEscapeStart = refl
 escape-within _ = refl
 
-reference-within : Within CharacterReference.states inline
+reference-within : EqualsLayer CharacterReference.states inline
 reference-within H.CharacterReferenceStart = refl
 reference-within _ = refl
 
-break-within : Within HardBreakEscape.states inline
+break-within : EqualsLayer HardBreakEscape.states inline
 break-within H.HardBreakEscapeStart = refl
 break-within _ = refl
 
-autolink-within : Within Autolink.states inline
+autolink-within : EqualsLayer Autolink.states inline
 autolink-within H.AutolinkStart = refl
 autolink-within _ = refl
 
-raw_text-within : Within RawText.states inline
+raw_text-within : EqualsLayer RawText.states inline
 raw_text-within H.RawTextStart = refl
 raw_text-within _ = refl
 
-label_start-within : Within LabelStarts.states inline
+label_start-within : EqualsLayer LabelStarts.states inline
 label_start-within H.LabelStartImageOpen = refl
 label_start-within _ = refl
 
-label_end-within : Within LabelEnd.states_and_called inline
+label_end-within : EqualsLayer LabelEnd.states_and_called inline
 label_end-within H.LabelEndAfter = refl
 label_end-within _ = refl
 
-resource-within : Within Resource.states_and_called inline
+resource-within : EqualsLayer Resource.states_and_called inline
 resource-within H.LabelEndResourceStart = refl
 resource-within _ = refl
 
-destination-within : Within PartialDestination.states inline
+destination-within : EqualsLayer PartialDestination.states inline
 destination-within H.DestinationStart = refl
 destination-within _ = refl
 
-title-within : Within PartialTitle.states_and_called inline
+title-within : EqualsLayer PartialTitle.states_and_called inline
 title-within H.TitleStart = refl
 title-within _ = refl
 
-label-within : Within PartialLabel.states_and_called inline
+label-within : EqualsLayer PartialLabel.states_and_called inline
 label-within H.LabelStart = refl
 label-within _ = refl
 
 -- the states of HTML that leave the scratch fields alone
-html-parts : (k : Part) → words_in inline (state_of k) ≡ part_words k
+html-parts : (k : HtmlPart) → words_in inline (state_of k) ≡ part_words k
 html-parts Open = refl
 html-parts _ = refl
 
-html-within : HtmlLineEndingLaws.Within inline
+html-within : HtmlLineEndingLaws.HasHtmlWords inline
 html-within = record { parts = html-parts; cdata = refl; quoted = refl; before = refl; after = refl; prefix = refl; space = refl }
 
-check-within : Within GfmTaskListItemCheck.states_and_called inline
+check-within : EqualsLayer GfmTaskListItemCheck.states_and_called inline
 check-within H.GfmTaskListItemCheckStart = refl
 check-within _ = refl
 
-literal-within : Within GfmAutolinkLiteral.states inline
+literal-within : EqualsLayer GfmAutolinkLiteral.states inline
 literal-within H.GfmAutolinkLiteralProtocolStart = refl
 literal-within _ = refl
 

@@ -4,7 +4,5 @@ pub mod Layer
 pub mod RunConstruct
 pub mod RunWithPasses
 pub mod ElementsOfText
-pub mod ProgramOutput
-pub mod ProgramStatuses
 -- What serves proofs: what functions and proofs promise each other.
 pub mod Families

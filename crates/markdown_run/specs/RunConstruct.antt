@@ -1,15 +1,15 @@
 -- Single constructs: what is read at a tokenizer's place, by the name of the state that starts it.
 use Rattle.std.specs.Prelude.{◌≡◌, ℕ, Bool, true, false, List, Option, Some, None}
-use Rattle.markdown_engine_content.specs.Codes.{Code}
+use Rattle.markdown_content.specs.Codes.{Code}
 use Rattle.markdown_engine.specs.Operations.{ahead, scratched}
 use Rattle.markdown_engine.specs.PastTree.{TreeReading, link_before}
-use Rattle.markdown_engine_content.specs.Tree.{Forest}
-use Rattle.markdown_state.specs.declared.resolve.ResolveName.{ResolveName}
-use Rattle.markdown_state.specs.declared.resolve.ResolveName.TheVariants as R
-use Rattle.markdown_state.specs.declared.state.StateName.{StateName}
-use Rattle.markdown_state.specs.declared.state.StateName.TheVariants.{AttentionStart, DataStart, DestinationStart, LabelStart, TitleStart, GfmLabelStartFootnoteStart}
-use Rattle.markdown_state.specs.declared.state.StateName.TheVariants.{LabelEndStart, LabelStartImageStart, LabelStartLinkStart, SpaceOrTabStart, SpaceOrTabEolStart}
-use Rattle.markdown_engine_content.specs.declared.label_kind.LabelKind.{LabelKind}
+use Rattle.markdown_content.specs.Tree.{Forest}
+use Rattle.markdown_event.specs.declared.resolve.ResolveName.{ResolveName}
+use Rattle.markdown_event.specs.declared.resolve.ResolveName.TheVariants as R
+use Rattle.markdown_event.specs.declared.state.StateName.{StateName}
+use Rattle.markdown_event.specs.declared.state.StateName.TheVariants.{AttentionStart, DataStart, DestinationStart, LabelStart, TitleStart, GfmLabelStartFootnoteStart}
+use Rattle.markdown_event.specs.declared.state.StateName.TheVariants.{LabelEndStart, LabelStartImageStart, LabelStartLinkStart, SpaceOrTabStart, SpaceOrTabEolStart}
+use Rattle.markdown_content.specs.declared.label_kind.LabelKind.{LabelKind}
 use Rattle.markdown_engine.specs.declared.tokenizer.TokenizeState.{TokenizeState}
 use Rattle.markdown_engine.specs.declared.tokenizer.Tokenizer.{Tokenizer}
 use Rattle.markdown_attention.specs.Attention as Attention
@@ -22,6 +22,7 @@ use Rattle.markdown_run_text.specs.TextContent.{tried_reading}
 use Rattle.markdown_run.specs.Layer.{ready_of}
 use Rattle.markdown_model.specs.LabelEnd.{Element}
 use Rattle.markdown_model.specs.TextLines.{data_up_to}
+use Rattle.markdown_partial.specs.LinkedText.{rules_in}
 use Rattle.markdown_partial.specs.PartialData.{stops_of}
 use Rattle.markdown_model.specs.Resource.{DestinationNames, StringNames, destination, title, label}
 use Rattle.markdown_model.specs.SingleConstructs as SingleConstructs
@@ -42,17 +43,17 @@ use Rattle.markdown_partial.specs.PartialLabel as PartialLabel
 -- linked, no blank code is at hand.
 
 abbrev pub OtherAsks : StateName → Tokenizer → Type 0
-OtherAsks DestinationStart T = PartialDestination.StartReady T
-OtherAsks TitleStart T = PartialTitle.StartReady T
-OtherAsks LabelStart T = PartialLabel.StartReady T
+OtherAsks DestinationStart T = PartialDestination.DestinationStartReady T
+OtherAsks TitleStart T = PartialTitle.TitleStartReady T
+OtherAsks LabelStart T = PartialLabel.LabelStartReady T
 OtherAsks DataStart T = Unit {0}
-OtherAsks AttentionStart T = Attention.StartReady T
+OtherAsks AttentionStart T = Attention.AttentionStartReady T
 OtherAsks LabelStartImageStart T = Unit {0}
 OtherAsks LabelStartLinkStart T = Unit {0}
 OtherAsks GfmLabelStartFootnoteStart T = Unit {0}
-OtherAsks LabelEndStart T = LabelEnd.StartReady T
-OtherAsks SpaceOrTabStart T = PartialSpaceOrTab.StartReady T
-OtherAsks SpaceOrTabEolStart T = PartialSpaceOrTabEol.StartReady T
+OtherAsks LabelEndStart T = LabelEnd.LabelEndStartReady T
+OtherAsks SpaceOrTabStart T = PartialSpaceOrTab.SpaceOrTabStartReady T
+OtherAsks SpaceOrTabEolStart T = PartialSpaceOrTabEol.SpaceOrTabEolStartReady T
 OtherAsks _ T = ⊥
 
 abbrev pub Asks : Option (Tokenizer → TreeReading) → StateName → Tokenizer → Type 0
@@ -72,8 +73,8 @@ string_names s = record { whole = s.token_1; marker = s.token_2; text = s.token_
 -- what others read: data up to where it stops, a run of markers, or the destination, the title, the label or the whitespace that is asked for
 abbrev pub construct_reading : StateName → Tokenizer → TreeReading
 construct_reading DestinationStart T = destination T.tokenize_state.size_b (destination_names T.tokenize_state)
-construct_reading TitleStart T = title (string_names T.tokenize_state)
-construct_reading LabelStart T = label (string_names T.tokenize_state)
+construct_reading TitleStart T = title (rules_in T).escaped_parentheses (string_names T.tokenize_state)
+construct_reading LabelStart T = label (rules_in T).labels_by_characters (string_names T.tokenize_state)
 construct_reading AttentionStart T = SingleConstructs.attention_here (options_here T)
 construct_reading DataStart T = data_up_to (stops_of T.tokenize_state)
 construct_reading SpaceOrTabStart T =

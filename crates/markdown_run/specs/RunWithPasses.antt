@@ -5,36 +5,36 @@ use Rattle.std.specs.Borrow.{Bor}
 use Rattle.std.specs.declared.alloc.Global.{Global}
 use Rattle.markdown_engine.specs.RestingFields.{at_rest}
 use Rattle.markdown_engine.specs.RunStart.{begun_at}
-use Rattle.markdown_engine_content.specs.Content.{document_limit}
-use Rattle.markdown_engine_content.specs.Place.{Place}
-use Rattle.markdown_engine_content.specs.Tree.{Forest}
+use Rattle.markdown_content.specs.Content.{document_limit}
+use Rattle.markdown_content.specs.Place.{Place}
+use Rattle.markdown_content.specs.Tree.{Forest}
 use Rattle.markdown_engine.specs.PastTree.{appended_from}
-use Rattle.markdown_engine_content.specs.declared.parser.ParseState.{ParseState}
+use Rattle.markdown_content.specs.declared.parser.ParseState.{ParseState}
 use Rattle.markdown_engine.specs.PassesInOrder.{MayResolve, Resolves, unregistered}
-use Rattle.markdown_state.specs.declared.resolve.ResolveName.{ResolveName}
-use Rattle.markdown_state.specs.declared.resolve.ResolveName.TheVariants as R
-use Rattle.markdown_state.specs.declared.state.StateName.{StateName}
+use Rattle.markdown_event.specs.declared.resolve.ResolveName.{ResolveName}
+use Rattle.markdown_event.specs.declared.resolve.ResolveName.TheVariants as R
+use Rattle.markdown_event.specs.declared.state.StateName.{StateName}
 use Rattle.markdown_engine.specs.declared.tokenizer.Tokenizer.{Tokenizer}
 use Rattle.markdown_model.specs.Passes.{merged}
-use Rattle.markdown_partial.specs.TrimmedEvents.{HasParts}
+use Rattle.markdown_passes.specs.TrimmedEvents.{HasParts}
 use Rattle.markdown_run_text.specs.ContentPasses.{may_resolve_of, resolves_of}
-use Rattle.markdown_run.specs.ElementsOfText.{EndsAt, forgotten, text_named}
+use Rattle.markdown_run.specs.ElementsOfText.{FinishesAt, forgotten, text_named}
 use Rattle.markdown_run.specs.Layer.{ends_of}
-use Rattle.markdown_run.specs.declared.run.Run.{Run}
+use Rattle.markdown_run.specs.declared.run.ListRun.{ListRun}
 
 -- however a run from this state ends, the passes that it registered may be called
 abbrev pub MayPass : StateName → Tokenizer → Type 0
 MayPass name T = (held : Bool) (left : Tokenizer) → ends_of name T held left → MayResolve may_resolve_of resolves_of left.resolvers (unregistered left)
 
 -- what is found is what the passes leave that are registered: the events, and the looks of pairing
-pub record IsFoundBehind (left : Tokenizer) (run : Run) : Type 0 where
+pub record IsFoundBehind (left : Tokenizer) (run : ListRun) : Type 0 where
   pub passed : Tokenizer
   pub resolves : Resolves resolves_of left.resolvers (unregistered left) passed
-  pub events : run.events.items ≡ chained passed.events
+  pub events : run.events ≡ chained passed.events
   pub probes : run.probes ≡ passed.tokenize_state.probes
 
 -- what is found is what a run from this state leaves after its passes
-pub record IsFoundFrom (name : StateName) (T : Tokenizer) (run : Run) : Type 0 where
+pub record IsFoundFrom (name : StateName) (T : Tokenizer) (run : ListRun) : Type 0 where
   pub held : Bool
   pub left : Tokenizer
   pub ends : ends_of name T held left
@@ -55,16 +55,16 @@ may_end_of R.Data T = MayMerge T
 may_end_of n T = may_resolve_of n T
 
 abbrev pub MayPassText : Tokenizer → Type 0
-MayPassText T = (left : Tokenizer) → EndsAt (text_named T) left → MayResolve may_end_of resolves_of left.resolvers (unregistered left)
+MayPassText T = (left : Tokenizer) → FinishesAt (text_named T) left → MayResolve may_end_of resolves_of left.resolvers (unregistered left)
 
 -- at the start of a text, where nothing is known of the names
 abbrev pub begun_text : Global → Bor ParseState → Place → Bool → Tokenizer
 begun_text alloc parse_state place first =
     record (begun_at alloc parse_state place) { tokenize_state = record at_rest { document_at_first_paragraph_of_list_item = first } }
 
-pub record IsFoundInText (T : Tokenizer) (run : Run) : Type 0 where
+pub record IsFoundInText (T : Tokenizer) (run : ListRun) : Type 0 where
   pub left : Tokenizer
-  pub ends : EndsAt (text_named T) left
+  pub ends : FinishesAt (text_named T) left
   pub found : IsFoundBehind left run
 
 -- the passes that end a text may be called behind elements that have registered none, whatever is known of the content

@@ -1,7 +1,45 @@
 //! The elements of a text, read in one loop (CommonMark 6): at each code what may begin there is tried, and where nothing holds data is read.
 //!
-//! What is tried at which code is as in the states of a text, in `markdown_run_text`. What rules constructs out in the content is made known
-//! only once one has failed that it may rule out.
+//!     text ::= gfm_task_list_item_check? element*
+//!     element ::= raw_text | attention_run | gfm_label_start_footnote | label_start_link | label_start_image | character_escape
+//!         | hard_break_escape | autolink | html_text | label_end | character_reference | gfm_autolink_literal | data
+//!
+//! The byte at hand says what is tried. A reader of `markdown_run_text` comes first where there is one; the states read what it leaves:
+//!
+//!     ` or $        the reader `raw_text`, then its states
+//!     * or _ or ~   the reader `attention`
+//!     [             the states of `gfm_label_start_footnote` where a `^` follows, then the reader `label_start_link`
+//!     !             the reader `label_start_image`
+//!     \             the reader `character_escape`, then the states of `hard_break_escape`
+//!     <             the readers `autolink` and `html_text`, then the states of `html_text`
+//!     ]             the reader `label_end`, then its states
+//!     &             the reader `character_reference`, then its states
+//!     H, h, W, w    the states of `gfm_autolink_literal`, where literals are on and their word stands
+//!     any other     nothing; it is data
+//!
+//! Where nothing holds, the reader `partial_data` reads on from there. Line endings are part of its data. What is tried at which byte is as in the states
+//! of a text, in the module `text` of `markdown_run_text`.
+//!
+//! Events: those of the constructs, and `Data` and `LineEnding`; the passes have not run.
+//!
+//! Example: `a *b* [c](d)`. What stands inside `LabelLink`, `LabelEnd` and `Resource` is left out.
+//!
+//!     Data 0-2
+//!     AttentionSequence 2-3
+//!     Data 3-4
+//!     AttentionSequence 4-5
+//!     Data 5-6
+//!     LabelLink 6-7
+//!     Data 7-8
+//!     LabelEnd 8-9
+//!     Resource 9-12
+//!
+//! Definition: `text_element` in `markdown_model/specs/Elements.antt`.
+//!
+//! Some constructs look in vain for an end that does not come. What rules them out in the content is made known only once one has failed that it may
+//! rule out, so most texts need no such walk.
+//!
+//! In the pictures the carets are under the codes that a function reads or looks at.
 //!
 //! Each function answers the error where a growth is refused; then `failed` is true.
 #![tactic(auto)]
@@ -10,33 +48,36 @@ ghost use Rattle.std.specs.Prelude.{◌≡◌, ◌==◌, false, [], ◌∷◌, N
 ghost use Rattle.std.specs.List.{list_any};
 ghost use Rattle.std.specs.Str.{byte};
 ghost use Rattle.markdown_engine.specs.Operations.{HasCode, ahead, current_of};
-ghost use Rattle.markdown_engine_content.specs.ListFunctions.{rest_of};
-ghost use Rattle.markdown_engine_index.specs.RunIndex.{is_asked};
+ghost use Rattle.markdown_content.specs.ListFunctions.{rest_of};
+ghost use Rattle.markdown_notes.specs.RunIndex.{is_asked};
 ghost use Rattle.markdown_model.specs.CodeTests.{is_value, next_is};
 ghost use Rattle.markdown_model.specs.GfmAutolinkLiteral.{first_letters, www};
 ghost use Rattle.markdown_run_text.specs.PlacesPassed.{goes_on};
-ghost use Rattle.markdown_run_text.specs.TextContent.{StartReady, other_markers, sole_try, span_markers, text_passed};
-ghost use Rattle.markdown_run.specs.ElementsOfText.{EndsAt, GoesOn, IsReady, KnowsNothing, Learns, MayTry, PassesData, ReadsElement, Passes, forgotten, text_named};
+ghost use Rattle.markdown_run_text.specs.TextContent.{TextStartReady, other_markers, sole_try, span_markers, text_passed};
+ghost use Rattle.markdown_run.specs.ElementsOfText.{FinishesAt, PassesAny, IsReady, KnowsNothing, Learns, MayTry, PassesData, ReadsElement, PassesSome, forgotten, text_named};
 
 use crate::run::construct;
 use markdown_engine::tokenizer::Tokenizer;
-use markdown_engine_index::run_index::RunIndex;
-use markdown_engine_index::sequence_index::SequenceIndex;
+use markdown_event::resolve::ResolveName;
+use markdown_event::state::StateName;
 use markdown_leaf_gfm::gfm_autolink_literal;
 use markdown_leaf_html::html_text as html_states;
+use markdown_notes::run_index::RunIndex;
+use markdown_notes::sequence_index::SequenceIndex;
 use markdown_run_text::readers::{
     attention, autolink, character_escape, character_reference, html_text, label_end,
     label_start_image, label_start_link, partial_data, raw_text,
 };
 use markdown_run_text::text;
-use markdown_state::resolve::ResolveName;
-use markdown_state::state::StateName;
 use std::alloc::AllocError;
 
-// Tries the check of a task, where the content may begin with one.
+// Tries the check of a task, where the content may begin with one. Whether one is read is not answered: the elements behind it come either way.
+//
+//     > | [x] tea
+//         ^^^
 fn read_check(tokenizer: &mut Tokenizer) -> Result<(), AllocError>
     requires { MayTry tokenizer.old }
-    ensures ok { OnOk result (GoesOn tokenizer.old tokenizer.new) }
+    ensures ok { OnOk result (PassesAny tokenizer.old tokenizer.new) }
     ensures err { OnErr result (IsTrue tokenizer.new.failed) }
 {
     if tokenizer
@@ -48,7 +89,10 @@ fn read_check(tokenizer: &mut Tokenizer) -> Result<(), AllocError>
     Ok(())
 }
 
-// Whether this byte comes behind the code at hand.
+// Whether this byte comes behind the code at hand. Here it is `^`:
+//
+//     > | x[^a]
+//           ^
 fn comes_next(tokenizer: &Tokenizer, byte: u8) -> bool
     ensures { result ≡ next_is (is_value byte) (rest_of (ahead tokenizer.now)) }
 {
@@ -58,7 +102,10 @@ fn comes_next(tokenizer: &Tokenizer, byte: u8) -> bool
     }
 }
 
-// Tries an autolink, then a plain tag, and then other HTML, unless it is known that this does not end.
+// Tries an autolink, then a plain tag, and then other HTML, unless it is known that this does not end, and answers whether one is read.
+//
+//     > | <ftp:x> <b> <!-- c -->
+//         ^^^^^^^ ^^^ ^^^^^^^^^^
 fn read_angle(tokenizer: &mut Tokenizer) -> Result<bool, AllocError>
     requires ready { IsReady tokenizer.old }
     requires here { current_of tokenizer.old ≡ Some (byte "<") }
@@ -79,7 +126,11 @@ fn read_angle(tokenizer: &mut Tokenizer) -> Result<bool, AllocError>
     construct(StateName::HtmlTextStart, tokenizer)
 }
 
-// Tries an escape, and then a hard break.
+// Tries an escape, and then a hard break, and answers whether one is read.
+//
+//     > | 5 \* 3\
+//           ^^  ^
+//     > | x
 fn read_backslash(tokenizer: &mut Tokenizer) -> Result<bool, AllocError>
     requires ready { IsReady tokenizer.old }
     requires here { current_of tokenizer.old ≡ Some (byte "\\") }
@@ -93,7 +144,10 @@ fn read_backslash(tokenizer: &mut Tokenizer) -> Result<bool, AllocError>
     construct(StateName::HardBreakEscapeStart, tokenizer)
 }
 
-// Tries the start of a footnote call, where a `^` comes next, and then that of a link.
+// Tries the start of a footnote call, where a `^` comes next, and then that of a link, and answers whether one is read.
+//
+//     > | x[^a] y[b](c)
+//          ^^    ^
 fn read_bracket(tokenizer: &mut Tokenizer) -> Result<bool, AllocError>
     requires ready { IsReady tokenizer.old }
     requires here { current_of tokenizer.old ≡ Some (byte "[") }
@@ -110,7 +164,10 @@ fn read_bracket(tokenizer: &mut Tokenizer) -> Result<bool, AllocError>
     label_start_link::read(tokenizer)
 }
 
-// Tries the end of a label: at once where a plain resource stands behind it.
+// Tries the end of a label, at once where a plain resource or reference stands behind it and else by its states, and answers whether it makes a label.
+//
+//     > | [a](b "c")
+//           ^^^^^^^^
 fn read_end(tokenizer: &mut Tokenizer) -> Result<bool, AllocError>
     requires ready { IsReady tokenizer.old }
     requires here { current_of tokenizer.old ≡ Some (byte "]") }
@@ -124,8 +181,12 @@ fn read_end(tokenizer: &mut Tokenizer) -> Result<bool, AllocError>
     construct(StateName::LabelEndStart, tokenizer)
 }
 
-// Tries a span of the marker at hand, which is given: at once where its text is a single stretch of one line, and else by its states, unless it is
-// known that none closes. The codes up to the next run of the marker are passed once more where the reader does not read them.
+// Tries a span of the marker at hand, which is given, at once where its text is a single stretch of one line and else by its states, unless it is
+// known that none closes, and answers whether one is read. The codes up to the next run of the marker are passed once more where the reader does not
+// read them.
+//
+//     > | x ``y z``
+//           ^^^^^^^
 fn read_span(tokenizer: &mut Tokenizer, marker: u8) -> Result<bool, AllocError>
     requires ready { IsReady tokenizer.old }
     requires here { current_of tokenizer.old ≡ Some marker }
@@ -144,6 +205,9 @@ fn read_span(tokenizer: &mut Tokenizer, marker: u8) -> Result<bool, AllocError>
 }
 
 // Whether data goes on at the code at hand, so that nothing else begins there.
+//
+//     > | see x_y *z*
+//         ^^^^^ ^^ ^
 #[inline(always)]
 fn is_in_data(tokenizer: &Tokenizer) -> bool
     ensures { result ≡ goes_on tokenizer.now.parse_state.now.options.now.constructs.gfm_autolink_literal (ahead tokenizer.now) }
@@ -156,7 +220,11 @@ fn is_in_data(tokenizer: &Tokenizer) -> bool
     partial_data::goes_on(&tokenizer.cursor, literals)
 }
 
-// Tries a literal from `www.` on, where its word stands, unless it is known that no domain begins at its first letter, which is given.
+// Tries a literal from `www.` on, where its word stands, unless it is known that no domain begins at its first letter, which is given, and answers
+// whether one is read.
+//
+//     > | see www.x.y
+//             ^^^^^^^
 fn read_www(tokenizer: &mut Tokenizer, letter: u8) -> Result<bool, AllocError>
     requires ready { IsReady tokenizer.old }
     requires here { current_of tokenizer.old ≡ Some letter }
@@ -173,8 +241,11 @@ fn read_www(tokenizer: &mut Tokenizer, letter: u8) -> Result<bool, AllocError>
     construct(StateName::GfmAutolinkLiteralWwwStart, tokenizer)
 }
 
-// Tries by this state what alone may begin with the byte at hand, which is given, and with which nothing else begins; a literal where its word
-// stands.
+// Tries by this state what alone may begin with the byte at hand, which is given, and with which nothing else begins, and answers whether it is read;
+// a literal is tried where its word stands.
+//
+//     > | a &amp; http://x.y
+//           ^^^^^ ^^^^^^^^^^
 #[inline(never)]
 fn try_sole(tokenizer: &mut Tokenizer, byte: u8, start: StateName) -> Result<bool, AllocError>
     requires ready { IsReady tokenizer.old }
@@ -190,7 +261,10 @@ fn try_sole(tokenizer: &mut Tokenizer, byte: u8, start: StateName) -> Result<boo
     construct(start, tokenizer)
 }
 
-// Tries what alone may begin with the byte at hand, which is given, and with which nothing else begins.
+// Tries what alone may begin with the byte at hand, which is given, and with which nothing else begins, and answers whether it is read.
+//
+//     > | a &amp; http://x.y
+//           ^^^^^ ^^^^^^^^^^
 #[inline(always)]
 fn read_sole(tokenizer: &mut Tokenizer, byte: u8) -> Result<bool, AllocError>
     requires ready { IsReady tokenizer.old }
@@ -205,7 +279,10 @@ fn read_sole(tokenizer: &mut Tokenizer, byte: u8) -> Result<bool, AllocError>
     }
 }
 
-// Tries a character reference: at once where one plainly stands.
+// Tries a character reference, by its reader and then by its states, and answers whether one is read.
+//
+//     > | a &amp; b
+//           ^^^^^
 fn read_ampersand(tokenizer: &mut Tokenizer) -> Result<bool, AllocError>
     requires ready { IsReady tokenizer.old }
     requires here { current_of tokenizer.old ≡ Some (byte "&") }
@@ -220,6 +297,9 @@ fn read_ampersand(tokenizer: &mut Tokenizer) -> Result<bool, AllocError>
 }
 
 // Tries what may begin with the byte at hand, which is given, and answers whether it does.
+//
+//     > | a *b* [c](d)
+//           ^ ^ ^ ^^^^
 #[inline(always)]
 fn read_construct(tokenizer: &mut Tokenizer, byte: u8) -> Result<bool, AllocError>
     requires ready { IsReady tokenizer.old }
@@ -243,6 +323,9 @@ fn read_construct(tokenizer: &mut Tokenizer, byte: u8) -> Result<bool, AllocErro
 
 // Whether a construct that begins with the byte at hand, which is given, and has failed, may be ruled out the next time: a span, HTML that begins
 // with `<!` or `<?`, an end of a label before a `(`, and a literal from `www.` on.
+//
+//     > | a `b <!-- c
+//           ^  ^^
 fn may_be_ruled_out(tokenizer: &Tokenizer, byte: u8) -> bool {
     match byte {
         b'`' | b'$' => true,
@@ -254,7 +337,10 @@ fn may_be_ruled_out(tokenizer: &Tokenizer, byte: u8) -> bool {
 }
 
 // Makes known what rules constructs out in the content, where it is not yet, and what begins with this byte, which is at hand, has failed and may
-// be ruled out the next time. `is_indexed` says whether it is known.
+// be ruled out the next time. `is_indexed` says whether it is known. The place stays.
+//
+//     > | a `b <!-- c
+//           ^  ^^
 #[inline(always)]
 fn learn(tokenizer: &mut Tokenizer, byte: u8, is_indexed: &mut bool) -> Result<(), AllocError>
     requires { IsReady tokenizer.old }
@@ -280,6 +366,9 @@ fn forget(tokenizer: &mut Tokenizer)
 }
 
 // Reads data from the code at hand on, up to where another element may begin.
+//
+//     > | a *b* [c](d)
+//         ^^ ^ ^ ^
 #[inline(always)]
 fn read_data(tokenizer: &mut Tokenizer) -> Result<(), AllocError>
     requires ready { IsReady tokenizer.old }
@@ -296,6 +385,9 @@ fn read_data(tokenizer: &mut Tokenizer) -> Result<(), AllocError>
 }
 
 // Reads an element, or the data from the byte at hand on, which is given. `is_indexed` says whether what rules constructs out is known.
+//
+//     > | a *b* [c](d)
+//         ^^^^^^^^^^^^
 #[inline(always)]
 fn read_element(
     tokenizer: &mut Tokenizer,
@@ -304,7 +396,7 @@ fn read_element(
 ) -> Result<(), AllocError>
     requires ready { IsReady tokenizer.old }
     requires here { current_of tokenizer.old ≡ Some byte }
-    ensures ok { OnOk result (Passes tokenizer.old tokenizer.new) }
+    ensures ok { OnOk result (PassesSome tokenizer.old tokenizer.new) }
     ensures err { OnErr result (IsTrue tokenizer.new.failed) }
 {
     let held = read_construct(tokenizer, byte)?;
@@ -315,10 +407,13 @@ fn read_element(
     read_data(tokenizer)
 }
 
-// Reads all elements from the place on.
+// Reads all elements from the place on, up to the end of the content.
+//
+//     > | a *b* [c](d)
+//         ^^^^^^^^^^^^
 fn read_elements(tokenizer: &mut Tokenizer) -> Result<(), AllocError>
     requires { IsReady tokenizer.old }
-    ensures ok { OnOk result (GoesOn tokenizer.old tokenizer.new) }
+    ensures ok { OnOk result (PassesAny tokenizer.old tokenizer.new) }
     ensures end { OnOk result (current_of tokenizer.new ≡ None) }
     ensures err { OnErr result (IsTrue tokenizer.new.failed) }
 {
@@ -329,12 +424,16 @@ fn read_elements(tokenizer: &mut Tokenizer) -> Result<(), AllocError>
     Ok(())
 }
 
-// Reads the elements of a text, from its start to its end. Nothing is known of the content before.
+// Reads the elements of a text, from its start to its end, with the check of a task before them if there is one. Nothing is known of the content
+// before.
+//
+//     > | [x] a *b*
+//         ^^^^^^^^^
 pub(crate) fn read_text(tokenizer: &mut Tokenizer) -> Result<(), AllocError>
-    requires ready { StartReady tokenizer.old }
+    requires ready { TextStartReady tokenizer.old }
     requires alone { tokenizer.old.attempts ≡ [] }
     requires unknown { KnowsNothing tokenizer.old }
-    ensures ok { OnOk result (EndsAt (text_named tokenizer.old) (text_passed (forgotten tokenizer.new))) }
+    ensures ok { OnOk result (FinishesAt (text_named tokenizer.old) (text_passed (forgotten tokenizer.new))) }
     ensures err { OnErr result (IsTrue tokenizer.new.failed) }
 {
     text::index_names(tokenizer)?;
@@ -343,6 +442,9 @@ pub(crate) fn read_text(tokenizer: &mut Tokenizer) -> Result<(), AllocError>
 }
 
 // Ends a text whose elements are read: forgets what is known of the content, and registers the passes of a text.
+//
+//     > | a *b* [c](d)
+//                     ^
 pub(crate) fn end_text(tokenizer: &mut Tokenizer) -> Result<(), AllocError>
     ensures ok { OnOk result (tokenizer.new ≡ text_passed (forgotten tokenizer.old)) }
     ensures err { OnErr result (IsTrue tokenizer.new.failed) }

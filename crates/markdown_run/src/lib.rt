@@ -1,12 +1,9 @@
 //! Runs over a content, by the loop over its elements or by the states alone; and the layer: the states and passes of inline content by name, with
-//! the laws of all states. The program, over any reader and writer.
+//! the laws of all states.
 #![tactic(auto)]
 
 mod by_states;
 mod elements;
-pub mod gfm_autolink_literal;
-pub mod label_end;
-pub mod program;
 pub mod resolve;
 pub mod run;
 pub mod state;

@@ -2,12 +2,13 @@
 ghost use Rattle.std.specs.Prelude.{◌≡◌, false, IfOk, IsErr, OnErr, IsTrue, None};
 ghost use Rattle.markdown_run_text.specs.ContentPasses.{may_resolve_of, resolves_of};
 
-use crate::{attention, label_end, text};
+use crate::{attention, text};
 use markdown_engine::tokenizer::Tokenizer;
 use markdown_engine_events::subtokenize::Subresult;
-use markdown_partial::partial_data;
+use markdown_event::resolve::ResolveName;
+use markdown_label_pass::label_groups;
+use markdown_passes::partial_data;
 use markdown_run_text::string;
-use markdown_state::resolve::ResolveName;
 use std::alloc::AllocError;
 
 // Calls the pass of this name.
@@ -18,7 +19,7 @@ fn dispatch(name: ResolveName, tokenizer: &mut Tokenizer) -> Result<Option<Subre
     ensures err { OnErr result (IsTrue tokenizer.new.failed) }
 {
     match name {
-        ResolveName::Label => label_end::resolve(tokenizer),
+        ResolveName::Label => label_groups::resolve(tokenizer),
         ResolveName::Attention => attention::resolve(tokenizer),
         ResolveName::Data => partial_data::resolve(tokenizer),
         ResolveName::String => string::resolve(tokenizer),

@@ -6,20 +6,22 @@ ghost use Rattle.markdown_run.specs.Families.{family_of};
 ghost use Rattle.markdown_run.specs.declared.state.Family.TheVariants as Family;
 ghost use Rattle.markdown_run_text.specs.ContentPasses.{may_resolve_of, resolves_of};
 
-use crate::{attention, label_end, resolve, text};
+use crate::{attention, resolve, text};
+use markdown_content::bytes::ByteSet;
 use markdown_engine::layer::Layer;
 use markdown_engine::tokenizer::{TokenizeState, Tokenizer};
-use markdown_engine_content::bytes::ByteSet;
 use markdown_engine_events::subtokenize::Subresult;
-use markdown_label::{gfm_label_start_footnote, label_start_image, label_start_link};
+use markdown_event::resolve::ResolveName;
+use markdown_event::state::{State, StateName};
+use markdown_label::{gfm_label_start_footnote, label_end, label_start_image, label_start_link};
 use markdown_leaf::{autolink, character_escape, character_reference, hard_break_escape, raw_text};
 use markdown_leaf_gfm::{gfm_autolink_literal, gfm_task_list_item_check};
 use markdown_leaf_html::html_text;
-use markdown_partial::{partial_data, partial_space_or_tab, partial_space_or_tab_eol};
-use markdown_partial_link::{partial_destination, partial_label, partial_title};
+use markdown_partial::{
+    partial_data, partial_destination, partial_label, partial_space_or_tab,
+    partial_space_or_tab_eol, partial_title,
+};
 use markdown_run_text::string;
-use markdown_state::resolve::ResolveName;
-use markdown_state::state::{State, StateName};
 use std::alloc::AllocError;
 
 // The families of states.

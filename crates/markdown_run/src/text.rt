@@ -11,9 +11,8 @@ ghost use Rattle.markdown_run_text.specs.ContentPasses.{MayFinish, FinishesText}
 
 use markdown_engine::tokenizer::Tokenizer;
 use markdown_engine_events::subtokenize::Subresult;
-use markdown_leaf_email_pass::email;
-use markdown_leaf_email_pass::settled::is_settled;
-use markdown_partial::partial_whitespace;
+use markdown_passes::settled::is_settled;
+use markdown_passes::{email, partial_whitespace};
 pub use markdown_run_text::text::{
     before, before_data, before_hard_break_escape, before_html, before_label_start_link, start,
 };

@@ -2,18 +2,18 @@
 use Rattle.std.proofs.Common.{◌≡◌, ℕ, ◌+◌, ◌==◌, Bool, true, false, List, [], ◌∷◌, ◌++◌, Option, None, Some, refl, sym, ap, ◌∙◌, append-nil, length, arith}
 use Rattle.std.specs.Option.{is_some}
 use Rattle.std.proofs.lemmas.Bool.{eqb-true, eq-eqb}
-use Rattle.markdown_engine_content.specs.Codes.{Code}
-use Rattle.markdown_engine_content.specs.ListFunctions.{rest_of}
-use Rattle.markdown_engine_content.specs.Place.{Place, ahead_at, code_at, moved}
-use Rattle.markdown_engine_content.specs.Tree.{Forest, leaf, leaf_codes}
+use Rattle.markdown_content.specs.Codes.{Code}
+use Rattle.markdown_content.specs.ListFunctions.{rest_of}
+use Rattle.markdown_content.specs.Place.{Place, ahead_at, code_at, moved}
+use Rattle.markdown_content.specs.Tree.{Forest, leaf, leaf_codes}
 use Rattle.markdown_event.specs.declared.event.Name.TheVariants as N
-use Rattle.markdown_engine_content.proofs.PlaceRules.{IsAhead, ahead_none, ahead_some, left_moved}
-use Rattle.markdown_engine_index.specs.RunIndex.{leading}
+use Rattle.markdown_content.proofs.PlaceRules.{IsAhead, ahead_none, ahead_some, left_moved}
+use Rattle.markdown_notes.specs.RunIndex.{leading}
 use Rattle.markdown_engine.specs.Operations.{ahead, applied, current_of, entered, exited, registered}
 use Rattle.markdown_engine.specs.PastTree.{moved_by, passed, past}
-use Rattle.markdown_state.specs.declared.resolve.ResolveName.TheVariants as R
+use Rattle.markdown_event.specs.declared.resolve.ResolveName.TheVariants as R
 use Rattle.markdown_engine.specs.declared.tokenizer.Tokenizer.{Tokenizer}
-use Rattle.markdown_engine.proofs.OperationFields.{Begins, ahead-some}
+use Rattle.markdown_engine.proofs.OperationFields.{BeginsWithValue, ahead-some}
 use Rattle.markdown_engine.proofs.ReadingSequences.{scratched-same}
 use Rattle.markdown_engine.proofs.TreeEvents.{ahead-past, leaf-past}
 use Rattle.markdown_attention.specs.Attention.{switches_of}
@@ -96,7 +96,7 @@ pub run-reads : (T U V : Tokenizer) (m : ℕ) → current_of T ≡ Some m → be
     U ≡ past_markers m T → V ≡ registered R.Attention U →
     ReadsWith (Some R.Attention) (attention_here (options_here T)) None T.tokenize_state T V
 run-reads T U V m e on k l =
-    let b : Begins m (ahead T) = ahead-some T m e in
+    let b : BeginsWithValue m (ahead T) = ahead-some T m e in
     let cs : List Code = rest_of (ahead T) in
     let s : List Code × List Code = span (is_value m) cs in
     let ms : List Code = b.code ∷ s.0 in

@@ -3,13 +3,13 @@ use Rattle.std.proofs.Common.{◌≡◌, ℕ, ◌+◌, ◌<◌, ◌≤◌, ◌==
 use Rattle.std.specs.List.{list_any}
 use Rattle.std.proofs.lemmas.Bool.{eqb-false, eqb-true, eq-eqb, lt-ltb, ltb-true, ltb-false, ne_eqb, or_left, or_parts}
 use Rattle.std.proofs.lemmas.Option.{same_Some}
-use Rattle.markdown_engine_content.specs.Codes.{Code}
-use Rattle.markdown_engine_content.specs.Place.{Place, ahead_at, code_at, moved}
-use Rattle.markdown_engine_content.specs.Stretch.{past_stretch, stops, stretch}
+use Rattle.markdown_content.specs.Codes.{Code}
+use Rattle.markdown_content.specs.Place.{Place, ahead_at, code_at, moved}
+use Rattle.markdown_content.specs.Stretch.{past_stretch, stops, stretch}
 use Rattle.markdown_event.specs.declared.event.Name.{Name}
 use Rattle.markdown_event.specs.declared.event.Name.TheVariants as N
-use Rattle.markdown_engine_content.proofs.PlaceRules.{IsAhead, ahead_none, ahead_some, left_moved}
-use Rattle.markdown_engine_content.proofs.StretchLemmas.{stretch-goes, stretch-stops}
+use Rattle.markdown_content.proofs.PlaceRules.{IsAhead, ahead_none, ahead_some, left_moved}
+use Rattle.markdown_content.proofs.StretchLemmas.{stretch-goes, stretch-stops}
 use Rattle.markdown_engine.specs.Operations.{Consume}
 use Rattle.markdown_engine.specs.PastTree.{moved_by}
 use Rattle.markdown_engine.proofs.PlaceAfterCodes.{ahead-moved_by}
@@ -24,7 +24,7 @@ use Rattle.markdown_model.proofs.GrammarSteps.{and-left, and-right, if-false, if
 use Rattle.markdown_plan.specs.ByteTests.{alphanumeric_value, letter_value}
 use Rattle.markdown_plan.specs.LateNames.{Naming, preceded_by}
 use Rattle.markdown_plan.proofs.ByteTestLemmas.{no-control}
-use Rattle.markdown_run_text.specs.AutolinkPlaces.{IsNamed, Names, begins_scheme, domain_rest, is_some_local, is_some_scheme, label_after}
+use Rattle.markdown_run_text.specs.AutolinkPlaces.{IsNamedBetween, NamesFrom, begins_scheme, domain_rest, is_some_local, is_some_scheme, label_after}
 use Rattle.markdown_run_text.specs.PlacesPassed.{is_some_value}
 use Rattle.markdown_run_text.specs.declared.readers.autolink.Label.{Label}
 use Rattle.markdown_run_text.proofs.StretchParts.{walked-moved}
@@ -38,17 +38,17 @@ none-some x e = cc
 -- Namings at places.
 
 -- what b names from q on, a names from p on
-abbrev pub Leads : Naming → Place → Naming → Place → Type 0
-Leads b q a p = (o : Option Name) (r : Place) → Names b q o r → Names a p o r
+abbrev pub NamesLead : Naming → Place → Naming → Place → Type 0
+NamesLead b q a p = (o : Option Name) (r : Place) → NamesFrom b q o r → NamesFrom a p o r
 
 -- at the same place
-pub leads-same : (a b : Naming) (p : Place) → a (ahead_at p) ≡ b (ahead_at p) → Leads b p a p
+pub leads-same : (a b : Naming) (p : Place) → a (ahead_at p) ≡ b (ahead_at p) → NamesLead b p a p
 leads-same a b p e None r k = e ∙ k
 leads-same a b p e (Some name) r k = record { text = k.text; holds = e ∙ k.holds; left = k.left; closed = k.closed }
 
 -- past a code
 leads-next : (a b : Naming) (p : Place) (v : ℕ) (c : IsAhead p v) →
-    a (c.code ∷ ahead_at (moved p)) ≡ preceded_by (Consume ∷ []) (b (ahead_at (moved p))) → Leads b (moved p) a p
+    a (c.code ∷ ahead_at (moved p)) ≡ preceded_by (Consume ∷ []) (b (ahead_at (moved p))) → NamesLead b (moved p) a p
 leads-next a b p v c e None r k = ap a c.codes ∙ e ∙ ap (preceded_by (Consume ∷ [])) k
 leads-next a b p v c e (Some name) r k =
     record { text = c.code ∷ k.text; holds = ap a c.codes ∙ e ∙ ap (preceded_by (Consume ∷ [])) k.holds; left = k.left; closed = k.closed }
@@ -74,58 +74,58 @@ by-code P p none some = by_value (code_at p) refl
 
 -- Addresses before the `@`.
 
-abbrev pub address : Naming
-address = up_to_bracket N.AutolinkEmail local_rest
+abbrev pub address : Bool → Naming
+address all = up_to_bracket N.AutolinkEmail (local_rest all)
 
 abbrev pub domain : Naming
 domain = up_to_bracket N.AutolinkEmail domains
 
-pub local-goes : (p : Place) → is_some_local (code_at p) ≡ true → Leads address (moved p) address p
-local-goes p h = by_value (code_at p) refl h
+pub local-goes : (all : Bool) (p : Place) → is_some_local all (code_at p) ≡ true → NamesLead (address all) (moved p) (address all) p
+local-goes all p h = by_value (code_at p) refl h
   where
-    by_value : (o : Option ℕ) → code_at p ≡ o → is_some_local o ≡ true → Leads address (moved p) address p
+    by_value : (o : Option ℕ) → code_at p ≡ o → is_some_local all o ≡ true → NamesLead (address all) (moved p) (address all) p
     by_value None e k = cc
     by_value (Some v) e k =
         let a : IsAhead p v = ahead_some p v e in
-        leads-next address address p v a (bracket-next N.AutolinkEmail local_rest local_rest a.code (ahead_at (moved p)) (local-more a.code (ahead_at (moved p)) (ap local_value a.value ∙ k)))
+        leads-next (address all) (address all) p v a (bracket-next N.AutolinkEmail (local_rest all) (local_rest all) a.code (ahead_at (moved p)) (local-more all a.code (ahead_at (moved p)) (ap (local_value all) a.value ∙ k)))
 
-pub at-goes : (p : Place) → is_some_value 64 (code_at p) ≡ true → Leads domain (moved p) address p
-at-goes p h =
+pub at-goes : (all : Bool) (p : Place) → is_some_value 64 (code_at p) ≡ true → NamesLead domain (moved p) (address all) p
+at-goes all p h =
     let a : IsAhead p 64 = here p 64 h in
-    leads-next address domain p 64 a (bracket-next N.AutolinkEmail local_rest domains a.code (ahead_at (moved p)) (local-at a.code (ahead_at (moved p)) (eq-eqb a.code.value 64 a.value)))
+    leads-next (address all) domain p 64 a (bracket-next N.AutolinkEmail (local_rest all) domains a.code (ahead_at (moved p)) (local-at all a.code (ahead_at (moved p)) (eq-eqb a.code.value 64 a.value)))
 
-pub local-ends : (p : Place) → is_some_local (code_at p) ≡ false → is_some_value 64 (code_at p) ≡ false → address (ahead_at p) ≡ None
-local-ends p h k =
-    by-code (λ cs. address cs ≡ None) p (λ e. ap (ended N.AutolinkEmail) (local-other [] refl refl)) (λ v c cs e f.
-    ap (ended N.AutolinkEmail) (local-other (c ∷ cs) (ap local_value f ∙ sym (ap is_some_local e) ∙ h) (ap (λ n. n == 64) f ∙ sym (ap (is_some_value 64) e) ∙ k)))
+pub local-ends : (all : Bool) (p : Place) → is_some_local all (code_at p) ≡ false → is_some_value 64 (code_at p) ≡ false → address all (ahead_at p) ≡ None
+local-ends all p h k =
+    by-code (λ cs. address all cs ≡ None) p (λ e. ap (ended N.AutolinkEmail) (local-other all [] refl refl)) (λ v c cs e f.
+    ap (ended N.AutolinkEmail) (local-other all (c ∷ cs) (ap (local_value all) f ∙ sym (ap (is_some_local all) e) ∙ h) (ap (λ n. n == 64) f ∙ sym (ap (is_some_value 64) e) ∙ k)))
 
 -- Schemes.
 
 abbrev pub text_of_uri : Naming
 text_of_uri = up_to_bracket N.AutolinkProtocol (any_number is_uri_code)
 
-pub scheme-goes : (n : ℕ) (p : Place) → is_some_scheme (code_at p) ≡ true →
-    Leads (scheme_naming (n + 1)) (moved p) (scheme_naming n) p
-scheme-goes n p h = by_value (code_at p) refl h
+pub scheme-goes : (all : Bool) (n : ℕ) (p : Place) → is_some_scheme (code_at p) ≡ true →
+    NamesLead (scheme_naming all (n + 1)) (moved p) (scheme_naming all n) p
+scheme-goes all n p h = by_value (code_at p) refl h
   where
-    by_value : (o : Option ℕ) → code_at p ≡ o → is_some_scheme o ≡ true → Leads (scheme_naming (n + 1)) (moved p) (scheme_naming n) p
+    by_value : (o : Option ℕ) → code_at p ≡ o → is_some_scheme o ≡ true → NamesLead (scheme_naming all (n + 1)) (moved p) (scheme_naming all n) p
     by_value None e k = cc
     by_value (Some v) e k =
         let a : IsAhead p v = ahead_some p v e in
         let cs : List Code = ahead_at (moved p) in
         let test : is_scheme_code a.code ≡ true = ap scheme_value a.value ∙ k in
-        leads-next (scheme_naming n) (scheme_naming (n + 1)) p v a
+        leads-next (scheme_naming all n) (scheme_naming all (n + 1)) p v a
         (or-both (Consume ∷ []) _ _ _ _ (bracket-next N.AutolinkProtocol (scheme_rest n) (scheme_rest (n + 1)) a.code cs (scheme-more n a.code cs test))
-        (bracket-next N.AutolinkEmail local_rest local_rest a.code cs (local-more a.code cs (scheme-local a.code.value test))))
+        (bracket-next N.AutolinkEmail (local_rest all) (local_rest all) a.code cs (local-more all a.code cs (scheme-local all a.code.value test))))
 
-pub colon-goes : (n : ℕ) (p : Place) → 1 < n → n ≤ 32 → is_some_value 58 (code_at p) ≡ true →
-    Leads text_of_uri (moved p) (scheme_naming n) p
-colon-goes n p low high h =
+pub colon-goes : (all : Bool) (n : ℕ) (p : Place) → 1 < n → n ≤ 32 → is_some_value 58 (code_at p) ≡ true →
+    NamesLead text_of_uri (moved p) (scheme_naming all n) p
+colon-goes all n p low high h =
     let a : IsAhead p 58 = here p 58 h in
     let cs : List Code = ahead_at (moved p) in
-    leads-next (scheme_naming n) text_of_uri p 58 a
+    leads-next (scheme_naming all n) text_of_uri p 58 a
     (or-left _ _ _ (bracket-next N.AutolinkProtocol (scheme_rest n) (any_number is_uri_code) a.code cs (scheme-colon n a.code cs (eq-eqb a.code.value 58 a.value) (omega (arith, low)) high))
-    (ap (ended N.AutolinkEmail) (local-other (a.code ∷ cs) (ap local_value a.value) (ap (λ v. v == 64) a.value))))
+    (ap (ended N.AutolinkEmail) (local-other all (a.code ∷ cs) (ap (local_value all) a.value) (ap (λ v. v == 64) a.value))))
 
 -- what follows is no scheme: more codes of one, or a colon behind one code
 no-scheme : (n : ℕ) (p : Place) → 1 ≤ n → (n < 32 → is_some_scheme (code_at p) ≡ false) → (1 < n → is_some_value 58 (code_at p) ≡ false) →
@@ -154,52 +154,52 @@ no-scheme n p low h k =
             absurd (no-clash (sym g ∙ ap scheme_value f ∙ sym (ap is_some_scheme e) ∙ h (ltb-true n 32 j)))
         by_size false j = scheme-long n c cs g (ltb-false n 32 j)
 
-pub scheme-ends : (n : ℕ) (p : Place) → 1 ≤ n → (n < 32 → is_some_scheme (code_at p) ≡ false) → (1 < n → is_some_value 58 (code_at p) ≡ false) →
-    Leads address p (scheme_naming n) p
-scheme-ends n p low h k =
-    leads-same (scheme_naming n) address p (or-right _ _ _ (ap (ended N.AutolinkProtocol) (no-scheme n p low h k)) refl)
+pub scheme-ends : (all : Bool) (n : ℕ) (p : Place) → 1 ≤ n → (n < 32 → is_some_scheme (code_at p) ≡ false) → (1 < n → is_some_value 58 (code_at p) ≡ false) →
+    NamesLead (address all) p (scheme_naming all n) p
+scheme-ends all n p low h k =
+    leads-same (scheme_naming all n) (address all) p (or-right _ _ _ (ap (ended N.AutolinkProtocol) (no-scheme n p low h k)) refl)
 
 -- Behind the bracket.
 
-letter-local : (c : Code) → is_letter c ≡ true → is_local_code c ≡ true
-letter-local c h = or_left (is_alphanumeric c) _ (or_left (is_letter c) _ h)
+letter-local : (all : Bool) (c : Code) → is_letter c ≡ true → is_local_code all c ≡ true
+letter-local all c h = or_left _ _ (or_left (is_alphanumeric c) _ (or_left (is_letter c) _ h))
 
-pub letter-goes : (p : Place) → begins_scheme (code_at p) ≡ true → Leads (scheme_naming 1) (moved p) open_naming p
-letter-goes p h = by_value (code_at p) refl h
+pub letter-goes : (all : Bool) (p : Place) → begins_scheme (code_at p) ≡ true → NamesLead (scheme_naming all 1) (moved p) (open_naming all) p
+letter-goes all p h = by_value (code_at p) refl h
   where
-    by_value : (o : Option ℕ) → code_at p ≡ o → begins_scheme o ≡ true → Leads (scheme_naming 1) (moved p) open_naming p
+    by_value : (o : Option ℕ) → code_at p ≡ o → begins_scheme o ≡ true → NamesLead (scheme_naming all 1) (moved p) (open_naming all) p
     by_value None e k = cc
     by_value (Some v) e k =
         let a : IsAhead p v = ahead_some p v e in
         let cs : List Code = ahead_at (moved p) in
         let letter : is_letter a.code ≡ true = ap letter_value a.value ∙ k in
-        leads-next open_naming (scheme_naming 1) p v a
+        leads-next (open_naming all) (scheme_naming all 1) p v a
         (or-both (Consume ∷ []) _ _ _ _ (bracket-next N.AutolinkProtocol uri (scheme_rest 1) a.code cs (uri-first a.code cs letter))
-        (bracket-next N.AutolinkEmail email_address local_rest a.code cs (email-first a.code cs (letter-local a.code letter))))
+        (bracket-next N.AutolinkEmail (email_address all) (local_rest all) a.code cs (email-first all a.code cs (letter-local all a.code letter))))
 
 -- an address begins with a code that may stand before its `@`, so before another that is no `@` it is the rest of one
-email-here : (cs : List Code) → next_is (is_value 64) cs ≡ false → email_address cs ≡ local_rest cs
-email-here [] h = email-none [] refl ∙ sym (local-other [] refl refl)
-email-here (c ∷ cs) h = by_test (is_local_code c) refl
+email-here : (all : Bool) (cs : List Code) → next_is (is_value 64) cs ≡ false → email_address all cs ≡ local_rest all cs
+email-here all [] h = email-none all [] refl ∙ sym (local-other all [] refl refl)
+email-here all (c ∷ cs) h = by_test (is_local_code all c) refl
   where
-    by_test : (b : Bool) → is_local_code c ≡ b → email_address (c ∷ cs) ≡ local_rest (c ∷ cs)
-    by_test true i = email-first c cs i ∙ sym (local-more c cs i)
-    by_test false i = email-none (c ∷ cs) i ∙ sym (local-other (c ∷ cs) i h)
+    by_test : (b : Bool) → is_local_code all c ≡ b → email_address all (c ∷ cs) ≡ local_rest all (c ∷ cs)
+    by_test true i = email-first all c cs i ∙ sym (local-more all c cs i)
+    by_test false i = email-none all (c ∷ cs) i ∙ sym (local-other all (c ∷ cs) i h)
 
-pub other-opens : (p : Place) → begins_scheme (code_at p) ≡ false → is_some_value 64 (code_at p) ≡ false → Leads address p open_naming p
-other-opens p h k =
-    leads-same open_naming address p (by-code (λ cs. open_naming cs ≡ address cs) p (λ e. open-by [] refl refl) (λ v c cs e f.
+pub other-opens : (all : Bool) (p : Place) → begins_scheme (code_at p) ≡ false → is_some_value 64 (code_at p) ≡ false → NamesLead (address all) p (open_naming all) p
+other-opens all p h k =
+    leads-same (open_naming all) (address all) p (by-code (λ cs. open_naming all cs ≡ address all cs) p (λ e. open-by [] refl refl) (λ v c cs e f.
     open-by (c ∷ cs) (ap letter_value f ∙ sym (ap begins_scheme e) ∙ h) (ap (λ n. n == 64) f ∙ sym (ap (is_some_value 64) e) ∙ k)))
   where
-    open-by : (cs : List Code) → next_is is_letter cs ≡ false → next_is (is_value 64) cs ≡ false → open_naming cs ≡ address cs
-    open-by cs i j = or-right _ _ _ (ap (ended N.AutolinkProtocol) (uri-none cs i)) (ap (ended N.AutolinkEmail) (email-here cs j))
+    open-by : (cs : List Code) → next_is is_letter cs ≡ false → next_is (is_value 64) cs ≡ false → open_naming all cs ≡ address all cs
+    open-by cs i j = or-right _ _ _ (ap (ended N.AutolinkProtocol) (uri-none cs i)) (ap (ended N.AutolinkEmail) (email-here all cs j))
 
-pub at-opens : (p : Place) → is_some_value 64 (code_at p) ≡ true → open_naming (ahead_at p) ≡ None
-at-opens p h =
+pub at-opens : (all : Bool) (p : Place) → is_some_value 64 (code_at p) ≡ true → open_naming all (ahead_at p) ≡ None
+at-opens all p h =
     let a : IsAhead p 64 = here p 64 h in
     let cs : List Code = a.code ∷ ahead_at (moved p) in
-    ap open_naming a.codes
-    ∙ or-right _ _ _ (ap (ended N.AutolinkProtocol) (uri-none cs (ap letter_value a.value))) (ap (ended N.AutolinkEmail) (email-none cs (ap local_value a.value)))
+    ap (open_naming all) a.codes
+    ∙ or-right _ _ _ (ap (ended N.AutolinkProtocol) (uri-none cs (ap letter_value a.value))) (ap (ended N.AutolinkEmail) (email-none all cs (ap (local_value all) a.value)))
 
 -- URIs behind the colon.
 
@@ -263,7 +263,7 @@ module _ (p : Place) where
       let s : Split (ahead_at p) = split (ahead_at p) in
       s.holds ∙ ap (λ xs. Some (text, xs)) (sym (ap ahead_at passed ∙ ahead-moved_by text s.rest p s.whole))
 
-  pub uri-closes : is_some_value 62 (code_at q) ≡ true → IsNamed text_of_uri p N.AutolinkProtocol q
+  pub uri-closes : is_some_value 62 (code_at q) ≡ true → IsNamedBetween text_of_uri p N.AutolinkProtocol q
   uri-closes h =
       let a : IsAhead q 62 = here q 62 h in
       record {
@@ -286,7 +286,7 @@ abbrev pub domain_naming : Label → Naming
 domain_naming l = up_to_bracket N.AutolinkEmail (domain_rest l)
 
 -- what is kept of a label
-pub record IsLabel (l : Label) : Type 0 where
+pub record IsDomainLabel (l : Label) : Type 0 where
   pub most : l.size ≤ 63
   pub some : l.may_end ≡ true → 0 < l.size
 
@@ -299,15 +299,15 @@ rest-new l cs h = if-true (l.size == 0) _ _ h
 rest-in : (l : Label) (cs : List Code) → 0 < l.size → domain_rest l cs ≡ label_rest l.size l.may_end cs
 rest-in l cs h = if-false (l.size == 0) _ _ (not-zero l.size h)
 
-pub record Goes (l m : Label) (c : Code) (cs : List Code) : Type 0 where
+pub record NamesPastCode (l m : Label) (c : Code) (cs : List Code) : Type 0 where
   pub same : domain_naming l (c ∷ cs) ≡ preceded_by (Consume ∷ []) (domain_naming m cs)
-  pub kept : IsLabel m
+  pub kept : IsDomainLabel m
 
 above : (n : ℕ) → 0 < n + 1
 above n = omega arith
 
 goes-in : (l m : Label) (c : Code) (cs : List Code) → 0 < l.size → l.size < 63 → is_label_code c ≡ true → m.size ≡ l.size + 1 → m.may_end ≡ is_alphanumeric c →
-    Goes l m c cs
+    NamesPastCode l m c cs
 goes-in l m c cs low high h e f =
     let some : 0 < m.size = subst (λ n. 0 < n) (sym e) (above l.size) in
     record {
@@ -321,7 +321,7 @@ goes-in l m c cs low high h e f =
     }
 
 goes-first : (l m : Label) (c : Code) (cs : List Code) → (l.size == 0) ≡ true → is_alphanumeric c ≡ true → m.size ≡ l.size + 1 → m.may_end ≡ true →
-    Goes l m c cs
+    NamesPastCode l m c cs
 goes-first l m c cs z h e f =
     let zero : l.size ≡ 0 = eqb-true l.size 0 z in
     let one : m.size ≡ 1 = omega (arith, e, zero) in
@@ -336,8 +336,8 @@ goes-first l m c cs z h e f =
       kept = record { most = omega (arith, one); some = λ i. some };
     }
 
-goes-dot : (l m : Label) (c : Code) (cs : List Code) → IsLabel l → l.may_end ≡ true → (c.value == 46) ≡ true → m.size ≡ 0 → m.may_end ≡ false →
-    Goes l m c cs
+goes-dot : (l m : Label) (c : Code) (cs : List Code) → IsDomainLabel l → l.may_end ≡ true → (c.value == 46) ≡ true → m.size ≡ 0 → m.may_end ≡ false →
+    NamesPastCode l m c cs
 goes-dot l m c cs k h d e f =
     record {
       same = ap (ended N.AutolinkEmail) (rest-in l (c ∷ cs) (k.some h) ∙ ap (λ b. label_rest l.size b (c ∷ cs)) h ∙ label-ended l.size (c ∷ cs) (ap (λ v. alphanumeric_value v || v == 45) (eqb-true c.value 46 d)) k.most)
@@ -359,17 +359,17 @@ is_dot l v = l.may_end && (v == 46)
 some-more : (n : ℕ) → (n == 0) ≡ false → 0 < n
 some-more n h = let other : n ≡ 0 → ⊥ = eqb-false n 0 h in omega (arith, other)
 
-pub label-goes : (l m : Label) (c : Code) (cs : List Code) → IsLabel l → label_after l c.value ≡ Some m → Goes l m c cs
+pub label-goes : (l m : Label) (c : Code) (cs : List Code) → IsDomainLabel l → label_after l c.value ≡ Some m → NamesPastCode l m c cs
 label-goes l m c cs k h = by_more (is_more l c.value) refl
   where
-    by_dot : (b : Bool) → is_more l c.value ≡ false → is_hyphen l c.value ≡ false → is_dot l c.value ≡ b → Goes l m c cs
+    by_dot : (b : Bool) → is_more l c.value ≡ false → is_hyphen l c.value ≡ false → is_dot l c.value ≡ b → NamesPastCode l m c cs
     by_dot false e f g =
         absurd (none-some m (sym (if-false (is_more l c.value) _ _ e ∙ if-false (is_hyphen l c.value) _ _ f ∙ if-false (is_dot l c.value) _ _ g) ∙ h))
     by_dot true e f g =
         let same : record { size = 0; may_end = false } ≡ m = same_Some _ m (sym (if-false (is_more l c.value) _ _ e ∙ if-false (is_hyphen l c.value) _ _ f ∙ if-true (is_dot l c.value) _ _ g) ∙ h) in
         goes-dot l m c cs k (and-left l.may_end _ g) (and-right l.may_end _ g) (ap (λ (x : Label). x.size) (sym same)) (ap (λ (x : Label). x.may_end) (sym same))
 
-    by_hyphen : (b : Bool) → is_more l c.value ≡ false → is_hyphen l c.value ≡ b → Goes l m c cs
+    by_hyphen : (b : Bool) → is_more l c.value ≡ false → is_hyphen l c.value ≡ b → NamesPastCode l m c cs
     by_hyphen false e f = by_dot (is_dot l c.value) e f refl
     by_hyphen true e f =
         let same : record { size = l.size + 1; may_end = false } ≡ m = same_Some _ m (sym (if-false (is_more l c.value) _ _ e ∙ if-true (is_hyphen l c.value) _ _ f) ∙ h) in
@@ -377,20 +377,20 @@ label-goes l m c cs k h = by_more (is_more l c.value) refl
         goes-in l m c cs (ltb-true 0 l.size (and-left (nat_lt 0 l.size) _ f)) (ltb-true l.size 63 (and-left (nat_lt l.size 63) _ (and-right (nat_lt 0 l.size) _ f)))
         (ap (λ n. alphanumeric_value n || n == 45) is) (ap (λ (x : Label). x.size) (sym same)) (ap (λ (x : Label). x.may_end) (sym same) ∙ sym (ap alphanumeric_value is))
 
-    by_first : (b : Bool) → is_more l c.value ≡ true → m.size ≡ l.size + 1 → m.may_end ≡ true → (l.size == 0) ≡ b → Goes l m c cs
+    by_first : (b : Bool) → is_more l c.value ≡ true → m.size ≡ l.size + 1 → m.may_end ≡ true → (l.size == 0) ≡ b → NamesPastCode l m c cs
     by_first true e s w z = goes-first l m c cs z (and-right (nat_lt l.size 63) _ e) s w
     by_first false e s w z =
         let letter : is_alphanumeric c ≡ true = and-right (nat_lt l.size 63) _ e in
         goes-in l m c cs (some-more l.size z) (ltb-true l.size 63 (and-left (nat_lt l.size 63) _ e)) (or_left (is_alphanumeric c) _ letter) s (w ∙ sym letter)
 
-    by_more : (b : Bool) → is_more l c.value ≡ b → Goes l m c cs
+    by_more : (b : Bool) → is_more l c.value ≡ b → NamesPastCode l m c cs
     by_more false e = by_hyphen (is_hyphen l c.value) e refl
     by_more true e =
         let same : record { size = l.size + 1; may_end = true } ≡ m = same_Some _ m (sym (if-true (is_more l c.value) _ _ e) ∙ h) in
         by_first (l.size == 0) e (ap (λ (x : Label). x.size) (sym same)) (ap (λ (x : Label). x.may_end) (sym same)) refl
 
 -- a label does not go on, and no dot or bracket ends it
-unlabelled : (l : Label) (cs : List Code) → IsLabel l → 0 < l.size → next_is is_label_code cs ≡ false →
+unlabelled : (l : Label) (cs : List Code) → IsDomainLabel l → 0 < l.size → next_is is_label_code cs ≡ false →
     (l.may_end ≡ true → next_is (is_value 46) cs ≡ false) → (l.may_end ≡ true → next_is (is_value 62) cs ≡ false) → domain_naming l cs ≡ None
 unlabelled l cs k some h dot close = ap (ended N.AutolinkEmail) (rest-in l cs some) ∙ by_end l.may_end refl
   where
@@ -401,7 +401,7 @@ unlabelled l cs k some h dot close = ap (ended N.AutolinkEmail) (rest-in l cs so
         ∙ ap (ended N.AutolinkEmail) (label-ended l.size cs h k.most ∙ more-none cs (dot e))
         ∙ ended-other N.AutolinkEmail cs (close e)
 
-pub label-at-end : (l : Label) → IsLabel l → domain_naming l [] ≡ None
+pub label-at-end : (l : Label) → IsDomainLabel l → domain_naming l [] ≡ None
 label-at-end l k = by_first (l.size == 0) refl
   where
     by_first : (b : Bool) → (l.size == 0) ≡ b → domain_naming l [] ≡ None
@@ -414,7 +414,7 @@ right-false a b h e = ap (λ x. x && b) (sym e) ∙ h
 or-false : (a b : Bool) → a ≡ false → b ≡ false → (a || b) ≡ false
 or-false a b e f = ap (λ x. x || b) e ∙ f
 
-label-none : (l : Label) (c : Code) (cs : List Code) → IsLabel l → is_more l c.value ≡ false → is_hyphen l c.value ≡ false → is_dot l c.value ≡ false →
+label-none : (l : Label) (c : Code) (cs : List Code) → IsDomainLabel l → is_more l c.value ≡ false → is_hyphen l c.value ≡ false → is_dot l c.value ≡ false →
     l.may_end && (c.value == 62) ≡ false → domain_naming l (c ∷ cs) ≡ None
 label-none l c cs k more hyphen dot close = by_first (l.size == 0) refl
   where
@@ -436,7 +436,7 @@ label-none l c cs k more hyphen dot close = by_first (l.size == 0) refl
         ap (ended N.AutolinkEmail) (rest-new l (c ∷ cs) z ∙ domains-none (c ∷ cs) (right-false (nat_lt l.size 63) _ more few))
     by_first false z = by_label (is_label_code c) (some-more l.size z) refl
 
-pub label-stops : (l : Label) (c : Code) (cs : List Code) → IsLabel l → label_after l c.value ≡ None → l.may_end && (c.value == 62) ≡ false →
+pub label-stops : (l : Label) (c : Code) (cs : List Code) → IsDomainLabel l → label_after l c.value ≡ None → l.may_end && (c.value == 62) ≡ false →
     domain_naming l (c ∷ cs) ≡ None
 label-stops l c cs k h close = by_more (is_more l c.value) refl
   where
@@ -455,7 +455,7 @@ label-stops l c cs k h close = by_more (is_more l c.value) refl
     by_more true e =
         absurd (none-some _ (sym (sym (if-true (is_more l c.value) _ _ e) ∙ h)))
 
-pub label-closes : (l : Label) (p : Place) → IsLabel l → code_at p ≡ Some 62 → l.may_end ≡ true → IsNamed (domain_naming l) p N.AutolinkEmail p
+pub label-closes : (l : Label) (p : Place) → IsDomainLabel l → code_at p ≡ Some 62 → l.may_end ≡ true → IsNamedBetween (domain_naming l) p N.AutolinkEmail p
 label-closes l p k e h =
     let a : IsAhead p 62 = ahead_some p 62 e in
     let cs : List Code = ahead_at (moved p) in
@@ -473,26 +473,26 @@ label-closes l p k e h =
 
 -- At places.
 
-pub domain-goes : (l m : Label) (p : Place) (v : ℕ) → IsLabel l → code_at p ≡ Some v → label_after l v ≡ Some m → Leads (domain_naming m) (moved p) (domain_naming l) p × IsLabel m
+pub domain-goes : (l m : Label) (p : Place) (v : ℕ) → IsDomainLabel l → code_at p ≡ Some v → label_after l v ≡ Some m → NamesLead (domain_naming m) (moved p) (domain_naming l) p × IsDomainLabel m
 domain-goes l m p v k e h =
     let a : IsAhead p v = ahead_some p v e in
-    let g : Goes l m a.code (ahead_at (moved p)) = label-goes l m a.code (ahead_at (moved p)) k (ap (label_after l) a.value ∙ h) in
+    let g : NamesPastCode l m a.code (ahead_at (moved p)) = label-goes l m a.code (ahead_at (moved p)) k (ap (label_after l) a.value ∙ h) in
     (leads-next (domain_naming l) (domain_naming m) p v a g.same, g.kept)
 
-pub domain-stops : (l : Label) (p : Place) (v : ℕ) → IsLabel l → code_at p ≡ Some v → label_after l v ≡ None → l.may_end && (v == 62) ≡ false →
+pub domain-stops : (l : Label) (p : Place) (v : ℕ) → IsDomainLabel l → code_at p ≡ Some v → label_after l v ≡ None → l.may_end && (v == 62) ≡ false →
     domain_naming l (ahead_at p) ≡ None
 domain-stops l p v k e h close =
     let a : IsAhead p v = ahead_some p v e in
     ap (domain_naming l) a.codes
     ∙ label-stops l a.code (ahead_at (moved p)) k (ap (label_after l) a.value ∙ h) (ap (λ n. l.may_end && (n == 62)) a.value ∙ close)
 
-pub domain-at-end : (l : Label) (p : Place) → IsLabel l → code_at p ≡ None → domain_naming l (ahead_at p) ≡ None
+pub domain-at-end : (l : Label) (p : Place) → IsDomainLabel l → code_at p ≡ None → domain_naming l (ahead_at p) ≡ None
 domain-at-end l p k e = ap (domain_naming l) (ahead_none p e) ∙ label-at-end l k
 
 -- past a code fewer are left
-pub local-left : (p : Place) → is_some_local (code_at p) ≡ true → length (ahead_at (moved p)) + 1 ≡ length (ahead_at p)
-local-left p h = by_value (code_at p) refl h
+pub local-left : (all : Bool) (p : Place) → is_some_local all (code_at p) ≡ true → length (ahead_at (moved p)) + 1 ≡ length (ahead_at p)
+local-left all p h = by_value (code_at p) refl h
   where
-    by_value : (o : Option ℕ) → code_at p ≡ o → is_some_local o ≡ true → length (ahead_at (moved p)) + 1 ≡ length (ahead_at p)
+    by_value : (o : Option ℕ) → code_at p ≡ o → is_some_local all o ≡ true → length (ahead_at (moved p)) + 1 ≡ length (ahead_at p)
     by_value None e k = cc
     by_value (Some v) e k = left_moved p v e

@@ -3,11 +3,11 @@ use Rattle.std.proofs.Common.{◌≡◌, ℕ, zero, suc, ◌+◌, ◌-◌, ◌==
 use Rattle.std.specs.Prelude.{IfSome}
 use Rattle.std.specs.List.{list_all, list_any}
 use Rattle.std.proofs.lemmas.Bool.{eqb-true, or_parts}
-use Rattle.markdown_engine_content.specs.Codes.{Code}
-use Rattle.markdown_engine_content.specs.Place.{Place, ahead_at, code_at, moved}
-use Rattle.markdown_engine_content.specs.PlaceInDocument.{IsPlaceOf}
-use Rattle.markdown_engine_content.specs.Stretch.{past_stretch, stops, stretch}
-use Rattle.markdown_engine_content.proofs.StretchLemmas.{stretch-goes, stretch-stops}
+use Rattle.markdown_content.specs.Codes.{Code}
+use Rattle.markdown_content.specs.Place.{Place, ahead_at, code_at, moved}
+use Rattle.markdown_content.specs.PlaceInDocument.{IsPlaceOf}
+use Rattle.markdown_content.specs.Stretch.{past_stretch, stops, stretch}
+use Rattle.markdown_content.proofs.StretchLemmas.{stretch-goes, stretch-stops}
 use Rattle.markdown_engine.specs.PastTree.{moved_by}
 use Rattle.std.proofs.lemmas.Slice.Eq.{bytes_eq-Decides}
 use Rattle.std.specs.Str.{bytes_eq}
@@ -20,7 +20,7 @@ use Rattle.markdown_model.specs.CodeTests.{values_of}
 use Rattle.markdown_plan.proofs.ByteTestLemmas.{no-control}
 use Rattle.markdown_run_text.specs.PlacesPassed.{is_some_value}
 use Rattle.markdown_run_text.proofs.StretchParts.{text-parts, text-passed}
-use Rattle.markdown_run_text.specs.ReferencePassed.{AreInk, Stands, codes_before, frequent_names, inner_codes, is_frequent, kind_of, past_inner, reference_stops}
+use Rattle.markdown_run_text.specs.ReferencePassed.{AreInk, ReferenceStands, codes_before, frequent_names, inner_codes, is_frequent, kind_of, past_inner, reference_stops}
 
 -- What a stretch passes.
 
@@ -128,7 +128,7 @@ pub code-here : (n : ℕ) (o : Option ℕ) → is_some_value n o ≡ true → is
 code-here n o h = ap is_some (value-here n o h)
 
 pub stands-by : (o : Option ℕ) (p q r : Place) (n : ℕ) → is_some_value 38 (code_at p) ≡ true → r ≡ moved p → q ≡ past_inner r → n ≡ q.at - r.at → is_some_value 59 (code_at q) ≡ true →
-    o ≡ kind_of (codes_before n q) → IfSome o (λ m. Stands m p q)
+    o ≡ kind_of (codes_before n q) → IfSome o (λ m. ReferenceStands m p q)
 stands-by None p q r n front move past size back e = tt
 stands-by (Some m) p q r n front move past size back e =
     record {

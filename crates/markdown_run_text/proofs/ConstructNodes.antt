@@ -2,9 +2,9 @@
 use Rattle.std.proofs.Common.{◌≡◌, ◌≢◌, ℕ, ◌+◌, ◌≤◌, ◌==◌, ◌++◌, ◌∙◌, arith, Bool, true, false, List, [], ◌∷◌, length, Option, None, Some, refl, sym, ap, subst}
 use Rattle.std.specs.List.{list_any}
 use Rattle.std.proofs.lemmas.Bool.{eqb-true, or_from}
-use Rattle.markdown_engine_content.specs.Codes.{Code, is_line_ending}
+use Rattle.markdown_content.specs.Codes.{Code, is_line_ending}
 use Rattle.markdown_engine.specs.PastTree.{last_link}
-use Rattle.markdown_engine_content.specs.Tree.{Forest, empty, leaf_then, group_then, leaf}
+use Rattle.markdown_content.specs.Tree.{Forest, empty, leaf_then, group_then, leaf}
 use Rattle.markdown_event.specs.declared.event.Content.{Content}
 use Rattle.markdown_event.specs.declared.event.Name.{Name}
 use Rattle.markdown_event.specs.declared.event.Name.TheVariants as N
@@ -15,17 +15,17 @@ use Rattle.markdown_model.specs.LabelEnd.{Element, plain, starts, ends}
 use Rattle.markdown_model.specs.Grammar.{Reading, some, span}
 use Rattle.markdown_model.proofs.LeafRows.{Leaves}
 use Rattle.markdown_model.proofs.ReadsACode.{Left}
-use Rattle.markdown_model.proofs.NoLinkInConstructs.{Passes, Yields, yields_bind, yields_gives, yields_passed}
+use Rattle.markdown_model.proofs.NoLinkInConstructs.{PassesValue, Yields, yields_bind, yields_gives, yields_passed}
 use Rattle.markdown_model.proofs.PlainConstructs.{is_own, is_leaf_name, is_group_name, leaf-own, group-own, IsOwnLeaf, IsPlainTree, ReadsPlain, plain-takes}
-use Rattle.markdown_partial.specs.MergedEvents.{is_data}
-use Rattle.markdown_partial.specs.TrimmedEvents.{is_ending}
+use Rattle.markdown_passes.specs.MergedEvents.{is_data}
+use Rattle.markdown_passes.specs.TrimmedEvents.{is_ending}
 use Rattle.markdown_attention.specs.RunsRead.{is_run}
-use Rattle.markdown_run_leaves.specs.OneLineLeaves.{makes_data}
-use Rattle.markdown_run_text.specs.RowTreeNames.{IsNode, IsRunLeaf, IsQuiet, IsSingle, HasLines}
+use Rattle.markdown_innermost.specs.OneLineLeaves.{makes_data}
+use Rattle.markdown_run_text.specs.RowTreeNames.{IsNode, IsRunLeaf, HasNoDataOrRuns, IsSingle, HasRowLines}
 
 -- Quiet trees.
 
-pub quiet-lines-of : (t : Forest) → IsQuiet t → HasLines t
+pub quiet-lines-of : (t : Forest) → HasNoDataOrRuns t → HasRowLines t
 quiet-lines-of empty h = tt
 quiet-lines-of (leaf_then name link cs rest) h = (λ e l. absurd (other name e h.0 h.1.0), quiet-lines-of rest h.1.1)
   where
@@ -60,14 +60,14 @@ group-no-ending : (name : Name) → is_group_name name ≡ true → is_ending na
 group-no-ending N.LineEnding e = cc
 group-no-ending _ e = refl
 
-leaves-quiet : (bytes : List ℕ) (t : Forest) → Leaves (IsOwnLeaf bytes) t → IsQuiet t
+leaves-quiet : (bytes : List ℕ) (t : Forest) → Leaves (IsOwnLeaf bytes) t → HasNoDataOrRuns t
 leaves-quiet bytes empty h = tt
 leaves-quiet bytes (leaf_then name link cs rest) h =
     let q = own-quiet name (leaf-own name h.0.named) in (q.0, (q.1, leaves-quiet bytes rest h.1))
 leaves-quiet bytes (group_then name enter exit inside rest) h = absurd h
 
-quiet-none : (t : Forest) → t ≡ empty → IsQuiet t
-quiet-none t e = subst IsQuiet (sym e) tt
+quiet-none : (t : Forest) → t ≡ empty → HasNoDataOrRuns t
+quiet-none t e = subst HasNoDataOrRuns (sym e) tt
 
 pub plain-node : (bytes : List ℕ) (t : Forest) → IsPlainTree bytes t → IsNode t
 plain-node bytes empty h = absurd h
@@ -81,7 +81,7 @@ plain-node bytes (group_then name enter exit inside rest) h =
 pub node-of : (bytes : List ℕ) (a : Reading Forest) → ReadsPlain bytes a →
     (cs : List Code) (t : Forest) (rest : List Code) → a cs ≡ Some (t, rest) → IsNode t × (1 + length rest ≤ length cs)
 node-of bytes a h cs t rest e =
-    (plain-node bytes t (subst (λ o. Passes (IsPlainTree bytes) o) e (h.plain.at cs)), subst (λ o. Left 1 cs o) e ((plain-takes bytes a h).at cs))
+    (plain-node bytes t (subst (λ o. PassesValue (IsPlainTree bytes) o) e (h.plain.at cs)), subst (λ o. Left 1 cs o) e ((plain-takes bytes a h).at cs))
 
 -- Runs of markers.
 
@@ -108,7 +108,7 @@ unfolding some
 some_yields m e = record { at = λ cs. by_codes (span (is_value m) cs).0 (span (is_value m) cs).1 (span-lines m cs e) }
   where
     by_codes : (xs rest : List Code) → list_any is_line_ending xs ≡ false →
-        Passes AreMarkers (elim (is_empty xs) as (λ _. Option (List Code × List Code)) [ true ↦ None | false ↦ Some (xs, rest) ])
+        PassesValue AreMarkers (elim (is_empty xs) as (λ _. Option (List Code × List Code)) [ true ↦ None | false ↦ Some (xs, rest) ])
     by_codes [] rest h = tt
     by_codes (c ∷ xs) rest h = ((λ k. cc), h)
 
@@ -142,4 +142,4 @@ switched_yields on m e = yields_passed _ _ _ (attention_yields m e)
 
 pub run-node : (m : ℕ) (on : Bool) (cs : List Code) (t : Forest) (rest : List Code) → (m == 10) ≡ false →
     switched on (attention_run m) cs ≡ Some (plain t, rest) → IsRunLeaf t
-run-node m on cs t rest e h = subst (λ o. Passes IsRunElement o) h ((switched_yields on m e).at cs)
+run-node m on cs t rest e h = subst (λ o. PassesValue IsRunElement o) h ((switched_yields on m e).at cs)

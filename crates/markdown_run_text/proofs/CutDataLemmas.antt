@@ -1,13 +1,13 @@
 -- Cutting data into its codes goes through rows, and merging undoes it.
 use Rattle.std.proofs.Common.{◌≡◌, ◌≢◌, Bool, true, false, Option, Some, None, List, [], ◌∷◌, refl, sym, ap, ◌∙◌}
-use Rattle.markdown_partial.proofs.MergePassLaw.{data-name, merged-data, merged-linked, merged-other, merged-group}
-use Rattle.markdown_engine_content.specs.Codes.{Code}
-use Rattle.markdown_engine_content.specs.Tree.{Forest, empty, leaf_then, group_then, ◌⊕◌}
+use Rattle.markdown_passes.proofs.MergePassLaw.{data-name, merged-data, merged-linked, merged-other, merged-group}
+use Rattle.markdown_content.specs.Codes.{Code}
+use Rattle.markdown_content.specs.Tree.{Forest, empty, leaf_then, group_then, ◌⊕◌}
 use Rattle.markdown_event.specs.declared.event.Content.{Content}
 use Rattle.markdown_event.specs.declared.event.Name.{Name}
 use Rattle.markdown_event.specs.declared.event.Name.TheVariants as N
 use Rattle.markdown_model.specs.Passes.{merged, data_onto}
-use Rattle.markdown_partial.specs.MergedEvents.{is_data}
+use Rattle.markdown_passes.specs.MergedEvents.{is_data}
 use Rattle.markdown_run_text.specs.CutData.{each_code, cut_leaf, split, HasCodes}
 
 -- Rows.

@@ -3,18 +3,18 @@ use Rattle.std.proofs.Common.{◌≡◌, ℕ, ◌<◌, ◌==◌, ◌||◌, Bool,
 use Rattle.std.specs.Prelude.{codes, IfOk, IsSome, OnOk, Result, Ok, Err}
 use Rattle.std.specs.Option.{is_some}
 use Rattle.std.proofs.lemmas.Bool.{not-false, not-true}
-use Rattle.markdown_engine_content.specs.Codes.{Code, line_feed}
-use Rattle.markdown_engine_content.specs.ListFunctions.{rest_of}
-use Rattle.markdown_engine_content.specs.Place.{Place, ahead_at, moved}
-use Rattle.markdown_engine_content.specs.Tree.{Forest, empty, leaf, leaf_codes}
+use Rattle.markdown_content.specs.Codes.{Code, line_feed}
+use Rattle.markdown_content.specs.ListFunctions.{rest_of}
+use Rattle.markdown_content.specs.Place.{Place, ahead_at, moved}
+use Rattle.markdown_content.specs.Tree.{Forest, empty, leaf, leaf_codes}
 use Rattle.markdown_event.specs.declared.event.Name.{Name}
 use Rattle.markdown_event.specs.declared.event.Name.TheVariants as N
-use Rattle.markdown_engine_content.proofs.PlaceRules.{code_at_ahead, codes_moved}
+use Rattle.markdown_content.proofs.PlaceRules.{code_at_ahead, codes_moved}
 use Rattle.markdown_engine.specs.Operations.{HasCode, ahead, applied, current_of, done, exited}
 use Rattle.markdown_engine.specs.PastTree.{Reads, behind, moved_by, passed, past}
 use Rattle.markdown_engine.specs.declared.tokenizer.TokenizeState.{TokenizeState}
 use Rattle.markdown_engine.specs.declared.tokenizer.Tokenizer.{Tokenizer}
-use Rattle.markdown_engine.proofs.OperationFields.{Begins, ahead-some}
+use Rattle.markdown_engine.proofs.OperationFields.{BeginsWithValue, ahead-some}
 use Rattle.markdown_engine.proofs.OperationLemmas.{ahead-done}
 use Rattle.markdown_engine.proofs.ReadingSequences.{EndsAs-then, scratched-same}
 use Rattle.markdown_engine.proofs.TreeEvents.{ahead-past, done-leaf, leaf-past}
@@ -48,12 +48,12 @@ module _ (whole : List Code) (literals : Bool) where
   stops = reader_stops whole literals
 
   -- where more data is read from U on, data is read from T on
-  abbrev pub GoesOn : TokenizeState → Tokenizer → Tokenizer → Type 0
-  GoesOn s T U = (V : Tokenizer) → Reads (more_data stops) None s U V → Reads (data_up_to stops) None s T V
+  abbrev pub DataGoesOn : TokenizeState → Tokenizer → Tokenizer → Type 0
+  DataGoesOn s T U = (V : Tokenizer) → Reads (more_data stops) None s U V → Reads (data_up_to stops) None s T V
 
   -- U is T past a line ending or data of one line
   pub record Line (T U : Tokenizer) : Type 0 where
-    pub on : (s : TokenizeState) → GoesOn s T U
+    pub on : (s : TokenizeState) → DataGoesOn s T U
     pub scratch : U.tokenize_state ≡ T.tokenize_state
     pub codes : U.cursor.codes ≡ T.cursor.codes
     pub less : length (ahead U) < length (ahead T)
@@ -85,7 +85,7 @@ module _ (whole : List Code) (literals : Bool) where
 
   ending-line : (T U : Tokenizer) (v : ℕ) → current_of T ≡ Some v → (v == 10) ≡ true → U ≡ done ending T → Line T U
   ending-line T U v e h k =
-      let b : Begins v (ahead T) = ahead-some T v e in
+      let b : BeginsWithValue v (ahead T) = ahead-some T v e in
       let cs : List Code = rest_of (ahead T) in
       leaf-line N.LineEnding b.code [] cs T U (k ∙ done-leaf N.LineEnding None false b.code [] cs T b.whole) b.whole
       (ap (data_up_to stops) b.whole ∙ ending-then stops b.code cs (ap (λ x. x == 10) b.value ∙ h))
@@ -113,7 +113,7 @@ module _ (whole : List Code) (literals : Bool) where
   stretch-line : (T U : Tokenizer) (v : ℕ) → T.cursor.codes ≡ whole → current_of T ≡ Some v → (v == 10) ≡ false →
       U ≡ data_read literals T → Line T U
   stretch-line T U v same e h k =
-      let b : Begins v (ahead T) = ahead-some T v e in
+      let b : BeginsWithValue v (ahead T) = ahead-some T v e in
       let cs : List Code = rest_of (ahead T) in
       let w : List Code × List Code = up_to_break stops cs in
       let codes : ahead T ≡ (b.code ∷ w.0) ++ w.1 = b.whole ∙ ap (λ xs. b.code ∷ xs) (sym (until-append (ends_stretch stops) cs)) in

@@ -3,12 +3,12 @@ use Rattle.std.proofs.Common.{◌≡◌, ◌≢◌, ℕ, ◌+◌, ◌<◌, ◌�
 use Rattle.std.specs.Prelude.{map}
 use Rattle.markdown_run_text.proofs.RowScratch.{kinds-row, row-input}
 use Rattle.std.specs.List.{list_any}
-use Rattle.markdown_engine_content.specs.Codes.{Code, is_line_ending, document_start, stop_of}
-use Rattle.markdown_engine_content.specs.ListFunctions.{first_of, rest_of}
+use Rattle.markdown_content.specs.Codes.{Code, is_line_ending, document_start, stop_of}
+use Rattle.markdown_content.specs.ListFunctions.{first_of, rest_of}
 use Rattle.markdown_engine.specs.Operations.{ahead, current_of, registered}
-use Rattle.markdown_engine_content.specs.Place.{Place, value_of, last_of, moved, ahead_at}
+use Rattle.markdown_content.specs.Place.{Place, value_of, last_of, moved, ahead_at}
 use Rattle.markdown_engine.specs.PastTree.{TreeReading, Reads, past, last_link, moved_by, appended_from}
-use Rattle.markdown_engine_content.specs.Tree.{Forest, empty, leaf, leaf_then, group_then, ◌⊕◌, leaf_codes, event, start_of}
+use Rattle.markdown_content.specs.Tree.{Forest, empty, leaf, leaf_then, group_then, ◌⊕◌, leaf_codes, event, start_of}
 use Rattle.markdown_engine.specs.Weights.{codes_left}
 use Rattle.markdown_event.specs.declared.event.Event.{Event}
 use Rattle.markdown_event.specs.declared.event.Kind.TheVariants as Kind
@@ -16,13 +16,13 @@ use Rattle.markdown_event.specs.declared.event.Name.{Name}
 use Rattle.markdown_event.specs.declared.event.Name.TheVariants as N
 use Rattle.markdown_engine.specs.declared.tokenizer.Tokenizer.{Tokenizer}
 use Rattle.markdown_engine.proofs.ReadingSequences.{row-empty, scratched-same}
-use Rattle.markdown_engine_content.proofs.PlaceRules.{ahead-moved}
+use Rattle.markdown_content.proofs.PlaceRules.{ahead-moved}
 use Rattle.markdown_engine.proofs.OperationFields.{ahead-none, current-ahead, first-drop, left-ahead}
-use Rattle.markdown_state.specs.declared.resolve.ResolveName.TheVariants as R
+use Rattle.markdown_event.specs.declared.resolve.ResolveName.TheVariants as R
 use Rattle.markdown_leaf.specs.RawText.{code_just_before}
 use Rattle.markdown_model.specs.SingleConstructs.{ends_escape, follows_escape, is_escape}
 use Rattle.markdown_plan.proofs.FirstStretch.{BeginsWith, stretches-begin}
-use Rattle.markdown_plan.proofs.PassedByReadings.{both-parts}
+use Rattle.markdown_model.proofs.GrammarSteps.{both-parts}
 use Rattle.markdown_model.specs.CodeTests.{next_is, last_code}
 use Rattle.markdown_model.specs.Elements.{Choice, AreElementsFrom, code_before, ends_escaped}
 use Rattle.markdown_model.specs.Grammar.{until}
@@ -33,10 +33,10 @@ use Rattle.markdown_model.proofs.DefinitionSteps.{code_before-append}
 use Rattle.markdown_model.proofs.LeafCodes.{until-append}
 use Rattle.markdown_plan.specs.Characters.{bytes_of}
 use Rattle.markdown_run_text.specs.ElementsAsRead.{IsReadAs, AreReadAs}
-use Rattle.markdown_run_text.specs.RunOverElements.{AreSingle, AreReadAsData, StandsAfter, Elements, Advances, AllElements, Finishes}
+use Rattle.markdown_run_text.specs.RunOverElements.{AreSingle, AreReadAsData, StandsAfter, ReadsRow, Advances, AllElements, Finishes}
 use Rattle.markdown_run_text.specs.Row.{Row, row_end, row_then, loses, tree_onto, joined_rows, past_tree, past_row, row_codes, kinds_of, split_row, row_of_elements, element_onto, HasElementCodes, HaveCodes, IsRowAt}
-use Rattle.markdown_run_leaves.specs.OneLineLeaves.{makes_data}
-use Rattle.markdown_run_text.specs.RowTreeNames.{HasLines, HasOuterRuns, IsPart, IsRunless, IsRunLeaf, IsSingle, IsNode}
+use Rattle.markdown_innermost.specs.OneLineLeaves.{makes_data}
+use Rattle.markdown_run_text.specs.RowTreeNames.{HasRowLines, HasOuterRuns, IsRowPart, IsRunless, IsRunLeaf, IsSingle, IsNode}
 use Rattle.markdown_run_text.proofs.ConstructNodes.{quiet-lines-of, quiet-node-unlinked}
 use Rattle.markdown_run_text.proofs.RowJoins.{HasLines-row, past-joined, codes-joined, split-joined, onto-joined, row-joined}
 use Rattle.markdown_run_text.proofs.PastTrees.{past_tree-without, past_tree-empty, past_tree-with, ahead-registered, quiet-no-run, quiet-outer, runless-no-run, runless-outer}
@@ -44,7 +44,7 @@ use Rattle.markdown_run_text.specs.CutData.{split, HasCodes}
 use Rattle.markdown_label.specs.KeptStarts.{StandFor, KeepsStarts}
 use Rattle.markdown_label.proofs.KeptStartStack.{starts-plain}
 use Rattle.markdown_model.specs.Laws.{unused_starts}
-use Rattle.markdown_partial.specs.MergedEvents.{is_data}
+use Rattle.markdown_passes.specs.MergedEvents.{is_data}
 use Rattle.markdown_run_text.proofs.LinesCutAlike.{lines-cut}
 
 -- Rows.
@@ -78,7 +78,7 @@ read-append bytes (e ∷ es) [] gs hs h k = absurd h
 -- After an advance.
 
 elements-all : (choice : Choice) (earlier : List Element) (previous : Option Code) (r q : Row) (T U : Tokenizer) →
-    (k : Elements choice earlier previous r T U) → AllElements (bytes_of T) choice k.later k.last q (ahead U) →
+    (k : ReadsRow choice earlier previous r T U) → AllElements (bytes_of T) choice k.later k.last q (ahead U) →
     AllElements (bytes_of T) choice earlier previous (joined_rows r q) (ahead T)
 elements-all choice earlier previous r q T U k a =
     record {
@@ -293,42 +293,42 @@ data-unescaped es n c cs =
 
 -- Each stretch of data is a line ending, or holds none.
 
-abbrev AreLines : List (List Code) → Type 0
-AreLines [] = Unit {0}
-AreLines (s ∷ ss) = (next_is is_line_ending s ≡ false → list_any is_line_ending s ≡ false) × AreLines ss
+abbrev AreOnLines : List (List Code) → Type 0
+AreOnLines [] = Unit {0}
+AreOnLines (s ∷ ss) = (next_is is_line_ending s ≡ false → list_any is_line_ending s ≡ false) × AreOnLines ss
 
 any-one : (c : Code) → is_line_ending c ≡ false → list_any is_line_ending (c ∷ []) ≡ false
 any-one c e = ap (λ b. b || false) e
 
 lines-joined : (a b : Bool) (c d : Code) (ds : List Code) (more : List (List Code)) → is_line_ending c ≡ a →
-    is_line_ending d ≡ b → AreLines ((d ∷ ds) ∷ more) →
-    AreLines (elim (not (a || b) && ((true && true) || not (true || true))) [ true ↦ (c ∷ d ∷ ds) ∷ more | false ↦ (c ∷ []) ∷ (d ∷ ds) ∷ more ])
+    is_line_ending d ≡ b → AreOnLines ((d ∷ ds) ∷ more) →
+    AreOnLines (elim (not (a || b) && ((true && true) || not (true || true))) [ true ↦ (c ∷ d ∷ ds) ∷ more | false ↦ (c ∷ []) ∷ (d ∷ ds) ∷ more ])
 lines-joined true b c d ds more e f h = (any-one c, h)
 lines-joined false true c d ds more e f h = (any-one c, h)
 lines-joined false false c d ds more e f h = (λ k. ap (λ x. x || list_any is_line_ending (d ∷ ds)) e ∙ h.0 f, h.1)
 
-lines-onto : (c : Code) (ss : List (List Code)) → AreLines ss → AreLines (onto_stretch (λ x. true) c ss)
+lines-onto : (c : Code) (ss : List (List Code)) → AreOnLines ss → AreOnLines (onto_stretch (λ x. true) c ss)
 lines-onto c [] h = (any-one c, tt)
 lines-onto c ([] ∷ more) h = (any-one c, h.1)
 lines-onto c ((d ∷ ds) ∷ more) h = lines-joined (is_line_ending c) (is_line_ending d) c d ds more refl refl h
 
-are-lines : (cs : List Code) → AreLines (lines_of cs)
+are-lines : (cs : List Code) → AreOnLines (lines_of cs)
 are-lines [] = tt
 are-lines (c ∷ cs) = lines-onto c (lines_of cs) (are-lines cs)
 
 HasLines-leaf : (b : Bool) (c : Code) (cs : List Code) → (b ≡ false → list_any is_line_ending (c ∷ cs) ≡ false) →
-    HasLines (leaf_by b (c ∷ cs))
+    HasRowLines (leaf_by b (c ∷ cs))
 unfolding leaf_by
 HasLines-leaf true c cs h = (λ e l. cc, tt)
 HasLines-leaf false c cs h = (λ e l. (λ k. cc, h refl), tt)
 
-HasLines-stretches : (ss : List (List Code)) → AreLines ss → HasLines (line_leaves N.Data ss)
+HasLines-stretches : (ss : List (List Code)) → AreOnLines ss → HasRowLines (line_leaves N.Data ss)
 HasLines-stretches [] h = tt
 HasLines-stretches ([] ∷ ss) h = HasLines-stretches ss h.1
 HasLines-stretches ((c ∷ cs) ∷ ss) h =
-    HasLines-row (line_leaf N.Data None (c ∷ cs)) (line_leaves N.Data ss) (subst HasLines (sym (line-leaf (is_line_ending c) c cs refl)) (HasLines-leaf (is_line_ending c) c cs h.0)) (HasLines-stretches ss h.1)
+    HasLines-row (line_leaf N.Data None (c ∷ cs)) (line_leaves N.Data ss) (subst HasRowLines (sym (line-leaf (is_line_ending c) c cs refl)) (HasLines-leaf (is_line_ending c) c cs h.0)) (HasLines-stretches ss h.1)
 
-HasLines-lines : (cs : List Code) → HasLines (line_leaves N.Data (lines_of cs))
+HasLines-lines : (cs : List Code) → HasRowLines (line_leaves N.Data (lines_of cs))
 HasLines-lines cs = HasLines-stretches (lines_of cs) (are-lines cs)
 
 unlinked-leaf : (b : Bool) (n : ℕ) (c : Code) (cs : List Code) (rest : Forest) → is_line_ending c ≡ b →
@@ -439,7 +439,7 @@ kept-past bytes earlier es cs U h k =
 -- Data that is read where a run stands: the code at hand, and those up to where data stops.
 pub record DataRead (stops : List Code → Bool) (T U : Tokenizer) (c : Code) (cs : List Code) : Type 0 where
   pub tree : Forest
-  pub part : IsPart tree
+  pub part : IsRowPart tree
   pub left : U ≡ past_tree tree T
   pub whole : ahead T ≡ leaf_codes tree ++ ahead U
   pub cut : ahead T ≡ (c ∷ (until stops cs).0) ++ ahead U
@@ -459,7 +459,7 @@ data-read stops T U c cs whole k =
     let covers : ahead T ≡ leaf_codes k.tree ++ ahead U = k.whole ∙ ap (λ xs. leaf_codes k.tree ++ xs) (sym k.after) in
     record {
       tree = k.tree;
-      part = record { lines = subst HasLines d.0 (HasLines-lines (c ∷ s.0)); outer = runless-outer k.tree runless; apart = λ n. ap (λ x. last_link n None x) (sym d.0) ∙ unlinked-lines n lines };
+      part = record { lines = subst HasRowLines d.0 (HasLines-lines (c ∷ s.0)); outer = runless-outer k.tree runless; apart = λ n. ap (λ x. last_link n None x) (sym d.0) ∙ unlinked-lines n lines };
       left = k.left ∙ ap (past None k.tree) (scratched-same T) ∙ past_tree-without k.tree T (runless-no-run k.tree runless);
       whole = covers;
       cut = cut;
@@ -558,7 +558,7 @@ single-escaped es n (group_then name a b inside rest) earlier h =
 
 -- an element of a tree, a start or an end, behind which these codes are left
 pub one-element : (choice : Choice) (earlier : List Element) (previous : Option Code) (row : Row) (T U : Tokenizer) (e : Element) (ws : List Code) → 1 ≤ length ws → ahead T ≡ ws ++ ahead U → code_just_before U ≡ last_code ws → follows_escape U.events ≡ ends_escaped (e ∷ earlier) → KeepsStarts (e ∷ earlier) U → choice earlier previous (ahead T) ≡ Some (e, ahead U)
-    → HasElementCodes e → split_row row ≡ split_row (row_of_elements (e ∷ [])) → Elements choice earlier previous row T U
+    → HasElementCodes e → split_row row ≡ split_row (row_of_elements (e ∷ [])) → ReadsRow choice earlier previous row T U
 one-element choice earlier previous row T U e ws some covers before escaped keeps here has alike =
     record {
       elements = e ∷ [];
@@ -572,7 +572,7 @@ one-element choice earlier previous row T U e ws some covers before escaped keep
       alike = alike;
     }
 
-has-single : (t : Forest) → HasLines t → HasCodes t
+has-single : (t : Forest) → HasRowLines t → HasCodes t
 has-single empty h = tt
 has-single (leaf_then name link cs rest) h = (λ e l. (h.0 (data-makes name e) l).0, has-single rest h.1)
   where
@@ -582,7 +582,7 @@ has-single (leaf_then name link cs rest) h = (λ e l. (h.0 (data-makes name e) l
 has-single (group_then name enter exit inside rest) h = (has-single inside h.1.0, has-single rest h.1.1)
 
 -- past a tree that stands by itself
-single-advances : (choice : Choice) (T U : Tokenizer) (t : Forest) (rest : List Code) → IsSingle t → HasLines t → HasOuterRuns t → 1 ≤ length (leaf_codes t) → U ≡ past_tree t T → ahead T ≡ leaf_codes t ++ rest → ahead U ≡ rest
+single-advances : (choice : Choice) (T U : Tokenizer) (t : Forest) (rest : List Code) → IsSingle t → HasRowLines t → HasOuterRuns t → 1 ≤ length (leaf_codes t) → U ≡ past_tree t T → ahead T ≡ leaf_codes t ++ rest → ahead U ≡ rest
     → ((earlier : List Element) (previous : Option Code) → StandsAfter earlier previous T → choice earlier previous (ahead T) ≡ Some (plain t, rest)) → Advances choice T U
 single-advances choice T U t rest single lines outer some left covers after finds =
     let whole : ahead T ≡ leaf_codes t ++ ahead U = covers ∙ ap (λ xs. leaf_codes t ++ xs) (sym after) in

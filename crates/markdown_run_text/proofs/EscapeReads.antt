@@ -2,11 +2,11 @@
 use Rattle.std.proofs.Common.{◌≡◌, ◌&&◌, ◌||◌, ◌==◌, Bool, true, false, List, [], ◌∷◌, ◌++◌, None, Some, refl, sym, ap, ◌∙◌}
 use Rattle.std.specs.Prelude.{codes}
 use Rattle.std.proofs.Math.Bool.{and-false, or-false}
-use Rattle.markdown_engine_content.specs.Codes.{Code}
-use Rattle.markdown_engine_content.specs.Place.{Place, ahead_at, code_at, moved}
-use Rattle.markdown_engine_content.specs.Tree.{Forest, ◌⊕◌, leaf, leaf_codes}
+use Rattle.markdown_content.specs.Codes.{Code}
+use Rattle.markdown_content.specs.Place.{Place, ahead_at, code_at, moved}
+use Rattle.markdown_content.specs.Tree.{Forest, ◌⊕◌, leaf, leaf_codes}
 use Rattle.markdown_event.specs.declared.event.Name.TheVariants as N
-use Rattle.markdown_engine_content.proofs.PlaceRules.{ahead_moved, code_at_ahead, code_at_end}
+use Rattle.markdown_content.proofs.PlaceRules.{ahead_moved, code_at_ahead, code_at_end}
 use Rattle.markdown_engine.specs.Operations.{ahead, done}
 use Rattle.markdown_engine.specs.PastTree.{Reads, TreeReading, past}
 use Rattle.markdown_engine.specs.TreeOps.{IsSolid, ops_of}

@@ -2,15 +2,15 @@
 use Rattle.std.proofs.Common.{◌≡◌, ℕ, ◌&&◌, not, Bool, true, false, List, ◌++◌, Option, None, Some, refl, sym, ap, subst, ◌∙◌, arith}
 use Rattle.std.specs.Option.{is_some}
 use Rattle.std.proofs.lemmas.Bool.{not-true}
-use Rattle.markdown_engine_content.specs.ListFunctions.{rest_of}
-use Rattle.markdown_engine_content.specs.Place.{Place, ahead_at, code_at, moved}
-use Rattle.markdown_engine_content.specs.declared.label_kind.LabelKind.{LabelKind}
+use Rattle.markdown_content.specs.ListFunctions.{rest_of}
+use Rattle.markdown_content.specs.Place.{Place, ahead_at, code_at, moved}
+use Rattle.markdown_content.specs.declared.label_kind.LabelKind.{LabelKind}
 use Rattle.markdown_event.proofs.AndParts.{and-left, and-right}
-use Rattle.markdown_engine_content.proofs.PlaceRules.{IsAhead, ahead-moved, ahead_none, ahead_some}
+use Rattle.markdown_content.proofs.PlaceRules.{IsAhead, ahead-moved, ahead_none, ahead_some}
 use Rattle.markdown_engine.specs.Operations.{Op, ahead, applied, current_of, done}
 use Rattle.markdown_engine.specs.StateRuns.{Stepped, stepped}
-use Rattle.markdown_state.specs.declared.state.State.{State}
-use Rattle.markdown_state.specs.declared.state.State.TheVariants.{Nok, Ok}
+use Rattle.markdown_event.specs.declared.state.State.{State}
+use Rattle.markdown_event.specs.declared.state.State.TheVariants.{Nok, Ok}
 use Rattle.markdown_engine.specs.declared.tokenizer.Tokenizer.{Tokenizer}
 use Rattle.markdown_label.specs.LabelStarts.{ImageAfterReady, footnotes_on, image_after_step, image_back, image_front, image_test, images_on, is_caret, kept_start}
 use Rattle.markdown_label.proofs.LabelStartOps.{written}

@@ -7,10 +7,10 @@ use Rattle.std.specs.Option.{is_some}
 use Rattle.std.proofs.Math.Bool.{and-false}
 use Rattle.std.proofs.lemmas.Bool.{and_parts, eqb-true}
 use Rattle.std.proofs.lemmas.List.{length-drop}
-use Rattle.markdown_engine_content.specs.Codes.{Code, is_line_ending, line_feed}
-use Rattle.markdown_engine_content.specs.ListFunctions.{rest_of}
-use Rattle.markdown_engine_content.specs.Place.{Place, ahead_at, code_at, code_before, last_of, moved, value_of}
-use Rattle.markdown_engine_content.proofs.PlaceRules.{ahead-moved, ahead_moved, code_at_ahead, code_at_end, codes_moved, left_moved}
+use Rattle.markdown_content.specs.Codes.{Code, is_line_ending, line_feed}
+use Rattle.markdown_content.specs.ListFunctions.{rest_of}
+use Rattle.markdown_content.specs.Place.{Place, ahead_at, code_at, code_before, last_of, moved, value_of}
+use Rattle.markdown_content.proofs.PlaceRules.{ahead-moved, ahead_moved, code_at_ahead, code_at_end, codes_moved, left_moved}
 use Rattle.markdown_engine.specs.PastTree.{moved_by}
 use Rattle.markdown_label.proofs.NextCodeTests.{same-codes}
 use Rattle.markdown_model.specs.CodeTests.{first_code, is_among, is_alphanumeric, is_some_code, is_value, last_code, next_is}

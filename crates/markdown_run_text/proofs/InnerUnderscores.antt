@@ -1,16 +1,18 @@
 -- An underscore between two letters or digits of a text.
-use Rattle.std.proofs.Common.{◌≡◌, ℕ, ◌+◌, ◌<◌, ◌==◌, ◌&&◌, ◌||◌, nat_le, nat_lt, ◌≤◌, Bool, true, false, suc, List, [], ◌∷◌, ◌++◌, length, drop, take, get_or, Option, Some, not, refl, sym, ap, ◌∙◌, arith, append_assoc, inl, inr}
+use Rattle.std.proofs.Common.{◌≡◌, ℕ, ◌+◌, ◌<◌, ◌==◌, ◌&&◌, ◌||◌, nat_le, nat_lt, ◌≤◌, Bool, true, false, suc, List, [], ◌∷◌, ◌++◌, length, drop, take, get_or, Option, Some, if◌then◌else◌, not, refl, sym, ap, ◌∙◌, arith, append_assoc, inl, inr}
 use Rattle.std.specs.Prelude.{IsUtf8, slice_get}
 use Rattle.std.specs.Char.{is_ascii_punctuation}
 use Rattle.std.specs.Str.{byte}
+use Rattle.std.proofs.Math.Bool.{and-false}
 use Rattle.std.proofs.lemmas.Bool.Decides.{nat_tests}
 use Rattle.std.proofs.lemmas.Bool.{and_parts, eqb-true, ltb-true, ltb-false}
 use Rattle.std.proofs.lemmas.List.{drop_more, take_more, get_or_past}
 use Rattle.std.proofs.lemmas.Str.{IsUtf8-drop, IsUtf8-take, IsCharBoundary-before_ascii, IsCharBoundary-after_ascii, chars_past_char, encode_ascii}
 use Rattle.std.proofs.Math.Utf8.{encode}
-use Rattle.markdown_engine_content.specs.Codes.{Code, document_start, line_feed, stop_of}
-use Rattle.markdown_engine_content.specs.Place.{Place, start_or}
-use Rattle.markdown_engine_content.specs.Tree.{Forest, leaf}
+use Rattle.markdown_content.specs.Codes.{Code, document_start, line_feed, stop_of}
+use Rattle.markdown_content.specs.declared.configuration.Rules.{Rules}
+use Rattle.markdown_content.specs.Place.{Place, start_or}
+use Rattle.markdown_content.specs.Tree.{Forest, leaf}
 use Rattle.markdown_event.specs.declared.event.Name.TheVariants as N
 use Rattle.markdown_model.specs.CodeTests.{is_alphanumeric, is_some_code, is_value, last_code, next_is}
 use Rattle.markdown_model.specs.Elements.{attention_run, code_before, switched, text_choice, text_element}
@@ -23,14 +25,15 @@ use Rattle.markdown_run_text.proofs.TextElements.{run-element, run-off}
 use Rattle.markdown_model.specs.GfmAutolinkLiteral.{is_other}
 use Rattle.markdown_model.specs.Grammar.{gives, some}
 use Rattle.markdown_model.specs.LabelEnd.{Element, plain}
+use Rattle.markdown_model.specs.Runs.{as_read, class_beside}
 use Rattle.markdown_model.specs.Setting.{Setting}
 use Rattle.markdown_model.specs.TextLines.{code_leaf}
 use Rattle.markdown_model.proofs.GrammarSteps.{bind-some, some-span, span-none, span-takes, switched-off, switched-on}
 use Rattle.markdown_plan.specs.ByteTests.{alphanumeric_value}
 use Rattle.markdown_plan.specs.Characters.{IsText}
-use Rattle.markdown_util.specs.Neighbours.{after_index, before_index, class_of}
+use Rattle.markdown_util.specs.Neighbours.{after_index, before_index, class_of, listed_class_of}
 use Rattle.markdown_util.specs.declared.util.char.Kind.{Kind}
-use Rattle.markdown_util.proofs.AsciiClasses.{white_space_ascii, punctuation_ascii}
+use Rattle.markdown_util.proofs.AsciiClasses.{white_space_ascii, listed_space_ascii, punctuation_ascii}
 use Rattle.markdown_util.proofs.LastChar.{last_char}
 
 -- Letters and digits.
@@ -51,12 +54,38 @@ other-by true p e f = cc
 other-by false true e f = cc
 other-by false false e f = refl
 
--- so it is of class other
+no-listed : (v : ℕ) → alphanumeric_value v ≡ true → ((v == 9 || (v == 10 || (v == 12 || v == 13))) || v == 32) ≡ false
+no-listed v h = grind (arith, nat_tests)
+
+no-nul : (v : ℕ) → alphanumeric_value v ≡ true → (v == 0) ≡ false
+no-nul v h = grind (arith, nat_tests)
+
+-- so it is of class other, where whitespace is White_Space
 other-class : (v : ℕ) → alphanumeric_value v ≡ true → is_other (class_of (Some v)) ≡ true
 unfolding class_of
 other-class v h =
     let b = bounds v h in
     other-by _ _ (white_space_ascii v b.1 ∙ no-space v h) (punctuation_ascii v b.1 ∙ no-punctuation v h)
+
+-- and where whitespace is what CommonMark lists
+other-listed : (v : ℕ) → alphanumeric_value v ≡ true → is_other (listed_class_of (Some v)) ≡ true
+unfolding listed_class_of
+other-listed v h =
+    let b = bounds v h in
+    other-by _ _ (listed_space_ascii v b.1 ∙ no-listed v h) (punctuation_ascii v b.1 ∙ no-punctuation v h)
+
+-- it is read as itself
+read-itself : (r : Rules) (v : ℕ) → alphanumeric_value v ≡ true → as_read r (Some v) ≡ Some v
+read-itself r v h = ap (λ b. Some (if r.nul_is_replaced && b then 0xFFFD else v)) (no-nul v h) ∙ ap (λ b. Some (if b then 0xFFFD else v)) (and-false r.nul_is_replaced)
+
+other-beside : (r : Rules) (v : ℕ) → alphanumeric_value v ≡ true → is_other (class_beside r (Some v)) ≡ true
+unfolding class_beside
+other-beside r v h =
+    ap (λ c. is_other (if r.listed_spaces then listed_class_of c else class_of c)) (read-itself r v h) ∙ by_rule r.listed_spaces
+  where
+    by_rule : (b : Bool) → is_other (if b then listed_class_of (Some v) else class_of (Some v)) ≡ true
+    by_rule true = other-listed v h
+    by_rule false = other-class v h
 
 -- Bytes.
 
@@ -114,11 +143,11 @@ third (e ∷ front) b c d cs = third front b c d cs
 
 module _ (bytes : List ℕ) (p : Place) (text : IsText bytes p) where
   -- what stands at a letter or digit
-  record Stands (b : Code) : Type 0 where
+  record ByteStands (b : Code) : Type 0 where
     in_bytes : b.start.index < length bytes
     byte_is : get_or bytes b.start.index 0 ≡ b.value
 
-  stands : (n : ℕ) (b : Code) → slice_get p.codes n ≡ Some b → is_alphanumeric b ≡ true → Stands b
+  stands : (n : ℕ) (b : Code) → slice_get p.codes n ≡ Some b → is_alphanumeric b ≡ true → ByteStands b
   stands n b at h =
       let high : 32 < b.value = (bounds b.value h).0 in
       let here : get_or bytes b.start.index 0 ≡ b.value = text.byte n b at high in
@@ -132,12 +161,16 @@ module _ (bytes : List ℕ) (p : Place) (text : IsText bytes p) where
       let at_a : slice_get p.codes (suc (suc (length front))) ≡ Some a = ap (λ xs. slice_get xs (suc (suc (length front)))) whole ∙ third front b c a cs in
       let from : c.start.index ≡ b.start.index + 1 = ap (λ o. (start_or o p.end).index) (sym at_c) ∙ text.behind (length front) b at_b (bounds b.value h).0 in
       let past : a.start.index ≡ c.start.index + 1 = ap (λ o. (start_or o p.end).index) (sym at_a) ∙ text.behind (suc (length front)) c at_c (omega (arith, marker)) in
-      let sb : Stands b = stands (length front) b at_b h in
-      let sa : Stands a = stands (suc (suc (length front))) a at_a k in
+      let sb : ByteStands b = stands (length front) b at_b h in
+      let sa : ByteStands a = stands (suc (suc (length front))) a at_a k in
       record {
         marker = marker;
-        before = ap (λ i. is_other (class_of (before_index bytes i))) from ∙ ap (λ o. is_other (class_of o)) (last-char bytes b.start.index b.value text.text sb.in_bytes (bounds b.value h).1 sb.byte_is) ∙ other-class b.value h;
-        after = ap (λ i. is_other (class_of (after_index bytes i))) (sym past) ∙ ap (λ o. is_other (class_of o)) (first-char bytes a.start.index a.value text.text sa.in_bytes (bounds a.value k).1 sa.byte_is) ∙ other-class a.value k;
+        before = λ r. ap (λ i. is_other (class_beside r (before_index bytes i))) from
+            ∙ ap (λ o. is_other (class_beside r o)) (last-char bytes b.start.index b.value text.text sb.in_bytes (bounds b.value h).1 sb.byte_is)
+            ∙ other-beside r b.value h;
+        after = λ r. ap (λ i. is_other (class_beside r (after_index bytes i))) (sym past)
+            ∙ ap (λ o. is_other (class_beside r o)) (first-char bytes a.start.index a.value text.text sa.in_bytes (bounds a.value k).1 sa.byte_is)
+            ∙ other-beside r a.value k;
       }
 
   -- where the test holds, neither whitespace nor punctuation is beside the underscore

@@ -1,10 +1,10 @@
 -- The end of a label is read as the definitions read it, where it is read what follows its `]`.
 use Rattle.std.proofs.Common.{◌≡◌, ℕ, ◌&&◌, not, Bool, true, false, List, [], ◌∷◌, ◌++◌, None, Some, refl, sym, ap, ◌∙◌}
 use Rattle.std.proofs.lemmas.Bool.{not-true}
-use Rattle.markdown_engine_content.specs.Codes.{Code}
-use Rattle.markdown_engine_content.specs.Tree.{Forest, leaf, leaf_codes}
+use Rattle.markdown_content.specs.Codes.{Code}
+use Rattle.markdown_content.specs.Tree.{Forest, leaf, leaf_codes}
 use Rattle.markdown_event.specs.declared.event.Name.TheVariants as N
-use Rattle.markdown_engine_content.specs.declared.label_kind.LabelKind.{LabelKind}
+use Rattle.markdown_content.specs.declared.label_kind.LabelKind.{LabelKind}
 use Rattle.markdown_engine.specs.Operations.{ahead, done, scratched}
 use Rattle.markdown_engine.specs.PastTree.{past}
 use Rattle.markdown_engine.specs.declared.tokenizer.LabelStart as Kept
@@ -22,7 +22,7 @@ use Rattle.markdown_label.proofs.LabelEndStartLaw.{reading-at}
 use Rattle.markdown_model.specs.CodeTests.{is_value}
 use Rattle.markdown_model.specs.Grammar.{gives}
 use Rattle.markdown_model.specs.LabelEnd.{after_label, bytes_between, is_footnote, is_image, link_identifier, link_kind}
-use Rattle.markdown_model.specs.Setting.{Setting, is_defined}
+use Rattle.markdown_model.specs.Setting.{Setting, defines, is_defined}
 use Rattle.markdown_model.specs.SingleConstructs.{outcome}
 use Rattle.markdown_model.proofs.GrammarSteps.{bind-some, switched-on}
 use Rattle.markdown_partial.specs.LinkedTreeOps.{linked_ops}
@@ -31,7 +31,7 @@ use Rattle.markdown_util.specs.Identifier.{identifier_of}
 use Rattle.markdown_run_text.specs.PlainResource.{may_make, takes_resource}
 
 -- what follows a `]`, where the end makes a label of it: whatever is defined, or if the label itself is
-pub record Follows (s : Setting) (asks : Bool) (read : Tokenizer → Tokenizer) (cs : List Code) : Type 0 where
+pub record EndFollows (s : Setting) (asks : Bool) (read : Tokenizer → Tokenizer) (cs : List Code) : Type 0 where
   pub tree : Forest
   pub codes : List Code
   pub rest : List Code
@@ -50,7 +50,7 @@ kept-kind M l ls e same =
     ∙ scratched-same M
 
 -- such a start is not barred, and its label is a link's or an image's
-record Takes (l : Kept.LabelStart) : Type 0 where
+record TakesStart (l : Kept.LabelStart) : Type 0 where
   active : bars l ≡ false
   plain : is_footnote l.kind ≡ false
   same : link_kind l.kind ≡ l.kind
@@ -62,21 +62,21 @@ takes-by LabelKind.Link inactive h = (not-true inactive h, (refl, refl))
 takes-by LabelKind.GfmUndefinedFootnote inactive h = (not-true inactive h, (refl, refl))
 takes-by LabelKind.GfmFootnote inactive h = cc
 
-takes : (l : Kept.LabelStart) → takes_resource l.kind l.inactive ≡ true → Takes l
+takes : (l : Kept.LabelStart) → takes_resource l.kind l.inactive ≡ true → TakesStart l
 takes l h = let p = takes-by l.kind l.inactive h in record { active = p.0; plain = p.1.0; same = p.1.1 }
 
 -- the label of the last of these starts, whose `]` this is, is defined, if that is asked for
 abbrev pub AnswersBy : Tokenizer → Bool → Code → List Kept.LabelStart → Type 0
 AnswersBy T asks x [] = Unit {0}
 AnswersBy T asks x (l ∷ ls) =
-    asks ≡ true → is_defined (setting_in T).definitions (identifier_of (bytes_between (setting_in T) (place_at T.events l.start.1) x.start)) ≡ true
+    asks ≡ true → defines (setting_in T) (identifier_of (bytes_between (setting_in T) (place_at T.events l.start.1) x.start)) ≡ true
 
 -- nothing is asked of the label
 pub asks-nothing : (T : Tokenizer) (x : Code) (ls : List Kept.LabelStart) → AnswersBy T false x ls
 asks-nothing T x [] = tt
 asks-nothing T x (l ∷ ls) = λ h. cc
 
-module _ (T : Tokenizer) (asks : Bool) (read : Tokenizer → Tokenizer) (x : Code) (later : List Code) (on : is_on T ≡ true) (bracket : is_value 93 x ≡ true) (codes : ahead T ≡ x ∷ later) (k : Follows (setting_in T) asks read later) where
+module _ (T : Tokenizer) (asks : Bool) (read : Tokenizer → Tokenizer) (x : Code) (later : List Code) (on : is_on T ≡ true) (bracket : is_value 93 x ≡ true) (codes : ahead T ≡ x ∷ later) (k : EndFollows (setting_in T) asks read later) where
   -- past the end's own events
   abbrev P : Tokenizer
   P = past None (end_tree (x ∷ [])) (ended T)
@@ -96,7 +96,7 @@ module _ (T : Tokenizer) (asks : Bool) (read : Tokenizer → Tokenizer) (x : Cod
   tail-past : read P ≡ past None k.tree P
   tail-past = k.reads P ahead-there ∙ linked-past false k.tree k.rest P k.covers.0 (ahead-there ∙ tree-codes)
 
-  module _ (l : Kept.LabelStart) (ls : List Kept.LabelStart) (top : T.tokenize_state.label_starts ≡ l ∷ ls) (takes : Takes l) where
+  module _ (l : Kept.LabelStart) (ls : List Kept.LabelStart) (top : T.tokenize_state.label_starts ≡ l ∷ ls) (takes : TakesStart l) where
     abbrev s : Setting
     s = setting_in T
 
@@ -105,17 +105,17 @@ module _ (T : Tokenizer) (asks : Bool) (read : Tokenizer → Tokenizer) (x : Cod
 
     -- the label is defined, if that is asked for
     abbrev Answers : Type 0
-    Answers = asks ≡ true → is_defined s.definitions name ≡ true
+    Answers = asks ≡ true → defines s name ≡ true
 
-    named : Answers → asks ≡ true → is_defined s.definitions (link_identifier l.kind name) ≡ true
-    named a h = ap (λ b. is_defined s.definitions (elim b [ true ↦ 94 ∷ name | false ↦ name ])) takes.plain ∙ a h
+    named : Answers → asks ≡ true → defines s (link_identifier l.kind name) ≡ true
+    named a h = ap (λ b. defines s (elim b [ true ↦ 94 ∷ name | false ↦ name ])) takes.plain ∙ a h
 
     outcome-is : Answers → outcome_by T.tokenize_state.label_starts T (x ∷ []) later ≡ Some ((link_kind l.kind, k.tree), k.rest)
     outcome-is a =
         ap (λ y. outcome_by y T (x ∷ []) later) top
         ∙ switched-on (outcome s l.kind name) (not (bars l)) later (ap not takes.active)
         ∙ outcome-tail s l.kind name later k.tree k.rest (ap (λ z. z && is_defined s.footnotes name) takes.plain)
-        (k.holds (is_defined s.definitions (link_identifier l.kind name)) (named a))
+        (k.holds (defines s (link_identifier l.kind name)) (named a))
 
     starts-there : P.tokenize_state.label_starts ≡ l ∷ ls
     unfolding past scratched

@@ -1,12 +1,12 @@
 -- What a run leaves past the start of a label is a mark of a row; so is what it leaves past an end that makes one.
 use Rattle.std.proofs.Common.{◌≡◌, ℕ, ◌==◌, ◌⊎◌, inl, inr, Bool, true, false, ◌&&◌, ◌||◌, not, List, [], ◌∷◌, ◌++◌, map, Option, None, Some, refl, sym, ap, subst, ◌∙◌}
 use Rattle.std.proofs.lemmas.Bool.{or_parts}
-use Rattle.markdown_engine_content.specs.Codes.{Code, is_line_ending}
+use Rattle.markdown_content.specs.Codes.{Code, is_line_ending}
 use Rattle.markdown_engine.specs.Operations.{Op, ahead, done, scratched}
-use Rattle.markdown_engine_content.specs.Tree.{Forest, empty, leaf_then, group_then, leaf_codes, event_count}
+use Rattle.markdown_content.specs.Tree.{Forest, empty, leaf_then, group_then, leaf_codes, event_count}
 use Rattle.markdown_engine.specs.TreeOps.{ops_of, IsSolid}
-use Rattle.markdown_state.specs.declared.resolve.ResolveName.TheVariants as R
-use Rattle.markdown_engine_content.specs.declared.label_kind.LabelKind.{LabelKind}
+use Rattle.markdown_event.specs.declared.resolve.ResolveName.TheVariants as R
+use Rattle.markdown_content.specs.declared.label_kind.LabelKind.{LabelKind}
 use Rattle.markdown_engine.specs.declared.tokenizer.LabelStart as Kept
 use Rattle.markdown_engine.specs.declared.tokenizer.Tokenizer.{Tokenizer}
 use Rattle.markdown_engine.proofs.TreeEvents.{ops-past, ahead-past}
@@ -24,16 +24,16 @@ use Rattle.markdown_model.specs.Grammar.{Reading, ◌>>=◌, ◌>>◌, gives, pr
 use Rattle.markdown_model.specs.LabelEnd.{is_footnote, link_kind}
 use Rattle.markdown_model.specs.Passes.{start_tree}
 use Rattle.markdown_model.specs.Setting.{Setting, is_defined}
-use Rattle.markdown_model.proofs.NoLinkInConstructs.{Passes, Yields, yields_bind, yields_gives, yields_passed, yields_either}
+use Rattle.markdown_model.proofs.NoLinkInConstructs.{PassesValue, Yields, yields_bind, yields_gives, yields_passed, yields_either}
 use Rattle.markdown_model.proofs.GrammarSteps.{switched-off}
-use Rattle.markdown_run_text.specs.Row.{begins, past_mark, kinds_of, IsStart, IsMade}
+use Rattle.markdown_run_text.specs.Row.{begins, past_mark, kinds_of, IsStartMarker, IsMade}
 use Rattle.markdown_run_text.specs.RowTreeNames.{IsRunless}
 
 -- Starts.
 
 -- U is T past a start of this kind
 pub record PastStart (kind : LabelKind) (marker rest : List Code) (T U : Tokenizer) : Type 0 where
-  pub is : IsStart kind marker
+  pub is : IsStartMarker kind marker
   pub left : U ≡ past_mark (begins kind marker) T
   pub whole : ahead T ≡ marker ++ rest
   pub after : ahead U ≡ rest
@@ -50,7 +50,7 @@ unfolding past_mark scratched
 start-ahead kind marker rest T whole =
     ap (λ p. ahead (record T { cursor = p })) (cursor-before R.Label _) ∙ ahead-past None (start_tree kind marker) T rest whole
 
-past-start : (kind : LabelKind) (marker rest : List Code) (ops : List Op) (size : ℕ) (T U : Tokenizer) → IsStart kind marker → IsSolid (start_tree kind marker) → ops ≡ ops_of (start_tree kind marker) → size ≡ event_count (start_tree kind marker)
+past-start : (kind : LabelKind) (marker rest : List Code) (ops : List Op) (size : ℕ) (T U : Tokenizer) → IsStartMarker kind marker → IsSolid (start_tree kind marker) → ops ≡ ops_of (start_tree kind marker) → size ≡ event_count (start_tree kind marker)
     → ahead T ≡ leaf_codes (start_tree kind marker) ++ rest → ahead T ≡ marker ++ rest → U ≡ kept_start kind size (done ops T) → PastStart kind marker rest T U
 past-start kind marker rest ops size T U is solid same count codes whole left =
     let made : U ≡ past_mark (begins kind marker) T = left ∙ start-is kind marker ops size rest T solid same count codes in
@@ -112,10 +112,10 @@ outcome-is s start name =
     call : (b : Bool) → is_footnote start && is_defined s.footnotes name ≡ b →
         Yields (IsOutcome start) (provided b >> gives (LabelKind.GfmFootnote, empty))
     call true e = yields_passed _ _ _ (yields_gives _ _ (inl (call-kind start (is_defined s.footnotes name) e), tt))
-    call false e = record { at = λ cs. subst (λ o. Passes (IsOutcome start) o) (sym (switched-off _ false cs refl)) tt }
+    call false e = record { at = λ cs. subst (λ o. PassesValue (IsOutcome start) o) (sym (switched-off _ false cs refl)) tt }
 
 -- the outcome of an end is that of the last start
-record IsOf (ls : List Kept.LabelStart) (r : List Code × (LabelKind × Forest)) : Type 0 where
+record IsOfLast (ls : List Kept.LabelStart) (r : List Code × (LabelKind × Forest)) : Type 0 where
   code : Code
   one : r.0 ≡ code ∷ []
   start : Kept.LabelStart
@@ -126,15 +126,15 @@ record IsOf (ls : List Kept.LabelStart) (r : List Code × (LabelKind × Forest))
 weaker : {A : Type 0} (P Q : A → Type 0) (a : Reading A) → ((x : A) → P x → Q x) → Yields P a → Yields Q a
 weaker {A} P Q a f h = record { at = λ cs. by_answer (a cs) (h.at cs) }
   where
-    by_answer : (o : Option (A × List Code)) → Passes P o → Passes Q o
+    by_answer : (o : Option (A × List Code)) → PassesValue P o → PassesValue Q o
     by_answer None k = tt
     by_answer (Some r) k = f r.0 k
 
 by-start : (T : Tokenizer) (c : Code) (ls : List Kept.LabelStart) →
-    Yields (λ o. IsOf ls (c ∷ [], o)) (outcome_by ls T (c ∷ []))
+    Yields (λ o. IsOfLast ls (c ∷ [], o)) (outcome_by ls T (c ∷ []))
 by-start T c [] = record { at = λ cs. tt }
 by-start T c (l ∷ ls) = record {
-  at = λ cs. (yields_passed _ (not (bars l)) _ (weaker (IsOutcome l.kind) (λ o. IsOf (l ∷ ls) (c ∷ [], o)) (outcome (setting_in T) l.kind _) (λ o k. record { code = c; one = refl; start = l; before = ls; waits = refl; is = k }) (outcome-is (setting_in T) l.kind _))).at cs;
+  at = λ cs. (yields_passed _ (not (bars l)) _ (weaker (IsOutcome l.kind) (λ o. IsOfLast (l ∷ ls) (c ∷ [], o)) (outcome (setting_in T) l.kind _) (λ o k. record { code = c; one = refl; start = l; before = ls; waits = refl; is = k }) (outcome-is (setting_in T) l.kind _))).at cs;
 }
 
 one_yields : (p : Code → Bool) → Yields (λ xs. (c : Code) × (xs ≡ c ∷ [])) (one p)
@@ -142,25 +142,25 @@ unfolding one
 one_yields p = record { at = λ cs. by_codes cs }
   where
     by_test : (b : Bool) (c : Code) (cs : List Code) →
-        Passes (λ xs. (c : Code) × (xs ≡ c ∷ [])) (elim b as (λ _. Option (List Code × List Code)) [ true ↦ Some (c ∷ [], cs) | false ↦ None ])
+        PassesValue (λ xs. (c : Code) × (xs ≡ c ∷ [])) (elim b as (λ _. Option (List Code × List Code)) [ true ↦ Some (c ∷ [], cs) | false ↦ None ])
     by_test true c cs = (c, refl)
     by_test false c cs = tt
 
-    by_codes : (cs : List Code) → Passes (λ xs. (c : Code) × (xs ≡ c ∷ [])) (one p cs)
+    by_codes : (cs : List Code) → PassesValue (λ xs. (c : Code) × (xs ≡ c ∷ [])) (one p cs)
     by_codes [] = tt
     by_codes (c ∷ cs) = by_test (p c) c cs
 
-end-is : (T : Tokenizer) → Yields (λ r. IsOf T.tokenize_state.label_starts r) (end_reading T)
+end-is : (T : Tokenizer) → Yields (λ r. IsOfLast T.tokenize_state.label_starts r) (end_reading T)
 end-is T =
     yields_passed _ (is_on T) _ (yields_bind (λ xs. (c : Code) × (xs ≡ c ∷ [])) _ _ _ (one_yields (is_value 93)) λ back k.
-    subst (λ xs. Yields (λ r. IsOf T.tokenize_state.label_starts r) (outcome_by T.tokenize_state.label_starts T xs >>= λ o. gives (xs, o))) (sym k.1)
-    (yields_bind (λ o. IsOf T.tokenize_state.label_starts (k.0 ∷ [], o)) _ _ _ (by-start T k.0 T.tokenize_state.label_starts) λ o h. yields_gives _ _ h))
+    subst (λ xs. Yields (λ r. IsOfLast T.tokenize_state.label_starts r) (outcome_by T.tokenize_state.label_starts T xs >>= λ o. gives (xs, o))) (sym k.1)
+    (yields_bind (λ o. IsOfLast T.tokenize_state.label_starts (k.0 ∷ [], o)) _ _ _ (by-start T k.0 T.tokenize_state.label_starts) λ o h. yields_gives _ _ h))
 
 -- an end that makes a label is made of the last start that waits
 pub end-made-of : (T : Tokenizer) (back : List Code) (kind : LabelKind) (tail : Forest) (rest : List Code) →
     end_reading T (ahead T) ≡ Some ((back, (kind, tail)), rest) → IsMade (kinds_of T) back kind tail
 end-made-of T back kind tail rest e =
-    let k : IsOf T.tokenize_state.label_starts (back, (kind, tail)) = subst (λ o. Passes (λ r. IsOf T.tokenize_state.label_starts r) o) e ((end-is T).at (ahead T)) in
+    let k : IsOfLast T.tokenize_state.label_starts (back, (kind, tail)) = subst (λ o. PassesValue (λ r. IsOfLast T.tokenize_state.label_starts r) o) e ((end-is T).at (ahead T)) in
     record {
       start = k.start.kind;
       before = map (λ (l : Kept.LabelStart). l.kind) k.before;

@@ -1,11 +1,11 @@
 -- The starts of labels, as constructs by themselves.
 use Rattle.std.proofs.Common.{◌≡◌, true, false, List, [], ◌∷◌, None, Some, sym, ap, ◌∙◌}
-use Rattle.markdown_engine.proofs.OperationFields.{Begins}
+use Rattle.markdown_engine.proofs.OperationFields.{BeginsWithValue}
 use Rattle.markdown_label.proofs.BegunStartPlaces.{first-is, two-whole}
-use Rattle.markdown_engine_content.specs.Codes.{Code}
-use Rattle.markdown_engine_content.specs.ListFunctions.{rest_of}
+use Rattle.markdown_content.specs.Codes.{Code}
+use Rattle.markdown_content.specs.ListFunctions.{rest_of}
 use Rattle.markdown_engine.specs.Operations.{ahead}
-use Rattle.markdown_engine_content.specs.declared.label_kind.LabelKind.{LabelKind}
+use Rattle.markdown_content.specs.declared.label_kind.LabelKind.{LabelKind}
 use Rattle.markdown_engine.specs.declared.tokenizer.Tokenizer.{Tokenizer}
 use Rattle.markdown_label.specs.LabelStarts.{links_on, link_test, link_ends, footnotes_on, footnote_test, footnote_ends, images_on, image_test, image_ends}
 use Rattle.markdown_model.proofs.GrammarSteps.{and-left, and-right}
@@ -25,7 +25,7 @@ begun reading kind marker rest T U p e =
 
 pub link-begins : (T U : Tokenizer) → link_ends T true U → BeginsOrStays (label_start_link_here (options_here T)) T true U
 link-begins T U k =
-    let f : Begins 91 (ahead T) = first-is 91 (ahead T) (and-right _ _ k.holds) in
+    let f : BeginsWithValue 91 (ahead T) = first-is 91 (ahead T) (and-right _ _ k.holds) in
     let rest : List Code = rest_of (ahead T) in
     begun (label_start_link_here (options_here T)) LabelKind.Link (f.code ∷ []) rest T U (link-past f.code rest T U f.whole f.value k)
     (ap (label_start_link_here (options_here T)) f.whole ∙ on-some (links_on T) label_start_link (f.code ∷ rest) (starts LabelKind.Link (f.code ∷ []), rest) (and-left _ _ k.holds) (link-some f.code rest f.value))
@@ -37,8 +37,8 @@ link-not T refused =
 pub footnote-begins : (T U : Tokenizer) → footnote_ends T true U →
     BeginsOrStays (gfm_label_start_footnote_here (options_here T)) T true U
 footnote-begins T U k =
-    let f : Begins 91 (ahead T) = first-is 91 (ahead T) (and-right _ _ (and-left _ _ k.holds)) in
-    let g : Begins 94 (rest_of (ahead T)) = first-is 94 (rest_of (ahead T)) (and-right _ _ k.holds) in
+    let f : BeginsWithValue 91 (ahead T) = first-is 91 (ahead T) (and-right _ _ (and-left _ _ k.holds)) in
+    let g : BeginsWithValue 94 (rest_of (ahead T)) = first-is 94 (rest_of (ahead T)) (and-right _ _ k.holds) in
     let rest : List Code = rest_of (rest_of (ahead T)) in
     let whole : ahead T ≡ f.code ∷ g.code ∷ rest = two-whole 91 94 (ahead T) f g in
     begun (gfm_label_start_footnote_here (options_here T)) LabelKind.GfmFootnote (f.code ∷ g.code ∷ []) rest T U (footnote-past f.code g.code rest T U whole f.value g.value k)
@@ -53,8 +53,8 @@ footnote-not T refused =
 pub image-begins : (T U : Tokenizer) → image_ends T true U →
     BeginsOrStays (label_start_image_here (options_here T)) T true U
 image-begins T U k =
-    let f : Begins 33 (ahead T) = first-is 33 (ahead T) (and-right _ _ (and-left _ _ k.holds)) in
-    let g : Begins 91 (rest_of (ahead T)) = first-is 91 (rest_of (ahead T)) (and-left _ _ (and-right _ _ k.holds)) in
+    let f : BeginsWithValue 33 (ahead T) = first-is 33 (ahead T) (and-right _ _ (and-left _ _ k.holds)) in
+    let g : BeginsWithValue 91 (rest_of (ahead T)) = first-is 91 (rest_of (ahead T)) (and-left _ _ (and-right _ _ k.holds)) in
     let rest : List Code = rest_of (rest_of (ahead T)) in
     let whole : ahead T ≡ f.code ∷ g.code ∷ rest = two-whole 33 91 (ahead T) f g in
     begun (label_start_image_here (options_here T)) LabelKind.Image (f.code ∷ g.code ∷ []) rest T U (image-past f.code g.code rest T U whole f.value g.value k)

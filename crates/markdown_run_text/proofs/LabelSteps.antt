@@ -1,18 +1,18 @@
 -- Past the start of a label, past an end that makes one, and past one that makes none, with the data behind it.
 use Rattle.std.proofs.Common.{◌≡◌, ◌≢◌, ℕ, ◌+◌, ◌-◌, ◌<◌, ◌≤◌, Bool, true, false, if◌then◌else◌, List, [], ◌∷◌, ◌++◌, length, slice_get, Option, None, Some, refl, sym, ap, subst, ◌∙◌, arith, length-append, append_assoc, append-nil, inl}
 use Rattle.markdown_run_text.proofs.OpenStartKinds.{rest-lost}
-use Rattle.markdown_engine_content.specs.Codes.{Code, is_line_ending, document_start, stop_of}
-use Rattle.markdown_engine_content.specs.ListFunctions.{rest_of}
+use Rattle.markdown_content.specs.Codes.{Code, is_line_ending, document_start, stop_of}
+use Rattle.markdown_content.specs.ListFunctions.{rest_of}
 use Rattle.markdown_engine.specs.Operations.{ahead, scratched}
 use Rattle.markdown_engine.specs.PastTree.{Reads, past, moved_by, appended_from}
-use Rattle.markdown_engine_content.specs.Place.{Place, last_of}
-use Rattle.markdown_engine_content.specs.Tree.{Forest, empty, leaf_then, group_then, leaf, leaf_codes, event, event_count}
+use Rattle.markdown_content.specs.Place.{Place, last_of}
+use Rattle.markdown_content.specs.Tree.{Forest, empty, leaf_then, group_then, leaf, leaf_codes, event, event_count}
 use Rattle.markdown_event.specs.declared.event.Event.{Event}
 use Rattle.markdown_event.specs.declared.event.Kind.TheVariants as Kind
 use Rattle.markdown_event.specs.declared.event.Name.{Name}
 use Rattle.markdown_event.specs.declared.event.Name.TheVariants as N
-use Rattle.markdown_state.specs.declared.resolve.ResolveName.TheVariants as R
-use Rattle.markdown_engine_content.specs.declared.label_kind.LabelKind.{LabelKind}
+use Rattle.markdown_event.specs.declared.resolve.ResolveName.TheVariants as R
+use Rattle.markdown_content.specs.declared.label_kind.LabelKind.{LabelKind}
 use Rattle.markdown_engine.specs.declared.tokenizer.LabelStart as Kept
 use Rattle.markdown_engine.specs.declared.tokenizer.TokenizeState.{TokenizeState}
 use Rattle.markdown_engine.specs.declared.tokenizer.Tokenizer.{Tokenizer}
@@ -34,16 +34,16 @@ use Rattle.markdown_model.specs.Grammar.{until}
 use Rattle.markdown_model.specs.Laws.{unused_starts}
 use Rattle.markdown_model.specs.TextLines.{data_up_to, line_leaves, lines_of, code_leaf}
 use Rattle.markdown_model.specs.Passes.{start_tree}
-use Rattle.markdown_partial.specs.DataOnLines.{HasLines}
+use Rattle.markdown_passes.specs.DataOnLines.{HasLines}
 use Rattle.markdown_label.specs.AfterLabel.{IsTail}
 use Rattle.markdown_plan.specs.Characters.{bytes_of}
 use Rattle.markdown_run_text.specs.RunOverElements.{AreReadAsData, StandsAfter, Advances}
-use Rattle.markdown_run_text.specs.Row.{Mark, begins, makes, loses, row_end, row_then, tree_onto, past_tree, past_mark, past_row, mark_codes, kinds_of, IsFront, IsStart, IsMade, IsMarkAt, split_row, row_of_elements, HasElementCodes}
-use Rattle.markdown_run_text.specs.RowTreeNames.{IsPart}
+use Rattle.markdown_run_text.specs.Row.{Mark, begins, makes, loses, row_end, row_then, tree_onto, past_tree, past_mark, past_row, mark_codes, kinds_of, IsFront, IsStartMarker, IsMade, IsMarkAt, split_row, row_of_elements, HasElementCodes}
+use Rattle.markdown_run_text.specs.RowTreeNames.{IsRowPart}
 use Rattle.markdown_run_text.proofs.ElementSteps.{DataRead, data-read, group-escaped, last-some, fewer-left, one-element, kept-tree, leaf_elements, have-leaves, data-next, past_elements, past_code, ElementsOfData, stands-behind, follow-behind, data-alike, leaves-first}
 use Rattle.markdown_run_text.proofs.PastTrees.{past_tree-empty}
 
-pub empty-part : IsPart empty
+pub empty-part : IsRowPart empty
 empty-part = record { lines = tt; outer = tt; apart = λ n. refl }
 
 -- a mark by itself
@@ -150,7 +150,7 @@ some-marker [] h = absurd (omega arith)
 some-marker (c ∷ cs) h = λ k. cc
 
 -- past the start of a label
-pub start-advances : (choice : Choice) (kind : LabelKind) (marker : List Code) (T U : Tokenizer) → IsStart kind marker → U ≡ past_mark (begins kind marker) T → ahead T ≡ marker ++ ahead U
+pub start-advances : (choice : Choice) (kind : LabelKind) (marker : List Code) (T U : Tokenizer) → IsStartMarker kind marker → U ≡ past_mark (begins kind marker) T → ahead T ≡ marker ++ ahead U
     → ((earlier : List Element) (previous : Option Code) → StandsAfter earlier previous T → choice earlier previous (ahead T) ≡ Some (starts kind marker, ahead U)) → Advances choice T U
 start-advances choice kind marker T U is left whole finds =
     let k : StartShape kind marker = start-shape kind marker is.0 in

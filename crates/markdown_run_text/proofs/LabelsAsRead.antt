@@ -2,23 +2,23 @@
 -- elements and of that of what they are read as.
 use Rattle.std.proofs.Common.{◌≡◌, ℕ, ◌+◌, List, [], ◌∷◌, Some, None, drop, length, refl, sym, subst, inl, inr, ap, ◌∙◌}
 use Rattle.markdown_engine.proofs.ReadingSequences.{row-empty}
-use Rattle.markdown_engine_content.specs.Codes.{Code, stop_of, document_start}
-use Rattle.markdown_engine_content.specs.Tree.{Forest, empty, leaf_then, group_then, leaf, ◌⊕◌, group, text_group, start_of, enter_of, exit_after}
+use Rattle.markdown_content.specs.Codes.{Code, stop_of, document_start}
+use Rattle.markdown_content.specs.Tree.{Forest, empty, leaf_then, group_then, leaf, ◌⊕◌, group, text_group, start_of, enter_of, exit_after}
 use Rattle.markdown_event.specs.declared.event.Name.{Name}
 use Rattle.markdown_event.specs.declared.event.Name.TheVariants as N
 use Rattle.markdown_event.specs.declared.event.Point.{Point}
-use Rattle.markdown_engine_content.specs.declared.label_kind.LabelKind.{LabelKind}
-use Rattle.markdown_attention.proofs.AttentionTreeLabels.{IsSound}
+use Rattle.markdown_content.specs.declared.label_kind.LabelKind.{LabelKind}
+use Rattle.markdown_attention.proofs.AttentionTreeLabels.{IsElementRead}
 use Rattle.markdown_model.specs.LabelEnd.{Element, plain, starts, ends}
 use Rattle.markdown_model.specs.Passes.{End, label_group, label_name, start_marker, start_tree, labels_of}
 use Rattle.markdown_model.proofs.ElementCases.{AllAre}
 use Rattle.markdown_run_text.specs.ElementsAsRead.{IsIntraword, IsReadAs, AreReadAs}
 use Rattle.markdown_run_text.proofs.CutDataLemmas.{row-assoc}
 use Rattle.markdown_run_text.proofs.PairsOfCutData.{enter-same, exit-same}
-use Rattle.markdown_run_text.proofs.RowElements.{Found, wrapped, opened, read, word_of, finish, labels-read}
+use Rattle.markdown_run_text.proofs.RowElements.{FoundLabels, wrapped, opened, read, word_of, finish, labels-read}
 
 -- the code of an underscore that is read as data covers one byte
-stop-sound : (bytes : List ℕ) (c : Code) → IsSound bytes (plain (leaf N.AttentionSequence (c ∷ []))) →
+stop-sound : (bytes : List ℕ) (c : Code) → IsElementRead bytes (plain (leaf N.AttentionSequence (c ∷ []))) →
     c.stop.index ≡ c.start.index + 1
 stop-sound bytes c h = ap (λ (p : Point). p.index) (h.1.0.0 refl).1.1.1.1.0
 
@@ -88,7 +88,7 @@ module _ (K : Forest → Forest → Type 0) (same : (t : Forest) → K t t) (tra
   EndsAlike (c ∷ more) (d ∷ others) = (c.0 ≡ d.0) × (InRows c.1 d.1 × EndsAlike more others)
   EndsAlike _ _ = ⊥
 
-  abbrev Alike : Found → Found → Type 0
+  abbrev Alike : FoundLabels → FoundLabels → Type 0
   Alike p q = InRows p.0 q.0 × EndsAlike p.1 q.1
 
   data-alike : (m : List Code) (x y : Forest) → InRows x y → InRows (leaf N.Data m ⊕ x) (leaf N.Data m ⊕ y)
@@ -129,20 +129,20 @@ module _ (K : Forest → Forest → Type 0) (same : (t : Forest) → K t t) (tra
   module _ (bytes : List ℕ) (run-step : (a : Forest) (c : Code) (b : Forest) → IsIntraword bytes c → c.stop.index ≡ c.start.index + 1 →
       K (a ⊕ leaf_then N.AttentionSequence None (c ∷ []) b) (a ⊕ leaf_then N.Data None (c ∷ []) b)) where
     run-alike : (c : Code) (e f : Element) (es fs : List Element) → IsIntraword bytes c →
-        e ≡ plain (leaf N.AttentionSequence (c ∷ [])) → f ≡ plain (leaf N.Data (c ∷ [])) → IsSound bytes e →
+        e ≡ plain (leaf N.AttentionSequence (c ∷ [])) → f ≡ plain (leaf N.Data (c ∷ [])) → IsElementRead bytes e →
         Alike (read (word_of es)) (read (word_of fs)) → Alike (read (word_of (e ∷ es))) (read (word_of (f ∷ fs)))
     run-alike c e f es fs h x y k r =
         subst (λ z. Alike (read (word_of (z ∷ es))) (read (word_of (f ∷ fs)))) (sym x)
         (subst (λ z. Alike (read (word_of (plain (leaf N.AttentionSequence (c ∷ [])) ∷ es))) (read (word_of (z ∷ fs)))) (sym y)
-        (rows (leaf N.AttentionSequence (c ∷ [])) (leaf N.Data (c ∷ [])) (read (word_of es)).0 (read (word_of fs)).0 (λ a b. run-step a c b h (stop-sound bytes c (subst (IsSound bytes) x k))) r.0, r.1))
+        (rows (leaf N.AttentionSequence (c ∷ [])) (leaf N.Data (c ∷ [])) (read (word_of es)).0 (read (word_of fs)).0 (λ a b. run-step a c b h (stop-sound bytes c (subst (IsElementRead bytes) x k))) r.0, r.1))
 
-    first-alike : (e f : Element) (es fs : List Element) → IsReadAs bytes e f → IsSound bytes e →
+    first-alike : (e f : Element) (es fs : List Element) → IsReadAs bytes e f → IsElementRead bytes e →
         Alike (read (word_of es)) (read (word_of fs)) → Alike (read (word_of (e ∷ es))) (read (word_of (f ∷ fs)))
     first-alike e f es fs (inl x) k r =
         subst (λ z. Alike (read (word_of (e ∷ es))) (read (word_of (z ∷ fs)))) x (itself-alike e es fs r)
     first-alike e f es fs (inr x) k r = run-alike x.0 e f es fs x.1.0 x.1.1.0 x.1.1.1 k r
 
-    words-alike : (es fs : List Element) → AreReadAs bytes es fs → AllAre (IsSound bytes) es →
+    words-alike : (es fs : List Element) → AreReadAs bytes es fs → AllAre (IsElementRead bytes) es →
         Alike (read (word_of es)) (read (word_of fs))
     words-alike [] [] h k = (itself empty, tt)
     words-alike (e ∷ es) (f ∷ fs) h k = first-alike e f es fs h.0 k.0 (words-alike es fs h.1 k.1)
@@ -150,7 +150,7 @@ module _ (K : Forest → Forest → Type 0) (same : (t : Forest) → K t t) (tra
     words-alike (e ∷ es) [] h k = absurd h
 
     -- each inner underscore may be a run here and data there
-    pub labels-as-read : (es fs : List Element) → AreReadAs bytes es fs → AllAre (IsSound bytes) es → K (labels_of es) (labels_of fs)
+    pub labels-as-read : (es fs : List Element) → AreReadAs bytes es fs → AllAre (IsElementRead bytes) es → K (labels_of es) (labels_of fs)
     labels-as-read es fs h k =
         let r : Alike (read (word_of es)) (read (word_of fs)) = words-alike es fs h k in
         subst (λ x. K x (labels_of fs)) (sym (labels-read es))

@@ -1,7 +1,7 @@
 -- Data with a leaf for each line, and data with a leaf for each code, are cut alike.
 use Rattle.std.proofs.Common.{◌≡◌, Bool, true, false, not, ◌&&◌, ◌||◌, None, List, [], ◌∷◌, refl, sym, ap, ◌∙◌}
-use Rattle.markdown_engine_content.specs.Codes.{Code, is_line_ending}
-use Rattle.markdown_engine_content.specs.Tree.{Forest, empty, leaf, ◌⊕◌}
+use Rattle.markdown_content.specs.Codes.{Code, is_line_ending}
+use Rattle.markdown_content.specs.Tree.{Forest, empty, leaf, ◌⊕◌}
 use Rattle.markdown_event.specs.declared.event.Name.TheVariants as N
 use Rattle.markdown_model.specs.TextLines.{linked_leaf, line_leaf, line_leaves, lines_of, onto_stretch, code_leaf}
 use Rattle.markdown_model.proofs.StringTreeIsElements.{code_leaves}

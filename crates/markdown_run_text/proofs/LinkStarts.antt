@@ -1,8 +1,8 @@
 -- The start of a link that stands at hand, by its code, and how it is read.
 use Rattle.std.proofs.Common.{◌≡◌, ◌≤◌, ◌&&◌, true, false, length, refl, sym, ap, subst, ◌∙◌}
 use Rattle.std.specs.Option.{is_some}
-use Rattle.markdown_engine_content.specs.declared.label_kind.LabelKind.{LabelKind}
-use Rattle.markdown_engine_content.specs.Place.{code_at}
+use Rattle.markdown_content.specs.declared.label_kind.LabelKind.{LabelKind}
+use Rattle.markdown_content.specs.Place.{code_at}
 use Rattle.markdown_event.proofs.AndParts.{and-right}
 use Rattle.markdown_engine.specs.Operations.{ahead, current_of, done}
 use Rattle.markdown_engine.specs.declared.tokenizer.Tokenizer.{Tokenizer}

@@ -4,7 +4,7 @@ use Rattle.std.proofs.lemmas.List.Sums.{sum_by-cons}
 use Rattle.std.proofs.lemmas.Bool.{cases_eq, cases_lt, both_ways, lt-ltb, le-ltb, eq-eqb, ne_eqb}
 use Rattle.std.specs.List.{list_any, list_all}
 use Rattle.std.specs.Str.{byte}
-use Rattle.markdown_model.specs.Setting.{Setting}
+use Rattle.markdown_model.specs.Setting.{Setting, rules}
 use Rattle.markdown_model.specs.Runs.{Run, marker_of}
 use Rattle.markdown_model.specs.Pairs.{Pair, run_at, taken_by, remaining, is_strictly_within, ruled_size, is_refused_by_three, is_refused_as_tilde, is_eligible, IsEligible, NoneEligible, IsNextPair, ArePairsFrom, pair_list}
 use Rattle.markdown_model.proofs.OnePairList.{eligible-is, is-eligible, same_pair_list, some_pair_list}
@@ -131,7 +131,7 @@ module _ (s : Setting) (front : List Run) (r : Run) (back : List Run) (no_open :
 
     same_ruled : (i : ℕ) → ruled_size s more (raised_pairs k earlier) (raised k i) ≡ ruled_size s fewer earlier i
     same_ruled i =
-        λ j. if s.options.attention_first_lengths then length (same_run i j).codes else same_remaining i j
+        λ j. if (rules s).whole_lengths then length (same_run i j).codes else same_remaining i j
 
     same_three : (o c : ℕ) →
         is_refused_by_three s more (raised_pairs k earlier) (raised k o) (raised k c) ≡ is_refused_by_three s fewer earlier o c

@@ -3,16 +3,17 @@ use Rattle.std.proofs.Common.{◌≡◌, ℕ, suc, ◌+◌, ◌-◌, ◌≤◌, 
 use Rattle.std.proofs.lemmas.List.{length-map, take_all}
 use Rattle.std.proofs.lemmas.Bool.{eq-eqb, ne_eqb}
 use Rattle.std.specs.Str.{byte}
-use Rattle.markdown_model.specs.Setting.{Setting}
+use Rattle.markdown_model.specs.Setting.{Setting, rules}
 use Rattle.markdown_event.specs.declared.event.Name.{Name}
 use Rattle.markdown_event.specs.declared.event.Content.{Content}
 use Rattle.markdown_event.specs.declared.event.Point.{Point}
-use Rattle.markdown_engine_content.specs.Codes.{Code}
-use Rattle.markdown_engine_content.specs.Tree.{Forest, empty, leaf_then, group_then, leaf, ◌⊕◌}
+use Rattle.markdown_content.specs.Codes.{Code}
+use Rattle.markdown_content.specs.Tree.{Forest, empty, leaf_then, group_then, leaf, ◌⊕◌}
 use Rattle.std.proofs.Math.Bool.{and-false}
-use Rattle.markdown_util.specs.Neighbours.{class_of, before_index, after_index}
+use Rattle.markdown_util.specs.Neighbours.{before_index, after_index}
+use Rattle.markdown_util.specs.declared.util.char.Kind.{Kind}
 use Rattle.markdown_model.specs.GfmAutolinkLiteral.{is_other}
-use Rattle.markdown_model.specs.Runs.{Run, is_flanking, is_punctuation_class, is_beside_marker, run_of, runs_of}
+use Rattle.markdown_model.specs.Runs.{Run, class_beside, is_flanking, is_punctuation_class, is_beside_marker, run_of, runs_of}
 use Rattle.markdown_model.specs.Pairs.{Pair, pair_list}
 use Rattle.markdown_model.specs.BracketGroups.{Token, item, opens, closes, closing_sizes, opening_sizes, cut_front, run_tokens, assembled, tokens_of, paired}
 use Rattle.markdown_model.proofs.PassesKeepCodes.{codes-run_of}
@@ -179,7 +180,7 @@ pub intraword-neutral : (s : Setting) (c : Code) → IsIntraword s.bytes c → c
     IsNeutral s (c ∷ [])
 unfolding run_of
 intraword-neutral s c h e = record {
-  may_not_open = shut_by left right (c.value == byte "_") _ right_is (eq-eqb c.value (byte "_") h.marker) h.before;
+  may_not_open = shut_by left right (c.value == byte "_") _ right_is (eq-eqb c.value (byte "_") h.marker) (h.before (rules s));
   may_not_close = shut_by right left (c.value == byte "_") _ left_is (eq-eqb c.value (byte "_") h.marker) after;
 }
   where
@@ -189,17 +190,20 @@ intraword-neutral s c h e = record {
     a : Option ℕ
     a = after_index s.bytes c.stop.index
 
+    class : Option ℕ → Kind
+    class = class_beside (rules s)
+
     left : Bool
-    left = is_flanking s c.value b a
+    left = is_flanking s.options c.value b a
 
     right : Bool
-    right = is_flanking s c.value a b
+    right = is_flanking s.options c.value a b
 
-    after : is_other (class_of a) ≡ true
-    after = ap (λ n. is_other (class_of (after_index s.bytes n))) e ∙ h.after
+    after : is_other (class a) ≡ true
+    after = ap (λ n. is_other (class (after_index s.bytes n))) e ∙ h.after (rules s)
 
     left_is : left ≡ true
-    left_is = ap (λ x. (x || (is_punctuation_class (class_of a) && not (is_other (class_of b)))) || is_beside_marker s c.value a) after
+    left_is = ap (λ x. (x || (is_punctuation_class (class a) && not (is_other (class b)))) || is_beside_marker s.options c.value a) after
 
     right_is : right ≡ true
-    right_is = ap (λ x. (x || (is_punctuation_class (class_of b) && not (is_other (class_of a)))) || is_beside_marker s c.value b) h.before
+    right_is = ap (λ x. (x || (is_punctuation_class (class b) && not (is_other (class a)))) || is_beside_marker s.options c.value b) (h.before (rules s))

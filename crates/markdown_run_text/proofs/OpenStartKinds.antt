@@ -1,7 +1,7 @@
 -- The kinds of the starts that wait for an end, past a row.
 use Rattle.std.proofs.Common.{◌≡◌, Bool, true, false, if◌then◌else◌, List, [], ◌∷◌, map, refl}
-use Rattle.markdown_engine_content.specs.ListFunctions.{rest_of}
-use Rattle.markdown_engine_content.specs.declared.label_kind.LabelKind.{LabelKind}
+use Rattle.markdown_content.specs.ListFunctions.{rest_of}
+use Rattle.markdown_content.specs.declared.label_kind.LabelKind.{LabelKind}
 use Rattle.markdown_engine.specs.declared.tokenizer.LabelStart as Kept
 use Rattle.markdown_label.specs.LabelFields.{bars, as_link}
 use Rattle.markdown_label.specs.LabelEnd.{lost_starts}

@@ -4,9 +4,9 @@ use Rattle.std.proofs.lemmas.Bool.{or_parts}
 use Rattle.std.specs.List.{count_by}
 use Rattle.markdown_attention.specs.AttentionPass.{IsProbed}
 use Rattle.markdown_attention.specs.RunsOfTree.{has_run}
-use Rattle.markdown_attention.proofs.AttentionTreeLabels.{IsGood, IsSound, good-leaf, good-labels}
-use Rattle.markdown_engine_content.specs.Codes.{Code}
-use Rattle.markdown_engine_content.specs.Tree.{Forest, leaf_then, leaf, ◌⊕◌}
+use Rattle.markdown_attention.proofs.AttentionTreeLabels.{IsGood, IsElementRead, good-leaf, good-labels}
+use Rattle.markdown_content.specs.Codes.{Code}
+use Rattle.markdown_content.specs.Tree.{Forest, leaf_then, leaf, ◌⊕◌}
 use Rattle.markdown_event.specs.declared.event.Name.TheVariants as N
 use Rattle.markdown_model.specs.BracketGroups.{paired}
 use Rattle.markdown_model.specs.InlineTree.{run_count, pair_count, opener_count, closer_count, probe_bound}
@@ -57,23 +57,23 @@ module _ (bytes : List ℕ) where
 
   -- Sound elements.
 
-  sound-element : (e f : Element) → IsReadAs bytes e f → IsSound bytes e → IsSound bytes f
-  sound-element e f (inl x) h = subst (IsSound bytes) x h
-  sound-element e f (inr x) h = subst (IsSound bytes) (sym x.1.1.1) (good-leaf bytes N.Data (x.0 ∷ []) refl)
+  sound-element : (e f : Element) → IsReadAs bytes e f → IsElementRead bytes e → IsElementRead bytes f
+  sound-element e f (inl x) h = subst (IsElementRead bytes) x h
+  sound-element e f (inr x) h = subst (IsElementRead bytes) (sym x.1.1.1) (good-leaf bytes N.Data (x.0 ∷ []) refl)
 
-  sound-read : (elements read : List Element) → AreReadAs bytes elements read → AllAre (IsSound bytes) elements →
-      AllAre (IsSound bytes) read
+  sound-read : (elements read : List Element) → AreReadAs bytes elements read → AllAre (IsElementRead bytes) elements →
+      AllAre (IsElementRead bytes) read
   sound-read [] [] read_as h = tt
   sound-read (e ∷ es) (f ∷ fs) read_as h = (sound-element e f read_as.0 h.0, sound-read es fs read_as.1 h.1)
   sound-read [] (f ∷ fs) read_as h = absurd read_as
   sound-read (e ∷ es) [] read_as h = absurd read_as
 
   -- the tree of labels of what is read is as the pass of runs wants it
-  pub good-read : (elements read : List Element) → AreReadAs bytes elements read → AllAre (IsSound bytes) elements →
+  pub good-read : (elements read : List Element) → AreReadAs bytes elements read → AllAre (IsElementRead bytes) elements →
       IsGood bytes (labels_of read)
   good-read elements read read_as h = good-labels bytes read (sound-read elements read read_as h)
 
-module _ (bytes : List ℕ) (elements read : List Element) (read_as : AreReadAs bytes elements read) (s : Setting) (same_bytes : s.bytes ≡ bytes) (sound : AllAre (IsSound bytes) elements) where
+module _ (bytes : List ℕ) (elements read : List Element) (read_as : AreReadAs bytes elements read) (s : Setting) (same_bytes : s.bytes ≡ bytes) (sound : AllAre (IsElementRead bytes) elements) where
   neutral : (c : Code) → IsIntraword bytes c → c.stop.index ≡ c.start.index + 1 → IsNeutral s (c ∷ [])
   neutral c h e = intraword-neutral s c (subst (λ x. IsIntraword x c) (sym same_bytes) h) e
 

@@ -1,7 +1,7 @@
 -- No data is empty behind the pairs either; so texts that differ only in how data is cut are merged to one tree.
 use Rattle.std.proofs.Common.{◌≡◌, ◌≢◌, ℕ, suc, true, Option, None, List, [], ◌∷◌, ◌++◌, length, take, drop, reverse, map, sum_by, ◌-◌}
-use Rattle.markdown_engine_content.specs.Codes.{Code, stop_of, document_start}
-use Rattle.markdown_engine_content.specs.Tree.{Forest, empty, leaf_then, group_then, leaf, ◌⊕◌, start_of}
+use Rattle.markdown_content.specs.Codes.{Code, stop_of, document_start}
+use Rattle.markdown_content.specs.Tree.{Forest, empty, leaf_then, group_then, leaf, ◌⊕◌, start_of}
 use Rattle.markdown_event.specs.declared.event.Content.{Content}
 use Rattle.markdown_event.specs.declared.event.Name.{Name}
 use Rattle.markdown_event.specs.declared.event.Name.TheVariants as N
@@ -10,7 +10,7 @@ use Rattle.markdown_model.specs.Pairs.{Pair}
 use Rattle.markdown_model.specs.Passes.{merged}
 use Rattle.markdown_model.specs.Runs.{Run, marker_of, run_of, runs_of}
 use Rattle.markdown_model.specs.Setting.{Setting}
-use Rattle.markdown_partial.specs.MergedEvents.{is_data}
+use Rattle.markdown_passes.specs.MergedEvents.{is_data}
 use Rattle.markdown_run_text.specs.CutData.{split, HasCodes}
 use Rattle.markdown_run_text.proofs.CutDataLemmas.{merged-same}
 use Rattle.markdown_run_text.proofs.PairsOfCutData.{paired-same}
@@ -24,91 +24,91 @@ pub has-leaf : (name : Name) (cs : List Code) → HasCodes (leaf name cs)
 has-leaf name [] = tt
 has-leaf name (c ∷ cs) = ((λ e l k. cc), tt)
 
-abbrev AllHave : List Forest → Type 0
-AllHave [] = Unit {0}
-AllHave (t ∷ ts) = HasCodes t × AllHave ts
+abbrev AllHaveCodes : List Forest → Type 0
+AllHaveCodes [] = Unit {0}
+AllHaveCodes (t ∷ ts) = HasCodes t × AllHaveCodes ts
 
-all-append : (a b : List Forest) → AllHave a → AllHave b → AllHave (a ++ b)
+all-append : (a b : List Forest) → AllHaveCodes a → AllHaveCodes b → AllHaveCodes (a ++ b)
 all-append [] b g h = h
 all-append (t ∷ a) b g h = (g.0, all-append a b g.1 h)
 
-has-joined : (ts : List Forest) → AllHave ts → HasCodes (joined ts)
+has-joined : (ts : List Forest) → AllHaveCodes ts → HasCodes (joined ts)
 has-joined [] h = tt
 has-joined (t ∷ ts) h = has-join t (joined ts) h.0 (has-joined ts h.1)
 
-abbrev CutsHave : List (List Code × List Forest) → Type 0
-CutsHave [] = Unit {0}
-CutsHave (c ∷ more) = AllHave c.1 × CutsHave more
+abbrev CutsHaveCodes : List (List Code × List Forest) → Type 0
+CutsHaveCodes [] = Unit {0}
+CutsHaveCodes (c ∷ more) = AllHaveCodes c.1 × CutsHaveCodes more
 
-abbrev WordHas : List Token → Type 0
-WordHas [] = Unit {0}
-WordHas (item f ∷ w) = HasCodes f × WordHas w
-WordHas (opens o ∷ w) = WordHas w
-WordHas (closes c ∷ w) = WordHas w
+abbrev WordHasCodes : List Token → Type 0
+WordHasCodes [] = Unit {0}
+WordHasCodes (item f ∷ w) = HasCodes f × WordHasCodes w
+WordHasCodes (opens o ∷ w) = WordHasCodes w
+WordHasCodes (closes c ∷ w) = WordHasCodes w
 
-word-append : (a b : List Token) → WordHas a → WordHas b → WordHas (a ++ b)
+word-append : (a b : List Token) → WordHasCodes a → WordHasCodes b → WordHasCodes (a ++ b)
 word-append [] b g h = h
 word-append (item f ∷ a) b g h = (g.0, word-append a b g.1 h)
 word-append (opens o ∷ a) b g h = word-append a b g h
 word-append (closes c ∷ a) b g h = word-append a b g h
 
-pair-has : (front : List Code) (inside : List Forest) (back : List Code) → AllHave inside →
-    AllHave (pair_group front inside back)
+pair-has : (front : List Code) (inside : List Forest) (back : List Code) → AllHaveCodes inside →
+    AllHaveCodes (pair_group front inside back)
 pair-has front inside back h =
     let names = pair_names (marker_of front) (length front) in
     ((has-join (leaf names.1 front) (group_then names.2 (stop_of document_start front) (start_of back) (joined inside) empty ⊕ leaf names.1 back) (has-leaf names.1 front) (has-join (group_then names.2 (stop_of document_start front) (start_of back) (joined inside) empty) (leaf names.1 back) (has-joined inside h, tt) (has-leaf names.1 back)), tt), tt)
 
-onto-has : (o : List Code) (inside : List Forest) (more : List (List Code × List Forest)) → AllHave inside →
-    CutsHave more →
-    AllHave (onto pair_group loose loose o inside more).0 × CutsHave (onto pair_group loose loose o inside more).1
+onto-has : (o : List Code) (inside : List Forest) (more : List (List Code × List Forest)) → AllHaveCodes inside →
+    CutsHaveCodes more →
+    AllHaveCodes (onto pair_group loose loose o inside more).0 × CutsHaveCodes (onto pair_group loose loose o inside more).1
 onto-has o inside [] g h = ((has-leaf Name.Data o, g), tt)
 onto-has o inside (c ∷ more) g h = (all-append (pair_group o inside c.0) c.1 (pair-has o inside c.0 g) h.0, h.1)
 
-nest-has : (w : List Token) → WordHas w →
-    AllHave (nest pair_group loose loose w).0 × CutsHave (nest pair_group loose loose w).1
+nest-has : (w : List Token) → WordHasCodes w →
+    AllHaveCodes (nest pair_group loose loose w).0 × CutsHaveCodes (nest pair_group loose loose w).1
 nest-has [] h = (tt, tt)
 nest-has (item f ∷ w) h = let r = nest-has w h.1 in ((h.0, r.0), r.1)
 nest-has (closes c ∷ w) h = let r = nest-has w h in (tt, (r.0, r.1))
 nest-has (opens o ∷ w) h =
     let r = nest-has w h in onto-has o (nest pair_group loose loose w).0 (nest pair_group loose loose w).1 r.0 r.1
 
-after-has : (more : List (List Code × List Forest)) → CutsHave more → AllHave (after_loose pair_group loose loose more)
+after-has : (more : List (List Code × List Forest)) → CutsHaveCodes more → AllHaveCodes (after_loose pair_group loose loose more)
 after-has [] h = tt
 after-has (c ∷ more) h =
     ((has-leaf Name.Data c.0, all-append c.1 (after_loose pair_group loose loose more) h.0 (after-has more h.1)))
 
-assembled-has : (w : List Token) → WordHas w → HasCodes (assembled w)
+assembled-has : (w : List Token) → WordHasCodes w → HasCodes (assembled w)
 assembled-has w h =
     let r = nest-has w h in
     has-joined ((nest pair_group loose loose w).0 ++ after_loose pair_group loose loose (nest pair_group loose loose w).1) (all-append (nest pair_group loose loose w).0 (after_loose pair_group loose loose (nest pair_group loose loose w).1) r.0 (after-has (nest pair_group loose loose w).1 r.1))
 
-closes-has : (cs : List (List Code)) (w : List Token) → WordHas w → WordHas (map closes cs ++ w)
+closes-has : (cs : List (List Code)) (w : List Token) → WordHasCodes w → WordHasCodes (map closes cs ++ w)
 closes-has [] w h = h
 closes-has (c ∷ cs) w h = closes-has cs w h
 
-opens-has : (cs : List (List Code)) → WordHas (map opens cs)
+opens-has : (cs : List (List Code)) → WordHasCodes (map opens cs)
 opens-has [] = tt
 opens-has (c ∷ cs) = opens-has cs
 
-run-has : (ps : List Pair) (n : ℕ) (r : Run) → WordHas (run_tokens ps n r)
+run-has : (ps : List Pair) (n : ℕ) (r : Run) → WordHasCodes (run_tokens ps n r)
 run-has ps n r =
     let front : List (List Code) × List Code = cut_front (closing_sizes n ps) r.codes in
     let sizes : List ℕ = reverse (opening_sizes n ps) in
     let kept : ℕ = length front.1 - sum_by (λ k. k) sizes in
     let back : List (List Code) × List Code = cut_front sizes (drop kept front.1) in
-    let rest : WordHas (item (leaf Name.Data (take kept front.1)) ∷ map opens back.0) = (has-leaf Name.Data (take kept front.1), opens-has back.0) in
+    let rest : WordHasCodes (item (leaf Name.Data (take kept front.1)) ∷ map opens back.0) = (has-leaf Name.Data (take kept front.1), opens-has back.0) in
     closes-has front.0 (item (leaf Name.Data (take kept front.1)) ∷ map opens back.0) rest
 
 module _ (s : Setting) (pairs_of : List Run → List Pair) where
   leaf-has : (name : Name) (link : Option Content) (cs : List Code) (rest : Forest) (ps : List Pair) (n : ℕ) →
-      (is_data name ≡ true → link ≡ None → cs ≢ []) → ((m : ℕ) → WordHas (tokens_of s pairs_of rest ps m)) →
-      WordHas (tokens_of s pairs_of (leaf_then name link cs rest) ps n)
+      (is_data name ≡ true → link ≡ None → cs ≢ []) → ((m : ℕ) → WordHasCodes (tokens_of s pairs_of rest ps m)) →
+      WordHasCodes (tokens_of s pairs_of (leaf_then name link cs rest) ps n)
   unfolding tokens_of
   leaf-has N.AttentionSequence link cs rest ps n g h =
       word-append (run_tokens ps n (run_of s cs)) (tokens_of s pairs_of rest ps (suc n)) (run-has ps n (run_of s cs)) (h (suc n))
   leaf-has name link cs rest ps n g h = ((g, tt), h n)
 
-  tokens-has : (t : Forest) (ps : List Pair) (n : ℕ) → HasCodes t → WordHas (tokens_of s pairs_of t ps n)
+  tokens-has : (t : Forest) (ps : List Pair) (n : ℕ) → HasCodes t → WordHasCodes (tokens_of s pairs_of t ps n)
   unfolding tokens_of
   tokens-has empty ps n h = tt
   tokens-has (leaf_then name link cs rest) ps n h = leaf-has name link cs rest ps n h.0 (λ m. tokens-has rest ps m h.1)

@@ -5,11 +5,11 @@ use Rattle.std.specs.List.{list_any}
 use Rattle.std.specs.Option.{is_some}
 use Rattle.std.proofs.lemmas.Bool.{eqb-true, or_parts, or_from, not-false}
 use Rattle.std.proofs.lemmas.List.Folds.{list_any-append}
-use Rattle.markdown_engine_content.specs.Codes.{Code, is_line_ending, line_feed}
-use Rattle.markdown_engine_content.specs.Place.{Place, ahead_at, code_at, code_before, moved}
-use Rattle.markdown_engine_content.specs.Stretch.{is_free, past_stretch, stops, stretch, walked}
-use Rattle.markdown_engine_content.proofs.PlaceRules.{IsAhead, ahead_some, ahead_none, ahead_moved, code_at_ahead, code_at_end, left_moved}
-use Rattle.markdown_engine_content.proofs.StretchLemmas.{past-none, past-one, left-behind, stretch-goes, stretch-stops}
+use Rattle.markdown_content.specs.Codes.{Code, is_line_ending, line_feed}
+use Rattle.markdown_content.specs.Place.{Place, ahead_at, code_at, code_before, moved}
+use Rattle.markdown_content.specs.Stretch.{is_free, past_stretch, stops, stretch, walked}
+use Rattle.markdown_content.proofs.PlaceRules.{IsAhead, ahead_some, ahead_none, ahead_moved, code_at_ahead, code_at_end, left_moved}
+use Rattle.markdown_content.proofs.StretchLemmas.{past-none, past-one, left-behind, stretch-goes, stretch-stops}
 use Rattle.markdown_engine.specs.PastTree.{moved_by}
 use Rattle.markdown_model.specs.CodeTests.{is_among}
 use Rattle.markdown_model.specs.GfmAutolinkLiteral.{literal_words}

@@ -1,18 +1,18 @@
 -- Past one tree and then another, and past a tree of which it is known whether a run of markers stands in it.
 use Rattle.std.proofs.Common.{◌≡◌, Bool, true, false, ◌||◌, ◌==◌, if◌then◌else◌, List, [], ◌∷◌, ◌++◌, length, None, refl, sym, ap, ◌∙◌}
 use Rattle.std.proofs.lemmas.Bool.{or_parts, or_right}
-use Rattle.markdown_engine_content.specs.Codes.{Code}
+use Rattle.markdown_content.specs.Codes.{Code}
 use Rattle.markdown_engine.specs.Operations.{ahead, is_registered, registered, resolver_number}
 use Rattle.markdown_engine.specs.PastTree.{past, last_link}
-use Rattle.markdown_engine_content.specs.Tree.{Forest, empty, leaf_then, group_then, leaf, ◌⊕◌}
+use Rattle.markdown_content.specs.Tree.{Forest, empty, leaf_then, group_then, leaf, ◌⊕◌}
 use Rattle.markdown_event.specs.declared.event.Name.{Name}
-use Rattle.markdown_state.specs.declared.resolve.ResolveName.{ResolveName}
-use Rattle.markdown_state.specs.declared.resolve.ResolveName.TheVariants as R
+use Rattle.markdown_event.specs.declared.resolve.ResolveName.{ResolveName}
+use Rattle.markdown_event.specs.declared.resolve.ResolveName.TheVariants as R
 use Rattle.markdown_engine.specs.declared.tokenizer.Tokenizer.{Tokenizer}
 use Rattle.markdown_engine.proofs.TreeEvents.{past-empty, past-past}
 use Rattle.markdown_attention.specs.RunsRead.{is_run}
 use Rattle.markdown_attention.specs.RunsOfTree.{has_run}
-use Rattle.markdown_run_text.specs.RowTreeNames.{IsQuiet, IsRunless, HasOuterRuns}
+use Rattle.markdown_run_text.specs.RowTreeNames.{HasNoDataOrRuns, IsRunless, HasOuterRuns}
 use Rattle.markdown_run_text.specs.Row.{passes_after, past_tree}
 
 -- Whether a run stands in a row.
@@ -27,7 +27,7 @@ has_run-row (leaf_then name link cs rest) u =
     ap (λ b. is_run name || b) (has_run-row rest u) ∙ or-apart (is_run name) (has_run rest) (has_run u)
 has_run-row (group_then name a b inside rest) u = has_run-row rest u
 
-pub quiet-runless : (t : Forest) → IsQuiet t → IsRunless t
+pub quiet-runless : (t : Forest) → HasNoDataOrRuns t → IsRunless t
 quiet-runless empty h = tt
 quiet-runless (leaf_then name link cs rest) h = (h.1.0, quiet-runless rest h.1.1)
 quiet-runless (group_then name enter exit inside rest) h = (quiet-runless inside h.1.0, quiet-runless rest h.1.1)
@@ -46,10 +46,10 @@ runless-outer empty h = tt
 runless-outer (leaf_then name link cs rest) h = runless-outer rest h.1
 runless-outer (group_then name a b inside rest) h = (h.0, runless-outer rest h.1)
 
-pub quiet-no-run : (t : Forest) → IsQuiet t → has_run t ≡ false
+pub quiet-no-run : (t : Forest) → HasNoDataOrRuns t → has_run t ≡ false
 quiet-no-run t h = runless-no-run t (quiet-runless t h)
 
-pub quiet-outer : (t : Forest) → IsQuiet t → HasOuterRuns t
+pub quiet-outer : (t : Forest) → HasNoDataOrRuns t → HasOuterRuns t
 quiet-outer t h = runless-outer t (quiet-runless t h)
 
 pub outer-row : (t u : Forest) → HasOuterRuns t → HasOuterRuns u → HasOuterRuns (t ⊕ u)

@@ -1,5 +1,5 @@
 -- The end of a label with a plain reference is read as the definitions read it.
-use Rattle.std.proofs.Common.{inl, inr, ◌≡◌, ◌≤◌, ℕ, suc, ◌-◌, ◌==◌, ◌&&◌, ◌||◌, not, Bool, true, false, if◌then◌else◌, List, [], ◌∷◌, ◌++◌, Option, None, Some, length, slice_range, take, drop, nat_le, refl, sym, ap, subst, ◌∙◌, arith, append_assoc}
+use Rattle.std.proofs.Common.{inl, inr, ◌≡◌, ◌≤◌, ℕ, suc, ◌+◌, ◌-◌, ◌==◌, ◌&&◌, ◌||◌, not, Bool, true, false, if◌then◌else◌, List, [], ◌∷◌, ◌++◌, Option, None, Some, length, slice_range, take, drop, nat_le, refl, sym, ap, subst, ◌∙◌, arith, append_assoc}
 use Rattle.std.specs.Prelude.{max, nat_lt, IsUtf8, ◌<◌, is_some, IsTrue}
 use Rattle.std.specs.List.{list_any}
 use Rattle.std.specs.Str.{IsCharBoundary}
@@ -9,12 +9,12 @@ use Rattle.std.proofs.lemmas.Bool.Decides.{nat_tests}
 use Rattle.std.proofs.lemmas.Grind.{common_steps}
 use Rattle.std.proofs.lemmas.Option.{same_Some}
 use Rattle.markdown_event.proofs.AndParts.{and-left, and-right}
-use Rattle.markdown_engine_content.proofs.PlaceRules.{IsAhead, code_at_ahead, point_ahead}
-use Rattle.markdown_engine_content.specs.Codes.{Code, document_start, is_blank, is_line_ending, stop_of}
-use Rattle.markdown_engine_content.specs.Content.{has_no_blank_line}
-use Rattle.markdown_engine_content.specs.Place.{Place, ahead_at, code_at, exit_point, moved, point_of}
-use Rattle.markdown_engine_content.specs.Stretch.{is_free, stops, stretch}
-use Rattle.markdown_engine_content.specs.Tree.{Forest, empty, leaf, group, ◌⊕◌}
+use Rattle.markdown_content.proofs.PlaceRules.{IsAhead, code_at_ahead, point_ahead}
+use Rattle.markdown_content.specs.Codes.{Code, document_start, is_blank, is_line_ending, stop_of}
+use Rattle.markdown_content.specs.Content.{has_no_blank_line}
+use Rattle.markdown_content.specs.Place.{Place, ahead_at, code_at, exit_point, moved, point_of}
+use Rattle.markdown_content.specs.Stretch.{is_free, stops, stretch}
+use Rattle.markdown_content.specs.Tree.{Forest, empty, leaf, group, ◌⊕◌}
 use Rattle.markdown_event.specs.declared.event.Name.TheVariants as N
 use Rattle.markdown_event.specs.declared.event.Point.{Point}
 use Rattle.markdown_engine.specs.Operations.{ahead, applied, current_of, done, scratched}
@@ -23,7 +23,7 @@ use Rattle.markdown_engine.specs.declared.tokenizer.LabelStart as Kept
 use Rattle.markdown_engine.specs.declared.tokenizer.Tokenizer.{Tokenizer}
 use Rattle.markdown_engine.proofs.PlaceAfterCodes.{stop-moved}
 use Rattle.markdown_label_names.specs.IdentifierFronts.{AreCuts}
-use Rattle.markdown_label.specs.LabelEnd.{AllEndBetween, Ends, EndsBetween, StartReady, end_ops, ended, is_on, made_here}
+use Rattle.markdown_label.specs.LabelEnd.{AllEndBetween, Ends, EndsBetween, LabelEndStartReady, end_ops, ended, is_on, made_here}
 use Rattle.markdown_label_names.proofs.BytesBetween.{max-between, max-size}
 use Rattle.markdown_label_names.specs.LabelNames.{place_at}
 use Rattle.markdown_label_names.specs.LabelSetting.{setting_in}
@@ -31,8 +31,8 @@ use Rattle.markdown_label.proofs.LabelEndReadings.{after-bracket, after-other, f
 use Rattle.markdown_model.specs.CodeTests.{is_among, is_between, is_value, is_whitespace_code, next_is}
 use Rattle.markdown_model.specs.Grammar.{gives, one, up_to}
 use Rattle.markdown_model.specs.LabelEnd.{bytes_between, full_reference, reference_identifier, shortcut}
-use Rattle.markdown_model.specs.Resource.{counted, label, reference_names, string_group}
-use Rattle.markdown_model.specs.Setting.{Setting, is_defined}
+use Rattle.markdown_model.specs.Resource.{begins_character, counted, label, reference_names, string_group}
+use Rattle.markdown_model.specs.Setting.{Setting, defines, rules}
 use Rattle.markdown_model.proofs.GrammarSteps.{after-some, bind-some, if-false, if-true, one-here, provided-true, switched-on}
 use Rattle.markdown_partial.proofs.BoolLemmas.{same-value}
 use Rattle.markdown_plan.specs.Characters.{ReadsText, bytes_of}
@@ -44,8 +44,8 @@ use Rattle.markdown_run_text.specs.PlainReference.{ends_here, front_stops, is_na
 use Rattle.markdown_run_text.specs.PlainResource.{between_read, has_markers, may_make, plain_here}
 use Rattle.markdown_run_text.proofs.AttentionReads.{at-moved}
 use Rattle.markdown_run_text.proofs.ImageStarts.{first-at, some-value}
-use Rattle.markdown_run_text.proofs.LabelEndReads.{AnswersBy, Follows, asks-nothing, ends-where}
-use Rattle.markdown_run_text.proofs.PlainResourceReads.{EndsText, IsFree, IsStretch, between-covers, between-reads, between_tree, closes-there, code-here, ends-text, free-here, no-blank-line, one-line, text-is, value-here, value-is}
+use Rattle.markdown_run_text.proofs.LabelEndReads.{AnswersBy, EndFollows, asks-nothing, ends-where}
+use Rattle.markdown_run_text.proofs.PlainResourceReads.{EndsText, IsFreeOf, IsTextStretch, between-covers, between-reads, between_tree, closes-there, code-here, ends-text, free-here, no-blank-line, one-line, text-is, value-here, value-is}
 use Rattle.markdown_run_text.proofs.StretchParts.{text-passed}
 
 -- The label of a full reference.
@@ -68,15 +68,19 @@ front-free v h =
     let space = or_parts (v == 32) _ tab.1 in
     (rw (line.0, space.1) refl, rw (space.0, tab.0, line.0) refl)
 
-counted-most : (indent : Bool) (cs : List Code) → counted indent cs ≤ length cs
-counted-most indent [] = omega arith
-counted-most indent (c ∷ cs) = by_test (is_line_ending c) (indent && is_blank c) refl refl (counted-most true cs) (counted-most false cs)
+-- each code counts once at most
+counted-most : (characters indent : Bool) (cs : List Code) → counted characters indent cs ≤ length cs
+counted-most characters indent [] = omega arith
+counted-most characters indent (c ∷ cs) =
+    by_test (is_line_ending c) (indent && is_blank c) characters (not characters || begins_character c) (counted-most characters true cs) (counted-most characters false cs)
   where
-    by_test : (a b : Bool) → is_line_ending c ≡ a → (indent && is_blank c) ≡ b → counted true cs ≤ length cs → counted false cs ≤ length cs →
-        (elim a as (λ _. ℕ) [ true ↦ counted true cs | false ↦ elim b as (λ _. ℕ) [ true ↦ counted true cs | false ↦ suc (counted false cs) ] ]) ≤ suc (length cs)
-    by_test true b e h j k = omega (arith, j)
-    by_test false true e h j k = omega (arith, j)
-    by_test false false e h j k = omega (arith, k)
+    by_test : (a b x y : Bool) → counted characters true cs ≤ length cs → counted characters false cs ≤ length cs →
+        (elim a as (λ _. ℕ) [ true ↦ (if x then 1 else 0) + counted characters true cs | false ↦ elim b as (λ _. ℕ) [ true ↦ counted characters true cs | false ↦ (if y then 1 else 0) + counted characters false cs ] ]) ≤ suc (length cs)
+    by_test true b true y j k = omega (arith, j)
+    by_test true b false y j k = omega (arith, j)
+    by_test false true x y j k = omega (arith, j)
+    by_test false false x true j k = omega (arith, k)
+    by_test false false x false j k = omega (arith, k)
 
 le-true : (m n o : ℕ) → m ≤ n → nat_le n o ≡ true → nat_le m o ≡ true
 le-true m n o h e = grind (arith, nat_tests, common_steps)
@@ -84,18 +88,18 @@ le-true m n o h e = grind (arith, nat_tests, common_steps)
 abbrev full_tree : Code → List Code → Code → Forest
 full_tree f w b = between_tree N.Reference N.ReferenceMarker N.ReferenceString f w b
 
-module _ (f t : Code) (ts : List Code) (b : Code) (rest : List Code) (k : IsStretch label_stops t ts (b ∷ rest)) (front : is_value 91 f ≡ true) (back : is_value 93 b ≡ true) (white : is_whitespace_code t ≡ false) (short : nat_le (length (t ∷ ts)) 999 ≡ true) where
+module _ (f t : Code) (ts : List Code) (b : Code) (rest : List Code) (k : IsTextStretch label_stops t ts (b ∷ rest)) (front : is_value 91 f ≡ true) (back : is_value 93 b ≡ true) (white : is_whitespace_code t ≡ false) (short : nat_le (length (t ∷ ts)) 999 ≡ true) where
   abbrev full : List Code
   full = f ∷ ((t ∷ ts) ++ b ∷ rest)
 
-  label-is : label reference_names full ≡ Some (full_tree f (t ∷ ts) b, rest)
+  label-is : (characters : Bool) → label characters reference_names full ≡ Some (full_tree f (t ∷ ts) b, rest)
   unfolding label gives
-  label-is =
+  label-is characters =
       let line : is_line_ending b ≡ false = same-value b.value 93 back (λ v. v == 10) in
       let filled : has_no_blank_line true ((t ∷ ts) ++ b ∷ []) ≡ true =
       ap (λ xs. has_no_blank_line true (xs ++ b ∷ [])) (sym k.text) ∙ no-blank-line label_stops ((t ∷ ts) ++ b ∷ rest) b line in
       let some : list_any (λ (c : Code). not (is_whitespace_code c)) (t ∷ ts) ≡ true = ap (λ x. not x || list_any (λ (c : Code). not (is_whitespace_code c)) ts) white in
-      let few : nat_le (counted false (t ∷ ts)) 999 ≡ true = le-true _ _ 999 (counted-most false (t ∷ ts)) short in
+      let few : nat_le (counted characters false (t ∷ ts)) 999 ≡ true = le-true _ _ 999 (counted-most characters false (t ∷ ts)) short in
       bind-some (one (is_value 91)) _ full (f ∷ []) ((t ∷ ts) ++ b ∷ rest) _ (one-here (is_value 91) f ((t ∷ ts) ++ b ∷ rest) front)
       (bind-some (up_to (is_value 93) (is_among (91 ∷ 92 ∷ 93 ∷ [])) (is_value 91)) _ ((t ∷ ts) ++ b ∷ rest) (t ∷ ts) (b ∷ rest) _
       (text-is (is_value 93) (is_among (91 ∷ 92 ∷ 93 ∷ [])) (is_value 91) label_stops label-free t ts b rest k back)
@@ -109,13 +113,13 @@ module _ (f t : Code) (ts : List Code) (b : Code) (rest : List Code) (k : IsStre
   unfolding reference_identifier
   name-is s = refl
 
-  full-follows : (s : Setting) → is_defined s.definitions (identifier_of (bytes_between s t.start (stop_of document_start (t ∷ ts)))) ≡ true →
-      Follows s false reference_read full
+  full-follows : (s : Setting) → defines s (identifier_of (bytes_between s t.start (stop_of document_start (t ∷ ts)))) ≡ true →
+      EndFollows s false reference_read full
   unfolding full_reference gives
   full-follows s defined =
       let tree : Forest = full_tree f (t ∷ ts) b in
       let found : full_reference s full ≡ Some (tree, rest) =
-      bind-some (label reference_names) _ full tree rest _ label-is (switched-on (gives tree) _ rest (ap (is_defined s.definitions) (name-is s) ∙ defined)) in
+      bind-some (label (rules s).labels_by_characters reference_names) _ full tree rest _ (label-is (rules s).labels_by_characters) (switched-on (gives tree) _ rest (ap (defines s) (name-is s) ∙ defined)) in
       record {
         tree = tree;
         codes = f ∷ ((t ∷ ts) ++ b ∷ []);
@@ -131,7 +135,7 @@ module _ (f t : Code) (ts : List Code) (b : Code) (rest : List Code) (k : IsStre
 -- A shortcut.
 
 shortcut-follows : (s : Setting) (cs : List Code) → next_is (is_value 40) cs ≡ false → next_is (is_value 91) cs ≡ false →
-    Follows s true reference_read cs
+    EndFollows s true reference_read cs
 unfolding shortcut gives
 shortcut-follows s cs paren bracket = record {
   tree = empty;
@@ -151,7 +155,7 @@ pub record TextOf (p : Place) : Type 0 where
   pub back : Code
   pub rest : List Code
   pub codes : ahead_at p ≡ (first ∷ more) ++ back ∷ rest
-  pub text : IsStretch label_stops first more (back ∷ rest)
+  pub text : IsTextStretch label_stops first more (back ∷ rest)
   pub closes : back.value ≡ 93
   pub white : is_whitespace_code first ≡ false
   pub short : nat_le (length (first ∷ more)) 999 ≡ true
@@ -160,7 +164,7 @@ pub record TextOf (p : Place) : Type 0 where
 
 pub text-of : (p : Place) → text_at p ≡ true → TextOf p
 text-of p h =
-    let f : IsFree front_stops (code_at p) = free-here front_stops (code_at p) (and-left _ _ h) in
+    let f : IsFreeOf front_stops (code_at p) = free-here front_stops (code_at p) (and-left _ _ h) in
     let parts = front-free f.value f.free in
     let free : is_free label_stops (code_at p) ≡ true = ap (is_free label_stops) f.is ∙ ap not parts.0 in
     let ends : is_some_value 93 (code_at (past_text p)) && nat_le ((past_text p).at - p.at) 999 ≡ true = and-right (is_free front_stops (code_at p)) _ h in
@@ -209,7 +213,7 @@ module _ (T : Tokenizer) (text : ReadsText T) (front : is_some_value 91 (code_at
       (subst (λ (q : Point). IsCharBoundary (bytes_of T) q.index) (sym k.to) places.1)
       start end from to
 
-module _ (T : Tokenizer) (ready : StartReady T) (here : is_some_value 93 (code_at T.cursor) ≡ true) (l : Kept.LabelStart) (ls : List Kept.LabelStart) (top : T.tokenize_state.label_starts ≡ l ∷ ls) where
+module _ (T : Tokenizer) (ready : LabelEndStartReady T) (here : is_some_value 93 (code_at T.cursor) ≡ true) (l : Kept.LabelStart) (ls : List Kept.LabelStart) (top : T.tokenize_state.label_starts ≡ l ∷ ls) where
   last-start : EndsBetween T l
   last-start = (subst (AllEndBetween T) top ready.within.0).0
 
@@ -226,9 +230,9 @@ module _ (T : Tokenizer) (ready : StartReady T) (here : is_some_value 93 (code_a
         (subst (λ (q : Point). IsCharBoundary (bytes_of T) q.index) (sym (point_ahead p a.code _ a.codes)) begins)
         start end from to
 
-    pub named-is : is_defined (setting_in T).definitions (identifier_of (slice_range (bytes_of T) start end)) ≡ is_named T.tokenize_state.label_starts T
+    pub named-is : defines (setting_in T) (identifier_of (slice_range (bytes_of T) start end)) ≡ is_named T.tokenize_state.label_starts T
     named-is =
-        ap (λ bs. is_defined (setting_in T).definitions (identifier_of bs)) (name-between (bytes_of T) (place_at T.events l.start.1).index (point_of T.cursor).index start end from to)
+        ap (λ bs. defines (setting_in T) (identifier_of bs)) (name-between (bytes_of T) (place_at T.events l.start.1).index (point_of T.cursor).index start end from to)
         ∙ sym (ap (λ ks. is_named ks T) top)
 
 -- By what stands behind the `]`.
@@ -246,21 +250,21 @@ refers-own T (Some v) h k =
     (not-true (v == 40) (and-left _ _ own), and-right (not (v == 40)) _ own)
 
 full-here : (T : Tokenizer) → is_some_value 91 (code_at (moved T.cursor)) ≡ true → names_at (setting_in T) (moved (moved T.cursor)) ≡ true →
-    Follows (setting_in T) false reference_read (ahead_at (moved T.cursor))
+    EndFollows (setting_in T) false reference_read (ahead_at (moved T.cursor))
 full-here T front h =
     let s : Setting = setting_in T in
     let p : Place = moved T.cursor in
     let f : IsAhead p 91 = code-here 91 p front in
     let k : TextOf (moved p) = text-of (moved p) (and-left _ _ h) in
-    let defined : is_defined s.definitions (name_at s (moved p)) ≡ true = and-right (text_at (moved p)) _ h in
-    subst (Follows s false reference_read) (sym (f.codes ∙ ap (λ cs. f.code ∷ cs) k.codes))
+    let defined : defines s (name_at s (moved p)) ≡ true = and-right (text_at (moved p)) _ h in
+    subst (EndFollows s false reference_read) (sym (f.codes ∙ ap (λ cs. f.code ∷ cs) k.codes))
     (full-follows f.code k.first k.more k.back k.rest k.text (value-is f.code 91 f.value) (value-is k.back 93 k.closes) k.white k.short s
-    (sym (λ i. is_defined s.definitions (identifier_of (bytes_between s (k.from i) (k.to i)))) ∙ defined))
+    (sym (λ i. defines s (identifier_of (bytes_between s (k.from i) (k.to i)))) ∙ defined))
 
 own-answers : (T : Tokenizer) (x : Code) → point_of T.cursor ≡ x.start → (ls : List Kept.LabelStart) → is_named ls T ≡ true → AnswersBy T true x ls
 own-answers T x e [] h = tt
 own-answers T x e (l ∷ ls) h = λ asked.
-    sym (ap (λ q. is_defined (setting_in T).definitions (identifier_of (bytes_between (setting_in T) (place_at T.events l.start.1) q))) e) ∙ h
+    sym (ap (λ q. defines (setting_in T) (identifier_of (bytes_between (setting_in T) (place_at T.events l.start.1) q))) e) ∙ h
 
 -- where one stands, it is read
 pub reference-ends : (T U : Tokenizer) → reference_here T ≡ true → U ≡ made_here (reference_read (done end_ops (ended T))) → Ends T U

@@ -3,17 +3,17 @@ use Rattle.std.proofs.Common.{◌≡◌, ◌≢◌, ℕ, ◌==◌, ◌&&◌, ◌
 use Rattle.std.specs.Option.{is_some}
 use Rattle.std.proofs.lemmas.Bool.{both_ways, eq-eqb, eqb-true, not-true, or_parts}
 use Rattle.markdown_event.proofs.AndParts.{and-left, and-right}
-use Rattle.markdown_engine_content.specs.Codes.{Code, is_blank, is_line_ending}
-use Rattle.markdown_engine_content.specs.Content.{has_no_blank_line}
-use Rattle.markdown_engine_content.specs.ListFunctions.{rest_of}
-use Rattle.markdown_engine_content.specs.Place.{Place, ahead_at, code_at, moved, point_of}
-use Rattle.markdown_engine_content.specs.Stretch.{is_free, past_stretch, stops, stretch}
-use Rattle.markdown_engine_content.specs.Tree.{Forest, leaf, linked, group, leaf_codes, ◌⊕◌}
+use Rattle.markdown_content.specs.Codes.{Code, is_blank, is_line_ending}
+use Rattle.markdown_content.specs.Content.{has_no_blank_line}
+use Rattle.markdown_content.specs.ListFunctions.{rest_of}
+use Rattle.markdown_content.specs.Place.{Place, ahead_at, code_at, moved, point_of}
+use Rattle.markdown_content.specs.Stretch.{is_free, past_stretch, stops, stretch}
+use Rattle.markdown_content.specs.Tree.{Forest, leaf, linked, group, leaf_codes, ◌⊕◌}
 use Rattle.markdown_event.specs.declared.event.Content.TheVariants as Content
 use Rattle.markdown_event.specs.declared.event.Name.{Name}
 use Rattle.markdown_event.specs.declared.event.Name.TheVariants as N
-use Rattle.markdown_engine_content.proofs.PlaceRules.{IsAhead, ahead_some, code_at_ahead}
-use Rattle.markdown_engine_content.proofs.StretchLemmas.{stretch-goes, stretch-stops}
+use Rattle.markdown_content.proofs.PlaceRules.{IsAhead, ahead_some, code_at_ahead}
+use Rattle.markdown_content.proofs.StretchLemmas.{stretch-goes, stretch-stops}
 use Rattle.markdown_engine.specs.Operations.{Op, Enter, EnterLink, Exit, ahead, applied, current_of, done, scratched}
 use Rattle.markdown_engine.specs.PastTree.{behind, moved_by, passed, past}
 use Rattle.markdown_engine.specs.TreeOps.{consumes}
@@ -30,8 +30,8 @@ use Rattle.markdown_label.proofs.ResourceReadings.{grouped, resource-inside}
 use Rattle.markdown_model.specs.CodeTests.{is_among, is_between, is_control, is_value, is_whitespace_code, next_is}
 use Rattle.markdown_model.specs.Grammar.{escaped_from, gives, one, span, up_to, with_first}
 use Rattle.markdown_model.specs.LabelEnd.{shortcut}
-use Rattle.markdown_model.specs.Resource.{begins_title, destination, literal_destination, raw_destination, raw_from, resource, resource_names, string_group, title, title_between, title_names}
-use Rattle.markdown_model.specs.Setting.{Setting}
+use Rattle.markdown_model.specs.Resource.{begins_title, escaped_between, is_bare_opener, destination, literal_destination, raw_destination, raw_from, resource, resource_names, string_group, title, title_between, title_names}
+use Rattle.markdown_model.specs.Setting.{Setting, rules}
 use Rattle.markdown_model.specs.TextLines.{linked_leaf, lines}
 use Rattle.markdown_model.specs.Whitespace.{space_or_tab_eol}
 use Rattle.markdown_model.proofs.GrammarSteps.{after-some, bind-none, bind-some, either-second, either-some, if-false, if-true, one-here, one-other, provided-true, span-none, span-takes}
@@ -50,7 +50,7 @@ use Rattle.markdown_run_text.specs.PlacesPassed.{is_some_value, marker_ops, with
 use Rattle.markdown_run_text.specs.PlainResource.{begins_enclosed, between_read, closes_at, closes_behind, destination_at, destination_read, enclosed_read, is_quote, is_some_blank, may_make, past_between, past_destination, past_quoted, past_title}
 use Rattle.markdown_run_text.specs.PlainResource.{plain_at, plain_here, quoted_at, quoted_read, raw_read, resource_read, stands_between, tail_at, tail_read, text_read, title_at, title_read, title_stops}
 use Rattle.markdown_run_text.proofs.StretchParts.{text-parts, text-passed}
-use Rattle.markdown_run_text.proofs.LabelEndReads.{Follows, asks-nothing, ends-where}
+use Rattle.markdown_run_text.proofs.LabelEndReads.{EndFollows, asks-nothing, ends-where}
 
 -- all of it stands on one line
 on-line : (ms : List ℕ) (cs : List Code) → line_of (stretch ms cs) ≡ (stretch ms cs, [])
@@ -81,12 +81,12 @@ no-blank-line ms (c ∷ cs) d h = by_test (stops ms c.value) refl (line-filled d
 
 -- A text that these bytes stop, its first code, and the codes behind it.
 
-pub record IsStretch (ms : List ℕ) (t : Code) (ts rest : List Code) : Type 0 where
+pub record IsTextStretch (ms : List ℕ) (t : Code) (ts rest : List Code) : Type 0 where
   pub text : stretch ms ((t ∷ ts) ++ rest) ≡ t ∷ ts
   pub first : stops ms t.value ≡ false
 
 -- its leaf is data
-pub one-line : (ms : List ℕ) (t : Code) (ts rest : List Code) → IsStretch ms t ts rest →
+pub one-line : (ms : List ℕ) (t : Code) (ts rest : List Code) → IsTextStretch ms t ts rest →
     lines N.Data string (t ∷ ts) ≡ linked N.Data (t ∷ ts)
 one-line ms t ts rest k =
     let line : line_of (t ∷ ts) ≡ (t ∷ ts, []) = subst (λ xs. line_of xs ≡ (xs, [])) k.text (on-line ms ((t ∷ ts) ++ rest)) in
@@ -120,7 +120,7 @@ module _ (stop takes refuses : Code → Bool) (ms : List ℕ) (free : (c : Code)
           ∙ ap (with_first c) (more tail)
           ∙ ap (λ xs. Some (xs, b ∷ rest)) (sym goes)
 
-  pub text-is : (t : Code) (ts : List Code) (b : Code) (rest : List Code) → IsStretch ms t ts (b ∷ rest) → stop b ≡ true →
+  pub text-is : (t : Code) (ts : List Code) (b : Code) (rest : List Code) → IsTextStretch ms t ts (b ∷ rest) → stop b ≡ true →
       up_to stop takes refuses ((t ∷ ts) ++ b ∷ rest) ≡ Some (t ∷ ts, b ∷ rest)
   unfolding up_to
   text-is t ts b rest k h =
@@ -168,7 +168,7 @@ text_front name = Enter name ∷ EnterLink N.Data Content.String ∷ []
 abbrev text_back : Name → List Op
 text_back name = Exit N.Data ∷ Exit name ∷ []
 
-text-reads : (name : Name) (ms : List ℕ) (t : Code) (ts rest : List Code) (T : Tokenizer) → IsStretch ms t ts rest →
+text-reads : (name : Name) (ms : List ℕ) (t : Code) (ts rest : List Code) (T : Tokenizer) → IsTextStretch ms t ts rest →
     ahead T ≡ (t ∷ ts) ++ rest → text_read name ms T ≡ done (linked_ops false (group name (linked N.Data (t ∷ ts)))) T
 unfolding passed
 text-reads name ms t ts rest T k e =
@@ -186,7 +186,7 @@ three-done xs ys zs T U V e h =
     ap (done zs) (h ∙ ap (done ys) e) ∙ sym (done-append xs (ys ++ zs) T ∙ done-append ys zs (done xs T))
 
 pub between-reads : (whole marker text : Name) (ms : List ℕ) (f t : Code) (ts : List Code) (b : Code) (rest : List Code) (T : Tokenizer) →
-    IsStretch ms t ts (b ∷ rest) → ahead T ≡ f ∷ ((t ∷ ts) ++ b ∷ rest) →
+    IsTextStretch ms t ts (b ∷ rest) → ahead T ≡ f ∷ ((t ∷ ts) ++ b ∷ rest) →
     between_read whole marker text ms T ≡ done (linked_ops false (between_tree whole marker text f (t ∷ ts) b)) T
 between-reads whole marker text ms f t ts b rest T k e =
     let F : List Op = Enter whole ∷ marker_ops marker in
@@ -199,7 +199,7 @@ between-reads whole marker text ms f t ts b rest T k e =
 -- The destination.
 
 -- a destination, and the codes behind it
-record IsTarget (cs rest : List Code) : Type 0 where
+record IsResourceTarget (cs rest : List Code) : Type 0 where
   tree : Forest
   codes : List Code
   whole : cs ≡ codes ++ rest
@@ -228,7 +228,7 @@ enclosed_refuses c = is_value 60 c || is_line_ending c
 here-is : (T : Tokenizer) (c : Code) (cs : List Code) → ahead T ≡ c ∷ cs → current_of T ≡ Some c.value
 here-is T c cs e = code_at_ahead T.cursor c cs e
 
-module _ (f t : Code) (ts : List Code) (b : Code) (rest : List Code) (k : IsStretch enclosed_stops t ts (b ∷ rest)) (front : is_value 60 f ≡ true) (back : is_value 62 b ≡ true) where
+module _ (f t : Code) (ts : List Code) (b : Code) (rest : List Code) (k : IsTextStretch enclosed_stops t ts (b ∷ rest)) (front : is_value 60 f ≡ true) (back : is_value 62 b ≡ true) where
   abbrev enclosed : List Code
   enclosed = f ∷ ((t ∷ ts) ++ b ∷ rest)
 
@@ -250,7 +250,7 @@ module _ (f t : Code) (ts : List Code) (b : Code) (rest : List Code) (k : IsStre
       ∙ group-reads N.ResourceDestination (enclosed_tree f (t ∷ ts) b) T (enclosed_read U)
       (between-reads N.ResourceDestinationLiteral N.ResourceDestinationLiteralMarker N.ResourceDestinationString enclosed_stops f t ts b rest U k (ahead-done (Enter N.ResourceDestination ∷ []) T ∙ e))
 
-  enclosed-target : IsTarget enclosed rest
+  enclosed-target : IsResourceTarget enclosed rest
   enclosed-target =
       let ws : List Code = f ∷ ((t ∷ ts) ++ b ∷ []) in
       record {
@@ -272,7 +272,7 @@ no-tab v h false e = e
 no-tab v h true e = absurd (both_ways (is_between 1 31 v) h (same-value v 9 e (is_between 1 31)))
 
 -- a code that does not stop a destination without brackets
-record IsPlain (c : Code) : Type 0 where
+record IsRawCode (c : Code) : Type 0 where
   blank : is_blank c ≡ false
   ending : is_line_ending c ≡ false
   stays : (is_whitespace_code c || (is_value 41 c && true)) ≡ false
@@ -281,7 +281,7 @@ record IsPlain (c : Code) : Type 0 where
   close : is_value 41 c ≡ false
   slash : (c.value == 92) ≡ false
 
-plain-code : (c : Code) → stops raw_stops c.value ≡ false → IsPlain c
+plain-code : (c : Code) → stops raw_stops c.value ≡ false → IsRawCode c
 plain-code c h =
     let v : ℕ = c.value in
     let line = or_parts (v == 10) _ h in
@@ -319,7 +319,7 @@ raw-text (c ∷ cs) rest b e h = by_test (stops raw_stops c.value) refl (λ k. r
         ∙ raw-stop 32 0 b rest h refl
         ∙ ap (λ xs. Some (xs, b ∷ rest)) (sym none)
     by_test false k more =
-        let p : IsPlain c = plain-code c k in
+        let p : IsRawCode c = plain-code c k in
         let goes : stretch raw_stops (c ∷ cs) ≡ c ∷ stretch raw_stops cs = stretch-goes raw_stops c cs k in
         let tail : cs ≡ stretch raw_stops cs ++ b ∷ rest = ap rest_of (e ∙ ap (λ xs. xs ++ b ∷ rest) goes) in
         raw-next 32 0 c cs p.stays p.control p.opening p.close
@@ -327,7 +327,7 @@ raw-text (c ∷ cs) rest b e h = by_test (stops raw_stops c.value) refl (λ k. r
         ∙ ap (with_first c) (more tail)
         ∙ ap (λ xs. Some (xs, b ∷ rest)) (sym goes)
 
-module _ (t : Code) (ts : List Code) (b : Code) (rest : List Code) (k : IsStretch raw_stops t ts (b ∷ rest)) (bare : is_value 60 t ≡ false) (back : ends_raw b ≡ true) where
+module _ (t : Code) (ts : List Code) (b : Code) (rest : List Code) (k : IsTextStretch raw_stops t ts (b ∷ rest)) (bare : is_value 60 t ≡ false) (back : ends_raw b ≡ true) where
   abbrev raw : List Code
   raw = (t ∷ ts) ++ b ∷ rest
 
@@ -352,11 +352,11 @@ module _ (t : Code) (ts : List Code) (b : Code) (rest : List Code) (k : IsStretc
       (group-reads N.ResourceDestinationRaw inner U (text_read N.ResourceDestinationString raw_stops V)
       (text-reads N.ResourceDestinationString raw_stops t ts (b ∷ rest) V k there))
 
-  raw-target : IsTarget raw (b ∷ rest)
+  raw-target : IsResourceTarget raw (b ∷ rest)
   raw-target =
       let w : List Code = t ∷ ts in
       let inner : Forest = group N.ResourceDestinationString (linked N.Data w) in
-      let p : IsPlain t = plain-code t k.first in
+      let p : IsRawCode t = plain-code t k.first in
       record {
         tree = raw_tree w;
         codes = w;
@@ -372,12 +372,12 @@ module _ (t : Code) (ts : List Code) (b : Code) (rest : List Code) (k : IsStretc
 
 -- What stands behind it.
 
-record IsTail (cs : List Code) : Type 0 where
+record IsResourceTail (cs : List Code) : Type 0 where
   row : Forest
   codes : List Code
   rest : List Code
   whole : cs ≡ codes ++ rest
-  holds : after_destination cs ≡ Some (row, rest)
+  holds : (both : Bool) → after_destination both cs ≡ Some (row, rest)
   covers : CoversRow row codes
   reads : (T : Tokenizer) → ahead T ≡ cs → tail_read T ≡ done (linked_ops false row) T
 
@@ -393,13 +393,13 @@ module _ (b : Code) (rest : List Code) (back : is_value 41 b ≡ true) where
   closed-here : space_or_tab_eol None (b ∷ rest) ≡ None
   closed-here = no-spacing b rest (same-value b.value 41 back (λ v. v == 32 || v == 9)) (same-value b.value 41 back (λ v. v == 10))
 
-  closing-tail : IsTail (b ∷ rest)
+  closing-tail : IsResourceTail (b ∷ rest)
   closing-tail = record {
     row = leaf N.ResourceMarker (b ∷ []);
     codes = b ∷ [];
     rest = rest;
     whole = refl;
-    holds = ap (λ o. after_destination_of o (b ∷ rest)) closed-here ∙ closes-is;
+    holds = λ both. ap (λ o. after_destination_of both o (b ∷ rest)) closed-here ∙ closes-is;
     covers = Row-last N.ResourceMarker (b ∷ []) (b ∷ []) refl;
     reads = λ (T : Tokenizer) (e : ahead T ≡ b ∷ rest).
         let here : closes_at T.cursor ≡ true = ap (is_some_value 41) (here-is T b rest e) ∙ back in
@@ -418,7 +418,7 @@ of-quote v P h x y = by_test (v == 34) (v == 39) refl refl h
     by_test false false e k l = cc
 
 title-free : (m : ℕ) (c : Code) → stops (m ∷ 92 ∷ []) c.value ≡ false →
-    (is_value m c ≡ false) × ((false ≡ false) × ((c.value == 92) ≡ false))
+    (is_value m c ≡ false) × ((is_bare_opener false m c ≡ false) × ((c.value == 92) ≡ false))
 title-free m c h =
     let v : ℕ = c.value in
     let line = or_parts (v == 10) _ h in
@@ -426,43 +426,44 @@ title-free m c h =
     let slash = or_parts (v == 92) _ quote.1 in
     (quote.0, (refl, slash.0))
 
-module _ (m : ℕ) (f t : Code) (ts : List Code) (b : Code) (rest : List Code) (k : IsStretch (m ∷ 92 ∷ []) t ts (b ∷ rest)) (front : is_value m f ≡ true) (back : is_value m b ≡ true) (line : is_line_ending b ≡ false) where
+module _ (m : ℕ) (f t : Code) (ts : List Code) (b : Code) (rest : List Code) (k : IsTextStretch (m ∷ 92 ∷ []) t ts (b ∷ rest)) (front : is_value m f ≡ true) (back : is_value m b ≡ true) (line : is_line_ending b ≡ false) where
   abbrev quoted : List Code
   quoted = f ∷ ((t ∷ ts) ++ b ∷ rest)
 
-  title-between : title_between m m title_names quoted ≡ Some (title_tree f (t ∷ ts) b, rest)
+  title-between : title_between false m m title_names quoted ≡ Some (title_tree f (t ∷ ts) b, rest)
   unfolding title_between gives
   title-between =
       let filled : has_no_blank_line true ((t ∷ ts) ++ b ∷ []) ≡ true =
       ap (λ xs. has_no_blank_line true (xs ++ b ∷ [])) (sym k.text) ∙ no-blank-line (m ∷ 92 ∷ []) ((t ∷ ts) ++ b ∷ rest) b line in
       bind-some (one (is_value m)) _ quoted (f ∷ []) ((t ∷ ts) ++ b ∷ rest) _ (one-here (is_value m) f ((t ∷ ts) ++ b ∷ rest) front)
-      (bind-some (up_to (is_value m) (is_among (92 ∷ m ∷ [])) (λ c. false)) _ ((t ∷ ts) ++ b ∷ rest) (t ∷ ts) (b ∷ rest) _
-      (text-is (is_value m) (is_among (92 ∷ m ∷ [])) (λ c. false) (m ∷ 92 ∷ []) (title-free m) t ts b rest k back)
+      (bind-some (up_to (is_value m) (escaped_between false m m) (is_bare_opener false m)) _ ((t ∷ ts) ++ b ∷ rest) (t ∷ ts) (b ∷ rest) _
+      (text-is (is_value m) (escaped_between false m m) (is_bare_opener false m) (m ∷ 92 ∷ []) (title-free m) t ts b rest k back)
       (bind-some (one (is_value m)) _ (b ∷ rest) (b ∷ []) rest _ (one-here (is_value m) b rest back)
       (after-some _ _ rest [] rest _ (provided-true _ rest filled) refl)))
       ∙ ap (λ u. Some (group N.ResourceTitle (leaf N.ResourceTitleMarker (f ∷ []) ⊕ string_group N.ResourceTitleString u ⊕ leaf N.ResourceTitleMarker (b ∷ [])), rest)) (one-line (m ∷ 92 ∷ []) t ts (b ∷ rest) k)
 
-between-none : (m : ℕ) (f : Code) (cs : List Code) → is_value m f ≡ false → title_between m m title_names (f ∷ cs) ≡ None
+between-none : (m : ℕ) (f : Code) (cs : List Code) → is_value m f ≡ false → title_between false m m title_names (f ∷ cs) ≡ None
 unfolding title_between
 between-none m f cs h = bind-none _ _ (f ∷ cs) (one-other (is_value m) f cs h)
 
-TitleIs : Code → Code → List Code → Code → List Code → ℕ → Type 0
-TitleIs f t ts b rest v =
-    IsStretch (title_stops v) t ts (b ∷ rest) → is_value v f ≡ true → is_value v b ≡ true →
-    title title_names (f ∷ ((t ∷ ts) ++ b ∷ rest)) ≡ Some (title_tree f (t ∷ ts) b, rest)
+TitleIs : Bool → Code → Code → List Code → Code → List Code → ℕ → Type 0
+TitleIs both f t ts b rest v =
+    IsTextStretch (title_stops v) t ts (b ∷ rest) → is_value v f ≡ true → is_value v b ≡ true →
+    title both title_names (f ∷ ((t ∷ ts) ++ b ∷ rest)) ≡ Some (title_tree f (t ∷ ts) b, rest)
 
-title-is : (f t : Code) (ts : List Code) (b : Code) (rest : List Code) (v : ℕ) → is_quote v ≡ true → TitleIs f t ts b rest v
+title-is : (both : Bool) (f t : Code) (ts : List Code) (b : Code) (rest : List Code) (v : ℕ) → is_quote v ≡ true →
+    TitleIs both f t ts b rest v
 unfolding TitleIs title
-title-is f t ts b rest v h =
+title-is both f t ts b rest v h =
     let cs : List Code = f ∷ ((t ∷ ts) ++ b ∷ rest) in
-    of-quote v (TitleIs f t ts b rest) h
+    of-quote v (TitleIs both f t ts b rest) h
     (λ k front back. either-some _ _ cs _ (title-between 34 f t ts b rest k front back (same-value b.value 34 back (λ v. v == 10))))
     (λ k front back.
     either-second _ _ cs (between-none 34 f _ (same-value f.value 39 front (λ v. v == 34)))
     ∙ either-some _ _ cs _ (title-between 39 f t ts b rest k front back (same-value b.value 39 back (λ v. v == 10))))
 
 -- so behind a space or a tab, and before a `)`
-module _ (s f t : Code) (ts : List Code) (b z : Code) (rest : List Code) (blank : is_blank s ≡ true) (quote : is_quote f.value ≡ true) (k : IsStretch (title_stops f.value) t ts (b ∷ z ∷ rest)) (back : is_value f.value b ≡ true) (close : is_value 41 z ≡ true) where
+module _ (s f t : Code) (ts : List Code) (b z : Code) (rest : List Code) (blank : is_blank s ≡ true) (quote : is_quote f.value ≡ true) (k : IsTextStretch (title_stops f.value) t ts (b ∷ z ∷ rest)) (back : is_value f.value b ≡ true) (close : is_value 41 z ≡ true) where
   abbrev text : List Code
   text = f ∷ ((t ∷ ts) ++ b ∷ z ∷ rest)
 
@@ -481,14 +482,14 @@ module _ (s f t : Code) (ts : List Code) (b z : Code) (rest : List Code) (blank 
       ∙ ap (λ (x : List Code × List Code). behind (linked_leaf N.SpaceOrTab None x.0) (at_ending None true x.1)) one_blank
       ∙ ap (behind (linked_leaf N.SpaceOrTab None (s ∷ []))) (ending-none None true text ending)
 
-  titled-holds : after_destination (s ∷ text) ≡ Some (titled_row, rest)
+  titled-holds : (both : Bool) → after_destination both (s ∷ text) ≡ Some (titled_row, rest)
   unfolding TitleIs
-  titled-holds =
+  titled-holds both =
       let begins : begins_title text ≡ true = of-quote f.value (λ v. (v == 34 || (v == 39 || (v == 40 || false))) ≡ true) quote refl refl in
-      ap (λ o. after_destination_of o (s ∷ text)) space-is
+      ap (λ o. after_destination_of both o (s ∷ text)) space-is
       ∙ ap (behind (leaf N.SpaceOrTab (s ∷ [])))
-      (if-true (begins_title text) (and_then (title title_names text) after_title) (closes text) begins
-      ∙ ap (λ o. and_then o after_title) (title-is f t ts b (z ∷ rest) f.value quote k (eq-eqb f.value f.value refl) back)
+      (if-true (begins_title text) (and_then (title both title_names text) after_title) (closes text) begins
+      ∙ ap (λ o. and_then o after_title) (title-is both f t ts b (z ∷ rest) f.value quote k (eq-eqb f.value f.value refl) back)
       ∙ ap (behind (title_tree f (t ∷ ts) b)) (ap (λ o. or_without o closes (z ∷ rest)) (closed-here z rest close) ∙ closes-is z rest close))
 
   titled-reads : (T : Tokenizer) → ahead T ≡ s ∷ text →
@@ -515,7 +516,7 @@ module _ (s f t : Code) (ts : List Code) (b z : Code) (rest : List Code) (blank 
           by_test false true e h k = same-value v 9 h (λ x. x == 41)
           by_test false false e h k = cc
 
-  titled-tail : IsTail (s ∷ text)
+  titled-tail : IsResourceTail (s ∷ text)
   titled-tail =
       let w : List Code = f ∷ ((t ∷ ts) ++ b ∷ []) in
       record {
@@ -538,7 +539,7 @@ stack-free : (n : Name) (t : Forest) (T : Tokenizer) →
 unfolding past applied
 stack-free n t T = refl
 
-module _ (a : Code) (cs behind_it : List Code) (front : is_value 40 a ≡ true) (target : IsTarget cs behind_it) (tail : IsTail behind_it) where
+module _ (a : Code) (cs behind_it : List Code) (front : is_value 40 a ≡ true) (target : IsResourceTarget cs behind_it) (tail : IsResourceTail behind_it) where
   abbrev destination_tree : Forest
   destination_tree = group N.ResourceDestination target.tree
 
@@ -548,15 +549,15 @@ module _ (a : Code) (cs behind_it : List Code) (front : is_value 40 a ≡ true) 
   spacing-before : space_or_tab_eol None cs ≡ None
   spacing-before = spacing-none None cs target.blank ∙ ending-none None false cs target.ending
 
-  inside-is : inside cs ≡ Some (destination_tree ⊕ tail.row, tail.rest)
-  inside-is =
-      ap (λ o. or_without o opened cs) spacing-before
+  inside-is : (both : Bool) → inside both cs ≡ Some (destination_tree ⊕ tail.row, tail.rest)
+  inside-is both =
+      ap (λ o. or_without o (opened both) cs) spacing-before
       ∙ if-false (next_is (is_value 41) cs) _ _ target.close
-      ∙ ap (λ o. and_then o after_destination) target.holds
-      ∙ ap (behind destination_tree) tail.holds
+      ∙ ap (λ o. and_then o (after_destination both)) target.holds
+      ∙ ap (behind destination_tree) (tail.holds both)
 
-  resource-is : resource (a ∷ cs) ≡ Some (group N.Resource row, tail.rest)
-  resource-is = resource-inside a cs front ∙ ap (grouped a) inside-is
+  resource-is : (both : Bool) → resource both (a ∷ cs) ≡ Some (group N.Resource row, tail.rest)
+  resource-is both = resource-inside both a cs front ∙ ap (grouped a) (inside-is both)
 
   row-covers : CoversRow row (a ∷ (target.codes ++ tail.codes))
   row-covers =
@@ -599,13 +600,13 @@ module _ (a : Code) (cs behind_it : List Code) (front : is_value 40 a ≡ true) 
       ∙ ap (applied (Exit N.Resource)) (sym (linked-past false row tail.rest E row-covers.0 (there ∙ row-codes)))
       ∙ group-reads N.Resource row T (done (linked_ops false row) E) refl
 
-  resource-follows-by : (s : Setting) → Follows s false resource_read (a ∷ cs)
+  resource-follows-by : (s : Setting) → EndFollows s false resource_read (a ∷ cs)
   resource-follows-by s = record {
     tree = group N.Resource row;
     codes = a ∷ (target.codes ++ tail.codes);
     rest = tail.rest;
     whole = ap (λ xs. a ∷ xs) (target.whole ∙ ap (λ xs. target.codes ++ xs) tail.whole ∙ sym (append_assoc target.codes tail.codes tail.rest));
-    holds = λ (defined : Bool) none. after-paren s defined (a ∷ cs) front ∙ either-some resource (shortcut defined) (a ∷ cs) (group N.Resource row, tail.rest) resource-is;
+    holds = λ (defined : Bool) none. after-paren s defined (a ∷ cs) front ∙ either-some (resource (rules s).escaped_parentheses) (shortcut defined) (a ∷ cs) (group N.Resource row, tail.rest) (resource-is (rules s).escaped_parentheses);
     covers = resource-covers;
     reads = resource-reads;
   }
@@ -620,12 +621,12 @@ value-here n (Some v) h = ap (λ m. Some m) (eqb-true v n h)
 pub code-here : (n : ℕ) (p : Place) → is_some_value n (code_at p) ≡ true → IsAhead p n
 code-here n p h = ahead_some p n (value-here n (code_at p) h)
 
-pub record IsFree (ms : List ℕ) (o : Option ℕ) : Type 0 where
+pub record IsFreeOf (ms : List ℕ) (o : Option ℕ) : Type 0 where
   pub value : ℕ
   pub is : o ≡ Some value
   pub free : stops ms value ≡ false
 
-pub free-here : (ms : List ℕ) (o : Option ℕ) → is_free ms o ≡ true → IsFree ms o
+pub free-here : (ms : List ℕ) (o : Option ℕ) → is_free ms o ≡ true → IsFreeOf ms o
 free-here ms None h = cc
 free-here ms (Some v) h = record { value = v; is = refl; free = not-true (stops ms v) h }
 
@@ -639,7 +640,7 @@ pub record TextAt (ms : List ℕ) (p : Place) : Type 0 where
 
 pub text-at : (ms : List ℕ) (p : Place) → is_free ms (code_at p) ≡ true → TextAt ms p
 text-at ms p h =
-    let f : IsFree ms (code_at p) = free-here ms (code_at p) h in
+    let f : IsFreeOf ms (code_at p) = free-here ms (code_at p) h in
     let a : IsAhead p f.value = ahead_some p f.value f.is in
     let free : stops ms a.code.value ≡ false = ap (stops ms) a.value ∙ f.free in
     let more : List Code = stretch ms (ahead_at (moved p)) in
@@ -659,7 +660,7 @@ pub record EndsText (ms : List ℕ) (v : ℕ) (p : Place) : Type 0 where
   pub back : Code
   pub behind : ahead_at (past_stretch ms p) ≡ back ∷ ahead_at (moved (past_stretch ms p))
   pub codes : ahead_at p ≡ (first ∷ more) ++ back ∷ ahead_at (moved (past_stretch ms p))
-  pub text : IsStretch ms first more (back ∷ ahead_at (moved (past_stretch ms p)))
+  pub text : IsTextStretch ms first more (back ∷ ahead_at (moved (past_stretch ms p)))
   pub closes : back.value ≡ v
 
 pub ends-text : (ms : List ℕ) (v : ℕ) (p : Place) → is_free ms (code_at p) ≡ true → code_at (past_stretch ms p) ≡ Some v → EndsText ms v p
@@ -717,18 +718,18 @@ tail-begins p h = by_test (closes_at p) refl h
         }
 
 target-at : (p : Place) → destination_at p ≡ true → BeginsTail (past_destination p) →
-    IsTarget (ahead_at p) (ahead_at (past_destination p))
+    IsResourceTarget (ahead_at p) (ahead_at (past_destination p))
 target-at p h k = by_test (begins_enclosed p) refl
   where
-    by_test : (b : Bool) → begins_enclosed p ≡ b → IsTarget (ahead_at p) (ahead_at (past_destination p))
+    by_test : (b : Bool) → begins_enclosed p ≡ b → IsResourceTarget (ahead_at p) (ahead_at (past_destination p))
     by_test true t =
         let stands : stands_between enclosed_stops 62 p ≡ true = sym (if-true (begins_enclosed p) _ _ t) ∙ h in
         let past : past_destination p ≡ past_between enclosed_stops p = if-true (begins_enclosed p) _ _ t in
         let f : IsAhead p 60 = code-here 60 p t in
         let x : EndsText enclosed_stops 62 (moved p) = ends-text enclosed_stops 62 (moved p) (and-left _ _ stands) (value-here 62 _ (and-right _ _ stands)) in
         let rest : List Code = ahead_at (past_between enclosed_stops p) in
-        subst (λ cs. IsTarget cs (ahead_at (past_destination p))) (sym (f.codes ∙ ap (λ xs. f.code ∷ xs) x.codes))
-        (subst (λ q. IsTarget (f.code ∷ ((x.first ∷ x.more) ++ x.back ∷ rest)) (ahead_at q)) (sym past)
+        subst (λ cs. IsResourceTarget cs (ahead_at (past_destination p))) (sym (f.codes ∙ ap (λ xs. f.code ∷ xs) x.codes))
+        (subst (λ q. IsResourceTarget (f.code ∷ ((x.first ∷ x.more) ++ x.back ∷ rest)) (ahead_at q)) (sym past)
         (enclosed-target f.code x.first x.more x.back rest x.text (value-is f.code 60 f.value) (value-is x.back 62 x.closes)))
     by_test false t =
         let free : is_free raw_stops (code_at p) ≡ true = sym (if-false (begins_enclosed p) _ _ t) ∙ h in
@@ -736,23 +737,23 @@ target-at p h k = by_test (begins_enclosed p) refl
         let x : EndsText raw_stops k.value p = ends-text raw_stops k.value p free (ap code_at (sym past) ∙ k.is) in
         let rest : List Code = ahead_at (moved (past_stretch raw_stops p)) in
         let bare : is_value 60 x.first ≡ false = ap (is_some_value 60) (sym (code_at_ahead p x.first _ x.codes)) ∙ t in
-        subst (λ cs. IsTarget cs (ahead_at (past_destination p))) (sym x.codes)
-        (subst (λ ys. IsTarget ((x.first ∷ x.more) ++ x.back ∷ rest) ys) (sym (ap ahead_at past ∙ x.behind))
+        subst (λ cs. IsResourceTarget cs (ahead_at (past_destination p))) (sym x.codes)
+        (subst (λ ys. IsResourceTarget ((x.first ∷ x.more) ++ x.back ∷ rest) ys) (sym (ap ahead_at past ∙ x.behind))
         (raw-target x.first x.more x.back rest x.text bare (k.ends x.back x.closes)))
 
 titled-by : (p : Place) (v w : ℕ) (s : IsAhead p w) (f : IsAhead (moved p) v) (x : EndsText (title_stops v) v (moved (moved p))) (z : IsAhead (past_between (title_stops v) (moved p)) 41) →
-    w == 32 || w == 9 ≡ true → is_quote v ≡ true → IsTail (ahead_at p)
+    w == 32 || w == 9 ≡ true → is_quote v ≡ true → IsResourceTail (ahead_at p)
 titled-by p v w s f x z blank quote =
     let rest : List Code = ahead_at (moved (past_between (title_stops v) (moved p))) in
-    subst IsTail
+    subst IsResourceTail
     (sym (s.codes ∙ ap (λ xs. s.code ∷ xs) (f.codes ∙ ap (λ xs. f.code ∷ xs) (x.codes ∙ ap (λ ys. (x.first ∷ x.more) ++ x.back ∷ ys) z.codes))))
     (titled-tail s.code f.code x.first x.more x.back z.code rest (ap (λ n. n == 32 || n == 9) s.value ∙ blank) (ap is_quote f.value ∙ quote)
-    (subst (λ n. IsStretch (title_stops n) x.first x.more (x.back ∷ z.code ∷ rest)) (sym f.value) (subst (λ ys. IsStretch (title_stops v) x.first x.more (x.back ∷ ys)) z.codes x.text))
+    (subst (λ n. IsTextStretch (title_stops n) x.first x.more (x.back ∷ z.code ∷ rest)) (sym f.value) (subst (λ ys. IsTextStretch (title_stops v) x.first x.more (x.back ∷ ys)) z.codes x.text))
     (value-is x.back f.code.value (x.closes ∙ sym f.value))
     (value-is z.code 41 z.value))
 
 titled-some : (p : Place) (v : ℕ) → code_at (moved p) ≡ Some v → is_some_blank (code_at p) ≡ true →
-    quoted_at (Some v) (moved p) ≡ true → closes_at (past_quoted (Some v) (moved p)) ≡ true → IsTail (ahead_at p)
+    quoted_at (Some v) (moved p) ≡ true → closes_at (past_quoted (Some v) (moved p)) ≡ true → IsResourceTail (ahead_at p)
 titled-some p v e blank quote close =
     let b : IsBlank (code_at p) = blank-here (code_at p) blank in
     let stands : stands_between (title_stops v) v (moved p) ≡ true = and-right (is_quote v) _ quote in
@@ -768,7 +769,7 @@ value-of : (o : Option ℕ) → is_some o ≡ true → (v : ℕ) × (o ≡ Some 
 value-of None h = cc
 value-of (Some v) h = (v, refl)
 
-titled-at : (p : Place) → title_at p ≡ true → closes_at (past_title p) ≡ true → IsTail (ahead_at p)
+titled-at : (p : Place) → title_at p ≡ true → closes_at (past_title p) ≡ true → IsResourceTail (ahead_at p)
 titled-at p h close =
     let quote : quoted_at (code_at (moved p)) (moved p) ≡ true = and-right (is_some_blank (code_at p)) _ h in
     let v = value-of (code_at (moved p)) (quote-some (code_at (moved p)) (moved p) quote) in
@@ -776,24 +777,24 @@ titled-at p h close =
     (subst (λ o. quoted_at o (moved p) ≡ true) v.1 quote)
     (subst (λ o. closes_at (past_quoted o (moved p)) ≡ true) v.1 close)
 
-tail-here : (p : Place) → tail_at p ≡ true → IsTail (ahead_at p)
+tail-here : (p : Place) → tail_at p ≡ true → IsResourceTail (ahead_at p)
 tail-here p h = by_test (closes_at p) refl h
   where
-    by_test : (b : Bool) → closes_at p ≡ b → b || (title_at p && closes_at (past_title p)) ≡ true → IsTail (ahead_at p)
+    by_test : (b : Bool) → closes_at p ≡ b → b || (title_at p && closes_at (past_title p)) ≡ true → IsResourceTail (ahead_at p)
     by_test true e k =
         let b : IsAhead p 41 = code-here 41 p e in
-        subst IsTail (sym b.codes) (closing-tail b.code (ahead_at (moved p)) (value-is b.code 41 b.value))
+        subst IsResourceTail (sym b.codes) (closing-tail b.code (ahead_at (moved p)) (value-is b.code 41 b.value))
     by_test false e k =
         titled-at p (and-left (title_at p) _ k) (and-right (title_at p) _ k)
 
 -- a resource stands at the place
 resource-here : (s : Setting) (p : Place) → is_some_value 40 (code_at p) ≡ true → closes_behind (moved p) ≡ true →
-    Follows s false resource_read (ahead_at p)
+    EndFollows s false resource_read (ahead_at p)
 resource-here s p front h =
     let a : IsAhead p 40 = code-here 40 p front in
     let q : Place = past_destination (moved p) in
     let tail : tail_at q ≡ true = and-right (destination_at (moved p)) _ h in
-    subst (Follows s false resource_read) (sym a.codes)
+    subst (EndFollows s false resource_read) (sym a.codes)
     (resource-follows-by a.code (ahead_at (moved p)) (ahead_at q) (value-is a.code 40 a.value) (target-at (moved p) (and-left _ _ h) (tail-begins q tail)) (tail-here q tail) s)
 
 -- where one stands, it is read

@@ -4,17 +4,17 @@ use Rattle.std.proofs.lemmas.Bool.Decides.{nat_tests}
 use Rattle.std.proofs.lemmas.Grind.{common_steps}
 use Rattle.std.proofs.lemmas.Bool.{and_left, both_ways, eq-eqb, eqb-true}
 use Rattle.std.proofs.lemmas.Option.{same_Some}
-use Rattle.markdown_engine_content.specs.Codes.{Code, document_start, is_line_ending, line_feed, stop_of}
-use Rattle.markdown_engine_content.specs.Place.{Place, ahead_at, code_at, code_before, exit_point, moved, point_of}
-use Rattle.markdown_engine_content.specs.Stretch.{past_stretch, stretch, stops}
-use Rattle.markdown_engine_content.specs.Tree.{Forest, empty, event, leaf_then, ◌⊕◌, leaf, leaf_codes, group}
+use Rattle.markdown_content.specs.Codes.{Code, document_start, is_line_ending, line_feed, stop_of}
+use Rattle.markdown_content.specs.Place.{Place, ahead_at, code_at, code_before, exit_point, moved, point_of}
+use Rattle.markdown_content.specs.Stretch.{past_stretch, stretch, stops}
+use Rattle.markdown_content.specs.Tree.{Forest, empty, event, leaf_then, ◌⊕◌, leaf, leaf_codes, group}
 use Rattle.markdown_event.specs.declared.event.Event.{Event}
 use Rattle.markdown_event.specs.declared.event.Kind.TheVariants as Kind
 use Rattle.markdown_event.specs.declared.event.Name.{Name}
 use Rattle.markdown_event.specs.declared.event.Point.{Point}
-use Rattle.markdown_engine_content.proofs.PlaceRules.{IsAhead, ahead_moved, ahead_some, code_at_ahead, point_ahead}
-use Rattle.markdown_engine_index.specs.RunIndex.{leading}
-use Rattle.markdown_engine_content.proofs.StretchLemmas.{stretch-goes, stretch-stops}
+use Rattle.markdown_content.proofs.PlaceRules.{IsAhead, ahead_moved, ahead_some, code_at_ahead, point_ahead}
+use Rattle.markdown_notes.specs.RunIndex.{leading}
+use Rattle.markdown_content.proofs.StretchLemmas.{stretch-goes, stretch-stops}
 use Rattle.markdown_engine.specs.Operations.{ahead, current_of}
 use Rattle.markdown_engine.specs.PastTree.{Reads, TreeReading, appended_from, moved_by, past}
 use Rattle.markdown_engine.specs.declared.tokenizer.Tokenizer.{Tokenizer}
@@ -42,7 +42,7 @@ use Rattle.markdown_run_text.specs.PlainSpan.{begins_span, is_text, names_for, o
 -- Cuts of codes.
 
 -- a run of some codes: the first of them, and the others
-record Run (p : Code → Bool) (cs : List Code) : Type 0 where
+record StretchRun (p : Code → Bool) (cs : List Code) : Type 0 where
   first : Code
   others : List Code
   rest : List Code
@@ -50,7 +50,7 @@ record Run (p : Code → Bool) (cs : List Code) : Type 0 where
   cut : ◌≡◌ {A = List Code × List Code} (span p cs) (first ∷ others, rest)
   whole : cs ≡ (first ∷ others) ++ rest
 
-run-of : (p : Code → Bool) (c : Code) (cs : List Code) → p c ≡ true → Run p (c ∷ cs)
+run-of : (p : Code → Bool) (c : Code) (cs : List Code) → p c ≡ true → StretchRun p (c ∷ cs)
 run-of p c cs h = record {
   first = c;
   others = (span p cs).0;
@@ -64,11 +64,11 @@ no-run : (p : Code → Bool) (c : Code) (cs : List Code) → p c ≡ false → l
 no-run p c cs h = ap (λ (s : List Code × List Code). length s.0) (span-none p (c ∷ cs) h)
 
 -- where it has some
-some-run : (p : Code → Bool) (cs : List Code) → length (span p cs).0 ≢ 0 → Run p cs
+some-run : (p : Code → Bool) (cs : List Code) → length (span p cs).0 ≢ 0 → StretchRun p cs
 some-run p [] some = absurd (some refl)
 some-run p (c ∷ cs) some = by_test (p c) refl
   where
-    by_test : (b : Bool) → p c ≡ b → Run p (c ∷ cs)
+    by_test : (b : Bool) → p c ≡ b → StretchRun p (c ∷ cs)
     by_test true h = run-of p c cs h
     by_test false h = absurd (some (no-run p c cs h))
 
@@ -109,7 +109,7 @@ module _ (m : ℕ) (other : (m == 10) ≡ false) where
       rw (h, eq-eqb (length s) n e, closing_run) (ap (λ xs. Some (([], s), xs)) (joined_codes-stretches (is_value m) rest))
 
   -- the first stretch is a run
-  stretches-run : (q : Code → Bool) → ((c d : Code) → q c ≡ true → joins (is_value m) c d ≡ q d) → (cs : List Code) (r : Run q cs) →
+  stretches-run : (q : Code → Bool) → ((c d : Code) → q c ≡ true → joins (is_value m) c d ≡ q d) → (cs : List Code) (r : StretchRun q cs) →
       stretches (is_value m) cs ≡ (r.first ∷ r.others) ∷ stretches (is_value m) r.rest
   stretches-run q agrees [] r = cc (r.whole)
   stretches-run q agrees (c ∷ cs) r =
@@ -119,7 +119,7 @@ module _ (m : ℕ) (other : (m == 10) ≡ false) where
       ∙ ap (λ (x : List Code × List Code). x.0 ∷ stretches (is_value m) x.1) (sym (span-takes q c cs here) ∙ r.cut)
 
   -- text from the first code on, and the run behind it
-  closing-from : (n : ℕ) (cs : List Code) (t : Run (is_text m) cs) (d : Run (is_value m) t.rest) → length (d.first ∷ d.others) ≡ n →
+  closing-from : (n : ℕ) (cs : List Code) (t : StretchRun (is_text m) cs) (d : StretchRun (is_value m) t.rest) → length (d.first ∷ d.others) ≡ n →
       closing (is_value m) n cs ≡ Some (((t.first ∷ t.others) ∷ [], d.first ∷ d.others), d.rest)
   closing-from n cs t d e =
       ap (closing_run (is_value m) n) (stretches-run (is_text m) (agree-data m code_names n) cs t)
@@ -129,13 +129,13 @@ module _ (m : ℕ) (other : (m == 10) ≡ false) where
 -- The whole span.
 
 -- an opening run, text, and a closing run as long
-record IsPlain (m : ℕ) (cs : List Code) : Type 0 where
-  front : Run (is_value m) cs
-  text : Run (is_text m) front.rest
-  close : Run (is_value m) text.rest
+record IsPlainSpan (m : ℕ) (cs : List Code) : Type 0 where
+  front : StretchRun (is_value m) cs
+  text : StretchRun (is_text m) front.rest
+  close : StretchRun (is_value m) text.rest
   same : length (close.first ∷ close.others) ≡ length (front.first ∷ front.others)
 
-span_tree : (m : ℕ) (names : SpanNames) (cs : List Code) → IsPlain m cs → Forest
+span_tree : (m : ℕ) (names : SpanNames) (cs : List Code) → IsPlainSpan m cs → Forest
 span_tree m names cs k =
     group names.whole (leaf names.sequence (k.front.first ∷ k.front.others) ⊕ (leaf names.text (k.text.first ∷ k.text.others) ⊕ leaf names.sequence (k.close.first ∷ k.close.others)))
 
@@ -143,7 +143,7 @@ text-leaf : (n : Name) (c : Code) (cs : List Code) → is_line_ending c ≡ fals
     line_leaf n None (c ∷ cs) ≡ leaf_then n None (c ∷ cs) empty
 text-leaf n c cs e = rw (e, line_leaf) refl
 
-module _ (m : ℕ) (other : (m == 10) ≡ false) (names : SpanNames) (cs : List Code) (k : IsPlain m cs) where
+module _ (m : ℕ) (other : (m == 10) ≡ false) (names : SpanNames) (cs : List Code) (k : IsPlainSpan m cs) where
   span-is : (allowed : ℕ → Bool) → allowed (length (k.front.first ∷ k.front.others)) ≡ true →
       span_of m names allowed cs ≡ Some (span_tree m names cs k, k.close.rest)
   unfolding span_of gives span_tree
@@ -158,30 +158,30 @@ module _ (m : ℕ) (other : (m == 10) ≡ false) (names : SpanNames) (cs : List 
 -- by the lengths of the runs
 module _ (m : ℕ) where
   text-run : (cs : List Code) (n : ℕ) → next_is (is_value m) cs ≡ false → length (span (is_value m) (span (is_text m) cs).1).0 ≡ suc n →
-      Run (is_text m) cs
+      StretchRun (is_text m) cs
   text-run [] n h e = cc
   text-run (c ∷ cs) n h e = by_test (is_text m c) refl
     where
-      by_test : (b : Bool) → is_text m c ≡ b → Run (is_text m) (c ∷ cs)
+      by_test : (b : Bool) → is_text m c ≡ b → StretchRun (is_text m) (c ∷ cs)
       by_test true k = run-of (is_text m) c cs k
       by_test false k =
           let none : length (span (is_value m) (c ∷ cs)).0 ≡ 0 = no-run (is_value m) c cs h in
           let same : length (span (is_value m) (c ∷ cs)).0 ≡ suc n = ap (λ (s : List Code × List Code). length (span (is_value m) s.1).0) (sym (span-none (is_text m) (c ∷ cs) k)) ∙ e in
           absurd (omega (arith, none, same))
 
-  close-run : (cs : List Code) (front : Run (is_value m) cs) (text : Run (is_text m) front.rest) →
-      length (span (is_value m) text.rest).0 ≡ length (front.first ∷ front.others) → IsPlain m cs
+  close-run : (cs : List Code) (front : StretchRun (is_value m) cs) (text : StretchRun (is_text m) front.rest) →
+      length (span (is_value m) text.rest).0 ≡ length (front.first ∷ front.others) → IsPlainSpan m cs
   close-run cs front text e = by_run (some-run (is_value m) text.rest (λ z. omega (arith, z, e)))
     where
-      by_run : Run (is_value m) text.rest → IsPlain m cs
+      by_run : StretchRun (is_value m) text.rest → IsPlainSpan m cs
       by_run close = record { front = front; text = text; close = close; same = ap (λ (s : List Code × List Code). length s.0) (sym close.cut) ∙ e }
 
-  plain-from : (cs : List Code) (front : Run (is_value m) cs) →
-      length (span (is_value m) (span (is_text m) front.rest).1).0 ≡ length (front.first ∷ front.others) → IsPlain m cs
+  plain-from : (cs : List Code) (front : StretchRun (is_value m) cs) →
+      length (span (is_value m) (span (is_text m) front.rest).1).0 ≡ length (front.first ∷ front.others) → IsPlainSpan m cs
   plain-from cs front e =
       by_text (text-run front.rest (length front.others) (ap (λ (s : List Code × List Code). next_is (is_value m) s.1) (sym front.cut) ∙ run-ends (is_value m) cs) e)
     where
-      by_text : Run (is_text m) front.rest → IsPlain m cs
+      by_text : StretchRun (is_text m) front.rest → IsPlainSpan m cs
       by_text text = close-run cs front text (ap (λ (s : List Code × List Code). length (span (is_value m) s.1).0) (sym text.cut) ∙ e)
 
 -- Its events.
@@ -203,7 +203,7 @@ span-placed : (names : SpanNames) (start from to : Point) (P : Place) (T : Token
 unfolding placed
 span-placed names start from to P T = ap (λ es. record T { events = es; cursor = P }) (eight T.events _ _ _ _ _ _ _ _)
 
-module _ (m : ℕ) (names : SpanNames) (T : Tokenizer) (k : IsPlain m (ahead T)) where
+module _ (m : ℕ) (names : SpanNames) (T : Tokenizer) (k : IsPlainSpan m (ahead T)) where
   abbrev front : List Code
   front = k.front.first ∷ k.front.others
 
@@ -247,7 +247,7 @@ no-line-before q free c (d ∷ ds) p e h k =
         both_ways (c.value == 10) (free c h) (eq-eqb c.value 10 (same_Some c.value 10 (sym (ap (λ (s : List Code × List Code). code_before (moved_by s.0 (moved p))) (span-none q (d ∷ ds) g) ∙ before-moved p ∙ code_at_ahead p c (d ∷ ds) e) ∙ k)))
 
 within-line : (q : Code → Bool) → ((c : Code) → q c ≡ true → is_line_ending c ≡ false) → (cs : List Code) (p : Place) → ahead_at p ≡ cs →
-    Run q cs → code_before (moved_by (span q cs).0 p) ≡ Some line_feed → ⊥
+    StretchRun q cs → code_before (moved_by (span q cs).0 p) ≡ Some line_feed → ⊥
 within-line q free [] p e r k = cc
 within-line q free (c ∷ cs) p e r k =
     let same : c ≡ r.first = cc (r.whole) in
@@ -267,7 +267,7 @@ module _ (m : ℕ) (other : (m == 10) ≡ false) (T : Tokenizer) where
   behind : (q : Code → Bool) (p : Place) → ahead_at (moved_by (span q (ahead_at p)).0 p) ≡ (span q (ahead_at p)).1
   behind q p = ahead-moved_by (span q (ahead_at p)).0 (span q (ahead_at p)).1 p (sym (span-parts q (ahead_at p)))
 
-  plain-here : Run (is_value m) (ahead T) → leading m (ahead_at P2) ≡ leading m (ahead T) → IsPlain m (ahead T)
+  plain-here : StretchRun (is_value m) (ahead T) → leading m (ahead_at P2) ≡ leading m (ahead T) → IsPlainSpan m (ahead T)
   plain-here front e =
       plain-from m (ahead T) front
       (ap (λ cs. length (span (is_value m) (span (is_text m) cs).1).0) (sym (behind (is_value m) T.cursor ∙ ap (λ (s : List Code × List Code). s.1) front.cut))
@@ -277,7 +277,7 @@ module _ (m : ℕ) (other : (m == 10) ≡ false) (T : Tokenizer) where
       ∙ sym (run-length m (ahead T))
       ∙ ap (λ (s : List Code × List Code). length s.0) front.cut)
 
-  module _ (names : SpanNames) (k : IsPlain m (ahead T)) where
+  module _ (names : SpanNames) (k : IsPlainSpan m (ahead T)) where
     abbrev opening : List Code
     opening = k.front.first ∷ k.front.others
 
@@ -307,12 +307,12 @@ module _ (m : ℕ) (other : (m == 10) ≡ false) (T : Tokenizer) where
     last-place : P3 ≡ moved_by closes (moved_by inside (moved_by opening T.cursor))
     last-place = third-place ∙ ap (moved_by closes) (second-place ∙ ap (moved_by inside) first-place)
 
-    run-no-line : (p : Place) → Run (is_value m) (ahead_at p) → code_before (past_run m p) ≡ Some line_feed → ⊥
+    run-no-line : (p : Place) → StretchRun (is_value m) (ahead_at p) → code_before (past_run m p) ≡ Some line_feed → ⊥
     run-no-line p r h = within-line (is_value m) (not-ending m other) (ahead_at p) p refl r h
 
     text-no-line : code_before P2 ≡ Some line_feed → ⊥
     text-no-line h =
-        within-line (is_text m) (λ c g. (text-parts m other c g).0) (ahead_at P1) P1 refl (subst (λ cs. Run (is_text m) cs) (sym first-ahead) k.text) h
+        within-line (is_text m) (λ c g. (text-parts m other c g).0) (ahead_at P1) P1 refl (subst (λ cs. StretchRun (is_text m) cs) (sym first-ahead) k.text) h
 
     -- the span is passed, with its events
     span-past : (start from to : Point) → start ≡ point_of T.cursor → from ≡ exit_point P1 →
@@ -356,7 +356,7 @@ module _ (m : ℕ) (other : (m == 10) ≡ false) (T : Tokenizer) where
 
 -- By the marker.
 
-run-here : (p : Code → Bool) (cs : List Code) → next_is p cs ≡ true → Run p cs
+run-here : (p : Code → Bool) (cs : List Code) → next_is p cs ≡ true → StretchRun p cs
 run-here p [] h = cc
 run-here p (c ∷ cs) h = run-of p c cs h
 
@@ -408,7 +408,7 @@ not-so true h = cc
 not-so false h = refl
 
 -- a span that is passed: where it begins, and where its text stands
-record Passes (m : ℕ) (T : Tokenizer) (start from to : Point) : Type 0 where
+record SpanPassed (m : ℕ) (T : Tokenizer) (start from to : Point) : Type 0 where
   same : leading m (ahead_at (past_span_text m (past_run m T.cursor))) ≡ leading m (ahead T)
   begin : start ≡ point_of T.cursor
   opened : from ≡ exit_point (past_run m T.cursor)
@@ -416,12 +416,12 @@ record Passes (m : ℕ) (T : Tokenizer) (start from to : Point) : Type 0 where
   ended : to ≡ exit_point (past_span_text m (past_run m T.cursor))
   close : (code_before (past_span_text m (past_run m T.cursor)) ≡ Some line_feed → ⊥) → to ≡ point_of (past_span_text m (past_run m T.cursor))
 
-module _ (T V : Tokenizer) (m : ℕ) (here : current_of T ≡ Some m) (begins : begins_span m T ≡ true) (start from to : Point) (passes : Passes m T start from to) (left : V ≡ with_span (names_for m) start from to (record T { cursor = past_run m (past_span_text m (past_run m T.cursor)) })) where
+module _ (T V : Tokenizer) (m : ℕ) (here : current_of T ≡ Some m) (begins : begins_span m T ≡ true) (start from to : Point) (passes : SpanPassed m T start from to) (left : V ≡ with_span (names_for m) start from to (record T { cursor = past_run m (past_span_text m (past_run m T.cursor)) })) where
   by-names : (m == 10) ≡ false → (names : SpanNames) (allowed : ℕ → Bool) → names_for m ≡ names →
       span_at T (ahead T) ≡ span_of m names allowed (ahead T) → allowed (leading m (ahead T)) ≡ true →
       Reads (span_at T) None T.tokenize_state T V
   by-names other names allowed named reads h =
-      let k : IsPlain m (ahead T) = plain-here m other T (run-here (is_value m) (ahead T) (next-here T m here)) passes.same in
+      let k : IsPlainSpan m (ahead T) = plain-here m other T (run-here (is_value m) (ahead T) (next-here T m here)) passes.same in
       let size : length (k.front.first ∷ k.front.others) ≡ leading m (ahead T) = sym (ap (λ (s : List Code × List Code). length s.0) k.front.cut) ∙ run-length m (ahead T) in
       span-reads m other T names k (span_at T) allowed V reads (ap allowed size ∙ h)
       (left
@@ -462,7 +462,7 @@ module _ (T V : Tokenizer) (m : ℕ) (here : current_of T ≡ Some m) (begins : 
   passes-reads = by-marker (m == 96) refl
 
 -- so with the places that are passed, the sizes of both runs, and the points
-pub record Walks (m : ℕ) (T : Tokenizer) (behind inside past : Place) (size closing : ℕ) (start from to : Point) : Type 0 where
+pub record SpanWalks (m : ℕ) (T : Tokenizer) (behind inside past : Place) (size closing : ℕ) (start from to : Point) : Type 0 where
   pub first : behind ≡ past_run m T.cursor
   pub second : inside ≡ past_span_text m behind
   pub third : past ≡ past_run m inside
@@ -477,7 +477,7 @@ pub record Walks (m : ℕ) (T : Tokenizer) (behind inside past : Place) (size cl
 
 -- it is read
 pub walk-reads : (T V : Tokenizer) (m : ℕ) (behind inside past : Place) (size closing : ℕ) (start from to : Point) → current_of T ≡ Some m →
-    begins_span m T ≡ true → Walks m T behind inside past size closing start from to →
+    begins_span m T ≡ true → SpanWalks m T behind inside past size closing start from to →
     V ≡ with_span (names_for m) start from to (record T { cursor = past }) → Reads (span_at T) None T.tokenize_state T V
 walk-reads T V m behind inside past size closing start from to here begins w left =
     let there : inside ≡ past_span_text m (past_run m T.cursor) = w.second ∙ ap (past_span_text m) w.first in

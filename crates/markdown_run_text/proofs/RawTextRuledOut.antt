@@ -2,13 +2,13 @@
 use Rattle.std.proofs.Common.{◌≡◌, ◌==◌, ◌&&◌, ◌||◌, Bool, true, false, List, [], ◌∷◌, Option, Some, None, refl}
 use Rattle.std.specs.List.{list_any}
 use Rattle.std.proofs.lemmas.Bool.{or_from}
-use Rattle.markdown_engine_content.specs.Codes.{Code}
-use Rattle.markdown_engine_index.specs.RunIndex.{is_asked, last_runs, without_runs}
-use Rattle.markdown_engine_index.specs.SequenceIndex.{last_begins, last_where, marks_span, rules_out}
-use Rattle.markdown_engine_index.specs.declared.sequence_index.LastBegins.{LastBegins}
-use Rattle.markdown_engine_index.specs.declared.sequence_index.Sequence.TheVariants.{SpanMark}
-use Rattle.markdown_engine_index.proofs.RunIndexFacts.{later-none, without-known}
-use Rattle.markdown_engine_index.proofs.SequenceIndexLemmas.{right-made, ruled-out}
+use Rattle.markdown_content.specs.Codes.{Code}
+use Rattle.markdown_notes.specs.RunIndex.{is_asked, last_runs, without_runs}
+use Rattle.markdown_notes.specs.SequenceIndex.{last_begins, last_where, marks_span, rules_out}
+use Rattle.markdown_notes.specs.declared.sequence_index.LastBegins.{LastBegins}
+use Rattle.markdown_notes.specs.declared.sequence_index.Sequence.TheVariants.{SpanMark}
+use Rattle.markdown_notes.proofs.RunIndexFacts.{later-none, without-known}
+use Rattle.markdown_notes.proofs.SequenceIndexLemmas.{right-made, ruled-out}
 use Rattle.markdown_run_text.specs.TextContent.{span_markers}
 
 neither : (a b : Bool) → ((a && true) || (b && true)) ≡ false → (a || (b || false)) ≡ false

@@ -7,11 +7,11 @@ use Rattle.std.proofs.Math.Bool.{or-false}
 use Rattle.std.proofs.lemmas.Bool.{eqb-true, eq-eqb}
 use Rattle.std.proofs.lemmas.Slice.Eq.{bytes_eq-Decides}
 use Rattle.std.specs.Char.{is_ascii_alphanumeric}
-use Rattle.markdown_engine_content.specs.Codes.{Code}
-use Rattle.markdown_engine_content.specs.Place.{Place, ahead_at, moved}
-use Rattle.markdown_engine_content.specs.Tree.{Forest, leaf_codes, leaf, ◌⊕◌}
+use Rattle.markdown_content.specs.Codes.{Code}
+use Rattle.markdown_content.specs.Place.{Place, ahead_at, moved}
+use Rattle.markdown_content.specs.Tree.{Forest, leaf_codes, leaf, ◌⊕◌}
 use Rattle.markdown_event.specs.declared.event.Name.TheVariants as N
-use Rattle.markdown_engine_content.proofs.PlaceRules.{IsAhead, ahead_moved, ahead_some, code_at_ahead}
+use Rattle.markdown_content.proofs.PlaceRules.{IsAhead, ahead_moved, ahead_some, code_at_ahead}
 use Rattle.markdown_engine.specs.Operations.{Op, Enter, Exit, ahead, applied, done}
 use Rattle.markdown_engine.specs.PastTree.{Reads, moved_by, passed}
 use Rattle.markdown_engine.specs.TreeOps.{IsSolid, consumes, ops_of}
@@ -31,7 +31,7 @@ use Rattle.markdown_util.specs.Reference as Reference
 use Rattle.markdown_util.specs.Reference.{Table, html_5_rows, is_value_byte, named_value, value_size_max}
 use Rattle.markdown_run_text.specs.PlacesPassed.{marker_ops}
 use Rattle.markdown_run_text.specs.ReaderEnds.{options_here}
-use Rattle.markdown_run_text.specs.ReferencePassed.{HasSigns, Stands, inner_codes, kind_if, kind_of, number_kind, past_inner, reference_read, sign_ops, value_read}
+use Rattle.markdown_run_text.specs.ReferencePassed.{HasSigns, ReferenceStands, inner_codes, kind_if, kind_of, number_kind, past_inner, reference_read, sign_ops, value_read}
 use Rattle.markdown_run_text.proofs.BytesOfReferences.{inner-parts, inner-passed}
 use Rattle.markdown_run_text.proofs.EscapeReads.{solid-reads}
 
@@ -157,7 +157,7 @@ back_ops : List Op
 back_ops = Exit N.CharacterReferenceValue ∷ (marker_ops N.CharacterReferenceMarkerSemi ++ Exit N.CharacterReference ∷ [])
 
 -- what stands at these codes is read as a reference of this kind
-record IsParted (m : ℕ) (a : Code) (w : List Code) (b : Code) (rest : List Code) : Type 0 where
+record IsReferenceAt (m : ℕ) (a : Code) (w : List Code) (b : Code) (rest : List Code) : Type 0 where
   parts : Parts
   signs : List Code
   value : List Code
@@ -172,7 +172,7 @@ codes-behind : (vs : List Code) (b : Code) (rest : List Code) → ((vs ++ b ∷ 
 codes-behind vs b rest = ap (λ xs. xs ++ rest) (append-nil (vs ++ b ∷ [])) ∙ append_assoc vs (b ∷ []) rest
 
 named-parted : (a v : Code) (vs : List Code) (b : Code) (rest : List Code) → is_value 38 a ≡ true → is_value 59 b ≡ true →
-    has_value html_5_rows (values_of (v ∷ vs)) ≡ true → IsParted 38 a (v ∷ vs) b rest
+    has_value html_5_rows (values_of (v ∷ vs)) ≡ true → IsReferenceAt 38 a (v ∷ vs) b rest
 unfolding front_ops back_ops applied
 named-parted a v vs b rest front back known =
     let k : IsOfKind is_alphanumeric 31 (v ∷ vs) = of-kind 38 is_alphanumeric same-code (v ∷ vs) (name-value (values_of (v ∷ vs)) known) in
@@ -196,7 +196,7 @@ module _ (a d : Code) (rest : List Code) (front : is_value 38 a ≡ true) (sign 
       named-tail a (d ∷ cs) front ∙ tail-none is_alphanumeric (is_name html_5_rows) (named_by a) d cs (sign-letter d sign)
 
   decimal-parted : (v : Code) (vs : List Code) (b : Code) → is_value 59 b ≡ true → Reference.is_value 35 (values_of (v ∷ vs)) ≡ true →
-      IsParted 35 a (d ∷ v ∷ vs) b rest
+      IsReferenceAt 35 a (d ∷ v ∷ vs) b rest
   unfolding front_ops back_ops applied
   decimal-parted v vs b back known =
       let k : IsOfKind is_digit 7 (v ∷ vs) = of-kind 35 is_digit (λ c. refl) (v ∷ vs) known in
@@ -217,7 +217,7 @@ module _ (a d : Code) (rest : List Code) (front : is_value 38 a ≡ true) (sign 
       }
 
   hexadecimal-parted : (x v : Code) (vs : List Code) (b : Code) → (x.value == 120) || (x.value == 88) ≡ true → is_value 59 b ≡ true →
-      Reference.is_value 120 (values_of (v ∷ vs)) ≡ true → IsParted 120 a (d ∷ x ∷ v ∷ vs) b rest
+      Reference.is_value 120 (values_of (v ∷ vs)) ≡ true → IsReferenceAt 120 a (d ∷ x ∷ v ∷ vs) b rest
   unfolding front_ops back_ops applied
   hexadecimal-parted x v vs b letter back known =
       let k : IsOfKind is_hex_digit 6 (v ∷ vs) = of-kind 120 is_hex_digit (λ c. refl) (v ∷ vs) known in
@@ -246,37 +246,37 @@ kind-if k true m h = (cc, refl)
 kind-if k false m h = cc
 
 module _ (m : ℕ) (a : Code) (b : Code) (rest : List Code) (front : is_value 38 a ≡ true) (back : is_value 59 b ≡ true) where
-  of-same : (k : ℕ) (w : List Code) → m ≡ k → IsParted k a w b rest → IsParted m a w b rest
-  of-same k w e p = subst (λ (n : ℕ). IsParted n a w b rest) (sym e) p
+  of-same : (k : ℕ) (w : List Code) → m ≡ k → IsReferenceAt k a w b rest → IsReferenceAt m a w b rest
+  of-same k w e p = subst (λ (n : ℕ). IsReferenceAt n a w b rest) (sym e) p
 
   decimal-here : (d : Code) (vs : List Code) → is_value 35 d ≡ true → m ≡ 35 → Reference.is_value 35 (values_of vs) ≡ true →
-      IsParted m a (d ∷ vs) b rest
+      IsReferenceAt m a (d ∷ vs) b rest
   decimal-here d [] sign e h = cc
   decimal-here d (v ∷ vs) sign e h = of-same 35 (d ∷ v ∷ vs) e (decimal-parted a d rest front sign v vs b back h)
 
   hexadecimal-here : (d x : Code) (vs : List Code) → is_value 35 d ≡ true → (x.value == 120) || (x.value == 88) ≡ true → m ≡ 120 →
-      Reference.is_value 120 (values_of vs) ≡ true → IsParted m a (d ∷ x ∷ vs) b rest
+      Reference.is_value 120 (values_of vs) ≡ true → IsReferenceAt m a (d ∷ x ∷ vs) b rest
   hexadecimal-here d x [] sign letter e h = cc
   hexadecimal-here d x (v ∷ vs) sign letter e h =
       of-same 120 (d ∷ x ∷ v ∷ vs) e (hexadecimal-parted a d rest front sign x v vs b letter back h)
 
-  number-here : (d : Code) (vs : List Code) → is_value 35 d ≡ true → number_kind (values_of vs) ≡ Some m → IsParted m a (d ∷ vs) b rest
+  number-here : (d : Code) (vs : List Code) → is_value 35 d ≡ true → number_kind (values_of vs) ≡ Some m → IsReferenceAt m a (d ∷ vs) b rest
   number-here d [] sign h = cc
   number-here d (x ∷ vs) sign h = by_letter ((x.value == 120) || (x.value == 88)) refl h
     where
       by_letter : (t : Bool) → (x.value == 120) || (x.value == 88) ≡ t →
           (if t then kind_if 120 (Reference.is_value 120 (values_of vs)) else kind_if 35 (Reference.is_value 35 (values_of (x ∷ vs)))) ≡ Some m →
-          IsParted m a (d ∷ x ∷ vs) b rest
+          IsReferenceAt m a (d ∷ x ∷ vs) b rest
       by_letter true e k = let i = kind-if 120 _ m k in hexadecimal-here d x vs sign e i.0 i.1
       by_letter false e k = let i = kind-if 35 _ m k in decimal-here d (x ∷ vs) sign i.0 i.1
 
-  parted-by : (w : List Code) → kind_of (values_of w) ≡ Some m → IsParted m a w b rest
+  parted-by : (w : List Code) → kind_of (values_of w) ≡ Some m → IsReferenceAt m a w b rest
   parted-by [] h = cc
   parted-by (v ∷ vs) h = by_sign (v.value == 35) refl h
     where
       by_sign : (t : Bool) → (v.value == 35) ≡ t →
           (if t then number_kind (values_of vs) else kind_if 38 (has_value html_5_rows (values_of (v ∷ vs)))) ≡ Some m →
-          IsParted m a (v ∷ vs) b rest
+          IsReferenceAt m a (v ∷ vs) b rest
       by_sign true e k = number-here v vs e k
       by_sign false e k =
           let i = kind-if 38 _ m k in of-same 38 (v ∷ vs) i.0 (named-parted a v vs b rest front back i.1)
@@ -287,7 +287,7 @@ not-signed : (b t : Bool) (m : ℕ) → (if b then None else kind_if 38 t) ≡ S
 not-signed true t m h e = cc
 not-signed false t m h e = let i = kind-if 38 t m h in let k : m ≡ 120 = eqb-true m 120 e in omega (arith, i.0, k)
 
-pub has-signs : (m : ℕ) (p q : Place) → Stands m p q → HasSigns m (moved p)
+pub has-signs : (m : ℕ) (p q : Place) → ReferenceStands m p q → HasSigns m (moved p)
 has-signs m p q s = by_codes (inner_codes (moved p)) (inner-parts (moved p)) s.kind
   where
     behind : List Code
@@ -301,7 +301,7 @@ has-signs m p q s = by_codes (inner_codes (moved p)) (inner-parts (moved p)) s.k
         (λ k. ap is_some (code_at_ahead (moved p) v (x ∷ (vs ++ behind)) e), λ k. ap is_some (code_at_ahead (moved (moved p)) x (vs ++ behind) (ahead_moved (moved p) v (x ∷ (vs ++ behind)) e)))
 
 -- behind its `&`
-pub signs-follow : (m : ℕ) (q : Place) (T U : Tokenizer) → Stands m T.cursor q → U.cursor ≡ moved T.cursor → HasSigns m U.cursor
+pub signs-follow : (m : ℕ) (q : Place) (T U : Tokenizer) → ReferenceStands m T.cursor q → U.cursor ≡ moved T.cursor → HasSigns m U.cursor
 signs-follow m q T U s e = subst (λ (p : Place). HasSigns m p) (sym e) (has-signs m T.cursor q s)
 
 -- It is read.
@@ -347,7 +347,7 @@ reading-of : (on : Bool) (cs : List Code) (p : Parts) (rest : List Code) → on 
 unfolding character_reference gives
 reading-of on cs p rest h e = switched-on (character_reference html_5_rows) on cs h ∙ bind-some _ _ _ _ _ _ e refl
 
-pub reference-reads : (T U : Tokenizer) (m : ℕ) (q : Place) → is_on T ≡ true → Stands m T.cursor q → U ≡ reference_read m q T →
+pub reference-reads : (T U : Tokenizer) (m : ℕ) (q : Place) → is_on T ≡ true → ReferenceStands m T.cursor q → U ≡ reference_read m q T →
     Reads (character_reference_here (options_here T) html_5_rows) None T.tokenize_state T U
 reference-reads T U m q on s e =
     let p : Place = T.cursor in
@@ -358,7 +358,7 @@ reference-reads T U m q on s e =
     let b : Code = last.code in
     let rest : List Code = ahead_at (moved q) in
     let codes : ahead T ≡ a ∷ (w ++ b ∷ rest) = first.codes ∙ ap (λ xs. a ∷ xs) (inner-parts (moved p) ∙ ap (λ (x : Place). w ++ ahead_at x) (sym s.past) ∙ ap (λ xs. w ++ xs) last.codes) in
-    let k : IsParted m a w b rest = parted-by m a b rest (eq-eqb a.value 38 first.value) (eq-eqb b.value 59 last.value) w s.kind in
+    let k : IsReferenceAt m a w b rest = parted-by m a b rest (eq-eqb a.value 38 first.value) (eq-eqb b.value 59 last.value) w s.kind in
     let there : q ≡ moved_by k.value (done (front_ops m) T).cursor = s.past ∙ inner-passed (moved p) ∙ ap (λ xs. moved_by xs (moved p)) k.whole ∙ moved_by-append k.signs k.value (moved p) ∙ ap (moved_by k.value) (sym (k.place T)) in
     solid-reads (character_reference_here (options_here T) html_5_rows) (reference_tree k.parts) rest T U (tree-solid a k.parts k.some)
     (ap (character_reference_here (options_here T) html_5_rows) codes ∙ reading-of (is_on T) (a ∷ (w ++ b ∷ rest)) k.parts rest on k.holds)

@@ -1,12 +1,12 @@
 -- Past a row a tokenizer hands over the row's brackets.
 use Rattle.std.proofs.Common.{◌≡◌, ℕ, suc, ◌+◌, ◌-◌, Bool, true, false, if◌then◌else◌, None, List, [], ◌∷◌, ◌++◌, length, refl, sym, ap, subst, ◌∙◌, arith, length-append}
-use Rattle.markdown_engine_content.specs.Codes.{Code}
+use Rattle.markdown_content.specs.Codes.{Code}
 use Rattle.markdown_engine.specs.Operations.{scratched}
 use Rattle.markdown_engine.specs.PastTree.{past, appended_from, last_link}
-use Rattle.markdown_engine_content.specs.Tree.{Forest, ◌⊕◌, event_count}
+use Rattle.markdown_content.specs.Tree.{Forest, ◌⊕◌, event_count}
 use Rattle.markdown_event.specs.declared.event.Event.{Event}
-use Rattle.markdown_state.specs.declared.resolve.ResolveName.TheVariants as R
-use Rattle.markdown_engine_content.specs.declared.label_kind.LabelKind.{LabelKind}
+use Rattle.markdown_event.specs.declared.resolve.ResolveName.TheVariants as R
+use Rattle.markdown_content.specs.declared.label_kind.LabelKind.{LabelKind}
 use Rattle.markdown_engine.specs.declared.tokenizer.LabelStart.{LabelStart}
 use Rattle.markdown_engine.specs.declared.tokenizer.TokenizeState.{TokenizeState}
 use Rattle.markdown_engine.specs.declared.tokenizer.Tokenizer.{Tokenizer}
@@ -24,7 +24,7 @@ use Rattle.markdown_label.proofs.BracketJoinLemmas.{row-assoc, closed-unused, fl
 use Rattle.markdown_label.proofs.BracketJoinLemmas.{waiting-unused, failed-flat, failed-labels, failed-unused, failed-failed, started-flat, started-labels, started-unused, started-failed, passed-flat, passed-labels, passed-unused, passed-failed}
 use Rattle.markdown_label.proofs.EventsOfBrackets.{count-is, flat-last, start-count}
 use Rattle.markdown_run_text.specs.Row.{Mark, begins, makes, loses, Row, row_end, row_then, past_tree, past_mark, past_row, IsMarkAt, IsRowAt, kinds_past}
-use Rattle.markdown_run_text.specs.RowStart.{IsFresh}
+use Rattle.markdown_run_text.specs.RowStart.{IsFreshRow}
 use Rattle.markdown_run_text.specs.OpenStarts.{Opened, none_waits, waits, assembled, put, put_tree, made_front, tail_of, marked_with, opened_by, brackets_of}
 use Rattle.markdown_run_text.proofs.OpenStartLemmas.{kinds_in, IsClosedIn, assembled-put, kinds-put, closed-put, begins-as, makes-as, kinds-marked, closed-marked}
 
@@ -244,61 +244,62 @@ apart-right (label_then f inside back tail rest) c h = apart-right rest c h.1
 apart-right (unused_then f rest) c h = apart-right rest c h
 apart-right (failed_then f inside rest) c h = apart-right rest c h.1
 
-abbrev Has : Opened → Tokenizer → Type 0
-Has o T = HasBrackets (assembled o) T.tokenize_state T.events
+abbrev HasOpened : Opened → Tokenizer → Type 0
+HasOpened o T = HasBrackets (assembled o) T.tokenize_state T.events
 
 put-step : (c : Brackets) (o : Opened) (U : Tokenizer) →
-    HasBrackets (behind (assembled o) c) U.tokenize_state U.events → Has (put c o) U
+    HasBrackets (behind (assembled o) c) U.tokenize_state U.events → HasOpened (put c o) U
 put-step c o U h = subst (λ b. HasBrackets b U.tokenize_state U.events) (sym (assembled-put c o)) h
 
 lost-nothing : (ls : List LabelStart) (s : TokenizeState) → starts_of ls ≡ [] → lost_by ls s ≡ s
 lost-nothing [] s e = refl
 lost-nothing (l ∷ ls) s e = absurd (none-then l.start (starts_of ls) (sym e))
 
-same-step : (b : Brackets) (T : Tokenizer) → Has (none_waits b) T → Has (none_waits b) (scratched T.tokenize_state T)
+same-step : (b : Brackets) (T : Tokenizer) → HasOpened (none_waits b) T → HasOpened (none_waits b) (scratched T.tokenize_state T)
 unfolding scratched
 same-step b T h = h
 
 -- a mark
-mark-step : (mark : Mark) (o : Opened) (T : Tokenizer) → IsMarkAt (kinds_in o) mark → IsClosedIn o → Has o T →
-    Has (marked_with mark o) (past_mark mark T)
+mark-step : (mark : Mark) (o : Opened) (T : Tokenizer) → IsMarkAt (kinds_in o) mark → IsClosedIn o → HasOpened o T →
+    HasOpened (marked_with mark o) (past_mark mark T)
 unfolding past_mark
 mark-step (begins kind marker) o T at closed h =
     let b = begins-as kind marker at.0 in
-    let here : Has (waits o b.front nothing) (kept_start (kind_of b.front) (event_count (start_row b.front)) (past None (start_row b.front) T)) = begun-step (assembled o) b.front T h in
-    let there : Has (waits o b.front nothing) (kept_start kind (event_count (start_tree kind marker)) (past None (start_tree kind marker) T)) =
-    subst (λ k. Has (waits o b.front nothing) (kept_start k (event_count (start_tree kind marker)) (past None (start_tree kind marker) T))) (sym b.is_kind)
-    (subst (λ t. Has (waits o b.front nothing) (kept_start (kind_of b.front) (event_count t) (past None t T))) (sym b.tree) here) in
-    subst (λ p. Has p (past_mark (begins kind marker) T)) (sym (b.opens o)) there
+    let here : HasOpened (waits o b.front nothing) (kept_start (kind_of b.front) (event_count (start_row b.front)) (past None (start_row b.front) T)) = begun-step (assembled o) b.front T h in
+    let there : HasOpened (waits o b.front nothing) (kept_start kind (event_count (start_tree kind marker)) (past None (start_tree kind marker) T)) =
+    subst (λ k. HasOpened (waits o b.front nothing) (kept_start k (event_count (start_tree kind marker)) (past None (start_tree kind marker) T)))
+    (sym b.is_kind)
+    (subst (λ t. HasOpened (waits o b.front nothing) (kept_start (kind_of b.front) (event_count t) (past None t T))) (sym b.tree) here) in
+    subst (λ p. HasOpened p (past_mark (begins kind marker) T)) (sym (b.opens o)) there
 mark-step (makes back kind tail) o T at closed h =
     let m = makes-as back kind tail o at in
     let g : Front = made_front kind m.start in
     let a : Brackets = assembled m.before in
-    let held : HasBrackets (waiting a m.start m.inside) T.tokenize_state T.events = subst (λ p. Has p T) m.waiting h in
+    let held : HasBrackets (waiting a m.start m.inside) T.tokenize_state T.events = subst (λ p. HasOpened p T) m.waiting h in
     let shut = subst IsClosedIn m.waiting closed in
     let here : HasBrackets (labelled a g m.inside m.code (tail_of tail)) (end_made (m.code ∷ []) (kind_of g) (tail_row (tail_of tail)) T).tokenize_state (end_made (m.code ∷ []) (kind_of g) (tail_row (tail_of tail)) T).events =
     made-step a m.start g m.inside m.code (tail_of tail) T m.tree m.last (apart-left a (unused_then m.start m.inside) held.apart) (apart-right a (unused_then m.start m.inside) held.apart) shut.1 held in
     let p : Opened = put (label_then g m.inside m.code (tail_of tail) nothing) m.before in
-    let there : Has p (end_made (m.code ∷ []) (kind_of g) (tail_row (tail_of tail)) T) =
+    let there : HasOpened p (end_made (m.code ∷ []) (kind_of g) (tail_row (tail_of tail)) T) =
     put-step (label_then g m.inside m.code (tail_of tail) nothing) m.before (end_made (m.code ∷ []) (kind_of g) (tail_row (tail_of tail)) T) here in
-    subst (λ q. Has q (end_made back kind tail T)) (sym m.closes)
-    (subst (λ xs. Has p (end_made xs kind tail T)) (sym m.one)
-    (subst (λ k. Has p (end_made (m.code ∷ []) k tail T)) (sym m.is_kind)
-    (subst (λ t. Has p (end_made (m.code ∷ []) (kind_of g) t T)) (sym m.is_tail) there)))
+    subst (λ q. HasOpened q (end_made back kind tail T)) (sym m.closes)
+    (subst (λ xs. HasOpened p (end_made xs kind tail T)) (sym m.one)
+    (subst (λ k. HasOpened p (end_made (m.code ∷ []) k tail T)) (sym m.is_kind)
+    (subst (λ t. HasOpened p (end_made (m.code ∷ []) (kind_of g) t T)) (sym m.is_tail) there)))
 mark-step loses (none_waits b) T at closed h =
-    subst (λ s. Has (none_waits b) (scratched s T)) (sym (lost-nothing T.tokenize_state.label_starts T.tokenize_state (h.unused ∙ closed-unused 0 b closed))) (same-step b T h)
+    subst (λ s. HasOpened (none_waits b) (scratched s T)) (sym (lost-nothing T.tokenize_state.label_starts T.tokenize_state (h.unused ∙ closed-unused 0 b closed))) (same-step b T h)
 mark-step loses (waits o f inside) T at closed h =
     put-step (failed_then f inside nothing) o (scratched (lost_by T.tokenize_state.label_starts T.tokenize_state) T)
     (loosened-step (assembled o) f inside T (apart-left (assembled o) (unused_then f inside) h.apart) (apart-right (assembled o) (unused_then f inside) h.apart) closed.1 h)
 
 -- Rows.
 
-pub tree-put : (t : Forest) (o : Opened) (T : Tokenizer) → ((n : ℕ) → last_link n None t ≡ None) → Has o T →
-    Has (put_tree t o) (past_tree t T)
+pub tree-put : (t : Forest) (o : Opened) (T : Tokenizer) → ((n : ℕ) → last_link n None t ≡ None) → HasOpened o T →
+    HasOpened (put_tree t o) (past_tree t T)
 tree-put t o T apart h = put-step (tree_then t nothing) o (past_tree t T) (tree-step (assembled o) t T apart h)
 
-pub row-step : (row : Row) (o : Opened) (T : Tokenizer) → IsRowAt (kinds_in o) row → IsClosedIn o → Has o T →
-    Has (opened_by row o) (past_row row T)
+pub row-step : (row : Row) (o : Opened) (T : Tokenizer) → IsRowAt (kinds_in o) row → IsClosedIn o → HasOpened o T →
+    HasOpened (opened_by row o) (past_row row T)
 row-step (row_end t) o T at closed h = tree-put t o T at.apart h
 row-step (row_then t mark rest) o T at closed h =
     let p : Opened = put_tree t o in
@@ -310,7 +311,7 @@ row-step (row_then t mark rest) o T at closed h =
     (mark-step mark p (past_tree t T) here shut (tree-put t o T at.0.apart h))
 
 -- from a run's start on
-pub row-brackets : (row : Row) (T : Tokenizer) → IsRowAt [] row → IsFresh T →
+pub row-brackets : (row : Row) (T : Tokenizer) → IsRowAt [] row → IsFreshRow T →
     HasBrackets (brackets_of row) (past_row row T).tokenize_state (past_row row T).events
 row-brackets row T at h =
     row-step row (none_waits nothing) T at tt

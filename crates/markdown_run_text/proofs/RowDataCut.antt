@@ -1,16 +1,16 @@
 -- How data is cut is no matter to the grouped tree of a row.
 use Rattle.std.proofs.Common.{◌≡◌, List, drop, length, refl, sym, ap, ◌∙◌}
-use Rattle.markdown_engine_content.specs.Codes.{Code, stop_of, document_start}
-use Rattle.markdown_engine_content.specs.Tree.{Forest, empty, group_then, leaf, ◌⊕◌, group, text_group, start_of, enter_of, exit_after}
+use Rattle.markdown_content.specs.Codes.{Code, stop_of, document_start}
+use Rattle.markdown_content.specs.Tree.{Forest, empty, group_then, leaf, ◌⊕◌, group, text_group, start_of, enter_of, exit_after}
 use Rattle.markdown_event.specs.declared.event.Name.TheVariants as N
 use Rattle.markdown_event.specs.declared.event.Point.{Point}
-use Rattle.markdown_engine_content.specs.declared.label_kind.LabelKind.{LabelKind}
+use Rattle.markdown_content.specs.declared.label_kind.LabelKind.{LabelKind}
 use Rattle.markdown_run_text.specs.CutData.{split}
 use Rattle.markdown_run_text.proofs.PairsOfCutData.{enter-same, exit-same}
 use Rattle.markdown_run_text.proofs.CutDataLemmas.{split-join, split-twice}
 use Rattle.markdown_model.specs.Passes.{label_group, label_name, start_marker, start_tree}
 use Rattle.markdown_run_text.specs.Row.{Mark, begins, makes, loses, Row, row_end, row_then, split_row}
-use Rattle.markdown_run_text.proofs.OpenStartTrees.{Open, outside, within, whole, put_row, marked_row, filled, filled_from_start}
+use Rattle.markdown_run_text.proofs.OpenStartTrees.{OpenTrees, outside, within, whole, put_row, marked_row, filled, filled_from_start}
 
 -- the group of a label looks at the tree inside only as it is cut
 module _ (kind : LabelKind) (marker : List Code) (back : List Code) (tail : Forest) where
@@ -42,31 +42,31 @@ module _ (kind : LabelKind) (marker : List Code) (back : List Code) (tail : Fore
 
 -- Rows as they are cut.
 
-abbrev split_open : Open → Open
+abbrev split_open : OpenTrees → OpenTrees
 split_open (outside u) = outside (split u)
 split_open (within o m x) = within (split_open o) m (split x)
 
-abbrev cut_whole : Open → Forest
+abbrev cut_whole : OpenTrees → Forest
 cut_whole (outside u) = u
 cut_whole (within o m x) = cut_whole o ⊕ (split (leaf N.Data m) ⊕ x)
 
-whole-cut : (o : Open) → split (whole o) ≡ cut_whole (split_open o)
+whole-cut : (o : OpenTrees) → split (whole o) ≡ cut_whole (split_open o)
 whole-cut (outside u) = refl
 whole-cut (within o m x) =
     split-join (whole o) (leaf N.Data m ⊕ x) ∙ ap (λ y. split (whole o) ⊕ y) (split-join (leaf N.Data m) x) ∙ ap (λ y. y ⊕ (split (leaf N.Data m) ⊕ split x)) (whole-cut o)
 
-put-cut : (t : Forest) (o : Open) → split_open (put_row t o) ≡ put_row (split t) (split_open o)
+put-cut : (t : Forest) (o : OpenTrees) → split_open (put_row t o) ≡ put_row (split t) (split_open o)
 put-cut t (outside u) = ap outside (split-join u t)
 put-cut t (within o m x) = ap (within (split_open o) m) (split-join x t)
 
-abbrev cut_marked : Mark → Open → Open
+abbrev cut_marked : Mark → OpenTrees → OpenTrees
 cut_marked (begins kind marker) o = within o marker empty
 cut_marked (makes back kind tail) (within o m x) = put_row (split (label_group kind m x back tail)) o
 cut_marked (makes back kind tail) (outside u) = outside u
 cut_marked loses (within o m x) = put_row (split (leaf N.Data m) ⊕ x) o
 cut_marked loses (outside u) = outside u
 
-marked-cut : (mark : Mark) (o : Open) → split_open (marked_row mark o) ≡ cut_marked mark (split_open o)
+marked-cut : (mark : Mark) (o : OpenTrees) → split_open (marked_row mark o) ≡ cut_marked mark (split_open o)
 marked-cut (begins kind marker) o = refl
 marked-cut (makes back kind tail) (outside u) = refl
 marked-cut (makes back kind tail) (within o m x) =
@@ -75,11 +75,11 @@ marked-cut loses (outside u) = refl
 marked-cut loses (within o m x) =
     put-cut (leaf N.Data m ⊕ x) o ∙ ap (λ t. put_row t (split_open o)) (split-join (leaf N.Data m) x)
 
-abbrev cut_filled : Row → Open → Open
+abbrev cut_filled : Row → OpenTrees → OpenTrees
 cut_filled (row_end t) o = put_row t o
 cut_filled (row_then t mark rest) o = cut_filled rest (cut_marked mark (put_row t o))
 
-filled-cut : (row : Row) (o : Open) → split_open (filled row o) ≡ cut_filled (split_row row) (split_open o)
+filled-cut : (row : Row) (o : OpenTrees) → split_open (filled row o) ≡ cut_filled (split_row row) (split_open o)
 filled-cut (row_end t) o = put-cut t o
 filled-cut (row_then t mark rest) o =
     filled-cut rest (marked_row mark (put_row t o)) ∙ ap (cut_filled (split_row rest)) (marked-cut mark (put_row t o) ∙ ap (cut_marked mark) (put-cut t o))

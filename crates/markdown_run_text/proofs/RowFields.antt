@@ -2,20 +2,20 @@
 use Rattle.std.proofs.Common.{◌≡◌, ℕ, List, [], ◌∷◌, ◌++◌, refl, sym, ap, subst, ◌∙◌, append-nil}
 use Rattle.markdown_run_text.proofs.RowScratch.{kinds-mark, kinds-tree, mark-input, row-input}
 use Rattle.markdown_plan.proofs.ContentCharacters.{text-moved_by}
-use Rattle.markdown_engine_content.specs.Codes.{Code}
+use Rattle.markdown_content.specs.Codes.{Code}
 use Rattle.markdown_engine.specs.Operations.{scratched}
 use Rattle.markdown_engine.specs.PastTree.{past, moved_by}
-use Rattle.markdown_engine_content.specs.Place.{Place}
-use Rattle.markdown_engine_content.specs.Tree.{Forest, leaf_codes}
-use Rattle.markdown_state.specs.declared.resolve.ResolveName.TheVariants as R
-use Rattle.markdown_engine_content.specs.declared.label_kind.LabelKind.{LabelKind}
+use Rattle.markdown_content.specs.Place.{Place}
+use Rattle.markdown_content.specs.Tree.{Forest, leaf_codes}
+use Rattle.markdown_event.specs.declared.resolve.ResolveName.TheVariants as R
+use Rattle.markdown_content.specs.declared.label_kind.LabelKind.{LabelKind}
 use Rattle.markdown_engine.specs.declared.tokenizer.LabelStart as Kept
 use Rattle.markdown_engine.specs.declared.tokenizer.TokenizeState.{TokenizeState}
 use Rattle.markdown_engine.specs.declared.tokenizer.Tokenizer.{Tokenizer}
 use Rattle.markdown_engine.proofs.PlaceAfterCodes.{moved_by-append}
 use Rattle.markdown_plan.specs.Characters.{bytes_of, IsText, ReadsText}
 use Rattle.markdown_label.specs.LabelFields.{with_kind, labelled}
-use Rattle.markdown_label.specs.LabelEnd.{AreWithin, end_made, made, lost_by}
+use Rattle.markdown_label.specs.LabelEnd.{AreStartsWithin, end_made, made, lost_by}
 use Rattle.markdown_label.proofs.LabelEndLemmas.{scratch-before}
 use Rattle.markdown_label.proofs.KeptStartPlaces.{within-grown, within-rest, within-barred}
 use Rattle.markdown_run_text.specs.Row.{EndsRest, Mark, begins, makes, loses, Row, row_end, row_then, past_tree, past_mark, past_row, mark_codes, row_codes, kinds_of, kinds_past, IsMarkAt, IsRowAt}
@@ -112,24 +112,24 @@ row-fields ks (row_then t mark rest) T e h k =
 -- The kept starts go on ending between characters.
 
 -- past a tree
-pub tree-within : (t : Forest) (T : Tokenizer) → AreWithin T T.tokenize_state.label_starts →
-    AreWithin (past_tree t T) (past_tree t T).tokenize_state.label_starts
+pub tree-within : (t : Forest) (T : Tokenizer) → AreStartsWithin T T.tokenize_state.label_starts →
+    AreStartsWithin (past_tree t T) (past_tree t T).tokenize_state.label_starts
 unfolding past_tree past
 tree-within t T k = within-grown T (past_tree t T) _ refl refl T.tokenize_state.label_starts k
 
 -- past an end that makes a label
 pub made-within : (back : List Code) (kind : LabelKind) (tail : Forest) (T : Tokenizer) →
-    AreWithin T T.tokenize_state.label_starts →
-    (let U : Tokenizer = past_mark (makes back kind tail) T in AreWithin U U.tokenize_state.label_starts)
+    AreStartsWithin T T.tokenize_state.label_starts →
+    (let U : Tokenizer = past_mark (makes back kind tail) T in AreStartsWithin U U.tokenize_state.label_starts)
 unfolding past_mark
 made-within back kind tail T k =
     let U : Tokenizer = end_made back kind tail T in
-    subst (λ ls. AreWithin U ls) (sym (end-starts back kind tail T))
+    subst (λ ls. AreStartsWithin U ls) (sym (end-starts back kind tail T))
     (within-grown T U _ (ap (λ p. p.now.bytes.now) (mark-input (makes back kind tail) T)) (end-events back kind tail T) _ (within-barred T kind _ (within-rest T T.tokenize_state.label_starts k)))
 
 -- past one that makes none
-pub lost-within : (T : Tokenizer) → AreWithin T T.tokenize_state.label_starts →
-    (let U : Tokenizer = past_mark loses T in AreWithin U U.tokenize_state.label_starts)
+pub lost-within : (T : Tokenizer) → AreStartsWithin T T.tokenize_state.label_starts →
+    (let U : Tokenizer = past_mark loses T in AreStartsWithin U U.tokenize_state.label_starts)
 unfolding past_mark scratched
 lost-within T k =
-    subst (λ ls. AreWithin (past_mark loses T) ls) (sym (lost-starts T)) (within-grown T (past_mark loses T) [] refl (sym (append-nil T.events)) _ (within-rest T T.tokenize_state.label_starts k))
+    subst (λ ls. AreStartsWithin (past_mark loses T) ls) (sym (lost-starts T)) (within-grown T (past_mark loses T) [] refl (sym (append-nil T.events)) _ (within-rest T T.tokenize_state.label_starts k))

@@ -2,19 +2,19 @@
 use Rattle.std.proofs.Common.{◌≡◌, ℕ, ◌+◌, List, ◌++◌, length, None, refl, sym, ap, ◌∙◌, append_assoc}
 use Rattle.markdown_label.proofs.EventsOfBrackets.{last-join}
 use Rattle.markdown_engine.specs.PastTree.{last_link}
-use Rattle.markdown_engine_content.specs.Tree.{Forest, empty, leaf_then, group_then, ◌⊕◌, leaf_codes, event_count}
-use Rattle.markdown_engine_content.specs.declared.label_kind.LabelKind.{LabelKind}
+use Rattle.markdown_content.specs.Tree.{Forest, empty, leaf_then, group_then, ◌⊕◌, leaf_codes, event_count}
+use Rattle.markdown_content.specs.declared.label_kind.LabelKind.{LabelKind}
 use Rattle.markdown_engine.specs.declared.tokenizer.Tokenizer.{Tokenizer}
-use Rattle.markdown_engine_content.proofs.TreeCodes.{leaf_codes-row}
+use Rattle.markdown_content.proofs.TreeCodes.{leaf_codes-row}
 use Rattle.markdown_run_text.specs.CutData.{split}
 use Rattle.markdown_run_text.proofs.CutDataLemmas.{row-assoc, split-join}
-use Rattle.markdown_run_text.specs.RowTreeNames.{HasLines, IsPart}
+use Rattle.markdown_run_text.specs.RowTreeNames.{HasRowLines, IsRowPart}
 use Rattle.markdown_run_text.specs.Row.{Row, row_end, row_then, tree_onto, joined_rows, past_tree, past_mark, past_row, mark_codes, row_codes, kinds_past, kinds_after, IsRowAt, split_row}
 use Rattle.markdown_run_text.proofs.PastTrees.{past-both, outer-row}
 
 -- Trees of rows.
 
-pub HasLines-row : (t u : Forest) → HasLines t → HasLines u → HasLines (t ⊕ u)
+pub HasLines-row : (t u : Forest) → HasRowLines t → HasRowLines u → HasRowLines (t ⊕ u)
 HasLines-row empty u h k = k
 HasLines-row (leaf_then n l cs rest) u h k = (h.0, HasLines-row rest u h.1 k)
 HasLines-row (group_then n a b inside rest) u h k = (h.0, (h.1.0, HasLines-row rest u h.1.1 k))
@@ -71,11 +71,11 @@ row-apart : (t u : Forest) (n : ℕ) → ((n : ℕ) → last_link n None t ≡ N
     last_link n None (t ⊕ u) ≡ None
 row-apart t u n h k = last-join n None t u ∙ ap (λ q. last_link (n + event_count t) q u) (h n) ∙ k (n + event_count t)
 
-pub part-row : (t u : Forest) → IsPart t → IsPart u → IsPart (t ⊕ u)
+pub part-row : (t u : Forest) → IsRowPart t → IsRowPart u → IsRowPart (t ⊕ u)
 part-row t u h k =
     record { lines = HasLines-row t u h.lines k.lines; outer = outer-row t u h.outer k.outer; apart = λ n. row-apart t u n h.apart k.apart }
 
-pub row-onto : (ks : List LabelKind) (t : Forest) (q : Row) → IsPart t → IsRowAt ks q → IsRowAt ks (tree_onto t q)
+pub row-onto : (ks : List LabelKind) (t : Forest) (q : Row) → IsRowPart t → IsRowAt ks q → IsRowAt ks (tree_onto t q)
 row-onto ks t (row_end u) h k = part-row t u h k
 row-onto ks t (row_then u mark rest) h k = (part-row t u h k.0, k.1)
 

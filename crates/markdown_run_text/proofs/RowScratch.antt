@@ -1,15 +1,15 @@
 -- What a row leaves of a tokenizer beside its events and its labels.
 use Rattle.std.proofs.Common.{◌≡◌, ℕ, Bool, true, false, ◌||◌, if◌then◌else◌, List, [], ◌∷◌, ◌++◌, map, refl, sym, ap, subst, ◌∙◌, append_assoc, append-nil}
-use Rattle.markdown_engine_content.specs.Codes.{Code}
+use Rattle.markdown_content.specs.Codes.{Code}
 use Rattle.markdown_engine.specs.Operations.{registered_before, is_registered, scratched}
 use Rattle.markdown_engine.specs.PastTree.{moved_by, past}
-use Rattle.markdown_engine_content.specs.Place.{Place}
-use Rattle.markdown_engine_content.specs.Tree.{Forest, leaf, leaf_codes}
+use Rattle.markdown_content.specs.Place.{Place}
+use Rattle.markdown_content.specs.Tree.{Forest, leaf, leaf_codes}
 use Rattle.markdown_event.specs.declared.event.Event.{Event}
 use Rattle.markdown_event.specs.declared.event.Name.TheVariants as N
-use Rattle.markdown_state.specs.declared.resolve.ResolveName.{ResolveName}
-use Rattle.markdown_state.specs.declared.resolve.ResolveName.TheVariants as R
-use Rattle.markdown_engine_content.specs.declared.label_kind.LabelKind.{LabelKind}
+use Rattle.markdown_event.specs.declared.resolve.ResolveName.{ResolveName}
+use Rattle.markdown_event.specs.declared.resolve.ResolveName.TheVariants as R
+use Rattle.markdown_content.specs.declared.label_kind.LabelKind.{LabelKind}
 use Rattle.markdown_engine.specs.declared.tokenizer.LabelStart.{LabelStart}
 use Rattle.markdown_engine.specs.declared.tokenizer.TokenizeState.{TokenizeState}
 use Rattle.markdown_engine.specs.declared.tokenizer.Tokenizer.{Tokenizer}
@@ -19,7 +19,7 @@ use Rattle.markdown_label.specs.LabelFields.{bars, with_kind, as_link, marked, l
 use Rattle.markdown_label.specs.LabelEnd.{end_tree, ended_at, starts_set, made, end_made, lost_by}
 use Rattle.markdown_label.proofs.LabelEndLemmas.{scratch-before, input-before}
 use Rattle.markdown_label.specs.LabelsHandedOver.{unlabelled}
-use Rattle.markdown_engine_content.specs.ListFunctions.{rest_of}
+use Rattle.markdown_content.specs.ListFunctions.{rest_of}
 use Rattle.markdown_model.specs.LabelEnd.{is_image}
 use Rattle.markdown_model.specs.Passes.{start_tree}
 use Rattle.markdown_model.proofs.LeafCodes.{codes-leaf}
@@ -27,7 +27,7 @@ use Rattle.markdown_model.proofs.LabelsCover.{codes-start_tree}
 use Rattle.markdown_run_text.specs.Row.{Mark, begins, makes, loses, Row, row_end, row_then, passes_after, past_tree, past_mark, past_row, mark_codes, row_codes, row_has_run, kinds_of, kinds_past, kinds_after, IsMarkAt, IsRowAt}
 use Rattle.markdown_run_text.proofs.PastTrees.{or-apart}
 use Rattle.markdown_run_text.proofs.OpenStartLemmas.{no-kinds}
-use Rattle.markdown_run_text.specs.RowStart.{IsFresh, IsPast, registers, row_registers, passes_of}
+use Rattle.markdown_run_text.specs.RowStart.{IsFreshRow, IsPastCodes, registers, row_registers, passes_of}
 
 -- Passes.
 
@@ -66,11 +66,11 @@ or-nothing false = refl
 
 -- Each step.
 
-module _ (a b : Bool) (cs : List Code) (T U : Tokenizer) (h : IsPast a b cs T U) where
+module _ (a b : Bool) (cs : List Code) (T U : Tokenizer) (h : IsPastCodes a b cs T U) where
   past-cursor : (ds : List Code) → moved_by ds U.cursor ≡ moved_by (cs ++ ds) T.cursor
   past-cursor ds = ap (λ (V : Tokenizer). moved_by ds V.cursor) h.same ∙ sym (moved_by-append cs ds T.cursor)
 
-  rest-tree : (t : Forest) → IsPast a (b || has_run t) (cs ++ leaf_codes t) T (past_tree t U)
+  rest-tree : (t : Forest) → IsPastCodes a (b || has_run t) (cs ++ leaf_codes t) T (past_tree t U)
   unfolding past past_tree
   rest-tree t =
       let passes : passes_after (has_run t) U.resolvers ≡ passes_of a (b || has_run t) = ap (λ (V : Tokenizer). passes_after (has_run t) V.resolvers) h.same ∙ passes-tree a b (has_run t) in
@@ -83,16 +83,16 @@ module _ (a b : Bool) (cs : List Code) (T U : Tokenizer) (h : IsPast a b cs T U)
 
   -- with the pass of labels registered, and these fields
   rest-labels : (ds : List Code) (p : Place) (es : List Event) (s : TokenizeState) → p ≡ moved_by ds U.cursor → unlabelled s ≡ unlabelled U.tokenize_state → s.end ≡ 0 → s.seen ≡ false
-      → IsPast (a || true) b (cs ++ ds) T (registered_before R.Label (record U { events = es; cursor = p; tokenize_state = s }))
+      → IsPastCodes (a || true) b (cs ++ ds) T (registered_before R.Label (record U { events = es; cursor = p; tokenize_state = s }))
   rest-labels ds p es s place fields end seen =
       let V : Tokenizer = record U { events = es; cursor = p; tokenize_state = s } in
       let passes : with_labels U.resolvers ≡ passes_of (a || true) b = ap (λ (W : Tokenizer). with_labels W.resolvers) h.same ∙ passes-labels a b in
-      let is : IsPast (a || true) b (cs ++ ds) T (record V { resolvers = with_labels U.resolvers }) =
+      let is : IsPastCodes (a || true) b (cs ++ ds) T (record V { resolvers = with_labels U.resolvers }) =
       record { same = λ i. record (h.same i) { events = es; cursor = (place ∙ past-cursor ds) i; resolvers = passes i; tokenize_state = s }; fields = fields ∙ h.fields; end = end; seen = seen } in
-      subst (IsPast (a || true) b (cs ++ ds) T) (sym (before-is V)) is
+      subst (IsPastCodes (a || true) b (cs ++ ds) T) (sym (before-is V)) is
 
   rest-lost : (s : TokenizeState) → unlabelled s ≡ unlabelled U.tokenize_state → s.end ≡ 0 → s.seen ≡ false →
-      IsPast (a || false) b (cs ++ []) T (scratched s U)
+      IsPastCodes (a || false) b (cs ++ []) T (scratched s U)
   unfolding scratched
   rest-lost s fields end seen = record {
     same = λ i. record (h.same i) { cursor = past-cursor [] i; resolvers = (ap (λ (W : Tokenizer). W.resolvers) h.same ∙ ap (λ x. passes_of x b) (or-nothing a)) i; tokenize_state = s };
@@ -181,13 +181,13 @@ lost-rests [] s end seen = record { fields = refl; end = end; seen = seen }
 lost-rests (l ∷ ls) s end seen =
     record { fields = λ i. record (unlabelled s) { end = sym end i; seen = sym seen i }; end = refl; seen = refl }
 
-module _ (a b : Bool) (cs : List Code) (T U : Tokenizer) (h : IsPast a b cs T U) where
+module _ (a b : Bool) (cs : List Code) (T U : Tokenizer) (h : IsPastCodes a b cs T U) where
   rest-mark : (mark : Mark) → IsMarkAt (kinds_of U) mark →
-      IsPast (a || registers mark) b (cs ++ mark_codes mark) T (past_mark mark U)
+      IsPastCodes (a || registers mark) b (cs ++ mark_codes mark) T (past_mark mark U)
   unfolding past past_mark scratched made end_made
   rest-mark (begins kind marker) at =
       let t : Forest = start_tree kind marker in
-      subst (λ ds. IsPast (a || true) b (cs ++ ds) T (past_mark (begins kind marker) U)) (codes-start_tree kind marker) (rest-labels a b cs T U h (leaf_codes t) _ _ _ refl refl h.end h.seen)
+      subst (λ ds. IsPastCodes (a || true) b (cs ++ ds) T (past_mark (begins kind marker) U)) (codes-start_tree kind marker) (rest-labels a b cs T U h (leaf_codes t) _ _ _ refl refl h.end h.seen)
   rest-mark (makes back kind tail) at =
       let codes : leaf_codes (end_tree back) ≡ back = append-nil (leaf_codes (leaf N.LabelMarker back)) ∙ codes-leaf N.LabelMarker back in
       let place : moved_by (leaf_codes tail) (moved_by (leaf_codes (end_tree back)) U.cursor) ≡ moved_by (back ++ leaf_codes tail) U.cursor =
@@ -199,11 +199,11 @@ module _ (a b : Bool) (cs : List Code) (T U : Tokenizer) (h : IsPast a b cs T U)
 
 -- A row.
 
-pub row-rest : (row : Row) (a b : Bool) (cs : List Code) (T U : Tokenizer) → IsPast a b cs T U →
+pub row-rest : (row : Row) (a b : Bool) (cs : List Code) (T U : Tokenizer) → IsPastCodes a b cs T U →
     IsRowAt (kinds_of U) row →
-    IsPast (a || row_registers row) (b || row_has_run row) (cs ++ row_codes row) T (past_row row U)
+    IsPastCodes (a || row_registers row) (b || row_has_run row) (cs ++ row_codes row) T (past_row row U)
 row-rest (row_end t) a b cs T U h at =
-    subst (λ x. IsPast x (b || has_run t) (cs ++ leaf_codes t) T (past_tree t U)) (or-nothing a) (rest-tree a b cs T U h t)
+    subst (λ x. IsPastCodes x (b || has_run t) (cs ++ leaf_codes t) T (past_tree t U)) (or-nothing a) (rest-tree a b cs T U h t)
 row-rest (row_then t mark rest) a b cs T U h at =
     let V : Tokenizer = past_tree t U in
     let W : Tokenizer = past_mark mark V in
@@ -213,13 +213,13 @@ row-rest (row_then t mark rest) a b cs T U h at =
     let next : IsRowAt (kinds_of W) rest = subst (λ ks. IsRowAt ks rest) (sym (kinds-mark mark V ∙ ap (kinds_past mark) (kinds-tree t U))) at.1.1 in
     let three = row-rest rest (a || registers mark) (b || has_run t) ((cs ++ leaf_codes t) ++ mark_codes mark) T W two next in
     let codes : ((cs ++ leaf_codes t) ++ mark_codes mark) ++ row_codes rest ≡ cs ++ (leaf_codes t ++ (mark_codes mark ++ row_codes rest)) = append_assoc (cs ++ leaf_codes t) (mark_codes mark) (row_codes rest) ∙ append_assoc cs (leaf_codes t) (mark_codes mark ++ row_codes rest) in
-    subst (λ x. IsPast x (b || (has_run t || row_has_run rest)) (cs ++ row_codes (row_then t mark rest)) T (past_row rest W)) (sym (or-apart a (registers mark) (row_registers rest)))
-    (subst (λ y. IsPast ((a || registers mark) || row_registers rest) y (cs ++ row_codes (row_then t mark rest)) T (past_row rest W)) (sym (or-apart b (has_run t) (row_has_run rest)))
-    (subst (λ ds. IsPast ((a || registers mark) || row_registers rest) ((b || has_run t) || row_has_run rest) ds T (past_row rest W)) codes three))
+    subst (λ x. IsPastCodes x (b || (has_run t || row_has_run rest)) (cs ++ row_codes (row_then t mark rest)) T (past_row rest W)) (sym (or-apart a (registers mark) (row_registers rest)))
+    (subst (λ y. IsPastCodes ((a || registers mark) || row_registers rest) y (cs ++ row_codes (row_then t mark rest)) T (past_row rest W)) (sym (or-apart b (has_run t) (row_has_run rest)))
+    (subst (λ ds. IsPastCodes ((a || registers mark) || row_registers rest) ((b || has_run t) || row_has_run rest) ds T (past_row rest W)) codes three))
 
 -- from a run's start on
-pub past-rest : (row : Row) (T : Tokenizer) → IsRowAt [] row → IsFresh T → T.resolvers ≡ [] →
-    IsPast (row_registers row) (row_has_run row) (row_codes row) T (past_row row T)
+pub past-rest : (row : Row) (T : Tokenizer) → IsRowAt [] row → IsFreshRow T → T.resolvers ≡ [] →
+    IsPastCodes (row_registers row) (row_has_run row) (row_codes row) T (past_row row T)
 past-rest row T at h none =
-    let start : IsPast false false [] T T = record { same = λ i. record T { resolvers = none i }; fields = refl; end = h.end; seen = h.seen } in
+    let start : IsPastCodes false false [] T T = record { same = λ i. record T { resolvers = none i }; fields = refl; end = h.end; seen = h.seen } in
     row-rest row false false [] T T start (subst (λ ks. IsRowAt ks row) (sym (ap kinds h.starts)) at)

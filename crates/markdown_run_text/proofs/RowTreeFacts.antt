@@ -3,32 +3,33 @@ use Rattle.std.proofs.Common.{◌≡◌, ℕ, zero, suc, Bool, true, false, Some
 use Rattle.markdown_run_text.proofs.PairsLeaveNoEmptyData.{has-join, has-leaf}
 use Rattle.std.proofs.lemmas.Bool.{or_parts, both_ways}
 use Rattle.std.specs.List.{list_any}
-use Rattle.markdown_engine_content.specs.Codes.{Code, is_line_ending, stop_of, document_start}
-use Rattle.markdown_engine_content.specs.Tree.{Forest, empty, leaf_then, group_then, leaf, ◌⊕◌, group, text_group, start_of, enter_of, exit_after, leaf_codes}
+use Rattle.markdown_content.specs.Codes.{Code, is_line_ending, stop_of, document_start}
+use Rattle.markdown_content.specs.Tree.{Forest, empty, leaf_then, group_then, leaf, ◌⊕◌, group, text_group, start_of, enter_of, exit_after, leaf_codes}
 use Rattle.markdown_event.specs.declared.event.Name.{Name}
 use Rattle.markdown_event.specs.declared.event.Name.TheVariants as N
 use Rattle.markdown_event.specs.declared.event.Point.{Point}
-use Rattle.markdown_engine_content.specs.declared.label_kind.LabelKind.{LabelKind}
-use Rattle.markdown_engine_content.proofs.TreeCodes.{leaf_codes-row}
+use Rattle.markdown_content.specs.declared.label_kind.LabelKind.{LabelKind}
+use Rattle.markdown_content.proofs.TreeCodes.{leaf_codes-row}
 use Rattle.markdown_attention.specs.RunsRead.{is_run}
 use Rattle.markdown_attention.specs.RunsOfTree.{has_run}
 use Rattle.markdown_run_text.specs.CutData.{HasCodes}
 use Rattle.markdown_label.specs.Brackets.{grouped}
 use Rattle.markdown_model.specs.LabelEnd.{Element, plain, starts, ends}
 use Rattle.markdown_model.specs.Passes.{End, label_group, label_name, start_marker, start_tree, labels_of}
+use Rattle.markdown_model.specs.CodeLines.{IsLine}
 use Rattle.markdown_model.proofs.LabelsCover.{codes-label_group}
 use Rattle.markdown_model.proofs.LeafCodes.{codes-leaf}
-use Rattle.markdown_partial.specs.DataOnLines as DataOnLines
-use Rattle.markdown_partial.specs.MergedEvents.{is_data}
-use Rattle.markdown_partial.specs.TrimmedEvents.{is_ending}
-use Rattle.markdown_run_leaves.specs.OneLineLeaves.{makes_data}
-use Rattle.markdown_run_text.specs.RowTreeNames.{HasLines, IsRunless}
+use Rattle.markdown_passes.specs.DataOnLines as DataOnLines
+use Rattle.markdown_passes.specs.MergedEvents.{is_data}
+use Rattle.markdown_passes.specs.TrimmedEvents.{is_ending}
+use Rattle.markdown_innermost.specs.OneLineLeaves.{makes_data}
+use Rattle.markdown_run_text.specs.RowTreeNames.{HasRowLines, IsRunless}
 use Rattle.markdown_run_text.specs.Row.{Mark, begins, makes, loses, Row, row_end, row_then, mark_codes, row_codes, row_has_run, kinds_past, IsMarkAt, IsRowAt, HaveCodes}
 use Rattle.markdown_run_text.specs.OpenStarts.{brackets_of}
 use Rattle.markdown_run_text.proofs.PastTrees.{outer-runless, leaf-runless}
 use Rattle.markdown_run_text.proofs.RowJoins.{HasLines-row}
-use Rattle.markdown_run_text.proofs.OpenStartTrees.{Open, outside, within, whole, put_row, made_row, lost_row, marked_row, filled, filled_from_start, AreMarksAt, marks-of, IsFor, for-put, not-made, for-marked, grouped-filled}
-use Rattle.markdown_run_text.proofs.RowElements.{whole-put, Found, wrapped, opened, read, word_of, finish, labels-read}
+use Rattle.markdown_run_text.proofs.OpenStartTrees.{OpenTrees, outside, within, whole, put_row, made_row, lost_row, marked_row, filled, filled_from_start, AreMarksAt, marks-of, IsFor, for-put, not-made, for-marked, grouped-filled}
+use Rattle.markdown_run_text.proofs.RowElements.{whole-put, FoundLabels, wrapped, opened, read, word_of, finish, labels-read}
 
 -- Names that are neither of data nor of runs nor of line endings.
 abbrev pub is_plain : Name → Bool
@@ -38,7 +39,7 @@ is_plain N.LineEnding = false
 is_plain _ = true
 
 -- a fact on trees that rows and the groups of labels keep, where what is data has codes that are fit
-pub record IsKept (P : Forest → Type 0) (Fit : List Code → Type 0) : Type 0 where
+pub record IsKeptByRows (P : Forest → Type 0) (Fit : List Code → Type 0) : Type 0 where
   pub nil : P empty
   pub row : (t u : Forest) → P t → P u → P (t ⊕ u)
   pub some_data : (cs : List Code) → Fit cs → P (leaf N.Data cs)
@@ -46,7 +47,7 @@ pub record IsKept (P : Forest → Type 0) (Fit : List Code → Type 0) : Type 0 
   pub one_leaf : (n : Name) (cs : List Code) → is_plain n ≡ true → P (leaf n cs)
   pub one_group : (n : Name) (p q : Point) (x : Forest) → is_plain n ≡ true → P x → P (group_then n p q x empty)
 
-module _ (P : Forest → Type 0) (Fit : List Code → Type 0) (k : IsKept P Fit) where
+module _ (P : Forest → Type 0) (Fit : List Code → Type 0) (k : IsKeptByRows P Fit) where
   grouped-kept : (n : Name) (x : Forest) → is_plain n ≡ true → P x → P (group n x)
   grouped-kept n x e h = k.one_group n (enter_of x) (exit_after (enter_of x) x) x e h
 
@@ -78,16 +79,16 @@ module _ (P : Forest → Type 0) (Fit : List Code → Type 0) (k : IsKept P Fit)
 
   -- Rows.
 
-  abbrev IsKeptIn : Open → Type 0
+  abbrev IsKeptIn : OpenTrees → Type 0
   IsKeptIn (outside u) = P u
   IsKeptIn (within o m x) = IsKeptIn o × (Fit m × P x)
 
-  whole-kept : (o : Open) → IsKeptIn o → P (whole o)
+  whole-kept : (o : OpenTrees) → IsKeptIn o → P (whole o)
   whole-kept (outside u) h = h
   whole-kept (within o m x) h =
       k.row (whole o) (leaf N.Data m ⊕ x) (whole-kept o h.0) (k.row (leaf N.Data m) x (k.some_data m h.1.0) h.1.1)
 
-  put-kept : (t : Forest) (o : Open) → P t → IsKeptIn o → IsKeptIn (put_row t o)
+  put-kept : (t : Forest) (o : OpenTrees) → P t → IsKeptIn o → IsKeptIn (put_row t o)
   put-kept t (outside u) h i = k.row u t i h
   put-kept t (within o m x) h i = (i.0, (i.1.0, k.row x t i.1.1 h))
 
@@ -100,7 +101,7 @@ module _ (P : Forest → Type 0) (Fit : List Code → Type 0) (k : IsKept P Fit)
   IsRowKept (row_end t) = P t
   IsRowKept (row_then t mark rest) = P t × (IsMarkKept mark × IsRowKept rest)
 
-  marked-kept : (mark : Mark) (o : Open) → IsMarkKept mark → IsKeptIn o → IsKeptIn (marked_row mark o)
+  marked-kept : (mark : Mark) (o : OpenTrees) → IsMarkKept mark → IsKeptIn o → IsKeptIn (marked_row mark o)
   marked-kept (begins kind marker) o h i = (i, (h, k.nil))
   marked-kept (makes back kind tail) (outside u) h i = i
   marked-kept (makes back kind tail) (within o m x) h i =
@@ -109,7 +110,7 @@ module _ (P : Forest → Type 0) (Fit : List Code → Type 0) (k : IsKept P Fit)
   marked-kept loses (within o m x) h i =
       put-kept (leaf N.Data m ⊕ x) o (k.row (leaf N.Data m) x (k.some_data m i.1.0) i.1.1) i.0
 
-  filled-kept : (row : Row) (o : Open) → IsRowKept row → IsKeptIn o → IsKeptIn (filled row o)
+  filled-kept : (row : Row) (o : OpenTrees) → IsRowKept row → IsKeptIn o → IsKeptIn (filled row o)
   filled-kept (row_end t) o h i = put-kept t o h i
   filled-kept (row_then t mark rest) o h i =
       filled-kept rest (marked_row mark (put_row t o)) h.1.1 (marked-kept mark (put_row t o) h.1.0 (put-kept t o h.0 i))
@@ -137,23 +138,20 @@ plain-not_run : (n : Name) → is_plain n ≡ true → is_run n ≡ false
 plain-not_run N.AttentionSequence e = cc
 plain-not_run _ e = refl
 
-abbrev IsLine : List Code → Type 0
-IsLine cs = list_any is_line_ending cs ≡ false
-
 line-fewer : (n : ℕ) (cs : List Code) → IsLine cs → IsLine (drop n cs)
 line-fewer zero cs h = h
 line-fewer (suc n) [] h = refl
 line-fewer (suc n) (c ∷ cs) h = line-fewer n cs (or_parts (is_line_ending c) (list_any is_line_ending cs) h).1
 
-line-data : (cs : List Code) → IsLine cs → HasLines (leaf N.Data cs)
+line-data : (cs : List Code) → IsLine cs → HasRowLines (leaf N.Data cs)
 line-data [] h = tt
 line-data (c ∷ cs) h = ((λ e f. ((λ x. cc), h)), tt)
 
-line-leaf : (n : Name) (cs : List Code) → is_plain n ≡ true → HasLines (leaf n cs)
+line-leaf : (n : Name) (cs : List Code) → is_plain n ≡ true → HasRowLines (leaf n cs)
 line-leaf n [] e = tt
 line-leaf n (c ∷ cs) e = ((λ f g. absurd (both_ways (makes_data n) (plain-data n e) f)), tt)
 
-lines-kept : IsKept HasLines IsLine
+lines-kept : IsKeptByRows HasRowLines IsLine
 lines-kept = record {
   nil = tt;
   row = HasLines-row;
@@ -169,22 +167,22 @@ leaf-lines N.AttentionSequence e f = cc
 leaf-lines _ e f = cc
 
 -- what follows a label
-tail-lines : (t : Forest) → DataOnLines.HasLines t → IsRunless t → HasLines t
+tail-lines : (t : Forest) → DataOnLines.HasLines t → IsRunless t → HasRowLines t
 tail-lines empty h r = tt
 tail-lines (leaf_then n l cs rest) h r = ((λ e f. h.0 (leaf-lines n r.0 e) f), tail-lines rest h.1 r.1)
 tail-lines (group_then n a b inside rest) h r = (h.0, (tail-lines inside h.1.0 r.0, tail-lines rest h.1.1 r.1))
 
-row-lines : (ks : List LabelKind) (row : Row) → IsRowAt ks row → IsRowKept HasLines IsLine lines-kept row
+row-lines : (ks : List LabelKind) (row : Row) → IsRowAt ks row → IsRowKept HasRowLines IsLine lines-kept row
 row-lines ks (row_end t) h = h.lines
 row-lines ks (row_then t mark rest) h = (h.0.lines, (mark-lines mark h.1.0, row-lines (kinds_past mark ks) rest h.1.1))
   where
-    mark-lines : (mark : Mark) → IsMarkAt ks mark → IsMarkKept HasLines IsLine lines-kept mark
+    mark-lines : (mark : Mark) → IsMarkAt ks mark → IsMarkKept HasRowLines IsLine lines-kept mark
     mark-lines (begins kind marker) at = at.1
     mark-lines (makes back kind tail) at = tail-lines tail at.sound.lines at.runless
     mark-lines loses at = tt
 
-pub grouped-lines : (row : Row) → IsRowAt [] row → HasLines (grouped (brackets_of row))
-grouped-lines row at = row-kept HasLines IsLine lines-kept row (marks-of [] row at) (row-lines [] row at)
+pub grouped-lines : (row : Row) → IsRowAt [] row → HasRowLines (grouped (brackets_of row))
+grouped-lines row at = row-kept HasRowLines IsLine lines-kept row (marks-of [] row at) (row-lines [] row at)
 
 -- No runs.
 
@@ -196,7 +194,7 @@ runless-row empty u h k = k
 runless-row (leaf_then n l cs rest) u h k = (h.0, runless-row rest u h.1 k)
 runless-row (group_then n a b inside rest) u h k = (h.0, runless-row rest u h.1 k)
 
-runless-kept : IsKept IsRunless IsAny
+runless-kept : IsKeptByRows IsRunless IsAny
 runless-kept = record {
   nil = tt;
   row = runless-row;
@@ -223,17 +221,17 @@ grouped-runless row at e = row-kept IsRunless IsAny runless-kept row (marks-of [
 
 -- Codes.
 
-abbrev codes_in : Open → List Code
+abbrev codes_in : OpenTrees → List Code
 codes_in o = leaf_codes (whole o)
 
-codes-put : (t : Forest) (o : Open) → codes_in (put_row t o) ≡ codes_in o ++ leaf_codes t
+codes-put : (t : Forest) (o : OpenTrees) → codes_in (put_row t o) ≡ codes_in o ++ leaf_codes t
 codes-put t o = ap leaf_codes (whole-put t o) ∙ leaf_codes-row (whole o) t
 
-codes-within : (o : Open) (m : List Code) (x : Forest) → codes_in (within o m x) ≡ codes_in o ++ (m ++ leaf_codes x)
+codes-within : (o : OpenTrees) (m : List Code) (x : Forest) → codes_in (within o m x) ≡ codes_in o ++ (m ++ leaf_codes x)
 codes-within o m x =
     leaf_codes-row (whole o) (leaf N.Data m ⊕ x) ∙ ap (λ cs. codes_in o ++ cs) (leaf_codes-row (leaf N.Data m) x ∙ ap (λ cs. cs ++ leaf_codes x) (codes-leaf N.Data m))
 
-codes-made : (back : List Code) (kind : LabelKind) (tail : Forest) (o : Open) (m : List Code) (x : Forest)
+codes-made : (back : List Code) (kind : LabelKind) (tail : Forest) (o : OpenTrees) (m : List Code) (x : Forest)
     → codes_in (made_row back kind tail (within o m x)) ≡ codes_in (within o m x) ++ (back ++ leaf_codes tail)
 codes-made back kind tail o m x =
     codes-put (label_group kind m x back tail) o
@@ -241,11 +239,11 @@ codes-made back kind tail o m x =
     ∙ sym (append_assoc (codes_in o) (m ++ leaf_codes x) (back ++ leaf_codes tail))
     ∙ ap (λ cs. cs ++ (back ++ leaf_codes tail)) (sym (codes-within o m x))
 
-codes-lost : (o : Open) → codes_in (lost_row o) ≡ codes_in o
+codes-lost : (o : OpenTrees) → codes_in (lost_row o) ≡ codes_in o
 codes-lost (outside u) = refl
 codes-lost (within o m x) = ap leaf_codes (whole-put (leaf N.Data m ⊕ x) o)
 
-codes-marked : (ks : List LabelKind) (mark : Mark) (o : Open) → IsMarkAt ks mark → IsFor ks o →
+codes-marked : (ks : List LabelKind) (mark : Mark) (o : OpenTrees) → IsMarkAt ks mark → IsFor ks o →
     codes_in (marked_row mark o) ≡ codes_in o ++ mark_codes mark
 codes-marked ks (begins kind marker) o at h =
     codes-within o marker empty ∙ ap (λ cs. codes_in o ++ cs) (append-nil marker)
@@ -254,11 +252,11 @@ codes-marked (k ∷ ks) (makes back kind tail) (outside u) at h = absurd h
 codes-marked (k ∷ ks) (makes back kind tail) (within o m x) at h = codes-made back kind tail o m x
 codes-marked ks loses o at h = codes-lost o ∙ sym (append-nil (codes_in o))
 
-codes-filled : (ks : List LabelKind) (row : Row) (o : Open) → AreMarksAt ks row → IsFor ks o →
+codes-filled : (ks : List LabelKind) (row : Row) (o : OpenTrees) → AreMarksAt ks row → IsFor ks o →
     codes_in (filled row o) ≡ codes_in o ++ row_codes row
 codes-filled ks (row_end t) o at h = codes-put t o
 codes-filled ks (row_then t mark rest) o at h =
-    let p : Open = put_row t o in
+    let p : OpenTrees = put_row t o in
     codes-filled (kinds_past mark ks) rest (marked_row mark p) at.1 (for-marked ks mark p at.0 (for-put ks t o h))
     ∙ ap (λ cs. cs ++ row_codes rest) (codes-marked ks mark p at.0 (for-put ks t o h) ∙ ap (λ cs. cs ++ mark_codes mark) (codes-put t o))
     ∙ append_assoc (codes_in o ++ leaf_codes t) (mark_codes mark) (row_codes rest)
@@ -270,7 +268,7 @@ grouped-codes row at =
 
 -- No data without codes.
 
-codes-kept : IsKept HasCodes IsAny
+codes-kept : IsKeptByRows HasCodes IsAny
 codes-kept = record {
   nil = tt;
   row = has-join;
@@ -288,7 +286,7 @@ abbrev HaveEndCodes : List (End × Forest) → Type 0
 HaveEndCodes [] = Unit {0}
 HaveEndCodes (c ∷ more) = HasEndCodes c.0 × (HasCodes c.1 × HaveEndCodes more)
 
-abbrev HasFoundCodes : Found → Type 0
+abbrev HasFoundCodes : FoundLabels → Type 0
 HasFoundCodes r = HasCodes r.0 × HaveEndCodes r.1
 
 wrapped-codes : (m : List Code) (x : Forest) (end : End) → HasCodes x → HasEndCodes end → HasCodes (wrapped m x end)

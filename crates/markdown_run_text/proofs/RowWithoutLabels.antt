@@ -1,6 +1,6 @@
 -- Where a row begins no label and makes none, its trees stand as they are.
 use Rattle.std.proofs.Common.{◌≡◌, false, refl, sym, ap, ◌∙◌}
-use Rattle.markdown_engine_content.specs.Tree.{Forest, empty, ◌⊕◌}
+use Rattle.markdown_content.specs.Tree.{Forest, empty, ◌⊕◌}
 use Rattle.markdown_label.specs.Brackets.{Brackets, nothing, tree_then, flat, grouped}
 use Rattle.markdown_label.specs.BracketsJoined.{behind}
 use Rattle.markdown_label.proofs.BracketJoinLemmas.{flat-behind, grouped-behind}

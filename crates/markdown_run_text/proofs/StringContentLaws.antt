@@ -2,28 +2,28 @@
 use Rattle.std.proofs.Common.{◌≡◌, ℕ, ◌*◌, ◌<◌, ◌==◌, Bool, true, false, Option, Some, None, [], refl, ap, ◌∙◌, arith}
 use Rattle.std.specs.Str.{byte}
 use Rattle.std.specs.List.{list_any}
-use Rattle.markdown_engine_content.specs.ListFunctions.{rest_of}
+use Rattle.markdown_content.specs.ListFunctions.{rest_of}
 use Rattle.markdown_engine.specs.Operations.{ahead, current_of, registered, scratched}
 use Rattle.markdown_engine.specs.StateRuns.{Stepped}
 use Rattle.markdown_engine.specs.StateWords.{StateWords, Words, GoesIn, Law}
 use Rattle.markdown_engine.specs.Weights.{codes_left, weight_at}
-use Rattle.markdown_state.specs.declared.resolve.ResolveName.TheVariants as R
-use Rattle.markdown_state.specs.declared.state.State.TheVariants.{Next, Retry, Nok}
-use Rattle.markdown_state.specs.declared.state.StateName.{StateName}
-use Rattle.markdown_state.specs.declared.state.StateName.TheVariants as H
-use Rattle.markdown_state.specs.declared.state.StateName.TheVariants.{CharacterEscapeStart, CharacterReferenceStart, DataStart, StringBefore, StringBeforeData}
+use Rattle.markdown_event.specs.declared.resolve.ResolveName.TheVariants as R
+use Rattle.markdown_event.specs.declared.state.State.TheVariants.{Next, Retry, Nok}
+use Rattle.markdown_event.specs.declared.state.StateName.{StateName}
+use Rattle.markdown_event.specs.declared.state.StateName.TheVariants as H
+use Rattle.markdown_event.specs.declared.state.StateName.TheVariants.{CharacterEscapeStart, CharacterReferenceStart, DataStart, StringBefore, StringBeforeData}
 use Rattle.markdown_engine.specs.declared.tokenizer.Tokenizer.{Tokenizer}
 use Rattle.markdown_engine.proofs.ReadingSequences.{scratched-same}
 use Rattle.markdown_engine.proofs.LawSteps.{code-step, restored-fails}
-use Rattle.markdown_engine.proofs.OperationFields.{Begins, ahead-some, attempts-registered, attempts-scratched, left-scratched}
-use Rattle.markdown_plan.specs.LayerEquation.{Within, AreLawful}
+use Rattle.markdown_engine.proofs.OperationFields.{BeginsWithValue, ahead-some, attempts-registered, attempts-scratched, left-scratched}
+use Rattle.markdown_plan.specs.LayerEquation.{EqualsLayer, AreLawful}
 use Rattle.markdown_plan.proofs.LawStepsOfLayer.{FollowsIn, Goes-plain, Goes-end, Goes-attempt, follows}
 use Rattle.markdown_leaf.specs.CharacterEscape as CharacterEscape
 use Rattle.markdown_leaf.specs.CharacterEscape.{escape_here}
 use Rattle.markdown_leaf.specs.CharacterReference as CharacterReference
 use Rattle.markdown_leaf.specs.CharacterReference.{reference_here}
 use Rattle.markdown_partial.specs.PartialData as PartialData
-use Rattle.markdown_run_text.specs.StringContent.{states, is_on, string_tries, string_markers, string_marked, string_passed, string_here, tries_at, before_at, StartReady, BeforeReady, before_ends, start_words, before_words, before_data_words}
+use Rattle.markdown_run_text.specs.StringContent.{states, is_on, string_tries, string_markers, string_marked, string_passed, string_here, tries_at, before_at, StringStartReady, StringBeforeReady, before_ends, start_words, before_words, before_data_words}
 use Rattle.markdown_run_text.specs.TryTable.{said_at}
 use Rattle.markdown_run_text.proofs.TryTableLemmas.{by-row, none-of}
 use Rattle.markdown_run_text.proofs.ElementSteps.{finishes-end}
@@ -31,7 +31,7 @@ use Rattle.markdown_run_text.proofs.StringElements.{no-backslash, no-ampersand}
 use Rattle.markdown_run_text.proofs.TextElements.{data-holds}
 use Rattle.markdown_partial.specs.PartialData.{stops_of}
 use Rattle.markdown_run_text.proofs.TextSteps.{some-none}
-use Rattle.markdown_run_text.proofs.StringSteps.{Passes, passes-ready, passes-ends, escape-past, reference-past, data-past}
+use Rattle.markdown_run_text.proofs.StringSteps.{PassesElements, passes-ready, passes-ends, escape-past, reference-past, data-past}
 
 -- the starts of what is tried, as they are said, and any other as it is given
 abbrev pub called : (StateName → StateWords) → StateName → StateWords
@@ -51,32 +51,32 @@ at-end T e false U k = cc
 
 no-escape : (T : Tokenizer) (v : ℕ) → current_of T ≡ Some v → v == byte "\\" ≡ false → escape_here T (ahead T) ≡ None
 no-escape T v e h =
-    let b : Begins v (ahead T) = ahead-some T v e in
+    let b : BeginsWithValue v (ahead T) = ahead-some T v e in
     ap (escape_here T) b.whole ∙ no-backslash (is_on T).character_escape b.code (rest_of (ahead T)) (ap (λ x. x == byte "\\") b.value ∙ h)
 
 no-reference : (T : Tokenizer) (v : ℕ) → current_of T ≡ Some v → v == byte "&" ≡ false →
     reference_here T (ahead T) ≡ None
 no-reference T v e h =
-    let b : Begins v (ahead T) = ahead-some T v e in
+    let b : BeginsWithValue v (ahead T) = ahead-some T v e in
     ap (reference_here T) b.whole ∙ no-ampersand (is_on T).character_reference b.code (rest_of (ahead T)) (ap (λ x. x == byte "&") b.value ∙ h)
 
 passed-attempts : (T : Tokenizer) → T.attempts ≡ [] → (string_passed T).attempts ≡ []
 passed-attempts T alone = attempts-registered R.String (registered R.Data T) ∙ attempts-registered R.Data T ∙ alone
 
-marked-ready : (T : Tokenizer) → StartReady T → BeforeReady (string_marked T)
+marked-ready : (T : Tokenizer) → StringStartReady T → StringBeforeReady (string_marked T)
 unfolding scratched
 marked-ready T r =
     record { marked = refl; rest = record { marker = r.rest.marker; size = r.rest.size }; ends = record { end = r.ends.end; seen = r.ends.seen } }
 
-module _ (W : Words) (within : Within states_and_called W) where
+module _ (W : Words) (within : EqualsLayer states_and_called W) where
   -- past an element the run goes on before the next
-  on-before : (n : ℕ) (T U : Tokenizer) → codes_left T * 256 < n → BeforeReady T → Passes T U →
+  on-before : (n : ℕ) (T U : Tokenizer) → codes_left T * 256 < n → StringBeforeReady T → PassesElements T U →
       FollowsIn W n (before_ends T) (Next StringBefore) U
   on-before n T U room marked p =
       let less : codes_left U < codes_left T = p.less in
       follows W n (before_ends T) (Next StringBefore) (within StringBefore) U (passes-ready T U p marked) (omega (arith, less)) (λ ok V h. passes-ends T U p ok V h)
 
-  module _ (T : Tokenizer) (alone : T.attempts ≡ []) (marked : BeforeReady T) where
+  module _ (T : Tokenizer) (alone : T.attempts ≡ []) (marked : StringBeforeReady T) where
     abbrev Before : Stepped → Type 0
     Before r = GoesIn W (weight_at 6 T) (before_ends T) r
 
@@ -130,7 +130,7 @@ module _ (W : Words) (within : Within states_and_called W) where
       (omega (arith, left-scratched (record T.tokenize_state { markers = string_markers }) T)) (λ ok U k. k)
 
 -- of these states, and of any other as it is given
-pub laws : (W : Words) → Within states_and_called W → (t : StateName → StateWords) → AreLawful W t →
+pub laws : (W : Words) → EqualsLayer states_and_called W → (t : StateName → StateWords) → AreLawful W t →
     AreLawful W (states t)
 laws W within t other H.StringStart = start-law W within
 laws W within t other H.StringBefore = before-law W within

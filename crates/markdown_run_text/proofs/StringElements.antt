@@ -2,9 +2,9 @@
 use Rattle.std.proofs.Common.{◌≡◌, Bool, true, false, ◌&&◌, ◌||◌, List, ◌∷◌, Option, None, Some, refl, ap, ◌∙◌}
 use Rattle.std.proofs.Math.Bool.{and-false}
 use Rattle.std.specs.Str.{byte}
-use Rattle.markdown_engine_content.specs.Codes.{Code, is_line_ending}
-use Rattle.markdown_engine_content.specs.Tree.{Forest}
-use Rattle.markdown_engine_content.specs.declared.parser.ParseState.{ParseState}
+use Rattle.markdown_content.specs.Codes.{Code, is_line_ending}
+use Rattle.markdown_content.specs.Tree.{Forest}
+use Rattle.markdown_content.specs.declared.parser.ParseState.{ParseState}
 use Rattle.markdown_model.specs.CodeTests.{is_value, is_among}
 use Rattle.markdown_model.specs.Elements.{as_plain, switched, line_ending, data_code, string_element}
 use Rattle.markdown_model.specs.Grammar.{Reading, either, provided, ◌>>◌, one}

@@ -13,7 +13,7 @@ use Rattle.markdown_partial.specs.PartialData.{stops_of}
 use Rattle.markdown_run_text.specs.RunOverElements.{Advances, Finishes}
 use Rattle.markdown_run_text.specs.Row.{kinds_of}
 use Rattle.markdown_run_text.specs.RunSetting.{setting_of}
-use Rattle.markdown_run_text.specs.StringContent.{string_markers, string_passed, string_here, BeforeReady, before_ends}
+use Rattle.markdown_run_text.specs.StringContent.{string_markers, string_passed, string_here, StringBeforeReady, before_ends}
 use Rattle.markdown_run_text.proofs.ElementSteps.{advances-finishes, node-advances, data-advances, some-ahead, single-read}
 use Rattle.markdown_run_text.proofs.ConstructNodes.{node-of}
 use Rattle.markdown_model.proofs.PlainConstructs.{plain_constructs}
@@ -23,21 +23,21 @@ use Rattle.markdown_run_text.proofs.RowScratch.{row-input}
 use Rattle.markdown_run_text.proofs.StringElements.{escaped-element, referenced-element, single-element, unmarked-element}
 
 -- U stands past the first elements of the codes from T on
-abbrev pub Passes : Tokenizer → Tokenizer → Type 0
-Passes T U = Advances (string_here T) T U
+abbrev pub PassesElements : Tokenizer → Tokenizer → Type 0
+PassesElements T U = Advances (string_here T) T U
 
-same-string : (T U : Tokenizer) → Passes T U → string_here U ≡ string_here T
+same-string : (T U : Tokenizer) → PassesElements T U → string_here U ≡ string_here T
 same-string T U p =
     ap (λ (b : _). string_choice (setting_of b.now)) (ap (λ (x : Tokenizer). x.parse_state) p.left ∙ row-input p.row T)
 
 -- the scratch fields past them
-same-fields : (T U : Tokenizer) → Passes T U → BeforeReady T →
+same-fields : (T U : Tokenizer) → PassesElements T U → StringBeforeReady T →
     U.tokenize_state ≡ relisted U.tokenize_state T.tokenize_state
 same-fields T U p r =
     subst (λ (x : Tokenizer). x.tokenize_state ≡ relisted x.tokenize_state T.tokenize_state) (sym p.left) (row-fields (kinds_of T) p.row T refl p.is_row r.ends)
 
-ready-past : (T U : Tokenizer) → U.tokenize_state ≡ relisted U.tokenize_state T.tokenize_state → BeforeReady T →
-    BeforeReady U
+ready-past : (T U : Tokenizer) → U.tokenize_state ≡ relisted U.tokenize_state T.tokenize_state → StringBeforeReady T →
+    StringBeforeReady U
 ready-past T U e r =
     record {
       marked = ap (λ (s : TokenizeState). s.markers) e ∙ r.marked;
@@ -45,29 +45,29 @@ ready-past T U e r =
       ends = record { end = ap (λ (s : TokenizeState). s.end) e ∙ r.ends.end; seen = ap (λ (s : TokenizeState). s.seen) e ∙ r.ends.seen };
     }
 
-pub passes-ready : (T U : Tokenizer) → Passes T U → BeforeReady T → BeforeReady U
+pub passes-ready : (T U : Tokenizer) → PassesElements T U → StringBeforeReady T → StringBeforeReady U
 passes-ready T U p r = ready-past T U (same-fields T U p r) r
 
 -- what follows some elements, follows from before them
-pub passes-ends : (T U : Tokenizer) → Passes T U → (ok : Bool) (V : Tokenizer) → before_ends U ok V → before_ends T ok V
+pub passes-ends : (T U : Tokenizer) → PassesElements T U → (ok : Bool) (V : Tokenizer) → before_ends U ok V → before_ends T ok V
 passes-ends T U p true V k =
     advances-finishes (string_here T) string_passed T U V p (subst (λ c. Finishes c string_passed U V) (same-string T U p) k)
 passes-ends T U p false V k = k
 
-pub escape-past : (T U : Tokenizer) → Reads (escape_here T) None T.tokenize_state T U → Passes T U
+pub escape-past : (T U : Tokenizer) → Reads (escape_here T) None T.tokenize_state T U → PassesElements T U
 escape-past T U k =
     let node = node-of (bytes_of T) (escape_here T) (search plain_constructs) (ahead T) k.tree k.rest k.holds in
     node-advances (string_here T) (escape_here T) T U k node.0 node.1 (λ earlier previous stands. escaped-element (setting_of T.parse_state.now) (ahead T) k.tree k.rest k.holds)
 
 pub reference-past : (T U : Tokenizer) → escape_here T (ahead T) ≡ None →
-    Reads (reference_here T) None T.tokenize_state T U → Passes T U
+    Reads (reference_here T) None T.tokenize_state T U → PassesElements T U
 reference-past T U none k =
     let node = node-of (bytes_of T) (reference_here T) (search plain_constructs) (ahead T) k.tree k.rest k.holds in
     node-advances (string_here T) (reference_here T) T U k node.0 node.1 (λ earlier previous stands. referenced-element (setting_of T.parse_state.now) (ahead T) k.tree k.rest none k.holds)
 
 pub data-past : (T U : Tokenizer) → T.tokenize_state.markers ≡ string_markers → current_of T ≢ None →
     escape_here T (ahead T) ≡ None → reference_here T (ahead T) ≡ None →
-    Reads (data_up_to (stops_of T.tokenize_state)) None T.tokenize_state T U → Passes T U
+    Reads (data_up_to (stops_of T.tokenize_state)) None T.tokenize_state T U → PassesElements T U
 data-past T U marked some none plain_code k =
     let a = some-ahead T (ahead T) refl some in
     data-advances (string_here T) (stops_of T.tokenize_state) T U a.0 a.1.0 a.1.1 k

@@ -2,12 +2,12 @@
 use Rattle.std.proofs.Common.{◌⊎◌, ◌≡◌, ℕ, ◌==◌, ◌&&◌, ◌||◌, not, Bool, true, false, Some, None, List, [], ◌∷◌, ◌++◌, append-nil, refl, sym, ap, subst, ◌∙◌, inl, inr}
 use Rattle.std.specs.List.{list_any}
 use Rattle.std.proofs.lemmas.Bool.{eq-eqb, or_parts}
-use Rattle.markdown_engine_content.specs.Codes.{Code, is_line_ending}
-use Rattle.markdown_engine_content.specs.Place.{Place, ahead_at, code_at, moved}
-use Rattle.markdown_engine_content.specs.Tree.{Forest, ◌⊕◌, empty, group, leaf}
+use Rattle.markdown_content.specs.Codes.{Code, is_line_ending}
+use Rattle.markdown_content.specs.Place.{Place, ahead_at, code_at, moved}
+use Rattle.markdown_content.specs.Tree.{Forest, ◌⊕◌, empty, group, leaf}
 use Rattle.markdown_event.specs.declared.event.Name.{Name}
 use Rattle.markdown_event.specs.declared.event.Name.TheVariants as N
-use Rattle.markdown_engine_content.proofs.PlaceRules.{IsAhead, ahead_some}
+use Rattle.markdown_content.proofs.PlaceRules.{IsAhead, ahead_some}
 use Rattle.markdown_engine.specs.Operations.{Op, Exit, ahead, applied, done}
 use Rattle.markdown_engine.specs.PastTree.{Reads, moved_by, passed}
 use Rattle.markdown_engine.specs.TreeOps.{consumes, ops_of}
@@ -26,7 +26,7 @@ use Rattle.markdown_model.specs.HtmlText.{closing_tag, html_codes, html_text, op
 use Rattle.markdown_model.specs.TextLines.{lines, lines_from, lines_of, onto_stretch}
 use Rattle.markdown_model.proofs.GrammarSteps.{bind-some, either-second, either-some, switched-on}
 use Rattle.markdown_plan.specs.ByteTests.{letter_value}
-use Rattle.markdown_run_text.specs.PlainTag.{Leads, PassesAttributes, PassesEnd, PassesSlash, PassesTag, begins_name, nothing, past_name, tag_closing, tag_opening, tag_read}
+use Rattle.markdown_run_text.specs.PlainTag.{LeadsOver, PassesAttributes, PassesEnd, PassesSlash, PassesTag, begins_name, nothing, past_name, tag_closing, tag_opening, tag_read}
 use Rattle.markdown_run_text.proofs.EscapeReads.{solid-reads}
 use Rattle.markdown_run_text.proofs.TagSteps.{leads-name, leads-one, leads-same, leads-then, space-goes}
 
@@ -56,13 +56,13 @@ slash-ends c cs e = between-slash c cs (eq-eqb c.value 47 e)
 
 -- the ends of opening tags
 
-leads-end : (p q : Place) → code_at p ≡ Some 62 → q ≡ moved p → Leads tag_rest nothing p q
-leads-end p q h e = subst (λ x. Leads tag_rest nothing p x) (sym e) (leads-one tag_rest nothing p 62 h refl opening-ends)
+leads-end : (p q : Place) → code_at p ≡ Some 62 → q ≡ moved p → LeadsOver tag_rest nothing p q
+leads-end p q h e = subst (λ x. LeadsOver tag_rest nothing p x) (sym e) (leads-one tag_rest nothing p 62 h refl opening-ends)
 
-leads-slash : (p q : Place) → PassesSlash p q → Leads tag_between nothing p q
+leads-slash : (p q : Place) → PassesSlash p q → LeadsOver tag_between nothing p q
 leads-slash p q k =
     leads-then tag_between (word ">") nothing p (moved p) q (leads-one tag_between (word ">") p 47 k.0 refl slash-ends)
-    (subst (λ x. Leads (word ">") nothing (moved p) x) (sym k.1.1) (leads-one (word ">") nothing (moved p) 62 k.1.0 refl end-goes))
+    (subst (λ x. LeadsOver (word ">") nothing (moved p) x) (sym k.1.1) (leads-one (word ">") nothing (moved p) 62 k.1.0 refl end-goes))
 
 pub end-passed : (p q : Place) → code_at p ≡ Some 62 → q ≡ moved p → PassesEnd p q
 end-passed p q h e = record { leads = leads-end p q h e; first = inl h }
@@ -77,7 +77,7 @@ slash-passed p q k =
 
 pub space-passed : (p q r : Place) → code_at p ≡ Some 32 → q ≡ moved p → PassesSlash q r → PassesEnd p r
 space-passed p q r h e k =
-    record { leads = leads-then tag_rest tag_between nothing p q r (subst (λ x. Leads tag_rest tag_between p x) (sym e) (leads-one tag_rest tag_between p 32 h refl space-goes)) (leads-slash q r k); first = inr (inl h) }
+    record { leads = leads-then tag_rest tag_between nothing p q r (subst (λ x. LeadsOver tag_rest tag_between p x) (sym e) (leads-one tag_rest tag_between p 32 h refl space-goes)) (leads-slash q r k); first = inr (inl h) }
 
 slash-goes : (c : Code) (cs : List Code) → c.value ≡ 47 → closing_rest (c ∷ cs) ≡ with_first c ((tag_name then_ closing_between) cs)
 unfolding word
@@ -91,13 +91,13 @@ opening-first : (c : Code) (cs : List Code) → c.value ≡ 60 → open_tag (c �
 unfolding open_tag word
 opening-first c cs e = last-then 60 (tag_name then_ tag_rest) c cs (eq-eqb c.value 60 e)
 
-leads-tag-name : (b : Reading (List Code)) (p : Place) → begins_name (code_at p) ≡ true → Leads (tag_name then_ b) (name_then b) p (past_name p)
+leads-tag-name : (b : Reading (List Code)) (p : Place) → begins_name (code_at p) ≡ true → LeadsOver (tag_name then_ b) (name_then b) p (past_name p)
 leads-tag-name b p h =
     leads-name (tag_name then_ b) (name_then b) (λ c cs e. name-first b c cs e) (λ c cs e. name-on b c cs e) p h
 
 -- what is read behind the `<` is the tag
 module _ (p t : Place) (c : Code) (there : ahead_at p ≡ c ∷ ahead_at (moved p)) (here : c.value ≡ 60) where
-  module _ (a b : Reading (List Code)) (step : a (c ∷ ahead_at (moved p)) ≡ with_first c (b (ahead_at (moved p)))) (k : Leads b nothing (moved p) t) (whole : (r : List Code × List Code) → a (ahead_at p) ≡ Some r → html_codes (ahead_at p) ≡ Some r) where
+  module _ (a b : Reading (List Code)) (step : a (c ∷ ahead_at (moved p)) ≡ with_first c (b (ahead_at (moved p)))) (k : LeadsOver b nothing (moved p) t) (whole : (r : List Code × List Code) → a (ahead_at p) ≡ Some r → html_codes (ahead_at p) ≡ Some r) where
     tag-by : PassesTag p t
     tag-by = record {
       first = c;
@@ -130,11 +130,11 @@ pub opening-passed : (p q r s t : Place) → code_at p ≡ Some 60 → q ≡ mov
 unfolding html_codes
 opening-passed p q r s t here e begun f k end =
     let a : IsAhead p 60 = ahead_some p 60 here in
-    let name : Leads (tag_name then_ tag_rest) (name_then tag_rest) q r = subst (λ x. Leads (tag_name then_ tag_rest) (name_then tag_rest) q x) (sym f) (leads-tag-name tag_rest q begun) in
-    let ended : Leads (name_then tag_rest) tag_rest r r = leads-same (name_then tag_rest) tag_rest r (name-none tag_rest (ahead_at r) (name-ends r s t k.first end)) in
-    let all : Leads (tag_name then_ tag_rest) nothing q t =
+    let name : LeadsOver (tag_name then_ tag_rest) (name_then tag_rest) q r = subst (λ x. LeadsOver (tag_name then_ tag_rest) (name_then tag_rest) q x) (sym f) (leads-tag-name tag_rest q begun) in
+    let ended : LeadsOver (name_then tag_rest) tag_rest r r = leads-same (name_then tag_rest) tag_rest r (name-none tag_rest (ahead_at r) (name-ends r s t k.first end)) in
+    let all : LeadsOver (tag_name then_ tag_rest) nothing q t =
     leads-then (tag_name then_ tag_rest) (name_then tag_rest) nothing q r t name (leads-then (name_then tag_rest) tag_rest nothing r r t ended (leads-then tag_rest tag_rest nothing r s t k.leads end.leads)) in
-    tag-by p t a.code a.codes a.value open_tag (tag_name then_ tag_rest) (opening-first a.code (ahead_at (moved p)) a.value) (subst (λ x. Leads (tag_name then_ tag_rest) nothing x t) e all) (λ o h. either-some open_tag _ (ahead_at p) o h)
+    tag-by p t a.code a.codes a.value open_tag (tag_name then_ tag_rest) (opening-first a.code (ahead_at (moved p)) a.value) (subst (λ x. LeadsOver (tag_name then_ tag_rest) nothing x t) e all) (λ o h. either-some open_tag _ (ahead_at p) o h)
 
 -- a `/`, a name and a `>` behind a `<`
 pub closing-passed : (p q r s t : Place) → code_at p ≡ Some 60 → q ≡ moved p → code_at q ≡ Some 47 → r ≡ moved q →
@@ -143,18 +143,18 @@ unfolding html_codes
 closing-passed p q r s t here e slash d begun f end g =
     let a : IsAhead p 60 = ahead_some p 60 here in
     let b : IsAhead q 47 = ahead_some q 47 slash in
-    let first : Leads closing_rest (tag_name then_ closing_between) q r =
-    subst (λ x. Leads closing_rest (tag_name then_ closing_between) q x) (sym d) (leads-one closing_rest (tag_name then_ closing_between) q 47 slash refl slash-goes) in
-    let name : Leads (tag_name then_ closing_between) (name_then closing_between) r s =
-    subst (λ x. Leads (tag_name then_ closing_between) (name_then closing_between) r x) (sym f) (leads-tag-name closing_between r begun) in
-    let last : Leads (name_then closing_between) nothing s t =
-    subst (λ x. Leads (name_then closing_between) nothing s x) (sym g) (leads-one (name_then closing_between) nothing s 62 end refl closing-ends) in
-    let all : Leads closing_rest nothing q t =
+    let first : LeadsOver closing_rest (tag_name then_ closing_between) q r =
+    subst (λ x. LeadsOver closing_rest (tag_name then_ closing_between) q x) (sym d) (leads-one closing_rest (tag_name then_ closing_between) q 47 slash refl slash-goes) in
+    let name : LeadsOver (tag_name then_ closing_between) (name_then closing_between) r s =
+    subst (λ x. LeadsOver (tag_name then_ closing_between) (name_then closing_between) r x) (sym f) (leads-tag-name closing_between r begun) in
+    let last : LeadsOver (name_then closing_between) nothing s t =
+    subst (λ x. LeadsOver (name_then closing_between) nothing s x) (sym g) (leads-one (name_then closing_between) nothing s 62 end refl closing-ends) in
+    let all : LeadsOver closing_rest nothing q t =
     leads-then closing_rest (tag_name then_ closing_between) nothing q r t first (leads-then (tag_name then_ closing_between) (name_then closing_between) nothing r s t name last) in
     let none : open_tag (ahead_at p) ≡ None =
     ap open_tag a.codes ∙ opening-first a.code (ahead_at (moved p)) a.value
     ∙ ap (with_first a.code) (name-not tag_rest (ahead_at (moved p)) (ap (λ x. next_is is_letter (ahead_at x)) (sym e) ∙ ap (next_is is_letter) b.codes ∙ ap letter_value b.value)) in
-    tag-by p t a.code a.codes a.value closing_tag closing_rest (closing-first a.code (ahead_at (moved p)) a.value) (subst (λ x. Leads closing_rest nothing x t) e all)
+    tag-by p t a.code a.codes a.value closing_tag closing_rest (closing-first a.code (ahead_at (moved p)) a.value) (subst (λ x. LeadsOver closing_rest nothing x t) e all)
     (λ o h. either-second open_tag _ (ahead_at p) none ∙ either-some closing_tag _ (ahead_at p) o h)
 
 -- The tree and its events.

@@ -3,11 +3,11 @@ use Rattle.std.proofs.Common.{◌≡◌, ℕ, ◌+◌, ◌==◌, ◌||◌, ◌�
 use Rattle.std.specs.Option.{is_some}
 use Rattle.std.specs.List.{list_any}
 use Rattle.std.proofs.lemmas.Bool.{eqb-true, eq-eqb, or_parts}
-use Rattle.markdown_engine_content.specs.Codes.{Code, is_line_ending}
-use Rattle.markdown_engine_content.specs.Place.{Place, ahead_at, code_at, moved}
-use Rattle.markdown_engine_content.specs.Stretch.{past_stretch, stops, stretch, walked}
-use Rattle.markdown_engine_content.proofs.PlaceRules.{IsAhead, ahead_none, ahead_some, ahead_moved, left_moved}
-use Rattle.markdown_engine_content.proofs.StretchLemmas.{stretch-goes, stretch-stops}
+use Rattle.markdown_content.specs.Codes.{Code, is_line_ending}
+use Rattle.markdown_content.specs.Place.{Place, ahead_at, code_at, moved}
+use Rattle.markdown_content.specs.Stretch.{past_stretch, stops, stretch, walked}
+use Rattle.markdown_content.proofs.PlaceRules.{IsAhead, ahead_none, ahead_some, ahead_moved, left_moved}
+use Rattle.markdown_content.proofs.StretchLemmas.{stretch-goes, stretch-stops}
 use Rattle.markdown_engine.specs.PastTree.{moved_by}
 use Rattle.markdown_engine.proofs.PlaceAfterCodes.{moved_by-append}
 use Rattle.markdown_model.specs.CodeTests.{is_between, is_letter}
@@ -22,7 +22,7 @@ use Rattle.markdown_leaf_html.specs.HtmlTextRests.{is_name_code, name_rest, quot
 use Rattle.markdown_leaf_html.proofs.HtmlCodeReadings.{after-twice}
 use Rattle.markdown_leaf_html.proofs.HtmlTagReadings.{between-first, between-goes, name-after-equals, name-rest-end, name-rest-on, quoted-close, quoted-more, rest-between, value-quote}
 use Rattle.markdown_run_text.specs.PlacesPassed.{is_some_value}
-use Rattle.markdown_run_text.specs.PlainTag.{Leads, PassesAttribute, PassesAttributes, begins_name, keeps_name, past_name}
+use Rattle.markdown_run_text.specs.PlainTag.{LeadsOver, PassesAttribute, PassesAttributes, begins_name, keeps_name, past_name}
 
 -- Steps in general.
 
@@ -42,12 +42,12 @@ no-endings (x ∷ xs) ys h k =
     ap (λ b. b || list_any is_line_ending (xs ++ ys)) p.0 ∙ no-endings xs ys p.1 k
 
 module _ (a b : Reading (List Code)) where
-  pub leads-same : (p : Place) → a (ahead_at p) ≡ b (ahead_at p) → Leads a b p p
+  pub leads-same : (p : Place) → a (ahead_at p) ≡ b (ahead_at p) → LeadsOver a b p p
   leads-same p e = record { text = []; codes = refl; place = refl; line = refl; reads = e ∙ sym (after-none (b (ahead_at p))) }
 
   -- past one code
   leads-code : (p : Place) (c : Code) (cs : List Code) → ahead_at p ≡ c ∷ cs → (c.value == 10) ≡ false →
-      a (c ∷ cs) ≡ with_first c (b cs) → Leads a b p (moved p)
+      a (c ∷ cs) ≡ with_first c (b cs) → LeadsOver a b p (moved p)
   leads-code p c cs e line step =
       let tail : ahead_at (moved p) ≡ cs = ahead_moved p c cs e in
       record {
@@ -59,12 +59,12 @@ module _ (a b : Reading (List Code)) where
       }
 
   pub leads-one : (p : Place) (v : ℕ) → code_at p ≡ Some v → (v == 10) ≡ false →
-      ((c : Code) (cs : List Code) → c.value ≡ v → a (c ∷ cs) ≡ with_first c (b cs)) → Leads a b p (moved p)
+      ((c : Code) (cs : List Code) → c.value ≡ v → a (c ∷ cs) ≡ with_first c (b cs)) → LeadsOver a b p (moved p)
   leads-one p v here line step =
       let k : IsAhead p v = ahead_some p v here in
       leads-code p k.code (ahead_at (moved p)) k.codes (ap (λ n. n == 10) k.value ∙ line) (step k.code (ahead_at (moved p)) k.value)
 
-pub leads-then : (a b c : Reading (List Code)) (p q r : Place) → Leads a b p q → Leads b c q r → Leads a c p r
+pub leads-then : (a b c : Reading (List Code)) (p q r : Place) → LeadsOver a b p q → LeadsOver b c q r → LeadsOver a c p r
 leads-then a b c p q r k l = record {
   text = k.text ++ l.text;
   codes = k.codes ∙ ap (λ xs. k.text ++ xs) l.codes ∙ sym (append_assoc k.text l.text (ahead_at r));
@@ -76,19 +76,19 @@ leads-then a b c p q r k l = record {
 -- Names.
 
 module _ (a : Reading (List Code)) (step : (c : Code) (cs : List Code) → is_name_code c ≡ true → a (c ∷ cs) ≡ with_first c (a cs)) where
-  names-from : (cs : List Code) (p : Place) → ahead_at p ≡ cs → Leads a a p (moved_by (span is_name_code cs).0 p)
+  names-from : (cs : List Code) (p : Place) → ahead_at p ≡ cs → LeadsOver a a p (moved_by (span is_name_code cs).0 p)
   names-from [] p e = leads-same a a p refl
   names-from (c ∷ cs) p e = by_test (is_name_code c) refl (names-from cs (moved p) (ahead_moved p c cs e))
     where
-      by_test : (b : Bool) → is_name_code c ≡ b → Leads a a (moved p) (moved_by (span is_name_code cs).0 (moved p)) →
-          Leads a a p (moved_by (span is_name_code (c ∷ cs)).0 p)
+      by_test : (b : Bool) → is_name_code c ≡ b → LeadsOver a a (moved p) (moved_by (span is_name_code cs).0 (moved p)) →
+          LeadsOver a a p (moved_by (span is_name_code (c ∷ cs)).0 p)
       by_test true h more =
-          subst (λ (s : List Code × List Code). Leads a a p (moved_by s.0 p)) (sym (span-takes is_name_code c cs h))
+          subst (λ (s : List Code × List Code). LeadsOver a a p (moved_by s.0 p)) (sym (span-takes is_name_code c cs h))
           (leads-then a a a p (moved p) (moved_by (span is_name_code cs).0 (moved p)) (leads-code a a p c cs e (differs name_value c.value 10 h refl) (step c cs h)) more)
       by_test false h more =
-          subst (λ (s : List Code × List Code). Leads a a p (moved_by s.0 p)) (sym (span-none is_name_code (c ∷ cs) h)) (leads-same a a p refl)
+          subst (λ (s : List Code × List Code). LeadsOver a a p (moved_by s.0 p)) (sym (span-none is_name_code (c ∷ cs) h)) (leads-same a a p refl)
 
-  pub leads-names : (p : Place) → Leads a a p (past_name p)
+  pub leads-names : (p : Place) → LeadsOver a a p (past_name p)
   leads-names p = names-from (ahead_at p) p refl
 
 -- a code of a name, by its value
@@ -147,55 +147,55 @@ pub name-begun : (o : Option ℕ) → begins_name o ≡ true → keeps_name o �
 name-begun None h = cc
 name-begun (Some v) h = letter-name v h
 
-record Begins (p : Place) : Type 0 where
+record HasLetterAt (p : Place) : Type 0 where
   value : ℕ
   here : code_at p ≡ Some value
   letter : letter_value value ≡ true
 
-begins : (p : Place) → begins_name (code_at p) ≡ true → Begins p
+begins : (p : Place) → begins_name (code_at p) ≡ true → HasLetterAt p
 begins p h = by_code (code_at p) refl h
   where
-    by_code : (o : Option ℕ) → code_at p ≡ o → begins_name o ≡ true → Begins p
+    by_code : (o : Option ℕ) → code_at p ≡ o → begins_name o ≡ true → HasLetterAt p
     by_code None e k = cc
     by_code (Some v) e k = record { value = v; here = e; letter = k }
 
 -- a name from its first code on, where the reading goes on with another
 pub leads-name : (a b : Reading (List Code)) → ((c : Code) (cs : List Code) → is_letter c ≡ true → a (c ∷ cs) ≡ with_first c (b cs)) →
     ((c : Code) (cs : List Code) → is_name_code c ≡ true → b (c ∷ cs) ≡ with_first c (b cs)) → (p : Place) → begins_name (code_at p) ≡ true →
-    Leads a b p (past_name p)
+    LeadsOver a b p (past_name p)
 leads-name a b first step p h =
-    let k : Begins p = begins p h in
-    subst (λ q. Leads a b p q) (sym (name-goes p k.value k.here (letter-name k.value k.letter)))
+    let k : HasLetterAt p = begins p h in
+    subst (λ q. LeadsOver a b p q) (sym (name-goes p k.value k.here (letter-name k.value k.letter)))
     (leads-then a b b p (moved p) (past_name (moved p)) (leads-one a b p k.value k.here (differs letter_value k.value 10 k.letter refl) (λ c cs e. first c cs (ap letter_value e ∙ k.letter)))
     (leads-names b step (moved p)))
 
 -- Values.
 
 quoted-from : (q : ℕ) (cs : List Code) (p : Place) → ahead_at p ≡ cs →
-    Leads (quoted_rest q) (quoted_rest q) p (walked (stretch (q ∷ []) cs) p)
+    LeadsOver (quoted_rest q) (quoted_rest q) p (walked (stretch (q ∷ []) cs) p)
 quoted-from q [] p e = leads-same (quoted_rest q) (quoted_rest q) p refl
 quoted-from q (c ∷ cs) p e = by_test (stops (q ∷ []) c.value) refl (quoted-from q cs (moved p) (ahead_moved p c cs e))
   where
-    by_test : (b : Bool) → stops (q ∷ []) c.value ≡ b → Leads (quoted_rest q) (quoted_rest q) (moved p) (walked (stretch (q ∷ []) cs) (moved p)) →
-        Leads (quoted_rest q) (quoted_rest q) p (walked (stretch (q ∷ []) (c ∷ cs)) p)
+    by_test : (b : Bool) → stops (q ∷ []) c.value ≡ b → LeadsOver (quoted_rest q) (quoted_rest q) (moved p) (walked (stretch (q ∷ []) cs) (moved p)) →
+        LeadsOver (quoted_rest q) (quoted_rest q) p (walked (stretch (q ∷ []) (c ∷ cs)) p)
     by_test true h more =
-        subst (λ xs. Leads (quoted_rest q) (quoted_rest q) p (walked xs p)) (sym (stretch-stops (q ∷ []) c cs h)) (leads-same (quoted_rest q) (quoted_rest q) p refl)
+        subst (λ xs. LeadsOver (quoted_rest q) (quoted_rest q) p (walked xs p)) (sym (stretch-stops (q ∷ []) c cs h)) (leads-same (quoted_rest q) (quoted_rest q) p refl)
     by_test false h more =
         let free = or_parts (c.value == 10) _ h in
-        subst (λ xs. Leads (quoted_rest q) (quoted_rest q) p (walked xs p)) (sym (stretch-goes (q ∷ []) c cs h))
+        subst (λ xs. LeadsOver (quoted_rest q) (quoted_rest q) p (walked xs p)) (sym (stretch-goes (q ∷ []) c cs h))
         (leads-then (quoted_rest q) (quoted_rest q) (quoted_rest q) p (moved p) (walked (stretch (q ∷ []) cs) (moved p)) (leads-code (quoted_rest q) (quoted_rest q) p c cs e free.0 (quoted-more q c cs (or_parts (c.value == q) false free.1).0)) more)
 
-leads-quoted : (q : ℕ) (p : Place) → Leads (quoted_rest q) (quoted_rest q) p (past_stretch (q ∷ []) p)
+leads-quoted : (q : ℕ) (p : Place) → LeadsOver (quoted_rest q) (quoted_rest q) p (past_stretch (q ∷ []) p)
 unfolding past_stretch
 leads-quoted q p = quoted-from q (ahead_at p) p refl
 
 -- a value in quotes of this value
 pub leads-value : (q : ℕ) (p s r : Place) → quote_value q ≡ true → code_at p ≡ Some q → s ≡ moved p →
-    code_at (past_stretch (q ∷ []) s) ≡ Some q → r ≡ moved (past_stretch (q ∷ []) s) → Leads value_rest tag_rest p r
+    code_at (past_stretch (q ∷ []) s) ≡ Some q → r ≡ moved (past_stretch (q ∷ []) s) → LeadsOver value_rest tag_rest p r
 leads-value q p s r h here e there k =
     let plain : (q == 10) ≡ false = differs quote_value q 10 h refl in
     let t : Place = past_stretch (q ∷ []) (moved p) in
-    subst (λ x. Leads value_rest tag_rest p x) (sym (k ∙ ap (λ x. moved (past_stretch (q ∷ []) x)) e))
+    subst (λ x. LeadsOver value_rest tag_rest p x) (sym (k ∙ ap (λ x. moved (past_stretch (q ∷ []) x)) e))
     (leads-then value_rest (quoted_rest q) tag_rest p (moved p) (moved t) (leads-one value_rest (quoted_rest q) p q here plain (λ c cs v. value-quote q c cs h (eq-eqb c.value q v)))
     (leads-then (quoted_rest q) (quoted_rest q) tag_rest (moved p) t (moved t) (leads-quoted q (moved p))
     (leads-one (quoted_rest q) tag_rest t q (ap (λ x. code_at (past_stretch (q ∷ []) x)) (sym e) ∙ there) plain (λ c cs v. quoted-close q c cs (eq-eqb c.value q v)))))
@@ -219,7 +219,7 @@ equals-goes : (c : Code) (cs : List Code) → c.value ≡ 61 → name_rest (c �
 equals-goes c cs e =
     name-rest-end (c ∷ cs) (ap attribute_rest_value e) ∙ name-after-equals c cs (eq-eqb c.value 61 e)
 
-no-more-left : (a b : Reading (List Code)) (p q : Place) → Leads a b p q → length (ahead_at q) ≤ length (ahead_at p)
+no-more-left : (a b : Reading (List Code)) (p q : Place) → LeadsOver a b p q → length (ahead_at q) ≤ length (ahead_at p)
 no-more-left a b p q k =
     let e : length (ahead_at p) ≡ length (k.text ++ ahead_at q) = ap (λ (cs : List Code). length cs) k.codes in
     let f : length (k.text ++ ahead_at q) ≡ length k.text + length (ahead_at q) = length-append k.text (ahead_at q) in
@@ -227,11 +227,11 @@ no-more-left a b p q k =
 
 -- a space, a name, an equals sign and a value
 leads-attribute : (p q r s t : Place) → code_at p ≡ Some 32 → q ≡ moved p → begins_name (code_at q) ≡ true → r ≡ past_name q →
-    code_at r ≡ Some 61 → s ≡ moved r → Leads value_rest tag_rest s t → Leads tag_rest tag_rest p t
+    code_at r ≡ Some 61 → s ≡ moved r → LeadsOver value_rest tag_rest s t → LeadsOver tag_rest tag_rest p t
 leads-attribute p q r s t space e begun f equals g value =
-    leads-then tag_rest tag_between tag_rest p q t (subst (λ x. Leads tag_rest tag_between p x) (sym e) (leads-one tag_rest tag_between p 32 space refl space-goes))
-    (leads-then tag_between name_rest tag_rest q r t (subst (λ x. Leads tag_between name_rest q x) (sym f) (leads-name tag_between name_rest letter-begins (λ c cs h. name-rest-on c cs (attribute-name c.value h)) q begun))
-    (leads-then name_rest value_rest tag_rest r s t (subst (λ x. Leads name_rest value_rest r x) (sym g) (leads-one name_rest value_rest r 61 equals refl equals-goes)) value))
+    leads-then tag_rest tag_between tag_rest p q t (subst (λ x. LeadsOver tag_rest tag_between p x) (sym e) (leads-one tag_rest tag_between p 32 space refl space-goes))
+    (leads-then tag_between name_rest tag_rest q r t (subst (λ x. LeadsOver tag_between name_rest q x) (sym f) (leads-name tag_between name_rest letter-begins (λ c cs h. name-rest-on c cs (attribute-name c.value h)) q begun))
+    (leads-then name_rest value_rest tag_rest r s t (subst (λ x. LeadsOver name_rest value_rest r x) (sym g) (leads-one name_rest value_rest r 61 equals refl equals-goes)) value))
 
 -- a space is there
 pub space-here : (o : Option ℕ) → is_some_value 32 o ≡ true → o ≡ Some 32
@@ -239,10 +239,10 @@ space-here None h = cc
 space-here (Some v) h = ap (λ n. Some n) (eqb-true v 32 h)
 
 pub attribute-passed : (p q r s t : Place) → is_some_value 32 (code_at p) ≡ true → q ≡ moved p → begins_name (code_at q) ≡ true → r ≡ past_name q →
-    code_at r ≡ Some 61 → s ≡ moved r → Leads value_rest tag_rest s t → PassesAttribute p t
+    code_at r ≡ Some 61 → s ≡ moved r → LeadsOver value_rest tag_rest s t → PassesAttribute p t
 attribute-passed p q r s t space e begun f equals g value =
     let here : code_at p ≡ Some 32 = space-here (code_at p) space in
-    let name : Leads name_rest name_rest q (past_name q) = leads-names name_rest (λ c cs h. name-rest-on c cs (attribute-name c.value h)) q in
+    let name : LeadsOver name_rest name_rest q (past_name q) = leads-names name_rest (λ c cs h. name-rest-on c cs (attribute-name c.value h)) q in
     let one : length (ahead_at (moved p)) + 1 ≡ length (ahead_at p) = left_moved p 32 here in
     let two : length (ahead_at (past_name q)) ≤ length (ahead_at q) = no-more-left name_rest name_rest q (past_name q) name in
     let three : length (ahead_at (moved r)) + 1 ≡ length (ahead_at r) = left_moved r 61 equals in

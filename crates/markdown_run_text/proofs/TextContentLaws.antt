@@ -6,18 +6,19 @@ use Rattle.std.specs.Str.{byte}
 use Rattle.std.proofs.lemmas.Bool.{or_from}
 use Rattle.std.proofs.lemmas.List.Folds.{list_any-append}
 use Rattle.markdown_util.specs.Reference.{html_5_rows}
-use Rattle.markdown_engine_content.specs.Codes.{Code}
+use Rattle.markdown_content.specs.CommonMark.{rules_of}
+use Rattle.markdown_content.specs.Codes.{Code}
 use Rattle.markdown_engine.specs.Operations.{ahead, current_of, scratched}
 use Rattle.markdown_engine.specs.PastTree.{past, EndsAs, Reads, Refuses, TreeReading}
 use Rattle.markdown_engine.specs.StateRuns.{Stepped, stepped}
 use Rattle.markdown_engine.specs.StateWords.{StateWords, Words, words_in, GoesIn, Law}
-use Rattle.markdown_engine_content.specs.Tree.{leaf_codes}
+use Rattle.markdown_content.specs.Tree.{leaf_codes}
 use Rattle.markdown_engine.specs.Weights.{codes_left, weight_at}
-use Rattle.markdown_state.specs.declared.state.State.TheVariants.{Next, Retry, Nok}
-use Rattle.markdown_state.specs.declared.state.StateName.{StateName}
-use Rattle.markdown_state.specs.declared.state.StateName.TheVariants as H
-use Rattle.markdown_state.specs.declared.state.StateName.TheVariants.{AttentionStart, AutolinkStart, CharacterEscapeStart, CharacterReferenceStart, DataStart, GfmAutolinkLiteralProtocolStart, GfmAutolinkLiteralWwwStart, GfmLabelStartFootnoteStart, GfmTaskListItemCheckStart}
-use Rattle.markdown_state.specs.declared.state.StateName.TheVariants.{HardBreakEscapeStart, HtmlTextStart, LabelEndStart, LabelStartImageStart, LabelStartLinkStart, RawTextStart, TextBefore, TextBeforeData, TextBeforeHardBreakEscape, TextBeforeHtml, TextBeforeLabelStartLink}
+use Rattle.markdown_event.specs.declared.state.State.TheVariants.{Next, Retry, Nok}
+use Rattle.markdown_event.specs.declared.state.StateName.{StateName}
+use Rattle.markdown_event.specs.declared.state.StateName.TheVariants as H
+use Rattle.markdown_event.specs.declared.state.StateName.TheVariants.{AttentionStart, AutolinkStart, CharacterEscapeStart, CharacterReferenceStart, DataStart, GfmAutolinkLiteralProtocolStart, GfmAutolinkLiteralWwwStart, GfmLabelStartFootnoteStart, GfmTaskListItemCheckStart}
+use Rattle.markdown_event.specs.declared.state.StateName.TheVariants.{HardBreakEscapeStart, HtmlTextStart, LabelEndStart, LabelStartImageStart, LabelStartLinkStart, RawTextStart, TextBefore, TextBeforeData, TextBeforeHardBreakEscape, TextBeforeHtml, TextBeforeLabelStartLink}
 use Rattle.markdown_engine.specs.declared.tokenizer.TokenizeState.{TokenizeState}
 use Rattle.markdown_engine.specs.declared.tokenizer.Tokenizer.{Tokenizer}
 use Rattle.markdown_engine.proofs.ReadingSequences.{scratched-same}
@@ -29,10 +30,10 @@ use Rattle.markdown_leaf_html.specs.HtmlText as HtmlText
 use Rattle.markdown_attention.specs.Attention as Attention
 use Rattle.markdown_attention.specs.Attention.{ReadsRun, run_tree}
 use Rattle.markdown_plan.specs.Characters.{bytes_of}
-use Rattle.markdown_plan.specs.LayerEquation.{Within, AreLawful}
+use Rattle.markdown_plan.specs.LayerEquation.{EqualsLayer, AreLawful}
 use Rattle.markdown_plan.proofs.LawStepsOfLayer.{FollowsIn, Goes-plain, Goes-end, Goes-attempt, follows}
 use Rattle.markdown_label.specs.LabelEnd as LabelEnd
-use Rattle.markdown_label.specs.LabelEnd.{AreWithin}
+use Rattle.markdown_label.specs.LabelEnd.{AreStartsWithin}
 use Rattle.markdown_label.specs.LabelStarts.{image_ends, footnote_ends, link_ends, image_words, footnote_words, link_words}
 use Rattle.markdown_label.proofs.BegunStartPlaces.{link-within, footnote-within, image-within}
 use Rattle.markdown_leaf.specs.Autolink as Autolink
@@ -52,10 +53,10 @@ use Rattle.markdown_run_text.specs.RunOverElements.{Advances, DataFinishes, Fini
 use Rattle.markdown_run_text.specs.Row.{loses, row_end, past_mark, kinds_of}
 use Rattle.markdown_run_text.proofs.RowFields.{row-cursor, tree-within, lost-within}
 use Rattle.markdown_run_text.specs.StringContent.{is_on}
-use Rattle.markdown_run_text.specs.TryTable.{Table, codes_in}
-use Rattle.markdown_run_text.specs.TextContent.{states, StartReady, sole_tries, other_tries, or_data, other_markers, sole_try, tried_reading, text_tries, text_markers, marked_fields, text_marked, text_passed, attempt_step, start_step}
-use Rattle.markdown_run_text.specs.TextContent.{first_try, tries_at, before_at, before_step, text_choice_of, IsMarked, BeforeReady, StandsAlone, before_ends, data_ends, start_words, before_words, before_html_words, before_hard_break_escape_words, before_label_start_link_words, before_data_words}
-use Rattle.markdown_run_text.proofs.TryTableLemmas.{EachOf, each-among, each-weaker, EachRow, by-row, rows-append}
+use Rattle.markdown_run_text.specs.TryTable.{TriesTable, codes_in}
+use Rattle.markdown_run_text.specs.TextContent.{states, TextStartReady, sole_tries, other_tries, or_data, other_markers, sole_try, tried_reading, text_tries, text_markers, marked_fields, text_marked, text_passed, attempt_step, start_step}
+use Rattle.markdown_run_text.specs.TextContent.{first_try, tries_at, before_at, before_step, text_choice_of, IsReadyWithMarkers, TextBeforeReady, StandsAlone, before_ends, data_ends, start_words, before_words, before_html_words, before_hard_break_escape_words, before_label_start_link_words, before_data_words}
+use Rattle.markdown_run_text.proofs.TryTableLemmas.{EachOf, each-among, each-weaker, EachRowPasses, by-row, rows-append}
 use Rattle.markdown_run_text.proofs.ConstructNodes.{node-of}
 use Rattle.markdown_model.proofs.PlainConstructs.{ReadsPlain, plain_constructs}
 use Rattle.markdown_model.specs.Elements.{tries, tried}
@@ -65,7 +66,7 @@ use Rattle.markdown_run_text.proofs.TextElements.{is_marker, data-holds}
 use Rattle.markdown_run_text.proofs.TextTries.{ReadsElements, AreTriedAt, first-reads, second-reads, second-alone, IsTriedAt, OrStandsAlone, only-reads, only-alone, span-reads, span-alone, run-reads, run-alone, run-leaf, protocol-reads, protocol-alone, www-reads, www-alone, other-alone}
 use Rattle.markdown_run_text.proofs.ElementSteps.{DataRead, data-read, some-ahead, advances-finishes, node-advances, run-advances, single-read}
 use Rattle.markdown_run_text.proofs.TextLabelTries.{image-advances, image-alone, footnote-advances, link-advances, bracket-alone, made-advances, failed-advances, end-alone}
-use Rattle.markdown_run_text.proofs.TextSteps.{IsSame, same-row, choice-same, stops-same, marked-past, no-check-behind, no-check-past, advances-ends, alone-ends, tree-kept, registered-kept, made-kept}
+use Rattle.markdown_run_text.proofs.TextSteps.{KeepsTheRest, same-row, choice-same, stops-same, marked-past, no-check-behind, no-check-past, advances-ends, alone-ends, tree-kept, registered-kept, made-kept}
 use Rattle.markdown_run_text.proofs.TextSteps.{some-none, weight-marked, at-rest-reference, run-ready, passed-attempts, at-end, ends-on, lost-there, not-lost, lost-left, lost-current, same-lost, html-ready, marked-ready, marked-start, check-elements}
 
 -- the starts of what is tried, as they are said, and any other as it is given
@@ -99,7 +100,7 @@ EndsOf w reading T = (ok : Bool) (U : Tokenizer) → w.ends T ok U → EndsAs re
 
 -- what is said of a construct of this start and this reading, at the code at hand: it may be tried, and ends as its reading says, which reads the
 -- element there; where it does not hold, the code is one by itself
-pub record IsSole (T : Tokenizer) (w : StateWords) (reading : TreeReading) : Type 0 where
+pub record IsSoleTry (T : Tokenizer) (w : StateWords) (reading : TreeReading) : Type 0 where
   pub ready : w.ready T
   pub light : w.rank T < 8
   pub ends : EndsOf w reading T
@@ -109,7 +110,7 @@ pub record IsSole (T : Tokenizer) (w : StateWords) (reading : TreeReading) : Typ
 
 abbrev pub SoleBy : Tokenizer → StateWords → Option (Tokenizer → TreeReading) → Type 0
 SoleBy T w None = ⊥
-SoleBy T w (Some reading) = IsSole T w (reading T)
+SoleBy T w (Some reading) = IsSoleTry T w (reading T)
 
 -- of what is said of a code
 abbrev pub SoleOrAlone : Words → Tokenizer → Option StateName → Type 0
@@ -124,28 +125,28 @@ reference-row : (T : Tokenizer) →
 unfolding tries tried
 reference-row T earlier previous = (refl, (refl, refl))
 
-module _ (T : Tokenizer) (ready : StartReady T) where
+module _ (T : Tokenizer) (ready : TextStartReady T) where
   sole-protocol : (v : ℕ) → list_any (λ n. v == n) (first_letters schemes) ≡ true → current_of T ≡ Some v →
-      IsSole T GfmAutolinkLiteral.protocol_start_words (GfmAutolinkLiteral.protocol_here T)
+      IsSoleTry T GfmAutolinkLiteral.protocol_start_words (GfmAutolinkLiteral.protocol_here T)
   sole-protocol v h e =
       record { ready = ready.literals; light = omega arith; ends = λ ok U g. g; own = search plain_constructs; reads = protocol-reads T v ready.last e h; alone = protocol-alone T v ready.last e h }
 
   sole-www : (v : ℕ) → list_any (λ n. v == n) (first_letters (www ∷ [])) ≡ true → current_of T ≡ Some v →
-      IsSole T GfmAutolinkLiteral.www_start_words (GfmAutolinkLiteral.www_here T)
+      IsSoleTry T GfmAutolinkLiteral.www_start_words (GfmAutolinkLiteral.www_here T)
   sole-www v h e =
       record { ready = ready.literals; light = omega arith; ends = λ ok U g. g; own = search plain_constructs; reads = www-reads T v ready.last e h; alone = www-alone T v ready.last e h }
 
   sole-span : (v : ℕ) → (v == byte "$" || v == byte "`") ≡ true → current_of T ≡ Some v →
-      IsSole T RawText.start_words (RawText.span_at T)
+      IsSoleTry T RawText.start_words (RawText.span_at T)
   sole-span v h e =
       record { ready = ready.spans; light = omega arith; ends = λ ok U g. g; own = search plain_constructs; reads = span-reads T v e h; alone = span-alone T v e h }
 
-  sole-reference : current_of T ≡ Some (byte "&") → IsSole T CharacterReference.start_words (reference_here T)
+  sole-reference : current_of T ≡ Some (byte "&") → IsSoleTry T CharacterReference.start_words (reference_here T)
   sole-reference e =
       record { ready = at-rest-reference T ready.spans; light = omega arith; ends = λ ok U g. g; own = search plain_constructs; reads = only-reads T (byte "&") _ _ (reference-row T) e; alone = only-alone T (byte "&") _ _ (reference-row T) e }
 
   -- by the rows of the table
-  pub soles : (W : Words) → EachRow (IsSoleAt W T) sole_tries
+  pub soles : (W : Words) → EachRowPasses (IsSoleAt W T) sole_tries
   soles W = (
     each-among (λ v. IsSoleAt W T v (Some GfmAutolinkLiteralProtocolStart)) (first_letters schemes) sole-protocol,
     (
@@ -155,7 +156,7 @@ module _ (T : Tokenizer) (ready : StartReady T) where
   )
 
 -- and nothing begins where neither that nor anything else is tried
-pub sole-or-alone : (W : Words) (T : Tokenizer) → StartReady T → (v : ℕ) → current_of T ≡ Some v →
+pub sole-or-alone : (W : Words) (T : Tokenizer) → TextStartReady T → (v : ℕ) → current_of T ≡ Some v →
     list_any (λ n. v == n) other_markers ≡ false → SoleOrAlone W T (sole_try v)
 sole-or-alone W T ready v here other =
     by-row (IsSoleAt W T) sole_tries v (soles T ready W)
@@ -164,7 +165,7 @@ sole-or-alone W T ready v here other =
 
 -- An autolink or HTML, and an escape or a hard break.
 
-pub angle-row : (T : Tokenizer) → AreTriedAt T (byte "<") (is_on T).autolink (is_on T).html_text autolink html_text
+pub angle-row : (T : Tokenizer) → AreTriedAt T (byte "<") (is_on T).autolink (is_on T).html_text (autolink (rules_of T.parse_state.now.options.now)) html_text
 unfolding tries tried
 angle-row T earlier previous = (refl, (refl, refl))
 
@@ -173,13 +174,13 @@ pub slash-row : (T : Tokenizer) →
 unfolding tries tried
 slash-row T earlier previous = (refl, (refl, refl))
 
-module _ (W : Words) (within : Within states_and_called W) where
+module _ (W : Words) (within : EqualsLayer states_and_called W) where
   -- past an element the run goes on before the next
-  on-before : (n : ℕ) (T U : Tokenizer) → codes_left T * 256 < n → IsMarked T →
-      AreWithin U U.tokenize_state.label_starts → Advances (text_choice_of T) T U →
+  on-before : (n : ℕ) (T U : Tokenizer) → codes_left T * 256 < n → IsReadyWithMarkers T →
+      AreStartsWithin U U.tokenize_state.label_starts → Advances (text_choice_of T) T U →
       FollowsIn W n (before_ends T) (Next TextBefore) U
   on-before n T U room r kept a =
-      let e : IsSame T U = same-row a.row T U a.left a.is_row r.ends in
+      let e : KeepsTheRest T U = same-row a.row T U a.left a.is_row r.ends in
       let less : codes_left U < codes_left T = a.less in
       follows W n (before_ends T) (Next TextBefore) (within TextBefore) U
       (record { marked = marked-past T U e (omega (arith, less)) kept r; unchecked = no-check-past T U a })
@@ -189,7 +190,7 @@ module _ (W : Words) (within : Within states_and_called W) where
   -- A construct is tried: it holds and is an element, or the run goes on with another state at the same place.
 
   try-law : (rank : ℕ) (T : Tokenizer) (construct otherwise : StateName) {w : StateWords} → words_in W construct ≡ w →
-      (reading : TreeReading) → T.attempts ≡ [] → w.ready T → weight_at (w.rank T) T < weight_at rank T → IsMarked T →
+      (reading : TreeReading) → T.attempts ≡ [] → w.ready T → weight_at (w.rank T) T < weight_at rank T → IsReadyWithMarkers T →
       EndsOf w reading T → ReadsPlain (bytes_of T) reading → ReadsElements reading T →
       (reading (ahead T) ≡ None → FollowsIn W (weight_at rank T) (before_ends T) (Next otherwise) T) →
       GoesIn W (weight_at rank T) (before_ends T) (attempt_step construct otherwise T)
@@ -204,13 +205,13 @@ module _ (W : Words) (within : Within states_and_called W) where
       let k : Refuses reading T.tokenize_state T U = ends false U h in
       rw (restored-fails false (Next TextBefore) (Next otherwise) T.tokenize_state T U k.fails, scratched-same T) (fails k.refused))
 
-  to-data : (rank : ℕ) (T : Tokenizer) (v : ℕ) → 5 < rank → BeforeReady T → current_of T ≡ Some v → StandsAlone T →
+  to-data : (rank : ℕ) (T : Tokenizer) (v : ℕ) → 5 < rank → TextBeforeReady T → current_of T ≡ Some v → StandsAlone T →
       FollowsIn W (weight_at rank T) (before_ends T) (Next TextBeforeData) T
   to-data rank T v l ready e alone =
       let some : current_of T ≢ None = some-none (current_of T) v e in
       follows W (weight_at rank T) (before_ends T) (Next TextBeforeData) (within TextBeforeData) T (record { marked = ready.marked; some_code = some }) (omega (arith, l)) (λ ok V h. alone-ends T ready.marked.stops some alone ok V h)
 
-  module _ (T : Tokenizer) (alone : T.attempts ≡ []) (ready : BeforeReady T) where
+  module _ (T : Tokenizer) (alone : T.attempts ≡ []) (ready : TextBeforeReady T) where
     abbrev Before : Stepped → Type 0
     Before r = GoesIn W (weight_at 8 T) (before_ends T) r
 
@@ -221,8 +222,8 @@ module _ (W : Words) (within : Within states_and_called W) where
     tries-sole v e name (Some reading) h =
         try-law 8 T name TextBeforeData {w = states_and_called (words_in W) name} (within name) (reading T) alone h.ready (omega (arith, h.light)) ready.marked h.ends h.own h.reads (λ none. to-data 8 T v (omega arith) ready e (h.alone none))
 
-    each-sole : (rows : Table StateName) → EachRow (IsSoleAt W T) rows →
-        EachRow (λ (v : ℕ) (o : Option (StateName × StateName)). current_of T ≡ Some v → Before (tries_at o T)) (or_data rows)
+    each-sole : (rows : TriesTable StateName) → EachRowPasses (IsSoleAt W T) rows →
+        EachRowPasses (λ (v : ℕ) (o : Option (StateName × StateName)). current_of T ≡ Some v → Before (tries_at o T)) (or_data rows)
     each-sole [] h = tt
     each-sole (row ∷ rows) h =
         (each-weaker (λ v. IsSoleAt W T v (Some row.1)) (λ v. current_of T ≡ Some v → Before (attempt_step row.1 TextBeforeData T)) (λ v k e. tries-sole v e row.1 (tried_reading row.1) (k e)) row.0 h.0, each-sole rows h.1)
@@ -255,7 +256,7 @@ module _ (W : Words) (within : Within states_and_called W) where
         Goes-attempt W (weight_at 8 T) (before_ends T) (Retry LabelStartImageStart) (within LabelStartImageStart) (Next TextBefore) (Next TextBeforeData) T alone tt (omega arith)
         (λ U now k. let r : image_ends T true U = k in
         on-before (weight_at 8 T) T U (omega arith) ready.marked
-        (subst (λ (x : Tokenizer). AreWithin x x.tokenize_state.label_starts) (sym r.left) (image-within T ready.marked.ends.text ready.marked.ends.within r.holds)) (image-advances T U r))
+        (subst (λ (x : Tokenizer). AreStartsWithin x x.tokenize_state.label_starts) (sym r.left) (image-within T ready.marked.ends.text ready.marked.ends.within r.holds)) (image-advances T U r))
         (λ U now k. let r : image_ends T false U = k in
         rw (restored-fails false (Next TextBefore) (Next TextBeforeData) T.tokenize_state T U (record { grown = r.grown; scratch = r.scratch }), scratched-same T) (to-data 8 T (byte "!") (omega arith) ready d (image-alone T d r.refused)))
 
@@ -265,7 +266,7 @@ module _ (W : Words) (within : Within states_and_called W) where
         Goes-attempt W (weight_at 8 T) (before_ends T) (Retry GfmLabelStartFootnoteStart) (within GfmLabelStartFootnoteStart) (Next TextBefore) (Next TextBeforeLabelStartLink) T alone tt (omega arith)
         (λ U now k. let r : footnote_ends T true U = k in
         on-before (weight_at 8 T) T U (omega arith) ready.marked
-        (subst (λ (x : Tokenizer). AreWithin x x.tokenize_state.label_starts) (sym r.left) (footnote-within T ready.marked.ends.text ready.marked.ends.within r.holds)) (footnote-advances T U ready.unchecked r))
+        (subst (λ (x : Tokenizer). AreStartsWithin x x.tokenize_state.label_starts) (sym r.left) (footnote-within T ready.marked.ends.text ready.marked.ends.within r.holds)) (footnote-advances T U ready.unchecked r))
         (λ U now k. let r : footnote_ends T false U = k in
         rw (restored-fails false (Next TextBefore) (Next TextBeforeLabelStartLink) T.tokenize_state T U (record { grown = r.grown; scratch = r.scratch }), scratched-same T)
         (follows W (weight_at 8 T) (before_ends T) (Next TextBeforeLabelStartLink) (within TextBeforeLabelStartLink) T (record { before = ready; bracket = d; no_footnote = r.refused }) (omega arith) (λ ok V h. h)))
@@ -275,13 +276,13 @@ module _ (W : Words) (within : Within states_and_called W) where
         (let F : Tokenizer = past_mark loses T in FollowsIn W (weight_at 8 T) (before_ends T) (Next TextBeforeData) F)
     to-lost d on none =
         let F : Tokenizer = past_mark loses T in
-        let e : IsSame T F = same-lost T ready.marked.ends in
+        let e : KeepsTheRest T F = same-lost T ready.marked.ends in
         follows W (weight_at 8 T) (before_ends T) (Next TextBeforeData) (within TextBeforeData) F
         (record { marked = marked-past T F e (lost-left T) (lost-within T ready.marked.ends.within) ready.marked; some_code = λ h. some-none (current_of T) (byte "]") d (sym (lost-current T) ∙ h) })
         (omega (arith, lost-left T))
         (λ ok V h. lost-ends e ok V h)
       where
-        lost-ends : (let F : Tokenizer = past_mark loses T in IsSame T F → (ok : Bool) (V : Tokenizer) → data_ends F ok V → before_ends T ok V)
+        lost-ends : (let F : Tokenizer = past_mark loses T in KeepsTheRest T F → (ok : Bool) (V : Tokenizer) → data_ends F ok V → before_ends T ok V)
         lost-ends e true V k =
             let F : Tokenizer = past_mark loses T in
             let stops : List Code → Bool = stops_of T.tokenize_state in
@@ -346,7 +347,7 @@ module _ (W : Words) (within : Within states_and_called W) where
       Goes-attempt W (weight_at 6 T) (before_ends T) (Retry LabelStartLinkStart) (within LabelStartLinkStart) (Next TextBefore) (Next TextBeforeData) T alone tt (omega arith)
       (λ U now k. let h : link_ends T true U = k in
       on-before (weight_at 6 T) T U (omega arith) r.before.marked
-      (subst (λ (x : Tokenizer). AreWithin x x.tokenize_state.label_starts) (sym h.left) (link-within T r.before.marked.ends.text r.before.marked.ends.within h.holds)) (link-advances T U r.before.unchecked r.no_footnote h))
+      (subst (λ (x : Tokenizer). AreStartsWithin x x.tokenize_state.label_starts) (sym h.left) (link-within T r.before.marked.ends.text r.before.marked.ends.within h.holds)) (link-advances T U r.before.unchecked r.no_footnote h))
       (λ U now k. let h : link_ends T false U = k in
       rw (restored-fails false (Next TextBefore) (Next TextBeforeData) T.tokenize_state T U (record { grown = h.grown; scratch = h.scratch }), scratched-same T)
       (to-data 6 T (byte "[") (omega arith) r.before r.bracket (bracket-alone T r.before.unchecked r.bracket r.no_footnote h.refused)))
@@ -364,8 +365,8 @@ module _ (W : Words) (within : Within states_and_called W) where
       let stops : List Code → Bool = stops_of T.tokenize_state in
       let read : Reads (data_up_to stops) None T.tokenize_state T U = k in
       let d : DataRead stops T U a.0 a.1.0 = data-read stops T U a.0 a.1.0 a.1.1 read in
-      let e : IsSame T U = same-row (row_end d.tree) T U d.left d.part r.marked.ends in
-      let kept : AreWithin U U.tokenize_state.label_starts = subst (λ (x : Tokenizer). AreWithin x x.tokenize_state.label_starts) (sym d.left) (tree-within d.tree T r.marked.ends.within) in
+      let e : KeepsTheRest T U = same-row (row_end d.tree) T U d.left d.part r.marked.ends in
+      let kept : AreStartsWithin U U.tokenize_state.label_starts = subst (λ (x : Tokenizer). AreStartsWithin x x.tokenize_state.label_starts) (sym d.left) (tree-within d.tree T r.marked.ends.within) in
       let less : codes_left U < codes_left T = d.less in
       follows W (weight_at 5 T) (data_ends T) (Next TextBefore) (within TextBefore) U
       (record {
@@ -376,7 +377,7 @@ module _ (W : Words) (within : Within states_and_called W) where
       (λ ok V h. data-then T U e read ok V h))
       (λ U now k. absurd (data-holds (stops_of T.tokenize_state) (ahead T) k.refused))
     where
-      data-then : (T U : Tokenizer) → IsSame T U →
+      data-then : (T U : Tokenizer) → KeepsTheRest T U →
           Reads (data_up_to (stops_of T.tokenize_state)) None T.tokenize_state T U → (ok : Bool) (V : Tokenizer) →
           before_ends U ok V → data_ends T ok V
       data-then T U e read true V h =
@@ -387,14 +388,14 @@ module _ (W : Words) (within : Within states_and_called W) where
   start-law T alone r =
       let M : Tokenizer = text_marked T in
       let s : TokenizeState = marked_fields T.cursor T.parse_state.now T.tokenize_state in
-      let marked : IsMarked M = marked-start T r in
+      let marked : IsReadyWithMarkers M = marked-start T r in
       subst (λ n. GoesIn W n (before_ends M) (start_step T)) (weight-marked T)
       (try-law 9 M GfmTaskListItemCheckStart TextBefore (within GfmTaskListItemCheckStart) (GfmTaskListItemCheck.check_here M) (attempts-scratched s T ∙ alone) marked.look (omega arith) marked (λ ok U g. g)
       (search plain_constructs) (check-elements M (current_of M) refl)
       (λ none. follows W (weight_at 9 M) (before_ends M) (Next TextBefore) (within TextBefore) M (record { marked = marked; unchecked = none }) (omega arith) (λ ok V h. h)))
 
 -- of these states, and of any other as it is given
-pub laws : (W : Words) → Within states_and_called W → (t : StateName → StateWords) → AreLawful W t →
+pub laws : (W : Words) → EqualsLayer states_and_called W → (t : StateName → StateWords) → AreLawful W t →
     AreLawful W (states t)
 laws W within t other H.TextStart = start-law W within
 laws W within t other H.TextBefore = before-law W within

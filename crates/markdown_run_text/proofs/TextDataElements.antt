@@ -4,8 +4,8 @@ use Rattle.std.specs.Prelude.{is_none}
 use Rattle.std.specs.List.{list_any}
 use Rattle.std.proofs.Math.Bool.{and-false}
 use Rattle.std.proofs.lemmas.Bool.{or_parts, or_cases, not-false}
-use Rattle.markdown_engine_content.specs.Codes.{Code, document_start, stop_of}
-use Rattle.markdown_engine_content.specs.Tree.{Forest}
+use Rattle.markdown_content.specs.Codes.{Code, document_start, stop_of}
+use Rattle.markdown_content.specs.Tree.{Forest}
 use Rattle.markdown_leaf_gfm.proofs.SchemesLeft.{among-filter}
 use Rattle.markdown_model.specs.CodeTests.{is_among, is_empty, is_letter, is_some_code}
 use Rattle.markdown_model.specs.Elements.{text_choice, text_element}

@@ -1,7 +1,7 @@
 -- Where data of a text stops: at each other place the code is an element by itself.
 use Rattle.std.proofs.Common.{ℕ, ◌==◌, List}
 use Rattle.std.proofs.lemmas.Bool.{or_parts}
-use Rattle.markdown_engine_content.specs.Codes.{Code}
+use Rattle.markdown_content.specs.Codes.{Code}
 use Rattle.markdown_model.specs.CodeTests.{is_among, next_is}
 use Rattle.markdown_model.specs.Elements.{text_element}
 use Rattle.markdown_model.specs.Setting.{Setting}

@@ -2,14 +2,14 @@
 use Rattle.std.proofs.Common.{◌≡◌, ℕ, ◌==◌, Bool, true, false, not, ◌&&◌, List, [], ◌∷◌, ◌++◌, Option, None, Some, refl, sym, ap, ◌∙◌, subst}
 use Rattle.std.specs.Str.{byte}
 use Rattle.markdown_label.proofs.BegunStartPlaces.{first-is, two-whole}
-use Rattle.markdown_engine_content.specs.Codes.{Code}
-use Rattle.markdown_engine_content.specs.ListFunctions.{rest_of}
+use Rattle.markdown_content.specs.Codes.{Code}
+use Rattle.markdown_content.specs.ListFunctions.{rest_of}
 use Rattle.markdown_engine.specs.Operations.{ahead, current_of}
 use Rattle.markdown_engine.specs.PastTree.{Reads}
-use Rattle.markdown_engine_content.specs.Tree.{Forest}
-use Rattle.markdown_engine_content.specs.declared.label_kind.LabelKind.{LabelKind}
+use Rattle.markdown_content.specs.Tree.{Forest}
+use Rattle.markdown_content.specs.declared.label_kind.LabelKind.{LabelKind}
 use Rattle.markdown_engine.specs.declared.tokenizer.Tokenizer.{Tokenizer}
-use Rattle.markdown_engine.proofs.OperationFields.{Begins, ahead-some}
+use Rattle.markdown_engine.proofs.OperationFields.{BeginsWithValue, ahead-some}
 use Rattle.markdown_leaf_gfm.specs.GfmTaskListItemCheck.{check_here}
 use Rattle.markdown_label.specs.LabelEnd.{Ends, end_reading, is_on, outcome_by}
 use Rattle.markdown_label.specs.LabelStarts.{link_test, link_ends, footnote_test, footnote_ends, footnotes_on, image_test, image_ends}
@@ -139,7 +139,7 @@ image-none footnotes cs e = bind-none (before (word "![") (λ xs. not (footnotes
     and-apart true false c h k = cc
     and-apart false b c h k = cc
 
-    there : (f : Begins (byte "!") cs) (g : Begins (byte "[") (rest_of cs)) →
+    there : (f : BeginsWithValue (byte "!") cs) (g : BeginsWithValue (byte "[") (rest_of cs)) →
         word "![" cs ≡ Some (f.code ∷ g.code ∷ [], rest_of (rest_of cs))
     there f g =
         ap (word "![") (f.whole ∙ ap (λ xs. f.code ∷ xs) g.whole) ∙ pair-some (byte "!") (byte "[") f.code g.code (rest_of (rest_of cs)) (is-the (byte "!") f.code f.value) (is-the (byte "[") g.code g.value)
@@ -166,8 +166,8 @@ started kind marker rest T U p finds =
 
 pub image-advances : (T U : Tokenizer) → image_ends T true U → Advances (text_choice_of T) T U
 image-advances T U k =
-    let f : Begins (byte "!") (ahead T) = first-is (byte "!") (ahead T) (and-right _ _ (and-left _ _ k.holds)) in
-    let g : Begins (byte "[") (rest_of (ahead T)) = first-is (byte "[") (rest_of (ahead T)) (and-left _ _ (and-right _ _ k.holds)) in
+    let f : BeginsWithValue (byte "!") (ahead T) = first-is (byte "!") (ahead T) (and-right _ _ (and-left _ _ k.holds)) in
+    let g : BeginsWithValue (byte "[") (rest_of (ahead T)) = first-is (byte "[") (rest_of (ahead T)) (and-left _ _ (and-right _ _ k.holds)) in
     let rest : List Code = rest_of (rest_of (ahead T)) in
     let whole : ahead T ≡ f.code ∷ g.code ∷ rest = two-whole (byte "!") (byte "[") (ahead T) f g in
     started LabelKind.Image (f.code ∷ g.code ∷ []) rest T U (image-past f.code g.code rest T U whole f.value g.value k)
@@ -186,8 +186,8 @@ image-alone T e refused earlier previous c cs stands w =
 pub footnote-advances : (T U : Tokenizer) → check_here T (ahead T) ≡ None → footnote_ends T true U →
     Advances (text_choice_of T) T U
 footnote-advances T U none k =
-    let f : Begins (byte "[") (ahead T) = first-is (byte "[") (ahead T) (and-right _ _ (and-left _ _ k.holds)) in
-    let g : Begins (byte "^") (rest_of (ahead T)) = first-is (byte "^") (rest_of (ahead T)) (and-right _ _ k.holds) in
+    let f : BeginsWithValue (byte "[") (ahead T) = first-is (byte "[") (ahead T) (and-right _ _ (and-left _ _ k.holds)) in
+    let g : BeginsWithValue (byte "^") (rest_of (ahead T)) = first-is (byte "^") (rest_of (ahead T)) (and-right _ _ k.holds) in
     let rest : List Code = rest_of (rest_of (ahead T)) in
     let whole : ahead T ≡ f.code ∷ g.code ∷ rest = two-whole (byte "[") (byte "^") (ahead T) f g in
     let found : Element × List Code = (starts LabelKind.GfmFootnote (f.code ∷ g.code ∷ []), rest) in
@@ -206,7 +206,7 @@ no-footnote T cs w refused =
 pub link-advances : (T U : Tokenizer) → check_here T (ahead T) ≡ None → footnote_test T (ahead T) ≡ false →
     link_ends T true U → Advances (text_choice_of T) T U
 link-advances T U none refused k =
-    let f : Begins (byte "[") (ahead T) = first-is (byte "[") (ahead T) (and-right _ _ k.holds) in
+    let f : BeginsWithValue (byte "[") (ahead T) = first-is (byte "[") (ahead T) (and-right _ _ k.holds) in
     let rest : List Code = rest_of (ahead T) in
     let found : Element × List Code = (starts LabelKind.Link (f.code ∷ []), rest) in
     started LabelKind.Link (f.code ∷ []) rest T U (link-past f.code rest T U f.whole f.value k)
@@ -250,7 +250,7 @@ none-back x None e = refl
 none-back x (Some r) e = cc
 
 module _ (T : Tokenizer) (here : current_of T ≡ Some (byte "]")) (on : is_on T ≡ true) where
-  abbrev B : Begins (byte "]") (ahead T)
+  abbrev B : BeginsWithValue (byte "]") (ahead T)
   B = ahead-some T (byte "]") here
 
   abbrev behind : List Code

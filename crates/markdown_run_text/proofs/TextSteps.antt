@@ -3,26 +3,26 @@ use Rattle.markdown_model.specs.LeafConstructs.{gfm_task_list_item_check}
 use Rattle.markdown_model.specs.CodeTests.{is_value, last_code, next_is}
 use Rattle.std.proofs.Common.{◌≡◌, ◌≢◌, ℕ, ◌+◌, ◌*◌, ◌<◌, ◌≤◌, ◌==◌, Bool, true, false, if◌then◌else◌, Option, Some, None, List, [], ◌∷◌, refl, sym, ap, subst, ◌∙◌, arith, length, length-append, is_none, ◌&&◌, ◌++◌, append-nil}
 use Rattle.std.specs.Str.{byte}
-use Rattle.markdown_engine_content.specs.Codes.{Code, stop_of, document_start}
-use Rattle.markdown_engine_names.specs.BracketIndex.{BracketPlaces, brackets_between}
-use Rattle.markdown_engine_names.specs.NameIndex.{names_in_order}
-use Rattle.markdown_engine_names.specs.declared.name_index.Names.{Names}
-use Rattle.markdown_engine_content.specs.declared.parser.ParseState.{ParseState}
+use Rattle.markdown_content.specs.Codes.{Code, stop_of, document_start}
+use Rattle.markdown_notes.specs.BracketIndex.{BracketPlaces, brackets_between}
+use Rattle.markdown_notes.specs.NameIndex.{names_in_order}
+use Rattle.markdown_notes.specs.declared.name_index.Names.{Names}
+use Rattle.markdown_content.specs.declared.parser.ParseState.{ParseState}
 use Rattle.markdown_event.specs.declared.event.Point.{Point}
 use Rattle.markdown_engine.specs.Operations.{ahead, current_of, is_registered, registered, scratched, previous_of}
 use Rattle.markdown_engine.specs.PastTree.{past, moved_by}
-use Rattle.markdown_engine_content.specs.Place.{Place, moved, code_before, last_of, point_of, value_of}
-use Rattle.markdown_engine_index.specs.RunIndex.{LastRuns, last_runs}
-use Rattle.markdown_engine_index.specs.SequenceIndex.{last_begins}
-use Rattle.markdown_engine_index.specs.TitleIndex.{closers_of}
-use Rattle.markdown_engine_content.specs.Tree.{Forest, empty}
+use Rattle.markdown_content.specs.Place.{Place, moved, code_before, last_of, point_of, value_of}
+use Rattle.markdown_notes.specs.RunIndex.{LastRuns, last_runs}
+use Rattle.markdown_notes.specs.SequenceIndex.{last_begins}
+use Rattle.markdown_notes.specs.TitleIndex.{closers_of}
+use Rattle.markdown_content.specs.Tree.{Forest, empty}
 use Rattle.markdown_engine.specs.Weights.{codes_left, weight_at}
-use Rattle.markdown_state.specs.declared.resolve.ResolveName.TheVariants as R
+use Rattle.markdown_event.specs.declared.resolve.ResolveName.TheVariants as R
 use Rattle.markdown_engine.specs.declared.tokenizer.TokenizeState.{TokenizeState}
 use Rattle.markdown_engine.specs.declared.tokenizer.Tokenizer.{Tokenizer}
 use Rattle.markdown_engine.proofs.ReadingSequences.{scratched-same}
-use Rattle.markdown_engine_index.proofs.SequenceIndexLemmas.{right-made}
-use Rattle.markdown_engine.proofs.OperationFields.{Begins, ahead-some, attempts-registered, left-scratched, left-ahead}
+use Rattle.markdown_notes.proofs.SequenceIndexLemmas.{right-made}
+use Rattle.markdown_engine.proofs.OperationFields.{BeginsWithValue, ahead-some, attempts-registered, left-scratched, left-ahead}
 use Rattle.markdown_leaf_gfm.specs.GfmAutolinkLiteral as GfmAutolinkLiteral
 use Rattle.markdown_leaf_gfm.specs.GfmTaskListItemCheck as GfmTaskListItemCheck
 use Rattle.markdown_leaf_html.specs.HtmlText as HtmlText
@@ -32,7 +32,7 @@ use Rattle.markdown_partial.specs.PartialSpaceOrTab as PartialSpaceOrTab
 use Rattle.markdown_plan.specs.Characters.{bytes_of, ReadsText}
 use Rattle.markdown_plan.proofs.CharactersAlongContent.{text-scratched}
 use Rattle.markdown_label.specs.LabelEnd as LabelEnd
-use Rattle.markdown_label.specs.LabelEnd.{AreWithin}
+use Rattle.markdown_label.specs.LabelEnd.{AreStartsWithin}
 use Rattle.markdown_model.specs.Setting.{Setting}
 use Rattle.markdown_label_names.specs.LabelSetting.{setting_of, AreListed, IsListed}
 use Rattle.markdown_label.proofs.KeptStartPlaces.{within-grown}
@@ -50,7 +50,7 @@ use Rattle.markdown_run_text.specs.Row.{EndsRest, Row, loses, row_end, row_then,
 use Rattle.markdown_run_text.proofs.LabelSteps.{empty-part, mark-alone}
 use Rattle.markdown_run_text.proofs.RowFields.{relisted, row-cursor, row-text, row-fields, made-within}
 use Rattle.markdown_run_text.proofs.RowScratch.{row-input}
-use Rattle.markdown_run_text.specs.TextContent.{order_pays, names_for, brackets_pay, titles_pay, marked_fields, text_marked, text_passed, text_choice_of, EndsWithCodes, StartReady, IsMarked, StandsAlone, before_ends, data_ends, text_setting, StopsAtElements, names_in}
+use Rattle.markdown_run_text.specs.TextContent.{order_pays, names_for, brackets_pay, titles_pay, marked_fields, text_marked, text_passed, text_choice_of, EndsWithCodes, TextStartReady, IsReadyWithMarkers, StandsAlone, before_ends, data_ends, text_setting, StopsAtElements, names_in}
 use Rattle.markdown_run_text.proofs.TextDataStops.{stops-where}
 use Rattle.markdown_run_text.proofs.TextTries.{end_in, ReadsElements, none-valued, check-reads, no-check-at-end, other-data}
 use Rattle.markdown_run_text.proofs.ElementSteps.{last-some, some-ahead, advances-finishes, finishes-end, data-advances}
@@ -65,20 +65,20 @@ same-end [] p = refl
 same-end (c ∷ cs) p = same-end cs (moved p)
 
 -- what stays as it was
-pub record IsSame (T U : Tokenizer) : Type 0 where
+pub record KeepsTheRest (T U : Tokenizer) : Type 0 where
   pub fields : U.tokenize_state ≡ relisted U.tokenize_state T.tokenize_state
   pub input : U.parse_state ≡ T.parse_state
   pub codes : U.cursor.codes ≡ T.cursor.codes
   pub end : U.cursor.end ≡ T.cursor.end
   pub text : ReadsText U
 
-pub ends-rest : (T : Tokenizer) → LabelEnd.StartReady T → EndsRest T.tokenize_state
+pub ends-rest : (T : Tokenizer) → LabelEnd.LabelEndStartReady T → EndsRest T.tokenize_state
 ends-rest T r = record { end = r.resting; seen = sym (ap (λ (s : TokenizeState). s.seen) r.part.rest) }
 
-pub same-row : (row : Row) (T U : Tokenizer) → U ≡ past_row row T → IsRowAt (kinds_of T) row → LabelEnd.StartReady T →
-    IsSame T U
+pub same-row : (row : Row) (T U : Tokenizer) → U ≡ past_row row T → IsRowAt (kinds_of T) row → LabelEnd.LabelEndStartReady T →
+    KeepsTheRest T U
 same-row row T U left is r =
-    subst (λ (x : Tokenizer). IsSame T x) (sym left)
+    subst (λ (x : Tokenizer). KeepsTheRest T x) (sym left)
     (record {
       fields = row-fields (kinds_of T) row T refl is (ends-rest T r);
       input = row-input row T;
@@ -87,31 +87,31 @@ same-row row T U left is r =
       text = row-text (kinds_of T) row T is r.text;
     })
 
-pub choice-same : (T U : Tokenizer) → IsSame T U → text_choice_of U ≡ text_choice_of T
+pub choice-same : (T U : Tokenizer) → KeepsTheRest T U → text_choice_of U ≡ text_choice_of T
 choice-same T U k =
     (λ i. text_choice (text_setting_of (k.input i).now U.tokenize_state.document_at_first_paragraph_of_list_item) (k.codes i))
     ∙ ap (λ (s : TokenizeState). text_choice (text_setting_of T.parse_state.now s.document_at_first_paragraph_of_list_item) T.cursor.codes) k.fields
 
 -- what is known of the runs stays right
-pub indexed-past : (T U : Tokenizer) → IsSame T U → RawText.IsIndexed T → RawText.IsIndexed U
+pub indexed-past : (T U : Tokenizer) → KeepsTheRest T U → RawText.IsIndexed T → RawText.IsIndexed U
 indexed-past T U e k =
     let runs : U.tokenize_state.runs ≡ T.tokenize_state.runs = ap (λ (s : TokenizeState). s.runs) e.fields in
     runs ∙ k ∙ ap (λ (x : LastRuns). last_runs x.asked T.cursor.codes) (sym runs) ∙ ap (λ cs. last_runs U.tokenize_state.runs.asked cs) (sym e.codes)
 
 -- and so do what is known of sequences, and of names
-pub sequences-past : (T U : Tokenizer) → IsSame T U → HtmlText.IsIndexed T → HtmlText.IsIndexed U
+pub sequences-past : (T U : Tokenizer) → KeepsTheRest T U → HtmlText.KnowsSequences T → HtmlText.KnowsSequences U
 sequences-past T U e k = indexed-same T U e.codes (ap (λ (s : TokenizeState). s.sequences) e.fields) k
 
-pub listed-past : (T U : Tokenizer) → IsSame T U → IsListed T → IsListed U
+pub listed-past : (T U : Tokenizer) → KeepsTheRest T U → IsListed T → IsListed U
 listed-past T U e k names known =
     subst (λ (p : ParseState). AreListed (setting_of p) names) (λ i. (sym e.input i).now) (k names (ap (λ (s : TokenizeState). s.names) (sym e.fields) ∙ known))
 
-pub domains-past : (T U : Tokenizer) → IsSame T U → GfmAutolinkLiteral.KnowsDomains T →
+pub domains-past : (T U : Tokenizer) → KeepsTheRest T U → GfmAutolinkLiteral.KnowsDomains T →
     GfmAutolinkLiteral.KnowsDomains U
 domains-past T U e k places known =
     k places (ap (λ (s : TokenizeState). s.no_domains) (sym e.fields) ∙ known) ∙ (λ i. no_domains (sym e.input i).now.bytes.now (sym e.end i).index (sym e.codes i))
 
-pub part-past : (T U : Tokenizer) → IsSame T U → codes_left U ≤ codes_left T → PartReady T → PartReady U
+pub part-past : (T U : Tokenizer) → KeepsTheRest T U → codes_left U ≤ codes_left T → PartReady T → PartReady U
 part-past T U e l k =
     let u : TokenizeState = U.tokenize_state in
     record {
@@ -123,20 +123,20 @@ part-past T U e l k =
     }
 
 -- the content ends with its last code
-pub last-past : (T U : Tokenizer) → IsSame T U → EndsWithCodes T.cursor → EndsWithCodes U.cursor
+pub last-past : (T U : Tokenizer) → KeepsTheRest T U → EndsWithCodes T.cursor → EndsWithCodes U.cursor
 last-past T U e last =
     λ some. ap (λ (p : Point). p.index) e.end ∙ last (subst (λ cs. cs ≢ []) e.codes some) ∙ ap (λ cs. (stop_of document_start cs).index) (sym e.codes)
 
 -- data stops at the same places
-pub stops-same : (T U : Tokenizer) → IsSame T U → stops_of U.tokenize_state ≡ stops_of T.tokenize_state
+pub stops-same : (T U : Tokenizer) → KeepsTheRest T U → stops_of U.tokenize_state ≡ stops_of T.tokenize_state
 stops-same T U e = ap (λ (s : TokenizeState). stops_of s) e.fields
 
-pub stops-past : (T U : Tokenizer) → IsSame T U → StopsAtElements T → StopsAtElements U
+pub stops-past : (T U : Tokenizer) → KeepsTheRest T U → StopsAtElements T → StopsAtElements U
 stops-past T U e stops front earlier previous c cs w free =
     (λ i. choice-same T U e i earlier previous (c ∷ cs)) ∙ stops front earlier previous c cs (sym e.codes ∙ w) (ap (λ (stop : List Code → Bool). stop (c ∷ cs)) (sym (stops-same T U e)) ∙ free)
 
-pub ready-past : (T U : Tokenizer) → IsSame T U → codes_left U ≤ codes_left T →
-    AreWithin U U.tokenize_state.label_starts → StartReady T → StartReady U
+pub ready-past : (T U : Tokenizer) → KeepsTheRest T U → codes_left U ≤ codes_left T →
+    AreStartsWithin U U.tokenize_state.label_starts → TextStartReady T → TextStartReady U
 ready-past T U e l within r =
     let u : TokenizeState = U.tokenize_state in
     record {
@@ -148,15 +148,15 @@ ready-past T U e l within r =
     }
 
 -- where data stops at elements, all but that is what is asked at the start
-pub marked-ready : (T : Tokenizer) → IsMarked T → StartReady T
+pub marked-ready : (T : Tokenizer) → IsReadyWithMarkers T → TextStartReady T
 marked-ready T r = record { spans = r.spans; look = r.look; literals = r.literals; ends = r.ends; last = r.last }
 
-pub ready-marked : (T : Tokenizer) → StopsAtElements T → StartReady T → IsMarked T
+pub ready-marked : (T : Tokenizer) → StopsAtElements T → TextStartReady T → IsReadyWithMarkers T
 ready-marked T stops r =
     record { stops = stops; spans = r.spans; look = r.look; literals = r.literals; ends = r.ends; last = r.last }
 
-pub marked-past : (T U : Tokenizer) → IsSame T U → codes_left U ≤ codes_left T →
-    AreWithin U U.tokenize_state.label_starts → IsMarked T → IsMarked U
+pub marked-past : (T U : Tokenizer) → KeepsTheRest T U → codes_left U ≤ codes_left T →
+    AreStartsWithin U U.tokenize_state.label_starts → IsReadyWithMarkers T → IsReadyWithMarkers U
 marked-past T U e l within r =
     ready-marked U (stops-past T U e r.stops) (ready-past T U e l within (marked-ready T r))
 
@@ -186,7 +186,7 @@ no-check-past T U a =
     no-check-behind (row_codes a.row) T U (ap (λ (x : Tokenizer). x.cursor) a.left ∙ row-cursor (kinds_of T) a.row T a.is_row) a.whole a.less
 
 -- what follows an element, follows from before it
-pub advances-ends : (T U : Tokenizer) → IsSame T U → Advances (text_choice_of T) T U → (ok : Bool) (V : Tokenizer) →
+pub advances-ends : (T U : Tokenizer) → KeepsTheRest T U → Advances (text_choice_of T) T U → (ok : Bool) (V : Tokenizer) →
     before_ends U ok V → before_ends T ok V
 advances-ends T U e a true V k =
     advances-finishes (text_choice_of T) text_passed T U V a (subst (λ c. Finishes c text_passed U V) (choice-same T U e) k)
@@ -206,31 +206,32 @@ alone-ends T stops some alone false V k = k
 
 -- The starts that are kept, past what holds.
 
-pub tree-kept : (T U : Tokenizer) (t : Forest) → U ≡ past None t T → AreWithin T T.tokenize_state.label_starts →
-    AreWithin U U.tokenize_state.label_starts
+pub tree-kept : (T U : Tokenizer) (t : Forest) → U ≡ past None t T → AreStartsWithin T T.tokenize_state.label_starts →
+    AreStartsWithin U U.tokenize_state.label_starts
 unfolding past
 tree-kept T U t left k =
-    subst (λ (x : Tokenizer). AreWithin x x.tokenize_state.label_starts) (sym left) (within-grown T (past None t T) _ refl refl T.tokenize_state.label_starts k)
+    subst (λ (x : Tokenizer). AreStartsWithin x x.tokenize_state.label_starts) (sym left)
+    (within-grown T (past None t T) _ refl refl T.tokenize_state.label_starts k)
 
 pub registered-within : (b : Bool) (V W : Tokenizer) → W ≡ record V { resolvers = W.resolvers } →
-    AreWithin V V.tokenize_state.label_starts →
-    AreWithin (if b then V else W) (if b then V else W).tokenize_state.label_starts
+    AreStartsWithin V V.tokenize_state.label_starts →
+    AreStartsWithin (if b then V else W) (if b then V else W).tokenize_state.label_starts
 registered-within true V W e k = k
 registered-within false V W e k =
-    subst (λ (x : Tokenizer). AreWithin x x.tokenize_state.label_starts) (sym e) (within-grown V (record V { resolvers = W.resolvers }) [] refl (sym (append-nil V.events)) V.tokenize_state.label_starts k)
+    subst (λ (x : Tokenizer). AreStartsWithin x x.tokenize_state.label_starts) (sym e) (within-grown V (record V { resolvers = W.resolvers }) [] refl (sym (append-nil V.events)) V.tokenize_state.label_starts k)
 
 pub registered-kept : (T U V : Tokenizer) (t : Forest) → V ≡ past None t T → U ≡ registered R.Attention V →
-    AreWithin T T.tokenize_state.label_starts → AreWithin U U.tokenize_state.label_starts
+    AreStartsWithin T T.tokenize_state.label_starts → AreStartsWithin U U.tokenize_state.label_starts
 unfolding registered
 registered-kept T U V t left e k =
-    subst (λ (x : Tokenizer). AreWithin x x.tokenize_state.label_starts) (sym e)
+    subst (λ (x : Tokenizer). AreStartsWithin x x.tokenize_state.label_starts) (sym e)
     (registered-within (is_registered R.Attention V.resolvers) V (record V { resolvers = V.resolvers ++ R.Attention ∷ [] }) refl (tree-kept T V t left k))
 
-pub made-kept : (T U : Tokenizer) → LabelEnd.Ends T U → AreWithin T T.tokenize_state.label_starts →
-    AreWithin U U.tokenize_state.label_starts
+pub made-kept : (T U : Tokenizer) → LabelEnd.Ends T U → AreStartsWithin T T.tokenize_state.label_starts →
+    AreStartsWithin U U.tokenize_state.label_starts
 unfolding past_mark
 made-kept T U r k =
-    subst (λ (x : Tokenizer). AreWithin x x.tokenize_state.label_starts) (sym r.left) (made-within r.back r.kind r.tail T k)
+    subst (λ (x : Tokenizer). AreStartsWithin x x.tokenize_state.label_starts) (sym r.left) (made-within r.back r.kind r.tail T k)
 
 -- Going on where a construct does not hold.
 
@@ -243,11 +244,11 @@ pub weight-marked : (T : Tokenizer) → weight_at 9 (text_marked T) ≡ weight_a
 weight-marked T =
     ap (λ n. 256 * n + 9 + 1) (left-scratched (marked_fields T.cursor T.parse_state.now T.tokenize_state) T)
 
-pub at-rest-reference : (T : Tokenizer) → RawText.StartReady T → IsAtRest T
+pub at-rest-reference : (T : Tokenizer) → RawText.RawTextStartReady T → IsAtRest T
 at-rest-reference T r =
     record { marker = ap (λ (s : TokenizeState). s.marker) r.rest; size = ap (λ (s : TokenizeState). s.size) r.rest }
 
-pub run-ready : (T : Tokenizer) → RawText.StartReady T → Attention.StartReady T
+pub run-ready : (T : Tokenizer) → RawText.RawTextStartReady T → Attention.AttentionStartReady T
 run-ready T r = r.rest ∙ ap (Attention.with_marker 0) (sym r.rest)
 
 pub passed-attempts : (T : Tokenizer) → T.attempts ≡ [] → (text_passed T).attempts ≡ []
@@ -279,7 +280,8 @@ unfolding past_mark
 lost-there T d on = ap (λ s. scratched s T) (if-true _ _ _ (ap (λ b. b && next_is (is_value (byte "]")) (ahead T)) on ∙ there))
   where
     there : next_is (is_value (byte "]")) (ahead T) ≡ true
-    there = let b : Begins (byte "]") (ahead T) = ahead-some T (byte "]") d in ap (next_is (is_value (byte "]"))) b.whole ∙ ap (λ v. v == byte "]") b.value
+    there =
+        let b : BeginsWithValue (byte "]") (ahead T) = ahead-some T (byte "]") d in ap (next_is (is_value (byte "]"))) b.whole ∙ ap (λ v. v == byte "]") b.value
 
 pub not-lost : (T : Tokenizer) → LabelEnd.is_on T ≡ false → scratched (LabelEnd.lost_fields T) T ≡ T
 not-lost T off =
@@ -293,19 +295,19 @@ pub lost-current : (T : Tokenizer) → current_of (past_mark loses T) ≡ curren
 unfolding past_mark scratched
 lost-current T = refl
 
-pub same-lost : (T : Tokenizer) → LabelEnd.StartReady T → IsSame T (past_mark loses T)
+pub same-lost : (T : Tokenizer) → LabelEnd.LabelEndStartReady T → KeepsTheRest T (past_mark loses T)
 same-lost T r =
     let row : Row = row_then empty loses (row_end empty) in
     same-row row T (past_mark loses T) (mark-alone loses T) (empty-part, (tt, empty-part)) r
 
-pub html-ready : (T : Tokenizer) → StartReady T → HtmlText.StartReady T
+pub html-ready : (T : Tokenizer) → TextStartReady T → HtmlText.HtmlStartReady T
 html-ready T r =
     record { spaces = record { resting = r.look.resting; short = r.look.short }; rest = sym (html-rest T r.spans) }
   where
-    html-rest : (T : Tokenizer) → RawText.StartReady T → T.tokenize_state ≡ HtmlText.rested T.tokenize_state
+    html-rest : (T : Tokenizer) → RawText.RawTextStartReady T → T.tokenize_state ≡ HtmlText.rested T.tokenize_state
     html-rest T k = k.rest ∙ ap HtmlText.rested (sym k.rest)
 
-pub spans-marked : (T : Tokenizer) → RawText.StartReady T → RawText.StartReady (text_marked T)
+pub spans-marked : (T : Tokenizer) → RawText.RawTextStartReady T → RawText.RawTextStartReady (text_marked T)
 unfolding scratched
 spans-marked T r =
     record { rest = ap {A = TokenizeState} (λ s. marked_fields T.cursor T.parse_state.now s) r.rest; fits = r.fits }
@@ -321,7 +323,7 @@ pub made-known : {A : Type 0} (pays : Bool) (made known : A) → (if pays then S
 made-known true made known e = cc
 made-known false made known e = cc
 
-pub literals-marked : (T : Tokenizer) → GfmAutolinkLiteral.StartReady T → GfmAutolinkLiteral.StartReady (text_marked T)
+pub literals-marked : (T : Tokenizer) → GfmAutolinkLiteral.LiteralStartReady T → GfmAutolinkLiteral.LiteralStartReady (text_marked T)
 unfolding scratched
 literals-marked T r =
     let s : TokenizeState → TokenizeState = marked_fields T.cursor T.parse_state.now in
@@ -348,7 +350,7 @@ names-known c p None known h e =
 names-known c p (Some lent) known h e =
     lent-known (setting_of p) (point_of (record c { at = 0 })).index c.end.index lent known (brackets_pay c.codes p) (h lent refl) e
 
-pub ends-marked : (T : Tokenizer) → LabelEnd.StartReady T → LabelEnd.StartReady (text_marked T)
+pub ends-marked : (T : Tokenizer) → LabelEnd.LabelEndStartReady T → LabelEnd.LabelEndStartReady (text_marked T)
 unfolding scratched
 ends-marked T r =
     let M : Tokenizer = text_marked T in
@@ -365,7 +367,7 @@ pub stops-marked : (T : Tokenizer) → StopsAtElements (text_marked T)
 unfolding scratched
 stops-marked T = stops-where (text_setting T) (end_in T) T.cursor.codes
 
-pub marked-start : (T : Tokenizer) → StartReady T → IsMarked (text_marked T)
+pub marked-start : (T : Tokenizer) → TextStartReady T → IsReadyWithMarkers (text_marked T)
 unfolding scratched
 marked-start T r =
     record {

@@ -6,14 +6,14 @@ use Rattle.std.proofs.lemmas.Option.{same_Some}
 use Rattle.std.specs.Str.{byte}
 use Rattle.std.specs.List.{list_any}
 use Rattle.std.proofs.lemmas.List.{take-append-drop}
-use Rattle.markdown_engine_content.specs.Codes.{Code, stop_of, document_start}
-use Rattle.markdown_engine_content.specs.ListFunctions.{first_of, rest_of}
+use Rattle.markdown_content.specs.Codes.{Code, stop_of, document_start}
+use Rattle.markdown_content.specs.ListFunctions.{first_of, rest_of}
 use Rattle.markdown_engine.specs.Operations.{ahead, current_of}
 use Rattle.markdown_engine.specs.PastTree.{TreeReading}
-use Rattle.markdown_engine_content.specs.Place.{ahead_at, value_of, code_before}
-use Rattle.markdown_engine_content.specs.Tree.{Forest}
+use Rattle.markdown_content.specs.Place.{ahead_at, value_of, code_before}
+use Rattle.markdown_content.specs.Tree.{Forest}
 use Rattle.markdown_engine.specs.declared.tokenizer.Tokenizer.{Tokenizer}
-use Rattle.markdown_engine.proofs.OperationFields.{Begins, ahead-some, current-ahead, ahead-none}
+use Rattle.markdown_engine.proofs.OperationFields.{BeginsWithValue, ahead-some, current-ahead, ahead-none}
 use Rattle.markdown_plan.specs.Characters.{bytes_of}
 use Rattle.markdown_leaf_gfm.specs.GfmAutolinkLiteral.{is_on, end_of, protocol_here, www_here}
 use Rattle.markdown_leaf_gfm.specs.GfmTaskListItemCheck.{check_here, may_begin}
@@ -59,7 +59,7 @@ at-hand : (reading : TreeReading) (T : Tokenizer) (v : ℕ) → current_of T ≡
     → ((c : Code) (cs : List Code) (t : Forest) (rest : List Code) → c.value ≡ v → reading (c ∷ cs) ≡ Some (t, rest) → (earlier : List Element) (previous : Option Code) → StandsAfter earlier previous T → text_choice_of T earlier previous (c ∷ cs) ≡ Some (plain t, rest))
     → ReadsElements reading T
 at-hand reading T v e h t rest holds earlier previous stands =
-    let b : Begins v (ahead T) = ahead-some T v e in
+    let b : BeginsWithValue v (ahead T) = ahead-some T v e in
     ap (text_choice_of T earlier previous) b.whole ∙ h b.code (rest_of (ahead T)) t rest b.value (ap reading (sym b.whole) ∙ holds) earlier previous stands
 
 alone-at : (reading : TreeReading) (T : Tokenizer) (v : ℕ) → current_of T ≡ Some v
@@ -101,7 +101,7 @@ module _ (T : Tokenizer) (v : ℕ) (on other : Bool) (a b : Reading Forest) (row
 
     pub second-reads : ReadsElements (provided other >> b) T
     second-reads t rest holds earlier previous stands =
-        let k : Begins v (ahead T) = ahead-some T v e in
+        let k : BeginsWithValue v (ahead T) = ahead-some T v e in
         ap (text_choice_of T earlier previous) k.whole
         ∙ second-element (text_setting T) (end_in T) earlier previous v on other a b (row earlier previous) k.code (rest_of (ahead T)) k.value (Some (t, rest)) (none-at k.code (rest_of (ahead T)) k.whole) (ap (provided other >> b) (sym k.whole) ∙ holds)
 

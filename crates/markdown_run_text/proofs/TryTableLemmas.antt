@@ -4,7 +4,7 @@ use Rattle.std.specs.List.{list_any}
 use Rattle.std.proofs.lemmas.Bool.{eqb-true, or_from, or_parts, or_right}
 use Rattle.std.proofs.lemmas.Bool.Decides.{nat_tests}
 use Rattle.std.proofs.lemmas.List.Folds.{list_any-append}
-use Rattle.markdown_run_text.specs.TryTable.{Table, codes_in, said_at}
+use Rattle.markdown_run_text.specs.TryTable.{TriesTable, codes_in, said_at}
 
 -- it holds of each of these
 abbrev pub EachOf : (ℕ → Type 0) → List ℕ → Type 0
@@ -70,18 +70,18 @@ none-of ns v n e k = by_test (v == n) refl
     by_test true h = absurd (both k (subst (λ (x : ℕ). list_any (λ m. x == m) ns ≡ false) (eqb-true v n h) e))
 
 -- a code that is not among the codes of a table is among those of no row
-pub not-in-row : {A : Type 0} (row : List ℕ × A) (rows : Table A) (v : ℕ) →
+pub not-in-row : {A : Type 0} (row : List ℕ × A) (rows : TriesTable A) (v : ℕ) →
     list_any (λ n. v == n) (codes_in (row ∷ rows)) ≡ false →
     (list_any (λ n. v == n) row.0 ≡ false) × (list_any (λ n. v == n) (codes_in rows) ≡ false)
 not-in-row row rows v e =
     or_parts (list_any (λ n. v == n) row.0) (list_any (λ n. v == n) (codes_in rows)) (sym (list_any-append (λ n. v == n) row.0 (codes_in rows)) ∙ e)
 
 module _ {A : Type 0} (P : ℕ → Option A → Type 0) where
-  abbrev pub EachRow : Table A → Type 0
-  EachRow [] = Unit {0}
-  EachRow (row ∷ rows) = EachOf (λ v. P v (Some row.1)) row.0 × EachRow rows
+  abbrev pub EachRowPasses : TriesTable A → Type 0
+  EachRowPasses [] = Unit {0}
+  EachRowPasses (row ∷ rows) = EachOf (λ v. P v (Some row.1)) row.0 × EachRowPasses rows
 
-  pub by-row : (rows : Table A) (v : ℕ) → EachRow rows → (list_any (λ n. v == n) (codes_in rows) ≡ false → P v None) →
+  pub by-row : (rows : TriesTable A) (v : ℕ) → EachRowPasses rows → (list_any (λ n. v == n) (codes_in rows) ≡ false → P v None) →
       P v (said_at rows v)
   by-row [] v each none = none refl
   by-row (row ∷ rows) v each none =
@@ -93,6 +93,6 @@ module _ {A : Type 0} (P : ℕ → Option A → Type 0) where
       by_test true e other = one-of (λ n. P n (Some row.1)) row.0 v each.0 e
       by_test false e other = other e
 
-  pub rows-append : (front back : Table A) → EachRow front → EachRow back → EachRow (front ++ back)
+  pub rows-append : (front back : TriesTable A) → EachRowPasses front → EachRowPasses back → EachRowPasses (front ++ back)
   rows-append [] back h k = k
   rows-append (row ∷ front) back h k = (h.0, rows-append front back h.1 k)

@@ -3,9 +3,9 @@ use Rattle.std.proofs.Common.{◌≡◌, ℕ, Bool, true, false, not, ◌||◌, 
 use Rattle.std.specs.Prelude.{is_none}
 use Rattle.std.specs.List.{list_any}
 use Rattle.std.proofs.lemmas.Bool.{or_parts}
-use Rattle.markdown_engine_content.specs.Codes.{Code}
-use Rattle.markdown_engine_content.specs.Place.{Place, ahead_at, code_at, moved}
-use Rattle.markdown_engine_content.proofs.PlaceRules.{IsAhead, ahead_none, ahead_some}
+use Rattle.markdown_content.specs.Codes.{Code}
+use Rattle.markdown_content.specs.Place.{Place, ahead_at, code_at, moved}
+use Rattle.markdown_content.proofs.PlaceRules.{IsAhead, ahead_none, ahead_some}
 use Rattle.markdown_leaf_gfm.proofs.LettersOfWords.{letters-more, letters-nil, letters-none}
 use Rattle.markdown_model.specs.Grammar.{either, with_first}
 use Rattle.markdown_model.specs.GfmAutolinkLiteral.{letters, literal_words, one_word_of}

@@ -3,11 +3,11 @@ use Rattle.std.proofs.Common.{◌≡◌, ℕ, ◌-◌, ◌&&◌, ◌==◌, Bool,
 use Rattle.std.specs.Prelude.{codes, is_none}
 use Rattle.std.proofs.lemmas.Bool.{eqb-true}
 use Rattle.std.proofs.lemmas.Bool.Decides.{nat_tests}
-use Rattle.markdown_engine_content.specs.Codes.{Code}
-use Rattle.markdown_engine_content.specs.Place.{Place, ahead_at, code_at, code_before, moved}
-use Rattle.markdown_engine_content.specs.Stretch.{is_free, past_stretch}
-use Rattle.markdown_engine_content.proofs.PlaceRules.{ahead_moved, code_at_ahead}
-use Rattle.markdown_engine_content.proofs.StretchLemmas.{past-none, past-one}
+use Rattle.markdown_content.specs.Codes.{Code}
+use Rattle.markdown_content.specs.Place.{Place, ahead_at, code_at, code_before, moved}
+use Rattle.markdown_content.specs.Stretch.{is_free, past_stretch}
+use Rattle.markdown_content.proofs.PlaceRules.{ahead_moved, code_at_ahead}
+use Rattle.markdown_content.proofs.StretchLemmas.{past-none, past-one}
 use Rattle.markdown_leaf_gfm.proofs.LettersOfWords.{letter_test, letters-more, letters-none}
 use Rattle.markdown_model.specs.Grammar.{with_first}
 use Rattle.markdown_model.specs.GfmAutolinkLiteral.{literal_words, letters, one_word_of}

@@ -1,8 +1,8 @@
 -- How the reader of autolinks passes one.
 use Rattle.std.specs.Prelude.{◌≡◌, ℕ, ◌+◌, Bool, true, false, ◌&&◌, ◌==◌, nat_lt, if◌then◌else◌, List, ◌∷◌, [], ◌++◌, Option, Some, None}
 use Rattle.std.specs.Str.{byte}
-use Rattle.markdown_engine_content.specs.Codes.{Code}
-use Rattle.markdown_engine_content.specs.Place.{Place, ahead_at, code_at}
+use Rattle.markdown_content.specs.Codes.{Code}
+use Rattle.markdown_content.specs.Place.{Place, ahead_at, code_at}
 use Rattle.markdown_event.specs.declared.event.Name.{Name}
 use Rattle.markdown_event.specs.declared.event.Name.TheVariants as N
 use Rattle.markdown_engine.specs.Operations.{Op, Enter, current_of, done}
@@ -27,23 +27,23 @@ abbrev pub is_some_scheme : Option ℕ → Bool
 is_some_scheme None = false
 is_some_scheme (Some v) = scheme_value v
 
-abbrev pub is_some_local : Option ℕ → Bool
-is_some_local None = false
-is_some_local (Some v) = local_value v
+abbrev pub is_some_local : Bool → Option ℕ → Bool
+is_some_local all None = false
+is_some_local all (Some v) = local_value all v
 
 -- What is named.
 
 -- the codes from p on are named so; q is past the text, before the bracket that closes it
-pub record IsNamed (naming : Naming) (p : Place) (name : Name) (q : Place) : Type 0 where
+pub record IsNamedBetween (naming : Naming) (p : Place) (name : Name) (q : Place) : Type 0 where
   pub text : List Code
   pub holds : naming (ahead_at p) ≡ Some (name, consumes text ++ ending name)
   pub left : q ≡ moved_by text p
   pub closed : is_some_value (byte ">") (code_at q) ≡ true
 
 -- either the codes from p on are named so, or they have no name
-abbrev pub Names : Naming → Place → Option Name → Place → Type 0
-Names naming p None q = naming (ahead_at p) ≡ None
-Names naming p (Some name) q = IsNamed naming p name q
+abbrev pub NamesFrom : Naming → Place → Option Name → Place → Type 0
+NamesFrom naming p None q = naming (ahead_at p) ≡ None
+NamesFrom naming p (Some name) q = IsNamedBetween naming p name q
 
 -- Addresses behind the `@`.
 

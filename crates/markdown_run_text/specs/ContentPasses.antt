@@ -1,10 +1,11 @@
 -- The passes of inline content by name: when they may be called, and what they leave.
 use Rattle.std.specs.Prelude.{◌≡◌, ◌≤◌, Bool, true, false, [], length, None}
-use Rattle.markdown_engine_content.specs.Content.{document_limit}
+use Rattle.markdown_content.specs.CommonMark.{rules_of}
+use Rattle.markdown_content.specs.Content.{document_limit}
 use Rattle.markdown_engine.specs.PastTree.{appended_from}
-use Rattle.markdown_engine_content.specs.Tree.{Forest}
-use Rattle.markdown_state.specs.declared.resolve.ResolveName.{ResolveName}
-use Rattle.markdown_state.specs.declared.resolve.ResolveName.TheVariants as R
+use Rattle.markdown_content.specs.Tree.{Forest}
+use Rattle.markdown_event.specs.declared.resolve.ResolveName.{ResolveName}
+use Rattle.markdown_event.specs.declared.resolve.ResolveName.TheVariants as R
 use Rattle.markdown_engine.specs.declared.tokenizer.Tokenizer.{Tokenizer}
 use Rattle.markdown_attention.specs.RunsOfTree.{IsOf, HasRuns}
 pub use Rattle.markdown_attention.specs.AttentionPass.{MayPair}
@@ -14,10 +15,10 @@ use Rattle.markdown_label.specs.Brackets.{Brackets, grouped}
 use Rattle.markdown_label.specs.LabelsHandedOver.{HasBrackets, MayGroup, unlabelled}
 use Rattle.markdown_model.specs.BracketGroups.{paired}
 use Rattle.markdown_model.specs.Pairs.{pair_list}
-use Rattle.markdown_model.specs.Passes.{with_emails_apart, merged, trimmed}
+use Rattle.markdown_model.specs.Passes.{HardBreaks, no_breaks, hard_breaks, with_emails_apart, merged, trimmed}
 use Rattle.markdown_model.specs.Setting.{Setting}
-use Rattle.markdown_partial.specs.MergedEvents.{HasData}
-use Rattle.markdown_partial.specs.TrimmedEvents.{HasParts, HasPlaces}
+use Rattle.markdown_passes.specs.MergedEvents.{HasData}
+use Rattle.markdown_passes.specs.TrimmedEvents.{HasParts, HasPlaces}
 
 -- U is T with other events and without labels and starts: where T hands over brackets, with the events of their grouped tree
 pub record GroupsLabels (T U : Tokenizer) : Type 0 where
@@ -48,13 +49,15 @@ mailed_where false t = t
 
 -- U is T with other events: where T has those of a tree, those of the tree with its data trimmed, and then its email literals set apart, if
 -- they are looked for; `hard` says that hard breaks are looked for, and `whole` that it is trimmed at the start and the end of the whole too
-pub record TrimsData (hard whole emails : Bool) (T U : Tokenizer) : Type 0 where
+pub record TrimsData (hard : HardBreaks) (whole emails : Bool) (T U : Tokenizer) : Type 0 where
   pub same : U ≡ record T { events = U.events }
   pub trims : (t : Forest) → HasParts T.parse_state.now.bytes.now t → T.events ≡ appended_from 0 None t → U.events ≡ appended_from 0 None (mailed_where emails (trimmed hard whole whole t))
 
 -- U is T as the passes behind a text leave it
 abbrev pub FinishesText : Tokenizer → Tokenizer → Type 0
-FinishesText T U = let on = T.parse_state.now.options.now.constructs in TrimsData on.hard_break_trailing true on.gfm_autolink_literal T U
+FinishesText T U =
+    let on = T.parse_state.now.options.now.constructs in
+    TrimsData (hard_breaks on.hard_break_trailing (rules_of T.parse_state.now.options.now)) true on.gfm_autolink_literal T U
 
 -- U is T with other events, and with the number of looks that pairing took: where T has the events of a tree, those of the tree with the
 -- pairs of its containers grouped
@@ -75,5 +78,5 @@ abbrev pub resolves_of : ResolveName → Tokenizer → Tokenizer → Type 0
 resolves_of R.Label T U = GroupsLabels T U
 resolves_of R.Attention T U = PairsRuns T U
 resolves_of R.Data T U = MergesData T U
-resolves_of R.String T U = TrimsData false false false T U
+resolves_of R.String T U = TrimsData no_breaks false false T U
 resolves_of R.Text T U = FinishesText T U

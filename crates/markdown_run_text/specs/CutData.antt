@@ -1,11 +1,11 @@
 -- Trees whose data is cut into its codes, so that it is no matter how data was cut before.
 use Rattle.std.specs.Prelude.{◌≡◌, ◌≢◌, Bool, true, Option, None, List, [], ◌∷◌}
-use Rattle.markdown_engine_content.specs.Codes.{Code}
-use Rattle.markdown_engine_content.specs.Tree.{Forest, empty, leaf_then, group_then}
+use Rattle.markdown_content.specs.Codes.{Code}
+use Rattle.markdown_content.specs.Tree.{Forest, empty, leaf_then, group_then}
 use Rattle.markdown_event.specs.declared.event.Content.{Content}
 use Rattle.markdown_event.specs.declared.event.Name.{Name}
 use Rattle.markdown_event.specs.declared.event.Name.TheVariants as N
-use Rattle.markdown_partial.specs.MergedEvents.{is_data}
+use Rattle.markdown_passes.specs.MergedEvents.{is_data}
 
 -- a data for each code, before further siblings
 abbrev pub each_code : List Code → Forest → Forest

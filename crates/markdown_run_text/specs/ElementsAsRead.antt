@@ -2,18 +2,20 @@
 -- close (CommonMark 6.2).
 use Rattle.std.specs.Prelude.{◌≡◌, ◌⊎◌, ℕ, ◌+◌, true, List, [], ◌∷◌}
 use Rattle.std.specs.Str.{byte}
-use Rattle.markdown_engine_content.specs.Codes.{Code}
-use Rattle.markdown_engine_content.specs.Tree.{leaf}
+use Rattle.markdown_content.specs.Codes.{Code}
+use Rattle.markdown_content.specs.declared.configuration.Rules.{Rules}
+use Rattle.markdown_content.specs.Tree.{leaf}
 use Rattle.markdown_event.specs.declared.event.Name.TheVariants as N
 use Rattle.markdown_model.specs.GfmAutolinkLiteral.{is_other}
 use Rattle.markdown_model.specs.LabelEnd.{Element, plain}
-use Rattle.markdown_util.specs.Neighbours.{class_of, before_index, after_index}
+use Rattle.markdown_model.specs.Runs.{class_beside}
+use Rattle.markdown_util.specs.Neighbours.{before_index, after_index}
 
--- the code is an underscore inside a word: neither whitespace nor punctuation nor an end of the document is beside it
+-- the code is an underscore inside a word: by all rules neither whitespace nor punctuation nor an end of the document is beside it
 pub record IsIntraword (bytes : List ℕ) (c : Code) : Type 0 where
   pub marker : c.value ≡ byte "_"
-  pub before : is_other (class_of (before_index bytes c.start.index)) ≡ true
-  pub after : is_other (class_of (after_index bytes (c.start.index + 1))) ≡ true
+  pub before : (r : Rules) → is_other (class_beside r (before_index bytes c.start.index)) ≡ true
+  pub after : (r : Rules) → is_other (class_beside r (after_index bytes (c.start.index + 1))) ≡ true
 
 -- this element is read as the second: as itself, or, where it is the run of such an underscore, as data
 abbrev pub IsReadAs : List ℕ → Element → Element → Type 0

@@ -1,8 +1,8 @@
 -- The brackets of a row, read from the left, with the starts that still wait for an end.
 use Rattle.std.specs.Prelude.{List, [], ◌∷◌}
-use Rattle.markdown_engine_content.specs.Codes.{Code}
-use Rattle.markdown_engine_content.specs.Tree.{Forest, group_then}
-use Rattle.markdown_engine_content.specs.declared.label_kind.LabelKind.{LabelKind}
+use Rattle.markdown_content.specs.Codes.{Code}
+use Rattle.markdown_content.specs.Tree.{Forest, group_then}
+use Rattle.markdown_content.specs.declared.label_kind.LabelKind.{LabelKind}
 use Rattle.markdown_label.specs.Brackets.{Front, link_front, image_front, call_front, caret_front, Tail, no_tail, one_tail, Brackets, nothing, tree_then, label_then, unused_then, failed_then}
 use Rattle.markdown_label.specs.BracketsJoined.{behind}
 use Rattle.markdown_run_text.specs.Row.{Mark, begins, makes, loses, Row, row_end, row_then}

@@ -2,8 +2,8 @@
 -- reference, and no backslash stands in it.
 use Rattle.std.specs.Prelude.{ℕ, ◌-◌, Bool, false, ◌&&◌, not, ◌==◌, if◌then◌else◌, nat_le, codes, List, [], ◌∷◌, Option, Some, None}
 use Rattle.std.specs.Str.{byte}
-use Rattle.markdown_engine_content.specs.Place.{Place, code_at, exit_point, moved, point_of}
-use Rattle.markdown_engine_content.specs.Stretch.{is_free, past_stretch}
+use Rattle.markdown_content.specs.Place.{Place, code_at, exit_point, moved, point_of}
+use Rattle.markdown_content.specs.Stretch.{is_free, past_stretch}
 use Rattle.markdown_event.specs.declared.event.Name.TheVariants as N
 use Rattle.markdown_engine.specs.Operations.{current_of}
 use Rattle.markdown_engine.specs.declared.tokenizer.LabelStart as Kept
@@ -12,7 +12,7 @@ use Rattle.markdown_label.specs.LabelEnd.{is_on}
 use Rattle.markdown_label_names.specs.LabelNames.{place_at}
 use Rattle.markdown_label_names.specs.LabelSetting.{setting_in}
 use Rattle.markdown_model.specs.LabelEnd.{bytes_between}
-use Rattle.markdown_model.specs.Setting.{Setting, is_defined}
+use Rattle.markdown_model.specs.Setting.{Setting, defines}
 use Rattle.markdown_util.specs.Identifier.{identifier_of}
 use Rattle.markdown_run_text.specs.PlacesPassed.{is_some_value}
 use Rattle.markdown_run_text.specs.PlainResource.{between_read, may_make}
@@ -41,13 +41,13 @@ name_at s p = identifier_of (bytes_between s (point_of p) (exit_point (past_text
 
 -- such a text is at the place, and names a definition
 abbrev pub names_at : Setting → Place → Bool
-names_at s p = text_at p && is_defined s.definitions (name_at s p)
+names_at s p = text_at p && defines s (name_at s p)
 
 -- the label from the last of these starts to the place names a definition itself
 abbrev pub is_named : List Kept.LabelStart → Tokenizer → Bool
 is_named [] T = false
 is_named (l ∷ ls) T =
-    is_defined (setting_in T).definitions (identifier_of (bytes_between (setting_in T) (place_at T.events l.start.1) (point_of T.cursor)))
+    defines (setting_in T) (identifier_of (bytes_between (setting_in T) (place_at T.events l.start.1) (point_of T.cursor)))
 
 -- by the code behind the `]` at the place: what follows names a definition, or where it cannot, the label does
 abbrev pub refers_by : Option ℕ → Tokenizer → Bool

@@ -2,12 +2,12 @@
 -- is empty, no backslash stands in them, no parenthesis in a destination without brackets, and no `<` in one with brackets.
 use Rattle.std.specs.Prelude.{◌≡◌, ℕ, Bool, true, false, ◌&&◌, ◌||◌, not, ◌==◌, if◌then◌else◌, codes, is_some, List, [], ◌∷◌, ◌++◌, Option, Some, None}
 use Rattle.std.specs.Str.{byte}
-use Rattle.markdown_engine_content.specs.Place.{Place, code_at, moved, point_of}
-use Rattle.markdown_engine_content.specs.Stretch.{is_free, past_stretch}
+use Rattle.markdown_content.specs.Place.{Place, code_at, moved, point_of}
+use Rattle.markdown_content.specs.Stretch.{is_free, past_stretch}
 use Rattle.markdown_event.specs.declared.event.Content.TheVariants as Content
 use Rattle.markdown_event.specs.declared.event.Name.{Name}
 use Rattle.markdown_event.specs.declared.event.Name.TheVariants as N
-use Rattle.markdown_engine_content.specs.declared.label_kind.LabelKind.{LabelKind}
+use Rattle.markdown_content.specs.declared.label_kind.LabelKind.{LabelKind}
 use Rattle.markdown_engine.specs.Operations.{Enter, EnterLink, Exit, applied, current_of, done}
 use Rattle.markdown_engine.specs.declared.tokenizer.LabelStart as Kept
 use Rattle.markdown_engine.specs.declared.tokenizer.Tokenizer.{Tokenizer}

@@ -2,8 +2,8 @@
 use Rattle.std.specs.Prelude.{◌≡◌, ◌<◌, ℕ, Bool, true, false, ◌⊎◌, List, [], ◌∷◌, ◌++◌, length, Option, Some, None}
 use Rattle.std.specs.List.{list_any}
 use Rattle.std.specs.Str.{byte}
-use Rattle.markdown_engine_content.specs.Codes.{Code, is_line_ending}
-use Rattle.markdown_engine_content.specs.Place.{Place, ahead_at, code_at, moved}
+use Rattle.markdown_content.specs.Codes.{Code, is_line_ending}
+use Rattle.markdown_content.specs.Place.{Place, ahead_at, code_at, moved}
 use Rattle.markdown_event.specs.declared.event.Name.TheVariants as N
 use Rattle.markdown_engine.specs.Operations.{Op, Enter, Exit, done}
 use Rattle.markdown_engine.specs.PastTree.{moved_by}
@@ -30,8 +30,8 @@ abbrev pub past_name : Place → Place
 past_name p = moved_by (span is_name_code (ahead_at p)).0 p
 
 -- this code is at the first place, and the second is past it
-abbrev pub Passes : ℕ → Place → Place → Type 0
-Passes n p q = (code_at p ≡ Some n) × (q ≡ moved p)
+abbrev pub PassesCode : ℕ → Place → Place → Type 0
+PassesCode n p q = (code_at p ≡ Some n) × (q ≡ moved p)
 
 -- a name is at the first place, and the second is past it
 abbrev pub PassesName : Place → Place → Type 0
@@ -40,7 +40,7 @@ PassesName p q = (begins_name (code_at p) ≡ true) × (q ≡ past_name p)
 -- What is read from place to place.
 
 -- From the first place one reading gives codes of the line, up to the second, and then what the other reading gives there.
-pub record Leads (a b : Reading (List Code)) (p q : Place) : Type 0 where
+pub record LeadsOver (a b : Reading (List Code)) (p q : Place) : Type 0 where
   pub text : List Code
   pub codes : ahead_at p ≡ text ++ ahead_at q
   pub place : q ≡ moved_by text p
@@ -49,12 +49,12 @@ pub record Leads (a b : Reading (List Code)) (p q : Place) : Type 0 where
 
 -- an attribute is between the places
 pub record PassesAttribute (p q : Place) : Type 0 where
-  pub leads : Leads tag_rest tag_rest p q
+  pub leads : LeadsOver tag_rest tag_rest p q
   pub less : length (ahead_at q) < length (ahead_at p)
 
 -- attributes are between the places, or none
 pub record PassesAttributes (p q : Place) : Type 0 where
-  pub leads : Leads tag_rest tag_rest p q
+  pub leads : LeadsOver tag_rest tag_rest p q
   pub first : (q ≡ p) ⊎ (code_at p ≡ Some (byte " "))
 
 -- `/>` is at the first place, and the second is past it
@@ -67,7 +67,7 @@ nothing cs = Some ([], cs)
 
 -- the end of an opening tag is between the places; it begins with `>`, a space or `/>`
 pub record PassesEnd (p q : Place) : Type 0 where
-  pub leads : Leads tag_rest nothing p q
+  pub leads : LeadsOver tag_rest nothing p q
   pub first : (code_at p ≡ Some (byte ">")) ⊎ ((code_at p ≡ Some (byte " ")) ⊎ ((code_at p ≡ Some (byte "/")) × (code_at (moved p) ≡ Some (byte ">"))))
 
 -- a tag is between the places

@@ -2,9 +2,9 @@
 use Rattle.std.specs.Prelude.{◌≡◌, ℕ, ◌-◌, nat_lt, length, Bool, true, false, ◌||◌, ◌==◌, List, [], ◌∷◌, ◌++◌, Option, Some, None, codes, if◌then◌else◌, IsSome}
 use Rattle.std.specs.List.{list_all, list_any, slice_range}
 use Rattle.std.specs.Str.{byte, bytes_eq}
-use Rattle.markdown_engine_content.specs.Codes.{Code}
-use Rattle.markdown_engine_content.specs.Place.{Place, ahead_at, code_at, moved, point_of}
-use Rattle.markdown_engine_content.specs.Stretch.{past_stretch, stretch}
+use Rattle.markdown_content.specs.Codes.{Code}
+use Rattle.markdown_content.specs.Place.{Place, ahead_at, code_at, moved, point_of}
+use Rattle.markdown_content.specs.Stretch.{past_stretch, stretch}
 use Rattle.markdown_event.specs.declared.event.Name.TheVariants as N
 use Rattle.markdown_engine.specs.Operations.{Op, Enter, Exit, applied, done}
 use Rattle.markdown_engine.specs.declared.tokenizer.Tokenizer.{Tokenizer}
@@ -55,7 +55,7 @@ pub record AreInk (n : ℕ) (p : Place) : Type 0 where
   pub high : list_all (nat_lt 32) (codes_before n p) ≡ true
 
 -- at p a reference of this kind stands, and q is before its `;`
-pub record Stands (marker : ℕ) (p q : Place) : Type 0 where
+pub record ReferenceStands (marker : ℕ) (p q : Place) : Type 0 where
   pub front : code_at p ≡ Some (byte "&")
   pub past : q ≡ past_inner (moved p)
   pub kind : kind_of (values_of (inner_codes (moved p))) ≡ Some marker

@@ -2,15 +2,15 @@
 -- 6.3 and 6.4, and footnote calls). A tokenizer past a row is a function of the row.
 use Rattle.std.specs.Prelude.{◌≡◌, ◌≢◌, ◌⊎◌, Bool, true, false, ◌||◌, if◌then◌else◌, List, [], ◌∷◌, ◌++◌, map, Some, None}
 use Rattle.std.specs.List.{list_any}
-use Rattle.markdown_engine_content.specs.Codes.{Code, is_line_ending}
-use Rattle.markdown_engine_content.specs.ListFunctions.{rest_of}
+use Rattle.markdown_content.specs.Codes.{Code, is_line_ending}
+use Rattle.markdown_content.specs.ListFunctions.{rest_of}
 use Rattle.markdown_engine.specs.Operations.{is_registered, scratched}
 use Rattle.markdown_engine.specs.PastTree.{past}
-use Rattle.markdown_engine_content.specs.Tree.{Forest, empty, leaf, ◌⊕◌, leaf_codes, event_count}
+use Rattle.markdown_content.specs.Tree.{Forest, empty, leaf, ◌⊕◌, leaf_codes, event_count}
 use Rattle.markdown_event.specs.declared.event.Name.TheVariants as N
-use Rattle.markdown_state.specs.declared.resolve.ResolveName.{ResolveName}
-use Rattle.markdown_state.specs.declared.resolve.ResolveName.TheVariants as R
-use Rattle.markdown_engine_content.specs.declared.label_kind.LabelKind.{LabelKind}
+use Rattle.markdown_event.specs.declared.resolve.ResolveName.{ResolveName}
+use Rattle.markdown_event.specs.declared.resolve.ResolveName.TheVariants as R
+use Rattle.markdown_content.specs.declared.label_kind.LabelKind.{LabelKind}
 use Rattle.markdown_engine.specs.declared.tokenizer.LabelStart as Kept
 use Rattle.markdown_engine.specs.declared.tokenizer.TokenizeState.{TokenizeState}
 use Rattle.markdown_engine.specs.declared.tokenizer.Tokenizer.{Tokenizer}
@@ -20,8 +20,8 @@ use Rattle.markdown_label.specs.LabelEnd.{end_made, lost_by}
 use Rattle.markdown_label.specs.LabelStarts.{kept_start}
 use Rattle.markdown_model.specs.LabelEnd.{Element, plain, starts, ends, link_kind}
 use Rattle.markdown_model.specs.Passes.{start_tree}
-use Rattle.markdown_label.specs.AfterLabel.{IsSound}
-use Rattle.markdown_run_text.specs.RowTreeNames.{IsPart, IsRunless}
+use Rattle.markdown_label.specs.AfterLabel.{IsSoundTail}
+use Rattle.markdown_run_text.specs.RowTreeNames.{IsRowPart, IsRunless}
 
 -- a start with its codes; an end that makes a label of this kind, with its `]` and what follows; or an end that makes none, whose `]` belongs
 -- to the tree behind it
@@ -88,8 +88,8 @@ IsFront LabelKind.GfmFootnote cs = (c : Code) × ((d : Code) × (cs ≡ c ∷ d 
 IsFront LabelKind.GfmUndefinedFootnote cs = ⊥
 
 -- no line ending is among them
-abbrev pub IsStart : LabelKind → List Code → Type 0
-IsStart kind cs = IsFront kind cs × (list_any is_line_ending cs ≡ false)
+abbrev pub IsStartMarker : LabelKind → List Code → Type 0
+IsStartMarker kind cs = IsFront kind cs × (list_any is_line_ending cs ≡ false)
 
 -- the kinds of the starts that still wait for an end, the last one first
 abbrev pub kinds_of : Tokenizer → List LabelKind
@@ -112,11 +112,11 @@ pub record IsMade (ks : List LabelKind) (back : List Code) (kind : LabelKind) (t
   pub kinds : (kind ≡ start) ⊎ (kind ≡ link_kind start)
   pub code : Code
   pub one : back ≡ code ∷ []
-  pub sound : IsSound tail
+  pub sound : IsSoundTail tail
   pub runless : IsRunless tail
 
 abbrev pub IsMarkAt : List LabelKind → Mark → Type 0
-IsMarkAt ks (begins kind marker) = IsStart kind marker
+IsMarkAt ks (begins kind marker) = IsStartMarker kind marker
 IsMarkAt ks (makes back kind tail) = IsMade ks back kind tail
 IsMarkAt ks loses = Unit {0}
 
@@ -127,8 +127,8 @@ pub record EndsRest (s : TokenizeState) : Type 0 where
 
 -- a row that a run leaves where starts of these kinds wait
 abbrev pub IsRowAt : List LabelKind → Row → Type 0
-IsRowAt ks (row_end t) = IsPart t
-IsRowAt ks (row_then t mark rest) = IsPart t × (IsMarkAt ks mark × IsRowAt (kinds_past mark ks) rest)
+IsRowAt ks (row_end t) = IsRowPart t
+IsRowAt ks (row_then t mark rest) = IsRowPart t × (IsMarkAt ks mark × IsRowAt (kinds_past mark ks) rest)
 
 -- Rows and elements.
 

@@ -1,6 +1,6 @@
 -- How runs over the elements of a content go on, and how they end.
 use Rattle.std.specs.Prelude.{◌≡◌, ◌<◌, ℕ, Bool, false, List, ◌∷◌, ◌++◌, Option, None, Some}
-use Rattle.markdown_engine_content.specs.Codes.{Code}
+use Rattle.markdown_content.specs.Codes.{Code}
 use Rattle.markdown_engine.specs.Operations.{ahead}
 use Rattle.markdown_engine.specs.PastTree.{TreeReading, Reads}
 use Rattle.markdown_engine.specs.Weights.{codes_left}
@@ -36,7 +36,7 @@ pub record StandsAfter (earlier : List Element) (previous : Option Code) (T : To
 
 -- the elements of the codes from T up to U, after these elements and this code, and how they are read; the row is that of what is read, but for
 -- how data is cut
-pub record Elements (choice : Choice) (earlier : List Element) (previous : Option Code) (row : Row) (T U : Tokenizer) : Type 0 where
+pub record ReadsRow (choice : Choice) (earlier : List Element) (previous : Option Code) (row : Row) (T U : Tokenizer) : Type 0 where
   pub elements : List Element
   pub later : List Element
   pub last : Option Code
@@ -54,7 +54,7 @@ pub record Advances (choice : Choice) (T U : Tokenizer) : Type 0 where
   pub left : U ≡ past_row row T
   pub whole : ahead T ≡ row_codes row ++ ahead U
   pub less : codes_left U < codes_left T
-  pub elements : (earlier : List Element) (previous : Option Code) → StandsAfter earlier previous T → Elements choice earlier previous row T U
+  pub elements : (earlier : List Element) (previous : Option Code) → StandsAfter earlier previous T → ReadsRow choice earlier previous row T U
 
 -- all elements of these codes, after these elements and this code, and how they are read; the row is that of what is read, but for how data is cut
 pub record AllElements (bytes : List ℕ) (choice : Choice) (earlier : List Element) (previous : Option Code) (row : Row) (cs : List Code) : Type 0 where

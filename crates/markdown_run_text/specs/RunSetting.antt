@@ -1,6 +1,6 @@
 -- What a run is given, as the definitions see it.
 use Rattle.std.specs.Prelude.{Bool}
-use Rattle.markdown_engine_content.specs.declared.parser.ParseState.{ParseState}
+use Rattle.markdown_content.specs.declared.parser.ParseState.{ParseState}
 use Rattle.markdown_model.specs.Setting.{Setting}
 pub use Rattle.markdown_label_names.specs.LabelSetting.{setting_of}
 

@@ -3,12 +3,12 @@ use Rattle.std.specs.Prelude.{◌≡◌, ◌≢◌, ℕ, Bool, true, false, List
 use Rattle.markdown_engine.specs.Operations.{attempted, scratched, registered, current_of, ahead}
 use Rattle.markdown_engine.specs.StateRuns.{Stepped, stepped}
 use Rattle.markdown_engine.specs.StateWords.{StateWords}
-use Rattle.markdown_engine_content.specs.declared.configuration.Constructs.{Constructs}
-use Rattle.markdown_state.specs.declared.resolve.ResolveName.TheVariants as R
-use Rattle.markdown_state.specs.declared.state.State.TheVariants.{Next, Retry, Ok, Nok}
-use Rattle.markdown_state.specs.declared.state.StateName.{StateName}
-use Rattle.markdown_state.specs.declared.state.StateName.TheVariants as H
-use Rattle.markdown_state.specs.declared.state.StateName.TheVariants.{CharacterEscapeStart, CharacterReferenceStart, DataStart, StringBefore, StringBeforeData}
+use Rattle.markdown_content.specs.declared.configuration.Constructs.{Constructs}
+use Rattle.markdown_event.specs.declared.resolve.ResolveName.TheVariants as R
+use Rattle.markdown_event.specs.declared.state.State.TheVariants.{Next, Retry, Ok, Nok}
+use Rattle.markdown_event.specs.declared.state.StateName.{StateName}
+use Rattle.markdown_event.specs.declared.state.StateName.TheVariants as H
+use Rattle.markdown_event.specs.declared.state.StateName.TheVariants.{CharacterEscapeStart, CharacterReferenceStart, DataStart, StringBefore, StringBeforeData}
 use Rattle.markdown_engine.specs.declared.tokenizer.Tokenizer.{Tokenizer}
 use Rattle.markdown_leaf.specs.CharacterEscape.{escape_here}
 use Rattle.markdown_leaf.specs.CharacterReference.{IsAtRest, reference_here}
@@ -16,10 +16,10 @@ use Rattle.markdown_model.specs.Elements.{Choice, string_choice}
 use Rattle.markdown_run_text.specs.RunOverElements.{Finishes}
 use Rattle.markdown_run_text.specs.Row.{EndsRest}
 use Rattle.markdown_run_text.specs.RunSetting.{setting_of}
-use Rattle.markdown_run_text.specs.TryTable.{Table, codes_in, said_at}
+use Rattle.markdown_run_text.specs.TryTable.{TriesTable, codes_in, said_at}
 
 -- what is tried at which codes
-abbrev pub string_tries : Table StateName
+abbrev pub string_tries : TriesTable StateName
 string_tries = (codes "&", CharacterReferenceStart) ∷ (codes "\\", CharacterEscapeStart) ∷ []
 
 -- the codes at which data stops: those at which something is tried
@@ -55,19 +55,19 @@ before_data_step T = stepped (Retry DataStart) (attempted false (Next StringBefo
 -- When they may be called.
 
 -- the fields in which a reference counts are at rest, and those in which an end of a label does
-pub record StartReady (T : Tokenizer) : Type 0 where
+pub record StringStartReady (T : Tokenizer) : Type 0 where
   pub rest : IsAtRest T
   pub ends : EndsRest T.tokenize_state
 
 -- besides, data stops at the markers of a string
-pub record BeforeReady (T : Tokenizer) : Type 0 where
+pub record StringBeforeReady (T : Tokenizer) : Type 0 where
   pub marked : T.tokenize_state.markers ≡ string_markers
   pub rest : IsAtRest T
   pub ends : EndsRest T.tokenize_state
 
 -- a code stands at the place, and neither an escape nor a reference
 pub record BeforeDataReady (T : Tokenizer) : Type 0 where
-  pub before : BeforeReady T
+  pub before : StringBeforeReady T
   pub some_code : current_of T ≢ None
   pub no_escape : escape_here T (ahead T) ≡ None
   pub no_reference : reference_here T (ahead T) ≡ None
@@ -94,10 +94,10 @@ start_ends T ok U = before_ends (string_marked T) ok U
 -- The states.
 
 abbrev pub start_words : StateWords
-start_words = record { ready = StartReady; step = start_step; ends = start_ends; rank = λ T. 7 }
+start_words = record { ready = StringStartReady; step = start_step; ends = start_ends; rank = λ T. 7 }
 
 abbrev pub before_words : StateWords
-before_words = record { ready = BeforeReady; step = before_step; ends = before_ends; rank = λ T. 6 }
+before_words = record { ready = StringBeforeReady; step = before_step; ends = before_ends; rank = λ T. 6 }
 
 abbrev pub before_data_words : StateWords
 before_data_words = record { ready = BeforeDataReady; step = before_data_step; ends = before_ends; rank = λ T. 5 }

@@ -1,28 +1,28 @@
 -- What the states of a text do, and how runs from them end.
 use Rattle.std.specs.Prelude.{◌≡◌, ◌≢◌, ℕ, Bool, true, false, nat_le, ◌==◌, ◌&&◌, ◌||◌, not, if◌then◌else◌, List, [], ◌∷◌, ◌++◌, Option, Some, None, length, map, filter, codes, string_bytes, String}
 use Rattle.std.specs.Str.{byte}
-use Rattle.markdown_engine_content.specs.Codes.{Code, count_among, stop_of, document_start}
-use Rattle.markdown_engine_names.specs.NameIndex.{names_in_order}
+use Rattle.markdown_content.specs.Codes.{Code, count_among, stop_of, document_start}
+use Rattle.markdown_notes.specs.NameIndex.{names_in_order}
 use Rattle.markdown_engine.specs.Operations.{attempted, scratched, registered, current_of, ahead}
-use Rattle.markdown_engine_content.specs.Place.{Place, point_of}
+use Rattle.markdown_content.specs.Place.{Place, point_of}
 use Rattle.std.specs.List.{list_any}
-use Rattle.markdown_engine_names.specs.BracketIndex.{BracketPlaces, brackets_between}
-use Rattle.markdown_engine_index.specs.RunIndex.{last_runs}
+use Rattle.markdown_notes.specs.BracketIndex.{BracketPlaces, brackets_between}
+use Rattle.markdown_notes.specs.RunIndex.{last_runs}
 use Rattle.markdown_engine.specs.PastTree.{TreeReading}
 use Rattle.markdown_engine.specs.StateRuns.{Stepped, stepped}
 use Rattle.markdown_engine.specs.StateWords.{StateWords}
-use Rattle.markdown_engine_index.specs.SequenceIndex.{last_begins, holds}
-use Rattle.markdown_engine_index.specs.TitleIndex.{closers_of}
-use Rattle.markdown_engine_names.specs.declared.name_index.Names.{Names}
-use Rattle.markdown_engine_content.specs.declared.parser.ParseState.{ParseState}
-use Rattle.markdown_state.specs.declared.resolve.ResolveName.TheVariants as R
-use Rattle.markdown_engine_index.specs.declared.sequence_index.Sequence.TheVariants.{ResourceEnd, WwwDot}
-use Rattle.markdown_state.specs.declared.state.State.TheVariants.{Next, Retry, Ok, Nok}
-use Rattle.markdown_state.specs.declared.state.StateName.{StateName}
-use Rattle.markdown_state.specs.declared.state.StateName.TheVariants as H
-use Rattle.markdown_state.specs.declared.state.StateName.TheVariants.{AttentionStart, AutolinkStart, CharacterEscapeStart, CharacterReferenceStart, DataStart, GfmAutolinkLiteralProtocolStart, GfmAutolinkLiteralWwwStart, GfmLabelStartFootnoteStart, GfmTaskListItemCheckStart}
-use Rattle.markdown_state.specs.declared.state.StateName.TheVariants.{HardBreakEscapeStart, HtmlTextStart, LabelEndStart, LabelStartImageStart, LabelStartLinkStart, RawTextStart, TextBefore, TextBeforeData, TextBeforeHardBreakEscape, TextBeforeHtml, TextBeforeLabelStartLink}
-use Rattle.markdown_engine_index.specs.declared.title_index.Closer.{Closer}
+use Rattle.markdown_notes.specs.SequenceIndex.{last_begins, holds}
+use Rattle.markdown_notes.specs.TitleIndex.{closers_of}
+use Rattle.markdown_notes.specs.declared.name_index.Names.{Names}
+use Rattle.markdown_content.specs.declared.parser.ParseState.{ParseState}
+use Rattle.markdown_event.specs.declared.resolve.ResolveName.TheVariants as R
+use Rattle.markdown_notes.specs.declared.sequence_index.Sequence.TheVariants.{ResourceEnd, WwwDot}
+use Rattle.markdown_event.specs.declared.state.State.TheVariants.{Next, Retry, Ok, Nok}
+use Rattle.markdown_event.specs.declared.state.StateName.{StateName}
+use Rattle.markdown_event.specs.declared.state.StateName.TheVariants as H
+use Rattle.markdown_event.specs.declared.state.StateName.TheVariants.{AttentionStart, AutolinkStart, CharacterEscapeStart, CharacterReferenceStart, DataStart, GfmAutolinkLiteralProtocolStart, GfmAutolinkLiteralWwwStart, GfmLabelStartFootnoteStart, GfmTaskListItemCheckStart}
+use Rattle.markdown_event.specs.declared.state.StateName.TheVariants.{HardBreakEscapeStart, HtmlTextStart, LabelEndStart, LabelStartImageStart, LabelStartLinkStart, RawTextStart, TextBefore, TextBeforeData, TextBeforeHardBreakEscape, TextBeforeHtml, TextBeforeLabelStartLink}
+use Rattle.markdown_notes.specs.declared.title_index.Closer.{Closer}
 use Rattle.markdown_engine.specs.declared.tokenizer.TokenizeState.{TokenizeState}
 use Rattle.markdown_engine.specs.declared.tokenizer.Tokenizer.{Tokenizer}
 use Rattle.markdown_leaf_gfm.specs.GfmAutolinkLiteral as GfmAutolinkLiteral
@@ -44,10 +44,10 @@ use Rattle.markdown_model.specs.Setting.{Setting}
 use Rattle.markdown_partial.specs.PartialData.{stops_of}
 use Rattle.markdown_run_text.specs.RunOverElements.{AreSingle, DataFinishes, Finishes, StandsAfter}
 use Rattle.markdown_run_text.specs.RunSetting.{text_setting_of}
-use Rattle.markdown_run_text.specs.TryTable.{Table, codes_in, said_at}
+use Rattle.markdown_run_text.specs.TryTable.{TriesTable, codes_in, said_at}
 
 -- what alone is tried at its codes, and reads one tree: the start of it
-abbrev pub sole_tries : Table StateName
+abbrev pub sole_tries : TriesTable StateName
 sole_tries =
     (first_letters schemes, GfmAutolinkLiteralProtocolStart)
     ∷ (first_letters (www ∷ []), GfmAutolinkLiteralWwwStart)
@@ -56,7 +56,7 @@ sole_tries =
     ∷ []
 
 -- what is tried at other codes: the start of what is tried first, and the state to go on with where that does not hold
-abbrev pub other_tries : Table (StateName × StateName)
+abbrev pub other_tries : TriesTable (StateName × StateName)
 other_tries =
     (codes "!", (LabelStartImageStart, TextBeforeData))
     ∷ (codes "*_~", (AttentionStart, TextBeforeData))
@@ -67,10 +67,10 @@ other_tries =
     ∷ []
 
 -- where what alone is tried does not hold, data is read
-abbrev pub or_data : Table StateName → Table (StateName × StateName)
+abbrev pub or_data : TriesTable StateName → TriesTable (StateName × StateName)
 or_data rows = map (λ (row : List ℕ × StateName). (row.0, (row.1, TextBeforeData))) rows
 
-abbrev pub text_tries : Table (StateName × StateName)
+abbrev pub text_tries : TriesTable (StateName × StateName)
 text_tries = or_data sole_tries ++ other_tries
 
 -- the codes at which something is tried
@@ -238,11 +238,11 @@ EndsWithCodes p = p.codes ≢ [] → p.end.index ≡ (stop_of document_start p.c
 
 -- At the start the fields are at rest in which spans, references, autolinks and whitespace behind a check count, with those of literals and of
 -- ends of labels. The starts that are kept end between characters, and the content ends with its last code.
-pub record StartReady (T : Tokenizer) : Type 0 where
-  pub spans : RawText.StartReady T
+pub record TextStartReady (T : Tokenizer) : Type 0 where
+  pub spans : RawText.RawTextStartReady T
   pub look : GfmTaskListItemCheck.MayLook T
-  pub literals : GfmAutolinkLiteral.StartReady T
-  pub ends : LabelEnd.StartReady T
+  pub literals : GfmAutolinkLiteral.LiteralStartReady T
+  pub ends : LabelEnd.LabelEndStartReady T
   pub last : EndsWithCodes T.cursor
 
 -- each code of the content where data does not stop is an element by itself
@@ -250,17 +250,17 @@ abbrev pub StopsAtElements : Tokenizer → Type 0
 StopsAtElements T = AreSingle (text_choice_of T) (stops_of T.tokenize_state) T.cursor.codes
 
 -- besides, data stops where another element may begin
-pub record IsMarked (T : Tokenizer) : Type 0 where
+pub record IsReadyWithMarkers (T : Tokenizer) : Type 0 where
   pub stops : StopsAtElements T
-  pub spans : RawText.StartReady T
+  pub spans : RawText.RawTextStartReady T
   pub look : GfmTaskListItemCheck.MayLook T
-  pub literals : GfmAutolinkLiteral.StartReady T
-  pub ends : LabelEnd.StartReady T
+  pub literals : GfmAutolinkLiteral.LiteralStartReady T
+  pub ends : LabelEnd.LabelEndStartReady T
   pub last : EndsWithCodes T.cursor
 
 -- and no check of a list item stands here
-pub record BeforeReady (T : Tokenizer) : Type 0 where
-  pub marked : IsMarked T
+pub record TextBeforeReady (T : Tokenizer) : Type 0 where
+  pub marked : IsReadyWithMarkers T
   pub unchecked : GfmTaskListItemCheck.check_here T (ahead T) ≡ None
 
 -- the code at hand is an element by itself
@@ -270,25 +270,25 @@ StandsAlone T =
     → text_choice_of T earlier previous (c ∷ cs) ≡ Some (plain (code_leaf c), cs)
 
 -- there is a code at hand
-pub record BeforeDataReady (T : Tokenizer) : Type 0 where
-  pub marked : IsMarked T
+pub record TextDataReady (T : Tokenizer) : Type 0 where
+  pub marked : IsReadyWithMarkers T
   pub some_code : current_of T ≢ None
 
 -- a `<` is at hand that begins no autolink
 pub record BeforeHtmlReady (T : Tokenizer) : Type 0 where
-  pub before : BeforeReady T
+  pub before : TextBeforeReady T
   pub angle : current_of T ≡ Some (byte "<")
   pub no_autolink : link_here T (ahead T) ≡ None
 
 -- a backslash is at hand that escapes nothing
 pub record BeforeBreakReady (T : Tokenizer) : Type 0 where
-  pub before : BeforeReady T
+  pub before : TextBeforeReady T
   pub slash : current_of T ≡ Some (byte "\\")
   pub no_escape : escape_here T (ahead T) ≡ None
 
 -- a `[` is at hand that begins no footnote call
 pub record BeforeLinkReady (T : Tokenizer) : Type 0 where
-  pub before : BeforeReady T
+  pub before : TextBeforeReady T
   pub bracket : current_of T ≡ Some (byte "[")
   pub no_footnote : footnote_test T (ahead T) ≡ false
 
@@ -311,10 +311,10 @@ start_ends T ok U = before_ends (text_marked T) ok U
 -- The states.
 
 abbrev pub start_words : StateWords
-start_words = record { ready = StartReady; step = start_step; ends = start_ends; rank = λ T. 9 }
+start_words = record { ready = TextStartReady; step = start_step; ends = start_ends; rank = λ T. 9 }
 
 abbrev pub before_words : StateWords
-before_words = record { ready = BeforeReady; step = before_step; ends = before_ends; rank = λ T. 8 }
+before_words = record { ready = TextBeforeReady; step = before_step; ends = before_ends; rank = λ T. 8 }
 
 abbrev pub before_html_words : StateWords
 before_html_words = record { ready = BeforeHtmlReady; step = before_html_step; ends = before_ends; rank = λ T. 6 }
@@ -326,7 +326,7 @@ abbrev pub before_label_start_link_words : StateWords
 before_label_start_link_words = record { ready = BeforeLinkReady; step = before_label_start_link_step; ends = before_ends; rank = λ T. 6 }
 
 abbrev pub before_data_words : StateWords
-before_data_words = record { ready = BeforeDataReady; step = before_data_step; ends = data_ends; rank = λ T. 5 }
+before_data_words = record { ready = TextDataReady; step = before_data_step; ends = data_ends; rank = λ T. 5 }
 
 -- a part of what is said of these states, and of any other as it is given
 abbrev pub said {ℓ} : {A : Type ℓ} → (StateWords → A) → (StateName → A) → StateName → A

@@ -1,8 +1,8 @@
 -- Where data of a text stops.
 use Rattle.std.specs.Prelude.{Bool, ◌&&◌, ◌||◌, not, List, is_none}
 use Rattle.std.specs.Str.{byte}
-use Rattle.markdown_engine_content.specs.Codes.{Code}
-use Rattle.markdown_engine_content.specs.ListFunctions.{rest_of}
+use Rattle.markdown_content.specs.Codes.{Code}
+use Rattle.markdown_content.specs.ListFunctions.{rest_of}
 use Rattle.markdown_model.specs.CodeTests.{is_among, is_value, is_alphanumeric, is_some_code, next_is}
 use Rattle.markdown_model.specs.Elements.{code_before}
 use Rattle.markdown_model.specs.GfmAutolinkLiteral.{literal_words, one_word_of}

@@ -19,16 +19,17 @@
 #![tactic(auto, using(markdown_engine::proofs::OperationFields::op_rules))]
 
 ghost use Rattle.std.specs.Prelude.{◌≡◌, IfOk, OnErr, IsTrue, None, false};
+ghost use Rattle.markdown_model.specs.Passes.{no_breaks};
 ghost use Rattle.markdown_run_text.specs.ContentPasses.{MayTrim, TrimsData};
 ghost use Rattle.markdown_run_text.specs.StringContent.{string_markers, start_step, before_step, before_data_step};
 
+use markdown_content::byte_table;
+use markdown_content::bytes::{ByteSet, ByteTable};
 use markdown_engine::tokenizer::Tokenizer;
-use markdown_engine_content::byte_table;
-use markdown_engine_content::bytes::{ByteSet, ByteTable};
 use markdown_engine_events::subtokenize::Subresult;
-use markdown_partial::partial_whitespace;
-use markdown_state::resolve::ResolveName;
-use markdown_state::state::{State, StateName};
+use markdown_event::resolve::ResolveName;
+use markdown_event::state::{State, StateName};
+use markdown_passes::partial_whitespace;
 use std::alloc::AllocError;
 
 const MARKERS: ByteTable = byte_table!(b'&', b'\\');
@@ -96,7 +97,7 @@ pub fn before_data(tokenizer: &mut Tokenizer) -> Result<State, AllocError>
 pub fn resolve(tokenizer: &mut Tokenizer) -> Result<Option<Subresult>, AllocError>
     requires { MayTrim tokenizer.old }
     ensures none { IfOk result (λ r. r ≡ None) }
-    ensures ok { IfOk result (λ _. TrimsData false false false tokenizer.old tokenizer.new) }
+    ensures ok { IfOk result (λ _. TrimsData no_breaks false false tokenizer.old tokenizer.new) }
     ensures err { OnErr result (IsTrue tokenizer.new.failed) }
 {
     partial_whitespace::resolve_whitespace(tokenizer, false, false)?;

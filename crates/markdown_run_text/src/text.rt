@@ -19,26 +19,26 @@
 ghost use Rattle.std.specs.Prelude.{◌≡◌, nat_le, IfOk, OnOk, OnErr, IsTrue, None, Some, length, string_bytes, true};
 ghost use Rattle.std.specs.List.{list_any};
 ghost use Rattle.markdown_engine.specs.Operations.{scratched};
-ghost use Rattle.markdown_engine_index.specs.RunIndex.{last_runs};
-ghost use Rattle.markdown_engine_index.specs.SequenceIndex.{last_begins};
+ghost use Rattle.markdown_notes.specs.RunIndex.{last_runs};
+ghost use Rattle.markdown_notes.specs.SequenceIndex.{last_begins};
 ghost use Rattle.markdown_plan.specs.Characters.{ReadsText};
 ghost use Rattle.markdown_run_text.specs.TextContent.{ended_fields, indexed_fields, named_fields, names_for, names_change, names_in, names_pay, order_pays, brackets_in, brackets_pay, titles_for, titles_pay, domains_for};
 ghost use Rattle.markdown_run_text.specs.TextContent.{domains_pay, span_markers, data_markers, first_try, sole_try, attempt_step, start_step, before_step, before_html_step, before_hard_break_escape_step, before_label_start_link_step, before_data_step};
 
 use crate::tries::plain_tries;
+use markdown_content::byte_table;
+use markdown_content::bytes::{ByteSet, ByteTable};
+use markdown_content::cursor::Cursor;
 use markdown_engine::tokenizer::Tokenizer;
-use markdown_engine_content::byte_table;
-use markdown_engine_content::bytes::{ByteSet, ByteTable};
-use markdown_engine_content::cursor::Cursor;
-use markdown_engine_index::run_index::RunIndex;
-use markdown_engine_index::sequence_index::{Sequence, SequenceIndex};
-use markdown_engine_index::title_index::TitleIndex;
-use markdown_engine_names::bracket_index::BracketIndex;
-use markdown_engine_names::name_index::Names;
+use markdown_event::resolve::ResolveName;
+use markdown_event::state::{State, StateName};
 use markdown_leaf_gfm::domain_outlook;
+use markdown_notes::bracket_index::BracketIndex;
+use markdown_notes::name_index::Names;
+use markdown_notes::run_index::RunIndex;
+use markdown_notes::sequence_index::{Sequence, SequenceIndex};
+use markdown_notes::title_index::TitleIndex;
 use markdown_partial::literal_letters;
-use markdown_state::resolve::ResolveName;
-use markdown_state::state::{State, StateName};
 use std::alloc::AllocError;
 
 // Where so many names are defined, and so many labels may end, an order of the names pays. Where so many titles may begin, it pays to note
@@ -150,7 +150,8 @@ fn attempt(
 #[tactic(auto, unfolding(markdown_engine::specs::Operations::scratched))]
 fn index_runs(tokenizer: &mut Tokenizer) -> Result<(), AllocError>
     requires { tokenizer.old.tokenize_state.sequences ≡ Some (last_begins tokenizer.old.cursor.codes) }
-    ensures ok { OnOk result (tokenizer.new ≡ scratched (record tokenizer.old.tokenize_state { runs = last_runs span_markers tokenizer.old.cursor.codes }) tokenizer.old) }
+    ensures ok { OnOk result (tokenizer.new
+        ≡ scratched (record tokenizer.old.tokenize_state { runs = last_runs span_markers tokenizer.old.cursor.codes }) tokenizer.old) }
     ensures err { OnErr result (IsTrue tokenizer.new.failed) }
 {
     let marks = ByteSet::new(&SPAN_MARKERS);
@@ -255,7 +256,8 @@ fn names_change(tokenizer: &Tokenizer) -> bool
 #[tactic(auto, unfolding(markdown_engine::specs::Operations::scratched))]
 fn learn_names(tokenizer: &mut Tokenizer) -> Result<(), AllocError>
     requires { names_change tokenizer.old.tokenize_state.names tokenizer.old.cursor.codes tokenizer.old.parse_state.now ≡ true }
-    ensures ok { OnOk result (tokenizer.new ≡ scratched (named_fields tokenizer.old.cursor tokenizer.old.parse_state.now tokenizer.old.tokenize_state) tokenizer.old) }
+    ensures ok { OnOk result (tokenizer.new
+        ≡ scratched (named_fields tokenizer.old.cursor tokenizer.old.parse_state.now tokenizer.old.tokenize_state) tokenizer.old) }
     ensures err { OnErr result (IsTrue tokenizer.new.failed) }
 {
     let lent = tokenizer.tokenize_state.names.take();
@@ -274,7 +276,8 @@ fn learn_names(tokenizer: &mut Tokenizer) -> Result<(), AllocError>
 #[inline(always)]
 #[tactic(auto, unfolding(markdown_engine::specs::Operations::scratched))]
 pub fn index_names(tokenizer: &mut Tokenizer) -> Result<(), AllocError>
-    ensures ok { OnOk result (tokenizer.new ≡ scratched (named_fields tokenizer.old.cursor tokenizer.old.parse_state.now tokenizer.old.tokenize_state) tokenizer.old) }
+    ensures ok { OnOk result (tokenizer.new
+        ≡ scratched (named_fields tokenizer.old.cursor tokenizer.old.parse_state.now tokenizer.old.tokenize_state) tokenizer.old) }
     ensures err { OnErr result (IsTrue tokenizer.new.failed) }
 {
     if !names_change(tokenizer) {
@@ -300,7 +303,8 @@ fn titles_pay(tokenizer: &Tokenizer) -> bool
 #[tactic(auto, unfolding(markdown_engine::specs::Operations::scratched))]
 fn index_titles(tokenizer: &mut Tokenizer) -> Result<(), AllocError>
     requires { tokenizer.old.tokenize_state.sequences ≡ Some (last_begins tokenizer.old.cursor.codes) }
-    ensures ok { OnOk result (tokenizer.new ≡ scratched (record tokenizer.old.tokenize_state { titles = titles_for tokenizer.old.cursor.codes }) tokenizer.old) }
+    ensures ok { OnOk result (tokenizer.new
+        ≡ scratched (record tokenizer.old.tokenize_state { titles = titles_for tokenizer.old.cursor.codes }) tokenizer.old) }
     ensures err { OnErr result (IsTrue tokenizer.new.failed) }
 {
     if !titles_pay(tokenizer) {
@@ -334,7 +338,11 @@ fn domains_pay(tokenizer: &Tokenizer) -> bool
 fn index_domains(tokenizer: &mut Tokenizer) -> Result<(), AllocError>
     requires text { ReadsText tokenizer.old }
     requires sequences { tokenizer.old.tokenize_state.sequences ≡ Some (last_begins tokenizer.old.cursor.codes) }
-    ensures ok { OnOk result (tokenizer.new ≡ scratched (record tokenizer.old.tokenize_state { no_domains = domains_for tokenizer.old.cursor.codes tokenizer.old.cursor.end.index tokenizer.old.parse_state.now }) tokenizer.old) }
+    ensures ok { OnOk result (tokenizer.new
+        ≡ scratched (record tokenizer.old.tokenize_state {
+          no_domains = domains_for tokenizer.old.cursor.codes
+              tokenizer.old.cursor.end.index tokenizer.old.parse_state.now;
+        }) tokenizer.old) }
     ensures err { OnErr result (IsTrue tokenizer.new.failed) }
 {
     if !domains_pay(tokenizer) {
@@ -372,7 +380,8 @@ fn index_ends(tokenizer: &mut Tokenizer) -> Result<(), AllocError>
 #[tactic(auto, unfolding(markdown_engine::specs::Operations::scratched))]
 pub fn index(tokenizer: &mut Tokenizer) -> Result<(), AllocError>
     requires { ReadsText tokenizer.old }
-    ensures ok { OnOk result (tokenizer.new ≡ scratched (indexed_fields tokenizer.old.cursor tokenizer.old.parse_state.now tokenizer.old.tokenize_state) tokenizer.old) }
+    ensures ok { OnOk result (tokenizer.new
+        ≡ scratched (indexed_fields tokenizer.old.cursor tokenizer.old.parse_state.now tokenizer.old.tokenize_state) tokenizer.old) }
     ensures err { OnErr result (IsTrue tokenizer.new.failed) }
 {
     index_ends(tokenizer)?;

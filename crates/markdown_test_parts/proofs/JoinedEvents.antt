@@ -3,7 +3,7 @@ use Rattle.std.proofs.Common.{◌≡◌, ℕ, ◌+◌, ◌-◌, ◌^◌, ◌<◌
 use Rattle.std.specs.Prelude.{OnOk, Result, Ok, Err}
 use Rattle.std.specs.Str.{IsAscii}
 use Rattle.std.proofs.lemmas.Str.{IsCharBoundary-from_ascii}
-use Rattle.markdown_engine_content.specs.Tree.{event}
+use Rattle.markdown_content.specs.Tree.{event}
 use Rattle.markdown_event.specs.declared.event.Event.{Event}
 use Rattle.markdown_event.specs.declared.event.Kind.TheVariants as Kind
 use Rattle.markdown_event.specs.declared.event.Name.{Name}

@@ -1,1 +1,2 @@
 mod JoinedEvents
+mod EditedLists

@@ -1,4 +1,4 @@
-// What a program answers: a text that grows, and ends where memory is refused.
+//! What a program answers: a text that grows, and ends where memory is refused.
 use markdown_event::event::Name;
 use std::alloc::{AllocError, Global};
 use std::fmt::{Debug, Display};

@@ -1,17 +1,18 @@
-// Attempts that fail, and passes that are registered, by calls that are always the same.
-//
-//     fail | TEXT       a check in an attempt fails, and then the attempt: for each the state that follows, how many events are left, and the
-//                       event that the first is linked on to; then the codes at and before the place. The text has two codes or more
-//     register | TEXT   the passes in their order, where some are registered twice
+//! Attempts that fail, and passes that are registered, by calls that are always the same.
+//!
+//!     fail | TEXT       a check in an attempt fails, and then the attempt: for each the state that follows, how many events are left, and the
+//!                       event that the first is linked on to; then the codes at and before the place. The text has two codes or more
+//!     register | TEXT   the passes in their order, where some are registered twice
 ghost use Rattle.std.specs.Prelude.{◌≡◌, OnOk};
 ghost use Rattle.markdown_engine.specs.Operations.{LinkedBefore};
 
 use crate::answers::Answers;
 use markdown_engine::run::resume;
 use markdown_engine::tokenizer::{Attempt, Tokenizer};
-use markdown_event::event::{Content, Event, Link, Name};
-use markdown_state::resolve::ResolveName;
-use markdown_state::state::{State, StateName};
+use markdown_engine_events::event_list::EventSlice;
+use markdown_event::event::{Content, Link, Name};
+use markdown_event::resolve::ResolveName;
+use markdown_event::state::{State, StateName};
 use std::alloc::AllocError;
 
 // Appends what a call answers.
@@ -74,12 +75,12 @@ fn opened<'a>(tokenizer: &mut Tokenizer<'a>, nok: StateName) -> Result<Attempt<'
 }
 
 // The event that the first is linked on to.
-fn next_of(events: &[Event]) -> Option<usize> {
-    events.first()?.link?.next
+fn next_of(events: &EventSlice) -> Option<usize> {
+    events.iter().next()?.link?.next
 }
 
 // Appends a state, how many events there are, and where the first is linked on to.
-fn push_row(out: &mut Answers, state: State, events: &[Event]) {
+fn push_row(out: &mut Answers, state: State, events: &EventSlice) {
     out.show(state);
     out.show(events.len());
     out.show(next_of(events));
@@ -94,7 +95,7 @@ fn fail_inner(tokenizer: &mut Tokenizer, out: &mut Answers) -> Result<(), AllocE
     let inner = checked(tokenizer, StateName::DataInside)?;
     tokenizer.enter(Name::LineEnding)?;
     let after = resume(tokenizer, &inner, false);
-    push_row(out, after, tokenizer.events.as_slice());
+    push_row(out, after, &tokenizer.events.as_slice());
     Ok(())
 }
 
@@ -104,7 +105,7 @@ fn fail_both(tokenizer: &mut Tokenizer, out: &mut Answers) -> Result<(), AllocEr
     let outer = opened(tokenizer, StateName::DataStart)?;
     fail_inner(tokenizer, out)?;
     let after = resume(tokenizer, &outer, false);
-    push_row(out, after, tokenizer.events.as_slice());
+    push_row(out, after, &tokenizer.events.as_slice());
     out.show(tokenizer.current().map(char::from));
     out.show(tokenizer.previous().map(char::from));
     Ok(())

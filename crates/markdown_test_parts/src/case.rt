@@ -1,11 +1,11 @@
-// A case: what a line of the input says behind the word for its part.
-//
-//     CALL WORD.. | TEXT
-//
-// A number is written in base 10. A place is the index of a byte, or where codes of a tab there stand before it, as `1+2` for two of them.
-// A piece is two places with `-` between: `0-1+2`. A text has one part or more with ` | ` between. In a part `%09` stands for the byte with
-// this number in base 16, and `3*ab` for `ababab`. A case without ` | ` has the empty text.
-use markdown_engine_content::parser::Piece;
+//! A case: what a line of the input says behind the word for its part.
+//!
+//!     CALL WORD.. | TEXT
+//!
+//! A number is written in base 10. A place is the index of a byte, or where codes of a tab there stand before it, as `1+2` for two of them.
+//! A piece is two places with `-` between: `0-1+2`. A text has one part or more with ` | ` between. In a part `%09` stands for the byte with
+//! this number in base 16, and `3*ab` for `ababab`. A case without ` | ` has the empty text.
+use markdown_content::parser::Piece;
 use percent_encoding::percent_decode;
 use std::alloc::{AllocError, Global};
 

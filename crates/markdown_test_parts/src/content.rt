@@ -1,20 +1,20 @@
-// Pieces, walks over a document, and what is lent of it.
-//
-//     is_content PIECE.. | DOCUMENT   whether the pieces are a content
-//     is_text PIECE.. | DOCUMENT      whether they are a text
-//     walk FROM TO | DOCUMENT         the places of both indices, the place past the code at the first, and the code there
-//     lend PIECE | DOCUMENT           the columns of a tab before the bytes that are lent, the bytes, and the columns of a tab behind them
-//     lend_between FROM TO | TEXT     the same for the bytes from an index to an index, and the text that they are
-//
-// A place is printed as its line, column, index and codes of the tab there.
+//! Pieces, walks over a document, and what is lent of it.
+//!
+//!     is_content PIECE.. | DOCUMENT   whether the pieces are a content
+//!     is_text PIECE.. | DOCUMENT      whether they are a text
+//!     walk FROM TO | DOCUMENT         the places of both indices, the place past the code at the first, and the code there
+//!     lend PIECE | DOCUMENT           the columns of a tab before the bytes that are lent, the bytes, and the columns of a tab behind them
+//!     lend_between FROM TO | TEXT     the same for the bytes from an index to an index, and the text that they are
+//!
+//! A place is printed as its line, column, index and codes of the tab there.
 ghost use Rattle.std.specs.Prelude.{◌≡◌};
 
 use crate::answers::Answers;
 use crate::case::Case;
-use markdown_engine_content::parser::Piece;
-use markdown_engine_content::util::slice::{Position, Slice};
-use markdown_engine_content::walk::{code_from, move_to, past_code, walk_to};
-use markdown_engine_pieces::content::{is_content, is_text};
+use markdown_content::content::{is_content, is_text};
+use markdown_content::parser::Piece;
+use markdown_content::util::slice::{Position, Slice};
+use markdown_content::walk::{code_from, move_to, past_code, walk_to};
 use markdown_event::event::Point;
 
 /// The place before all codes of a document.
@@ -47,7 +47,7 @@ pub(crate) fn push_place(out: &mut Answers, place: Point) {
 }
 
 // Walks to an index, and from there to a later one and past one code.
-#[tactic(auto, using(markdown_engine_content::proofs::DocumentPlaces::point_start))]
+#[tactic(auto, using(markdown_content::proofs::DocumentPlaces::point_start))]
 fn walk(bytes: &[u8], from: usize, to: usize, out: &mut Answers) {
     let first = [Piece {
         start: (0, 0),
@@ -81,7 +81,7 @@ fn push_slice(out: &mut Answers, slice: Slice) {
 }
 
 // Lends the codes of the only piece.
-#[tactic(auto, using(markdown_engine_content::proofs::DocumentPlaces::point_start))]
+#[tactic(auto, using(markdown_content::proofs::DocumentPlaces::point_start))]
 fn lend(bytes: &[u8], pieces: &[Piece], out: &mut Answers) {
     let [piece] = pieces else {
         return out.say(" no piece");

@@ -1,23 +1,23 @@
-// What a cursor reads.
-//
-//     read PIECE.. | DOCUMENT          a line for each code and for the end: the code, where it begins, the column and index where an event
-//                                      ends that ends before it, the code before it, and the code as a saved cursor has it
-//     stretch PIECE.. | DOCUMENT       the index where the content ends, and a line for each stretch without `-`: how many codes are passed,
-//                                      the column, the code before, and the code that the stretch stops at, which is passed then
-//     holds SET TIMES PIECE.. | DOCUMENT   whether so many codes of the content are in the set, `]` or else `abc`, asked behind the first code
-//     restart PIECE.. | DOCUMENT       how many codes are passed at the end, how many at the start again, and the code there
-//
-// A place is printed as its line, column, index and codes of the tab there.
+//! What a cursor reads.
+//!
+//!     read PIECE.. | DOCUMENT          a line for each code and for the end: the code, where it begins, the column and index where an event
+//!                                      ends that ends before it, the code before it, and the code as a saved cursor has it
+//!     stretch PIECE.. | DOCUMENT       the index where the content ends, and a line for each stretch without `-`: how many codes are passed,
+//!                                      the column, the code before, and the code that the stretch stops at, which is passed then
+//!     holds SET TIMES PIECE.. | DOCUMENT   whether so many codes of the content are in the set, `]` or else `abc`, asked behind the first code
+//!     restart PIECE.. | DOCUMENT       how many codes are passed at the end, how many at the start again, and the code there
+//!
+//! A place is printed as its line, column, index and codes of the tab there.
 ghost use Rattle.std.specs.Prelude.{◌≡◌, ◌≤◌, codes};
 
 use crate::answers::Answers;
 use crate::case::Case;
 use crate::content::push_place;
-use markdown_engine_content::byte_table;
-use markdown_engine_content::bytes::{ByteSet, ByteTable};
-use markdown_engine_content::cursor::Cursor;
-use markdown_engine_content::parser::Piece;
-use markdown_engine_pieces::content::is_content;
+use markdown_content::byte_table;
+use markdown_content::bytes::{ByteSet, ByteTable};
+use markdown_content::content::is_content;
+use markdown_content::cursor::Cursor;
+use markdown_content::parser::Piece;
 
 // Appends what a case answers that has these pieces.
 pub(crate) fn answer(case: &Case, pieces: &[Piece], out: &mut Answers) {

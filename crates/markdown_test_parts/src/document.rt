@@ -1,15 +1,15 @@
-// Calls that take a tokenizer at the start of the text: those of `attempts`, `parts`, `spaces`, `emphasis`, and `mail find`. One function owns the
-// tokenizer, and hands it over, since each that owns one takes long to prove.
-ghost use Rattle.markdown_engine_content.specs.Content.{IsContent};
+//! Calls that take a tokenizer at the start of the text: those of `attempts`, `parts`, `spaces`, `emphasis`, and `mail find`. One function owns the
+//! tokenizer, and hands it over, since each that owns one takes long to prove.
+ghost use Rattle.markdown_content.specs.Content.{IsContent};
 ghost use Rattle.std.specs.Prelude.{◌≡◌, []};
 
 use crate::answers::Answers;
 use crate::case::{Case, whole};
 use crate::{attempts, emphasis, mail, parts, spaces};
+use markdown_content::configuration::{Constructs, ParseOptions};
+use markdown_content::content::is_content;
+use markdown_content::parser::{ParseState, Piece};
 use markdown_engine::tokenizer::Tokenizer;
-use markdown_engine_content::configuration::{Constructs, ParseOptions};
-use markdown_engine_content::parser::{ParseState, Piece};
-use markdown_engine_pieces::content::is_content;
 use std::alloc::Global;
 
 // With strikethrough; the rule of three reads whole lengths where it is asked to.

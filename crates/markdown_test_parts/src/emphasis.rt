@@ -1,19 +1,19 @@
-// The pass over small texts: each run of markers a leaf, all else data. Strikethrough is on.
-//
-//     pass LENGTHS PAIRS BOUND | TEXT   what the pass leaves of the text, called by itself and then by its name, how many runs there are, and
-//                                       whether its looks at earlier runs are as many as the pairs at least and as many as the bound at most.
-//                                       LENGTHS is `first` where the rule of three reads whole lengths, or `last`. An event is printed as
-//                                       `(Data 0 1)`, with the indices where it begins and ends
-//     none LENGTHS PAIRS BOUND | TEXT   whether the pass leaves no pair, and the same of its runs and looks
-//     steady | TEXT                     whether the first two runs, of three markers each, lose one each where one is taken of both, behind a
-//                                       request for memory that may be refused
-//     run | TEXT                        the state that follows the start and each of three steps, each of which finds a run open; the
-//                                       registered passes, and the events
+//! The pass over small texts: each run of markers a leaf, all else data. Strikethrough is on.
+//!
+//!     pass LENGTHS PAIRS BOUND | TEXT   what the pass leaves of the text, called by itself and then by its name, how many runs there are, and
+//!                                       whether its looks at earlier runs are as many as the pairs at least and as many as the bound at most.
+//!                                       LENGTHS is `first` where the rule of three reads whole lengths, or `last`. An event is printed as
+//!                                       `(Data 0 1)`, with the indices where it begins and ends
+//!     none LENGTHS PAIRS BOUND | TEXT   whether the pass leaves no pair, and the same of its runs and looks
+//!     steady | TEXT                     whether the first two runs, of three markers each, lose one each where one is taken of both, behind a
+//!                                       request for memory that may be refused
+//!     run | TEXT                        the state that follows the start and each of three steps, each of which finds a run open; the
+//!                                       registered passes, and the events
 ghost use Rattle.std.specs.Prelude.{◌≡◌, ◌<◌, ◌≤◌, ◌+◌, ◌^◌, length, slice_index_or, IsTrue, IsUtf8, OnOk, true, []};
 ghost use Rattle.std.specs.Str.{IsAscii};
 ghost use Rattle.markdown_attention.specs.OpenRuns.{IsMarker};
 ghost use Rattle.markdown_attention.specs.RunsRead.{is_run};
-ghost use Rattle.markdown_engine_content.specs.Content.{IsContent};
+ghost use Rattle.markdown_content.specs.Content.{IsContent};
 ghost use Rattle.markdown_engine.specs.Operations.{IsOpen};
 ghost use Rattle.markdown_event.specs.declared.event.Name.TheVariants.{AttentionSequence};
 ghost use Rattle.markdown_attention.specs.AttentionPass.{IsSmall};
@@ -24,9 +24,10 @@ use crate::case::{Case, ask_in_vain, is_held, whole};
 use crate::document;
 use markdown_attention::attention::runs::{Runs, Sequence};
 use markdown_attention::attention::{inside, resolve, resolve_counted, start};
+use markdown_content::content::is_content;
 use markdown_engine::tokenizer::Tokenizer;
+use markdown_engine_events::event_list::EventSlice;
 use markdown_engine_events::events::Events;
-use markdown_engine_pieces::content::is_content;
 use markdown_event::event::{Event, Kind, Name, Point};
 use std::alloc::{AllocError, Global};
 
@@ -177,8 +178,8 @@ fn are_small(list: &[Sequence]) -> bool
 }
 
 // Appends events, each with its name and the index of its place, as `(Data 0 1)`.
-fn push_events(out: &mut Answers, events: &[Event]) {
-    for event in events {
+fn push_events(out: &mut Answers, events: &EventSlice) {
+    for event in events.iter() {
         if event.kind == Kind::Enter {
             out.say("(");
             out.print_name(event.name);
@@ -191,7 +192,7 @@ fn push_events(out: &mut Answers, events: &[Event]) {
 }
 
 // Whether a pair has this event between its markers.
-fn is_text(event: &Event) -> bool {
+fn is_text(event: Event) -> bool {
     matches!(
         event.name,
         Name::EmphasisText | Name::StrongText | Name::GfmStrikethroughText
@@ -199,7 +200,7 @@ fn is_text(event: &Event) -> bool {
 }
 
 // Appends what the pass leaves, or whether it leaves no pair.
-fn push_left(out: &mut Answers, how: How, events: &[Event]) {
+fn push_left(out: &mut Answers, how: How, events: &EventSlice) {
     if matches!(how, How::InVain) {
         out.show(!events.iter().any(is_text));
     } else {
@@ -265,7 +266,7 @@ fn pair(tokenizer: &mut Tokenizer, how: How, out: &mut Answers) -> Result<Option
     } else {
         resolve_counted(tokenizer, &mut probes)?;
     }
-    push_left(out, how, tokenizer.events.as_slice());
+    push_left(out, how, &tokenizer.events.as_slice());
     Ok(Some(Count {
         runs: runs.len(),
         probes,
@@ -336,5 +337,5 @@ fn pass_run(tokenizer: &mut Tokenizer, out: &mut Answers) {
     }
     out.show(tokenizer.resolvers.as_slice());
     out.say(" ");
-    push_events(out, tokenizer.events.as_slice());
+    push_events(out, &tokenizer.events.as_slice());
 }

@@ -1,29 +1,29 @@
-// Indices over a content or over names, and sets of bytes. A content is the whole text.
-//
-//     runs HOW BYTE SIZE AT | TEXT       whether runs of this byte and size are ruled out from this place on. HOW is `over` the text, `new`,
-//                                        or `without` any
-//     sequence HOW NAME AT | TEXT        whether the sequence is ruled out from this place on. HOW is `over` the text, or `new`
-//     title FROM TO .. | TEXT            the places, from one to another, from which on a title that ends the resource is not ruled out
-//     brackets START END FROM TO | TEXT  how many opening brackets stand between two indices, as the index from START to END knows it
-//     names NAME.. | FRONT               whether one of the names is the text, and whether one begins so
-//     names_with COUNT NAME..            whether one of the names has so many opening brackets
-//     names_of DEFINITION NOTE | TEXT    how many opening brackets the text has, and for each kind of names whether each name is one of them
-//     places AT PLACE..                  whether the place is one of these
-//     bytes BYTE                         the set of `-` and the tab, whether the byte, given by its number, is in it, and whether it is plain
+//! Indices over a content or over names, and sets of bytes. A content is the whole text.
+//!
+//!     runs HOW BYTE SIZE AT | TEXT       whether runs of this byte and size are ruled out from this place on. HOW is `over` the text, `new`,
+//!                                        or `without` any
+//!     sequence HOW NAME AT | TEXT        whether the sequence is ruled out from this place on. HOW is `over` the text, or `new`
+//!     title FROM TO .. | TEXT            the places, from one to another, from which on a title that ends the resource is not ruled out
+//!     brackets START END FROM TO | TEXT  how many opening brackets stand between two indices, as the index from START to END knows it
+//!     names NAME.. | FRONT               whether one of the names is the text, and whether one begins so
+//!     names_with COUNT NAME..            whether one of the names has so many opening brackets
+//!     names_of DEFINITION NOTE | TEXT    how many opening brackets the text has, and for each kind of names whether each name is one of them
+//!     places AT PLACE..                  whether the place is one of these
+//!     bytes BYTE                         the set of `-` and the tab, whether the byte, given by its number, is in it, and whether it is plain
 ghost use Rattle.std.specs.Prelude.{◌≡◌};
 
 use crate::answers::Answers;
 use crate::case::{Case, number_of, whole};
-use markdown_engine_content::byte_table;
-use markdown_engine_content::bytes::{ByteSet, ByteTable};
-use markdown_engine_content::cursor::Cursor;
-use markdown_engine_index::run_index::RunIndex;
-use markdown_engine_index::sequence_index::{Sequence, SequenceIndex};
-use markdown_engine_index::title_index::TitleIndex;
-use markdown_engine_names::bracket_index::BracketIndex;
-use markdown_engine_names::name_index::{Listed, NameIndex, Names};
-use markdown_engine_pieces::content::is_content;
-use markdown_lists::place_index::PlaceIndex;
+use markdown_content::byte_table;
+use markdown_content::bytes::{ByteSet, ByteTable};
+use markdown_content::content::is_content;
+use markdown_content::cursor::Cursor;
+use markdown_event::place_index::PlaceIndex;
+use markdown_notes::bracket_index::BracketIndex;
+use markdown_notes::name_index::{Listed, NameIndex, Names};
+use markdown_notes::run_index::RunIndex;
+use markdown_notes::sequence_index::{Sequence, SequenceIndex};
+use markdown_notes::title_index::TitleIndex;
 use std::alloc::{AllocError, Global};
 
 // Appends what a case answers.

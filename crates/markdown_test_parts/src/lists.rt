@@ -1,12 +1,12 @@
-// Lists and stacks, by calls that are always the same.
-//
-//     list     the items of a list that 1, 2 and 3 were added to, and the last one, which is taken off
-//     stacks   whether a stack is empty that another one, of 1, took 2 and 3 from, and what that one answers
+//! Lists and stacks, by calls that are always the same.
+//!
+//!     list     the items of a list that 1, 2 and 3 were added to, and the last one, which is taken off
+//!     stacks   whether a stack is empty that another one, of 1, took 2 and 3 from, and what that one answers
 ghost use Rattle.std.specs.Prelude.{◌≡◌, ◌∷◌, [], OnOk};
 
 use crate::answers::Answers;
 use crate::case::Case;
-use markdown_lists::seq::{Seq, Stack};
+use markdown_event::seq::{Seq, Stack};
 use std::alloc::{AllocError, Global};
 
 // Appends what a case answers.
@@ -22,6 +22,7 @@ pub(crate) fn answer(alloc: Global, case: &Case, out: &mut Answers) {
 fn grow_list(alloc: Global, out: &mut Answers) -> Result<(), AllocError> {
     let mut list = Seq::new(alloc);
     list.push(1u8)?;
+    list.reserve(4)?;
     list.extend_from_slice(&[2, 3])?;
     out.show(list.as_slice());
     out.show(list.pop());

@@ -1,32 +1,33 @@
-// Email literals in a document that is one data, and what is lent for innermost events.
-//
-//     find GROUP | DOCUMENT   the innermost events that the pass leaves of the data in a group, each with the indices where it begins and ends.
-//                             GROUP is `Emphasis`, `Image`, `Link`, or `Title`, whose data is linked content
-//     leaves | DOCUMENT       of each innermost event the name, the columns of a tab before it, the indices where it begins and ends, and the
-//                             columns of a tab behind it. The document is a byte, a tab and a byte; an emphasis over it has data, the empty
-//                             text of a label and data, where the text stands behind the second code of the tab
+//! Email literals in a document that is one data, and what is lent for innermost events.
+//!
+//!     find GROUP | DOCUMENT   the innermost events that the pass leaves of the data in a group, each with the indices where it begins and ends.
+//!                             GROUP is `Emphasis`, `Image`, `Link`, or `Title`, whose data is linked content
+//!     leaves | DOCUMENT       of each innermost event the name, the columns of a tab before it, the indices where it begins and ends, and the
+//!                             columns of a tab behind it. The document is a byte, a tab and a byte; an emphasis over it has data, the empty
+//!                             text of a label and data, where the text stands behind the second code of the tab
 ghost use Rattle.std.specs.Prelude.{◌≡◌, ◌∷◌, [], false, length, IfOk, None};
 ghost use Rattle.std.specs.Option.{option_map};
-ghost use Rattle.markdown_engine_content.specs.Content.{IsContent};
+ghost use Rattle.markdown_content.specs.Content.{IsContent};
 ghost use Rattle.markdown_engine.specs.Operations.{link_back};
-ghost use Rattle.markdown_engine_content.specs.Tree.{event};
+ghost use Rattle.markdown_content.specs.Tree.{event};
 ghost use Rattle.markdown_event.specs.declared.event.Kind.{Kind};
-ghost use Rattle.markdown_partial.specs.MergedEvents.{is_data};
-ghost use Rattle.markdown_partial.specs.TrimmedEvents.{HasPlaces};
+ghost use Rattle.markdown_passes.specs.MergedEvents.{is_data};
+ghost use Rattle.markdown_passes.specs.TrimmedEvents.{HasPlaces};
 
 use crate::answers::Answers;
 use crate::case::Case;
 use crate::content::DOCUMENT_START;
 use crate::document;
+use markdown_content::content::is_content;
+use markdown_content::parser::Piece;
+use markdown_content::walk::walk_to;
 use markdown_engine::tokenizer::Tokenizer;
-use markdown_engine_content::parser::Piece;
-use markdown_engine_content::walk::walk_to;
+use markdown_engine_events::event_list::EventSlice;
 use markdown_engine_events::events::Events;
-use markdown_engine_pieces::content::is_content;
 use markdown_event::event::{Content, Event, Kind, Link, Name, Point};
-use markdown_leaf_email_pass::email::resolve;
-use markdown_leaves::leaf::Leaf;
-use markdown_leaves::leaves;
+use markdown_innermost::leaf::Leaf;
+use markdown_innermost::leaves;
+use markdown_passes::email::resolve;
 use std::alloc::{AllocError, Global};
 
 // Appends what a case answers.
@@ -71,7 +72,7 @@ fn exit(name: Name, point: Point) -> Event
 }
 
 // The events of a group around data that is the whole document.
-#[tactic(auto, using(markdown_engine_content::proofs::DocumentPlaces::point_start))]
+#[tactic(auto, using(markdown_content::proofs::DocumentPlaces::point_start))]
 fn data_in(
     alloc: Global,
     bytes: &[u8],
@@ -92,9 +93,9 @@ fn data_in(
 }
 
 // Appends the innermost events.
-fn push_innermost(out: &mut Answers, events: &[Event]) {
+fn push_innermost(out: &mut Answers, events: &EventSlice) {
     for index in 1..events.len() {
-        let (enter, exit) = (&events[index - 1], &events[index]);
+        let (enter, exit) = (events.at(index - 1), events.at(index));
         if matches!((enter.kind, exit.kind), (Kind::Enter, Kind::Exit)) {
             out.show(enter.name);
             out.show(enter.point.index);
@@ -134,7 +135,7 @@ pub(crate) fn find(tokenizer: &mut Tokenizer, word: &str, out: &mut Answers)
         Err(AllocError) => return out.end(),
     }
     out.keep(resolve(tokenizer));
-    push_innermost(out, tokenizer.events.as_slice());
+    push_innermost(out, &tokenizer.events.as_slice());
 }
 
 // Appends what is lent for an innermost event.
@@ -149,7 +150,7 @@ fn push_leaf(out: &mut Answers, leaf: &Leaf) {
 }
 
 // What is lent for the events of an emphasis, where data is on both sides of the empty text of a label.
-#[tactic(auto, using(markdown_engine_content::proofs::DocumentPlaces::point_start))]
+#[tactic(auto, using(markdown_content::proofs::DocumentPlaces::point_start))]
 fn lend_leaves(bytes: &[u8], out: &mut Answers) {
     let pieces = [Piece {
         start: (0, 0),
@@ -174,7 +175,7 @@ fn lend_leaves(bytes: &[u8], out: &mut Answers) {
         exit(Name::Data, end),
         exit(Name::Emphasis, end),
     ];
-    for leaf in leaves(bytes, &events) {
+    for leaf in leaves(bytes, &EventSlice::over(&events)) {
         push_leaf(out, &leaf);
     }
 }

@@ -16,6 +16,7 @@ mod content;
 mod cursor;
 mod document;
 mod emphasis;
+mod event_list;
 mod events;
 mod index;
 mod lists;
@@ -49,6 +50,7 @@ fn answer(alloc: Global, part: &str, case: &Case, out: &mut Answers) {
         "content" | "cursor" => answer_on_pieces(alloc, part, case, out),
         "character" => character::answer(case, out),
         "emphasis" => emphasis::answer(alloc, case, out),
+        "event_list" => event_list::answer(alloc, case, out),
         "events" => events::answer(alloc, case, out),
         "index" => index::answer(alloc, case, out),
         "lists" => lists::answer(alloc, case, out),

@@ -1,13 +1,13 @@
-// The states of destinations, titles and labels that ask for nothing, by calls that are always the same.
-//
-//     destination | TEXT   twice: the state that follows the start, and how many events there are then
-//     title | TEXT         the state that follows the start, how many events there are then, and the marker that ends the title; the state
-//                          behind a line ending, and whether content is connected then; the state where no title is, the marker and
-//                          whether content is connected then; and the state that follows a second start
-//     label | TEXT         the same without the markers
+//! The states of destinations, titles and labels that ask for nothing, by calls that are always the same.
+//!
+//!     destination | TEXT   twice: the state that follows the start, and how many events there are then
+//!     title | TEXT         the state that follows the start, how many events there are then, and the marker that ends the title; the state
+//!                          behind a line ending, and whether content is connected then; the state where no title is, the marker and
+//!                          whether content is connected then; and the state that follows a second start
+//!     label | TEXT         the same without the markers
 use crate::answers::Answers;
 use markdown_engine::tokenizer::Tokenizer;
-use markdown_partial_link::{partial_destination, partial_label, partial_title};
+use markdown_partial::{partial_destination, partial_label, partial_title};
 
 // Appends what a call answers.
 pub(crate) fn answer(tokenizer: &mut Tokenizer, call: &str, out: &mut Answers) {

@@ -1,24 +1,26 @@
-// Character references and identifiers.
-//
-//     named TABLE NAME           the numbers of the characters that the name stands for, or `-`; of the name without its last byte; of the
-//                                name with a `0` behind it. TABLE is `html4` or `html5`
-//     numeric RADIX DIGITS       the number of the character
-//     decode TABLE MARKER VALUE  the numbers of the characters, or `-`
-//     parse | TEXT               the text with its references decoded, between quotation marks
-//     value MARKER               the most bytes that a value may have
-//     value MARKER BYTE          whether a value may hold the byte
-//     identifier | TEXT          the identifier, between quotation marks
-//
-// Numbers of characters are in base 16, with `+` between.
+//! Character references and identifiers.
+//!
+//!     named TABLE NAME           the numbers of the characters that the name stands for, or `-`; of the name without its last byte; of the
+//!                                name with a `0` behind it. TABLE is `html4`, `html5` or `html`
+//!     numeric RADIX DIGITS       the number of the character
+//!     decode TABLE MARKER VALUE  the numbers of the characters, or `-`
+//!     parse | TEXT               the text with its references decoded, between quotation marks
+//!     value MARKER               the most bytes that a value may have
+//!     value MARKER BYTE          whether a value may hold the byte
+//!     identifier | TEXT          the identifier, between quotation marks
+//!
+//! Numbers of characters are in base 16, with `+` between.
 ghost use Rattle.std.specs.Prelude.{◌≡◌, ◌≢◌, ◌⊎◌, IsTrue};
 ghost use Rattle.std.specs.Str.{byte};
-ghost use Rattle.markdown_util.specs.Reference.{IsMarker, IsNumber, radix_of};
+ghost use Rattle.markdown_util.specs.Reference.{IsReferenceMarker, IsNumber, radix_of};
 
 use crate::answers::Answers;
 use crate::case::Case;
-use markdown_util::util::character_reference::{decode_named, value_max, value_test};
+use markdown_util::decoding::{decode, decode_in, decode_numeric, parse};
+use markdown_util::util::character_reference::{
+    Names, decode_named, decode_named_in, value_max, value_test,
+};
 use markdown_util::util::normalize_identifier::normalize_identifier;
-use markdown_util_decode::character_reference::{decode, decode_numeric, parse};
 use std::alloc::{AllocError, Global};
 
 // Appends what a case answers.
@@ -69,16 +71,24 @@ fn push_codes(out: &mut Answers, text: Option<&str>) {
     }
 }
 
+// The text of a name in a table.
+fn text_of(table: &str, name: &str) -> Option<&'static str> {
+    match table {
+        "html" => decode_named_in(name, Names::Html),
+        _ => decode_named(name, table == "html5"),
+    }
+}
+
 // A name, the name without its last byte, and the name with a digit more.
 fn named(alloc: Global, case: &Case, out: &mut Answers) -> Result<(), AllocError> {
-    let html5 = case.word(0) == "html5";
+    let table = case.word(0);
     let name = case.word(1);
-    push_codes(out, decode_named(name, html5));
+    push_codes(out, text_of(table, name));
     let mut letters = name.chars();
     let _ = letters.next_back();
-    push_codes(out, decode_named(letters.as_str(), html5));
+    push_codes(out, text_of(table, letters.as_str()));
     let longer = format!(in alloc; "{name}0")?;
-    push_codes(out, decode_named(longer.as_str(), html5));
+    push_codes(out, text_of(table, longer.as_str()));
     Ok(())
 }
 
@@ -106,7 +116,7 @@ fn numeric(case: &Case, out: &mut Answers) {
 
 // The marker that a word is.
 fn marker_of(word: &str) -> u8
-    ensures { IsMarker result }
+    ensures { IsReferenceMarker result }
 {
     match word {
         "#" => b'#',
@@ -134,7 +144,10 @@ fn decoded(alloc: Global, case: &Case, out: &mut Answers) -> Result<(), AllocErr
         out.say(" no number");
         return Ok(());
     }
-    let text = decode(alloc, value, marker, case.word(0) == "html5")?;
+    let text = match case.word(0) {
+        "html" => decode_in(alloc, value, marker, Names::Html)?,
+        table => decode(alloc, value, marker, table == "html5")?,
+    };
     push_codes(out, text.as_deref());
     Ok(())
 }

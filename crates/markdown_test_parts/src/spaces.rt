@@ -1,14 +1,14 @@
-// The states of whitespace that ask for nothing, by calls that are always the same.
-//
-//     ask           what is asked for of spaces and tabs: the least and the most, the name, the kind of content, and whether it is connected
-//     read          the state that follows for none and for one at least, then the most that is asked for behind them, and whether there is no
-//                   event
-//     ask_ending    the kind of content that is asked for of a line ending, and whether it is connected, with options and without
-//     read_ending   the state that follows the start, the state at a line ending, whether spaces were passed, the state behind it, whether they
-//                   were passed still, and whether there is no event
-//
-// The text is the content that is read: in `read` and `read_ending` the empty one. `connected` is printed where what is asked for is
-// connected, as it must not be there.
+//! The states of whitespace that ask for nothing, by calls that are always the same.
+//!
+//!     ask           what is asked for of spaces and tabs: the least and the most, the name, the kind of content, and whether it is connected
+//!     read          the state that follows for none and for one at least, then the most that is asked for behind them, and whether there is no
+//!                   event
+//!     ask_ending    the kind of content that is asked for of a line ending, and whether it is connected, with options and without
+//!     read_ending   the state that follows the start, the state at a line ending, whether spaces were passed, the state behind it, whether they
+//!                   were passed still, and whether there is no event
+//!
+//! The text is the content that is read: in `read` and `read_ending` the empty one. `connected` is printed where what is asked for is
+//! connected, as it must not be there.
 use crate::answers::Answers;
 use markdown_engine::tokenizer::{TokenizeState, Tokenizer};
 use markdown_event::event::{Content, Name};

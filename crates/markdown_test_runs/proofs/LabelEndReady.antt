@@ -2,28 +2,28 @@
 use Rattle.std.proofs.Common.{◌≡◌, ◌≤◌, ◌<◌, ◌++◌, ◌∷◌, false, List, [], Result, Ok, Err, IfOk, OnOk, length, ap, sym, subst, ◌∙◌, arith}
 use Rattle.std.specs.Str.{IsCharBoundary}
 use Rattle.std.proofs.lemmas.Str.{IsCharBoundary-start}
-use Rattle.markdown_plan.specs.Characters.{bytes_of, ReadsText}
-use Rattle.markdown_engine.specs.RestingFields.{at_rest}
-use Rattle.markdown_engine.specs.Weights.{codes_left}
-use Rattle.markdown_engine_content.specs.Codes.{document_start}
-use Rattle.markdown_engine_content.specs.Tree.{event}
-use Rattle.markdown_event.specs.declared.event.Event.{Event}
-use Rattle.markdown_event.specs.declared.event.Kind.TheVariants as Kind
-use Rattle.markdown_event.specs.declared.event.Name.TheVariants as N
-use Rattle.markdown_engine_content.specs.declared.label_kind.LabelKind.TheVariants as K
-use Rattle.markdown_engine.specs.declared.tokenizer.LabelStart as Kept
-use Rattle.markdown_engine.specs.declared.tokenizer.TokenizeState.{TokenizeState}
-use Rattle.markdown_engine.specs.declared.tokenizer.Tokenizer.{Tokenizer}
-use Rattle.markdown_engine_index.proofs.SequenceIndexLemmas.{right-unknown}
-use Rattle.markdown_engine_index.proofs.TitleIndexLemmas as TitleIndexLemmas
-use Rattle.markdown_label_names.proofs.NameIndexSearch.{listed-unknown}
-use Rattle.markdown_label.specs.LabelEnd as LabelEnd
-use Rattle.markdown_label.specs.LabelEnd.{AreWithin}
-use Rattle.markdown_label_names.specs.LabelNames.{place_at}
-use Rattle.markdown_partial.specs.PartialSpaceOrTabEol as PartialSpaceOrTabEol
-use Rattle.markdown_partial.specs.PartialSpaceOrTab as PartialSpaceOrTab
-use Rattle.markdown_partial.specs.PartialSpaceOrTab.{most}
-use Rattle.markdown_label.specs.AfterLabelParts as AfterLabelParts
+use Rattle.markdown_inline.specs.markdown_plan.Characters.{bytes_of, ReadsText}
+use Rattle.markdown_inline.specs.markdown_engine.RestingFields.{at_rest}
+use Rattle.markdown_inline.specs.markdown_engine.Weights.{codes_left}
+use Rattle.markdown_inline.specs.markdown_content.Codes.{document_start}
+use Rattle.markdown_inline.specs.markdown_content.Tree.{event}
+use Rattle.markdown_inline.specs.markdown_event.declared.event.Event.{Event}
+use Rattle.markdown_inline.specs.markdown_event.declared.event.Kind.TheVariants as Kind
+use Rattle.markdown_inline.specs.markdown_event.declared.event.Name.TheVariants as N
+use Rattle.markdown_inline.specs.markdown_content.declared.label_kind.LabelKind.TheVariants as K
+use Rattle.markdown_inline.specs.markdown_engine.declared.tokenizer.LabelStart as Kept
+use Rattle.markdown_inline.specs.markdown_engine.declared.tokenizer.TokenizeState.{TokenizeState}
+use Rattle.markdown_inline.specs.markdown_engine.declared.tokenizer.Tokenizer.{Tokenizer}
+use Rattle.markdown_inline.proofs.markdown_notes.SequenceIndexLemmas.{right-unknown}
+use Rattle.markdown_inline.proofs.markdown_notes.TitleIndexLemmas as TitleIndexLemmas
+use Rattle.markdown_inline.proofs.markdown_label_names.NameIndexSearch.{listed-unknown}
+use Rattle.markdown_inline.specs.markdown_label.LabelEnd as LabelEnd
+use Rattle.markdown_inline.specs.markdown_label.LabelEnd.{AreStartsWithin}
+use Rattle.markdown_inline.specs.markdown_label_names.LabelNames.{place_at}
+use Rattle.markdown_inline.specs.markdown_partial.PartialSpaceOrTabEol as PartialSpaceOrTabEol
+use Rattle.markdown_inline.specs.markdown_partial.PartialSpaceOrTab as PartialSpaceOrTab
+use Rattle.markdown_inline.specs.markdown_partial.PartialSpaceOrTab.{most}
+use Rattle.markdown_inline.specs.markdown_label.AfterLabelParts as AfterLabelParts
 
 -- the Enter of the start
 abbrev pub opened : Event
@@ -57,13 +57,13 @@ module _ (T : Tokenizer) (es : List Event) (ls : List Kept.LabelStart) (none : T
   some : 0 < length es
   some = subst (λ (xs : List Event). 0 < length xs) (sym one) (omega arith)
 
-  pub end-ready : LabelEnd.StartReady U
+  pub end-ready : LabelEnd.LabelEndStartReady U
   end-ready =
       record {
         part = record { short = fits; indexed = right-unknown T.cursor.codes T.tokenize_state.sequences (ap (λ (s : TokenizeState). s.sequences) e); titled = TitleIndexLemmas.right-unknown T.cursor.codes T.tokenize_state.titles (ap (λ (s : TokenizeState). s.titles) e); spaces = record { space = ap PartialSpaceOrTab.rested fields ∙ sym fields; eol = ap PartialSpaceOrTabEol.eol_rested fields ∙ sym fields }; rest = ap AfterLabelParts.rested fields ∙ sym fields };
         listed = listed-unknown U (ap (λ (s : TokenizeState). s.names) fields);
         text = text;
-        within = subst (λ (xs : List Kept.LabelStart). AreWithin U xs) (sym only) ((record { within = some; between = between }, tt), (λ e. tt, tt));
+        within = subst (λ (xs : List Kept.LabelStart). AreStartsWithin U xs) (sym only) ((record { within = some; between = between }, tt), (λ e. tt, tt));
         resting = ap (λ (s : TokenizeState). s.end) fields;
       }
 

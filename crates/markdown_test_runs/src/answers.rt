@@ -1,4 +1,4 @@
-// What is answered to cases: a text that grows, and ends where memory is refused.
+//! What is answered to cases: a text that grows, and ends where memory is refused.
 use std::alloc::{AllocError, Global};
 use std::fmt::Debug;
 

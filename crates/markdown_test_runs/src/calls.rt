@@ -1,18 +1,18 @@
-// Single calls of states: a run goes on call by call up to one that is sought, and what that call answers and leaves is printed.
+//! Single calls of states: a run goes on call by call up to one that is sought, and what that call answers and leaves is printed.
 ghost use Rattle.std.specs.Prelude.{◌≡◌, ◌++◌, [], OnOk};
-ghost use Rattle.markdown_engine_content.specs.Content.{IsContent, IsTextContent};
-ghost use Rattle.markdown_engine.specs.StateRuns.{settled};
-ghost use Rattle.markdown_run.specs.Layer.{ready_of};
+ghost use Rattle.markdown_inline.specs.markdown_content.Content.{IsContent, IsTextContent};
+ghost use Rattle.markdown_inline.specs.markdown_engine.StateRuns.{settled};
+ghost use Rattle.markdown_inline.specs.markdown_run.Layer.{ready_of};
 
 use crate::answers::Answers;
 use crate::paths;
-use markdown_engine::run::resume;
-use markdown_engine::tokenizer::{Attempt, TokenizeState, Tokenizer};
-use markdown_engine_content::parser::{ParseState, Piece};
-use markdown_event::event::{Content, Event, Kind, Name};
-use markdown_inline::state;
-use markdown_lists::seq::Stack;
-use markdown_state::state::{State, StateName};
+use markdown_inline::event::{Content, Kind, Name};
+use markdown_inline::event_list::EventSlice;
+use markdown_inline::parser::{ParseState, Piece};
+use markdown_inline::run::resume;
+use markdown_inline::seq::Stack;
+use markdown_inline::state::{self, State, StateName};
+use markdown_inline::tokenizer::{Attempt, TokenizeState, Tokenizer};
 use std::alloc::{AllocError, Global};
 
 /// A call that is sought: the first of this state at this place with these scratch fields.
@@ -130,7 +130,7 @@ fn print_fields(fields: &TokenizeState, out: &mut Answers) {
 }
 
 // Prints the events from this one on, each by its name.
-fn print_entered(events: &[Event], from: usize, out: &mut Answers) {
+fn print_entered(events: &EventSlice, from: usize, out: &mut Answers) {
     for event in events.iter().skip(from) {
         out.say(if event.kind == Kind::Enter {
             " +"
@@ -161,7 +161,7 @@ fn print_call(answer: State, tokenizer: &mut Tokenizer, from: usize, out: &mut A
     out.show(answer);
     out.count(" at ", point.index);
     out.count(".", point.vs);
-    print_entered(tokenizer.events.as_slice(), from, out);
+    print_entered(&tokenizer.events.as_slice(), from, out);
     out.say(";");
     print_fields(&tokenizer.tokenize_state, out);
     out.say(";");

@@ -1,31 +1,29 @@
-// Single constructs, each read at the start of a content. A tokenizer that has met a refusal of memory says so, and its next calls answer the error
-// at once, also where memory is to be had again.
+//! Single constructs, each read at the start of a content. A tokenizer that has met a refusal of memory says so, and its next calls answer the error
+//! at once, also where memory is to be had again.
 ghost use Rattle.std.specs.Prelude.{◌≡◌, ◌≤◌, [], IsTrue};
-ghost use Rattle.markdown_plan.specs.Characters.{ReadsText};
-ghost use Rattle.markdown_engine_content.specs.Content.{IsContent};
-ghost use Rattle.markdown_engine.specs.RestingFields.{at_rest};
-ghost use Rattle.markdown_engine.specs.Weights.{codes_left};
-ghost use Rattle.markdown_state.specs.declared.state.StateName.TheVariants.{DestinationStart, GfmTaskListItemCheckStart, LabelStart, SpaceOrTabStart, SpaceOrTabEolStart, TitleStart};
-ghost use Rattle.markdown_partial.specs.PartialSpaceOrTab.{most};
-ghost use Rattle.markdown_run.specs.RunConstruct.{IsConstruct};
+ghost use Rattle.markdown_inline.specs.markdown_plan.Characters.{ReadsText};
+ghost use Rattle.markdown_inline.specs.markdown_content.Content.{IsContent};
+ghost use Rattle.markdown_inline.specs.markdown_engine.RestingFields.{at_rest};
+ghost use Rattle.markdown_inline.specs.markdown_engine.Weights.{codes_left};
+ghost use Rattle.markdown_inline.specs.markdown_event.declared.state.StateName.TheVariants.{DestinationStart, GfmTaskListItemCheckStart, LabelStart, SpaceOrTabStart, SpaceOrTabEolStart, TitleStart};
+ghost use Rattle.markdown_inline.specs.markdown_partial.PartialSpaceOrTab.{most};
+ghost use Rattle.markdown_inline.specs.markdown_run.RunConstruct.{IsConstruct};
 
 use crate::answers::Answers;
 use crate::ends::read_end;
-use crate::lines::print_events;
+use crate::lines::print_list;
 use crate::paths::read_plain;
 use crate::row::Asked;
-use markdown_engine::tokenizer::Tokenizer;
-use markdown_engine_content::byte_table;
-use markdown_engine_content::bytes::{ByteSet, ByteTable};
-use markdown_engine_content::parser::{ParseState, Piece};
-use markdown_engine_index::sequence_index::SequenceIndex;
-use markdown_event::event::{Content, Name};
+use markdown_inline::bytes::{ByteSet, ByteTable};
+use markdown_inline::event::{Content, Name};
+use markdown_inline::parser::{ParseState, Piece};
+use markdown_inline::readers::{attention, character_escape, label_start_link, partial_data};
+use markdown_inline::resolve::{self, ResolveName};
 use markdown_inline::run::construct;
-use markdown_inline::state::Inline;
-use markdown_inline::{partial_space_or_tab, partial_space_or_tab_eol, resolve, state};
-use markdown_run_text::readers::{attention, character_escape, label_start_link, partial_data};
-use markdown_state::resolve::ResolveName;
-use markdown_state::state::StateName;
+use markdown_inline::sequence_index::SequenceIndex;
+use markdown_inline::state::{self, Inline, StateName};
+use markdown_inline::tokenizer::Tokenizer;
+use markdown_inline::{partial_space_or_tab, partial_space_or_tab_eol};
 use std::alloc::{AllocError, Global};
 
 // A tokenizer at the start of a content, where constructs may be read.
@@ -207,7 +205,34 @@ fn read_part(tokenizer: &mut Tokenizer, reading: &str) -> Result<bool, AllocErro
     }
 }
 
-const STOPS: ByteTable = byte_table!(b'*', b'h');
+// Whether a byte is ordinary.
+const YES: bool = true;
+
+// Whether a byte is a control up to 13, or one at which data stops.
+const NO: bool = false;
+
+// An asterisk and an `h`. A table that `byte_table!` writes would ask for the crate of that macro.
+const STOPS: ByteTable = ByteTable {
+    bytes: b"*h",
+    plain: [
+        NO, NO, NO, NO, NO, NO, NO, NO, NO, NO, NO, NO, NO, NO, YES, YES, YES, YES, YES, YES, YES,
+        YES, YES, YES, YES, YES, YES, YES, YES, YES, YES, YES, YES, YES, YES, YES, YES, YES, YES,
+        YES, YES, YES, NO, YES, YES, YES, YES, YES, YES, YES, YES, YES, YES, YES, YES, YES, YES,
+        YES, YES, YES, YES, YES, YES, YES, YES, YES, YES, YES, YES, YES, YES, YES, YES, YES, YES,
+        YES, YES, YES, YES, YES, YES, YES, YES, YES, YES, YES, YES, YES, YES, YES, YES, YES, YES,
+        YES, YES, YES, YES, YES, YES, YES, YES, YES, YES, YES, NO, YES, YES, YES, YES, YES, YES,
+        YES, YES, YES, YES, YES, YES, YES, YES, YES, YES, YES, YES, YES, YES, YES, YES, YES, YES,
+        YES, YES, YES, YES, YES, YES, YES, YES, YES, YES, YES, YES, YES, YES, YES, YES, YES, YES,
+        YES, YES, YES, YES, YES, YES, YES, YES, YES, YES, YES, YES, YES, YES, YES, YES, YES, YES,
+        YES, YES, YES, YES, YES, YES, YES, YES, YES, YES, YES, YES, YES, YES, YES, YES, YES, YES,
+        YES, YES, YES, YES, YES, YES, YES, YES, YES, YES, YES, YES, YES, YES, YES, YES, YES, YES,
+        YES, YES, YES, YES, YES, YES, YES, YES, YES, YES, YES, YES, YES, YES, YES, YES, YES, YES,
+        YES, YES, YES, YES, YES, YES, YES, YES, YES, YES, YES, YES, YES, YES, YES, YES, YES, YES,
+        YES, YES, YES, YES, YES, YES, YES, YES, YES, YES, YES, YES, YES, YES, YES, YES, YES, YES,
+        YES,
+    ],
+    words_are_plain: false,
+};
 
 // Reads data, which stops at an asterisk and an `h`.
 fn read_data(tokenizer: &mut Tokenizer) -> Result<bool, AllocError>
@@ -303,7 +328,7 @@ fn is_at_rest(tokenizer: &Tokenizer) -> bool {
 // Prints what a construct left: whether it holds, the events, how many starts of labels are open, and where the tokenizer stands.
 fn print_left(tokenizer: &Tokenizer, held: bool, out: &mut Answers) {
     out.say(if held { " holds" } else { " no" });
-    print_events(tokenizer.events.as_slice(), usize::MAX, out);
+    print_list(&tokenizer.events.as_slice(), out);
     out.count("; starts ", tokenizer.tokenize_state.label_starts.len());
     out.count(" at ", tokenizer.point().index);
     if !is_at_rest(tokenizer) {

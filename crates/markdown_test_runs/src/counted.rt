@@ -1,12 +1,12 @@
-// How many runs of markers a text has, and how many pairs are made of them.
-ghost use Rattle.markdown_engine_content.specs.Content.{IsTextContent};
+//! How many runs of markers a text has, and how many pairs are made of them.
+ghost use Rattle.markdown_inline.specs.markdown_content.Content.{IsTextContent};
 
 use crate::answers::Answers;
 use crate::lines::print_probes;
 use crate::passes::runs_of_text;
 use crate::row::Asked;
-use markdown_engine_content::parser::{ParseState, Piece};
-use markdown_event::event::{Event, Kind, Name};
+use markdown_inline::event::{Event, Kind, Name};
+use markdown_inline::parser::{ParseState, Piece};
 use markdown_inline::run::text;
 use std::alloc::{AllocError, Global};
 

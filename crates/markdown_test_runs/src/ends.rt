@@ -1,17 +1,18 @@
-// The end of a label as a single construct.
+//! The end of a label as a single construct.
 ghost use Rattle.std.specs.Prelude.{◌≡◌, ◌≤◌, [], IfOk};
-ghost use Rattle.markdown_plan.specs.Characters.{ReadsText};
-ghost use Rattle.markdown_engine.specs.RestingFields.{at_rest};
-ghost use Rattle.markdown_engine.specs.Weights.{codes_left};
-ghost use Rattle.markdown_state.specs.declared.state.StateName.TheVariants.{LabelEndStart};
-ghost use Rattle.markdown_partial.specs.PartialSpaceOrTab.{most};
-ghost use Rattle.markdown_run.specs.RunConstruct.{IsConstruct};
+ghost use Rattle.markdown_inline.specs.markdown_plan.Characters.{ReadsText};
+ghost use Rattle.markdown_inline.specs.markdown_engine.RestingFields.{at_rest};
+ghost use Rattle.markdown_inline.specs.markdown_engine.Weights.{codes_left};
+ghost use Rattle.markdown_inline.specs.markdown_event.declared.state.StateName.TheVariants.{LabelEndStart};
+ghost use Rattle.markdown_inline.specs.markdown_partial.PartialSpaceOrTab.{most};
+ghost use Rattle.markdown_inline.specs.markdown_run.RunConstruct.{IsConstruct};
 
-use markdown_engine::tokenizer::{LabelKind, LabelStart, Tokenizer};
-use markdown_event::event::{Event, Kind, Name, Point};
+use markdown_inline::event::{Event, Kind, Name};
+use markdown_inline::readers::label_end;
 use markdown_inline::run::construct;
-use markdown_run_text::readers::label_end;
-use markdown_state::state::StateName;
+use markdown_inline::state::StateName;
+use markdown_inline::tokenizer::{LabelKind, LabelStart, Tokenizer};
+use markdown_inline::walk::DOCUMENT_START;
 use std::alloc::AllocError;
 
 // Keeps the start of a link that stands before all codes.
@@ -27,12 +28,7 @@ fn keep_start(tokenizer: &mut Tokenizer) -> Result<(), AllocError>
     tokenizer.events.push(Event {
         kind: Kind::Enter,
         name: Name::LabelLink,
-        point: Point {
-            line: 1,
-            column: 1,
-            index: 0,
-            vs: 0,
-        },
+        point: DOCUMENT_START,
         link: None,
     })?;
     tokenizer.tokenize_state.label_starts.push(LabelStart {

@@ -1,4 +1,4 @@
-// Readers and writers that read little, take little, or fail.
+//! Readers and writers that read little, take little, or fail.
 use std::alloc::Global;
 use std::io::{self, ErrorKind, Read, Write};
 

@@ -1,7 +1,8 @@
-// How events, leaves and probes are printed.
+//! How events, leaves and probes are printed.
 use crate::answers::Answers;
 use crate::row::Asked;
-use markdown_event::event::{Event, Kind, Link, Point};
+use markdown_inline::event::{Event, Kind, Link, Point};
+use markdown_inline::event_list::EventSlice;
 use markdown_inline::run::Leaf;
 
 // Prints a number behind a colon, if there is one.
@@ -43,19 +44,34 @@ fn print_event(event: &Event, out: &mut Answers) {
     }
 }
 
+// Prints an event that lies in so many others, if they are fewer than the most. The answer is in how many the next lies, at the least.
+fn print_within(event: &Event, depth: usize, most: usize, out: &mut Answers) -> usize {
+    let inside = match event.kind {
+        Kind::Enter => depth,
+        Kind::Exit => depth.saturating_sub(1),
+    };
+    if inside < most {
+        print_event(event, out);
+    }
+    match event.kind {
+        Kind::Enter => inside.saturating_add(1),
+        Kind::Exit => inside,
+    }
+}
+
 /// Prints the events that lie in fewer than so many others.
 pub(crate) fn print_events(events: &[Event], most: usize, out: &mut Answers) {
     let mut depth = 0usize;
     for event in events {
-        if event.kind == Kind::Exit {
-            depth = depth.saturating_sub(1);
-        }
-        if depth < most {
-            print_event(event, out);
-        }
-        if event.kind == Kind::Enter {
-            depth = depth.saturating_add(1);
-        }
+        depth = print_within(event, depth, most, out);
+    }
+}
+
+/// Prints the events of a list.
+pub(crate) fn print_list(events: &EventSlice, out: &mut Answers) {
+    let mut depth = 0usize;
+    for event in events.iter() {
+        depth = print_within(&event, depth, usize::MAX, out);
     }
 }
 

@@ -7,7 +7,7 @@
 //!   leave the same events; and how many they are. `passes`: the same of a string, without the simple pass. `drawn`: as `equal`, of a text that is drawn by a seed.
 //! - `counts` and `looks`: a text, how many runs of markers it has and how many pairs are made of them, or how many may open and how many may close.
 //! - `steady`: a text, behind whose run memory is asked for once more in vain; then the calls that take none are to answer as ever.
-//! - `value`: what the references in the document stand for.
+//! - `value`: what the references in the document stand for. `edits`: a list of events that edits alone fill.
 //! - A single construct at the start of the content: by a word of `paths.rt` as `break`, where `span` is of code or of math; `task`, `protocol`,
 //!   `www`, `footnote`, `end` (of the label of a link that starts before the content), `destination`, `title`,
 //!   `label`; `data`, which stops at `*` and `h`; `space`, at least and at most so many blank codes on one line; `spacing`, blank codes with a line ending behind the first code;
@@ -24,7 +24,7 @@
 //! The others are these, in any order but that pieces, definitions and parts of the document are taken as they come:
 //!
 //! - `+NAME` and `-NAME` turn a construct or an option on or off; at first CommonMark's constructs are on, as `ParseOptions::default` says. Of a
-//!   case, `first_of_item` says that the text is the first of a list item, `leaves` asks for the innermost events, and `flushes` says that a narrow
+//!   case, `first_of_item` says that the text is the first of a list item, `leaves` asks for the innermost events, `lists` for the events in a list, and `flushes` says that a narrow
 //!   writer hands on what it took.
 //! - `definition=TEXT` and `footnote=TEXT` define an identifier.
 //! - `word=TEXT` is a word of the program. `fault=KIND` is a kind of error.
@@ -50,9 +50,11 @@ mod answers;
 mod calls;
 mod constructs;
 mod counted;
+mod edits;
 mod ends;
 mod fakes;
 mod lines;
+mod listed;
 mod met;
 mod moved;
 mod pairing;

@@ -1,11 +1,12 @@
-// Which definitions links and images refer to, and which footnotes calls.
+//! Which definitions links and images refer to, and which footnotes calls.
 use crate::answers::Answers;
 use crate::row::Row;
-use markdown_engine_content::parser::ParseState;
-use markdown_event::event::{Event, Kind, Name};
 use markdown_inline::definitions::Definitions;
+use markdown_inline::event::{Event, Kind, Name};
+use markdown_inline::event_list::{EventList, EventSlice};
 use markdown_inline::labels::Labels;
-use markdown_inline::run::{is_text, text};
+use markdown_inline::parser::ParseState;
+use markdown_inline::run::{is_text, text_list};
 use markdown_inline::tree::Tree;
 use std::alloc::{AllocError, Global};
 
@@ -19,7 +20,7 @@ fn defined(alloc: Global, labels: &[String]) -> Result<Definitions, AllocError> 
 }
 
 // Whether a link, an image or a footnote call begins here.
-fn may_refer(event: &Event) -> bool {
+fn may_refer(event: Event) -> bool {
     event.kind == Kind::Enter
         && matches!(event.name, Name::Link | Name::Image | Name::GfmFootnoteCall)
 }
@@ -28,12 +29,12 @@ fn may_refer(event: &Event) -> bool {
 fn print_numbers(
     alloc: Global,
     labels: &Labels,
-    events: &[Event],
+    events: &EventSlice,
     out: &mut Answers,
 ) -> Result<(), AllocError> {
     let tree = Tree::new(alloc, events)?;
     for number in 0..events.len() {
-        let event = &events[number];
+        let event = events.at(number);
         if !may_refer(event) {
             continue;
         }
@@ -54,7 +55,7 @@ fn events_of(
     row: &Row,
     definitions: &Definitions,
     footnotes: &Definitions,
-) -> Result<Vec<Event>, AllocError> {
+) -> Result<EventList, AllocError> {
     let parse_state = ParseState {
         bytes: row.document.as_bytes(),
         options: &row.options,
@@ -63,9 +64,9 @@ fn events_of(
     };
     let pieces = row.pieces.as_slice();
     if !is_text(parse_state.bytes, pieces) {
-        return Ok(Vec::new(alloc));
+        return Ok(EventList::new(alloc));
     }
-    Ok(text(alloc, &parse_state, pieces, row.asked.first_of_item)?.events)
+    Ok(text_list(alloc, &parse_state, pieces, row.asked.first_of_item)?.events)
 }
 
 // Prints what the links, images and footnote calls of a text refer to.
@@ -83,7 +84,7 @@ fn print_met_among(
         definitions,
         footnotes,
     };
-    print_numbers(alloc, &labels, events.as_slice(), out)
+    print_numbers(alloc, &labels, &events.as_slice(), out)
 }
 
 /// Prints what the links, images and footnote calls of a text refer to, where the row defines these labels.

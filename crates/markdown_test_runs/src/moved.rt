@@ -1,7 +1,7 @@
-// Texts and strings found again as contents of a prepared document, with text before and behind them.
-use markdown_engine_content::parser::{ParseState, Piece};
-use markdown_event::event::{Event, Point};
+//! Texts and strings found again as contents of a prepared document, with text before and behind them.
 use markdown_inline::document::Document;
+use markdown_inline::event::{Event, Point};
+use markdown_inline::parser::{ParseState, Piece};
 use markdown_inline::run::Run;
 use std::alloc::{AllocError, Global};
 

@@ -1,12 +1,12 @@
-// A second pass of runs, as simple as can be: one array of all runs, walked back for each closer.
+//! A second pass of runs, as simple as can be: one array of all runs, walked back for each closer.
 ghost use Rattle.std.specs.Prelude.{◌≡◌, OnOk};
-ghost use Rattle.markdown_engine_events.specs.EventChains.{IsFresh};
+ghost use Rattle.markdown_inline.specs.markdown_engine_events.EventChains.{IsFresh};
 
-use markdown_engine::tokenizer::Tokenizer;
-use markdown_engine_content::configuration::{Constructs, ParseOptions};
-use markdown_engine_events::events::Events;
-use markdown_event::event::{Event, Kind, Link, Name, Point};
-use markdown_inline::util::char::{Kind as Class, classify_opt};
+use markdown_inline::configuration::{ParseOptions, Rules};
+use markdown_inline::event::{Event, Kind, Link, Name, Point};
+use markdown_inline::events::Events;
+use markdown_inline::tokenizer::Tokenizer;
+use markdown_inline::util::char::{Kind as Class, classify_listed, classify_opt};
 use std::alloc::{AllocError, Global};
 
 // A row of equal markers: where it stands, in which label's text, how many are left, and whether a pair was made around it.
@@ -80,17 +80,30 @@ fn rows_in(alloc: Global, events: &[Event], bytes: &[u8]) -> Result<Vec<Sequence
 }
 
 // Whether a run beside this character may open or close there for its sake alone.
-fn is_other_marker(marker: u8, beside: Option<char>, on: Constructs) -> bool {
+fn is_other_marker(marker: u8, beside: Option<char>, options: &ParseOptions) -> bool {
     marker != b'~'
+        && !options.rules().markers_are_punctuation
         && match beside {
             Some('*' | '_') => true,
-            Some('~') => on.gfm_strikethrough,
+            Some('~') => options.constructs.gfm_strikethrough,
             _ => false,
         }
 }
 
+// The class of a character beside a row.
+fn class_beside(rules: Rules, beside: Option<char>) -> Class {
+    if rules.nul_is_replaced && beside == Some('\0') {
+        Class::Punctuation
+    } else if rules.listed_spaces {
+        classify_listed(beside)
+    } else {
+        classify_opt(beside)
+    }
+}
+
 // Says of each row whether it may open and close.
-fn set_sides(all: &mut [Sequence], document: &str, on: Constructs) {
+fn set_sides(all: &mut [Sequence], document: &str, options: &ParseOptions) {
+    let rules = options.rules();
     for row in all {
         let before = document
             .get(..row.start)
@@ -98,13 +111,13 @@ fn set_sides(all: &mut [Sequence], document: &str, on: Constructs) {
         let after = document
             .get(row.end()..)
             .and_then(|text| text.chars().next());
-        let (b, a) = (classify_opt(before), classify_opt(after));
+        let (b, a) = (class_beside(rules, before), class_beside(rules, after));
         let open = a == Class::Other
             || a == Class::Punctuation && b != Class::Other
-            || is_other_marker(row.marker, after, on);
+            || is_other_marker(row.marker, after, options);
         let close = b == Class::Other
             || b == Class::Punctuation && a != Class::Other
-            || is_other_marker(row.marker, before, on);
+            || is_other_marker(row.marker, before, options);
         let whole_word = row.marker == b'_';
         row.opens = open && (!whole_word || b != Class::Other || !close);
         row.closes = close && (!whole_word || a != Class::Other || !open);
@@ -118,7 +131,8 @@ fn agree(opener: &Sequence, closer: &Sequence, options: &ParseOptions) -> bool {
         let struck = left == 2 || left == 1 && options.gfm_strikethrough_single_tilde;
         return struck && opener.left == left;
     }
-    let (first, second) = if options.attention_first_lengths {
+    let Rules { whole_lengths, .. } = options.rules();
+    let (first, second) = if whole_lengths {
         (opener.size, closer.size)
     } else {
         (opener.left, closer.left)
@@ -340,7 +354,7 @@ fn paired(
 ) -> Result<Vec<Event>, AllocError> {
     let mut rows = rows_in(alloc, events, bytes)?;
     let document = str::from_utf8(bytes).unwrap_or("");
-    set_sides(rows.as_mut_slice(), document, options.constructs);
+    set_sides(rows.as_mut_slice(), document, options);
     let pairs = all_pairs(alloc, rows.as_mut_slice(), options)?;
     grouped(alloc, events, rows.as_slice(), pairs.as_slice())
 }
@@ -352,7 +366,8 @@ pub(crate) fn resolve(tokenizer: &mut Tokenizer) -> Result<(), AllocError>
     let alloc = tokenizer.alloc;
     let bytes = tokenizer.parse_state.bytes;
     let options = tokenizer.parse_state.options;
-    let paired = paired(alloc, tokenizer.events.as_slice(), bytes, options)?;
+    let events = tokenizer.events.as_slice().to_vec(alloc)?;
+    let paired = paired(alloc, events.as_slice(), bytes, options)?;
     tokenizer.events = listed(alloc, paired.as_slice())?;
     Ok(())
 }

@@ -1,10 +1,10 @@
-// The events of a run, those of a run by its states alone, and those that its passes leave where they are called one by one.
-ghost use Rattle.markdown_engine_content.specs.Content.{IsContent, IsTextContent};
+//! The events of a run, those of a run by its states alone, and those that its passes leave where they are called one by one.
+ghost use Rattle.markdown_inline.specs.markdown_content.Content.{IsContent, IsTextContent};
 
 use crate::answers::Answers;
 use crate::passes::{Pairing, are_of_string, are_of_text};
-use markdown_engine_content::parser::{ParseState, Piece};
-use markdown_event::event::Event;
+use markdown_inline::event::Event;
+use markdown_inline::parser::{ParseState, Piece};
 use markdown_inline::run::{string, text, text_by_states};
 use std::alloc::{AllocError, Global};
 

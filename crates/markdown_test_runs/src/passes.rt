@@ -1,27 +1,26 @@
-// The passes behind the states of a content, called one by one by their names; or those before the pass of runs, then the simple pass of runs, and
-// then those behind it. Nothing is known of what the simple one leaves, so what the passes behind it ask for is looked at before they are called.
+//! The passes behind the states of a content, called one by one by their names; or those before the pass of runs, then the simple pass of runs, and
+//! then those behind it. Nothing is known of what the simple one leaves, so what the passes behind it ask for is looked at before they are called.
 ghost use Rattle.std.specs.Prelude.{◌≡◌, ◌<◌, ◌≤◌, [], length, drop, IfOk, IsTrue};
-ghost use Rattle.markdown_engine_content.specs.Content.{IsContent, IsTextContent, document_limit};
-ghost use Rattle.markdown_engine.specs.PassesInOrder.{MayResolve, unregistered};
-ghost use Rattle.markdown_engine_content.specs.DocumentWalk.{IsPoint};
-ghost use Rattle.markdown_run_text.specs.ContentPasses.{MayPair, may_resolve_of, resolves_of};
-ghost use Rattle.markdown_partial.specs.TrimmedData.{IsStretch};
-ghost use Rattle.markdown_partial.specs.TrimmedEvents.{FirstHasPlaces, HasPlaces};
+ghost use Rattle.markdown_inline.specs.markdown_content.Content.{IsContent, IsTextContent, document_limit};
+ghost use Rattle.markdown_inline.specs.markdown_engine.PassesInOrder.{MayResolve, unregistered};
+ghost use Rattle.markdown_inline.specs.markdown_content.DocumentWalk.{IsPoint};
+ghost use Rattle.markdown_inline.specs.markdown_run_text.ContentPasses.{MayPair, may_resolve_of, resolves_of};
+ghost use Rattle.markdown_inline.specs.markdown_passes.TrimmedData.{IsStretch};
+ghost use Rattle.markdown_inline.specs.markdown_passes.TrimmedEvents.{FirstDataHasPlaces, HasPlaces};
 
 use crate::constructs::answer_again;
 use crate::pairing;
-use markdown_engine::tokenizer::Tokenizer;
-use markdown_engine_content::parser::{ParseState, Piece};
-use markdown_engine_content::walk::walk_to;
-use markdown_engine_events::events::Events;
-use markdown_engine_pieces::content::is_content;
-use markdown_event::event::{Event, Kind, Link, Name, Point};
 use markdown_inline::attention::runs::{Runs, Sequence};
-use markdown_inline::state::Inline;
-use markdown_inline::{gfm_autolink_literal, partial_data, partial_whitespace, resolve};
-use markdown_lists::seq::Seq;
-use markdown_state::resolve::ResolveName;
-use markdown_state::state::StateName;
+use markdown_inline::content::is_content;
+use markdown_inline::event::{Event, Kind, Link, Name, Point};
+use markdown_inline::events::Events;
+use markdown_inline::parser::{ParseState, Piece};
+use markdown_inline::resolve::{self, ResolveName};
+use markdown_inline::seq::Seq;
+use markdown_inline::state::{Inline, StateName};
+use markdown_inline::tokenizer::Tokenizer;
+use markdown_inline::walk::{DOCUMENT_START, walk_to};
+use markdown_inline::{gfm_autolink_literal, partial_data, partial_whitespace};
 use std::alloc::{AllocError, Global};
 use std::mem;
 
@@ -31,14 +30,6 @@ pub(crate) enum Pairing {
     ByLists,
     BySimpleWalk,
 }
-
-// The place before all codes.
-const DOCUMENT_START: Point = Point {
-    line: 1,
-    column: 1,
-    index: 0,
-    vs: 0,
-};
 
 // Whether this is a place of the document.
 fn is_point(bytes: &[u8], point: Point) -> bool
@@ -66,7 +57,7 @@ fn is_stretch(bytes: &[u8], from: Point, to: Point) -> bool
 // Whether data that begins at this event ends at the next, each at a place of the document.
 fn has_first_places(bytes: &[u8], events: &Events, index: usize) -> bool
     requires { index < length events.now }
-    ensures { IsTrue result → FirstHasPlaces bytes.now (drop index events.now) }
+    ensures { IsTrue result → FirstDataHasPlaces bytes.now (drop index events.now) }
 {
     let enter = events.bare_at(index);
     if !matches!(enter.kind, Kind::Enter) || !matches!(enter.name, Name::Data) {
@@ -186,7 +177,8 @@ fn are_left(
         Ok(is_whole) => is_whole,
         Err(AllocError) => answer_again(tokenizer)?,
     };
-    let others = tokenizer.events.as_slice();
+    let others = tokenizer.events.as_slice().to_vec(tokenizer.alloc)?;
+    let others = others.as_slice();
     Ok(
         is_whole
             && match how {

@@ -1,19 +1,19 @@
-// Constructs by their words, and each state by its public path.
+//! Constructs by their words, and each state by its public path.
 ghost use Rattle.std.specs.Prelude.{◌≡◌, ◌≤◌, []};
-ghost use Rattle.markdown_engine.specs.RestingFields.{at_rest};
-ghost use Rattle.markdown_engine.specs.Weights.{codes_left};
-ghost use Rattle.markdown_partial.specs.PartialSpaceOrTab.{most};
-ghost use Rattle.markdown_run.specs.Layer.{ready_of};
+ghost use Rattle.markdown_inline.specs.markdown_engine.RestingFields.{at_rest};
+ghost use Rattle.markdown_inline.specs.markdown_engine.Weights.{codes_left};
+ghost use Rattle.markdown_inline.specs.markdown_partial.PartialSpaceOrTab.{most};
+ghost use Rattle.markdown_inline.specs.markdown_run.Layer.{ready_of};
 
-use markdown_engine::tokenizer::Tokenizer;
 use markdown_inline::run::construct;
+use markdown_inline::state::{self, State, StateName};
+use markdown_inline::tokenizer::Tokenizer;
 use markdown_inline::{
     attention, autolink, character_escape, character_reference, gfm_autolink_literal,
     gfm_label_start_footnote, gfm_task_list_item_check, hard_break_escape, html_text, label_end,
     label_start_image, label_start_link, partial_data, partial_destination, partial_label,
-    partial_space_or_tab, partial_space_or_tab_eol, partial_title, raw_text, state, string, text,
+    partial_space_or_tab, partial_space_or_tab_eol, partial_title, raw_text, string, text,
 };
-use markdown_state::state::{State, StateName};
 use std::alloc::AllocError;
 
 /// Reads the construct of this word, which asks for nothing but scratch fields at rest.

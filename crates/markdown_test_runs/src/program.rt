@@ -1,4 +1,4 @@
-// Runs of the program by its call, with readers and writers that read little, take little or fail.
+//! Runs of the program by its call, with readers and writers that read little, take little or fail.
 use crate::answers::Answers;
 use crate::fakes::{Narrow, Slow};
 use crate::row::Row;

@@ -1,7 +1,7 @@
-// Cases: a content, and what it is read with.
+//! Cases: a content, and what it is read with.
 use crate::calls::Sought;
 use crate::fakes::error_kind;
-use markdown_engine_content::configuration::{CONSTRUCTS, DEFAULT_BITS, ParseOptions, SETTINGS};
+use markdown_inline::configuration::{CONSTRUCTS, DEFAULT_BITS, ParseOptions, SETTINGS};
 use markdown_inline::run::Piece;
 use std::alloc::{AllocError, Global};
 use std::io::ErrorKind;
@@ -32,6 +32,8 @@ pub(crate) struct Asked {
     pub(crate) first_of_item: bool,
     /// Whether the innermost events are asked for.
     pub(crate) leaves: bool,
+    /// Whether the events are asked for in a list.
+    pub(crate) lists: bool,
     /// Whether a narrow writer hands on what it took.
     pub(crate) flushes: bool,
     /// In fewer than so many others an event lies that is printed.
@@ -56,6 +58,7 @@ impl Row {
             asked: Asked {
                 first_of_item: false,
                 leaves: false,
+                lists: false,
                 flushes: false,
                 depth: usize::MAX,
                 least: 0,
@@ -113,6 +116,7 @@ impl Row {
         match name {
             "first_of_item" => self.asked.first_of_item = on,
             "leaves" => self.asked.leaves = on,
+            "lists" => self.asked.lists = on,
             "flushes" => self.asked.flushes = on,
             _ => return false,
         }

@@ -1,16 +1,19 @@
-// What is found in a case.
+//! What is found in a case.
 use crate::answers::Answers;
 use crate::calls::{Sought, print_string_call, print_text_call};
 use crate::constructs::print_construct;
 use crate::counted::print_counts;
+use crate::edits::print_edits;
 use crate::lines::{print_events, print_leaf, print_probes};
+use crate::listed::{print_string_list, print_text_list};
 use crate::met::print_met;
 use crate::moved::is_found_again;
 use crate::pairs::{print_likeness, print_string_likeness};
 use crate::program::print_program;
 use crate::row::{Asked, Row};
 use crate::steady::print_steady;
-use markdown_engine_content::parser::{ParseState, Piece};
+use markdown_inline::event_list::EventSlice;
+use markdown_inline::parser::{ParseState, Piece};
 use markdown_inline::run::{Leaves, is_content, is_text, leaves, string, text};
 use markdown_inline::util::character_reference::parse;
 use std::alloc::{AllocError, Global};
@@ -100,6 +103,7 @@ fn print_read(
         "counts" | "looks" => print_counted(alloc, reading, parse_state, pieces, asked, out),
         "steady" => print_steady(alloc, parse_state, pieces, out),
         "value" => print_value(alloc, parse_state.bytes, out),
+        "edits" => print_edits(alloc, out),
         _ if !is_content(parse_state.bytes, pieces) => {
             out.say(" no content");
             Ok(())
@@ -140,8 +144,11 @@ fn print_text(
         out.say(" no text");
         return Ok(());
     };
+    if asked.lists {
+        return print_text_list(alloc, parse_state, pieces, first, out);
+    }
     if asked.leaves {
-        print_leaves(leaves(bytes, &run.events), out);
+        print_leaves(leaves(bytes, &EventSlice::over(run.events.as_slice())), out);
     } else {
         print_events(run.events.as_slice(), asked.depth, out);
         print_probes(run.probes, asked, out);
@@ -171,8 +178,11 @@ fn print_string(
         out.say(" no content");
         return Ok(());
     };
+    if asked.lists {
+        return print_string_list(alloc, parse_state, pieces, out);
+    }
     if asked.leaves {
-        print_leaves(leaves(bytes, &run.events), out);
+        print_leaves(leaves(bytes, &EventSlice::over(run.events.as_slice())), out);
     } else {
         print_events(run.events.as_slice(), asked.depth, out);
     }

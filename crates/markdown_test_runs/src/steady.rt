@@ -1,25 +1,27 @@
-// The calls that take no memory: they answer as ever where it is refused.
+//! The calls that take no memory: they answer as ever where it is refused.
 ghost use Rattle.std.specs.Prelude.{◌≡◌, None};
 
 use crate::answers::Answers;
-use markdown_engine::tokenizer::Tokenizer;
-use markdown_engine_content::configuration::ParseOptions;
-use markdown_engine_content::parser::ParseState;
-use markdown_engine_content::util::skip::to_back;
-use markdown_engine_content::util::slice::{Position, Slice};
-use markdown_engine_content::walk::walk_to;
-use markdown_event::event::{Content, Event, Kind, Name, Point};
+use crate::edits::event;
+use markdown_inline::configuration::ParseOptions;
+use markdown_inline::event::{Content, Kind, Name};
+use markdown_inline::event_list::EventSlice;
 use markdown_inline::options::ALL_CONSTRUCTS;
+use markdown_inline::parser::ParseState;
 use markdown_inline::run::{Leaves, Piece, is_content, is_text, leaves, text};
+use markdown_inline::state::StateName;
+use markdown_inline::tokenizer::Tokenizer;
 use markdown_inline::util::char::{
     Kind as Class, after_index, before_index, classify_opt, kind_after_index,
 };
 use markdown_inline::util::character_reference::{
-    decode_named, decode_numeric, value_max, value_test,
+    Names, decode_named, decode_named_in, decode_numeric, value_max, value_test,
 };
 use markdown_inline::util::constant;
+use markdown_inline::util::skip::to_back;
+use markdown_inline::util::slice::{Position, Slice};
+use markdown_inline::walk::{DOCUMENT_START, walk_to};
 use markdown_inline::{laws, partial_space_or_tab, partial_space_or_tab_eol};
-use markdown_state::state::StateName;
 use std::alloc::{AllocError, Global};
 
 // A piece between two bytes.
@@ -30,23 +32,19 @@ fn piece(start: usize, end: usize) -> Piece {
     }
 }
 
-// The place before all codes.
-const DOCUMENT_START: Point = Point {
-    line: 1,
-    column: 1,
-    index: 0,
-    vs: 0,
-};
-
 // Whether references have their values.
 fn are_decoded() -> bool {
     let named = decode_named("ngE", true) == Some("\u{2267}\u{338}")
         && decode_named("lang", false) == Some("\u{2329}")
         && decode_named("nosuch", true).is_none();
+    let of_html = decode_named_in("Abreve", Names::Html) == Some("\u{102}")
+        && decode_named_in("NotEqualTilde", Names::Html) == Some("\u{2242}\u{338}")
+        && decode_named_in("Abreve", Names::Html5).is_none()
+        && decode_named_in("lang", Names::Html4) == Some("\u{2329}");
     let numeric = decode_numeric("123", 10) == '{' && decode_numeric("FFFE", 16) == '\u{FFFD}';
     let bounds = value_max(b'&') == 31 && value_max(b'#') == 7 && value_max(b'x') == 6;
     let tests = value_test(b'&', b'z') && value_test(b'x', b'F') && !value_test(b'#', b'a');
-    named && numeric && bounds && tests
+    named && of_html && numeric && bounds && tests
 }
 
 // Whether the limits of the grammar are these.
@@ -55,7 +53,8 @@ fn are_limits() -> bool {
         && constant::CHARACTER_REFERENCE_DECIMAL_SIZE_MAX == 7
         && constant::CHARACTER_REFERENCE_HEXADECIMAL_SIZE_MAX == 6
         && constant::CHARACTER_REFERENCES.len() == 294
-        && constant::CHARACTER_REFERENCES_HTML_4.len() == 252;
+        && constant::CHARACTER_REFERENCES_HTML_4.len() == 252
+        && constant::CHARACTER_REFERENCES_HTML.len() == 2125;
     let autolinks = constant::AUTOLINK_SCHEME_SIZE_MAX == 32
         && constant::AUTOLINK_DOMAIN_SIZE_MAX == 63;
     let links = constant::RESOURCE_DESTINATION_BALANCE_MAX == 32
@@ -103,18 +102,6 @@ fn are_contents() -> bool {
         && !is_text(b"a\n\nb", &blank)
 }
 
-// An event of this name at the start.
-fn event(kind: Kind, name: Name) -> Event
-    ensures { result ≡ record { kind = kind; name = name; point = DOCUMENT_START; link = None } }
-{
-    Event {
-        kind,
-        name,
-        point: DOCUMENT_START,
-        link: None,
-    }
-}
-
 // Whether events are found by their names, and where they begin.
 fn are_found() -> bool {
     let events = [
@@ -136,7 +123,7 @@ fn are_lent() -> bool {
 }
 
 // Whether part of a tab is lent.
-#[tactic(auto, using(markdown_engine_content::proofs::DocumentPlaces::point_start))]
+#[tactic(auto, using(markdown_content::proofs::DocumentPlaces::point_start))]
 fn is_tab_lent() -> bool {
     let bytes = b"a\tb";
     let pieces = [Piece {
@@ -314,7 +301,10 @@ pub(crate) fn print_steady(
     }
     let run = text(alloc, parse_state, pieces, false)?;
     let held = ask_in_vain(alloc, bytes);
-    let are_lent = are_leaves(leaves(bytes, &run.events), bytes.len());
+    let are_lent = are_leaves(
+        leaves(bytes, &EventSlice::over(run.events.as_slice())),
+        bytes.len(),
+    );
     print_if(are_lent, "leaves", out);
     print_steady_calls(alloc, out);
     print_if(held.is_empty() || held.as_slice() == bytes, "held", out);

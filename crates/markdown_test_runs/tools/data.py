@@ -1,12 +1,12 @@
 #!/usr/bin/env python3
 """Writes stdin and stdout: the cases of this crate and the worked examples, and what has to be found in each.
 
-Run it in the crate's folder. What it reads are tools/cases.txt, tools/calls.txt, the rows of markdown_model_examples/tools/rules, and the parts that
+Run it in the crate's folder. What it reads are tools/cases.txt, tools/calls.txt, the rows of markdown_worked_examples/tools/rules, and the parts that
 texts are drawn from in markdown_test_texts/stdin; src/main.rt says what it writes."""
 import os, re, sys
 
 HERE = os.path.dirname(os.path.dirname(os.path.abspath(__file__)))
-WORKED = os.path.join(HERE, '..', 'markdown_model_examples', 'tools')
+WORKED = os.path.join(HERE, '..', 'markdown_worked_examples', 'tools')
 PARTS = os.path.join(HERE, '..', 'markdown_test_texts', 'stdin')
 sys.path.insert(0, WORKED)
 sys.dont_write_bytecode = True
@@ -119,8 +119,8 @@ def run_case(kind, words, document, pieces, answer):
     """A whole run."""
     data = examples.plain(document).encode()
     at = examples.points(data)
-    asked = [w for w in words if w != 'leaves' and not w.startswith('probes=')]
-    fields = word_fields(asked) + ['+leaves'] * ('leaves' in words)
+    asked = [w for w in words if w not in ('leaves', 'lists') and not w.startswith('probes=')]
+    fields = word_fields(asked) + ['+' + w for w in ('leaves', 'lists') if w in words]
     fields += bound_fields(kind, words, answer) + piece_fields(pieces, data) + list(document_fields(document))
     if kind == 'text' and has_blank_line(data, pieces):
         answer = REFUSED[0]
@@ -232,11 +232,13 @@ def own_cases(line):
         yield [kind] + list(document_fields(document)), ' ' + escaped(examples.plain(answer[1:]))
     elif kind == 'steady':
         yield [kind] + piece_fields(pieces, examples.plain(document).encode()) + list(document_fields(document)), answer
+    elif kind == 'edits':
+        yield [kind], printed_events(answer, examples.points(b'')) + ', none left'
     elif kind in PROGRAMS:
         yield program_case(kind, words, document, answer)
     elif kind in examples.RUNS:
         yield run_case(kind, words, document, pieces, answer)
-        if 'leaves' not in words and answer not in REFUSED and kind not in COUNTED:
+        if 'leaves' not in words and 'lists' not in words and answer not in REFUSED and kind not in COUNTED:
             yield from passes_cases(kind, words, document, pieces, answer)
     else:
         yield construct_case(kind, words, document, pieces, answer)

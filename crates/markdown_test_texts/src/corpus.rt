@@ -1,10 +1,10 @@
-// Runs over documents that are drawn by a seed, and how many of them keep each law.
+//! Runs over documents that are drawn by a seed, and how many of them keep each law.
 use crate::drawing::{Drawing, Line, document, options, repeated};
 use crate::kept::{Reading, are_alike, covers, is_balanced, stand_alike};
 use crate::layout::{LAYOUTS, Layout, Sheet, laid};
 use crate::rows::Rows;
-use markdown_engine_content::configuration::ParseOptions;
-use markdown_engine_content::parser::ParseState;
+use markdown_content::configuration::ParseOptions;
+use markdown_content::parser::ParseState;
 use markdown_event::event::{Event, Name};
 use markdown_inline::run::{Run, is_content, is_text, string, text};
 use std::alloc::{AllocError, Global};
@@ -169,30 +169,30 @@ impl Seen {
         Ok(events)
     }
 
-    // Reads two layouts of the same lines: the names, the links and the bytes of leaves are to be the same.
+    // Reads two layouts of the same lines: the names, the links and the bytes of leaves are to be the same in both.
     fn compare(
         &mut self,
         alloc: Global,
         given: &Given,
-        this: &Sheet,
-        other: &Sheet,
+        first: &Sheet,
+        second: &Sheet,
     ) -> Result<(), AllocError> {
-        let events = self.read(alloc, given, this)?;
-        let others = self.read(alloc, given, other)?;
-        let here = Reading {
-            bytes: this.text.as_bytes(),
-            events: events.as_slice(),
+        let first_events = self.read(alloc, given, first)?;
+        let second_events = self.read(alloc, given, second)?;
+        let first_reading = Reading {
+            bytes: first.text.as_bytes(),
+            events: first_events.as_slice(),
         };
-        let there = Reading {
-            bytes: other.text.as_bytes(),
-            events: others.as_slice(),
+        let second_reading = Reading {
+            bytes: second.text.as_bytes(),
+            events: second_events.as_slice(),
         };
-        let alike = are_alike(here.events, there.events);
-        let same = stand_alike(here, there);
+        let alike = are_alike(first_reading.events, second_reading.events);
+        let same = stand_alike(first_reading, second_reading);
         self.pairs = counted(self.pairs, true);
         self.alike = counted(self.alike, alike);
         self.same = counted(self.same, same);
-        self.look(alike && same, "other names or bytes", this)
+        self.look(alike && same, "other names or bytes", first)
     }
 
     // Reads lines without definitions in pairs of layouts, since an identifier may hold bytes that are left out.

@@ -1,6 +1,6 @@
-// Numbers, texts, options and documents that are drawn by a seed.
+//! Numbers, texts, options and documents that are drawn by a seed.
 use crate::rows::Rows;
-use markdown_engine_content::configuration::{CONSTRUCTS, Constructs, ParseOptions};
+use markdown_content::configuration::{CONSTRUCTS, Constructs, ParseOptions};
 use markdown_inline::options::ALL_CONSTRUCTS;
 use std::alloc::{AllocError, Global};
 
@@ -199,5 +199,6 @@ pub(crate) fn options(drawing: &mut Drawing) -> ParseOptions {
         math_text_single_dollar: drawing.mostly(),
         attention_first_lengths: drawing.mostly(),
         label_shortcut_before_bracket: drawing.mostly(),
+        commonmark: false,
     }
 }

@@ -1,10 +1,12 @@
-// Prints the HTML of texts, and texts as descriptions of images have them.
-//
-// A row is a word, a text, and definitions, with a tab between each two. `html` reads the text as CommonMark has it, and lets raw HTML and any address be
-// written, as the specification does; `gfm` reads it with GitHub's extensions, and lets neither be; `then` does the same behind the footnote calls of the
-// row before. `text` prints its plain text. `brought` prints how many of 20 bytes are left by what definitions bring, or `more`. A definition is `LABEL: DESTINATION`, perhaps with a title behind a space, or `note LABEL` for a footnote; `␠`
-// stands for a space in a destination. Answers have `␊`, `␍` and `→` for LF, CR and TAB.
+//! Prints the HTML of texts, and texts as descriptions of images have them.
+//!
+//! A row is a word, a text, and definitions, with a tab between each two. `html` reads the text as CommonMark has it, and lets raw HTML and any address be
+//! written, as the specification does; `gfm` reads it with GitHub's extensions, and lets neither be; `then` does the same behind the footnote calls of the
+//! row before. `text` prints its plain text. `brought` prints how many of 20 bytes are left by what definitions bring, or `more`. A definition is `LABEL: DESTINATION`, perhaps with a title behind a space, or `note LABEL` for a footnote; `␠`
+//! stands for a space in a destination. Answers have `␊`, `␍` and `→` for LF, CR and TAB. Each row is answered a second time, over events that stand as they are
+//! in their list; where that gives something else, the answer says so.
 use crate::rows::plain;
+use crate::whole::{is_read_alike, keep_whole};
 use markdown_html::footnotes::FootnoteCalls;
 use markdown_html::targets::Targets;
 use markdown_html::{left_of_limit, text_of, to_html};
@@ -14,6 +16,23 @@ use markdown_inline::parser::{ParseState, Piece};
 use markdown_inline::run;
 use markdown_inline::util::normalize_identifier::normalize_identifier;
 use std::alloc::{AllocError, Global};
+
+// The footnote calls of a row and those before it, and the same where events stand as they are.
+#[derive(Drop)]
+pub(crate) struct Called {
+    listed: FootnoteCalls,
+    whole: FootnoteCalls,
+}
+
+impl Called {
+    // No call.
+    pub(crate) fn nothing(alloc: Global) -> Called {
+        Called {
+            listed: FootnoteCalls::new(alloc),
+            whole: FootnoteCalls::new(alloc),
+        }
+    }
+}
 
 // A row, with its signs read.
 #[derive(Drop)]
@@ -123,8 +142,13 @@ fn left_shown(alloc: Global, left: Option<usize>) -> Result<Vec<u8>, AllocError>
     Ok(shown.into_bytes())
 }
 
-// What a row asks for, behind these footnote calls; nothing where its text is none.
-fn written(alloc: Global, row: Row, calls: &mut FootnoteCalls) -> Result<Vec<u8>, AllocError> {
+// What a row asks for, behind these footnote calls, from events that stand as they are if these are to be whole; nothing where its text is none.
+fn written(
+    alloc: Global,
+    row: Row,
+    whole: bool,
+    calls: &mut FootnoteCalls,
+) -> Result<Vec<u8>, AllocError> {
     let options = row.parse_options();
     let html_options = row.html_options();
     let identifiers = row.identifiers(alloc)?;
@@ -148,31 +172,59 @@ fn written(alloc: Global, row: Row, calls: &mut FootnoteCalls) -> Result<Vec<u8>
     if !run::is_text(bytes, &pieces) {
         return Ok(Vec::new(alloc));
     }
-    let found = run::text(alloc, &parse_state, &pieces, false)?;
+    let mut found = run::text_list(alloc, &parse_state, &pieces, false)?.events;
+    if whole {
+        keep_whole(&mut found)?;
+    }
+    let events = found.as_slice();
     if word == "text" {
-        return text_of(alloc, bytes, found.events.as_slice());
+        return text_of(alloc, bytes, &events);
     }
     let targets = targets(alloc, definitions)?;
-    let events = found.events.as_slice();
     if word == "brought" {
-        let left = left_of_limit(alloc, &parse_state, events, &targets, html_options, 20)?;
+        let left = left_of_limit(alloc, &parse_state, &events, &targets, html_options, 20)?;
         return left_shown(alloc, left);
     }
-    to_html(alloc, &parse_state, events, &targets, calls, html_options)
+    to_html(alloc, &parse_state, &events, &targets, calls, html_options)
+}
+
+// Whether a row's text has the same nodes and leaves where its events stand as they are.
+fn is_alike(alloc: Global, row: &Row) -> Result<bool, AllocError> {
+    let bytes = row.text.as_bytes();
+    let options = row.parse_options();
+    let parse_state = ParseState {
+        bytes,
+        options: &options,
+        definitions: row.identifiers(alloc)?,
+        gfm_footnote_definitions: Vec::new(alloc),
+    };
+    let pieces = [Piece {
+        start: (0, 0),
+        end: (bytes.len(), 0),
+    }];
+    if !run::is_text(bytes, &pieces) {
+        return Ok(true);
+    }
+    is_read_alike(alloc, &parse_state, &pieces)
 }
 
 // Appends the answer to a row, behind these footnote calls if it goes on.
 pub(crate) fn answer(
     alloc: Global,
     line: &str,
-    calls: &mut FootnoteCalls,
+    calls: &mut Called,
     out: &mut String,
 ) -> Result<(), AllocError> {
     let row = Row::read(alloc, line)?;
     if row.word != "then" {
-        *calls = FootnoteCalls::new(alloc);
+        *calls = Called::nothing(alloc);
     }
-    let bytes = written(alloc, row, calls)?;
+    let is_alike = is_alike(alloc, &row)?;
+    let bytes = written(alloc, row, false, &mut calls.listed)?;
+    let others = written(alloc, Row::read(alloc, line)?, true, &mut calls.whole)?;
     push_shown(out, str::from_utf8(bytes.as_slice()).unwrap_or(""))?;
+    if !is_alike || others.as_slice() != bytes.as_slice() {
+        out.push_str(" and something else of whole events")?;
+    }
     out.push('\n')
 }

@@ -1,5 +1,5 @@
-// What holds of the events of every run: they are balanced and cover each code once, and bytes that the pieces leave out do not matter.
-use markdown_engine_content::parser::Piece;
+//! What holds of the events of every run: they are balanced and cover each code once, and bytes that the pieces leave out do not matter.
+use markdown_content::parser::Piece;
 use markdown_event::event::{Event, Kind, Point};
 use std::alloc::{AllocError, Global};
 

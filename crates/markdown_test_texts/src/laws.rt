@@ -1,11 +1,11 @@
-// The laws that runs are held to see what they are to see: a line asks one of them of events that are written out.
-//
-// An event is `+NAME:INDEX` or `-NAME:INDEX`, at a byte of the first line; a piece is `START-END`; each list has spaces between. The fields are:
-// of `balanced` none and events, of `covers` pieces and events, of `alike` events and events, of `same` a document with its events, and another.
+//! The laws that runs are held to see what they are to see: a line asks one of them of events that are written out.
+//!
+//! An event is `+NAME:INDEX` or `-NAME:INDEX`, at a byte of the first line; a piece is `START-END`; each list has spaces between. The fields are:
+//! of `balanced` none and events, of `covers` pieces and events, of `alike` events and events, of `same` a document with its events, and another.
 use crate::kept::{Reading, are_alike, covers, is_balanced, stand_alike};
 use crate::number_of;
 use crate::rows::plain;
-use markdown_engine_content::parser::Piece;
+use markdown_content::parser::Piece;
 use markdown_event::event::{Event, Kind, Name, Point};
 use std::alloc::{AllocError, Global};
 
@@ -106,8 +106,8 @@ fn asked(alloc: Global, law: &str, first: &str, second: &str) -> Result<(usize, 
     }
 }
 
-// Prints how many events these fields have, and whether the law holds of them.
-pub(crate) fn ask(
+// Prints the line of a law: its name, how many events these fields have, and whether the law holds of them.
+pub(crate) fn print_law(
     alloc: Global,
     law: &str,
     first: &str,

@@ -1,6 +1,6 @@
-// How the lines of a document are laid out, and which pieces of that are its content.
+//! How the lines of a document are laid out, and which pieces of that are its content.
 use crate::drawing::Line;
-use markdown_engine_content::parser::Piece;
+use markdown_content::parser::Piece;
 use std::alloc::{AllocError, Global};
 
 // How lines are laid out.

@@ -2,7 +2,7 @@
 //!
 //! Each line of the standard input is a name and fields, with tabs between them. In a field ␊ ␍ ␉ ␀ ␠ stand for LF, CR, TAB, NUL and a space, and → for
 //! TAB too. An empty line and one that begins with `#` are no rows. Of the rows of HTML the first, by sections, have what cmark 0.30.2 gives them; the
-//! last are the specification's examples, with its HTML, as `tools/spec-examples` has written them.
+//! last are the specification's examples, with its HTML, as `tools/by-hand/run-spec-examples` has written them.
 //!
 //! | Line | What it does |
 //! |---|---|
@@ -23,11 +23,12 @@ mod kept;
 mod laws;
 mod layout;
 mod rows;
+mod whole;
 
 use crate::corpus::{NONE, Names, Seen};
 use crate::drawing::Drawing;
+use crate::html::Called;
 use crate::rows::Rows;
-use markdown_html::footnotes::FootnoteCalls;
 use std::alloc::{AllocError, Global};
 use std::io;
 
@@ -36,7 +37,7 @@ use std::io;
 struct Session {
     rows: Rows,
     names: Names,
-    calls: FootnoteCalls,
+    calls: Called,
     out: String,
 }
 
@@ -74,7 +75,7 @@ impl Session {
             "repeat" => self.repeat(alloc, first, second),
             "names" => self.names.print(&mut self.out),
             "balanced" | "covers" | "alike" | "same" => {
-                laws::ask(alloc, name, first, second, &mut self.out)
+                laws::print_law(alloc, name, first, second, &mut self.out)
             }
             "html" | "gfm" | "then" | "text" | "brought" => {
                 html::answer(alloc, line, &mut self.calls, &mut self.out)
@@ -90,7 +91,7 @@ fn printed(alloc: Global, input: &str) -> Result<String, AllocError> {
     let mut session = Session {
         rows: Rows::new(alloc),
         names: NONE,
-        calls: FootnoteCalls::new(alloc),
+        calls: Called::nothing(alloc),
         out: String::new(alloc),
     };
     for line in input.lines() {

@@ -1,4 +1,4 @@
-// What documents are put together from: rows of the input.
+//! What documents are put together from: rows of the input.
 use std::alloc::{AllocError, Global};
 
 // What opens a construct, and what closes it.

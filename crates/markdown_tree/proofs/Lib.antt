@@ -1,3 +1,5 @@
--- Lemmas of this crate.
+-- The proofs of this crate.
 mod IndexLemmas
 mod ForestNodesLemmas
+mod NumberLemmas
+mod TextLemmas

@@ -1,8 +1,8 @@
 -- The nodes of a forest, and how they stand in its events.
 use Rattle.std.specs.Prelude.{◌≡◌, ℕ, suc, ◌+◌, List, [], ◌∷◌, ◌++◌, Option, None, Some, map, take, drop}
 use Rattle.std.specs.List.{All}
-use Rattle.markdown_engine_content.specs.Codes.{Code, stop_of, document_start}
-use Rattle.markdown_engine_content.specs.Tree.{Forest, empty, leaf_then, group_then, start_of, event_count, events_from, events_of}
+use Rattle.markdown_content.specs.Codes.{Code, stop_of, document_start}
+use Rattle.markdown_content.specs.Tree.{Forest, empty, leaf_then, group_then, start_of, event_count, events_from, events_of}
 use Rattle.markdown_event.specs.declared.event.Content.{Content}
 use Rattle.markdown_event.specs.declared.event.Event.{Event}
 use Rattle.markdown_event.specs.declared.event.Kind.{Kind}

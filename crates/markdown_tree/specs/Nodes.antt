@@ -1,7 +1,7 @@
 -- Nodes of a list of events, each by the number of its Enter.
 use Rattle.std.specs.Prelude.{ℕ, suc, ◌+◌, List, [], ◌∷◌, Option, None, Some, drop, slice_get, slice_range}
 use Rattle.std.specs.Option.{option_and_then, option_map}
-use Rattle.markdown_engine_content.specs.Nesting.{outer, own_enter}
+use Rattle.markdown_content.specs.Nesting.{outer, own_enter}
 use Rattle.markdown_event.specs.declared.event.Event.{Event}
 use Rattle.markdown_event.specs.declared.event.Kind.{Kind}
 use Rattle.markdown_event.specs.declared.event.Kind.TheVariants.{Enter, Exit}

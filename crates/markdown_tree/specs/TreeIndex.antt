@@ -1,6 +1,6 @@
 -- What a tree keeps for each of its events.
 use Rattle.std.specs.Prelude.{ℕ, suc, List, [], ◌∷◌, Option, slice_get}
-use Rattle.markdown_engine_content.specs.Nesting.{opened}
+use Rattle.markdown_content.specs.Nesting.{opened}
 use Rattle.markdown_event.specs.declared.event.Event.{Event}
 use Rattle.markdown_tree.specs.Nodes.{exits_ahead}
 

@@ -1,11 +1,12 @@
-// What a tree keeps for each event: which node is open before it, and which Exit comes behind it.
+//! What a tree keeps for each event: which node is open before it, and which Exit comes behind it.
 ghost use Rattle.std.specs.Prelude.{◌≡◌, IfOk, OnOk, slice_get};
-ghost use Rattle.markdown_engine_content.specs.Nesting.{opened};
+ghost use Rattle.markdown_content.specs.Nesting.{opened};
 ghost use Rattle.markdown_tree.specs.Nodes.{closed};
 ghost use Rattle.markdown_tree.specs.TreeIndex.{parents_of, exits_of};
 
-use markdown_event::event::{Event, Kind};
-use markdown_lists::seq::Stack;
+use markdown_engine_events::event_list::EventSlice;
+use markdown_event::event::Kind;
+use markdown_event::seq::Stack;
 use std::alloc::{AllocError, Global};
 
 // The top of a stack.
@@ -45,27 +46,27 @@ fn pass_back(stack: &mut Stack<usize>, number: usize, kind: Kind) -> Result<(), 
 }
 
 // For each event the number of the innermost Enter that is open before it.
-pub(crate) fn parents(alloc: Global, events: &[Event]) -> Result<Vec<Option<usize>>, AllocError>
+pub(crate) fn parents(alloc: Global, events: &EventSlice) -> Result<Vec<Option<usize>>, AllocError>
     ensures { IfOk result (λ found. found.items ≡ parents_of events.now) }
 {
     let mut open = Stack::new(alloc);
     let mut found = Vec::new(alloc);
     for index in 0..events.len() {
         found.push(top(&open))?;
-        pass(&mut open, index, events[index].kind)?;
+        pass(&mut open, index, events.at(index).kind)?;
     }
     Ok(found)
 }
 
 // For each event the number of the first Exit behind it that ends no Enter behind it.
-pub(crate) fn exits(alloc: Global, events: &[Event]) -> Result<Vec<Option<usize>>, AllocError>
+pub(crate) fn exits(alloc: Global, events: &EventSlice) -> Result<Vec<Option<usize>>, AllocError>
     ensures { IfOk result (λ found. found.items ≡ exits_of events.now) }
 {
     let mut open = Stack::new(alloc);
     let mut found = Vec::new(alloc);
     for index in (0..events.len()).rev() {
         found.push(top(&open))?;
-        pass_back(&mut open, index, events[index].kind)?;
+        pass_back(&mut open, index, events.at(index).kind)?;
     }
     found.reverse();
     Ok(found)

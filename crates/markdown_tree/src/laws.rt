@@ -1,4 +1,4 @@
-// Laws on nodes of inline trees.
+//! Laws on nodes of inline trees.
 ghost use Rattle.markdown_tree.specs.ForestNodes.{NodesAreTrees};
 
 /// The nodes of a forest's events are the trees of the forest, in order: for each tree `node`, `parent`, `first_child` and `next_sibling` of

@@ -1,4 +1,4 @@
-// What a node is, and where it stands.
+//! What a node is, and where it stands.
 use markdown_event::event::{Name, Point};
 
 /// A node: what it is, where it begins and ends, and the numbers of its two events, from 0.

@@ -1,9 +1,10 @@
-// The tree that a list of events is.
+//! The tree that a list of events is.
 ghost use Rattle.std.specs.Prelude.{◌≡◌, ◌+◌, ◌<◌, IfOk, IfSome, length, slice_get};
 ghost use Rattle.markdown_tree.specs.Nodes.{enter_at, exit_at, node_at, first_child_at, next_sibling_at, parent_at, events_at};
 
 use crate::index::{exits, parents};
 use crate::node::Node;
+use markdown_engine_events::event_list::EventSlice;
 use markdown_event::event::{Event, Kind};
 use std::alloc::{AllocError, Global};
 use std::marker::Model;
@@ -13,7 +14,7 @@ use std::marker::Model;
 /// A node is the number of an Enter in the list, from 0. Contracts see the tree as the list of its events.
 #[derive(Drop)]
 pub struct Tree<'a> {
-    events: &'a [Event],
+    events: EventSlice<'a>,
     // For each event the number of the innermost Enter that is open before it.
     parents: Vec<Option<usize>>,
     // For each event the number of the first Exit behind it that ends no Enter behind it.
@@ -27,22 +28,22 @@ impl<'a> Model for Tree<'a> {
 
     ghost Value = { List Event };
 
-    ghost view = { λ t. t.events.now };
+    ghost view = { λ t. t.events };
 
-    ghost invariant = { λ t. (t.parents.items ≡ parents_of t.events.now) × (t.exits.items ≡ exits_of t.events.now) };
+    ghost invariant = { λ t. (t.parents.items ≡ parents_of t.events) × (t.exits.items ≡ exits_of t.events) };
 }
 
 impl<'a> Tree<'a> {
     /// The tree of these events. Takes memory for four words an event, and at first for one more where nodes stand in one another.
     ///
     /// The error comes only where memory is refused.
-    pub fn new(alloc: Global, events: &'a [Event]) -> Result<Tree<'a>, AllocError>
-        ensures { IfOk result (λ tree. tree ≡ events.entry.now) }
+    pub fn new(alloc: Global, events: &EventSlice<'a>) -> Result<Tree<'a>, AllocError>
+        ensures { IfOk result (λ tree. tree ≡ events.now) }
     {
         let parents = parents(alloc, events)?;
         let exits = exits(alloc, events)?;
         Ok(Tree {
-            events,
+            events: events.slice(0, events.len()),
             parents,
             exits,
         })
@@ -53,7 +54,7 @@ impl<'a> Tree<'a> {
         ensures { result ≡ slice_get self.now number }
     {
         if number < self.events.len() {
-            Some(self.events[number])
+            Some(self.events.at(number))
         } else {
             None
         }
@@ -113,12 +114,12 @@ impl<'a> Tree<'a> {
     }
 
     /// The events of a node, from its Enter to its Exit; none where the number is not that of an Enter with an Exit.
-    pub fn events(&self, node: usize) -> &'a [Event]
-        ensures { result.now ≡ events_at self.now node }
+    pub fn events(&self, node: usize) -> EventSlice<'a>
+        ensures { result ≡ events_at self.now node }
     {
         match self.exit(node) {
-            Some(exit) => &self.events[node..exit + 1],
-            None => &[],
+            Some(exit) if exit < self.events.len() => self.events.slice(node, exit + 1),
+            _ => self.events.slice(0, 0),
         }
     }
 

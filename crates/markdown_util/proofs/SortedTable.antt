@@ -15,7 +15,7 @@ use Rattle.std.proofs.lemmas.List.Sorted.{searchable_from_sorted}
 use Rattle.std.proofs.lemmas.Map.Text.{is_eq-slice_cmp}
 use Rattle.std.proofs.lemmas.Slice.Eq.{bytes_eq-Decides}
 use Rattle.markdown_util.specs.Reference.{Table, rows_of, is_value, named_value, has_name, has_distinct_names, is_below, is_below_first, is_sorted}
-use Rattle.markdown_util.specs.TableParts.{IsPart}
+use Rattle.markdown_util.specs.TableParts.{IsTablePart}
 
 less : (r : Ordering) → is_lt r ≡ true → r ≡ Less
 less Less h = refl
@@ -113,7 +113,7 @@ abbrev pub has_rows : Table → Bool
 has_rows [] = false
 has_rows (row ∷ rows) = true
 
-pub record IsInOrder (part : Table) (from next : List ℕ) : Type 0 where
+pub record IsSortedPart (part : Table) (from next : List ℕ) : Type 0 where
   pub sorted : is_sorted part ≡ true
   pub names : list_all (λ row. is_value (byte "&") row.0) part ≡ true
   pub filled : has_rows part ≡ true
@@ -152,8 +152,8 @@ first-join cut [] high h k = absurd (false≢true h)
 first-join cut (row ∷ low) high h k = k
 
 -- one part, and the next from where it ends
-pub order-join : (from cut next : List ℕ) (low high : Table) → is_below cut next ≡ true → IsInOrder low from cut →
-    IsInOrder high cut next → IsInOrder (low ++ high) from next
+pub order-join : (from cut next : List ℕ) (low high : Table) → is_below cut next ≡ true → IsSortedPart low from cut →
+    IsSortedPart high cut next → IsSortedPart (low ++ high) from next
 order-join from cut next low high h l r = record {
   sorted = sorted-join cut low high l.sorted l.before r.first r.sorted;
   names = all-join _ low high l.names r.names;
@@ -162,22 +162,22 @@ order-join from cut next low high h l r = record {
   before = all-join _ low high (all-below cut next low h l.before) r.before;
 }
 
-pub whole : (table rows : Table) (name from next : List ℕ) → IsInOrder table from next → rows ≡ table →
-    IsPart table rows name
+pub whole : (table rows : Table) (name from next : List ℕ) → IsSortedPart table from next → rows ≡ table →
+    IsTablePart table rows name
 whole table rows name from next order e =
     record { held = ap (λ t. named_value t name) e; sorted = subst (λ (t : Table). is_sorted t ≡ true) (sym e) order.sorted }
 
 -- a name before a cut stands among the rows before it
-pub part-before : (low high rows : Table) (name cut next : List ℕ) → IsInOrder high cut next →
-    is_below name cut ≡ true → IsPart low rows name → IsPart (low ++ high) rows name
+pub part-before : (low high rows : Table) (name cut next : List ℕ) → IsSortedPart high cut next →
+    is_below name cut ≡ true → IsTablePart low rows name → IsTablePart (low ++ high) rows name
 part-before low high rows name cut next order h part = record {
   held = part.held ∙ named-front low high name (none-above high name order.sorted (further name cut high h order.first));
   sorted = part.sorted;
 }
 
 -- and any other name among the rest
-pub part-after : (low high rows : Table) (name from cut : List ℕ) → IsInOrder low from cut → is_below name cut ≡ false →
-    IsPart high rows name → IsPart (low ++ high) rows name
+pub part-after : (low high rows : Table) (name from cut : List ℕ) → IsSortedPart low from cut → is_below name cut ≡ false →
+    IsTablePart high rows name → IsTablePart (low ++ high) rows name
 part-after low high rows name from cut order h part = record {
   held = part.held ∙ named-back low high name (none-passes (λ x. is_below x cut) low name order.before h);
   sorted = part.sorted;
@@ -206,7 +206,7 @@ steps_rise rows s k d low high = rw (add-one k) (neighbours rows s k d (omega ar
 abbrev pub compared : List ℕ → Bor (List ℕ) × Bor (List ℕ) → Ordering
 compared name row = slice_cmp nat_cmp row.0.now name
 
-equal-same : (x y : List ℕ) → slice_cmp nat_cmp x y ≡ Equal → x ≡ y
+pub equal-same : (x y : List ℕ) → slice_cmp nat_cmp x y ≡ Equal → x ≡ y
 equal-same x y h = same_text x y (sym (sym (is_eq-slice_cmp x y) ∙ ap is_eq h))
 
 found_at : (rows : Rows) (name : List ℕ) (i : ℕ) (d : Bor (List ℕ) × Bor (List ℕ)) → is_sorted (rows_of rows) ≡ true → i < length rows → (get_or rows i d).0.now ≡ name
@@ -246,3 +246,47 @@ searched rows name d (Err i) s within parted = sym (found_nowhere rows name diff
       | inl low ↦ sym (is_eq-slice_cmp _ name) ∙ ap is_eq (at.0 k d (omega arith) low)
       | inr high ↦ sym (is_eq-slice_cmp _ name) ∙ ap is_eq (at.1 k d high inside)
     ]
+
+-- A table halved at a row.
+
+pub sorted-front : (low high : Table) → is_sorted (low ++ high) ≡ true → is_sorted low ≡ true
+sorted-front [] high s = refl
+sorted-front (row ∷ []) high s = refl
+sorted-front (row ∷ next ∷ low) high s =
+    let parts = and_parts (is_below row.0 next.0) (is_sorted (next ∷ (low ++ high))) s in
+    and_from _ _ parts.0 (sorted-front (next ∷ low) high parts.1)
+
+pub sorted-back : (low high : Table) → is_sorted (low ++ high) ≡ true → is_sorted high ≡ true
+sorted-back [] high s = s
+sorted-back (row ∷ low) high s =
+    sorted-back low high (and_parts (is_below_first row.0 (low ++ high)) (is_sorted (low ++ high)) s).1
+
+below-next : (low : Table) (row : List ℕ × List ℕ) (high : Table) → is_sorted (low ++ (row ∷ high)) ≡ true →
+    list_all (λ r. is_below r.0 row.0) low ≡ true
+below-next [] row high s = refl
+below-next (first ∷ low) row high s =
+    let parts = and_parts (is_below_first first.0 (low ++ (row ∷ high))) (is_sorted (low ++ (row ∷ high))) s in
+    let each = above (low ++ (row ∷ high)) first.0 parts.1 parts.0 in
+    let behind = (and_parts _ _ (sym (list_all-append _ low (row ∷ high)) ∙ each)).1 in
+    and_from _ _ (and_parts _ _ behind).0 (below-next low row high parts.1)
+
+-- no row before it has the name of the row, nor one that stands behind it in the order
+none-before : (low : Table) (row : List ℕ × List ℕ) (high : Table) (name : List ℕ) → is_sorted (low ++ (row ∷ high)) ≡ true →
+    list_all (λ r. is_below r.0 name) low ≡ true → named_value (row ∷ high) name ≡ named_value (low ++ (row ∷ high)) name
+none-before low row high name s h = named-back low (row ∷ high) name (none-passes (λ x. is_below x name) low name h (not-itself name))
+
+pub at-row : (low high : Table) (name text : List ℕ) → is_sorted (low ++ ((name, text) ∷ high)) ≡ true →
+    named_value (low ++ ((name, text) ∷ high)) name ≡ Some text
+at-row low high name text s =
+    sym (none-before low (name, text) high name s (below-next low (name, text) high s)) ∙ rw ((bytes_eq-Decides name name).1 refl, named_value) refl
+
+pub behind-row : (low : Table) (row : List ℕ × List ℕ) (high : Table) (name : List ℕ) → is_sorted (low ++ (row ∷ high)) ≡ true →
+    is_below row.0 name ≡ true → named_value high name ≡ named_value (low ++ (row ∷ high)) name
+behind-row low row high name s h =
+    let passed : named_value (row ∷ high) name ≡ named_value high name = rw (apart (λ x. is_below x name) row.0 name h (not-itself name), named_value) refl in
+    sym passed ∙ none-before low row high name s (all-below row.0 name low h (below-next low row high s))
+
+pub before-row : (low : Table) (row : List ℕ × List ℕ) (high : Table) (name : List ℕ) → is_sorted (low ++ (row ∷ high)) ≡ true →
+    is_below name row.0 ≡ true → named_value low name ≡ named_value (low ++ (row ∷ high)) name
+before-row low row high name s h =
+    named-front low (row ∷ high) name (none-above (row ∷ high) name (sorted-back low (row ∷ high) s) h)

@@ -1,7 +1,7 @@
 -- Laws of the definitions.
-use Rattle.std.specs.Prelude.{◌≡◌, ◌≢◌, ℕ, List, [], ◌∷◌, ◌++◌, All, IsTrue, chars, map}
-use Rattle.std.specs.List.{list_all}
-use Rattle.std.specs.Str.{byte}
+use Rattle.std.specs.Prelude.{◌≡◌, ◌≢◌, ℕ, List, [], ◌∷◌, ◌++◌, All, Bool, ◌&&◌, IsTrue, chars, map}
+use Rattle.std.specs.List.{list_all, list_any}
+use Rattle.std.specs.Str.{byte, bytes_eq}
 use Rattle.markdown_util.specs.Identifier.{separates_words, identifier_of}
 use Rattle.markdown_util.specs.Reference.{Table, html_4_rows, html_5_rows, parsed}
 use Rattle.markdown_util.specs.declared.util.constant.TheConstants.{CHARACTER_REFERENCES, CHARACTER_REFERENCES_HTML_4}
@@ -54,6 +54,10 @@ IdentifierLaw = (xs ys : List ℕ) → DifferInSpaces (chars xs) (chars ys) → 
 -- a text without `&` is parsed to itself, whichever the table
 abbrev pub UnchangedLaw : Type 0
 UnchangedLaw = (table : Table) (text : List ℕ) → All (λ b. b ≢ byte "&") text → parsed table text ≡ text
+
+-- each line of the first table is one of the second
+abbrev pub are_lines_of : Table → Table → Bool
+are_lines_of rows others = list_all (λ row. list_any (λ r. bytes_eq r.0 row.0 && bytes_eq r.1 row.1) others) rows
 
 -- the constants of the crate's surface hold the lines of the tables
 pub record ConstantsHoldRows : Type 0 where

@@ -6,3 +6,5 @@ pub mod Neighbours
 pub mod Reference
 -- What serves proofs: what functions and proofs promise each other.
 pub mod TableParts
+pub mod TableText
+pub mod ReferenceParts

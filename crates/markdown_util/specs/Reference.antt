@@ -8,12 +8,14 @@ use Rattle.std.specs.Int.{is_in_range}
 use Rattle.std.specs.List.{list_all, list_any, position_or_len, before_first}
 use Rattle.std.specs.Str.{bytes_eq, byte}
 use Rattle.std.specs.Str.Parse.{IsNumeral, digits_value}
-use Rattle.markdown_util.specs.declared.util.constant.TheConstants.{HTML_5_CAPITALS, HTML_5_A_TO_D, HTML_5_E_TO_L, HTML_5_M_TO_R, HTML_5_S_TO_Z, HTML_4_CAPITALS, HTML_4_A_TO_D, HTML_4_E_TO_L, HTML_4_M_TO_R, HTML_4_S_TO_Z}
+use Rattle.markdown_util.specs.declared.util.constant.TheConstants.{HTML_5_CAPITALS, HTML_5_A_TO_D, HTML_5_E_TO_L, HTML_5_M_TO_R, HTML_5_S_TO_Z, HTML_4_CAPITALS, HTML_4_A_TO_D, HTML_4_E_TO_L, HTML_4_M_TO_R, HTML_4_S_TO_Z, CHARACTER_REFERENCES_HTML}
+use Rattle.markdown_util.specs.declared.util.character_reference.Names.{Names}
+use Rattle.markdown_util.specs.declared.util.character_reference.Names.TheVariants.{Html4, Html5, Html}
 
 -- The three kinds of reference, each named by a byte: `&` for a name, `#` for a decimal number and `x` for a hexadecimal one. The value is what stands before the `;`.
 
-abbrev pub IsMarker : ℕ → Type 0
-IsMarker marker = (marker ≡ byte "&") ⊎ ((marker ≡ byte "#") ⊎ (marker ≡ byte "x"))
+abbrev pub IsReferenceMarker : ℕ → Type 0
+IsReferenceMarker marker = (marker ≡ byte "&") ⊎ ((marker ≡ byte "#") ⊎ (marker ≡ byte "x"))
 
 -- how many bytes a value has at most
 abbrev pub value_size_max : ℕ → ℕ
@@ -38,7 +40,7 @@ Table = List (List ℕ × List ℕ)
 abbrev pub rows_of : List (Bor (List ℕ) × Bor (List ℕ)) → Table
 rows_of rows = map (λ row. (row.0.now, row.1.now)) rows
 
--- Each table stands in five parts, by the first letter of the names: what is computed of a part asks for no other.
+-- The tables of HTML 4 and of HTML 5 stand in five parts each, by the first letter of the names: what is computed of a part asks for no other.
 
 unfoldable pub html_4_capitals : Table
 html_4_capitals = map (λ row. (row.0.now, row.1.now)) HTML_4_CAPITALS
@@ -75,6 +77,15 @@ html_4_rows = html_4_capitals ++ (html_4_a_to_d ++ (html_4_e_to_l ++ (html_4_m_t
 
 unfoldable pub html_5_rows : Table
 html_5_rows = html_5_capitals ++ (html_5_a_to_d ++ (html_5_e_to_l ++ (html_5_m_to_r ++ html_5_s_to_z)))
+
+unfoldable pub html_rows : Table
+html_rows = map (λ row. (row.0.now, row.1.now)) CHARACTER_REFERENCES_HTML
+
+-- the lines of the table that is named
+abbrev pub rows_named : Names → Table
+rows_named Html4 = html_4_rows
+rows_named Html5 = html_5_rows
+rows_named Html = html_rows
 
 -- the lines of HTML 5, or else those of HTML 4
 abbrev pub rows_for : Bool → Table

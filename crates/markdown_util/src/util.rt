@@ -3,4 +3,6 @@
 pub mod char;
 pub mod character_reference;
 pub mod constant;
+mod html_lines;
 pub mod normalize_identifier;
+mod reference_rows;

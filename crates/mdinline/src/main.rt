@@ -1,7 +1,7 @@
 //! Prints the events of the inline tree of a Markdown content that it reads from standard input.
 #![tactic(auto)]
 
-use markdown_run::program;
+use markdown_program::program;
 use std::alloc::Global;
 use std::process::ExitCode;
 use std::{env, io};

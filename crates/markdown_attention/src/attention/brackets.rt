@@ -1,8 +1,8 @@
-// The events that the pairs of a run make of its markers.
+//! The events that the pairs of a run make of its markers.
 #![tactic(auto)]
 
 ghost use Rattle.std.specs.Prelude.{◌≡◌, ◌+◌, ◌<◌, ◌^◌, ◌++◌, ◌∷◌, [], IfOk, OnOk, reverse};
-ghost use Rattle.markdown_engine_content.specs.Tree.{event};
+ghost use Rattle.markdown_content.specs.Tree.{event};
 ghost use Rattle.markdown_model.specs.BracketGroups.{pair_names};
 ghost use Rattle.markdown_attention.specs.RunEvents.{shifted, total, closing_at, opening_at, closings_from, openings_from, data_at, marker_events};
 

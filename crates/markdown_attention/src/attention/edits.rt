@@ -1,4 +1,4 @@
-// The edits of the pass: one for each run.
+//! The edits of the pass: one for each run.
 #![tactic(auto)]
 
 ghost use Rattle.std.specs.Prelude.{◌≡◌, ◌<◌, ◌++◌, ◌∷◌, [], OnOk, true, false, ℕ, length, slice_index_or};

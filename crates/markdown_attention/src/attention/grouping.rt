@@ -26,9 +26,9 @@ ghost use Rattle.std.specs.Prelude.{◌≡◌, IfOk, OnOk, OnErr, IsTrue, None};
 ghost use Rattle.markdown_attention.specs.RunsOfEvents.{runs_of_events};
 ghost use Rattle.markdown_attention.specs.OpenRuns.{HaveMarkers};
 ghost use Rattle.markdown_attention.specs.RunsOfTree.{IsOf, HasRuns};
-ghost use Rattle.markdown_attention.specs.PairScan.{Whole};
+ghost use Rattle.markdown_attention.specs.PairScan.{AreUntaken};
 ghost use Rattle.markdown_engine.specs.PastTree.{appended_from};
-ghost use Rattle.markdown_engine_content.specs.Tree.{Forest};
+ghost use Rattle.markdown_content.specs.Tree.{Forest};
 ghost use Rattle.markdown_model.specs.BracketGroups.{paired};
 ghost use Rattle.markdown_model.specs.Pairs.{pair_list};
 ghost use Rattle.markdown_model.specs.Setting.{Setting};
@@ -38,8 +38,8 @@ ghost use Rattle.markdown_attention.specs.AttentionTrees.{IsStriped};
 use crate::attention::edits::group_runs;
 use crate::attention::pairing::{Pair, pair_runs};
 use crate::attention::runs::{Runs, Sequence};
+use markdown_content::configuration::ParseOptions;
 use markdown_engine::tokenizer::Tokenizer;
-use markdown_engine_content::configuration::ParseOptions;
 use markdown_engine_events::subtokenize::Subresult;
 use std::alloc::{AllocError, Global};
 
@@ -55,7 +55,7 @@ struct Pairing {
 fn paired_runs(alloc: Global, options: ParseOptions, runs: Runs) -> Result<Pairing, AllocError>
     requires start { runs.turn ≡ 0 }
     requires unread { runs.probes ≡ 0 }
-    requires whole { Whole runs.list }
+    requires whole { AreUntaken runs.list }
     requires markers { HaveMarkers runs.list }
     requires small { IsSmall runs.list }
     ensures { IfOk result (λ p. IsPairing options runs.list p.runs.items p.pairs.items p.probes) }
@@ -74,7 +74,8 @@ fn paired_runs(alloc: Global, options: ParseOptions, runs: Runs) -> Result<Pairi
 fn pair_and_group(tokenizer: &mut Tokenizer) -> Result<u128, AllocError>
     requires { MayPair tokenizer.old }
     ensures same { OnOk result (tokenizer.new ≡ record tokenizer.old { events = tokenizer.new.events }) }
-    ensures grouped { IfOk result (λ probes. IsGrouped tokenizer.old.parse_state.now.options.now (runs_of_events tokenizer.old) tokenizer.old.events tokenizer.new.events probes) }
+    ensures grouped { IfOk result (λ probes.
+        IsGrouped tokenizer.old.parse_state.now.options.now (runs_of_events tokenizer.old) tokenizer.old.events tokenizer.new.events probes) }
 {
     let alloc = tokenizer.alloc;
     let options = *tokenizer.parse_state.options;
@@ -102,9 +103,12 @@ fn pair_and_group(tokenizer: &mut Tokenizer) -> Result<u128, AllocError>
 pub fn resolve_counted(tokenizer: &mut Tokenizer, probes: &mut u128) -> Result<(), AllocError>
     requires { MayPair tokenizer.old }
     ensures same { OnOk result (tokenizer.new ≡ record tokenizer.old { events = tokenizer.new.events }) }
-    ensures grouped { OnOk result (IsGrouped tokenizer.old.parse_state.now.options.now (runs_of_events tokenizer.old) tokenizer.old.events tokenizer.new.events probes.new) }
-    ensures paired { (s : Setting) (t : Forest) → IsOf s tokenizer.old → HasRuns tokenizer.old.parse_state.now.bytes.now t → IsStriped t → tokenizer.old.events ≡ appended_from 0 None t → OnOk result (tokenizer.new.events ≡ appended_from 0 None (paired s (pair_list s) t)) }
-    ensures probed { (s : Setting) (t : Forest) → IsOf s tokenizer.old → HasRuns tokenizer.old.parse_state.now.bytes.now t → tokenizer.old.events ≡ appended_from 0 None t → OnOk result (IsProbed s t probes.new) }
+    ensures grouped { OnOk result (IsGrouped tokenizer.old.parse_state.now.options.now
+        (runs_of_events tokenizer.old) tokenizer.old.events tokenizer.new.events probes.new) }
+    ensures paired { (s : Setting) (t : Forest) → IsOf s tokenizer.old → HasRuns tokenizer.old.parse_state.now.bytes.now t → IsStriped t
+        → tokenizer.old.events ≡ appended_from 0 None t → OnOk result (tokenizer.new.events ≡ appended_from 0 None (paired s (pair_list s) t)) }
+    ensures probed { (s : Setting) (t : Forest) → IsOf s tokenizer.old → HasRuns tokenizer.old.parse_state.now.bytes.now t
+        → tokenizer.old.events ≡ appended_from 0 None t → OnOk result (IsProbed s t probes.new) }
     ensures stays { OnErr result (probes.new ≡ probes.old) }
     ensures err { OnErr result (IsTrue tokenizer.new.failed) }
 {
@@ -121,10 +125,16 @@ pub fn resolve_counted(tokenizer: &mut Tokenizer, probes: &mut u128) -> Result<(
 pub fn resolve(tokenizer: &mut Tokenizer) -> Result<Option<Subresult>, AllocError>
     requires { MayPair tokenizer.old }
     ensures none { IfOk result (λ r. r ≡ None) }
-    ensures same { OnOk result (tokenizer.new ≡ record tokenizer.old { events = tokenizer.new.events; tokenize_state = record tokenizer.old.tokenize_state { probes = tokenizer.new.tokenize_state.probes } }) }
-    ensures grouped { OnOk result (IsGrouped tokenizer.old.parse_state.now.options.now (runs_of_events tokenizer.old) tokenizer.old.events tokenizer.new.events tokenizer.new.tokenize_state.probes) }
-    ensures paired { (s : Setting) (t : Forest) → IsOf s tokenizer.old → HasRuns tokenizer.old.parse_state.now.bytes.now t → IsStriped t → tokenizer.old.events ≡ appended_from 0 None t → OnOk result (tokenizer.new.events ≡ appended_from 0 None (paired s (pair_list s) t)) }
-    ensures probed { (s : Setting) (t : Forest) → IsOf s tokenizer.old → HasRuns tokenizer.old.parse_state.now.bytes.now t → tokenizer.old.events ≡ appended_from 0 None t → OnOk result (IsProbed s t tokenizer.new.tokenize_state.probes) }
+    ensures same { OnOk result (tokenizer.new ≡ record tokenizer.old {
+      events = tokenizer.new.events;
+      tokenize_state = record tokenizer.old.tokenize_state { probes = tokenizer.new.tokenize_state.probes };
+    }) }
+    ensures grouped { OnOk result (IsGrouped tokenizer.old.parse_state.now.options.now
+        (runs_of_events tokenizer.old) tokenizer.old.events tokenizer.new.events tokenizer.new.tokenize_state.probes) }
+    ensures paired { (s : Setting) (t : Forest) → IsOf s tokenizer.old → HasRuns tokenizer.old.parse_state.now.bytes.now t → IsStriped t
+        → tokenizer.old.events ≡ appended_from 0 None t → OnOk result (tokenizer.new.events ≡ appended_from 0 None (paired s (pair_list s) t)) }
+    ensures probed { (s : Setting) (t : Forest) → IsOf s tokenizer.old → HasRuns tokenizer.old.parse_state.now.bytes.now t
+        → tokenizer.old.events ≡ appended_from 0 None t → OnOk result (IsProbed s t tokenizer.new.tokenize_state.probes) }
     ensures err { OnErr result (IsTrue tokenizer.new.failed) }
 {
     let mut probes = 0;

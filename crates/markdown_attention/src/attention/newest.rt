@@ -1,4 +1,4 @@
-// The newest run of a list of open runs, or none.
+//! The newest run of a list of open runs, or none.
 ghost use Rattle.std.specs.Prelude.{◌≡◌, ◌+◌, ◌<◌, ◌≤◌, ◌^◌, IfSome, IfNone};
 
 use std::marker::Model;

@@ -5,13 +5,13 @@
 
 ghost use Rattle.std.specs.Prelude.{◌≡◌, ℕ, ◌+◌, ◌-◌, ◌*◌, ◌^◌, ◌<◌, ◌≤◌, ◌⊎◌, ◌&&◌, length, slice_index, slice_set, nat_lt, if◌then◌else◌, IfSome, IfNone, IfOk, IsTrue, IsFalse, count_by, replicate};
 ghost use Rattle.markdown_attention.specs.NumberedPairs.{run_at, markers_left, sizes_fit, ruled_size, is_refused_by_three, is_tilde_pair, size_of_pair, row_of};
-ghost use Rattle.markdown_attention.specs.PairScan.{Stands, Whole, AreSmall};
+ghost use Rattle.markdown_attention.specs.PairScan.{AreRunsAfter, AreUntaken, AreSmall};
 ghost use Rattle.markdown_attention.specs.OpenRuns.{AreLines, kind_of, class_of, WalkFound, WalkEnded, IsCut, HaveMarkers, IsClosing};
-ghost use Rattle.markdown_attention.specs.RunContainers.{ArePairLists, AreWithin, AreTakenOnce};
+ghost use Rattle.markdown_attention.specs.RunContainers.{ArePairLists, ArePairsWithin, AreTakenOnce};
 
 use crate::attention::newest::Newest;
 use crate::attention::runs::{Runs, Sequence};
-use markdown_engine_content::configuration::ParseOptions;
+use markdown_content::configuration::ParseOptions;
 use std::alloc::{AllocError, Global};
 
 /// An opener and a closer by their numbers, and how many markers the pair takes of each.
@@ -36,7 +36,7 @@ fn pair_size(opener: usize, closer: usize) -> usize
 fn ruled_size(options: ParseOptions, whole: usize, remaining: usize) -> usize
     ensures { result ≡ ruled_size options whole remaining }
 {
-    if options.attention_first_lengths {
+    if options.rules().whole_lengths {
         whole
     } else {
         remaining
@@ -246,8 +246,10 @@ fn cut_for_pair(
     requires down { (r : ℕ) → r < length older.now → slice_index older.now r ≤ r }
     requires heads { (i : ℕ) → i < length heads.old.items → slice_index heads.old.items i ≤ length older.now }
     ensures same { length heads.new.items ≡ length heads.old.items }
-    ensures cut { (i : ℕ) → first ≤ i → i < first + 3 → (i ≡ list → ⊥) → IsCut older.now opener (slice_index heads.old.items i) (slice_index heads.new.items i) }
-    ensures own { IsFalse used → first ≤ list → list < first + 3 → IsCut older.now opener (slice_index heads.old.items list) (slice_index heads.new.items list) }
+    ensures cut { (i : ℕ) → first ≤ i → i < first + 3 → (i ≡ list → ⊥)
+        → IsCut older.now opener (slice_index heads.old.items i) (slice_index heads.new.items i) }
+    ensures own { IsFalse used → first ≤ list → list < first + 3
+        → IsCut older.now opener (slice_index heads.old.items list) (slice_index heads.new.items list) }
     ensures used { IsTrue used → slice_index heads.new.items list ≡ slice_index older.now opener }
     ensures others { (i : ℕ) → (i < first) ⊎ (first + 3 ≤ i) → (i ≡ list → ⊥) → slice_index heads.new.items i ≡ slice_index heads.old.items i }
 {
@@ -325,15 +327,16 @@ pub fn pair_runs(
 ) -> Result<Vec<Pair>, AllocError>
     requires start { runs.old.turn ≡ 0 }
     requires unread { runs.old.probes ≡ 0 }
-    requires whole { Whole runs.old.list }
+    requires whole { AreUntaken runs.old.list }
     requires markers { HaveMarkers runs.old.list }
     requires small { markers_left runs.old.list < 2 ^ 63 }
     requires count { length runs.old.list < 2 ^ 63 }
     ensures lists { IfOk result (λ pairs. ArePairLists options runs.old.list pairs.items) }
-    ensures within { IfOk result (λ pairs. AreWithin runs.old.list pairs.items) }
+    ensures within { IfOk result (λ pairs. ArePairsWithin runs.old.list pairs.items) }
     ensures once { IfOk result (λ pairs. AreTakenOnce runs.old.list pairs.items) }
-    ensures left { IfOk result (λ pairs. Stands runs.old.list runs.new.list pairs.items) }
-    ensures at_most { IfOk result (λ pairs. runs.new.probes ≤ 6 * count_by (λ r. r.may_open) runs.old.list + count_by (λ r. r.may_close) runs.old.list + 7 * length pairs.items) }
+    ensures left { IfOk result (λ pairs. AreRunsAfter runs.old.list runs.new.list pairs.items) }
+    ensures at_most { IfOk result (λ pairs. runs.new.probes ≤ 6 * count_by (λ r. r.may_open) runs.old.list
+        + count_by (λ r. r.may_close) runs.old.list + 7 * length pairs.items) }
     ensures at_least { IfOk result (λ pairs. length pairs.items ≤ runs.new.probes) }
     ensures scan { IfOk result (λ pairs. runs.new.probes ≤ (length runs.old.list + length pairs.items) * length runs.old.list) }
     ensures half { IfOk result (λ pairs. 2 * length pairs.items ≤ markers_left runs.old.list) }

@@ -1,51 +1,79 @@
 //! Reading the runs of markers off the events.
 
 ghost use Rattle.std.specs.Prelude.{◌≡◌, ℕ, ◌+◌, ◌<◌, ◌≤◌, ◌^◌, ◌++◌, length, drop, slice_index_or, count_by, false, IfOk, OnOk, IsUtf8, Option, None};
-ghost use Rattle.markdown_attention.specs.RunsRead.{opens_run, opens_text, is_beside_marker, is_flanking, may_act, sequence_at, where_after, outermost, first_run, runs_from, IsRunPlace, FirstHasPlaces, HaveRunPlaces};
+ghost use Rattle.markdown_content.specs.CommonMark.{rules_of};
+ghost use Rattle.markdown_attention.specs.RunsRead.{opens_run, opens_text, sequence_at, where_after, outermost, first_run, runs_from, IsRunPlace, FirstHasPlaces, HaveRunPlaces};
 ghost use Rattle.markdown_attention.specs.RunSteps.{changes_reading};
 ghost use Rattle.markdown_attention.specs.PairScan.{Numbered};
-ghost use Rattle.markdown_util.specs.Neighbours.{class_of};
+ghost use Rattle.markdown_model.specs.Runs.{as_read, class_beside, is_beside_marker, is_flanking, may_act};
 
 use crate::attention::runs::Sequence;
+use markdown_content::configuration::{ParseOptions, Rules};
 use markdown_engine_events::events::Events;
 use markdown_event::event::{Event, Kind, Name, Point};
-use markdown_lists::seq::Stack;
+use markdown_event::seq::Stack;
 use markdown_util::util::char::{self, Kind as CharacterKind};
 use std::alloc::{AllocError, Global};
 
-// Whether another marker stands beside a run of `*` or `_`.
-fn is_beside_marker(tildes: bool, marker: u8, beside: Option<char>) -> bool
-    ensures { result ≡ is_beside_marker tildes marker beside }
+// What the rules read at a character.
+fn as_read(rules: Rules, beside: Option<char>) -> Option<char>
+    ensures { result ≡ as_read rules beside }
 {
     match beside {
-        Some('*' | '_') => marker != b'~',
-        Some('~') => marker != b'~' && tildes,
-        _ => false,
+        Some('\0') if rules.nul_is_replaced => Some('\u{FFFD}'),
+        _ => beside,
     }
+}
+
+// The class of a character beside a run.
+#[tactic(auto, unfolding(markdown_model::specs::Runs::class_beside))]
+fn class_beside(rules: Rules, beside: Option<char>) -> CharacterKind
+    ensures { result ≡ class_beside rules beside }
+{
+    let read = as_read(rules, beside);
+    if rules.listed_spaces {
+        char::classify_listed(read)
+    } else {
+        char::classify_opt(read)
+    }
+}
+
+// Whether a run of `*` or `_` may act because another marker stands beside it.
+fn is_beside_marker(options: ParseOptions, marker: u8, beside: Option<char>) -> bool
+    ensures { result ≡ is_beside_marker options marker beside }
+{
+    let is_marker = match beside {
+        Some('*' | '_') => true,
+        Some('~') => options.constructs.gfm_strikethrough,
+        _ => false,
+    };
+    !options.rules().markers_are_punctuation && marker != b'~' && is_marker
 }
 
 // Whether a run is left-flanking, by the classes of the characters before and after it, and the character after it; with before and after
 // exchanged, right-flanking.
 fn is_flanking(
-    tildes: bool,
+    options: ParseOptions,
     marker: u8,
     before: CharacterKind,
     after: CharacterKind,
     beside: Option<char>,
 ) -> bool
-    ensures { (b : Option ℕ) → before ≡ class_of b → after ≡ class_of beside → result ≡ is_flanking tildes marker b beside }
+    ensures { (b : Option ℕ) → before ≡ class_beside (rules_of options) b → after ≡ class_beside (rules_of options) beside
+        → result ≡ is_flanking options marker b beside }
 {
     let flanks = match after {
         CharacterKind::Other => true,
         CharacterKind::Punctuation => !matches!(before, CharacterKind::Other),
         CharacterKind::Whitespace => false,
     };
-    flanks || is_beside_marker(tildes, marker, beside)
+    flanks || is_beside_marker(options, marker, beside)
 }
 
 // Whether a run may open or close: a run of `_` that is flanking on both sides needs a character beside it that is not of class other.
 fn may_act(marker: u8, beside: CharacterKind, here: bool, there: bool) -> bool
-    ensures { (b : Option ℕ) → beside ≡ class_of b → result ≡ may_act marker b here there }
+    ensures { (options : ParseOptions) (b : Option ℕ) → beside ≡ class_beside (rules_of options) b
+        → result ≡ may_act options marker b here there }
 {
     here && (marker != b'_' || !matches!(beside, CharacterKind::Other) || !there)
 }
@@ -60,7 +88,7 @@ struct Text {
 
 // The run from one place to another.
 fn sequence_at(
-    tildes: bool,
+    options: ParseOptions,
     bytes: &[u8],
     number: usize,
     event: usize,
@@ -70,15 +98,16 @@ fn sequence_at(
 ) -> Sequence
     requires utf8 { IsUtf8 bytes.now }
     requires place { IsRunPlace bytes.now from to }
-    ensures { result ≡ sequence_at tildes bytes.now number event container from to }
+    ensures { result ≡ sequence_at options bytes.now number event container from to }
 {
     let marker = bytes[from.index];
     let before = char::before_index(bytes, from.index);
     let after = char::after_index(bytes, to.index);
-    let kind_before = char::classify_opt(before);
-    let kind_after = char::classify_opt(after);
-    let left = is_flanking(tildes, marker, kind_before, kind_after, after);
-    let right = is_flanking(tildes, marker, kind_after, kind_before, before);
+    let rules = options.rules();
+    let kind_before = class_beside(rules, before);
+    let kind_after = class_beside(rules, after);
+    let left = is_flanking(options, marker, kind_before, kind_after, after);
+    let right = is_flanking(options, marker, kind_after, kind_before, before);
     let size = to.index - from.index;
     Sequence {
         number,
@@ -134,7 +163,7 @@ fn opens_run(event: Event) -> bool
 // Adds the run that an event begins.
 fn read_event(
     bytes: &[u8],
-    tildes: bool,
+    options: ParseOptions,
     events: &Events,
     index: usize,
     place: &Where,
@@ -144,14 +173,15 @@ fn read_event(
     requires within { index < length events.now }
     requires counted { length events.now < 2 ^ 64 }
     requires places { FirstHasPlaces bytes.now (drop index events.now) }
-    ensures { OnOk result (list.new.items ≡ list.old.items ++ first_run tildes bytes.now (length list.old.items) index place.now.container (drop index events.now)) }
+    ensures { OnOk result (list.new.items
+        ≡ list.old.items ++ first_run options bytes.now (length list.old.items) index place.now.container (drop index events.now)) }
 {
     let enter = events.bare_at(index);
     if opens_run(enter) {
         let exit = events.bare_at(index + 1);
         let number = list.len();
         let run = sequence_at(
-            tildes,
+            options,
             bytes,
             number,
             index,
@@ -227,12 +257,12 @@ pub(crate) struct Found {
 pub(crate) fn read(
     alloc: Global,
     bytes: &[u8],
-    tildes: bool,
+    options: ParseOptions,
     events: &Events,
 ) -> Result<Found, AllocError>
     requires utf8 { IsUtf8 bytes.now }
     requires places { HaveRunPlaces bytes.now events.now }
-    ensures is { IfOk result (λ found. found.list.items ≡ runs_from tildes bytes.now 0 0 outermost events.now) }
+    ensures is { IfOk result (λ found. found.list.items ≡ runs_from options bytes.now 0 0 outermost events.now) }
     ensures numbered { IfOk result (λ found. Numbered found.list.items) }
     ensures texts { IfOk result (λ found. found.texts ≡ count_by opens_text events.now) }
 {
@@ -245,7 +275,7 @@ pub(crate) fn read(
     let count = events.len();
     let mut index = next_change(events, 0);
     while index < count {
-        read_event(bytes, tildes, events, index, &place, &mut list)?;
+        read_event(bytes, options, events, index, &place, &mut list)?;
         place.pass(index, events.bare_at(index))?;
         index = next_change(events, index + 1);
     }

@@ -5,11 +5,11 @@ ghost use Rattle.markdown_attention.specs.NumberedPairs.{run_at, after_taking};
 ghost use Rattle.markdown_attention.specs.RunsRead.{HaveRunPlaces, opens_text};
 ghost use Rattle.markdown_attention.specs.RunsOfEvents.{runs_of_events};
 ghost use Rattle.markdown_attention.specs.OpenRuns.{HaveMarkers};
-ghost use Rattle.markdown_attention.specs.PairScan.{Whole, StandIn};
+ghost use Rattle.markdown_attention.specs.PairScan.{AreUntaken, StandIn};
 ghost use Rattle.markdown_attention.specs.RunsOfTree.{IsOf, HasRuns, HasRows};
 ghost use Rattle.markdown_engine.specs.Operations.{refused};
 ghost use Rattle.markdown_engine.specs.PastTree.{appended_from};
-ghost use Rattle.markdown_engine_content.specs.Tree.{Forest};
+ghost use Rattle.markdown_content.specs.Tree.{Forest};
 ghost use Rattle.markdown_model.specs.Setting.{Setting};
 
 use crate::attention::reading::read;
@@ -71,17 +71,19 @@ impl Runs {
     pub fn new(tokenizer: &mut Tokenizer) -> Result<Runs, AllocError>
         requires utf8 { IsUtf8 tokenizer.old.parse_state.now.bytes.now }
         requires places { HaveRunPlaces tokenizer.old.parse_state.now.bytes.now tokenizer.old.events }
-        ensures runs { IfOk result (λ runs. runs ≡ record { list = runs_of_events tokenizer.old; texts = count_by opens_text tokenizer.old.events; turn = 0; probes = 0 }) }
-        ensures whole { IfOk result (λ runs. Whole runs.list) }
+        ensures runs { IfOk result (λ runs. runs
+            ≡ record { list = runs_of_events tokenizer.old; texts = count_by opens_text tokenizer.old.events; turn = 0; probes = 0 }) }
+        ensures whole { IfOk result (λ runs. AreUntaken runs.list) }
         ensures markers { IfOk result (λ runs. HaveMarkers runs.list) }
         ensures containers { IfOk result (λ runs. StandIn (count_by opens_text tokenizer.old.events) runs.list) }
-        ensures rows { (s : Setting) (t : Forest) → IsOf s tokenizer.old → HasRuns tokenizer.old.parse_state.now.bytes.now t → tokenizer.old.events ≡ appended_from 0 None t → IfOk result (λ runs. HasRows s t runs.list) }
+        ensures rows { (s : Setting) (t : Forest) → IsOf s tokenizer.old → HasRuns tokenizer.old.parse_state.now.bytes.now t
+            → tokenizer.old.events ≡ appended_from 0 None t → IfOk result (λ runs. HasRows s t runs.list) }
         ensures same { OnOk result (tokenizer.new ≡ tokenizer.old) }
         ensures err { OnErr result (tokenizer.new ≡ refused tokenizer.old) }
     {
         let bytes = tokenizer.parse_state.bytes;
-        let tildes = tokenizer.parse_state.options.constructs.gfm_strikethrough;
-        match read(tokenizer.alloc, bytes, tildes, &tokenizer.events) {
+        let options = *tokenizer.parse_state.options;
+        match read(tokenizer.alloc, bytes, options, &tokenizer.events) {
             Err(error) => tokenizer.noted(Err(error)),
             Ok(found) => Ok(Runs {
                 list: found.list,

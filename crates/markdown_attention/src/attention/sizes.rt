@@ -1,4 +1,4 @@
-// The sizes of the pairs of each run.
+//! The sizes of the pairs of each run.
 #![tactic(auto)]
 
 ghost use Rattle.std.specs.Prelude.{◌≡◌, ◌<◌, ◌∷◌, [], IfOk, IfSome, IsTrue, OnOk, length, replicate, slice_index_or, slice_set};
@@ -6,7 +6,7 @@ ghost use Rattle.std.specs.List.{All};
 ghost use Rattle.markdown_attention.specs.PairSizes.{side_of, AreSizes};
 
 use crate::attention::pairing::Pair;
-use markdown_lists::seq::Stack;
+use markdown_event::seq::Stack;
 use std::alloc::{AllocError, Global};
 use std::marker::Model;
 

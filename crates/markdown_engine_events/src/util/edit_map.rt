@@ -1,13 +1,14 @@
-// Edits of a list of events, collected first and applied at once.
+//! Edits of a list of events, collected first and applied at once.
 ghost use Rattle.std.specs.Prelude.{◌≡◌, ◌≢◌, ℕ, ◌<◌, ◌≤◌, ◌+◌, ◌-◌, ◌^◌, ◌++◌, ◌∷◌, ◌==◌, [], length, take, drop, slice_index_or, min, max, sum_by, OnOk, OnErr, IfOk, IsTrue, IsFalse, List, true, false};
 ghost use Rattle.std.specs.List.{All};
 ghost use Rattle.std.specs.List.Sorted.{IsNonDecreasingBy};
 ghost use Rattle.markdown_engine_events.specs.EventChains.{bare, EndsChain, IsFresh, IsLinked, IsUnlinked};
 ghost use Rattle.markdown_engine_events.specs.Edits.{removed_at, front_at, back_at, added_at, edit_of, kept, edits_of, number_of, renumbered, noted, edited, AreBrought, AreKept, IsRest, CanEdit};
 
+use crate::event_list::{EventList, EventSlice};
 use crate::events::Events;
 use markdown_event::event::{Event, Link};
-use markdown_lists::seq::{Seq, Stack};
+use markdown_event::seq::{Seq, Stack};
 use std::alloc::{AllocError, Global};
 use std::marker::Model;
 
@@ -47,7 +48,7 @@ pub(crate) struct Entry {
 pub struct EditMap {
     log: Seq<Entry>,
     // the events that come, those of an edit behind those of the edits before it
-    comes: Seq<Event>,
+    comes: EventList,
     alloc: Global,
 }
 
@@ -67,16 +68,16 @@ impl Model for EditMap {
 #[derive(Clone, Copy)]
 pub(crate) struct Kept<'a> {
     pub(crate) entries: &'a [Entry],
-    pub(crate) comes: &'a [Event],
+    pub(crate) comes: &'a EventList,
 }
 
 // The events that an edit brings.
-pub(crate) fn brought<'a>(comes: &'a [Event], edit: &Entry) -> &'a [Event]
+pub(crate) fn brought<'a>(comes: &'a EventList, edit: &Entry) -> EventSlice<'a>
     requires order { edit.now.from ≤ edit.now.to }
     requires within { edit.now.to ≤ length comes.now }
-    ensures { result.now ≡ (edit_of comes.now edit.now).events }
+    ensures { result ≡ (edit_of comes.now edit.now).events }
 {
-    &comes[edit.from..edit.to]
+    comes.slice(edit.from, edit.to)
 }
 
 // Whether each edit stands at a place not before that of the edit before it.
@@ -135,7 +136,7 @@ fn push_fronts(done: &mut Events, edits: &Kept, at: usize) -> Result<(), AllocEr
     for index in (0..edits.entries.len()).rev() {
         let edit = &edits.entries[index];
         if edit.at == at && edit.before {
-            done.extend_fresh(brought(edits.comes, edit))?;
+            done.extend_fresh(&brought(edits.comes, edit))?;
         }
     }
     Ok(())
@@ -148,7 +149,7 @@ fn push_backs(done: &mut Events, edits: &Kept, at: usize) -> Result<(), AllocErr
 {
     for edit in edits.entries {
         if edit.at == at && !edit.before {
-            done.extend_fresh(brought(edits.comes, edit))?;
+            done.extend_fresh(&brought(edits.comes, edit))?;
         }
     }
     Ok(())
@@ -178,7 +179,7 @@ fn push_here(done: &mut Events, edits: &Kept, at: usize) -> Result<usize, AllocE
 {
     if edits.entries.len() == 1 {
         let edit = &edits.entries[0];
-        done.extend_fresh(brought(edits.comes, edit))?;
+        done.extend_fresh(&brought(edits.comes, edit))?;
         return Ok(edit.remove);
     }
     push_fronts(done, edits, at)?;
@@ -349,7 +350,7 @@ fn pass_alone(
     let end = events.len().min(from.saturating_add(AT_ONCE));
     let to = next_place(edits, passed, end);
     let alone = events.alone(from, to);
-    done.extend_fresh(alone)?;
+    done.extend_fresh(&alone)?;
     Ok(from + alone.len())
 }
 
@@ -364,12 +365,27 @@ fn count_after(count: usize, comes: usize, log: &[Entry]) -> usize
     count.saturating_add(comes).saturating_sub(removed)
 }
 
+// For how many of the events that edits bring a map makes room at first. The edits of most paragraphs bring no more.
+const FIRST_ROOM: usize = 24;
+
+// Makes room for the first of the events that come, where there is none yet. They are as they were.
+#[inline(always)]
+fn make_room(comes: &mut EventList) -> Result<(), AllocError>
+    ensures { comes.new ≡ comes.old }
+{
+    if comes.len() == 0 {
+        return comes.reserve(FIRST_ROOM);
+    }
+    Ok(())
+}
+
 // Adds so many events, each of them written straight to its place.
 #[inline(always)]
-fn push_each<const N: usize>(comes: &mut Seq<Event>, events: [Event; N]) -> Result<(), AllocError>
+fn push_each<const N: usize>(comes: &mut EventList, events: [Event; N]) -> Result<(), AllocError>
     ensures ok { OnOk result (comes.new ≡ comes.old ++ events.entry) }
     ensures err { OnErr result (comes.new ≡ comes.old) }
 {
+    make_room(comes)?;
     let from = comes.len();
     for index in 0..N {
         if comes.push(events[index]).is_err() {
@@ -387,7 +403,7 @@ impl EditMap {
     {
         EditMap {
             log: Seq::new(alloc),
-            comes: Seq::new(alloc),
+            comes: EventList::new(alloc),
             alloc,
         }
     }
@@ -421,7 +437,7 @@ impl EditMap {
         ensures err { OnErr result (self.new ≡ self.old) }
     {
         let from = self.comes.len();
-        self.comes.extend_from_slice(events)?;
+        self.comes.push_all(events)?;
         let entry = Entry {
             at,
             remove,
@@ -543,7 +559,7 @@ impl EditMap {
     {
         Ok(Kept {
             entries: by_place(self.log.as_slice(), room)?,
-            comes: self.comes.as_slice(),
+            comes: &self.comes,
         })
     }
 
@@ -612,17 +628,20 @@ impl EditMap {
     {
         Kept {
             entries: self.log.as_slice(),
-            comes: self.comes.as_slice(),
+            comes: &self.comes,
         }
     }
 
     // Applies all edits in the list itself, where that can be: as they were added, or else in the order of their places. The answer is whether they
-    // are applied.
+    // are applied. Where events may be linked to each other they are not, so that the edits are put in order once, by the walk that applies them.
     fn applied_in_place(&self, events: &mut Events) -> Result<bool, AllocError>
         ensures done { IfOk result (λ done. IsTrue done → events.new ≡ edited self.now events.old) }
         ensures stays { IfOk result (λ done. IsFalse done → events.new ≡ events.old) }
         ensures err { OnErr result (events.new ≡ events.old) }
     {
+        if events.has_chains() {
+            return Ok(false);
+        }
         if events.edit_in_place(&self.as_added())? {
             return Ok(true);
         }

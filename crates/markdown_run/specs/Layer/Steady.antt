@@ -1,12 +1,12 @@
 -- The states that pass code after code do no more than that up to their stop bytes.
 use Rattle.std.proofs.Common.{◌≡◌, ℕ, List, None, Some}
 use Rattle.markdown_engine.specs.Steady.{IsSteady}
-use Rattle.markdown_state.specs.declared.state.StateName.TheVariants as H
+use Rattle.markdown_event.specs.declared.state.StateName.TheVariants as H
 use Rattle.markdown_leaf_html.proofs.HtmlSteadyLaws as HtmlSteadyLaws
 use Rattle.markdown_leaf.proofs.AutolinkLaws as AutolinkLaws
 use Rattle.markdown_leaf.proofs.RawTextLaws as RawTextLaws
 use Rattle.markdown_partial.proofs.PartialDataLaws as PartialDataLaws
-use Rattle.markdown_partial_link.proofs.LinkSteadyLaws as StringSteady
+use Rattle.markdown_partial.proofs.LinkSteadyLaws as StringSteady
 use Rattle.markdown_run.specs.Layer.{ready_of, step_of, stops_of}
 
 no-bytes : (set : List ℕ) → None ≡ Some set → ⊥

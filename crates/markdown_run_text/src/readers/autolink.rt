@@ -1,22 +1,50 @@
-//! Autolinks (CommonMark 6.5), read whole.
+//! The reader of autolinks: a URI or an email address between angle brackets (CommonMark 6.5).
+//!
+//!     autolink ::= '<' (uri | email_address) '>'
+//!     uri ::= scheme ':' (code - (ascii_control | ' ' | '<' | '>'))*
+//!     scheme ::= letter (letter | digit | '+' | '-' | '.'){1,31}
+//!     email_address ::= local+ '@' domain_label ('.' domain_label)*
+//!     local ::= letter | digit | one of # $ % & ' * + - . / = ? ^ _ ` { | } ~, and by CommonMark's rule !
+//!     domain_label ::= alphanumeric ((alphanumeric | '-'){0,61} alphanumeric)?
+//!     alphanumeric ::= letter | digit
+//!
+//! Events:
+//!
+//!     Autolink
+//!       AutolinkMarker                       `<`
+//!       AutolinkProtocol or AutolinkEmail    the URI or the address
+//!       AutolinkMarker                       `>`
+//!
+//! Example: the link of `<me@b.c>`.
+//!
+//!     Autolink 0-8
+//!       AutolinkMarker 0-1
+//!       AutolinkEmail 1-7
+//!       AutolinkMarker 7-8
+//!
+//! Definition: `autolink` in `markdown_model/specs/LeafConstructs.antt`.
+//!
+//! The reader knows every form: where it answers `false`, no autolink stands at the place. HTML is tried then, which may begin with `<` too.
+//!
+//! Each code is passed once. A scheme may also be the front of an address, so what looks like a scheme and has no colon behind it goes on as an address.
 #![tactic(auto, using(markdown_engine::proofs::OperationFields::op_rules))]
 
 ghost use Rattle.std.specs.Prelude.{◌≡◌, ◌&&◌, true, IfOk, OnOk, OnErr, IsTrue, None};
 ghost use Rattle.markdown_engine.specs.Operations.{HasCode};
-ghost use Rattle.markdown_engine_content.specs.Place.{code_at};
+ghost use Rattle.markdown_content.specs.Place.{code_at};
 ghost use Rattle.markdown_event.specs.declared.event.Name.TheVariants as N;
 ghost use Rattle.markdown_leaf.specs.Autolink.{domains, local_rest, open_naming, scheme_naming, up_to_bracket};
 ghost use Rattle.markdown_model.specs.Grammar.{any_number};
 ghost use Rattle.markdown_model.specs.LeafConstructs.{is_uri_code};
 ghost use Rattle.markdown_model.specs.SingleConstructs.{autolink_here};
-ghost use Rattle.markdown_run_text.specs.AutolinkPlaces.{Names, begins_scheme, is_some_local, is_some_scheme, label_after, link_read, opens_here};
+ghost use Rattle.markdown_run_text.specs.AutolinkPlaces.{NamesFrom, begins_scheme, is_some_local, is_some_scheme, label_after, link_read, opens_here};
 ghost use Rattle.markdown_run_text.specs.PlacesPassed.{is_some_value};
 ghost use Rattle.markdown_run_text.specs.ReaderEnds.{ReadsOrStays, options_here};
 
 use crate::readers::attention::is_at;
 use crate::readers::events::{append_enter, append_exit, append_leaf, read_marker};
+use markdown_content::cursor::Cursor;
 use markdown_engine::tokenizer::Tokenizer;
-use markdown_engine_content::cursor::Cursor;
 use markdown_event::event::Name;
 use markdown_leaf::autolink::uri_stops;
 use markdown_plan::bytes::{is_alphanumeric, is_letter};
@@ -52,22 +80,26 @@ fn is_scheme(code: Option<u8>) -> bool
     }
 }
 
-// Whether an address may have the code before its `@`.
-fn is_local(code: Option<u8>) -> bool
-    ensures { result ≡ is_some_local code }
+// Whether an address may have the code before its `@`; `all` says that all of CommonMark's marks may stand there.
+fn is_local(code: Option<u8>, all: bool) -> bool
+    ensures { result ≡ is_some_local all code }
 {
     match code {
         Some(byte) => {
             is_alphanumeric(byte)
                 || matches!(byte, b'#'..=b'\'' | b'*'..=b'+' | b'-'..=b'/' | b'=' | b'?' | b'^'..=b'`' | b'{'..=b'~')
+                || byte == b'!' && all
         }
         None => false,
     }
 }
 
-// Moves past the rest of a URI, after its colon. Answers its name where a bracket closes it.
+// Moves past the rest of a URI, after its colon, and answers its name where a bracket closes it.
+//
+//     > | <ftp:x>
+//              ^
 fn name_uri(cursor: &mut Cursor) -> Option<Name>
-    ensures { Names (up_to_bracket N.AutolinkProtocol (any_number is_uri_code)) cursor.old result cursor.new }
+    ensures { NamesFrom (up_to_bracket N.AutolinkProtocol (any_number is_uri_code)) cursor.old result cursor.new }
 {
     cursor.consume_stretch(&uri_stops());
     if !is_at(cursor, b'>') {
@@ -76,7 +108,10 @@ fn name_uri(cursor: &mut Cursor) -> Option<Name>
     Some(Name::AutolinkProtocol)
 }
 
-// What is passed of a label with this code, if it goes on or ends by it.
+// What is passed of a label with this code, if it goes on or ends by it. A dot ends it, and nothing of the next label is passed then.
+//
+//     > | <o_k@x-1.org>
+//              ^^^^^^^
 fn label_after(label: Label, code: u8) -> Option<Label>
     ensures { result ≡ label_after label code }
 {
@@ -100,9 +135,12 @@ fn label_after(label: Label, code: u8) -> Option<Label>
     }
 }
 
-// Moves past the rest of an address, after its `@`. Answers its name where a bracket closes it.
+// Moves past the rest of an address, after its `@`, and answers its name where a bracket closes it.
+//
+//     > | <o_k@x-1.org>
+//              ^^^^^^^
 fn name_domains(cursor: &mut Cursor) -> Option<Name>
-    ensures { Names (up_to_bracket N.AutolinkEmail domains) cursor.old result cursor.new }
+    ensures { NamesFrom (up_to_bracket N.AutolinkEmail domains) cursor.old result cursor.new }
 {
     let mut label = Label {
         size: 0,
@@ -121,11 +159,14 @@ fn name_domains(cursor: &mut Cursor) -> Option<Name>
     None
 }
 
-// Moves past the rest of an address, before its `@`. Answers its name where a bracket closes it.
-fn name_address(cursor: &mut Cursor) -> Option<Name>
-    ensures { Names (up_to_bracket N.AutolinkEmail local_rest) cursor.old result cursor.new }
+// Moves past the rest of an address, whose `@` is still to come, and answers its name where a bracket closes it.
+//
+//     > | <o_k@x-1.org>
+//           ^^^^^^^^^^
+fn name_address(cursor: &mut Cursor, all: bool) -> Option<Name>
+    ensures { NamesFrom (up_to_bracket N.AutolinkEmail (local_rest all)) cursor.old result cursor.new }
 {
-    while is_local(cursor.current()) {
+    while is_local(cursor.current(), all) {
         cursor.consume();
     }
     if !is_at(cursor, b'@') {
@@ -135,9 +176,12 @@ fn name_address(cursor: &mut Cursor) -> Option<Name>
     name_domains(cursor)
 }
 
-// Moves past a URI or an address behind its first letter. Answers its name where a bracket closes it.
-fn name_after_letter(cursor: &mut Cursor) -> Option<Name>
-    ensures { Names (scheme_naming 1) cursor.old result cursor.new }
+// Moves past a URI or an address behind its first letter, and answers its name where a bracket closes it.
+//
+//     > | <ftp:x> or <me@b.c>
+//           ^^^^       ^^^^^
+fn name_after_letter(cursor: &mut Cursor, all: bool) -> Option<Name>
+    ensures { NamesFrom (scheme_naming all 1) cursor.old result cursor.new }
 {
     let mut size = 1;
     while size < AUTOLINK_SCHEME_SIZE_MAX && is_scheme(cursor.current()) {
@@ -148,31 +192,40 @@ fn name_after_letter(cursor: &mut Cursor) -> Option<Name>
         cursor.consume();
         return name_uri(cursor);
     }
-    name_address(cursor)
+    name_address(cursor, all)
 }
 
-// Moves past a URI or an address. Answers its name where a bracket closes it.
-fn name_text(cursor: &mut Cursor) -> Option<Name>
-    ensures { Names open_naming cursor.old result cursor.new }
+// Moves past a URI or an address, and answers its name where a bracket closes it.
+//
+//     > | <ftp:x> or <me@b.c>
+//          ^^^^^      ^^^^^^
+fn name_text(cursor: &mut Cursor, all: bool) -> Option<Name>
+    ensures { NamesFrom (open_naming all) cursor.old result cursor.new }
 {
     if is_at(cursor, b'@') {
         return None;
     }
     if !begins_scheme(cursor.current()) {
-        return name_address(cursor);
+        return name_address(cursor, all);
     }
     cursor.consume();
-    name_after_letter(cursor)
+    name_after_letter(cursor, all)
 }
 
 // Whether autolinks are on, and a bracket is at the place.
+//
+//     > | <ftp:x> or <me@b.c>
+//         ^          ^
 fn opens_here(tokenizer: &Tokenizer) -> bool
     ensures { result ≡ opens_here tokenizer.now }
 {
     tokenizer.parse_state.options.constructs.autolink && is_at(&tokenizer.cursor, b'<')
 }
 
-// Appends the events of the link at hand, whose text has this name and ends there.
+// Reads the link at hand, whose text has this name and ends at this place: appends its events, and moves behind its closing bracket.
+//
+//     > | <ftp:x> or <me@b.c>
+//         ^^^^^^^    ^^^^^^^^
 #[tactic(auto, unfolding(markdown_engine::specs::Operations::applied))]
 fn append<'a>(tokenizer: &mut Tokenizer<'a>, name: Name, end: Cursor<'a>) -> Result<(), AllocError>
     requires code { HasCode tokenizer.old }
@@ -189,21 +242,26 @@ fn append<'a>(tokenizer: &mut Tokenizer<'a>, name: Name, end: Cursor<'a>) -> Res
     append_exit(tokenizer, Name::Autolink)
 }
 
-/// Reads the autolink at hand: a URI or an email address between angle brackets. Answers whether one is read; none is where `autolink` is off.
+/// Reads the autolink at hand, a URI or an email address between angle brackets, and answers whether one is read; none is where `autolink` is off.
+///
+///     > | <ftp:x> or <me@b.c>
+///         ^^^^^^^    ^^^^^^^^
 ///
 /// Its events are an `Autolink` with an `AutolinkMarker`, an `AutolinkProtocol` or an `AutolinkEmail`, and another `AutolinkMarker`.
 ///
 /// Where none is read, the tokenizer is as before. The error comes where a growth is refused; then `failed` is true.
 pub fn read(tokenizer: &mut Tokenizer) -> Result<bool, AllocError>
-    ensures reads { IfOk result (λ ok. ReadsOrStays None (autolink_here (options_here tokenizer.old)) None tokenizer.old.tokenize_state tokenizer.old ok tokenizer.new) }
+    ensures reads { IfOk result (λ ok.
+        ReadsOrStays None (autolink_here (options_here tokenizer.old)) None tokenizer.old.tokenize_state tokenizer.old ok tokenizer.new) }
     ensures err { OnErr result (IsTrue tokenizer.new.failed) }
 {
     if !opens_here(tokenizer) {
         return Ok(false);
     }
+    let all = tokenizer.parse_state.options.rules().all_address_marks;
     let mut end = tokenizer.cursor.save();
     end.consume();
-    let Some(name) = name_text(&mut end) else {
+    let Some(name) = name_text(&mut end, all) else {
         return Ok(false);
     };
     append(tokenizer, name, end)?;

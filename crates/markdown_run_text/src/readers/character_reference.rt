@@ -1,4 +1,32 @@
-//! Character references (CommonMark 2.5), read whole.
+//! The reader of character references: `&`, the name of a character or its number, and `;` (CommonMark 2.5).
+//!
+//!     character_reference ::= '&' (name | decimal | hexadecimal) ';'
+//!     name ::= (letter | digit)+                               one of the table of references
+//!     decimal ::= '#' digit{1,7}
+//!     hexadecimal ::= '#' ('x' | 'X') hex_digit{1,6}
+//!
+//! Events:
+//!
+//!     CharacterReference
+//!       CharacterReferenceMarker               `&`
+//!       CharacterReferenceMarkerNumeric        `#`, of a number
+//!       CharacterReferenceMarkerHexadecimal    `x` or `X`, of a hexadecimal one
+//!       CharacterReferenceValue                the name or the digits
+//!       CharacterReferenceMarkerSemi           `;`
+//!
+//! Example: the reference of `a &#xa9; b`.
+//!
+//!     CharacterReference 2-8
+//!       CharacterReferenceMarker 2-3
+//!       CharacterReferenceMarkerNumeric 3-4
+//!       CharacterReferenceMarkerHexadecimal 4-5
+//!       CharacterReferenceValue 5-7
+//!       CharacterReferenceMarkerSemi 7-8
+//!
+//! Definition: `character_reference` in `markdown_model/specs/LeafConstructs.antt`.
+//!
+//! The reader looks for every form: it passes all codes up to the next `;`, `&`, space, control or line ending, and where that is a `;`, it tests what
+//! it has passed. But its contract does not say that it finds each reference, so where it answers `false` the states look once more.
 #![tactic(auto, using(markdown_engine::proofs::OperationFields::op_rules))]
 
 ghost use Rattle.std.specs.Prelude.{◌≡◌, IfOk, OnOk, OnErr, IsTrue, IfSome};
@@ -7,16 +35,16 @@ ghost use Rattle.markdown_engine.specs.Operations.{done};
 ghost use Rattle.markdown_leaf.specs.CharacterReference.{has_value};
 ghost use Rattle.markdown_model.specs.SingleConstructs.{character_reference_here};
 ghost use Rattle.markdown_run_text.specs.ReaderEnds.{ReadsOrLeaves, options_here};
-ghost use Rattle.markdown_run_text.specs.ReferencePassed.{AreInk, HasSigns, Stands, codes_before, is_frequent, kind_if, kind_of, reference_read, reference_stops, sign_ops, value_read};
-ghost use Rattle.markdown_util.specs.Reference.{IsMarker, html_5_rows, is_value, is_value_byte};
+ghost use Rattle.markdown_run_text.specs.ReferencePassed.{AreInk, HasSigns, ReferenceStands, codes_before, is_frequent, kind_if, kind_of, reference_read, reference_stops, sign_ops, value_read};
+ghost use Rattle.markdown_util.specs.Reference.{IsReferenceMarker, html_5_rows, is_value, is_value_byte};
 
 use crate::readers::attention::is_at;
 use crate::readers::events::{append_enter, append_exit, append_leaf, read_marker};
+use markdown_content::byte_table;
+use markdown_content::bytes::{ByteSet, ByteTable};
+use markdown_content::cursor::Cursor;
+use markdown_content::util::slice::Slice;
 use markdown_engine::tokenizer::Tokenizer;
-use markdown_engine_content::byte_table;
-use markdown_engine_content::bytes::{ByteSet, ByteTable};
-use markdown_engine_content::cursor::Cursor;
-use markdown_engine_content::util::slice::Slice;
 use markdown_event::event::Name;
 use markdown_util::util::character_reference::{decode_named, value_max, value_test};
 use std::alloc::AllocError;
@@ -32,7 +60,7 @@ fn stops() -> ByteSet
     ByteSet::new(&STOPS)
 }
 
-// This kind, if it holds.
+// This kind, if it holds: `&` is that of names, `#` that of decimal numbers, and `x` that of hexadecimal ones.
 fn kind_if(marker: u8, holds: bool) -> Option<u8>
     ensures { result ≡ kind_if marker holds }
 {
@@ -41,7 +69,7 @@ fn kind_if(marker: u8, holds: bool) -> Option<u8>
 
 // Whether a value of this kind may have each of these bytes.
 fn are_of_kind(marker: u8, bytes: &[u8]) -> bool
-    requires { IsMarker marker }
+    requires { IsReferenceMarker marker }
     ensures { result ≡ list_all (is_value_byte marker) bytes.now }
 {
     bytes.iter().all(|byte| value_test(marker, *byte))
@@ -49,7 +77,7 @@ fn are_of_kind(marker: u8, bytes: &[u8]) -> bool
 
 // Whether these bytes are a value of this kind.
 fn is_value(marker: u8, bytes: &[u8]) -> bool
-    requires { IsMarker marker }
+    requires { IsReferenceMarker marker }
     ensures { result ≡ is_value marker bytes.now }
 {
     !bytes.is_empty() && bytes.len() <= value_max(marker) && are_of_kind(marker, bytes)
@@ -96,7 +124,10 @@ fn kind_of(bytes: &[u8]) -> Option<u8>
     }
 }
 
-// Of which kind a reference is, if it is one, by so many codes before the place, its `;`.
+// Of which kind a reference is, if it is one, by so many codes before the place, its `;`. Here they are three, and the kind is `&`:
+//
+//     > | a &amp; b
+//            ^^^
 fn kind_before(cursor: &Cursor, size: usize) -> Option<u8>
     requires { AreInk size cursor.now }
     ensures { result ≡ kind_of (codes_before size cursor.now) }
@@ -107,10 +138,13 @@ fn kind_before(cursor: &Cursor, size: usize) -> Option<u8>
     kind_of(inner.bytes)
 }
 
-// Moves from the `&` at the place to the `;` of its reference, and answers of which kind this is. Where none is seen to stand, the place that is
-// left is any.
+// Moves from the `&` at the place to the `;` of its reference, and answers of which kind this is. Where no reference is seen, it answers `None`, and
+// may have moved anywhere up to there.
+//
+//     > | a &#xa9; b
+//           ^^^^^
 fn pass_value(behind: &mut Cursor) -> Option<u8>
-    ensures { IfSome result (λ marker. Stands marker behind.old behind.new) }
+    ensures { IfSome result (λ marker. ReferenceStands marker behind.old behind.new) }
 {
     if !is_at(behind, b'&') {
         return None;
@@ -125,7 +159,10 @@ fn pass_value(behind: &mut Cursor) -> Option<u8>
     kind_before(behind, size)
 }
 
-// Reads the signs of a number.
+// Reads the signs of a number: none of a name, `#` of a decimal number, and an `x` too of a hexadecimal one.
+//
+//     > | a &#xa9; b
+//            ^^
 fn read_signs(tokenizer: &mut Tokenizer, marker: u8) -> Result<(), AllocError>
     requires { HasSigns marker tokenizer.old.cursor }
     ensures ok { OnOk result (tokenizer.new ≡ done (sign_ops marker) tokenizer.old) }
@@ -141,7 +178,10 @@ fn read_signs(tokenizer: &mut Tokenizer, marker: u8) -> Result<(), AllocError>
     Ok(())
 }
 
-// Reads a value up to this place.
+// Reads the value up to this place, a name or digits: appends its events, and moves behind it.
+//
+//     > | a &#xa9; b
+//              ^^
 #[inline(always)]
 fn read_value<'a>(tokenizer: &mut Tokenizer<'a>, behind: Cursor<'a>) -> Result<(), AllocError>
     ensures ok { OnOk result (tokenizer.new ≡ value_read behind.entry tokenizer.old) }
@@ -152,14 +192,17 @@ fn read_value<'a>(tokenizer: &mut Tokenizer<'a>, behind: Cursor<'a>) -> Result<(
     append_leaf(tokenizer, Name::CharacterReferenceValue, from)
 }
 
-// Reads the reference at hand, of this kind, whose `;` is at this place.
+// Reads the reference at hand, of this kind, whose `;` is at this place: appends its events, and moves behind it.
+//
+//     > | a &#xa9; b
+//           ^^^^^^
 #[tactic(auto, unfolding(markdown_engine::specs::Operations::applied))]
 fn append<'a>(
     tokenizer: &mut Tokenizer<'a>,
     marker: u8,
     behind: Cursor<'a>,
 ) -> Result<(), AllocError>
-    requires { Stands marker tokenizer.old.cursor behind }
+    requires { ReferenceStands marker tokenizer.old.cursor behind }
     ensures ok { OnOk result (tokenizer.new ≡ reference_read marker behind.entry tokenizer.old) }
     ensures err { OnErr result (IsTrue tokenizer.new.failed) }
 {
@@ -171,8 +214,11 @@ fn append<'a>(
     append_exit(tokenizer, Name::CharacterReference)
 }
 
-/// Reads the character reference at hand: a `&`, a name of the table or a number, and a `;`. Answers whether one is read; none is where
+/// Reads the character reference at hand, a `&`, a name of the table or a number, and a `;`, and answers whether one is read; none is where
 /// `character_reference` is off.
+///
+///     > | a &amp; b
+///           ^^^^^
 ///
 /// Its events are a `CharacterReference` with a `CharacterReferenceMarker`, a `CharacterReferenceValue` and a `CharacterReferenceMarkerSemi`.
 /// Before the value, a number has a `CharacterReferenceMarkerNumeric`, and a hexadecimal one a `CharacterReferenceMarkerHexadecimal` too.

@@ -1,6 +1,19 @@
-// Events that readers append at once: none of them is ever among the open events.
-//
-// Each function answers the error where a growth is refused; then `failed` is true.
+//! Events that readers append at once, an Enter and an Exit or both: none of them is ever among the open events of the tokenizer.
+//!
+//! Events, by what appends them:
+//!
+//!     append_leaf, append_leaf_between, read_marker    Enter and Exit of one name
+//!     append_string                                    Enter and Exit of `Data`, the Enter linked as a string
+//!     read_marker_in                                   a node of one name, and in it a leaf of another
+//!
+//! Example: `read_marker_in` with the names `LabelLink` and `LabelMarker`, at the bracket of `x[y](z)`.
+//!
+//!     LabelLink 1-2
+//!       LabelMarker 1-2
+//!
+//! The functions `append` make events of codes that are passed already, and leave the place. The functions `read` pass one code.
+//!
+//! Each function answers the error where a growth is refused; then `failed` is true.
 #![tactic(auto, using(markdown_engine::proofs::OperationFields::op_rules))]
 
 ghost use Rattle.std.specs.Prelude.{◌≡◌, ◌++◌, ◌∷◌, [], OnOk, OnErr, IsTrue, None};
@@ -20,7 +33,7 @@ const STRING: Link = Link {
     content: Content::String,
 };
 
-// Appends an event; a refused growth is kept in mind.
+// Appends an event, and answers the error where the growth is refused.
 #[inline(always)]
 fn append(tokenizer: &mut Tokenizer, event: Event) -> Result<(), AllocError>
     requires { IsFresh event }
@@ -31,7 +44,10 @@ fn append(tokenizer: &mut Tokenizer, event: Event) -> Result<(), AllocError>
     tokenizer.noted(appended)
 }
 
-// Appends an Enter at this point.
+// Appends an Enter of this name at this point.
+//
+//     > | <a b="c" />d</a>
+//         ^
 #[inline(always)]
 pub(crate) fn append_enter(
     tokenizer: &mut Tokenizer,
@@ -50,7 +66,10 @@ pub(crate) fn append_enter(
     append(tokenizer, enter)
 }
 
-// Appends an Exit where the code before the place ends.
+// Appends an Exit of this name where the code before the place ends. Here the caret is under that code:
+//
+//     > | <a b="c" />d</a>
+//                   ^
 #[inline(always)]
 pub(crate) fn append_exit(tokenizer: &mut Tokenizer, name: Name) -> Result<(), AllocError>
     ensures ok { OnOk result (tokenizer.new ≡ with_exit name tokenizer.old) }
@@ -65,7 +84,10 @@ pub(crate) fn append_exit(tokenizer: &mut Tokenizer, name: Name) -> Result<(), A
     append(tokenizer, exit)
 }
 
-// Appends the events of a leaf from the first point to the other.
+// Appends the events of a leaf of this name from the first point to the other.
+//
+//     > | x ``y z``
+//             ^^^
 #[inline(always)]
 pub(crate) fn append_leaf_between(
     tokenizer: &mut Tokenizer,
@@ -86,7 +108,10 @@ pub(crate) fn append_leaf_between(
     append(tokenizer, exit)
 }
 
-// Appends the events of a leaf from this point to where the code before the place ends.
+// Appends the events of a leaf of this name from this point to where the code before the place ends.
+//
+//     > | <a b="c" />d</a>
+//         ^^^^^^^^^^^
 #[inline(always)]
 pub(crate) fn append_leaf(
     tokenizer: &mut Tokenizer,
@@ -101,6 +126,9 @@ pub(crate) fn append_leaf(
 }
 
 // Appends the events of data from this point to where the code before the place ends, which is linked as a string, the first of its chain.
+//
+//     > | [a](b "c")
+//             ^  ^
 #[inline(always)]
 pub(crate) fn append_string(tokenizer: &mut Tokenizer, from: Point) -> Result<(), AllocError>
     ensures ok { OnOk result (tokenizer.new ≡ with_string from tokenizer.old) }
@@ -116,7 +144,10 @@ pub(crate) fn append_string(tokenizer: &mut Tokenizer, from: Point) -> Result<()
     append_exit(tokenizer, Name::Data)
 }
 
-// Reads the code at hand as a leaf.
+// Reads the code at hand as a leaf of this name: appends its events, and moves behind it.
+//
+//     > | [a](b "c")
+//            ^ ^^ ^^
 #[inline(always)]
 #[tactic(auto, unfolding(markdown_engine::specs::Operations::applied))]
 pub(crate) fn read_marker(tokenizer: &mut Tokenizer, name: Name) -> Result<(), AllocError>
@@ -129,7 +160,10 @@ pub(crate) fn read_marker(tokenizer: &mut Tokenizer, name: Name) -> Result<(), A
     append_leaf(tokenizer, name, from)
 }
 
-// Reads the code at hand as a leaf that is all of a node.
+// Reads the code at hand as a leaf that is all of a node: appends the events of both, and moves behind it.
+//
+//     > | [a](b "c")
+//         ^ ^
 #[inline(always)]
 #[tactic(auto, unfolding(markdown_engine::specs::Operations::applied))]
 pub(crate) fn read_marker_in(

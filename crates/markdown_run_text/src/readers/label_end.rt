@@ -1,7 +1,61 @@
-//! Ends of labels with a plain resource or a plain reference (CommonMark 6.3), read whole; of references `label_end_reference` says more.
+//! The reader of ends of labels: a closing bracket, with a plain resource or a plain reference behind it (CommonMark 6.3 and 6.4).
 //!
-//! A plain resource stands on one line. It has a destination, and maybe a title in quotes behind one space, or a tab of one column. None of its
-//! texts is empty. No backslash stands in them, no parenthesis in a destination without brackets, and no `<` in one with brackets.
+//!     plain_end ::= ']' (plain_resource | plain_full | plain_shortcut)
+//!     plain_resource ::= '(' destination (blank title)? ')'
+//!     destination ::= '<' (code - ('<' | '>' | '\' | line_ending))+ '>' | front raw*
+//!     front ::= raw - '<'
+//!     raw ::= code - (control | ' ' | '(' | ')' | '\' | line_ending)
+//!     title ::= '"' in_quotes('"') '"' | "'" in_quotes("'") "'"
+//!     in_quotes(quote) ::= (code - (quote | '\' | line_ending))+
+//!
+//! `control` is an ASCII control other than NUL, and `blank` a space or a tab of one column. `label_end_reference` has `plain_full` and
+//! `plain_shortcut`. An end takes the last start that no end has used; that is an image's, or a link's behind which no link or call was made.
+//!
+//! Events:
+//!
+//!     LabelEnd
+//!       LabelMarker                                `]`
+//!     Resource
+//!       ResourceMarker                             `(`
+//!       ResourceDestination
+//!         ResourceDestinationRaw                   without angle brackets, or
+//!         ResourceDestinationLiteral               with a ResourceDestinationLiteralMarker for each bracket
+//!           ResourceDestinationString              in either of the two
+//!             Data                                 the text, linked as a string
+//!       SpaceOrTab                                 before a title
+//!       ResourceTitle
+//!         ResourceTitleMarker                      the first quote
+//!         ResourceTitleString
+//!           Data                                   the text, linked as a string
+//!         ResourceTitleMarker                      the other quote
+//!       ResourceMarker                             `)`
+//!
+//! In place of the `Resource` stands a `Reference`, as in `label_end_reference`, or nothing behind a shortcut. The start and the end are noted as a label,
+//! and the pass `Label` is registered before all others. After the run that pass makes a link or an image of the label.
+//!
+//! Example: the end of `[a](b "c")`.
+//!
+//!     LabelEnd 2-3
+//!       LabelMarker 2-3
+//!     Resource 3-10
+//!       ResourceMarker 3-4
+//!       ResourceDestination 4-5
+//!         ResourceDestinationRaw 4-5
+//!           ResourceDestinationString 4-5
+//!             Data 4-5
+//!       SpaceOrTab 5-6
+//!       ResourceTitle 6-9
+//!         ResourceTitleMarker 6-7
+//!         ResourceTitleString 7-8
+//!           Data 7-8
+//!         ResourceTitleMarker 8-9
+//!       ResourceMarker 9-10
+//!
+//! Definition: `label_end` in `markdown_model/specs/LabelEnd.antt`, with `resource` in `Resource.antt`.
+//!
+//! All other ends are left to the states: those of footnote calls; those that make nothing; those whose resource is empty, has an empty part, whitespace
+//! elsewhere, a line ending, a backslash, parentheses in a destination without angle brackets, or a title in parentheses; and those that
+//! `label_end_reference` names.
 //!
 //! Whether one stands there is seen before any event is appended. A text stops at the byte that a text of its kind begins behind: a destination at
 //! a `(` or a `<`, a title at its quote. So texts of one kind never overlap, and all that is looked through in vain is at most a few times as long
@@ -10,9 +64,9 @@
 
 ghost use Rattle.std.specs.Prelude.{◌≡◌, ◌&&◌, ◌||◌, true, IfOk, OnOk, OnErr, IsTrue, is_some};
 ghost use Rattle.markdown_engine.specs.Operations.{current_of};
-ghost use Rattle.markdown_engine_content.specs.Place.{code_at, moved};
-ghost use Rattle.markdown_engine_content.specs.Stretch.{is_free};
-ghost use Rattle.markdown_label.specs.LabelEnd.{Ends, StartReady};
+ghost use Rattle.markdown_content.specs.Place.{code_at, moved};
+ghost use Rattle.markdown_content.specs.Stretch.{is_free};
+ghost use Rattle.markdown_label.specs.LabelEnd.{Ends, LabelEndStartReady};
 ghost use Rattle.markdown_partial.specs.PartialDestination.{enclosed_stops, raw_stops};
 ghost use Rattle.markdown_run_text.specs.PlacesPassed.{is_some_value};
 ghost use Rattle.markdown_run_text.specs.PlainReference.{reference_here};
@@ -22,10 +76,10 @@ use crate::readers::events::{
     append_enter, append_exit, append_string, read_marker, read_marker_in,
 };
 use crate::readers::label_end_reference::{read_reference, refers_here};
+use markdown_content::byte_table;
+use markdown_content::bytes::{ByteSet, ByteTable};
+use markdown_content::cursor::Cursor;
 use markdown_engine::tokenizer::{LabelKind, LabelStart, TokenizeState, Tokenizer};
-use markdown_engine_content::byte_table;
-use markdown_engine_content::bytes::{ByteSet, ByteTable};
-use markdown_engine_content::cursor::Cursor;
 use markdown_event::event::Name;
 use markdown_label::label_end;
 use std::alloc::AllocError;
@@ -66,7 +120,7 @@ fn title_stops(quote: u8) -> ByteSet
     }
 }
 
-// Whether the code is this one.
+// Whether there is a code, and it is this one.
 pub(crate) fn is_same(code: Option<u8>, byte: u8) -> bool
     ensures { result ≡ is_some_value byte code }
 {
@@ -86,8 +140,11 @@ pub(crate) fn is_free(code: Option<u8>, stops: &ByteSet) -> bool
     }
 }
 
-// Moves from the marker at the place past the text behind it, and past the code that ends the text. Answers whether text stands there, up to
+// Moves from the marker at the place past the text behind it, and past the code that ends the text, and answers whether text stands there, up to
 // this code.
+//
+//     > | [a](<b> "c")
+//             ^^^ ^^^
 #[inline(always)]
 fn pass_between(cursor: &mut Cursor, stops: &ByteSet, closer: u8) -> bool
     requires { is_some (code_at cursor.old) ≡ true }
@@ -107,6 +164,9 @@ fn pass_between(cursor: &mut Cursor, stops: &ByteSet, closer: u8) -> bool
 }
 
 // Moves past the plain destination at the place, and answers whether one stands there.
+//
+//     > | [a](b "c") or [a](<b> "c")
+//             ^             ^^^
 fn pass_destination(cursor: &mut Cursor) -> bool
     ensures holds { result ≡ destination_at cursor.old }
     ensures place { IsTrue result → cursor.new ≡ past_destination cursor.old }
@@ -119,7 +179,10 @@ fn pass_destination(cursor: &mut Cursor) -> bool
     stands
 }
 
-// Moves past a space or a tab, and a plain title behind it. Answers whether they stand there.
+// Moves past a space or a tab, and a plain title behind it, and answers whether they stand there.
+//
+//     > | [a](b "c")
+//              ^^^^
 fn pass_title(cursor: &mut Cursor) -> bool
     ensures holds { result ≡ title_at cursor.old }
     ensures place { IsTrue result → cursor.new ≡ past_title cursor.old }
@@ -134,7 +197,10 @@ fn pass_title(cursor: &mut Cursor) -> bool
     }
 }
 
-// Whether at the place a `)` stands, or a title before one.
+// Whether at the place a `)` stands, or a title before one. Where a title stands, the place moves behind it.
+//
+//     > | [a](b "c") or [a](b)
+//              ^^^^^         ^
 fn is_closed(cursor: &mut Cursor) -> bool
     ensures { result ≡ tail_at cursor.old }
 {
@@ -145,6 +211,9 @@ fn is_closed(cursor: &mut Cursor) -> bool
 }
 
 // Whether at the place a `]` stands, and a plain resource behind it.
+//
+//     > | [a](b "c")
+//           ^^^^^^^^
 fn stands(cursor: &Cursor) -> bool
     ensures { result ≡ plain_at cursor.now }
 {
@@ -168,7 +237,7 @@ fn takes_resource(start: LabelStart) -> bool
     }
 }
 
-// Whether the last start is such a one.
+// Whether there is a last start, and an end makes a label of it where a resource stands behind it.
 pub(crate) fn may_make(state: &TokenizeState) -> bool
     ensures { result ≡ may_make state.now.label_starts }
 {
@@ -179,6 +248,9 @@ pub(crate) fn may_make(state: &TokenizeState) -> bool
 }
 
 // Whether ends are on, and one with a plain resource is at the place.
+//
+//     > | [a](b "c")
+//           ^^^^^^^^
 fn is_here(tokenizer: &Tokenizer) -> bool
     ensures { result ≡ plain_here tokenizer.now }
 {
@@ -187,7 +259,10 @@ fn is_here(tokenizer: &Tokenizer) -> bool
         && stands(&tokenizer.cursor)
 }
 
-// Reads the text at hand up to where it stops, as a string under this name.
+// Reads the text at hand up to where it stops, as a string under this name: appends its events, and moves behind it.
+//
+//     > | [a](b "c")
+//             ^  ^
 #[inline(always)]
 #[tactic(auto, unfolding(markdown_engine::specs::Operations::applied))]
 fn read_text(tokenizer: &mut Tokenizer, name: Name, stops: &ByteSet) -> Result<(), AllocError>
@@ -202,6 +277,9 @@ fn read_text(tokenizer: &mut Tokenizer, name: Name, stops: &ByteSet) -> Result<(
 }
 
 // Reads the text at hand with the markers around it, under these names.
+//
+//     > | [a](<b> "c")
+//             ^^^ ^^^
 #[inline(always)]
 #[tactic(auto, unfolding(markdown_engine::specs::Operations::applied))]
 pub(crate) fn read_between(
@@ -223,6 +301,9 @@ pub(crate) fn read_between(
 }
 
 // Reads the plain destination in brackets at hand.
+//
+//     > | [a](<b> "c")
+//             ^^^
 fn read_enclosed(tokenizer: &mut Tokenizer) -> Result<(), AllocError>
     requires { has_markers enclosed_stops tokenizer.old.cursor ≡ true }
     ensures ok { OnOk result (tokenizer.new ≡ enclosed_read tokenizer.old) }
@@ -238,6 +319,9 @@ fn read_enclosed(tokenizer: &mut Tokenizer) -> Result<(), AllocError>
 }
 
 // Reads the plain destination without brackets at hand.
+//
+//     > | [a](b "c")
+//             ^
 #[tactic(auto, unfolding(markdown_engine::specs::Operations::applied))]
 fn read_raw(tokenizer: &mut Tokenizer) -> Result<(), AllocError>
     ensures ok { OnOk result (tokenizer.new ≡ raw_read tokenizer.old) }
@@ -248,7 +332,10 @@ fn read_raw(tokenizer: &mut Tokenizer) -> Result<(), AllocError>
     append_exit(tokenizer, Name::ResourceDestinationRaw)
 }
 
-// Reads the plain destination at hand.
+// Reads the plain destination at hand, with brackets or without.
+//
+//     > | [a](b "c") or [a](<b> "c")
+//             ^             ^^^
 #[tactic(auto, unfolding(markdown_engine::specs::Operations::applied))]
 fn read_destination(tokenizer: &mut Tokenizer) -> Result<(), AllocError>
     requires { destination_at tokenizer.old.cursor ≡ true }
@@ -265,6 +352,9 @@ fn read_destination(tokenizer: &mut Tokenizer) -> Result<(), AllocError>
 }
 
 // Reads the space and the plain title at hand.
+//
+//     > | [a](b "c")
+//              ^^^^
 #[tactic(auto, unfolding(markdown_engine::specs::Operations::applied))]
 fn read_title(tokenizer: &mut Tokenizer) -> Result<(), AllocError>
     requires { title_at tokenizer.old.cursor ≡ true }
@@ -285,6 +375,9 @@ fn read_title(tokenizer: &mut Tokenizer) -> Result<(), AllocError>
 }
 
 // Reads the title at hand, if there is one, and the `)` behind it.
+//
+//     > | [a](b "c") or [a](b)
+//              ^^^^^         ^
 #[tactic(auto, unfolding(markdown_engine::specs::Operations::applied))]
 fn read_tail(tokenizer: &mut Tokenizer) -> Result<(), AllocError>
     requires { tail_at tokenizer.old.cursor ≡ true }
@@ -298,6 +391,9 @@ fn read_tail(tokenizer: &mut Tokenizer) -> Result<(), AllocError>
 }
 
 // Reads the plain resource at hand.
+//
+//     > | [a](b "c")
+//            ^^^^^^^
 #[tactic(auto, unfolding(markdown_engine::specs::Operations::applied))]
 fn read_resource(tokenizer: &mut Tokenizer) -> Result<(), AllocError>
     requires { is_some_value 40 (current_of tokenizer.old) && closes_behind (moved tokenizer.old.cursor) ≡ true }
@@ -312,8 +408,11 @@ fn read_resource(tokenizer: &mut Tokenizer) -> Result<(), AllocError>
 }
 
 // Reads the end at hand, and the plain resource or reference behind it. The last start makes a label.
+//
+//     > | [a](b "c") or ![c][d]
+//           ^^^^^^^^       ^^^^
 fn read_here(tokenizer: &mut Tokenizer) -> Result<(), AllocError>
-    requires ready { StartReady tokenizer.old }
+    requires ready { LabelEndStartReady tokenizer.old }
     requires here { plain_here tokenizer.old || reference_here tokenizer.old ≡ true }
     ensures ok { OnOk result (Ends tokenizer.old tokenizer.new) }
     ensures err { OnErr result (IsTrue tokenizer.new.failed) }
@@ -329,8 +428,12 @@ fn read_here(tokenizer: &mut Tokenizer) -> Result<(), AllocError>
     Ok(())
 }
 
-/// Reads the end of a label at hand, where a plain resource or a plain reference stands behind its `]`, or the label is a shortcut. Answers whether
-/// one is read: where `label_end` is on, and the last start that no end has used is a link's without a link behind it, or an image's.
+/// Reads the end of a label at hand, where a plain resource or a plain reference stands behind its `]`, or the label is a shortcut, and answers
+/// whether one is read: none is where `label_end` is off, nor unless the last start that no end has used is a link's without a link behind it, or an
+/// image's.
+///
+///     > | [a](b "c") or ![c][d]
+///           ^^^^^^^^       ^^^^
 ///
 /// Its events are a `LabelEnd` with a `LabelMarker`, and a `Resource` with its `ResourceDestination` and, if there is one, its `ResourceTitle`, or
 /// a `Reference` with its `ReferenceString`; behind a shortcut none. The start makes a label. After a link the starts before it are barred. The
@@ -339,7 +442,7 @@ fn read_here(tokenizer: &mut Tokenizer) -> Result<(), AllocError>
 /// Where none is read, the tokenizer is as before, and another end of a label may stand there. The error comes where memory is refused; then
 /// `failed` is true.
 pub fn read(tokenizer: &mut Tokenizer) -> Result<bool, AllocError>
-    requires { StartReady tokenizer.old }
+    requires { LabelEndStartReady tokenizer.old }
     ensures here { IfOk result (λ ok. ok ≡ (plain_here tokenizer.old || reference_here tokenizer.old)) }
     ensures reads { IfOk result (λ ok. EndsOrStays tokenizer.old ok tokenizer.new) }
     ensures err { OnErr result (IsTrue tokenizer.new.failed) }

@@ -1,24 +1,49 @@
-// Ends of labels with a plain reference (CommonMark 6.3): whether one stands at the place, and how its reference is read. It is a full reference
-// whose text stands on one line, or a shortcut.
-//
-// No blank code begins the text of a plain full reference, and no backslash stands in it. A text stops at the bracket that the next one begins
-// behind, so no two that are looked through overlap. What is not defined is looked up once more by the states.
+//! Ends of labels with a plain reference, for the reader `label_end`: whether one stands at the place, and how its reference is read (CommonMark 6.3).
+//!
+//!     plain_end ::= ']' (plain_full | plain_shortcut)
+//!     plain_full ::= '[' front (code - stop){0,998} ']'        its text names a definition
+//!     front ::= code - (stop | blank)
+//!     stop ::= '[' | '\' | ']' | line_ending
+//!     plain_shortcut ::= nothing                               before no '[' and no '('; the label names a definition
+//!
+//! Events of a full reference; a shortcut has none:
+//!
+//!     Reference
+//!       ReferenceMarker      `[`
+//!       ReferenceString
+//!         Data               the text, linked as a string
+//!       ReferenceMarker      `]`
+//!
+//! Example: the reference of `![c][d]`, where `d` is defined.
+//!
+//!     Reference 4-7
+//!       ReferenceMarker 4-5
+//!       ReferenceString 5-6
+//!         Data 5-6
+//!       ReferenceMarker 6-7
+//!
+//! Definition: `full_reference` and `shortcut` in `markdown_model/specs/LabelEnd.antt`.
+//!
+//! What is not plain is left to the states: collapsed references, shortcuts before a `[` or a `(`, labels of footnote calls, references on several lines
+//! or with a backslash, and those whose text begins with a blank code. So is what names no definition; the states look it up once more.
+//!
+//! A text stops at the bracket that the next one begins behind, so no two that are looked through overlap.
 #![tactic(auto, using(markdown_engine::proofs::OperationFields::op_rules))]
 
 ghost use Rattle.std.specs.Prelude.{◌≡◌, ◌&&◌, true, IfOk, OnOk, OnErr, IsTrue};
 ghost use Rattle.std.specs.Str.{byte};
-ghost use Rattle.markdown_engine_content.specs.Place.{code_at, moved};
-ghost use Rattle.markdown_label.specs.LabelEnd.{StartReady};
+ghost use Rattle.markdown_content.specs.Place.{code_at, moved};
+ghost use Rattle.markdown_label.specs.LabelEnd.{LabelEndStartReady};
 ghost use Rattle.markdown_label_names.specs.LabelSetting.{setting_in};
 ghost use Rattle.markdown_run_text.specs.PlacesPassed.{is_some_value};
 ghost use Rattle.markdown_run_text.specs.PlainReference.{ends_here, front_stops, is_named, label_stops, names_at, past_text, reference_here, reference_read, text_at};
 ghost use Rattle.markdown_run_text.specs.PlainResource.{has_markers};
 
 use crate::readers::label_end::{is_free, is_same, may_make, read_between};
+use markdown_content::byte_table;
+use markdown_content::bytes::{ByteSet, ByteTable};
+use markdown_content::cursor::Cursor;
 use markdown_engine::tokenizer::Tokenizer;
-use markdown_engine_content::byte_table;
-use markdown_engine_content::bytes::{ByteSet, ByteTable};
-use markdown_engine_content::cursor::Cursor;
 use markdown_event::event::Name;
 use markdown_label_names::identifier::is_defined_from;
 use std::alloc::AllocError;
@@ -47,6 +72,9 @@ fn front_stops() -> ByteSet
 }
 
 // Moves past the plain text at the place, and answers whether one stands there, up to a `]`.
+//
+//     > | ![c][d]
+//              ^
 fn pass_text(cursor: &mut Cursor) -> bool
     ensures holds { result ≡ text_at cursor.old }
     ensures place { IsTrue result → cursor.new ≡ past_text cursor.old }
@@ -60,8 +88,11 @@ fn pass_text(cursor: &mut Cursor) -> bool
 }
 
 // Whether behind the `][` at the place a plain text stands that names a definition.
+//
+//     > | ![c][d]
+//            ^^^^
 fn is_full(tokenizer: &mut Tokenizer) -> Result<bool, AllocError>
-    requires ready { StartReady tokenizer.old }
+    requires ready { LabelEndStartReady tokenizer.old }
     requires here { is_some_value (byte "]") (code_at tokenizer.old.cursor) && is_some_value (byte "[") (code_at (moved tokenizer.old.cursor)) ≡ true }
     ensures full { IfOk result (λ full. full ≡ names_at (setting_in tokenizer.old) (moved (moved tokenizer.old.cursor))) }
     ensures same { OnOk result (tokenizer.new ≡ tokenizer.old) }
@@ -78,9 +109,12 @@ fn is_full(tokenizer: &mut Tokenizer) -> Result<bool, AllocError>
     is_defined_from(tokenizer, start, end)
 }
 
-// Whether the label before the `]` at the place names a definition itself.
+// Whether the label before the `]` at the place names a definition itself. What it looks up is the label's text, here `c`:
+//
+//     > | ![c]
+//           ^
 fn is_named(tokenizer: &mut Tokenizer) -> Result<bool, AllocError>
-    requires ready { StartReady tokenizer.old }
+    requires ready { LabelEndStartReady tokenizer.old }
     requires here { is_some_value (byte "]") (code_at tokenizer.old.cursor) ≡ true }
     ensures named { IfOk result (λ named. named ≡ is_named tokenizer.old.tokenize_state.label_starts tokenizer.old) }
     ensures same { OnOk result (tokenizer.new ≡ tokenizer.old) }
@@ -95,6 +129,9 @@ fn is_named(tokenizer: &mut Tokenizer) -> Result<bool, AllocError>
 }
 
 // Whether ends are on, and the `]` of one is at the place that may make a label.
+//
+//     > | ![c][d]
+//            ^
 fn may_end(tokenizer: &Tokenizer) -> bool
     ensures { result ≡ ends_here tokenizer.now }
 {
@@ -105,8 +142,11 @@ fn may_end(tokenizer: &Tokenizer) -> bool
 
 // Whether ends are on, and one with a plain reference is at the place: what follows its `]` names a definition, or where it cannot, the label
 // before it does.
+//
+//     > | ![c][d] [d]
+//            ^^^^   ^
 pub(crate) fn refers_here(tokenizer: &mut Tokenizer) -> Result<bool, AllocError>
-    requires { StartReady tokenizer.old }
+    requires { LabelEndStartReady tokenizer.old }
     ensures here { IfOk result (λ here. here ≡ reference_here tokenizer.old) }
     ensures same { OnOk result (tokenizer.new ≡ tokenizer.old) }
     ensures err { OnErr result (IsTrue tokenizer.new.failed) }
@@ -121,7 +161,10 @@ pub(crate) fn refers_here(tokenizer: &mut Tokenizer) -> Result<bool, AllocError>
     }
 }
 
-// Reads the full reference at hand, if a `[` is there.
+// Reads the full reference at hand, if a `[` is there, and nothing otherwise: appends its events, and moves behind it.
+//
+//     > | ![c][d]
+//             ^^^
 pub(crate) fn read_reference(tokenizer: &mut Tokenizer) -> Result<(), AllocError>
     requires { IsTrue (is_some_value (byte "[") (code_at tokenizer.old.cursor)) → has_markers label_stops tokenizer.old.cursor ≡ true }
     ensures ok { OnOk result (tokenizer.new ≡ reference_read tokenizer.old) }

@@ -1,10 +1,33 @@
-//! The starts of images (CommonMark 6.4), read whole.
+//! The reader of starts of images: the exclamation mark and the bracket before an image's description (CommonMark 6.4).
+//!
+//!     label_start_image ::= '!['
+//!
+//! Where `gfm_label_start_footnote` is on and a caret follows, no image starts: the mark is data, and a footnote call may start at the bracket.
+//!
+//! Events:
+//!
+//!     LabelImage
+//!       LabelImageMarker    `!`
+//!       LabelMarker         `[`
+//!
+//! The start is kept until an end takes it, and the pass `Label` is registered before all others. After the run that pass makes an image of the
+//! start, or data.
+//!
+//! Example: the codes `![` of `x![y](z)`.
+//!
+//!     LabelImage 1-3
+//!       LabelImageMarker 1-2
+//!       LabelMarker 2-3
+//!
+//! Definition: `label_start_image` in `markdown_model/specs/Elements.antt`.
+//!
+//! The reader knows every form: where it answers `false`, no image starts at the place, and nothing is left to the states.
 #![tactic(auto)]
 
 ghost use Rattle.std.specs.Prelude.{◌≡◌, ◌&&◌, ◌++◌, true, is_some, IfOk, OnOk, OnErr, IsTrue};
 ghost use Rattle.std.specs.Str.{byte};
 ghost use Rattle.markdown_engine.specs.Operations.{done};
-ghost use Rattle.markdown_engine_content.specs.Place.{code_at, moved};
+ghost use Rattle.markdown_content.specs.Place.{code_at, moved};
 ghost use Rattle.markdown_label.specs.LabelStarts.{image_back, image_front};
 ghost use Rattle.markdown_model.specs.SingleConstructs.{label_start_image_here};
 ghost use Rattle.markdown_run_text.specs.PlacesPassed.{bang_at, calls_here, image_here, is_some_value};
@@ -12,13 +35,16 @@ ghost use Rattle.markdown_run_text.specs.ReaderEnds.{BeginsOrStays, options_here
 
 use crate::readers::attention::is_at;
 use crate::readers::events::{append_enter, append_exit, read_marker};
+use markdown_content::cursor::Cursor;
 use markdown_engine::tokenizer::Tokenizer;
-use markdown_engine_content::cursor::Cursor;
 use markdown_event::event::Name;
 use markdown_label::label_start_image;
 use std::alloc::AllocError;
 
-// Whether this code is behind the one at the place.
+// Whether this code is behind the one at the place. Here it is `[`:
+//
+//     > | x![y](z)
+//           ^
 fn comes_next(cursor: &Cursor, code: u8) -> bool
     ensures { result ≡ is_some_value code (code_at (moved cursor.now)) }
 {
@@ -29,6 +55,9 @@ fn comes_next(cursor: &Cursor, code: u8) -> bool
 }
 
 // Whether behind the two codes at the place a caret stands.
+//
+//     > | x![^y](z)
+//            ^
 fn has_caret(cursor: &Cursor) -> bool
     requires { is_some (code_at cursor.now) ≡ true }
     ensures { result ≡ is_some_value (byte "^") (code_at (moved (moved cursor.now))) }
@@ -39,6 +68,9 @@ fn has_caret(cursor: &Cursor) -> bool
 }
 
 // Whether `![` is at the place.
+//
+//     > | x![y](z)
+//          ^^
 fn stands(cursor: &Cursor) -> bool
     ensures { result ≡ bang_at cursor.now }
 {
@@ -46,6 +78,9 @@ fn stands(cursor: &Cursor) -> bool
 }
 
 // Whether calls of footnotes are on, and behind the two codes at the place a caret stands.
+//
+//     > | x![^y](z)
+//            ^
 fn begins_call(tokenizer: &Tokenizer) -> bool
     requires { is_some (code_at tokenizer.now.cursor) ≡ true }
     ensures { result ≡ calls_here tokenizer.now }
@@ -59,6 +94,9 @@ fn begins_call(tokenizer: &Tokenizer) -> bool
 }
 
 // Whether starts of images are on, and one is at the place: a `![`, whose `[` begins no footnote call.
+//
+//     > | x![y](z)
+//          ^^^
 fn is_here(tokenizer: &Tokenizer) -> bool
     ensures { result ≡ image_here tokenizer.now }
 {
@@ -67,7 +105,10 @@ fn is_here(tokenizer: &Tokenizer) -> bool
         && !begins_call(tokenizer)
 }
 
-// Reads the `![` at hand.
+// Reads the `![` at hand: appends its events, and moves behind it.
+//
+//     > | x![y](z)
+//          ^^
 #[tactic(auto, unfolding(markdown_engine::specs::Operations::applied))]
 fn read_front(tokenizer: &mut Tokenizer) -> Result<(), AllocError>
     requires { is_some (code_at tokenizer.old.cursor) && is_some (code_at (moved tokenizer.old.cursor)) ≡ true }
@@ -80,8 +121,11 @@ fn read_front(tokenizer: &mut Tokenizer) -> Result<(), AllocError>
     append_exit(tokenizer, Name::LabelImage)
 }
 
-/// Reads the start of an image at hand, its `![`, and keeps it until an end takes it. Answers whether one is read; none is where
+/// Reads the start of an image at hand, its `![`, keeps it until an end takes it, and answers whether one is read; none is where
 /// `label_start_image` is off, and none before a caret where `gfm_label_start_footnote` is on.
+///
+///     > | x![y](z)
+///          ^^
 ///
 /// Its events are a `LabelImage` with a `LabelImageMarker` and a `LabelMarker`. The pass of labels is registered before all others.
 ///

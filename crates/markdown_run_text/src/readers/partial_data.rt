@@ -1,4 +1,25 @@
-//! Data of a text (CommonMark 6.9), read whole.
+//! The reader of data of a text, which is text that means itself (CommonMark 6.9).
+//!
+//!     data ::= code (code - stop)*
+//!     stop ::= '_' | literal | one of ! $ & * < [ \ ] ` ~
+//!     literal ::= 'https://' | 'http://' | 'www.'              in either case, where literals are on
+//!
+//! The first code belongs to data, whatever it is. An underscore between two ASCII letters or digits is no `stop`; of a `literal` only the first letter is
+//! one. Line endings belong to data too.
+//!
+//! Events:
+//!
+//!     Data          a stretch on one line
+//!     LineEnding    a line ending
+//!
+//! Example: the data of `see x_y *z*` before the first star.
+//!
+//!     Data 0-8
+//!
+//! Definition: `data_up_to` in `markdown_model/specs/TextLines.antt`. A text has data code by code, as `data_code` in `Elements.antt`; the proof of a run
+//! compares the two.
+//!
+//! The reader reads all data of a text, and leaves none to the states. It is called where every construct has failed.
 //!
 //! Data goes on past letters with which literals begin (GFM 6.9), but where a whole word of theirs stands. Such a word is letters and then a
 //! sign: a `.` behind a `w`, or a `:` before a `/`. So letters are looked at only in a stretch that ends at such a sign.
@@ -12,7 +33,7 @@ ghost use Rattle.std.specs.List.{list_any};
 ghost use Rattle.std.specs.Str.{byte};
 ghost use Rattle.markdown_engine.specs.Operations.{HasCode, ahead, done};
 ghost use Rattle.markdown_engine.specs.PastTree.{Reads};
-ghost use Rattle.markdown_engine_content.specs.Place.{ahead_at, code_at, code_before, moved};
+ghost use Rattle.markdown_content.specs.Place.{ahead_at, code_at, code_before, moved};
 ghost use Rattle.markdown_model.specs.TextLines.{data_up_to};
 ghost use Rattle.markdown_partial.specs.PartialData.{ending, is_some_mark};
 ghost use Rattle.markdown_run_text.specs.PlacesPassed.{past_data, past_inner, goes_on, goes_past, goes_in_line, is_some_alphanumeric, is_some_letter, is_some_value, is_word, line_stops, may_begin, one_stands, signs, markers_and_signs, sign_at, data_read, line_read};
@@ -21,10 +42,10 @@ ghost use Rattle.markdown_run_text.specs.TextContent.{plain_markers};
 
 use crate::readers::events::append_leaf;
 use crate::tries::plain_tries;
+use markdown_content::byte_table;
+use markdown_content::bytes::{ByteSet, ByteTable};
+use markdown_content::cursor::Cursor;
 use markdown_engine::tokenizer::Tokenizer;
-use markdown_engine_content::byte_table;
-use markdown_engine_content::bytes::{ByteSet, ByteTable};
-use markdown_engine_content::cursor::Cursor;
 use markdown_event::event::Name;
 use markdown_partial::literal_letters;
 use markdown_partial::literal_words::SCHEMES;
@@ -57,7 +78,7 @@ fn markers() -> ByteSet
     ByteSet::new(&MARKERS)
 }
 
-// These, and the signs in words of literals.
+// These bytes, and the signs in words of literals.
 #[inline(always)]
 fn markers_and_signs() -> ByteSet
     ensures { result ≡ markers_and_signs }
@@ -75,7 +96,10 @@ fn is_same(code: Option<u8>, letter: u8) -> bool
     }
 }
 
-// Whether the word stands at the place, its letters in either case. It is given in lower case.
+// Whether the word stands at the place, its letters in either case. It is given in lower case; here it is `www.`:
+//
+//     > | see WWW.x.y
+//             ^^^^
 fn stands(cursor: &Cursor, word: &[u8]) -> bool
     ensures { result ≡ is_word word.now cursor.now }
 {
@@ -89,7 +113,10 @@ fn stands(cursor: &Cursor, word: &[u8]) -> bool
     true
 }
 
-// Whether one of these words stands at the place.
+// Whether one of these words stands at the place. They are given in lower case; here one of them is `http://`:
+//
+//     > | see http://x.y
+//             ^^^^^^^
 fn one_of(cursor: &Cursor, mut words: &[&[u8]]) -> bool
     ensures { result ≡ one_stands (map (λ w. w.now) words.entry.now) cursor.now }
 {
@@ -102,7 +129,10 @@ fn one_of(cursor: &Cursor, mut words: &[&[u8]]) -> bool
     false
 }
 
-// Whether one of the words stands at the place with which literals begin.
+// Whether one of the words stands at the place with which literals begin: a scheme, or `www.`.
+//
+//     > | see http://x.y or www.x.y
+//             ^^^^^^^       ^^^^
 #[inline(never)]
 fn one_stands(cursor: &Cursor) -> bool
     ensures { result ≡ begins_word (ahead_at cursor.now) }
@@ -120,7 +150,10 @@ macro_rules! may_begin_with {
     };
 }
 
-// Whether the code at the place and the one behind it are the first of a word with which literals begin.
+// Whether the code at the place and the one behind it are the first of a word with which literals begin. In `wo` they are not, in `ww` they are:
+//
+//     > | see two www.x.y
+//              ^^ ^^
 #[inline(always)]
 fn may_begin(cursor: &Cursor) -> bool
     ensures { result ≡ may_begin cursor.now }
@@ -129,6 +162,9 @@ fn may_begin(cursor: &Cursor) -> bool
 }
 
 // Whether a word stands at the place with which literals begin. Words are looked for only where their first two letters are.
+//
+//     > | see http://x.y or www.x.y
+//             ^^^^^^^       ^^^^
 #[inline(always)]
 fn begins_word(cursor: &Cursor) -> bool
     ensures { result ≡ begins_word (ahead_at cursor.now) }
@@ -139,7 +175,10 @@ fn begins_word(cursor: &Cursor) -> bool
     one_stands(cursor)
 }
 
-// Whether data stops at the code at the place, line endings aside.
+// Whether data stops at the byte at the place, which is given. It stops at each underscore, and at no line ending.
+//
+//     > | see www.x.y *z*
+//             ^       ^ ^
 #[inline(always)]
 fn stops(cursor: &Cursor, byte: u8, literals: bool) -> bool
     ensures { result ≡ list_any (λ n. byte == n) plain_markers || (literals && begins_word (ahead_at cursor.now)) }
@@ -149,6 +188,9 @@ fn stops(cursor: &Cursor, byte: u8, literals: bool) -> bool
 
 /// Whether a code is at the place at which nothing but data begins, where `literals` says whether those are on. An underscore is no such code,
 /// though `read` goes past one between two ASCII letters or digits.
+///
+///     > | see x_y *z*
+///         ^^^^^ ^^ ^
 #[inline(always)]
 pub fn goes_on(cursor: &Cursor, literals: bool) -> bool
     ensures { result ≡ goes_on literals (ahead_at cursor.now) }
@@ -160,6 +202,9 @@ pub fn goes_on(cursor: &Cursor, literals: bool) -> bool
 }
 
 // The same, of a code that is no line ending, where literals are on.
+//
+//     > | see www.x *z*
+//         ^^^^ ^^^^^ ^
 fn goes_in_line(cursor: &Cursor) -> bool
     ensures { result ≡ goes_in_line cursor.now }
 {
@@ -169,7 +214,10 @@ fn goes_in_line(cursor: &Cursor) -> bool
     }
 }
 
-// Whether a sign is at the place that a word of literals may hold.
+// Whether a sign is at the place that a word of literals may hold: a `.` behind a `w`, or a `:` before a `/`.
+//
+//     > | a. http://x or www.y
+//                ^          ^
 #[inline(always)]
 fn is_at_sign(cursor: &Cursor) -> bool
     ensures { result ≡ sign_at cursor.now }
@@ -181,7 +229,10 @@ fn is_at_sign(cursor: &Cursor) -> bool
     }
 }
 
-// Whether a sign is at the place, in a word or not.
+// Whether a sign is at the place, a `.` or a `:`, in a word or not.
+//
+//     > | a. http://x or www.y
+//          ^     ^          ^
 #[inline(always)]
 fn is_at_any_sign(cursor: &Cursor) -> bool
     ensures { result ≡ is_some_mark signs (code_at cursor.now) }
@@ -189,7 +240,10 @@ fn is_at_any_sign(cursor: &Cursor) -> bool
     matches!(cursor.current(), Some(b'.' | b':'))
 }
 
-// Moves past the sign at the place. Answers whether one is there.
+// Moves past the sign at the place, and answers whether one is there.
+//
+//     > | a. http://x or www.y
+//          ^     ^          ^
 #[inline(always)]
 fn pass_sign(cursor: &mut Cursor) -> bool
     ensures is { result ≡ is_some_mark signs (code_at cursor.old) }
@@ -203,7 +257,10 @@ fn pass_sign(cursor: &mut Cursor) -> bool
     found
 }
 
-// Moves past data code by code, up to where it stops, or to a sign and past it. Answers whether it may go on.
+// Moves past data code by code, up to where it stops, or to a sign and past it, and answers whether data may go on: whether it has passed a sign.
+//
+//     > | www, www.x
+//         ^^^^^
 #[inline(never)]
 fn pass_codes(cursor: &mut Cursor) -> bool
     ensures past { past_data true cursor.new ≡ past_data true cursor.old }
@@ -219,8 +276,11 @@ fn pass_codes(cursor: &mut Cursor) -> bool
     false
 }
 
-// Moves past data up to where it stops, or to a sign and past it. Answers whether it may go on. Where the sign is in no word of literals, none
-// begins before it.
+// Moves past data up to where it stops, or to a sign and past it, and answers whether data may go on: whether it has passed a sign. Where the sign is
+// in no word of literals, none begins before it, so all up to it is passed at once.
+//
+//     > | yes. So
+//         ^^^^
 #[inline(always)]
 fn pass_part(cursor: &mut Cursor) -> bool
     ensures past { past_data true cursor.new ≡ past_data true cursor.old }
@@ -240,14 +300,20 @@ fn pass_part(cursor: &mut Cursor) -> bool
     true
 }
 
-// Moves past data of the line at hand, where literals are on.
+// Moves past data of the line at hand, where literals are on. It answers nothing.
+//
+//     > | yes. So *z*
+//         ^^^^^^^^
 fn pass_parts(cursor: &mut Cursor)
     ensures { cursor.new ≡ past_data true cursor.old }
 {
     while pass_part(cursor) {}
 }
 
-// Moves past data of the line at hand.
+// Moves past data of the line at hand, up to a line ending, an underscore or where else data stops. It answers nothing.
+//
+//     > | see x_y *z*
+//         ^^^^^
 #[inline(always)]
 fn pass_data(cursor: &mut Cursor, literals: bool)
     ensures { cursor.new ≡ past_data literals cursor.old }
@@ -260,6 +326,10 @@ fn pass_data(cursor: &mut Cursor, literals: bool)
 }
 
 // Whether a line ending is at the place.
+//
+//     > | see
+//            ^
+//     > | x_y *z*
 #[inline(always)]
 fn is_at_ending(cursor: &Cursor) -> bool
     ensures { result ≡ is_some_mark (codes "\n") (code_at cursor.now) }
@@ -267,7 +337,10 @@ fn is_at_ending(cursor: &Cursor) -> bool
     matches!(cursor.current(), Some(b'\n'))
 }
 
-// Whether a `.` is at the place that no word of literals holds.
+// Whether a `.` is at the place that no word of literals holds: one that is not behind a `w`.
+//
+//     > | yes. So
+//            ^
 #[inline(always)]
 fn is_at_plain_dot(cursor: &Cursor) -> bool
     ensures { result ≡ true → sign_at cursor.now ≡ false }
@@ -290,7 +363,10 @@ fn stops_of(literals: bool) -> ByteSet
     }
 }
 
-// Moves past the code at hand and data of the line behind it. Answers whether data goes on.
+// Moves past the code at hand and data of the line behind it, and answers whether data goes on: it does only at a line ending.
+//
+//     > | see x_y *z*
+//         ^^^^^
 #[inline(never)]
 fn pass_any_line(cursor: &mut Cursor, literals: bool) -> bool
     requires { IsSome (code_at cursor.old) }
@@ -304,6 +380,9 @@ fn pass_any_line(cursor: &mut Cursor, literals: bool) -> bool
 
 // The same, at once where the codes are ordinary and no sign is among them: then data goes on at a line ending alone. A first `.` that no word
 // holds is where the rest is passed from.
+//
+//     > | see x_y *z*
+//         ^^^^^
 #[inline(always)]
 fn pass_line(cursor: &mut Cursor, literals: bool) -> bool
     requires { IsSome (code_at cursor.old) }
@@ -335,6 +414,9 @@ fn is_some_alphanumeric(code: Option<u8>) -> bool
 }
 
 // Whether an underscore is at the place.
+//
+//     > | see x_y *z*
+//              ^
 #[inline(always)]
 fn is_at_underscore(cursor: &Cursor) -> bool
     ensures { result ≡ is_some_value (byte "_") (code_at cursor.now) }
@@ -342,7 +424,10 @@ fn is_at_underscore(cursor: &Cursor) -> bool
     matches!(cursor.current(), Some(b'_'))
 }
 
-// Whether an ASCII letter or digit is before the code at the place, and one behind it.
+// Whether an ASCII letter or digit is before the code at the place, and one behind it. The caret is under that code:
+//
+//     > | see x_y *z*
+//              ^
 fn is_between_alphanumerics(cursor: &Cursor) -> bool
     ensures { result ≡ is_some_alphanumeric (code_before cursor.now) && is_some_alphanumeric (code_at (moved cursor.now)) }
 {
@@ -350,6 +435,9 @@ fn is_between_alphanumerics(cursor: &Cursor) -> bool
 }
 
 // Whether an inner underscore is at the place.
+//
+//     > | see x_y *z*
+//              ^
 #[inline(always)]
 fn is_inner_underscore(cursor: &Cursor) -> bool
     ensures { result ≡ is_inner_underscore cursor.now.codes (ahead_at cursor.now) }
@@ -358,6 +446,9 @@ fn is_inner_underscore(cursor: &Cursor) -> bool
 }
 
 // Whether data has stopped at an inner underscore, where `on` says whether it goes on.
+//
+//     > | see x_y *z*
+//              ^
 #[inline(always)]
 fn stops_at_inner(cursor: &Cursor, on: bool) -> bool
     ensures { result ≡ not on && is_inner_underscore cursor.now.codes (ahead_at cursor.now) }
@@ -365,7 +456,10 @@ fn stops_at_inner(cursor: &Cursor, on: bool) -> bool
     !on && is_inner_underscore(cursor)
 }
 
-// Moves past the code at hand, data of the line behind it, and inner underscores. Answers whether data goes on.
+// Moves past the code at hand, data of the line behind it, and inner underscores, and answers whether data goes on.
+//
+//     > | see x_y *z*
+//              ^^^
 #[inline(never)]
 fn pass_more_inner(cursor: &mut Cursor, literals: bool) -> bool
     requires { IsSome (code_at cursor.old) }
@@ -381,6 +475,9 @@ fn pass_more_inner(cursor: &mut Cursor, literals: bool) -> bool
 }
 
 // The same, at once where no inner underscore is behind the first data.
+//
+//     > | see x_y *z*
+//         ^^^^^^^^
 #[inline(always)]
 fn pass_inner(cursor: &mut Cursor, literals: bool) -> bool
     requires { IsSome (code_at cursor.old) }
@@ -394,7 +491,11 @@ fn pass_inner(cursor: &mut Cursor, literals: bool) -> bool
     pass_more_inner(cursor, literals)
 }
 
-// Reads the line ending at hand. Answers whether data goes on.
+// Reads the line ending at hand, and answers whether data goes on.
+//
+//     > | see
+//            ^
+//     > | x_y *z*
 #[tactic(auto, unfolding(markdown_engine::specs::Operations::applied))]
 fn read_ending(tokenizer: &mut Tokenizer, literals: bool) -> Result<bool, AllocError>
     requires { HasCode tokenizer.old }
@@ -408,7 +509,10 @@ fn read_ending(tokenizer: &mut Tokenizer, literals: bool) -> Result<bool, AllocE
     Ok(goes_on(&tokenizer.cursor, literals))
 }
 
-// Reads data of one line from the code at hand on. Answers whether data goes on.
+// Reads data of one line from the code at hand on, and answers whether data goes on.
+//
+//     > | see x_y *z*
+//         ^^^^^^^^
 #[inline(always)]
 #[tactic(auto, unfolding(markdown_engine::specs::Operations::applied))]
 fn read_stretch(tokenizer: &mut Tokenizer, literals: bool) -> Result<bool, AllocError>
@@ -423,7 +527,12 @@ fn read_stretch(tokenizer: &mut Tokenizer, literals: bool) -> Result<bool, Alloc
     Ok(on)
 }
 
-// Reads the line ending at hand, or data of one line. Answers whether data goes on.
+// Reads the line ending at hand, or data of one line, and answers whether data goes on.
+//
+//     > | see
+//         ^^^^
+//     > | x_y *z*
+//         ^^^^
 #[inline(always)]
 fn read_line(tokenizer: &mut Tokenizer, literals: bool) -> Result<bool, AllocError>
     requires { HasCode tokenizer.old }
@@ -437,7 +546,13 @@ fn read_line(tokenizer: &mut Tokenizer, literals: bool) -> Result<bool, AllocErr
     }
 }
 
-/// Reads data from the code at hand on: that code, whatever it is, and all up to the next at which another element of a text may begin.
+/// Reads data from the code at hand on: that code, whatever it is, and all up to the next at which another element of a text may begin. It answers
+/// nothing.
+///
+///     > | see
+///         ^^^^
+///     > | x_y *z*
+///         ^^^^
 ///
 /// Data stops at the codes at which something is tried. At a letter it stops only where a word stands with which a literal begins, and where
 /// `literals` says that these are on. At an underscore it stops unless an ASCII letter or digit is on both sides. It goes on past line endings.

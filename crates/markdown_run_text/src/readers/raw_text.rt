@@ -1,12 +1,37 @@
-//! Spans of code and math (CommonMark 6.1): those whose text is a single stretch of one line are read whole, and of others it is seen before that
-//! none is read.
+//! The reader of code spans (CommonMark 6.1), and of math spans alike, whose text is a single stretch of one line.
+//!
+//!     plain_span ::= plain_code | plain_math
+//!     plain_code ::= '`'{n} text '`'{n}                        n ≥ 1
+//!     plain_math ::= '$'{n} text '$'{n}                        n ≥ 1, or n ≥ 2 without `math_text_single_dollar`
+//!     text ::= (code - (line_ending | marker))+
+//!
+//! Runs are as long as they can be. No such marker stands right before a span, unless as the value of an escape.
+//!
+//! Events, with `Math` for `Code` in a math span:
+//!
+//!     CodeText
+//!       CodeTextSequence    the opening run
+//!       CodeTextData        the text
+//!       CodeTextSequence    the closing run
+//!
+//! Example: the span of ```x ``y z`` ```.
+//!
+//!     CodeText 2-9
+//!       CodeTextSequence 2-4
+//!       CodeTextData 4-7
+//!       CodeTextSequence 7-9
+//!
+//! Definition: `raw_text_here` in `markdown_model/specs/SingleConstructs.antt`, by `span_of` in `LeafConstructs.antt`.
+//!
+//! The reader knows the spans of this grammar. It leaves those whose text has line endings, or runs of the marker of another length, to the states.
+//! `is_ruled_out` tells by an index of the content whether any run can close; where none can, the states are not tried.
 #![tactic(auto)]
 
 ghost use Rattle.std.specs.Prelude.{◌≡◌, ◌==◌, codes, IfOk, OnOk, OnErr, IsTrue, Some};
 ghost use Rattle.std.specs.List.{list_any};
 ghost use Rattle.markdown_engine.specs.Operations.{current_of};
-ghost use Rattle.markdown_engine_content.specs.Place.{ahead_at};
-ghost use Rattle.markdown_engine_index.specs.RunIndex.{leading};
+ghost use Rattle.markdown_content.specs.Place.{ahead_at};
+ghost use Rattle.markdown_notes.specs.RunIndex.{leading};
 ghost use Rattle.markdown_leaf.specs.RawText.{is_ruled_out, span_at};
 ghost use Rattle.markdown_run_text.specs.PlacesPassed.{past_run};
 ghost use Rattle.markdown_run_text.specs.PlainSpan.{begins_span, names_for, opens_span, past_span_text, with_span};
@@ -14,10 +39,10 @@ ghost use Rattle.markdown_run_text.specs.ReaderEnds.{ReadsOrLeaves};
 
 use crate::readers::attention::pass_markers;
 use crate::readers::events::{append_enter, append_exit, append_leaf, append_leaf_between};
+use markdown_content::byte_table;
+use markdown_content::bytes::{ByteSet, ByteTable};
+use markdown_content::cursor::Cursor;
 use markdown_engine::tokenizer::Tokenizer;
-use markdown_engine_content::byte_table;
-use markdown_engine_content::bytes::{ByteSet, ByteTable};
-use markdown_engine_content::cursor::Cursor;
 use markdown_event::event::{Name, Point};
 use markdown_leaf::raw_text::is_barred;
 use std::alloc::AllocError;
@@ -37,6 +62,9 @@ fn names_of(marker: u8) -> (Name, Name, Name)
 }
 
 // Whether the run of this marker, which is at hand, may open a span: spans of it are on, and the run is long enough.
+//
+//     > | x $$y$$
+//           ^^
 #[inline(always)]
 fn opens(tokenizer: &Tokenizer, marker: u8) -> bool
     ensures { result ≡ opens_span marker tokenizer.now }
@@ -53,6 +81,9 @@ fn opens(tokenizer: &Tokenizer, marker: u8) -> bool
 }
 
 // Moves past the codes at the place that are this marker, and answers how many they are.
+//
+//     > | x ``y z``
+//           ^^   ^^
 #[inline(always)]
 fn pass_run(cursor: &mut Cursor, marker: u8) -> usize
     ensures past { cursor.new ≡ past_run marker cursor.old }
@@ -67,7 +98,10 @@ const BACKTICK: ByteTable = byte_table!(b'`');
 
 const DOLLAR: ByteTable = byte_table!(b'$');
 
-// Moves past the text of a span of this marker: up to the marker, a line ending or the end.
+// Moves past the text of a span of this marker: up to the marker, a line ending or the end. It answers nothing.
+//
+//     > | x ``y z``
+//             ^^^
 #[inline(always)]
 fn pass_text(cursor: &mut Cursor, marker: u8)
     requires { IsTrue (list_any (λ n. marker == n) (codes "`$")) }
@@ -80,7 +114,11 @@ fn pass_text(cursor: &mut Cursor, marker: u8)
     }
 }
 
-// Appends the events of a span that begins at the first point and ends at the place, and whose text stands between the others.
+// Appends the events of a span that begins at the first point and ends at the place, and whose text stands between the others. All its codes are
+// passed before.
+//
+//     > | x ``y z``
+//           ^^^^^^^
 #[inline(always)]
 fn append_span(
     tokenizer: &mut Tokenizer,
@@ -100,8 +138,11 @@ fn append_span(
     append_exit(tokenizer, whole)
 }
 
-/// Reads the span of the marker at hand, which is given, where its text is a single stretch of one line. Answers whether one is read; none is
+/// Reads the span of the marker at hand, which is given, where its text is a single stretch of one line, and answers whether one is read; none is
 /// where spans of the marker are off.
+///
+///     > | x ``y z``
+///           ^^^^^^^
 ///
 /// Its events are a `CodeText` with a `CodeTextSequence`, a `CodeTextData` and another `CodeTextSequence`, and those of math alike.
 ///
@@ -134,6 +175,9 @@ pub fn read(tokenizer: &mut Tokenizer, marker: u8) -> Result<bool, AllocError>
 }
 
 /// Whether it is known that no span of this marker is read at the place: none as long as the run at hand follows. Takes no memory.
+///
+///     > | x ``y z`
+///           ^^
 ///
 /// Where the marker is barred, the run is not passed, so that each run is passed once.
 pub fn is_ruled_out(tokenizer: &Tokenizer, marker: u8) -> bool

@@ -3,7 +3,8 @@
 ghost use Rattle.std.specs.Prelude.{◌≡◌, IsUtf8};
 ghost use Rattle.std.specs.Str.{IsCharBoundary};
 ghost use Rattle.unicode.specs.Binary.{is_white_space};
-ghost use Rattle.markdown_util.specs.Neighbours.{before_index, after_index, class_of, is_punctuation};
+ghost use Rattle.unicode.specs.GeneralCategory.{general_category};
+ghost use Rattle.markdown_util.specs.Neighbours.{before_index, after_index, class_of, listed_class_of, is_listed_space, is_zs, is_punctuation};
 
 use unicode::properties::{GeneralCategory, GeneralCategoryGroup, is_white_space};
 
@@ -54,6 +55,24 @@ pub fn classify_opt(char_opt: Option<char>) -> Kind
     }
 }
 
+/// The class of a character, where whitespace is what CommonMark lists: general category Zs, tab, line feed, form feed and carriage
+/// return. A missing character is whitespace here too.
+#[tactic(auto, unfolding(crate::specs::Neighbours::listed_class_of))]
+pub fn classify_listed(char_opt: Option<char>) -> Kind
+    ensures { result ≡ listed_class_of char_opt }
+{
+    let Some(c) = char_opt else {
+        return Kind::Whitespace;
+    };
+    if is_listed_space(c) {
+        Kind::Whitespace
+    } else if is_punctuation(c) {
+        Kind::Punctuation
+    } else {
+        Kind::Other
+    }
+}
+
 /// The class of the character at an index of a text in UTF-8. The index is that of a byte.
 pub fn kind_after_index(bytes: &[u8], index: usize) -> Kind
     requires utf8 { IsUtf8 bytes.now }
@@ -73,6 +92,32 @@ fn is_space(c: char) -> bool
         return ('\t' <= c && c <= '\r') || c == ' ';
     }
     is_white_space(c)
+}
+
+// Whether CommonMark lists a character as whitespace.
+fn is_listed_space(c: char) -> bool
+    ensures { result ≡ is_listed_space c }
+{
+    matches!(c, '\t' | '\n' | '\x0C' | '\r') || is_space_separator(c)
+}
+
+// Whether the general category of a character is Zs. Of ASCII this needs no look into the tables.
+#[tactic(auto, using(crate::proofs::AsciiClasses::space_separator_ascii))]
+#[inline]
+fn is_space_separator(c: char) -> bool
+    ensures { result ≡ is_zs (general_category c) }
+{
+    if c.is_ascii() {
+        return c == ' ';
+    }
+    is_zs(GeneralCategory::for_char(c))
+}
+
+// Whether a general category is Zs.
+fn is_zs(category: GeneralCategory) -> bool
+    ensures { result ≡ is_zs category }
+{
+    matches!(category, GeneralCategory::SpaceSeparator)
 }
 
 // Whether the general category of a character is P or S. Of ASCII this needs no look into the tables.

@@ -2,9 +2,9 @@
 
 ghost use Rattle.std.specs.Prelude.{◌≡◌, IsTrue};
 ghost use Rattle.std.specs.Option.{option_copied};
-ghost use Rattle.markdown_util.specs.Reference.{html_5_capitals, html_5_a_to_d, html_5_e_to_l, html_5_m_to_r, html_5_s_to_z, html_4_capitals, html_4_a_to_d, html_4_e_to_l, html_4_m_to_r, html_4_s_to_z, named_value, rows_of, rows_for};
-ghost use Rattle.markdown_util.specs.Reference.{html_4_rows, html_5_rows, is_sorted, IsMarker, value_size_max, is_value_byte};
-ghost use Rattle.markdown_util.specs.TableParts.{IsPart};
+ghost use Rattle.markdown_util.specs.Reference.{html_5_capitals, html_5_a_to_d, html_5_e_to_l, html_5_m_to_r, html_5_s_to_z, html_4_capitals, html_4_a_to_d, html_4_e_to_l, html_4_m_to_r, html_4_s_to_z, named_value, rows_of, rows_for, rows_named};
+ghost use Rattle.markdown_util.specs.Reference.{html_4_rows, html_5_rows, is_sorted, IsReferenceMarker, value_size_max, is_value_byte};
+ghost use Rattle.markdown_util.specs.TableParts.{IsTablePart};
 
 use crate::util::constant::{
     CHARACTER_REFERENCE_DECIMAL_SIZE_MAX, CHARACTER_REFERENCE_HEXADECIMAL_SIZE_MAX,
@@ -12,6 +12,19 @@ use crate::util::constant::{
     HTML_4_M_TO_R, HTML_4_S_TO_Z, HTML_5_A_TO_D, HTML_5_CAPITALS, HTML_5_E_TO_L, HTML_5_M_TO_R,
     HTML_5_S_TO_Z,
 };
+use crate::util::html_lines::html;
+
+/// The tables of named character references.
+#[derive(Clone, Copy, Debug, PartialEq, Eq)]
+pub enum Names {
+    /// The 252 names of HTML 4.
+    Html4,
+    /// The 294 names of HTML 5 that are shipped: those of HTML 4, two of them with another text,
+    /// and 42 more.
+    Html5,
+    /// All 2,125 names of HTML that end with a `;`. The 294 have the same texts here.
+    Html,
+}
 
 /// The text that a name stands for, and none where the table does not have the name.
 ///
@@ -20,13 +33,32 @@ use crate::util::constant::{
 pub fn decode_named(value: &str, html5: bool) -> Option<&'static str>
     ensures { option_copied result ≡ named_value (rows_for html5) value.now }
 {
-    let rows = if html5 { html_5(value) } else { html_4(value) };
-    text_of(rows, value)
+    decode_named_in(value, shipped_names(html5))
+}
+
+/// The text that a name stands for in a table, and none where the table does not have the name.
+///
+/// The name is what stands between `&` and `;`, in its own case.
+pub fn decode_named_in(value: &str, names: Names) -> Option<&'static str>
+    ensures { option_copied result ≡ named_value (rows_named names) value.now }
+{
+    match names {
+        Names::Html4 => text_of(html_4(value), value),
+        Names::Html5 => text_of(html_5(value), value),
+        Names::Html => html(value),
+    }
+}
+
+/// The table of HTML 5 as it is shipped, or else that of HTML 4.
+pub(crate) fn shipped_names(html5: bool) -> Names
+    ensures { rows_named result ≡ rows_for html5 }
+{
+    if html5 { Names::Html5 } else { Names::Html4 }
 }
 
 /// The most bytes that a value may have, by the marker of its reference: `&`, `#` or `x`.
 pub fn value_max(marker: u8) -> usize
-    requires { IsMarker marker }
+    requires { IsReferenceMarker marker }
     ensures { result ≡ value_size_max marker }
 {
     match marker {
@@ -39,7 +71,7 @@ pub fn value_max(marker: u8) -> usize
 
 /// Whether a value may hold a byte, by the marker of its reference: `&`, `#` or `x`.
 pub fn value_test(marker: u8, byte: u8) -> bool
-    requires { IsMarker marker }
+    requires { IsReferenceMarker marker }
     ensures { result ≡ is_value_byte marker byte }
 {
     match marker {
@@ -63,7 +95,7 @@ fn text_of(rows: &'static [(&'static str, &'static str)], name: &str) -> Option<
 
 /// The lines of HTML 5 among which a name would stand.
 fn html_5(name: &str) -> &'static [(&'static str, &'static str)]
-    ensures { IsPart html_5_rows (rows_of result.now) name.now }
+    ensures { IsTablePart html_5_rows (rows_of result.now) name.now }
 {
     if name < "a" {
         html_5_capitals()
@@ -115,7 +147,7 @@ fn html_5_s_to_z() -> &'static [(&'static str, &'static str)]
 
 /// The lines of HTML 4 among which a name would stand.
 fn html_4(name: &str) -> &'static [(&'static str, &'static str)]
-    ensures { IsPart html_4_rows (rows_of result.now) name.now }
+    ensures { IsTablePart html_4_rows (rows_of result.now) name.now }
 {
     if name < "a" {
         html_4_capitals()

@@ -1,5 +1,5 @@
 use Rattle.std.proofs.Common.{subst, ◌∙◌}
-use Rattle.markdown_leaves.specs.LeafView.{lent_by}
+use Rattle.markdown_innermost.specs.LeafView.{lent_by}
 use Rattle.inline_links.proofs.ReadableLeaves.{AreReadable, begun, first_text, first_value, others}
 use Rattle.inline_links.proofs.strings.resolved.Goals as goal
 

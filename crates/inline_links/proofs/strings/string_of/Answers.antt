@@ -6,8 +6,8 @@ use Rattle.inline_links.proofs.strings.string_of.Goals as goal
 
 pub resolved-requires-clause-texts : goal.resolved-requires-clause-texts
 resolved-requires-clause-texts c =
-    subst (LendTexts c.args.bytes.now) (sym (c.as_slice.ensures.value ∙ c.in_ok-found.ensures.events)) (c.leaves_are_texts.ensures _ _ (c.is_content.ensures.0 c.if-not-is_content.false)).1
+    subst (LendTexts c.args.bytes.now) (sym (c.as_slice.ensures ∙ c.in_ok-found.ensures.events)) (c.leaves_are_texts.ensures _ _ (c.is_content.ensures.0 c.if-not-is_content.false)).1
 
 pub resolved-requires-clause-values : goal.resolved-requires-clause-values
 resolved-requires-clause-values c =
-    subst (EventsHaveValues c.args.bytes.now) (sym (c.as_slice.ensures.value ∙ c.in_ok-found.ensures.events)) (c.values_are_decodable.ensures _ _ (c.is_content.ensures.0 c.if-not-is_content.false)).1
+    subst (EventsHaveValues c.args.bytes.now) (sym (c.as_slice.ensures ∙ c.in_ok-found.ensures.events)) (c.values_are_decodable.ensures _ _ (c.is_content.ensures.0 c.if-not-is_content.false)).1

@@ -1,8 +1,8 @@
 use Rattle.std.proofs.Common.{◌≡◌, ◌∙◌, ◌++◌, ◌∷◌, [], List, length, ap, sym, subst}
 use Rattle.markdown_event.specs.declared.event.Point.{Point}
-use Rattle.markdown_engine_content.specs.Codes.{document_start}
-use Rattle.markdown_engine_content.specs.KnownPlaces.{AreMarks}
-use Rattle.markdown_engine_pieces.proofs.KnownPlacesLemmas.{marks-start, mark-start}
+use Rattle.markdown_content.specs.Codes.{document_start}
+use Rattle.markdown_content.specs.KnownPlaces.{AreMarks}
+use Rattle.markdown_content.proofs.KnownPlacesLemmas.{marks-start, mark-start}
 use Rattle.markdown_document.proofs.places.marks_of.Goals as goal
 
 pub loop-number-init : goal.loop-number-init

@@ -1,5 +1,5 @@
 use Rattle.std.proofs.Common.{◌≡◌, ◌+◌, ◌*◌, length}
-use Rattle.markdown_engine_content.specs.KnownPlaces.{IsMark, AreMarks, mark_stride}
+use Rattle.markdown_content.specs.KnownPlaces.{IsMark, AreMarks, mark_stride}
 use Rattle.markdown_document.proofs.places.marks_of.Given as goal
 
 abbrev pub invariant-loop-number : goal.invariant-loop-number

@@ -1,8 +1,8 @@
 use Rattle.std.proofs.Common.{◌<◌, ◌≤◌, length, arith, sym, subst}
 use Rattle.markdown_event.specs.declared.event.Point.{Point}
-use Rattle.markdown_engine_content.specs.DocumentWalk.{IsPoint}
-use Rattle.markdown_engine_content.proofs.WalkSteps.{codes_left_at}
-use Rattle.markdown_engine_pieces.proofs.WalkTargets.{reaching-less}
+use Rattle.markdown_content.specs.DocumentWalk.{IsPoint}
+use Rattle.markdown_content.proofs.WalkSteps.{codes_left_at}
+use Rattle.markdown_content.proofs.WalkTargets.{reaching-less}
 use Rattle.markdown_document.proofs.places.near.Goals as goal
 use Rattle.markdown_document.proofs.places.near.Goals.{then-point-eq0, else-point-eq0}
 

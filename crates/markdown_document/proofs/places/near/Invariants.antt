@@ -1,7 +1,7 @@
 use Rattle.std.proofs.Common.{IsTrue}
-use Rattle.markdown_engine_content.specs.Codes.{place_of, is_at_or_after}
-use Rattle.markdown_engine_content.specs.DocumentWalk.{IsPoint}
-use Rattle.markdown_engine_content.proofs.WalkSteps.{codes_left_at}
+use Rattle.markdown_content.specs.Codes.{place_of, is_at_or_after}
+use Rattle.markdown_content.specs.DocumentWalk.{IsPoint}
+use Rattle.markdown_content.proofs.WalkSteps.{codes_left_at}
 use Rattle.markdown_document.proofs.places.near.Given as goal
 
 abbrev pub invariant-loop-point : goal.invariant-loop-point

@@ -1,6 +1,6 @@
 use Rattle.std.proofs.Common.{◌<◌, length, refl, arith}
-use Rattle.markdown_engine_content.proofs.NextPlace.{byte_on, feed_on}
-use Rattle.markdown_engine_content.proofs.NextPlace.{Fits_point, point_fits}
+use Rattle.markdown_content.proofs.NextPlace.{byte_on, feed_on}
+use Rattle.markdown_content.proofs.NextPlace.{Fits_point, point_fits}
 use Rattle.markdown_document.proofs.places.pass_bytes.Goals as goal
 
 pub overflow_add-point : goal.overflow_add-point

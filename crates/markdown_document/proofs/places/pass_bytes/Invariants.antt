@@ -1,5 +1,5 @@
 use Rattle.std.proofs.Common.{◌≡◌, ◌≤◌, ◌-◌}
-use Rattle.markdown_engine_content.specs.DocumentWalk.{IsPoint}
+use Rattle.markdown_content.specs.DocumentWalk.{IsPoint}
 use Rattle.markdown_document.proofs.places.pass_bytes.Given as goal
 
 abbrev pub invariant-loop-point : goal.invariant-loop-point

@@ -1,6 +1,6 @@
 use Rattle.std.proofs.Common.{◌≤◌, arith}
-use Rattle.markdown_engine_content.proofs.GroupWalk.{past-group, told-none, told-some}
-use Rattle.markdown_engine_content.proofs.NextPlace.{Fits_point, point_fits}
+use Rattle.markdown_content.proofs.GroupWalk.{past-group, told-none, told-some}
+use Rattle.markdown_content.proofs.NextPlace.{Fits_point, point_fits}
 use Rattle.markdown_document.proofs.places.pass_group.Goals as goal
 
 pub overflow_add-result : goal.overflow_add-result

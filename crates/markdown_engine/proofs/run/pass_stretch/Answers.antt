@@ -1,5 +1,5 @@
 use Rattle.std.proofs.Common.{sym, subst}
-use Rattle.markdown_engine_content.specs.Place.{Place}
+use Rattle.markdown_content.specs.Place.{Place}
 use Rattle.markdown_engine.specs.Steady.{Onward}
 use Rattle.markdown_engine.proofs.SteadyLemmas.{onward-stretch}
 use Rattle.markdown_engine.proofs.run.pass_stretch.Goals as goal

@@ -1,20 +1,19 @@
 use Rattle.std.proofs.Common.{ℕ, ◌≡◌, ◌<◌, ◌≤◌, ◌+◌, inl, inr, List, length, get_or, None, sym, subst, arith}
-use Rattle.std.proofs.lemmas.List.{get_or_default}
 use Rattle.std.proofs.Math.Nat.{eq-or-lt_of_le}
 use Rattle.markdown_event.specs.declared.event.Event.{Event}
 use Rattle.markdown_engine_events.specs.EventChains.{link_previous, next_link}
 use Rattle.markdown_engine_events.proofs.events.alone_among_four.Goals as goal
 
 -- so many events from a place on
-abbrev AreFrom : (Event → Type 0) → List Event → ℕ → ℕ → Type 0
-AreFrom P es at n = (i : ℕ) (e : Event) → at ≤ i → i < at + n → P (get_or es i e)
+abbrev HoldsFrom : (Event → Type 0) → List Event → ℕ → ℕ → Type 0
+HoldsFrom P es at n = (i : ℕ) (e : Event) → at ≤ i → i < at + n → P (get_or es i e)
 
-from-more : (P : Event → Type 0) (es : List Event) (at n : ℕ) (d : Event) → at + n < length es → AreFrom P es at n →
-    P (get_or es (at + n) d) → AreFrom P es at (n + 1)
-from-more P es at n d within all here i e low high =
+from-more : (P : Event → Type 0) (es : List Event) (at n : ℕ) → at + n < length es → HoldsFrom P es at n →
+    ((d : Event) → P (get_or es (at + n) d)) → HoldsFrom P es at (n + 1)
+from-more P es at n within all here i e low high =
     let most : i ≤ at + n = omega arith in
     elim (eq-or-lt_of_le most) [
-      | inl same ↦ subst (λ (k : ℕ). P (get_or es k e)) (sym same) (subst P (get_or_default es (at + n) d e within) here)
+      | inl same ↦ subst (λ (k : ℕ). P (get_or es k e)) (sym same) (here e)
       | inr less ↦ all i e low less
     ]
 
@@ -22,8 +21,8 @@ pub loop-count-preserved : goal.loop-count-preserved
 loop-count-preserved c =
     let within : c.args.at + c.loop-count.count < length c.args.items.now = omega arith in
     record {
-      previous = from-more (λ (e : Event). link_previous e.link ≡ None) c.args.items.now c.args.at c.loop-count.count _ within c.loop-count.invariant.previous (c.is_alone.ensures.previous c.if-not-is_alone.false);
-      next = from-more (λ (e : Event). next_link None e.link ≡ e.link) c.args.items.now c.args.at c.loop-count.count _ within c.loop-count.invariant.next (c.is_alone.ensures.next c.if-not-is_alone.false);
+      previous = from-more (λ (e : Event). link_previous e.link ≡ None) c.args.items.now c.args.at c.loop-count.count within c.loop-count.invariant.previous (c.is_alone.ensures.previous c.if-not-is_alone.false);
+      next = from-more (λ (e : Event). next_link None e.link ≡ e.link) c.args.items.now c.args.at c.loop-count.count within c.loop-count.invariant.next (c.is_alone.ensures.next c.if-not-is_alone.false);
     }
 
 pub returns-then-not-is_alone-clause-previous : goal.returns-then-not-is_alone-clause-previous

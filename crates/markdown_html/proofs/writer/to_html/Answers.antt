@@ -1,8 +1,8 @@
 use Rattle.std.proofs.Common.{rules, ◌≡◌, ◌∙◌, subst, sym, ap, ℕ, List, true, false, None}
-use Rattle.markdown_engine_content.specs.Tree.{Forest, events_of}
+use Rattle.markdown_content.specs.Tree.{Forest, events_of}
 use Rattle.markdown_html_model.specs.Html.{html, calls_behind}
-use Rattle.markdown_html_laws.specs.OwnMarkup.{IsOwnMarkup}
-use Rattle.markdown_html_laws.proofs.HtmlIsOwn.{html-is-own, html-is-safe}
+use Rattle.markdown_html_model.specs.OwnMarkup.{IsOwnMarkup}
+use Rattle.markdown_html_model.proofs.HtmlIsOwn.{html-is-own, html-is-safe}
 use Rattle.markdown_html.specs.View.{page_from}
 use Rattle.markdown_html_model.specs.declared.role.Within.{Within}
 use Rattle.markdown_html.proofs.WalkTree.{html_within, calls_within}

@@ -1,5 +1,5 @@
 use Rattle.std.proofs.Common.{◌≡◌, length, All}
-use Rattle.markdown_run_leaves.specs.InnermostEvents.{innermost, IsInOrder}
+use Rattle.markdown_innermost.specs.InnermostEvents.{innermost, IsSpanInOrder}
 use Rattle.markdown_html.specs.View.{page_of, state_of}
 use Rattle.markdown_html.specs.EventWalk.{walked, beginning}
 use Rattle.markdown_html.proofs.writer.written.Given as goal
@@ -8,7 +8,7 @@ use Rattle.markdown_html.proofs.writer.written.Given as goal
 abbrev pub invariant-loop-event : goal.invariant-loop-event
 invariant-loop-event l = record {
   whole : walked (page_of l.given) (state_of l.writer) l.left ≡ walked (page_of l.given) (beginning l.fn.calls l.fn.within) l.events;
-  places : All (IsInOrder l.given.bytes.now) (innermost l.left);
+  places : All (IsSpanInOrder l.given.bytes.now) (innermost l.left);
 }
 
 abbrev pub decreases-loop-event : goal.decreases-loop-event

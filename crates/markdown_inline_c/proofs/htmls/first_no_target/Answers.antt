@@ -4,7 +4,7 @@ use Rattle.markdown_inline_c.specs.FlatHtml.{IsTarget}
 use Rattle.markdown_inline_c.specs.declared.flat.FlatTarget.{FlatTarget}
 use Rattle.std.proofs.lemmas.Bool.{false≢true}
 use Rattle.std.proofs.lemmas.List.Elements.{All-more}
-use Rattle.markdown_inline_c.proofs.WrittenContents.{first_other}
+use Rattle.markdown_inline_c.proofs.InTurn.{first_other}
 use Rattle.markdown_inline_c.proofs.htmls.first_no_target.Goals as goal
 
 pub loop-at-preserved : goal.loop-at-preserved

@@ -1,6 +1,10 @@
 use Rattle.markdown_run_text.specs.RunSetting.{setting_of}
-use Rattle.markdown_inline_c.proofs.Contents.{AreRead}
+use Rattle.markdown_inline_c.specs.FlatTexts.{IsTextAt, text_at}
+use Rattle.markdown_inline_c.proofs.InTurn.{AreRead}
 use Rattle.markdown_inline_c.proofs.texts.read_all.Given as goal
 
-abbrev pub invariant-loop-content : goal.invariant-loop-content
-invariant-loop-content l = AreRead l.document.bytes.now (setting_of l.document) l.pieces l.contents l.found.events.items l.found.ends.items l.content-index
+abbrev pub invariant-loop-at : goal.invariant-loop-at
+invariant-loop-at g l =
+    let s = setting_of l.given.document.now in
+    let pieces = l.given.pieces.now in
+    AreRead (λ c. g.F.Form.items s (text_at s pieces c)) (IsTextAt s.bytes pieces) l.contents l.initial.array l.array l.initial.ends l.ends l.outcome l.at

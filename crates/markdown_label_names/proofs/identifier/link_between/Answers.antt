@@ -9,12 +9,12 @@ use Rattle.markdown_label_names.proofs.identifier.link_between.Goals as goal
 
 pub link_from-link-requires-clause-cuts : goal.link_from-link-requires-clause-cuts
 link_from-link-requires-clause-cuts c =
-    lent-cuts c.args.tokenizer.now c.args.from c.args.to c.at.result.now c.at-2.result.now c.requires c.at.ensures c.at-2.ensures c.max-end.result c.max-end.ensures
+    lent-cuts c.args.tokenizer.now c.args.from c.args.to c.at-start.result c.at.result c.requires c.at-start.ensures c.at.ensures c.max-end.result c.max-end.ensures
 
 pub returns-clause-link : goal.returns-clause-link
 returns-clause-link c =
     let T : Tokenizer = c.args.tokenizer.now in
-    let name = lent-name T c.args.from c.args.to c.at.result.now c.at-2.result.now c.requires c.at.ensures c.at-2.ensures c.max-end.result c.max-end.ensures in
+    let name = lent-name T c.args.from c.args.to c.at-start.result c.at.result c.requires c.at-start.ensures c.at.ensures c.max-end.result c.max-end.ensures in
     subst (λ found. IfOk found (λ link. link ≡ link_as (setting_in T) c.args.kind (identifier_between T c.args.from c.args.to)))
     (sym c.noted.ensures.same)
     (IfOk-weaker c.link_from-link.result _ _ (λ link k. k ∙ ap (link_as (setting_in T) c.args.kind) name) c.link_from-link.ensures)

@@ -3,14 +3,14 @@ use Rattle.std.proofs.Common.{◌∙◌, List, length, sym, ap, subst}
 use Rattle.std.specs.List.{All}
 use Rattle.markdown_engine.specs.declared.tokenizer.Label.{Label}
 use Rattle.markdown_engine.specs.declared.tokenizer.LabelStart.{LabelStart}
-use Rattle.markdown_label.specs.Brackets.{IsWithin, IsStartWithin}
+use Rattle.markdown_label.specs.Brackets.{IsLabelWithin, IsStartWithin}
 use Rattle.markdown_label.specs.LabelsHandedOver.{starts_of}
 use Rattle.markdown_label_pass.proofs.LabelsHandedOverLemmas.{has-labels, has-unused, has-failed, has-may, has-group, asked}
 use Rattle.markdown_label_pass.proofs.label_groups.group.Goals as goal
 
 pub mark_labels-requires : goal.mark_labels-requires
 mark_labels-requires c =
-    subst (λ (ls : List Label). All (IsWithin (length c.args.events.now)) ls) (sym c.as_slice.ensures) (has-labels c.requires.brackets.0 c.args.state.now c.args.events.now c.requires.brackets.1)
+    subst (λ (ls : List Label). All (IsLabelWithin (length c.args.events.now)) ls) (sym c.as_slice.ensures) (has-labels c.requires.brackets.0 c.args.state.now c.args.events.now c.requires.brackets.1)
 
 pub mark_unused-requires : goal.mark_unused-requires
 mark_unused-requires c = has-unused c.requires.brackets.0 c.args.state.now c.args.events.now c.requires.brackets.1

@@ -3,9 +3,9 @@ use Rattle.std.proofs.Common.{◌≡◌, ◌≢◌, sym, ap, ◌∙◌, arith}
 use Rattle.std.proofs.lemmas.Bool.{eq-eqb, ne_eqb}
 use Rattle.markdown_engine.specs.Operations.{Exit, applied, scratched}
 use Rattle.markdown_engine.specs.StateRuns.{stepped}
-use Rattle.markdown_state.specs.declared.state.State.TheVariants.{Retry}
-use Rattle.markdown_state.specs.declared.state.State.TheVariants as State
-use Rattle.markdown_state.specs.declared.state.StateName.TheVariants.{RawTextBetween}
+use Rattle.markdown_event.specs.declared.state.State.TheVariants.{Retry}
+use Rattle.markdown_event.specs.declared.state.State.TheVariants as State
+use Rattle.markdown_event.specs.declared.state.StateName.TheVariants.{RawTextBetween}
 use Rattle.markdown_engine.specs.declared.tokenizer.TokenizeState.{TokenizeState}
 use Rattle.markdown_engine.specs.declared.tokenizer.Tokenizer.{Tokenizer}
 use Rattle.markdown_engine.proofs.OperationFields.{scratch-applied}

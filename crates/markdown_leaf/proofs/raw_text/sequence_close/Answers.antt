@@ -4,8 +4,8 @@ use Rattle.std.specs.Prelude.{IfOk, OnErr, IsTrue}
 use Rattle.std.proofs.lemmas.Bool.{eq-eqb, ne_eqb}
 use Rattle.markdown_engine.specs.Operations.{Consume, current_of, done, scratched}
 use Rattle.markdown_engine.specs.StateRuns.{Stepped, stepped}
-use Rattle.markdown_state.specs.declared.state.State.TheVariants.{Next}
-use Rattle.markdown_state.specs.declared.state.StateName.TheVariants.{RawTextSequenceClose}
+use Rattle.markdown_event.specs.declared.state.State.TheVariants.{Next}
+use Rattle.markdown_event.specs.declared.state.StateName.TheVariants.{RawTextSequenceClose}
 use Rattle.markdown_engine.specs.declared.tokenizer.Tokenizer.{Tokenizer}
 use Rattle.markdown_engine.proofs.OperationFields.{scratch-applied}
 use Rattle.markdown_model.proofs.GrammarSteps.{if-true, if-false}

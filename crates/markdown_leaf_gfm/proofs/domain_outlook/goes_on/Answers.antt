@@ -3,7 +3,7 @@ use Rattle.std.proofs.Common.{◌||◌, sym, ap, ◌∙◌}
 use Rattle.std.proofs.lemmas.Bool.{or_parts}
 use Rattle.markdown_plan.specs.Characters.{at_later}
 use Rattle.markdown_model.specs.GfmAutolinkLiteral.{is_other}
-use Rattle.markdown_engine_content.specs.Place.{point_of}
+use Rattle.markdown_content.specs.Place.{point_of}
 use Rattle.markdown_util.specs.Neighbours.{class_of, after_index}
 use Rattle.markdown_leaf_gfm.proofs.DomainScanLemmas.{go-mark, go-plain}
 use Rattle.markdown_leaf_gfm.proofs.domain_outlook.goes_on.Goals as goal

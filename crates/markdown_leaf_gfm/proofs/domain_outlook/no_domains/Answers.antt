@@ -1,9 +1,9 @@
 -- From one `_` to the next.
 use Rattle.std.proofs.Common.{◌≡◌, refl, ◌+◌, ◌≤◌, Some, length, sym, ap, subst, ◌∙◌, arith}
-use Rattle.markdown_engine_content.specs.Place.{Place, ahead_at, moved, code_at}
-use Rattle.markdown_engine_content.specs.Stretch.{past_stretch}
-use Rattle.markdown_engine_content.proofs.PlaceRules.{left_moved}
-use Rattle.markdown_engine_content.proofs.StretchLemmas.{left-behind}
+use Rattle.markdown_content.specs.Place.{Place, ahead_at, moved, code_at}
+use Rattle.markdown_content.specs.Stretch.{past_stretch}
+use Rattle.markdown_content.proofs.PlaceRules.{left_moved}
+use Rattle.markdown_content.proofs.StretchLemmas.{left-behind}
 use Rattle.markdown_plan.specs.Characters.{IsText}
 use Rattle.markdown_plan.proofs.CharactersAlongContent.{text-moved}
 use Rattle.markdown_leaf_gfm.specs.DomainScans.{underscores}

@@ -1,11 +1,11 @@
 -- At each such place one fewer is left to be found.
 use Rattle.std.proofs.Common.{◌≡◌, ◌+◌, ◌≤◌, Some, length, sym, ap, subst, ◌∙◌, arith}
-use Rattle.markdown_engine_content.specs.Place.{Place, ahead_at, moved, code_at}
-use Rattle.markdown_engine_content.specs.Stretch.{past_stretch}
-use Rattle.markdown_engine_content.proofs.PlaceRules.{left_moved}
-use Rattle.markdown_engine_content.proofs.StretchLemmas.{left-behind}
+use Rattle.markdown_content.specs.Place.{Place, ahead_at, moved, code_at}
+use Rattle.markdown_content.specs.Stretch.{past_stretch}
+use Rattle.markdown_content.proofs.PlaceRules.{left_moved}
+use Rattle.markdown_content.proofs.StretchLemmas.{left-behind}
 use Rattle.markdown_leaf_gfm.specs.DomainScans.{underscores}
-use Rattle.markdown_leaf_gfm.proofs.DomainOutlookLemmas.{AreLeft, left-start, left-stretch, left-none, opening-one, opening-none}
+use Rattle.markdown_leaf_gfm.proofs.DomainOutlookLemmas.{OpeningsAreLeft, left-start, left-stretch, left-none, opening-one, opening-none}
 use Rattle.markdown_leaf_gfm.proofs.domain_outlook.opens_often.Goals as goal
 
 pub loop-left-init : goal.loop-left-init
@@ -16,7 +16,7 @@ returns-in_default c =
     let q : Place = c.seek.new.place in
     let at : q ≡ past_stretch underscores c.loop-left.place = c.seek.ensures.place ∙ ap (λ ms. past_stretch ms c.loop-left.place) c.underscores-marks.ensures in
     left-none c.args.times c.args.cursor.now.codes c.loop-left.left q
-    (subst (λ (p : Place). AreLeft c.args.times c.args.cursor.now.codes c.loop-left.left p) (sym at) (left-stretch c.args.times c.args.cursor.now.codes c.loop-left.left c.loop-left.place c.loop-left.invariant))
+    (subst (λ (p : Place). OpeningsAreLeft c.args.times c.args.cursor.now.codes c.loop-left.left p) (sym at) (left-stretch c.args.times c.args.cursor.now.codes c.loop-left.left c.loop-left.place c.loop-left.invariant))
     c.loop-left-test.true (sym c.seek.ensures.code ∙ c.in_default.is)
 
 pub loop-left-smaller-then-opens : goal.loop-left-smaller-then-opens
@@ -40,8 +40,8 @@ loop-left-preserved-then-opens c =
     let q : Place = c.seek.new.place in
     let here : code_at q ≡ Some c.in-Some.code = sym c.seek.ensures.code ∙ c.in-Some.is in
     let at : q ≡ past_stretch underscores c.loop-left.place = c.seek.ensures.place ∙ ap (λ ms. past_stretch ms c.loop-left.place) c.underscores-marks.ensures in
-    let k : AreLeft c.args.times c.args.cursor.now.codes c.loop-left.left q =
-    subst (λ (p : Place). AreLeft c.args.times c.args.cursor.now.codes c.loop-left.left p) (sym at) (left-stretch c.args.times c.args.cursor.now.codes c.loop-left.left c.loop-left.place c.loop-left.invariant) in
+    let k : OpeningsAreLeft c.args.times c.args.cursor.now.codes c.loop-left.left q =
+    subst (λ (p : Place). OpeningsAreLeft c.args.times c.args.cursor.now.codes c.loop-left.left p) (sym at) (left-stretch c.args.times c.args.cursor.now.codes c.loop-left.left c.loop-left.place c.loop-left.invariant) in
     opening-one c.args.times c.args.cursor.now.codes c.loop-left.left c.in-Some.code q c.consume.new.self k c.loop-left-test.true here (sym c.opens.ensures ∙ c.if-opens.true) c.consume.ensures
 
 pub loop-left-preserved : goal.loop-left-preserved
@@ -49,6 +49,6 @@ loop-left-preserved c =
     let q : Place = c.seek.new.place in
     let here : code_at q ≡ Some c.in-Some.code = sym c.seek.ensures.code ∙ c.in-Some.is in
     let at : q ≡ past_stretch underscores c.loop-left.place = c.seek.ensures.place ∙ ap (λ ms. past_stretch ms c.loop-left.place) c.underscores-marks.ensures in
-    let k : AreLeft c.args.times c.args.cursor.now.codes c.loop-left.left q =
-    subst (λ (p : Place). AreLeft c.args.times c.args.cursor.now.codes c.loop-left.left p) (sym at) (left-stretch c.args.times c.args.cursor.now.codes c.loop-left.left c.loop-left.place c.loop-left.invariant) in
+    let k : OpeningsAreLeft c.args.times c.args.cursor.now.codes c.loop-left.left q =
+    subst (λ (p : Place). OpeningsAreLeft c.args.times c.args.cursor.now.codes c.loop-left.left p) (sym at) (left-stretch c.args.times c.args.cursor.now.codes c.loop-left.left c.loop-left.place c.loop-left.invariant) in
     opening-none c.args.times c.args.cursor.now.codes c.loop-left.left c.in-Some.code q c.consume.new.self k here (sym c.opens.ensures ∙ c.if-opens.false) c.consume.ensures

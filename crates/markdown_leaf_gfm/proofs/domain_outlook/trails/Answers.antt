@@ -1,7 +1,7 @@
 -- Code by code.
 use Rattle.std.proofs.Common.{◌≡◌, ◌+◌, ◌<◌, ◌∙◌, length, Option, Bool, sym, subst, arith}
-use Rattle.markdown_engine_content.specs.Place.{Place, ahead_at, moved}
-use Rattle.markdown_engine_content.proofs.PlaceRules.{left_moved}
+use Rattle.markdown_content.specs.Place.{Place, ahead_at, moved}
+use Rattle.markdown_content.proofs.PlaceRules.{left_moved}
 use Rattle.markdown_leaf_gfm.specs.DomainScans.{IsLook}
 use Rattle.markdown_leaf_gfm.specs.declared.domain_outlook.Look.{Look}
 use Rattle.markdown_leaf_gfm.proofs.TrailScans.{Looking, looking-start, looking-on, looking-ends, looking-none, looking-some}

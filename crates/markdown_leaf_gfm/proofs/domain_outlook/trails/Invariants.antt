@@ -1,5 +1,5 @@
 use Rattle.std.proofs.Common.{length}
-use Rattle.markdown_engine_content.specs.Place.{ahead_at}
+use Rattle.markdown_content.specs.Place.{ahead_at}
 use Rattle.markdown_leaf_gfm.proofs.TrailScans.{Looking}
 use Rattle.markdown_leaf_gfm.proofs.domain_outlook.trails.Given as goal
 

@@ -2,12 +2,12 @@
 use Rattle.std.proofs.Common.{◌≡◌, ℕ, Option, Some, refl, sym, ap, subst, ◌∙◌}
 use Rattle.std.specs.Prelude.{IsSome}
 use Rattle.std.proofs.lemmas.Bool.{eq-eqb, ne_eqb}
-use Rattle.markdown_engine_content.specs.Place.{code_at}
+use Rattle.markdown_content.specs.Place.{code_at}
 use Rattle.markdown_event.specs.declared.event.Name.TheVariants as N
 use Rattle.markdown_engine.specs.Operations.{Enter, Consume, HasCode, applied, current_of}
 use Rattle.markdown_engine.specs.StateRuns.{stepped}
-use Rattle.markdown_state.specs.declared.state.State.TheVariants.{Next}
-use Rattle.markdown_state.specs.declared.state.StateName.TheVariants.{DataAtBreak, DataInside}
+use Rattle.markdown_event.specs.declared.state.State.TheVariants.{Next}
+use Rattle.markdown_event.specs.declared.state.StateName.TheVariants.{DataAtBreak, DataInside}
 use Rattle.markdown_engine.specs.declared.tokenizer.Tokenizer.{Tokenizer}
 use Rattle.markdown_engine.proofs.OperationFields.{cursor-applied}
 use Rattle.markdown_model.proofs.GrammarSteps.{if-true, if-false}

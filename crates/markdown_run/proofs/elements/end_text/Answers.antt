@@ -1,7 +1,7 @@
 use Rattle.std.proofs.Common.{ap, ◌∙◌}
 use Rattle.std.proofs.lemmas.Result.{on_ok_weaker}
 use Rattle.markdown_engine.specs.Operations.{registered}
-use Rattle.markdown_state.specs.declared.resolve.ResolveName.TheVariants as R
+use Rattle.markdown_event.specs.declared.resolve.ResolveName.TheVariants as R
 use Rattle.markdown_run.proofs.elements.end_text.Goals as goal
 
 pub returns-clause-ok : goal.returns-clause-ok

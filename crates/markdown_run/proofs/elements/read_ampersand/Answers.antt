@@ -2,7 +2,7 @@ use Rattle.std.proofs.Common.{◌≡◌, Bool, true, ap, refl, subst, sym, ◌�
 use Rattle.std.proofs.lemmas.Result.{IfOk-weaker}
 use Rattle.std.specs.Str.{byte}
 use Rattle.markdown_engine.specs.Operations.{current_of}
-use Rattle.markdown_state.specs.declared.state.StateName.TheVariants.{CharacterReferenceStart}
+use Rattle.markdown_event.specs.declared.state.StateName.TheVariants.{CharacterReferenceStart}
 use Rattle.markdown_engine.specs.declared.tokenizer.Tokenizer.{Tokenizer}
 use Rattle.markdown_leaf.specs.CharacterReference.{reference_here}
 use Rattle.markdown_run_text.specs.ReaderEnds.{ReadsOrLeaves}

@@ -2,7 +2,7 @@ use Rattle.std.proofs.Common.{◌≡◌, Bool, true, false, sym, ap, subst, ◌�
 use Rattle.std.proofs.lemmas.Result.{IfOk-weaker}
 use Rattle.std.specs.Option.{is_some}
 use Rattle.markdown_engine.specs.Operations.{current_of}
-use Rattle.markdown_state.specs.declared.state.StateName.TheVariants.{AutolinkStart}
+use Rattle.markdown_event.specs.declared.state.StateName.TheVariants.{AutolinkStart}
 use Rattle.markdown_engine.specs.declared.tokenizer.Tokenizer.{Tokenizer}
 use Rattle.markdown_engine.proofs.ReadingSequences.{scratched-same}
 use Rattle.markdown_leaf_html.specs.HtmlText as HtmlText
@@ -60,7 +60,7 @@ construct-requires-clause-construct c = λ _.
     let T : Tokenizer = c.args.tokenizer.now in
     let U : Tokenizer = c.read.new.tokenizer in
     let V : Tokenizer = c.read-2.new.tokenizer in
-    subst (λ (x : Tokenizer). HtmlText.StartReady x) (sym (same T U V (ended T U _ c.if-held.false c.in_ok-held.ensures.reads) (left U V _ c.if-held-2.false c.in_ok-held-2.ensures.reads))) (html-ready T c.requires.ready.may_try.start)
+    subst (λ (x : Tokenizer). HtmlText.HtmlStartReady x) (sym (same T U V (ended T U _ c.if-held.false c.in_ok-held.ensures.reads) (left U V _ c.if-held-2.false c.in_ok-held-2.ensures.reads))) (html-ready T c.requires.ready.may_try.start)
 
 pub construct-requires-clause-alone : goal.construct-requires-clause-alone
 construct-requires-clause-alone c = λ _.

@@ -1,6 +1,6 @@
 use Rattle.std.proofs.Common.{Bool, false, ap, subst, ◌∙◌}
 use Rattle.std.proofs.lemmas.Result.{IfOk-weaker}
-use Rattle.markdown_state.specs.declared.state.StateName.TheVariants.{CharacterEscapeStart}
+use Rattle.markdown_event.specs.declared.state.StateName.TheVariants.{CharacterEscapeStart}
 use Rattle.markdown_engine.specs.declared.tokenizer.Tokenizer.{Tokenizer}
 use Rattle.markdown_engine.proofs.ReadingSequences.{scratched-same}
 use Rattle.markdown_run.specs.RunConstruct.{ConstructEnds}

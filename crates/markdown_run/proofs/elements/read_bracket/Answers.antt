@@ -1,6 +1,6 @@
 use Rattle.std.proofs.Common.{Bool, false, sym, subst, ◌∙◌}
 use Rattle.std.proofs.lemmas.Result.{IfOk-weaker}
-use Rattle.markdown_state.specs.declared.state.StateName.TheVariants.{GfmLabelStartFootnoteStart}
+use Rattle.markdown_event.specs.declared.state.StateName.TheVariants.{GfmLabelStartFootnoteStart}
 use Rattle.markdown_engine.specs.declared.tokenizer.Tokenizer.{Tokenizer}
 use Rattle.markdown_run.specs.RunConstruct.{ConstructEnds}
 use Rattle.markdown_run.proofs.ElementsRead.{footnote-holds, link-next, link-behind}

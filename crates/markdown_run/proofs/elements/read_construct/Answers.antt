@@ -1,7 +1,7 @@
 use Rattle.std.proofs.Common.{[], ◌∷◌, Some, ap, ◌∙◌, refl, arith, inl, inr}
 use Rattle.std.proofs.lemmas.Bool.Decides.{nat_tests}
 use Rattle.std.proofs.lemmas.Result.{IfOk-weaker}
-use Rattle.markdown_engine_index.specs.RunIndex.{is_asked}
+use Rattle.markdown_notes.specs.RunIndex.{is_asked}
 use Rattle.markdown_model.specs.GfmAutolinkLiteral.{first_letters, www}
 use Rattle.markdown_engine.specs.declared.tokenizer.Tokenizer.{Tokenizer}
 use Rattle.markdown_run_text.specs.TextContent.{other_markers, span_markers}

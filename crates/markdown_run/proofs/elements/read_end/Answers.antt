@@ -1,8 +1,8 @@
 use Rattle.std.proofs.Common.{◌≡◌, Bool, true, ap, subst, ◌∙◌, sym}
 use Rattle.std.proofs.lemmas.Result.{IfOk-weaker}
-use Rattle.markdown_state.specs.declared.state.StateName.TheVariants.{LabelEndStart}
+use Rattle.markdown_event.specs.declared.state.StateName.TheVariants.{LabelEndStart}
 use Rattle.markdown_engine.specs.declared.tokenizer.Tokenizer.{Tokenizer}
-use Rattle.markdown_label.specs.LabelEnd.{StartReady}
+use Rattle.markdown_label.specs.LabelEnd.{LabelEndStartReady}
 use Rattle.markdown_run_text.specs.PlainResource.{EndsOrStays}
 use Rattle.markdown_run.specs.RunConstruct.{ConstructEnds}
 use Rattle.markdown_run.proofs.ElementsRead.{end-ends}
@@ -27,7 +27,7 @@ construct-requires-clause-construct c = λ _.
     let T : Tokenizer = c.args.tokenizer.now in
     let U : Tokenizer = c.read.new.tokenizer in
     let same : U ≡ T = subst (λ (b : Bool). EndsOrStays T b U) c.if-held.false c.in_ok-held.ensures.reads in
-    subst (λ (x : Tokenizer). StartReady x) (sym same) c.requires.ready.may_try.start.ends
+    subst (λ (x : Tokenizer). LabelEndStartReady x) (sym same) c.requires.ready.may_try.start.ends
 
 pub returns-clause-reads : goal.returns-clause-reads
 returns-clause-reads c =

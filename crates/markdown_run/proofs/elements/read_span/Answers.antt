@@ -1,10 +1,10 @@
 use Rattle.std.proofs.Common.{◌≡◌, ◌||◌, Bool, true, false, refl, ap, subst, sym, ◌∙◌}
 use Rattle.std.proofs.lemmas.Result.{IfOk-weaker}
-use Rattle.markdown_state.specs.declared.state.StateName.TheVariants.{RawTextStart}
+use Rattle.markdown_event.specs.declared.state.StateName.TheVariants.{RawTextStart}
 use Rattle.markdown_engine.specs.declared.tokenizer.Tokenizer.{Tokenizer}
-use Rattle.markdown_leaf.specs.RawText.{StartReady, is_ruled_out, span_at}
+use Rattle.markdown_leaf.specs.RawText.{RawTextStartReady, is_ruled_out, span_at}
 use Rattle.markdown_run_text.specs.ReaderEnds.{ReadsOrLeaves}
-use Rattle.markdown_run.specs.ElementsOfText.{Stays}
+use Rattle.markdown_run.specs.ElementsOfText.{ReachesData}
 use Rattle.markdown_run.specs.RunConstruct.{ConstructEnds}
 use Rattle.markdown_run.proofs.ElementsRead.{span-ends, span-ruled}
 use Rattle.markdown_run.proofs.elements.read_span.Goals as goal
@@ -26,7 +26,7 @@ returns-then-is_ruled_out-clause-reads c =
     let T : Tokenizer = c.args.tokenizer.now in
     let U : Tokenizer = c.read.new.tokenizer in
     let same : U ≡ T = subst (λ (b : Bool). ReadsOrLeaves (span_at T) T b U) c.if-held.false c.in_ok-held.ensures.reads in
-    subst (λ (x : Tokenizer). Stays T x) (sym same)
+    subst (λ (x : Tokenizer). ReachesData T x) (sym same)
     (span-ruled T c.args.marker c.requires.ready c.requires.here c.requires.marks (ap (λ (x : Tokenizer). is_ruled_out c.args.marker x) (sym same) ∙ sym c.is_ruled_out.ensures ∙ c.if-is_ruled_out.true))
 
 pub construct-requires-clause-alone : goal.construct-requires-clause-alone
@@ -41,7 +41,7 @@ construct-requires-clause-construct c = λ _.
     let T : Tokenizer = c.args.tokenizer.now in
     let U : Tokenizer = c.read.new.tokenizer in
     let same : U ≡ T = subst (λ (b : Bool). ReadsOrLeaves (span_at T) T b U) c.if-held.false c.in_ok-held.ensures.reads in
-    subst (λ (x : Tokenizer). StartReady x) (sym same) c.requires.ready.may_try.start.spans
+    subst (λ (x : Tokenizer). RawTextStartReady x) (sym same) c.requires.ready.may_try.start.spans
 
 pub returns-clause-reads : goal.returns-clause-reads
 returns-clause-reads c =

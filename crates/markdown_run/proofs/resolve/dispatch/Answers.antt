@@ -1,7 +1,7 @@
 use Rattle.std.proofs.Common.{◌≡◌, IfOk, OnOk, Result, Ok, Err, None, sym, subst}
 use Rattle.markdown_engine.specs.PastTree.{appended_from}
-use Rattle.markdown_engine_content.specs.Tree.{Forest}
-use Rattle.markdown_state.specs.declared.resolve.ResolveName.{ResolveName}
+use Rattle.markdown_content.specs.Tree.{Forest}
+use Rattle.markdown_event.specs.declared.resolve.ResolveName.{ResolveName}
 use Rattle.markdown_engine.specs.declared.tokenizer.Tokenizer.{Tokenizer}
 use Rattle.markdown_attention.specs.RunsOfTree.{IsOf, HasRuns}
 use Rattle.markdown_attention.specs.AttentionPass.{IsProbed}

@@ -1,7 +1,7 @@
 use Rattle.std.proofs.Common.{Bool, sym, ap, subst}
 use Rattle.std.specs.Result.{IfOk}
 use Rattle.markdown_engine.specs.declared.tokenizer.Tokenizer.{Tokenizer}
-use Rattle.markdown_run_text.specs.TextContent.{StartReady}
+use Rattle.markdown_run_text.specs.TextContent.{TextStartReady}
 use Rattle.markdown_run.specs.ElementsOfText.{KnowsNothing}
 use Rattle.markdown_run.specs.RunWithPasses.{MayPassText, IsFoundInText}
 use Rattle.markdown_run.proofs.run.text_from.Goals as goal
@@ -12,7 +12,7 @@ told first T = record T { tokenize_state = record T.tokenize_state { document_at
 
 pub text_through-found-requires-clause-ready : goal.text_through-found-requires-clause-ready
 text_through-found-requires-clause-ready c =
-    subst StartReady (sym (ap (told c.args.first_of_item) c.starting_at-tokenizer.ensures)) c.requires.ready
+    subst TextStartReady (sym (ap (told c.args.first_of_item) c.starting_at-tokenizer.ensures)) c.requires.ready
 
 pub text_through-found-requires-clause-alone : goal.text_through-found-requires-clause-alone
 text_through-found-requires-clause-alone c = ap (λ (T : Tokenizer). T.attempts) c.starting_at-tokenizer.ensures

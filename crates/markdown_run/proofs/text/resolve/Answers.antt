@@ -1,4 +1,4 @@
-use Rattle.markdown_partial.proofs.TrimPassLaw.{places-of}
+use Rattle.markdown_passes.proofs.TrimPassLaw.{places-of}
 use Rattle.markdown_run.proofs.TextPassLaw.{places-there, finishes-with}
 use Rattle.markdown_run.proofs.text.resolve.Goals as goal
 

@@ -1,7 +1,7 @@
 -- Without a mark of a span there is no run to be known.
 use Rattle.std.proofs.Common.{sym, ap, ◌∙◌}
 use Rattle.markdown_engine.specs.Operations.{scratched}
-use Rattle.markdown_engine_index.specs.RunIndex.{LastRuns, without_runs}
+use Rattle.markdown_notes.specs.RunIndex.{LastRuns, without_runs}
 use Rattle.markdown_engine.specs.declared.tokenizer.Tokenizer.{Tokenizer}
 use Rattle.markdown_run_text.proofs.RawTextRuledOut.{no-spans}
 use Rattle.markdown_run_text.proofs.text.index_runs.Goals as goal

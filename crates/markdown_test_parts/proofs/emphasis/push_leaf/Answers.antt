@@ -1,5 +1,5 @@
 use Rattle.std.proofs.Common.{◌≡◌, ◌++◌, ◌∷◌, []}
-use Rattle.markdown_engine_content.specs.Tree.{event}
+use Rattle.markdown_content.specs.Tree.{event}
 use Rattle.markdown_event.specs.declared.event.Kind.TheVariants as Kind
 use Rattle.markdown_test_parts.proofs.JoinedEvents.{leaf-pushed, if-ok}
 use Rattle.markdown_test_parts.proofs.emphasis.push_leaf.Goals as goal

@@ -1,18 +1,7 @@
-use Rattle.std.proofs.Common.{◌≡◌, true, List, [], ◌∷◌, ◌++◌, Some, refl, ap, ◌∙◌}
-use Rattle.markdown_event.specs.declared.event.Event.{Event}
-use Rattle.markdown_engine_events.specs.declared.util.edit_map.Edit.{Edit}
+use Rattle.std.proofs.Common.{◌≡◌, Some, refl, ap, ◌∙◌}
 use Rattle.markdown_engine_events.specs.EventChains.{with_previous, changed_at}
-use Rattle.markdown_engine_events.specs.Edits.{CanEdit}
-use Rattle.markdown_engine_events.proofs.EditRules.{can_edit, CanEdit-from_test}
+use Rattle.markdown_test_parts.proofs.EditedLists.{more, tested}
 use Rattle.markdown_test_parts.proofs.events.edit_one_place.Goals as goal
-
--- a list that one item was added to
-more : {A : Type 0} → (xs ys zs : List A) (x y : A) → xs ≡ ys → x ≡ y → zs ≡ xs ++ x ∷ [] → zs ≡ ys ++ y ∷ []
-more xs ys zs x y h k g = g ∙ ap (λ v. v ++ x ∷ []) h ∙ ap (λ v. ys ++ v ∷ []) k
-
-tested : (log log' : List Edit) (es es' : List Event) → log ≡ log' → es ≡ es' → can_edit log' es' ≡ true →
-    CanEdit log es
-tested log log' es es' h k t = CanEdit-from_test log es (ap (λ v. can_edit v es) h ∙ ap (can_edit log') k ∙ t)
 
 pub consume-requires : goal.consume-requires
 consume-requires c =

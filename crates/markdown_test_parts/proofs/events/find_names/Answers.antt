@@ -2,7 +2,7 @@ use Rattle.std.proofs.Common.{◌≡◌, ℕ, ◌<◌, ◌≤◌, List, Some, le
 use Rattle.markdown_event.specs.declared.event.Event.{Event}
 use Rattle.markdown_event.specs.declared.event.Name.{Name}
 use Rattle.markdown_event.specs.declared.event.Name.TheVariants.{Label, Resource}
-use Rattle.markdown_engine_content.specs.Nesting.{IsNamedBack}
+use Rattle.markdown_content.specs.Nesting.{IsNamedBack}
 use Rattle.markdown_test_parts.proofs.events.find_names.Goals as goal
 
 -- a name at a place of the list of names, and the event that has it

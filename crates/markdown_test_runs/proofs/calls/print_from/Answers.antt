@@ -1,9 +1,9 @@
 use Rattle.std.proofs.Common.{◌≡◌, Bool, suc, sym, ap, ◌∙◌, ◌∷◌}
-use Rattle.markdown_engine.proofs.CallsWithAttemptsLemmas.{answer}
-use Rattle.markdown_engine.proofs.AttemptLemmas.{settled-alone, going_in-alone, ready-next}
-use Rattle.markdown_engine.proofs.SteadyLemmas.{onward-here}
-use Rattle.markdown_engine.proofs.TurnLemmas.{Turned, goes-now, turned-call, turned-out}
-use Rattle.markdown_run.specs.Layer.{ready_of, step_of, ends_of, weight_of, laws_of}
+use Rattle.markdown_inline.proofs.markdown_engine.CallsWithAttemptsLemmas.{answer}
+use Rattle.markdown_inline.proofs.markdown_engine.AttemptLemmas.{settled-alone, going_in-alone, ready-next}
+use Rattle.markdown_inline.proofs.markdown_engine.SteadyLemmas.{onward-here}
+use Rattle.markdown_inline.proofs.markdown_engine.TurnLemmas.{Turned, goes-now, turned-call, turned-out}
+use Rattle.markdown_inline.specs.markdown_run.Layer.{ready_of, step_of, ends_of, weight_of, laws_of}
 use Rattle.markdown_test_runs.proofs.calls.print_from.Goals.{in-Ok, in-Nok}
 use Rattle.markdown_test_runs.proofs.calls.print_from.Goals as goal
 

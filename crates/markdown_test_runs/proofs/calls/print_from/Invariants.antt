@@ -1,7 +1,7 @@
 use Rattle.std.proofs.Common.{◌≡◌, suc, []}
-use Rattle.markdown_engine.specs.StateRuns.{Goes}
-use Rattle.markdown_engine.specs.TurnCount.{ran, runs_out}
-use Rattle.markdown_run.specs.Layer.{ready_of, step_of, ends_of, weight_of}
+use Rattle.markdown_inline.specs.markdown_engine.StateRuns.{Goes}
+use Rattle.markdown_inline.specs.markdown_engine.TurnCount.{ran, runs_out}
+use Rattle.markdown_inline.specs.markdown_run.Layer.{ready_of, step_of, ends_of, weight_of}
 use Rattle.markdown_test_runs.proofs.calls.print_from.Given as goal
 
 -- a run of the states goes on from here

@@ -1,6 +1,6 @@
 use Rattle.std.proofs.Common.{None}
-use Rattle.markdown_run.proofs.WholeRun.{begun-starts}
-use Rattle.markdown_run.proofs.TextRun.{none-lent, started, text-ready}
+use Rattle.markdown_inline.proofs.markdown_run.WholeRun.{begun-starts}
+use Rattle.markdown_inline.proofs.markdown_run.TextRun.{none-lent, started, text-ready}
 use Rattle.markdown_test_runs.proofs.calls.print_text_call.Goals as goal
 
 pub print_from-requires-clause-ready : goal.print_from-requires-clause-ready

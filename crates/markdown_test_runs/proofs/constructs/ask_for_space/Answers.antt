@@ -1,8 +1,8 @@
 use Rattle.std.proofs.Common.{ap, subst, sym, ◌∙◌}
-use Rattle.markdown_engine.specs.declared.tokenizer.Tokenizer.{Tokenizer}
-use Rattle.markdown_engine.proofs.OperationFields.{attempts-scratched}
-use Rattle.markdown_run.proofs.ConstructsAtStart.{start-space}
-use Rattle.markdown_partial.specs.PartialSpaceOrTab.{StartReady}
+use Rattle.markdown_inline.specs.markdown_engine.declared.tokenizer.Tokenizer.{Tokenizer}
+use Rattle.markdown_inline.proofs.markdown_engine.OperationFields.{attempts-scratched}
+use Rattle.markdown_inline.proofs.markdown_run.ConstructsAtStart.{start-space}
+use Rattle.markdown_inline.specs.markdown_partial.PartialSpaceOrTab.{SpaceOrTabStartReady}
 use Rattle.markdown_test_runs.proofs.constructs.ask_for_space.Goals as goal
 
 pub returns-clause-alone : goal.returns-clause-alone
@@ -11,4 +11,4 @@ returns-clause-alone c =
 
 pub returns-clause-construct : goal.returns-clause-construct
 returns-clause-construct c =
-    subst StartReady (sym c.space_or_tab_min_max.ensures.asked) (start-space c.args.asked.least _ c.args.tokenizer.now c.requires.rest)
+    subst SpaceOrTabStartReady (sym c.space_or_tab_min_max.ensures.asked) (start-space c.args.asked.least _ c.args.tokenizer.now c.requires.rest)

@@ -1,6 +1,6 @@
 use Rattle.std.proofs.Common.{ap}
-use Rattle.markdown_engine.specs.declared.tokenizer.Tokenizer.{Tokenizer}
-use Rattle.markdown_run.proofs.ConstructsAtStart.{start-fits, start-reads}
+use Rattle.markdown_inline.specs.markdown_engine.declared.tokenizer.Tokenizer.{Tokenizer}
+use Rattle.markdown_inline.proofs.markdown_run.ConstructsAtStart.{start-fits, start-reads}
 use Rattle.markdown_test_runs.proofs.constructs.at_start.Goals as goal
 
 pub returns-clause-fits : goal.returns-clause-fits

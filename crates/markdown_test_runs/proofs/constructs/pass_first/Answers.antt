@@ -1,10 +1,10 @@
 use Rattle.std.proofs.Common.{◌≤◌, ap, subst, sym, ◌∙◌}
-use Rattle.markdown_engine.specs.Operations.{Consume}
-use Rattle.markdown_engine.specs.Weights.{codes_left}
-use Rattle.markdown_engine.specs.declared.tokenizer.Tokenizer.{Tokenizer}
-use Rattle.markdown_engine.proofs.OperationFields.{attempts-applied, scratch-applied}
-use Rattle.markdown_run.proofs.ConstructsAtStart.{past-fits}
-use Rattle.markdown_partial.specs.PartialSpaceOrTab.{most}
+use Rattle.markdown_inline.specs.markdown_engine.Operations.{Consume}
+use Rattle.markdown_inline.specs.markdown_engine.Weights.{codes_left}
+use Rattle.markdown_inline.specs.markdown_engine.declared.tokenizer.Tokenizer.{Tokenizer}
+use Rattle.markdown_inline.proofs.markdown_engine.OperationFields.{attempts-applied, scratch-applied}
+use Rattle.markdown_inline.proofs.markdown_run.ConstructsAtStart.{past-fits}
+use Rattle.markdown_inline.specs.markdown_partial.PartialSpaceOrTab.{most}
 use Rattle.markdown_test_runs.proofs.constructs.pass_first.Goals as goal
 
 pub returns-then-is_some-clause-alone : goal.returns-then-is_some-clause-alone

@@ -1,5 +1,5 @@
-use Rattle.markdown_run.proofs.WholeRun.{begun-starts}
-use Rattle.markdown_run.proofs.StringRun.{string-may}
+use Rattle.markdown_inline.proofs.markdown_run.WholeRun.{begun-starts}
+use Rattle.markdown_inline.proofs.markdown_run.StringRun.{string-may}
 use Rattle.markdown_test_runs.proofs.passes.are_of_string.Goals as goal
 
 pub resolve_all-outcome-requires : goal.resolve_all-outcome-requires

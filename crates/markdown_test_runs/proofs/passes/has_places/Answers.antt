@@ -1,18 +1,18 @@
 use Rattle.std.proofs.Common.{◌≡◌, ◌-◌, ◌<◌, ℕ, suc, List, drop, length, sym, subst, arith}
 use Rattle.std.proofs.Math.Seq.{drop-cons}
-use Rattle.markdown_engine_content.specs.Codes.{document_start}
-use Rattle.markdown_engine_content.specs.Tree.{event}
-use Rattle.markdown_event.specs.declared.event.Event.{Event}
-use Rattle.markdown_event.specs.declared.event.Kind.TheVariants as Kind
-use Rattle.markdown_event.specs.declared.event.Name.TheVariants as N
-use Rattle.markdown_partial.specs.TrimmedEvents.{FirstHasPlaces, HasPlaces}
+use Rattle.markdown_inline.specs.markdown_content.Codes.{document_start}
+use Rattle.markdown_inline.specs.markdown_content.Tree.{event}
+use Rattle.markdown_inline.specs.markdown_event.declared.event.Event.{Event}
+use Rattle.markdown_inline.specs.markdown_event.declared.event.Kind.TheVariants as Kind
+use Rattle.markdown_inline.specs.markdown_event.declared.event.Name.TheVariants as N
+use Rattle.markdown_inline.specs.markdown_passes.TrimmedEvents.{FirstDataHasPlaces, HasPlaces}
 use Rattle.markdown_test_runs.proofs.passes.has_places.Goals as goal
 
-from-here : (bytes : List ℕ) (es : List Event) (j : ℕ) → j < length es → FirstHasPlaces bytes (drop j es) →
+from-here : (bytes : List ℕ) (es : List Event) (j : ℕ) → j < length es → FirstDataHasPlaces bytes (drop j es) →
     HasPlaces bytes (drop (suc j) es) → HasPlaces bytes (drop j es)
 from-here bytes es j low first rest =
     let here = drop-cons es j (event Kind.Enter N.Data document_start) low in
-    subst (λ (xs : List Event). HasPlaces bytes xs) (sym here) (subst (λ (xs : List Event). FirstHasPlaces bytes xs) here first, rest)
+    subst (λ (xs : List Event). HasPlaces bytes xs) (sym here) (subst (λ (xs : List Event). FirstDataHasPlaces bytes xs) here first, rest)
 
 pub loop-index-preserved : goal.loop-index-preserved
 loop-index-preserved c =

@@ -1,6 +1,6 @@
 use Rattle.std.proofs.Common.{add-one}
 use Rattle.std.proofs.Math.Seq.{drop-cons}
-use Rattle.markdown_state.specs.declared.resolve.ResolveName.TheVariants as R
+use Rattle.markdown_inline.specs.markdown_event.declared.resolve.ResolveName.TheVariants as R
 use Rattle.markdown_test_runs.proofs.passes.resolve_named.Goals as goal
 
 pub loop-name-preserved : goal.loop-name-preserved

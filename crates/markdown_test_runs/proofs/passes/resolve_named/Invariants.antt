@@ -1,6 +1,6 @@
 use Rattle.std.proofs.Common.{drop}
-use Rattle.markdown_engine.specs.PassesInOrder.{MayResolve}
-use Rattle.markdown_run_text.specs.ContentPasses.{may_resolve_of, resolves_of}
+use Rattle.markdown_inline.specs.markdown_engine.PassesInOrder.{MayResolve}
+use Rattle.markdown_inline.specs.markdown_run_text.ContentPasses.{may_resolve_of, resolves_of}
 use Rattle.markdown_test_runs.proofs.passes.resolve_named.Given as goal
 
 abbrev pub invariant-loop-name : goal.invariant-loop-name

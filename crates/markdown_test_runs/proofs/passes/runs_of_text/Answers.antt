@@ -1,7 +1,7 @@
 use Rattle.std.proofs.Common.{None}
-use Rattle.markdown_run.proofs.WholeRun.{begun-starts}
-use Rattle.markdown_run.proofs.TextRun.{none-lent, started, text-ready}
-use Rattle.markdown_run.proofs.TextByStates.{states-may}
+use Rattle.markdown_inline.proofs.markdown_run.WholeRun.{begun-starts}
+use Rattle.markdown_inline.proofs.markdown_run.TextRun.{none-lent, started, text-ready}
+use Rattle.markdown_inline.proofs.markdown_run.TextByStates.{states-may}
 use Rattle.markdown_test_runs.proofs.passes.runs_of_text.Goals as goal
 
 pub run_state-requires-clause-ready : goal.run_state-requires-clause-ready

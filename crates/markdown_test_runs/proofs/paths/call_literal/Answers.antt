@@ -1,8 +1,8 @@
 use Rattle.std.proofs.Common.{subst}
-use Rattle.markdown_state.specs.declared.state.StateName.{StateName}
-use Rattle.markdown_leaf_gfm.specs.GfmAutolinkLiteral.{LiteralReady, PathReady, CodeReady, LookReady}
-use Rattle.markdown_leaf_gfm.proofs.TrailChecks.{may-class, may-count, trail-ready}
-use Rattle.markdown_run.specs.Layer.{ready_of}
+use Rattle.markdown_inline.specs.markdown_event.declared.state.StateName.{StateName}
+use Rattle.markdown_inline.specs.markdown_leaf_gfm.GfmAutolinkLiteral.{LiteralReady, PathReady, CodeReady, LookReady}
+use Rattle.markdown_inline.proofs.markdown_leaf_gfm.TrailChecks.{may-class, may-count, trail-ready}
+use Rattle.markdown_inline.specs.markdown_run.Layer.{ready_of}
 use Rattle.markdown_test_runs.proofs.paths.call_literal.Goals as goal
 
 pub domain_inside-requires : goal.domain_inside-requires

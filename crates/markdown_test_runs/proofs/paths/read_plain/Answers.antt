@@ -1,4 +1,4 @@
-use Rattle.markdown_run.proofs.ConstructsAtStart.{start-spans}
+use Rattle.markdown_inline.proofs.markdown_run.ConstructsAtStart.{start-spans}
 use Rattle.markdown_test_runs.proofs.paths.read_plain.Goals as goal
 
 pub construct-requires-in-span-clause-construct : goal.construct-requires-in-span-clause-construct

@@ -5,12 +5,12 @@ use Rattle.markdown_attention.specs.declared.attention.runs.Sequence.{Sequence}
 use Rattle.markdown_attention.proofs.attention.pairing.lines_of.Goals as goal
 
 -- the row of each of the first runs has a line
-abbrev HasLines : List Sequence → List ℕ → ℕ → Type 0
-HasLines runs table k = (r : ℕ) → r < k → 0 < get_or table (row_of (run_at runs r).text) 0
+abbrev RowsHaveLines : List Sequence → List ℕ → ℕ → Type 0
+RowsHaveLines runs table k = (r : ℕ) → r < k → 0 < get_or table (row_of (run_at runs r).text) 0
 
 lines-more : (runs : List Sequence) (old new : List ℕ) (k row : ℕ) →
     ((a : ℕ) → 0 < get_or old a 0 → 0 < get_or new a 0) → row ≡ row_of (run_at runs k).text → 0 < get_or new row 0 →
-    HasLines runs old k → HasLines runs new (k + 1)
+    RowsHaveLines runs old k → RowsHaveLines runs new (k + 1)
 lines-more runs old new k row kept is here all r low =
     let most : r ≤ k = omega arith in
     elim (eq-or-lt_of_le most) [

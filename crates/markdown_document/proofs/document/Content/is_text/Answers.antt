@@ -1,7 +1,7 @@
 use Rattle.std.proofs.Common.{◌∙◌, ap, subst}
-use Rattle.markdown_engine_content.specs.Content.{IsContent}
-use Rattle.markdown_engine_content.specs.Place.{start_of_content}
-use Rattle.markdown_engine_pieces.proofs.KnownPlacesLemmas.{text-is}
+use Rattle.markdown_content.specs.Content.{IsContent}
+use Rattle.markdown_content.specs.Place.{start_of_content}
+use Rattle.markdown_content.proofs.KnownPlacesLemmas.{text-is}
 use Rattle.markdown_document.specs.ContentOfDocument.{ContentOf}
 use Rattle.markdown_document.proofs.document.Content.is_text.Goals as goal
 

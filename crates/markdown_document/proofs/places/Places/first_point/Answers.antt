@@ -1,10 +1,10 @@
 use Rattle.std.proofs.Common.{◌≡◌, ℕ, List, subst}
 use Rattle.markdown_event.specs.declared.event.Point.{Point}
-use Rattle.markdown_engine_content.specs.Codes.{place_of}
-use Rattle.markdown_engine_content.specs.KnownPlaces.{first_place}
-use Rattle.markdown_engine_content.specs.PlaceInDocument.{first_point}
-use Rattle.markdown_engine_content.specs.DocumentWalk.{IsPoint}
-use Rattle.markdown_engine_pieces.proofs.KnownPlacesLemmas.{first-empty, first-some}
+use Rattle.markdown_content.specs.Codes.{place_of}
+use Rattle.markdown_content.specs.KnownPlaces.{first_place}
+use Rattle.markdown_content.specs.PlaceInDocument.{first_point}
+use Rattle.markdown_content.specs.DocumentWalk.{IsPoint}
+use Rattle.markdown_content.proofs.KnownPlacesLemmas.{first-empty, first-some}
 use Rattle.markdown_document.proofs.places.Places.first_point.Goals as goal
 
 pub returns-then-is_empty : goal.returns-then-is_empty

@@ -1,4 +1,4 @@
-use Rattle.markdown_engine_pieces.proofs.KnownPlacesLemmas.{text-is}
+use Rattle.markdown_content.proofs.KnownPlacesLemmas.{text-is}
 use Rattle.markdown_document.proofs.places.Places.is_text.Goals as goal
 
 pub returns-in-Some : goal.returns-in-Some

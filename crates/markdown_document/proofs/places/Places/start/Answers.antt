@@ -1,6 +1,6 @@
 use Rattle.std.proofs.Common.{◌≡◌, true, ℕ, List, sym, subst}
-use Rattle.markdown_engine_content.specs.Content.{are_pieces}
-use Rattle.markdown_engine_content.proofs.LaterPieces.{first_place}
+use Rattle.markdown_content.specs.Content.{are_pieces}
+use Rattle.markdown_content.proofs.LaterPieces.{first_place}
 use Rattle.markdown_document.proofs.places.Places.start.Goals as goal
 
 pub walk_to-point-requires-clause-is_place : goal.walk_to-point-requires-clause-is_place

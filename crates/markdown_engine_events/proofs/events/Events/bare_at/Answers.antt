@@ -9,10 +9,10 @@ pub at-requires : goal.at-requires
 at-requires c = omega (arith, view-length _ _ c.self.view_is)
 
 pub returns-clause-event : goal.returns-clause-event
-returns-clause-event c = bare-read _ _ _ _ _ c.self.view_is c.at.ensures c.linked_on.ensures
+returns-clause-event c = bare-read _ _ _ _ _ c.self.view_is c.at.ensures c.with_next.ensures
 
 pub returns-clause-bare : goal.returns-clause-bare
-returns-clause-bare c = ap bare c.linked_on.ensures ∙ with_next-with_next _ _ _ ∙ sym c.linked_on.ensures
+returns-clause-bare c = ap bare c.with_next.ensures ∙ with_next-with_next _ _ _ ∙ sym c.with_next.ensures
 
 pub returns-clause-chains : goal.returns-clause-chains
 returns-clause-chains c =

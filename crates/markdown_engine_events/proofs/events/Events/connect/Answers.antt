@@ -1,11 +1,18 @@
 use Rattle.markdown_engine_events.proofs.EventViewLemmas.{filled-of, linked-within, linked-within-changed, noted-chain, view-linked, kept-linked}
 use Rattle.markdown_engine_events.proofs.events.Events.connect.Goals as goal
 
-pub set_next-requires : goal.set_next-requires
-set_next-requires c = linked-within c.self.inside.items _ _ c.self.view_is c.requires.from
+pub set_next-requires-clause-index : goal.set_next-requires-clause-index
+set_next-requires-clause-index c = linked-within c.self.inside.items _ _ c.self.view_is c.requires.from
 
-pub set_previous-requires : goal.set_previous-requires
-set_previous-requires c =
+pub set_next-requires-clause-next : goal.set_next-requires-clause-next
+set_next-requires-clause-next c = linked-within c.self.inside.items _ _ c.self.view_is c.requires.to
+
+pub set_previous-requires-clause-previous : goal.set_previous-requires-clause-previous
+set_previous-requires-clause-previous c =
+    linked-within-changed c.self.inside.items _ _ _ _ _ c.self.view_is c.requires.from c.set_next.ensures
+
+pub set_previous-requires-clause-index : goal.set_previous-requires-clause-index
+set_previous-requires-clause-index c =
     linked-within-changed c.self.inside.items _ _ _ _ _ c.self.view_is c.requires.to c.set_next.ensures
 
 pub invariant_of-self : goal.invariant_of-self

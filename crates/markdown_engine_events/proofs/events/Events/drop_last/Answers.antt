@@ -2,8 +2,8 @@ use Rattle.std.proofs.Common.{◌∙◌, sym}
 use Rattle.markdown_engine_events.proofs.EventViewLemmas.{filled-of, view-popped, view-dropped, noted-popped, noted-dropped, dropped-within}
 use Rattle.markdown_engine_events.proofs.events.Events.drop_last.Goals as goal
 
-pub set_next-requires : goal.set_next-requires
-set_next-requires c =
+pub set_next-requires-clause-index : goal.set_next-requires-clause-index
+set_next-requires-clause-index c =
     dropped-within c.self.inside.items _ c.in-Some.event _ (filled-of _ _ c.self.invariant) c.in-Some.ensures.cases (sym c.previous_of.ensures ∙ c.in-Some-previous_of.is)
 
 pub invariant_of-self-in-Some-previous_of : goal.invariant_of-self-in-Some-previous_of

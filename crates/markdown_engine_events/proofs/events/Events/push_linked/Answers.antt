@@ -4,10 +4,14 @@ use Rattle.markdown_engine_events.proofs.EventChainLemmas.{last-earlier}
 use Rattle.markdown_engine_events.proofs.EventViewLemmas.{filled-of, noted-chain, noted-plain, view-named, kept-named, view-one, view-length}
 use Rattle.markdown_engine_events.proofs.events.Events.push_linked.Goals as goal
 
-pub set_next-requires : goal.set_next-requires
-set_next-requires c =
+pub set_next-requires-clause-index : goal.set_next-requires-clause-index
+set_next-requires-clause-index c =
     let less : c.in-Some.previous < length c.args.self.now = last-earlier _ _ _ c.requires.chains (sym c.previous_of.ensures ∙ c.in-Some.is) in
     omega (arith, view-length _ _ c.self.view_is, ap length c.in_ok-push.ensures.ok, length_push c.self.inside.items c.args.linked)
+
+pub set_next-requires-clause-next : goal.set_next-requires-clause-next
+set_next-requires-clause-next c =
+    omega (arith, c.len-number.ensures, view-length _ _ c.self.view_is, ap length c.in_ok-push.ensures.ok, length_push c.self.inside.items c.args.linked)
 
 pub invariant_of-self-in-Some : goal.invariant_of-self-in-Some
 invariant_of-self-in-Some c =

@@ -1,11 +1,11 @@
 use Rattle.std.proofs.Common.{◌≡◌, ◌≤◌, ◌+◌, ◌++◌, length, take, drop}
 use Rattle.std.specs.List.{All}
-use Rattle.markdown_engine_events.specs.Edits.{edits_of, edited, edited_from, grown}
+use Rattle.markdown_engine_events.specs.Edits.{kept, edited, edited_from, grown}
 use Rattle.markdown_engine_events.proofs.util.edits_in_place.fill.Given as goal
 
 abbrev pub invariant-loop-edit : goal.invariant-loop-edit
 invariant-loop-edit l =
-    let log = edits_of l.edits in
+    let log = kept l.comes l.entries in
     let es = drop l.room l.initial.items in
     record {
       size : length l.items ≡ l.count + l.room;

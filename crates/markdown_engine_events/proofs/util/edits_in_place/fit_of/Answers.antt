@@ -1,4 +1,4 @@
-use Rattle.std.proofs.Common.{length, refl, ap, arith}
+use Rattle.std.proofs.Common.{length, refl, ap, arith, ◌∙◌}
 use Rattle.std.proofs.lemmas.Bool.{both_ways}
 use Rattle.markdown_engine_events.proofs.EditsInPlace.{apart-more, grown-more, growing-more}
 use Rattle.markdown_engine_events.proofs.util.edits_in_place.fit_of.Goals as goal
@@ -9,7 +9,7 @@ loop-index-preserved-then-comes-edit c =
     let es = c.args.edits.now.entries.now in
     let i = c.loop-index.index in
     let sum = grown-more cs es i c.loop-index-test.true (omega arith) in
-    let size = ap length c.brought-comes.ensures in
+    let size = c.len-comes.ensures ∙ ap length c.brought.ensures in
     record {
       apart = apart-more cs es i c.loop-index-test.true (omega arith) c.args.count c.loop-index.next c.loop-index.invariant.apart
           (omega (arith, c.if-edit-count.false, c.if-edit-count-2.false)) (omega (arith, c.if-edit-next.false)) (omega (arith, c.if-edit-next-2.false));
@@ -23,7 +23,7 @@ loop-index-preserved c =
     let es = c.args.edits.now.entries.now in
     let i = c.loop-index.index in
     let sum = grown-more cs es i c.loop-index-test.true (omega arith) in
-    let size = ap length c.brought-comes.ensures in
+    let size = c.len-comes.ensures ∙ ap length c.brought.ensures in
     record {
       apart = apart-more cs es i c.loop-index-test.true (omega arith) c.args.count c.loop-index.next c.loop-index.invariant.apart
           (omega (arith, c.if-edit-count.false, c.if-edit-count-2.false)) (omega (arith, c.if-edit-next.false)) (omega (arith, c.if-edit-next-2.false));

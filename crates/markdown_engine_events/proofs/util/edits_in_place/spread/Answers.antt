@@ -3,65 +3,65 @@ use Rattle.std.specs.List.{All}
 use Rattle.std.proofs.lemmas.List.{length-take, length-drop}
 use Rattle.std.proofs.lemmas.List.Edits.{length-paste}
 use Rattle.std.proofs.Math.Seq.{paste}
-use Rattle.markdown_engine_events.specs.Edits.{edit_of, edits_of, edited_from, grown}
+use Rattle.markdown_engine_events.specs.Edits.{edit_of, kept, edited_from, grown}
 use Rattle.markdown_engine_events.proofs.EditOrder.{entry}
 use Rattle.markdown_engine_events.proofs.EditsInPlace.{fits-here, ahead-here, edit-below, edit-first, edit-grows, edit-grown, grown-part, spread-back, spread-front, spread-all}
 use Rattle.markdown_engine_events.proofs.util.edits_in_place.spread.Goals as goal
 
 pub overflow_add-from : goal.overflow_add-from
 overflow_add-from c =
-    let h = fits-here c.args.edits.now.comes.now c.args.edits.now.entries.now (c.loop-index.index - 1) c.args.count (omega (arith, c.loop-index-test.true)) c.requires.apart in
+    let h = fits-here c.args.comes.now c.args.entries.now (c.loop-index.index - 1) c.args.count (omega (arith, c.loop-index-test.true)) c.requires.apart in
     omega (arith, h, c.ranges.count.fits)
 
 pub overflow_sub-end : goal.overflow_sub-end
 overflow_sub-end c =
     let l = c.loop-index.invariant in
-    edit-below c.args.edits.now.comes.now c.args.edits.now.entries.now c.loop-index.index c.args.count c.loop-index.read c.loop-index-test.true (omega arith) c.requires.apart l.next
+    edit-below c.args.comes.now c.args.entries.now c.loop-index.index c.args.count c.loop-index.read c.loop-index-test.true (omega arith) c.requires.apart l.next
 
 pub move_within-requires-clause-order : goal.move_within-requires-clause-order
 move_within-requires-clause-order c =
     let l = c.loop-index.invariant in
-    edit-below c.args.edits.now.comes.now c.args.edits.now.entries.now c.loop-index.index c.args.count c.loop-index.read c.loop-index-test.true (omega arith) c.requires.apart l.next
+    edit-below c.args.comes.now c.args.entries.now c.loop-index.index c.args.count c.loop-index.read c.loop-index-test.true (omega arith) c.requires.apart l.next
 
 pub overflow_sub-end-in-loop-index-2 : goal.overflow_sub-end-in-loop-index-2
 overflow_sub-end-in-loop-index-2 c =
     let l = c.loop-index.invariant in
-    let cs = c.args.edits.now.comes.now in
-    let es = c.args.edits.now.entries.now in
+    let cs = c.args.comes.now in
+    let es = c.args.entries.now in
     let i = c.loop-index.index in
     let below = edit-below cs es i c.args.count c.loop-index.read c.loop-index-test.true (omega arith) c.requires.apart l.next in
     let grows = edit-grows cs es i c.args.count c.loop-index.read c.loop-index-test.true (omega arith) c.requires.apart c.requires.growing in
     let sum = edit-grown cs es i c.args.count c.loop-index.read c.loop-index-test.true (omega arith) c.requires.apart in
-    omega (arith, l.gap, ap length c.brought-comes.ensures)
+    omega (arith, l.gap, ap length c.slice-given.ensures)
 
 pub write-requires : goal.write-requires
 write-requires c =
     let l = c.loop-index.invariant in
-    let cs = c.args.edits.now.comes.now in
-    let es = c.args.edits.now.entries.now in
+    let cs = c.args.comes.now in
+    let es = c.args.entries.now in
     let i = c.loop-index.index in
     let e = edit_of cs (entry es (i - 1)) in
     let items = c.loop-index.items in
     let below = edit-below cs es i c.args.count c.loop-index.read c.loop-index-test.true (omega arith) c.requires.apart l.next in
-    let part = grown-part (edits_of c.args.edits.now) i in
+    let part = grown-part (kept c.args.comes.now c.args.entries.now) i in
     let n = c.loop-index.read - (e.at + e.remove) in
     let size : length (paste items (c.loop-index.end - n) (drop (e.at + e.remove) items) n) ≡ length items =
     length-paste items (c.loop-index.end - n) (drop (e.at + e.remove) items) n (omega (arith, l.gap, l.size)) (omega (arith, l.gap, l.size, length-drop (e.at + e.remove) items)) in
     let grows = edit-grows cs es i c.args.count c.loop-index.read c.loop-index-test.true (omega arith) c.requires.apart c.requires.growing in
     let sum = edit-grown cs es i c.args.count c.loop-index.read c.loop-index-test.true (omega arith) c.requires.apart in
-    omega (arith, l.gap, l.size, size, ap length c.move_within.ensures, ap length c.brought-comes.ensures)
+    omega (arith, l.gap, l.size, size, ap length c.move_within.ensures, ap length c.slice-given.ensures)
 
 pub loop-index-preserved : goal.loop-index-preserved
 loop-index-preserved c =
     let l = c.loop-index.invariant in
-    let cs = c.args.edits.now.comes.now in
-    let es = c.args.edits.now.entries.now in
+    let cs = c.args.comes.now in
+    let es = c.args.entries.now in
     let i = c.loop-index.index in
     let k = i - 1 in
     let count = c.args.count in
     let read = c.loop-index.read in
     let end = c.loop-index.end in
-    let log = edits_of c.args.edits.now in
+    let log = kept c.args.comes.now c.args.entries.now in
     let e = edit_of cs (entry es k) in
     let items = c.loop-index.items in
     let old = take count c.args.items.now in
@@ -75,10 +75,11 @@ loop-index-preserved c =
     let from = e.at + e.remove in
     let n = read - from in
     let between = end - n in
-    let xs = c.brought-comes.result.now in
-    let brings = c.brought-comes.ensures in
+    let xs = c.slice-given.result in
+    let brings = c.slice-given.ensures in
     let comes = ap length brings in
-    let to = between - length xs in
+    let count_of = c.len-end-in-loop-index.ensures in
+    let to = between - c.len-end-in-loop-index.result in
     let room : end ≤ length items = omega (arith, l.gap, l.size) in
     let start : read ≤ end = omega (arith, l.gap) in
     let first : length (drop from items) ≡ length items - from = length-drop from items in
@@ -102,7 +103,7 @@ pub returns : goal.returns
 returns c =
     let l = c.loop-index.invariant in
     let none : c.loop-index.index ≡ 0 = omega (arith, c.loop-index-test.false) in
-    let log = edits_of c.args.edits.now in
+    let log = kept c.args.comes.now c.args.entries.now in
     let old = take c.args.count c.args.items.now in
     let all = ap (λ j. grown (take j log)) none in
     let size : length old ≡ c.args.count = omega (arith, length-take c.args.count c.args.items.now, c.requires.room) in

@@ -1,11 +1,11 @@
 use Rattle.std.proofs.Common.{◌≡◌, ◌≤◌, ◌+◌, length, take, drop, ℕ}
 use Rattle.std.specs.List.{All}
-use Rattle.markdown_engine_events.specs.Edits.{edits_of, edited_from, grown, StandApart}
+use Rattle.markdown_engine_events.specs.Edits.{kept, edited_from, grown, StandApart}
 use Rattle.markdown_engine_events.proofs.util.edits_in_place.spread.Given as goal
 
 abbrev pub invariant-loop-index : goal.invariant-loop-index
 invariant-loop-index l =
-    let log = edits_of l.edits in
+    let log = kept l.comes l.entries in
     let es = take l.count l.initial.items in
     record {
       size : length l.items ≡ l.count + grown log;

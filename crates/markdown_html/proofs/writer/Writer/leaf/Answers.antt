@@ -8,5 +8,5 @@ pub returns-in_ok-push_leaf_between-in-Exit : goal.returns-in_ok-push_leaf_betwe
 returns-in_ok-push_leaf_between-in-Exit c =
     let p = page_of c.args.given.now in
     let s : State = state_of c.args.self.now in
-    subst (λ es. walked p (record s { out = c.push_leaf_between.new.out.items }) (left_behind es c.is_bare.result) ≡ walked p (filled_before p s c.args.role c.args.from es) es) (sym c.in-Some.ensures.cases.0)
-    (leaf-written p s _ c.args.role c.args.from c.in-Some.exit.now _ c.is_bare.result c.in-Exit.is (c.is_bare.ensures ∙ ap is_bare c.role_of.ensures) (ap (λ out. record s { out = out }) c.in_ok-push_leaf_between-in-Exit.ensures))
+    subst (λ es. walked p (record s { out = c.push_leaf_between.new.out.items }) (left_behind es c.is_bare.result) ≡ walked p (filled_before p s c.args.role c.args.from es) es) (sym c.in-Some.ensures)
+    (leaf-written p s _ c.args.role c.args.from c.in-Some.exit _ c.is_bare.result c.in-Exit.is (c.is_bare.ensures ∙ ap is_bare c.role_of.ensures) (ap (λ out. record s { out = out }) c.in_ok-push_leaf_between-in-Exit.ensures))

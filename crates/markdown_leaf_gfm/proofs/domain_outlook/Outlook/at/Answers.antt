@@ -1,9 +1,9 @@
 -- Code by code.
 use Rattle.std.proofs.Common.{◌≡◌, ℕ, ◌+◌, ◌<◌, Bool, length, sym, ap, subst, ◌∙◌, arith}
-use Rattle.markdown_engine_content.specs.Place.{Place, ahead_at, code_at, moved}
-use Rattle.markdown_engine_content.proofs.PlaceRules.{left_moved}
+use Rattle.markdown_content.specs.Place.{Place, ahead_at, code_at, moved}
+use Rattle.markdown_content.proofs.PlaceRules.{left_moved}
 use Rattle.markdown_leaf_gfm.specs.DomainScans.{goes_on, behind_code}
-use Rattle.markdown_leaf_gfm.proofs.DomainScanLemmas.{Reading, reading-start, reading-on, reading-long, reading-found, code-some, code-none}
+use Rattle.markdown_leaf_gfm.proofs.DomainScanLemmas.{DomainSoFar, reading-start, reading-on, reading-long, reading-found, code-some, code-none}
 use Rattle.markdown_leaf_gfm.proofs.domain_outlook.Outlook.at.Goals as goal
 
 pub loop-code-init : goal.loop-code-init
@@ -22,7 +22,7 @@ loop-code-preserved c =
     let q : Place = c.consume.new.self in
     let here = code-some (goes_on c.args.bytes.now p) (code_at p) c.in-Some.code (sym c.domain_code.ensures ∙ c.in-Some.is) in
     let next : Bool = c.is_domain_mark-behind_mark.result in
-    subst (λ (r : ℕ × ℕ). Reading c.args.bytes.now c.args.cursor.now q r.0 r.1 next)
+    subst (λ (r : ℕ × ℕ). DomainSoFar c.args.bytes.now c.args.cursor.now q r.0 r.1 next)
     (sym (c.behind_code-behind.ensures ∙ ap (λ n. behind_code c.in-Some.code n c.loop-code.barred c.loop-code.dots) c.passed-at.ensures))
     (reading-on c.args.bytes.now c.args.cursor.now p q c.in-Some.code c.loop-code.barred c.loop-code.dots c.loop-code.behind_mark next here.1 here.0 c.consume.ensures c.is_domain_mark-behind_mark.ensures c.loop-code.invariant)
 

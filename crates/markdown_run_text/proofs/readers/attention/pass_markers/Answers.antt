@@ -1,5 +1,5 @@
 use Rattle.std.proofs.Common.{length, ap, sym, ◌∙◌, arith}
-use Rattle.markdown_engine_content.specs.Place.{ahead_at}
+use Rattle.markdown_content.specs.Place.{ahead_at}
 use Rattle.markdown_run_text.proofs.AttentionReads.{run-code, run-goes, run-less, run-stops}
 use Rattle.markdown_run_text.specs.PlacesPassed.{past_run}
 use Rattle.markdown_run_text.proofs.readers.attention.pass_markers.Goals as goal

@@ -1,5 +1,5 @@
 use Rattle.std.proofs.Common.{ap, sym, ◌∙◌, arith}
-use Rattle.markdown_engine_content.specs.Place.{Place}
+use Rattle.markdown_content.specs.Place.{Place}
 use Rattle.markdown_event.specs.declared.event.Name.TheVariants as N
 use Rattle.markdown_engine.specs.Operations.{exited, scratched}
 use Rattle.markdown_engine.specs.declared.tokenizer.Tokenizer.{Tokenizer}

@@ -1,10 +1,10 @@
 use Rattle.std.proofs.Common.{◌≡◌, ◌==◌, ◌&&◌, None, Some, false, length, ap, sym, ◌∙◌, subst, arith}
 use Rattle.std.proofs.lemmas.Bool.{ne_eqb}
 use Rattle.std.proofs.Math.Bool.{and-false}
-use Rattle.markdown_engine_content.specs.Place.{Place, ahead_at}
+use Rattle.markdown_content.specs.Place.{Place, ahead_at}
 use Rattle.markdown_event.specs.declared.event.Name.TheVariants as N
-use Rattle.markdown_engine_content.proofs.PlaceRules.{left_moved}
-use Rattle.markdown_run_text.specs.AutolinkPlaces.{Names}
+use Rattle.markdown_content.proofs.PlaceRules.{left_moved}
+use Rattle.markdown_run_text.specs.AutolinkPlaces.{NamesFrom}
 use Rattle.markdown_run_text.specs.declared.readers.autolink.Label.{Label}
 use Rattle.markdown_run_text.proofs.AutolinkNames.{domain-at-end, domain-goes, domain-stops, domain_naming, label-closes}
 use Rattle.markdown_run_text.proofs.readers.autolink.name_domains.Goals.{else-label-via-then-label+else-code-eq62, else-label-via-else-label}
@@ -36,7 +36,7 @@ loop-code-preserved c =
     let p : Place = c.loop-code.cursor in
     let m : Label = c.in-Some-label_after.next in
     let g = domain-goes c.loop-code.label m p c.in-Some.code c.loop-code.invariant.1 (sym c.current.ensures ∙ c.in-Some.is) (sym c.label_after.ensures ∙ c.in-Some-label_after.is) in
-    (λ o r k. c.loop-code.invariant.0 o r (g.0 o r (subst (λ (x : Place). Names (domain_naming m) x o r) c.consume.ensures k)), g.1)
+    (λ o r k. c.loop-code.invariant.0 o r (g.0 o r (subst (λ (x : Place). NamesFrom (domain_naming m) x o r) c.consume.ensures k)), g.1)
 
 pub returns : goal.returns
 returns c =

@@ -1,5 +1,5 @@
 use Rattle.std.proofs.Common.{◌-◌, sym, ◌∙◌, arith}
-use Rattle.markdown_engine_content.specs.Place.{Place}
+use Rattle.markdown_content.specs.Place.{Place}
 use Rattle.markdown_run_text.proofs.BytesOfReferences.{code-here, inner-ink, inner-past, inner-there, stands-by}
 use Rattle.markdown_run_text.proofs.readers.character_reference.pass_value.Goals as goal
 

@@ -1,5 +1,5 @@
 use Rattle.std.proofs.Common.{refl, subst, ◌∙◌}
-use Rattle.markdown_engine_content.specs.Place.{Place}
+use Rattle.markdown_content.specs.Place.{Place}
 use Rattle.markdown_run_text.specs.PlainTag.{PassesEnd}
 use Rattle.markdown_run_text.proofs.TagReads.{end-passed, slash-passed, space-passed}
 use Rattle.markdown_run_text.proofs.readers.html_text.pass_end.Goals as goal

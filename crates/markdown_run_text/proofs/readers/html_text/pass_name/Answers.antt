@@ -1,5 +1,5 @@
 use Rattle.std.proofs.Common.{◌≡◌, true, ap, sym, ◌∙◌}
-use Rattle.markdown_engine_content.specs.Place.{Place, code_at}
+use Rattle.markdown_content.specs.Place.{Place, code_at}
 use Rattle.markdown_run_text.specs.PlainTag.{begins_name, past_name}
 use Rattle.markdown_run_text.proofs.TagSteps.{name-begun, name-goes-on}
 use Rattle.markdown_run_text.proofs.readers.html_text.pass_name.Goals as goal

@@ -1,5 +1,5 @@
 use Rattle.std.proofs.Common.{length, ap, sym, ◌∙◌, arith}
-use Rattle.markdown_engine_content.specs.Place.{ahead_at}
+use Rattle.markdown_content.specs.Place.{ahead_at}
 use Rattle.markdown_run_text.specs.PlainTag.{keeps_name, past_name}
 use Rattle.markdown_run_text.proofs.TagSteps.{less-kept, name-goes-on, name-stops, some-kept}
 use Rattle.markdown_run_text.proofs.readers.html_text.pass_rest.Goals as goal

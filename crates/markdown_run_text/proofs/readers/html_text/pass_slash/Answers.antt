@@ -1,5 +1,5 @@
 use Rattle.std.proofs.Common.{refl, sym, ap, ◌∙◌}
-use Rattle.markdown_engine_content.specs.Place.{code_at, moved}
+use Rattle.markdown_content.specs.Place.{code_at, moved}
 use Rattle.markdown_run_text.proofs.readers.html_text.pass_slash.Goals as goal
 
 pub returns : goal.returns

@@ -1,7 +1,7 @@
 use Rattle.std.proofs.Common.{refl, subst}
-use Rattle.markdown_engine_content.specs.Place.{Place}
+use Rattle.markdown_content.specs.Place.{Place}
 use Rattle.markdown_leaf_html.specs.HtmlTextRests.{tag_rest, value_rest}
-use Rattle.markdown_run_text.specs.PlainTag.{Leads}
+use Rattle.markdown_run_text.specs.PlainTag.{LeadsOver}
 use Rattle.markdown_run_text.proofs.TagSteps.{leads-value}
 use Rattle.markdown_run_text.proofs.readers.html_text.pass_value.Goals as goal
 
@@ -15,5 +15,5 @@ pub returns : goal.returns
 returns c = λ t.
     let front = c.if-not-pass.ensures.passed refl in
     let back = c.pass_through-2.ensures t in
-    subst (λ (p : Place). Leads value_rest tag_rest p c.pass_through-2.new.place) (c.if-pass.ensures.stays refl)
+    subst (λ (p : Place). LeadsOver value_rest tag_rest p c.pass_through-2.new.place) (c.if-pass.ensures.stays refl)
     (leads-value 39 c.pass.new.place c.pass-2.new.place c.pass_through-2.new.place refl front.0 front.1 back.0 back.1)

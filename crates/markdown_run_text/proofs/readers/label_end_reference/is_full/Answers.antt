@@ -1,7 +1,7 @@
 use Rattle.std.proofs.Common.{◌≡◌, true, ap, sym, ◌∙◌}
 use Rattle.std.specs.Prelude.{max}
 use Rattle.markdown_event.proofs.AndParts.{and-right}
-use Rattle.markdown_engine_content.specs.Place.{exit_point, moved, point_of}
+use Rattle.markdown_content.specs.Place.{exit_point, moved, point_of}
 use Rattle.markdown_event.specs.declared.event.Point.{Point}
 use Rattle.markdown_engine.specs.declared.tokenizer.Tokenizer.{Tokenizer}
 use Rattle.markdown_run_text.specs.PlainReference.{past_text, text_at}

@@ -11,16 +11,16 @@ pub is_defined_from-requires-clause-cuts : goal.is_defined_from-requires-clause-
 is_defined_from-requires-clause-cuts c =
     let T : Tokenizer = c.args.tokenizer.now in
     let l = c.in-Some.top.now in
-    named-cuts T c.requires.ready c.requires.here l _ c.in-Some.ensures c.at.result.now.point.index c.max-end.result
-    (ap (λ (q : Point). q.index) (place-lent T.events l.start.1 c.at.result.now (start-within T c.requires.ready c.requires.here l _ c.in-Some.ensures) c.at.ensures))
-    (c.max-end.ensures ∙ ap (λ (q : Point). max q.index c.at.result.now.point.index) c.point.ensures)
+    named-cuts T c.requires.ready c.requires.here l _ c.in-Some.ensures c.at-start.result.point.index c.max-end.result
+    (ap (λ (q : Point). q.index) (place-lent T.events l.start.1 c.at-start.result (start-within T c.requires.ready c.requires.here l _ c.in-Some.ensures) c.at-start.ensures))
+    (c.max-end.ensures ∙ ap (λ (q : Point). max q.index c.at-start.result.point.index) c.point.ensures)
 
 pub returns-clause-named : goal.returns-clause-named
 returns-clause-named c =
     let T : Tokenizer = c.args.tokenizer.now in
     let l = c.in-Some.top.now in
     IfOk-weaker c.is_defined_from.result _ _
-    (λ named k. k ∙ named-is T c.requires.ready c.requires.here l _ c.in-Some.ensures c.at.result.now.point.index c.max-end.result
-    (ap (λ (q : Point). q.index) (place-lent T.events l.start.1 c.at.result.now (start-within T c.requires.ready c.requires.here l _ c.in-Some.ensures) c.at.ensures))
-    (c.max-end.ensures ∙ ap (λ (q : Point). max q.index c.at.result.now.point.index) c.point.ensures))
+    (λ named k. k ∙ named-is T c.requires.ready c.requires.here l _ c.in-Some.ensures c.at-start.result.point.index c.max-end.result
+    (ap (λ (q : Point). q.index) (place-lent T.events l.start.1 c.at-start.result (start-within T c.requires.ready c.requires.here l _ c.in-Some.ensures) c.at-start.ensures))
+    (c.max-end.ensures ∙ ap (λ (q : Point). max q.index c.at-start.result.point.index) c.point.ensures))
     c.is_defined_from.ensures.defined

@@ -1,5 +1,5 @@
 use Rattle.std.proofs.Common.{◌&&◌, ap, sym, ◌∙◌}
-use Rattle.markdown_engine_content.specs.Place.{code_at, code_before, moved}
+use Rattle.markdown_content.specs.Place.{code_at, code_before, moved}
 use Rattle.markdown_run_text.proofs.InnerPassed.{inner-here}
 use Rattle.markdown_run_text.specs.PlacesPassed.{is_some_alphanumeric}
 use Rattle.markdown_run_text.proofs.readers.partial_data.is_inner_underscore.Goals as goal

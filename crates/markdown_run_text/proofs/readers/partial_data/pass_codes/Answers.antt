@@ -1,6 +1,6 @@
 use Rattle.std.proofs.Common.{◌≡◌, true, length, ap, sym, ◌∙◌, arith}
 use Rattle.std.specs.Option.{is_some}
-use Rattle.markdown_engine_content.specs.Place.{Place, ahead_at, code_at, moved}
+use Rattle.markdown_content.specs.Place.{Place, ahead_at, code_at, moved}
 use Rattle.markdown_run_text.proofs.PassedData.{OneCode, line-goes, line-stops}
 use Rattle.markdown_run_text.specs.PlacesPassed.{past_data}
 use Rattle.markdown_run_text.proofs.readers.partial_data.pass_codes.Goals as goal

@@ -1,5 +1,5 @@
 use Rattle.std.proofs.Common.{◌≡◌, ◌≤◌, length, true}
-use Rattle.markdown_engine_content.specs.Place.{ahead_at}
+use Rattle.markdown_content.specs.Place.{ahead_at}
 use Rattle.markdown_run_text.specs.PlacesPassed.{past_data}
 use Rattle.markdown_run_text.proofs.readers.partial_data.pass_codes.Given as goal
 

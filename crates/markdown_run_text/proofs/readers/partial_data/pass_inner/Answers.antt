@@ -1,5 +1,5 @@
 use Rattle.std.proofs.Common.{sym, ◌∙◌}
-use Rattle.markdown_engine_content.specs.Place.{ahead_at, moved}
+use Rattle.markdown_content.specs.Place.{ahead_at, moved}
 use Rattle.markdown_run_text.proofs.InnerPassed.{goes-from, held-is, inner-some, inner-end, inner-on, inner-over}
 use Rattle.markdown_run_text.proofs.readers.partial_data.pass_inner.Goals as goal
 

@@ -1,6 +1,6 @@
 use Rattle.std.proofs.Common.{◌≡◌, ap, sym, ◌∙◌}
-use Rattle.markdown_engine_content.specs.Place.{moved}
-use Rattle.markdown_engine_content.specs.Stretch.{past_stretch}
+use Rattle.markdown_content.specs.Place.{moved}
+use Rattle.markdown_content.specs.Stretch.{past_stretch}
 use Rattle.markdown_run_text.proofs.PassedData.{line-goes-on, line-passed, sign-passed}
 use Rattle.markdown_run_text.specs.PlacesPassed.{line_stops}
 use Rattle.markdown_run_text.proofs.readers.partial_data.pass_line.Goals as goal

@@ -1,6 +1,6 @@
 use Rattle.std.proofs.Common.{◌≡◌, length}
 use Rattle.std.specs.Prelude.{IsSome}
-use Rattle.markdown_engine_content.specs.Place.{ahead_at, code_at, moved}
+use Rattle.markdown_content.specs.Place.{ahead_at, code_at, moved}
 use Rattle.markdown_run_text.specs.PlacesPassed.{past_inner}
 use Rattle.markdown_run_text.proofs.readers.partial_data.pass_more_inner.Given as goal
 

@@ -1,5 +1,5 @@
 use Rattle.std.proofs.Common.{ap, sym, ◌∙◌}
-use Rattle.markdown_engine_content.specs.Stretch.{past_stretch}
+use Rattle.markdown_content.specs.Stretch.{past_stretch}
 use Rattle.markdown_run_text.proofs.PassedData.{part-stops, part-goes}
 use Rattle.markdown_run_text.proofs.readers.partial_data.pass_part.Goals as goal
 

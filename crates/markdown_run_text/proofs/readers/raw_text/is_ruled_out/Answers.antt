@@ -1,8 +1,8 @@
 use Rattle.std.proofs.Common.{◌≡◌, ◌+◌, ◌&&◌, not, ℕ, ap, sym, ◌∙◌}
 use Rattle.markdown_engine.specs.Operations.{ahead}
 use Rattle.markdown_engine.specs.declared.tokenizer.Tokenizer.{Tokenizer}
-use Rattle.markdown_engine_content.specs.Place.{Place, ahead_at}
-use Rattle.markdown_engine_index.specs.RunIndex.{leading, rules_out}
+use Rattle.markdown_content.specs.Place.{Place, ahead_at}
+use Rattle.markdown_notes.specs.RunIndex.{leading, rules_out}
 use Rattle.markdown_run_text.specs.PlacesPassed.{past_run}
 use Rattle.markdown_run_text.proofs.AttentionReads.{run-at}
 use Rattle.markdown_run_text.proofs.readers.raw_text.is_ruled_out.Goals as goal

@@ -1,6 +1,6 @@
 use Rattle.std.proofs.Common.{◌≡◌, ◌+◌, ℕ, ap, ◌∙◌, arith}
-use Rattle.markdown_engine_content.specs.Place.{Place, ahead_at}
-use Rattle.markdown_engine_index.specs.RunIndex.{leading}
+use Rattle.markdown_content.specs.Place.{Place, ahead_at}
+use Rattle.markdown_notes.specs.RunIndex.{leading}
 use Rattle.markdown_run_text.specs.PlacesPassed.{past_run}
 use Rattle.markdown_run_text.proofs.AttentionReads.{run-at}
 use Rattle.markdown_run_text.proofs.readers.raw_text.pass_run.Goals as goal

@@ -1,7 +1,7 @@
 use Rattle.std.proofs.Common.{◌≡◌, ◌≢◌, ◌==◌, ◌||◌, ℕ, List, [], ◌∷◌, Bool, true, false, ap, sym, ◌∙◌}
 use Rattle.std.proofs.lemmas.Bool.{eqb-true, ne_eqb}
-use Rattle.markdown_engine_content.specs.Place.{Place}
-use Rattle.markdown_engine_content.specs.Stretch.{past_stretch}
+use Rattle.markdown_content.specs.Place.{Place}
+use Rattle.markdown_content.specs.Stretch.{past_stretch}
 use Rattle.markdown_run_text.specs.PlainSpan.{past_span_text}
 use Rattle.markdown_run_text.proofs.PlainSpanReads.{text-passed}
 use Rattle.markdown_run_text.proofs.readers.raw_text.pass_text.Goals as goal

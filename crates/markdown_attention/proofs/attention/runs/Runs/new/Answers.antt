@@ -1,4 +1,4 @@
-use Rattle.std.proofs.Common.{ap, sym, subst}
+use Rattle.std.proofs.Common.{sym, subst}
 use Rattle.markdown_attention.specs.RunsOfTree.{HasRows}
 use Rattle.markdown_attention.proofs.RunsOfTreeLemmas.{rows-of-events}
 use Rattle.markdown_attention.proofs.RunsReadLemmas.{all-read}
@@ -13,7 +13,7 @@ invariant_of-result c =
         c.in-Ok.ensures.numbered,
         λ i l.
             let row =
-            (all-read c.args.tokenizer.now.parse_state.now.options.now.constructs.gfm_strikethrough c.args.tokenizer.now.parse_state.now.bytes.now c.args.tokenizer.now.events
+            (all-read c.args.tokenizer.now.parse_state.now.options.now c.args.tokenizer.now.parse_state.now.bytes.now c.args.tokenizer.now.events
             c.in-Ok.found.list.items c.requires.places c.in-Ok.ensures.is i l).row in
             omega (arith, row, texts),
       ),
@@ -21,21 +21,21 @@ invariant_of-result c =
 
 pub returns-in-Ok-clause-whole : goal.returns-in-Ok-clause-whole
 returns-in-Ok-clause-whole c = λ i l.
-    (all-read c.args.tokenizer.now.parse_state.now.options.now.constructs.gfm_strikethrough c.args.tokenizer.now.parse_state.now.bytes.now c.args.tokenizer.now.events
+    (all-read c.args.tokenizer.now.parse_state.now.options.now c.args.tokenizer.now.parse_state.now.bytes.now c.args.tokenizer.now.events
     c.in-Ok.found.list.items c.requires.places c.in-Ok.ensures.is i l).whole
 
 pub returns-in-Ok-clause-markers : goal.returns-in-Ok-clause-markers
 returns-in-Ok-clause-markers c = λ i l.
-    (all-read c.args.tokenizer.now.parse_state.now.options.now.constructs.gfm_strikethrough c.args.tokenizer.now.parse_state.now.bytes.now c.args.tokenizer.now.events
+    (all-read c.args.tokenizer.now.parse_state.now.options.now c.args.tokenizer.now.parse_state.now.bytes.now c.args.tokenizer.now.events
     c.in-Ok.found.list.items c.requires.places c.in-Ok.ensures.is i l).marker
 
 pub returns-in-Ok-clause-containers : goal.returns-in-Ok-clause-containers
 returns-in-Ok-clause-containers c = λ i l.
-    (all-read c.args.tokenizer.now.parse_state.now.options.now.constructs.gfm_strikethrough c.args.tokenizer.now.parse_state.now.bytes.now c.args.tokenizer.now.events
+    (all-read c.args.tokenizer.now.parse_state.now.options.now c.args.tokenizer.now.parse_state.now.bytes.now c.args.tokenizer.now.events
     c.in-Ok.found.list.items c.requires.places c.in-Ok.ensures.is i l).row
 
 pub returns-in-Ok-clause-rows : goal.returns-in-Ok-clause-rows
 returns-in-Ok-clause-rows c = λ s t given has is.
     subst (λ list. HasRows s t list) (sym c.in-Ok.ensures.is)
-    (rows-of-events s c.args.tokenizer.now.parse_state.now.options.now.constructs.gfm_strikethrough c.args.tokenizer.now.parse_state.now.bytes.now
-    given.bytes (ap (λ o. o.constructs.gfm_strikethrough) given.options) t has c.args.tokenizer.now.events is)
+    (rows-of-events s c.args.tokenizer.now.parse_state.now.options.now c.args.tokenizer.now.parse_state.now.bytes.now
+    given.bytes given.options t has c.args.tokenizer.now.events is)

@@ -1,15 +1,15 @@
 use Rattle.std.proofs.Common.{◌≡◌, ◌+◌, ◌-◌, ◌++◌, ◌∙◌, ap, subst, sym, arith, List, ℕ, [], ◌∷◌, length, append_assoc, append-nil}
 use Rattle.markdown_attention.specs.SizeNodes.{sizes_from}
 use Rattle.markdown_attention.specs.declared.attention.sizes.SizeNode.{SizeNode}
-use Rattle.markdown_attention.proofs.SizeNodeLemmas.{Follows, read-node, from-none}
+use Rattle.markdown_attention.proofs.SizeNodeLemmas.{SizesFollow, read-node, from-none}
 use Rattle.markdown_attention.proofs.attention.sizes.Sizes.read.Goals as goal
 
-follows : (c : goal.In_ok-push) → Follows c.self.inside.nodes c.loop-at.at c.at-node.result.now
+follows : (c : goal.In_ok-push) → SizesFollow c.self.inside.nodes c.loop-at.at c.at-node.result.now
 follows c =
     let nodes : List SizeNode = c.self.inside.nodes in
     let k : ℕ = c.len.result - c.loop-at.at in
     let placed : k + c.loop-at.at ≡ length nodes = omega (arith, c.loop-at.invariant.within, c.len.ensures) in
-    subst (λ (x : SizeNode). Follows nodes c.loop-at.at x) (sym c.at-node.ensures) (read-node nodes c.loop-at.at k c.at-node.result.now c.self.invariant.1 c.loop-at-test.true placed)
+    subst (λ (x : SizeNode). SizesFollow nodes c.loop-at.at x) (sym c.at-node.ensures) (read-node nodes c.loop-at.at k c.at-node.result.now c.self.invariant.1 c.loop-at-test.true placed)
 
 pub loop-at-smaller : goal.loop-at-smaller
 loop-at-smaller c = (follows c).before

@@ -3,7 +3,7 @@ use Rattle.std.proofs.lemmas.List.{length-map}
 use Rattle.std.proofs.lemmas.List.Elements.{All-get_or}
 use Rattle.markdown_attention.specs.SizeNodes.{sizes_from}
 use Rattle.markdown_attention.specs.declared.attention.sizes.SizeNode.{SizeNode}
-use Rattle.markdown_attention.proofs.SizeNodeLemmas.{Follows, read-node, sizes-of-run, from-none}
+use Rattle.markdown_attention.proofs.SizeNodeLemmas.{SizesFollow, read-node, sizes-of-run, from-none}
 use Rattle.markdown_attention.proofs.attention.sizes.Sizes.sole.Goals as goal
 
 pub returns-then-node-eq0 : goal.returns-then-node-eq0
@@ -18,7 +18,7 @@ returns-then-node-eq0 c =
     let k : ℕ = c.len.result - at in
     let placed : k + at ≡ length nodes = omega (arith, below, c.len.ensures) in
     let some : 0 < at = omega (arith, c.if-at-eq0.false) in
-    let follows : Follows nodes at node = subst (λ (x : SizeNode). Follows nodes at x) (sym c.at-node.ensures) (read-node nodes at k node c.self.invariant.1 some placed) in
+    let follows : SizesFollow nodes at node = subst (λ (x : SizeNode). SizesFollow nodes at x) (sym c.at-node.ensures) (read-node nodes at k node c.self.invariant.1 some placed) in
     sizes-of-run nodes firsts c.args.self.now c.args.run at c.self.view_is c.requires c.index-at.ensures
     ∙ follows.sizes
     ∙ ap (λ (ys : List ℕ). node.size ∷ ys) (ap (sizes_from nodes) c.if-node-eq0.true ∙ from-none nodes)

@@ -6,22 +6,22 @@ use Rattle.markdown_engine_events.proofs.util.edit_map.EditMap.push.Goals as goa
 
 pub invariant_of-self : goal.invariant_of-self
 invariant_of-self c =
-    kept-seen c.self.inside.comes c.extend_from_slice.new.self c.self.inside.log c.self.inside.log c.in_err-extend_from_slice.ensures.err refl c.self.invariant
+    kept-seen c.self.inside.comes c.push_all.new.self c.self.inside.log c.self.inside.log c.in_err-push_all.ensures.err refl c.self.invariant
 
 pub invariant_of-self-in-Ok : goal.invariant_of-self-in-Ok
 invariant_of-self-in-Ok c =
     let entry : Entry = record { at = c.args.at; remove = c.args.remove; from = c.len-from.result; to = c.len.result; before = c.args.before } in
-    (pushed-seen c.self.inside.comes c.extend_from_slice.new.self c.args.events.now c.self.inside.log c.push.new.self entry c.in_ok-extend_from_slice.ensures.ok c.in-Ok.ensures.ok c.len-from.ensures c.len.ensures c.self.invariant c.requires).1
+    (pushed-seen c.self.inside.comes c.push_all.new.self c.args.events.now c.self.inside.log c.push.new.self entry c.in_ok-push_all.ensures.ok c.in-Ok.ensures.ok c.len-from.ensures c.len.ensures c.self.invariant c.requires).1
 
 pub invariant_of-self-in-Err : goal.invariant_of-self-in-Err
 invariant_of-self-in-Err c =
-    kept-seen c.self.inside.comes c.truncate.new.self c.self.inside.log c.push.new.self (taken-back c.self.inside.comes c.truncate.new.self c.extend_from_slice.new.self c.args.events.now c.len-from.result c.truncate.ensures c.in_ok-extend_from_slice.ensures.ok c.len-from.ensures) c.in-Err.ensures.err c.self.invariant
+    kept-seen c.self.inside.comes c.truncate.new.self c.self.inside.log c.push.new.self (taken-back c.self.inside.comes c.truncate.new.self c.push_all.new.self c.args.events.now c.len-from.result c.truncate.ensures c.in_ok-push_all.ensures.ok c.len-from.ensures) c.in-Err.ensures.err c.self.invariant
 
 pub returns-in-Ok-clause-ok : goal.returns-in-Ok-clause-ok
 returns-in-Ok-clause-ok c =
     let entry : Entry = record { at = c.args.at; remove = c.args.remove; from = c.len-from.result; to = c.len.result; before = c.args.before } in
-    (pushed-seen c.self.inside.comes c.extend_from_slice.new.self c.args.events.now c.self.inside.log c.push.new.self entry c.in_ok-extend_from_slice.ensures.ok c.in-Ok.ensures.ok c.len-from.ensures c.len.ensures c.self.invariant c.requires).0 ∙ ap (λ (log : List Edit). log ++ (record { at = c.args.at; remove = c.args.remove; events = c.args.events.now; before = c.args.before }) ∷ []) c.self.view_is
+    (pushed-seen c.self.inside.comes c.push_all.new.self c.args.events.now c.self.inside.log c.push.new.self entry c.in_ok-push_all.ensures.ok c.in-Ok.ensures.ok c.len-from.ensures c.len.ensures c.self.invariant c.requires).0 ∙ ap (λ (log : List Edit). log ++ (record { at = c.args.at; remove = c.args.remove; events = c.args.events.now; before = c.args.before }) ∷ []) c.self.view_is
 
 pub returns-in-Err-clause-err : goal.returns-in-Err-clause-err
 returns-in-Err-clause-err c =
-    view-seen c.self.inside.comes c.truncate.new.self c.self.inside.log c.push.new.self c.args.self.now (taken-back c.self.inside.comes c.truncate.new.self c.extend_from_slice.new.self c.args.events.now c.len-from.result c.truncate.ensures c.in_ok-extend_from_slice.ensures.ok c.len-from.ensures) c.in-Err.ensures.err c.self.view_is
+    view-seen c.self.inside.comes c.truncate.new.self c.self.inside.log c.push.new.self c.args.self.now (taken-back c.self.inside.comes c.truncate.new.self c.push_all.new.self c.args.events.now c.len-from.result c.truncate.ensures c.in_ok-push_all.ensures.ok c.len-from.ensures) c.in-Err.ensures.err c.self.view_is

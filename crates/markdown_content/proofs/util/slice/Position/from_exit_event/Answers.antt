@@ -1,0 +1,30 @@
+use Rattle.std.proofs.Common.{◌∙◌, ap, arith}
+use Rattle.std.specs.Option.{option_and_then}
+use Rattle.markdown_content.specs.Nesting.{point_at}
+use Rattle.markdown_content.proofs.NestingLemmas.{reached-start, reached-past_enter, reached-past_exit, reached-end, point-read}
+use Rattle.markdown_content.proofs.util.slice.Position.from_exit_event.Goals as goal
+
+pub loop-awaited-preserved-in-Enter : goal.loop-awaited-preserved-in-Enter
+loop-awaited-preserved-in-Enter c =
+    let some = reached-start c.args.events.now c.loop-awaited.at c.loop-awaited.awaited _ c.loop-awaited.invariant.own c.requires.own c.loop-awaited-test.true in
+    record {
+      back = omega arith;
+      few = omega arith;
+      own = reached-past_enter c.args.events.now c.loop-awaited.at c.loop-awaited.awaited _ _ c.loop-awaited.invariant.own c.loop-awaited-test.true some (omega arith) c.in-Enter.is;
+    }
+
+pub loop-awaited-preserved : goal.loop-awaited-preserved
+loop-awaited-preserved c =
+    let some = reached-start c.args.events.now c.loop-awaited.at c.loop-awaited.awaited _ c.loop-awaited.invariant.own c.requires.own c.loop-awaited-test.true in
+    record {
+      back = omega arith;
+      few = omega arith;
+      own = reached-past_exit c.args.events.now c.loop-awaited.at c.loop-awaited.awaited _ _ c.loop-awaited.invariant.own c.loop-awaited-test.true some (omega arith) c.in-Exit.is;
+    }
+
+pub returns-clause-start : goal.returns-clause-start
+returns-clause-start c =
+    ap (option_and_then (point_at c.args.events.now)) (reached-end c.args.events.now c.loop-awaited.at c.loop-awaited.awaited _ c.loop-awaited.invariant.own c.loop-awaited-test.false) ∙ point-read c.args.events.now c.loop-awaited.at _ (omega arith)
+
+pub returns-clause-end : goal.returns-clause-end
+returns-clause-end c = point-read c.args.events.now c.args.index _ c.requires.within

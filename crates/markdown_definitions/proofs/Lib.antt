@@ -1,3 +1,0 @@
--- The lemmas of this crate.
-mod NumberLemmas
-mod TextLemmas

@@ -1,6 +1,0 @@
-use Rattle.std.proofs.Common.{◌∙◌}
-use Rattle.markdown_engine_events.proofs.EventChainLemmas.{set-changed}
-use Rattle.markdown_engine_events.proofs.events.set_next.Goals as goal
-
-pub returns : goal.returns
-returns c = c.put.ensures ∙ set-changed _ _ _ _ _ c.at.ensures c.linked_on-event.ensures

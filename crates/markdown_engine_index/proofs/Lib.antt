@@ -1,5 +1,0 @@
-pub mod RunIndexLemmas
-pub mod RunIndexFacts
-mod RunIndexOrder
-pub mod SequenceIndexLemmas
-pub mod TitleIndexLemmas

@@ -1,5 +1,0 @@
-use Rattle.markdown_engine_index.proofs.SequenceIndexLemmas.{IsPassing}
-use Rattle.markdown_engine_index.proofs.sequence_index.stand_next.Given as goal
-
-abbrev pub invariant-loop-byte : goal.invariant-loop-byte
-invariant-loop-byte l = IsPassing l.bytes l.byte-index l.fn.cursor l.place

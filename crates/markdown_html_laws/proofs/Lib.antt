@@ -1,5 +1,0 @@
-mod Addresses
-pub mod HtmlIsOwn
-mod Markups
-mod SchemesRead
-mod ValuesRead

@@ -1,5 +1,0 @@
--- The definitions of this crate.
--- What has to be believed: what public contracts and the theorem cite.
-pub mod BrowserScheme
-pub mod OwnMarkup
-pub mod HtmlLaws

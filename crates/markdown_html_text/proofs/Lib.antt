@@ -1,5 +1,0 @@
-pub mod NoMarkup
-mod Pieces
-mod ResolvedText
-mod ReferenceValues
-pub mod KeptBytes

@@ -1,5 +1,0 @@
-use Rattle.markdown_html_text.proofs.NoMarkup.{escaped_quiet}
-use Rattle.markdown_html_text.proofs.laws.no_markup_in_text.Goals as goal
-
-pub returns : goal.returns
-returns c = λ text. escaped_quiet text

@@ -1,0 +1,112 @@
+-- Which events refer to definitions, and short events one after another.
+use Rattle.std.proofs.Common.{◌≡◌, ◌∙◌, sym, ap, refl, ℕ, ◌+◌, ◌<◌, suc, false, List, [], ◌∷◌, ◌++◌, get_or, length, take, slice_get, arith, Option, None, Some}
+use Rattle.std.specs.Option.{option_and_then, option_map}
+use Rattle.std.proofs.lemmas.Bool.{false≢true}
+use Rattle.std.proofs.lemmas.List.{length-take-le, take_more}
+use Rattle.markdown_tree.specs.Numbers.{number_of}
+use Rattle.markdown_tree.specs.Referred.{Given, behind, definition_of, first_inside, label_identifier, met, met_by, named_by_label, named_by_part, named_by_reference, named_by_tail, named_by_text, second_inside, text_of}
+use Rattle.markdown_event.specs.declared.event.Event.{Event}
+use Rattle.markdown_event.specs.declared.event.Kind.{Kind}
+use Rattle.markdown_event.specs.declared.event.Name.{Name}
+use Rattle.markdown_tree.specs.Nodes.{if_enter, node_at, node_of, own_exit}
+use Rattle.markdown_tree.specs.declared.node.Node.{Node}
+use Rattle.markdown_util.specs.Identifier.{identifier_of}
+use Rattle.markdown_inline_c.specs.FlatEvents.{short_event}
+use Rattle.markdown_inline_c.specs.ShortEvents.{HasNone, refers, refers_by, refers_where, short_from}
+use Rattle.markdown_inline_c.specs.declared.flat.ShortEvent.{ShortEvent}
+
+-- a step that never finds anything
+and-none : {A B : Type 0} (f : A → Option B) (o : Option A) → ((a : A) → f a ≡ None) → option_and_then f o ≡ None
+and-none f None h = refl
+and-none f (Some a) h = h a
+
+-- Without definitions nothing refers to one.
+
+by-label : (g : Given) (es : List Event) (label : Node) → g.definitions ≡ [] → named_by_label g es label ≡ None
+by-label g es label e =
+    and-none (λ text. number_of (label_identifier g.footnotes_on text) g.definitions) (option_and_then (text_of g.bytes) (second_inside es label))
+    (λ text. ap (number_of (label_identifier g.footnotes_on text)) e)
+
+by-text : (g : Given) (node : Node) → g.definitions ≡ [] → named_by_text g node ≡ None
+by-text g node e = and-none (λ text. number_of (identifier_of text) g.definitions) (text_of g.bytes node) (λ text. ap (number_of (identifier_of text)) e)
+
+by-part : (g : Given) (es : List Event) (label : Node) (name : Name) (node : Node) → g.definitions ≡ [] → named_by_part g es label name node ≡ None
+by-part g es label Name.ReferenceString node e = by-text g node e
+by-part g es label name node e = by-label g es label e
+
+by-reference : (g : Given) (es : List Event) (label : Node) (part : Option Node) → g.definitions ≡ [] → named_by_reference g es label part ≡ None
+by-reference g es label None e = refl
+by-reference g es label (Some node) e = by-part g es label node.name node e
+
+by-tail : (g : Given) (es : List Event) (label : Node) (name : Name) (tail : Node) → g.definitions ≡ [] → named_by_tail g es label name tail ≡ None
+by-tail g es label Name.Reference tail e = by-reference g es label (second_inside es tail) e
+by-tail g es label name tail e = refl
+
+by-definition : (g : Given) (es : List Event) (label : Node) (tail : Option Node) → g.definitions ≡ [] → definition_of g es label tail ≡ None
+by-definition g es label None e = by-label g es label e
+by-definition g es label (Some tail) e = by-tail g es label tail.name tail e
+
+by-name : (g : Given) (es : List Event) (name : Name) (label : Node) → HasNone g → met_by g es name label ≡ None
+by-name g es Name.Link label none = by-definition g es label (behind es label) none.definitions
+by-name g es Name.Image label none = by-definition g es label (behind es label) none.definitions
+by-name g es Name.GfmFootnoteCall label none =
+    and-none (λ text. number_of (identifier_of text) g.footnotes) (option_and_then (text_of g.bytes) (second_inside es label)) (λ text. ap (number_of (identifier_of text)) none.footnotes)
+by-name g es name label none = refl
+
+pub none_met : (g : Given) (es : List Event) (n : ℕ) → HasNone g → met g es n ≡ None
+none_met g es n none =
+    and-none (λ (node : Node). option_and_then (met_by g es node.name) (first_inside es node)) (node_at es n)
+    (λ (node : Node). and-none (met_by g es node.name) (first_inside es node) (λ label. by-name g es node.name label none))
+
+-- Nor does any event but those that begin a link, an image or a footnote call.
+
+other-name : (g : Given) (es : List Event) (name : Name) (label : Node) → refers_by name ≡ false → met_by g es name label ≡ None
+other-name g es Name.Link label h = absurd (false≢true (sym h))
+other-name g es Name.Image label h = absurd (false≢true (sym h))
+other-name g es Name.GfmFootnoteCall label h = absurd (false≢true (sym h))
+other-name g es name label h = refl
+
+-- what a node refers to that has this name
+abbrev node-met : Given → List Event → Node → Option ℕ
+node-met g es node = option_and_then (met_by g es node.name) (first_inside es node)
+
+at-exit : (g : Given) (es : List Event) (n k : ℕ) (e : Event) (x : Option Event) → refers_by e.name ≡ false → option_and_then (node-met g es) (option_map (λ (x : Event). node_of n k e x) x) ≡ None
+at-exit g es n k e None h = refl
+at-exit g es n k e (Some x) h = and-none (met_by g es e.name) (first_inside es (node_of n k e x)) (λ label. other-name g es e.name label h)
+
+by-exit : (g : Given) (es : List Event) (n : ℕ) (e : Event) (exit : Option ℕ) → refers_by e.name ≡ false
+    → option_and_then (node-met g es) (option_and_then (λ k. option_and_then (λ (e : Event). option_map (λ (x : Event). node_of n k e x) (slice_get es k)) (Some e)) exit) ≡ None
+by-exit g es n e None h = refl
+by-exit g es n e (Some k) h = at-exit g es n k e (slice_get es k) h
+
+by-kind : (g : Given) (es : List Event) (n : ℕ) (e : Event) (kind : Kind) → refers_where kind e.name ≡ false
+    → option_and_then (node-met g es)
+    (option_and_then (λ k. option_and_then (λ (e : Event). option_map (λ (x : Event). node_of n k e x) (slice_get es k)) (Some e)) (option_and_then (own_exit es) (if_enter kind n)))
+    ≡ None
+by-kind g es n e Kind.Enter h = by-exit g es n e (own_exit es n) h
+by-kind g es n e Kind.Exit h = refl
+
+pub other_met : (g : Given) (es : List Event) (n : ℕ) (e : Event) → slice_get es n ≡ Some e → refers e ≡ false → met g es n ≡ None
+other_met g es n e at h =
+    ap
+    (λ (o : Option Event). option_and_then (node-met g es)
+    (option_and_then (λ k. option_and_then (λ (e : Event). option_map (λ (x : Event). node_of n k e x) (slice_get es k)) o)
+    (option_and_then (own_exit es) (option_and_then (λ (e : Event). if_enter e.kind n) o))))
+    at
+    ∙ by-kind g es n e e.kind h
+
+-- Short events one after another.
+
+short-push : (m : ℕ → Option ℕ) (n : ℕ) (es : List Event) (e : Event) → short_from m n (es ++ e ∷ []) ≡ short_from m n es ++ short_event (m (n + length es)) e ∷ []
+short-push m n [] e = ap (λ k. short_event (m k) e ∷ []) (omega arith)
+short-push m n (x ∷ es) e = ap (λ xs. short_event (m n) x ∷ xs) (short-push m (suc n) es e ∙ ap (λ k. short_from m (suc n) es ++ short_event (m k) e ∷ []) (omega arith))
+
+pub one_more : (m : ℕ → Option ℕ) (es : List Event) (found more : List ShortEvent) (i : ℕ) (d : Event) (referred : Option ℕ) (s : ShortEvent) → i < length es → found ≡ short_from m 0 (take i es)
+    → referred ≡ m i → s ≡ short_event referred (get_or es i d) → more ≡ found ++ s ∷ [] → more ≡ short_from m 0 (take (i + 1) es)
+one_more m es found more i d referred s h so_far is e pushed =
+    let at : 0 + length (take i es) ≡ i = omega (arith, length-take-le i es (omega (arith, h))) in
+    pushed
+    ∙ ap (λ x. found ++ x ∷ []) (e ∙ ap (λ o. short_event o (get_or es i d)) (is ∙ ap m (sym at)))
+    ∙ ap (λ xs. xs ++ short_event (m (0 + length (take i es))) (get_or es i d) ∷ []) so_far
+    ∙ sym (short-push m 0 (take i es) (get_or es i d))
+    ∙ ap (short_from m 0) (sym (take_more es i d h))

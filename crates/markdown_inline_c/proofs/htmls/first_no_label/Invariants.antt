@@ -1,7 +1,0 @@
-use Rattle.std.proofs.Common.{take}
-use Rattle.std.specs.List.{All}
-use Rattle.markdown_inline_c.specs.FlatInput.{IsLabel}
-use Rattle.markdown_inline_c.proofs.htmls.first_no_label.Given as goal
-
-abbrev pub invariant-loop-at : goal.invariant-loop-at
-invariant-loop-at l = All (IsLabel l.labels) (take l.at l.ranges)

@@ -1,0 +1,38 @@
+-- What calls for many contents or strings leave.
+use Rattle.std.specs.Prelude.{◌≡◌, ℕ, List, length, map}
+use Rattle.std.specs.List.{All}
+use Rattle.markdown_content.specs.DefaultOptions.{AreKnown}
+use Rattle.markdown_event.specs.declared.event.Event.{Event}
+use Rattle.markdown_inline_c.specs.FlatHtml.{page}
+use Rattle.markdown_inline_c.specs.FlatHtmls.{AreWritable, IsHtmlFaultAt, htmls_of, tree_at}
+use Rattle.markdown_inline_c.specs.FlatStrings.{IsStringAt, string_text}
+use Rattle.markdown_inline_c.specs.FlatTexts.{IsTextAt, many_setting, text_at}
+use Rattle.markdown_inline_c.specs.Many.{EndsBy, EndsByInput, IsAnswerOfMany}
+use Rattle.markdown_inline_c.specs.Refusals.{IsHtmlInputRefused, IsInputRefused, IsReady, IsReadyForHtml}
+use Rattle.markdown_inline_c.specs.Statuses.{IsContentAtFault}
+use Rattle.markdown_inline_c.specs.declared.fault.Fault.{Fault}
+use Rattle.markdown_inline_c.specs.declared.flat.FlatContent.{FlatContent}
+use Rattle.markdown_inline_c.specs.declared.flat.FlatTarget.{FlatTarget}
+use Rattle.markdown_inline_c.specs.declared.flat.Input.{Input}
+use Rattle.markdown_inline_c.specs.declared.flat.Range.{Range}
+use Rattle.markdown_inline_c.specs.declared.outcome.Outcome.{Outcome}
+
+-- the events of each content, in a form
+abbrev pub AreTexts : {X : Type 0} → (List Event → List X) → Input → List FlatContent → (old new : List X) (ends_old ends_new : List ℕ) → Outcome → ℕ → Type 0
+AreTexts form i contents =
+    IsAnswerOfMany (length contents) (map (λ c. form (text_at (many_setting i) i.pieces.now c)) contents)
+    (λ end read. EndsByInput (IsReady (AreKnown i.options) i) (IsInputRefused (AreKnown i.options) i) (All (IsTextAt i.bytes.now i.pieces.now)) (λ before at fault. IsContentAtFault i.bytes.now i.pieces.now at fault) contents read end)
+
+-- the HTML of each content
+abbrev pub AreHtmls : Input → List FlatTarget → List FlatContent → (options limit : ℕ) (old new ends_old ends_new : List ℕ) → Outcome → ℕ → Type 0
+AreHtmls i targets contents options limit =
+    let p = page i targets options in
+    let tree = tree_at (many_setting i) i.pieces.now in
+    IsAnswerOfMany (length contents) (htmls_of i targets contents options)
+    (λ end read. EndsByInput (IsReadyForHtml i targets options) (IsHtmlInputRefused i targets options) (AreWritable p i.pieces.now tree limit) (IsHtmlFaultAt p i.pieces.now tree limit) contents read end)
+
+-- the text of each string
+abbrev pub AreStrings : List ℕ → (parts strings : List Range) (old new ends_old ends_new : List ℕ) → Outcome → ℕ → Type 0
+AreStrings bytes parts strings =
+    IsAnswerOfMany (length strings) (map (string_text bytes parts) strings)
+    (λ end read. EndsBy (All (IsStringAt bytes parts)) (λ before s fault. (fault ≡ Fault.NoString) × (IsStringAt bytes parts s → ⊥)) strings read end)

@@ -1,6 +1,0 @@
-use Rattle.markdown_inline_lines.proofs.PrintedNumbers.{last-kept}
-use Rattle.markdown_inline_lines.proofs.lines.Numbers.keep_last.Goals as goal
-
-pub returns : goal.returns
-returns c =
-    last-kept c.self.inside.start c.args.n c.self.inside.bytes c.args.self.now c.self.invariant c.self.told c.self.view_is c.requires.1

@@ -1,4 +1,0 @@
-//! The printed lines of events.
-#![tactic(auto)]
-
-pub mod lines;

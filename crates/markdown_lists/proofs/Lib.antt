@@ -1,2 +1,0 @@
-pub mod ReverseSet
-pub mod PastedParts

@@ -1,0 +1,10 @@
+use Rattle.std.proofs.Common.{◌≡◌, length}
+use Rattle.markdown_content.specs.Place.{ahead_at}
+use Rattle.markdown_notes.specs.RunIndex.{past_run}
+use Rattle.markdown_notes.proofs.run_index.pass_run.Given as goal
+
+abbrev pub invariant-loop-cursor : goal.invariant-loop-cursor
+invariant-loop-cursor l = past_run l.value l.cursor ≡ past_run l.value l.initial.cursor
+
+abbrev pub decreases-loop-cursor : goal.decreases-loop-cursor
+decreases-loop-cursor l = length (ahead_at l.cursor)

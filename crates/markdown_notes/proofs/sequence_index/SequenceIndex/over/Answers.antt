@@ -1,0 +1,32 @@
+use Rattle.std.proofs.Common.{◌≡◌, ◌+◌, ◌≤◌, Some, length, sym, ap, subst, ◌∙◌, arith}
+use Rattle.markdown_content.specs.Place.{Place, ahead_at, moved, code_at}
+use Rattle.markdown_notes.specs.SequenceIndex.{stop_bytes}
+use Rattle.markdown_content.specs.Stretch.{past_stretch}
+use Rattle.markdown_content.proofs.PlaceRules.{left_moved}
+use Rattle.markdown_notes.proofs.SequenceIndexLemmas.{AreBeginsFound, found-start, found-past, found-stretch, found-all}
+use Rattle.markdown_content.proofs.StretchLemmas.{left-behind}
+use Rattle.markdown_notes.proofs.sequence_index.SequenceIndex.over.Goals as goal
+
+pub loop-code-init : goal.loop-code-init
+loop-code-init c = found-start c.args.cursor.now c.restart-place.result c.restart-place.ensures
+
+pub loop-code-smaller : goal.loop-code-smaller
+loop-code-smaller c =
+    let q : Place = c.seek.new.self in
+    let here : code_at q ≡ Some c.in-Some.code = sym c.seek.ensures.code ∙ c.in-Some.is in
+    let one : length (ahead_at (moved q)) + 1 ≡ length (ahead_at q) = left_moved q c.in-Some.code here in
+    left-behind c.stop_bytes-stops.result c.loop-code.place q c.consume.new.self c.in-Some.code c.seek.ensures.place here
+    (subst (λ (p : Place). length (ahead_at p) + 1 ≤ length (ahead_at q)) (sym c.consume.ensures) (omega (arith, one)))
+
+pub loop-code-preserved : goal.loop-code-preserved
+loop-code-preserved c =
+    let q : Place = c.seek.new.self in
+    let at : q ≡ past_stretch stop_bytes c.loop-code.place = c.seek.ensures.place ∙ ap (λ ms. past_stretch ms c.loop-code.place) c.stop_bytes-stops.ensures in
+    found-past c.args.cursor.now.codes q c.consume.new.self c.in-Some.code c.loop-code.last c.found_at-last.result (sym c.seek.ensures.code ∙ c.in-Some.is) c.consume.ensures c.found_at-last.ensures
+    (subst (λ (p : Place). AreBeginsFound c.args.cursor.now.codes p c.loop-code.last) (sym at) (found-stretch c.args.cursor.now.codes c.loop-code.place c.loop-code.last c.loop-code.invariant))
+
+pub returns : goal.returns
+returns c =
+    let at : c.seek.new.self ≡ past_stretch stop_bytes c.loop-code.place = c.seek.ensures.place ∙ ap (λ ms. past_stretch ms c.loop-code.place) c.stop_bytes-stops.ensures in
+    ap (λ l. Some l) (found-all c.args.cursor.now.codes c.seek.new.self c.loop-code.last (sym c.seek.ensures.code ∙ c.in_default.is)
+    (subst (λ (p : Place). AreBeginsFound c.args.cursor.now.codes p c.loop-code.last) (sym at) (found-stretch c.args.cursor.now.codes c.loop-code.place c.loop-code.last c.loop-code.invariant)))

@@ -1,7 +1,0 @@
-use Rattle.std.proofs.Common.{◌+◌}
-use Rattle.markdown_partial.proofs.DataSearch.{BeginsNone}
-use Rattle.markdown_partial.proofs.partial_data.others_among_eight.Given as goal
-
--- no data begins before the event at hand
-abbrev pub invariant-loop-count : goal.invariant-loop-count
-invariant-loop-count l = BeginsNone l.events l.at (l.at + l.count)

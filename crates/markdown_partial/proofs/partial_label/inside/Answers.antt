@@ -1,0 +1,13 @@
+-- By the laws of the operations.
+use Rattle.std.proofs.Common.{arith}
+use Rattle.markdown_engine.specs.Operations.{scratched, attempted, frame_of}
+use Rattle.markdown_engine.proofs.OperationFields.{op_rules}
+use Rattle.markdown_partial.proofs.partial_label.inside.Goals as goal
+
+pub returns-in-Some-clause-ok : goal.returns-in-Some-clause-ok
+unfolding scratched attempted frame_of
+returns-in-Some-clause-ok c = grind (arith, op_rules)
+
+pub returns-in_ok-exit-in_default-clause-ok : goal.returns-in_ok-exit-in_default-clause-ok
+unfolding scratched attempted frame_of
+returns-in_ok-exit-in_default-clause-ok c = grind (arith, op_rules)

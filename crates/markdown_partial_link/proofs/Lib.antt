@@ -1,9 +1,0 @@
-pub mod PartialDestinationLaws
-pub mod LinkedTextReadings
-pub mod LinkedTextLineEnding
-pub mod LinkedTextSteps
-pub mod PartialTitleReadings
-pub mod PartialTitleLaws
-pub mod PartialLabelReadings
-pub mod PartialLabelLaws
-pub mod LinkSteadyLaws

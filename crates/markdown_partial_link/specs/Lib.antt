@@ -1,2 +1,0 @@
--- The definitions of this crate.
--- What has to be believed: what public contracts and the theorem cite.

@@ -1,0 +1,24 @@
+-- The proofs of this crate.
+pub mod WordsInEitherCase
+pub mod StretchesInOrder
+pub mod EmailScanLemmas
+pub mod EmailDomains
+pub mod UnlinkedLeaves
+pub mod EmailAtSign
+pub mod AtSignSearch
+pub mod EmailEditLemmas
+pub mod EmailPassLaw
+pub mod SettledEvents
+pub mod ClearBytes
+pub mod StillEvents
+pub mod StillTrees
+pub mod DataSearch
+pub mod MergeEdits
+pub mod MergePassLaw
+pub mod TrimWalks
+pub mod TrimmedLeaves
+pub mod FirstAndLastCode
+pub mod TrimEdits
+pub mod TrimPassLaw
+pub mod DataOnLinesLemmas
+pub mod TrimmedDataInDocument

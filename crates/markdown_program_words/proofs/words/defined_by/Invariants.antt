@@ -1,6 +1,0 @@
-use Rattle.std.proofs.Common.{◌≡◌, map, string_bytes, take}
-use Rattle.markdown_program_words.specs.ProgramWords.{defined_by}
-use Rattle.markdown_program_words.proofs.words.defined_by.Given as goal
-
-abbrev pub invariant-loop-word : goal.invariant-loop-word
-invariant-loop-word l = map string_bytes l.found.items ≡ defined_by l.prefix (take l.word-index l.words)

@@ -1,4 +1,0 @@
-//! The words that the program is given.
-#![tactic(auto)]
-
-pub mod words;

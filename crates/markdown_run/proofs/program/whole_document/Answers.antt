@@ -1,5 +1,0 @@
-use Rattle.markdown_run.proofs.WholeDocument.{whole-content}
-use Rattle.markdown_run.proofs.program.whole_document.Goals as goal
-
-pub returns-clause-content : goal.returns-clause-content
-returns-clause-content c = whole-content c.args.bytes.now c.requires.text c.requires.fits

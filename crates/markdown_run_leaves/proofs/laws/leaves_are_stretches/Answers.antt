@@ -1,5 +1,0 @@
-use Rattle.markdown_run_leaves.proofs.LeavesAreStretches.{leaves-are-stretches}
-use Rattle.markdown_run_leaves.proofs.laws.leaves_are_stretches.Goals as goal
-
-pub returns : goal.returns
-returns c = leaves-are-stretches

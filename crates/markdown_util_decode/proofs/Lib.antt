@@ -1,5 +1,0 @@
-pub mod StripPrefix
-pub mod NumberValues
-pub mod ParseLemmas
-pub mod UpToSemicolon
-pub mod WholeReference
