@@ -46,6 +46,7 @@ impl Asked {
             "cm-lengths" => self.options.attention_first_lengths = true,
             "cm-shortcut" => self.options.label_shortcut_before_bracket = true,
             "commonmark" => self.options.commonmark = true,
+            "html-references" => self.options.html_references = true,
             "raw" => self.html.raw_html = true,
             "any-link" => self.html.any_link = true,
             "lf" => self.html.line_ends = LineEnds::Lf,

@@ -26,6 +26,7 @@ pub const OPTIONS: ParseOptions = ParseOptions {
     attention_first_lengths: true,
     label_shortcut_before_bracket: true,
     commonmark: false,
+    html_references: false,
 };
 
 /// What a document is read with.

@@ -17,9 +17,16 @@ commonmark_rules = record {
   all_address_marks = true;
   two_last_spaces = true;
   nul_is_replaced = true;
+  html_names = true;
+  controls_are_kept = true;
+  slashes_in_values = true;
+  titles_keep_spaces = true;
+  neighbours_in_content = true;
+  labels_by_text = true;
+  shortcuts_are_limited = true;
 }
 
--- the crate's rules, of which two are options by themselves
+-- the crate's rules, of which three are options by themselves
 abbrev pub crate_rules : ParseOptions → Rules
 crate_rules o = record {
   whole_lengths = o.attention_first_lengths;
@@ -32,6 +39,13 @@ crate_rules o = record {
   all_address_marks = false;
   two_last_spaces = false;
   nul_is_replaced = false;
+  html_names = o.html_references;
+  controls_are_kept = false;
+  slashes_in_values = false;
+  titles_keep_spaces = false;
+  neighbours_in_content = false;
+  labels_by_text = false;
+  shortcuts_are_limited = false;
 }
 
 -- the rules that options choose

@@ -31,6 +31,7 @@ default_options = record {
   attention_first_lengths = false;
   label_shortcut_before_bracket = false;
   commonmark = false;
+  html_references = false;
 }
 
 -- Options, each by a bit.
@@ -40,7 +41,7 @@ has_option options bit = not (bit_and options bit == 0)
 
 -- each bit is one of an option, or says that a text is the first of a list item
 abbrev pub AreKnown : ℕ → Type 0
-AreKnown options = options < 0x40_0000
+AreKnown options = options < 0x80_0000
 
 abbrev pub constructs_of : ℕ → Constructs
 constructs_of o = record {
@@ -70,4 +71,5 @@ options_of o = record {
   attention_first_lengths = has_option o 0x4_0000;
   label_shortcut_before_bracket = has_option o 0x8_0000;
   commonmark = has_option o 0x20_0000;
+  html_references = has_option o 0x40_0000;
 }

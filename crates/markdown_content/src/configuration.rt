@@ -25,19 +25,20 @@ pub const CONSTRUCTS: [(&str, u32); 16] = [
 ];
 
 /// The other switches by their names, and their bits.
-pub const SETTINGS: [(&str, u32); 5] = [
+pub const SETTINGS: [(&str, u32); 6] = [
     ("gfm_strikethrough_single_tilde", 0x1_0000),
     ("math_text_single_dollar", 0x2_0000),
     ("attention_first_lengths", 0x4_0000),
     ("label_shortcut_before_bracket", 0x8_0000),
     ("commonmark", 0x20_0000),
+    ("html_references", 0x40_0000),
 ];
 
 /// The bits of CommonMark's constructs, and of the settings that are on by default.
 pub const DEFAULT_BITS: u32 = 0x3_7E1F;
 
 /// The lowest number with a bit that is none of an option. The bit 0x10_0000 says that a text is the first of a list item.
-pub const UNKNOWN_OPTION: u32 = 0x40_0000;
+pub const UNKNOWN_OPTION: u32 = 0x80_0000;
 
 /// All constructs.
 pub const ALL_CONSTRUCTS: Constructs = Constructs {
@@ -175,8 +176,10 @@ pub struct ParseOptions {
     pub attention_first_lengths: bool,
     /// Whether a defined label before a `[` that begins no label of its own is a shortcut reference, as CommonMark says.
     pub label_shortcut_before_bracket: bool,
-    /// Whether CommonMark's rule holds in each point that `Rules` names, in which the crate that is ported departs from it. The two options above are implied.
+    /// Whether CommonMark's rule holds in each point that `Rules` names, in which the crate that is ported departs from it. The two options above and the one below are implied.
     pub commonmark: bool,
+    /// Whether a reference may have any of the 2,125 names of HTML that end in a semicolon, as CommonMark says, and not only those whose value is one character.
+    pub html_references: bool,
 }
 
 impl ParseOptions {
@@ -191,6 +194,7 @@ impl ParseOptions {
             attention_first_lengths: has_option(options, 0x4_0000),
             label_shortcut_before_bracket: has_option(options, 0x8_0000),
             commonmark: has_option(options, 0x20_0000),
+            html_references: has_option(options, 0x40_0000),
         }
     }
 
@@ -205,6 +209,7 @@ impl ParseOptions {
             Rules {
                 whole_lengths: self.attention_first_lengths,
                 shortcut_before_bracket: self.label_shortcut_before_bracket,
+                html_names: self.html_references,
                 ..DEFAULT_RULES
             }
         }
@@ -245,6 +250,20 @@ pub struct Rules {
     pub two_last_spaces: bool,
     /// Beside a run, NUL is read as U+FFFD, which is punctuation (CommonMark 2.3).
     pub nul_is_replaced: bool,
+    /// A reference may have each name of HTML that ends in a semicolon (CommonMark 2.5).
+    pub html_names: bool,
+    /// A number stands for its character, and only 0, a surrogate and what is past U+10FFFF for U+FFFD (CommonMark 2.5).
+    pub controls_are_kept: bool,
+    /// A slash may stand in an unquoted value of an attribute (CommonMark 6.6).
+    pub slashes_in_values: bool,
+    /// A title keeps the whitespace before a line ending (CommonMark 6.3).
+    pub titles_keep_spaces: bool,
+    /// Beside a run stands what the content has there; behind its ends there is whitespace (CommonMark 6.2).
+    pub neighbours_in_content: bool,
+    /// The identifier of a label is that of its text, and not of the document's bytes (CommonMark 6.3).
+    pub labels_by_text: bool,
+    /// The label of a shortcut or collapsed reference has at most 999 characters (CommonMark 6.3).
+    pub shortcuts_are_limited: bool,
 }
 
 // The rules of the crate that is ported.
@@ -259,6 +278,13 @@ const DEFAULT_RULES: Rules = Rules {
     all_address_marks: false,
     two_last_spaces: false,
     nul_is_replaced: false,
+    html_names: false,
+    controls_are_kept: false,
+    slashes_in_values: false,
+    titles_keep_spaces: false,
+    neighbours_in_content: false,
+    labels_by_text: false,
+    shortcuts_are_limited: false,
 };
 
 // CommonMark's rules.
@@ -273,4 +299,11 @@ const COMMONMARK_RULES: Rules = Rules {
     all_address_marks: true,
     two_last_spaces: true,
     nul_is_replaced: true,
+    html_names: true,
+    controls_are_kept: true,
+    slashes_in_values: true,
+    titles_keep_spaces: true,
+    neighbours_in_content: true,
+    labels_by_text: true,
+    shortcuts_are_limited: true,
 };

@@ -9,4 +9,5 @@ pub const ALL_CONSTRUCTS: ParseOptions = ParseOptions {
     attention_first_lengths: false,
     label_shortcut_before_bracket: false,
     commonmark: false,
+    html_references: false,
 };

@@ -64,6 +64,7 @@ options_of words =
       attention_first_lengths = has_word (codes "cm-lengths") words;
       label_shortcut_before_bracket = has_word (codes "cm-shortcut") words;
       commonmark = has_word (codes "commonmark") words;
+      html_references = has_word (codes "html-references") words;
     }
 
 -- the identifier of what follows the prefix, if the word has it

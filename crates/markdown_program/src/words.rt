@@ -98,6 +98,7 @@ pub fn options_of(words: &[String]) -> ParseOptions
         attention_first_lengths: has(words, "cm-lengths"),
         label_shortcut_before_bracket: has(words, "cm-shortcut"),
         commonmark: has(words, "commonmark"),
+        html_references: has(words, "html-references"),
         ..ParseOptions::default()
     }
 }

@@ -200,5 +200,6 @@ pub(crate) fn options(drawing: &mut Drawing) -> ParseOptions {
         attention_first_lengths: drawing.mostly(),
         label_shortcut_before_bracket: drawing.mostly(),
         commonmark: false,
+        html_references: false,
     }
 }
