@@ -410,21 +410,21 @@ uint32_t markdown_inline_short_texts(const markdown_inline_input *input, const m
 
 /* Writes the HTML of the input's pieces as a text, in UTF-8. Each call tests the whole document, passes all that stands before the pieces, and puts
  * the definitions in order, so a call for each paragraph of one document takes time in proportion to its square: for many contents call
- * markdown_inline_htmls, which numbers footnotes through all of them and takes a limit on what references bring. The target of each number says where
- * the definition of that number leads. `options` has bits MARKDOWN_INLINE_HTML_RAW and MARKDOWN_INLINE_HTML_ANY_LINK; without them nothing runs that
- * the text brings. Each call numbers footnotes from 1 on, and line endings stay. DONE: the HTML stands at the front of the array, and `*count` is how
+ * markdown_inline_htmls, which numbers footnotes through all of them. The target of each number says where the definition of that number leads. `options` has bits MARKDOWN_INLINE_HTML_RAW and MARKDOWN_INLINE_HTML_ANY_LINK; without them nothing runs that
+ * the text brings. Each call numbers footnotes from 1 on, and line endings stay.
+ * A definition brings the bytes of its destination and of its title, as its target has them, to each link and image that refers to it; a link or an
+ * image with a resource is brought nothing. `limit` is how many bytes definitions may bring, and 0 is no limit. Without one, n references to a
+ * definition of n bytes write n * n bytes; for text that is not trusted take the larger of 100000 and the document's length, as cmark does.
+ * REFERENCES: definitions bring more than the limit. DONE: the HTML stands at the front of the array, and `*count` is how
  * many bytes it has. DEFINITION: a label or a target is no text of the labels, or there is not one target for each definition. The rest is as of
  * events. */
 uint32_t markdown_inline_html(const markdown_inline_input *input, const markdown_inline_target *targets, size_t targets_len, uint32_t options,
-    uint8_t *html, size_t html_len, size_t *count);
+    size_t limit, uint8_t *html, size_t html_len, size_t *count);
 
 /* Writes the HTML of many contents of a document as texts, which is prepared once: each content costs what it costs by itself, wherever it stands.
  * Contents are those of markdown_inline_texts, and targets and `options` those of markdown_inline_html. Footnotes are numbered through all contents,
  * so each call of a footnote in them has an id of its own.
- * A definition brings the bytes of its destination and of its title, as its target has them, to each link and image that refers to it; a link or an
- * image with a resource is brought nothing. `limit` is how many bytes definitions may bring to all contents together, and 0 is no limit. Without one,
- * n references to a definition of n bytes write n * n bytes; for text that is not trusted take the larger of 100000 and the document's length, as
- * cmark does.
+ * `limit` is that of markdown_inline_html, for what definitions bring to all contents together.
  * The HTML is written as calls for many write. Since footnotes are numbered through the contents of one call, a call after TOO_SMALL is for all of them where
  * footnotes are called, with room for `count` bytes. Of what is wrong the order is 2, 9, 3, 8; then 7, 4 or 11 for the first content that is no text, or
  * to which with those before it definitions bring more than the limit. With 8 the definition is refused whose label or target is no text of the

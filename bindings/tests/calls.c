@@ -372,9 +372,9 @@ static void want_html(const char *text, uint32_t options, const char *html) {
     input.labels_len = 6;
     input.definitions = labels;
     input.definitions_len = 2;
-    uint32_t status = markdown_inline_html(&input, targets, 2, options, found, len - 1, &count);
+    uint32_t status = markdown_inline_html(&input, targets, 2, options, 0, found, len - 1, &count);
     want(text, status == MARKDOWN_INLINE_TOO_SMALL && count == len && !memcmp(found, before, 256));
-    status = markdown_inline_html(&input, targets, 2, options, found, 256, &count);
+    status = markdown_inline_html(&input, targets, 2, options, 0, found, 256, &count);
     want(text, status == MARKDOWN_INLINE_DONE && count == len && !memcmp(found, html, len) && !memcmp(found + len, before, 256 - len));
 }
 
@@ -387,7 +387,7 @@ static void test_html(void) {
     want_html("[a](javascript:b)", MARKDOWN_INLINE_HTML_ANY_LINK, "<a href=\"javascript:b\">a</a>");
     markdown_inline_piece piece = whole("[a]"), past = {0, 0, 9, 0};
     markdown_inline_range label = {1, 2}, bad = {0, 9};
-    markdown_inline_target targets[] = {{{1, 2}, {0, 9}, 1}, {{0, 9}, {0, 0}, 0}, {{1, 0}, {0, 0}, 0}, {{1, 2}, {0, 9}, 0}};
+    markdown_inline_target targets[] = {{{1, 2}, {0, 9}, 1}, {{0, 9}, {0, 0}, 0}, {{1, 0}, {0, 0}, 0}, {{1, 2}, {0, 9}, 0}}, two_bytes = {{1, 3}, {0, 0}, 0};
     markdown_inline_input input = input_of("[a]", &piece);
     uint8_t found[64];
     size_t count = 77;
@@ -396,17 +396,21 @@ static void test_html(void) {
     input.definitions = &label;
     input.definitions_len = 1;
     for (size_t at = 0; at < 3; at++)
-        want("a target past the labels", markdown_inline_html(&input, targets + at, 1, 0, found, 64, &count) == MARKDOWN_INLINE_DEFINITION && count == 77);
-    want("a definition without a target", markdown_inline_html(&input, targets + 3, 0, 0, found, 64, &count) == MARKDOWN_INLINE_DEFINITION);
-    want("an unknown option of HTML", markdown_inline_html(&input, targets + 3, 1, 4, found, 64, &count) == MARKDOWN_INLINE_UNKNOWN_OPTION);
+        want("a target past the labels", markdown_inline_html(&input, targets + at, 1, 0, 0, found, 64, &count) == MARKDOWN_INLINE_DEFINITION && count == 77);
+    want("a definition without a target", markdown_inline_html(&input, targets + 3, 0, 0, 0, found, 64, &count) == MARKDOWN_INLINE_DEFINITION);
+    want("an unknown option of HTML", markdown_inline_html(&input, targets + 3, 1, 4, 0, found, 64, &count) == MARKDOWN_INLINE_UNKNOWN_OPTION);
     input.pieces = &past;
-    want("HTML of no content", markdown_inline_html(&input, targets, 1, 0, found, 64, &count) == MARKDOWN_INLINE_NO_CONTENT && count == 77);
+    want("HTML of no content", markdown_inline_html(&input, targets, 1, 0, 0, found, 64, &count) == MARKDOWN_INLINE_NO_CONTENT && count == 77);
     input.pieces = &piece;
-    want("HTML", markdown_inline_html(&input, targets + 3, 1, 0, found, 64, &count) == MARKDOWN_INLINE_DONE && count == 17 && !memcmp(found, "<a href=\"a\">a</a>", 17));
+    want("HTML", markdown_inline_html(&input, targets + 3, 1, 0, 0, found, 64, &count) == MARKDOWN_INLINE_DONE && count == 17 && !memcmp(found, "<a href=\"a\">a</a>", 17));
     input.definitions = &bad;
-    want("a label past the labels", markdown_inline_html(&input, targets + 3, 1, 0, found, 64, &count) == MARKDOWN_INLINE_DEFINITION);
+    want("a label past the labels", markdown_inline_html(&input, targets + 3, 1, 0, 0, found, 64, &count) == MARKDOWN_INLINE_DEFINITION);
+    input.definitions = &label;
+    count = 77;
+    want("more than the limit", markdown_inline_html(&input, &two_bytes, 1, 0, 1, found, 64, &count) == MARKDOWN_INLINE_REFERENCES && count == 77);
+    want("no more than the limit", markdown_inline_html(&input, &two_bytes, 1, 0, 2, found, 64, &count) == MARKDOWN_INLINE_DONE && count == 18);
     memset(&input, 0, sizeof input);
-    want("HTML of nothing", markdown_inline_html(&input, NULL, 0, 0, NULL, 0, &count) == MARKDOWN_INLINE_DONE && count == 0);
+    want("HTML of nothing", markdown_inline_html(&input, NULL, 0, 0, 0, NULL, 0, &count) == MARKDOWN_INLINE_DONE && count == 0);
 }
 
 /* Strings have the texts of their parts, and as many as have room are written. */
@@ -690,7 +694,7 @@ static int call_once(const char *call) {
     if (!strcmp(call, "leaves")) return (int)markdown_inline_leaves(&input, leaves, 256, &count);
     if (!strcmp(call, "texts")) return (int)markdown_inline_texts(&input, contents, 2, events, 256, ends, 2, &outcome);
     if (!strcmp(call, "short_texts")) return (int)markdown_inline_short_texts(&input, contents, 2, short_events, 256, ends, 2, &outcome);
-    if (!strcmp(call, "html")) return (int)markdown_inline_html(&input, &target, 1, 0, bytes, 512, &count);
+    if (!strcmp(call, "html")) return (int)markdown_inline_html(&input, &target, 1, 0, 0, bytes, 512, &count);
     if (!strcmp(call, "strings")) {
         static const markdown_inline_range parts[] = {{0, 3}, {4, 9}}, strings[] = {{0, 2}, {1, 2}};
         return (int)markdown_inline_strings((const uint8_t *)"a\\* &amp;", 9, parts, 2, strings, 2, bytes, 512, ends, 2, &outcome);

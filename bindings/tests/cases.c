@@ -117,10 +117,10 @@ static uint32_t answer_html(markdown_inline_input *input, char **words) {
     uint8_t *html = NULL;
     uint32_t options = (uint32_t)strtoul(words[0], NULL, 10);
     for (char *word; (word = next(&words[1])) != NULL;) targets[found++] = read_target(word, &input->labels_len);
-    uint32_t status = markdown_inline_html(input, targets, found, options, NULL, 0, &count);
+    uint32_t status = markdown_inline_html(input, targets, found, options, 0, NULL, 0, &count);
     if (status == MARKDOWN_INLINE_TOO_SMALL) {
         html = (uint8_t *)room(count, 1);
-        status = markdown_inline_html(input, targets, found, options, html, count, &count);
+        status = markdown_inline_html(input, targets, found, options, 0, html, count, &count);
     }
     if (status == MARKDOWN_INLINE_DONE) {
         printf(" ");

@@ -490,7 +490,7 @@ static uint32_t made(which call, const drawn *it, void *array, size_t len) {
     case STRING: return markdown_inline_string(input, (markdown_inline_event *)array, len, count);
     case TEXT: return markdown_inline_text(input, (markdown_inline_event *)array, len, count);
     case LEAVES: return markdown_inline_leaves(input, (markdown_inline_leaf *)array, len, count);
-    case HTML: return markdown_inline_html(input, targets, it->targets_len, it->html_options, (uint8_t *)array, len, count);
+    case HTML: return markdown_inline_html(input, targets, it->targets_len, it->html_options, it->limit, (uint8_t *)array, len, count);
     case IDENTIFIER: return markdown_inline_identifier(input->labels, input->labels_len, (uint8_t *)array, len, count);
     case REFERENCE: return markdown_inline_reference(input->labels, input->labels_len, (uint8_t *)array, len, count);
     case TEXTS: return markdown_inline_texts(input, contents, it->contents_len, (markdown_inline_event *)array, len, ends, ends_len, outcome);
@@ -720,6 +720,18 @@ static void look_at_short_texts(const drawn *all) {
     }
 }
 
+/* A limit holds of what definitions bring to one text: so many bytes. */
+static void look_at_limit(const drawn *alone, size_t brought) {
+    drawn limited = *alone;
+    limited.limit = brought;
+    lend_case(&limited);
+    if (brought > 0) want("as much as the limit of one", called(HTML, &limited, sizeof found, 0) == MARKDOWN_INLINE_DONE);
+    if (brought < 2) return;
+    limited.limit = 1 + below(brought - 1);
+    lend_case(&limited);
+    want("more than the limit of one", called(HTML, &limited, sizeof found, 0) == MARKDOWN_INLINE_REFERENCES);
+}
+
 /* Each of many contents has the HTML of its own where no footnote is called; and a limit holds of what definitions bring to all. */
 static void look_at_htmls(const drawn *all) {
     static answer many;
@@ -734,6 +746,7 @@ static void look_at_htmls(const drawn *all) {
         brought[at + 1] = brought[at] + brought_to(&alone, found.events, found_len);
         want("one of many is HTML", called(HTML, &alone, sizeof found, 0) == MARKDOWN_INLINE_DONE && starts[at + 1] >= starts[at]);
         if (all->footnotes_len == 0) want("the HTML of one of many", found_len == part && !memcmp(found.bytes, many.bytes + starts[at], part));
+        look_at_limit(&alone, brought[at + 1] - brought[at]);
     }
     drawn limited = *all;
     limited.limit = brought[len];

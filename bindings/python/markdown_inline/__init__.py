@@ -248,13 +248,7 @@ def html(document: Text, pieces: Pieces = None, gfm: bool = False, math: bool = 
         bytes_given, _arguments.pieces_of(pieces, len(bytes_given)), _bits(options, gfm, math, task, cm_lengths, cm_shortcut, commonmark), defined,
         _arguments.labels_of(footnotes, 'footnotes'), written)
     asked = _arguments.flag_of(raw_html, 'raw_html') | _arguments.flag_of(any_link, 'any_link') << 1
-    limit = _limit(reference_limit, bytes_given)
-    if limit and given.covered() // 2 * len(written) > limit:
-        # Each reference has more than two bytes, so else no references bring more than the limit. The call for many takes one.
-        content = _arguments.whole_of(given.pieces, bool(given.input.options & _TASK))
-        status, found, _, _ = _library.htmls(given, targets, len(defined), content, 1, asked, limit)
-    else:
-        status, found = _library.html(given, targets, len(defined), asked)
+    status, found = _library.html(given, targets, len(defined), asked, _limit(reference_limit, bytes_given))
     if status:
         raise _raised(status)
     return found.decode()

@@ -155,11 +155,6 @@ def contents_of(given):
     return _crossing(found, name_of), b''.join(map(_CONTENT.pack, [0] + ends[:-1], ends, firsts)), len(ends)
 
 
-def whole_of(numbers, is_first):
-    """The content of all pieces, as it crosses."""
-    return _CONTENT.pack(0, len(numbers) // 4, is_first)
-
-
 def strings_of(given):
     """The parts of all strings as they cross, two numbers each, the strings as they cross, and how many strings there are."""
     parts, strings = array('Q'), array('Q')

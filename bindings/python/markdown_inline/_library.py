@@ -77,7 +77,7 @@ def _load():
     for name, arguments in (
         ('is_content', text + numbers), ('is_text', text + numbers), ('string', given + lent), ('text', given + lent), ('leaves', given + lent),
         ('identifier', text + lent), ('reference', text + lent), ('texts', given + 3 * numbers + outcome), ('short_texts', given + 3 * numbers + outcome),
-        ('html', given + numbers + [ctypes.c_uint32] + lent), ('htmls', given + 2 * numbers + [ctypes.c_uint32, _size] + 2 * numbers + outcome),
+        ('html', given + numbers + [ctypes.c_uint32, _size] + lent), ('htmls', given + 2 * numbers + [ctypes.c_uint32, _size] + 2 * numbers + outcome),
         ('strings', text + 4 * numbers + outcome),
     ):
         function = getattr(library, 'markdown_inline_' + name)
@@ -183,10 +183,10 @@ def texts(name, size, given, contents, count):
     return filled_many(call, size, _events_room(given, size), count)
 
 
-def html(given, targets, count, options):
+def html(given, targets, count, options, limit):
     """Calls for HTML, with this many targets as they cross: the status, and its bytes."""
     at = ctypes.byref(given.input)
-    return filled(lambda *lent: LIBRARY.markdown_inline_html(at, targets, count, options, *lent), 1, 2 * given.covered())
+    return filled(lambda *lent: LIBRARY.markdown_inline_html(at, targets, count, options, limit, *lent), 1, 2 * given.covered())
 
 
 def htmls(given, targets, count, contents, many, options, limit):

@@ -411,23 +411,6 @@ impl<'a> Input<'a> {
     }
 
     fn html_bytes(&self, options: HtmlOptions, bytes: &mut Vec<u8>) -> Result<(), Error> {
-        // Each reference has more than two bytes, so references bring no more than this.
-        let most = (self.len() / 2).saturating_mul(self.labels.len());
-        if self.reference_limit == 0 || most <= self.reference_limit {
-            return self.html_without_limit(options, bytes);
-        }
-        let whole = TextContent {
-            pieces: 0..self.pieces.len(),
-            first_of_item: self.options.bits() & Options::FIRST_OF_ITEM.bits() != 0,
-        };
-        let filled = self.htmls_bytes(&[whole], options, bytes, &mut Vec::new());
-        if filled.is_err() {
-            bytes.clear();
-        }
-        Ok(filled?)
-    }
-
-    fn html_without_limit(&self, options: HtmlOptions, bytes: &mut Vec<u8>) -> Result<(), Error> {
         let input = self.raw();
         let expected = 2 * self.len() + 128;
         // SAFETY: each pointer goes with the length of its array, and nothing is kept.
@@ -437,6 +420,7 @@ impl<'a> Input<'a> {
                 self.targets.as_ptr(),
                 self.targets.len(),
                 options.bits(),
+                self.reference_limit,
                 array,
                 len,
                 count,

@@ -209,6 +209,7 @@ extern "C" {
         targets: *const RawTarget,
         targets_len: usize,
         options: u32,
+        limit: usize,
         html: *mut u8,
         html_len: usize,
         count: *mut usize,

@@ -2,14 +2,19 @@
 //!
 //! The first word is `text`. The others are those of `mdinline` but `label=`: `gfm`, `math`, `task`, `cm-lengths`, `cm-shortcut`, `note=TEXT`; and
 //! `raw`, which writes raw HTML as it stands; `any-link`, by which links lead wherever they say; `lf` and `crlf`, which write line endings so; `define=LABEL`, which defines a label, followed
-//! by `to=DESTINATION` and perhaps `title=TEXT`. One final line ending is dropped.
+//! by `to=DESTINATION` and perhaps `title=TEXT`; and `no-limit`. One final line ending is dropped.
+//!
+//! A definition brings the bytes of its destination and of its title to each link and image that refers to it. Definitions bring no more than 100,000
+//! bytes, or than the input has where it has more, as in cmark; the word `no-limit` lifts that.
 //!
 //! The status is 0; 2 where a word is not known; 3 where the input is not UTF-8; 4 where a line is blank; 5 where memory is refused; 6 where
-//! reading or writing fails.
+//! reading or writing fails; 7 where definitions bring more than they may.
 #![tactic(auto)]
 
-ghost use Rattle.std.specs.Prelude.{◌≡◌, [], IfOk, IfSome};
+ghost use Rattle.std.specs.Prelude.{◌≡◌, ◌≤◌, [], IfOk, IfSome};
 ghost use Rattle.markdown_content.specs.Content.{content_of};
+ghost use Rattle.markdown_content.specs.Tree.{Forest, events_of};
+ghost use Rattle.markdown_html.specs.Brought.{brought};
 ghost use Rattle.markdown_html.specs.View.{page_from};
 ghost use Rattle.markdown_html_model.specs.Html.{html};
 ghost use Rattle.markdown_model.specs.InlineTree.{text_tree};
@@ -19,8 +24,9 @@ mod words;
 
 use markdown_html::footnotes::FootnoteCalls;
 use markdown_html::targets::Targets;
-use markdown_html::to_html;
+use markdown_html::{left_of_limit, to_html};
 use markdown_html_model::options::HtmlOptions;
+use markdown_inline::event_list::EventSlice;
 use markdown_inline::parser::{ParseState, Piece};
 use markdown_inline::run;
 use std::alloc::{AllocError, Global};
@@ -28,6 +34,9 @@ use std::env;
 use std::io::{self, ErrorKind, Read, Write};
 use std::process::ExitCode;
 use words::Asked;
+
+// How many bytes definitions may bring to an input that has no more.
+const LEAST_LIMIT: usize = 100_000;
 
 /// Why the program ends without its output.
 #[derive(Clone, Copy)]
@@ -42,6 +51,8 @@ enum Fault {
     OutOfMemory,
     /// Reading or writing failed.
     Io,
+    /// Definitions bring more bytes than they may.
+    References,
 }
 
 impl Fault {
@@ -53,6 +64,7 @@ impl Fault {
             Fault::BlankLine => 4,
             Fault::OutOfMemory => 5,
             Fault::Io => 6,
+            Fault::References => 7,
         }
     }
 }
@@ -71,7 +83,27 @@ fn fault_of(error: io::Error) -> Fault {
     }
 }
 
-// The HTML of pieces of a document; none where they are no paragraph.
+// Whether definitions bring more than the limit, if there is one, to the tree of these events.
+fn check_limit(
+    alloc: Global,
+    parse_state: &ParseState,
+    events: &EventSlice,
+    definitions: &Targets,
+    options: HtmlOptions,
+    limit: Option<usize>,
+) -> Result<(), Fault>
+    ensures { (t : Forest) → events.now ≡ events_of t → IfOk result (λ _. IfSome limit (λ most. brought (page_from parse_state.now definitions.now options) t ≤ most)) }
+{
+    let Some(limit) = limit else {
+        return Ok(());
+    };
+    match left_of_limit(alloc, parse_state, events, definitions, options, limit)? {
+        Some(_) => Ok(()),
+        None => Err(Fault::References),
+    }
+}
+
+// The HTML of pieces of a document, to which definitions bring no more than the limit, if there is one.
 fn html_of(
     alloc: Global,
     parse_state: &ParseState,
@@ -79,23 +111,21 @@ fn html_of(
     first_of_item: bool,
     definitions: &Targets,
     options: HtmlOptions,
-) -> Result<Option<Vec<u8>>, AllocError>
-    ensures { let s = text_setting_of parse_state.now first_of_item in let tree = text_tree s (content_of s.bytes pieces.now) in
-        IfOk result (λ found. IfSome found (λ written. written.items ≡ html (page_from parse_state.now definitions.now options) [] tree)) }
+    limit: Option<usize>,
+) -> Result<Vec<u8>, Fault>
+    ensures html { let s = text_setting_of parse_state.now first_of_item in let tree = text_tree s (content_of s.bytes pieces.now) in
+        IfOk result (λ written. written.items ≡ html (page_from parse_state.now definitions.now options) [] tree) }
+    ensures limit { let s = text_setting_of parse_state.now first_of_item in let tree = text_tree s (content_of s.bytes pieces.now) in
+        IfOk result (λ _. IfSome limit (λ most. brought (page_from parse_state.now definitions.now options) tree ≤ most)) }
 {
     if !run::is_text(parse_state.bytes, pieces) {
-        return Ok(None);
+        return Err(Fault::BlankLine);
     }
     let found = run::text_list(alloc, parse_state, pieces, first_of_item)?;
-    let html = to_html(
-        alloc,
-        parse_state,
-        &found.events.as_slice(),
-        definitions,
-        &mut FootnoteCalls::new(alloc),
-        options,
-    )?;
-    Ok(Some(html))
+    let events = found.events.as_slice();
+    check_limit(alloc, parse_state, &events, definitions, options, limit)?;
+    let calls = &mut FootnoteCalls::new(alloc);
+    Ok(to_html(alloc, parse_state, &events, definitions, calls, options)?)
 }
 
 // The HTML of a paragraph with what the words ask.
@@ -106,6 +136,7 @@ fn html(alloc: Global, bytes: &[u8], asked: Asked) -> Result<Vec<u8>, Fault> {
         definitions,
         footnotes,
         first_of_item,
+        is_limited,
     } = asked;
     let parse_state = ParseState {
         bytes,
@@ -118,15 +149,20 @@ fn html(alloc: Global, bytes: &[u8], asked: Asked) -> Result<Vec<u8>, Fault> {
         end: (bytes.len(), 0),
     }];
     let definitions = words::targets_of(alloc, definitions)?;
-    let found = html_of(
+    let limit = if is_limited {
+        Some(bytes.len().max(LEAST_LIMIT))
+    } else {
+        None
+    };
+    html_of(
         alloc,
         &parse_state,
         &pieces,
         first_of_item,
         &definitions,
         html,
-    )?;
-    found.ok_or(Fault::BlankLine)
+        limit,
+    )
 }
 
 // The bytes without one final line ending.

@@ -14,6 +14,8 @@ pub(crate) struct Asked {
     pub(crate) footnotes: Vec<String>,
     /// Whether the paragraph is the first of a list item.
     pub(crate) first_of_item: bool,
+    /// Whether there is a limit on what definitions bring.
+    pub(crate) is_limited: bool,
 }
 
 impl Asked {
@@ -25,6 +27,7 @@ impl Asked {
             definitions: Vec::new(alloc),
             footnotes: Vec::new(alloc),
             first_of_item: false,
+            is_limited: true,
         }
     }
 
@@ -49,6 +52,7 @@ impl Asked {
             "html-references" => self.options.html_references = true,
             "raw" => self.html.raw_html = true,
             "any-link" => self.html.any_link = true,
+            "no-limit" => self.is_limited = false,
             "lf" => self.html.line_ends = LineEnds::Lf,
             "crlf" => self.html.line_ends = LineEnds::CrLf,
             _ => return Ok(false),

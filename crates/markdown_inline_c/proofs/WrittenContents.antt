@@ -14,8 +14,8 @@ use Rattle.markdown_html_model.specs.Html.{Defined, Page, calls_behind, html}
 use Rattle.markdown_html_model.specs.declared.options.HtmlOptions.{HtmlOptions}
 use Rattle.markdown_model.specs.Setting.{Setting}
 use Rattle.markdown_run_text.specs.RunSetting.{setting_of}
-use Rattle.markdown_inline_c.specs.FlatHtml.{defined_by, html_options_of, page}
-use Rattle.markdown_inline_c.specs.FlatHtmls.{AreWritable, IsHtmlFaultAt, IsWithinLimit, brought_to, html_of_each}
+use Rattle.markdown_inline_c.specs.FlatHtml.{IsWithinLimit, defined_by, html_options_of, page}
+use Rattle.markdown_inline_c.specs.FlatHtmls.{AreWritable, IsHtmlFaultAt, brought_to, html_of_each}
 use Rattle.markdown_inline_c.specs.FlatTexts.{IsTextAt, many_setting}
 use Rattle.markdown_inline_c.specs.HtmlsState.{IsOverspent, IsSpent, limit_of}
 use Rattle.markdown_inline_c.specs.Many.{AreFound, AreHandedOut, EndsBy}

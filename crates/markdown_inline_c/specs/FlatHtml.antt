@@ -1,8 +1,10 @@
 -- What a caller in C hands in beside an input, and the HTML that it gets.
-use Rattle.std.specs.Prelude.{◌≡◌, ◌⊎◌, ℕ, ◌<◌, Bool, ◌==◌, if◌then◌else◌, List, [], ◌∷◌, length, Option, None, Some}
+use Rattle.std.specs.Prelude.{◌≡◌, ◌⊎◌, ℕ, ◌<◌, ◌≤◌, Bool, ◌==◌, if◌then◌else◌, List, [], ◌∷◌, length, Option, None, Some}
 use Rattle.std.specs.List.{All}
 use Rattle.markdown_content.specs.Content.{content_of}
 use Rattle.markdown_content.specs.DefaultOptions.{has_option, options_of}
+use Rattle.markdown_content.specs.Tree.{Forest}
+use Rattle.markdown_html.specs.Brought.{brought}
 use Rattle.markdown_html_model.specs.Html.{Defined, Page, html}
 use Rattle.markdown_html_model.specs.declared.options.HtmlOptions.{HtmlOptions}
 use Rattle.markdown_html_model.specs.declared.options.LineEnds.{LineEnds}
@@ -62,12 +64,25 @@ page i targets options = record {
   options = html_options_of options;
 }
 
--- the HTML of the tree of the input's pieces as a text, with no footnote calls before it
+-- the tree of the input's pieces as a text
+abbrev pub tree_of : Input → Forest
+tree_of i = text_tree (text_setting i) (content_of i.bytes.now (pieces_of i.pieces.now))
+
+-- its HTML, with no footnote calls before it
 abbrev pub html_of : Input → List FlatTarget → ℕ → List ℕ
-html_of i targets options = html (page i targets options) [] (text_tree (text_setting i) (content_of i.bytes.now (pieces_of i.pieces.now)))
+html_of i targets options = html (page i targets options) [] (tree_of i)
+
+-- so many bytes are no more than the limit; 0 is no limit
+abbrev pub IsWithinLimit : ℕ → ℕ → Type 0
+IsWithinLimit limit n = (limit ≡ 0) ⊎ (n ≤ limit)
+
+-- what definitions bring to the tree is no more than the limit
+abbrev pub IsBroughtWithin : Input → List FlatTarget → (options limit : ℕ) → Type 0
+IsBroughtWithin i targets options limit = IsWithinLimit limit (brought (page i targets options) (tree_of i))
 
 -- an input that can be written as HTML
-pub record IsHtmlInput (i : Input) (targets : List FlatTarget) (options : ℕ) : Type 0 where
+pub record IsHtmlInput (i : Input) (targets : List FlatTarget) (options limit : ℕ) : Type 0 where
   pub options_known : AreKnownForHtml options
   pub is_text : IsTextInput i
   pub are_targets : AreTargets i targets
+  pub within_limit : IsBroughtWithin i targets options limit

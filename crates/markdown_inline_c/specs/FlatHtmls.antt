@@ -1,5 +1,5 @@
 -- What a caller in C hands in to write many contents of one document as HTML, and what it gets.
-use Rattle.std.specs.Prelude.{◌≡◌, ◌⊎◌, ℕ, ◌≤◌, List, [], ◌∷◌, ◌++◌, map}
+use Rattle.std.specs.Prelude.{◌≡◌, ◌⊎◌, ℕ, List, [], ◌∷◌, ◌++◌, map}
 use Rattle.std.specs.List.{All, sum_by}
 use Rattle.markdown_content.specs.Content.{content_of}
 use Rattle.markdown_content.specs.Tree.{Forest}
@@ -7,7 +7,7 @@ use Rattle.markdown_html.specs.Brought.{brought}
 use Rattle.markdown_html_model.specs.Html.{Page, calls_behind, html}
 use Rattle.markdown_model.specs.InlineTree.{text_tree}
 use Rattle.markdown_model.specs.Setting.{Setting}
-use Rattle.markdown_inline_c.specs.FlatHtml.{page}
+use Rattle.markdown_inline_c.specs.FlatHtml.{IsWithinLimit, page}
 use Rattle.markdown_inline_c.specs.FlatTexts.{IsTextAt, is_first_of_item, many_setting, pieces_at}
 use Rattle.markdown_inline_c.specs.Statuses.{IsContentAtFault}
 use Rattle.markdown_inline_c.specs.declared.fault.Fault.{Fault}
@@ -32,10 +32,6 @@ html_of_each p before (t ∷ trees) = html p before t ∷ html_of_each p (calls_
 
 abbrev pub brought_to : Page → List Forest → ℕ
 brought_to p trees = sum_by (brought p) trees
-
--- so many bytes are no more than the limit; 0 is no limit
-abbrev pub IsWithinLimit : ℕ → ℕ → Type 0
-IsWithinLimit limit n = (limit ≡ 0) ⊎ (n ≤ limit)
 
 -- Contents that can be written, and one that cannot, where these are their trees.
 

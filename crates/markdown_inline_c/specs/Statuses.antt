@@ -4,7 +4,7 @@ use Rattle.std.specs.Option.{is_some}
 use Rattle.markdown_content.specs.Content.{document_limit, IsContent, IsTextContent}
 use Rattle.markdown_content.specs.DefaultOptions.{AreKnown}
 use Rattle.markdown_content.specs.declared.parser.Piece.{Piece}
-use Rattle.markdown_inline_c.specs.FlatHtml.{AreKnownForHtml, AreTargets}
+use Rattle.markdown_inline_c.specs.FlatHtml.{AreKnownForHtml, AreTargets, IsBroughtWithin}
 use Rattle.markdown_inline_c.specs.FlatInput.{AreLabels, IsTextInput, pieces_of}
 use Rattle.markdown_inline_c.specs.FlatTexts.{IsContentAt, IsTextAt}
 use Rattle.markdown_inline_c.specs.References.{reference_value}
@@ -70,11 +70,15 @@ IsReferenceFault bytes _ = ⊥
 abbrev pub IsTargetsFault : Input → List FlatTarget → Fault → Type 0
 IsTargetsFault i targets fault = (fault ≡ Fault.Memory) ⊎ ((fault ≡ Fault.Definition) × (AreTargets i targets → ⊥))
 
--- of an input that is to be written as HTML: of what may be written, then of the text, then of where its definitions lead
-abbrev pub IsHtmlFault : Input → List FlatTarget → ℕ → Fault → Type 0
-IsHtmlFault i targets options fault =
+-- of what definitions bring to the tree of the input; memory may be refused at any time
+abbrev pub IsLimitFault : Input → List FlatTarget → (options limit : ℕ) → Fault → Type 0
+IsLimitFault i targets options limit fault = (fault ≡ Fault.Memory) ⊎ ((fault ≡ Fault.References) × (IsBroughtWithin i targets options limit → ⊥))
+
+-- of an input that is to be written as HTML: of what may be written, then of the text, then of where its definitions lead, then of what they bring
+abbrev pub IsHtmlFault : Input → List FlatTarget → (options limit : ℕ) → Fault → Type 0
+IsHtmlFault i targets options limit fault =
     ((fault ≡ Fault.UnknownOption) × (AreKnownForHtml options → ⊥))
-    ⊎ (AreKnownForHtml options × (IsTextFault i fault ⊎ (IsTextInput i × IsTargetsFault i targets fault)))
+    ⊎ (AreKnownForHtml options × (IsTextFault i fault ⊎ (IsTextInput i × (IsTargetsFault i targets fault ⊎ (AreTargets i targets × IsLimitFault i targets options limit fault)))))
 
 -- of one of many contents
 abbrev pub IsContentAtFault : List ℕ → List FlatPiece → FlatContent → Fault → Type 0

@@ -2,11 +2,14 @@
 
 ghost use Rattle.std.specs.Prelude.{◌≡◌, ◌⊎◌, ◌∷◌, ◌++◌, [], IfErr, IfOk, OnOk, length, option_map, string_bytes};
 ghost use Rattle.std.specs.List.{All};
+ghost use Rattle.markdown_content.specs.Tree.{Forest, events_of};
+ghost use Rattle.markdown_html.specs.Brought.{brought};
 ghost use Rattle.markdown_html.specs.DefinitionView.{defined_of};
-ghost use Rattle.markdown_inline_c.specs.FlatHtml.{AreKnownForHtml, AreTargets, IsHtmlInput, IsTarget, IsTitleRange, defined_at, defined_by, html_of, html_options_of, title_of};
+ghost use Rattle.markdown_html.specs.View.{page_from};
+ghost use Rattle.markdown_inline_c.specs.FlatHtml.{AreKnownForHtml, AreTargets, IsHtmlInput, IsTarget, IsTitleRange, IsWithinLimit, defined_at, defined_by, html_of, html_options_of, title_of};
 ghost use Rattle.markdown_inline_c.specs.FlatInput.{IsLabelRange, range_bytes};
 ghost use Rattle.markdown_inline_c.specs.Statuses.{IsHtmlFault, IsTargetsFault};
-ghost use Rattle.markdown_inline_c.specs.declared.fault.Fault.TheVariants.{Definition as NoDefinition, Memory, UnknownOption};
+ghost use Rattle.markdown_inline_c.specs.declared.fault.Fault.TheVariants.{Definition as NoDefinition, Memory, References, UnknownOption};
 ghost use Rattle.markdown_util.specs.Identifier.{identifier_of};
 
 use crate::fault::Fault;
@@ -14,9 +17,10 @@ use crate::flat::{FlatTarget, Input, Range};
 use crate::input::{self, text_of};
 use markdown_content::configuration::{ParseOptions, has_option};
 use markdown_content::parser::ParseState;
+use markdown_engine_events::event_list::EventSlice;
 use markdown_html::footnotes::FootnoteCalls;
 use markdown_html::targets::Targets;
-use markdown_html::to_html;
+use markdown_html::{left_of_limit, to_html};
 use markdown_html_model::options::{Definition, HtmlOptions, LineEnds};
 use markdown_util::util::normalize_identifier::normalize_identifier;
 use std::alloc::{AllocError, Global};
@@ -139,16 +143,38 @@ pub(crate) fn definitions(
     definitions_of(alloc, input.labels, input.definitions, targets)
 }
 
+// Whether definitions bring no more bytes than the limit to the tree of these events, or that they bring more; 0 is no limit.
+fn check_limit(
+    alloc: Global,
+    parse_state: &ParseState,
+    events: &EventSlice,
+    definitions: &Targets,
+    options: HtmlOptions,
+    limit: usize,
+) -> Result<(), Fault>
+    ensures ok { (t : Forest) → events.now ≡ events_of t → IfOk result (λ _. IsWithinLimit limit (brought (page_from parse_state.now definitions.now options) t)) }
+    ensures err { (t : Forest) → events.now ≡ events_of t → IfErr result (λ fault. (fault ≡ Memory) ⊎ ((fault ≡ References) × (IsWithinLimit limit (brought (page_from parse_state.now definitions.now options) t) → ⊥))) }
+{
+    if limit == 0 {
+        return Ok(());
+    }
+    match left_of_limit(alloc, parse_state, events, definitions, options, limit)? {
+        Some(_) => Ok(()),
+        None => Err(Fault::References),
+    }
+}
+
 /// The HTML of the tree of the input as a text, or why it is refused. Footnotes are numbered from 1 on.
 pub fn html(
     alloc: Global,
     input: &Input,
     targets: &[FlatTarget],
     options: u32,
+    limit: usize,
 ) -> Result<Vec<u8>, Fault>
     ensures html { IfOk result (λ html. html.items ≡ html_of input.now targets.now options) }
-    ensures input { IfOk result (λ _. IsHtmlInput input.now targets.now options) }
-    ensures err { IfErr result (IsHtmlFault input.now targets.now options) }
+    ensures input { IfOk result (λ _. IsHtmlInput input.now targets.now options limit) }
+    ensures err { IfErr result (IsHtmlFault input.now targets.now options limit) }
 {
     let allowed = known_options(options)?;
     let run = input::text(alloc, input)?;
@@ -160,12 +186,8 @@ pub fn html(
         definitions: Vec::new(alloc),
         gfm_footnote_definitions: Vec::new(alloc),
     };
-    Ok(to_html(
-        alloc,
-        &parse_state,
-        &run.events.as_slice(),
-        &definitions,
-        &mut FootnoteCalls::new(alloc),
-        allowed,
-    )?)
+    let events = run.events.as_slice();
+    check_limit(alloc, &parse_state, &events, &definitions, allowed, limit)?;
+    let calls = &mut FootnoteCalls::new(alloc);
+    Ok(to_html(alloc, &parse_state, &events, &definitions, calls, allowed)?)
 }

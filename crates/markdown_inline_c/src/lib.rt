@@ -212,10 +212,14 @@ pub extern "C" fn markdown_inline_short_texts(
 
 /// The HTML of the inline tree of the input's pieces as a text. Each call tests the whole document, passes all that stands before the pieces, and puts
 /// the definitions in order, so a call for each paragraph of one document takes time in proportion to its square: `markdown_inline_htmls` is for many
-/// contents, and has a limit on what references bring.
+/// contents.
 ///
 /// Where each definition of the input leads is told by the target of the same number. The bits of `options` are 0x1, by which raw HTML is written as it
 /// stands and not as text, and 0x2, by which links lead wherever they say and not to listed schemes alone.
+///
+/// A definition brings the bytes of its destination and of its title, as the target has them, to each link and image that refers to it. Where
+/// definitions bring more than `limit` bytes, the status is 11; 0 is no limit. That is found out before the HTML is written, which would grow with the
+/// square of the document without a limit.
 ///
 /// With status 0 the HTML, in UTF-8, stands at the front of `html`, and `count` is how many bytes it has. With status 6 `count` is that too, and
 /// they are more than there is room for. The status is 8 too where a target is no text of the labels, or where there is not one target for each
@@ -226,12 +230,17 @@ pub extern "C" fn markdown_inline_html(
     input: &Input,
     targets: &[FlatTarget],
     options: u32,
+    limit: usize,
     html: &mut [u8],
     count: &mut usize,
 ) -> u32
-    ensures { IsAnswer (html_of input.now targets.now options) (IsHtmlInput input.now targets.now options) (IsHtmlFault input.now targets.now options) html.old html.new count.old count.new result }
+    ensures { IsAnswer (html_of input.now targets.now options) (IsHtmlInput input.now targets.now options limit) (IsHtmlFault input.now targets.now options limit) html.old html.new count.old count.new result }
 {
-    answer(html::html(alloc, input, targets, options), html, count)
+    answer(
+        html::html(alloc, input, targets, options, limit),
+        html,
+        count,
+    )
 }
 
 /// The texts of strings, one after another, with escaped punctuation in place of its escape, and in place of each character reference its text
@@ -263,9 +272,7 @@ pub extern "C" fn markdown_inline_strings(
 ///
 /// Contents are those of `markdown_inline_texts`. Targets and the bits of `options` are those of one content.
 ///
-/// A definition brings the bytes of its destination and of its title, as the target has them, to each link and image that refers to it. Where
-/// definitions bring more than `limit` bytes to all contents together, the status is 11; 0 is no limit. That is found out before the HTML is
-/// written, which would grow with the square of the document without a limit.
+/// The `limit` is that of one content, for what definitions bring to all contents together.
 ///
 /// The HTML is handed out as `markdown_inline_texts` hands out events. The status is that of the first thing that is wrong, in the order 2, 9, 3, 8; then that
 /// of the first content that is refused, 7, 4 or 11, which the outcome blames: those before it are read. With status 8 it blames the definition whose label

@@ -67,8 +67,14 @@ fn is_printed_alike(alloc: Global, run: &ListRun) -> Result<bool, AllocError> {
     Ok(lines.as_slice() == others.as_slice())
 }
 
-// Prints the events of a run, and says where a prepared document has something else.
-fn print_same(run: &ListRun, others: Option<(ListRun, ListRun)>, out: &mut Answers) {
+// Prints the events of a run, and says where a prepared document or their lines have something else. Where memory is refused, it prints nothing.
+fn print_same(
+    alloc: Global,
+    run: &ListRun,
+    others: Option<(ListRun, ListRun)>,
+    out: &mut Answers,
+) -> Result<(), AllocError> {
+    let is_printed_alike = is_printed_alike(alloc, run)?;
     print_list(&run.events.as_slice(), out);
     let is_same = match &others {
         Some((content, document)) => are_same(run, content) && are_same(run, document),
@@ -77,6 +83,10 @@ fn print_same(run: &ListRun, others: Option<(ListRun, ListRun)>, out: &mut Answe
     if !is_same {
         out.say(" another in a document");
     }
+    if !is_printed_alike {
+        out.say(" other lines");
+    }
+    Ok(())
 }
 
 /// Prints the events of a text in which nothing is defined, which stand in a list.
@@ -91,11 +101,7 @@ pub(crate) fn print_text_list(
 {
     let run = text_list(alloc, parse_state, pieces, first_of_item)?;
     let others = found_in_document(alloc, parse_state, pieces, Some(first_of_item))?;
-    print_same(&run, others, out);
-    if !is_printed_alike(alloc, &run)? {
-        out.say(" other lines");
-    }
-    Ok(())
+    print_same(alloc, &run, others, out)
 }
 
 /// Prints the events of a string, which stand in a list.
@@ -109,9 +115,5 @@ pub(crate) fn print_string_list(
 {
     let run = string_list(alloc, parse_state, pieces)?;
     let others = found_in_document(alloc, parse_state, pieces, None)?;
-    print_same(&run, others, out);
-    if !is_printed_alike(alloc, &run)? {
-        out.say(" other lines");
-    }
-    Ok(())
+    print_same(alloc, &run, others, out)
 }
