@@ -17,7 +17,7 @@ use Rattle.markdown_model.specs.Grammar.{escaped_from}
 use Rattle.markdown_model.specs.Resource.{StringNames, counted, label}
 use Rattle.markdown_plan.specs.Plan.{Plan, DoesAs}
 use Rattle.markdown_plan.specs.ScratchFields.{AreOpen, with_size}
-use Rattle.markdown_partial.specs.LinkedText.{names_in, rules_in, joined, text_entered, ending, eol_asked_for, ends_open, TextReady, break_ops, inside_ops, ends_filled, answer}
+use Rattle.markdown_partial.specs.LinkedText.{names_in, rules_in, text_entered, ending, eol_asked_for, ends_open, TextReady, break_ops, inside_ops, ends_filled, answer}
 use Rattle.markdown_engine.specs.StateWords.{StateWords}
 use Rattle.markdown_partial.specs.PartialSpaceOrTabEol as PartialSpaceOrTabEol
 use Rattle.markdown_event.specs.declared.state.StateName.{StateName}
