@@ -178,7 +178,7 @@ pub struct ParseOptions {
     pub label_shortcut_before_bracket: bool,
     /// Whether CommonMark's rule holds in each point that `Rules` names, in which the crate that is ported departs from it. The two options above and the one below are implied.
     pub commonmark: bool,
-    /// Whether a reference may have any of the 2,125 names of HTML that end in a semicolon, as CommonMark says, and not only those whose value is one character.
+    /// Whether a reference may have any of the 2,125 names of HTML that end in a semicolon, as CommonMark says, and not only the 294 of a shorter table.
     pub html_references: bool,
 }
 
