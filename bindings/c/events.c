@@ -1,5 +1,5 @@
 /* Prints the events of standard input as the program mdinline does, with the same words:
- * events text|string [gfm] [math] [task] [cm-lengths] [cm-shortcut] [commonmark] [label=TEXT].. [note=TEXT].. */
+ * events text|string [gfm] [math] [task] [cm-lengths] [cm-shortcut] [html-references] [commonmark] [label=TEXT].. [note=TEXT].. */
 #include "markdown_inline.h"
 
 #include <stdio.h>
@@ -41,6 +41,7 @@ static uint32_t bit_of(const char *word) {
         {"task", MARKDOWN_INLINE_OPTION_FIRST_OF_ITEM},
         {"cm-lengths", MARKDOWN_INLINE_OPTION_ATTENTION_FIRST_LENGTHS},
         {"cm-shortcut", MARKDOWN_INLINE_OPTION_LABEL_SHORTCUT_BEFORE_BRACKET},
+        {"html-references", MARKDOWN_INLINE_OPTION_HTML_REFERENCES},
         {"commonmark", MARKDOWN_INLINE_OPTION_COMMONMARK_RULES}};
     for (size_t at = 0; at < sizeof bits / sizeof *bits; at++)
         if (!strcmp(bits[at].word, word)) return bits[at].bits;

@@ -88,8 +88,10 @@ extern "C" {
     X(LABEL_SHORTCUT_BEFORE_BRACKET, "label_shortcut_before_bracket", 0x80000) \
     /* Whether the text is the first of a list item, where the check of a task may stand. */ \
     X(FIRST_OF_ITEM, "first_of_item", 0x100000) \
-    /* Whether CommonMark's rule holds in each point that `Rules` names, in which the crate that is ported departs from it. The two options above are implied. */ \
-    X(COMMONMARK_RULES, "commonmark", 0x200000)
+    /* Whether CommonMark's rule holds in each point that `Rules` names, in which the crate that is ported departs from it. The two options above and the one below are implied. */ \
+    X(COMMONMARK_RULES, "commonmark", 0x200000) \
+    /* Whether a reference may have any of the 2,125 names of HTML that end in a semicolon, as CommonMark says, and not only those whose value is one character. */ \
+    X(HTML_REFERENCES, "html_references", 0x400000)
 
 /* Names of events, by their numbers from 0. */
 #define MARKDOWN_INLINE_EACH_NAME(X) \

@@ -131,9 +131,9 @@ class Arguments(unittest.TestCase):
         self.assertEqual(text('*a*', options=0), text('*a*', options=BITS & ~1))
 
     def test_switches(self):
-        for name in ('gfm', 'math', 'task', 'cm_lengths', 'cm_shortcut', 'commonmark', 'raw_html', 'any_link'):
+        for name in ('gfm', 'math', 'task', 'cm_lengths', 'cm_shortcut', 'html_references', 'commonmark', 'raw_html', 'any_link'):
             calls = [html] + [text, leaves] * (name not in ('raw_html', 'any_link'))
-            calls += [lambda it, **asked: texts(it, [], **asked)] * (name in ('gfm', 'math', 'cm_lengths', 'cm_shortcut', 'commonmark'))
+            calls += [lambda it, **asked: texts(it, [], **asked)] * (name in ('gfm', 'math', 'cm_lengths', 'cm_shortcut', 'html_references', 'commonmark'))
             for call in calls:
                 for given in ('yes', None, 1.0, []):
                     self.refused(TypeError, name + ' is True or False, and not a ' + type(given).__name__, lambda: call('a', **{name: given}))

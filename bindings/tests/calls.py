@@ -78,7 +78,8 @@ class Calls(unittest.TestCase):
         for document, asked, bits in (
             ('~a~ www.b.c [^d] e@f.g', {'gfm': True}, gfm), ('a $b$ $$c$$', {'math': True}, OPTIONS['math_text']),
             ('[x] a', {'gfm': True, 'task': True}, gfm | OPTIONS['first_of_item']), ('*a***a* b', {'cm_lengths': True}, OPTIONS['attention_first_lengths']),
-            ('[a][', {'cm_shortcut': True}, OPTIONS['label_shortcut_before_bracket']), ('a*_b_*', {'commonmark': True}, OPTIONS['commonmark']),
+            ('[a][', {'cm_shortcut': True}, OPTIONS['label_shortcut_before_bracket']),
+            ('&check;', {'html_references': True}, OPTIONS['html_references']), ('a*_b_*', {'commonmark': True}, OPTIONS['commonmark']),
         ):
             last = list(asked)[-1]
             without = {name: it for name, it in asked.items() if name != last}

@@ -19,10 +19,10 @@ from _tables import COMMONMARK, GFM, MATH, OPTIONS  # noqa: E402
 CONSTRUCTS = list(OPTIONS)
 FIRST_OF_ITEM = OPTIONS['first_of_item']
 # Off by default, and drawn as often as not.
-RARE = sum(OPTIONS[name] for name in ('attention_first_lengths', 'label_shortcut_before_bracket', 'first_of_item', 'commonmark'))
+RARE = sum(OPTIONS[name] for name in ('attention_first_lengths', 'label_shortcut_before_bracket', 'first_of_item', 'html_references', 'commonmark'))
 PARTS = ['a', 'bc', 'é', '漢', '😀', ' ', '  ', '\t', '*', '**', '_', '~', '~~', '`', '``', '$', '$$', '[', ']', '![', '](', ')', '(', '<', '>', '"', "'",
          '\\', '&', ';', '!', '#', '@', ':', '.', '/', '[x] ', '[a]', '[^n]', '[b c][]', '[d](e "f")', '![g](<h i>)', '&amp;', '&#65;', '&#x1f4a9;', '&copy;',
-         '&nosuch;', '<https://j.k>', '<l@m.n>', 'https://o.p/q', 'www.r.s', 't@u.v', '<w x="y">', '</z>', '<!-- c -->', '<?p?>', '\\*', '\\\n', '  \n', '\n',
+         '&nosuch;', '&check;', '<https://j.k>', '<l@m.n>', 'https://o.p/q', 'www.r.s', 't@u.v', '<w x="y">', '</z>', '<!-- c -->', '<?p?>', '\\*', '\\\n', '  \n', '\n',
          '\n', '\r\n', '\r', '*a*', '**b**', '_c_ ', '~d~', '`e f`', '$g$', 'word ', '\0']
 PREFIXES = ['', '> ', '>', '   ', '- ', '\t', ' \t', '>\t', '1. ']
 LABELS = ['a', 'b c', 'd', 'é', 'word', 'x']

@@ -228,8 +228,8 @@ static void draw_case(drawn *it) {
     draw_definitions(it);
     draw_contents(it);
     it->options = MARKDOWN_INLINE_COMMONMARK | (one_in(2) ? MARKDOWN_INLINE_GFM : 0) | (one_in(2) ? MARKDOWN_INLINE_MATH : 0);
-    if (one_in(3)) it->options ^= (uint32_t)draw() & 0x3fffff;
-    if (one_in(40)) it->options |= 0x400000u << below(10);
+    if (one_in(3)) it->options ^= (uint32_t)draw() & 0x7fffff;
+    if (one_in(40)) it->options |= 0x800000u << below(9);
     it->html_options = (uint32_t)below(4);
     it->limit = 0;
     if (one_in(40)) it->html_options |= 4u << below(30);
@@ -356,10 +356,10 @@ static uint32_t pieces_status(const drawn *it) {
     return status != MARKDOWN_INLINE_DONE ? status : is_text(it->pieces, it->pieces_len) ? (uint32_t)MARKDOWN_INLINE_DONE : (uint32_t)MARKDOWN_INLINE_BLANK_LINE;
 }
 
-static uint32_t string_status(const drawn *it) { return it->options >= 0x400000 ? (uint32_t)MARKDOWN_INLINE_UNKNOWN_OPTION : content_status(it); }
+static uint32_t string_status(const drawn *it) { return it->options >= 0x800000 ? (uint32_t)MARKDOWN_INLINE_UNKNOWN_OPTION : content_status(it); }
 
 static uint32_t text_status(const drawn *it) {
-    uint32_t status = it->options >= 0x400000 ? (uint32_t)MARKDOWN_INLINE_UNKNOWN_OPTION : pieces_status(it);
+    uint32_t status = it->options >= 0x800000 ? (uint32_t)MARKDOWN_INLINE_UNKNOWN_OPTION : pieces_status(it);
     return status != MARKDOWN_INLINE_DONE ? status : are_labels(it) ? (uint32_t)MARKDOWN_INLINE_DONE : (uint32_t)MARKDOWN_INLINE_DEFINITION;
 }
 
@@ -401,14 +401,14 @@ static uint32_t contents_status(const drawn *it) {
 }
 
 static uint32_t texts_status(const drawn *it) {
-    uint32_t status = labels_status(it, it->options < 0x400000);
+    uint32_t status = labels_status(it, it->options < 0x800000);
     return status != MARKDOWN_INLINE_DONE ? status : contents_status(it);
 }
 
 /* The status of many contents as HTML where there is no limit. */
 static uint32_t htmls_status(const drawn *it) {
     size_t at = 0;
-    uint32_t status = labels_status(it, it->options < 0x400000 && it->html_options < 4);
+    uint32_t status = labels_status(it, it->options < 0x800000 && it->html_options < 4);
     if (status != MARKDOWN_INLINE_DONE) return status;
     if (it->targets_len != it->definitions_len) return MARKDOWN_INLINE_DEFINITION;
     while (at < it->targets_len && is_target(it, it->targets[at])) at++;

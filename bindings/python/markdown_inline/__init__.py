@@ -119,16 +119,17 @@ def _characters(document: Text, bytes_given: bytes) -> Optional[Characters]:
 _REFERENCE_LIMIT = 100_000
 _GFM, _MATH, _TASK = _tables.GFM, _tables.MATH, _tables.OPTIONS['first_of_item']
 _LENGTHS, _SHORTCUT = _tables.OPTIONS['attention_first_lengths'], _tables.OPTIONS['label_shortcut_before_bracket']
-_STANDARD = _tables.OPTIONS['commonmark']
+_REFERENCES, _STANDARD = _tables.OPTIONS['html_references'], _tables.OPTIONS['commonmark']
 
 
-def _bits(options: Optional[int], gfm: bool, math: bool, task: bool, cm_lengths: bool, cm_shortcut: bool, commonmark: bool) -> int:
-    if options is None and gfm is math is task is cm_lengths is cm_shortcut is commonmark is False:
+def _bits(options: Optional[int], gfm: bool, math: bool, task: bool, cm_lengths: bool, cm_shortcut: bool, html_references: bool,
+          commonmark: bool) -> int:
+    if options is None and gfm is math is task is cm_lengths is cm_shortcut is html_references is commonmark is False:
         return _tables.COMMONMARK
     bits = _tables.COMMONMARK
     for given, what, its_bits in (
             (gfm, 'gfm', _GFM), (math, 'math', _MATH), (task, 'task', _TASK), (cm_lengths, 'cm_lengths', _LENGTHS), (cm_shortcut, 'cm_shortcut', _SHORTCUT),
-            (commonmark, 'commonmark', _STANDARD)):
+            (html_references, 'html_references', _REFERENCES), (commonmark, 'commonmark', _STANDARD)):
         if _arguments.flag_of(given, what):
             bits |= its_bits
             if options is not None:
@@ -147,11 +148,11 @@ def _given(document: bytes, pieces: Pieces, options: int, definitions: Iterable[
 
 
 def text(document: Text, pieces: Pieces = None, gfm: bool = False, math: bool = False, *, task: bool = False, cm_lengths: bool = False,
-         cm_shortcut: bool = False, commonmark: bool = False, options: Optional[int] = None,
+         cm_shortcut: bool = False, html_references: bool = False, commonmark: bool = False, options: Optional[int] = None,
          definitions: Iterable[Text] = (), footnotes: Iterable[Text] = ()) -> Events:
     """The events of a text: of a whole document, or of pieces of it. `gfm` switches on what GitHub adds to CommonMark, `math` math spans; `task` says
-    that the text begins a list item; `commonmark` follows the standard in the rules that docs/DEFINITIONS.md marks, `cm_lengths` and `cm_shortcut` in one of them
-    each. `options` says all of it by bits instead.
+    that the text begins a list item; `commonmark` follows the standard in the rules that docs/DEFINITIONS.md marks, `cm_lengths`, `cm_shortcut` and
+    `html_references` in one of them each. `options` says all of it by bits instead.
     `definitions` and `footnotes` are labels as they are written.
 
     A call tests the whole document, passes all that stands before the pieces, and puts the labels in order. So a call for each paragraph of one document takes
@@ -162,7 +163,7 @@ def text(document: Text, pieces: Pieces = None, gfm: bool = False, math: bool = 
     Exit Data 1 2 1 0
     """
     bytes_given = _arguments.text_of(document, 'document')
-    given = _given(bytes_given, pieces, _bits(options, gfm, math, task, cm_lengths, cm_shortcut, commonmark), definitions, footnotes)
+    given = _given(bytes_given, pieces, _bits(options, gfm, math, task, cm_lengths, cm_shortcut, html_references, commonmark), definitions, footnotes)
     status, raw = _library.events('markdown_inline_text', given)
     if status:
         raise _raised(status)
@@ -180,7 +181,7 @@ def string(document: Text, pieces: Pieces = None, *, options: Optional[int] = No
 
 
 def leaves(document: Text, pieces: Pieces = None, gfm: bool = False, math: bool = False, *, task: bool = False, cm_lengths: bool = False,
-           cm_shortcut: bool = False, commonmark: bool = False, options: Optional[int] = None,
+           cm_shortcut: bool = False, html_references: bool = False, commonmark: bool = False, options: Optional[int] = None,
            definitions: Iterable[Text] = (), footnotes: Iterable[Text] = ()) -> Leaves:
     """The leaves of a text, in order: together they cover the pieces. What is asked for is said as of `text`, and so is what a call costs.
 
@@ -188,7 +189,7 @@ def leaves(document: Text, pieces: Pieces = None, gfm: bool = False, math: bool 
     [b'a ', b'*', b'b', b'*']
     """
     bytes_given = _arguments.text_of(document, 'document')
-    given = _given(bytes_given, pieces, _bits(options, gfm, math, task, cm_lengths, cm_shortcut, commonmark), definitions, footnotes)
+    given = _given(bytes_given, pieces, _bits(options, gfm, math, task, cm_lengths, cm_shortcut, html_references, commonmark), definitions, footnotes)
     status, raw = _library.leaves(given)
     if status:
         raise _raised(status)
@@ -196,17 +197,18 @@ def leaves(document: Text, pieces: Pieces = None, gfm: bool = False, math: bool 
 
 
 def texts(document: Text, contents: Iterable[Content], gfm: bool = False, math: bool = False, *, cm_lengths: bool = False, cm_shortcut: bool = False,
+          html_references: bool = False,
           commonmark: bool = False, options: Optional[int] = None, definitions: Iterable[Text] = (),
           footnotes: Iterable[Text] = ()) -> Texts:
     """The events of many contents of a document as texts, of each by itself. The document is prepared once, and each content costs what it costs by
     itself, wherever it stands. What is asked for is said as of `text`, but for what begins a list item: that each content says. Where an error is about a
     content or a definition, its field `at` has the number of that."""
-    bits = _bits(options, gfm, math, False, cm_lengths, cm_shortcut, commonmark)
+    bits = _bits(options, gfm, math, False, cm_lengths, cm_shortcut, html_references, commonmark)
     return Texts(*_texts('markdown_inline_texts', _library.EVENT_SIZE, document, contents, bits, definitions, footnotes))
 
 
 def short_texts(document: Text, contents: Iterable[Content], gfm: bool = False, math: bool = False, *, cm_lengths: bool = False,
-                cm_shortcut: bool = False, commonmark: bool = False, options: Optional[int] = None,
+                cm_shortcut: bool = False, html_references: bool = False, commonmark: bool = False, options: Optional[int] = None,
                 definitions: Iterable[Text] = (), footnotes: Iterable[Text] = ()) -> ShortTexts:
     """The same events without their lines and columns, with the numbers of the definitions that links, images and footnote calls refer to. The rest is as of
     `texts`.
@@ -215,7 +217,7 @@ def short_texts(document: Text, contents: Iterable[Content], gfm: bool = False, 
     >>> [event.definition for event in events if event.kind == Kind.Enter and event.name == Name.Link]
     [None, 1]
     """
-    bits = _bits(options, gfm, math, False, cm_lengths, cm_shortcut, commonmark)
+    bits = _bits(options, gfm, math, False, cm_lengths, cm_shortcut, html_references, commonmark)
     return ShortTexts(*_texts('markdown_inline_short_texts', _library.SHORT_SIZE, document, contents, bits, definitions, footnotes))
 
 
@@ -232,7 +234,8 @@ def _texts(function: str, size: int, document: Text, contents: Iterable[Content]
 
 
 def html(document: Text, pieces: Pieces = None, gfm: bool = False, math: bool = False, *, task: bool = False, cm_lengths: bool = False,
-         cm_shortcut: bool = False, commonmark: bool = False, options: Optional[int] = None, definitions: Optional[Mapping[Text, Target]] = None,
+         cm_shortcut: bool = False, html_references: bool = False, commonmark: bool = False, options: Optional[int] = None,
+         definitions: Optional[Mapping[Text, Target]] = None,
          footnotes: Iterable[Text] = (), raw_html: bool = False, any_link: bool = False, reference_limit: Optional[int] = None) -> str:
     """The HTML of a text. `definitions` has for each label, as it is written, its destination, or the destination and a title, with escapes and
     character references resolved. `raw_html` writes raw HTML as it stands and not as text; `any_link` lets links lead wherever they say and not to
@@ -245,7 +248,8 @@ def html(document: Text, pieces: Pieces = None, gfm: bool = False, math: bool = 
     bytes_given = _arguments.text_of(document, 'document')
     defined, targets, written = _arguments.targets_of(definitions)
     given = _library.Given(
-        bytes_given, _arguments.pieces_of(pieces, len(bytes_given)), _bits(options, gfm, math, task, cm_lengths, cm_shortcut, commonmark), defined,
+        bytes_given, _arguments.pieces_of(pieces, len(bytes_given)),
+        _bits(options, gfm, math, task, cm_lengths, cm_shortcut, html_references, commonmark), defined,
         _arguments.labels_of(footnotes, 'footnotes'), written)
     asked = _arguments.flag_of(raw_html, 'raw_html') | _arguments.flag_of(any_link, 'any_link') << 1
     status, found = _library.html(given, targets, len(defined), asked, _limit(reference_limit, bytes_given))
@@ -255,6 +259,7 @@ def html(document: Text, pieces: Pieces = None, gfm: bool = False, math: bool = 
 
 
 def htmls(document: Text, contents: Iterable[Content], gfm: bool = False, math: bool = False, *, cm_lengths: bool = False, cm_shortcut: bool = False,
+          html_references: bool = False,
           commonmark: bool = False, options: Optional[int] = None, definitions: Optional[Mapping[Text, Target]] = None,
           footnotes: Iterable[Text] = (), raw_html: bool = False, any_link: bool = False, reference_limit: Optional[int] = None) -> List[str]:
     """The HTML of many contents of a document as texts. The document is prepared once, and each content costs what it costs by itself, wherever it stands.
@@ -271,7 +276,8 @@ def htmls(document: Text, contents: Iterable[Content], gfm: bool = False, math: 
     pieces, listed, count = _arguments.contents_of(contents)
     defined, targets, written = _arguments.targets_of(definitions)
     given = _library.Given(
-        bytes_given, pieces, _bits(options, gfm, math, False, cm_lengths, cm_shortcut, commonmark), defined, _arguments.labels_of(footnotes, 'footnotes'), written)
+        bytes_given, pieces, _bits(options, gfm, math, False, cm_lengths, cm_shortcut, html_references, commonmark), defined,
+        _arguments.labels_of(footnotes, 'footnotes'), written)
     asked = _arguments.flag_of(raw_html, 'raw_html') | _arguments.flag_of(any_link, 'any_link') << 1
     limit = _limit(reference_limit, bytes_given)
     status, found, ends, blamed = _library.htmls(given, targets, len(defined), listed, count, asked, limit)

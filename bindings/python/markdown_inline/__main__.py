@@ -10,11 +10,11 @@ USAGE = '''usage: python -m markdown_inline text|string [WORD]..        the even
        python -m markdown_inline --tree [text|string] [WORD]..  what stands in what, with its text
        python -m markdown_inline --html [text] [WORD]..         the HTML
        python -m markdown_inline --links [text] [WORD]..        where links lead
-words: gfm math task cm-lengths cm-shortcut commonmark note=TEXT; of events and the tree label=TEXT; of HTML and links define=LABEL to=DESTINATION [title=TEXT];
-       of HTML raw any-link'''
+words: gfm math task cm-lengths cm-shortcut html-references commonmark note=TEXT; of events and the tree label=TEXT; of HTML and links define=LABEL
+       to=DESTINATION [title=TEXT]; of HTML raw any-link'''
 SWITCHES = {
     'gfm': _tables.GFM, 'math': _tables.MATH, 'task': OPTIONS['first_of_item'], 'cm-lengths': OPTIONS['attention_first_lengths'],
-    'cm-shortcut': OPTIONS['label_shortcut_before_bracket'], 'commonmark': OPTIONS['commonmark'],
+    'cm-shortcut': OPTIONS['label_shortcut_before_bracket'], 'html-references': OPTIONS['html_references'], 'commonmark': OPTIONS['commonmark'],
 }
 # Statuses: a word is not known, memory was refused, reading or writing failed.
 USAGE_STATUS, NO_MEMORY, FAILED = 2, 5, 6

@@ -211,7 +211,7 @@ light-around p s role a b w l =
     (ap (λ x. x ++ closing s.within role) (append_assoc s.out (opening s.within role) w.html)
     ∙ append_assoc s.out (opening s.within role ++ w.html) (closing s.within role)
     ∙ ap (λ x. s.out ++ x) (sym (kept p (w.calls ++ s.calls) s.within role a b w.html w.parts (light-keeps role l))))
-    (ap (joined_parts s.parts) (sym (own-same role a b (string_of role w.html) w.parts apart)))
+    (ap (joined_parts s.parts) (sym (own-same role a b (string_of p.decoding role w.html) w.parts apart)))
     (ap (λ x. (x ++ w.calls) ++ s.calls) (sym (no-calls p role w.parts apart)))
 
 no-parts : (d t : Option (List ℕ)) (l r : Option (ℕ × ℕ)) → is_some d || is_some t || is_some l || is_some r ≡ false → parts_with d t l r ≡ parts_with None None None None
@@ -236,8 +236,8 @@ apart-around p s role a b w true l is found =
     ∙ closed-is p inner (open_of s a true) s.opened role b true is
     ∙ same-state s _ _ _ _ _ _
     (ap (λ q. closed_out p before (open_of s a true) role b (s.out ++ w.html) q) (joined_first w.parts) ∙ out-closed p before s role a b true w.html w.parts l (keeps_inside role) refl)
-    (ap (λ q. joined_parts s.parts (own_parts role a b (string_of role (drop (length s.out) (s.out ++ w.html))) q)) (joined_first w.parts)
-    ∙ ap (λ x. joined_parts s.parts (own_parts role a b (string_of role x) w.parts)) (drop-append_seam s.out w.html))
+    (ap (λ q. joined_parts s.parts (own_parts role a b (string_of p.decoding role (drop (length s.out) (s.out ++ w.html))) q)) (joined_first w.parts)
+    ∙ ap (λ x. joined_parts s.parts (own_parts role a b (string_of p.decoding role x) w.parts)) (drop-append_seam s.out w.html))
     (ap (λ q. own_calls p role q ++ before) (joined_first w.parts) ∙ sym (append_assoc (own_calls p role w.parts) w.calls s.calls))
 apart-around p s role a b w false l is found =
     let before = w.calls ++ s.calls in
@@ -249,9 +249,9 @@ apart-around p s role a b w false l is found =
     ∙ closed-is p inner (open_of s a false) s.opened role b true is
     ∙ same-state s _ _ _ _ _ _
     (ap (λ q. closed_out p before (open_of s a false) role b (s.out ++ w.html) q) inside ∙ out-closed p before s role a b false w.html w.parts l (keeps_inside role) refl)
-    (ap (λ q. joined_parts no_parts (own_parts role a b (string_of role (drop (length s.out) (s.out ++ w.html))) q)) inside
-    ∙ ap (λ x. joined_parts no_parts (own_parts role a b (string_of role x) w.parts)) (drop-append_seam s.out w.html)
-    ∙ ap (λ q. joined_parts q (own_parts role a b (string_of role w.html) w.parts)) (sym none))
+    (ap (λ q. joined_parts no_parts (own_parts role a b (string_of p.decoding role (drop (length s.out) (s.out ++ w.html))) q)) inside
+    ∙ ap (λ x. joined_parts no_parts (own_parts role a b (string_of p.decoding role x) w.parts)) (drop-append_seam s.out w.html)
+    ∙ ap (λ q. joined_parts q (own_parts role a b (string_of p.decoding role w.html) w.parts)) (sym none))
     (ap (λ q. own_calls p role q ++ before) inside ∙ sym (append_assoc (own_calls p role w.parts) w.calls s.calls))
 
 -- parts of what gives all that was found inside it are not read
@@ -272,7 +272,7 @@ same-around p s role a b w l is =
     ∙ same-state s _ _ _ _ _ _
     (out-closed p before s role a b false w.html (joined_parts s.parts w.parts) l (keeps_inside role) refl
     ∙ ap (λ x. s.out ++ x) (unread-parts p before s.within role a b w.html (joined_parts s.parts w.parts) w.parts is))
-    (ap (joined_parts s.parts) (sym (own-same role a b (string_of role w.html) w.parts is)))
+    (ap (joined_parts s.parts) (sym (own-same role a b (string_of p.decoding role w.html) w.parts is)))
     (ap (λ x. (x ++ w.calls) ++ s.calls) (sym (no-calls p role w.parts is)))
 
 around-by : (p : Page) (s : State) (role : Role) (a b : Point) (w : Written) (l x : Bool) → is_light role ≡ l → is_apart role ≡ x → exited p (after (entered s role a) w) role b ≡ after s (around p s.calls s.within role a b w)

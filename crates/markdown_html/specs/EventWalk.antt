@@ -147,7 +147,7 @@ unfoldable pub closed_apart : Page → State → OpenPart → Role → Point →
 closed_apart p s o role to = record s {
   out = closed_out p s.calls o role to s.out s.parts;
   within = o.within;
-  parts = joined_parts (before_parts o.kept s.before) (own_parts role o.point to (string_of role (drop o.start s.out)) s.parts);
+  parts = joined_parts (before_parts o.kept s.before) (own_parts role o.point to (string_of p.decoding role (drop o.start s.out)) s.parts);
   before = before_left o.kept s.before;
   calls = own_calls p role s.parts ++ s.calls;
 }

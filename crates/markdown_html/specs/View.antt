@@ -3,6 +3,7 @@ use Rattle.std.specs.Prelude.{List, map, reverse}
 use Rattle.std.specs.Option.{option_map}
 use Rattle.markdown_content.specs.declared.parser.ParseState.{ParseState}
 use Rattle.markdown_html_model.specs.Html.{Defined, Page, PartsSoFar, Target}
+use Rattle.markdown_html_model.specs.Resolved.{decoding_of}
 use Rattle.markdown_html_model.specs.declared.options.HtmlOptions.{HtmlOptions}
 use Rattle.markdown_html.specs.EventWalk.{OpenPart, State}
 use Rattle.markdown_html.specs.declared.addresses.Given.{Given}
@@ -16,12 +17,13 @@ abbrev pub page_from : ParseState → List Defined → HtmlOptions → Page
 page_from s definitions options = record {
   bytes = s.bytes.now;
   footnotes_on = s.options.now.constructs.gfm_label_start_footnote;
+  decoding = decoding_of s.options.now;
   definitions = definitions;
   options = options;
 }
 
 abbrev pub page_of : Given → Page
-page_of g = record { bytes = g.bytes.now; footnotes_on = g.footnotes_on; definitions = g.definitions.now; options = g.options }
+page_of g = record { bytes = g.bytes.now; footnotes_on = g.footnotes_on; decoding = g.decoding; definitions = g.definitions.now; options = g.options }
 
 abbrev pub parts_of : Found → PartsSoFar
 parts_of f = record { destination = option_map (λ v. v.items) f.destination; title = option_map (λ v. v.items) f.title; label = f.label; reference = f.reference }

@@ -11,6 +11,7 @@ use markdown_html_model::escape::{push_address, push_escaped};
 use markdown_html_model::options::HtmlOptions;
 use markdown_html_model::role::Within;
 use markdown_html_model::scheme::{is_safe_image, is_safe_link};
+use markdown_util::decoding::Decoding;
 use std::alloc::AllocError;
 
 // What stands beside the events.
@@ -18,6 +19,7 @@ use std::alloc::AllocError;
 pub(crate) struct Given<'a> {
     pub(crate) bytes: &'a [u8],
     pub(crate) footnotes_on: bool,
+    pub(crate) decoding: Decoding,
     pub(crate) definitions: &'a Targets,
     pub(crate) options: HtmlOptions,
 }

@@ -15,6 +15,7 @@ use markdown_content::parser::ParseState;
 use markdown_engine_events::event_list::EventSlice;
 use markdown_event::event::{Event, Kind};
 use markdown_html_model::options::HtmlOptions;
+use markdown_html_model::resolve::decoding_of;
 use markdown_html_model::role::{Role, role_of};
 use std::alloc::{AllocError, Global};
 
@@ -206,6 +207,7 @@ pub fn left_of_limit(
     let given = Given {
         bytes: parse_state.bytes,
         footnotes_on: parse_state.options.constructs.gfm_label_start_footnote,
+        decoding: decoding_of(parse_state.options),
         definitions,
         options,
     };

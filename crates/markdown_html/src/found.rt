@@ -9,6 +9,7 @@ ghost use Rattle.markdown_html.specs.View.{parts_of};
 use markdown_event::event::Point;
 use markdown_html_model::resolve::push_resolved;
 use markdown_html_model::role::Role;
+use markdown_util::decoding::Decoding;
 use std::alloc::{AllocError, Global};
 
 // What has been read of a link or an image so far.
@@ -108,12 +109,17 @@ fn set_if_none(text: &mut Option<Vec<u8>>, other: Option<Vec<u8>>)
 }
 
 // The string that a destination or a title is, of the text inside it; empty for all else.
-pub(crate) fn string_of(alloc: Global, role: Role, inside: &[u8]) -> Result<Vec<u8>, AllocError>
-    ensures { IfOk result (λ text. text.items ≡ string_of role inside.now) }
+pub(crate) fn string_of(
+    alloc: Global,
+    how: Decoding,
+    role: Role,
+    inside: &[u8],
+) -> Result<Vec<u8>, AllocError>
+    ensures { IfOk result (λ text. text.items ≡ string_of how role inside.now) }
 {
     let mut text = Vec::new(alloc);
     match role {
-        Role::Destination | Role::TitleText => push_resolved(alloc, &mut text, inside)?,
+        Role::Destination | Role::TitleText => push_resolved(alloc, &mut text, how, inside)?,
         _ => {}
     }
     Ok(text)

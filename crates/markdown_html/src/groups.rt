@@ -185,15 +185,16 @@ pub(crate) fn push_image(
 // Appends the text of a character reference, which is made in `room` first.
 pub(crate) fn push_reference(
     alloc: Global,
+    given: &Given,
     out: &mut Vec<u8>,
     room: &mut Vec<u8>,
     within: Within,
     reference: &[u8],
 ) -> Result<(), AllocError>
-    ensures { OnOk result (out.new.items ≡ out.old.items ++ text_html within (resolved reference.now)) }
+    ensures { OnOk result (out.new.items ≡ out.old.items ++ text_html within (resolved given.now.decoding reference.now)) }
 {
     room.clear();
-    push_resolved(alloc, room, reference)?;
+    push_resolved(alloc, room, given.decoding, reference)?;
     push_text(out, within, room.as_slice())
 }
 

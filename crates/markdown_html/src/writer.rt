@@ -29,8 +29,9 @@ use markdown_content::parser::ParseState;
 use markdown_engine_events::event_list::EventSlice;
 use markdown_event::event::{Event, Kind, Point};
 use markdown_html_model::options::HtmlOptions;
-use markdown_html_model::resolve::bytes_from;
+use markdown_html_model::resolve::{bytes_from, decoding_of};
 use markdown_html_model::role::{Role, Within, role_of};
+use markdown_util::decoding::Decoding;
 use std::alloc::{AllocError, Global};
 use std::mem;
 
@@ -329,7 +330,14 @@ impl Writer {
             Role::Reference => {
                 self.out.truncate(entry.start);
                 let text = bytes_between(given.bytes, entry.point.index, to.index);
-                push_reference(alloc, &mut self.out, &mut self.room, entry.within, text)
+                push_reference(
+                    alloc,
+                    given,
+                    &mut self.out,
+                    &mut self.room,
+                    entry.within,
+                    text,
+                )
             }
             Role::Footnote => {
                 self.out.truncate(entry.start);
@@ -358,7 +366,12 @@ impl Writer {
     ) -> Result<(), AllocError>
         ensures { let s = state_of self.old in OnOk result (state_of self.new ≡ closed_apart (page_of given.now) s (open_view entry) role to) }
     {
-        let string = string_of(alloc, role, bytes_from(self.out.as_slice(), entry.start))?;
+        let string = string_of(
+            alloc,
+            given.decoding,
+            role,
+            bytes_from(self.out.as_slice(), entry.start),
+        )?;
         self.close(alloc, given, role, entry, to)?;
         push_calls(&mut self.calls, alloc, given, role, &self.found)?;
         self.found.make_own(alloc, role, entry.point, to, string);
@@ -489,6 +502,7 @@ pub fn to_html(
     let given = Given {
         bytes: parse_state.bytes,
         footnotes_on: parse_state.options.constructs.gfm_label_start_footnote,
+        decoding: decoding_of(parse_state.options),
         definitions,
         options,
     };
@@ -513,6 +527,7 @@ pub fn text_of(alloc: Global, bytes: &[u8], events: &EventSlice) -> Result<Vec<u
     let given = Given {
         bytes,
         footnotes_on: false,
+        decoding: Decoding::shipped(),
         definitions: &definitions,
         options: HtmlOptions::safe(),
     };

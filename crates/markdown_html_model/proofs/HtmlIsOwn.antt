@@ -171,7 +171,7 @@ in-group : (any : Bool) (p : Page) → IsBounded any p →
 in-group any p b before within Role.Code a z inside parts h = in-span any within (codes "<code>") (span_text inside) (λ x own. own-element any code x tt own)
 in-group any p b before within Role.Math a z inside parts h =
     in-span any within (codes "<code class=\"language-math math-inline\">") (span_text inside) (λ x own. own-element any math x tt own)
-in-group any p b before within Role.Reference a z inside parts h = in-text any within (resolved (bytes_from p.bytes a.index z.index))
+in-group any p b before within Role.Reference a z inside parts h = in-text any within (resolved p.decoding (bytes_from p.bytes a.index z.index))
 in-group any p b before within Role.Footnote a z inside parts h = in-call any within (call_identifier p parts.label) before
 in-group any p b before within Role.Link a z inside parts h = in-link any p b within (target_of p parts) inside h
 in-group any p b before within Role.Image a z inside parts h = in-image any p b within (target_of p parts) inside

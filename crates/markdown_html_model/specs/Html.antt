@@ -7,6 +7,8 @@ use Rattle.markdown_content.specs.Slices.{position_bytes, spaces_before, spaces_
 use Rattle.markdown_content.specs.Tree.{Forest, empty, leaf_then, group_then, start_of}
 use Rattle.markdown_event.specs.declared.event.Point.{Point}
 use Rattle.markdown_util.specs.Identifier.{identifier_of}
+use Rattle.markdown_util.specs.Reference.{shipped_decoding}
+use Rattle.markdown_util.specs.declared.decoding.Decoding.{Decoding}
 use Rattle.markdown_html_model.specs.Escaped.{escaped, addressed}
 use Rattle.markdown_html_model.specs.Resolved.{resolved}
 use Rattle.markdown_html_model.specs.Schemes.{is_safe, link_schemes, image_schemes}
@@ -22,10 +24,12 @@ pub record Defined : Type 0 where
   pub destination : List ℕ
   pub title : Option (List ℕ)
 
--- what stands beside the tree: the document, whether footnotes were looked for, what labels are defined to be, and what may be written
+-- what stands beside the tree: the document, whether footnotes were looked for, how references are decoded, what labels are defined to be, and
+-- what may be written
 pub record Page : Type 0 where
   pub bytes : List ℕ
   pub footnotes_on : Bool
+  pub decoding : Decoding
   pub definitions : List Defined
   pub options : HtmlOptions
 
@@ -69,10 +73,10 @@ or_empty None = []
 or_empty (Some xs) = xs
 
 -- the string that a destination or a title is, of the text inside it (CommonMark 2.4 and 2.5)
-abbrev pub string_of : Role → List ℕ → List ℕ
-string_of Role.Destination inside = resolved inside
-string_of Role.TitleText inside = resolved inside
-string_of role inside = []
+abbrev pub string_of : Decoding → Role → List ℕ → List ℕ
+string_of how Role.Destination inside = resolved how inside
+string_of how Role.TitleText inside = resolved how inside
+string_of how role inside = []
 
 -- the parts that something from one place to another gives, by its string and the parts inside it; a link and an image use theirs up
 abbrev pub own_parts : Role → Point → Point → List ℕ → PartsSoFar → PartsSoFar
@@ -304,7 +308,7 @@ call_html within identifier before = tag within (codes "<sup>" ++ call_link iden
 abbrev pub group_html : Page → List (List ℕ) → Within → Role → Point → Point → List ℕ → PartsSoFar → List ℕ
 group_html p before within Role.Code a b inside parts = span_html within (codes "<code>") (span_text inside)
 group_html p before within Role.Math a b inside parts = span_html within (codes "<code class=\"language-math math-inline\">") (span_text inside)
-group_html p before within Role.Reference a b inside parts = text_html within (resolved (bytes_from p.bytes a.index b.index))
+group_html p before within Role.Reference a b inside parts = text_html within (resolved p.decoding (bytes_from p.bytes a.index b.index))
 group_html p before within Role.Footnote a b inside parts = call_html within (call_identifier p parts.label) before
 group_html p before within Role.Link a b inside parts = link_html p within (target_of p parts) inside
 group_html p before within Role.Image a b inside parts = image_html p within (target_of p parts) inside
@@ -333,7 +337,7 @@ beside x y = record { html = x.html ++ y.html; parts = joined_parts x.parts y.pa
 abbrev pub around : Page → List (List ℕ) → Within → Role → Point → Point → Written → Written
 around p before within role a b inside = record {
   html = group_html p (inside.calls ++ before) within role a b inside.html inside.parts;
-  parts = own_parts role a b (string_of role inside.html) inside.parts;
+  parts = own_parts role a b (string_of p.decoding role inside.html) inside.parts;
   calls = own_calls p role inside.parts ++ inside.calls;
 }
 
@@ -365,7 +369,7 @@ calls_behind p before tree = let w = written p before Within.Outside tree in w.c
 
 -- a document alone: text asks for nothing else
 abbrev pub text_page : List ℕ → Page
-text_page bytes = record { bytes = bytes; footnotes_on = false; definitions = []; options = record { raw_html = false; any_link = false; line_ends = LineEnds.Kept } }
+text_page bytes = record { bytes = bytes; footnotes_on = false; decoding = shipped_decoding; definitions = []; options = record { raw_html = false; any_link = false; line_ends = LineEnds.Kept } }
 
 -- the text of trees over a document, as the description of an image has it
 unfoldable pub plain_text : List ℕ → Forest → List ℕ

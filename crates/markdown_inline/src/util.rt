@@ -7,9 +7,11 @@ pub use markdown_util::util::{char, normalize_identifier};
 
 /// The text that a character reference stands for, and texts with references.
 pub mod character_reference {
-    pub use markdown_util::decoding::{decode, decode_in, decode_numeric, parse};
+    pub use markdown_util::decoding::{
+        Decoding, decode, decode_by, decode_in, decode_numeric, decode_numeric_by, parse,
+    };
     pub use markdown_util::util::character_reference::{
-        Names, decode_named, decode_named_in, value_max, value_test,
+        Names, decode_named, decode_named_in, known_names, value_max, value_test,
     };
 }
 

@@ -4,9 +4,8 @@ use Rattle.std.specs.List.{All}
 use Rattle.markdown_content.specs.Content.{IsContent, IsTextContent}
 use Rattle.markdown_content.specs.DefaultOptions.{AreKnown, has_option, options_of}
 use Rattle.markdown_content.specs.declared.parser.Piece.{Piece}
-use Rattle.markdown_model.specs.Setting.{Setting}
+use Rattle.markdown_model.specs.Setting.{Setting, references_of}
 use Rattle.markdown_util.specs.Identifier.{identifier_of}
-use Rattle.markdown_util.specs.Reference.{html_5_rows}
 use Rattle.markdown_inline_c.specs.declared.check.Pieces.{Pieces}
 use Rattle.markdown_inline_c.specs.declared.flat.FlatPiece.{FlatPiece}
 use Rattle.markdown_inline_c.specs.declared.flat.Input.{Input}
@@ -45,7 +44,7 @@ abbrev pub string_setting : Input → Setting
 string_setting i = record {
   bytes = i.bytes.now;
   options = options_of i.options;
-  references = html_5_rows;
+  references = references_of (options_of i.options);
   definitions = [];
   footnotes = [];
   first_of_item = false;

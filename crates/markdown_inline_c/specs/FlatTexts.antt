@@ -6,8 +6,7 @@ use Rattle.markdown_content.specs.declared.configuration.ParseOptions.{ParseOpti
 use Rattle.markdown_content.specs.declared.parser.Piece.{Piece}
 use Rattle.markdown_event.specs.declared.event.Event.{Event}
 use Rattle.markdown_model.specs.InlineTree.{text_events}
-use Rattle.markdown_model.specs.Setting.{Setting}
-use Rattle.markdown_util.specs.Reference.{html_5_rows}
+use Rattle.markdown_model.specs.Setting.{Setting, references_of}
 use Rattle.markdown_inline_c.specs.FlatInput.{identifiers, pieces_of}
 use Rattle.markdown_inline_c.specs.declared.flat.FlatContent.{FlatContent}
 use Rattle.markdown_inline_c.specs.declared.flat.FlatPiece.{FlatPiece}
@@ -44,7 +43,7 @@ abbrev pub setting_by : List ℕ → ParseOptions → (labels : List ℕ) (defin
 setting_by bytes options labels definitions footnotes = record {
   bytes = bytes;
   options = options;
-  references = html_5_rows;
+  references = references_of options;
   definitions = identifiers labels definitions;
   footnotes = identifiers labels footnotes;
   first_of_item = false;

@@ -244,8 +244,8 @@ pub extern "C" fn markdown_inline_html(
 }
 
 /// The texts of strings, one after another, with escaped punctuation in place of its escape, and in place of each character reference its text
-/// (CommonMark 0.31, sections 2.4 and 2.5): of destinations, titles and info strings. Names of references are HTML's. All other bytes stay, line endings
-/// among them.
+/// (CommonMark 0.31, sections 2.4 and 2.5): of destinations, titles and info strings. References are decoded as without any option. All other bytes stay,
+/// line endings among them.
 ///
 /// A part is a range of the bytes; a string is a range of numbers of parts, whose bytes are one text.
 ///

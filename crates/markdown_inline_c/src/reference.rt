@@ -7,6 +7,7 @@ ghost use Rattle.markdown_inline_c.specs.Statuses.{IsReferenceFault};
 
 use crate::fault::Fault;
 use markdown_html_model::resolve::reference_ahead;
+use markdown_util::decoding::Decoding;
 use std::alloc::Global;
 
 /// The text that a character reference stands for, in UTF-8, or why there is none.
@@ -18,7 +19,7 @@ pub fn decoded(alloc: Global, reference: &[u8]) -> Result<Vec<u8>, Fault>
     let Some((b'&', after)) = reference.split_first() else {
         return Err(Fault::NoReference);
     };
-    match reference_ahead(alloc, after)? {
+    match reference_ahead(alloc, Decoding::shipped(), after)? {
         Some((text, taken)) if taken == after.len() => Ok(text.into_bytes()),
         _ => Err(Fault::NoReference),
     }

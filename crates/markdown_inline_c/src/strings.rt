@@ -3,6 +3,7 @@
 ghost use Rattle.std.specs.Prelude.{◌≡◌, ◌⊎◌, ◌∷◌, ◌++◌, [], IfErr, IfOk, OnOk, map};
 ghost use Rattle.std.specs.List.{All};
 ghost use Rattle.markdown_html_model.specs.Resolved.{resolved};
+ghost use Rattle.markdown_util.specs.Reference.{shipped_decoding};
 ghost use Rattle.markdown_inline_c.specs.FlatInput.{IsLabelRange, range_bytes};
 ghost use Rattle.markdown_inline_c.specs.FlatStrings.{IsStringAt, joined, string_text};
 ghost use Rattle.markdown_inline_c.specs.Many.{AreFound, EndsBy};
@@ -14,6 +15,7 @@ use crate::input::text_of;
 use crate::outcome::Outcome;
 use crate::refusal::Refusal;
 use markdown_html_model::resolve::push_resolved;
+use markdown_util::decoding::Decoding;
 use std::alloc::{AllocError, Global};
 
 // Appends the bytes of one more part.
@@ -47,26 +49,26 @@ fn push_joined(
     parts: &[Range],
     texts: &mut Vec<u8>,
 ) -> Result<(), Fault>
-    ensures text { OnOk result (texts.new.items ≡ texts.old.items ++ resolved (joined bytes.now parts.now)) }
+    ensures text { OnOk result (texts.new.items ≡ texts.old.items ++ resolved shipped_decoding (joined bytes.now parts.now)) }
     ensures parts { IfOk result (λ _. All (IsLabelRange bytes.now) parts.now) }
     ensures err { IfErr result (λ fault. (fault ≡ Memory) ⊎ ((fault ≡ NoString) × (All (IsLabelRange bytes.now) parts.now → ⊥))) }
 {
     let joined = joined_parts(alloc, bytes, parts)?;
-    push_resolved(alloc, texts, joined.as_slice())?;
+    push_resolved(alloc, texts, Decoding::shipped(), joined.as_slice())?;
     Ok(())
 }
 
 // Appends the text of a string of one part, which takes no memory beside it.
 #[tactic(auto, using(crate::proofs::Joined::joined_one))]
 fn push_one(alloc: Global, bytes: &[u8], part: Range, texts: &mut Vec<u8>) -> Result<(), Fault>
-    ensures text { OnOk result (texts.new.items ≡ texts.old.items ++ resolved (joined bytes.now (part ∷ []))) }
+    ensures text { OnOk result (texts.new.items ≡ texts.old.items ++ resolved shipped_decoding (joined bytes.now (part ∷ []))) }
     ensures parts { IfOk result (λ _. All (IsLabelRange bytes.now) (part ∷ [])) }
     ensures err { IfErr result (λ fault. (fault ≡ Memory) ⊎ ((fault ≡ NoString) × (All (IsLabelRange bytes.now) (part ∷ []) → ⊥))) }
 {
     let Some(text) = text_of(bytes, part) else {
         return Err(Fault::NoString);
     };
-    push_resolved(alloc, texts, text.as_bytes())?;
+    push_resolved(alloc, texts, Decoding::shipped(), text.as_bytes())?;
     Ok(())
 }
 
@@ -77,7 +79,7 @@ fn push_parts(
     parts: &[Range],
     texts: &mut Vec<u8>,
 ) -> Result<(), Fault>
-    ensures text { OnOk result (texts.new.items ≡ texts.old.items ++ resolved (joined bytes.now parts.now)) }
+    ensures text { OnOk result (texts.new.items ≡ texts.old.items ++ resolved shipped_decoding (joined bytes.now parts.now)) }
     ensures parts { IfOk result (λ _. All (IsLabelRange bytes.now) parts.now) }
     ensures err { IfErr result (λ fault. (fault ≡ Memory) ⊎ ((fault ≡ NoString) × (All (IsLabelRange bytes.now) parts.now → ⊥))) }
 {

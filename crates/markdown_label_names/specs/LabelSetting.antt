@@ -5,15 +5,14 @@ use Rattle.markdown_notes.specs.NameIndex.{names_in_order}
 use Rattle.markdown_notes.specs.declared.name_index.Names.{Names}
 use Rattle.markdown_content.specs.declared.parser.ParseState.{ParseState}
 use Rattle.markdown_engine.specs.declared.tokenizer.Tokenizer.{Tokenizer}
-use Rattle.markdown_model.specs.Setting.{Setting}
-use Rattle.markdown_util.specs.Reference.{html_5_rows}
+use Rattle.markdown_model.specs.Setting.{Setting, references_of}
 
 -- the setting of a run over a content that is not the first of a list item
 abbrev pub setting_of : ParseState → Setting
 setting_of p = record {
   bytes = p.bytes.now;
   options = p.options.now;
-  references = html_5_rows;
+  references = references_of p.options.now;
   definitions = map string_bytes p.definitions.items;
   footnotes = map string_bytes p.gfm_footnote_definitions.items;
   first_of_item = false;

@@ -11,8 +11,7 @@ use Rattle.markdown_content.specs.Codes.{Code}
 use Rattle.markdown_leaf.specs.CharacterReference.{is_value_code, has_value}
 use Rattle.markdown_model.proofs.GrammarSteps.{and-left, and-right}
 use Rattle.markdown_model.specs.CodeTests.{is_between, is_alphanumeric, values_of}
-use Rattle.markdown_util.proofs.ReferenceTables.{html_5_sound}
-use Rattle.markdown_util.specs.Reference.{Table, html_5_rows, is_value, named_value}
+use Rattle.markdown_util.specs.Reference.{Table, IsTable, is_value, named_value}
 
 ascii-code : (b : ℕ) → is_ascii_alphanumeric b ≡ true → b < 128
 ascii-code b e = grind (arith, common_steps)
@@ -44,20 +43,20 @@ name-by (row ∷ rows) name e h =
       | false ↦ λ k. name-by rows name (and-right _ _ e) (later-row (bytes_eq row.0 name) row.1 (named_value rows name) h k)
     ] refl
 
-name-value : (name : List ℕ) → has_value html_5_rows name ≡ true → is_value 38 name ≡ true
-name-value name h = name-by html_5_rows name html_5_sound.names h
+pub name-value : (names : Table) → IsTable names → (name : List ℕ) → has_value names name ≡ true → is_value 38 name ≡ true
+name-value names sound name h = name-by names name sound.names h
 
-pub name-short : (name : List ℕ) → has_value html_5_rows name ≡ true → length name ≤ 31
-name-short name h = leb-true (length name) 31 (and-right _ _ (and-left _ _ (name-value name h)))
+pub name-short : (names : Table) → IsTable names → (name : List ℕ) → has_value names name ≡ true → length name ≤ 31
+name-short names sound name h = leb-true (length name) 31 (and-right _ _ (and-left _ _ (name-value names sound name h)))
 
-pub name-utf8 : (name : List ℕ) → has_value html_5_rows name ≡ true → IsUtf8 name
-name-utf8 name h = IsUtf8-from_ascii name (name-ascii name (and-right _ _ (name-value name h)))
+pub name-utf8 : (names : Table) → IsTable names → (name : List ℕ) → has_value names name ≡ true → IsUtf8 name
+name-utf8 names sound name h = IsUtf8-from_ascii name (name-ascii name (and-right _ _ (name-value names sound name h)))
 
 -- what is no text is no name
-pub no-text : (name : List ℕ) → (IsUtf8 name → ⊥) → has_value html_5_rows name ≡ false
-no-text name other =
-    elim (has_value html_5_rows name) as (λ b. has_value html_5_rows name ≡ b → has_value html_5_rows name ≡ false) [
-      | true ↦ λ h. absurd (other (name-utf8 name h))
+pub no-text : (names : Table) → IsTable names → (name : List ℕ) → (IsUtf8 name → ⊥) → has_value names name ≡ false
+no-text names sound name other =
+    elim (has_value names name) as (λ b. has_value names name ≡ b → has_value names name ≡ false) [
+      | true ↦ λ h. absurd (other (name-utf8 names sound name h))
       | false ↦ λ h. h
     ] refl
 

@@ -9,8 +9,9 @@ use Rattle.markdown_engine.specs.StateRuns.{Stepped, stepped}
 use Rattle.markdown_engine.specs.TreeOps.{consumes}
 use Rattle.markdown_model.specs.CodeTests.{is_value, is_among, is_between, next_is, values_of}
 use Rattle.markdown_model.specs.Grammar.{span}
+use Rattle.markdown_model.specs.Setting.{references_of}
 use Rattle.markdown_model.specs.SingleConstructs as SingleConstructs
-use Rattle.markdown_util.specs.Reference.{Table, IsReferenceMarker, html_5_rows, named_value, value_size_max, is_value_byte}
+use Rattle.markdown_util.specs.Reference.{Table, IsReferenceMarker, named_value, value_size_max, is_value_byte}
 use Rattle.markdown_plan.specs.Plan.{Plan, preceded, DoesAs}
 use Rattle.markdown_event.specs.declared.event.Name.TheVariants as N
 use Rattle.markdown_event.specs.declared.state.State.TheVariants.{Next, Retry, Nok}
@@ -82,8 +83,12 @@ abbrev pub has_value : Table → List ℕ → Bool
 has_value table name = is_some (named_value table name)
 
 -- a value of this kind may be these bytes: a named one is a name of the table
-abbrev pub is_known : ℕ → List ℕ → Bool
-is_known marker value = not (marker == byte "&") || has_value html_5_rows value
+abbrev pub is_known : Table → ℕ → List ℕ → Bool
+is_known names marker value = not (marker == byte "&") || has_value names value
+
+-- the names that the options of a run choose
+abbrev pub references_here : Tokenizer → Table
+references_here T = references_of T.parse_state.now.options.now
 
 -- The states, by the current code.
 
@@ -131,7 +136,7 @@ is_taken marker size c = nat_lt size (value_size_max marker) && is_value_byte ma
 abbrev pub value_at : Option ℕ → Tokenizer → Stepped
 value_at None T = stepped Nok (scratched (rested T.tokenize_state) T)
 value_at (Some c) T =
-    if ((c == byte ";") && nat_lt 0 T.tokenize_state.size) && is_known T.tokenize_state.marker (read_of T)
+    if ((c == byte ";") && nat_lt 0 T.tokenize_state.size) && is_known (references_here T) T.tokenize_state.marker (read_of T)
     then stepped State.Ok (scratched (rested T.tokenize_state) (done closing T))
     else (if is_taken T.tokenize_state.marker T.tokenize_state.size c
     then stepped (Next CharacterReferenceValue) (scratched (sized (T.tokenize_state.size + 1) T.tokenize_state) (done (Consume ∷ []) T))
@@ -144,7 +149,7 @@ value_step T = value_at (current_of T) T
 
 -- the codes at hand read as a reference, where these are on
 abbrev pub reference_here : Tokenizer → TreeReading
-reference_here T = SingleConstructs.character_reference_here T.parse_state.now.options.now html_5_rows
+reference_here T = SingleConstructs.character_reference_here T.parse_state.now.options.now (references_here T)
 
 abbrev pub start_ends : Tokenizer → Bool → Tokenizer → Type 0
 start_ends T ok U = EndsAs (reference_here T) None T.tokenize_state T ok U
@@ -153,37 +158,37 @@ abbrev pub is_value_code : ℕ → Code → Bool
 is_value_code marker c = is_value_byte marker c.value
 
 -- so many codes as a value of this kind has, which may be one
-abbrev pub is_whole : ℕ → List ℕ → Bool
-is_whole marker value = is_between 1 (value_size_max marker) (length value) && is_known marker value
+abbrev pub is_whole : Table → ℕ → List ℕ → Bool
+is_whole names marker value = is_between 1 (value_size_max marker) (length value) && is_known names marker value
 
 -- the rest of a value of this kind behind these codes of it: those that go on with it, and a `;`
-abbrev pub value_of : ℕ → List ℕ → List Code × List Code → Option (List Op)
-value_of marker read s =
-    if is_whole marker (read ++ values_of s.0) && next_is (is_value (byte ";")) s.1 then Some (consumes s.0 ++ closing) else None
+abbrev pub value_of : Table → ℕ → List ℕ → List Code × List Code → Option (List Op)
+value_of names marker read s =
+    if is_whole names marker (read ++ values_of s.0) && next_is (is_value (byte ";")) s.1 then Some (consumes s.0 ++ closing) else None
 
-abbrev pub value_plan : ℕ → List ℕ → Plan
-value_plan marker read cs = value_of marker read (span (is_value_code marker) cs)
+abbrev pub value_plan : Table → ℕ → List ℕ → Plan
+value_plan names marker read cs = value_of names marker read (span (is_value_code marker) cs)
 
 abbrev pub value_ends : Tokenizer → Bool → Tokenizer → Type 0
-value_ends T ok U = DoesAs 2 (value_plan T.tokenize_state.marker (read_of T)) (rested T.tokenize_state) T ok U
+value_ends T ok U = DoesAs 2 (value_plan (references_here T) T.tokenize_state.marker (read_of T)) (rested T.tokenize_state) T ok U
 
 -- after the `#`: an `x` and hexadecimal digits, or decimal digits
-abbrev pub numeric_plan : Plan
-numeric_plan cs =
-    if next_is (is_among (codes "xX")) cs then preceded hexadecimal_sign (value_plan (byte "x") [] (rest_of cs)) else preceded value_start (value_plan (byte "#") [] cs)
+abbrev pub numeric_plan : Table → Plan
+numeric_plan names cs =
+    if next_is (is_among (codes "xX")) cs then preceded hexadecimal_sign (value_plan names (byte "x") [] (rest_of cs)) else preceded value_start (value_plan names (byte "#") [] cs)
 
 abbrev pub numeric_ends : Tokenizer → Bool → Tokenizer → Type 0
-numeric_ends T ok U = DoesAs 1 numeric_plan (rested T.tokenize_state) T ok U
+numeric_ends T ok U = DoesAs 1 (numeric_plan (references_here T)) (rested T.tokenize_state) T ok U
 
 -- after the `&`: a number, or a name
-abbrev pub named_plan : Plan
-named_plan cs = preceded value_start (value_plan (byte "&") [] cs)
+abbrev pub named_plan : Table → Plan
+named_plan names cs = preceded value_start (value_plan names (byte "&") [] cs)
 
-abbrev pub open_plan : Plan
-open_plan cs = if next_is (is_value (byte "#")) cs then preceded number_sign (numeric_plan (rest_of cs)) else named_plan cs
+abbrev pub open_plan : Table → Plan
+open_plan names cs = if next_is (is_value (byte "#")) cs then preceded number_sign (numeric_plan names (rest_of cs)) else named_plan names cs
 
 abbrev pub open_ends : Tokenizer → Bool → Tokenizer → Type 0
-open_ends T ok U = DoesAs 1 open_plan (rested T.tokenize_state) T ok U
+open_ends T ok U = DoesAs 1 (open_plan (references_here T)) (rested T.tokenize_state) T ok U
 
 -- The states.
 

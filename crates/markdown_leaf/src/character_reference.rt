@@ -23,8 +23,8 @@
 
 ghost use Rattle.std.specs.Prelude.{◌≡◌, ◌<◌, IsTrue};
 ghost use Rattle.markdown_engine.specs.Operations.{scratched};
-ghost use Rattle.markdown_util.specs.Reference.{html_5_rows, IsReferenceMarker, value_size_max};
-ghost use Rattle.markdown_leaf.specs.CharacterReference.{has_value, is_known, IsValue, is_taken, value_begun, read_of, rested, start_step, open_step, numeric_step, value_step};
+ghost use Rattle.markdown_util.specs.Reference.{IsReferenceMarker, rows_named, value_size_max};
+ghost use Rattle.markdown_leaf.specs.CharacterReference.{has_value, is_known, IsValue, is_taken, value_begun, read_of, references_here, rested, start_step, open_step, numeric_step, value_step};
 ghost use Rattle.markdown_plan.specs.StateCalls.{Steps};
 
 use crate::marks::close;
@@ -32,7 +32,9 @@ use markdown_content::util::slice::Slice;
 use markdown_engine::tokenizer::Tokenizer;
 use markdown_event::event::Name;
 use markdown_event::state::{State, StateName};
-use markdown_util::util::character_reference::{decode_named, value_max, value_test};
+use markdown_util::util::character_reference::{
+    Names, decode_named_in, known_names, value_max, value_test,
+};
 use std::alloc::AllocError;
 use std::str;
 
@@ -159,21 +161,22 @@ fn put_to_rest(tokenizer: &mut Tokenizer)
 // Whether the value that is passed may be one: a named one is a name of the table.
 fn is_known(tokenizer: &Tokenizer) -> bool
     requires { IsValue tokenizer.now }
-    ensures { result ≡ is_known tokenizer.now.tokenize_state.marker (read_of tokenizer.now) }
+    ensures { result ≡ is_known (references_here tokenizer.now) tokenizer.now.tokenize_state.marker (read_of tokenizer.now) }
 {
     let bytes = tokenizer.cursor.document();
     let end = tokenizer.point().index;
     let start = end - tokenizer.tokenize_state.size;
     let value = Slice::from_indices(bytes, start, end);
-    tokenizer.tokenize_state.marker != b'&' || is_name(value.bytes)
+    let names = known_names(tokenizer.parse_state.options.rules().html_names);
+    tokenizer.tokenize_state.marker != b'&' || is_name(value.bytes, names)
 }
 
 // Whether these bytes are a name of the table.
-fn is_name(bytes: &[u8]) -> bool
-    ensures { result ≡ has_value html_5_rows bytes.now }
+fn is_name(bytes: &[u8], names: Names) -> bool
+    ensures { result ≡ has_value (rows_named names) bytes.now }
 {
     match str::from_utf8(bytes) {
-        Ok(name) => decode_named(name, true).is_some(),
+        Ok(name) => decode_named_in(name, names).is_some(),
         Err(_) => false,
     }
 }

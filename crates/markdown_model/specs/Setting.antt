@@ -5,7 +5,7 @@ use Rattle.std.specs.Str.{byte, bytes_eq}
 use Rattle.markdown_content.specs.CommonMark.{rules_of}
 use Rattle.markdown_content.specs.declared.configuration.ParseOptions.{ParseOptions}
 use Rattle.markdown_content.specs.declared.configuration.Rules.{Rules}
-use Rattle.markdown_util.specs.Reference.{Table}
+use Rattle.markdown_util.specs.Reference.{Table, known_names, rows_named}
 
 pub record Setting : Type 0 where
   -- the document
@@ -22,6 +22,10 @@ pub record Setting : Type 0 where
 -- the rules that the options choose
 abbrev pub rules : Setting → Rules
 rules s = rules_of s.options
+
+-- The names of references (CommonMark 2.5): all names of HTML that end in a semicolon. Here a part of them are, unless an option says so.
+abbrev pub references_of : ParseOptions → Table
+references_of o = rows_named (known_names (rules_of o).html_names)
 
 abbrev pub is_defined : List (List ℕ) → List ℕ → Bool
 is_defined definitions name = list_any (bytes_eq name) definitions

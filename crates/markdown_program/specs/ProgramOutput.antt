@@ -4,8 +4,7 @@ use Rattle.std.specs.declared.alloc.Global.{Global}
 use Rattle.std.specs.declared.string.String.{String}
 use Rattle.markdown_event.specs.declared.event.Event.{Event}
 use Rattle.markdown_model.specs.InlineTree.{string_events, text_events}
-use Rattle.markdown_model.specs.Setting.{Setting}
-use Rattle.markdown_util.specs.Reference.{html_5_rows}
+use Rattle.markdown_model.specs.Setting.{Setting, references_of}
 use Rattle.markdown_program.specs.PrintedLines.{lines_of}
 use Rattle.markdown_program.specs.ProgramWords.{reads_text, has_word, options_of, defined_by, whole_piece, without_line_ending}
 
@@ -14,7 +13,7 @@ abbrev pub setting_by : List (String Global) → List ℕ → Setting
 setting_by words bytes = record {
   bytes = bytes;
   options = options_of words;
-  references = html_5_rows;
+  references = references_of (options_of words);
   definitions = defined_by (codes "label=") words;
   footnotes = defined_by (codes "note=") words;
   first_of_item = reads_text words && has_word (codes "task") words;

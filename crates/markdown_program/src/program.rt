@@ -231,10 +231,10 @@ fn print_output<R: Read, W: Write>(
 
 /// Runs the program: reads a document, and prints the events of its inline tree, a line an event. Answers the status that it ends with.
 ///
-/// The words are a mode, `text` or `string`, and any of `gfm`, `math`, `task`, `cm-lengths`, `cm-shortcut`, `label=TEXT` and `note=TEXT`. One
-/// final line ending of the document is dropped. The status is 0, or 2 for words that are not known, 3 for a document that is not UTF-8, 4 for
-/// a text with a blank line, 5 where memory is refused, 6 where reading or writing fails or the document is longer than an eighth of
-/// `usize::MAX`; a line on `err` says which. The whole output is made before any of it is written.
+/// The words are a mode, `text` or `string`, and any of `gfm`, `math`, `task`, `cm-lengths`, `cm-shortcut`, `html-references`, `commonmark`,
+/// `label=TEXT` and `note=TEXT`. One final line ending of the document is dropped. The status is 0, or 2 for words that are not known, 3 for a
+/// document that is not UTF-8, 4 for a text with a blank line, 5 where memory is refused, 6 where reading or writing fails or the document is
+/// longer than an eighth of `usize::MAX`; a line on `err` says which. The whole output is made before any of it is written.
 pub fn run<R: Read, W: Write, E: Write>(
     alloc: Global,
     words: &[String],

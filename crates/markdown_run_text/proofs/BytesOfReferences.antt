@@ -13,7 +13,7 @@ use Rattle.std.proofs.lemmas.Slice.Eq.{bytes_eq-Decides}
 use Rattle.std.specs.Str.{bytes_eq}
 use Rattle.markdown_event.proofs.AndParts.{and-left, and-right}
 use Rattle.markdown_leaf.specs.CharacterReference.{has_value}
-use Rattle.markdown_util.specs.Reference.{html_5_a_to_d, html_5_capitals, html_5_e_to_l, html_5_m_to_r, html_5_rows, html_5_s_to_z}
+use Rattle.markdown_util.specs.Reference.{Table, html_5_a_to_d, html_5_capitals, html_5_e_to_l, html_5_m_to_r, html_5_rows, html_5_s_to_z, html_rows, known_names, rows_named}
 use Rattle.markdown_leaf.proofs.CharacterReferenceBytes.{ReadsBack, reads-back}
 use Rattle.markdown_leaf.proofs.CharacterReferenceNames.{length-values}
 use Rattle.markdown_model.specs.CodeTests.{values_of}
@@ -127,32 +127,33 @@ value-here n (Some v) h = ap (λ m. Some m) (eqb-true v n h)
 pub code-here : (n : ℕ) (o : Option ℕ) → is_some_value n o ≡ true → is_some o ≡ true
 code-here n o h = ap is_some (value-here n o h)
 
-pub stands-by : (o : Option ℕ) (p q r : Place) (n : ℕ) → is_some_value 38 (code_at p) ≡ true → r ≡ moved p → q ≡ past_inner r → n ≡ q.at - r.at → is_some_value 59 (code_at q) ≡ true →
-    o ≡ kind_of (codes_before n q) → IfSome o (λ m. ReferenceStands m p q)
-stands-by None p q r n front move past size back e = tt
-stands-by (Some m) p q r n front move past size back e =
+pub stands-by : (names : Table) (o : Option ℕ) (p q r : Place) (n : ℕ) → is_some_value 38 (code_at p) ≡ true → r ≡ moved p → q ≡ past_inner r → n ≡ q.at - r.at → is_some_value 59 (code_at q) ≡ true →
+    o ≡ kind_of names (codes_before n q) → IfSome o (λ m. ReferenceStands names m p q)
+stands-by names None p q r n front move past size back e = tt
+stands-by names (Some m) p q r n front move past size back e =
     record {
       front = value-here 38 (code_at p) front;
       past = past ∙ ap past_inner move;
-      kind = ap (λ (x : Place). kind_of (values_of (inner_codes x))) (sym move) ∙ ap kind_of (sym (inner-before r q n past size)) ∙ sym e;
+      kind = ap (λ (x : Place). kind_of names (values_of (inner_codes x))) (sym move) ∙ ap (kind_of names) (sym (inner-before r q n past size)) ∙ sym e;
       back = value-here 59 (code_at q) back;
     }
 
 -- Names that most references have are names of the table.
 
-known-by : (names : List (List ℕ)) → list_all (has_value html_5_rows) names ≡ true → (name : List ℕ) → list_any (bytes_eq name) names ≡ true →
-    has_value html_5_rows name ≡ true
-known-by [] all name h = cc
-known-by (n ∷ ns) all name h = by_test (bytes_eq name n) refl h (λ k. known-by ns (and-right _ _ all) name k)
+known-by : (table : Table) (names : List (List ℕ)) → list_all (has_value table) names ≡ true → (name : List ℕ) → list_any (bytes_eq name) names ≡ true →
+    has_value table name ≡ true
+known-by table [] all name h = cc
+known-by table (n ∷ ns) all name h = by_test (bytes_eq name n) refl h (λ k. known-by table ns (and-right _ _ all) name k)
   where
     by_test : (b : Bool) → bytes_eq name n ≡ b → b || list_any (bytes_eq name) ns ≡ true →
-        (list_any (bytes_eq name) ns ≡ true → has_value html_5_rows name ≡ true) → has_value html_5_rows name ≡ true
-    by_test true e k more = ap (has_value html_5_rows) ((bytes_eq-Decides name n).0 e) ∙ and-left _ _ all
+        (list_any (bytes_eq name) ns ≡ true → has_value table name ≡ true) → has_value table name ≡ true
+    by_test true e k more = ap (has_value table) ((bytes_eq-Decides name n).0 e) ∙ and-left _ _ all
     by_test false e k more = more k
 
-all-known : list_all (has_value html_5_rows) frequent_names ≡ true
-unfolding html_5_rows html_5_capitals html_5_a_to_d html_5_e_to_l html_5_m_to_r html_5_s_to_z
-all-known = refl
+all-known : (html : Bool) → list_all (has_value (rows_named (known_names html))) frequent_names ≡ true
+unfolding html_rows html_5_rows html_5_capitals html_5_a_to_d html_5_e_to_l html_5_m_to_r html_5_s_to_z
+all-known true = refl
+all-known false = refl
 
-pub frequent-known : (name : List ℕ) → is_frequent name ≡ true → has_value html_5_rows name ≡ true
-frequent-known name h = known-by frequent_names all-known name h
+pub frequent-known : (html : Bool) (name : List ℕ) → is_frequent name ≡ true → has_value (rows_named (known_names html)) name ≡ true
+frequent-known html name h = known-by (rows_named (known_names html)) frequent_names (all-known html) name h

@@ -2,10 +2,8 @@
 use Rattle.std.proofs.Common.{◌≡◌, ℕ, ◌==◌, ◌&&◌, ◌||◌, nat_le, Bool, true, false, List, [], ◌∷◌, ◌++◌, Option, Some, None, is_some, length, refl, sym, ap, subst, ◌∙◌, arith, append_assoc, append-nil, if◌then◌else◌}
 use Rattle.std.specs.Prelude.{codes}
 use Rattle.std.specs.List.{list_all}
-use Rattle.std.specs.Str.{bytes_eq}
 use Rattle.std.proofs.Math.Bool.{or-false}
 use Rattle.std.proofs.lemmas.Bool.{eqb-true, eq-eqb}
-use Rattle.std.proofs.lemmas.Slice.Eq.{bytes_eq-Decides}
 use Rattle.std.specs.Char.{is_ascii_alphanumeric}
 use Rattle.markdown_content.specs.Codes.{Code}
 use Rattle.markdown_content.specs.Place.{Place, ahead_at, moved}
@@ -18,17 +16,17 @@ use Rattle.markdown_engine.specs.TreeOps.{IsSolid, consumes, ops_of}
 use Rattle.markdown_engine.specs.declared.tokenizer.Tokenizer.{Tokenizer}
 use Rattle.markdown_engine.proofs.SolidTrees.{IsSolid-group, IsSolid-leaf, IsSolid-row}
 use Rattle.markdown_engine.proofs.TreeEvents.{done-append, done-consumes}
-use Rattle.markdown_leaf.specs.CharacterReference.{has_value, is_on}
-use Rattle.markdown_leaf.proofs.CharacterReferenceNames.{length-values, same-code}
+use Rattle.markdown_leaf.specs.CharacterReference.{has_value, is_on, references_here}
+use Rattle.markdown_leaf.proofs.CharacterReferenceLaws.{references-sound}
+use Rattle.markdown_leaf.proofs.CharacterReferenceNames.{length-values, name-value, same-code}
 use Rattle.markdown_model.specs.CodeTests.{is_alphanumeric, is_among, is_digit, is_hex_digit, is_value, values_of}
 use Rattle.markdown_model.specs.Grammar.{Reading, ◌>>◌, ◌>>=◌, either, gives, one, provided, some, span}
 use Rattle.markdown_model.specs.LeafConstructs.{Parts, character_reference, decimal_parts, hexadecimal_parts, is_name, named_parts, reference_tree}
 use Rattle.markdown_model.specs.SingleConstructs.{character_reference_here}
 use Rattle.markdown_model.proofs.GrammarSteps.{after-some, and-left, and-right, bind-none, bind-some, either-second, either-some, one-here, provided-true, some-nothing, some-span, span-none, span-takes, switched-on}
-use Rattle.markdown_util.proofs.ReferenceTables.{html_5_sound}
 use Rattle.markdown_util.proofs.ValueBytes.{semicolon_stops}
 use Rattle.markdown_util.specs.Reference as Reference
-use Rattle.markdown_util.specs.Reference.{Table, html_5_rows, is_value_byte, named_value, value_size_max}
+use Rattle.markdown_util.specs.Reference.{Table, IsTable, is_value_byte, value_size_max}
 use Rattle.markdown_run_text.specs.PlacesPassed.{marker_ops}
 use Rattle.markdown_run_text.specs.ReaderEnds.{options_here}
 use Rattle.markdown_run_text.specs.ReferencePassed.{HasSigns, ReferenceStands, inner_codes, kind_if, kind_of, number_kind, past_inner, reference_read, sign_ops, value_read}
@@ -36,21 +34,6 @@ use Rattle.markdown_run_text.proofs.BytesOfReferences.{inner-parts, inner-passed
 use Rattle.markdown_run_text.proofs.EscapeReads.{solid-reads}
 
 -- Values.
-
--- a name of the table is a value of its kind
-name-by : (rows : Table) (name : List ℕ) → list_all (λ (row : List ℕ × List ℕ). Reference.is_value 38 row.0) rows ≡ true →
-    has_value rows name ≡ true → Reference.is_value 38 name ≡ true
-name-by [] name e h = cc
-name-by (row ∷ rows) name e h = by_test (bytes_eq row.0 name) refl h (λ k. name-by rows name (and-right _ _ e) k)
-  where
-    by_test : (b : Bool) → bytes_eq row.0 name ≡ b → is_some (elim b as (λ _. Option (List ℕ)) [ true ↦ Some row.1 | false ↦ named_value rows name ]) ≡ true →
-        (has_value rows name ≡ true → Reference.is_value 38 name ≡ true) → Reference.is_value 38 name ≡ true
-    by_test true k t more =
-        subst (λ (ns : List ℕ). Reference.is_value 38 ns ≡ true) ((bytes_eq-Decides row.0 name).0 k) (and-left _ _ e)
-    by_test false k t more = more t
-
-name-value : (name : List ℕ) → has_value html_5_rows name ≡ true → Reference.is_value 38 name ≡ true
-name-value name h = name-by html_5_rows name html_5_sound.names h
 
 -- some codes of a kind, not too many
 record IsOfKind (p : Code → Bool) (max : ℕ) (w : List Code) : Type 0 where
@@ -116,10 +99,10 @@ abbrev hexadecimal_by : Code → Code → Code → List Code → List Code → P
 hexadecimal_by a d x value back =
     record { front = a ∷ []; number = d ∷ []; hexadecimal = x ∷ []; value = value; back = back }
 
-named-tail : (a : Code) (cs : List Code) → is_value 38 a ≡ true →
-    named_parts html_5_rows (a ∷ cs) ≡ tail is_alphanumeric (is_name html_5_rows) (named_by a) cs
+named-tail : (names : Table) (a : Code) (cs : List Code) → is_value 38 a ≡ true →
+    named_parts names (a ∷ cs) ≡ tail is_alphanumeric (is_name names) (named_by a) cs
 unfolding named_parts
-named-tail a cs e = bind-some _ _ _ _ _ _ (one-here (is_value 38) a cs e) refl
+named-tail names a cs e = bind-some _ _ _ _ _ _ (one-here (is_value 38) a cs e) refl
 
 decimal-tail : (a d : Code) (cs : List Code) → is_value 38 a ≡ true → is_value 35 d ≡ true →
     decimal_parts (a ∷ d ∷ cs) ≡ tail is_digit (λ v. nat_le (length v) 7) (decimal_by a d) cs
@@ -156,14 +139,14 @@ value_end = Exit N.CharacterReferenceValue ∷ marker_ops N.CharacterReferenceMa
 back_ops : List Op
 back_ops = Exit N.CharacterReferenceValue ∷ (marker_ops N.CharacterReferenceMarkerSemi ++ Exit N.CharacterReference ∷ [])
 
--- what stands at these codes is read as a reference of this kind
-record IsReferenceAt (m : ℕ) (a : Code) (w : List Code) (b : Code) (rest : List Code) : Type 0 where
+-- what stands at these codes is read as a reference of this kind, by these names
+record IsReferenceAt (names : Table) (m : ℕ) (a : Code) (w : List Code) (b : Code) (rest : List Code) : Type 0 where
   parts : Parts
   signs : List Code
   value : List Code
   whole : w ≡ signs ++ value
   some : parts.front ≡ a ∷ []
-  holds : either (named_parts html_5_rows) (either decimal_parts hexadecimal_parts) (a ∷ (w ++ b ∷ rest)) ≡ Some (parts, rest)
+  holds : either (named_parts names) (either decimal_parts hexadecimal_parts) (a ∷ (w ++ b ∷ rest)) ≡ Some (parts, rest)
   covers : leaf_codes (reference_tree parts) ++ rest ≡ a ∷ (w ++ b ∷ rest)
   ops : ops_of (reference_tree parts) ≡ front_ops m ++ Enter N.CharacterReferenceValue ∷ (consumes value ++ back_ops)
   place : (T : Tokenizer) → (done (front_ops m) T).cursor ≡ moved_by signs (moved T.cursor)
@@ -171,32 +154,32 @@ record IsReferenceAt (m : ℕ) (a : Code) (w : List Code) (b : Code) (rest : Lis
 codes-behind : (vs : List Code) (b : Code) (rest : List Code) → ((vs ++ b ∷ []) ++ []) ++ rest ≡ vs ++ b ∷ rest
 codes-behind vs b rest = ap (λ xs. xs ++ rest) (append-nil (vs ++ b ∷ [])) ∙ append_assoc vs (b ∷ []) rest
 
-named-parted : (a v : Code) (vs : List Code) (b : Code) (rest : List Code) → is_value 38 a ≡ true → is_value 59 b ≡ true →
-    has_value html_5_rows (values_of (v ∷ vs)) ≡ true → IsReferenceAt 38 a (v ∷ vs) b rest
+named-parted : (names : Table) → IsTable names → (a v : Code) (vs : List Code) (b : Code) (rest : List Code) → is_value 38 a ≡ true → is_value 59 b ≡ true →
+    has_value names (values_of (v ∷ vs)) ≡ true → IsReferenceAt names 38 a (v ∷ vs) b rest
 unfolding front_ops back_ops applied
-named-parted a v vs b rest front back known =
-    let k : IsOfKind is_alphanumeric 31 (v ∷ vs) = of-kind 38 is_alphanumeric same-code (v ∷ vs) (name-value (values_of (v ∷ vs)) known) in
+named-parted names sound a v vs b rest front back known =
+    let k : IsOfKind is_alphanumeric 31 (v ∷ vs) = of-kind 38 is_alphanumeric same-code (v ∷ vs) (name-value names sound (values_of (v ∷ vs)) known) in
     record {
       parts = named_by a (v ∷ vs) (b ∷ []);
       signs = [];
       value = v ∷ vs;
       whole = refl;
       some = refl;
-      holds = either-some (named_parts html_5_rows) (either decimal_parts hexadecimal_parts) (a ∷ ((v ∷ vs) ++ b ∷ rest)) (named_by a (v ∷ vs) (b ∷ []), rest)
-          (named-tail a ((v ∷ vs) ++ b ∷ rest) front
-          ∙ tail-reads is_alphanumeric (is_name html_5_rows) (named_by a) v vs b rest k.each (same-code b ∙ ends-value 38 b back) known back);
+      holds = either-some (named_parts names) (either decimal_parts hexadecimal_parts) (a ∷ ((v ∷ vs) ++ b ∷ rest)) (named_by a (v ∷ vs) (b ∷ []), rest)
+          (named-tail names a ((v ∷ vs) ++ b ∷ rest) front
+          ∙ tail-reads is_alphanumeric (is_name names) (named_by a) v vs b rest k.each (same-code b ∙ ends-value 38 b back) known back);
       covers = ap (λ xs. a ∷ v ∷ xs) (codes-behind vs b rest);
       ops = rw (append_assoc (consumes vs) value_end (Exit N.CharacterReference ∷ [])) refl;
       place = λ T. refl;
     }
 
-module _ (a d : Code) (rest : List Code) (front : is_value 38 a ≡ true) (sign : is_value 35 d ≡ true) where
-  no-name : (cs : List Code) → named_parts html_5_rows (a ∷ d ∷ cs) ≡ None
+module _ (names : Table) (a d : Code) (rest : List Code) (front : is_value 38 a ≡ true) (sign : is_value 35 d ≡ true) where
+  no-name : (cs : List Code) → named_parts names (a ∷ d ∷ cs) ≡ None
   no-name cs =
-      named-tail a (d ∷ cs) front ∙ tail-none is_alphanumeric (is_name html_5_rows) (named_by a) d cs (sign-letter d sign)
+      named-tail names a (d ∷ cs) front ∙ tail-none is_alphanumeric (is_name names) (named_by a) d cs (sign-letter d sign)
 
   decimal-parted : (v : Code) (vs : List Code) (b : Code) → is_value 59 b ≡ true → Reference.is_value 35 (values_of (v ∷ vs)) ≡ true →
-      IsReferenceAt 35 a (d ∷ v ∷ vs) b rest
+      IsReferenceAt names 35 a (d ∷ v ∷ vs) b rest
   unfolding front_ops back_ops applied
   decimal-parted v vs b back known =
       let k : IsOfKind is_digit 7 (v ∷ vs) = of-kind 35 is_digit (λ c. refl) (v ∷ vs) known in
@@ -207,7 +190,7 @@ module _ (a d : Code) (rest : List Code) (front : is_value 38 a ≡ true) (sign 
         value = v ∷ vs;
         whole = refl;
         some = refl;
-        holds = either-second (named_parts html_5_rows) (either decimal_parts hexadecimal_parts) (a ∷ d ∷ cs) (no-name cs)
+        holds = either-second (named_parts names) (either decimal_parts hexadecimal_parts) (a ∷ d ∷ cs) (no-name cs)
             ∙ either-some decimal_parts hexadecimal_parts (a ∷ d ∷ cs) (decimal_by a d (v ∷ vs) (b ∷ []), rest)
             (decimal-tail a d cs front sign
             ∙ tail-reads is_digit (λ v. nat_le (length v) 7) (decimal_by a d) v vs b rest k.each (ends-value 35 b back) k.short back);
@@ -217,7 +200,7 @@ module _ (a d : Code) (rest : List Code) (front : is_value 38 a ≡ true) (sign 
       }
 
   hexadecimal-parted : (x v : Code) (vs : List Code) (b : Code) → (x.value == 120) || (x.value == 88) ≡ true → is_value 59 b ≡ true →
-      Reference.is_value 120 (values_of (v ∷ vs)) ≡ true → IsReferenceAt 120 a (d ∷ x ∷ v ∷ vs) b rest
+      Reference.is_value 120 (values_of (v ∷ vs)) ≡ true → IsReferenceAt names 120 a (d ∷ x ∷ v ∷ vs) b rest
   unfolding front_ops back_ops applied
   hexadecimal-parted x v vs b letter back known =
       let k : IsOfKind is_hex_digit 6 (v ∷ vs) = of-kind 120 is_hex_digit (λ c. refl) (v ∷ vs) known in
@@ -228,7 +211,7 @@ module _ (a d : Code) (rest : List Code) (front : is_value 38 a ≡ true) (sign 
         value = v ∷ vs;
         whole = refl;
         some = refl;
-        holds = either-second (named_parts html_5_rows) (either decimal_parts hexadecimal_parts) (a ∷ d ∷ x ∷ cs) (no-name (x ∷ cs))
+        holds = either-second (named_parts names) (either decimal_parts hexadecimal_parts) (a ∷ d ∷ x ∷ cs) (no-name (x ∷ cs))
             ∙ either-second decimal_parts hexadecimal_parts (a ∷ d ∷ x ∷ cs)
             (decimal-tail a d (x ∷ cs) front sign
             ∙ tail-none is_digit (λ v. nat_le (length v) 7) (decimal_by a d) x cs (letter-digit x.value letter))
@@ -245,41 +228,41 @@ kind-if : (k : ℕ) (b : Bool) (m : ℕ) → kind_if k b ≡ Some m → (m ≡ k
 kind-if k true m h = (cc, refl)
 kind-if k false m h = cc
 
-module _ (m : ℕ) (a : Code) (b : Code) (rest : List Code) (front : is_value 38 a ≡ true) (back : is_value 59 b ≡ true) where
-  of-same : (k : ℕ) (w : List Code) → m ≡ k → IsReferenceAt k a w b rest → IsReferenceAt m a w b rest
-  of-same k w e p = subst (λ (n : ℕ). IsReferenceAt n a w b rest) (sym e) p
+module _ (names : Table) (sound : IsTable names) (m : ℕ) (a : Code) (b : Code) (rest : List Code) (front : is_value 38 a ≡ true) (back : is_value 59 b ≡ true) where
+  of-same : (k : ℕ) (w : List Code) → m ≡ k → IsReferenceAt names k a w b rest → IsReferenceAt names m a w b rest
+  of-same k w e p = subst (λ (n : ℕ). IsReferenceAt names n a w b rest) (sym e) p
 
   decimal-here : (d : Code) (vs : List Code) → is_value 35 d ≡ true → m ≡ 35 → Reference.is_value 35 (values_of vs) ≡ true →
-      IsReferenceAt m a (d ∷ vs) b rest
+      IsReferenceAt names m a (d ∷ vs) b rest
   decimal-here d [] sign e h = cc
-  decimal-here d (v ∷ vs) sign e h = of-same 35 (d ∷ v ∷ vs) e (decimal-parted a d rest front sign v vs b back h)
+  decimal-here d (v ∷ vs) sign e h = of-same 35 (d ∷ v ∷ vs) e (decimal-parted names a d rest front sign v vs b back h)
 
   hexadecimal-here : (d x : Code) (vs : List Code) → is_value 35 d ≡ true → (x.value == 120) || (x.value == 88) ≡ true → m ≡ 120 →
-      Reference.is_value 120 (values_of vs) ≡ true → IsReferenceAt m a (d ∷ x ∷ vs) b rest
+      Reference.is_value 120 (values_of vs) ≡ true → IsReferenceAt names m a (d ∷ x ∷ vs) b rest
   hexadecimal-here d x [] sign letter e h = cc
   hexadecimal-here d x (v ∷ vs) sign letter e h =
-      of-same 120 (d ∷ x ∷ v ∷ vs) e (hexadecimal-parted a d rest front sign x v vs b letter back h)
+      of-same 120 (d ∷ x ∷ v ∷ vs) e (hexadecimal-parted names a d rest front sign x v vs b letter back h)
 
-  number-here : (d : Code) (vs : List Code) → is_value 35 d ≡ true → number_kind (values_of vs) ≡ Some m → IsReferenceAt m a (d ∷ vs) b rest
+  number-here : (d : Code) (vs : List Code) → is_value 35 d ≡ true → number_kind (values_of vs) ≡ Some m → IsReferenceAt names m a (d ∷ vs) b rest
   number-here d [] sign h = cc
   number-here d (x ∷ vs) sign h = by_letter ((x.value == 120) || (x.value == 88)) refl h
     where
       by_letter : (t : Bool) → (x.value == 120) || (x.value == 88) ≡ t →
           (if t then kind_if 120 (Reference.is_value 120 (values_of vs)) else kind_if 35 (Reference.is_value 35 (values_of (x ∷ vs)))) ≡ Some m →
-          IsReferenceAt m a (d ∷ x ∷ vs) b rest
+          IsReferenceAt names m a (d ∷ x ∷ vs) b rest
       by_letter true e k = let i = kind-if 120 _ m k in hexadecimal-here d x vs sign e i.0 i.1
       by_letter false e k = let i = kind-if 35 _ m k in decimal-here d (x ∷ vs) sign i.0 i.1
 
-  parted-by : (w : List Code) → kind_of (values_of w) ≡ Some m → IsReferenceAt m a w b rest
+  parted-by : (w : List Code) → kind_of names (values_of w) ≡ Some m → IsReferenceAt names m a w b rest
   parted-by [] h = cc
   parted-by (v ∷ vs) h = by_sign (v.value == 35) refl h
     where
       by_sign : (t : Bool) → (v.value == 35) ≡ t →
-          (if t then number_kind (values_of vs) else kind_if 38 (has_value html_5_rows (values_of (v ∷ vs)))) ≡ Some m →
-          IsReferenceAt m a (v ∷ vs) b rest
+          (if t then number_kind (values_of vs) else kind_if 38 (has_value names (values_of (v ∷ vs)))) ≡ Some m →
+          IsReferenceAt names m a (v ∷ vs) b rest
       by_sign true e k = number-here v vs e k
       by_sign false e k =
-          let i = kind-if 38 _ m k in of-same 38 (v ∷ vs) i.0 (named-parted a v vs b rest front back i.1)
+          let i = kind-if 38 _ m k in of-same 38 (v ∷ vs) i.0 (named-parted names sound a v vs b rest front back i.1)
 
 -- There are codes for its signs.
 
@@ -287,22 +270,22 @@ not-signed : (b t : Bool) (m : ℕ) → (if b then None else kind_if 38 t) ≡ S
 not-signed true t m h e = cc
 not-signed false t m h e = let i = kind-if 38 t m h in let k : m ≡ 120 = eqb-true m 120 e in omega (arith, i.0, k)
 
-pub has-signs : (m : ℕ) (p q : Place) → ReferenceStands m p q → HasSigns m (moved p)
-has-signs m p q s = by_codes (inner_codes (moved p)) (inner-parts (moved p)) s.kind
+pub has-signs : (names : Table) (m : ℕ) (p q : Place) → ReferenceStands names m p q → HasSigns m (moved p)
+has-signs names m p q s = by_codes (inner_codes (moved p)) (inner-parts (moved p)) s.kind
   where
     behind : List Code
     behind = ahead_at (past_inner (moved p))
 
-    by_codes : (w : List Code) → ahead_at (moved p) ≡ w ++ behind → kind_of (values_of w) ≡ Some m → HasSigns m (moved p)
+    by_codes : (w : List Code) → ahead_at (moved p) ≡ w ++ behind → kind_of names (values_of w) ≡ Some m → HasSigns m (moved p)
     by_codes [] e h = cc
     by_codes (v ∷ []) e h =
-        (λ k. ap is_some (code_at_ahead (moved p) v behind e), λ k. absurd (not-signed (v.value == 35) (has_value html_5_rows (v.value ∷ [])) m h k))
+        (λ k. ap is_some (code_at_ahead (moved p) v behind e), λ k. absurd (not-signed (v.value == 35) (has_value names (v.value ∷ [])) m h k))
     by_codes (v ∷ x ∷ vs) e h =
         (λ k. ap is_some (code_at_ahead (moved p) v (x ∷ (vs ++ behind)) e), λ k. ap is_some (code_at_ahead (moved (moved p)) x (vs ++ behind) (ahead_moved (moved p) v (x ∷ (vs ++ behind)) e)))
 
 -- behind its `&`
-pub signs-follow : (m : ℕ) (q : Place) (T U : Tokenizer) → ReferenceStands m T.cursor q → U.cursor ≡ moved T.cursor → HasSigns m U.cursor
-signs-follow m q T U s e = subst (λ (p : Place). HasSigns m p) (sym e) (has-signs m T.cursor q s)
+pub signs-follow : (names : Table) (m : ℕ) (q : Place) (T U : Tokenizer) → ReferenceStands names m T.cursor q → U.cursor ≡ moved T.cursor → HasSigns m U.cursor
+signs-follow names m q T U s e = subst (λ (p : Place). HasSigns m p) (sym e) (has-signs names m T.cursor q s)
 
 -- It is read.
 
@@ -341,14 +324,14 @@ tree-solid a p e =
     nothing : leaf_codes (inside (a ∷ [])) ≡ [] → ⊥
     nothing h = cc
 
-reading-of : (on : Bool) (cs : List Code) (p : Parts) (rest : List Code) → on ≡ true →
-    either (named_parts html_5_rows) (either decimal_parts hexadecimal_parts) cs ≡ Some (p, rest) →
-    (provided on >> character_reference html_5_rows) cs ≡ Some (reference_tree p, rest)
+reading-of : (names : Table) (on : Bool) (cs : List Code) (p : Parts) (rest : List Code) → on ≡ true →
+    either (named_parts names) (either decimal_parts hexadecimal_parts) cs ≡ Some (p, rest) →
+    (provided on >> character_reference names) cs ≡ Some (reference_tree p, rest)
 unfolding character_reference gives
-reading-of on cs p rest h e = switched-on (character_reference html_5_rows) on cs h ∙ bind-some _ _ _ _ _ _ e refl
+reading-of names on cs p rest h e = switched-on (character_reference names) on cs h ∙ bind-some _ _ _ _ _ _ e refl
 
-pub reference-reads : (T U : Tokenizer) (m : ℕ) (q : Place) → is_on T ≡ true → ReferenceStands m T.cursor q → U ≡ reference_read m q T →
-    Reads (character_reference_here (options_here T) html_5_rows) None T.tokenize_state T U
+pub reference-reads : (T U : Tokenizer) (m : ℕ) (q : Place) → is_on T ≡ true → ReferenceStands (references_here T) m T.cursor q → U ≡ reference_read m q T →
+    Reads (character_reference_here (options_here T) (references_here T)) None T.tokenize_state T U
 reference-reads T U m q on s e =
     let p : Place = T.cursor in
     let w : List Code = inner_codes (moved p) in
@@ -358,9 +341,9 @@ reference-reads T U m q on s e =
     let b : Code = last.code in
     let rest : List Code = ahead_at (moved q) in
     let codes : ahead T ≡ a ∷ (w ++ b ∷ rest) = first.codes ∙ ap (λ xs. a ∷ xs) (inner-parts (moved p) ∙ ap (λ (x : Place). w ++ ahead_at x) (sym s.past) ∙ ap (λ xs. w ++ xs) last.codes) in
-    let k : IsReferenceAt m a w b rest = parted-by m a b rest (eq-eqb a.value 38 first.value) (eq-eqb b.value 59 last.value) w s.kind in
+    let k : IsReferenceAt (references_here T) m a w b rest = parted-by (references_here T) (references-sound T.parse_state.now.options.now) m a b rest (eq-eqb a.value 38 first.value) (eq-eqb b.value 59 last.value) w s.kind in
     let there : q ≡ moved_by k.value (done (front_ops m) T).cursor = s.past ∙ inner-passed (moved p) ∙ ap (λ xs. moved_by xs (moved p)) k.whole ∙ moved_by-append k.signs k.value (moved p) ∙ ap (moved_by k.value) (sym (k.place T)) in
-    solid-reads (character_reference_here (options_here T) html_5_rows) (reference_tree k.parts) rest T U (tree-solid a k.parts k.some)
-    (ap (character_reference_here (options_here T) html_5_rows) codes ∙ reading-of (is_on T) (a ∷ (w ++ b ∷ rest)) k.parts rest on k.holds)
+    solid-reads (character_reference_here (options_here T) (references_here T)) (reference_tree k.parts) rest T U (tree-solid a k.parts k.some)
+    (ap (character_reference_here (options_here T) (references_here T)) codes ∙ reading-of (references_here T) (is_on T) (a ∷ (w ++ b ∷ rest)) k.parts rest on k.holds)
     (codes ∙ sym k.covers)
     (e ∙ read-done m k.value q T there ∙ ap (λ os. done os T) (sym k.ops))

@@ -21,7 +21,7 @@ use Rattle.markdown_plan.proofs.LawStepsOfLayer.{FollowsIn, Goes-plain, Goes-end
 use Rattle.markdown_leaf.specs.CharacterEscape as CharacterEscape
 use Rattle.markdown_leaf.specs.CharacterEscape.{escape_here}
 use Rattle.markdown_leaf.specs.CharacterReference as CharacterReference
-use Rattle.markdown_leaf.specs.CharacterReference.{reference_here}
+use Rattle.markdown_leaf.specs.CharacterReference.{reference_here, references_here}
 use Rattle.markdown_partial.specs.PartialData as PartialData
 use Rattle.markdown_run_text.specs.StringContent.{states, is_on, string_tries, string_markers, string_marked, string_passed, string_here, tries_at, before_at, StringStartReady, StringBeforeReady, before_ends, start_words, before_words, before_data_words}
 use Rattle.markdown_run_text.specs.TryTable.{said_at}
@@ -58,7 +58,7 @@ no-reference : (T : Tokenizer) (v : ℕ) → current_of T ≡ Some v → v == by
     reference_here T (ahead T) ≡ None
 no-reference T v e h =
     let b : BeginsWithValue v (ahead T) = ahead-some T v e in
-    ap (reference_here T) b.whole ∙ no-ampersand (is_on T).character_reference b.code (rest_of (ahead T)) (ap (λ x. x == byte "&") b.value ∙ h)
+    ap (reference_here T) b.whole ∙ no-ampersand (references_here T) (is_on T).character_reference b.code (rest_of (ahead T)) (ap (λ x. x == byte "&") b.value ∙ h)
 
 passed-attempts : (T : Tokenizer) → T.attempts ≡ [] → (string_passed T).attempts ≡ []
 passed-attempts T alone = attempts-registered R.String (registered R.Data T) ∙ attempts-registered R.Data T ∙ alone

@@ -10,9 +10,9 @@ use Rattle.markdown_model.specs.Elements.{as_plain, switched, line_ending, data_
 use Rattle.markdown_model.specs.Grammar.{Reading, either, provided, ◌>>◌, one}
 use Rattle.markdown_model.specs.LabelEnd.{Element, plain}
 use Rattle.markdown_model.specs.LeafConstructs.{character_escape, character_reference}
-use Rattle.markdown_model.specs.Setting.{Setting}
+use Rattle.markdown_model.specs.Setting.{Setting, references_of}
 use Rattle.markdown_model.specs.TextLines.{code_leaf}
-use Rattle.markdown_util.specs.Reference.{html_5_rows}
+use Rattle.markdown_util.specs.Reference.{Table}
 use Rattle.markdown_plan.specs.Plan.{tree_ops}
 use Rattle.markdown_leaf.proofs.CharacterReferenceReadings.{no-reference}
 use Rattle.markdown_model.proofs.GrammarSteps.{bind-none, either-second, either-some, one-other, switched-off, switched-on}
@@ -92,10 +92,10 @@ unread None e = refl
 unread (Some r) e = cc
 
 -- no reference begins at another code than `&`
-pub no-ampersand : (on : Bool) (c : Code) (cs : List Code) → is_value (byte "&") c ≡ false →
-    (provided on >> character_reference html_5_rows) (c ∷ cs) ≡ None
-no-ampersand on c cs e =
-    unread ((provided on >> character_reference html_5_rows) (c ∷ cs)) (no-reference on (c ∷ cs) (ap (λ b. on && b) e ∙ and-false on))
+pub no-ampersand : (names : Table) (on : Bool) (c : Code) (cs : List Code) → is_value (byte "&") c ≡ false →
+    (provided on >> character_reference names) (c ∷ cs) ≡ None
+no-ampersand names on c cs e =
+    unread ((provided on >> character_reference names) (c ∷ cs)) (no-reference names on (c ∷ cs) (ap (λ b. on && b) e ∙ and-false on))
 
 neither : (a b : Bool) → (a || (b || false)) ≡ false → (a ≡ false) × (b ≡ false)
 neither true b e = cc
@@ -107,4 +107,4 @@ pub unmarked-element : (p : ParseState) (c : Code) (cs : List Code) → is_among
     string_element (setting_of p) (c ∷ cs) ≡ Some (plain (code_leaf c), cs)
 unmarked-element p c cs e =
     let k = neither (is_value (byte "&") c) (is_value (byte "\\") c) e in
-    single-element (setting_of p) c cs (no-backslash p.options.now.constructs.character_escape c cs k.1) (no-ampersand p.options.now.constructs.character_reference c cs k.0)
+    single-element (setting_of p) c cs (no-backslash p.options.now.constructs.character_escape c cs k.1) (no-ampersand (references_of p.options.now) p.options.now.constructs.character_reference c cs k.0)

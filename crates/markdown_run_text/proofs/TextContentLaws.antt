@@ -5,7 +5,6 @@ use Rattle.std.specs.Prelude.{codes}
 use Rattle.std.specs.Str.{byte}
 use Rattle.std.proofs.lemmas.Bool.{or_from}
 use Rattle.std.proofs.lemmas.List.Folds.{list_any-append}
-use Rattle.markdown_util.specs.Reference.{html_5_rows}
 use Rattle.markdown_content.specs.CommonMark.{rules_of}
 use Rattle.markdown_content.specs.Codes.{Code}
 use Rattle.markdown_engine.specs.Operations.{ahead, current_of, scratched}
@@ -41,7 +40,7 @@ use Rattle.markdown_leaf.specs.Autolink.{link_here}
 use Rattle.markdown_leaf.specs.CharacterEscape as CharacterEscape
 use Rattle.markdown_leaf.specs.CharacterEscape.{escape_here}
 use Rattle.markdown_leaf.specs.CharacterReference as CharacterReference
-use Rattle.markdown_leaf.specs.CharacterReference.{reference_here}
+use Rattle.markdown_leaf.specs.CharacterReference.{reference_here, references_here}
 use Rattle.markdown_leaf.specs.HardBreakEscape as HardBreakEscape
 use Rattle.markdown_leaf.specs.HardBreakEscape.{break_here}
 use Rattle.markdown_leaf.specs.RawText as RawText
@@ -121,7 +120,7 @@ abbrev pub IsSoleAt : Words → Tokenizer → ℕ → Option StateName → Type 
 IsSoleAt W T v o = current_of T ≡ Some v → SoleOrAlone W T o
 
 reference-row : (T : Tokenizer) →
-    IsTriedAt T (byte "&") (is_on T).character_reference (character_reference html_5_rows)
+    IsTriedAt T (byte "&") (is_on T).character_reference (character_reference (references_here T))
 unfolding tries tried
 reference-row T earlier previous = (refl, (refl, refl))
 

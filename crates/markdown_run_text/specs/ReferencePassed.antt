@@ -12,7 +12,7 @@ use Rattle.markdown_leaf.specs.CharacterReference.{has_value}
 use Rattle.markdown_model.specs.CodeTests.{values_of}
 use Rattle.markdown_plan.specs.ByteTests.{controls}
 use Rattle.markdown_run_text.specs.PlacesPassed.{marker_ops, with_leaf}
-use Rattle.markdown_util.specs.Reference.{html_5_rows, is_value}
+use Rattle.markdown_util.specs.Reference.{Table, is_value}
 
 -- the bytes at which what may stand between a `&` and its `;` ends: NUL, a space, these two and the controls
 abbrev pub reference_stops : List ℕ
@@ -41,10 +41,10 @@ frequent_names = codes "amp" ∷ codes "lt" ∷ codes "gt" ∷ codes "quot" ∷ 
 abbrev pub is_frequent : List ℕ → Bool
 is_frequent name = list_any (bytes_eq name) frequent_names
 
--- by what stands between the `&` and the `;`
-abbrev pub kind_of : List ℕ → Option ℕ
-kind_of [] = None
-kind_of (v ∷ vs) = if v == byte "#" then number_kind vs else kind_if (byte "&") (has_value html_5_rows (v ∷ vs))
+-- by these names, and by what stands between the `&` and the `;`
+abbrev pub kind_of : Table → List ℕ → Option ℕ
+kind_of names [] = None
+kind_of names (v ∷ vs) = if v == byte "#" then number_kind vs else kind_if (byte "&") (has_value names (v ∷ vs))
 
 -- so many codes before the place, and that they are above the space
 abbrev pub codes_before : ℕ → Place → List ℕ
@@ -54,11 +54,11 @@ pub record AreInk (n : ℕ) (p : Place) : Type 0 where
   pub count : length (codes_before n p) ≡ n
   pub high : list_all (nat_lt 32) (codes_before n p) ≡ true
 
--- at p a reference of this kind stands, and q is before its `;`
-pub record ReferenceStands (marker : ℕ) (p q : Place) : Type 0 where
+-- at p a reference of this kind stands, by these names, and q is before its `;`
+pub record ReferenceStands (names : Table) (marker : ℕ) (p q : Place) : Type 0 where
   pub front : code_at p ≡ Some (byte "&")
   pub past : q ≡ past_inner (moved p)
-  pub kind : kind_of (values_of (inner_codes (moved p))) ≡ Some marker
+  pub kind : kind_of names (values_of (inner_codes (moved p))) ≡ Some marker
   pub back : code_at q ≡ Some (byte ";")
 
 -- past the signs of a reference of this kind

@@ -8,6 +8,7 @@ use Rattle.markdown_event.specs.declared.event.Kind.{Kind}
 use Rattle.markdown_event.specs.declared.event.Kind.TheVariants.{Enter, Exit}
 use Rattle.markdown_event.specs.declared.event.Name.{Name}
 use Rattle.markdown_html_model.specs.Resolved.{resolved}
+use Rattle.markdown_util.specs.Reference.{shipped_decoding}
 use Rattle.markdown_tree.specs.declared.node.Node.{Node}
 use Rattle.markdown_tree.specs.Nodes.{events_at, node_at}
 use Rattle.markdown_tree.specs.Referred.{Given, met, second_inside}
@@ -57,7 +58,7 @@ text_inside bytes string is_in (e ∷ rest) = part bytes is_in e rest ++ text_in
 
 -- the string, with escapes and references resolved
 abbrev pub string_in : List ℕ → Part → List Event → List ℕ
-string_in bytes string es = resolved (text_inside bytes string false es)
+string_in bytes string es = resolved shipped_decoding (text_inside bytes string false es)
 
 abbrev pub is_title_name : Name → Bool
 is_title_name Name.ResourceTitle = true

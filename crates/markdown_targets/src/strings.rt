@@ -6,6 +6,7 @@ ghost use Rattle.markdown_targets.specs.LinkTargets.{has_title, is_in_behind, is
 use markdown_engine_events::event_list::EventSlice;
 use markdown_event::event::{Event, Kind, Name};
 use markdown_html_model::resolve::push_resolved;
+use markdown_util::decoding::Decoding;
 use std::alloc::{AllocError, Global};
 
 /// Which string of a resource.
@@ -126,7 +127,7 @@ pub fn string_in(
 {
     let inside = text_inside(alloc, bytes, string, events)?;
     let mut text = Vec::new(alloc);
-    push_resolved(alloc, &mut text, inside.as_slice())?;
+    push_resolved(alloc, &mut text, Decoding::shipped(), inside.as_slice())?;
     Ok(text)
 }
 

@@ -3,7 +3,7 @@
 //!     named TABLE NAME           the numbers of the characters that the name stands for, or `-`; of the name without its last byte; of the
 //!                                name with a `0` behind it. TABLE is `html4`, `html5` or `html`
 //!     numeric RADIX DIGITS       the number of the character
-//!     decode TABLE MARKER VALUE  the numbers of the characters, or `-`
+//!     decode TABLE MARKER VALUE  the numbers of the characters, or `-`; TABLE may also be `commonmark`: all names of HTML, and controls are kept
 //!     parse | TEXT               the text with its references decoded, between quotation marks
 //!     value MARKER               the most bytes that a value may have
 //!     value MARKER BYTE          whether a value may hold the byte
@@ -16,9 +16,9 @@ ghost use Rattle.markdown_util.specs.Reference.{IsReferenceMarker, IsNumber, rad
 
 use crate::answers::Answers;
 use crate::case::Case;
-use markdown_util::decoding::{decode, decode_in, decode_numeric, parse};
+use markdown_util::decoding::{Decoding, decode, decode_by, decode_in, decode_numeric, parse};
 use markdown_util::util::character_reference::{
-    Names, decode_named, decode_named_in, value_max, value_test,
+    Names, decode_named, decode_named_in, known_names, value_max, value_test,
 };
 use markdown_util::util::normalize_identifier::normalize_identifier;
 use std::alloc::{AllocError, Global};
@@ -136,6 +136,14 @@ fn is_value(marker: u8, value: &str) -> bool
     }
 }
 
+// As CommonMark decodes references.
+fn commonmark() -> Decoding {
+    Decoding {
+        names: known_names(true),
+        controls_are_kept: true,
+    }
+}
+
 // What the value of a reference stands for.
 fn decoded(alloc: Global, case: &Case, out: &mut Answers) -> Result<(), AllocError> {
     let marker = marker_of(case.word(1));
@@ -146,6 +154,7 @@ fn decoded(alloc: Global, case: &Case, out: &mut Answers) -> Result<(), AllocErr
     }
     let text = match case.word(0) {
         "html" => decode_in(alloc, value, marker, Names::Html)?,
+        "commonmark" => decode_by(alloc, value, marker, commonmark())?,
         table => decode(alloc, value, marker, table == "html5")?,
     };
     push_codes(out, text.as_deref());

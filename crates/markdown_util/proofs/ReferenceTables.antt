@@ -1,7 +1,9 @@
 -- The two tables of names are sound and in order: computed here part by part, in one pass each, and nowhere else. And the parts among which a name
 -- would stand.
 use Rattle.std.proofs.Common.{◌≡◌, refl, List, [], ℕ, true, false, ◌++◌, codes}
-use Rattle.markdown_util.specs.Reference.{Table, html_4_rows, html_5_rows, html_4_capitals, html_4_a_to_d, html_4_e_to_l, html_4_m_to_r, html_4_s_to_z, html_5_capitals, html_5_a_to_d, html_5_e_to_l, html_5_m_to_r, html_5_s_to_z, html_rows, is_below, is_sorted, is_value, IsTable}
+use Rattle.markdown_util.specs.Reference.{Table, html_4_rows, html_5_rows, html_4_capitals, html_4_a_to_d, html_4_e_to_l, html_4_m_to_r, html_4_s_to_z, html_5_capitals, html_5_a_to_d, html_5_e_to_l, html_5_m_to_r, html_5_s_to_z, html_rows, is_below, is_sorted, is_value, rows_named, IsTable}
+use Rattle.markdown_util.specs.declared.util.character_reference.Names.{Names}
+use Rattle.markdown_util.specs.declared.util.character_reference.Names.TheVariants.{Html4, Html5, Html}
 use Rattle.markdown_util.specs.TableText.{html_text, table_text, is_parted, IsSortedText}
 use Rattle.std.specs.List.{list_all}
 use Rattle.markdown_util.specs.IdentifierLaws.{ConstantsHoldRows, are_lines_of}
@@ -153,6 +155,11 @@ html_sound = record { names = html_names; distinct = distinct html_rows html_sor
 pub html_5_kept : are_lines_of html_5_rows html_rows ≡ true
 unfolding html_rows html_5_rows html_5_capitals html_5_a_to_d html_5_e_to_l html_5_m_to_r html_5_s_to_z
 html_5_kept = refl
+
+pub named_sound : (names : Names) → IsTable (rows_named names)
+named_sound Html4 = html_4_sound
+named_sound Html5 = html_5_sound
+named_sound Html = html_sound
 
 html_is : html_text ≡ table_text html_rows
 unfolding html_rows html_text

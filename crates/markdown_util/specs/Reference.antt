@@ -9,6 +9,7 @@ use Rattle.std.specs.List.{list_all, list_any, position_or_len, before_first}
 use Rattle.std.specs.Str.{bytes_eq, byte}
 use Rattle.std.specs.Str.Parse.{IsNumeral, digits_value}
 use Rattle.markdown_util.specs.declared.util.constant.TheConstants.{HTML_5_CAPITALS, HTML_5_A_TO_D, HTML_5_E_TO_L, HTML_5_M_TO_R, HTML_5_S_TO_Z, HTML_4_CAPITALS, HTML_4_A_TO_D, HTML_4_E_TO_L, HTML_4_M_TO_R, HTML_4_S_TO_Z, CHARACTER_REFERENCES_HTML}
+use Rattle.markdown_util.specs.declared.decoding.Decoding.{Decoding}
 use Rattle.markdown_util.specs.declared.util.character_reference.Names.{Names}
 use Rattle.markdown_util.specs.declared.util.character_reference.Names.TheVariants.{Html4, Html5, Html}
 
@@ -87,6 +88,11 @@ rows_named Html4 = html_4_rows
 rows_named Html5 = html_5_rows
 rows_named Html = html_rows
 
+-- the names that a reference may have: all names of HTML (CommonMark 2.5), or those of HTML 5 as they are shipped
+abbrev pub known_names : Bool → Names
+known_names true = Html
+known_names false = Html5
+
 -- the lines of HTML 5, or else those of HTML 4
 abbrev pub rows_for : Bool → Table
 rows_for true = html_5_rows
@@ -138,6 +144,15 @@ is_replaced n =
 abbrev pub character_of : ℕ → ℕ
 character_of n = if is_replaced n then 0xFFFD else n
 
+-- 0, a surrogate, or past the last code point
+abbrev pub is_no_character : ℕ → Bool
+is_no_character n = (n == 0) || (is_in_range 0xD800 0xDFFF n || nat_lt 0x10_FFFF n)
+
+-- the character that a number stands for, where controls are kept (CommonMark 2.5), and where they are not
+abbrev pub character_by : Bool → ℕ → ℕ
+character_by true n = if is_no_character n then 0xFFFD else n
+character_by false n = character_of n
+
 -- the text that digits in a radix stand for
 abbrev pub numeric_value : ℕ → List ℕ → List ℕ
 numeric_value radix digits = encode_utf8 (character_of (digits_value radix digits))
@@ -158,6 +173,18 @@ decoded table value marker =
       | true ↦ named_value table value
       | false ↦ Some (numeric_value (radix_of marker) value)
     ]
+
+-- the text that a value stands for, by the names that are known and by whether controls are kept
+abbrev pub decoded_by : Decoding → List ℕ → ℕ → Option (List ℕ)
+decoded_by how value marker =
+    elim (marker == byte "&") [
+      | true ↦ named_value (rows_named how.names) value
+      | false ↦ Some (encode_utf8 (character_by how.controls_are_kept (digits_value (radix_of marker) value)))
+    ]
+
+-- as references are decoded without any option
+abbrev pub shipped_decoding : Decoding
+shipped_decoding = record { names = Html5; controls_are_kept = false }
 
 -- A text with references.
 

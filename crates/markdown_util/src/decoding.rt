@@ -1,17 +1,39 @@
 //! The text that a whole character reference stands for, and texts with references.
 
-ghost use Rattle.std.specs.Prelude.{◌≡◌, ◌≢◌, ◌⊎◌, IfOk, MatchOption, encode_utf8, option_map, string_bytes, take};
+ghost use Rattle.std.specs.Prelude.{◌≡◌, ◌≢◌, ◌⊎◌, ◌==◌, true, IfOk, MatchOption, encode_utf8, option_map, string_bytes, take};
 ghost use Rattle.std.specs.List.{after_first, prefix_len};
 ghost use Rattle.markdown_util.specs.ReferenceParts.{IsMarkedReference};
 ghost use Rattle.std.specs.Str.{byte};
 ghost use Rattle.std.specs.Str.Parse.{digits_value};
-ghost use Rattle.markdown_util.specs.Reference.{rows_for, rows_named};
+ghost use Rattle.markdown_util.specs.Reference.{character_by, decoded_by, is_no_character, rows_for, rows_named, shipped_decoding};
 ghost use Rattle.markdown_util.specs.Reference.{html_4_rows, character_of, is_replaced, IsNumber, IsReferenceMarker, radix_of, value_size_max, is_value_byte, decoded, reference_text, is_semicolon, parsed};
 
 use crate::util::character_reference::{
     Names, decode_named_in, shipped_names, value_max, value_test,
 };
 use std::alloc::{AllocError, Global};
+
+/// How references are decoded: which names are known, and which numbers stand for a character.
+#[derive(Clone, Copy, Debug, PartialEq, Eq)]
+pub struct Decoding {
+    /// The table of names.
+    pub names: Names,
+    /// Whether a number stands for its character where this is a control or a noncharacter too, as
+    /// CommonMark says.
+    pub controls_are_kept: bool,
+}
+
+impl Decoding {
+    /// The names of HTML 5 as they are shipped, and U+FFFD for controls and noncharacters.
+    pub fn shipped() -> Decoding
+        ensures { result ≡ shipped_decoding }
+    {
+        Decoding {
+            names: Names::Html5,
+            controls_are_kept: false,
+        }
+    }
+}
 
 /// The character that a number stands for, given by its digits in radix 10 or 16.
 ///
@@ -25,6 +47,36 @@ pub fn decode_numeric(value: &str, radix: u32) -> char
     let number = u32::from_str_radix(value, radix).unwrap();
     match char::from_u32(number) {
         Some(c) if !is_replaced(c) => c,
+        _ => char::REPLACEMENT_CHARACTER,
+    }
+}
+
+/// The character that a number stands for, given by its digits in radix 10 or 16, where controls
+/// and noncharacters are kept, or else as [`decode_numeric`] has it.
+///
+/// Where they are kept, as CommonMark says, it is U+FFFD for 0, for a surrogate, and for a number
+/// past U+10FFFF.
+pub fn decode_numeric_by(value: &str, radix: u32, controls_are_kept: bool) -> char
+    requires radix { (radix ≡ 10) ⊎ (radix ≡ 16) }
+    requires number { IsNumber radix value.now }
+    ensures { result ≡ character_by controls_are_kept (digits_value radix value.now) }
+{
+    if controls_are_kept {
+        decode_kept(value, radix)
+    } else {
+        decode_numeric(value, radix)
+    }
+}
+
+/// The character that a number stands for where controls and noncharacters are kept.
+fn decode_kept(value: &str, radix: u32) -> char
+    requires radix { (radix ≡ 10) ⊎ (radix ≡ 16) }
+    requires number { IsNumber radix value.now }
+    ensures { result ≡ character_by true (digits_value radix value.now) }
+{
+    let number = u32::from_str_radix(value, radix).unwrap();
+    match char::from_u32(number) {
+        Some(c) if !is_null(c) => c,
         _ => char::REPLACEMENT_CHARACTER,
     }
 }
@@ -61,13 +113,35 @@ pub fn decode_in(
     requires number { marker ≢ byte "&" → IsNumber (radix_of marker) value.now }
     ensures { IfOk result (λ text. option_map string_bytes text ≡ decoded (rows_named names) value.now marker) }
 {
+    let how = Decoding {
+        names,
+        controls_are_kept: false,
+    };
+    decode_by(alloc, value, marker, how)
+}
+
+/// The text that a value stands for, by the marker of its reference, and by which names are known
+/// and whether controls are kept.
+///
+/// It is none for a name that the table does not have. The only error is that memory was refused.
+pub fn decode_by(
+    alloc: Global,
+    value: &str,
+    marker: u8,
+    how: Decoding,
+) -> Result<Option<String>, AllocError>
+    requires marker { IsReferenceMarker marker }
+    requires number { marker ≢ byte "&" → IsNumber (radix_of marker) value.now }
+    ensures { IfOk result (λ text. option_map string_bytes text ≡ decoded_by how value.now marker) }
+{
+    let kept = how.controls_are_kept;
     match marker {
-        b'&' => match decode_named_in(value, names) {
+        b'&' => match decode_named_in(value, how.names) {
             Some(text) => Ok(Some(String::from_str(alloc, text)?)),
             None => Ok(None),
         },
-        b'#' => Ok(Some(string_of(alloc, decode_numeric(value, 10))?)),
-        b'x' => Ok(Some(string_of(alloc, decode_numeric(value, 16))?)),
+        b'#' => Ok(Some(string_of(alloc, decode_numeric_by(value, 10, kept))?)),
+        b'x' => Ok(Some(string_of(alloc, decode_numeric_by(value, 16, kept))?)),
         _ => unreachable!(),
     }
 }
@@ -148,6 +222,13 @@ fn is_replaced(c: char) -> bool
     let control = c.is_control() && !matches!(c, '\t' | '\n' | '\u{C}' | '\r');
     let noncharacter = matches!(c, '\u{FDD0}'..='\u{FDEF}') || c as u32 % 0x1_0000 >= 0xFFFE;
     control || noncharacter
+}
+
+/// Whether a character is that of the number 0.
+fn is_null(c: char) -> bool
+    ensures { result ≡ (c == 0) }
+{
+    c == '\0'
 }
 
 fn string_of(alloc: Global, c: char) -> Result<String, AllocError>

@@ -11,13 +11,12 @@ use Rattle.markdown_content.specs.declared.parser.Piece.{Piece}
 use Rattle.markdown_content.specs.Codes.{codes_of}
 use Rattle.markdown_content.specs.Content.{content_of}
 use Rattle.markdown_content.specs.Tree.{Forest, empty, leaf_then, group_then, events_of}
-use Rattle.markdown_util.specs.Reference.{html_5_rows}
 use Rattle.markdown_model.specs.Grammar.{Reading}
 use Rattle.markdown_model.specs.CodeTests.{is_among, next_is}
 use Rattle.markdown_model.specs.TextLines.{data_up_to}
 use Rattle.markdown_model.specs.Whitespace.{space_or_tab_eol, space_or_tab}
 use Rattle.markdown_model.specs.Resource.{label, reference_names, title, title_names, destination, resource_names}
-use Rattle.markdown_model.specs.Setting.{Setting}
+use Rattle.markdown_model.specs.Setting.{Setting, references_of}
 use Rattle.markdown_model.specs.InlineTree.{text_tree, string_tree, label_tree, run_count, pair_count, probe_bound, opener_count, closer_count, list_probe_bound}
 
 -- what an example says of its setting: the options, and what is defined
@@ -36,12 +35,12 @@ default = record {
   footnotes = [];
 }
 
--- the shipped table of references, with the options of the example
+-- with the options of the example, and the references that they choose
 abbrev pub setting : RowSetting → List ℕ → Setting
 setting r bytes = record {
   bytes = bytes;
   options = r.options;
-  references = html_5_rows;
+  references = references_of r.options;
   definitions = r.definitions;
   footnotes = r.footnotes;
   first_of_item = r.first_of_item;

@@ -97,7 +97,33 @@ CharacterReferences =
     -- string «&Amp;»: Data 0-5
     (string_answer (default) (codes "&Amp;") (piece 0 0 5 0 ∷ []) ≡ (enter Name.Data 1 1 0 0 ∷ exit Name.Data 1 6 5 0 ∷ [])) ×
     -- text outer «&#123456;7»: CharacterReference 0-9, Data 9-10
-    (text_outline (default) (codes "&#123456;7") (piece 0 0 10 0 ∷ []) ≡ (enter Name.CharacterReference 1 1 0 0 ∷ exit Name.CharacterReference 1 10 9 0 ∷ enter Name.Data 1 10 9 0 ∷ exit Name.Data 1 11 10 0 ∷ []))
+    (text_outline (default) (codes "&#123456;7") (piece 0 0 10 0 ∷ []) ≡ (enter Name.CharacterReference 1 1 0 0 ∷ exit Name.CharacterReference 1 10 9 0 ∷ enter Name.Data 1 10 9 0 ∷ exit Name.Data 1 11 10 0 ∷ [])) ×
+    -- text «&Abreve;»: Data 0-8
+    (text_answer (default) (codes "&Abreve;") (piece 0 0 8 0 ∷ []) ≡ (enter Name.Data 1 1 0 0 ∷ exit Name.Data 1 9 8 0 ∷ [])) ×
+    -- string outer references «&Abreve;»: CharacterReference 0-8
+    (string_outline (record default { options = record default_options { html_references = true } }) (codes "&Abreve;") (piece 0 0 8 0 ∷ []) ≡ (enter Name.CharacterReference 1 1 0 0 ∷ exit Name.CharacterReference 1 9 8 0 ∷ [])) ×
+    -- text outer commonmark «&Abreve;»: CharacterReference 0-8
+    (text_outline (record default { options = record default_options { commonmark = true } }) (codes "&Abreve;") (piece 0 0 8 0 ∷ []) ≡ (enter Name.CharacterReference 1 1 0 0 ∷ exit Name.CharacterReference 1 9 8 0 ∷ [])) ×
+    -- text «&NotEqualTilde;»: Data 0-15
+    (text_answer (default) (codes "&NotEqualTilde;") (piece 0 0 15 0 ∷ []) ≡ (enter Name.Data 1 1 0 0 ∷ exit Name.Data 1 16 15 0 ∷ [])) ×
+    -- text outer references «&NotEqualTilde;»: CharacterReference 0-15
+    (text_outline (record default { options = record default_options { html_references = true } }) (codes "&NotEqualTilde;") (piece 0 0 15 0 ∷ []) ≡ (enter Name.CharacterReference 1 1 0 0 ∷ exit Name.CharacterReference 1 16 15 0 ∷ [])) ×
+    -- string outer commonmark «&NotEqualTilde;»: CharacterReference 0-15
+    (string_outline (record default { options = record default_options { commonmark = true } }) (codes "&NotEqualTilde;") (piece 0 0 15 0 ∷ []) ≡ (enter Name.CharacterReference 1 1 0 0 ∷ exit Name.CharacterReference 1 16 15 0 ∷ [])) ×
+    -- string outer commonmark «&CounterClockwiseContourIntegral;»: CharacterReference 0-33
+    (string_outline (record default { options = record default_options { commonmark = true } }) (codes "&CounterClockwiseContourIntegral;") (piece 0 0 33 0 ∷ []) ≡ (enter Name.CharacterReference 1 1 0 0 ∷ exit Name.CharacterReference 1 34 33 0 ∷ [])) ×
+    -- text outer commonmark «&amp;»: CharacterReference 0-5
+    (text_outline (record default { options = record default_options { commonmark = true } }) (codes "&amp;") (piece 0 0 5 0 ∷ []) ≡ (enter Name.CharacterReference 1 1 0 0 ∷ exit Name.CharacterReference 1 6 5 0 ∷ [])) ×
+    -- string outer references «&ngE;»: CharacterReference 0-5
+    (string_outline (record default { options = record default_options { html_references = true } }) (codes "&ngE;") (piece 0 0 5 0 ∷ []) ≡ (enter Name.CharacterReference 1 1 0 0 ∷ exit Name.CharacterReference 1 6 5 0 ∷ [])) ×
+    -- text commonmark «&amp»: Data 0-4
+    (text_answer (record default { options = record default_options { commonmark = true } }) (codes "&amp") (piece 0 0 4 0 ∷ []) ≡ (enter Name.Data 1 1 0 0 ∷ exit Name.Data 1 5 4 0 ∷ [])) ×
+    -- text commonmark «&nosuch;»: Data 0-8
+    (text_answer (record default { options = record default_options { commonmark = true } }) (codes "&nosuch;") (piece 0 0 8 0 ∷ []) ≡ (enter Name.Data 1 1 0 0 ∷ exit Name.Data 1 9 8 0 ∷ [])) ×
+    -- string references «&Amp;»: Data 0-5
+    (string_answer (record default { options = record default_options { html_references = true } }) (codes "&Amp;") (piece 0 0 5 0 ∷ []) ≡ (enter Name.Data 1 1 0 0 ∷ exit Name.Data 1 6 5 0 ∷ [])) ×
+    -- string commonmark no-character_reference «&Abreve;»: Data 0-8
+    (string_answer (record default { options = record default_options { constructs = record default_constructs { character_reference = false }; commonmark = true } }) (codes "&Abreve;") (piece 0 0 8 0 ∷ []) ≡ (enter Name.Data 1 1 0 0 ∷ exit Name.Data 1 9 8 0 ∷ []))
 
 abbrev pub Whitespace : Type 0
 Whitespace =

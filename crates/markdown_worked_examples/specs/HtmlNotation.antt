@@ -3,6 +3,7 @@ use Rattle.std.specs.Prelude.{ℕ, List, [], ◌∷◌, length}
 use Rattle.markdown_content.specs.Content.{content_of}
 use Rattle.markdown_content.specs.Tree.{Forest}
 use Rattle.markdown_html_model.specs.Html.{Defined, Page, calls_behind, html, plain_text}
+use Rattle.markdown_html_model.specs.Resolved.{decoding_of}
 use Rattle.markdown_html_model.specs.declared.options.HtmlOptions.{HtmlOptions}
 use Rattle.markdown_model.specs.InlineTree.{text_tree}
 use Rattle.markdown_worked_examples.specs.ExampleNotation.{RowSetting, piece, setting}
@@ -14,7 +15,7 @@ tree_of r bytes = text_tree (setting r bytes) (content_of bytes (piece 0 0 (leng
 abbrev pub page_of : RowSetting → HtmlOptions → List Defined → List ℕ → Page
 page_of r options definitions bytes =
     let on = r.options.constructs in
-    record { bytes = bytes; footnotes_on = on.gfm_label_start_footnote; definitions = definitions; options = options }
+    record { bytes = bytes; footnotes_on = on.gfm_label_start_footnote; decoding = decoding_of r.options; definitions = definitions; options = options }
 
 -- the HTML of the text that a document is
 abbrev pub html_answer : RowSetting → HtmlOptions → List Defined → List ℕ → List ℕ

@@ -95,5 +95,21 @@ RuleRows =
     (html_answer (record default { definitions = (codes "^ a") ∷ [] }) (record { raw_html = false; any_link = false; line_ends = LineEnds.Kept }) ((record { identifier = codes "^ a"; destination = codes "b"; title = None }) ∷ []) (codes "[^ a]") ≡ (codes "<a href=\"b\">^ a</a>")) ×
     -- «[c][^ a]»: «<a href="b">c</a>»
     (html_answer (record default { options = record default_options { constructs = record default_constructs { gfm_label_start_footnote = true } }; definitions = (codes "^ a") ∷ [] }) (record { raw_html = false; any_link = false; line_ends = LineEnds.Kept }) ((record { identifier = codes "^ a"; destination = codes "b"; title = None }) ∷ []) (codes "[c][^ a]") ≡ (codes "<a href=\"b\">c</a>")) ×
+    -- «&Abreve;»: «&amp;Abreve;»
+    (html_answer (default) (record { raw_html = false; any_link = false; line_ends = LineEnds.Kept }) ([]) (codes "&Abreve;") ≡ (codes "&amp;Abreve;")) ×
+    -- «&Abreve; &NotEqualTilde;»: «Ă ≂̸»
+    (html_answer (record default { options = record default_options { html_references = true } }) (record { raw_html = false; any_link = false; line_ends = LineEnds.Kept }) ([]) (codes "&Abreve; &NotEqualTilde;") ≡ (196 ∷ 130 ∷ 32 ∷ 226 ∷ 137 ∷ 130 ∷ 204 ∷ 184 ∷ [])) ×
+    -- «&Abreve; [a](&Abreve;)»: «Ă <a href="%C4%82">a</a>»
+    (html_answer (record default { options = record default_options { commonmark = true } }) (record { raw_html = false; any_link = false; line_ends = LineEnds.Kept }) ([]) (codes "&Abreve; [a](&Abreve;)") ≡ (196 ∷ 130 ∷ 32 ∷ 60 ∷ 97 ∷ 32 ∷ 104 ∷ 114 ∷ 101 ∷ 102 ∷ 61 ∷ 34 ∷ 37 ∷ 67 ∷ 52 ∷ 37 ∷ 56 ∷ 50 ∷ 34 ∷ 62 ∷ 97 ∷ 60 ∷ 47 ∷ 97 ∷ 62 ∷ [])) ×
+    -- «&#1;&#x7F;&#xFFFE;»: «���»
+    (html_answer (default) (record { raw_html = false; any_link = false; line_ends = LineEnds.Kept }) ([]) (codes "&#1;&#x7F;&#xFFFE;") ≡ (239 ∷ 191 ∷ 189 ∷ 239 ∷ 191 ∷ 189 ∷ 239 ∷ 191 ∷ 189 ∷ [])) ×
+    -- «&#1;»: «�»
+    (html_answer (record default { options = record default_options { html_references = true } }) (record { raw_html = false; any_link = false; line_ends = LineEnds.Kept }) ([]) (codes "&#1;") ≡ (239 ∷ 191 ∷ 189 ∷ [])) ×
+    -- «&#1;&#x7F;&#xFFFE;»: «⟦U+0001⟧⟦U+007F⟧⟦U+FFFE⟧»
+    (html_answer (record default { options = record default_options { commonmark = true } }) (record { raw_html = false; any_link = false; line_ends = LineEnds.Kept }) ([]) (codes "&#1;&#x7F;&#xFFFE;") ≡ (1 ∷ 127 ∷ 239 ∷ 191 ∷ 190 ∷ [])) ×
+    -- «&#0;&#xD800;&#x110000;»: «���»
+    (html_answer (default) (record { raw_html = false; any_link = false; line_ends = LineEnds.Kept }) ([]) (codes "&#0;&#xD800;&#x110000;") ≡ (239 ∷ 191 ∷ 189 ∷ 239 ∷ 191 ∷ 189 ∷ 239 ∷ 191 ∷ 189 ∷ [])) ×
+    -- «&#0;&#xD800;&#x110000;&#65;»: «���A»
+    (html_answer (record default { options = record default_options { commonmark = true } }) (record { raw_html = false; any_link = false; line_ends = LineEnds.Kept }) ([]) (codes "&#0;&#xD800;&#x110000;&#65;") ≡ (239 ∷ 191 ∷ 189 ∷ 239 ∷ 191 ∷ 189 ∷ 239 ∷ 191 ∷ 189 ∷ 65 ∷ [])) ×
     -- «*a* [b](c "d") ![e](f) &amp;\* <g> `h`»: «a b e &* <g> h»
     (text_answer (default) (codes "*a* [b](c \"d\") ![e](f) &amp;\\* <g> `h`") ≡ (codes "a b e &* <g> h"))

@@ -14,7 +14,7 @@ The second form is one construct, read at the document's start: the answer shows
 last two say how many runs and pairs all containers of a text have, and the bounds on its probes. A row that begins with another word is read by
 tools/data.py of markdown_test_runs alone.
 
-The words turn options on or off: gfm, math, first (the first paragraph of a list item), shortcut, lengths, commonmark, no-single-tilde, no-single-dollar, no-SWITCH for
+The words turn options on or off: gfm, math, first (the first paragraph of a list item), shortcut, lengths, references, commonmark, no-single-tilde, no-single-dollar, no-SWITCH for
 each switch, definition=IDENTIFIER, footnote=IDENTIFIER, and outer: the answer shows the outermost events alone. In a document ␊ ␍ ␉ ␋ ␀ stand for LF, CR, TAB,
 U+000B and NUL, ␠ for a space at an end, ⟦x×n⟧ for x written n times, and ⟦U+n⟧ for the character with that number. A piece is START-END; without one the
 content is the whole document. An index is a byte, or a byte and the codes of its tab before the place, as 0.2.
@@ -34,10 +34,10 @@ READINGS = {'label', 'title', 'destination', 'spacing', 'bounded', 'data'}
 CHAINED = {'ReferenceString', 'ResourceTitleString', 'ResourceDestinationString'}
 GFM = ['gfm_autolink_literal', 'gfm_label_start_footnote', 'gfm_strikethrough', 'gfm_task_list_item']
 OPTIONS = {'single_tilde': 'gfm_strikethrough_single_tilde', 'single_dollar': 'math_text_single_dollar',
-           'lengths': 'attention_first_lengths', 'shortcut': 'label_shortcut_before_bracket', 'commonmark': 'commonmark'}
+           'lengths': 'attention_first_lengths', 'shortcut': 'label_shortcut_before_bracket', 'references': 'html_references', 'commonmark': 'commonmark'}
 WORDS = {'gfm': ['%s = true' % name for name in GFM], 'math': ['math_text = true'],
          'first': ['first_of_item = true'], 'shortcut': ['shortcut = true'], 'lengths': ['lengths = true'],
-         'commonmark': ['commonmark = true'],
+         'references': ['references = true'], 'commonmark': ['commonmark = true'],
          'no-single-tilde': ['single_tilde = false'], 'no-single-dollar': ['single_dollar = false']}
 
 

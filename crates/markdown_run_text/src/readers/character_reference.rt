@@ -32,11 +32,11 @@
 ghost use Rattle.std.specs.Prelude.{◌≡◌, IfOk, OnOk, OnErr, IsTrue, IfSome};
 ghost use Rattle.std.specs.List.{list_all};
 ghost use Rattle.markdown_engine.specs.Operations.{done};
-ghost use Rattle.markdown_leaf.specs.CharacterReference.{has_value};
+ghost use Rattle.markdown_leaf.specs.CharacterReference.{has_value, references_here};
 ghost use Rattle.markdown_model.specs.SingleConstructs.{character_reference_here};
 ghost use Rattle.markdown_run_text.specs.ReaderEnds.{ReadsOrLeaves, options_here};
 ghost use Rattle.markdown_run_text.specs.ReferencePassed.{AreInk, HasSigns, ReferenceStands, codes_before, is_frequent, kind_if, kind_of, reference_read, reference_stops, sign_ops, value_read};
-ghost use Rattle.markdown_util.specs.Reference.{IsReferenceMarker, html_5_rows, is_value, is_value_byte};
+ghost use Rattle.markdown_util.specs.Reference.{IsReferenceMarker, is_value, is_value_byte, known_names, rows_named};
 
 use crate::readers::attention::is_at;
 use crate::readers::events::{append_enter, append_exit, append_leaf, read_marker};
@@ -46,7 +46,9 @@ use markdown_content::cursor::Cursor;
 use markdown_content::util::slice::Slice;
 use markdown_engine::tokenizer::Tokenizer;
 use markdown_event::event::Name;
-use markdown_util::util::character_reference::{decode_named, value_max, value_test};
+use markdown_util::util::character_reference::{
+    Names, decode_named_in, known_names, value_max, value_test,
+};
 use std::alloc::AllocError;
 use std::str;
 
@@ -94,33 +96,33 @@ fn is_frequent(bytes: &[u8]) -> bool
         || bytes == b"nbsp".as_slice()
 }
 
-// Whether these bytes are a name of the table.
+// Whether these bytes are a name of the table: of all names of HTML, or of those that are shipped.
 #[inline(never)]
-fn is_listed(bytes: &[u8]) -> bool
-    ensures { result ≡ has_value html_5_rows bytes.now }
+fn is_listed(bytes: &[u8], html: bool) -> bool
+    ensures { result ≡ has_value (rows_named (known_names html)) bytes.now }
 {
     match str::from_utf8(bytes) {
-        Ok(name) => decode_named(name, true).is_some(),
+        Ok(name) => decode_named_in(name, known_names(html)).is_some(),
         Err(_) => false,
     }
 }
 
 // Whether these bytes are a name of the table. Those that most references have are not looked up.
-fn is_name(bytes: &[u8]) -> bool
-    ensures { result ≡ has_value html_5_rows bytes.now }
+fn is_name(bytes: &[u8], html: bool) -> bool
+    ensures { result ≡ has_value (rows_named (known_names html)) bytes.now }
 {
-    is_frequent(bytes) || is_listed(bytes)
+    is_frequent(bytes) || is_listed(bytes, html)
 }
 
-// Of which kind a reference is, if it is one, by the bytes between its `&` and its `;`.
-fn kind_of(bytes: &[u8]) -> Option<u8>
-    ensures { result ≡ kind_of bytes.now }
+// Of which kind a reference is, if it is one, by the bytes between its `&` and its `;`, and by whether all names of HTML are known.
+fn kind_of(bytes: &[u8], html: bool) -> Option<u8>
+    ensures { result ≡ kind_of (rows_named (known_names html)) bytes.now }
 {
     match bytes {
         [] => None,
         [b'#', b'x' | b'X', digits @ ..] => kind_if(b'x', is_value(b'x', digits)),
         [b'#', digits @ ..] => kind_if(b'#', is_value(b'#', digits)),
-        _ => kind_if(b'&', is_name(bytes)),
+        _ => kind_if(b'&', is_name(bytes, html)),
     }
 }
 
@@ -128,14 +130,14 @@ fn kind_of(bytes: &[u8]) -> Option<u8>
 //
 //     > | a &amp; b
 //            ^^^
-fn kind_before(cursor: &Cursor, size: usize) -> Option<u8>
+fn kind_before(cursor: &Cursor, size: usize, html: bool) -> Option<u8>
     requires { AreInk size cursor.now }
-    ensures { result ≡ kind_of (codes_before size cursor.now) }
+    ensures { result ≡ kind_of (rows_named (known_names html)) (codes_before size cursor.now) }
 {
     let bytes = cursor.document();
     let end = cursor.point().index;
     let inner = Slice::from_indices(bytes, end - size, end);
-    kind_of(inner.bytes)
+    kind_of(inner.bytes, html)
 }
 
 // Moves from the `&` at the place to the `;` of its reference, and answers of which kind this is. Where no reference is seen, it answers `None`, and
@@ -143,8 +145,8 @@ fn kind_before(cursor: &Cursor, size: usize) -> Option<u8>
 //
 //     > | a &#xa9; b
 //           ^^^^^
-fn pass_value(behind: &mut Cursor) -> Option<u8>
-    ensures { IfSome result (λ marker. ReferenceStands marker behind.old behind.new) }
+fn pass_value(behind: &mut Cursor, html: bool) -> Option<u8>
+    ensures { IfSome result (λ marker. ReferenceStands (rows_named (known_names html)) marker behind.old behind.new) }
 {
     if !is_at(behind, b'&') {
         return None;
@@ -156,7 +158,7 @@ fn pass_value(behind: &mut Cursor) -> Option<u8>
         return None;
     }
     let size = behind.passed() - from;
-    kind_before(behind, size)
+    kind_before(behind, size, html)
 }
 
 // Reads the signs of a number: none of a name, `#` of a decimal number, and an `x` too of a hexadecimal one.
@@ -202,7 +204,7 @@ fn append<'a>(
     marker: u8,
     behind: Cursor<'a>,
 ) -> Result<(), AllocError>
-    requires { ReferenceStands marker tokenizer.old.cursor behind }
+    requires { ReferenceStands (references_here tokenizer.old) marker tokenizer.old.cursor behind }
     ensures ok { OnOk result (tokenizer.new ≡ reference_read marker behind.entry tokenizer.old) }
     ensures err { OnErr result (IsTrue tokenizer.new.failed) }
 {
@@ -226,14 +228,15 @@ fn append<'a>(
 /// Where none is read, the tokenizer is as before, and nothing is said of what stands there. The error comes where a growth is refused; then
 /// `failed` is true.
 pub fn read(tokenizer: &mut Tokenizer) -> Result<bool, AllocError>
-    ensures reads { IfOk result (λ ok. ReadsOrLeaves (character_reference_here (options_here tokenizer.old) html_5_rows) tokenizer.old ok tokenizer.new) }
+    ensures reads { IfOk result (λ ok. ReadsOrLeaves (character_reference_here (options_here tokenizer.old) (references_here tokenizer.old)) tokenizer.old ok tokenizer.new) }
     ensures err { OnErr result (IsTrue tokenizer.new.failed) }
 {
     if !tokenizer.parse_state.options.constructs.character_reference {
         return Ok(false);
     }
+    let html = tokenizer.parse_state.options.rules().html_names;
     let mut behind = tokenizer.cursor.save();
-    let Some(marker) = pass_value(&mut behind) else {
+    let Some(marker) = pass_value(&mut behind, html) else {
         return Ok(false);
     };
     append(tokenizer, marker, behind)?;

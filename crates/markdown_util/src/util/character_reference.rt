@@ -2,7 +2,7 @@
 
 ghost use Rattle.std.specs.Prelude.{◌≡◌, IsTrue};
 ghost use Rattle.std.specs.Option.{option_copied};
-ghost use Rattle.markdown_util.specs.Reference.{html_5_capitals, html_5_a_to_d, html_5_e_to_l, html_5_m_to_r, html_5_s_to_z, html_4_capitals, html_4_a_to_d, html_4_e_to_l, html_4_m_to_r, html_4_s_to_z, named_value, rows_of, rows_for, rows_named};
+ghost use Rattle.markdown_util.specs.Reference.{html_5_capitals, html_5_a_to_d, html_5_e_to_l, html_5_m_to_r, html_5_s_to_z, html_4_capitals, html_4_a_to_d, html_4_e_to_l, html_4_m_to_r, html_4_s_to_z, known_names, named_value, rows_of, rows_for, rows_named};
 ghost use Rattle.markdown_util.specs.Reference.{html_4_rows, html_5_rows, is_sorted, IsReferenceMarker, value_size_max, is_value_byte};
 ghost use Rattle.markdown_util.specs.TableParts.{IsTablePart};
 
@@ -47,6 +47,14 @@ pub fn decode_named_in(value: &str, names: Names) -> Option<&'static str>
         Names::Html5 => text_of(html_5(value), value),
         Names::Html => html(value),
     }
+}
+
+/// The names that a reference may have: all names of HTML, as CommonMark says, or else those of
+/// HTML 5 as they are shipped.
+pub fn known_names(html: bool) -> Names
+    ensures { result ≡ known_names html }
+{
+    if html { Names::Html } else { Names::Html5 }
 }
 
 /// The table of HTML 5 as it is shipped, or else that of HTML 4.

@@ -11,7 +11,7 @@ escapes = (refl, refl, refl, refl, refl, refl, refl, refl, refl, refl, refl, ref
 
 character_references : CharacterReferences
 unfolding computed
-character_references = (refl, refl, refl, refl, refl, refl, refl, refl, refl, refl, refl, refl, refl, refl, refl, refl, refl)
+character_references = (refl, refl, refl, refl, refl, refl, refl, refl, refl, refl, refl, refl, refl, refl, refl, refl, refl, refl, refl, refl, refl, refl, refl, refl, refl, refl, refl, refl, refl, refl)
 
 whitespace : Whitespace
 unfolding computed

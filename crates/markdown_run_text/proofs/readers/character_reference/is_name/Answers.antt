@@ -4,4 +4,4 @@ use Rattle.markdown_run_text.proofs.readers.character_reference.is_name.Goals as
 
 pub returns-then-is_frequent : goal.returns-then-is_frequent
 returns-then-is_frequent c =
-    c.if-is_frequent.true ∙ sym (frequent-known c.args.bytes.now (sym c.is_frequent.ensures ∙ c.if-is_frequent.true))
+    c.if-is_frequent.true ∙ sym (frequent-known c.args.html c.args.bytes.now (sym c.is_frequent.ensures ∙ c.if-is_frequent.true))

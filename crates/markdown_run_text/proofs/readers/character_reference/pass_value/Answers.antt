@@ -1,5 +1,6 @@
 use Rattle.std.proofs.Common.{◌-◌, sym, ◌∙◌, arith}
 use Rattle.markdown_content.specs.Place.{Place}
+use Rattle.markdown_util.specs.Reference.{known_names, rows_named}
 use Rattle.markdown_run_text.proofs.BytesOfReferences.{code-here, inner-ink, inner-past, inner-there, stands-by}
 use Rattle.markdown_run_text.proofs.readers.character_reference.pass_value.Goals as goal
 
@@ -23,6 +24,6 @@ pub returns : goal.returns
 returns c =
     let p : Place = c.consume.new.self in
     let q : Place = c.consume_stretch.new.self in
-    stands-by c.kind_before.result c.args.behind.now q p (c.passed.result - c.passed-from.result) (sym c.is_at.ensures ∙ c.if-not-is_at.false) c.consume.ensures
+    stands-by (rows_named (known_names c.args.html)) c.kind_before.result c.args.behind.now q p (c.passed.result - c.passed-from.result) (sym c.is_at.ensures ∙ c.if-not-is_at.false) c.consume.ensures
     (inner-past p q c.stops.result c.stops.ensures c.consume_stretch.ensures)
     (omega (arith, c.passed-from.ensures, c.passed.ensures)) (sym c.is_at-2.ensures ∙ c.if-not-is_at-2.false) c.kind_before.ensures
