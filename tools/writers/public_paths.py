@@ -24,7 +24,7 @@ CALLER = 'markdown_test_runs'
 # Public items that serve other crates alone: bytes at which states stop, what loops and passes ask, and names that are printed. Or a caller is
 # answered a value of such a type, and does not name the type.
 INNER = {
-    'autolink': 'uri_stops',
+    'autolink': 'uri_stops uri_ends',
     'bytes': 'NO_BYTES',
     'content': 'Stretch are_between_characters are_pieces_from has_text_lines reach',
     'cursor': 'pass_filled_lines past_ordinary plain_end stands_at_ink stands_at_last_byte starting_at',

@@ -21,7 +21,7 @@ use Rattle.markdown_model.specs.InlineTree.{label_tree, raw_tree, finished_text,
 use Rattle.markdown_model.specs.LabelEnd.{Element}
 use Rattle.markdown_model.specs.Pairs.{pair_list}
 use Rattle.markdown_model.specs.Passes.{no_breaks, breaks, labels_of, merged, trimmed, with_emails_apart}
-use Rattle.markdown_model.specs.Setting.{Setting}
+use Rattle.markdown_model.specs.Setting.{Setting, rules}
 use Rattle.markdown_model.proofs.PassesKeepCodes.{codes-paired}
 use Rattle.markdown_model.proofs.OneElementList.{text_elements, string_elements}
 use Rattle.markdown_model.proofs.LabelsCover.{codes-labels_of}
@@ -104,7 +104,7 @@ module _ (s : Setting) (pieces : List Piece) (content : IsContent s.bytes pieces
 
   codes-row : leaf_codes (labels_of plain_elements) ≡ all
   unfolding string_tree
-  codes-row = codes-labels_of plain_elements ∙ sym (codes-finished_string plain_elements) ∙ (leaves_cover s all).1
+  codes-row = codes-labels_of plain_elements ∙ sym (codes-finished_string (rules s) plain_elements) ∙ (leaves_cover s all).1
 
   lined-row-of : IsLined E (labels_of plain_elements)
   lined-row-of =
@@ -114,7 +114,7 @@ module _ (s : Setting) (pieces : List Piece) (content : IsContent s.bytes pieces
   lined-string : IsLined E (string_tree s all)
   unfolding string_tree finished_string
   lined-string =
-      lined-trimmed E no_breaks false false (merged (labels_of plain_elements)) (lined-merged E (labels_of plain_elements) lined-row-of)
+      lined-trimmed E (no_breaks (rules s)) false false (merged (labels_of plain_elements)) (lined-merged E (labels_of plain_elements) lined-row-of)
 
   pub string-leaves : HasLeaves s.bytes (string_tree s all)
   string-leaves =

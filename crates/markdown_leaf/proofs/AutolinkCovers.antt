@@ -40,9 +40,9 @@ unfolding scheme
 scheme-takes =
     first_takes _ _ (then_takes _ _ (one_takes is_letter) (weaker _ (some_takes is_scheme_code))) (λ text. takes_no_more (λ x. []) _ (if_passed _ _ _ _ (given _ _ text refl)))
 
-uri-some : Yields SomeCodes uri
+uri-some : (replaced : Bool) → Yields SomeCodes (uri replaced)
 unfolding uri
-uri-some = some_yields uri takes_uri (then_takes _ _ scheme-takes (takes_no_more itself _ (takes_then _ _ (takes_one _) (takes_any_number _))))
+uri-some replaced = some_yields (uri replaced) (takes_uri replaced) (then_takes _ _ scheme-takes (takes_no_more itself _ (takes_then _ _ (takes_one _) (takes_any_number _))))
 
 email-some : (all : Bool) → Yields SomeCodes (email_address all)
 unfolding email_address
@@ -129,12 +129,13 @@ either-by os (Some r) p None b e f = cc
 either-by os (Some r) p (Some x) b e f = e
 
 pub link-here : (on : Bool) (rules : Rules) (c : Code) (cs : List Code) → on ≡ true → is_value 60 c ≡ true →
-    plan_of (provided on >> autolink rules) (c ∷ cs) ≡ preceded bracket_ops (opened (open_naming rules.all_address_marks cs))
+    plan_of (provided on >> autolink rules) (c ∷ cs) ≡ preceded bracket_ops (opened (open_naming rules.nul_is_replaced rules.all_address_marks cs))
 unfolding autolink either
 link-here on rules c cs e h =
+    let replaced : Bool = rules.nul_is_replaced in
     let all : Bool = rules.all_address_marks in
     ap tree_ops (switched-on (autolink rules) on (c ∷ cs) e)
-    ∙ either-by bracket_ops (in_angle_brackets uri N.AutolinkProtocol (c ∷ cs)) (in_angle_brackets (email_address all) N.AutolinkEmail (c ∷ cs)) (up_to_bracket N.AutolinkProtocol uri cs) (up_to_bracket N.AutolinkEmail (email_address all) cs) (inside-by uri N.AutolinkProtocol c cs (uri cs) uri-some h refl) (inside-by (email_address all) N.AutolinkEmail c cs (email_address all cs) (email-some all) h refl)
+    ∙ either-by bracket_ops (in_angle_brackets (uri replaced) N.AutolinkProtocol (c ∷ cs)) (in_angle_brackets (email_address all) N.AutolinkEmail (c ∷ cs)) (up_to_bracket N.AutolinkProtocol (uri replaced) cs) (up_to_bracket N.AutolinkEmail (email_address all) cs) (inside-by (uri replaced) N.AutolinkProtocol c cs (uri replaced cs) (uri-some replaced) h refl) (inside-by (email_address all) N.AutolinkEmail c cs (email_address all cs) (email-some all) h refl)
 
 no-brackets : (inside : Reading (List Code)) (name : Name) (cs : List Code) → next_is (is_value 60) cs ≡ false →
     in_angle_brackets inside name cs ≡ None
@@ -146,6 +147,7 @@ pub no-link : (on : Bool) (rules : Rules) (cs : List Code) → on && next_is (is
 unfolding autolink either
 no-link false rules cs e = ap tree_ops (switched-off (autolink rules) false cs refl)
 no-link true rules cs e =
+    let replaced : Bool = rules.nul_is_replaced in
     let all : Bool = rules.all_address_marks in
     ap tree_ops (switched-on (autolink rules) true cs refl)
-    ∙ either-by [] (in_angle_brackets uri N.AutolinkProtocol cs) (in_angle_brackets (email_address all) N.AutolinkEmail cs) None None (ap tree_ops (no-brackets uri N.AutolinkProtocol cs e)) (ap tree_ops (no-brackets (email_address all) N.AutolinkEmail cs e))
+    ∙ either-by [] (in_angle_brackets (uri replaced) N.AutolinkProtocol cs) (in_angle_brackets (email_address all) N.AutolinkEmail cs) None None (ap tree_ops (no-brackets (uri replaced) N.AutolinkProtocol cs e)) (ap tree_ops (no-brackets (email_address all) N.AutolinkEmail cs e))

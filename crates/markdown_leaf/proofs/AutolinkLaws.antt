@@ -27,7 +27,7 @@ use Rattle.markdown_model.specs.CodeTests.{is_value, is_alphanumeric, is_letter,
 use Rattle.markdown_model.specs.Grammar.{any_number, with_first}
 use Rattle.markdown_model.specs.LeafConstructs.{uri, email_address, is_scheme_code, is_uri_code, is_local_code}
 use Rattle.markdown_plan.specs.ByteTests.{letter_value, alphanumeric_value}
-use Rattle.markdown_leaf.specs.Autolink.{all_marks, rules_here, scheme_value, local_value, uri_value, is_on, opening, ending, start_at, start_step, open_at, scheme_or_at, scheme_inside_at, url_inside_at, url_inside_step, uri_stops, email_atext_at, email_at_sign_or_dot_at, in_label_at, email_label_at}
+use Rattle.markdown_leaf.specs.Autolink.{all_marks, replaces_nul, rules_here, scheme_value, local_value, uri_value, is_on, opening, ending, start_at, start_step, open_at, scheme_or_at, scheme_inside_at, url_inside_at, url_inside_step, uri_stops, email_atext_at, email_at_sign_or_dot_at, in_label_at, email_label_at}
 use Rattle.markdown_leaf.specs.Autolink.{AutolinkInsideReady, FreshReady, LabelReady, no_scheme, link_here, start_ends, ended, up_to_bracket, or_else, scheme_rest, local_rest, domains, is_label_code, label_rest, open_naming, scheme_naming, open_ends, scheme_or_ends, scheme_inside_ends, url_inside_ends}
 use Rattle.markdown_leaf.specs.Autolink.{email_atext_ends, email_at_sign_or_dot_ends, email_label_ends, states, email_at_sign_or_dot_words, email_atext_words, email_label_words, email_value_words, open_words, scheme_inside_words, scheme_or_words, start_words, url_inside_words}
 use Rattle.markdown_plan.specs.Plan.{Plan, preceded, plan_of, DoesAs, KeepsAs}
@@ -157,10 +157,10 @@ fresh-entered T k = record { inside = inside-entered T; none_yet = k }
 
 -- what the run after the bracket says
 open-says : (T : Tokenizer) (ok : Bool) (U : Tokenizer) → T.tokenize_state.size ≡ 0 → open_ends (done opening T) ok U →
-    NamesAs 1 (open_naming (all_marks T)) T.tokenize_state (done opening T) ok U
+    NamesAs 1 (open_naming (replaces_nul T) (all_marks T)) T.tokenize_state (done opening T) ok U
 unfolding applied
 open-says T ok U k x =
-    subst (λ (s : TokenizeState). NamesAs 1 (open_naming (all_marks T)) s (done opening T) ok U) (ap (λ n. with_size n T.tokenize_state) (sym k)) x
+    subst (λ (s : TokenizeState). NamesAs 1 (open_naming (replaces_nul T) (all_marks T)) s (done opening T) ok U) (ap (λ n. with_size n T.tokenize_state) (sym k)) x
 
 module _ (W : Words) (within : EqualsLayer states W) where
   -- on with a state at the same place, with these scratch fields
@@ -179,8 +179,8 @@ module _ (W : Words) (within : EqualsLayer states W) where
       let q : Naming = up_to_bracket N.AutolinkEmail (local_rest m) in
       let P : Stepped → Type 0 = GoesIn W (weight_at 2 T) (open_ends T) in
       let address : next_is is_letter (ahead T) ≡ false → next_is (is_value 64) (ahead T) ≡ false → P (stepped (Retry AutolinkEmailAtext) T) = λ h l.
-      Goes-over W 2 1 (open_naming m) q s T (Retry AutolinkEmailAtext) (within AutolinkEmailAtext) alone (omega arith)
-      (or-right (up_to_bracket N.AutolinkProtocol uri (ahead T)) (up_to_bracket N.AutolinkEmail (email_address m) (ahead T)) (q (ahead T)) (ap (ended N.AutolinkProtocol) (uri-none (ahead T) h)) (ap (ended N.AutolinkEmail) (email-here m (ahead T) l)))
+      Goes-over W 2 1 (open_naming (replaces_nul T) m) q s T (Retry AutolinkEmailAtext) (within AutolinkEmailAtext) alone (omega arith)
+      (or-right (up_to_bracket N.AutolinkProtocol (uri (replaces_nul T)) (ahead T)) (up_to_bracket N.AutolinkEmail (email_address m) (ahead T)) (q (ahead T)) (ap (ended N.AutolinkProtocol) (uri-none (replaces_nul T) (ahead T) h)) (ap (ended N.AutolinkEmail) (email-here m (ahead T) l)))
       k (λ ok U x. x) in
       code-step P (current_of T) (λ o. open_at o T)
       (λ e. address (ap (λ cs. next_is is_letter cs) (ahead-none T e)) (ap (λ cs. next_is (is_value 64) cs) (ahead-none T e)))
@@ -189,14 +189,14 @@ module _ (W : Words) (within : EqualsLayer states W) where
       let cs : List Code = rest_of (ahead T) in
       if-step P (letter_value c) _ _
       (λ h. let letter : is_letter b.code ≡ true = ap letter_value b.value ∙ h in
-      Goes-inside-kept W 2 1 (open_naming m) (scheme_naming m 1) s T (Next AutolinkSchemeOrEmailAtext) (within AutolinkSchemeOrEmailAtext) alone refl (some-codes T c e) (omega arith)
-      (ap (open_naming m) b.whole ∙ or-both (Consume ∷ []) _ _ _ _ (bracket-next N.AutolinkProtocol uri (scheme_rest 1) b.code cs (uri-first b.code cs letter)) (bracket-next N.AutolinkEmail (email_address m) (local_rest m) b.code cs (email-first m b.code cs (letter-local m b.code letter))))
+      Goes-inside-kept W 2 1 (open_naming (replaces_nul T) m) (scheme_naming (replaces_nul T) m 1) s T (Next AutolinkSchemeOrEmailAtext) (within AutolinkSchemeOrEmailAtext) alone refl (some-codes T c e) (omega arith)
+      (ap (open_naming (replaces_nul T) m) b.whole ∙ or-both (Consume ∷ []) _ _ _ _ (bracket-next N.AutolinkProtocol (uri (replaces_nul T)) (scheme_rest (replaces_nul T) 1) b.code cs (uri-first (replaces_nul T) b.code cs letter)) (bracket-next N.AutolinkEmail (email_address m) (local_rest m) b.code cs (email-first m b.code cs (letter-local m b.code letter))))
       (fresh-kept T k) (λ ok U x. x))
       (λ h. let letter : is_letter b.code ≡ false = ap letter_value b.value ∙ h in
       if-step P (c == 64) _ _
       (λ l. let at : is_value 64 b.code ≡ true = ap (λ v. v == 64) b.value ∙ l in
-      Goes-refused W 2 1 (open_naming m) s T alone
-      (ap (open_naming m) b.whole ∙ or-right (up_to_bracket N.AutolinkProtocol uri (b.code ∷ cs)) (up_to_bracket N.AutolinkEmail (email_address m) (b.code ∷ cs)) None (ap (ended N.AutolinkProtocol) (uri-none (b.code ∷ cs) letter)) (ap (ended N.AutolinkEmail) (email-none m (b.code ∷ cs) (ap (local_value m) (eqb-true b.code.value 64 at))))))
+      Goes-refused W 2 1 (open_naming (replaces_nul T) m) s T alone
+      (ap (open_naming (replaces_nul T) m) b.whole ∙ or-right (up_to_bracket N.AutolinkProtocol (uri (replaces_nul T)) (b.code ∷ cs)) (up_to_bracket N.AutolinkEmail (email_address m) (b.code ∷ cs)) None (ap (ended N.AutolinkProtocol) (uri-none (replaces_nul T) (b.code ∷ cs) letter)) (ap (ended N.AutolinkEmail) (email-none m (b.code ∷ cs) (ap (local_value m) (eqb-true b.code.value 64 at))))))
       (λ l. address (ap (λ xs. next_is is_letter xs) b.whole ∙ letter) (ap (λ xs. next_is (is_value 64) xs) b.whole ∙ ap (λ v. v == 64) b.value ∙ l))))
 
   pub scheme_or-law : Law W scheme_or_words
@@ -206,8 +206,8 @@ module _ (W : Words) (within : EqualsLayer states W) where
       let m : Bool = all_marks T in
       let P : Stepped → Type 0 = GoesIn W (weight_at 3 T) (scheme_or_ends T) in
       let other : next_is is_scheme_code (ahead T) ≡ false → P (stepped (Retry AutolinkEmailAtext) T) = λ h.
-      Goes-over W 3 1 (scheme_naming m 1) (up_to_bracket N.AutolinkEmail (local_rest m)) s T (Retry AutolinkEmailAtext) (within AutolinkEmailAtext) alone (omega arith)
-      (or-right _ _ _ (ap (ended N.AutolinkProtocol) (scheme-here 1 (ahead T) h)) refl)
+      Goes-over W 3 1 (scheme_naming (replaces_nul T) m 1) (up_to_bracket N.AutolinkEmail (local_rest m)) s T (Retry AutolinkEmailAtext) (within AutolinkEmailAtext) alone (omega arith)
+      (or-right _ _ _ (ap (ended N.AutolinkProtocol) (scheme-here (replaces_nul T) 1 (ahead T) h)) refl)
       k (λ ok U x. x) in
       code-step P (current_of T) (λ o. scheme_or_at o T)
       (λ e. other (ap (λ cs. next_is is_scheme_code cs) (ahead-none T e)))
@@ -215,7 +215,7 @@ module _ (W : Words) (within : EqualsLayer states W) where
       let b : BeginsWithValue c (ahead T) = ahead-some T c e in
       if-step P (scheme_value c) _ _
       (λ h. let here : next_is is_scheme_code (ahead T) ≡ true = ap (λ xs. next_is is_scheme_code xs) b.whole ∙ ap scheme_value b.value ∙ h in
-      goes-over 3 (scheme_naming m 1) (scheme_naming m 1) s (with_size 1 T.tokenize_state) T AutolinkSchemeInsideOrEmailAtext (within AutolinkSchemeInsideOrEmailAtext) alone (omega arith) refl
+      goes-over 3 (scheme_naming (replaces_nul T) m 1) (scheme_naming (replaces_nul T) m 1) s (with_size 1 T.tokenize_state) T AutolinkSchemeInsideOrEmailAtext (within AutolinkSchemeInsideOrEmailAtext) alone (omega arith) refl
       (record { inside = inside-scratched (with_size 1 T.tokenize_state) T k.inside; some = omega arith; least = here; most = omega arith }) (λ ok U x. x))
       (λ h. other (ap (λ xs. next_is is_scheme_code xs) b.whole ∙ ap scheme_value b.value ∙ h)))
 
@@ -226,12 +226,12 @@ module _ (W : Words) (within : EqualsLayer states W) where
       let s : TokenizeState = with_size 0 T.tokenize_state in
       let m : Bool = all_marks T in
       let P : Stepped → Type 0 = GoesIn W (weight_at 2 T) (scheme_inside_ends T) in
-      let other : scheme_rest n (ahead T) ≡ None → P (no_scheme T) = λ h.
-      goes-over 2 (scheme_naming m n) (up_to_bracket N.AutolinkEmail (local_rest m)) s s T AutolinkEmailAtext (within AutolinkEmailAtext) alone (omega arith)
+      let other : scheme_rest (replaces_nul T) n (ahead T) ≡ None → P (no_scheme T) = λ h.
+      goes-over 2 (scheme_naming (replaces_nul T) m n) (up_to_bracket N.AutolinkEmail (local_rest m)) s s T AutolinkEmailAtext (within AutolinkEmailAtext) alone (omega arith)
       (or-right _ _ _ (ap (ended N.AutolinkProtocol) h) refl)
       (record { inside = inside-scratched s T k.inside; none_yet = refl }) (λ ok U x. x) in
       code-step P (current_of T) (λ o. scheme_inside_at o T)
-      (λ e. other (ap (scheme_rest n) (ahead-none T e) ∙ scheme-other n [] refl refl))
+      (λ e. other (ap (scheme_rest (replaces_nul T) n) (ahead-none T e) ∙ scheme-other (replaces_nul T) n [] refl refl))
       (λ c e.
       let b : BeginsWithValue c (ahead T) = ahead-some T c e in
       let cs : List Code = rest_of (ahead T) in
@@ -239,27 +239,27 @@ module _ (W : Words) (within : EqualsLayer states W) where
       if-step P (c == 58) _ _
       (λ h. let colon : is_value 58 b.code ≡ true = ap (λ v. v == 58) b.value ∙ h in
       let two : 2 ≤ n = at-least-two n _ k.least (ap (λ xs. next_is is_scheme_code xs) b.whole ∙ ap scheme_value (eqb-true b.code.value 58 colon)) in
-      Goes-inside W 2 1 (scheme_naming m n) (up_to_bracket N.AutolinkProtocol (any_number is_uri_code)) s s T (Next AutolinkUrlInside) (within AutolinkUrlInside) alone refl more (omega arith)
-      (ap (scheme_naming m n) b.whole ∙ or-left _ _ _ (bracket-next N.AutolinkProtocol (scheme_rest n) (any_number is_uri_code) b.code cs (scheme-colon n b.code cs colon two k.most)) (ap (ended N.AutolinkEmail) (local-other m (b.code ∷ cs) (ap (local_value m) (eqb-true b.code.value 58 colon)) (ap (λ v. v == 64) (eqb-true b.code.value 58 colon)))))
+      Goes-inside W 2 1 (scheme_naming (replaces_nul T) m n) (up_to_bracket N.AutolinkProtocol (any_number (is_uri_code (replaces_nul T)))) s s T (Next AutolinkUrlInside) (within AutolinkUrlInside) alone refl more (omega arith)
+      (ap (scheme_naming (replaces_nul T) m n) b.whole ∙ or-left _ _ _ (bracket-next N.AutolinkProtocol (scheme_rest (replaces_nul T) n) (any_number (is_uri_code (replaces_nul T))) b.code cs (scheme-colon (replaces_nul T) n b.code cs colon two k.most)) (ap (ended N.AutolinkEmail) (local-other m (b.code ∷ cs) (ap (local_value m) (eqb-true b.code.value 58 colon)) (ap (λ v. v == 64) (eqb-true b.code.value 58 colon)))))
       (inside-next s T k.inside) (λ ok U x. x))
       (λ g. if-step P (scheme_value c && nat_lt n 32) _ _
       (λ h. let here : is_scheme_code b.code ≡ true = ap scheme_value b.value ∙ and-left (scheme_value c) _ h in
       let less : n < 32 = ltb-true n 32 (and-right (scheme_value c) _ h) in
-      Goes-inside W 2 1 (scheme_naming m n) (scheme_naming m (n + 1)) s (with_size (n + 1) T.tokenize_state) T (Next AutolinkSchemeInsideOrEmailAtext) (within AutolinkSchemeInsideOrEmailAtext) alone refl more (omega arith)
-      (ap (scheme_naming m n) b.whole ∙ or-both (Consume ∷ []) _ _ _ _ (bracket-next N.AutolinkProtocol (scheme_rest n) (scheme_rest (n + 1)) b.code cs (scheme-more n b.code cs here)) (bracket-next N.AutolinkEmail (local_rest m) (local_rest m) b.code cs (local-more m b.code cs (scheme-local m b.code.value here))))
+      Goes-inside W 2 1 (scheme_naming (replaces_nul T) m n) (scheme_naming (replaces_nul T) m (n + 1)) s (with_size (n + 1) T.tokenize_state) T (Next AutolinkSchemeInsideOrEmailAtext) (within AutolinkSchemeInsideOrEmailAtext) alone refl more (omega arith)
+      (ap (scheme_naming (replaces_nul T) m n) b.whole ∙ or-both (Consume ∷ []) _ _ _ _ (bracket-next N.AutolinkProtocol (scheme_rest (replaces_nul T) n) (scheme_rest (replaces_nul T) (n + 1)) b.code cs (scheme-more (replaces_nul T) n b.code cs here)) (bracket-next N.AutolinkEmail (local_rest m) (local_rest m) b.code cs (local-more m b.code cs (scheme-local m b.code.value here))))
       (record { inside = inside-next (with_size (n + 1) T.tokenize_state) T k.inside; some = omega arith; least = two-codes n _ k.some; most = omega (arith, less) }) (λ ok U x. x))
-      (λ h. other (ap (scheme_rest n) b.whole ∙ (elim (is_scheme_code b.code) as (λ z. is_scheme_code b.code ≡ z → scheme_rest n (b.code ∷ cs) ≡ None) [
-        | true ↦ λ i. scheme-long n b.code cs i (ltb-false n 32 (ap (λ z. z && nat_lt n 32) (sym (sym (ap scheme_value b.value) ∙ i)) ∙ h))
-        | false ↦ λ i. scheme-other n (b.code ∷ cs) i (ap (λ v. v == 58) b.value ∙ g)
+      (λ h. other (ap (scheme_rest (replaces_nul T) n) b.whole ∙ (elim (is_scheme_code b.code) as (λ z. is_scheme_code b.code ≡ z → scheme_rest (replaces_nul T) n (b.code ∷ cs) ≡ None) [
+        | true ↦ λ i. scheme-long (replaces_nul T) n b.code cs i (ltb-false n 32 (ap (λ z. z && nat_lt n 32) (sym (sym (ap scheme_value b.value) ∙ i)) ∙ h))
+        | false ↦ λ i. scheme-other (replaces_nul T) n (b.code ∷ cs) i (ap (λ v. v == 58) b.value ∙ g)
       ] refl)))))
 
   pub url_inside-law : Law W url_inside_words
   unfolding applied scratched
   url_inside-law T alone k =
       let s : TokenizeState = with_size 0 T.tokenize_state in
-      let p : Naming = up_to_bracket N.AutolinkProtocol (any_number is_uri_code) in
+      let p : Naming = up_to_bracket N.AutolinkProtocol (any_number (is_uri_code (replaces_nul T))) in
       let P : Stepped → Type 0 = GoesIn W (weight_at 1 T) (url_inside_ends T) in
-      let none : (cs : List Code) → next_is is_uri_code cs ≡ false → next_is (is_value 62) cs ≡ false → p cs ≡ None = λ cs h l. ap (ended N.AutolinkProtocol) (url-end cs h) ∙ ended-other N.AutolinkProtocol cs l in
+      let none : (cs : List Code) → next_is (is_uri_code (replaces_nul T)) cs ≡ false → next_is (is_value 62) cs ≡ false → p cs ≡ None = λ cs h l. ap (ended N.AutolinkProtocol) (url-end (replaces_nul T) cs h) ∙ ended-other N.AutolinkProtocol cs l in
       code-step P (current_of T) (λ o. url_inside_at o T)
       (λ e. Goes-refused W 1 1 p s T alone (ap p (ahead-none T e) ∙ none [] refl refl))
       (λ c e.
@@ -269,12 +269,12 @@ module _ (W : Words) (within : EqualsLayer states W) where
       (λ h. let here : is_value 62 b.code ≡ true = ap (λ v. v == 62) b.value ∙ h in
       subst (λ (x : Tokenizer). P (stepped State.Ok (scratched s (done (ending N.AutolinkProtocol) x)))) k.entered
       (Goes-named W 1 1 p N.AutolinkProtocol (ending N.AutolinkProtocol) s T alone
-      (ap p b.whole ∙ ap (ended N.AutolinkProtocol) (url-end (b.code ∷ cs) (ap uri_value (eqb-true b.code.value 62 here))) ∙ ended-here N.AutolinkProtocol b.code cs here)))
-      (λ g. if-step P (uri_value c) _ _
+      (ap p b.whole ∙ ap (ended N.AutolinkProtocol) (url-end (replaces_nul T) (b.code ∷ cs) (ap (uri_value (replaces_nul T)) (eqb-true b.code.value 62 here))) ∙ ended-here N.AutolinkProtocol b.code cs here)))
+      (λ g. if-step P (uri_value (replaces_nul T) c) _ _
       (λ h. Goes-inside-kept W 1 1 p p s T (Next AutolinkUrlInside) (within AutolinkUrlInside) alone refl (some-codes T c e) (omega arith)
-      (ap p b.whole ∙ bracket-next N.AutolinkProtocol (any_number is_uri_code) (any_number is_uri_code) b.code cs (url-more b.code cs (ap uri_value b.value ∙ h)))
+      (ap p b.whole ∙ bracket-next N.AutolinkProtocol (any_number (is_uri_code (replaces_nul T))) (any_number (is_uri_code (replaces_nul T))) b.code cs (url-more (replaces_nul T) b.code cs (ap (uri_value (replaces_nul T)) b.value ∙ h)))
       (inside-kept T k) (λ ok U x. x))
-      (λ h. Goes-refused W 1 1 p s T alone (ap p b.whole ∙ none (b.code ∷ cs) (ap uri_value b.value ∙ h) (ap (λ v. v == 62) b.value ∙ g)))))
+      (λ h. Goes-refused W 1 1 p s T alone (ap p b.whole ∙ none (b.code ∷ cs) (ap (uri_value (replaces_nul T)) b.value ∙ h) (ap (λ v. v == 62) b.value ∙ g)))))
 
   pub email_atext-law : Law W email_atext_words
   unfolding applied scratched
@@ -389,7 +389,7 @@ module _ (W : Words) (within : EqualsLayer states W) where
 
   -- past the bracket, the leaf entered
   link-opened : (T : Tokenizer) → 1 ≤ length (ahead T) → T.attempts ≡ [] → T.tokenize_state.size ≡ 0 →
-      plan_of (link_here T) (ahead T) ≡ preceded bracket_ops (opening_of (open_naming (all_marks T)) (drop 1 (ahead T))) →
+      plan_of (link_here T) (ahead T) ≡ preceded bracket_ops (opening_of (open_naming (replaces_nul T) (all_marks T)) (drop 1 (ahead T))) →
       GoesIn W (weight_at 3 T) (KeepsAs 0 (plan_of (link_here T)) T) (stepped (Next AutolinkOpen) (done opening T))
   link-opened T more alone k e =
       let s : TokenizeState = T.tokenize_state in
@@ -398,9 +398,9 @@ module _ (W : Words) (within : EqualsLayer states W) where
       subst (λ (V : Tokenizer). FreshReady V → ((ok : Bool) (U : Tokenizer) → open_ends V ok U → E ok U) → GoesIn W (weight_at 3 T) E (stepped (Next AutolinkOpen) V)) (kept opening T)
       (Goes-to W 3 E opening s T T (Next AutolinkOpen) (within AutolinkOpen) alone refl more (omega arith))
       (fresh-entered T k)
-      (λ ok U x. DoesAs-then 0 p (opening_of (open_naming (all_marks T))) bracket_ops s s T refl e ok U
-      (subst (λ (V : Tokenizer). DoesAs 1 (opening_of (open_naming (all_marks T))) s V ok U) (sym (kept bracket_ops T))
-      (DoesAs-entered 1 (opening_of (open_naming (all_marks T))) (open_naming (all_marks T)) N.AutolinkProtocol s (done bracket_ops T) refl ok U (open-says T ok U k x))))
+      (λ ok U x. DoesAs-then 0 p (opening_of (open_naming (replaces_nul T) (all_marks T))) bracket_ops s s T refl e ok U
+      (subst (λ (V : Tokenizer). DoesAs 1 (opening_of (open_naming (replaces_nul T) (all_marks T))) s V ok U) (sym (kept bracket_ops T))
+      (DoesAs-entered 1 (opening_of (open_naming (replaces_nul T) (all_marks T))) (open_naming (replaces_nul T) (all_marks T)) N.AutolinkProtocol s (done bracket_ops T) refl ok U (open-says T ok U k x))))
 
   pub start-law : Law W start_words
   start-law T alone k =

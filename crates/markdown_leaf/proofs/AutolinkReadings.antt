@@ -48,99 +48,101 @@ if-none : (b : Bool) (o : Option (List Code × List Code)) → o ≡ None → (i
 if-none true o e = e
 if-none false o e = refl
 
-abbrev colon : Reading (List Code)
-colon = one (is_value 58) then_ any_number is_uri_code
+-- NUL is read as U+FFFD or is not.
+module _ (replaced : Bool) where
+  abbrev colon : Reading (List Code)
+  colon = one (is_value 58) then_ any_number (is_uri_code replaced)
 
-pub scheme-more : (k : ℕ) (c : Code) (cs : List Code) → is_scheme_code c ≡ true →
-    scheme_rest k (c ∷ cs) ≡ with_first c (scheme_rest (k + 1) cs)
-scheme-more k c cs h =
-    let s : List Code × List Code = span is_scheme_code cs in
-    ap (λ (r : List Code × List Code). if is_between 2 32 (k + length r.0) then after r.0 (colon r.1) else None) (span-takes is_scheme_code c cs h)
-    ∙ ap (λ n. if is_between 2 32 n then after (c ∷ s.0) (colon s.1) else None) (counted k s.0 c)
-    ∙ if-after (is_between 2 32 (k + 1 + length s.0)) c s.0 (colon s.1)
+  pub scheme-more : (k : ℕ) (c : Code) (cs : List Code) → is_scheme_code c ≡ true →
+      scheme_rest replaced k (c ∷ cs) ≡ with_first c (scheme_rest replaced (k + 1) cs)
+  scheme-more k c cs h =
+      let s : List Code × List Code = span is_scheme_code cs in
+      ap (λ (r : List Code × List Code). if is_between 2 32 (k + length r.0) then after r.0 (colon r.1) else None) (span-takes is_scheme_code c cs h)
+      ∙ ap (λ n. if is_between 2 32 n then after (c ∷ s.0) (colon s.1) else None) (counted k s.0 c)
+      ∙ if-after (is_between 2 32 (k + 1 + length s.0)) c s.0 (colon s.1)
 
-pub scheme-here : (k : ℕ) (cs : List Code) → next_is is_scheme_code cs ≡ false →
-    scheme_rest k cs ≡ (if is_between 2 32 k then after [] (colon cs) else None)
-scheme-here k cs h =
-    ap (λ (r : List Code × List Code). if is_between 2 32 (k + length r.0) then after r.0 (colon r.1) else None) (span-none is_scheme_code cs h)
-    ∙ ap (λ n. if is_between 2 32 n then after [] (colon cs) else None) (none-more k)
+  pub scheme-here : (k : ℕ) (cs : List Code) → next_is is_scheme_code cs ≡ false →
+      scheme_rest replaced k cs ≡ (if is_between 2 32 k then after [] (colon cs) else None)
+  scheme-here k cs h =
+      ap (λ (r : List Code × List Code). if is_between 2 32 (k + length r.0) then after r.0 (colon r.1) else None) (span-none is_scheme_code cs h)
+      ∙ ap (λ n. if is_between 2 32 n then after [] (colon cs) else None) (none-more k)
 
-colon-here : (c : Code) (cs : List Code) → is_value 58 c ≡ true →
-    colon (c ∷ cs) ≡ with_first c (any_number is_uri_code cs)
-colon-here c cs h =
-    then-after (one (is_value 58)) (any_number is_uri_code) (c ∷ cs) (c ∷ []) cs (one-here (is_value 58) c cs h) ∙ after-one c (any_number is_uri_code cs)
+  colon-here : (c : Code) (cs : List Code) → is_value 58 c ≡ true →
+      colon (c ∷ cs) ≡ with_first c (any_number (is_uri_code replaced) cs)
+  colon-here c cs h =
+      then-after (one (is_value 58)) (any_number (is_uri_code replaced)) (c ∷ cs) (c ∷ []) cs (one-here (is_value 58) c cs h) ∙ after-one c (any_number (is_uri_code replaced) cs)
 
-within-is : (a b k : ℕ) → a ≤ k → k ≤ b → is_between a b k ≡ true
-within-is a b k h l = grind (arith, nat_tests, common_steps)
+  within-is : (a b k : ℕ) → a ≤ k → k ≤ b → is_between a b k ≡ true
+  within-is a b k h l = grind (arith, nat_tests, common_steps)
 
-beyond-is : (a b k : ℕ) → b < k → is_between a b k ≡ false
-beyond-is a b k h = grind (arith, nat_tests, common_steps)
+  beyond-is : (a b k : ℕ) → b < k → is_between a b k ≡ false
+  beyond-is a b k h = grind (arith, nat_tests, common_steps)
 
-pub scheme-colon : (k : ℕ) (c : Code) (cs : List Code) → is_value 58 c ≡ true → 2 ≤ k → k ≤ 32 →
-    scheme_rest k (c ∷ cs) ≡ with_first c (any_number is_uri_code cs)
-scheme-colon k c cs h l m =
-    scheme-here k (c ∷ cs) (ap scheme_value (eqb-true c.value 58 h))
-    ∙ ap (λ b. if b then after [] (colon (c ∷ cs)) else None) (within-is 2 32 k l m)
-    ∙ after-none (colon (c ∷ cs))
-    ∙ colon-here c cs h
+  pub scheme-colon : (k : ℕ) (c : Code) (cs : List Code) → is_value 58 c ≡ true → 2 ≤ k → k ≤ 32 →
+      scheme_rest replaced k (c ∷ cs) ≡ with_first c (any_number (is_uri_code replaced) cs)
+  scheme-colon k c cs h l m =
+      scheme-here k (c ∷ cs) (ap scheme_value (eqb-true c.value 58 h))
+      ∙ ap (λ b. if b then after [] (colon (c ∷ cs)) else None) (within-is 2 32 k l m)
+      ∙ after-none (colon (c ∷ cs))
+      ∙ colon-here c cs h
 
-pub scheme-other : (k : ℕ) (cs : List Code) → next_is is_scheme_code cs ≡ false → next_is (is_value 58) cs ≡ false →
-    scheme_rest k cs ≡ None
-scheme-other k cs h l =
-    scheme-here k cs h ∙ if-none (is_between 2 32 k) (after [] (colon cs)) (ap (after []) (then-none (one (is_value 58)) (any_number is_uri_code) cs (one-not (is_value 58) cs l)))
+  pub scheme-other : (k : ℕ) (cs : List Code) → next_is is_scheme_code cs ≡ false → next_is (is_value 58) cs ≡ false →
+      scheme_rest replaced k cs ≡ None
+  scheme-other k cs h l =
+      scheme-here k cs h ∙ if-none (is_between 2 32 k) (after [] (colon cs)) (ap (after []) (then-none (one (is_value 58)) (any_number (is_uri_code replaced)) cs (one-not (is_value 58) cs l)))
 
-longer : (k : ℕ) (c : Code) (cs : List Code) → 32 ≤ k → 32 < k + length (c ∷ cs)
-longer k c cs h = omega (arith, h)
+  longer : (k : ℕ) (c : Code) (cs : List Code) → 32 ≤ k → 32 < k + length (c ∷ cs)
+  longer k c cs h = omega (arith, h)
 
-pub scheme-long : (k : ℕ) (c : Code) (cs : List Code) → is_scheme_code c ≡ true → 32 ≤ k → scheme_rest k (c ∷ cs) ≡ None
-scheme-long k c cs h l =
-    let s : List Code × List Code = span is_scheme_code cs in
-    ap (λ (r : List Code × List Code). if is_between 2 32 (k + length r.0) then after r.0 (colon r.1) else None) (span-takes is_scheme_code c cs h)
-    ∙ ap (λ b. if b then after (c ∷ s.0) (colon s.1) else None) (beyond-is 2 32 (k + length (c ∷ s.0)) (longer k c s.0 l))
+  pub scheme-long : (k : ℕ) (c : Code) (cs : List Code) → is_scheme_code c ≡ true → 32 ≤ k → scheme_rest replaced k (c ∷ cs) ≡ None
+  scheme-long k c cs h l =
+      let s : List Code × List Code = span is_scheme_code cs in
+      ap (λ (r : List Code × List Code). if is_between 2 32 (k + length r.0) then after r.0 (colon r.1) else None) (span-takes is_scheme_code c cs h)
+      ∙ ap (λ b. if b then after (c ∷ s.0) (colon s.1) else None) (beyond-is 2 32 (k + length (c ∷ s.0)) (longer k c s.0 l))
 
--- a scheme from its first letter on
-scheme-all : (c : Code) (cs : List Code) (r : List Code × List Code) → is_letter c ≡ true → span is_scheme_code cs ≡ r →
-    scheme (c ∷ cs) ≡ (if is_between 2 32 (1 + length r.0) then Some (c ∷ r.0, r.1) else None)
-unfolding scheme gives
-scheme-all c cs ([], rest) h e =
-    bind-none _ _ (c ∷ cs) (then-other (one is_letter) (some is_scheme_code) (c ∷ cs) (c ∷ []) cs (one-here is_letter c cs h) (some-nothing is_scheme_code cs rest e))
-scheme-all c cs (d ∷ ds, rest) h e =
-    bind-some _ _ (c ∷ cs) (c ∷ d ∷ ds) rest _ (then-some (one is_letter) (some is_scheme_code) (c ∷ cs) (c ∷ []) cs (d ∷ ds) rest (one-here is_letter c cs h) (some-span is_scheme_code cs d ds rest e)) refl
-    ∙ ap (λ n. (provided (is_between 2 32 n) >> gives (c ∷ d ∷ ds)) rest) (one-more (d ∷ ds) c)
-    ∙ elim (is_between 2 32 (1 + length (d ∷ ds))) as (λ b. (provided b >> gives (c ∷ d ∷ ds)) rest ≡ (if b then Some (c ∷ d ∷ ds, rest) else None)) [
-      | true ↦ switched-on (gives (c ∷ d ∷ ds)) true rest refl
-      | false ↦ switched-off (gives (c ∷ d ∷ ds)) false rest refl
-    ]
+  -- a scheme from its first letter on
+  scheme-all : (c : Code) (cs : List Code) (r : List Code × List Code) → is_letter c ≡ true → span is_scheme_code cs ≡ r →
+      scheme (c ∷ cs) ≡ (if is_between 2 32 (1 + length r.0) then Some (c ∷ r.0, r.1) else None)
+  unfolding scheme gives
+  scheme-all c cs ([], rest) h e =
+      bind-none _ _ (c ∷ cs) (then-other (one is_letter) (some is_scheme_code) (c ∷ cs) (c ∷ []) cs (one-here is_letter c cs h) (some-nothing is_scheme_code cs rest e))
+  scheme-all c cs (d ∷ ds, rest) h e =
+      bind-some _ _ (c ∷ cs) (c ∷ d ∷ ds) rest _ (then-some (one is_letter) (some is_scheme_code) (c ∷ cs) (c ∷ []) cs (d ∷ ds) rest (one-here is_letter c cs h) (some-span is_scheme_code cs d ds rest e)) refl
+      ∙ ap (λ n. (provided (is_between 2 32 n) >> gives (c ∷ d ∷ ds)) rest) (one-more (d ∷ ds) c)
+      ∙ elim (is_between 2 32 (1 + length (d ∷ ds))) as (λ b. (provided b >> gives (c ∷ d ∷ ds)) rest ≡ (if b then Some (c ∷ d ∷ ds, rest) else None)) [
+        | true ↦ switched-on (gives (c ∷ d ∷ ds)) true rest refl
+        | false ↦ switched-off (gives (c ∷ d ∷ ds)) false rest refl
+      ]
 
-uri-by : (b : Bool) (cs : List Code) (c : Code) (s : List Code × List Code) →
-    scheme cs ≡ (if b then Some (c ∷ s.0, s.1) else None) →
-    (scheme then_ colon) cs ≡ (if b then after (c ∷ s.0) (colon s.1) else None)
-uri-by true cs c s e = then-after scheme colon cs (c ∷ s.0) s.1 e
-uri-by false cs c s e = then-none scheme colon cs e
+  uri-by : (b : Bool) (cs : List Code) (c : Code) (s : List Code × List Code) →
+      scheme cs ≡ (if b then Some (c ∷ s.0, s.1) else None) →
+      (scheme then_ colon) cs ≡ (if b then after (c ∷ s.0) (colon s.1) else None)
+  uri-by true cs c s e = then-after scheme colon cs (c ∷ s.0) s.1 e
+  uri-by false cs c s e = then-none scheme colon cs e
 
-pub uri-first : (c : Code) (cs : List Code) → is_letter c ≡ true → uri (c ∷ cs) ≡ with_first c (scheme_rest 1 cs)
-unfolding uri
-uri-first c cs h =
-    let s : List Code × List Code = span is_scheme_code cs in
-    uri-by (is_between 2 32 (1 + length s.0)) (c ∷ cs) c s (scheme-all c cs s h refl) ∙ if-after (is_between 2 32 (1 + length s.0)) c s.0 (colon s.1)
+  pub uri-first : (c : Code) (cs : List Code) → is_letter c ≡ true → uri replaced (c ∷ cs) ≡ with_first c (scheme_rest replaced 1 cs)
+  unfolding uri
+  uri-first c cs h =
+      let s : List Code × List Code = span is_scheme_code cs in
+      uri-by (is_between 2 32 (1 + length s.0)) (c ∷ cs) c s (scheme-all c cs s h refl) ∙ if-after (is_between 2 32 (1 + length s.0)) c s.0 (colon s.1)
 
-scheme-none : (cs : List Code) → next_is is_letter cs ≡ false → scheme cs ≡ None
-unfolding scheme
-scheme-none cs h = bind-none _ _ cs (then-none (one is_letter) (some is_scheme_code) cs (one-not is_letter cs h))
+  scheme-none : (cs : List Code) → next_is is_letter cs ≡ false → scheme cs ≡ None
+  unfolding scheme
+  scheme-none cs h = bind-none _ _ cs (then-none (one is_letter) (some is_scheme_code) cs (one-not is_letter cs h))
 
-pub uri-none : (cs : List Code) → next_is is_letter cs ≡ false → uri cs ≡ None
-unfolding uri
-uri-none cs h = then-none scheme colon cs (scheme-none cs h)
+  pub uri-none : (cs : List Code) → next_is is_letter cs ≡ false → uri replaced cs ≡ None
+  unfolding uri
+  uri-none cs h = then-none scheme colon cs (scheme-none cs h)
 
--- URIs after the colon.
+  -- URIs after the colon.
 
-pub url-more : (c : Code) (cs : List Code) → is_uri_code c ≡ true →
-    any_number is_uri_code (c ∷ cs) ≡ with_first c (any_number is_uri_code cs)
-url-more c cs h =
-    any-number-is is_uri_code (c ∷ cs) ∙ ap (λ (r : List Code × List Code). Some r) (span-takes is_uri_code c cs h) ∙ ap (with_first c) (sym (any-number-is is_uri_code cs))
+  pub url-more : (c : Code) (cs : List Code) → is_uri_code replaced c ≡ true →
+      any_number (is_uri_code replaced) (c ∷ cs) ≡ with_first c (any_number (is_uri_code replaced) cs)
+  url-more c cs h =
+      any-number-is (is_uri_code replaced) (c ∷ cs) ∙ ap (λ (r : List Code × List Code). Some r) (span-takes (is_uri_code replaced) c cs h) ∙ ap (with_first c) (sym (any-number-is (is_uri_code replaced) cs))
 
-pub url-end : (cs : List Code) → next_is is_uri_code cs ≡ false → any_number is_uri_code cs ≡ Some ([], cs)
-url-end cs h = any-number-is is_uri_code cs ∙ ap (λ (r : List Code × List Code). Some r) (span-none is_uri_code cs h)
+  pub url-end : (cs : List Code) → next_is (is_uri_code replaced) cs ≡ false → any_number (is_uri_code replaced) cs ≡ Some ([], cs)
+  url-end cs h = any-number-is (is_uri_code replaced) cs ∙ ap (λ (r : List Code × List Code). Some r) (span-none (is_uri_code replaced) cs h)
 
 -- Addresses before the `@`.
 

@@ -33,8 +33,8 @@ scheme_value v = alphanumeric_value v || among_values (codes "+-.") v
 abbrev pub local_value : Bool → ℕ → Bool
 local_value all v = alphanumeric_value v || among_values (codes "#$%&'*+-./=?^_`{|}~") v || (v == byte "!" && all)
 
-abbrev pub uri_value : ℕ → Bool
-uri_value v = not (among_values (codes "\0 <>") v || (is_between 1 31 v || v == 127))
+abbrev pub uri_value : Bool → ℕ → Bool
+uri_value replaced v = not (among_values (codes " <>") v || (is_between 1 31 v || v == 127) || (v == byte "\0" && not replaced))
 
 abbrev pub is_on : Tokenizer → Bool
 is_on T = T.parse_state.now.options.now.constructs.autolink
@@ -46,9 +46,17 @@ rules_here T = rules_of T.parse_state.now.options.now
 abbrev pub all_marks : Tokenizer → Bool
 all_marks T = (rules_here T).all_address_marks
 
--- at these bytes alone a URI does other than go on, line endings aside: a space, an angle bracket and the controls
+-- NUL is read as U+FFFD, which is no control
+abbrev pub replaces_nul : Tokenizer → Bool
+replaces_nul T = (rules_here T).nul_is_replaced
+
+-- at these bytes alone a URI may do other than go on, line endings aside: a space, an angle bracket and the controls
 abbrev pub uri_stops : List ℕ
 uri_stops = codes "\0 <>" ++ controls
+
+-- at these bytes a URI ends, as it does at line endings
+abbrev pub uri_ends : Bool → List ℕ
+uri_ends replaced = if replaced then codes " <>" ++ controls else uri_stops
 
 -- What the states do.
 
@@ -109,7 +117,7 @@ abbrev pub url_inside_at : Option ℕ → Tokenizer → Stepped
 url_inside_at None T = refused T
 url_inside_at (Some c) T =
     if c == byte ">" then finished N.AutolinkProtocol T
-    else (if uri_value c then stepped (Next AutolinkUrlInside) (done (Consume ∷ []) T) else refused T)
+    else (if uri_value (replaces_nul T) c then stepped (Next AutolinkUrlInside) (done (Consume ∷ []) T) else refused T)
 
 abbrev pub url_inside_step : Tokenizer → Stepped
 url_inside_step T = url_inside_at (current_of T) T
@@ -187,10 +195,10 @@ abbrev pub start_ends : Tokenizer → Bool → Tokenizer → Type 0
 start_ends T ok U = EndsAs (link_here T) None T.tokenize_state T ok U
 
 -- a URI after this many codes of its scheme
-abbrev pub scheme_rest : ℕ → Reading (List Code)
-scheme_rest passed cs =
+abbrev pub scheme_rest : Bool → ℕ → Reading (List Code)
+scheme_rest replaced passed cs =
     let s = span is_scheme_code cs in
-    if is_between 2 32 (passed + length s.0) then after s.0 ((one (is_value (byte ":")) then_ any_number is_uri_code) s.1) else None
+    if is_between 2 32 (passed + length s.0) then after s.0 ((one (is_value (byte ":")) then_ any_number (is_uri_code replaced)) s.1) else None
 
 abbrev pub more_labels : Reading (List Code)
 more_labels = repeatedly (one (is_value (byte ".")) then_ domain_label)
@@ -230,24 +238,25 @@ abbrev pub or_else : Option (Name × List Op) → Option (Name × List Op) → O
 or_else None b = b
 or_else (Some x) b = Some x
 
-abbrev pub open_naming : Bool → Naming
-open_naming all cs = or_else (up_to_bracket N.AutolinkProtocol uri cs) (up_to_bracket N.AutolinkEmail (email_address all) cs)
+abbrev pub open_naming : Bool → Bool → Naming
+open_naming replaced all cs =
+    or_else (up_to_bracket N.AutolinkProtocol (uri replaced) cs) (up_to_bracket N.AutolinkEmail (email_address all) cs)
 
-abbrev pub scheme_naming : Bool → ℕ → Naming
-scheme_naming all passed cs =
-    or_else (up_to_bracket N.AutolinkProtocol (scheme_rest passed) cs) (up_to_bracket N.AutolinkEmail (local_rest all) cs)
+abbrev pub scheme_naming : Bool → Bool → ℕ → Naming
+scheme_naming replaced all passed cs =
+    or_else (up_to_bracket N.AutolinkProtocol (scheme_rest replaced passed) cs) (up_to_bracket N.AutolinkEmail (local_rest all) cs)
 
 abbrev pub open_ends : Tokenizer → Bool → Tokenizer → Type 0
-open_ends T ok U = NamesAs 1 (open_naming (all_marks T)) (with_size 0 T.tokenize_state) T ok U
+open_ends T ok U = NamesAs 1 (open_naming (replaces_nul T) (all_marks T)) (with_size 0 T.tokenize_state) T ok U
 
 abbrev pub scheme_or_ends : Tokenizer → Bool → Tokenizer → Type 0
-scheme_or_ends T ok U = NamesAs 1 (scheme_naming (all_marks T) 1) (with_size 0 T.tokenize_state) T ok U
+scheme_or_ends T ok U = NamesAs 1 (scheme_naming (replaces_nul T) (all_marks T) 1) (with_size 0 T.tokenize_state) T ok U
 
 abbrev pub scheme_inside_ends : Tokenizer → Bool → Tokenizer → Type 0
-scheme_inside_ends T ok U = NamesAs 1 (scheme_naming (all_marks T) T.tokenize_state.size) (with_size 0 T.tokenize_state) T ok U
+scheme_inside_ends T ok U = NamesAs 1 (scheme_naming (replaces_nul T) (all_marks T) T.tokenize_state.size) (with_size 0 T.tokenize_state) T ok U
 
 abbrev pub url_inside_ends : Tokenizer → Bool → Tokenizer → Type 0
-url_inside_ends T ok U = NamesAs 1 (up_to_bracket N.AutolinkProtocol (any_number is_uri_code)) (with_size 0 T.tokenize_state) T ok U
+url_inside_ends T ok U = NamesAs 1 (up_to_bracket N.AutolinkProtocol (any_number (is_uri_code (replaces_nul T)))) (with_size 0 T.tokenize_state) T ok U
 
 abbrev pub email_atext_ends : Tokenizer → Bool → Tokenizer → Type 0
 email_atext_ends T ok U = NamesAs 1 (up_to_bracket N.AutolinkEmail (local_rest (all_marks T))) (with_size 0 T.tokenize_state) T ok U

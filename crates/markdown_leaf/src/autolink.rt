@@ -26,7 +26,7 @@ ghost use Rattle.std.specs.Prelude.{◌≡◌};
 ghost use Rattle.markdown_engine.specs.Operations.{HasCode, current_of};
 ghost use Rattle.markdown_event.specs.declared.event.Name.TheVariants.{Autolink};
 ghost use Rattle.markdown_plan.specs.ScratchFields.{AreOpen};
-ghost use Rattle.markdown_leaf.specs.Autolink.{scheme_value, local_value, uri_stops, uri_value, refused, finished, start_step, open_step, scheme_or_step, scheme_inside_step, url_inside_step, email_atext_step, email_at_sign_or_dot_step, in_label_at, email_value_step, email_label_step, AutolinkInsideReady, FreshReady, SchemeReady, LabelReady};
+ghost use Rattle.markdown_leaf.specs.Autolink.{scheme_value, local_value, uri_ends, uri_stops, uri_value, refused, finished, start_step, open_step, scheme_or_step, scheme_inside_step, url_inside_step, email_atext_step, email_at_sign_or_dot_step, in_label_at, email_value_step, email_label_step, AutolinkInsideReady, FreshReady, SchemeReady, LabelReady};
 ghost use Rattle.markdown_plan.specs.StateCalls.{Steps};
 
 use crate::marks::close;
@@ -143,9 +143,10 @@ pub fn url_inside(tokenizer: &mut Tokenizer) -> Result<State, AllocError>
     requires { AutolinkInsideReady tokenizer.old }
     ensures { Steps url_inside_step tokenizer.old result tokenizer.new }
 {
+    let replaced = tokenizer.parse_state.options.rules().nul_is_replaced;
     match tokenizer.current() {
         Some(b'>') => finish(tokenizer, Name::AutolinkProtocol),
-        Some(code) if is_uri(code) => {
+        Some(code) if is_uri(code, replaced) => {
             tokenizer.consume();
             Ok(State::Next(StateName::AutolinkUrlInside))
         }
@@ -155,11 +156,25 @@ pub fn url_inside(tokenizer: &mut Tokenizer) -> Result<State, AllocError>
 
 const URI_STOPS: ByteTable = byte_table!(0, b' ', b'<', b'>'; controls);
 
-/// The bytes at which alone a URI does other than go on, line endings aside: a space, an angle bracket and the controls. Takes no memory.
+/// The bytes at which alone a URI may do other than go on, line endings aside: a space, an angle bracket and the controls. Takes no memory.
 pub fn uri_stops() -> ByteSet
     ensures { result ≡ uri_stops }
 {
     ByteSet::new(&URI_STOPS)
+}
+
+const URI_ENDS: ByteTable = byte_table!(b' ', b'<', b'>'; controls);
+
+/// The bytes at which a URI ends, line endings aside: a space, an angle bracket and the controls, but for NUL where it is `replaced` by U+FFFD.
+/// Takes no memory.
+pub fn uri_ends(replaced: bool) -> ByteSet
+    ensures { result ≡ uri_ends replaced }
+{
+    if replaced {
+        ByteSet::new(&URI_ENDS)
+    } else {
+        uri_stops()
+    }
 }
 
 /// In an address before its `@`.
@@ -262,9 +277,9 @@ fn is_local(code: u8, all: bool) -> bool
         || code == b'!' && all
 }
 
-// Whether a URI may have it: no control, no space, no angle bracket.
-fn is_uri(code: u8) -> bool
-    ensures { result ≡ uri_value code }
+// Whether a URI may have it: no control, no space, no angle bracket. NUL is no control where it is `replaced` by U+FFFD.
+fn is_uri(code: u8, replaced: bool) -> bool
+    ensures { result ≡ uri_value replaced code }
 {
-    !matches!(code, 0..=b' ' | b'<' | b'>' | 0x7f)
+    !matches!(code, 1..=b' ' | b'<' | b'>' | 0x7f) && (code != 0 || replaced)
 }

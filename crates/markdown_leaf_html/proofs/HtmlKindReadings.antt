@@ -1,5 +1,5 @@
 -- What is still to be read of comments, instructions, declarations, CDATA sections and closing tags, from one code on.
-use Rattle.std.proofs.Common.{◌≡◌, ℕ, true, false, Some, None, List, [], ◌∷◌, refl, sym, ◌∙◌}
+use Rattle.std.proofs.Common.{◌≡◌, Bool, ℕ, true, false, Some, None, List, [], ◌∷◌, refl, sym, ◌∙◌}
 use Rattle.markdown_content.specs.Codes.{Code}
 use Rattle.markdown_model.specs.CodeTests.{is_value, is_letter, is_whitespace_code, next_is}
 use Rattle.markdown_model.specs.Grammar.{Reading, either, one, any_number, with_first, word, word_of, through, ◌then_◌}
@@ -208,103 +208,104 @@ marked-bracket c cs e h k =
     ∙ either-right declarations sections (c ∷ cs) (declarations-none (c ∷ cs) h)
     ∙ word-then 91 _ (through "]]>") c cs k
 
--- After `<`.
+-- After `<`; the Bool says that slashes may stand in unquoted values.
 
-abbrev openings : Reading (List Code)
-openings = tag_name then_ tag_rest
+module _ (slashes : Bool) where
+  abbrev openings : Reading (List Code)
+  openings = tag_name then_ tag_rest slashes
 
-abbrev closings : Reading (List Code)
-closings = word "/" then_ tag_name then_ closing_between
+  abbrev closings : Reading (List Code)
+  closings = word "/" then_ tag_name then_ closing_between
 
-abbrev marked_comments : Reading (List Code)
-marked_comments = either (word "!-->") (either (word "!--->") (word "!--" then_ through "-->"))
+  abbrev marked_comments : Reading (List Code)
+  marked_comments = either (word "!-->") (either (word "!--->") (word "!--" then_ through "-->"))
 
-abbrev instructions : Reading (List Code)
-instructions = word "?" then_ through "?>"
+  abbrev instructions : Reading (List Code)
+  instructions = word "?" then_ through "?>"
 
-abbrev marked_declarations : Reading (List Code)
-marked_declarations = word "!" then_ declarations
+  abbrev marked_declarations : Reading (List Code)
+  marked_declarations = word "!" then_ declarations
 
-abbrev marked_sections : Reading (List Code)
-marked_sections = word "![CDATA[" then_ through "]]>"
+  abbrev marked_sections : Reading (List Code)
+  marked_sections = word "![CDATA[" then_ through "]]>"
 
-closings-none : (cs : List Code) → next_is (is_value 47) cs ≡ false → closings cs ≡ None
-unfolding word
-closings-none cs e = word-then-none 47 [] (tag_name then_ closing_between) cs e
+  closings-none : (cs : List Code) → next_is (is_value 47) cs ≡ false → closings cs ≡ None
+  unfolding word
+  closings-none cs e = word-then-none 47 [] (tag_name then_ closing_between) cs e
 
-instructions-none : (cs : List Code) → next_is (is_value 63) cs ≡ false → instructions cs ≡ None
-unfolding word
-instructions-none cs e = word-then-none 63 [] (through "?>") cs e
+  instructions-none : (cs : List Code) → next_is (is_value 63) cs ≡ false → instructions cs ≡ None
+  unfolding word
+  instructions-none cs e = word-then-none 63 [] (through "?>") cs e
 
-marked-comments-none : (cs : List Code) → next_is (is_value 33) cs ≡ false → marked_comments cs ≡ None
-unfolding word
-marked-comments-none cs e =
-    either-none (word "!-->") (either (word "!--->") (word "!--" then_ through "-->")) cs (word-none 33 _ cs e)
-    (either-none (word "!--->") (word "!--" then_ through "-->") cs (word-none 33 _ cs e) (word-then-none 33 _ (through "-->") cs e))
+  marked-comments-none : (cs : List Code) → next_is (is_value 33) cs ≡ false → marked_comments cs ≡ None
+  unfolding word
+  marked-comments-none cs e =
+      either-none (word "!-->") (either (word "!--->") (word "!--" then_ through "-->")) cs (word-none 33 _ cs e)
+      (either-none (word "!--->") (word "!--" then_ through "-->") cs (word-none 33 _ cs e) (word-then-none 33 _ (through "-->") cs e))
 
-marked-declarations-none : (cs : List Code) → next_is (is_value 33) cs ≡ false → marked_declarations cs ≡ None
-unfolding word
-marked-declarations-none cs e = word-then-none 33 [] declarations cs e
+  marked-declarations-none : (cs : List Code) → next_is (is_value 33) cs ≡ false → marked_declarations cs ≡ None
+  unfolding word
+  marked-declarations-none cs e = word-then-none 33 [] declarations cs e
 
-marked-sections-none : (cs : List Code) → next_is (is_value 33) cs ≡ false → marked_sections cs ≡ None
-unfolding word
-marked-sections-none cs e = word-then-none 33 _ (through "]]>") cs e
+  marked-sections-none : (cs : List Code) → next_is (is_value 33) cs ≡ false → marked_sections cs ≡ None
+  unfolding word
+  marked-sections-none cs e = word-then-none 33 _ (through "]]>") cs e
 
-abbrev ends : Reading (List Code)
-ends = either marked_declarations marked_sections
+  abbrev ends : Reading (List Code)
+  ends = either marked_declarations marked_sections
 
-abbrev last_kinds : Reading (List Code)
-last_kinds = either instructions ends
+  abbrev last_kinds : Reading (List Code)
+  last_kinds = either instructions ends
 
-abbrev marked_kinds : Reading (List Code)
-marked_kinds = either marked_comments last_kinds
+  abbrev marked_kinds : Reading (List Code)
+  marked_kinds = either marked_comments last_kinds
 
-ends-none : (cs : List Code) → next_is (is_value 33) cs ≡ false → ends cs ≡ None
-ends-none cs e =
-    either-none marked_declarations marked_sections cs (marked-declarations-none cs e) (marked-sections-none cs e)
+  ends-none : (cs : List Code) → next_is (is_value 33) cs ≡ false → ends cs ≡ None
+  ends-none cs e =
+      either-none marked_declarations marked_sections cs (marked-declarations-none cs e) (marked-sections-none cs e)
 
-marked-kinds-none : (cs : List Code) → next_is (is_value 33) cs ≡ false → next_is (is_value 63) cs ≡ false →
-    marked_kinds cs ≡ None
-marked-kinds-none cs e h =
-    either-none marked_comments last_kinds cs (marked-comments-none cs e) (either-none instructions ends cs (instructions-none cs h) (ends-none cs e))
+  marked-kinds-none : (cs : List Code) → next_is (is_value 33) cs ≡ false → next_is (is_value 63) cs ≡ false →
+      marked_kinds cs ≡ None
+  marked-kinds-none cs e h =
+      either-none marked_comments last_kinds cs (marked-comments-none cs e) (either-none instructions ends cs (instructions-none cs h) (ends-none cs e))
 
-pub open-none : (cs : List Code) → next_is is_letter cs ≡ false → next_is (is_value 47) cs ≡ false →
-    next_is (is_value 33) cs ≡ false → next_is (is_value 63) cs ≡ false → open_rest cs ≡ None
-open-none cs l s b m =
-    either-none openings (either closings marked_kinds) cs (name-not tag_rest cs l) (either-none closings marked_kinds cs (closings-none cs s) (marked-kinds-none cs b m))
+  pub open-none : (cs : List Code) → next_is is_letter cs ≡ false → next_is (is_value 47) cs ≡ false →
+      next_is (is_value 33) cs ≡ false → next_is (is_value 63) cs ≡ false → open_rest slashes cs ≡ None
+  open-none cs l s b m =
+      either-none openings (either closings marked_kinds) cs (name-not (tag_rest slashes) cs l) (either-none closings marked_kinds cs (closings-none cs s) (marked-kinds-none cs b m))
 
-pub open-letter : (c : Code) (cs : List Code) → is_letter c ≡ true → is_value 47 c ≡ false → is_value 33 c ≡ false →
-    is_value 63 c ≡ false → open_rest (c ∷ cs) ≡ with_first c ((any_number is_name_code then_ tag_rest) cs)
-open-letter c cs l s b m =
-    either-left openings (either closings marked_kinds) (c ∷ cs) (either-none closings marked_kinds (c ∷ cs) (closings-none (c ∷ cs) s) (marked-kinds-none (c ∷ cs) b m))
-    ∙ name-first tag_rest c cs l
+  pub open-letter : (c : Code) (cs : List Code) → is_letter c ≡ true → is_value 47 c ≡ false → is_value 33 c ≡ false →
+      is_value 63 c ≡ false → open_rest slashes (c ∷ cs) ≡ with_first c ((any_number is_name_code then_ tag_rest slashes) cs)
+  open-letter c cs l s b m =
+      either-left openings (either closings marked_kinds) (c ∷ cs) (either-none closings marked_kinds (c ∷ cs) (closings-none (c ∷ cs) s) (marked-kinds-none (c ∷ cs) b m))
+      ∙ name-first (tag_rest slashes) c cs l
 
-pub open-slash : (c : Code) (cs : List Code) → is_letter c ≡ false → is_value 47 c ≡ true → is_value 33 c ≡ false →
-    is_value 63 c ≡ false → open_rest (c ∷ cs) ≡ with_first c ((tag_name then_ closing_between) cs)
-unfolding word
-open-slash c cs l s b m =
-    either-right openings (either closings marked_kinds) (c ∷ cs) (name-not tag_rest (c ∷ cs) l)
-    ∙ either-left closings marked_kinds (c ∷ cs) (marked-kinds-none (c ∷ cs) b m)
-    ∙ last-then 47 (tag_name then_ closing_between) c cs s
+  pub open-slash : (c : Code) (cs : List Code) → is_letter c ≡ false → is_value 47 c ≡ true → is_value 33 c ≡ false →
+      is_value 63 c ≡ false → open_rest slashes (c ∷ cs) ≡ with_first c ((tag_name then_ closing_between) cs)
+  unfolding word
+  open-slash c cs l s b m =
+      either-right openings (either closings marked_kinds) (c ∷ cs) (name-not (tag_rest slashes) (c ∷ cs) l)
+      ∙ either-left closings marked_kinds (c ∷ cs) (marked-kinds-none (c ∷ cs) b m)
+      ∙ last-then 47 (tag_name then_ closing_between) c cs s
 
-pub open-question : (c : Code) (cs : List Code) → is_letter c ≡ false → is_value 47 c ≡ false → is_value 33 c ≡ false →
-    is_value 63 c ≡ true → open_rest (c ∷ cs) ≡ with_first c (through "?>" cs)
-unfolding word
-open-question c cs l s b m =
-    either-right openings (either closings marked_kinds) (c ∷ cs) (name-not tag_rest (c ∷ cs) l)
-    ∙ either-right closings marked_kinds (c ∷ cs) (closings-none (c ∷ cs) s)
-    ∙ either-right marked_comments last_kinds (c ∷ cs) (marked-comments-none (c ∷ cs) b)
-    ∙ either-left instructions ends (c ∷ cs) (ends-none (c ∷ cs) b)
-    ∙ last-then 63 (through "?>") c cs m
+  pub open-question : (c : Code) (cs : List Code) → is_letter c ≡ false → is_value 47 c ≡ false → is_value 33 c ≡ false →
+      is_value 63 c ≡ true → open_rest slashes (c ∷ cs) ≡ with_first c (through "?>" cs)
+  unfolding word
+  open-question c cs l s b m =
+      either-right openings (either closings marked_kinds) (c ∷ cs) (name-not (tag_rest slashes) (c ∷ cs) l)
+      ∙ either-right closings marked_kinds (c ∷ cs) (closings-none (c ∷ cs) s)
+      ∙ either-right marked_comments last_kinds (c ∷ cs) (marked-comments-none (c ∷ cs) b)
+      ∙ either-left instructions ends (c ∷ cs) (ends-none (c ∷ cs) b)
+      ∙ last-then 63 (through "?>") c cs m
 
-pub open-bang : (c : Code) (cs : List Code) → is_letter c ≡ false → is_value 47 c ≡ false → is_value 33 c ≡ true →
-    is_value 63 c ≡ false → open_rest (c ∷ cs) ≡ with_first c (declaration_rest cs)
-unfolding word
-open-bang c cs l s b m =
-    either-right openings (either closings marked_kinds) (c ∷ cs) (name-not tag_rest (c ∷ cs) l)
-    ∙ either-right closings marked_kinds (c ∷ cs) (closings-none (c ∷ cs) s)
-    ∙ either-same marked_comments last_kinds ends (c ∷ cs) (either-right instructions ends (c ∷ cs) (instructions-none (c ∷ cs) m))
-    ∙ either-on marked_comments comments ends (either declarations sections) c cs
-    (either-on (word "!-->") (word "-->") (either (word "!--->") (word "!--" then_ through "-->")) (either (word "--->") (word "--" then_ through "-->")) c cs (word-on 33 _ c cs b)
-    (either-on (word "!--->") (word "--->") (word "!--" then_ through "-->") (word "--" then_ through "-->") c cs (word-on 33 _ c cs b) (word-then 33 _ (through "-->") c cs b)))
-    (either-on marked_declarations declarations marked_sections sections c cs (last-then 33 declarations c cs b) (word-then 33 _ (through "]]>") c cs b))
+  pub open-bang : (c : Code) (cs : List Code) → is_letter c ≡ false → is_value 47 c ≡ false → is_value 33 c ≡ true →
+      is_value 63 c ≡ false → open_rest slashes (c ∷ cs) ≡ with_first c (declaration_rest cs)
+  unfolding word
+  open-bang c cs l s b m =
+      either-right openings (either closings marked_kinds) (c ∷ cs) (name-not (tag_rest slashes) (c ∷ cs) l)
+      ∙ either-right closings marked_kinds (c ∷ cs) (closings-none (c ∷ cs) s)
+      ∙ either-same marked_comments last_kinds ends (c ∷ cs) (either-right instructions ends (c ∷ cs) (instructions-none (c ∷ cs) m))
+      ∙ either-on marked_comments comments ends (either declarations sections) c cs
+      (either-on (word "!-->") (word "-->") (either (word "!--->") (word "!--" then_ through "-->")) (either (word "--->") (word "--" then_ through "-->")) c cs (word-on 33 _ c cs b)
+      (either-on (word "!--->") (word "--->") (word "!--" then_ through "-->") (word "--" then_ through "-->") c cs (word-on 33 _ c cs b) (word-then 33 _ (through "-->") c cs b)))
+      (either-on marked_declarations declarations marked_sections sections c cs (last-then 33 declarations c cs b) (word-then 33 _ (through "]]>") c cs b))

@@ -3,7 +3,8 @@ use Rattle.std.proofs.Common.{◌≡◌, ℕ, ◌+◌, ◌<◌, ◌≤◌, ◌==
 use Rattle.std.proofs.lemmas.Bool.{eqb-true}
 use Rattle.markdown_content.specs.Codes.{Code}
 use Rattle.markdown_content.specs.ListFunctions.{rest_of}
-use Rattle.markdown_engine.specs.Operations.{Op, Consume, current_of, ahead, done, moves, scratched}
+use Rattle.markdown_content.specs.CommonMark.{rules_of}
+use Rattle.markdown_engine.specs.Operations.{Op, Consume, current_of, ahead, applied, done, moves, scratched}
 use Rattle.markdown_engine.specs.StateRuns.{stepped}
 use Rattle.markdown_engine.specs.Weights.{codes_left, weight_at}
 use Rattle.markdown_event.specs.declared.state.State.TheVariants.{Next, Retry, Nok}
@@ -11,13 +12,13 @@ use Rattle.markdown_event.specs.declared.state.StateName.TheVariants as H
 use Rattle.markdown_engine.specs.declared.tokenizer.TokenizeState.{TokenizeState}
 use Rattle.markdown_engine.specs.declared.tokenizer.Tokenizer.{Tokenizer}
 use Rattle.markdown_engine.proofs.OperationFields.{ahead-some, BeginsWithValue, some-codes}
-use Rattle.markdown_engine.proofs.OperationLemmas.{left-done, scratch-done}
+use Rattle.markdown_engine.proofs.OperationLemmas.{input-done, left-done, scratch-done}
 use Rattle.markdown_model.specs.Grammar.{Reading, with_first}
 use Rattle.markdown_plan.specs.Plan.{preceded, DoesAs}
 use Rattle.markdown_plan.proofs.PlanSteps.{DoesAs-then, kept, preceded-nil}
 use Rattle.markdown_leaf_html.specs.HtmlLines.{InLine, break_from, text_from, text_of}
 use Rattle.markdown_leaf_html.specs.HtmlTextRests.{HtmlPart, Open, DeclarationOpen, CommentOpenInside, Comment, CommentClose, CommentEnd, Cdata, CdataClose, CdataEnd, Declaration, Instruction, InstructionClose, TagCloseStart, TagClose, TagCloseBetween, TagOpen, TagOpenBetween, AttributeName, AttributeNameAfter, ValueBefore, ValueQuotedAfter, ValueUnquoted, End, state_of, reading_of, rank_of}
-use Rattle.markdown_leaf_html.specs.HtmlText.{past_code, over_to, broken, HtmlInsideReady, HtmlPartReady, part_ends}
+use Rattle.markdown_leaf_html.specs.HtmlText.{slashes_in, past_code, over_to, broken, HtmlInsideReady, HtmlPartReady, part_ends}
 use Rattle.markdown_leaf_html.proofs.HtmlLineBreaks.{PassesItsCodes, text-code, breaks, break-stays, break-depth, break-fits, break-moves}
 use Rattle.markdown_leaf_html.proofs.HtmlTextReady.{part-next, part-broken}
 use Rattle.markdown_leaf_html.proofs.HtmlLineEndingLaws.{HasHtmlWords}
@@ -66,25 +67,30 @@ not-ending-by p c true e h k = let no : true ≡ false = sym h ∙ ap p (eqb-tru
 pub not-ending : (p : ℕ → Bool) (c : ℕ) → p c ≡ true → p 10 ≡ false → (c == 10) ≡ false
 not-ending p c h k = not-ending-by p c (c == 10) refl h k
 
+-- operations leave the rules
+pub slashes-done : (os : List Op) (T : Tokenizer) → slashes_in (done os T) ≡ slashes_in T
+slashes-done os T = ap (λ p. (rules_of p.now.options.now).slashes_in_values) (input-done os T)
+
 module _ (W : Words) (within : HasHtmlWords W) where
   pub part-past : (k j : HtmlPart) (T : Tokenizer) (c : ℕ) → T.attempts ≡ [] → HtmlPartReady T → (e : current_of T ≡ Some c) →
       (c == 10) ≡ false →
-      reading_of k ((ahead-some T c e).code ∷ rest_of (ahead T)) ≡ with_first (ahead-some T c e).code (reading_of j (rest_of (ahead T))) →
+      reading_of (slashes_in T) k ((ahead-some T c e).code ∷ rest_of (ahead T)) ≡ with_first (ahead-some T c e).code (reading_of (slashes_in T) j (rest_of (ahead T))) →
       GoesIn W (weight_at (rank_of k) T) (part_ends k T) (past_code (state_of j) T)
+  unfolding applied
   part-past k j T c alone r e h same =
       let more : 1 ≤ length (ahead T) = some-codes T c e in
-      Goes-next W (rank_of k) 2 (text_of (reading_of k)) (text_of (reading_of j)) (Consume ∷ []) T (Next (state_of j)) (within.parts j) alone refl more (omega (arith, rank-low j)) (text-next (reading_of k) (reading_of j) T c e h same) (part-next T more r)
+      Goes-next W (rank_of k) 2 (text_of (reading_of (slashes_in T) k)) (text_of (reading_of (slashes_in T) j)) (Consume ∷ []) T (Next (state_of j)) (within.parts j) alone refl more (omega (arith, rank-low j)) (text-next (reading_of (slashes_in T) k) (reading_of (slashes_in T) j) T c e h same) (part-next T more r)
       (λ ok U x. x)
 
-  pub part-fails : (k : HtmlPart) (T : Tokenizer) → T.attempts ≡ [] → reading_of k (ahead T) ≡ None →
+  pub part-fails : (k : HtmlPart) (T : Tokenizer) → T.attempts ≡ [] → reading_of (slashes_in T) k (ahead T) ≡ None →
       GoesIn W (weight_at (rank_of k) T) (part_ends k T) (stepped Nok T)
-  part-fails k T alone none = Goes-no W (rank_of k) 2 (text_of (reading_of k)) T alone (ap (text_from InLine) none)
+  part-fails k T alone none = Goes-no W (rank_of k) 2 (text_of (reading_of (slashes_in T) k)) T alone (ap (text_from InLine) none)
 
   pub part-over : (k j : HtmlPart) (T : Tokenizer) → T.attempts ≡ [] → HtmlPartReady T → rank_of j < rank_of k →
-      reading_of k (ahead T) ≡ reading_of j (ahead T) →
+      reading_of (slashes_in T) k (ahead T) ≡ reading_of (slashes_in T) j (ahead T) →
       GoesIn W (weight_at (rank_of k) T) (part_ends k T) (over_to (state_of j) T)
   part-over k j T alone r lower same =
-      Goes-next W (rank_of k) 2 (text_of (reading_of k)) (text_of (reading_of j)) [] T (Retry (state_of j)) (within.parts j) alone refl (omega arith) (omega (arith, lower)) (ap (text_from InLine) same ∙ preceded-nil (text_of (reading_of j) (ahead T))) r
+      Goes-next W (rank_of k) 2 (text_of (reading_of (slashes_in T) k)) (text_of (reading_of (slashes_in T) j)) [] T (Retry (state_of j)) (within.parts j) alone refl (omega arith) (omega (arith, lower)) (ap (text_from InLine) same ∙ preceded-nil (text_of (reading_of (slashes_in T) j) (ahead T))) r
       (λ ok U x. x)
 
   -- past a line ending and the whitespace after it
@@ -109,8 +115,10 @@ module _ (W : Words) (within : HasHtmlWords W) where
       (subst (λ (y : Tokenizer). DoesAs 2 (text_of r) s y ok X) (sym (kept os T)) (closed ok X m))))))
       (λ U now x. let no : false ≡ true = x.0 in cc)
 
-  pub part-broken-on : (k : HtmlPart) (T : Tokenizer) → 1 < rank_of k → PassesItsCodes (reading_of k) → T.attempts ≡ [] →
+  pub part-broken-on : (k : HtmlPart) (T : Tokenizer) → 1 < rank_of k → PassesItsCodes (reading_of (slashes_in T) k) → T.attempts ≡ [] →
       HtmlPartReady T → current_of T ≡ Some 10 → GoesIn W (weight_at (rank_of k) T) (part_ends k T) (broken (state_of k) T)
   part-broken-on k T high g alone r e =
-      text-broken (rank_of k) (reading_of k) T.tokenize_state (state_of k) (within.parts k) T high (rank-low k) refl g alone r.inside e (part-broken T r)
-      (λ ok U x. subst (λ (s : TokenizeState). DoesAs 2 (text_of (reading_of k)) s (done (break_from InLine (ahead T)) T) ok U) (scratch-done (break_from InLine (ahead T)) T) x)
+      text-broken (rank_of k) (reading_of (slashes_in T) k) T.tokenize_state (state_of k) (within.parts k) T high (rank-low k) refl g alone r.inside e (part-broken T r)
+      (λ ok U x. let os : List Op = break_from InLine (ahead T) in
+      subst (λ (s : TokenizeState). DoesAs 2 (text_of (reading_of (slashes_in T) k)) s (done os T) ok U) (scratch-done os T)
+      (subst (λ (b : Bool). DoesAs 2 (text_of (reading_of b k)) (done os T).tokenize_state (done os T) ok U) (slashes-done os T) x))

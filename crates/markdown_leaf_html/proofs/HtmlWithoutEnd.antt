@@ -19,7 +19,7 @@ use Rattle.markdown_plan.specs.ByteTests.{letter_value}
 use Rattle.markdown_plan.specs.Plan.{plan_of, preceded}
 use Rattle.markdown_plan.proofs.PlanSteps.{none-read}
 use Rattle.markdown_leaf_html.specs.HtmlLines.{InLine, text_from}
-use Rattle.markdown_leaf_html.specs.HtmlText.{KnowsSequences, ending_at, html_here, is_absent, is_on, is_ruled_out, marked_ending, opening}
+use Rattle.markdown_leaf_html.specs.HtmlText.{KnowsSequences, ending_at, html_here, is_absent, is_on, is_ruled_out, marked_ending, opening, slashes_in}
 use Rattle.markdown_leaf_html.specs.HtmlTextRests.{comment_inside, cdata_opening, declaration_rest, open_rest}
 use Rattle.markdown_leaf_html.proofs.HtmlCodeReadings.{then-nothing, either-none, word-end, word-then, word-then-none, word-absent, up-absent}
 use Rattle.markdown_leaf_html.proofs.HtmlKindReadings.{marked-dash, marked-letter, marked-bracket, open-question, open-bang}
@@ -114,16 +114,16 @@ marked-absent T (Some c) e absent =
 
 -- behind `<`
 open-absent : (T : Tokenizer) (o : Option ℕ) → current_of T ≡ o → AbsentIn (ahead T) (ending_at o (code_at (moved T.cursor))) →
-    open_rest (ahead T) ≡ None
+    open_rest (slashes_in T) (ahead T) ≡ None
 open-absent T None e h = absurd h
 open-absent T (Some c) e absent =
     let b : BeginsWithValue c (ahead T) = ahead-some T c e in
     let rest : List Code = rest_of (ahead T) in
-    let P : Option Sequence → Type 0 = λ o. AbsentIn (ahead T) o → open_rest (ahead T) ≡ None in
+    let P : Option Sequence → Type 0 = λ o. AbsentIn (ahead T) o → open_rest (slashes_in T) (ahead T) ≡ None in
     by_test P (c == 63) _ _
-    (λ h1 k. ap open_rest b.whole ∙ open-question b.code rest (is-so letter_value 63 T c e h1) (is-so (λ v. v == 47) 63 T c e h1) (is-so (λ v. v == 33) 63 T c e h1) (is-so (λ v. v == 63) 63 T c e h1) ∙ ap (with_first b.code) (instruction-absent b.code rest (ap (last_where (begins_at InstructionEnd)) (sym b.whole) ∙ k)))
+    (λ h1 k. ap (open_rest (slashes_in T)) b.whole ∙ (open-question (slashes_in T)) b.code rest (is-so letter_value 63 T c e h1) (is-so (λ v. v == 47) 63 T c e h1) (is-so (λ v. v == 33) 63 T c e h1) (is-so (λ v. v == 63) 63 T c e h1) ∙ ap (with_first b.code) (instruction-absent b.code rest (ap (last_where (begins_at InstructionEnd)) (sym b.whole) ∙ k)))
     (λ h1. by_test P (c == 33) _ _
-    (λ h2 k. ap open_rest b.whole ∙ open-bang b.code rest (is-so letter_value 33 T c e h2) (is-so (λ v. v == 47) 33 T c e h2) (is-so (λ v. v == 33) 33 T c e h2) (is-so (λ v. v == 63) 33 T c e h2) ∙ ap (with_first b.code) (declaration-behind b k))
+    (λ h2 k. ap (open_rest (slashes_in T)) b.whole ∙ (open-bang (slashes_in T)) b.code rest (is-so letter_value 33 T c e h2) (is-so (λ v. v == 47) 33 T c e h2) (is-so (λ v. v == 33) 33 T c e h2) (is-so (λ v. v == 63) 33 T c e h2) ∙ ap (with_first b.code) (declaration-behind b k))
     (λ h2 k. absurd k)) absent
   where
     o : Option Sequence
@@ -145,14 +145,14 @@ html-ruled-out T right here h = none-read (html_here T (ahead T)) (by_switch (is
     o : Option Sequence
     o = ending_at (code_at (moved T.cursor)) (code_at (moved (moved T.cursor)))
 
-    behind : open_rest (rest_of (ahead T)) ≡ None
+    behind : open_rest (slashes_in T) (rest_of (ahead T)) ≡ None
     behind =
-        ap open_rest (sym (ahead-moved T.cursor))
+        ap (open_rest (slashes_in T)) (sym (ahead-moved T.cursor))
         ∙ open-absent (record T { cursor = moved T.cursor }) (code_at (moved T.cursor)) refl
         (subst (λ cs. AbsentIn cs o) (sym (ahead-moved T.cursor)) (absent-later o b.code (rest_of (ahead T)) (subst (λ cs. AbsentIn cs o) b.whole (absent-known T o right h))))
 
     by_switch : (on : Bool) → is_on T ≡ on → plan_of (html_here T) (ahead T) ≡ None
     by_switch true on =
-        ap (plan_of (html_here T)) b.whole ∙ html-opens (is_on T) b.code (rest_of (ahead T)) on (ap (λ v. v == 60) b.value) (ap (λ v. v == 10) b.value)
+        ap (plan_of (html_here T)) b.whole ∙ (html-opens (slashes_in T)) (is_on T) b.code (rest_of (ahead T)) on (ap (λ v. v == 60) b.value) (ap (λ v. v == 10) b.value)
         ∙ ap (preceded opening) (ap (text_from InLine) behind)
-    by_switch false off = no-html (is_on T) (ahead T) (ap (λ on. on && next_is (is_value 60) (ahead T)) off)
+    by_switch false off = no-html (slashes_in T) (is_on T) (ahead T) (ap (λ on. on && next_is (is_value 60) (ahead T)) off)

@@ -1,5 +1,5 @@
 -- Tests on the values of the codes of HTML in text.
-use Rattle.std.specs.Prelude.{ℕ, Bool, ◌||◌, codes, ◌==◌}
+use Rattle.std.specs.Prelude.{ℕ, Bool, ◌&&◌, ◌||◌, not, codes, ◌==◌}
 use Rattle.markdown_plan.specs.ByteTests.{letter_value, alphanumeric_value, among_values}
 use Rattle.std.specs.Str.{byte}
 
@@ -26,6 +26,10 @@ attribute_rest_value v = alphanumeric_value v || among_values (codes "-.:_") v
 -- what may follow a value or a tag's name
 abbrev pub after_value : ℕ → Bool
 after_value v = whitespace_value v || among_values (codes "/>") v
+
+-- what may follow an unquoted value; no `/` where slashes may stand in it
+abbrev pub unquoted_end_value : Bool → ℕ → Bool
+unquoted_end_value slashes v = after_value v && not (v == byte "/" && slashes)
 
 -- what no unquoted value holds, and what does not end it
 abbrev pub barred_value : ℕ → Bool

@@ -1,5 +1,6 @@
 -- What the states of HTML in text do, when they may be called, and how runs from them end.
 use Rattle.std.specs.Prelude.{◌≡◌, ℕ, ◌+◌, ◌<◌, ◌≤◌, Bool, true, false, ◌&&◌, codes, slice_index, ◌==◌, if◌then◌else◌, Option, Some, None, List, [], ◌∷◌}
+use Rattle.markdown_content.specs.CommonMark.{rules_of}
 use Rattle.markdown_engine.specs.Operations.{Op, Enter, Exit, Consume, IsOpen, ahead, attempted, current_of, done, scratched}
 use Rattle.markdown_engine.specs.PastTree.{EndsAs, TreeReading}
 use Rattle.markdown_engine.specs.StateRuns.{Stepped, stepped}
@@ -25,12 +26,16 @@ use Rattle.markdown_plan.specs.ScratchFields.{AreOpen, with_size}
 use Rattle.markdown_leaf_html.specs.HtmlLines.{InLine, AtStart, break_from, prefix_from, ending_ops, text_of}
 use Rattle.markdown_leaf_html.specs.HtmlTextRests.{HtmlPart, reading_of, quoted_rest, cdata_opening, rank_of, Open, DeclarationOpen, CommentOpenInside, Comment, CommentClose, CommentEnd, Cdata, CdataClose, CdataEnd, Declaration, Instruction}
 use Rattle.markdown_leaf_html.specs.HtmlTextRests.{InstructionClose, TagCloseStart, TagClose, TagCloseBetween, TagOpen, TagOpenBetween, AttributeName, AttributeNameAfter, ValueBefore, ValueQuotedAfter, ValueUnquoted, End}
-use Rattle.markdown_leaf_html.specs.HtmlByteTests.{blank_value, whitespace_value, name_value, attribute_first_value, attribute_rest_value, after_value, barred_value}
+use Rattle.markdown_leaf_html.specs.HtmlByteTests.{blank_value, whitespace_value, name_value, attribute_first_value, attribute_rest_value, after_value, unquoted_end_value, barred_value}
 use Rattle.markdown_engine.specs.StateWords.{StateWords}
 use Rattle.std.specs.Str.{byte}
 
 abbrev pub is_on : Tokenizer → Bool
 is_on T = T.parse_state.now.options.now.constructs.html_text
+
+-- slashes may stand in unquoted values
+abbrev pub slashes_in : Tokenizer → Bool
+slashes_in T = (rules_of T.parse_state.now.options.now).slashes_in_values
 
 -- The scratch fields.
 
@@ -303,7 +308,7 @@ abbrev pub tag_open_attribute_value_unquoted_at : Option ℕ → Tokenizer → S
 tag_open_attribute_value_unquoted_at None T = stepped Nok T
 tag_open_attribute_value_unquoted_at (Some c) T =
     if barred_value c then stepped Nok T
-    else (if after_value c then over_to H.HtmlTextTagOpenBetween T
+    else (if unquoted_end_value (slashes_in T) c then over_to H.HtmlTextTagOpenBetween T
     else past_code H.HtmlTextTagOpenAttributeValueUnquoted T)
 
 abbrev pub tag_open_attribute_value_unquoted_step : Tokenizer → Stepped
@@ -443,13 +448,13 @@ start_ends T ok U = EndsAs (html_here T) None T.tokenize_state T ok U
 
 -- from a state that leaves the scratch fields alone
 abbrev pub part_ends : HtmlPart → Tokenizer → Bool → Tokenizer → Type 0
-part_ends k T ok U = KeepsAs 2 (text_of (reading_of k)) T ok U
+part_ends k T ok U = KeepsAs 2 (text_of (reading_of (slashes_in T) k)) T ok U
 
 abbrev pub cdata_open_inside_ends : Tokenizer → Bool → Tokenizer → Type 0
 cdata_open_inside_ends T ok U = DoesAs 2 (text_of (cdata_opening T.tokenize_state.size)) (rested T.tokenize_state) T ok U
 
 abbrev pub quoted_ends : Tokenizer → Bool → Tokenizer → Type 0
-quoted_ends T ok U = DoesAs 2 (text_of (quoted_rest T.tokenize_state.marker)) (rested T.tokenize_state) T ok U
+quoted_ends T ok U = DoesAs 2 (text_of (quoted_rest (slashes_in T) T.tokenize_state.marker)) (rested T.tokenize_state) T ok U
 
 -- at a line ending: past it and the whitespace after it, in the data of the next line that has some
 abbrev pub line_ending_before_ends : Tokenizer → Bool → Tokenizer → Type 0

@@ -6,7 +6,7 @@ use Rattle.markdown_event.specs.declared.state.StateName.{StateName}
 use Rattle.markdown_event.specs.declared.state.StateName.TheVariants as H
 use Rattle.markdown_model.specs.CodeTests.{is_value, is_among, next_is, is_whitespace_code, is_letter, is_alphanumeric}
 use Rattle.markdown_model.specs.Grammar.{Reading, either, one, any_number, before, word, word_of, up_to_word, through, if_next, ◌then_◌, repeatedly, optional}
-use Rattle.markdown_model.specs.HtmlText.{spaces, optional_spaces, tag_name, attribute_value, attribute, ends_value}
+use Rattle.markdown_model.specs.HtmlText.{spaces, optional_spaces, tag_name, attribute_value, attribute, is_later_code}
 
 abbrev pub is_name_code : Code → Bool
 is_name_code c = is_alphanumeric c || is_value (byte "-") c
@@ -17,52 +17,49 @@ is_attribute_first c = is_letter c || is_among (codes ":_") c
 abbrev pub is_attribute_code : Code → Bool
 is_attribute_code c = is_alphanumeric c || is_among (codes "-.:_") c
 
--- Opening tags.
+-- Opening tags; the Bool says that slashes may stand in unquoted values.
 
 abbrev pub tag_end : Reading (List Code)
 tag_end = optional (word "/") then_ word ">"
 
 -- after the name, a value, or an attribute without one
-abbrev pub tag_rest : Reading (List Code)
-tag_rest = repeatedly (spaces then_ attribute) then_ optional_spaces then_ tag_end
+abbrev pub tag_rest : Bool → Reading (List Code)
+tag_rest slashes = repeatedly (spaces then_ attribute slashes) then_ optional_spaces then_ tag_end
 
 -- after whitespace: another attribute, or the end
-abbrev pub tag_next : Reading (List Code)
-tag_next = if_next is_attribute_first (attribute then_ tag_rest) tag_end
+abbrev pub tag_next : Bool → Reading (List Code)
+tag_next slashes = if_next is_attribute_first (attribute slashes then_ tag_rest slashes) tag_end
 
-abbrev pub tag_between : Reading (List Code)
-tag_between = optional_spaces then_ tag_next
+abbrev pub tag_between : Bool → Reading (List Code)
+tag_between slashes = optional_spaces then_ tag_next slashes
 
-abbrev pub initializer : Reading (List Code)
-initializer = optional_spaces then_ one (is_value (byte "=")) then_ optional_spaces then_ attribute_value
+abbrev pub initializer : Bool → Reading (List Code)
+initializer slashes = optional_spaces then_ one (is_value (byte "=")) then_ optional_spaces then_ attribute_value slashes
 
 -- in the name of an attribute
-abbrev pub name_rest : Reading (List Code)
-name_rest = (any_number is_attribute_code then_ optional initializer) then_ tag_rest
+abbrev pub name_rest : Bool → Reading (List Code)
+name_rest slashes = (any_number is_attribute_code then_ optional (initializer slashes)) then_ tag_rest slashes
 
 -- after the `=` of an attribute
-abbrev pub value_rest : Reading (List Code)
-value_rest = (optional_spaces then_ attribute_value) then_ tag_rest
+abbrev pub value_rest : Bool → Reading (List Code)
+value_rest slashes = (optional_spaces then_ attribute_value slashes) then_ tag_rest slashes
 
 -- after the name of an attribute and whitespace
-abbrev pub name_next : Reading (List Code)
-name_next = if_next (is_value (byte "=")) (one (is_value (byte "=")) then_ value_rest) tag_next
+abbrev pub name_next : Bool → Reading (List Code)
+name_next slashes = if_next (is_value (byte "=")) (one (is_value (byte "=")) then_ value_rest slashes) (tag_next slashes)
 
-abbrev pub name_after : Reading (List Code)
-name_after = optional_spaces then_ name_next
+abbrev pub name_after : Bool → Reading (List Code)
+name_after slashes = optional_spaces then_ name_next slashes
 
 -- in a value in quotes of this value
-abbrev pub quoted_rest : ℕ → Reading (List Code)
-quoted_rest quote = (any_number (λ c. not (is_value quote c)) then_ one (is_value quote)) then_ tag_rest
-
-abbrev pub is_unquoted_code : Code → Bool
-is_unquoted_code c = not (ends_value c || is_value (byte "/") c)
+abbrev pub quoted_rest : Bool → ℕ → Reading (List Code)
+quoted_rest slashes quote = (any_number (λ c. not (is_value quote c)) then_ one (is_value quote)) then_ tag_rest slashes
 
 abbrev pub is_after_value : Code → Bool
 is_after_value c = is_whitespace_code c || is_among (codes "/>") c
 
-abbrev pub unquoted_rest : Reading (List Code)
-unquoted_rest = before (any_number is_unquoted_code) (next_is is_after_value) then_ tag_rest
+abbrev pub unquoted_rest : Bool → Reading (List Code)
+unquoted_rest slashes = before (any_number (is_later_code slashes)) (next_is is_after_value) then_ tag_rest slashes
 
 -- The other kinds.
 
@@ -99,9 +96,9 @@ declaration_rest =
     (either (one is_letter then_ through ">") (word "[CDATA[" then_ through "]]>"))
 
 -- after `<`
-abbrev pub open_rest : Reading (List Code)
-open_rest =
-    either (tag_name then_ tag_rest)
+abbrev pub open_rest : Bool → Reading (List Code)
+open_rest slashes =
+    either (tag_name then_ tag_rest slashes)
     (either (word "/" then_ tag_name then_ closing_between)
     (either (either (word "!-->") (either (word "!--->") (word "!--" then_ through "-->")))
     (either (word "?" then_ through "?>") (either (word "!" then_ one is_letter then_ through ">") (word "![CDATA[" then_ through "]]>")))))
@@ -139,30 +136,30 @@ state_of ValueUnquoted = H.HtmlTextTagOpenAttributeValueUnquoted
 state_of End = H.HtmlTextEnd
 
 -- what is still to be read
-abbrev pub reading_of : HtmlPart → Reading (List Code)
-reading_of Open = open_rest
-reading_of DeclarationOpen = declaration_rest
-reading_of CommentOpenInside = comment_inside
-reading_of Comment = marked (byte "-")
-reading_of CommentClose = after_mark (byte "-")
-reading_of CommentEnd = after_two_marks (byte "-")
-reading_of Cdata = marked (byte "]")
-reading_of CdataClose = after_mark (byte "]")
-reading_of CdataEnd = after_two_marks (byte "]")
-reading_of Declaration = through ">"
-reading_of Instruction = through "?>"
-reading_of InstructionClose = instruction_after_one
-reading_of TagCloseStart = tag_name then_ closing_between
-reading_of TagClose = any_number is_name_code then_ closing_between
-reading_of TagCloseBetween = closing_between
-reading_of TagOpen = any_number is_name_code then_ tag_rest
-reading_of TagOpenBetween = tag_between
-reading_of AttributeName = name_rest
-reading_of AttributeNameAfter = name_after
-reading_of ValueBefore = value_rest
-reading_of ValueQuotedAfter = tag_rest
-reading_of ValueUnquoted = unquoted_rest
-reading_of End = word ">"
+abbrev pub reading_of : Bool → HtmlPart → Reading (List Code)
+reading_of slashes Open = open_rest slashes
+reading_of slashes DeclarationOpen = declaration_rest
+reading_of slashes CommentOpenInside = comment_inside
+reading_of slashes Comment = marked (byte "-")
+reading_of slashes CommentClose = after_mark (byte "-")
+reading_of slashes CommentEnd = after_two_marks (byte "-")
+reading_of slashes Cdata = marked (byte "]")
+reading_of slashes CdataClose = after_mark (byte "]")
+reading_of slashes CdataEnd = after_two_marks (byte "]")
+reading_of slashes Declaration = through ">"
+reading_of slashes Instruction = through "?>"
+reading_of slashes InstructionClose = instruction_after_one
+reading_of slashes TagCloseStart = tag_name then_ closing_between
+reading_of slashes TagClose = any_number is_name_code then_ closing_between
+reading_of slashes TagCloseBetween = closing_between
+reading_of slashes TagOpen = any_number is_name_code then_ tag_rest slashes
+reading_of slashes TagOpenBetween = tag_between slashes
+reading_of slashes AttributeName = name_rest slashes
+reading_of slashes AttributeNameAfter = name_after slashes
+reading_of slashes ValueBefore = value_rest slashes
+reading_of slashes ValueQuotedAfter = tag_rest slashes
+reading_of slashes ValueUnquoted = unquoted_rest slashes
+reading_of slashes End = word ">"
 
 -- each state goes on at the same code with lower ones alone
 abbrev pub rank_of : HtmlPart → ℕ

@@ -7,7 +7,7 @@
 //!     attribute ::= attribute_name (space* '=' space* value)?
 //!     attribute_name ::= (letter | ':' | '_') (letter | digit | '-' | '.' | ':' | '_')*
 //!     value ::= '"' (code - '"')* '"' | "'" (code - "'")* "'" | unquoted
-//!     unquoted ::= bare (bare - '/')*                          before space, '/' or '>'
+//!     unquoted ::= bare (bare - '/')*                          before space, '/' or '>'; by CommonMark's rule bare (bare)*
 //!     bare ::= code - (space | '"' | "'" | '<' | '=' | '>' | '`')
 //!     space ::= blank | line_ending
 //!     comment ::= '<!-->' | '<!--->' | '<!--' code* '-->'      up to the first '-->'
@@ -29,7 +29,7 @@ ghost use Rattle.markdown_content.specs.Place.{code_at, moved};
 ghost use Rattle.markdown_engine.specs.Operations.{HasCode, current_of};
 ghost use Rattle.markdown_event.specs.declared.event.Name.TheVariants.{HtmlText, HtmlTextData};
 ghost use Rattle.markdown_plan.specs.ScratchFields.{AreOpen};
-ghost use Rattle.markdown_leaf_html.specs.HtmlByteTests.{name_value, attribute_first_value, attribute_rest_value, after_value};
+ghost use Rattle.markdown_leaf_html.specs.HtmlByteTests.{name_value, attribute_first_value, attribute_rest_value, after_value, unquoted_end_value};
 ghost use Rattle.markdown_leaf_html.specs.HtmlText.{stops_in, is_ruled_out, ending_at, marked_ending, broken, marked_at, ending_passed, start_step, open_step, declaration_open_step, comment_open_inside_step, comment_step, comment_close_step, comment_end_step, cdata_open_inside_step, cdata_step, cdata_close_step, cdata_end_step};
 ghost use Rattle.markdown_leaf_html.specs.HtmlText.{declaration_step, instruction_step, instruction_close_step, tag_close_start_step, tag_close_step, tag_close_between_step, tag_open_step, tag_open_between_step, tag_open_attribute_name_step, tag_open_attribute_name_after_step};
 ghost use Rattle.markdown_leaf_html.specs.HtmlText.{tag_open_attribute_value_before_step, tag_open_attribute_value_quoted_step, tag_open_attribute_value_quoted_after_step, tag_open_attribute_value_unquoted_step, end_step, line_ending_before_step, line_ending_after_step, line_ending_after_prefix_step};
@@ -71,6 +71,13 @@ fn is_after_value(code: u8) -> bool
     ensures { result ≡ after_value code }
 {
     matches!(code, b'\t' | b'\n' | b' ' | b'/' | b'>')
+}
+
+// Whether it may follow an unquoted value. No `/` may where slashes may stand in values.
+fn ends_unquoted(code: u8, slashes: bool) -> bool
+    ensures { result ≡ unquoted_end_value slashes code }
+{
+    is_after_value(code) && !(code == b'/' && slashes)
 }
 
 const DASH: ByteTable = byte_table!(b'-');
@@ -620,9 +627,12 @@ pub fn tag_open_attribute_value_unquoted(tokenizer: &mut Tokenizer) -> Result<St
     ensures ok { IfOk result (λ s. tag_open_attribute_value_unquoted_step tokenizer.old ≡ record { state = s; left = tokenizer.new }) }
     ensures err { OnErr result (IsTrue tokenizer.new.failed) }
 {
+    let slashes = tokenizer.parse_state.options.rules().slashes_in_values;
     match tokenizer.current() {
         None | Some(b'"' | b'\'' | b'<' | b'=' | b'`') => Ok(State::Nok),
-        Some(code) if is_after_value(code) => Ok(State::Retry(StateName::HtmlTextTagOpenBetween)),
+        Some(code) if ends_unquoted(code, slashes) => {
+            Ok(State::Retry(StateName::HtmlTextTagOpenBetween))
+        }
         Some(_) => {
             tokenizer.consume();
             Ok(State::Next(StateName::HtmlTextTagOpenAttributeValueUnquoted))

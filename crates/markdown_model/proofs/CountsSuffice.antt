@@ -1,5 +1,5 @@
 -- The numbers of steps that definitions count down are enough.
-use Rattle.std.proofs.Common.{◌≡◌, ℕ, zero, suc, ◌+◌, ◌≤◌, List, [], ◌++◌, length, refl, sym, ◌∙◌, ap, subst, arith, Option, Some, None}
+use Rattle.std.proofs.Common.{◌≡◌, Bool, ℕ, zero, suc, ◌+◌, ◌≤◌, List, [], ◌++◌, length, refl, sym, ◌∙◌, ap, subst, arith, Option, Some, None}
 use Rattle.std.specs.Str.{byte}
 use Rattle.markdown_content.specs.Codes.{Code}
 use Rattle.markdown_model.specs.CodeTests.{is_value}
@@ -51,9 +51,10 @@ repeats : (a : Reading (List Code)) → ReadsACode a → (cs text rest : List Co
 unfolding repeatedly
 repeats a h cs text rest e = stops a (consumes a h) (length cs) cs text rest (omega arith) e
 
-attribute_takes : Consumes 1 (spaces then_ attribute)
+attribute_takes : (slashes : Bool) → Consumes 1 (spaces then_ attribute slashes)
 unfolding spaces
-attribute_takes = then_takes _ _ (some_takes is_whitespace_code) (takes_no_more _ attribute takes_attribute)
+attribute_takes slashes =
+    then_takes _ _ (some_takes is_whitespace_code) (takes_no_more _ (attribute slashes) (takes_attribute slashes))
 
 label_takes : Consumes 1 (one (is_value (byte ".")) then_ domain_label)
 label_takes = then_takes _ _ (one_takes (is_value (byte "."))) (takes_no_more _ domain_label takes_domain_label)
@@ -65,7 +66,7 @@ all_emails n cs h = email_leaves-more n (length cs) [] cs h (omega arith)
 pub counts_suffice : CountsSuffice
 counts_suffice = record {
   repeats = repeats;
-  an_attribute = reads (spaces then_ attribute) attribute_takes;
+  an_attribute = λ slashes. reads (spaces then_ attribute slashes) (attribute_takes slashes);
   a_label = reads (one (is_value (byte ".")) then_ domain_label) label_takes;
   emails = all_emails;
 }

@@ -7,7 +7,8 @@ use Rattle.markdown_event.specs.declared.event.Event.{Event}
 use Rattle.markdown_content.specs.Codes.{Code}
 use Rattle.markdown_content.specs.Tree.{Forest, empty, leaf_then, group_then, leaf_codes, event_count, events_from, events_of}
 use Rattle.markdown_model.specs.Grammar.{Reading}
-use Rattle.markdown_model.specs.Setting.{Setting}
+use Rattle.markdown_content.specs.declared.configuration.Rules.{Rules}
+use Rattle.markdown_model.specs.Setting.{Setting, rules}
 use Rattle.markdown_model.specs.LabelEnd.{Element}
 use Rattle.markdown_model.specs.Elements.{elements_of, string_elements_of, text_choice, string_choice}
 use Rattle.markdown_model.specs.Runs.{Run}
@@ -56,7 +57,7 @@ same_text_tree s cs t u a b = a.finished ∙ (λ i. finished_text s (pairs i) (e
 
 same_string_tree : (s : Setting) (cs : List Code) (t u : Forest) → IsStringTree s cs t → IsStringTree s cs u → t ≡ u
 same_string_tree s cs t u a b =
-    a.finished ∙ ap finished_string (same_string_elements s cs a.elements b.elements a.are_elements b.are_elements) ∙ sym b.finished
+    a.finished ∙ ap (finished_string (rules s)) (same_string_elements s cs a.elements b.elements a.are_elements b.are_elements) ∙ sym b.finished
 
 pub one_tree : OneTree
 one_tree s cs = (
@@ -88,15 +89,15 @@ codes-finished_text s pairs_of es = by_test s.options.constructs.gfm_autolink_li
     by_test true = codes-mailed trimmed_tree
     by_test false = refl
 
-pub codes-finished_string : (es : List Element) → leaf_codes (finished_string es) ≡ elements_codes 0 es
+pub codes-finished_string : (rules : Rules) (es : List Element) → leaf_codes (finished_string rules es) ≡ elements_codes 0 es
 unfolding finished_string
-codes-finished_string es = codes-trimmed no_breaks false false _ ∙ codes-merged _ ∙ codes-labels_of es
+codes-finished_string rules es = codes-trimmed (no_breaks rules) false false _ ∙ codes-merged _ ∙ codes-labels_of es
 
 pub leaves_cover : LeavesCover
 unfolding text_tree string_tree
 leaves_cover s cs = (
   codes-finished_text s (pair_list s) (elements_of s cs) ∙ codes-of_elements s cs,
-  codes-finished_string (string_elements_of s cs) ∙ codes-of_string_elements s cs,
+  codes-finished_string (rules s) (string_elements_of s cs) ∙ codes-of_string_elements s cs,
 )
 
 -- Events.

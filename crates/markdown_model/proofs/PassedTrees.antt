@@ -1,5 +1,5 @@
 -- What holds of trees of which each leaf and each group satisfies something, and what the passes make of them.
-use Rattle.std.proofs.Common.{ℕ, zero, suc, Bool, true, false, ◌&&◌, ◌||◌, List, [], ◌∷◌, ◌++◌, length, reverse, Option, Some, None}
+use Rattle.std.proofs.Common.{ℕ, zero, suc, Bool, true, false, ◌&&◌, ◌||◌, not, List, [], ◌∷◌, ◌++◌, length, reverse, Option, Some, None}
 use Rattle.markdown_event.specs.declared.event.Name.{Name}
 use Rattle.markdown_content.specs.Codes.{Code, is_blank}
 use Rattle.markdown_content.specs.Tree.{Forest, empty, leaf_then, group_then, leaf, ◌⊕◌}
@@ -20,7 +20,7 @@ module _ (P : Forest → Type 0) (row : (t u : Forest) → P t → P u → P (t 
       (row (leaf Name.Data lead.1) behind (plain lead.1) (blank-named (λ name. P (leaf name (reverse cut.0))) (break (reverse cut.0)) (blank (reverse cut.0)) hard (reverse cut.0)))
     where
       cut : List Code × List Code
-      cut = elim back [ true ↦ span is_blank (reverse cs) | false ↦ ([], reverse cs) ]
+      cut = elim (back && not hard.keeps) [ true ↦ span is_blank (reverse cs) | false ↦ ([], reverse cs) ]
 
       lead : List Code × List Code
       lead = elim front [ true ↦ span is_blank (reverse cut.1) | false ↦ ([], reverse cut.1) ]
@@ -108,7 +108,7 @@ module _ {P : Forest → Type 0} {L : Name → Option Content → List Code → 
     walks-trimmed front whole empty h = h
     walks-trimmed front whole (leaf_then Name.Data None cs rest) h =
         let r = w.leaf_of Name.Data None cs rest h in
-        walks-row (trimmed_data front (begins_line_ending rest || (whole && is_nothing rest)) (breaks_where hard (begins_line_ending rest)) cs) (trimmed hard false whole rest) (cuts _ _ _ cs r.0) (walks-trimmed false whole rest r.1)
+        walks-row (trimmed_data front (begins_line_ending rest || (whole && is_nothing rest)) (breaks_where hard (begins_line_ending rest)) cs) (trimmed hard false whole rest) (cuts front (begins_line_ending rest || (whole && is_nothing rest)) (breaks_where hard (begins_line_ending rest)) cs r.0) (walks-trimmed false whole rest r.1)
     walks-trimmed front whole (leaf_then Name.LineEnding link cs rest) h =
         let r = w.leaf_of Name.LineEnding link cs rest h in w.leaf_to Name.LineEnding link cs (trimmed hard true whole rest) r.0 (walks-trimmed true whole rest r.1)
     walks-trimmed front whole (leaf_then name link cs rest) h =

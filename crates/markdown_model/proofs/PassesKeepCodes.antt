@@ -1,5 +1,5 @@
 -- The passes keep the codes that the leaves cover.
-use Rattle.std.proofs.Common.{◌≡◌, ℕ, suc, Bool, true, false, ◌&&◌, ◌||◌, List, [], ◌∷◌, ◌++◌, length, reverse, refl, sym, ◌∙◌, ap, None}
+use Rattle.std.proofs.Common.{◌≡◌, ℕ, suc, Bool, true, false, ◌&&◌, ◌||◌, not, List, [], ◌∷◌, ◌++◌, length, reverse, refl, sym, ◌∙◌, ap, None}
 use Rattle.std.proofs.lemmas.List.{append_assoc, append-nil, reverse-append, reverse-reverse}
 use Rattle.markdown_event.specs.declared.event.Name.{Name}
 use Rattle.markdown_content.specs.Codes.{Code, is_blank}
@@ -58,10 +58,11 @@ codes-three a b c xs ys zs =
 
 pub codes-trimmed_data : (front back : Bool) (hard : HardBreaks) (cs : List Code) → leaf_codes (trimmed_data front back hard cs) ≡ cs
 codes-trimmed_data front back hard cs =
-    codes-three Name.SpaceOrTab Name.Data (blank_name hard (reverse (cut_back back cs).0))
-    (cut_lead front (reverse (cut_back back cs).1)).0 (cut_lead front (reverse (cut_back back cs).1)).1 (reverse (cut_back back cs).0)
-    ∙ ap (λ x. x ++ reverse (cut_back back cs).0) (cut_lead-append front (reverse (cut_back back cs).1))
-    ∙ cut_back-append back cs
+    let goes : Bool = back && not hard.keeps in
+    codes-three Name.SpaceOrTab Name.Data (blank_name hard (reverse (cut_back goes cs).0))
+    (cut_lead front (reverse (cut_back goes cs).1)).0 (cut_lead front (reverse (cut_back goes cs).1)).1 (reverse (cut_back goes cs).0)
+    ∙ ap (λ x. x ++ reverse (cut_back goes cs).0) (cut_lead-append front (reverse (cut_back goes cs).1))
+    ∙ cut_back-append goes cs
 
 pub codes-trimmed : (hard : HardBreaks) (front whole : Bool) (f : Forest) → leaf_codes (trimmed hard front whole f) ≡ leaf_codes f
 unfolding trimmed

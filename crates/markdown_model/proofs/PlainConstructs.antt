@@ -261,9 +261,9 @@ label-line : Yields IsLine domain_label
 unfolding domain_label
 label-line = yields_bind IsSomeLine _ _ _ (some-line _ λ c. refl) λ text h. yields_passed _ _ _ (yields_gives _ _ h.1)
 
-uri-line : Yields IsLine uri
+uri-line : (replaced : Bool) → Yields IsLine (uri replaced)
 unfolding uri
-uri-line = then-line _ _ scheme-line (then-line _ _ (some-any _ (one-line _ λ c. refl)) (any-line _ λ c. refl))
+uri-line replaced = then-line _ _ scheme-line (then-line _ _ (some-any _ (one-line _ λ c. refl)) (any-line _ λ c. refl))
 
 email-line : (all : Bool) → Yields IsLine (email_address all)
 unfolding email_address
@@ -285,7 +285,7 @@ module _ (bytes : List ℕ) where
   pub reads_autolink : (rules : Rules) → ReadsPlain bytes (autolink rules)
   unfolding autolink
   reads_autolink rules =
-      reads_either bytes _ _ (reads_in_angle_brackets uri Name.AutolinkProtocol refl takes_uri uri-line) (reads_in_angle_brackets (email_address rules.all_address_marks) Name.AutolinkEmail refl (takes_email_address _) (email-line _))
+      reads_either bytes _ _ (reads_in_angle_brackets (uri rules.nul_is_replaced) Name.AutolinkProtocol refl (takes_uri _) (uri-line _)) (reads_in_angle_brackets (email_address rules.all_address_marks) Name.AutolinkEmail refl (takes_email_address _) (email-line _))
 
 -- Spans.
 
@@ -371,8 +371,9 @@ module _ (bytes : List ℕ) where
       some-lines (leaf_then name link cs rest) h = refl
       some-lines (group_then name enter exit inside rest) h = refl
 
-  html-some : Yields (λ (cs : List Code). cs ≢ []) html_codes
-  html-some = record { at = λ cs. by_answer cs (html_codes cs) (takes_html_text.at cs) (html_text_takes.at cs) }
+  html-some : (slashes : Bool) → Yields (λ (cs : List Code). cs ≢ []) (html_codes slashes)
+  html-some slashes =
+      record { at = λ cs. by_answer cs (html_codes slashes cs) ((takes_html_text slashes).at cs) ((html_text_takes slashes).at cs) }
     where
       none : (xs cs rest : List Code) → xs ≡ [] → xs ++ rest ≡ cs → 1 + length rest ≤ length cs → ⊥
       none xs cs rest e f l = omega (arith, l, ap length (sym f ∙ ap (λ ys. ys ++ rest) e))
@@ -382,11 +383,11 @@ module _ (bytes : List ℕ) where
       by_answer cs None k l = tt
       by_answer cs (Some x) k l = λ e. none x.0 cs x.1 e k l
 
-  pub reads_html_text : ReadsPlain bytes html_text
+  pub reads_html_text : (slashes : Bool) → ReadsPlain bytes (html_text slashes)
   unfolding html_text
-  reads_html_text = record {
-    covers = bind _ _ _ _ _ takes_html_text λ text. given _ _ _ (append-nil _ ∙ codes-lines Name.HtmlTextData None text);
-    plain = yields_bind (λ (cs : List Code). cs ≢ []) _ _ _ html-some λ text some. yields_gives _ _ (html-around text some);
+  reads_html_text slashes = record {
+    covers = bind _ _ _ _ _ (takes_html_text slashes) λ text. given _ _ _ (append-nil _ ∙ codes-lines Name.HtmlTextData None text);
+    plain = yields_bind (λ (cs : List Code). cs ≢ []) _ _ _ (html-some slashes) λ text some. yields_gives _ _ (html-around text some);
   }
 
   -- Checks of list items.

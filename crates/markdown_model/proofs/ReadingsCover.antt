@@ -127,9 +127,9 @@ pub takes_domain_label : Takes domain_label
 unfolding domain_label
 takes_domain_label = bind _ _ _ _ _ (takes_some _) λ text. if_passed _ _ _ _ (given _ _ _ refl)
 
-pub takes_uri : Takes uri
+pub takes_uri : (replaced : Bool) → Takes (uri replaced)
 unfolding uri
-takes_uri = takes_then _ _ takes_scheme (takes_then _ _ (takes_one _) (takes_any_number _))
+takes_uri replaced = takes_then _ _ takes_scheme (takes_then _ _ (takes_one _) (takes_any_number _))
 
 pub takes_email_address : (all : Bool) → Takes (email_address all)
 unfolding email_address
@@ -222,24 +222,24 @@ takes_quoted_value : (q : ℕ) → Takes (quoted_value q)
 unfolding quoted_value
 takes_quoted_value q = takes_then _ _ (takes_one _) (takes_then _ _ (takes_any_number _) (takes_one _))
 
-takes_unquoted_value : Takes unquoted_value
+takes_unquoted_value : (slashes : Bool) → Takes (unquoted_value slashes)
 unfolding unquoted_value
-takes_unquoted_value = seen_before _ _ _ _ (takes_then _ _ (takes_one _) (takes_any_number _))
+takes_unquoted_value slashes = seen_before _ _ _ _ (takes_then _ _ (takes_one _) (takes_any_number _))
 
-pub takes_attribute_value : Takes attribute_value
+pub takes_attribute_value : (slashes : Bool) → Takes (attribute_value slashes)
 unfolding attribute_value
-takes_attribute_value =
-    one_of _ _ _ _ (takes_quoted_value 34) (one_of _ _ _ _ (takes_quoted_value 39) takes_unquoted_value)
+takes_attribute_value slashes =
+    one_of _ _ _ _ (takes_quoted_value 34) (one_of _ _ _ _ (takes_quoted_value 39) (takes_unquoted_value slashes))
 
-pub takes_attribute : Takes attribute
+pub takes_attribute : (slashes : Bool) → Takes (attribute slashes)
 unfolding attribute
-takes_attribute =
-    takes_then _ _ takes_attribute_name (takes_optional _ (takes_then _ _ takes_optional_spaces (takes_then _ _ (takes_one _) (takes_then _ _ takes_optional_spaces takes_attribute_value))))
+takes_attribute slashes =
+    takes_then _ _ takes_attribute_name (takes_optional _ (takes_then _ _ takes_optional_spaces (takes_then _ _ (takes_one _) (takes_then _ _ takes_optional_spaces (takes_attribute_value slashes)))))
 
-takes_open_tag : Takes open_tag
+takes_open_tag : (slashes : Bool) → Takes (open_tag slashes)
 unfolding open_tag
-takes_open_tag =
-    takes_then _ _ (takes_word "<") (takes_then _ _ takes_tag_name (takes_then _ _ (takes_repeatedly _ (takes_then _ _ takes_spaces takes_attribute)) (takes_then _ _ takes_optional_spaces (takes_then _ _ (takes_optional _ (takes_word "/")) (takes_word ">")))))
+takes_open_tag slashes =
+    takes_then _ _ (takes_word "<") (takes_then _ _ takes_tag_name (takes_then _ _ (takes_repeatedly _ (takes_then _ _ takes_spaces (takes_attribute slashes))) (takes_then _ _ takes_optional_spaces (takes_then _ _ (takes_optional _ (takes_word "/")) (takes_word ">")))))
 
 takes_closing_tag : Takes closing_tag
 unfolding closing_tag
@@ -263,10 +263,10 @@ takes_cdata : Takes cdata
 unfolding cdata
 takes_cdata = takes_then _ _ (takes_word "<![CDATA[") (takes_through "]]>")
 
-pub takes_html_text : Takes html_codes
+pub takes_html_text : (slashes : Bool) → Takes (html_codes slashes)
 unfolding html_codes
-takes_html_text =
-    one_of _ _ _ _ takes_open_tag (one_of _ _ _ _ takes_closing_tag (one_of _ _ _ _ takes_comment (one_of _ _ _ _ takes_instruction (one_of _ _ _ _ takes_declaration takes_cdata))))
+takes_html_text slashes =
+    one_of _ _ _ _ (takes_open_tag slashes) (one_of _ _ _ _ takes_closing_tag (one_of _ _ _ _ takes_comment (one_of _ _ _ _ takes_instruction (one_of _ _ _ _ takes_declaration takes_cdata))))
 
 -- Labels, destinations, titles and resources.
 

@@ -96,10 +96,10 @@ pub text_takes : (text : String) (n : ℕ) (ns : List ℕ) → codes text ≡ n 
 unfolding word
 text_takes text n ns e = subst (λ x. Consumes 1 (word_of x)) (sym e) (word_takes n ns)
 
-pub open_tag_takes : Consumes 1 open_tag
+pub open_tag_takes : (slashes : Bool) → Consumes 1 (open_tag slashes)
 unfolding open_tag
-open_tag_takes =
-    then_takes _ _ (text_takes "<" _ _ refl) (takes_no_more _ _ (takes_then _ _ takes_tag_name (takes_then _ _ (takes_repeatedly _ (takes_then _ _ takes_spaces takes_attribute)) (takes_then _ _ takes_optional_spaces (takes_then _ _ (takes_optional _ (takes_word "/")) (takes_word ">"))))))
+open_tag_takes slashes =
+    then_takes _ _ (text_takes "<" _ _ refl) (takes_no_more _ _ (takes_then _ _ takes_tag_name (takes_then _ _ (takes_repeatedly _ (takes_then _ _ takes_spaces (takes_attribute slashes))) (takes_then _ _ takes_optional_spaces (takes_then _ _ (takes_optional _ (takes_word "/")) (takes_word ">"))))))
 
 pub closing_tag_takes : Consumes 1 closing_tag
 unfolding closing_tag
@@ -124,7 +124,7 @@ pub cdata_takes : Consumes 1 cdata
 unfolding cdata
 cdata_takes = then_takes _ _ (text_takes "<![CDATA[" _ _ refl) (takes_no_more _ _ (takes_through "]]>"))
 
-pub html_text_takes : Consumes 1 html_codes
+pub html_text_takes : (slashes : Bool) → Consumes 1 (html_codes slashes)
 unfolding html_codes
-html_text_takes =
-    either_takes _ _ _ open_tag_takes (either_takes _ _ _ closing_tag_takes (either_takes _ _ _ comment_takes (either_takes _ _ _ instruction_takes (either_takes _ _ _ declaration_takes cdata_takes))))
+html_text_takes slashes =
+    either_takes _ _ _ (open_tag_takes slashes) (either_takes _ _ _ closing_tag_takes (either_takes _ _ _ comment_takes (either_takes _ _ _ instruction_takes (either_takes _ _ _ declaration_takes cdata_takes))))

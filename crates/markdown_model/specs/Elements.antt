@@ -94,7 +94,7 @@ module _ (s : Setting) (end : ℕ) (earlier : List Element) (previous : Option C
       ∷ (codes "*", switched on.attention (attention_run (byte "*")))
       ∷ (codes "_", switched on.attention (attention_run (byte "_")))
       ∷ (codes "~", switched on.gfm_strikethrough (attention_run (byte "~")))
-      ∷ (codes "<", either (switched on.autolink (as_plain (autolink (rules s)))) (switched on.html_text (as_plain html_text)))
+      ∷ (codes "<", either (switched on.autolink (as_plain (autolink (rules s)))) (switched on.html_text (as_plain (html_text (rules s).slashes_in_values))))
       ∷ (first_letters schemes, switched on.gfm_autolink_literal (as_plain (gfm_autolink_literal_protocol s.bytes end previous)))
       ∷ (first_letters (www ∷ []), switched on.gfm_autolink_literal (as_plain (gfm_autolink_literal_www s.bytes end previous)))
       ∷ (codes "[", either (switched on.gfm_label_start_footnote gfm_label_start_footnote) (switched on.label_start_link label_start_link))

@@ -1,5 +1,5 @@
 -- HTML in text (CommonMark 6.6): its six kinds, each over one or more lines.
-use Rattle.std.specs.Prelude.{ℕ, Bool, ◌||◌, not, List, None, codes}
+use Rattle.std.specs.Prelude.{ℕ, Bool, ◌&&◌, ◌||◌, not, List, None, codes}
 use Rattle.std.specs.Str.{byte}
 use Rattle.markdown_content.specs.Codes.{Code}
 use Rattle.markdown_content.specs.Tree.{Forest, group}
@@ -30,20 +30,24 @@ quoted_value quote = one (is_value quote) then_ any_number (λ c. not (is_value 
 abbrev pub ends_value : Code → Bool
 ends_value c = is_whitespace_code c || is_among (codes "\"'<=>`") c
 
--- Here an unquoted value ends before a `/` that is not its first code.
-unfoldable pub unquoted_value : Reading (List Code)
-unquoted_value =
-    before (one (λ c. not (ends_value c)) then_ any_number (λ c. not (ends_value c || is_value (byte "/") c)))
+-- a code of an unquoted value after its first; `/` is one where slashes may stand in values, as CommonMark says
+abbrev pub is_later_code : Bool → Code → Bool
+is_later_code slashes c = not (ends_value c || (is_value (byte "/") c && not slashes))
+
+unfoldable pub unquoted_value : Bool → Reading (List Code)
+unquoted_value slashes =
+    before (one (λ c. not (ends_value c)) then_ any_number (is_later_code slashes))
     (next_is (λ c. is_whitespace_code c || is_among (codes "/>") c))
 
-unfoldable pub attribute_value : Reading (List Code)
-attribute_value = either (quoted_value (byte "\"")) (either (quoted_value (byte "'")) unquoted_value)
+unfoldable pub attribute_value : Bool → Reading (List Code)
+attribute_value slashes = either (quoted_value (byte "\"")) (either (quoted_value (byte "'")) (unquoted_value slashes))
 
-unfoldable pub attribute : Reading (List Code)
-attribute = attribute_name then_ optional (optional_spaces then_ one (is_value (byte "=")) then_ optional_spaces then_ attribute_value)
+unfoldable pub attribute : Bool → Reading (List Code)
+attribute slashes =
+    attribute_name then_ optional (optional_spaces then_ one (is_value (byte "=")) then_ optional_spaces then_ attribute_value slashes)
 
-unfoldable pub open_tag : Reading (List Code)
-open_tag = word "<" then_ tag_name then_ repeatedly (spaces then_ attribute) then_ optional_spaces then_ optional (word "/") then_ word ">"
+unfoldable pub open_tag : Bool → Reading (List Code)
+open_tag slashes = word "<" then_ tag_name then_ repeatedly (spaces then_ attribute slashes) then_ optional_spaces then_ optional (word "/") then_ word ">"
 
 unfoldable pub closing_tag : Reading (List Code)
 closing_tag = word "</" then_ tag_name then_ optional_spaces then_ word ">"
@@ -61,10 +65,11 @@ declaration = word "<!" then_ one is_letter then_ through ">"
 unfoldable pub cdata : Reading (List Code)
 cdata = word "<![CDATA[" then_ through "]]>"
 
-unfoldable pub html_codes : Reading (List Code)
-html_codes = either open_tag (either closing_tag (either comment (either instruction (either declaration cdata))))
+unfoldable pub html_codes : Bool → Reading (List Code)
+html_codes slashes = either (open_tag slashes) (either closing_tag (either comment (either instruction (either declaration cdata))))
 
-unfoldable pub html_text : Reading Forest
-html_text = do
-  text ← html_codes
+-- by the Bool slashes may stand in unquoted values
+unfoldable pub html_text : Bool → Reading Forest
+html_text slashes = do
+  text ← html_codes slashes
   gives (group Name.HtmlText (lines Name.HtmlTextData None text))

@@ -5,7 +5,8 @@ use Rattle.markdown_event.specs.declared.event.Event.{Event}
 use Rattle.markdown_content.specs.Codes.{Code}
 use Rattle.markdown_content.specs.Content.{content_of}
 use Rattle.markdown_content.specs.Tree.{Forest, events_of}
-use Rattle.markdown_model.specs.Setting.{Setting}
+use Rattle.markdown_content.specs.declared.configuration.Rules.{Rules}
+use Rattle.markdown_model.specs.Setting.{Setting, rules}
 use Rattle.markdown_model.specs.LabelEnd.{Element}
 use Rattle.markdown_model.specs.Elements.{elements_of, string_elements_of, AreElements, AreStringElements}
 use Rattle.markdown_model.specs.Runs.{Run, containers_of}
@@ -28,8 +29,8 @@ finished_text s pairs_of es =
     elim (s.options.constructs.gfm_autolink_literal) [ true ↦ with_emails_apart t | false ↦ t ]
 
 -- the tree of a string with these elements, which are no labels and hold no runs
-unfoldable pub finished_string : List Element → Forest
-finished_string es = trimmed no_breaks false false (merged (labels_of es))
+unfoldable pub finished_string : Rules → List Element → Forest
+finished_string rules es = trimmed (no_breaks rules) false false (merged (labels_of es))
 
 -- The inline tree of a text: that of the content's elements and of each container's pairs.
 pub record IsTextTree (s : Setting) (cs : List Code) (tree : Forest) : Type 0 where
@@ -43,7 +44,7 @@ pub record IsTextTree (s : Setting) (cs : List Code) (tree : Forest) : Type 0 wh
 pub record IsStringTree (s : Setting) (cs : List Code) (tree : Forest) : Type 0 where
   pub elements : List Element
   pub are_elements : AreStringElements s cs elements
-  pub finished : tree ≡ finished_string elements
+  pub finished : tree ≡ finished_string (rules s) elements
 
 -- The same, computed.
 
@@ -51,7 +52,7 @@ unfoldable pub text_tree : Setting → List Code → Forest
 text_tree s cs = finished_text s (pair_list s) (elements_of s cs)
 
 unfoldable pub string_tree : Setting → List Code → Forest
-string_tree s cs = finished_string (string_elements_of s cs)
+string_tree s cs = finished_string (rules s) (string_elements_of s cs)
 
 abbrev pub text_events : Setting → List Piece → List Event
 text_events s pieces = events_of (text_tree s (content_of s.bytes pieces))

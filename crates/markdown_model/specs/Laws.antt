@@ -77,7 +77,7 @@ pub record CountsSuffice : Type 0 where
   -- what is repeated stops only where it no longer holds
   pub repeats : (a : Reading (List Code)) → ReadsACode a → (cs text rest : List Code) → repeatedly a cs ≡ Some (text, rest) → a rest ≡ None
   -- so do the attributes of a tag, and the labels of an address
-  pub an_attribute : ReadsACode (spaces then_ attribute)
+  pub an_attribute : (slashes : Bool) → ReadsACode (spaces then_ attribute slashes)
   pub a_label : ReadsACode (one (is_value (byte ".")) then_ domain_label)
   -- with more steps no more emails are found
   pub emails : (n : ℕ) (cs : List Code) → length cs ≤ n → email_leaves n [] cs ≡ with_emails cs

@@ -139,9 +139,9 @@ scheme = do
   provided (is_length_in 2 32 text)
   gives text
 
--- no ASCII control, NUL included, no space and no angle bracket
-abbrev pub is_uri_code : Code → Bool
-is_uri_code c = not (is_among (codes "\0 <>") c || is_control c)
+-- no ASCII control, no space and no angle bracket; NUL is no control where it is read as U+FFFD (CommonMark 2.3)
+abbrev pub is_uri_code : Bool → Code → Bool
+is_uri_code replaced c = not (is_among (codes " <>") c || is_control c || (is_value (byte "\0") c && not replaced))
 
 -- a code of an email address before its `@`; `!` is one where all of CommonMark's marks are, and `"` is none
 abbrev pub is_local_code : Bool → Code → Bool
@@ -154,8 +154,8 @@ domain_label = do
   provided (is_length_in 1 63 text && next_is is_alphanumeric text && is_some_code is_alphanumeric (last_code text))
   gives text
 
-unfoldable pub uri : Reading (List Code)
-uri = scheme then_ one (is_value (byte ":")) then_ any_number is_uri_code
+unfoldable pub uri : Bool → Reading (List Code)
+uri replaced = scheme then_ one (is_value (byte ":")) then_ any_number (is_uri_code replaced)
 
 unfoldable pub email_address : Bool → Reading (List Code)
 email_address all =
@@ -170,7 +170,8 @@ in_angle_brackets inside name = do
 
 unfoldable pub autolink : Rules → Reading Forest
 autolink rules =
-    either (in_angle_brackets uri Name.AutolinkProtocol) (in_angle_brackets (email_address rules.all_address_marks) Name.AutolinkEmail)
+    either (in_angle_brackets (uri rules.nul_is_replaced) Name.AutolinkProtocol)
+    (in_angle_brackets (email_address rules.all_address_marks) Name.AutolinkEmail)
 
 -- The check of a task list item (GFM 5.3), at the first code of the item's first paragraph.
 

@@ -1,5 +1,5 @@
 -- From elements to a tree: labels, merging, trimming and emails, each of all siblings and all inside them.
-use Rattle.std.specs.Prelude.{Bool, true, false, ◌&&◌, ◌||◌, ℕ, nat_le, List, [], ◌∷◌, ◌++◌, length, take, drop, reverse, map, Option, Some, None}
+use Rattle.std.specs.Prelude.{Bool, true, false, ◌&&◌, ◌||◌, not, ℕ, nat_le, List, [], ◌∷◌, ◌++◌, length, take, drop, reverse, map, Option, Some, None}
 use Rattle.std.specs.List.{list_all}
 use Rattle.markdown_event.specs.declared.event.Name.{Name}
 use Rattle.markdown_content.specs.declared.configuration.Rules.{Rules}
@@ -83,7 +83,8 @@ merged (group_then name enter exit inside rest) = group_then name enter exit (me
 
 -- Trimming (CommonMark 6.7 and 6.8): data beside a line ending loses its blank codes there, and so do, in
 -- a text, the first and the last of the whole. Blank codes before a line ending are a hard break if the last
--- two are spaces; by the crate's rule all of them have to be spaces. Neighbours are those of the merged tree.
+-- two are spaces; by the crate's rule all of them have to be spaces. A string, as a title is one, keeps those before a line ending by
+-- CommonMark's rule (6.3): what stands behind a line ending a paragraph has lost before. Neighbours are those of the merged tree.
 
 abbrev pub begins_line_ending : Forest → Bool
 begins_line_ending (leaf_then Name.LineEnding link cs rest) = true
@@ -93,24 +94,27 @@ abbrev pub is_nothing : Forest → Bool
 is_nothing empty = true
 is_nothing _ = false
 
--- Hard breaks by spaces: whether they are looked for, and whether the last two codes alone decide, as CommonMark says.
+-- Hard breaks by spaces: whether they are looked for, and whether the last two codes alone decide, as CommonMark says. Where `keeps` is
+-- true the data keeps the blank codes at its back, and none are looked for.
 pub record HardBreaks : Type 0 where
   pub on : Bool
   pub two_last : Bool
+  pub keeps : Bool
 
-abbrev pub no_breaks : HardBreaks
-no_breaks = record { on = false; two_last = false }
-
--- where they are looked for, as the rules say
-abbrev pub hard_breaks : Bool → Rules → HardBreaks
-hard_breaks on rules = record { on = on; two_last = on && rules.two_last_spaces }
+-- where they are looked for, as the rules say; `whole` says that this is a whole text, and no string
+abbrev pub hard_breaks : Bool → Bool → Rules → HardBreaks
+hard_breaks on whole rules = record { on = on; two_last = on && rules.two_last_spaces; keeps = not whole && rules.titles_keep_spaces }
 
 abbrev pub breaks : Setting → HardBreaks
-breaks s = hard_breaks s.options.constructs.hard_break_trailing (rules s)
+breaks s = hard_breaks s.options.constructs.hard_break_trailing true (rules s)
+
+-- in a string there are none
+abbrev pub no_breaks : Rules → HardBreaks
+no_breaks rules = hard_breaks false false rules
 
 -- the same, and none where the place is none for a hard break
 abbrev pub breaks_where : HardBreaks → Bool → HardBreaks
-breaks_where hard here = record { on = hard.on && here; two_last = hard.two_last }
+breaks_where hard here = record { on = hard.on && here; two_last = hard.two_last; keeps = hard.keeps }
 
 -- how many spaces stand at the end of codes
 abbrev pub last_spaces : List Code → ℕ
@@ -125,10 +129,10 @@ abbrev pub blank_name : HardBreaks → List Code → Name
 blank_name hard cs = elim (hard.on && is_hard_break_trailing hard.two_last cs) [ true ↦ Name.HardBreakTrailing | false ↦ Name.SpaceOrTab ]
 
 -- the leaves of a data that loses its blank codes in front, at its back, or both, the back first; `hard`
--- says that those at its back may be a hard break
+-- says that those at its back may be a hard break, or are kept
 abbrev pub trimmed_data : Bool → Bool → HardBreaks → List Code → Forest
 trimmed_data front back hard cs =
-    let cut : List Code × List Code = elim back [ true ↦ span is_blank (reverse cs) | false ↦ ([], reverse cs) ] in
+    let cut : List Code × List Code = elim (back && not hard.keeps) [ true ↦ span is_blank (reverse cs) | false ↦ ([], reverse cs) ] in
     let kept = reverse cut.1 in
     let lead : List Code × List Code = elim front [ true ↦ span is_blank kept | false ↦ ([], kept) ] in
     leaf Name.SpaceOrTab lead.0 ⊕ leaf Name.Data lead.1 ⊕ leaf (blank_name hard (reverse cut.0)) (reverse cut.0)

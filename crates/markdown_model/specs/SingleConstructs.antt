@@ -71,7 +71,7 @@ module _ (options : ParseOptions) where
   autolink_here = provided options.constructs.autolink >> autolink (rules_of options)
 
   abbrev pub html_text_here : Reading Forest
-  html_text_here = provided options.constructs.html_text >> html_text
+  html_text_here = provided options.constructs.html_text >> html_text (rules_of options).slashes_in_values
 
   -- a code span or a math span; `escaped` says that an escape ends right before
   abbrev pub raw_text_here : Bool → Option Code → Reading Forest

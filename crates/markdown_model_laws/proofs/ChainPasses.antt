@@ -110,7 +110,7 @@ module _ (hard : HardBreaks) where
   unfolding trimmed
   trimmed-chains front whole empty h = tt
   trimmed-chains front whole (leaf_then N.Data None cs rest) h =
-      row (trimmed_data front (begins_line_ending rest || (whole && is_nothing rest)) (breaks_where hard (begins_line_ending rest)) cs) (trimmed hard false whole rest) (cut-chains _ _ _ cs) (trimmed-chains false whole rest h.1)
+      row (trimmed_data front (begins_line_ending rest || (whole && is_nothing rest)) (breaks_where hard (begins_line_ending rest)) cs) (trimmed hard false whole rest) (cut-chains front (begins_line_ending rest || (whole && is_nothing rest)) (breaks_where hard (begins_line_ending rest)) cs) (trimmed-chains false whole rest h.1)
   trimmed-chains front whole (leaf_then N.LineEnding link cs rest) h = (h.0, trimmed-chains true whole rest h.1)
   trimmed-chains front whole (leaf_then name link cs rest) h = (h.0, trimmed-chains false whole rest h.1)
   trimmed-chains front whole (group_then name a b inside rest) (inl h, more) = (inl (trimmed-chains false false inside h), trimmed-chains false whole rest more)

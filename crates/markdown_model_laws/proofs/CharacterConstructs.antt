@@ -292,9 +292,9 @@ unfolding scheme
 scheme-first =
     yields_bind HasFirst _ _ _ (then-first _ _ (one-lows _ letter-low)) λ text h. yields_passed _ _ _ (yields_gives _ _ h)
 
-uri-first : Yields HasFirst uri
+uri-first : (replaced : Bool) → Yields HasFirst (uri replaced)
 unfolding uri
-uri-first = more-first _ _ scheme-first
+uri-first replaced = more-first _ _ scheme-first
 
 mark-low : (all : Bool) (c : Code) → is_value (byte "!") c && all ≡ true → is_low c ≡ true
 mark-low all c h = value-low 33 refl c (and-left (is_value 33 c) all h)
@@ -319,7 +319,7 @@ leads_in_angle_brackets inside name n takes first =
 pub leads_autolink : (rules : Rules) → ReadsLeads (autolink rules)
 unfolding autolink
 leads_autolink rules =
-    reads_either HasLeads true true _ _ (leads_in_angle_brackets uri N.AutolinkProtocol refl takes_uri uri-first) (leads_in_angle_brackets (email_address rules.all_address_marks) N.AutolinkEmail refl (takes_email_address _) (email-first _))
+    reads_either HasLeads true true _ _ (leads_in_angle_brackets (uri rules.nul_is_replaced) N.AutolinkProtocol refl (takes_uri _) (uri-first _)) (leads_in_angle_brackets (email_address rules.all_address_marks) N.AutolinkEmail refl (takes_email_address _) (email-first _))
 
 -- Spans.
 
@@ -432,9 +432,9 @@ through-ends ns h = given-up-to-word (λ _ x _. EndsLow x) ns h.at (λ c cs x re
 word-ends : (n : ℕ) (ns : List ℕ) → AllBelow (n ∷ ns) → Yields EndsLow (word_of (n ∷ ns))
 word-ends n ns l = yields-weaker Lows EndsLow lows-ends _ (word-lows n ns l)
 
-html-ends : Yields EndsLow html_codes
+html-ends : (slashes : Bool) → Yields EndsLow (html_codes slashes)
 unfolding html_codes open_tag closing_tag comment instruction declaration cdata word through
-html-ends =
+html-ends slashes =
     yields_either _ _ _ (ends_then _ _ (ends_then _ _ (ends_then _ _ (ends_then _ _ (ends_then _ _ greater)))))
     (yields_either _ _ _ (ends_then _ _ (ends_then _ _ (ends_then _ _ greater)))
     (yields_either _ _ _ (yields_either _ _ _ (word-ends 60 (codes "!-->") (refl, (refl, (refl, (refl, (refl, tt)))))) (yields_either _ _ _ (word-ends 60 (codes "!--->") (refl, (refl, (refl, (refl, (refl, (refl, tt))))))) (ends_then _ _ (record { at = through-ends (codes "-->") (word-ends 45 (codes "->") (refl, (refl, (refl, tt)))) }))))
@@ -445,14 +445,14 @@ html-ends =
     greater : Yields EndsLow (word_of (codes ">"))
     greater = word-ends 62 [] (refl, tt)
 
-reads_html : ReadsFrom true true Starts html_codes
-reads_html =
-    record { at = λ cs s w. given-both (ToSound false Starts) (ToSound true EndsLow) (ToSound true Starts) (html_codes cs) (λ x rest h k. (h.0, k.1)) ((reads_starts html_codes takes_html_text).at cs s w) ((reads_ends html_codes takes_html_text html-ends).at cs s tt) }
+reads_html : (slashes : Bool) → ReadsFrom true true Starts (html_codes slashes)
+reads_html slashes =
+    record { at = λ cs s w. given-both (ToSound false Starts) (ToSound true EndsLow) (ToSound true Starts) (html_codes slashes cs) (λ x rest h k. (h.0, k.1)) ((reads_starts (html_codes slashes) (takes_html_text slashes)).at cs s w) ((reads_ends (html_codes slashes) (takes_html_text slashes) (html-ends slashes)).at cs s tt) }
 
-pub leads_html_text : ReadsLeads html_text
+pub leads_html_text : (slashes : Bool) → ReadsLeads (html_text slashes)
 unfolding html_text
-leads_html_text =
-    reads_bind true true true Starts HasLeads _ _ reads_html λ text h. reads_gives HasLeads true _ (leads-lines N.HtmlTextData None text refl h, tt)
+leads_html_text slashes =
+    reads_bind true true true Starts HasLeads _ _ (reads_html slashes) λ text h. reads_gives HasLeads true _ (leads-lines N.HtmlTextData None text refl h, tt)
 
 -- Checks of list items.
 

@@ -15,7 +15,7 @@ use Rattle.markdown_model.specs.Grammar.{span}
 use Rattle.markdown_model.specs.InlineTree.{finished_string, text_tree, string_tree}
 use Rattle.markdown_model.specs.Pairs.{pair_list}
 use Rattle.markdown_model.specs.Passes.{no_breaks, HardBreaks, breaks, data_onto, merged, trimmed_data, trimmed, with_emails_apart, labels_of, blank_name}
-use Rattle.markdown_model.specs.Setting.{Setting}
+use Rattle.markdown_model.specs.Setting.{Setting, rules}
 use Rattle.markdown_model.proofs.DefinitionSteps.{span-all}
 use Rattle.markdown_model.proofs.LabelsCover.{codes-labels_of}
 use Rattle.markdown_model.proofs.LeafCodes.{codes-leaf}
@@ -124,7 +124,7 @@ three m n a b d cs e =
 
 cut-whole : (front back : Bool) (hard : HardBreaks) (cs : List Code) → Starts cs → AreWhole (trimmed_data front back hard cs)
 cut-whole front back hard cs h =
-    let cut : List Code × List Code = elim back [ true ↦ span is_blank (reverse cs) | false ↦ ([], reverse cs) ] in
+    let cut : List Code × List Code = elim (back && not hard.keeps) [ true ↦ span is_blank (reverse cs) | false ↦ ([], reverse cs) ] in
     let kept : List Code = reverse cut.1 in
     let lead : List Code × List Code = elim front [ true ↦ span is_blank kept | false ↦ ([], kept) ] in
     let last : List Code = reverse cut.0 in
@@ -132,7 +132,7 @@ cut-whole front back hard cs h =
     let all : lead.0 ++ (lead.1 ++ last) ≡ cs = three N.Data name lead.0 lead.1 last cs (codes-trimmed_data front back hard cs) in
     let starts : Starts (lead.0 ++ (lead.1 ++ last)) = subst Starts (sym all) h in
     let first_low : AllLow lead.0 = blank-span front kept in
-    let last_low : AllLow last = low-reverse cut.0 (blank-span back (reverse cs)) in
+    let last_low : AllLow last = low-reverse cut.0 (blank-span (back && not hard.keeps) (reverse cs)) in
     let rest : Starts (lead.1 ++ last) = starts-back lead.0 (lead.1 ++ last) first_low starts in
     whole-row (leaf N.SpaceOrTab lead.0) (leaf N.Data lead.1 ⊕ leaf name last) (whole-leaf N.SpaceOrTab lead.0 (starts-front lead.0 (lead.1 ++ last) starts))
     (whole-row (leaf N.Data lead.1) (leaf name last) (whole-leaf N.Data lead.1 (starts-front lead.1 last rest)) (whole-leaf name last (all-early last last_low, sound-back lead.1 last rest.1)))
@@ -277,10 +277,10 @@ module _ (s : Setting) (cs : List Code) (starts : Starts cs) where
 
   codes-string : leaf_codes plain_row ≡ cs
   unfolding string_tree
-  codes-string = codes-labels_of (string_elements_of s cs) ∙ sym (codes-finished_string (string_elements_of s cs)) ∙ (leaves_cover s cs).1
+  codes-string = codes-labels_of (string_elements_of s cs) ∙ sym (codes-finished_string (rules s) (string_elements_of s cs)) ∙ (leaves_cover s cs).1
 
   pub string-whole : AreWhole (string_tree s cs)
   unfolding string_tree finished_string
   string-whole =
-      trimmed-whole no_breaks false false (merged plain_row)
+      trimmed-whole (no_breaks (rules s)) false false (merged plain_row)
       (led-whole (merged plain_row) (merged-led false plain_row (string-labels-fit s cs starts.1 starts.0)) (subst HasNoStrays (sym (codes-merged plain_row ∙ codes-string)) starts.1))

@@ -1,7 +1,9 @@
 -- No blank code stands in data beside a line ending, nor first or last in a text.
-use Rattle.std.proofs.Common.{◌≡◌, ℕ, zero, suc, Bool, true, false, ◌&&◌, ◌||◌, List, [], ◌∷◌, ◌++◌, length, reverse, refl, sym, ap, subst, ◌∙◌, append_assoc, append-nil, Option, Some, None}
+use Rattle.std.proofs.Common.{◌≡◌, ℕ, zero, suc, Bool, true, false, ◌&&◌, ◌||◌, not, List, [], ◌∷◌, ◌++◌, length, reverse, refl, sym, ap, subst, ◌∙◌, append_assoc, append-nil, Option, Some, None}
 use Rattle.std.proofs.Math.Bool.{and-false}
 use Rattle.std.proofs.lemmas.Bool.{both_ways}
+use Rattle.markdown_event.proofs.AndParts.{and-left, and-right}
+use Rattle.markdown_model.specs.Setting.{rules}
 use Rattle.std.proofs.lemmas.List.{reverse-append}
 use Rattle.markdown_model.proofs.GivenNames.{blank-named}
 use Rattle.markdown_event.specs.declared.event.Name.{Name}
@@ -48,11 +50,11 @@ is_other Name.Data = false
 is_other Name.LineEnding = false
 is_other _ = true
 
-tight-other : (front whole : Bool) (name : Name) (cs : List Code) (f : Forest) → is_other name ≡ true →
-    IsTight false whole f → IsTight front whole (leaf_then name None cs f)
-tight-other front whole Name.Data cs f h k = cc
-tight-other front whole Name.LineEnding cs f h k = cc
-tight-other front whole name cs f h k = k
+tight-other : (tight : Bool) (front whole : Bool) (name : Name) (cs : List Code) (f : Forest) → is_other name ≡ true →
+    IsTight tight false whole f → IsTight tight front whole (leaf_then name None cs f)
+tight-other tight front whole Name.Data cs f h k = cc
+tight-other tight front whole Name.LineEnding cs f h k = cc
+tight-other tight front whole name cs f h k = k
 
 not-ending : (name : Name) (cs : List Code) (f : Forest) → is_other name ≡ true →
     begins_line_ending (leaf_then name None cs f) ≡ false
@@ -73,6 +75,10 @@ email-other name h = refl
 abbrev ends_before : Bool → Forest → Bool
 ends_before whole f = begins_line_ending f || (whole && is_nothing f)
 
+-- its last code is to be no blank one then, if blank codes go there
+abbrev goes_last : Bool → Bool → Forest → Bool
+goes_last tight whole f = tight && ends_before whole f
+
 abbrev NotBlankFirst : Bool → List Code → Type 0
 NotBlankFirst front cs = front ≡ true → next_is is_blank cs ≡ false
 
@@ -83,20 +89,20 @@ never : {A : Type 0} → (b : Bool) → b ≡ false → b ≡ true → A
 never b h k = absurd (both_ways b h k)
 
 -- data, and blank codes behind it or none
-tight-back : (front whole : Bool) (ys zs : List Code) (name : Name) (f : Forest) → is_other name ≡ true → NotBlankFirst front ys → NotBlankLast (ends_before whole f) ys
-    → IsTight front whole f → IsTight false whole f → IsTight front whole ((leaf Name.Data ys ⊕ leaf name zs) ⊕ f)
-tight-back front whole [] [] name f o first last h k = h
-tight-back front whole [] (z ∷ zs) name f o first last h k = tight-other front whole name (z ∷ zs) f o k
-tight-back front whole (y ∷ ys) [] name f o first last h k = (refl, first, last, k)
-tight-back front whole (y ∷ ys) (z ∷ zs) name f o first last h k =
-    (refl, first, never (begins_line_ending (leaf_then name None (z ∷ zs) f) || (whole && false)) (λ i. not-ending name (z ∷ zs) f o i || and-false whole i), tight-other false whole name (z ∷ zs) f o k)
+tight-back : (tight : Bool) (front whole : Bool) (ys zs : List Code) (name : Name) (f : Forest) → is_other name ≡ true → NotBlankFirst front ys → NotBlankLast (goes_last tight whole f) ys
+    → IsTight tight front whole f → IsTight tight false whole f → IsTight tight front whole ((leaf Name.Data ys ⊕ leaf name zs) ⊕ f)
+tight-back tight front whole [] [] name f o first last h k = h
+tight-back tight front whole [] (z ∷ zs) name f o first last h k = tight-other tight front whole name (z ∷ zs) f o k
+tight-back tight front whole (y ∷ ys) [] name f o first last h k = (refl, first, last, k)
+tight-back tight front whole (y ∷ ys) (z ∷ zs) name f o first last h k =
+    (refl, first, never (tight && (begins_line_ending (leaf_then name None (z ∷ zs) f) || (whole && false))) ((λ i. tight && (not-ending name (z ∷ zs) f o i || and-false whole i)) ∙ and-false tight), tight-other tight false whole name (z ∷ zs) f o k)
 
 -- blank codes before it or none
-tight-three : (front whole : Bool) (xs ys zs : List Code) (name : Name) (f : Forest) → is_other name ≡ true → NotBlankFirst front ys → NotBlankLast (ends_before whole f) ys
-    → IsTight front whole f → IsTight false whole f → IsTight front whole ((leaf Name.SpaceOrTab xs ⊕ leaf Name.Data ys ⊕ leaf name zs) ⊕ f)
-tight-three front whole [] ys zs name f o first last h k = tight-back front whole ys zs name f o first last h k
-tight-three front whole (x ∷ xs) ys zs name f o first last h k =
-    tight-back false whole ys zs name f o (never false refl) last k k
+tight-three : (tight : Bool) (front whole : Bool) (xs ys zs : List Code) (name : Name) (f : Forest) → is_other name ≡ true → NotBlankFirst front ys → NotBlankLast (goes_last tight whole f) ys
+    → IsTight tight front whole f → IsTight tight false whole f → IsTight tight front whole ((leaf Name.SpaceOrTab xs ⊕ leaf Name.Data ys ⊕ leaf name zs) ⊕ f)
+tight-three tight front whole [] ys zs name f o first last h k = tight-back tight front whole ys zs name f o first last h k
+tight-three tight front whole (x ∷ xs) ys zs name f o first last h k =
+    tight-back tight false whole ys zs name f o (never false refl) last k k
 
 -- Trimming.
 
@@ -131,22 +137,28 @@ back-last true cs h = last-reversed (span is_blank (reverse cs)).1 (span-stops i
 back-last false cs h = cc
 
 tight-data : (front whole back : Bool) (hard : HardBreaks) (cs : List Code) (f : Forest) → ends_before whole f ≡ back →
-    IsTight front whole f → IsTight false whole f → IsTight front whole (trimmed_data front back hard cs ⊕ f)
+    IsTight (not hard.keeps) front whole f → IsTight (not hard.keeps) false whole f → IsTight (not hard.keeps) front whole (trimmed_data front back hard cs ⊕ f)
 tight-data front whole back hard cs f e h k =
-    tight-three front whole (front_cut front kept).0 (front_cut front kept).1 (reverse (back_cut back cs).0) (blank_name hard (reverse (back_cut back cs).0)) f (blank-other hard (reverse (back_cut back cs).0))
-    (front-first front kept) (λ l. front-last front kept (back-last back cs (sym e ∙ l))) h k
+    tight-three tight front whole (front_cut front kept).0 (front_cut front kept).1 (reverse (back_cut goes cs).0) (blank_name hard (reverse (back_cut goes cs).0)) f (blank-other hard (reverse (back_cut goes cs).0))
+    (front-first front kept) (λ l. front-last front kept (back-last goes cs (λ i. (sym e ∙ and-right tight (ends_before whole f) l) i && and-left tight (ends_before whole f) l i))) h k
   where
+    tight : Bool
+    tight = not hard.keeps
+
+    goes : Bool
+    goes = back && not hard.keeps
+
     kept : List Code
-    kept = reverse (back_cut back cs).1
+    kept = reverse (back_cut goes cs).1
 
 -- what does not begin with data is tight whatever stands before
-tight-any : (front whole : Bool) (f : Forest) → begins_data f ≡ false → IsTight false whole f → IsTight front whole f
-tight-any front whole empty h k = k
-tight-any front whole (leaf_then Name.Data None cs rest) h k = cc
-tight-any front whole (leaf_then Name.LineEnding link cs rest) h k = k
-tight-any front whole (leaf_then Name.Data (Some link) cs rest) h k = k
-tight-any front whole (leaf_then name link cs rest) h k = k
-tight-any front whole (group_then name enter exit inside rest) h k = k
+tight-any : (tight : Bool) (front whole : Bool) (f : Forest) → begins_data f ≡ false → IsTight tight false whole f → IsTight tight front whole f
+tight-any tight front whole empty h k = k
+tight-any tight front whole (leaf_then Name.Data None cs rest) h k = cc
+tight-any tight front whole (leaf_then Name.LineEnding link cs rest) h k = k
+tight-any tight front whole (leaf_then Name.Data (Some link) cs rest) h k = k
+tight-any tight front whole (leaf_then name link cs rest) h k = k
+tight-any tight front whole (group_then name enter exit inside rest) h k = k
 
 trimmed-no-data : (hard : HardBreaks) (front whole : Bool) (f : Forest) → begins_data f ≡ false →
     begins_data (trimmed hard front whole f) ≡ false
@@ -159,13 +171,13 @@ trimmed-no-data hard front whole (leaf_then name link cs rest) h = refl
 trimmed-no-data hard front whole (group_then name enter exit inside rest) h = refl
 
 tight-trimmed : (hard : HardBreaks) (front whole : Bool) (f : Forest) → IsDataApart f →
-    IsTight front whole (trimmed hard front whole f)
+    IsTight (not hard.keeps) front whole (trimmed hard front whole f)
 unfolding trimmed
 tight-trimmed hard front whole empty h = tt
 tight-trimmed hard front whole (leaf_then Name.Data None cs rest) h =
     let k = tight-trimmed hard false whole rest h.1 in
     tight-data front whole (ends_before whole rest) (breaks_where hard (begins_line_ending rest)) cs (trimmed hard false whole rest) (trimmed-next hard false whole rest h.0)
-    (tight-any front whole (trimmed hard false whole rest) (trimmed-no-data hard false whole rest h.0) k) k
+    (tight-any (not hard.keeps) front whole (trimmed hard false whole rest) (trimmed-no-data hard false whole rest h.0) k) k
 tight-trimmed hard front whole (leaf_then Name.LineEnding link cs rest) h = tight-trimmed hard true whole rest h
 tight-trimmed hard front whole (leaf_then Name.Data (Some link) cs rest) h = tight-trimmed hard false whole rest h
 tight-trimmed hard front whole (leaf_then name link cs rest) h = tight-trimmed hard false whole rest h
@@ -182,28 +194,28 @@ first-of-more : (y : Code) (ys ds cs : List Code) → (y ∷ ys) ++ ds ≡ cs �
     next_is is_blank cs ≡ next_is is_blank (y ∷ ys)
 first-of-more y ys ds cs h = ap (next_is is_blank) (sym h)
 
-tight-piece : (front whole : Bool) (cs : List Code) (f : Forest) → HasCodesIfAsked front cs → NotBlankFirst front cs →
-    NotBlankLast (ends_before whole f) cs → IsTight false whole f → IsTight front whole (leaf Name.Data cs ⊕ f)
-tight-piece front whole [] f b first last k = subst (λ x. IsTight x whole f) (sym (b refl)) k
-tight-piece front whole (c ∷ cs) f b first last k = (refl, first, last, k)
+tight-piece : (tight : Bool) (front whole : Bool) (cs : List Code) (f : Forest) → HasCodesIfAsked front cs → NotBlankFirst front cs →
+    NotBlankLast (goes_last tight whole f) cs → IsTight tight false whole f → IsTight tight front whole (leaf Name.Data cs ⊕ f)
+tight-piece tight front whole [] f b first last k = subst (λ x. IsTight tight x whole f) (sym (b refl)) k
+tight-piece tight front whole (c ∷ cs) f b first last k = (refl, first, last, k)
 
-module _ (whole : Bool) (f : Forest) (k : IsTight false whole f) where
+module _ (tight whole : Bool) (f : Forest) (k : IsTight tight false whole f) where
   abbrev TightLaw : Bool → List Code → Forest → Type 0
   TightLaw front cs t =
-      HasCodesIfAsked front cs → NotBlankFirst front cs → NotBlankLast (ends_before whole f) cs → IsTight front whole (t ⊕ f)
+      HasCodesIfAsked front cs → NotBlankFirst front cs → NotBlankLast (goes_last tight whole f) cs → IsTight tight front whole (t ⊕ f)
 
   email-tight : (front : Bool) (xs : List Code) (e more : Forest) → IsEmailLeaf e → NotBlankFirst front xs →
-      IsTight false whole (more ⊕ f) → IsTight front whole ((leaf Name.Data xs ⊕ e ⊕ more) ⊕ f)
-  email-tight front xs e more h first l = subst (λ t. IsTight front whole ((leaf Name.Data xs ⊕ t ⊕ more) ⊕ f)) (sym h.is) (by_codes xs first)
+      IsTight tight false whole (more ⊕ f) → IsTight tight front whole ((leaf Name.Data xs ⊕ e ⊕ more) ⊕ f)
+  email-tight front xs e more h first l = subst (λ t. IsTight tight front whole ((leaf Name.Data xs ⊕ t ⊕ more) ⊕ f)) (sym h.is) (by_codes xs first)
     where
       o : is_other h.name ≡ true
       o = email-other h.name h.named
 
       by_codes : (ys : List Code) → NotBlankFirst front ys →
-          IsTight front whole ((leaf Name.Data ys ⊕ leaf_then h.name None (h.first ∷ h.more) empty ⊕ more) ⊕ f)
-      by_codes [] g = tight-other front whole h.name (h.first ∷ h.more) (more ⊕ f) o l
+          IsTight tight front whole ((leaf Name.Data ys ⊕ leaf_then h.name None (h.first ∷ h.more) empty ⊕ more) ⊕ f)
+      by_codes [] g = tight-other tight front whole h.name (h.first ∷ h.more) (more ⊕ f) o l
       by_codes (y ∷ ys) g =
-          (refl, g, never (begins_line_ending (leaf_then h.name None (h.first ∷ h.more) (more ⊕ f)) || (whole && false)) (λ i. not-ending h.name (h.first ∷ h.more) (more ⊕ f) o i || and-false whole i), tight-other false whole h.name (h.first ∷ h.more) (more ⊕ f) o l)
+          (refl, g, never (tight && (begins_line_ending (leaf_then h.name None (h.first ∷ h.more) (more ⊕ f)) || (whole && false))) ((λ i. tight && (not-ending h.name (h.first ∷ h.more) (more ⊕ f) o i || and-false whole i)) ∙ and-false tight), tight-other tight false whole h.name (h.first ∷ h.more) (more ⊕ f) o l)
 
   first-part : (front : Bool) (xs ds cs : List Code) → xs ++ ds ≡ cs → NotBlankFirst front cs → NotBlankFirst front xs
   first-part front [] ds cs e g h = refl
@@ -218,9 +230,9 @@ module _ (whole : Bool) (f : Forest) (k : IsTight false whole f) where
   unfolding email_leaves
   emails-tight n front before [] b first last =
       let e : reverse before ++ [] ≡ reverse before = append-nil (reverse before) in
-      tight-piece front whole (reverse before) f (subst (HasCodesIfAsked front) e b) (subst (NotBlankFirst front) e first) (subst (NotBlankLast (ends_before whole f)) e last) k
+      tight-piece tight front whole (reverse before) f (subst (HasCodesIfAsked front) e b) (subst (NotBlankFirst front) e first) (subst (NotBlankLast (goes_last tight whole f)) e last) k
   emails-tight zero front before (c ∷ cs) b first last =
-      tight-piece front whole (reverse before ++ c ∷ cs) f b first last k
+      tight-piece tight front whole (reverse before ++ c ∷ cs) f b first last k
   emails-tight (suc n) front before (c ∷ cs) b first last =
       by_answer (email_at before c cs) (found before c cs) (answer-email before c cs) (emails-tight n front (c ∷ before) cs) (λ ds. emails-tight n false [] ds)
     where
@@ -229,13 +241,13 @@ module _ (whole : Bool) (f : Forest) (k : IsTight false whole f) where
 
       by_answer : (r : Option (List Code × Forest × List Code)) → HasCodesAround before c cs r → AnswerIsEmail r
           → TightLaw front (reverse (c ∷ before) ++ cs) (email_leaves n (c ∷ before) cs) → ((ds : List Code) → TightLaw false ds (email_leaves n [] ds))
-          → IsTight front whole ((elim r as (λ _. Forest) [ None ↦ email_leaves n (c ∷ before) cs | Some x ↦ leaf Name.Data x.0 ⊕ x.1 ⊕ email_leaves n [] x.2 ]) ⊕ f)
+          → IsTight tight front whole ((elim r as (λ _. Forest) [ None ↦ email_leaves n (c ∷ before) cs | Some x ↦ leaf Name.Data x.0 ⊕ x.1 ⊕ email_leaves n [] x.2 ]) ⊕ f)
       by_answer None h l more after =
           let e : all ≡ reverse (c ∷ before) ++ cs = sym (reverse-first c before cs) in
-          more (subst (HasCodesIfAsked front) e b) (subst (NotBlankFirst front) e first) (subst (NotBlankLast (ends_before whole f)) e last)
+          more (subst (HasCodesIfAsked front) e b) (subst (NotBlankFirst front) e first) (subst (NotBlankLast (goes_last tight whole f)) e last)
       by_answer (Some x) h l more after =
           email-tight front x.0 x.1 (email_leaves n [] x.2) l (first-part front x.0 (leaf_codes x.1 ++ x.2) all h first)
-          (after x.2 (λ _. refl) (never false refl) (last-part (ends_before whole f) x.0 (leaf_codes x.1) x.2 all h last))
+          (after x.2 (λ _. refl) (never false refl) (last-part (goes_last tight whole f) x.0 (leaf_codes x.1) x.2 all h last))
 
 -- a row begins with a leaf that is no line ending
 abbrev pub BeginsLeaf : Forest → Type 0
@@ -263,37 +275,36 @@ emails-begin (suc n) before (c ∷ cs) f h = by_answer (email_at before c cs) (a
     by_answer (Some x) k more = email-begins x.0 x.1 (email_leaves n [] x.2) k
 
 -- a tight row ends before as it did when its emails are found
-email-next : (whole : Bool) (f : Forest) → IsTight false whole f →
+email-next : (tight : Bool) (whole : Bool) (f : Forest) → IsTight tight false whole f →
     ends_before whole (with_emails_apart f) ≡ ends_before whole f
 unfolding with_emails_apart with_emails
-email-next whole empty h = refl
-email-next whole (leaf_then Name.Data None cs rest) h =
-    let b = emails-begin (length cs) [] cs (with_emails_apart rest) h.0 in
-    λ i. b.0 i || (whole && b.1 i)
-email-next whole (leaf_then Name.LineEnding link cs rest) h = refl
-email-next whole (leaf_then Name.Data (Some link) cs rest) h = refl
-email-next whole (leaf_then name link cs rest) h = refl
-email-next whole (group_then Name.Link enter exit inside rest) h = refl
-email-next whole (group_then name enter exit inside rest) h = refl
+email-next tight whole empty h = refl
+email-next tight whole (leaf_then Name.Data None cs rest) h =
+    let b = emails-begin (length cs) [] cs (with_emails_apart rest) h.0 in λ i. b.0 i || (whole && b.1 i)
+email-next tight whole (leaf_then Name.LineEnding link cs rest) h = refl
+email-next tight whole (leaf_then Name.Data (Some link) cs rest) h = refl
+email-next tight whole (leaf_then name link cs rest) h = refl
+email-next tight whole (group_then Name.Link enter exit inside rest) h = refl
+email-next tight whole (group_then name enter exit inside rest) h = refl
 
-tight-mailed : (front whole : Bool) (f : Forest) → IsTight front whole f → IsTight front whole (with_emails_apart f)
+tight-mailed : (tight : Bool) (front whole : Bool) (f : Forest) → IsTight tight front whole f → IsTight tight front whole (with_emails_apart f)
 unfolding with_emails_apart with_emails
-tight-mailed front whole empty h = tt
-tight-mailed front whole (leaf_then Name.Data None [] rest) h = absurd (both_ways true h.0 refl)
-tight-mailed front whole (leaf_then Name.Data None (c ∷ cs) rest) h =
-    emails-tight whole (with_emails_apart rest) (tight-mailed false whole rest h.3) (length (c ∷ cs)) front [] (c ∷ cs) (λ e. cc) h.1 (λ e. h.2 (sym (email-next whole rest h.3) ∙ e))
-tight-mailed front whole (leaf_then Name.LineEnding link cs rest) h = tight-mailed true whole rest h
-tight-mailed front whole (leaf_then Name.Data (Some link) cs rest) h = tight-mailed false whole rest h
-tight-mailed front whole (leaf_then name link cs rest) h = tight-mailed false whole rest h
-tight-mailed front whole (group_then Name.Link enter exit inside rest) h = (h.0, tight-mailed false whole rest h.1)
-tight-mailed front whole (group_then name enter exit inside rest) h =
-    (tight-mailed false false inside h.0, tight-mailed false whole rest h.1)
+tight-mailed tight front whole empty h = tt
+tight-mailed tight front whole (leaf_then Name.Data None [] rest) h = absurd (both_ways true h.0 refl)
+tight-mailed tight front whole (leaf_then Name.Data None (c ∷ cs) rest) h =
+    emails-tight tight whole (with_emails_apart rest) (tight-mailed tight false whole rest h.3) (length (c ∷ cs)) front [] (c ∷ cs) (λ e. cc) h.1 (λ e. h.2 ((λ i. tight && sym (email-next tight whole rest h.3) i) ∙ e))
+tight-mailed tight front whole (leaf_then Name.LineEnding link cs rest) h = tight-mailed tight true whole rest h
+tight-mailed tight front whole (leaf_then Name.Data (Some link) cs rest) h = tight-mailed tight false whole rest h
+tight-mailed tight front whole (leaf_then name link cs rest) h = tight-mailed tight false whole rest h
+tight-mailed tight front whole (group_then Name.Link enter exit inside rest) h = (h.0, tight-mailed tight false whole rest h.1)
+tight-mailed tight front whole (group_then name enter exit inside rest) h =
+    (tight-mailed tight false false inside h.0, tight-mailed tight false whole rest h.1)
 
 pub data_is_tight : DataIsTight
 unfolding string_tree finished_string
 data_is_tight s cs =
-    (text-has (IsTight true true) s cs (tight-mailed true true (unmailed s cs) is_tight) is_tight, tight-trimmed no_breaks false false (merged (labels_of (string_elements_of s cs))) (merged_data_is_apart (labels_of (string_elements_of s cs))))
+    (text-has (IsTight true true true) s cs (tight-mailed true true true (unmailed s cs) is_tight) is_tight, tight-trimmed (no_breaks (rules s)) false false (merged (labels_of (string_elements_of s cs))) (merged_data_is_apart (labels_of (string_elements_of s cs))))
   where
-    is_tight : IsTight true true (unmailed s cs)
+    is_tight : IsTight true true true (unmailed s cs)
     is_tight =
         tight-trimmed (breaks s) true true (merged (pairs_in s cs)) (merged_data_is_apart (pairs_in s cs))

@@ -7,7 +7,7 @@ use Rattle.markdown_model.specs.BracketGroups.{paired}
 use Rattle.markdown_model.specs.InlineTree.{raw_tree, finished_text, finished_string, text_tree, string_tree}
 use Rattle.markdown_model.specs.Pairs.{pair_list}
 use Rattle.markdown_model.specs.Passes.{no_breaks, HardBreaks, breaks, merged, trimmed, with_emails_apart, labels_of}
-use Rattle.markdown_model.specs.Setting.{Setting}
+use Rattle.markdown_model.specs.Setting.{Setting, rules}
 
 -- the tree of a text before pairing, before merging, and before emails are set apart
 abbrev pub labels_in : Setting → List Code → Forest
@@ -38,7 +38,7 @@ pub trees-have : (P : Forest → Type 0) → IsKeptByPasses P → (s : Setting) 
     → P (labels_of (string_elements_of s cs)) → P (text_tree s cs) × P (string_tree s cs)
 unfolding string_tree finished_string
 trees-have P k s cs text string =
-    (text-has P s cs (k.mailing (unmailed s cs) done) done, k.trimming no_breaks false false (merged plain) (k.merging plain string))
+    (text-has P s cs (k.mailing (unmailed s cs) done) done, k.trimming (no_breaks (rules s)) false false (merged plain) (k.merging plain string))
   where
     plain : Forest
     plain = labels_of (string_elements_of s cs)

@@ -12,9 +12,10 @@ use Rattle.markdown_content.proofs.ContentCodes.{piece-codes-is}
 use Rattle.markdown_model.specs.CodeTests.{is_value, is_empty, is_ascii_punctuation}
 use Rattle.markdown_model.specs.Grammar.{Reading, gives}
 use Rattle.markdown_model.specs.LeafConstructs.{character_escape, escape_tree, character_reference, named_parts, decimal_parts, hexadecimal_parts}
-use Rattle.markdown_model.specs.Setting.{Setting}
+use Rattle.markdown_model.specs.Setting.{Setting, rules}
 use Rattle.markdown_model.specs.LabelEnd.{Element, plain}
 use Rattle.markdown_model.specs.Elements.{as_plain, switched, line_ending, data_code, string_element, string_choice, string_elements_of, AreElementsFrom, code_before}
+use Rattle.markdown_content.specs.declared.configuration.Rules.{Rules}
 use Rattle.markdown_model.specs.Passes.{no_breaks, data_onto, merged, trimmed, trimmed_data, begins_line_ending, is_nothing}
 use Rattle.markdown_model.specs.InlineTree.{finished_string, string_tree, string_events}
 use Rattle.markdown_model.proofs.StringTreeIsElements.{ArePlainElements, row_of, labels_of-plain}
@@ -149,29 +150,29 @@ fine-next (leaf_then Name.LineEnding link cs rest) h = cc
 fine-next (leaf_then name link cs rest) h = refl
 fine-next (group_then name enter exit inside rest) h = refl
 
-whole-data : (cs : List Code) (f : Forest) → is_empty cs ≡ false →
-    trimmed_data false false no_breaks cs ⊕ f ≡ leaf_then Name.Data None cs f
-whole-data [] f h = cc
-whole-data (c ∷ cs) f h = shown (reverse (reverse (c ∷ cs))) (reverse-reverse (c ∷ cs))
+whole-data : (rules : Rules) (cs : List Code) (f : Forest) → is_empty cs ≡ false →
+    trimmed_data false false (no_breaks rules) cs ⊕ f ≡ leaf_then Name.Data None cs f
+whole-data rules [] f h = cc
+whole-data rules (c ∷ cs) f h = shown (reverse (reverse (c ∷ cs))) (reverse-reverse (c ∷ cs))
   where
     shown : (ds : List Code) → ds ≡ c ∷ cs →
         (leaf Name.SpaceOrTab [] ⊕ leaf Name.Data ds ⊕ leaf Name.SpaceOrTab []) ⊕ f ≡ leaf_then Name.Data None (c ∷ cs) f
     shown ds e = ap (λ xs. (leaf Name.SpaceOrTab [] ⊕ leaf Name.Data xs ⊕ leaf Name.SpaceOrTab []) ⊕ f) e
 
-untrimmed : (f : Forest) → HasNoEndings f → trimmed no_breaks false false f ≡ f
+untrimmed : (rules : Rules) (f : Forest) → HasNoEndings f → trimmed (no_breaks rules) false false f ≡ f
 unfolding trimmed
-untrimmed empty h = refl
-untrimmed (leaf_then Name.Data None cs rest) h =
-    (λ i. trimmed_data false (fine-next rest h.2 i || (false && is_nothing rest)) no_breaks cs ⊕ untrimmed rest h.2 i) ∙ whole-data cs rest h.1
-untrimmed (leaf_then Name.LineEnding link cs rest) h = cc
-untrimmed (leaf_then name link cs rest) h = ap (leaf_then name link cs) (untrimmed rest h.2)
-untrimmed (group_then name enter exit inside rest) h =
-    λ i. group_then name enter exit (untrimmed inside h.0 i) (untrimmed rest h.1 i)
+untrimmed rules empty h = refl
+untrimmed rules (leaf_then Name.Data None cs rest) h =
+    (λ i. trimmed_data false (fine-next rest h.2 i || (false && is_nothing rest)) (no_breaks rules) cs ⊕ untrimmed rules rest h.2 i) ∙ whole-data rules cs rest h.1
+untrimmed rules (leaf_then Name.LineEnding link cs rest) h = cc
+untrimmed rules (leaf_then name link cs rest) h = ap (leaf_then name link cs) (untrimmed rules rest h.2)
+untrimmed rules (group_then name enter exit inside rest) h =
+    λ i. group_then name enter exit (untrimmed rules inside h.0 i) (untrimmed rules rest h.1 i)
 
-finished : (is : List Item) → finished_string (elements is) ≡ merged (row is)
+finished : (rules : Rules) (is : List Item) → finished_string rules (elements is) ≡ merged (row is)
 unfolding finished_string row
-finished is =
-    ap (λ f. trimmed no_breaks false false (merged f)) (labels_of-plain (elements is) (are-plain is)) ∙ untrimmed (merged (row is)) (fine-merged (row is) (row-fine is).0)
+finished rules is =
+    ap (λ f. trimmed (no_breaks rules) false false (merged f)) (labels_of-plain (elements is) (are-plain is)) ∙ untrimmed rules (merged (row is)) (fine-merged (row is) (row-fine is).0)
 
 -- The content of the whole document.
 
@@ -205,7 +206,7 @@ escapes s text line on e = ap text_of (lent-leaves s.bytes tree (string_events s
         (subst (λ cs. AreElementsFrom (string_choice s) [] None cs (elements r.items)) r.codes (are-elements s r.items [] None on r.are))
 
     same : string_tree s (content_of s.bytes (whole s.bytes)) ≡ tree
-    same = ap (λ cs. finished_string (string_elements_of s cs)) content ∙ ap finished_string read_elements ∙ finished r.items
+    same = ap (λ cs. finished_string (rules s) (string_elements_of s cs)) content ∙ ap (finished_string (rules s)) read_elements ∙ finished (rules s) r.items
 
     covered : leaf_codes tree ≡ codes_of s.bytes
     covered = ap leaf_codes (sym same) ∙ (leaves_cover s (content_of s.bytes (whole s.bytes))).1 ∙ content

@@ -27,7 +27,7 @@ use Rattle.markdown_model.specs.InlineTree.{label_tree, finished_string, text_tr
 use Rattle.markdown_model.specs.LabelEnd.{Element}
 use Rattle.markdown_model.specs.Pairs.{pair_list}
 use Rattle.markdown_model.specs.Passes.{no_breaks, HardBreaks, breaks_where, breaks, data_onto, merged, begins_line_ending, is_nothing, trimmed_data, trimmed, with_emails_apart, labels_of}
-use Rattle.markdown_model.specs.Setting.{Setting}
+use Rattle.markdown_model.specs.Setting.{Setting, rules}
 use Rattle.markdown_model.proofs.PassesKeepCodes.{codes-trimmed_data}
 use Rattle.markdown_model.proofs.LabelsCover.{codes-labels_of}
 use Rattle.markdown_model.proofs.LiteralCodes.{codes-with_emails}
@@ -264,11 +264,11 @@ module _ (s : Setting) (pieces : List Piece) (content : IsContent s.bytes pieces
   codes-plain : leaf_codes plain_row ≡ all
   unfolding string_tree
   codes-plain =
-      codes-labels_of (string_elements_of s all) ∙ sym (codes-finished_string (string_elements_of s all)) ∙ (leaves_cover s all).1
+      codes-labels_of (string_elements_of s all) ∙ sym (codes-finished_string (rules s) (string_elements_of s all)) ∙ (leaves_cover s all).1
 
   string-same : places_of (string_tree s all) ≡ places_of plain_row
   unfolding string_tree finished_string
-  string-same = trimmed-places no_breaks false false (merged plain_row) ∙ merged-places plain_row
+  string-same = trimmed-places (no_breaks (rules s)) false false (merged plain_row) ∙ merged-places plain_row
 
   string-back : NeverGoBack (string_events s pieces)
   string-back =

@@ -15,7 +15,7 @@ use Rattle.markdown_model.specs.InlineTree.{finished_string, string_tree}
 use Rattle.markdown_model.specs.Pairs.{Pair, pair_list}
 use Rattle.markdown_model.specs.Passes.{HardBreaks, breaks, no_breaks, merged, trimmed, with_emails_apart, labels_of}
 use Rattle.markdown_model.specs.Runs.{Run, run_of, runs_of}
-use Rattle.markdown_model.specs.Setting.{Setting}
+use Rattle.markdown_model.specs.Setting.{Setting, rules}
 use Rattle.markdown_model_laws.specs.EmailsInData.{is_email, holds_email, HasPlainLinks, LinksHoldNoEmail}
 use Rattle.markdown_model_laws.specs.TreesFilled.{is_label_text}
 use Rattle.markdown_model_laws.specs.MarkersHeld.{is_data}
@@ -248,7 +248,7 @@ links-plain (group_then name enter exit inside rest) h =
 pub links_hold_no_email : LinksHoldNoEmail
 unfolding string_tree finished_string
 links_hold_no_email s cs =
-    (text-has HasPlainLinks s cs (links-mailed (unmailed s cs) is_plain) (links-plain (unmailed s cs) is_plain), (plain-trimmed no_breaks false false (merged plain) (plain-merged plain (plain-made plain (made-string-labels s cs)))).0)
+    (text-has HasPlainLinks s cs (links-mailed (unmailed s cs) is_plain) (links-plain (unmailed s cs) is_plain), (plain-trimmed (no_breaks (rules s)) false false (merged plain) (plain-merged plain (plain-made plain (made-string-labels s cs)))).0)
   where
     plain : Forest
     plain = labels_of (string_elements_of s cs)

@@ -1,5 +1,5 @@
 -- Each marker of a run is a marker of a pair, data, or part of an email literal.
-use Rattle.std.proofs.Common.{◌≡◌, ℕ, suc, ◌==◌, Bool, true, false, ◌&&◌, ◌||◌, List, [], ◌∷◌, ◌++◌, length, reverse, map, refl, sym, ap, subst, ◌∙◌, arith, append_assoc, append-nil, None}
+use Rattle.std.proofs.Common.{◌≡◌, ℕ, suc, ◌==◌, Bool, true, false, ◌&&◌, ◌||◌, List, [], ◌∷◌, ◌++◌, length, reverse, map, refl, sym, ap, subst, ◌∙◌, arith, append_assoc, append-nil, None, not}
 use Rattle.std.specs.List.{list_all}
 use Rattle.std.proofs.lemmas.Bool.{both_ways, and_parts}
 use Rattle.std.proofs.lemmas.Bool.Decides.{nat_tests}
@@ -275,10 +275,10 @@ blank-reverse (c ∷ cs) h =
     ap (list_all is_blank) (reverse-append (c ∷ []) cs) ∙ list_all-append is_blank (reverse cs) (c ∷ []) ∙ (λ i. blank-reverse cs p.1 i && (p.0 i && true))
 
 either-data : (front back : Bool) (hard : HardBreaks) (cs : List Code) → AreBlankOrMarked (held (trimmed_data front back hard cs))
-either-data front back hard cs = three Name.SpaceOrTab (blank_name hard (reverse cut.0)) lead.0 lead.1 (reverse cut.0) (lead-blank front (reverse cut.1)) (blank-reverse cut.0 (cut-blank back cs))
+either-data front back hard cs = three Name.SpaceOrTab (blank_name hard (reverse cut.0)) lead.0 lead.1 (reverse cut.0) (lead-blank front (reverse cut.1)) (blank-reverse cut.0 (cut-blank (back && not hard.keeps) cs))
   where
     cut : List Code × List Code
-    cut = elim back [ true ↦ span is_blank (reverse cs) | false ↦ ([], reverse cs) ]
+    cut = elim (back && not hard.keeps) [ true ↦ span is_blank (reverse cs) | false ↦ ([], reverse cs) ]
 
     lead : List Code × List Code
     lead = elim front [ true ↦ span is_blank (reverse cut.1) | false ↦ ([], reverse cut.1) ]

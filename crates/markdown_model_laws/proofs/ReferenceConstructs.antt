@@ -151,9 +151,9 @@ pub refers_math_text : (allowed : ℕ → Bool) (escaped : Bool) (previous : Opt
 refers_math_text allowed escaped previous =
     refers_span (byte "$") math_names allowed escaped previous (record { whole = refl; sequence = refl; text = refl })
 
-pub refers_html_text : Refers html_text
+pub refers_html_text : (slashes : Bool) → Refers (html_text slashes)
 unfolding html_text
-refers_html_text =
+refers_html_text slashes =
     then_any _ _ _ λ text. yields_gives _ _ (free-group N.HtmlText _ refl (free-lines N.HtmlTextData None text refl))
 
 check-leaf : (b : Bool) (cs : List Code)

@@ -105,7 +105,7 @@ trimmed-refers : (hard : HardBreaks) (front whole : Bool) (t : Forest) → HasRe
 unfolding trimmed
 trimmed-refers hard front whole empty h = tt
 trimmed-refers hard front whole (leaf_then N.Data None cs rest) h =
-    row (trimmed_data front (begins_line_ending rest || (whole && is_nothing rest)) (breaks_where hard (begins_line_ending rest)) cs) (trimmed hard false whole rest) (cut-refers _ _ _ cs) (trimmed-refers hard false whole rest h.1)
+    row (trimmed_data front (begins_line_ending rest || (whole && is_nothing rest)) (breaks_where hard (begins_line_ending rest)) cs) (trimmed hard false whole rest) (cut-refers front (begins_line_ending rest || (whole && is_nothing rest)) (breaks_where hard (begins_line_ending rest)) cs) (trimmed-refers hard false whole rest h.1)
 trimmed-refers hard front whole (leaf_then N.LineEnding link cs rest) h = (refl, trimmed-refers hard true whole rest h.1)
 trimmed-refers hard front whole (leaf_then name link cs rest) h = (h.0, trimmed-refers hard false whole rest h.1)
 trimmed-refers hard front whole (group_then N.CharacterReference a b inside rest) h =

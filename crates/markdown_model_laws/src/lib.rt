@@ -49,7 +49,8 @@ pub fn links_hold_no_email()
     ensures { LinksHoldNoEmail }
 {}
 
-/// No blank code stands in data beside a line ending, nor first or last in a text.
+/// No blank code stands in data beside a line ending, nor first or last in a text. By the rule `titles_keep_spaces` data of a string may end in one
+/// before a line ending.
 pub fn data_is_tight()
     ensures { DataIsTight }
 {}

@@ -1,5 +1,5 @@
 -- the events of a tree, with its data trimmed
-use Rattle.std.proofs.Common.{◌≡◌, ◌≢◌, ℕ, zero, suc, ◌+◌, ◌&&◌, ◌||◌, Bool, true, false, List, [], ◌∷◌, ◌++◌, length, drop, reverse, inl, inr, Option, Some, None, if◌then◌else◌, refl, sym, ap, subst, ◌∙◌, arith, append_assoc, append-nil}
+use Rattle.std.proofs.Common.{◌≡◌, ◌≢◌, ℕ, zero, suc, ◌+◌, ◌&&◌, ◌||◌, Bool, true, false, List, [], ◌∷◌, ◌++◌, length, drop, reverse, inl, inr, Option, Some, None, if◌then◌else◌, refl, sym, ap, subst, ◌∙◌, arith, append_assoc, append-nil, not}
 use Rattle.std.specs.Option.{option_map}
 use Rattle.std.proofs.lemmas.List.{drop_all, reverse-reverse}
 use Rattle.std.proofs.lemmas.Bool.{cases_Bool, or_parts}
@@ -68,9 +68,10 @@ data-name _ e = cc
 
 -- data that loses no code
 
-cut-none : (back : Bool) (cs : List Code) → back && ends_blank cs ≡ false → cut back cs ≡ ([], reverse cs)
-cut-none true cs h = span-none is_blank (reverse cs) h
-cut-none false cs h = refl
+cut-none : (back keeps : Bool) (cs : List Code) → back && ends_blank cs ≡ false → cut (back && not keeps) cs ≡ ([], reverse cs)
+cut-none true true cs h = refl
+cut-none true false cs h = span-none is_blank (reverse cs) h
+cut-none false keeps cs h = refl
 
 lead-none : (front : Bool) (cs : List Code) → front && starts_blank cs ≡ false → lead_of front cs ≡ ([], cs)
 lead-none true cs h = span-none is_blank cs h
@@ -88,7 +89,7 @@ pub trimmed-none : (front back : Bool) (hard : HardBreaks) (cs : List Code) → 
     trimmed_data front back hard cs ≡ leaf N.Data cs
 trimmed-none front back hard cs h =
     let parts = or_parts (front && starts_blank cs) (back && ends_blank cs) h in
-    ap (λ (d : List Code × List Code). leaf N.SpaceOrTab (lead_of front (reverse d.1)).0 ⊕ leaf N.Data (lead_of front (reverse d.1)).1 ⊕ leaf (blank_name hard (reverse d.0)) (reverse d.0)) (cut-none back cs parts.1)
+    ap (λ (d : List Code × List Code). leaf N.SpaceOrTab (lead_of front (reverse d.1)).0 ⊕ leaf N.Data (lead_of front (reverse d.1)).1 ⊕ leaf (blank_name hard (reverse d.0)) (reverse d.0)) (cut-none back hard.keeps cs parts.1)
     ∙ ap (λ ds. leaf N.SpaceOrTab (lead_of front ds).0 ⊕ leaf N.Data (lead_of front ds).1 ⊕ empty) (reverse-reverse cs)
     ∙ ap (λ (d : List Code × List Code). leaf N.SpaceOrTab d.0 ⊕ leaf N.Data d.1 ⊕ empty) (lead-none front cs parts.0)
     ∙ leaf-alone N.Data cs
@@ -170,13 +171,15 @@ plain-last m q a b c (x ∷ xs) (y ∷ ys) (z ∷ zs) = refl
 trimmed-last : (m : ℕ) (q : Option ℕ) (front back : Bool) (hard : HardBreaks) (cs : List Code) →
     last_link m q (trimmed_data front back hard cs) ≡ q
 trimmed-last m q front back hard cs =
-    let lead : List Code × List Code = lead_of front (kept_of back cs) in plain-last m q N.SpaceOrTab N.Data (blank_name hard (tail_of back cs)) lead.0 lead.1 (tail_of back cs)
+    let goes : Bool = back && not hard.keeps in
+    let lead : List Code × List Code = lead_of front (kept_of goes cs) in plain-last m q N.SpaceOrTab N.Data (blank_name hard (tail_of goes cs)) lead.0 lead.1 (tail_of goes cs)
 
 trimmed-same : (m : ℕ) (q : Option ℕ) (front back : Bool) (hard : HardBreaks) (cs : List Code) →
     appended_from m q (trimmed_data front back hard cs) ≡ appended_from 0 None (trimmed_data front back hard cs)
 trimmed-same m q front back hard cs =
-    let lead : List Code × List Code = lead_of front (kept_of back cs) in
-    three-leaves m q N.SpaceOrTab N.Data (blank_name hard (tail_of back cs)) lead.0 lead.1 (tail_of back cs) ∙ sym (three-leaves 0 None N.SpaceOrTab N.Data (blank_name hard (tail_of back cs)) lead.0 lead.1 (tail_of back cs))
+    let goes : Bool = back && not hard.keeps in
+    let lead : List Code × List Code = lead_of front (kept_of goes cs) in
+    three-leaves m q N.SpaceOrTab N.Data (blank_name hard (tail_of goes cs)) lead.0 lead.1 (tail_of goes cs) ∙ sym (three-leaves 0 None N.SpaceOrTab N.Data (blank_name hard (tail_of goes cs)) lead.0 lead.1 (tail_of goes cs))
 
 trimmed-row : (m : ℕ) (q : Option ℕ) (front back : Bool) (hard : HardBreaks) (cs : List Code) (t : Forest) →
     appended_from m q (trimmed_data front back hard cs ⊕ t) ≡ appended_from 0 None (trimmed_data front back hard cs) ++ appended_from (m + event_count (trimmed_data front back hard cs)) q t

@@ -1,5 +1,5 @@
 -- What is left of data that is trimmed is part of the document, as the data was.
-use Rattle.std.proofs.Common.{◌≡◌, ◌≢◌, ℕ, ◌&&◌, ◌||◌, Bool, true, false, List, [], ◌∷◌, ◌++◌, Some, None, refl, sym, ap, subst, ◌∙◌, append_assoc}
+use Rattle.std.proofs.Common.{◌≡◌, ◌≢◌, ℕ, ◌&&◌, ◌||◌, Bool, true, false, List, [], ◌∷◌, ◌++◌, Some, None, refl, sym, ap, subst, ◌∙◌, append_assoc, not}
 use Rattle.std.proofs.lemmas.Bool.{both_ways}
 use Rattle.markdown_content.specs.Codes.{Code}
 use Rattle.markdown_content.specs.Tree.{Forest, empty, leaf_then, group_then, leaf, ◌⊕◌}
@@ -48,10 +48,11 @@ blank-other hard cs = by (hard.on && is_hard_break_trailing hard.two_last cs)
 parts-trimmed : (bytes : List ℕ) (front back : Bool) (hard : HardBreaks) (cs : List Code) → AreDocumentCodes bytes cs →
     HasParts bytes (trimmed_data front back hard cs)
 parts-trimmed bytes front back hard cs h =
-    let kept : List Code = kept_of back cs in
-    let tail : List Code = tail_of back cs in
+    let goes : Bool = back && not hard.keeps in
+    let kept : List Code = kept_of goes cs in
+    let tail : List Code = tail_of goes cs in
     let lead : List Code × List Code = lead_of front kept in
-    let apart : cs ≡ lead.0 ++ (lead.1 ++ tail) = kept-parts back cs ∙ ap (λ xs. xs ++ tail) (lead-parts front kept) ∙ append_assoc lead.0 lead.1 tail in
+    let apart : cs ≡ lead.0 ++ (lead.1 ++ tail) = kept-parts goes cs ∙ ap (λ xs. xs ++ tail) (lead-parts front kept) ∙ append_assoc lead.0 lead.1 tail in
     parts-row bytes (leaf N.SpaceOrTab lead.0) (leaf N.Data lead.1 ⊕ leaf (blank_name hard tail) tail) (parts-other bytes N.SpaceOrTab lead.0 refl)
     (parts-row bytes (leaf N.Data lead.1) (leaf (blank_name hard tail) tail) (parts-data bytes lead.0 lead.1 tail (subst (AreDocumentCodes bytes) apart h)) (parts-other bytes (blank_name hard tail) tail (blank-other hard tail)))
 

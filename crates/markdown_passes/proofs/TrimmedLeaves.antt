@@ -1,5 +1,5 @@
 -- the events of data that is trimmed
-use Rattle.std.proofs.Common.{◌≡◌, ℕ, ◌+◌, Bool, true, false, List, [], ◌∷◌, ◌++◌, reverse, length, Option, None, refl, sym, ap, subst, ◌∙◌, append_assoc, append-nil, inl, inr, if◌then◌else◌, arith}
+use Rattle.std.proofs.Common.{◌≡◌, ℕ, ◌+◌, Bool, true, false, List, [], ◌∷◌, ◌++◌, reverse, length, Option, None, refl, sym, ap, subst, ◌∙◌, append_assoc, append-nil, inl, inr, if◌then◌else◌, arith, ◌&&◌, not}
 use Rattle.std.proofs.lemmas.List.{reverse-append, reverse-reverse}
 use Rattle.std.proofs.lemmas.List.Elements.{All-nil, All-cons, All-append}
 use Rattle.std.specs.List.{All}
@@ -263,36 +263,38 @@ back-stretch bytes p q e back s h =
     subst (λ (x : Point). IsStretch bytes x q) (sym (h ∙ end-is bytes p q back s)) one.after
 
 trimmed-at : (bytes : List ℕ) (p q : Point) (front back : Bool) (hard : HardBreaks) → IsStretch bytes p q → (e s : Point) →
-    e ≡ stop_of p (kept_of back (between bytes p q)) →
-    s ≡ stop_of p (lead_of front (kept_of back (between bytes p q))).0 →
+    e ≡ stop_of p (kept_of (back && not hard.keeps) (between bytes p q)) →
+    s ≡ stop_of p (lead_of front (kept_of (back && not hard.keeps) (between bytes p q))).0 →
     trimmed_events front back hard bytes p q ≡ (leaf_events N.SpaceOrTab p s ++ leaf_events N.Data s e) ++ leaf_events (blank_name hard (between bytes e q)) e q
 unfolding trimmed_events
 trimmed-at bytes p q front back hard r e s h k =
     let cs : List Code = between bytes p q in
-    let kept : List Code = kept_of back cs in
+    let goes : Bool = back && not hard.keeps in
+    let kept : List Code = kept_of goes cs in
     let lead : List Code × List Code = lead_of front kept in
-    let last : Name = blank_name hard (tail_of back cs) in
-    let one : IsSplitInTwo bytes p q kept (tail_of back cs) = split bytes p q kept (tail_of back cs) r (kept-parts back cs) in
+    let last : Name = blank_name hard (tail_of goes cs) in
+    let one : IsSplitInTwo bytes p q kept (tail_of goes cs) = split bytes p q kept (tail_of goes cs) r (kept-parts goes cs) in
     let two : IsSplitInTwo bytes p (stop_of p kept) lead.0 lead.1 = split bytes p (stop_of p kept) lead.0 lead.1 one.before (one.front_codes ∙ lead-parts front kept) in
-    three 0 None (leaf N.SpaceOrTab lead.0) (leaf N.Data lead.1) (leaf last (tail_of back cs))
+    three 0 None (leaf N.SpaceOrTab lead.0) (leaf N.Data lead.1) (leaf last (tail_of goes cs))
     (leaf_events N.SpaceOrTab p (stop_of p lead.0)) (leaf_events N.Data (stop_of p lead.0) (stop_of p kept)) (leaf_events last (stop_of p kept) q)
     (λ m o. leaf-is bytes p (stop_of p lead.0) N.SpaceOrTab lead.0 m o two.before two.front_codes)
     (λ m o. leaf-is bytes (stop_of p lead.0) (stop_of p kept) N.Data lead.1 m o two.after two.back_codes)
-    (λ m o. leaf-is bytes (stop_of p kept) q last (tail_of back cs) m o one.after one.back_codes)
+    (λ m o. leaf-is bytes (stop_of p kept) q last (tail_of goes cs) m o one.after one.back_codes)
     ∙ ap (λ (x : Point). (leaf_events N.SpaceOrTab p x ++ leaf_events N.Data x (stop_of p kept)) ++ leaf_events last (stop_of p kept) q) (sym k)
     ∙ ap (λ (x : Point). (leaf_events N.SpaceOrTab p s ++ leaf_events N.Data s x) ++ leaf_events last x q) (sym h)
     ∙ ap (λ (ds : List Code). (leaf_events N.SpaceOrTab p s ++ leaf_events N.Data s e) ++ leaf_events (blank_name hard ds) e q) (sym one.back_codes ∙ ap (λ (x : Point). between bytes x q) (sym h))
 
 -- the events of data that is trimmed are those of its three leaves
 pub trimmed-is : (bytes : List ℕ) (p q e s : Point) (front back : Bool) (hard : HardBreaks) (last : Name) → IsStretch bytes p q →
-    e ≡ (if back then end_of_kept p (between bytes p q) else q) →
+    e ≡ (if back && not hard.keeps then end_of_kept p (between bytes p q) else q) →
     s ≡ (if front then end_of_lead p (between bytes p e) else p) → last ≡ blank_name hard (between bytes e q) →
     (leaf_events N.SpaceOrTab p s ++ leaf_events N.Data s e) ++ leaf_events last e q ≡ trimmed_events front back hard bytes p q
 trimmed-is bytes p q e s front back hard last r h k l =
     let cs : List Code = between bytes p q in
-    let kept : List Code = kept_of back cs in
-    let one : IsSplitInTwo bytes p q kept (tail_of back cs) = split bytes p q kept (tail_of back cs) r (kept-parts back cs) in
-    let end : e ≡ stop_of p kept = h ∙ end-is bytes p q back r in
+    let goes : Bool = back && not hard.keeps in
+    let kept : List Code = kept_of goes cs in
+    let one : IsSplitInTwo bytes p q kept (tail_of goes cs) = split bytes p q kept (tail_of goes cs) r (kept-parts goes cs) in
+    let end : e ≡ stop_of p kept = h ∙ end-is bytes p q goes r in
     let codes : between bytes p e ≡ kept = ap (between bytes p) end ∙ one.front_codes in
     ap (λ (name : Name). (leaf_events N.SpaceOrTab p s ++ leaf_events N.Data s e) ++ leaf_events name e q) l
     ∙ sym (trimmed-at bytes p q front back hard r e s end (k ∙ start-is front p (between bytes p e) ∙ ap (λ xs. stop_of p (lead_of front xs).0) codes))
@@ -332,9 +334,10 @@ pub trimmed-unlinked : (front back : Bool) (hard : HardBreaks) (bytes : List ℕ
     es ≡ trimmed_events front back hard bytes p q → All IsUnlinked es
 unfolding trimmed_events
 trimmed-unlinked front back hard bytes p q es e =
-    let kept : List Code = kept_of back (between bytes p q) in
+    let goes : Bool = back && not hard.keeps in
+    let kept : List Code = kept_of goes (between bytes p q) in
     let lead : List Code × List Code = lead_of front kept in
-    let tail : List Code = tail_of back (between bytes p q) in
+    let tail : List Code = tail_of goes (between bytes p q) in
     let last : Name = blank_name hard tail in
     subst (λ (xs : List Event). All IsUnlinked xs) (sym (e ∙ three-leaves 0 None N.SpaceOrTab N.Data last lead.0 lead.1 tail))
     (All-append IsUnlinked (appended_from 0 None (leaf N.SpaceOrTab lead.0) ++ appended_from 0 None (leaf N.Data lead.1)) (appended_from 0 None (leaf last tail)) (All-append IsUnlinked (appended_from 0 None (leaf N.SpaceOrTab lead.0)) (appended_from 0 None (leaf N.Data lead.1)) (leaf-unlinked N.SpaceOrTab lead.0) (leaf-unlinked N.Data lead.1)) (leaf-unlinked last tail))

@@ -30,7 +30,7 @@ goes_before whole (e ∷ es) = opens_ending e
 
 -- which blank codes are a hard break, as the pass has it
 abbrev pub breaks_of : Breaks → HardBreaks
-breaks_of hard = record { on = hard.on; two_last = hard.two_last }
+breaks_of hard = record { on = hard.on; two_last = hard.two_last; keeps = hard.keeps }
 
 -- the Enter and the Exit of data go, and the events of what is left of it come; a hard break stands before a line ending alone, not at
 -- the whole's end

@@ -5,7 +5,8 @@
 //!
 //! The blank codes in front are set apart behind a line ending, and those at the back before one. `trim_whole` asks for the same at the start
 //! and at the end of the whole. Where `hard_break` asks for it, those before a line ending are a hard break if all are spaces of no tab; by
-//! CommonMark's rule it is enough that the last two are.
+//! CommonMark's rule it is enough that the last two are. By CommonMark's rule a string, which does not ask for `trim_whole`, keeps in its data
+//! those before a line ending (CommonMark 6.3).
 //!
 //! Events, in place of `Data` that carries no link; each where it has a code:
 //!
@@ -185,13 +186,15 @@ struct Breaks {
     on: bool,
     // The last two alone decide (CommonMark 6.7).
     two_last: bool,
+    // None are, and data keeps them, as in a title (CommonMark 6.3).
+    keeps: bool,
 }
 
 // Answers the name of the blank codes at the back of data; `hard` says that they may be a hard break, and `two_last` that the last two decide.
 fn blank_name(bytes: &[u8], from: Point, to: Point, hard: bool, two_last: bool) -> Name
     requires fits { length bytes.now ≤ document_limit }
     requires stretch { IsStretch bytes.now from to }
-    ensures { result ≡ blank_name (record { on = hard; two_last = two_last }) (between bytes.now from to) }
+    ensures { result ≡ blank_name (record { on = hard; two_last = two_last; keeps = false }) (between bytes.now from to) }
 {
     if hard && is_hard_break_trailing(bytes, from, to, two_last) {
         Name::HardBreakTrailing
@@ -227,7 +230,7 @@ pub fn push_leaf(
 }
 
 // Puts the events of data that loses its blank codes in front, at its back, or both, the back first, in place of those that the
-// list had; `hard` says which of those at its back are a hard break.
+// list had; `hard` says which of those at its back are a hard break, and whether they stay.
 fn trimmed_data(
     events: &mut Vec<Event>,
     bytes: &[u8],
@@ -241,7 +244,8 @@ fn trimmed_data(
     requires stretch { IsStretch bytes.now from to }
     ensures { OnOk result (events.new.items ≡ trimmed_events front back (breaks_of hard) bytes.now from to) }
 {
-    let end = if back { kept_end(bytes, from, to) } else { to };
+    let goes = back && !hard.keeps;
+    let end = if goes { kept_end(bytes, from, to) } else { to };
     let start = if front {
         lead_end(bytes, from, end)
     } else {
@@ -307,6 +311,7 @@ fn breaks_before(events: &Events, index: usize, hard: Breaks) -> Breaks
     Breaks {
         on: hard.on && goes_before(events, index, false),
         two_last: hard.two_last,
+        keeps: hard.keeps,
     }
 }
 
@@ -466,7 +471,8 @@ fn trim(
 ///
 /// Blank codes that go become whitespace of their own; data that is all blank is renamed. Where `hard_break` is true, those before a
 /// line ending become a hard break instead if the last two are spaces of no tab (CommonMark 6.7), and, unless the rules are CommonMark's,
-/// all are; those at the whole's end never do. The document has at most `usize::MAX / 8` bytes, the edits are empty before and after, and
+/// all are; those at the whole's end never do. By CommonMark's rules data keeps those before a line ending where `trim_whole` is false, as in a
+/// title (CommonMark 6.3). The document has at most `usize::MAX / 8` bytes, the edits are empty before and after, and
 /// each data stands at places of the document. The work is that of the events and of the codes of the data. The error comes where memory is
 /// refused; then `failed` is true.
 pub fn resolve_whitespace(
@@ -480,13 +486,15 @@ pub fn resolve_whitespace(
     ensures same { OnOk result (tokenizer.new ≡ record tokenizer.old { events = tokenizer.new.events }) }
     ensures trimmed { (t : Forest) → HasParts tokenizer.old.parse_state.now.bytes.now t → tokenizer.old.events ≡ appended_from 0 None t
         → OnOk result (tokenizer.new.events ≡ appended_from 0 None
-        (trimmed (hard_breaks hard_break (rules_of tokenizer.old.parse_state.now.options.now)) trim_whole trim_whole t)) }
+        (trimmed (hard_breaks hard_break trim_whole (rules_of tokenizer.old.parse_state.now.options.now)) trim_whole trim_whole t)) }
     ensures err { OnErr result (IsTrue tokenizer.new.failed) }
 {
     let bytes = tokenizer.parse_state.bytes;
+    let rules = tokenizer.parse_state.options.rules();
     let hard = Breaks {
         on: hard_break,
-        two_last: hard_break && tokenizer.parse_state.options.rules().two_last_spaces,
+        two_last: hard_break && rules.two_last_spaces,
+        keeps: !trim_whole && rules.titles_keep_spaces,
     };
     let trimmed = trim(
         tokenizer.alloc,

@@ -68,7 +68,7 @@ pub record IsTrimming (last : ResolveName) (finish : ParseState → Forest → F
 
 -- a string is trimmed beside its line endings
 abbrev pub string_finish : ParseState → Forest → Forest
-string_finish p t = trimmed no_breaks false false t
+string_finish p t = trimmed (no_breaks (rules_of p.options.now)) false false t
 
 pub string-trims : IsTrimming R.String string_finish
 unfolding registered
@@ -90,7 +90,7 @@ string-trims = record {
 -- they are looked for
 abbrev pub text_finish : ParseState → Forest → Forest
 text_finish p t =
-    let on = p.options.now.constructs in mailed_where on.gfm_autolink_literal (trimmed (hard_breaks on.hard_break_trailing (rules_of p.options.now)) true true t)
+    let on = p.options.now.constructs in mailed_where on.gfm_autolink_literal (trimmed (hard_breaks on.hard_break_trailing true (rules_of p.options.now)) true true t)
 
 pub text-trims : IsTrimming R.Text text_finish
 unfolding registered

@@ -15,6 +15,7 @@ use Rattle.markdown_model.specs.Elements.{AreElementsFrom, AreStringElements, st
 use Rattle.markdown_model.specs.InlineTree.{string_events}
 use Rattle.markdown_model.specs.LabelEnd.{Element}
 use Rattle.markdown_model.specs.Passes.{no_breaks, trimmed}
+use Rattle.markdown_content.specs.CommonMark.{rules_of}
 use Rattle.markdown_run_text.specs.RunOverElements.{Finishes}
 use Rattle.markdown_run_text.specs.ContentPasses.{may_resolve_of, resolves_of}
 use Rattle.markdown_run_text.specs.RunSetting.{setting_of}
@@ -128,8 +129,8 @@ module _ (p : ParseState) (pieces : List Piece) (content : IsContent p.bytes.now
       pub string-run : chained V.events ≡ string_events (setting_of p) pieces
       string-run =
           ap chained left.events
-          ∙ chained-whole (trimmed no_breaks false false (merged (paired (setting_of p) (pair_list (setting_of p)) label_row)))
-          ∙ ap (λ t. events_of (trimmed no_breaks false false (merged t))) (paired-runless (setting_of p) (pair_list (setting_of p)) label_row runless)
-          ∙ ap (λ t. events_of (trimmed no_breaks false false t)) (merged-same label_row (labels_of found.read) (HasLines-HasCodes label_row (grouped-lines E.row found.is_row)) found.have_codes found.trees)
-          ∙ ap (λ t. events_of (trimmed no_breaks false false (merged t))) labels
+          ∙ chained-whole (trimmed (no_breaks (rules_of p.options.now)) false false (merged (paired (setting_of p) (pair_list (setting_of p)) label_row)))
+          ∙ ap (λ t. events_of (trimmed (no_breaks (rules_of p.options.now)) false false (merged t))) (paired-runless (setting_of p) (pair_list (setting_of p)) label_row runless)
+          ∙ ap (λ t. events_of (trimmed (no_breaks (rules_of p.options.now)) false false t)) (merged-same label_row (labels_of found.read) (HasLines-HasCodes label_row (grouped-lines E.row found.is_row)) found.have_codes found.trees)
+          ∙ ap (λ t. events_of (trimmed (no_breaks (rules_of p.options.now)) false false (merged t))) labels
           ∙ ap events_of (sym (string-finished (setting_of p) (content_of p.bytes.now pieces) found.elements are))

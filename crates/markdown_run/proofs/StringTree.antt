@@ -15,7 +15,7 @@ use Rattle.markdown_model.specs.Elements.{AreStringElements, string_elements_of,
 use Rattle.markdown_model.specs.InlineTree.{finished_string, string_tree}
 use Rattle.markdown_model.specs.LabelEnd.{Element, plain}
 use Rattle.markdown_model.specs.Passes.{no_breaks, labels_of, merged, trimmed}
-use Rattle.markdown_model.specs.Setting.{Setting}
+use Rattle.markdown_model.specs.Setting.{Setting, rules}
 use Rattle.markdown_model.proofs.StringTreeIsElements.{labels_of-plain, row_of, string_are_plain}
 use Rattle.markdown_model.proofs.OneElementList.{same_string_elements, string_elements}
 
@@ -32,9 +32,9 @@ string-labels s cs es h = labels_of-plain es (string_are_plain s es [] None cs h
 
 -- the tree of a string with these elements
 pub string-finished : (s : Setting) (cs : List Code) (es : List Element) → AreStringElements s cs es →
-    string_tree s cs ≡ trimmed no_breaks false false (merged (row_of es))
+    string_tree s cs ≡ trimmed (no_breaks (rules s)) false false (merged (row_of es))
 unfolding string_tree finished_string
-string-finished s cs es h = ap (λ t. trimmed no_breaks false false (merged t)) (labels-of-string s cs es h)
+string-finished s cs es h = ap (λ t. trimmed (no_breaks (rules s)) false false (merged t)) (labels-of-string s cs es h)
 
 -- No run of markers stands among the elements of a string.
 

@@ -18,7 +18,7 @@ abbrev on_in : Tokenizer → Constructs
 on_in T = T.parse_state.now.options.now.constructs
 
 abbrev breaks_in : Tokenizer → HardBreaks
-breaks_in T = hard_breaks (on_in T).hard_break_trailing (rules_of T.parse_state.now.options.now)
+breaks_in T = hard_breaks (on_in T).hard_break_trailing true (rules_of T.parse_state.now.options.now)
 
 -- W is T trimmed
 module _ (T W : Tokenizer) (same : W ≡ record T { events = W.events })

@@ -1,6 +1,7 @@
 -- What the codes of an autolink name, step by step.
 use Rattle.std.proofs.Common.{◌≡◌, ℕ, ◌+◌, ◌<◌, ◌≤◌, ◌==◌, ◌&&◌, ◌||◌, nat_lt, Bool, true, false, Option, Some, None, List, [], ◌∷◌, ◌++◌, length, refl, sym, ap, subst, ◌∙◌, arith}
 use Rattle.std.specs.List.{list_any}
+use Rattle.std.proofs.Math.Bool.{and-false}
 use Rattle.std.proofs.lemmas.Bool.{eqb-false, eqb-true, eq-eqb, lt-ltb, ltb-true, ltb-false, ne_eqb, or_left, or_parts}
 use Rattle.std.proofs.lemmas.Option.{same_Some}
 use Rattle.markdown_content.specs.Codes.{Code}
@@ -13,7 +14,7 @@ use Rattle.markdown_content.proofs.StretchLemmas.{stretch-goes, stretch-stops}
 use Rattle.markdown_engine.specs.Operations.{Consume}
 use Rattle.markdown_engine.specs.PastTree.{moved_by}
 use Rattle.markdown_engine.proofs.PlaceAfterCodes.{ahead-moved_by}
-use Rattle.markdown_leaf.specs.Autolink.{domains, ended, is_label_code, label_rest, local_rest, local_value, open_naming, scheme_naming, scheme_rest, scheme_value, up_to_bracket, uri_stops, uri_value}
+use Rattle.markdown_leaf.specs.Autolink.{domains, ended, is_label_code, label_rest, local_rest, local_value, open_naming, scheme_naming, scheme_rest, scheme_value, up_to_bracket, uri_ends, uri_value}
 use Rattle.markdown_leaf.proofs.AutolinkLaws.{or-both, or-left, or-right, scheme-local}
 use Rattle.markdown_leaf.proofs.AutolinkCovers.{ended-here, ended-other, more-dot, more-none}
 use Rattle.markdown_leaf.proofs.AutolinkReadings.{bracket-next, domains-first, domains-none, email-first, email-none, label-ended, label-long, label-more, label-unended, local-at, local-more, local-other, scheme-colon, scheme-here, scheme-long, scheme-more, scheme-other, uri-first, uri-none, url-end, url-more}
@@ -101,184 +102,194 @@ local-ends all p h k =
 
 -- Schemes.
 
-abbrev pub text_of_uri : Naming
-text_of_uri = up_to_bracket N.AutolinkProtocol (any_number is_uri_code)
+-- NUL is read as U+FFFD or is not.
+module _ (replaced : Bool) where
+  abbrev pub text_of_uri : Naming
+  text_of_uri = up_to_bracket N.AutolinkProtocol (any_number (is_uri_code replaced))
 
-pub scheme-goes : (all : Bool) (n : ℕ) (p : Place) → is_some_scheme (code_at p) ≡ true →
-    NamesLead (scheme_naming all (n + 1)) (moved p) (scheme_naming all n) p
-scheme-goes all n p h = by_value (code_at p) refl h
-  where
-    by_value : (o : Option ℕ) → code_at p ≡ o → is_some_scheme o ≡ true → NamesLead (scheme_naming all (n + 1)) (moved p) (scheme_naming all n) p
-    by_value None e k = cc
-    by_value (Some v) e k =
-        let a : IsAhead p v = ahead_some p v e in
-        let cs : List Code = ahead_at (moved p) in
-        let test : is_scheme_code a.code ≡ true = ap scheme_value a.value ∙ k in
-        leads-next (scheme_naming all n) (scheme_naming all (n + 1)) p v a
-        (or-both (Consume ∷ []) _ _ _ _ (bracket-next N.AutolinkProtocol (scheme_rest n) (scheme_rest (n + 1)) a.code cs (scheme-more n a.code cs test))
-        (bracket-next N.AutolinkEmail (local_rest all) (local_rest all) a.code cs (local-more all a.code cs (scheme-local all a.code.value test))))
+  pub scheme-goes : (all : Bool) (n : ℕ) (p : Place) → is_some_scheme (code_at p) ≡ true →
+      NamesLead (scheme_naming replaced all (n + 1)) (moved p) (scheme_naming replaced all n) p
+  scheme-goes all n p h = by_value (code_at p) refl h
+    where
+      by_value : (o : Option ℕ) → code_at p ≡ o → is_some_scheme o ≡ true → NamesLead (scheme_naming replaced all (n + 1)) (moved p) (scheme_naming replaced all n) p
+      by_value None e k = cc
+      by_value (Some v) e k =
+          let a : IsAhead p v = ahead_some p v e in
+          let cs : List Code = ahead_at (moved p) in
+          let test : is_scheme_code a.code ≡ true = ap scheme_value a.value ∙ k in
+          leads-next (scheme_naming replaced all n) (scheme_naming replaced all (n + 1)) p v a
+          (or-both (Consume ∷ []) _ _ _ _ (bracket-next N.AutolinkProtocol (scheme_rest replaced n) (scheme_rest replaced (n + 1)) a.code cs (scheme-more replaced n a.code cs test))
+          (bracket-next N.AutolinkEmail (local_rest all) (local_rest all) a.code cs (local-more all a.code cs (scheme-local all a.code.value test))))
 
-pub colon-goes : (all : Bool) (n : ℕ) (p : Place) → 1 < n → n ≤ 32 → is_some_value 58 (code_at p) ≡ true →
-    NamesLead text_of_uri (moved p) (scheme_naming all n) p
-colon-goes all n p low high h =
-    let a : IsAhead p 58 = here p 58 h in
-    let cs : List Code = ahead_at (moved p) in
-    leads-next (scheme_naming all n) text_of_uri p 58 a
-    (or-left _ _ _ (bracket-next N.AutolinkProtocol (scheme_rest n) (any_number is_uri_code) a.code cs (scheme-colon n a.code cs (eq-eqb a.code.value 58 a.value) (omega (arith, low)) high))
-    (ap (ended N.AutolinkEmail) (local-other all (a.code ∷ cs) (ap (local_value all) a.value) (ap (λ v. v == 64) a.value))))
+  pub colon-goes : (all : Bool) (n : ℕ) (p : Place) → 1 < n → n ≤ 32 → is_some_value 58 (code_at p) ≡ true →
+      NamesLead text_of_uri (moved p) (scheme_naming replaced all n) p
+  colon-goes all n p low high h =
+      let a : IsAhead p 58 = here p 58 h in
+      let cs : List Code = ahead_at (moved p) in
+      leads-next (scheme_naming replaced all n) text_of_uri p 58 a
+      (or-left _ _ _ (bracket-next N.AutolinkProtocol (scheme_rest replaced n) (any_number (is_uri_code replaced)) a.code cs (scheme-colon replaced n a.code cs (eq-eqb a.code.value 58 a.value) (omega (arith, low)) high))
+      (ap (ended N.AutolinkEmail) (local-other all (a.code ∷ cs) (ap (local_value all) a.value) (ap (λ v. v == 64) a.value))))
 
--- what follows is no scheme: more codes of one, or a colon behind one code
-no-scheme : (n : ℕ) (p : Place) → 1 ≤ n → (n < 32 → is_some_scheme (code_at p) ≡ false) → (1 < n → is_some_value 58 (code_at p) ≡ false) →
-    scheme_rest n (ahead_at p) ≡ None
-no-scheme n p low h k =
-    by-code (λ cs. scheme_rest n cs ≡ None) p (λ e. scheme-other n [] refl refl) (λ v c cs e f. by_scheme v c cs e f (scheme_value c.value) refl)
-  where
-    by_colon : (v : ℕ) (c : Code) (cs : List Code) → code_at p ≡ Some v → c.value ≡ v → is_scheme_code c ≡ false → (b : Bool) → (c.value == 58) ≡ b → scheme_rest n (c ∷ cs) ≡ None
-    by_colon v c cs e f g false i = scheme-other n (c ∷ cs) g i
-    by_colon v c cs e f g true i = by_size (nat_lt 1 n) refl
-      where
-        by_size : (b : Bool) → nat_lt 1 n ≡ b → scheme_rest n (c ∷ cs) ≡ None
-        by_size true j =
-            absurd (no-clash (sym i ∙ ap (λ m. m == 58) f ∙ sym (ap (is_some_value 58) e) ∙ k (ltb-true 1 n j)))
-        by_size false j =
-            let most : n ≤ 1 = ltb-false 1 n j in
-            let one : n ≡ 1 = omega (arith, low, most) in
-            ap (λ m. scheme_rest m (c ∷ cs)) one ∙ scheme-here 1 (c ∷ cs) g
+  -- what follows is no scheme: more codes of one, or a colon behind one code
+  no-scheme : (n : ℕ) (p : Place) → 1 ≤ n → (n < 32 → is_some_scheme (code_at p) ≡ false) → (1 < n → is_some_value 58 (code_at p) ≡ false) →
+      scheme_rest replaced n (ahead_at p) ≡ None
+  no-scheme n p low h k =
+      by-code (λ cs. scheme_rest replaced n cs ≡ None) p (λ e. scheme-other replaced n [] refl refl) (λ v c cs e f. by_scheme v c cs e f (scheme_value c.value) refl)
+    where
+      by_colon : (v : ℕ) (c : Code) (cs : List Code) → code_at p ≡ Some v → c.value ≡ v → is_scheme_code c ≡ false → (b : Bool) → (c.value == 58) ≡ b → scheme_rest replaced n (c ∷ cs) ≡ None
+      by_colon v c cs e f g false i = scheme-other replaced n (c ∷ cs) g i
+      by_colon v c cs e f g true i = by_size (nat_lt 1 n) refl
+        where
+          by_size : (b : Bool) → nat_lt 1 n ≡ b → scheme_rest replaced n (c ∷ cs) ≡ None
+          by_size true j =
+              absurd (no-clash (sym i ∙ ap (λ m. m == 58) f ∙ sym (ap (is_some_value 58) e) ∙ k (ltb-true 1 n j)))
+          by_size false j =
+              let most : n ≤ 1 = ltb-false 1 n j in
+              let one : n ≡ 1 = omega (arith, low, most) in
+              ap (λ m. scheme_rest replaced m (c ∷ cs)) one ∙ scheme-here replaced 1 (c ∷ cs) g
 
-    by_scheme : (v : ℕ) (c : Code) (cs : List Code) → code_at p ≡ Some v → c.value ≡ v → (b : Bool) → scheme_value c.value ≡ b → scheme_rest n (c ∷ cs) ≡ None
-    by_scheme v c cs e f false g = by_colon v c cs e f g (c.value == 58) refl
-    by_scheme v c cs e f true g = by_size (nat_lt n 32) refl
-      where
-        by_size : (b : Bool) → nat_lt n 32 ≡ b → scheme_rest n (c ∷ cs) ≡ None
-        by_size true j =
-            absurd (no-clash (sym g ∙ ap scheme_value f ∙ sym (ap is_some_scheme e) ∙ h (ltb-true n 32 j)))
-        by_size false j = scheme-long n c cs g (ltb-false n 32 j)
+      by_scheme : (v : ℕ) (c : Code) (cs : List Code) → code_at p ≡ Some v → c.value ≡ v → (b : Bool) → scheme_value c.value ≡ b → scheme_rest replaced n (c ∷ cs) ≡ None
+      by_scheme v c cs e f false g = by_colon v c cs e f g (c.value == 58) refl
+      by_scheme v c cs e f true g = by_size (nat_lt n 32) refl
+        where
+          by_size : (b : Bool) → nat_lt n 32 ≡ b → scheme_rest replaced n (c ∷ cs) ≡ None
+          by_size true j =
+              absurd (no-clash (sym g ∙ ap scheme_value f ∙ sym (ap is_some_scheme e) ∙ h (ltb-true n 32 j)))
+          by_size false j = scheme-long replaced n c cs g (ltb-false n 32 j)
 
-pub scheme-ends : (all : Bool) (n : ℕ) (p : Place) → 1 ≤ n → (n < 32 → is_some_scheme (code_at p) ≡ false) → (1 < n → is_some_value 58 (code_at p) ≡ false) →
-    NamesLead (address all) p (scheme_naming all n) p
-scheme-ends all n p low h k =
-    leads-same (scheme_naming all n) (address all) p (or-right _ _ _ (ap (ended N.AutolinkProtocol) (no-scheme n p low h k)) refl)
+  pub scheme-ends : (all : Bool) (n : ℕ) (p : Place) → 1 ≤ n → (n < 32 → is_some_scheme (code_at p) ≡ false) → (1 < n → is_some_value 58 (code_at p) ≡ false) →
+      NamesLead (address all) p (scheme_naming replaced all n) p
+  scheme-ends all n p low h k =
+      leads-same (scheme_naming replaced all n) (address all) p (or-right _ _ _ (ap (ended N.AutolinkProtocol) (no-scheme n p low h k)) refl)
 
--- Behind the bracket.
+  -- Behind the bracket.
 
-letter-local : (all : Bool) (c : Code) → is_letter c ≡ true → is_local_code all c ≡ true
-letter-local all c h = or_left _ _ (or_left (is_alphanumeric c) _ (or_left (is_letter c) _ h))
+  letter-local : (all : Bool) (c : Code) → is_letter c ≡ true → is_local_code all c ≡ true
+  letter-local all c h = or_left _ _ (or_left (is_alphanumeric c) _ (or_left (is_letter c) _ h))
 
-pub letter-goes : (all : Bool) (p : Place) → begins_scheme (code_at p) ≡ true → NamesLead (scheme_naming all 1) (moved p) (open_naming all) p
-letter-goes all p h = by_value (code_at p) refl h
-  where
-    by_value : (o : Option ℕ) → code_at p ≡ o → begins_scheme o ≡ true → NamesLead (scheme_naming all 1) (moved p) (open_naming all) p
-    by_value None e k = cc
-    by_value (Some v) e k =
-        let a : IsAhead p v = ahead_some p v e in
-        let cs : List Code = ahead_at (moved p) in
-        let letter : is_letter a.code ≡ true = ap letter_value a.value ∙ k in
-        leads-next (open_naming all) (scheme_naming all 1) p v a
-        (or-both (Consume ∷ []) _ _ _ _ (bracket-next N.AutolinkProtocol uri (scheme_rest 1) a.code cs (uri-first a.code cs letter))
-        (bracket-next N.AutolinkEmail (email_address all) (local_rest all) a.code cs (email-first all a.code cs (letter-local all a.code letter))))
+  pub letter-goes : (all : Bool) (p : Place) → begins_scheme (code_at p) ≡ true → NamesLead (scheme_naming replaced all 1) (moved p) (open_naming replaced all) p
+  letter-goes all p h = by_value (code_at p) refl h
+    where
+      by_value : (o : Option ℕ) → code_at p ≡ o → begins_scheme o ≡ true → NamesLead (scheme_naming replaced all 1) (moved p) (open_naming replaced all) p
+      by_value None e k = cc
+      by_value (Some v) e k =
+          let a : IsAhead p v = ahead_some p v e in
+          let cs : List Code = ahead_at (moved p) in
+          let letter : is_letter a.code ≡ true = ap letter_value a.value ∙ k in
+          leads-next (open_naming replaced all) (scheme_naming replaced all 1) p v a
+          (or-both (Consume ∷ []) _ _ _ _ (bracket-next N.AutolinkProtocol (uri replaced) (scheme_rest replaced 1) a.code cs (uri-first replaced a.code cs letter))
+          (bracket-next N.AutolinkEmail (email_address all) (local_rest all) a.code cs (email-first all a.code cs (letter-local all a.code letter))))
 
--- an address begins with a code that may stand before its `@`, so before another that is no `@` it is the rest of one
-email-here : (all : Bool) (cs : List Code) → next_is (is_value 64) cs ≡ false → email_address all cs ≡ local_rest all cs
-email-here all [] h = email-none all [] refl ∙ sym (local-other all [] refl refl)
-email-here all (c ∷ cs) h = by_test (is_local_code all c) refl
-  where
-    by_test : (b : Bool) → is_local_code all c ≡ b → email_address all (c ∷ cs) ≡ local_rest all (c ∷ cs)
-    by_test true i = email-first all c cs i ∙ sym (local-more all c cs i)
-    by_test false i = email-none all (c ∷ cs) i ∙ sym (local-other all (c ∷ cs) i h)
+  -- an address begins with a code that may stand before its `@`, so before another that is no `@` it is the rest of one
+  email-here : (all : Bool) (cs : List Code) → next_is (is_value 64) cs ≡ false → email_address all cs ≡ local_rest all cs
+  email-here all [] h = email-none all [] refl ∙ sym (local-other all [] refl refl)
+  email-here all (c ∷ cs) h = by_test (is_local_code all c) refl
+    where
+      by_test : (b : Bool) → is_local_code all c ≡ b → email_address all (c ∷ cs) ≡ local_rest all (c ∷ cs)
+      by_test true i = email-first all c cs i ∙ sym (local-more all c cs i)
+      by_test false i = email-none all (c ∷ cs) i ∙ sym (local-other all (c ∷ cs) i h)
 
-pub other-opens : (all : Bool) (p : Place) → begins_scheme (code_at p) ≡ false → is_some_value 64 (code_at p) ≡ false → NamesLead (address all) p (open_naming all) p
-other-opens all p h k =
-    leads-same (open_naming all) (address all) p (by-code (λ cs. open_naming all cs ≡ address all cs) p (λ e. open-by [] refl refl) (λ v c cs e f.
-    open-by (c ∷ cs) (ap letter_value f ∙ sym (ap begins_scheme e) ∙ h) (ap (λ n. n == 64) f ∙ sym (ap (is_some_value 64) e) ∙ k)))
-  where
-    open-by : (cs : List Code) → next_is is_letter cs ≡ false → next_is (is_value 64) cs ≡ false → open_naming all cs ≡ address all cs
-    open-by cs i j = or-right _ _ _ (ap (ended N.AutolinkProtocol) (uri-none cs i)) (ap (ended N.AutolinkEmail) (email-here all cs j))
+  pub other-opens : (all : Bool) (p : Place) → begins_scheme (code_at p) ≡ false → is_some_value 64 (code_at p) ≡ false → NamesLead (address all) p (open_naming replaced all) p
+  other-opens all p h k =
+      leads-same (open_naming replaced all) (address all) p (by-code (λ cs. open_naming replaced all cs ≡ address all cs) p (λ e. open-by [] refl refl) (λ v c cs e f.
+      open-by (c ∷ cs) (ap letter_value f ∙ sym (ap begins_scheme e) ∙ h) (ap (λ n. n == 64) f ∙ sym (ap (is_some_value 64) e) ∙ k)))
+    where
+      open-by : (cs : List Code) → next_is is_letter cs ≡ false → next_is (is_value 64) cs ≡ false → open_naming replaced all cs ≡ address all cs
+      open-by cs i j = or-right _ _ _ (ap (ended N.AutolinkProtocol) (uri-none replaced cs i)) (ap (ended N.AutolinkEmail) (email-here all cs j))
 
-pub at-opens : (all : Bool) (p : Place) → is_some_value 64 (code_at p) ≡ true → open_naming all (ahead_at p) ≡ None
-at-opens all p h =
-    let a : IsAhead p 64 = here p 64 h in
-    let cs : List Code = a.code ∷ ahead_at (moved p) in
-    ap (open_naming all) a.codes
-    ∙ or-right _ _ _ (ap (ended N.AutolinkProtocol) (uri-none cs (ap letter_value a.value))) (ap (ended N.AutolinkEmail) (email-none all cs (ap (local_value all) a.value)))
+  pub at-opens : (all : Bool) (p : Place) → is_some_value 64 (code_at p) ≡ true → open_naming replaced all (ahead_at p) ≡ None
+  at-opens all p h =
+      let a : IsAhead p 64 = here p 64 h in
+      let cs : List Code = a.code ∷ ahead_at (moved p) in
+      ap (open_naming replaced all) a.codes
+      ∙ or-right _ _ _ (ap (ended N.AutolinkProtocol) (uri-none replaced cs (ap letter_value a.value))) (ap (ended N.AutolinkEmail) (email-none all cs (ap (local_value all) a.value)))
 
--- URIs behind the colon.
+  -- URIs behind the colon.
 
-none-passes : (f : ℕ → Bool) (v : ℕ) (ns : List ℕ) → list_any f ns ≡ false → list_any (λ n. v == n) ns ≡ true → f v ≡ false
-none-passes f v [] h k = cc
-none-passes f v (n ∷ ns) h k = by_test (v == n) refl (none-passes f v ns (or_parts (f n) (list_any f ns) h).1)
-  where
-    by_test : (b : Bool) → (v == n) ≡ b → (list_any (λ m. v == m) ns ≡ true → f v ≡ false) → f v ≡ false
-    by_test true e more = ap f (eqb-true v n e) ∙ (or_parts (f n) (list_any f ns) h).0
-    by_test false e more = more (sym (ap (λ b. b || list_any (λ m. v == m) ns) e) ∙ k)
+  none-passes : (f : ℕ → Bool) (v : ℕ) (ns : List ℕ) → list_any f ns ≡ false → list_any (λ n. v == n) ns ≡ true → f v ≡ false
+  none-passes f v [] h k = cc
+  none-passes f v (n ∷ ns) h k = by_test (v == n) refl (none-passes f v ns (or_parts (f n) (list_any f ns) h).1)
+    where
+      by_test : (b : Bool) → (v == n) ≡ b → (list_any (λ m. v == m) ns ≡ true → f v ≡ false) → f v ≡ false
+      by_test true e more = ap f (eqb-true v n e) ∙ (or_parts (f n) (list_any f ns) h).0
+      by_test false e more = more (sym (ap (λ b. b || list_any (λ m. v == m) ns) e) ∙ k)
 
--- a URI has none of the codes at which a stretch stops, and each other
-uri-stop : (v : ℕ) → stops uri_stops v ≡ true → uri_value v ≡ false
-uri-stop v h = none-passes uri_value v (10 ∷ uri_stops) refl h
+  -- a URI has none of the codes at which a stretch stops, and each other
+  uri-stop : (nul : Bool) (v : ℕ) → stops (uri_ends nul) v ≡ true → uri_value nul v ≡ false
+  uri-stop true v h = none-passes (uri_value true) v (10 ∷ uri_ends true) refl h
+  uri-stop false v h = none-passes (uri_value false) v (10 ∷ uri_ends false) refl h
 
-uri-free : (v : ℕ) → stops uri_stops v ≡ false → uri_value v ≡ true
-uri-free v h =
-    let line = or_parts (v == 10) _ h in
-    let nul = or_parts (v == 0) _ line.1 in
-    let space = or_parts (v == 32) _ nul.1 in
-    let less = or_parts (v == 60) _ space.1 in
-    let greater = or_parts (v == 62) _ less.1 in
-    let control = no-control v greater.1 in
-    rw (greater.0, nul.0, space.0, less.0, control.0, control.1) refl
+  uri-free : (nul : Bool) (v : ℕ) → stops (uri_ends nul) v ≡ false → uri_value nul v ≡ true
+  uri-free true v h =
+      let line = or_parts (v == 10) _ h in
+      let space = or_parts (v == 32) _ line.1 in
+      let less = or_parts (v == 60) _ space.1 in
+      let greater = or_parts (v == 62) _ less.1 in
+      let control = no-control v greater.1 in
+      rw (greater.0, space.0, less.0, control.0, control.1, and-false (v == 0)) refl
+  uri-free false v h =
+      let line = or_parts (v == 10) _ h in
+      let nul = or_parts (v == 0) _ line.1 in
+      let space = or_parts (v == 32) _ nul.1 in
+      let less = or_parts (v == 60) _ space.1 in
+      let greater = or_parts (v == 62) _ less.1 in
+      let control = no-control v greater.1 in
+      rw (greater.0, nul.0, space.0, less.0, control.0, control.1) refl
 
--- the codes that a stretch passes, and those behind
-record Split (cs : List Code) : Type 0 where
-  rest : List Code
-  whole : cs ≡ stretch uri_stops cs ++ rest
-  holds : any_number is_uri_code cs ≡ Some (stretch uri_stops cs, rest)
+  -- the codes that a stretch passes, and those behind
+  record Split (cs : List Code) : Type 0 where
+    rest : List Code
+    whole : cs ≡ stretch (uri_ends replaced) cs ++ rest
+    holds : any_number (is_uri_code replaced) cs ≡ Some (stretch (uri_ends replaced) cs, rest)
 
-split : (cs : List Code) → Split cs
-split [] = record { rest = []; whole = refl; holds = url-end [] refl }
-split (c ∷ cs) = by_test (stops uri_stops c.value) refl (split cs)
-  where
-    by_test : (b : Bool) → stops uri_stops c.value ≡ b → Split cs → Split (c ∷ cs)
-    by_test true e more =
-        let none : [] ≡ stretch uri_stops (c ∷ cs) = sym (stretch-stops uri_stops c cs e) in
-        record { rest = c ∷ cs; whole = ap (λ xs. xs ++ (c ∷ cs)) none; holds = url-end (c ∷ cs) (uri-stop c.value e) ∙ ap (λ xs. Some (xs, c ∷ cs)) none }
-    by_test false e more =
-        let goes : c ∷ stretch uri_stops cs ≡ stretch uri_stops (c ∷ cs) = sym (stretch-goes uri_stops c cs e) in
+  split : (cs : List Code) → Split cs
+  split [] = record { rest = []; whole = refl; holds = url-end replaced [] refl }
+  split (c ∷ cs) = by_test (stops (uri_ends replaced) c.value) refl (split cs)
+    where
+      by_test : (b : Bool) → stops (uri_ends replaced) c.value ≡ b → Split cs → Split (c ∷ cs)
+      by_test true e more =
+          let none : [] ≡ stretch (uri_ends replaced) (c ∷ cs) = sym (stretch-stops (uri_ends replaced) c cs e) in
+          record { rest = c ∷ cs; whole = ap (λ xs. xs ++ (c ∷ cs)) none; holds = url-end replaced (c ∷ cs) (uri-stop replaced c.value e) ∙ ap (λ xs. Some (xs, c ∷ cs)) none }
+      by_test false e more =
+          let goes : c ∷ stretch (uri_ends replaced) cs ≡ stretch (uri_ends replaced) (c ∷ cs) = sym (stretch-goes (uri_ends replaced) c cs e) in
+          record {
+            rest = more.rest;
+            whole = ap (λ xs. c ∷ xs) more.whole ∙ ap (λ xs. xs ++ more.rest) goes;
+            holds = url-more replaced c cs (uri-free replaced c.value e) ∙ ap (with_first c) more.holds ∙ ap (λ xs. Some (xs, more.rest)) goes;
+          }
+
+  module _ (p : Place) where
+    abbrev text : List Code
+    text = stretch (uri_ends replaced) (ahead_at p)
+
+    abbrev q : Place
+    q = past_stretch (uri_ends replaced) p
+
+    passed : q ≡ moved_by text p
+    unfolding past_stretch
+    passed = walked-moved text p
+
+    read : any_number (is_uri_code replaced) (ahead_at p) ≡ Some (text, ahead_at q)
+    read =
+        let s : Split (ahead_at p) = split (ahead_at p) in
+        s.holds ∙ ap (λ xs. Some (text, xs)) (sym (ap ahead_at passed ∙ ahead-moved_by text s.rest p s.whole))
+
+    pub uri-closes : is_some_value 62 (code_at q) ≡ true → IsNamedBetween text_of_uri p N.AutolinkProtocol q
+    uri-closes h =
+        let a : IsAhead q 62 = here q 62 h in
         record {
-          rest = more.rest;
-          whole = ap (λ xs. c ∷ xs) more.whole ∙ ap (λ xs. xs ++ more.rest) goes;
-          holds = url-more c cs (uri-free c.value e) ∙ ap (with_first c) more.holds ∙ ap (λ xs. Some (xs, more.rest)) goes;
+          text = text;
+          holds = ap (ended N.AutolinkProtocol) (read ∙ ap (λ xs. Some (text, xs)) a.codes)
+              ∙ if-true (a.code.value == 62) _ _ (eq-eqb a.code.value 62 a.value);
+          left = passed;
+          closed = h;
         }
 
-module _ (p : Place) where
-  abbrev text : List Code
-  text = stretch uri_stops (ahead_at p)
-
-  abbrev q : Place
-  q = past_stretch uri_stops p
-
-  passed : q ≡ moved_by text p
-  unfolding past_stretch
-  passed = walked-moved text p
-
-  read : any_number is_uri_code (ahead_at p) ≡ Some (text, ahead_at q)
-  read =
-      let s : Split (ahead_at p) = split (ahead_at p) in
-      s.holds ∙ ap (λ xs. Some (text, xs)) (sym (ap ahead_at passed ∙ ahead-moved_by text s.rest p s.whole))
-
-  pub uri-closes : is_some_value 62 (code_at q) ≡ true → IsNamedBetween text_of_uri p N.AutolinkProtocol q
-  uri-closes h =
-      let a : IsAhead q 62 = here q 62 h in
-      record {
-        text = text;
-        holds = ap (ended N.AutolinkProtocol) (read ∙ ap (λ xs. Some (text, xs)) a.codes)
-            ∙ if-true (a.code.value == 62) _ _ (eq-eqb a.code.value 62 a.value);
-        left = passed;
-        closed = h;
-      }
-
-  pub uri-unclosed : is_some_value 62 (code_at q) ≡ false → text_of_uri (ahead_at p) ≡ None
-  uri-unclosed h =
-      ap (ended N.AutolinkProtocol) read
-      ∙ by-code (λ cs. ended N.AutolinkProtocol (Some (text, cs)) ≡ None) q (λ e. refl) (λ v c cs e f.
-      if-false (c.value == 62) _ _ (ap (λ n. n == 62) f ∙ sym (ap (is_some_value 62) e) ∙ h))
+    pub uri-unclosed : is_some_value 62 (code_at q) ≡ false → text_of_uri (ahead_at p) ≡ None
+    uri-unclosed h =
+        ap (ended N.AutolinkProtocol) read
+        ∙ by-code (λ cs. ended N.AutolinkProtocol (Some (text, cs)) ≡ None) q (λ e. refl) (λ v c cs e f.
+        if-false (c.value == 62) _ _ (ap (λ n. n == 62) f ∙ sym (ap (is_some_value 62) e) ∙ h))
 
 -- Addresses behind the `@`.
 

@@ -11,7 +11,7 @@ use Rattle.markdown_engine.specs.TreeOps.{consumes}
 use Rattle.markdown_engine.specs.declared.tokenizer.Tokenizer.{Tokenizer}
 use Rattle.markdown_engine.proofs.ReadingSequences.{scratched-same}
 use Rattle.markdown_engine.proofs.TreeEvents.{done-append, done-consumes}
-use Rattle.markdown_leaf.specs.Autolink.{all_marks, rules_here, ending, is_on, link_here, open_naming}
+use Rattle.markdown_leaf.specs.Autolink.{all_marks, replaces_nul, rules_here, ending, is_on, link_here, open_naming}
 use Rattle.markdown_leaf.proofs.AutolinkCovers.{bracket_ops, link-here, no-link, whole-link}
 use Rattle.markdown_model.specs.CodeTests.{is_value, next_is}
 use Rattle.markdown_model.proofs.GrammarSteps.{and-left, and-right}
@@ -32,7 +32,7 @@ read-done name text T =
 pub bracket-here : (T : Tokenizer) → opens_here T ≡ true → IsAhead T.cursor 60
 bracket-here T h = here T.cursor 60 (and-right (is_on T) _ h)
 
-pub link-reads : (T U : Tokenizer) (name : Name) (q : Place) → opens_here T ≡ true → IsNamedBetween (open_naming (all_marks T)) (moved T.cursor) name q →
+pub link-reads : (T U : Tokenizer) (name : Name) (q : Place) → opens_here T ≡ true → IsNamedBetween (open_naming (replaces_nul T) (all_marks T)) (moved T.cursor) name q →
     U ≡ link_read name q T →
     Reads (link_here T) None T.tokenize_state T U
 link-reads T U name q h k e =
@@ -45,7 +45,7 @@ link-reads T U name q h k e =
       left = e ∙ ap (λ x. link_read name x T) k.left ∙ read-done name k.text T ∙ ap (done (front_ops name ++ (consumes k.text ++ ending name))) (sym (scratched-same T));
     })
 
-pub no-text : (T : Tokenizer) → opens_here T ≡ true → open_naming (all_marks T) (ahead_at (moved T.cursor)) ≡ None → link_here T (ahead T) ≡ None
+pub no-text : (T : Tokenizer) → opens_here T ≡ true → open_naming (replaces_nul T) (all_marks T) (ahead_at (moved T.cursor)) ≡ None → link_here T (ahead T) ≡ None
 no-text T h k =
     let a : IsAhead T.cursor 60 = bracket-here T h in
     none-read (link_here T (ahead T)) (

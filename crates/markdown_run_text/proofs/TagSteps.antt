@@ -171,96 +171,98 @@ leads-name a b first step p h =
 
 -- Values.
 
-quoted-from : (q : ℕ) (cs : List Code) (p : Place) → ahead_at p ≡ cs →
-    LeadsOver (quoted_rest q) (quoted_rest q) p (walked (stretch (q ∷ []) cs) p)
-quoted-from q [] p e = leads-same (quoted_rest q) (quoted_rest q) p refl
-quoted-from q (c ∷ cs) p e = by_test (stops (q ∷ []) c.value) refl (quoted-from q cs (moved p) (ahead_moved p c cs e))
-  where
-    by_test : (b : Bool) → stops (q ∷ []) c.value ≡ b → LeadsOver (quoted_rest q) (quoted_rest q) (moved p) (walked (stretch (q ∷ []) cs) (moved p)) →
-        LeadsOver (quoted_rest q) (quoted_rest q) p (walked (stretch (q ∷ []) (c ∷ cs)) p)
-    by_test true h more =
-        subst (λ xs. LeadsOver (quoted_rest q) (quoted_rest q) p (walked xs p)) (sym (stretch-stops (q ∷ []) c cs h)) (leads-same (quoted_rest q) (quoted_rest q) p refl)
-    by_test false h more =
-        let free = or_parts (c.value == 10) _ h in
-        subst (λ xs. LeadsOver (quoted_rest q) (quoted_rest q) p (walked xs p)) (sym (stretch-goes (q ∷ []) c cs h))
-        (leads-then (quoted_rest q) (quoted_rest q) (quoted_rest q) p (moved p) (walked (stretch (q ∷ []) cs) (moved p)) (leads-code (quoted_rest q) (quoted_rest q) p c cs e free.0 (quoted-more q c cs (or_parts (c.value == q) false free.1).0)) more)
+-- Slashes may stand in unquoted values or may not.
+module _ (slashes : Bool) where
+  quoted-from : (q : ℕ) (cs : List Code) (p : Place) → ahead_at p ≡ cs →
+      LeadsOver (quoted_rest slashes q) (quoted_rest slashes q) p (walked (stretch (q ∷ []) cs) p)
+  quoted-from q [] p e = leads-same (quoted_rest slashes q) (quoted_rest slashes q) p refl
+  quoted-from q (c ∷ cs) p e = by_test (stops (q ∷ []) c.value) refl (quoted-from q cs (moved p) (ahead_moved p c cs e))
+    where
+      by_test : (b : Bool) → stops (q ∷ []) c.value ≡ b → LeadsOver (quoted_rest slashes q) (quoted_rest slashes q) (moved p) (walked (stretch (q ∷ []) cs) (moved p)) →
+          LeadsOver (quoted_rest slashes q) (quoted_rest slashes q) p (walked (stretch (q ∷ []) (c ∷ cs)) p)
+      by_test true h more =
+          subst (λ xs. LeadsOver (quoted_rest slashes q) (quoted_rest slashes q) p (walked xs p)) (sym (stretch-stops (q ∷ []) c cs h)) (leads-same (quoted_rest slashes q) (quoted_rest slashes q) p refl)
+      by_test false h more =
+          let free = or_parts (c.value == 10) _ h in
+          subst (λ xs. LeadsOver (quoted_rest slashes q) (quoted_rest slashes q) p (walked xs p)) (sym (stretch-goes (q ∷ []) c cs h))
+          (leads-then (quoted_rest slashes q) (quoted_rest slashes q) (quoted_rest slashes q) p (moved p) (walked (stretch (q ∷ []) cs) (moved p)) (leads-code (quoted_rest slashes q) (quoted_rest slashes q) p c cs e free.0 (quoted-more slashes q c cs (or_parts (c.value == q) false free.1).0)) more)
 
-leads-quoted : (q : ℕ) (p : Place) → LeadsOver (quoted_rest q) (quoted_rest q) p (past_stretch (q ∷ []) p)
-unfolding past_stretch
-leads-quoted q p = quoted-from q (ahead_at p) p refl
+  leads-quoted : (q : ℕ) (p : Place) → LeadsOver (quoted_rest slashes q) (quoted_rest slashes q) p (past_stretch (q ∷ []) p)
+  unfolding past_stretch
+  leads-quoted q p = quoted-from q (ahead_at p) p refl
 
--- a value in quotes of this value
-pub leads-value : (q : ℕ) (p s r : Place) → quote_value q ≡ true → code_at p ≡ Some q → s ≡ moved p →
-    code_at (past_stretch (q ∷ []) s) ≡ Some q → r ≡ moved (past_stretch (q ∷ []) s) → LeadsOver value_rest tag_rest p r
-leads-value q p s r h here e there k =
-    let plain : (q == 10) ≡ false = differs quote_value q 10 h refl in
-    let t : Place = past_stretch (q ∷ []) (moved p) in
-    subst (λ x. LeadsOver value_rest tag_rest p x) (sym (k ∙ ap (λ x. moved (past_stretch (q ∷ []) x)) e))
-    (leads-then value_rest (quoted_rest q) tag_rest p (moved p) (moved t) (leads-one value_rest (quoted_rest q) p q here plain (λ c cs v. value-quote q c cs h (eq-eqb c.value q v)))
-    (leads-then (quoted_rest q) (quoted_rest q) tag_rest (moved p) t (moved t) (leads-quoted q (moved p))
-    (leads-one (quoted_rest q) tag_rest t q (ap (λ x. code_at (past_stretch (q ∷ []) x)) (sym e) ∙ there) plain (λ c cs v. quoted-close q c cs (eq-eqb c.value q v)))))
+  -- a value in quotes of this value
+  pub leads-value : (q : ℕ) (p s r : Place) → quote_value q ≡ true → code_at p ≡ Some q → s ≡ moved p →
+      code_at (past_stretch (q ∷ []) s) ≡ Some q → r ≡ moved (past_stretch (q ∷ []) s) → LeadsOver (value_rest slashes) (tag_rest slashes) p r
+  leads-value q p s r h here e there k =
+      let plain : (q == 10) ≡ false = differs quote_value q 10 h refl in
+      let t : Place = past_stretch (q ∷ []) (moved p) in
+      subst (λ x. LeadsOver (value_rest slashes) (tag_rest slashes) p x) (sym (k ∙ ap (λ x. moved (past_stretch (q ∷ []) x)) e))
+      (leads-then (value_rest slashes) (quoted_rest slashes q) (tag_rest slashes) p (moved p) (moved t) (leads-one (value_rest slashes) (quoted_rest slashes q) p q here plain (λ c cs v. value-quote slashes q c cs h (eq-eqb c.value q v)))
+      (leads-then (quoted_rest slashes q) (quoted_rest slashes q) (tag_rest slashes) (moved p) t (moved t) (leads-quoted q (moved p))
+      (leads-one (quoted_rest slashes q) (tag_rest slashes) t q (ap (λ x. code_at (past_stretch (q ∷ []) x)) (sym e) ∙ there) plain (λ c cs v. quoted-close slashes q c cs (eq-eqb c.value q v)))))
 
--- Attributes.
+  -- Attributes.
 
-pub space-goes : (c : Code) (cs : List Code) → c.value ≡ 32 → tag_rest (c ∷ cs) ≡ with_first c (tag_between cs)
-space-goes c cs e =
-    rest-between (c ∷ cs) (ap attribute_first_value e) ∙ between-goes.skips c cs (ap whitespace_value e)
+  pub space-goes : (c : Code) (cs : List Code) → c.value ≡ 32 → tag_rest slashes (c ∷ cs) ≡ with_first c (tag_between slashes cs)
+  space-goes c cs e =
+      rest-between slashes (c ∷ cs) (ap attribute_first_value e) ∙ (between-goes slashes).skips c cs (ap whitespace_value e)
 
-letter-begins : (c : Code) (cs : List Code) → is_letter c ≡ true → tag_between (c ∷ cs) ≡ with_first c (name_rest cs)
-letter-begins c cs h =
-    between-first c cs (letter-ink c.value h) (ap (λ b. b || ((c.value == 58) || ((c.value == 95) || false))) h)
-  where
-    letter-ink : (v : ℕ) → letter_value v ≡ true → whitespace_value v ≡ false
-    letter-ink v k =
-        ap (λ b. (b || (v == 9)) || (v == 10)) (differs letter_value v 32 k refl)
-        ∙ ap (λ b. b || (v == 10)) (differs letter_value v 9 k refl) ∙ differs letter_value v 10 k refl
+  letter-begins : (c : Code) (cs : List Code) → is_letter c ≡ true → tag_between slashes (c ∷ cs) ≡ with_first c (name_rest slashes cs)
+  letter-begins c cs h =
+      between-first slashes c cs (letter-ink c.value h) (ap (λ b. b || ((c.value == 58) || ((c.value == 95) || false))) h)
+    where
+      letter-ink : (v : ℕ) → letter_value v ≡ true → whitespace_value v ≡ false
+      letter-ink v k =
+          ap (λ b. (b || (v == 9)) || (v == 10)) (differs letter_value v 32 k refl)
+          ∙ ap (λ b. b || (v == 10)) (differs letter_value v 9 k refl) ∙ differs letter_value v 10 k refl
 
-equals-goes : (c : Code) (cs : List Code) → c.value ≡ 61 → name_rest (c ∷ cs) ≡ with_first c (value_rest cs)
-equals-goes c cs e =
-    name-rest-end (c ∷ cs) (ap attribute_rest_value e) ∙ name-after-equals c cs (eq-eqb c.value 61 e)
+  equals-goes : (c : Code) (cs : List Code) → c.value ≡ 61 → name_rest slashes (c ∷ cs) ≡ with_first c (value_rest slashes cs)
+  equals-goes c cs e =
+      name-rest-end slashes (c ∷ cs) (ap attribute_rest_value e) ∙ name-after-equals slashes c cs (eq-eqb c.value 61 e)
 
-no-more-left : (a b : Reading (List Code)) (p q : Place) → LeadsOver a b p q → length (ahead_at q) ≤ length (ahead_at p)
-no-more-left a b p q k =
-    let e : length (ahead_at p) ≡ length (k.text ++ ahead_at q) = ap (λ (cs : List Code). length cs) k.codes in
-    let f : length (k.text ++ ahead_at q) ≡ length k.text + length (ahead_at q) = length-append k.text (ahead_at q) in
-    omega (arith, e, f)
+  no-more-left : (a b : Reading (List Code)) (p q : Place) → LeadsOver a b p q → length (ahead_at q) ≤ length (ahead_at p)
+  no-more-left a b p q k =
+      let e : length (ahead_at p) ≡ length (k.text ++ ahead_at q) = ap (λ (cs : List Code). length cs) k.codes in
+      let f : length (k.text ++ ahead_at q) ≡ length k.text + length (ahead_at q) = length-append k.text (ahead_at q) in
+      omega (arith, e, f)
 
--- a space, a name, an equals sign and a value
-leads-attribute : (p q r s t : Place) → code_at p ≡ Some 32 → q ≡ moved p → begins_name (code_at q) ≡ true → r ≡ past_name q →
-    code_at r ≡ Some 61 → s ≡ moved r → LeadsOver value_rest tag_rest s t → LeadsOver tag_rest tag_rest p t
-leads-attribute p q r s t space e begun f equals g value =
-    leads-then tag_rest tag_between tag_rest p q t (subst (λ x. LeadsOver tag_rest tag_between p x) (sym e) (leads-one tag_rest tag_between p 32 space refl space-goes))
-    (leads-then tag_between name_rest tag_rest q r t (subst (λ x. LeadsOver tag_between name_rest q x) (sym f) (leads-name tag_between name_rest letter-begins (λ c cs h. name-rest-on c cs (attribute-name c.value h)) q begun))
-    (leads-then name_rest value_rest tag_rest r s t (subst (λ x. LeadsOver name_rest value_rest r x) (sym g) (leads-one name_rest value_rest r 61 equals refl equals-goes)) value))
+  -- a space, a name, an equals sign and a value
+  leads-attribute : (p q r s t : Place) → code_at p ≡ Some 32 → q ≡ moved p → begins_name (code_at q) ≡ true → r ≡ past_name q →
+      code_at r ≡ Some 61 → s ≡ moved r → LeadsOver (value_rest slashes) (tag_rest slashes) s t → LeadsOver (tag_rest slashes) (tag_rest slashes) p t
+  leads-attribute p q r s t space e begun f equals g value =
+      leads-then (tag_rest slashes) (tag_between slashes) (tag_rest slashes) p q t (subst (λ x. LeadsOver (tag_rest slashes) (tag_between slashes) p x) (sym e) (leads-one (tag_rest slashes) (tag_between slashes) p 32 space refl space-goes))
+      (leads-then (tag_between slashes) (name_rest slashes) (tag_rest slashes) q r t (subst (λ x. LeadsOver (tag_between slashes) (name_rest slashes) q x) (sym f) (leads-name (tag_between slashes) (name_rest slashes) letter-begins (λ c cs h. name-rest-on slashes c cs (attribute-name c.value h)) q begun))
+      (leads-then (name_rest slashes) (value_rest slashes) (tag_rest slashes) r s t (subst (λ x. LeadsOver (name_rest slashes) (value_rest slashes) r x) (sym g) (leads-one (name_rest slashes) (value_rest slashes) r 61 equals refl equals-goes)) value))
 
--- a space is there
-pub space-here : (o : Option ℕ) → is_some_value 32 o ≡ true → o ≡ Some 32
-space-here None h = cc
-space-here (Some v) h = ap (λ n. Some n) (eqb-true v 32 h)
+  -- a space is there
+  pub space-here : (o : Option ℕ) → is_some_value 32 o ≡ true → o ≡ Some 32
+  space-here None h = cc
+  space-here (Some v) h = ap (λ n. Some n) (eqb-true v 32 h)
 
-pub attribute-passed : (p q r s t : Place) → is_some_value 32 (code_at p) ≡ true → q ≡ moved p → begins_name (code_at q) ≡ true → r ≡ past_name q →
-    code_at r ≡ Some 61 → s ≡ moved r → LeadsOver value_rest tag_rest s t → PassesAttribute p t
-attribute-passed p q r s t space e begun f equals g value =
-    let here : code_at p ≡ Some 32 = space-here (code_at p) space in
-    let name : LeadsOver name_rest name_rest q (past_name q) = leads-names name_rest (λ c cs h. name-rest-on c cs (attribute-name c.value h)) q in
-    let one : length (ahead_at (moved p)) + 1 ≡ length (ahead_at p) = left_moved p 32 here in
-    let two : length (ahead_at (past_name q)) ≤ length (ahead_at q) = no-more-left name_rest name_rest q (past_name q) name in
-    let three : length (ahead_at (moved r)) + 1 ≡ length (ahead_at r) = left_moved r 61 equals in
-    let four : length (ahead_at t) ≤ length (ahead_at s) = no-more-left value_rest tag_rest s t value in
-    let first : length (ahead_at q) ≡ length (ahead_at (moved p)) = ap (λ x. length (ahead_at x)) e in
-    let second : length (ahead_at r) ≡ length (ahead_at (past_name q)) = ap (λ x. length (ahead_at x)) f in
-    let third : length (ahead_at s) ≡ length (ahead_at (moved r)) = ap (λ x. length (ahead_at x)) g in
-    record { leads = leads-attribute p q r s t here e begun f equals g value; less = omega arith }
+  pub attribute-passed : (p q r s t : Place) → is_some_value 32 (code_at p) ≡ true → q ≡ moved p → begins_name (code_at q) ≡ true → r ≡ past_name q →
+      code_at r ≡ Some 61 → s ≡ moved r → LeadsOver (value_rest slashes) (tag_rest slashes) s t → PassesAttribute slashes p t
+  attribute-passed p q r s t space e begun f equals g value =
+      let here : code_at p ≡ Some 32 = space-here (code_at p) space in
+      let name : LeadsOver (name_rest slashes) (name_rest slashes) q (past_name q) = leads-names (name_rest slashes) (λ c cs h. name-rest-on slashes c cs (attribute-name c.value h)) q in
+      let one : length (ahead_at (moved p)) + 1 ≡ length (ahead_at p) = left_moved p 32 here in
+      let two : length (ahead_at (past_name q)) ≤ length (ahead_at q) = no-more-left (name_rest slashes) (name_rest slashes) q (past_name q) name in
+      let three : length (ahead_at (moved r)) + 1 ≡ length (ahead_at r) = left_moved r 61 equals in
+      let four : length (ahead_at t) ≤ length (ahead_at s) = no-more-left (value_rest slashes) (tag_rest slashes) s t value in
+      let first : length (ahead_at q) ≡ length (ahead_at (moved p)) = ap (λ x. length (ahead_at x)) e in
+      let second : length (ahead_at r) ≡ length (ahead_at (past_name q)) = ap (λ x. length (ahead_at x)) f in
+      let third : length (ahead_at s) ≡ length (ahead_at (moved r)) = ap (λ x. length (ahead_at x)) g in
+      record { leads = leads-attribute p q r s t here e begun f equals g value; less = omega arith }
 
-pub no-attributes : (p : Place) → PassesAttributes p p
-no-attributes p = record { leads = leads-same tag_rest tag_rest p refl; first = inl refl }
+  pub no-attributes : (p : Place) → PassesAttributes slashes p p
+  no-attributes p = record { leads = leads-same (tag_rest slashes) (tag_rest slashes) p refl; first = inl refl }
 
-first-by : (p q r : Place) → (q ≡ p) ⊎ (code_at p ≡ Some 32) → code_at q ≡ Some 32 → (r ≡ p) ⊎ (code_at p ≡ Some 32)
-first-by p q r (inl e) h = inr (ap code_at (sym e) ∙ h)
-first-by p q r (inr k) h = inr k
+  first-by : (p q r : Place) → (q ≡ p) ⊎ (code_at p ≡ Some 32) → code_at q ≡ Some 32 → (r ≡ p) ⊎ (code_at p ≡ Some 32)
+  first-by p q r (inl e) h = inr (ap code_at (sym e) ∙ h)
+  first-by p q r (inr k) h = inr k
 
-pub more-attributes : (p q r : Place) → PassesAttributes p q → is_some_value 32 (code_at q) ≡ true → PassesAttribute q r →
-    PassesAttributes p r
-more-attributes p q r k space more =
-    let h : code_at q ≡ Some 32 = space-here (code_at q) space in
-    record { leads = leads-then tag_rest tag_rest tag_rest p q r k.leads more.leads; first = first-by p q r k.first h }
+  pub more-attributes : (p q r : Place) → PassesAttributes slashes p q → is_some_value 32 (code_at q) ≡ true → PassesAttribute slashes q r →
+      PassesAttributes slashes p r
+  more-attributes p q r k space more =
+      let h : code_at q ≡ Some 32 = space-here (code_at q) space in
+      record { leads = leads-then (tag_rest slashes) (tag_rest slashes) (tag_rest slashes) p q r k.leads more.leads; first = first-by p q r k.first h }

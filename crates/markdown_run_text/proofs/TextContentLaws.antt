@@ -164,7 +164,8 @@ sole-or-alone W T ready v here other =
 
 -- An autolink or HTML, and an escape or a hard break.
 
-pub angle-row : (T : Tokenizer) → AreTriedAt T (byte "<") (is_on T).autolink (is_on T).html_text (autolink (rules_of T.parse_state.now.options.now)) html_text
+pub angle-row : (T : Tokenizer) →
+    AreTriedAt T (byte "<") (is_on T).autolink (is_on T).html_text (autolink (rules_of T.parse_state.now.options.now)) (html_text (rules_of T.parse_state.now.options.now).slashes_in_values)
 unfolding tries tried
 angle-row T earlier previous = (refl, (refl, refl))
 

@@ -57,7 +57,7 @@ pub record TrimsData (hard : HardBreaks) (whole emails : Bool) (T U : Tokenizer)
 abbrev pub FinishesText : Tokenizer → Tokenizer → Type 0
 FinishesText T U =
     let on = T.parse_state.now.options.now.constructs in
-    TrimsData (hard_breaks on.hard_break_trailing (rules_of T.parse_state.now.options.now)) true on.gfm_autolink_literal T U
+    TrimsData (hard_breaks on.hard_break_trailing true (rules_of T.parse_state.now.options.now)) true on.gfm_autolink_literal T U
 
 -- U is T with other events, and with the number of looks that pairing took: where T has the events of a tree, those of the tree with the
 -- pairs of its containers grouped
@@ -78,5 +78,5 @@ abbrev pub resolves_of : ResolveName → Tokenizer → Tokenizer → Type 0
 resolves_of R.Label T U = GroupsLabels T U
 resolves_of R.Attention T U = PairsRuns T U
 resolves_of R.Data T U = MergesData T U
-resolves_of R.String T U = TrimsData no_breaks false false T U
+resolves_of R.String T U = TrimsData (no_breaks (rules_of T.parse_state.now.options.now)) false false T U
 resolves_of R.Text T U = FinishesText T U

@@ -47,14 +47,14 @@ pub record LeadsOver (a b : Reading (List Code)) (p q : Place) : Type 0 where
   pub line : list_any is_line_ending text ≡ false
   pub reads : a (ahead_at p) ≡ after text (b (ahead_at q))
 
--- an attribute is between the places
-pub record PassesAttribute (p q : Place) : Type 0 where
-  pub leads : LeadsOver tag_rest tag_rest p q
+-- an attribute is between the places, where slashes may stand in unquoted values or may not
+pub record PassesAttribute (slashes : Bool) (p q : Place) : Type 0 where
+  pub leads : LeadsOver (tag_rest slashes) (tag_rest slashes) p q
   pub less : length (ahead_at q) < length (ahead_at p)
 
 -- attributes are between the places, or none
-pub record PassesAttributes (p q : Place) : Type 0 where
-  pub leads : LeadsOver tag_rest tag_rest p q
+pub record PassesAttributes (slashes : Bool) (p q : Place) : Type 0 where
+  pub leads : LeadsOver (tag_rest slashes) (tag_rest slashes) p q
   pub first : (q ≡ p) ⊎ (code_at p ≡ Some (byte " "))
 
 -- `/>` is at the first place, and the second is past it
@@ -66,18 +66,18 @@ abbrev pub nothing : Reading (List Code)
 nothing cs = Some ([], cs)
 
 -- the end of an opening tag is between the places; it begins with `>`, a space or `/>`
-pub record PassesEnd (p q : Place) : Type 0 where
-  pub leads : LeadsOver tag_rest nothing p q
+pub record PassesEnd (slashes : Bool) (p q : Place) : Type 0 where
+  pub leads : LeadsOver (tag_rest slashes) nothing p q
   pub first : (code_at p ≡ Some (byte ">")) ⊎ ((code_at p ≡ Some (byte " ")) ⊎ ((code_at p ≡ Some (byte "/")) × (code_at (moved p) ≡ Some (byte ">"))))
 
 -- a tag is between the places
-pub record PassesTag (p q : Place) : Type 0 where
+pub record PassesTag (slashes : Bool) (p q : Place) : Type 0 where
   pub first : Code
   pub more : List Code
   pub codes : ahead_at p ≡ (first ∷ more) ++ ahead_at q
   pub place : q ≡ moved_by (first ∷ more) p
   pub line : list_any is_line_ending (first ∷ more) ≡ false
-  pub reads : html_codes (ahead_at p) ≡ Some (first ∷ more, ahead_at q)
+  pub reads : html_codes slashes (ahead_at p) ≡ Some (first ∷ more, ahead_at q)
 
 -- Its events.
 

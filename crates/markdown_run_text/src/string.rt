@@ -1,5 +1,5 @@
 //! The states of string content, as in titles and destinations: escapes, character references, line endings and data (CommonMark 2.4 and 2.5).
-//! The pass `resolve` sets whitespace beside line endings apart.
+//! The pass `resolve` sets whitespace beside line endings apart; by CommonMark's rule that before a line ending stays data (CommonMark 6.3).
 //!
 //!     string ::= (character_escape | character_reference | line_ending | data)*
 //!
@@ -19,6 +19,7 @@
 #![tactic(auto, using(markdown_engine::proofs::OperationFields::op_rules))]
 
 ghost use Rattle.std.specs.Prelude.{◌≡◌, IfOk, OnErr, IsTrue, None, false};
+ghost use Rattle.markdown_content.specs.CommonMark.{rules_of};
 ghost use Rattle.markdown_model.specs.Passes.{no_breaks};
 ghost use Rattle.markdown_run_text.specs.ContentPasses.{MayTrim, TrimsData};
 ghost use Rattle.markdown_run_text.specs.StringContent.{string_markers, start_step, before_step, before_data_step};
@@ -91,13 +92,13 @@ pub fn before_data(tokenizer: &mut Tokenizer) -> Result<State, AllocError>
     Ok(State::Retry(StateName::DataStart))
 }
 
-/// After the run over a string: sets whitespace beside line endings apart.
+/// After the run over a string: sets whitespace beside line endings apart, and by CommonMark's rule that behind them alone.
 ///
 /// The error comes where memory is refused; then `failed` is true.
 pub fn resolve(tokenizer: &mut Tokenizer) -> Result<Option<Subresult>, AllocError>
     requires { MayTrim tokenizer.old }
     ensures none { IfOk result (λ r. r ≡ None) }
-    ensures ok { IfOk result (λ _. TrimsData no_breaks false false tokenizer.old tokenizer.new) }
+    ensures ok { IfOk result (λ _. TrimsData (no_breaks (rules_of tokenizer.old.parse_state.now.options.now)) false false tokenizer.old tokenizer.new) }
     ensures err { OnErr result (IsTrue tokenizer.new.failed) }
 {
     partial_whitespace::resolve_whitespace(tokenizer, false, false)?;

@@ -204,7 +204,27 @@ Whitespace =
     -- text commonmark «a␉  »: Data 0-1, SpaceOrTab 1-4
     (text_answer (record default { options = record default_options { commonmark = true } }) (97 ∷ 9 ∷ 32 ∷ 32 ∷ []) (piece 0 0 4 0 ∷ []) ≡ (enter Name.Data 1 1 0 0 ∷ exit Name.Data 1 2 1 0 ∷ enter Name.SpaceOrTab 1 2 1 0 ∷ exit Name.SpaceOrTab 1 7 4 0 ∷ [])) ×
     -- text commonmark no-hard_break_trailing «a␉  ␊b»: Data 0-1, SpaceOrTab 1-4, LineEnding 4-5, Data 5-6
-    (text_answer (record default { options = record default_options { constructs = record default_constructs { hard_break_trailing = false }; commonmark = true } }) (97 ∷ 9 ∷ 32 ∷ 32 ∷ 10 ∷ 98 ∷ []) (piece 0 0 6 0 ∷ []) ≡ (enter Name.Data 1 1 0 0 ∷ exit Name.Data 1 2 1 0 ∷ enter Name.SpaceOrTab 1 2 1 0 ∷ exit Name.SpaceOrTab 1 7 4 0 ∷ enter Name.LineEnding 1 7 4 0 ∷ exit Name.LineEnding 2 1 5 0 ∷ enter Name.Data 2 1 5 0 ∷ exit Name.Data 2 2 6 0 ∷ []))
+    (text_answer (record default { options = record default_options { constructs = record default_constructs { hard_break_trailing = false }; commonmark = true } }) (97 ∷ 9 ∷ 32 ∷ 32 ∷ 10 ∷ 98 ∷ []) (piece 0 0 6 0 ∷ []) ≡ (enter Name.Data 1 1 0 0 ∷ exit Name.Data 1 2 1 0 ∷ enter Name.SpaceOrTab 1 2 1 0 ∷ exit Name.SpaceOrTab 1 7 4 0 ∷ enter Name.LineEnding 1 7 4 0 ∷ exit Name.LineEnding 2 1 5 0 ∷ enter Name.Data 2 1 5 0 ∷ exit Name.Data 2 2 6 0 ∷ [])) ×
+    -- string «c ␊d»: Data 0-1, SpaceOrTab 1-2, LineEnding 2-3, Data 3-4
+    (string_answer (default) (99 ∷ 32 ∷ 10 ∷ 100 ∷ []) (piece 0 0 4 0 ∷ []) ≡ (enter Name.Data 1 1 0 0 ∷ exit Name.Data 1 2 1 0 ∷ enter Name.SpaceOrTab 1 2 1 0 ∷ exit Name.SpaceOrTab 1 3 2 0 ∷ enter Name.LineEnding 1 3 2 0 ∷ exit Name.LineEnding 2 1 3 0 ∷ enter Name.Data 2 1 3 0 ∷ exit Name.Data 2 2 4 0 ∷ [])) ×
+    -- string commonmark «c ␊d»: Data 0-2, LineEnding 2-3, Data 3-4
+    (string_answer (record default { options = record default_options { commonmark = true } }) (99 ∷ 32 ∷ 10 ∷ 100 ∷ []) (piece 0 0 4 0 ∷ []) ≡ (enter Name.Data 1 1 0 0 ∷ exit Name.Data 1 3 2 0 ∷ enter Name.LineEnding 1 3 2 0 ∷ exit Name.LineEnding 2 1 3 0 ∷ enter Name.Data 2 1 3 0 ∷ exit Name.Data 2 2 4 0 ∷ [])) ×
+    -- string «c␊ d»: Data 0-1, LineEnding 1-2, SpaceOrTab 2-3, Data 3-4
+    (string_answer (default) (99 ∷ 10 ∷ 32 ∷ 100 ∷ []) (piece 0 0 4 0 ∷ []) ≡ (enter Name.Data 1 1 0 0 ∷ exit Name.Data 1 2 1 0 ∷ enter Name.LineEnding 1 2 1 0 ∷ exit Name.LineEnding 2 1 2 0 ∷ enter Name.SpaceOrTab 2 1 2 0 ∷ exit Name.SpaceOrTab 2 2 3 0 ∷ enter Name.Data 2 2 3 0 ∷ exit Name.Data 2 3 4 0 ∷ [])) ×
+    -- string commonmark «c␊ d»: Data 0-1, LineEnding 1-2, SpaceOrTab 2-3, Data 3-4
+    (string_answer (record default { options = record default_options { commonmark = true } }) (99 ∷ 10 ∷ 32 ∷ 100 ∷ []) (piece 0 0 4 0 ∷ []) ≡ (enter Name.Data 1 1 0 0 ∷ exit Name.Data 1 2 1 0 ∷ enter Name.LineEnding 1 2 1 0 ∷ exit Name.LineEnding 2 1 2 0 ∷ enter Name.SpaceOrTab 2 1 2 0 ∷ exit Name.SpaceOrTab 2 2 3 0 ∷ enter Name.Data 2 2 3 0 ∷ exit Name.Data 2 3 4 0 ∷ [])) ×
+    -- string «c␉ ␊ d»: Data 0-1, SpaceOrTab 1-3, LineEnding 3-4, SpaceOrTab 4-5, Data 5-6
+    (string_answer (default) (99 ∷ 9 ∷ 32 ∷ 10 ∷ 32 ∷ 100 ∷ []) (piece 0 0 6 0 ∷ []) ≡ (enter Name.Data 1 1 0 0 ∷ exit Name.Data 1 2 1 0 ∷ enter Name.SpaceOrTab 1 2 1 0 ∷ exit Name.SpaceOrTab 1 6 3 0 ∷ enter Name.LineEnding 1 6 3 0 ∷ exit Name.LineEnding 2 1 4 0 ∷ enter Name.SpaceOrTab 2 1 4 0 ∷ exit Name.SpaceOrTab 2 2 5 0 ∷ enter Name.Data 2 2 5 0 ∷ exit Name.Data 2 3 6 0 ∷ [])) ×
+    -- string commonmark «c␉ ␊ d»: Data 0-3, LineEnding 3-4, SpaceOrTab 4-5, Data 5-6
+    (string_answer (record default { options = record default_options { commonmark = true } }) (99 ∷ 9 ∷ 32 ∷ 10 ∷ 32 ∷ 100 ∷ []) (piece 0 0 6 0 ∷ []) ≡ (enter Name.Data 1 1 0 0 ∷ exit Name.Data 1 6 3 0 ∷ enter Name.LineEnding 1 6 3 0 ∷ exit Name.LineEnding 2 1 4 0 ∷ enter Name.SpaceOrTab 2 1 4 0 ∷ exit Name.SpaceOrTab 2 2 5 0 ∷ enter Name.Data 2 2 5 0 ∷ exit Name.Data 2 3 6 0 ∷ [])) ×
+    -- string commonmark «c  ␊d»: Data 0-3, LineEnding 3-4, Data 4-5
+    (string_answer (record default { options = record default_options { commonmark = true } }) (99 ∷ 32 ∷ 32 ∷ 10 ∷ 100 ∷ []) (piece 0 0 5 0 ∷ []) ≡ (enter Name.Data 1 1 0 0 ∷ exit Name.Data 1 4 3 0 ∷ enter Name.LineEnding 1 4 3 0 ∷ exit Name.LineEnding 2 1 4 0 ∷ enter Name.Data 2 1 4 0 ∷ exit Name.Data 2 2 5 0 ∷ [])) ×
+    -- string commonmark «c␠»: Data 0-2
+    (string_answer (record default { options = record default_options { commonmark = true } }) (codes "c ") (piece 0 0 2 0 ∷ []) ≡ (enter Name.Data 1 1 0 0 ∷ exit Name.Data 1 3 2 0 ∷ [])) ×
+    -- string «c␠»: Data 0-2
+    (string_answer (default) (codes "c ") (piece 0 0 2 0 ∷ []) ≡ (enter Name.Data 1 1 0 0 ∷ exit Name.Data 1 3 2 0 ∷ [])) ×
+    -- text commonmark «a ␊b»: Data 0-1, SpaceOrTab 1-2, LineEnding 2-3, Data 3-4
+    (text_answer (record default { options = record default_options { commonmark = true } }) (97 ∷ 32 ∷ 10 ∷ 98 ∷ []) (piece 0 0 4 0 ∷ []) ≡ (enter Name.Data 1 1 0 0 ∷ exit Name.Data 1 2 1 0 ∷ enter Name.SpaceOrTab 1 2 1 0 ∷ exit Name.SpaceOrTab 1 3 2 0 ∷ enter Name.LineEnding 1 3 2 0 ∷ exit Name.LineEnding 2 1 3 0 ∷ enter Name.Data 2 1 3 0 ∷ exit Name.Data 2 2 4 0 ∷ []))
 
 abbrev pub RawText : Type 0
 RawText =
@@ -305,6 +325,14 @@ Autolinks =
     (text_outline (record default { options = record default_options { commonmark = true } }) (codes "<a@b.c>") (piece 0 0 7 0 ∷ []) ≡ (enter Name.Autolink 1 1 0 0 ∷ exit Name.Autolink 1 8 7 0 ∷ [])) ×
     -- text commonmark «<a@b!.c>»: Data 0-8
     (text_answer (record default { options = record default_options { commonmark = true } }) (codes "<a@b!.c>") (piece 0 0 8 0 ∷ []) ≡ (enter Name.Data 1 1 0 0 ∷ exit Name.Data 1 9 8 0 ∷ [])) ×
+    -- text outer commonmark «<ab:␀>»: Autolink 0-6
+    (text_outline (record default { options = record default_options { commonmark = true } }) (60 ∷ 97 ∷ 98 ∷ 58 ∷ 0 ∷ 62 ∷ []) (piece 0 0 6 0 ∷ []) ≡ (enter Name.Autolink 1 1 0 0 ∷ exit Name.Autolink 1 7 6 0 ∷ [])) ×
+    -- text outer commonmark «<ab:c␀d>»: Autolink 0-8
+    (text_outline (record default { options = record default_options { commonmark = true } }) (60 ∷ 97 ∷ 98 ∷ 58 ∷ 99 ∷ 0 ∷ 100 ∷ 62 ∷ []) (piece 0 0 8 0 ∷ []) ≡ (enter Name.Autolink 1 1 0 0 ∷ exit Name.Autolink 1 9 8 0 ∷ [])) ×
+    -- text commonmark «<ab:␋>»: Data 0-6
+    (text_answer (record default { options = record default_options { commonmark = true } }) (60 ∷ 97 ∷ 98 ∷ 58 ∷ 11 ∷ 62 ∷ []) (piece 0 0 6 0 ∷ []) ≡ (enter Name.Data 1 1 0 0 ∷ exit Name.Data 1 7 6 0 ∷ [])) ×
+    -- text commonmark «<a␀:c>»: Data 0-6
+    (text_answer (record default { options = record default_options { commonmark = true } }) (60 ∷ 97 ∷ 0 ∷ 58 ∷ 99 ∷ 62 ∷ []) (piece 0 0 6 0 ∷ []) ≡ (enter Name.Data 1 1 0 0 ∷ exit Name.Data 1 7 6 0 ∷ [])) ×
     -- text «<a)@b.c><a<@b.c><a[@b.c><a]@b.c>»: Data 0-32
     (text_answer (default) (codes "<a)@b.c><a<@b.c><a[@b.c><a]@b.c>") (piece 0 0 32 0 ∷ []) ≡ (enter Name.Data 1 1 0 0 ∷ exit Name.Data 1 33 32 0 ∷ [])) ×
     -- text «<@b.c>»: Data 0-6
@@ -376,6 +404,8 @@ HtmlText =
     (text_answer (default) (codes "<a b=c/>") (piece 0 0 8 0 ∷ []) ≡ (enter Name.HtmlText 1 1 0 0 ∷ enter Name.HtmlTextData 1 1 0 0 ∷ exit Name.HtmlTextData 1 9 8 0 ∷ exit Name.HtmlText 1 9 8 0 ∷ [])) ×
     -- text «<a b=c/d>»: Data 0-9
     (text_answer (default) (codes "<a b=c/d>") (piece 0 0 9 0 ∷ []) ≡ (enter Name.Data 1 1 0 0 ∷ exit Name.Data 1 10 9 0 ∷ [])) ×
+    -- text commonmark «<a b=c/d>»: HtmlText 0-9 [HtmlTextData 0-9]
+    (text_answer (record default { options = record default_options { commonmark = true } }) (codes "<a b=c/d>") (piece 0 0 9 0 ∷ []) ≡ (enter Name.HtmlText 1 1 0 0 ∷ enter Name.HtmlTextData 1 1 0 0 ∷ exit Name.HtmlTextData 1 10 9 0 ∷ exit Name.HtmlText 1 10 9 0 ∷ [])) ×
     -- text «<a b="c"d>»: Data 0-10
     (text_answer (default) (codes "<a b=\"c\"d>") (piece 0 0 10 0 ∷ []) ≡ (enter Name.Data 1 1 0 0 ∷ exit Name.Data 1 11 10 0 ∷ [])) ×
     -- text «<!--a␊b-->»: HtmlText 0-10 [HtmlTextData 0-5, LineEnding 5-6, HtmlTextData 6-10]
@@ -443,6 +473,24 @@ HtmlTags =
     (text_answer (default) (codes "<a b=c\"d><a b=c'd><a b=c=d>") (piece 0 0 27 0 ∷ []) ≡ (enter Name.Data 1 1 0 0 ∷ exit Name.Data 1 28 27 0 ∷ [])) ×
     -- text «<a b=c`>»: Data 0-8
     (text_answer (default) (codes "<a b=c`>") (piece 0 0 8 0 ∷ []) ≡ (enter Name.Data 1 1 0 0 ∷ exit Name.Data 1 9 8 0 ∷ [])) ×
+    -- text «<a b=c/d e>»: Data 0-11
+    (text_answer (default) (codes "<a b=c/d e>") (piece 0 0 11 0 ∷ []) ≡ (enter Name.Data 1 1 0 0 ∷ exit Name.Data 1 12 11 0 ∷ [])) ×
+    -- text outer commonmark «<a b=c/d e>»: HtmlText 0-11
+    (text_outline (record default { options = record default_options { commonmark = true } }) (codes "<a b=c/d e>") (piece 0 0 11 0 ∷ []) ≡ (enter Name.HtmlText 1 1 0 0 ∷ exit Name.HtmlText 1 12 11 0 ∷ [])) ×
+    -- text outer commonmark «<a b=/c>»: HtmlText 0-8
+    (text_outline (record default { options = record default_options { commonmark = true } }) (codes "<a b=/c>") (piece 0 0 8 0 ∷ []) ≡ (enter Name.HtmlText 1 1 0 0 ∷ exit Name.HtmlText 1 9 8 0 ∷ [])) ×
+    -- text outer commonmark «<a b=c/>»: HtmlText 0-8
+    (text_outline (record default { options = record default_options { commonmark = true } }) (codes "<a b=c/>") (piece 0 0 8 0 ∷ []) ≡ (enter Name.HtmlText 1 1 0 0 ∷ exit Name.HtmlText 1 9 8 0 ∷ [])) ×
+    -- text «<a b=c/ >»: Data 0-9
+    (text_answer (default) (codes "<a b=c/ >") (piece 0 0 9 0 ∷ []) ≡ (enter Name.Data 1 1 0 0 ∷ exit Name.Data 1 10 9 0 ∷ [])) ×
+    -- text outer commonmark «<a b=c/ >»: HtmlText 0-9
+    (text_outline (record default { options = record default_options { commonmark = true } }) (codes "<a b=c/ >") (piece 0 0 9 0 ∷ []) ≡ (enter Name.HtmlText 1 1 0 0 ∷ exit Name.HtmlText 1 10 9 0 ∷ [])) ×
+    -- text outer commonmark «<a b=c /><a b=//><a b/>»: HtmlText 0-9, HtmlText 9-17, HtmlText 17-23
+    (text_outline (record default { options = record default_options { commonmark = true } }) (codes "<a b=c /><a b=//><a b/>") (piece 0 0 23 0 ∷ []) ≡ (enter Name.HtmlText 1 1 0 0 ∷ exit Name.HtmlText 1 10 9 0 ∷ enter Name.HtmlText 1 10 9 0 ∷ exit Name.HtmlText 1 18 17 0 ∷ enter Name.HtmlText 1 18 17 0 ∷ exit Name.HtmlText 1 24 23 0 ∷ [])) ×
+    -- text commonmark «<a b=c"d>»: Data 0-9
+    (text_answer (record default { options = record default_options { commonmark = true } }) (codes "<a b=c\"d>") (piece 0 0 9 0 ∷ []) ≡ (enter Name.Data 1 1 0 0 ∷ exit Name.Data 1 10 9 0 ∷ [])) ×
+    -- text commonmark «<a b=c/»: Data 0-7
+    (text_answer (record default { options = record default_options { commonmark = true } }) (codes "<a b=c/") (piece 0 0 7 0 ∷ []) ≡ (enter Name.Data 1 1 0 0 ∷ exit Name.Data 1 8 7 0 ∷ [])) ×
     -- text outer «<a b=c<d>»: Data 0-6, HtmlText 6-9
     (text_outline (default) (codes "<a b=c<d>") (piece 0 0 9 0 ∷ []) ≡ (enter Name.Data 1 1 0 0 ∷ exit Name.Data 1 7 6 0 ∷ enter Name.HtmlText 1 7 6 0 ∷ exit Name.HtmlText 1 10 9 0 ∷ [])) ×
     -- text outer «<a b=c>d>»: HtmlText 0-7, Data 7-9

@@ -46,7 +46,7 @@ use crate::readers::events::{append_enter, append_exit, append_leaf, read_marker
 use markdown_content::cursor::Cursor;
 use markdown_engine::tokenizer::Tokenizer;
 use markdown_event::event::Name;
-use markdown_leaf::autolink::uri_stops;
+use markdown_leaf::autolink::uri_ends;
 use markdown_plan::bytes::{is_alphanumeric, is_letter};
 use markdown_util::util::constant::{AUTOLINK_DOMAIN_SIZE_MAX, AUTOLINK_SCHEME_SIZE_MAX};
 use std::alloc::AllocError;
@@ -94,14 +94,14 @@ fn is_local(code: Option<u8>, all: bool) -> bool
     }
 }
 
-// Moves past the rest of a URI, after its colon, and answers its name where a bracket closes it.
+// Moves past the rest of a URI, after its colon, and answers its name where a bracket closes it; `replaced` says that NUL is read as U+FFFD.
 //
 //     > | <ftp:x>
 //              ^
-fn name_uri(cursor: &mut Cursor) -> Option<Name>
-    ensures { NamesFrom (up_to_bracket N.AutolinkProtocol (any_number is_uri_code)) cursor.old result cursor.new }
+fn name_uri(cursor: &mut Cursor, replaced: bool) -> Option<Name>
+    ensures { NamesFrom (up_to_bracket N.AutolinkProtocol (any_number (is_uri_code replaced))) cursor.old result cursor.new }
 {
-    cursor.consume_stretch(&uri_stops());
+    cursor.consume_stretch(&uri_ends(replaced));
     if !is_at(cursor, b'>') {
         return None;
     }
@@ -176,12 +176,13 @@ fn name_address(cursor: &mut Cursor, all: bool) -> Option<Name>
     name_domains(cursor)
 }
 
-// Moves past a URI or an address behind its first letter, and answers its name where a bracket closes it.
+// Moves past a URI or an address behind its first letter, and answers its name where a bracket closes it. The Booleans are those of a URI and of
+// an address.
 //
 //     > | <ftp:x> or <me@b.c>
 //           ^^^^       ^^^^^
-fn name_after_letter(cursor: &mut Cursor, all: bool) -> Option<Name>
-    ensures { NamesFrom (scheme_naming all 1) cursor.old result cursor.new }
+fn name_after_letter(cursor: &mut Cursor, replaced: bool, all: bool) -> Option<Name>
+    ensures { NamesFrom (scheme_naming replaced all 1) cursor.old result cursor.new }
 {
     let mut size = 1;
     while size < AUTOLINK_SCHEME_SIZE_MAX && is_scheme(cursor.current()) {
@@ -190,7 +191,7 @@ fn name_after_letter(cursor: &mut Cursor, all: bool) -> Option<Name>
     }
     if 1 < size && is_at(cursor, b':') {
         cursor.consume();
-        return name_uri(cursor);
+        return name_uri(cursor, replaced);
     }
     name_address(cursor, all)
 }
@@ -199,8 +200,8 @@ fn name_after_letter(cursor: &mut Cursor, all: bool) -> Option<Name>
 //
 //     > | <ftp:x> or <me@b.c>
 //          ^^^^^      ^^^^^^
-fn name_text(cursor: &mut Cursor, all: bool) -> Option<Name>
-    ensures { NamesFrom (open_naming all) cursor.old result cursor.new }
+fn name_text(cursor: &mut Cursor, replaced: bool, all: bool) -> Option<Name>
+    ensures { NamesFrom (open_naming replaced all) cursor.old result cursor.new }
 {
     if is_at(cursor, b'@') {
         return None;
@@ -209,7 +210,7 @@ fn name_text(cursor: &mut Cursor, all: bool) -> Option<Name>
         return name_address(cursor, all);
     }
     cursor.consume();
-    name_after_letter(cursor, all)
+    name_after_letter(cursor, replaced, all)
 }
 
 // Whether autolinks are on, and a bracket is at the place.
@@ -258,10 +259,10 @@ pub fn read(tokenizer: &mut Tokenizer) -> Result<bool, AllocError>
     if !opens_here(tokenizer) {
         return Ok(false);
     }
-    let all = tokenizer.parse_state.options.rules().all_address_marks;
+    let rules = tokenizer.parse_state.options.rules();
     let mut end = tokenizer.cursor.save();
     end.consume();
-    let Some(name) = name_text(&mut end, all) else {
+    let Some(name) = name_text(&mut end, rules.nul_is_replaced, rules.all_address_marks) else {
         return Ok(false);
     };
     append(tokenizer, name, end)?;

@@ -23,7 +23,7 @@
 //! without a value or with one that has no quotes, names of attributes with other codes, comments, instructions, declarations and CDATA.
 #![tactic(auto, using(markdown_engine::proofs::OperationFields::op_rules))]
 
-ghost use Rattle.std.specs.Prelude.{◌≡◌, ◌∷◌, [], true, false, IfOk, OnOk, OnErr, IsTrue};
+ghost use Rattle.std.specs.Prelude.{◌≡◌, Bool, ◌∷◌, [], true, false, IfOk, OnOk, OnErr, IsTrue};
 ghost use Rattle.markdown_content.specs.Place.{code_at};
 ghost use Rattle.markdown_content.specs.Stretch.{past_stretch};
 ghost use Rattle.markdown_leaf_html.specs.HtmlText.{html_here};
@@ -121,7 +121,7 @@ const APOSTROPHE: ByteTable = byte_table!(b'\'');
 //     > | <a b="c" />d</a>
 //              ^^^
 fn pass_value(place: &mut Cursor) -> bool
-    ensures { IsTrue result → LeadsOver value_rest tag_rest place.old place.new }
+    ensures { IsTrue result → (slashes : Bool) → LeadsOver (value_rest slashes) (tag_rest slashes) place.old place.new }
 {
     if pass(place, b'"') {
         return pass_through(place, b'"', &ByteSet::new(&QUOTATION_MARK));
@@ -139,7 +139,7 @@ fn pass_value(place: &mut Cursor) -> bool
 #[inline(always)]
 fn pass_attribute(place: &mut Cursor) -> bool
     requires { is_some_value 32 (code_at place.old) ≡ true }
-    ensures { IsTrue result → PassesAttribute place.old place.new }
+    ensures { IsTrue result → (slashes : Bool) → PassesAttribute slashes place.old place.new }
 {
     place.consume();
     if !pass_name(place) {
@@ -167,7 +167,7 @@ fn goes_on(place: &Cursor) -> bool
 //           ^^^^^^^^^^^^
 #[inline(always)]
 fn pass_attributes(place: &mut Cursor) -> bool
-    ensures { IsTrue result → PassesAttributes place.old place.new }
+    ensures { IsTrue result → (slashes : Bool) → PassesAttributes slashes place.old place.new }
 {
     while goes_on(place) {
         if !pass_attribute(place) {
@@ -196,7 +196,7 @@ fn pass_slash(place: &mut Cursor) -> bool
 //                 ^^^    ^
 #[inline(always)]
 fn pass_end(place: &mut Cursor) -> bool
-    ensures { IsTrue result → PassesEnd place.old place.new }
+    ensures { IsTrue result → (slashes : Bool) → PassesEnd slashes place.old place.new }
 {
     if pass(place, b'>') {
         return true;
@@ -215,7 +215,7 @@ fn pass_end(place: &mut Cursor) -> bool
 // Where none is, little is passed in vain. Two tries that pass the same code are never both outside values there, nor both in values of the same
 // quote: they differ so where the later one begins, and each further quote keeps them apart. So at most three tries pass any code.
 fn pass_tag(place: &mut Cursor) -> bool
-    ensures { IsTrue result → PassesTag place.old place.new }
+    ensures { IsTrue result → (slashes : Bool) → PassesTag slashes place.old place.new }
 {
     if !pass(place, b'<') {
         return false;

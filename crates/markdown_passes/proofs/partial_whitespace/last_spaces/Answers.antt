@@ -1,4 +1,4 @@
-use Rattle.std.proofs.Common.{◌≡◌, ◌+◌, ◌∙◌, length, sym, ap, arith, if◌then◌else◌}
+use Rattle.std.proofs.Common.{◌+◌, ◌∙◌, sym, ap, arith, if◌then◌else◌}
 use Rattle.markdown_passes.proofs.TrimmedLeaves.{spaces-are}
 use Rattle.markdown_passes.proofs.TrimWalks.{IsBegun, IsEnded, begun-where, ended-where, shorter, stretch-next, few-between, counted-next, spaces_after, spaces-next}
 use Rattle.markdown_passes.specs.TrimmedData.{between}

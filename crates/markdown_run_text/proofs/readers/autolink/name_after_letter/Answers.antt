@@ -13,7 +13,7 @@ loop-size-preserved c =
     let p : Place = c.loop-size.cursor in
     record {
       leads = λ o r k.
-          c.loop-size.invariant.leads o r (scheme-goes c.args.all n p (ap is_some_scheme (sym c.current.ensures) ∙ sym c.is_scheme.ensures ∙ c.if-is_scheme.true) o r (subst (λ (x : Place). NamesFrom (scheme_naming c.args.all (n + 1)) x o r) c.consume.ensures k));
+          c.loop-size.invariant.leads o r (scheme-goes c.args.replaced c.args.all n p (ap is_some_scheme (sym c.current.ensures) ∙ sym c.is_scheme.ensures ∙ c.if-is_scheme.true) o r (subst (λ (x : Place). NamesFrom (scheme_naming c.args.replaced c.args.all (n + 1)) x o r) c.consume.ensures k));
       some = omega (arith, c.loop-size.invariant.some);
       most = omega (arith, c.loop-size-test.true);
     }
@@ -24,7 +24,7 @@ returns-then-is_at c =
     let p : Place = c.loop-size.cursor in
     let o = c.name_uri.result in
     let r : Place = c.name_uri.new.cursor in
-    c.loop-size.invariant.leads o r (colon-goes c.args.all n p c.if-size-gt1.true c.loop-size.invariant.most (sym c.is_at.ensures ∙ c.if-is_at.true) o r (subst (λ (x : Place). NamesFrom text_of_uri x o r) c.consume-then-is_at.ensures c.name_uri.ensures))
+    c.loop-size.invariant.leads o r (colon-goes c.args.replaced c.args.all n p c.if-size-gt1.true c.loop-size.invariant.most (sym c.is_at.ensures ∙ c.if-is_at.true) o r (subst (λ (x : Place). NamesFrom (text_of_uri c.args.replaced) x o r) c.consume-then-is_at.ensures c.name_uri.ensures))
 
 pub returns : goal.returns
 returns c =
@@ -42,4 +42,4 @@ returns c =
       | else-size-gt1-via-then-size-gt1+else-is_at w ↦ λ l. sym w.is_at.ensures ∙ w.if-is_at.false
       | else-size-gt1-via-else-size-gt1 w ↦ λ l. let none : ⊥ = omega (arith, l, w.if-size-gt1.false) in absurd none
     ] in
-    c.loop-size.invariant.leads o r (scheme-ends c.args.all n p c.loop-size.invariant.some no_more no_colon o r c.name_address.ensures)
+    c.loop-size.invariant.leads o r (scheme-ends c.args.replaced c.args.all n p c.loop-size.invariant.some no_more no_colon o r c.name_address.ensures)

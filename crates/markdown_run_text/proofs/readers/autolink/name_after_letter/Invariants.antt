@@ -4,7 +4,7 @@ use Rattle.markdown_run_text.proofs.AutolinkNames.{NamesLead}
 use Rattle.markdown_run_text.proofs.readers.autolink.name_after_letter.Given as goal
 
 abbrev pub invariant-loop-size : goal.invariant-loop-size
-invariant-loop-size l = record { leads : NamesLead (scheme_naming l.all l.size) l.cursor (scheme_naming l.all 1) l.fn.cursor; some : 1 ≤ l.size; most : l.size ≤ 32 }
+invariant-loop-size l = record { leads : NamesLead (scheme_naming l.replaced l.all l.size) l.cursor (scheme_naming l.replaced l.all 1) l.fn.cursor; some : 1 ≤ l.size; most : l.size ≤ 32 }
 
 abbrev pub decreases-loop-size : goal.decreases-loop-size
 decreases-loop-size l = 32 - l.size
