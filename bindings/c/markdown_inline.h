@@ -90,7 +90,7 @@ extern "C" {
     X(FIRST_OF_ITEM, "first_of_item", 0x100000) \
     /* Whether CommonMark's rule holds in each point that `Rules` names, in which the crate that is ported departs from it. The two options above and the one below are implied. */ \
     X(COMMONMARK_RULES, "commonmark", 0x200000) \
-    /* Whether a reference may have any of the 2,125 names of HTML that end in a semicolon, as CommonMark says, and not only those whose value is one character. */ \
+    /* Whether a reference may have any of the 2,125 names of HTML that end in a semicolon, as CommonMark says, and not only the 294 of a shorter table. */ \
     X(HTML_REFERENCES, "html_references", 0x400000)
 
 /* Names of events, by their numbers from 0. */
