@@ -22,8 +22,6 @@ commonmark_rules = record {
   slashes_in_values = true;
   titles_keep_spaces = true;
   neighbours_in_content = true;
-  labels_by_text = true;
-  shortcuts_are_limited = true;
 }
 
 -- the crate's rules, of which three are options by themselves
@@ -44,8 +42,6 @@ crate_rules o = record {
   slashes_in_values = false;
   titles_keep_spaces = false;
   neighbours_in_content = false;
-  labels_by_text = false;
-  shortcuts_are_limited = false;
 }
 
 -- the rules that options choose

@@ -260,10 +260,6 @@ pub struct Rules {
     pub titles_keep_spaces: bool,
     /// Beside a run stands what the content has there; behind its ends there is whitespace (CommonMark 6.2).
     pub neighbours_in_content: bool,
-    /// The identifier of a label is that of its text, and not of the document's bytes (CommonMark 6.3).
-    pub labels_by_text: bool,
-    /// The label of a shortcut or collapsed reference has at most 999 characters (CommonMark 6.3).
-    pub shortcuts_are_limited: bool,
 }
 
 // The rules of the crate that is ported.
@@ -283,8 +279,6 @@ const DEFAULT_RULES: Rules = Rules {
     slashes_in_values: false,
     titles_keep_spaces: false,
     neighbours_in_content: false,
-    labels_by_text: false,
-    shortcuts_are_limited: false,
 };
 
 // CommonMark's rules.
@@ -304,6 +298,4 @@ const COMMONMARK_RULES: Rules = Rules {
     slashes_in_values: true,
     titles_keep_spaces: true,
     neighbours_in_content: true,
-    labels_by_text: true,
-    shortcuts_are_limited: true,
 };
