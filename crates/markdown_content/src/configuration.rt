@@ -248,7 +248,7 @@ pub struct Rules {
     pub all_address_marks: bool,
     /// Two spaces at the end of a line break it, whatever whitespace stands before these two (CommonMark 6.7).
     pub two_last_spaces: bool,
-    /// Beside a run, NUL is read as U+FFFD, which is punctuation (CommonMark 2.3).
+    /// Beside a run, and in the URI of an autolink, NUL is read as U+FFFD, which is punctuation and no control (CommonMark 2.3, 6.5).
     pub nul_is_replaced: bool,
     /// A reference may have each name of HTML that ends in a semicolon (CommonMark 2.5).
     pub html_names: bool,
