@@ -1,5 +1,6 @@
 use Rattle.std.proofs.Common.{rules, ◌≡◌, ◌∙◌, subst, sym, ap, ℕ, List, true, false, None}
 use Rattle.markdown_content.specs.Tree.{Forest, events_of}
+use Rattle.markdown_util.specs.declared.decoding.Decoding.{Decoding}
 use Rattle.markdown_html_model.specs.Html.{html, calls_behind}
 use Rattle.markdown_html_model.specs.OwnMarkup.{IsOwnMarkup}
 use Rattle.markdown_html_model.proofs.HtmlIsOwn.{html-is-own, html-is-safe}
@@ -15,10 +16,14 @@ returns c =
     let earlier : List (List ℕ) = c.args.calls.now in
     let same : c.replace-before.result ≡ earlier = search rules in
     let exact : (t : Forest) → c.args.events.now ≡ events_of t → c.in_ok-writer.writer.out.items ≡ html page earlier t =
-    λ t is. let w = c.in_ok-writer.ensures 0 None t is in w.0 ∙ ap (λ b. html_within page b Within.Outside t) same in
+    λ t is. let w = c.in_ok-writer.ensures 0 None t is in
+    w.0 ∙ ap (λ (how : Decoding). html_within (record page { decoding = how }) c.replace-before.result Within.Outside t) c.decoding_of.ensures
+    ∙ ap (λ b. html_within page b Within.Outside t) same in
     record {
       exact = exact;
-      calls = λ t is. let w = c.in_ok-writer.ensures 0 None t is in w.1 ∙ ap (λ b. calls_within page b Within.Outside t) same;
+      calls = λ t is. let w = c.in_ok-writer.ensures 0 None t is in
+          w.1 ∙ ap (λ (how : Decoding). calls_within (record page { decoding = how }) c.replace-before.result Within.Outside t) c.decoding_of.ensures
+          ∙ ap (λ b. calls_within page b Within.Outside t) same;
       err = tt;
       own = λ t is raw. subst (IsOwnMarkup true) (sym (exact t is)) (html-is-own page earlier t raw);
       safe = λ t is raw any. subst (IsOwnMarkup false) (sym (exact t is)) (html-is-safe page earlier t raw any);
